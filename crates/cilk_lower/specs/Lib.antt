@@ -1,0 +1,3 @@
+pub mod Behaves
+pub mod Code
+pub mod Machine

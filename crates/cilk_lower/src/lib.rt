@@ -1,0 +1,4 @@
+//! From a program whose names are resolved to the instructions of its body.
+#![tactic(auto)]
+
+pub mod code;

@@ -1,0 +1,7 @@
+pub mod Behaviour
+pub mod Elision
+pub mod Programs
+pub mod SerialRun
+pub mod Store
+pub mod Syntax
+pub mod Words

@@ -1,0 +1,45 @@
+-- What operators give.
+use Rattle.std.specs.Prelude.{ℕ, zero, suc, ℤ, pos, negsuc, ◌+ℤ◌, ◌-ℤ◌, ◌*ℤ◌, neg_ℤ, Bool, true, false, not, if◌then◌else◌, int_lt, List, length, slice_get, Option, Some, None}
+use Rattle.std.specs.Ordering.{int_eq}
+use Rattle.cilk_types.specs.Word.{word_of, quotient, remainder}
+use Rattle.cilk_types.specs.declared.fault.Fault.{Fault}
+use Rattle.cilk_types.specs.declared.fault.Fault.TheVariants.{DivisionByZero, InputOutside}
+use Rattle.cilk_names.specs.declared.syntax.Operator.{Operator}
+use Rattle.cilk_names.specs.declared.syntax.Operator.TheVariants.{Add, Subtract, Multiply, Divide, Remainder, Less, LessEqual, Greater, GreaterEqual, Equal, NotEqual}
+
+-- a condition holds where it isn't 0
+abbrev pub is_zero : ℤ → Bool
+is_zero (pos zero) = true
+is_zero (pos (suc n)) = false
+is_zero (negsuc n) = false
+
+-- 1 where it holds, else 0
+abbrev pub truth_of : Bool → ℤ
+truth_of b = if b then pos 1 else pos 0
+
+-- 1 where the value isn't 0, else 0
+abbrev pub truth : ℤ → ℤ
+truth v = if is_zero v then pos 0 else pos 1
+
+-- an operator's value; none for a division by 0
+abbrev pub apply : Operator → ℤ → ℤ → Option ℤ
+apply Add x y = Some (word_of (x +ℤ y))
+apply Subtract x y = Some (word_of (x -ℤ y))
+apply Multiply x y = Some (word_of (x *ℤ y))
+apply Divide x y = quotient x y
+apply Remainder x y = remainder x y
+apply Less x y = Some (truth_of (int_lt x y))
+apply LessEqual x y = Some (truth_of (not (int_lt y x)))
+apply Greater x y = Some (truth_of (int_lt y x))
+apply GreaterEqual x y = Some (truth_of (not (int_lt x y)))
+apply Equal x y = Some (truth_of (int_eq x y))
+apply NotEqual x y = Some (truth_of (not (int_eq x y)))
+
+-- the input number at a place, from 0; none outside
+abbrev pub input_at : List ℤ → ℤ → Option ℤ
+input_at inputs (pos n) = slice_get inputs n
+input_at inputs (negsuc n) = None
+
+-- how many input numbers there are
+abbrev pub input_count : List ℤ → ℤ
+input_count inputs = pos (length inputs)
