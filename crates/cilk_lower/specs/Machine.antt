@@ -1,11 +1,12 @@
 -- What the machine does with a list of instructions.
 use Rattle.std.specs.Prelude.{ℕ, zero, suc, ◌+◌, ◌-◌, ℤ, pos, neg_ℤ, if◌then◌else◌, List, [], ◌∷◌, Option, Some, None, slice_get, length, nat_lt}
+use Rattle.cilk_types.specs.Input.{input_at, input_count}
 use Rattle.cilk_types.specs.Word.{word_of}
 use Rattle.cilk_types.specs.declared.fault.Fault.{Fault}
 use Rattle.cilk_types.specs.declared.fault.Fault.TheVariants.{DivisionByZero, InputOutside, TooManyEvents}
 use Rattle.cilk_names.specs.declared.ask.Ask.{Ask}
 use Rattle.cilk_names.specs.declared.ask.Ask.TheVariants as asks
-use Rattle.cilk_names.specs.Words.{is_zero, truth, truth_of, apply, input_at, input_count}
+use Rattle.cilk_names.specs.Words.{is_zero, truth, truth_of, apply}
 use Rattle.cilk_names.specs.Behaviour.{Asked, asks_for}
 use Rattle.cilk_lower.specs.declared.code.Instr.{Instr}
 use Rattle.cilk_lower.specs.declared.code.Instr.TheVariants as instrs

@@ -1,13 +1,14 @@
 -- What a frame's body asks for, by cases of its statements, as its answers vary. Ticks are counted here, and are the
 -- only bound: one as a statement begins, and one as an expression's node has its value, after its check and before its event.
 use Rattle.std.specs.Prelude.{ℕ, zero, suc, ℤ, pos, neg_ℤ, if◌then◌else◌, List, [], ◌∷◌, Option, Some, None}
+use Rattle.cilk_types.specs.Input.{input_at, input_count}
 use Rattle.cilk_types.specs.Word.{word_of}
 use Rattle.cilk_types.specs.declared.fault.Fault.{Fault}
 use Rattle.cilk_types.specs.declared.fault.Fault.TheVariants.{DivisionByZero, InputOutside, TooManyEvents}
 use Rattle.cilk_names.specs.declared.ask.Ask.{Ask}
 use Rattle.cilk_names.specs.declared.ask.Ask.TheVariants as asks
 use Rattle.cilk_names.specs.Syntax.{Expression, Number, Variable, Negate, Not, Binary, And, Or, Input, InputCount, Statement, Empty, Block, Assign, If, IfElse, While, Print, Return, Statements, Nothing, Then}
-use Rattle.cilk_names.specs.Words.{is_zero, truth, truth_of, apply, input_at, input_count}
+use Rattle.cilk_names.specs.Words.{is_zero, truth, truth_of, apply}
 
 -- an ask that has no answer yet, and the ticks that are then left
 pub record Asked : Type 0 where

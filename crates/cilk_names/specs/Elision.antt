@@ -1,11 +1,12 @@
 -- The serial elision of a program: its meaning with the parallel words deleted, statement by statement over one store,
 -- as a natural semantics (Kahn 1987). It knows no ticks, frames, events or limits of a run.
 use Rattle.std.specs.Prelude.{◌≡◌, ℕ, ℤ, pos, neg_ℤ, Bool, true, false, if◌then◌else◌, List, [], length, Option, Some, None}
+use Rattle.cilk_types.specs.Input.{input_at, input_count}
 use Rattle.cilk_types.specs.Word.{word_of}
 use Rattle.cilk_types.specs.declared.fault.Fault.{Fault}
 use Rattle.cilk_types.specs.declared.fault.Fault.TheVariants.{DivisionByZero, InputOutside}
 use Rattle.cilk_names.specs.Syntax.{Source, Expression, Number, Variable, Negate, Not, Binary, And, Or, Input, InputCount, Statement, Empty, Block, Assign, If, IfElse, While, Print, Return, Statements, Nothing, Then}
-use Rattle.cilk_names.specs.Words.{is_zero, truth, truth_of, apply, input_at, input_count}
+use Rattle.cilk_names.specs.Words.{is_zero, truth, truth_of, apply}
 use Rattle.cilk_names.specs.Store.{Cell, Store, cell_of, put, print, opening}
 
 -- an expression's value, or the fault that it meets

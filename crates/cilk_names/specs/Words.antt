@@ -1,9 +1,7 @@
 -- What operators give.
-use Rattle.std.specs.Prelude.{ℕ, zero, suc, ℤ, pos, negsuc, ◌+ℤ◌, ◌-ℤ◌, ◌*ℤ◌, neg_ℤ, Bool, true, false, not, if◌then◌else◌, int_lt, List, length, slice_get, Option, Some, None}
+use Rattle.std.specs.Prelude.{zero, suc, ℤ, pos, negsuc, ◌+ℤ◌, ◌-ℤ◌, ◌*ℤ◌, neg_ℤ, Bool, true, false, not, if◌then◌else◌, int_lt, Option, Some, None}
 use Rattle.std.specs.Ordering.{int_eq}
 use Rattle.cilk_types.specs.Word.{word_of, quotient, remainder}
-use Rattle.cilk_types.specs.declared.fault.Fault.{Fault}
-use Rattle.cilk_types.specs.declared.fault.Fault.TheVariants.{DivisionByZero, InputOutside}
 use Rattle.cilk_names.specs.declared.syntax.Operator.{Operator}
 use Rattle.cilk_names.specs.declared.syntax.Operator.TheVariants.{Add, Subtract, Multiply, Divide, Remainder, Less, LessEqual, Greater, GreaterEqual, Equal, NotEqual}
 
@@ -34,12 +32,3 @@ apply Greater x y = Some (truth_of (int_lt y x))
 apply GreaterEqual x y = Some (truth_of (not (int_lt x y)))
 apply Equal x y = Some (truth_of (int_eq x y))
 apply NotEqual x y = Some (truth_of (not (int_eq x y)))
-
--- the input number at a place, from 0; none outside
-abbrev pub input_at : List ℤ → ℤ → Option ℤ
-input_at inputs (pos n) = slice_get inputs n
-input_at inputs (negsuc n) = None
-
--- how many input numbers there are
-abbrev pub input_count : List ℤ → ℤ
-input_count inputs = pos (length inputs)

@@ -7,6 +7,7 @@
 
 pub mod event;
 pub mod fault;
+pub mod input;
 pub mod limits;
 pub mod outcome;
 pub mod sequence;
