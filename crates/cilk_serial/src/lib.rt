@@ -1,0 +1,6 @@
+//! x
+#![tactic(auto)]
+
+pub mod fault;
+pub mod state;
+pub mod trace;
