@@ -1,0 +1,3 @@
+pub mod Effort
+pub mod Following
+pub mod Straight
