@@ -149,7 +149,9 @@ pub stands_on : (code : List Instr) (inputs : List ℤ) (c : CursorView) (answer
 stands_on code inputs c answer left k c' left' steps row history took h =
     let b : Behaviour = λ answers left. frame_asks inputs row (history ++ answers) (took + left) in
     record {
+      less = steps.less;
       asks = steps.asks b h;
+      owes = steps.owes;
       stands = λ more. record {
         by = λ a answers l.
             let f = (steps.follows b h more).by a answers l in

@@ -73,5 +73,14 @@ Stands code inputs row c history took = Follows code inputs c (λ answers left. 
 
 -- the frame's next ask after its history, and where it then stands
 pub record GoesOn (code : List Instr) (inputs : List ℤ) (c : CursorView) (answer : Answer) (left : ℕ) (k : Ask) (c' : CursorView) (left' : ℕ) (row : Statements) (history : List ℤ) (took : ℕ) : Type 0 where
+  pub less : left' ≤ left
   pub asks : frame_asks inputs row (history ++ word_in answer ∷ []) (took + left) ≡ asks_for k left'
   pub stands : HasAnswer k → Stands code inputs row c' (history ++ word_in answer ∷ []) (took + (left - left'))
+  pub owes : HasAnswer k → c'.owed ≡ owed_for k
+
+-- a frame of this body that has asked: what a caller keeps of it between two steps. It had these answers, it took so many
+-- ticks, and so many were left to all frames as it asked
+pub record Asking (code : List Instr) (inputs : List ℤ) (row : Statements) (c : CursorView) (history : List ℤ) (took : ℕ) (k : Ask) (left : ℕ) : Type 0 where
+  pub asks : frame_asks inputs row history (took + left) ≡ asks_for k left
+  pub stands : HasAnswer k → Stands code inputs row c history took
+  pub owes : HasAnswer k → c.owed ≡ owed_for k
