@@ -1,0 +1,4 @@
+pub mod Asking
+pub mod Effort
+pub mod Following
+pub mod Straight
