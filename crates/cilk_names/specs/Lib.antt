@@ -1,5 +1,6 @@
 pub mod Behaviour
 pub mod Elision
+pub mod Laws
 pub mod Programs
 pub mod SerialRun
 pub mod Store

@@ -1,0 +1,4 @@
+pub mod Agreement
+pub mod Elisions
+pub mod Places
+pub mod Runs
