@@ -1,1 +1,5 @@
 pub mod Lands
+pub mod Leads
+pub mod Places
+pub mod Ticks
+pub mod Values
