@@ -1,3 +1,4 @@
+pub mod Acts
 pub mod Lands
 pub mod Leads
 pub mod Places
