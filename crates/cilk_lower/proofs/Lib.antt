@@ -1,1 +1,9 @@
+pub mod Acts
+pub mod Jumps
 pub mod Lands
+pub mod Leads
+pub mod Patch
+pub mod Places
+pub mod Rows
+pub mod Ticks
+pub mod Values
