@@ -2,6 +2,8 @@
 use Rattle.std.specs.Prelude.{◌≡◌, ℕ, ◌+◌, ℤ, List, length}
 use Rattle.cilk_types.specs.declared.event.Event as numbers
 use Rattle.cilk_types.specs.declared.fault.Fault.{Fault}
+use Rattle.cilk_names.specs.declared.ask.Ask.{Ask}
+use Rattle.cilk_names.specs.declared.ask.Ask.TheVariants as asks
 use Rattle.cilk_names.specs.Syntax.{Source}
 use Rattle.cilk_names.specs.Store.{Store}
 use Rattle.cilk_names.specs.Elision.{Finished, Stopped}
@@ -28,3 +30,13 @@ pub record Halted (p : Source) (inputs : List ℤ) (fault : Fault) (at : ℕ) : 
 abbrev pub IsHalt : Source → List ℤ → RunFault → Type 0
 IsHalt p inputs Memory = Unit {0}
 IsHalt p inputs (At fault at) = Halted p inputs fault at
+
+-- an ask that isn't a fault
+abbrev pub IsNoFault : Ask → Type 0
+IsNoFault asks.Begin = Unit {0}
+IsNoFault (asks.Read x) = Unit {0}
+IsNoFault (asks.Write x v) = Unit {0}
+IsNoFault (asks.Print v) = Unit {0}
+IsNoFault asks.Sync = Unit {0}
+IsNoFault (asks.End v) = Unit {0}
+IsNoFault (asks.Fault f) = ⊥

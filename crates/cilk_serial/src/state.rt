@@ -1,6 +1,6 @@
 // The store and the events of a run that goes on.
 
-ghost use Rattle.std.specs.Prelude.{◌≡◌, ◌<◌, IfOk, length, slice_index_or};
+ghost use Rattle.std.specs.Prelude.{◌≡◌, ◌↔◌, ◌+◌, ◌<◌, ◌≤◌, IsTrue, false, IfOk, length, slice_index_or};
 ghost use Rattle.cilk_names.specs.Laws.{PlaceExists};
 ghost use Rattle.cilk_names.specs.declared.ask.Ask.TheVariants as asks;
 ghost use Rattle.cilk_names.specs.declared.syntax.Place.TheVariants as places;
@@ -10,7 +10,8 @@ ghost use Rattle.cilk_serial.specs.States.{Answers};
 use cilk_frames::cursor::Answer;
 use cilk_names::ask::Ask;
 use cilk_names::syntax::Place;
-use cilk_types::event::{Cell, Event, FrameNo};
+use cilk_types::event::{Cell, Event, FrameNo, Pos};
+use cilk_types::limits::MAX_EVENTS;
 use std::alloc::AllocError;
 
 /// The frame that a run begins with.
@@ -25,6 +26,22 @@ pub struct State {
 }
 
 impl State {
+    /// Whether there is no room for one more event.
+    pub fn is_full(&self) -> bool
+        ensures full { IsTrue result ↔ (MAX_EVENTS ≤ length self.now.events.items) }
+        ensures below { result ≡ false → length self.now.events.items < MAX_EVENTS }
+    {
+        self.events.len() >= MAX_EVENTS as usize
+    }
+
+    /// The position of the next event.
+    pub fn next_position(&self) -> Pos
+        requires { length self.now.events.items ≤ MAX_EVENTS }
+        ensures { result ≡ length self.now.events.items + 1 }
+    {
+        self.events.len() as Pos + 1
+    }
+
     /// Makes the event of an ask, and says what its frame is told.
     pub fn answer(&mut self, ask: &Ask) -> Result<Answer, AllocError>
         requires goes_on { HasAnswer ask.now }
