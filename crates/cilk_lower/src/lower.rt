@@ -164,6 +164,7 @@ fn emit_expr(code: &mut Vec<Instr>, e: &Expr) -> Result<usize, AllocError>
 }
 
 // Behind the right side of `&&`: its truth, or 0 where the left side was 0.
+#[tactic(auto, using(crate::proofs::Patch::and_ends))]
 fn end_and(code: &mut Vec<Instr>, skip: usize) -> Result<(), AllocError>
     requires { skip < length code.old.items }
     ensures { OnOk result (code.new.items ≡ slice_set code.old.items skip (Instr.SkipIfZero (length code.old.items - skip + 1)) ++ (Instr.Truth ∷ (Instr.GoOn 1 ∷ (Instr.Push (pos 0) ∷ [])))) }
@@ -185,6 +186,7 @@ fn begin_or(code: &mut Vec<Instr>) -> Result<usize, AllocError>
 }
 
 // Behind the right side of `||`: its truth.
+#[tactic(auto, using(crate::proofs::Patch::or_ends))]
 fn end_or(code: &mut Vec<Instr>, jump: usize) -> Result<(), AllocError>
     requires { jump < length code.old.items }
     ensures { OnOk result (code.new.items ≡ slice_set code.old.items jump (Instr.GoOn (length code.old.items - jump)) ++ Instr.Truth ∷ []) }
@@ -204,17 +206,17 @@ fn go_back(code: &mut Vec<Instr>, start: usize) -> Result<(), AllocError>
 }
 
 // The test at the place passes all that stands behind it.
-fn pass_if_zero(code: &mut [Instr], place: usize)
-    requires { place < length code.old }
-    ensures { code.new ≡ slice_set code.old place (Instr.SkipIfZero (length code.old - place - 1)) }
+fn pass_if_zero(code: &mut Vec<Instr>, place: usize)
+    requires { place < length code.old.items }
+    ensures { code.new.items ≡ slice_set code.old.items place (Instr.SkipIfZero (length code.old.items - place - 1)) }
 {
     code[place] = Instr::SkipIfZero(code.len() - place - 1);
 }
 
 // The jump at the place passes all that stands behind it.
-fn pass(code: &mut [Instr], place: usize)
-    requires { place < length code.old }
-    ensures { code.new ≡ slice_set code.old place (Instr.GoOn (length code.old - place - 1)) }
+fn pass(code: &mut Vec<Instr>, place: usize)
+    requires { place < length code.old.items }
+    ensures { code.new.items ≡ slice_set code.old.items place (Instr.GoOn (length code.old.items - place - 1)) }
 {
     code[place] = Instr::GoOn(code.len() - place - 1);
 }
