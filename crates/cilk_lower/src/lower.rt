@@ -49,15 +49,13 @@ fn emit_stmt(code: &mut Vec<Instr>, room: &mut usize, s: &Stmt) -> Result<(), Al
     ensures room { OnOk result (room.new ≡ max room.old (deepest (statement s.now))) }
 {
     match s {
-        Stmt::Empty => put(code, Instr::Tick),
+        Stmt::Empty => begin(code),
         Stmt::Block(row) => {
-            put(code, Instr::Tick)?;
+            begin(code)?;
             emit_all(code, room, row)
         }
-        Stmt::Assign(x, e) => {
-            emit_begun(code, room, e)?;
-            put(code, Instr::Store(*x))
-        }
+        Stmt::Assign(x, e) => emit_simple(code, room, e, Instr::Store(*x)),
+        Stmt::Print(e) => emit_simple(code, room, e, Instr::Print),
         Stmt::If(test, body) => {
             emit_begun(code, room, test)?;
             let skip = put_jump(code, Instr::SkipIfZero(0))?;
@@ -76,7 +74,7 @@ fn emit_stmt(code: &mut Vec<Instr>, room: &mut usize, s: &Stmt) -> Result<(), Al
             Ok(())
         }
         Stmt::While(test, body) => {
-            put(code, Instr::Tick)?;
+            begin(code)?;
             let start = code.len();
             emit_value(code, room, test)?;
             let exit = put_jump(code, Instr::SkipIfZero(0))?;
@@ -84,10 +82,6 @@ fn emit_stmt(code: &mut Vec<Instr>, room: &mut usize, s: &Stmt) -> Result<(), Al
             go_back(code, start)?;
             pass_if_zero(code, exit);
             Ok(())
-        }
-        Stmt::Print(e) => {
-            emit_begun(code, room, e)?;
-            put(code, Instr::Print)
         }
         Stmt::Return(e) => {
             emit_begun(code, room, e)?;
@@ -97,13 +91,34 @@ fn emit_stmt(code: &mut Vec<Instr>, room: &mut usize, s: &Stmt) -> Result<(), Al
     }
 }
 
+// A statement's tick, then its expression, and then the instruction that takes the value.
+fn emit_simple(
+    code: &mut Vec<Instr>,
+    room: &mut usize,
+    e: &Expr,
+    last: Instr,
+) -> Result<(), AllocError>
+    ensures code { OnOk result (code.new.items ≡ code.old.items ++ (Instr.Tick ∷ (expr_code (expression e.now) ++ last ∷ []))) }
+    ensures room { OnOk result (room.new ≡ max room.old (depth (expression e.now))) }
+{
+    emit_begun(code, room, e)?;
+    put(code, last)
+}
+
 // A statement's tick, and then its expression.
 fn emit_begun(code: &mut Vec<Instr>, room: &mut usize, e: &Expr) -> Result<(), AllocError>
     ensures code { OnOk result (code.new.items ≡ code.old.items ++ (Instr.Tick ∷ expr_code (expression e.now))) }
     ensures room { OnOk result (room.new ≡ max room.old (depth (expression e.now))) }
 {
-    put(code, Instr::Tick)?;
+    begin(code)?;
     emit_value(code, room, e)
+}
+
+// A statement's tick.
+fn begin(code: &mut Vec<Instr>) -> Result<(), AllocError>
+    ensures { OnOk result (code.new.items ≡ code.old.items ++ Instr.Tick ∷ []) }
+{
+    put(code, Instr::Tick)
 }
 
 // An expression, with room for its operands.
@@ -117,6 +132,7 @@ fn emit_value(code: &mut Vec<Instr>, room: &mut usize, e: &Expr) -> Result<(), A
 }
 
 // An expression, and how many operands it has on the stack at most.
+#[cycle(expressions)]
 fn emit_expr(code: &mut Vec<Instr>, e: &Expr) -> Result<usize, AllocError>
     ensures code { OnOk result (code.new.items ≡ code.old.items ++ expr_code (expression e.now)) }
     ensures depth { IfOk result (λ d. d ≡ depth (expression e.now)) }
@@ -125,21 +141,9 @@ fn emit_expr(code: &mut Vec<Instr>, e: &Expr) -> Result<usize, AllocError>
         Expr::Number(n) => put_operand(code, Instr::Push(*n)),
         Expr::Variable(x) => put_operand(code, Instr::Load(*x)),
         Expr::InputCount => put_operand(code, Instr::InputCount),
-        Expr::Negate(e) => {
-            let needed = emit_expr(code, e)?;
-            put(code, Instr::Negate)?;
-            Ok(needed)
-        }
-        Expr::Not(e) => {
-            let needed = emit_expr(code, e)?;
-            put(code, Instr::Not)?;
-            Ok(needed)
-        }
-        Expr::Input(e) => {
-            let needed = emit_expr(code, e)?;
-            put(code, Instr::Input)?;
-            Ok(needed)
-        }
+        Expr::Negate(e) => emit_unary(code, e, Instr::Negate),
+        Expr::Not(e) => emit_unary(code, e, Instr::Not),
+        Expr::Input(e) => emit_unary(code, e, Instr::Input),
         Expr::Binary(operator, a, b) => {
             let left = emit_expr(code, a)?;
             let right = emit_expr(code, b)?;
@@ -161,6 +165,17 @@ fn emit_expr(code: &mut Vec<Instr>, e: &Expr) -> Result<usize, AllocError>
             Ok(left.max(right))
         }
     }
+}
+
+// An operand, and then the instruction that takes it.
+#[cycle(expressions)]
+fn emit_unary(code: &mut Vec<Instr>, e: &Expr, last: Instr) -> Result<usize, AllocError>
+    ensures code { OnOk result (code.new.items ≡ code.old.items ++ (expr_code (expression e.now) ++ last ∷ [])) }
+    ensures depth { IfOk result (λ d. d ≡ depth (expression e.now)) }
+{
+    let needed = emit_expr(code, e)?;
+    put(code, last)?;
+    Ok(needed)
 }
 
 // Behind the right side of `&&`: its truth, or 0 where the left side was 0.

@@ -8,17 +8,17 @@ use Rattle.cilk_lower.proofs.Patch.{patch_if, patch_if_else, patch_while}
 use Rattle.cilk_lower.proofs.Rows.{block_is, code_more, room_more}
 use Rattle.cilk_lower.proofs.lower.+statements.Goals as goal
 
-pub emit_stmt-returns-in_ok-put-in-Block-clause-code : goal.emit_stmt-returns-in_ok-put-in-Block-clause-code
-emit_stmt-returns-in_ok-put-in-Block-clause-code t c =
-    on_ok_weaker {P = c.emit_all.new.code.items ≡ c.put-in-Block.new.code.items ++ all_code (statements c.deref.result.now)} {Q = c.emit_all.new.code.items ≡ c.args.code.now.items ++ stmt_code (statement c.args.s.now)} c.emit_all.result (λ e. e
-      ∙ ap (λ l. l ++ all_code (statements c.deref.result.now)) c.in_ok-put-in-Block.ensures
+pub emit_stmt-returns-in_ok-begin-in-Block-clause-code : goal.emit_stmt-returns-in_ok-begin-in-Block-clause-code
+emit_stmt-returns-in_ok-begin-in-Block-clause-code t c =
+    on_ok_weaker {P = c.emit_all.new.code.items ≡ c.begin-in-Block.new.code.items ++ all_code (statements c.deref.result.now)} {Q = c.emit_all.new.code.items ≡ c.args.code.now.items ++ stmt_code (statement c.args.s.now)} c.emit_all.result (λ e. e
+      ∙ ap (λ l. l ++ all_code (statements c.deref.result.now)) c.in_ok-begin-in-Block.ensures
       ∙ append_assoc c.args.code.now.items (Tick ∷ []) (all_code (statements c.deref.result.now))
       ∙ ap (λ row. c.args.code.now.items ++ (Tick ∷ all_code (statements row))) c.deref.ensures.value
       ∙ ap (λ s. c.args.code.now.items ++ stmt_code s) (sym (block_is c.in-Block.row))
       ∙ ap (λ s. c.args.code.now.items ++ stmt_code (statement s)) (sym c.in-Block.is)) c.emit_all.ensures.code
 
-pub emit_stmt-returns-in_ok-put-in-Block-clause-room : goal.emit_stmt-returns-in_ok-put-in-Block-clause-room
-emit_stmt-returns-in_ok-put-in-Block-clause-room t c =
+pub emit_stmt-returns-in_ok-begin-in-Block-clause-room : goal.emit_stmt-returns-in_ok-begin-in-Block-clause-room
+emit_stmt-returns-in_ok-begin-in-Block-clause-room t c =
     on_ok_weaker {P = c.emit_all.new.room ≡ max c.args.room.now (deepest_of_all (statements c.deref.result.now))} {Q = c.emit_all.new.room ≡ max c.args.room.now (deepest (statement c.args.s.now))} c.emit_all.result (λ e. e
       ∙ ap (λ row. max c.args.room.now (deepest_of_all (statements row))) c.deref.ensures.value
       ∙ ap (λ s. max c.args.room.now (deepest s)) (sym (block_is c.in-Block.row))
@@ -39,7 +39,7 @@ emit_stmt-returns-in_ok-emit_stmt-in-IfElse-2-clause-code t c =
 
 pub emit_stmt-returns-in_ok-go_back-in-While-clause-code : goal.emit_stmt-returns-in_ok-go_back-in-While-clause-code
 emit_stmt-returns-in_ok-go_back-in-While-clause-code t c =
-    patch_while _ _ _ _ _ _ _ _ _ _ _ c.in_ok-put-in-While.ensures (c.len-start.ensures ∙ c.put-in-While.new.code.ok.0) c.in_ok-emit_value-in-While.ensures.code c.in_ok-exit-in-While.ensures.place c.in_ok-exit-in-While.ensures.code c.in_ok-emit_stmt-in-While.ensures.code c.in_ok-go_back-in-While.ensures c.pass_if_zero-in-While.ensures
+    patch_while _ _ _ _ _ _ _ _ _ _ _ c.in_ok-begin-in-While.ensures (c.len-start.ensures ∙ c.begin-in-While.new.code.ok.0) c.in_ok-emit_value-in-While.ensures.code c.in_ok-exit-in-While.ensures.place c.in_ok-exit-in-While.ensures.code c.in_ok-emit_stmt-in-While.ensures.code c.in_ok-go_back-in-While.ensures c.pass_if_zero-in-While.ensures
     ∙ ap (λ s. c.args.code.now.items ++ (Tick ∷ while_code (expr_code (expression c.in-While.test)) (stmt_code (statement s)))) c.deref-in-While.ensures
     ∙ ap (λ s. c.args.code.now.items ++ stmt_code (statement s)) (sym c.in-While.is)
 
