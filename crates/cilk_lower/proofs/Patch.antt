@@ -58,7 +58,7 @@ patch_while base tc ac c0 c1 c2 c3 c4 c5 n0 n1 e0 m0 e1 m1 e2 e3 e4 e5 =
     let l3 = ap length k3 ∙ length-append c1 (SkipIfZero 0 ∷ ac) in
     let far : length c3 - n0 ≡ length tc + 1 + length ac = omega arith in
     let k4 : c4 ≡ c1 ++ SkipIfZero 0 ∷ (ac ++ j ∷ []) =
-        e4 ∙ ap (λ n. c3 ++ GoBack n ∷ []) far ∙ ap (λ l. l ++ j ∷ []) k3 ∙ append_assoc c1 (SkipIfZero 0 ∷ ac) (j ∷ []) in
+    e4 ∙ ap (λ n. c3 ++ GoBack n ∷ []) far ∙ ap (λ l. l ++ j ∷ []) k3 ∙ append_assoc c1 (SkipIfZero 0 ∷ ac) (j ∷ []) in
     let k1 : c1 ≡ base ++ (Tick ∷ tc) = e1 ∙ ap (λ l. l ++ tc) e0 ∙ append_assoc base (Tick ∷ []) tc in
     e5 ∙ test_passes c4 c1 (ac ++ j ∷ []) (SkipIfZero 0) n1 k4 m1
     ∙ ap (λ k. c1 ++ SkipIfZero k ∷ (ac ++ j ∷ [])) (one_more ac j)

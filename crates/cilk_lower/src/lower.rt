@@ -262,3 +262,25 @@ fn put(code: &mut Vec<Instr>, instr: Instr) -> Result<(), AllocError>
     code.push(instr)?;
     Ok(())
 }
+
+#[cfg(test)]
+mod tests {
+    use super::*;
+    use cilk_types::sequence::Sequence;
+
+    #[test]
+    fn prints_a_number(rt: HostRuntime) -> Result<(), AllocError> {
+        let mut main = Vec::new(rt.alloc());
+        main.push(Stmt::Print(Expr::Number(7)))?;
+        let globals = Sequence::new(Vec::new(rt.alloc()));
+        let code = lower(rt.alloc(), &Program { globals, main })?;
+        assert_eq!(rt; code.room(), 1);
+        assert!(rt; matches!(code.at(0), Some(Instr::Tick)));
+        assert!(rt; matches!(code.at(1), Some(Instr::Push(7))));
+        assert!(rt; matches!(code.at(2), Some(Instr::Print)));
+        assert!(rt; matches!(code.at(3), Some(Instr::Sync)));
+        assert!(rt; matches!(code.at(4), Some(Instr::Finish)));
+        assert!(rt; matches!(code.at(5), None));
+        Ok(())
+    }
+}

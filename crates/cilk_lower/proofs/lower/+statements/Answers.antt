@@ -11,18 +11,18 @@ use Rattle.cilk_lower.proofs.lower.+statements.Goals as goal
 pub emit_stmt-returns-in_ok-begin-in-Block-clause-code : goal.emit_stmt-returns-in_ok-begin-in-Block-clause-code
 emit_stmt-returns-in_ok-begin-in-Block-clause-code t c =
     on_ok_weaker {P = c.emit_all.new.code.items ≡ c.begin-in-Block.new.code.items ++ all_code (statements c.deref.result.now)} {Q = c.emit_all.new.code.items ≡ c.args.code.now.items ++ stmt_code (statement c.args.s.now)} c.emit_all.result (λ e. e
-      ∙ ap (λ l. l ++ all_code (statements c.deref.result.now)) c.in_ok-begin-in-Block.ensures
-      ∙ append_assoc c.args.code.now.items (Tick ∷ []) (all_code (statements c.deref.result.now))
-      ∙ ap (λ row. c.args.code.now.items ++ (Tick ∷ all_code (statements row))) c.deref.ensures.value
-      ∙ ap (λ s. c.args.code.now.items ++ stmt_code s) (sym (block_is c.in-Block.row))
-      ∙ ap (λ s. c.args.code.now.items ++ stmt_code (statement s)) (sym c.in-Block.is)) c.emit_all.ensures.code
+    ∙ ap (λ l. l ++ all_code (statements c.deref.result.now)) c.in_ok-begin-in-Block.ensures
+    ∙ append_assoc c.args.code.now.items (Tick ∷ []) (all_code (statements c.deref.result.now))
+    ∙ ap (λ row. c.args.code.now.items ++ (Tick ∷ all_code (statements row))) c.deref.ensures.value
+    ∙ ap (λ s. c.args.code.now.items ++ stmt_code s) (sym (block_is c.in-Block.row))
+    ∙ ap (λ s. c.args.code.now.items ++ stmt_code (statement s)) (sym c.in-Block.is)) c.emit_all.ensures.code
 
 pub emit_stmt-returns-in_ok-begin-in-Block-clause-room : goal.emit_stmt-returns-in_ok-begin-in-Block-clause-room
 emit_stmt-returns-in_ok-begin-in-Block-clause-room t c =
     on_ok_weaker {P = c.emit_all.new.room ≡ max c.args.room.now (deepest_of_all (statements c.deref.result.now))} {Q = c.emit_all.new.room ≡ max c.args.room.now (deepest (statement c.args.s.now))} c.emit_all.result (λ e. e
-      ∙ ap (λ row. max c.args.room.now (deepest_of_all (statements row))) c.deref.ensures.value
-      ∙ ap (λ s. max c.args.room.now (deepest s)) (sym (block_is c.in-Block.row))
-      ∙ ap (λ s. max c.args.room.now (deepest (statement s))) (sym c.in-Block.is)) c.emit_all.ensures.room
+    ∙ ap (λ row. max c.args.room.now (deepest_of_all (statements row))) c.deref.ensures.value
+    ∙ ap (λ s. max c.args.room.now (deepest s)) (sym (block_is c.in-Block.row))
+    ∙ ap (λ s. max c.args.room.now (deepest (statement s))) (sym c.in-Block.is)) c.emit_all.ensures.room
 
 pub emit_stmt-returns-in_ok-emit_stmt-in-If-clause-code : goal.emit_stmt-returns-in_ok-emit_stmt-in-If-clause-code
 emit_stmt-returns-in_ok-emit_stmt-in-If-clause-code t c =
@@ -54,5 +54,5 @@ emit_all-each-preserved t c =
           ∙ ap (λ l. l ++ stmt_code (statement s)) c.each.invariant.code
           ∙ append_assoc c.args.code.now.items (all_code (statements (take c.each.s-index row))) (stmt_code (statement s))
           ∙ ap (λ l. c.args.code.now.items ++ l) (sym ended);
-      room = omega (arith, c.in_ok-emit_stmt.ensures.room, c.each.invariant.room, room_more row c.each.s-index s low c.s-item.is)
+      room = omega (arith, c.in_ok-emit_stmt.ensures.room, c.each.invariant.room, room_more row c.each.s-index s low c.s-item.is);
     }
