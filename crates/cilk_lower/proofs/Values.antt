@@ -27,6 +27,25 @@ depth_some (Or a b) = omega (arith, depth_some a)
 depth_some (Input e) = depth_some e
 depth_some InputCount = omega arith
 
+-- an operand takes an instruction at least
+pub depth_short : (e : Expression) → depth e ≤ length (expr_code e)
+depth_short (Number n) = omega arith
+depth_short (Variable x) = omega arith
+depth_short (Negate e) = omega (arith, depth_short e, length-append (expr_code e) (instrs.Negate ∷ []))
+depth_short (Not e) = omega (arith, depth_short e, length-append (expr_code e) (instrs.Not ∷ []))
+depth_short (Binary op a b) =
+    let l = length-append (expr_code a) (expr_code b ++ instrs.Apply op ∷ []) in
+    omega (arith, depth_short a, depth_short b, length-append (expr_code b) (instrs.Apply op ∷ []))
+depth_short (And a b) =
+    let post = instrs.Truth ∷ (instrs.GoOn 1 ∷ (instrs.Push (pos 0) ∷ [])) in
+    let l = length-append (expr_code a) (instrs.SkipIfZero (length (expr_code b) + 2) ∷ (expr_code b ++ post)) in
+    omega (arith, depth_short a, depth_short b, length-append (expr_code b) post)
+depth_short (Or a b) =
+    let l = length-append (expr_code a) (instrs.SkipIfZero 2 ∷ (instrs.Push (pos 1) ∷ (instrs.GoOn (length (expr_code b) + 1) ∷ (expr_code b ++ instrs.Truth ∷ [])))) in
+    omega (arith, depth_short a, depth_short b, length-append (expr_code b) (instrs.Truth ∷ []))
+depth_short (Input e) = omega (arith, depth_short e, length-append (expr_code e) (instrs.Input ∷ []))
+depth_short InputCount = omega arith
+
 module _ (m : Setting) where
   load_does : (x : Place) (pc : ℕ) (stack answers : List ℤ) (left : ℕ) → length stack < m.room → Stands m pc (instrs.Load x) → Does m pc stack stack answers left (pc + 1) (tick answers left >>= λ _. ask (asks.Read x))
   load_does x pc stack answers zero fits at = comes_one m pc stack answers zero (instrs.Load x) _ _ at refl

@@ -49,15 +49,13 @@ fn emit_stmt(code: &mut Vec<Instr>, room: &mut usize, s: &Stmt) -> Result<(), Al
     ensures room { OnOk result (room.new ≡ max room.old (deepest (statement s.now))) }
 {
     match s {
-        Stmt::Empty => put(code, Instr::Tick),
+        Stmt::Empty => begin(code),
         Stmt::Block(row) => {
-            put(code, Instr::Tick)?;
+            begin(code)?;
             emit_all(code, room, row)
         }
-        Stmt::Assign(x, e) => {
-            emit_begun(code, room, e)?;
-            put(code, Instr::Store(*x))
-        }
+        Stmt::Assign(x, e) => emit_simple(code, room, e, Instr::Store(*x)),
+        Stmt::Print(e) => emit_simple(code, room, e, Instr::Print),
         Stmt::If(test, body) => {
             emit_begun(code, room, test)?;
             let skip = put_jump(code, Instr::SkipIfZero(0))?;
@@ -76,7 +74,7 @@ fn emit_stmt(code: &mut Vec<Instr>, room: &mut usize, s: &Stmt) -> Result<(), Al
             Ok(())
         }
         Stmt::While(test, body) => {
-            put(code, Instr::Tick)?;
+            begin(code)?;
             let start = code.len();
             emit_value(code, room, test)?;
             let exit = put_jump(code, Instr::SkipIfZero(0))?;
@@ -84,10 +82,6 @@ fn emit_stmt(code: &mut Vec<Instr>, room: &mut usize, s: &Stmt) -> Result<(), Al
             go_back(code, start)?;
             pass_if_zero(code, exit);
             Ok(())
-        }
-        Stmt::Print(e) => {
-            emit_begun(code, room, e)?;
-            put(code, Instr::Print)
         }
         Stmt::Return(e) => {
             emit_begun(code, room, e)?;
@@ -97,13 +91,34 @@ fn emit_stmt(code: &mut Vec<Instr>, room: &mut usize, s: &Stmt) -> Result<(), Al
     }
 }
 
+// A statement's tick, then its expression, and then the instruction that takes the value.
+fn emit_simple(
+    code: &mut Vec<Instr>,
+    room: &mut usize,
+    e: &Expr,
+    last: Instr,
+) -> Result<(), AllocError>
+    ensures code { OnOk result (code.new.items ≡ code.old.items ++ (Instr.Tick ∷ (expr_code (expression e.now) ++ last ∷ []))) }
+    ensures room { OnOk result (room.new ≡ max room.old (depth (expression e.now))) }
+{
+    emit_begun(code, room, e)?;
+    put(code, last)
+}
+
 // A statement's tick, and then its expression.
 fn emit_begun(code: &mut Vec<Instr>, room: &mut usize, e: &Expr) -> Result<(), AllocError>
     ensures code { OnOk result (code.new.items ≡ code.old.items ++ (Instr.Tick ∷ expr_code (expression e.now))) }
     ensures room { OnOk result (room.new ≡ max room.old (depth (expression e.now))) }
 {
-    put(code, Instr::Tick)?;
+    begin(code)?;
     emit_value(code, room, e)
+}
+
+// A statement's tick.
+fn begin(code: &mut Vec<Instr>) -> Result<(), AllocError>
+    ensures { OnOk result (code.new.items ≡ code.old.items ++ Instr.Tick ∷ []) }
+{
+    put(code, Instr::Tick)
 }
 
 // An expression, with room for its operands.
@@ -117,6 +132,7 @@ fn emit_value(code: &mut Vec<Instr>, room: &mut usize, e: &Expr) -> Result<(), A
 }
 
 // An expression, and how many operands it has on the stack at most.
+#[cycle(expressions)]
 fn emit_expr(code: &mut Vec<Instr>, e: &Expr) -> Result<usize, AllocError>
     ensures code { OnOk result (code.new.items ≡ code.old.items ++ expr_code (expression e.now)) }
     ensures depth { IfOk result (λ d. d ≡ depth (expression e.now)) }
@@ -125,21 +141,9 @@ fn emit_expr(code: &mut Vec<Instr>, e: &Expr) -> Result<usize, AllocError>
         Expr::Number(n) => put_operand(code, Instr::Push(*n)),
         Expr::Variable(x) => put_operand(code, Instr::Load(*x)),
         Expr::InputCount => put_operand(code, Instr::InputCount),
-        Expr::Negate(e) => {
-            let needed = emit_expr(code, e)?;
-            put(code, Instr::Negate)?;
-            Ok(needed)
-        }
-        Expr::Not(e) => {
-            let needed = emit_expr(code, e)?;
-            put(code, Instr::Not)?;
-            Ok(needed)
-        }
-        Expr::Input(e) => {
-            let needed = emit_expr(code, e)?;
-            put(code, Instr::Input)?;
-            Ok(needed)
-        }
+        Expr::Negate(e) => emit_unary(code, e, Instr::Negate),
+        Expr::Not(e) => emit_unary(code, e, Instr::Not),
+        Expr::Input(e) => emit_unary(code, e, Instr::Input),
         Expr::Binary(operator, a, b) => {
             let left = emit_expr(code, a)?;
             let right = emit_expr(code, b)?;
@@ -163,7 +167,19 @@ fn emit_expr(code: &mut Vec<Instr>, e: &Expr) -> Result<usize, AllocError>
     }
 }
 
+// An operand, and then the instruction that takes it.
+#[cycle(expressions)]
+fn emit_unary(code: &mut Vec<Instr>, e: &Expr, last: Instr) -> Result<usize, AllocError>
+    ensures code { OnOk result (code.new.items ≡ code.old.items ++ (expr_code (expression e.now) ++ last ∷ [])) }
+    ensures depth { IfOk result (λ d. d ≡ depth (expression e.now)) }
+{
+    let needed = emit_expr(code, e)?;
+    put(code, last)?;
+    Ok(needed)
+}
+
 // Behind the right side of `&&`: its truth, or 0 where the left side was 0.
+#[tactic(auto, using(crate::proofs::Patch::and_ends))]
 fn end_and(code: &mut Vec<Instr>, skip: usize) -> Result<(), AllocError>
     requires { skip < length code.old.items }
     ensures { OnOk result (code.new.items ≡ slice_set code.old.items skip (Instr.SkipIfZero (length code.old.items - skip + 1)) ++ (Instr.Truth ∷ (Instr.GoOn 1 ∷ (Instr.Push (pos 0) ∷ [])))) }
@@ -185,6 +201,7 @@ fn begin_or(code: &mut Vec<Instr>) -> Result<usize, AllocError>
 }
 
 // Behind the right side of `||`: its truth.
+#[tactic(auto, using(crate::proofs::Patch::or_ends))]
 fn end_or(code: &mut Vec<Instr>, jump: usize) -> Result<(), AllocError>
     requires { jump < length code.old.items }
     ensures { OnOk result (code.new.items ≡ slice_set code.old.items jump (Instr.GoOn (length code.old.items - jump)) ++ Instr.Truth ∷ []) }
@@ -204,17 +221,17 @@ fn go_back(code: &mut Vec<Instr>, start: usize) -> Result<(), AllocError>
 }
 
 // The test at the place passes all that stands behind it.
-fn pass_if_zero(code: &mut [Instr], place: usize)
-    requires { place < length code.old }
-    ensures { code.new ≡ slice_set code.old place (Instr.SkipIfZero (length code.old - place - 1)) }
+fn pass_if_zero(code: &mut Vec<Instr>, place: usize)
+    requires { place < length code.old.items }
+    ensures { code.new.items ≡ slice_set code.old.items place (Instr.SkipIfZero (length code.old.items - place - 1)) }
 {
     code[place] = Instr::SkipIfZero(code.len() - place - 1);
 }
 
 // The jump at the place passes all that stands behind it.
-fn pass(code: &mut [Instr], place: usize)
-    requires { place < length code.old }
-    ensures { code.new ≡ slice_set code.old place (Instr.GoOn (length code.old - place - 1)) }
+fn pass(code: &mut Vec<Instr>, place: usize)
+    requires { place < length code.old.items }
+    ensures { code.new.items ≡ slice_set code.old.items place (Instr.GoOn (length code.old.items - place - 1)) }
 {
     code[place] = Instr::GoOn(code.len() - place - 1);
 }
@@ -244,4 +261,26 @@ fn put(code: &mut Vec<Instr>, instr: Instr) -> Result<(), AllocError>
 {
     code.push(instr)?;
     Ok(())
+}
+
+#[cfg(test)]
+mod tests {
+    use super::*;
+    use cilk_types::sequence::Sequence;
+
+    #[test]
+    fn prints_a_number(rt: HostRuntime) -> Result<(), AllocError> {
+        let mut main = Vec::new(rt.alloc());
+        main.push(Stmt::Print(Expr::Number(7)))?;
+        let globals = Sequence::new(Vec::new(rt.alloc()));
+        let code = lower(rt.alloc(), &Program { globals, main })?;
+        assert_eq!(rt; code.room(), 1);
+        assert!(rt; matches!(code.at(0), Some(Instr::Tick)));
+        assert!(rt; matches!(code.at(1), Some(Instr::Push(7))));
+        assert!(rt; matches!(code.at(2), Some(Instr::Print)));
+        assert!(rt; matches!(code.at(3), Some(Instr::Sync)));
+        assert!(rt; matches!(code.at(4), Some(Instr::Finish)));
+        assert!(rt; matches!(code.at(5), None));
+        Ok(())
+    }
 }
