@@ -14,6 +14,9 @@ use cilk_types::fault::Fault;
 use cilk_types::input::Input;
 use cilk_types::word;
 
+#[cfg(test)]
+mod tests;
+
 // What an instruction did: it went on, it asks and waits for the answer, or it asks for the last time.
 #[derive(Drop)]
 enum Moved {
