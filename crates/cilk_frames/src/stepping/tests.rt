@@ -7,7 +7,6 @@ ghost use Rattle.cilk_lower.specs.Behaves.{Behaves};
 ghost use Rattle.cilk_frames.specs.Following.{Fits, HasAnswer, owed_for, word_in};
 
 use super::*;
-use cilk_names::syntax::Place;
 use std::alloc::{AllocError, Global};
 use std::test::*;
 
