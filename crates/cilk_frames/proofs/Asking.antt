@@ -1,5 +1,7 @@
 -- What a caller of `step` keeps of a frame, from one ask to the next.
-use Rattle.std.proofs.Common.{◌≡◌, ℕ, ◌+◌, ◌-◌, ◌≤◌, ℤ, List, [], ◌∷◌, ◌++◌, refl, sym, ap, ◌∙◌, subst, arith}
+use Rattle.std.proofs.Common.{◌≡◌, ℕ, ◌+◌, ◌-◌, ◌≤◌, ℤ, List, [], ◌∷◌, ◌++◌, sym, ap, ◌∙◌, subst, arith, map, take, get_or, length, ◌<◌}
+use Rattle.std.proofs.lemmas.List.{take_more, map-append}
+use Rattle.cilk_frames.specs.declared.cursor.Answer.TheVariants.{Done}
 use Rattle.cilk_names.specs.Syntax.{Statements}
 use Rattle.cilk_names.specs.declared.ask.Ask.{Ask}
 use Rattle.cilk_names.specs.declared.ask.Ask.TheVariants.{Begin}
@@ -34,3 +36,7 @@ module _ (code : List Instr) (inputs : List ℤ) (row : Statements) (c : CursorV
         stands = g.stands;
         owes = g.owes;
       }
+
+-- the history of a frame that is told these answers one by one
+pub told_more : (answers : List Answer) (i : ℕ) → i < length answers → map word_in (take (i + 1) answers) ≡ map word_in (take i answers) ++ word_in (get_or answers i Done) ∷ []
+told_more answers i h = ap (map word_in) (take_more answers i Done h) ∙ map-append word_in (take i answers) (get_or answers i Done ∷ [])

@@ -2,7 +2,9 @@
 
 ghost use Rattle.std.specs.Prelude.{◌≡◌, ◌≢◌, ◌+◌, ◌<◌, ◌^◌, ◌∷◌, length, suc, ℕ, ℤ, List};
 ghost use Rattle.cilk_names.specs.Syntax.{Statements};
-ghost use Rattle.cilk_lower.specs.Machine.{Goes, Stuck, ticked, or_stops};
+ghost use Rattle.cilk_names.specs.declared.ask.Ask.TheVariants.{Read};
+ghost use Rattle.cilk_lower.specs.declared.code.Owed.TheVariants.{Word};
+ghost use Rattle.cilk_lower.specs.Machine.{Goes, Waits, Stuck, ticked, or_stops};
 ghost use Rattle.cilk_frames.specs.Following.{Fits, GoesOn, Runs, Stands, Steps};
 ghost use Rattle.cilk_frames.specs.Moving.{IsGoing, TakesTick, effort, move_at, moved};
 
@@ -10,9 +12,13 @@ use crate::cursor::{Answer, Cursor};
 use crate::operators::{apply, negation, truth};
 use cilk_lower::code::{Code, Instr, Owed};
 use cilk_names::ask::Ask;
+use cilk_names::syntax::Place;
 use cilk_types::fault::Fault;
 use cilk_types::input::Input;
 use cilk_types::word;
+
+#[cfg(test)]
+mod tests;
 
 // What an instruction did: it went on, it asks and waits for the answer, or it asks for the last time.
 #[derive(Drop)]
@@ -52,21 +58,9 @@ fn advance(code: &Code, input: &Input, cursor: &mut Cursor, left: &mut u32) -> M
         unreachable!()
     };
     match instr {
-        Instr::Tick => {
-            if !take_tick(left) {
-                return Moved::Stops(Ask::Fault(Fault::TooManyEvents));
-            }
-            cursor.next();
-            Moved::Goes
-        }
+        Instr::Tick => tick(cursor, left),
         Instr::Push(word) => give(cursor, word, left),
-        Instr::Load(place) => {
-            if !take_tick(left) {
-                return Moved::Stops(Ask::Fault(Fault::TooManyEvents));
-            }
-            cursor.wait(Owed::Word);
-            Moved::Waits(Ask::Read(place))
-        }
+        Instr::Load(place) => load(cursor, place, left),
         Instr::Store(place) => {
             let word = cursor.pop();
             cursor.wait(Owed::Nothing);
@@ -122,6 +116,34 @@ fn advance(code: &Code, input: &Input, cursor: &mut Cursor, left: &mut u32) -> M
         Instr::End => Moved::Stops(Ask::End(cursor.pop())),
         Instr::Finish => Moved::Stops(Ask::End(0)),
     }
+}
+
+// A statement begins.
+fn tick(cursor: &mut Cursor, left: &mut u32) -> Moved
+    requires { cursor.old.place < 2 ^ 63 }
+    ensures moves { moved result cursor.new left.new ≡ ticked left.old (Goes (cursor.old.place + 1) cursor.old.stack) }
+    ensures room { cursor.new.room ≡ cursor.old.room }
+    ensures falls { IsGoing result → left.old ≡ suc left.new }
+{
+    if !take_tick(left) {
+        return Moved::Stops(Ask::Fault(Fault::TooManyEvents));
+    }
+    cursor.next();
+    Moved::Goes
+}
+
+// A value is read, which takes its tick first.
+fn load(cursor: &mut Cursor, place: Place, left: &mut u32) -> Moved
+    requires { cursor.old.place < 2 ^ 63 }
+    ensures moves { moved result cursor.new left.new ≡ ticked left.old (Waits (Read place) Word (cursor.old.place + 1) cursor.old.stack) }
+    ensures room { cursor.new.room ≡ cursor.old.room }
+    ensures asks { IsGoing result → ⊥ }
+{
+    if !take_tick(left) {
+        return Moved::Stops(Ask::Fault(Fault::TooManyEvents));
+    }
+    cursor.wait(Owed::Word);
+    Moved::Waits(Ask::Read(place))
 }
 
 // A value takes its tick and goes onto the stack.
