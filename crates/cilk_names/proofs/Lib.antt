@@ -2,3 +2,4 @@ pub mod Agreement
 pub mod Elisions
 pub mod Places
 pub mod Runs
+pub mod Rows

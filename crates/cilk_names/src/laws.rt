@@ -3,6 +3,7 @@
 ghost use Rattle.std.specs.Prelude.{ℕ, ℤ, List};
 ghost use Rattle.cilk_names.specs.Syntax.{Source, Statements};
 ghost use Rattle.cilk_names.specs.Laws.{HasSerialRun, HasOneSerialRun, EndsAsElided, HasOneElision, AsksInside};
+ghost use Rattle.cilk_names.specs.Worked.{NothingRuns, CountdownRuns, EdgesRun, SkippedDivisionRuns, DivisionByZeroStops, ShortInputStops, EndlessStops};
 
 /// Where a program's serial run ends within the limits of a run, it ends as the serial elision does: with its result,
 /// memory and output, or by its fault.
@@ -28,4 +29,15 @@ pub fn elision_is_one()
 /// Whatever its answers, a body whose names are resolved asks for no cell but those that exist.
 pub fn asks_are_inside()
     ensures { (globals : ℕ) (inputs : List ℤ) (row : Statements) → AsksInside globals inputs row }
+{}
+
+/// Worked programs make these events and leave this, or stop by this fault.
+pub fn worked_programs()
+    ensures nothing { NothingRuns }
+    ensures countdown { CountdownRuns }
+    ensures edges { EdgesRun }
+    ensures skipped_division { SkippedDivisionRuns }
+    ensures division_by_zero { DivisionByZeroStops }
+    ensures short_input { ShortInputStops }
+    ensures endless { EndlessStops }
 {}

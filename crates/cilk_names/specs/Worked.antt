@@ -1,0 +1,111 @@
+-- Worked programs, and what they do.
+use Rattle.std.specs.Prelude.{◌≡◌, ℤ, pos, negsuc, List, [], ◌∷◌}
+use Rattle.cilk_types.specs.declared.fault.Fault.{Fault}
+use Rattle.cilk_types.specs.declared.fault.Fault.TheVariants.{DivisionByZero, InputOutside, TooManyEvents}
+use Rattle.cilk_types.specs.declared.event.Event as numbers
+use Rattle.cilk_types.specs.declared.event.Event.TheVariants.{Begin, Read, Write, Print as Prints, Sync, End}
+use Rattle.cilk_types.specs.declared.outcome.Outcome.{Outcome}
+use Rattle.cilk_names.specs.declared.syntax.Place.{Place}
+use Rattle.cilk_names.specs.declared.syntax.Place.TheVariants.{Global}
+use Rattle.cilk_names.specs.declared.syntax.Operator.TheVariants.{Subtract, Multiply, Divide, Remainder}
+use Rattle.cilk_names.specs.Syntax.{Source, Expression, Number, Variable, Negate, Binary, And, Input, Statement, Empty, Block, Assign, While, Print, Return, Statements, Nothing, Then}
+use Rattle.cilk_names.specs.Store.{Store}
+use Rattle.cilk_names.specs.Elision.{Finished, Stopped}
+use Rattle.cilk_names.specs.SerialRun.{Run, IsSerialRun, trace_of, outcome_of}
+
+-- the program's serial run makes these events, and leaves this
+pub record RunsTo (p : Source) (inputs : List ℤ) (events : List numbers.Event) (outcome : Outcome) : Type 0 where
+  pub run : Run
+  pub result : ℤ
+  pub store : Store
+  pub is_serial : IsSerialRun p inputs run (Finished result store)
+  pub makes : trace_of run ≡ events
+  pub leaves : outcome_of p result store ≡ outcome
+
+-- the program's serial run makes these events, and stops by this fault
+pub record StopsBy (p : Source) (inputs : List ℤ) (events : List numbers.Event) (fault : Fault) : Type 0 where
+  pub run : Run
+  pub is_serial : IsSerialRun p inputs run (Stopped fault)
+  pub makes : trace_of run ≡ events
+
+-- int main() { return 0; }
+abbrev pub nothing : Source
+nothing = record { openings = []; main = Then (Return (Number (pos 0))) Nothing }
+
+abbrev pub NothingRuns : Type 0
+NothingRuns = RunsTo nothing [] (Begin 1 ∷ Sync ∷ End ∷ []) (record { result = pos 0; globals = []; output = []; reducers = [] })
+
+-- the one global cell of the programs below
+abbrev pub cell : Place
+cell = Global 0
+
+-- int g = 3; int main() { while (g) { print(g); g = g - 1; } return g; }
+abbrev pub countdown : Source
+countdown = record {
+  openings = pos 3 ∷ [];
+  main =
+      Then (While (Variable cell) (Block (Then (Print (Variable cell)) (Then (Assign cell (Binary Subtract (Variable cell) (Number (pos 1)))) Nothing))))
+      (Then (Return (Variable cell)) Nothing);
+}
+
+-- 20 events
+abbrev pub CountdownRuns : Type 0
+CountdownRuns =
+    RunsTo countdown []
+    (Begin 1
+    ∷ Read 0 (pos 3) ∷ Read 0 (pos 3) ∷ Prints (pos 3) ∷ Read 0 (pos 3) ∷ Write 0 (pos 2)
+    ∷ Read 0 (pos 2) ∷ Read 0 (pos 2) ∷ Prints (pos 2) ∷ Read 0 (pos 2) ∷ Write 0 (pos 1)
+    ∷ Read 0 (pos 1) ∷ Read 0 (pos 1) ∷ Prints (pos 1) ∷ Read 0 (pos 1) ∷ Write 0 (pos 0)
+    ∷ Read 0 (pos 0) ∷ Read 0 (pos 0) ∷ Sync ∷ End ∷ [])
+    (record { result = pos 0; globals = pos 0 ∷ []; output = pos 3 ∷ pos 2 ∷ pos 1 ∷ []; reducers = [] })
+
+-- int main() { while (1) ; return 0; }
+abbrev pub endless : Source
+endless = record { openings = []; main = Then (While (Number (pos 1)) Empty) (Then (Return (Number (pos 0))) Nothing) }
+
+abbrev pub EndlessStops : Type 0
+EndlessStops = StopsBy endless [] (Begin 1 ∷ []) TooManyEvents
+
+-- the least word
+abbrev pub least : ℤ
+least = negsuc 9223372036854775807
+
+-- int m; int main() { m = -9223372036854775807 - 1; print(m / -1); print(m % -1); print(-7 / 2); print(-7 % 2); return m * 2; }
+abbrev pub edges : Source
+edges = record {
+  openings = pos 0 ∷ [];
+  main =
+      Then (Assign cell (Binary Subtract (Negate (Number (pos 9223372036854775807))) (Number (pos 1))))
+      (Then (Print (Binary Divide (Variable cell) (Negate (Number (pos 1)))))
+      (Then (Print (Binary Remainder (Variable cell) (Negate (Number (pos 1)))))
+      (Then (Print (Binary Divide (Negate (Number (pos 7))) (Number (pos 2))))
+      (Then (Print (Binary Remainder (Negate (Number (pos 7))) (Number (pos 2))))
+      (Then (Return (Binary Multiply (Variable cell) (Number (pos 2)))) Nothing)))));
+}
+
+abbrev pub EdgesRun : Type 0
+EdgesRun =
+    RunsTo edges []
+    (Begin 1 ∷ Write 0 least ∷ Read 0 least ∷ Prints least ∷ Read 0 least ∷ Prints (pos 0) ∷ Prints (negsuc 2) ∷ Prints (negsuc 0) ∷ Read 0 least ∷ Sync ∷ End ∷ [])
+    (record { result = pos 0; globals = least ∷ []; output = least ∷ pos 0 ∷ negsuc 2 ∷ negsuc 0 ∷ []; reducers = [] })
+
+-- int main() { return 1 / 0; }
+abbrev pub division_by_zero : Source
+division_by_zero = record { openings = []; main = Then (Return (Binary Divide (Number (pos 1)) (Number (pos 0)))) Nothing }
+
+abbrev pub DivisionByZeroStops : Type 0
+DivisionByZeroStops = StopsBy division_by_zero [] (Begin 1 ∷ []) DivisionByZero
+
+-- int main() { return 0 && 1 / 0; }
+abbrev pub skipped_division : Source
+skipped_division = record { openings = []; main = Then (Return (And (Number (pos 0)) (Binary Divide (Number (pos 1)) (Number (pos 0))))) Nothing }
+
+abbrev pub SkippedDivisionRuns : Type 0
+SkippedDivisionRuns = RunsTo skipped_division [] (Begin 1 ∷ Sync ∷ End ∷ []) (record { result = pos 0; globals = []; output = []; reducers = [] })
+
+-- int main() { print(input(0)); return input(1); } on the input 5
+abbrev pub short_input : Source
+short_input = record { openings = []; main = Then (Print (Input (Number (pos 0)))) (Then (Return (Input (Number (pos 1)))) Nothing) }
+
+abbrev pub ShortInputStops : Type 0
+ShortInputStops = StopsBy short_input (pos 5 ∷ []) (Begin 1 ∷ Prints (pos 5) ∷ []) InputOutside
