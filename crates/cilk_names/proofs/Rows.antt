@@ -4,13 +4,13 @@ use Rattle.std.specs.Int.{int_wrap}
 use Rattle.cilk_types.specs.declared.fault.Fault.TheVariants.{TooManyEvents}
 use Rattle.cilk_types.specs.declared.limits.TheConstants.{MAX_EVENTS, MAX_TICKS}
 use Rattle.cilk_names.specs.declared.ask.Ask.TheVariants as asks
-use Rattle.cilk_names.specs.Syntax.{Source, Number, Empty, Return, Nothing, Then}
-use Rattle.cilk_names.specs.Behaviour.{Got, Gives, Asks, ask, all_do, unless_returned, returned, ◌>>=◌, asks_for, ended, value, does, turns, frame_asks}
+use Rattle.cilk_names.specs.Syntax.{Number, Empty, Return, Nothing, Then}
+use Rattle.cilk_names.specs.Behaviour.{Gives, Asks, ask, all_do, unless_returned, returned, ◌>>=◌, asks_for, ended, value, does, turns, frame_asks}
 use Rattle.cilk_names.specs.Store.{Store, opening}
 use Rattle.cilk_names.specs.Elision.{Ending, Finished, Stopped}
 use Rattle.cilk_names.specs.SerialRun.{Serial, Begins, stop, act, Begun, Made, Faulted}
-use Rattle.cilk_names.specs.Laws.{Ran, ran_within}
-use Rattle.cilk_names.specs.Worked.{RunsTo, StopsBy, nothing, NothingRuns, countdown, CountdownRuns, endless, EndlessStops, edges, EdgesRun, division_by_zero, DivisionByZeroStops, skipped_division, SkippedDivisionRuns, short_input, ShortInputStops}
+use Rattle.cilk_names.specs.Laws.{ran_within}
+use Rattle.cilk_names.specs.Worked.{operators, OperatorsRun, branches, BranchesRun, no_return, NoReturnRuns, nothing, NothingRuns, countdown, CountdownRuns, endless, EndlessStops, edges, EdgesRun, division_by_zero, DivisionByZeroStops, skipped_division, SkippedDivisionRuns, short_input, ShortInputStops}
 use Rattle.cilk_names.proofs.Runs.{has_serial_run}
 
 abbrev result_of : Ending → ℤ
@@ -43,6 +43,24 @@ unfolding int_wrap
 skipped_division_runs =
     let r = ran_within MAX_TICKS MAX_EVENTS skipped_division [] in
     record { run = r.run; result = result_of r.ending; store = store_of (opening skipped_division) r.ending; is_serial = has_serial_run skipped_division []; makes = refl; leaves = refl }
+
+pub operators_run : OperatorsRun
+unfolding int_wrap
+operators_run =
+    let r = ran_within MAX_TICKS MAX_EVENTS operators (pos 5 ∷ pos 6 ∷ []) in
+    record { run = r.run; result = result_of r.ending; store = store_of (opening operators) r.ending; is_serial = has_serial_run operators (pos 5 ∷ pos 6 ∷ []); makes = refl; leaves = refl }
+
+pub branches_run : BranchesRun
+unfolding int_wrap
+branches_run =
+    let r = ran_within MAX_TICKS MAX_EVENTS branches [] in
+    record { run = r.run; result = result_of r.ending; store = store_of (opening branches) r.ending; is_serial = has_serial_run branches []; makes = refl; leaves = refl }
+
+pub no_return_runs : NoReturnRuns
+unfolding int_wrap
+no_return_runs =
+    let r = ran_within MAX_TICKS MAX_EVENTS no_return [] in
+    record { run = r.run; result = result_of r.ending; store = store_of (opening no_return) r.ending; is_serial = has_serial_run no_return []; makes = refl; leaves = refl }
 
 pub division_by_zero_stops : DivisionByZeroStops
 unfolding int_wrap

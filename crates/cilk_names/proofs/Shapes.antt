@@ -4,16 +4,16 @@ use Rattle.cilk_types.specs.Input.{input_at, input_count}
 use Rattle.cilk_types.specs.Word.{word_of}
 use Rattle.cilk_types.specs.declared.fault.Fault.{Fault}
 use Rattle.cilk_types.specs.declared.fault.Fault.TheVariants.{DivisionByZero, InputOutside, TooManyEvents}
-use Rattle.cilk_types.specs.declared.limits.TheConstants.{MAX_EVENTS, MAX_TICKS}
+use Rattle.cilk_types.specs.declared.limits.TheConstants.{MAX_TICKS}
 use Rattle.cilk_names.specs.declared.ask.Ask.{Ask}
 use Rattle.cilk_names.specs.declared.ask.Ask.TheVariants as asks
 use Rattle.cilk_names.specs.Syntax.{Source, Expression, Number, Variable, Negate, Not, Binary, And, Or, Input, InputCount, Statement, Empty, Block, Assign, If, IfElse, While, Print, Return, Statements, Nothing, Then}
 use Rattle.cilk_names.specs.Words.{is_zero, truth, truth_of, apply}
-use Rattle.cilk_names.specs.Behaviour.{Asked, asks_for, Got, Gives, Asks, ◌>>=◌, tick, ask, tick_gives, or_fault, chosen, value, Flow, unless_returned, turns, does, all_do, returned, ended, body_gives, frame_asks}
+use Rattle.cilk_names.specs.Behaviour.{asks_for, Got, Gives, ◌>>=◌, tick, ask, tick_gives, or_fault, chosen, value, Flow, unless_returned, turns, does, all_do, returned, ended, frame_asks}
 use Rattle.cilk_names.specs.Store.{Store, cell_of, put, print, opening}
 use Rattle.cilk_names.specs.Elision.{Ending, Finished, Stopped}
-use Rattle.cilk_names.specs.SerialRun.{Event, Begins, Syncs, Ends, Run, stop, act, Makes, Begun, Read, Written, Printed, Synced, IsSerialRun}
-use Rattle.cilk_names.specs.Laws.{Rest, after, Ran, grown, stopped_full, answer_full, answer, ran, ran_within, IsInner, IsCutShort, Stops, Before, IsClosed, Closes, Inside, EndsSo, HasShape}
+use Rattle.cilk_names.specs.SerialRun.{Event, Syncs, Run, stop, act, Makes, Begun, Read, Written, Printed, Synced}
+use Rattle.cilk_names.specs.Laws.{Rest, after, Ran, grown, stopped_full, answer_full, answer, ran, IsInner, Stops, Before, Closes, Inside, EndsSo, HasShape}
 use Rattle.cilk_names.proofs.Runs.{is_serial_run}
 use Rattle.cilk_names.proofs.Agreement.{At, in_turn}
 

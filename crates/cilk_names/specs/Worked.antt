@@ -1,5 +1,5 @@
 -- Worked programs, and what they do.
-use Rattle.std.specs.Prelude.{◌≡◌, ℤ, pos, negsuc, List, [], ◌∷◌}
+use Rattle.std.specs.Prelude.{◌≡◌, ℕ, ℤ, pos, negsuc, List, [], ◌∷◌}
 use Rattle.cilk_types.specs.declared.fault.Fault.{Fault}
 use Rattle.cilk_types.specs.declared.fault.Fault.TheVariants.{DivisionByZero, InputOutside, TooManyEvents}
 use Rattle.cilk_types.specs.declared.event.Event as numbers
@@ -7,8 +7,9 @@ use Rattle.cilk_types.specs.declared.event.Event.TheVariants.{Begin, Read, Write
 use Rattle.cilk_types.specs.declared.outcome.Outcome.{Outcome}
 use Rattle.cilk_names.specs.declared.syntax.Place.{Place}
 use Rattle.cilk_names.specs.declared.syntax.Place.TheVariants.{Global}
-use Rattle.cilk_names.specs.declared.syntax.Operator.TheVariants.{Subtract, Multiply, Divide, Remainder}
-use Rattle.cilk_names.specs.Syntax.{Source, Expression, Number, Variable, Negate, Binary, And, Input, Statement, Empty, Block, Assign, While, Print, Return, Statements, Nothing, Then}
+use Rattle.cilk_names.specs.declared.syntax.Operator.{Operator}
+use Rattle.cilk_names.specs.declared.syntax.Operator.TheVariants.{Add, Subtract, Multiply, Divide, Remainder, Less, LessEqual, Greater, GreaterEqual, Equal, NotEqual}
+use Rattle.cilk_names.specs.Syntax.{Source, Expression, Number, Variable, Negate, Not, Binary, And, Or, Input, InputCount, Statement, Empty, Block, Assign, If, IfElse, While, Print, Return, Statements, Nothing, Then}
 use Rattle.cilk_names.specs.Store.{Store}
 use Rattle.cilk_names.specs.Elision.{Finished, Stopped}
 use Rattle.cilk_names.specs.SerialRun.{Run, IsSerialRun, trace_of, outcome_of}
@@ -109,3 +110,75 @@ short_input = record { openings = []; main = Then (Print (Input (Number (pos 0))
 
 abbrev pub ShortInputStops : Type 0
 ShortInputStops = StopsBy short_input (pos 5 ∷ []) (Begin 1 ∷ Prints (pos 5) ∷ []) InputOutside
+
+-- print each of these, and return 0
+abbrev pub printing : List Expression → Statements
+printing [] = Then (Return (Number (pos 0))) Nothing
+printing (e ∷ list) = Then (Print e) (printing list)
+
+abbrev pub printed : List ℤ → List numbers.Event
+printed [] = Sync ∷ End ∷ []
+printed (v ∷ list) = Prints v ∷ printed list
+
+abbrev pub num : ℕ → Expression
+num n = Number (pos n)
+
+abbrev pub on_two : Operator → ℕ → ℕ → Expression
+on_two op a b = Binary op (num a) (num b)
+
+-- 1 / 0
+abbrev pub faulty : Expression
+faulty = on_two Divide 1 0
+
+-- each operator; the second sum wraps, and what faults is skipped
+abbrev pub each_operator : List Expression
+each_operator =
+    on_two Add 1 2 ∷ on_two Add 9223372036854775807 1 ∷ on_two Subtract 5 7 ∷ Binary Multiply (num 3) (Negate (num 4)) ∷ on_two Divide 7 2 ∷ Binary Remainder (num 7) (Negate (num 2))
+    ∷ on_two Less 1 2 ∷ on_two Less 2 2 ∷ Binary Less (Negate (num 1)) (num 0) ∷ on_two LessEqual 2 2 ∷ on_two LessEqual 3 2 ∷ on_two Greater 2 1 ∷ on_two Greater 2 2 ∷ on_two GreaterEqual 2 2 ∷ on_two GreaterEqual 1 2
+    ∷ on_two Equal 4 4 ∷ on_two Equal 4 5 ∷ on_two NotEqual 4 4 ∷ on_two NotEqual 4 5
+    ∷ Not (num 5) ∷ Not (num 0) ∷ And (num 2) (num 3) ∷ And (num 2) (num 0) ∷ And (num 0) faulty ∷ Or (num 0) (num 4) ∷ Or (num 0) (num 0) ∷ Or (num 3) faulty
+    ∷ InputCount ∷ Input (num 1) ∷ []
+
+abbrev pub operator_values : List ℤ
+operator_values =
+    pos 3 ∷ least ∷ negsuc 1 ∷ negsuc 11 ∷ pos 3 ∷ pos 1
+    ∷ pos 1 ∷ pos 0 ∷ pos 1 ∷ pos 1 ∷ pos 0 ∷ pos 1 ∷ pos 0 ∷ pos 1 ∷ pos 0
+    ∷ pos 1 ∷ pos 0 ∷ pos 0 ∷ pos 1
+    ∷ pos 0 ∷ pos 1 ∷ pos 1 ∷ pos 0 ∷ pos 0 ∷ pos 1 ∷ pos 0 ∷ pos 1
+    ∷ pos 2 ∷ pos 6 ∷ []
+
+abbrev pub operators : Source
+operators = record { openings = []; main = printing each_operator }
+
+abbrev pub OperatorsRun : Type 0
+OperatorsRun = RunsTo operators (pos 5 ∷ pos 6 ∷ []) (Begin 1 ∷ printed operator_values) (record { result = pos 0; globals = []; output = operator_values; reducers = [] })
+
+-- g = g + n;
+abbrev pub add_to : ℕ → Statement
+add_to n = Assign cell (Binary Add (Variable cell) (num n))
+
+-- int g; int main() { if (1) g = 1; if (0) g = 2; if (g) g = g + 10; else g = 3; if (0) g = 4; else g = g + 100; while (1) { ; return g; print(9); } return 5; }
+abbrev pub branches : Source
+branches = record {
+  openings = pos 0 ∷ [];
+  main =
+      Then (If (num 1) (Assign cell (num 1)))
+      (Then (If (num 0) (Assign cell (num 2)))
+      (Then (IfElse (Variable cell) (add_to 10) (Assign cell (num 3)))
+      (Then (IfElse (num 0) (Assign cell (num 4)) (add_to 100))
+      (Then (While (num 1) (Block (Then Empty (Then (Return (Variable cell)) (Then (Print (num 9)) Nothing)))))
+      (Then (Return (num 5)) Nothing)))));
+}
+
+abbrev pub BranchesRun : Type 0
+BranchesRun =
+    RunsTo branches []
+    (Begin 1 ∷ Write 0 (pos 1) ∷ Read 0 (pos 1) ∷ Read 0 (pos 1) ∷ Write 0 (pos 11) ∷ Read 0 (pos 11) ∷ Write 0 (pos 111) ∷ Read 0 (pos 111) ∷ Sync ∷ End ∷ [])
+    (record { result = pos 111; globals = pos 111 ∷ []; output = []; reducers = [] })
+
+-- int g = 4; int h = 8; int main() { h = g; }
+abbrev pub no_return : Source
+no_return = record { openings = pos 4 ∷ pos 8 ∷ []; main = Then (Assign (Global 1) (Variable cell)) Nothing }
+
+abbrev pub NoReturnRuns : Type 0
+NoReturnRuns = RunsTo no_return [] (Begin 1 ∷ Read 0 (pos 4) ∷ Write 1 (pos 4) ∷ Sync ∷ End ∷ []) (record { result = pos 0; globals = pos 4 ∷ pos 4 ∷ []; output = []; reducers = [] })

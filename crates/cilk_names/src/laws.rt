@@ -3,7 +3,7 @@
 ghost use Rattle.std.specs.Prelude.{ℕ, ℤ, List};
 ghost use Rattle.cilk_names.specs.Syntax.{Source, Statements};
 ghost use Rattle.cilk_names.specs.Laws.{HasSerialRun, HasOneSerialRun, EndsAsElided, HasOneElision, AsksInside, HasShape};
-ghost use Rattle.cilk_names.specs.Worked.{NothingRuns, CountdownRuns, EdgesRun, SkippedDivisionRuns, DivisionByZeroStops, ShortInputStops, EndlessStops};
+ghost use Rattle.cilk_names.specs.Worked.{NothingRuns, CountdownRuns, EdgesRun, OperatorsRun, BranchesRun, NoReturnRuns, SkippedDivisionRuns, DivisionByZeroStops, ShortInputStops, EndlessStops};
 
 /// Where a program's serial run ends within the limits of a run, it ends as the serial elision does: with its result,
 /// memory and output, or by its fault.
@@ -42,6 +42,9 @@ pub fn worked_programs()
     ensures countdown { CountdownRuns }
     ensures edges { EdgesRun }
     ensures skipped_division { SkippedDivisionRuns }
+    ensures operators { OperatorsRun }
+    ensures branches { BranchesRun }
+    ensures no_return { NoReturnRuns }
     ensures division_by_zero { DivisionByZeroStops }
     ensures short_input { ShortInputStops }
     ensures endless { EndlessStops }
