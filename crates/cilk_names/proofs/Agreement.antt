@@ -22,7 +22,7 @@ abbrev ending : ℕ → Rest → Store → Ending
 ending room c m = (ran room c m).ending
 
 -- what is left of a frame is to do this
-abbrev At : Rest → (List ℤ → Got ℤ) → Type 0
+abbrev pub At : Rest → (List ℤ → Got ℤ) → Type 0
 At c x = (answers : List ℤ) → c answers ≡ ended (x answers)
 
 fault_end : (f : Fault) (room : ℕ) (c : Rest) (m : Store) (left : ℕ) → c [] ≡ asks_for (asks.Fault f) left → ending room c m ≡ Stopped f
@@ -51,7 +51,7 @@ answered : {m : Store} {k : Ask} {e : Event} {v : ℤ} {m' : Store} (room : ℕ)
 answered zero c left q makes = NoRoom (ap (λ q. (answer_full q.ask).ending) q ∙ no_room makes)
 answered {m = m} (suc n) c left q makes = Room n (ap (λ q. (answer q.ask c m (ran n)).ending) q ∙ with_room n c makes)
 
-in_turn : {A B C : Type 0} (x : Got A) (f : A → List ℤ → ℕ → Got B) (g : B → List ℤ → ℕ → Got C) → (x >>= f) >>= g ≡ x >>= (λ v a l. f v a l >>= g)
+pub in_turn : {A B C : Type 0} (x : Got A) (f : A → List ℤ → ℕ → Got B) (g : B → List ℤ → ℕ → Got C) → (x >>= f) >>= g ≡ x >>= (λ v a l. f v a l >>= g)
 in_turn (Gives v a l) f g = refl
 in_turn (Asks k) f g = refl
 

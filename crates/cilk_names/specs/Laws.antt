@@ -88,3 +88,30 @@ PlaceExists globals (asks.Fault f) = Unit {0}
 -- whatever the answers and the ticks, a body that names places that exist asks for no other
 abbrev pub AsksInside : ℕ → List ℤ → Statements → Type 0
 AsksInside globals inputs row = IsTrue (all_places_in globals row) → (answers : List ℤ) (left : ℕ) → PlaceExists globals (frame_asks inputs row answers left).ask
+
+-- an event between a frame's beginning and its end
+abbrev pub IsInner : Event → Type 0
+IsInner Begins = ⊥
+IsInner (Reads c v) = Unit {0}
+IsInner (Writes c v) = Unit {0}
+IsInner (Prints v) = Unit {0}
+IsInner Syncs = Unit {0}
+IsInner Ends = ⊥
+
+-- what a frame does that stops on its way
+pub data IsCutShort : Run → Type 0 where
+  Stops : IsCutShort stop
+  Before : {e : Event} {r : Run} → IsInner e → IsCutShort r → IsCutShort (act e r)
+
+-- what a frame does that ends: inner events, and then a sync and its end
+pub data IsClosed : Run → Type 0 where
+  Closes : IsClosed (act Syncs (act Ends stop))
+  Inside : {e : Event} {r : Run} → IsInner e → IsClosed r → IsClosed (act e r)
+
+abbrev pub EndsSo : Run → Ending → Type 0
+EndsSo r (Finished v m) = IsClosed r
+EndsSo r (Stopped f) = IsCutShort r
+
+-- a serial run begins once; where it ends, its last events are a sync and its one end
+abbrev pub HasShape : Source → List ℤ → Type 0
+HasShape p inputs = (r : Run) (end : Ending) → IsSerialRun p inputs r end → (rest : Run) × (r ≡ act Begins rest) × EndsSo rest end

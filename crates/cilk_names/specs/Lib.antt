@@ -6,3 +6,4 @@ pub mod SerialRun
 pub mod Store
 pub mod Syntax
 pub mod Words
+pub mod Worked
