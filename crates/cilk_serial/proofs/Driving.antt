@@ -1,16 +1,13 @@
 -- The loop over one frame's asks.
-use Rattle.std.proofs.Common.{◌≡◌, ◌≢◌, ℕ, ◌+◌, ◌-◌, ◌≤◌, ◌<◌, ℤ, List, [], ◌∷◌, ◌++◌, length, refl, sym, ap, ◌∙◌, subst, arith, length-append}
+use Rattle.std.proofs.Common.{◌≡◌, ℕ, ◌+◌, ℤ, List, [], ◌∷◌, length, refl, sym, ap, ◌∙◌, subst, length-append}
 use Rattle.std.specs.Prelude.{IsTrue}
 use Rattle.cilk_types.specs.declared.event.Event as numbers
-use Rattle.cilk_types.specs.declared.event.Event.TheVariants as numbered
 use Rattle.cilk_types.specs.declared.fault.Fault.{Fault}
 use Rattle.cilk_types.specs.declared.limits.TheConstants.{MAX_EVENTS, MAX_TICKS}
 use Rattle.cilk_names.specs.declared.ask.Ask.{Ask}
 use Rattle.cilk_names.specs.declared.ask.Ask.TheVariants as asks
-use Rattle.cilk_names.specs.declared.program.Program.{Program}
-use Rattle.cilk_names.specs.Programs.{source}
 use Rattle.cilk_names.specs.Syntax.{Source, all_places_in}
-use Rattle.cilk_names.specs.Behaviour.{Asked, frame_asks}
+use Rattle.cilk_names.specs.Behaviour.{Asked}
 use Rattle.cilk_names.specs.Laws.{PlaceExists}
 use Rattle.cilk_names.specs.SerialRun.{HasEvent, by_number}
 use Rattle.cilk_names.proofs.Places.{asks_inside}
@@ -19,9 +16,9 @@ use Rattle.cilk_frames.specs.declared.cursor.Answer.{Answer}
 use Rattle.cilk_frames.specs.Cursor.{CursorView}
 use Rattle.cilk_frames.specs.Following.{Stands, owed_for}
 use Rattle.cilk_serial.specs.States.{Answers}
-use Rattle.cilk_serial.specs.Driven.{Ended, Halted, IsNoFault}
+use Rattle.cilk_serial.specs.Driven.{Ended, IsNoFault}
 use Rattle.cilk_serial.proofs.Shows.{shows_opening}
-use Rattle.cilk_serial.proofs.Going.{Going, Closes, Breaks, going_first}
+use Rattle.cilk_serial.proofs.Going.{Going, Closes, going_first}
 
 pub no_fault : (k : Ask) → ((f : Fault) → k ≡ asks.Fault f → ⊥) → IsNoFault k
 no_fault asks.Begin h = tt
@@ -67,8 +64,10 @@ grows cells output events cells' output' events' k a p inputs ticks limit code c
 pub ended : (p : Source) (inputs : List ℤ) (v : ℤ) (cells output : List ℤ) (events events' : List numbers.Event)
     → Closes p inputs MAX_TICKS MAX_EVENTS v cells output events → events' ≡ events → Ended p inputs v cells output events'
 ended p inputs v cells output events events' closes e = record {
-  run = closes.run; store = closes.store; serial = closes.serial; shows = closes.shows; sized = closes.sized; trace = e ∙ closes.trace;
+  run = closes.run;
+  store = closes.store;
+  serial = closes.serial;
+  shows = closes.shows;
+  sized = closes.sized;
+  trace = e ∙ closes.trace;
 }
-
-pub halted : (p : Source) (inputs : List ℤ) (f : Fault) (at at' : ℕ) → Breaks p inputs MAX_TICKS MAX_EVENTS f at → at' ≡ at → Halted p inputs f at'
-halted p inputs f at at' breaks e = record { run = breaks.run; serial = breaks.serial; place = e ∙ breaks.place }

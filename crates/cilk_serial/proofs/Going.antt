@@ -1,5 +1,5 @@
 -- A run that goes on: whatever completes the rest completes the whole.
-use Rattle.std.proofs.Common.{◌≡◌, ℕ, zero, suc, ◌+◌, ◌-◌, ◌≤◌, ◌<◌, ℤ, List, [], ◌∷◌, ◌++◌, length, refl, sym, ap, ◌∙◌, subst, arith, length-append, append_assoc, append-nil}
+use Rattle.std.proofs.Common.{◌≡◌, ℕ, suc, ◌+◌, ◌-◌, ◌≤◌, ◌<◌, ℤ, List, [], ◌∷◌, ◌++◌, length, refl, sym, ap, ◌∙◌, subst, arith, length-append, append_assoc, append-nil}
 use Rattle.cilk_types.specs.declared.event.Event as numbers
 use Rattle.cilk_types.specs.declared.event.Event.TheVariants as numbered
 use Rattle.cilk_types.specs.declared.fault.Fault.{Fault}
@@ -10,13 +10,13 @@ use Rattle.cilk_names.specs.Syntax.{Source, Statements}
 use Rattle.cilk_names.specs.Behaviour.{asks_for, frame_asks}
 use Rattle.cilk_names.specs.Store.{Store, opening}
 use Rattle.cilk_names.specs.Elision.{Ending, Finished, Stopped}
-use Rattle.cilk_names.specs.SerialRun.{Run, stop, act, Event, Ends, Serial, Made, Ended, Faulted, Full, HasEvent, by_number, trace_of}
+use Rattle.cilk_names.specs.SerialRun.{Run, stop, act, Ends, Serial, Made, Ended, Faulted, Full, HasEvent, by_number, trace_of}
 use Rattle.cilk_lower.specs.declared.code.Instr.{Instr}
 use Rattle.cilk_lower.specs.declared.code.Owed.{Owed}
 use Rattle.cilk_frames.specs.declared.cursor.Answer.{Answer}
 use Rattle.cilk_frames.specs.Cursor.{CursorView}
 use Rattle.cilk_frames.specs.Following.{Stands, Steps, GoesOn, Runs, Fits, HasAnswer, owed_for, word_in}
-use Rattle.cilk_serial.specs.States.{Shows, Answered, Answers}
+use Rattle.cilk_serial.specs.States.{Shows, Answers}
 
 -- a whole run of so many ticks and events, whose events begin with these
 pub record Whole (p : Source) (inputs : List ℤ) (ticks limit : ℕ) (events : List numbers.Event) (r : Run) (end : Ending) : Type 0 where
@@ -44,12 +44,17 @@ pub going_first : (p : Source) (inputs : List ℤ) (ticks limit : ℕ) (code : L
 going_first p inputs ticks limit code c cells output stands owes shows sized =
     let none : 0 ≡ ticks - ticks = omega arith in
     record {
-      history = []; store = opening p; room = limit;
-      less = omega arith; asks = refl;
+      history = [];
+      store = opening p;
+      room = limit;
+      less = omega arith;
+      asks = refl;
       stands = λ _. subst (λ n. Stands code inputs p.main c [] n) none stands;
-      owes = λ _. owes; counted = omega arith;
+      owes = λ _. owes;
+      counted = omega arith;
       completes = λ r end s. record { run = r; serial = s; trace = refl };
-      shows = shows; sized = sized;
+      shows = shows;
+      sized = sized;
     }
 
 pub going_next : (p : Source) (inputs : List ℤ) (ticks limit : ℕ) (code : List Instr) (c : CursorView) (cells output : List ℤ) (events : List numbers.Event) (k : Ask) (left : ℕ)
@@ -67,17 +72,20 @@ going_next p inputs ticks limit code c cells output events k left c' cells' outp
     let room_is : g.room ≡ suc (g.room - 1) = omega (arith, g.counted) in
     let longer : length events' ≡ length events + 1 = ap length a.traced ∙ length-append events (by_number a.event ∷ []) in
     record {
-      history = g.history ++ word_in answer ∷ []; store = a.store; room = g.room - 1;
+      history = g.history ++ word_in answer ∷ [];
+      store = a.store;
+      room = g.room - 1;
       less = omega (arith, g.less, steps.less);
       asks = ap (λ n. frame_asks inputs p.main (g.history ++ word_in answer ∷ []) n) all ∙ o.asks;
       stands = λ more. subst (λ n. Stands code inputs p.main c' (g.history ++ word_in answer ∷ []) n) took (o.stands more);
       owes = steps.owes;
       counted = omega (arith, g.counted, longer, room_is);
       completes = λ r end s.
-        let whole = g.completes (act a.event r) end (subst (λ n. Serial (frame_asks inputs p.main) ticks g.history g.store n (act a.event r) end) (sym room_is)
+          let whole = g.completes (act a.event r) end (subst (λ n. Serial (frame_asks inputs p.main) ticks g.history g.store n (act a.event r) end) (sym room_is)
           (Made k left a.event (word_in answer) a.store g.asks a.makes s)) in
-        record { run = whole.run; serial = whole.serial; trace = whole.trace ∙ sym (append_assoc events (by_number a.event ∷ []) (trace_of r)) ∙ ap (λ es. es ++ trace_of r) (sym a.traced) };
-      shows = a.shows; sized = told.sized ∙ g.sized;
+          record { run = whole.run; serial = whole.serial; trace = whole.trace ∙ sym (append_assoc events (by_number a.event ∷ []) (trace_of r)) ∙ ap (λ es. es ++ trace_of r) (sym a.traced) };
+      shows = a.shows;
+      sized = told.sized ∙ g.sized;
     }
 
 -- the cursor may take a step

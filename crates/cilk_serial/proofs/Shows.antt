@@ -1,5 +1,5 @@
 -- The code's store as it changes.
-use Rattle.std.proofs.Common.{◌≡◌, ◌≢◌, ℕ, zero, suc, ◌+◌, ◌<◌, ℤ, pos, Bool, true, false, List, [], ◌∷◌, ◌++◌, length, get_or, set, refl, sym, ap, ◌∙◌, subst, arith, inl, inr, cond, get_or-set_same, get_or-set_other, length-set}
+use Rattle.std.proofs.Common.{◌≡◌, ℕ, suc, ◌+◌, ◌<◌, ℤ, pos, Bool, true, false, List, [], ◌∷◌, ◌++◌, length, get_or, set, refl, sym, ap, ◌∙◌, subst, arith, inl, inr, get_or-set_same, get_or-set_other, length-set}
 use Rattle.std.specs.Prelude.{nat_eq}
 use Rattle.std.proofs.lemmas.Bool.Decides.{eqb_tells}
 use Rattle.std.proofs.lemmas.Option.{unwrap_or-slice_get, slice_get_read, get_or_from_slice_get}
@@ -28,7 +28,7 @@ put_there n k v m e = rw e refl
 pub shows_put : (cells output : List ℤ) (m : Store) (n : ℕ) (v : ℤ) → Shows cells output m → n < length cells → Shows (set cells n v) output (put (Global n) v m)
 shows_put cells output m n v s below = record {
   cell = λ k lt. elim (eqb_tells n k) [
-    inl same ↦ ap (λ i. get_or (set cells n v) i (pos 0)) (sym same.1) ∙ get_or-set_same cells n v (pos 0) below ∙ sym (put_here n k v v m (nat_eq n k) refl same.0)
+    | inl same ↦ ap (λ i. get_or (set cells n v) i (pos 0)) (sym same.1) ∙ get_or-set_same cells n v (pos 0) below ∙ sym (put_here n k v v m (nat_eq n k) refl same.0)
     | inr other ↦ get_or-set_other cells n k v (pos 0) (λ e. other.1 (sym e)) ∙ s.cell k (subst (λ l. k < l) (length-set cells n v) lt) ∙ sym (put_there n k v m other.0)
   ];
   printed = s.printed;
@@ -57,24 +57,27 @@ sync_answers cells output events = record { fits = tt; sized = refl; answered = 
 pub read_answers : (cells output : List ℤ) (events : List numbers.Event) (n : ℕ) (v : ℤ) → n < length cells → v ≡ get_or cells n v
     → Answers cells output events cells output (events ++ numbered.Read n v ∷ []) (asks.Read (places.Global n)) (Value v)
 read_answers cells output events n v below is = record {
-  fits = tt; sized = refl;
+  fits = tt;
+  sized = refl;
   answered = λ m s.
-    let e : v ≡ m.cells (Global n) = sym (get_or_from_slice_get cells n v (pos 0) (slice_get_read cells (length cells) n v refl below is)) ∙ s.cell n below in
-    subst (λ x. Answered events cells output (events ++ numbered.Read n x ∷ []) (asks.Read (places.Global n)) (Value x) m) (sym e)
-    (record { event = Reads (Global n) (m.cells (Global n)); store = m; makes = Read (places.Global n); shows = s; traced = refl });
+      let e : v ≡ m.cells (Global n) = sym (get_or_from_slice_get cells n v (pos 0) (slice_get_read cells (length cells) n v refl below is)) ∙ s.cell n below in
+      subst (λ x. Answered events cells output (events ++ numbered.Read n x ∷ []) (asks.Read (places.Global n)) (Value x) m) (sym e)
+      (record { event = Reads (Global n) (m.cells (Global n)); store = m; makes = Read (places.Global n); shows = s; traced = refl });
 }
 
 pub write_answers : (cells output : List ℤ) (events : List numbers.Event) (n : ℕ) (v : ℤ) → n < length cells
     → Answers cells output events (set cells n v) output (events ++ numbered.Write n v ∷ []) (asks.Write (places.Global n) v) Done
 write_answers cells output events n v below = record {
-  fits = tt; sized = length-set cells n v;
+  fits = tt;
+  sized = length-set cells n v;
   answered = λ m s. record { event = Writes (Global n) v; store = put (Global n) v m; makes = Written (places.Global n) v; shows = shows_put cells output m n v s below; traced = refl };
 }
 
 pub print_answers : (cells output : List ℤ) (events : List numbers.Event) (v : ℤ)
     → Answers cells output events cells (output ++ v ∷ []) (events ++ numbered.Print v ∷ []) (asks.Print v) Done
 print_answers cells output events v = record {
-  fits = tt; sized = refl;
+  fits = tt;
+  sized = refl;
   answered = λ m s. record { event = Prints v; store = print v m; makes = Printed v; shows = shows_print cells output m v s; traced = refl };
 }
 

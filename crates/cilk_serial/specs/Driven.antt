@@ -1,15 +1,12 @@
 -- The serial run without its outcome.
-use Rattle.std.specs.Prelude.{◌≡◌, ℕ, ◌+◌, ℤ, List, length}
+use Rattle.std.specs.Prelude.{◌≡◌, ℤ, List, length}
 use Rattle.cilk_types.specs.declared.event.Event as numbers
-use Rattle.cilk_types.specs.declared.fault.Fault.{Fault}
 use Rattle.cilk_names.specs.declared.ask.Ask.{Ask}
 use Rattle.cilk_names.specs.declared.ask.Ask.TheVariants as asks
 use Rattle.cilk_names.specs.Syntax.{Source}
 use Rattle.cilk_names.specs.Store.{Store}
-use Rattle.cilk_names.specs.Elision.{Finished, Stopped}
+use Rattle.cilk_names.specs.Elision.{Finished}
 use Rattle.cilk_names.specs.SerialRun.{Run, IsSerialRun, trace_of}
-use Rattle.cilk_serial.specs.declared.fault.RunFault.{RunFault}
-use Rattle.cilk_serial.specs.declared.fault.RunFault.TheVariants.{Memory, At}
 use Rattle.cilk_serial.specs.States.{Shows}
 
 -- the serial run ends with this result, and leaves this store and these events
@@ -20,16 +17,6 @@ pub record Ended (p : Source) (inputs : List ℤ) (v : ℤ) (cells output : List
   pub shows : Shows cells output store
   pub sized : length cells ≡ length p.openings
   pub trace : events ≡ trace_of run
-
--- the serial run stops in place of the event at this position
-pub record Halted (p : Source) (inputs : List ℤ) (fault : Fault) (at : ℕ) : Type 0 where
-  pub run : Run
-  pub serial : IsSerialRun p inputs run (Stopped fault)
-  pub place : at ≡ length (trace_of run) + 1
-
-abbrev pub IsHalt : Source → List ℤ → RunFault → Type 0
-IsHalt p inputs Memory = Unit {0}
-IsHalt p inputs (At fault at) = Halted p inputs fault at
 
 -- an ask that isn't a fault
 abbrev pub IsNoFault : Ask → Type 0

@@ -1,13 +1,12 @@
-use Rattle.std.proofs.Common.{◌≡◌, ℕ, ◌≤◌, ◌-◌, ◌<◌, length, arith, List, ℤ, subst, sym, refl, w64, SFits, rules}
+use Rattle.std.proofs.Common.{arith, ℤ, subst, sym, refl, w64, SFits, rules}
 use Rattle.std.proofs.lemmas.Int.{to_z-of_z}
 use Rattle.cilk_types.specs.declared.limits.TheConstants.{MAX_EVENTS, MAX_TICKS}
-use Rattle.cilk_types.specs.declared.fault.Fault.TheVariants.{TooManyEvents}
 use Rattle.cilk_names.specs.declared.ask.Ask.{Ask}
-use Rattle.cilk_names.specs.declared.ask.Ask.TheVariants as asks
 use Rattle.cilk_names.specs.Programs.{source}
 use Rattle.cilk_serial.specs.Driven.{Ended}
-use Rattle.cilk_serial.proofs.Going.{Going, going_first, going_next, going_ends, going_faults, going_full}
-use Rattle.cilk_serial.proofs.Driving.{drive_begins, going_inside, grows, ended, halted, no_fault, has_event}
+use Rattle.cilk_serial.proofs.Going.{Going, going_next, going_ends, going_faults, going_full}
+use Rattle.cilk_serial.proofs.Driving.{drive_begins, going_inside, grows, ended, no_fault, has_event}
+use Rattle.cilk_serial.proofs.Ending.{stops}
 use Rattle.cilk_serial.proofs.run.drive.Goals as goal
 
 pub each-init : goal.each-init
@@ -21,15 +20,15 @@ answer-requires c = record {
   exists = going_inside _ _ _ _ _ _ _ _ _ _ _ c.args.program.now.well_named c.each.invariant;
 }
 
-pub returns-in-Fault-clause-halted : goal.returns-in-Fault-clause-halted
-returns-in-Fault-clause-halted c =
+pub returns-in-Fault-clause-fault : goal.returns-in-Fault-clause-fault
+returns-in-Fault-clause-fault c =
     let here = subst (λ (k : Ask). Going (source c.args.program.now) c.args.input.now MAX_TICKS MAX_EVENTS c.args.code.now.instrs c.each.cursor c.each.state.cells.items c.each.state.output.items c.each.state.events.items k c.each.left) c.in-Fault.is c.each.invariant in
-    halted _ _ _ _ _ (going_faults _ _ _ _ _ _ _ _ _ _ _ here) c.next_position.ensures
+    stops _ _ _ _ _ (going_faults _ _ _ _ _ _ _ _ _ _ _ here) c.next_position.ensures
 
 pub returns-then-is_full : goal.returns-then-is_full
 returns-then-is_full c = record {
   ended = tt;
-  halted = halted _ _ _ _ _ (going_full _ _ _ _ _ _ _ _ _ _ _ c.each.invariant (has_event _ (no_fault _ c.in_default.not-Fault)) (c.if-is_full.ensures.full.0 refl)) c.next_position-then-is_full.ensures;
+  fault = stops _ _ _ _ _ (going_full _ _ _ _ _ _ _ _ _ _ _ c.each.invariant (has_event _ (no_fault _ c.in_default.not-Fault)) (c.if-is_full.ensures.full.0 refl)) c.next_position-then-is_full.ensures;
 }
 
 pub returns-in-Some : goal.returns-in-Some
@@ -38,7 +37,7 @@ returns-in-Some c =
     let here = subst (λ (k : Ask). Going (source c.args.program.now) c.args.input.now MAX_TICKS MAX_EVENTS c.args.code.now.instrs c.each.cursor c.each.state.cells.items c.each.state.output.items c.each.state.events.items k c.each.left) c.in-Some.ensures.ends c.each.invariant in
     let fits : SFits w64 v = search rules in
     let closes = ended _ _ v _ _ _ _ (going_ends _ _ _ _ _ _ _ _ _ _ _ here (c.if-is_full.ensures.below refl)) c.in_ok-push.ensures.items in
-    record { ended = subst (λ (x : ℤ). Ended (source c.args.program.now) c.args.input.now x c.each.state.cells.items c.each.state.output.items c.push.new.self.items) (sym (to_z-of_z w64 v fits)) closes; halted = tt }
+    record { ended = subst (λ (x : ℤ). Ended (source c.args.program.now) c.args.input.now x c.each.state.cells.items c.each.state.output.items c.push.new.self.items) (sym (to_z-of_z w64 v fits)) closes; fault = tt }
 
 pub each-smaller : goal.each-smaller
 each-smaller c =

@@ -1,4 +1,4 @@
-use Rattle.std.proofs.Common.{◌≡◌, ℤ, List, w64, get_or, subst, refl}
+use Rattle.std.proofs.Common.{◌≡◌, ℤ, List, w64, get_or, subst}
 use Rattle.std.proofs.lemmas.Int.{to_z-of_z}
 use Rattle.cilk_serial.proofs.Shows.{read_told}
 use Rattle.cilk_serial.proofs.state.State.read.Goals as goal
