@@ -1,0 +1,6 @@
+pub mod Agreement
+pub mod Elisions
+pub mod Places
+pub mod Rows
+pub mod Runs
+pub mod Shapes
