@@ -1,16 +1,16 @@
 -- The machine asks what the statements ask that its instructions were made from.
-use Rattle.std.proofs.Common.{◌≡◌, ℕ, zero, suc, ◌+◌, ◌-◌, ◌<◌, ◌≤◌, ℤ, List, [], ◌∷◌, ◌++◌, length, Option, Some, None, refl, subst, arith, length-append, max}
+use Rattle.std.proofs.Common.{◌≡◌, ℕ, zero, suc, ◌+◌, ◌-◌, ◌<◌, ◌≤◌, ℤ, List, [], ◌∷◌, ◌++◌, length, Some, None, refl, subst, arith, length-append}
 use Rattle.cilk_names.specs.declared.syntax.Place.{Place}
 use Rattle.cilk_names.specs.declared.ask.Ask.TheVariants as asks
 use Rattle.cilk_names.specs.Syntax.{Expression, Statement, Empty, Block, Assign, If, IfElse, While, Print, Return, Statements, Nothing, Then}
 use Rattle.cilk_names.specs.Words.{is_zero}
-use Rattle.cilk_names.specs.Behaviour.{Asked, Got, Gives, Asks, ◌>>=◌, tick, ask, chosen, value, Flow, unless_returned, turns, does, all_do, returned, ended, body_gives}
+use Rattle.cilk_names.specs.Behaviour.{Got, Gives, Asks, ◌>>=◌, tick, ask, chosen, value, Flow, unless_returned, turns, does, all_do, returned, ended, body_gives}
 use Rattle.cilk_lower.specs.declared.code.Instr.{Instr}
 use Rattle.cilk_lower.specs.declared.code.Instr.TheVariants as instrs
-use Rattle.cilk_lower.specs.Code.{expr_code, if_code, if_else_code, while_code, stmt_code, all_code, body_code}
+use Rattle.cilk_lower.specs.Code.{expr_code, stmt_code, all_code, body_code}
 use Rattle.cilk_lower.specs.Machine.{exec, Reaches}
 use Rattle.cilk_lower.specs.Rooms.{depth, deepest, deepest_of_all}
-use Rattle.cilk_lower.proofs.Leads.{Setting, runs, Stands, Leads, Comes, Does, Acts, one, leads_one, stays, comes_one, leads_on, comes_on, then_acts, value_acts, jump_acts, choose_acts}
+use Rattle.cilk_lower.proofs.Leads.{Setting, Stands, Leads, Comes, Does, Acts, one, leads_one, stays, comes_one, comes_on, then_acts, value_acts, jump_acts, choose_acts}
 use Rattle.cilk_lower.proofs.Places.{HasAt, has_front, has_back, has_all}
 use Rattle.cilk_lower.proofs.Ticks.{Takes, Keeps, value_takes, does_keeps}
 use Rattle.cilk_lower.proofs.Values.{expr_does}

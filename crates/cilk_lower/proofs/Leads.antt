@@ -1,5 +1,5 @@
 -- Stretches of code, one after another.
-use Rattle.std.proofs.Common.{◌≡◌, ℕ, zero, suc, ◌+◌, ◌-◌, ◌<◌, ◌≤◌, ℤ, Bool, true, false, List, [], ◌∷◌, length, Option, Some, None, refl, ap, ◌∙◌, arith, if◌then◌else◌}
+use Rattle.std.proofs.Common.{◌≡◌, ℕ, zero, suc, ◌+◌, ◌<◌, ◌≤◌, ℤ, Bool, true, false, List, ◌∷◌, Option, Some, None, refl, ap, ◌∙◌, arith, if◌then◌else◌}
 use Rattle.std.specs.Prelude.{slice_get, nat_lt}
 use Rattle.std.proofs.lemmas.Bool.{lt-ltb}
 use Rattle.cilk_types.specs.declared.fault.Fault.{Fault}
@@ -9,7 +9,7 @@ use Rattle.cilk_names.specs.Words.{is_zero}
 use Rattle.cilk_names.specs.Behaviour.{Asked, asks_for, Got, Gives, Asks, ◌>>=◌, ask, tick_gives, or_fault, Flow, ended}
 use Rattle.cilk_lower.specs.declared.code.Instr.{Instr}
 use Rattle.cilk_lower.specs.declared.code.Instr.TheVariants as instrs
-use Rattle.cilk_lower.specs.Machine.{Move, Goes, Waits, Stops, Run, Reaches, going, move, exec, ticked, or_stops}
+use Rattle.cilk_lower.specs.Machine.{Move, Goes, Stops, Run, Reaches, going, move, exec, ticked, or_stops}
 
 -- the input, the room for operands and the code of a machine
 pub record Setting : Type 0 where

@@ -1,11 +1,10 @@
 -- The machine comes to one ask, however many instructions it is allowed.
-use Rattle.std.proofs.Common.{◌≡◌, ℕ, zero, suc, ◌+◌, ℤ, Bool, true, false, List, [], ◌∷◌, length, refl, sym, subst, arith, if◌then◌else◌}
+use Rattle.std.proofs.Common.{◌≡◌, ℕ, zero, suc, ◌+◌, ℤ, Bool, true, false, List, [], ◌∷◌, length, subst, arith, if◌then◌else◌}
 use Rattle.std.specs.Prelude.{slice_get, nat_lt}
 use Rattle.cilk_names.specs.Behaviour.{Asked}
 use Rattle.cilk_lower.specs.declared.code.Instr.{Instr}
-use Rattle.cilk_lower.specs.declared.code.Owed.{Owed}
 use Rattle.cilk_lower.specs.declared.code.Owed.TheVariants.{Nothing, Word}
-use Rattle.cilk_lower.specs.Machine.{Move, Goes, Waits, Stops, Stuck, move, Run, Reaches, Unfinished, Fails, Next, received, going, exec}
+use Rattle.cilk_lower.specs.Machine.{Move, Goes, Waits, Stops, Stuck, move, Run, Reaches, Fails, Next, going, exec}
 
 -- what reaches an ask in one way reaches it in the other too
 abbrev Carries : Next → Next → Asked → Type 0

@@ -1,19 +1,18 @@
 -- The machine asks what the expression asks that its instructions were made from, and comes to its value.
-use Rattle.std.proofs.Common.{◌≡◌, ℕ, zero, suc, ◌+◌, ◌<◌, ◌≤◌, ℤ, pos, neg_ℤ, List, [], ◌∷◌, ◌++◌, length, Option, Some, None, refl, ap, ◌∙◌, subst, arith, length-append, max}
+use Rattle.std.proofs.Common.{◌≡◌, ℕ, zero, suc, ◌+◌, ◌<◌, ◌≤◌, ℤ, pos, neg_ℤ, List, [], ◌∷◌, ◌++◌, length, refl, ◌∙◌, subst, arith, length-append}
 use Rattle.cilk_types.specs.Input.{input_at, input_count}
 use Rattle.cilk_types.specs.Word.{word_of}
 use Rattle.cilk_types.specs.declared.fault.Fault.TheVariants.{DivisionByZero, InputOutside}
-use Rattle.cilk_names.specs.declared.syntax.Operator.{Operator}
 use Rattle.cilk_names.specs.declared.syntax.Place.{Place}
 use Rattle.cilk_names.specs.declared.ask.Ask.TheVariants as asks
 use Rattle.cilk_names.specs.Syntax.{Expression, Number, Variable, Negate, Not, Binary, And, Or, Input, InputCount}
 use Rattle.cilk_names.specs.Words.{is_zero, truth, truth_of, apply}
-use Rattle.cilk_names.specs.Behaviour.{Got, Gives, Asks, ◌>>=◌, tick, ask, tick_gives, or_fault, chosen, value}
+use Rattle.cilk_names.specs.Behaviour.{Got, ◌>>=◌, tick, ask, tick_gives, or_fault, chosen, value}
 use Rattle.cilk_lower.specs.declared.code.Instr.{Instr}
 use Rattle.cilk_lower.specs.declared.code.Instr.TheVariants as instrs
 use Rattle.cilk_lower.specs.Code.{expr_code, and_code, or_code}
 use Rattle.cilk_lower.specs.Rooms.{depth}
-use Rattle.cilk_lower.proofs.Leads.{Setting, runs, Stands, Does, within, one, comes_one, ticked_does, checked_does, value_does, jump_does, choose_does}
+use Rattle.cilk_lower.proofs.Leads.{Setting, Stands, Does, within, one, comes_one, ticked_does, checked_does, value_does, jump_does, choose_does}
 use Rattle.cilk_lower.proofs.Places.{HasAt, has_front, has_back}
 
 pub depth_some : (e : Expression) → 0 < depth e
