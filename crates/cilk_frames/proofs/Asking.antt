@@ -1,5 +1,5 @@
 -- What a caller of `step` keeps of a frame, from one ask to the next.
-use Rattle.std.proofs.Common.{◌≡◌, ℕ, ◌+◌, ◌-◌, ◌≤◌, ℤ, List, [], ◌∷◌, ◌++◌, sym, ap, ◌∙◌, subst, arith, map, take, get_or, length, ◌<◌}
+use Rattle.std.proofs.Common.{◌≡◌, ℕ, ◌+◌, ◌-◌, ℤ, List, [], ◌∷◌, ◌++◌, sym, ap, ◌∙◌, subst, arith, map, take, get_or, length, ◌<◌}
 use Rattle.std.proofs.lemmas.List.{take_more, map-append}
 use Rattle.cilk_frames.specs.declared.cursor.Answer.TheVariants.{Done}
 use Rattle.cilk_names.specs.Syntax.{Statements}

@@ -14,7 +14,7 @@ use Rattle.cilk_lower.specs.Behaves.{Behaves}
 use Rattle.cilk_frames.specs.declared.cursor.Answer.{Answer}
 use Rattle.cilk_frames.specs.declared.cursor.Answer.TheVariants.{Done, Value}
 use Rattle.cilk_frames.specs.Cursor.{CursorView}
-use Rattle.cilk_frames.specs.Following.{Follows, Runs, Fits, word_in, HasAnswer, Steps, owed_for, Stands, GoesOn}
+use Rattle.cilk_frames.specs.Following.{Follows, Runs, Fits, word_in, Steps, Stands, GoesOn}
 use Rattle.cilk_frames.specs.Moving.{RoomFor, HasRoom, told, move_at}
 use Rattle.cilk_frames.proofs.Straight.{IsOnward, left_of, with_left, OwesAnswer, straight}
 

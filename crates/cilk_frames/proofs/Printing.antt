@@ -1,6 +1,5 @@
 -- The code of `print(x)`, with x in the first global cell.
-use Rattle.std.proofs.Common.{◌≡◌, ℕ, zero, suc, ℤ, List, [], ◌∷◌, Option, Some, None, refl, subst}
-use Rattle.std.specs.Prelude.{slice_get}
+use Rattle.std.proofs.Common.{◌≡◌, ℕ, zero, suc, ℤ, List, [], ◌∷◌, Some, refl, subst}
 use Rattle.cilk_names.specs.declared.syntax.Place.TheVariants.{Global}
 use Rattle.cilk_names.specs.Syntax.{Statements, Nothing, Then, Print, Variable}
 use Rattle.cilk_names.specs.Behaviour.{ended, body_gives}

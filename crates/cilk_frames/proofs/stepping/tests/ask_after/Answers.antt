@@ -1,6 +1,4 @@
-use Rattle.std.proofs.Common.{◌≡◌, ℕ, ℤ, List, [], ◌∷◌, ◌++◌, ◌+◌, ◌-◌, map, take, get_or, sym, subst, arith}
-use Rattle.cilk_names.specs.Syntax.{Statements}
-use Rattle.cilk_lower.specs.Behaves.{Behaves}
+use Rattle.std.proofs.Common.{◌≡◌, ℕ, ℤ, List, [], ◌+◌, ◌-◌, map, take, get_or, sym, subst, arith}
 use Rattle.cilk_frames.specs.declared.cursor.Answer.TheVariants.{Done}
 use Rattle.cilk_names.specs.declared.ask.Ask.TheVariants.{Begin}
 use Rattle.cilk_frames.specs.Following.{Asking, word_in}
