@@ -176,9 +176,9 @@ BranchesRun =
     (Begin 1 ∷ Write 0 (pos 1) ∷ Read 0 (pos 1) ∷ Read 0 (pos 1) ∷ Write 0 (pos 11) ∷ Read 0 (pos 11) ∷ Write 0 (pos 111) ∷ Read 0 (pos 111) ∷ Sync ∷ End ∷ [])
     (record { result = pos 111; globals = pos 111 ∷ []; output = []; reducers = [] })
 
--- int g = 4; int h = 8; int main() { h = g; }
+-- int g = 4; int h = 8; int main() { g = h; h = 9; }
 abbrev pub no_return : Source
-no_return = record { openings = pos 4 ∷ pos 8 ∷ []; main = Then (Assign (Global 1) (Variable cell)) Nothing }
+no_return = record { openings = pos 4 ∷ pos 8 ∷ []; main = Then (Assign cell (Variable (Global 1))) (Then (Assign (Global 1) (num 9)) Nothing) }
 
 abbrev pub NoReturnRuns : Type 0
-NoReturnRuns = RunsTo no_return [] (Begin 1 ∷ Read 0 (pos 4) ∷ Write 1 (pos 4) ∷ Sync ∷ End ∷ []) (record { result = pos 0; globals = pos 4 ∷ pos 4 ∷ []; output = []; reducers = [] })
+NoReturnRuns = RunsTo no_return [] (Begin 1 ∷ Read 1 (pos 8) ∷ Write 0 (pos 8) ∷ Write 1 (pos 9) ∷ Sync ∷ End ∷ []) (record { result = pos 0; globals = pos 8 ∷ pos 9 ∷ []; output = []; reducers = [] })
