@@ -91,8 +91,11 @@ serial_is {b = b} c h (Faulted {start = start} {history = history} {m = m} {room
 serial_is {b = b} c h (Full {start = start} {history = history} {m = m} k left q some) =
     subst (λ k. Is stop (Stopped TooManyEvents) (answer_full k)) (asked b start history c k left h q) (full_is k some)
 
+pub has_run_within : (ticks room : ℕ) (p : Source) (inputs : List ℤ) → IsSerialRunWithin ticks room p inputs (ran_within ticks room p inputs).run (ran_within ticks room p inputs).ending
+has_run_within ticks room p inputs = ran_run room (frame_asks inputs p.main) ticks [] (opening p) (λ answers. frame_asks inputs p.main answers ticks) (record { same = λ answers. refl })
+
 pub has_serial_run : (p : Source) (inputs : List ℤ) → HasSerialRun p inputs
-has_serial_run p inputs = ran_run MAX_EVENTS (frame_asks inputs p.main) MAX_TICKS [] (opening p) (λ answers. frame_asks inputs p.main answers MAX_TICKS) (record { same = λ answers. refl })
+has_serial_run p inputs = has_run_within MAX_TICKS MAX_EVENTS p inputs
 
 pub is_run_within : (ticks room : ℕ) (p : Source) (inputs : List ℤ) (r : Run) (end : Ending) → IsSerialRunWithin ticks room p inputs r end → Is r end (ran_within ticks room p inputs)
 is_run_within ticks room p inputs r end s = serial_is (λ answers. frame_asks inputs p.main answers ticks) (record { same = λ answers. refl }) s

@@ -1,5 +1,5 @@
 -- Worked programs, and what they do.
-use Rattle.std.specs.Prelude.{◌≡◌, ℕ, ℤ, pos, negsuc, List, [], ◌∷◌}
+use Rattle.std.specs.Prelude.{◌≡◌, ℕ, ◌-◌, ℤ, pos, negsuc, List, [], ◌∷◌}
 use Rattle.cilk_types.specs.declared.fault.Fault.{Fault}
 use Rattle.cilk_types.specs.declared.fault.Fault.TheVariants.{DivisionByZero, InputOutside, TooManyEvents}
 use Rattle.cilk_types.specs.declared.event.Event as numbers
@@ -12,6 +12,7 @@ use Rattle.cilk_names.specs.declared.syntax.Operator.TheVariants.{Add, Subtract,
 use Rattle.cilk_names.specs.Syntax.{Source, Expression, Number, Variable, Negate, Not, Binary, And, Or, Input, InputCount, Statement, Empty, Block, Assign, If, IfElse, While, Print, Return, Statements, Nothing, Then}
 use Rattle.cilk_names.specs.Store.{Store}
 use Rattle.cilk_names.specs.Elision.{Finished, Stopped}
+use Rattle.cilk_names.specs.Laws.{IsSerialRunWithin}
 use Rattle.cilk_names.specs.SerialRun.{Run, IsSerialRun, trace_of, outcome_of}
 
 -- the program's serial run makes these events, and leaves this
@@ -182,3 +183,21 @@ no_return = record { openings = pos 4 ∷ pos 8 ∷ []; main = Then (Assign cell
 
 abbrev pub NoReturnRuns : Type 0
 NoReturnRuns = RunsTo no_return [] (Begin 1 ∷ Read 1 (pos 8) ∷ Write 0 (pos 8) ∷ Write 1 (pos 9) ∷ Sync ∷ End ∷ []) (record { result = pos 0; globals = pos 8 ∷ pos 9 ∷ []; output = []; reducers = [] })
+
+-- within these limits the program's serial run ends
+abbrev pub EndsWithin : ℕ → ℕ → Source → List ℤ → Type 0
+EndsWithin ticks room p inputs = (r : Run) × (v : ℤ) × (m : Store) × IsSerialRunWithin ticks room p inputs r (Finished v m)
+
+-- within these limits it doesn't
+abbrev pub IsTooLong : ℕ → ℕ → Source → List ℤ → Type 0
+IsTooLong ticks room p inputs = (r : Run) × IsSerialRunWithin ticks room p inputs r (Stopped TooManyEvents)
+
+-- the program's serial run takes so many ticks and makes so many events
+pub record Takes (ticks room : ℕ) (p : Source) (inputs : List ℤ) : Type 0 where
+  pub ends : EndsWithin ticks room p inputs
+  pub takes_ticks : IsTooLong (ticks - 1) room p inputs
+  pub takes_events : IsTooLong ticks (room - 1) p inputs
+
+abbrev pub TicksCount : Type 0
+TicksCount =
+    Takes 2 3 nothing [] × Takes 28 20 countdown [] × Takes 24 10 branches [] × Takes 114 32 operators (pos 5 ∷ pos 6 ∷ [])
