@@ -2,6 +2,7 @@
 use Rattle.std.specs.Prelude.{◌≡◌, ℕ, ◌-◌, ℤ, pos, negsuc, List, [], ◌∷◌}
 use Rattle.cilk_types.specs.declared.fault.Fault.{Fault}
 use Rattle.cilk_types.specs.declared.fault.Fault.TheVariants.{DivisionByZero, InputOutside, TooManyEvents}
+use Rattle.cilk_types.specs.declared.limits.TheConstants.{MAX_EVENTS, MAX_TICKS}
 use Rattle.cilk_types.specs.declared.event.Event as numbers
 use Rattle.cilk_types.specs.declared.event.Event.TheVariants.{Begin, Read, Write, Print as Prints, Sync, End}
 use Rattle.cilk_types.specs.declared.outcome.Outcome.{Outcome}
@@ -24,11 +25,14 @@ pub record RunsTo (p : Source) (inputs : List ℤ) (events : List numbers.Event)
   pub makes : trace_of run ≡ events
   pub leaves : outcome_of p result store ≡ outcome
 
--- the program's serial run makes these events, and stops by this fault
-pub record StopsBy (p : Source) (inputs : List ℤ) (events : List numbers.Event) (fault : Fault) : Type 0 where
+-- within these limits the program's serial run makes these events, and stops by this fault
+pub record StopsWithin (ticks room : ℕ) (p : Source) (inputs : List ℤ) (events : List numbers.Event) (fault : Fault) : Type 0 where
   pub run : Run
-  pub is_serial : IsSerialRun p inputs run (Stopped fault)
+  pub is_serial : IsSerialRunWithin ticks room p inputs run (Stopped fault)
   pub makes : trace_of run ≡ events
+
+abbrev pub StopsBy : Source → List ℤ → List numbers.Event → Fault → Type 0
+StopsBy = StopsWithin MAX_TICKS MAX_EVENTS
 
 -- int main() { return 0; }
 abbrev pub nothing : Source
@@ -201,3 +205,11 @@ pub record Takes (ticks room : ℕ) (p : Source) (inputs : List ℤ) : Type 0 wh
 abbrev pub TicksCount : Type 0
 TicksCount =
     Takes 2 3 nothing [] × Takes 28 20 countdown [] × Takes 24 10 branches [] × Takes 114 32 operators (pos 5 ∷ pos 6 ∷ [])
+
+-- a tick comes before its event; a fault of the program comes before a tick and before the room for an event is asked for
+abbrev pub FaultsInOrder : Type 0
+FaultsInOrder =
+    StopsWithin 1 20 countdown [] (Begin 1 ∷ []) TooManyEvents
+    × StopsWithin 2 20 countdown [] (Begin 1 ∷ Read 0 (pos 3) ∷ []) TooManyEvents
+    × StopsWithin 2 1 division_by_zero [] (Begin 1 ∷ []) TooManyEvents
+    × StopsWithin 3 1 division_by_zero [] (Begin 1 ∷ []) DivisionByZero

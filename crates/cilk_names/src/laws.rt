@@ -3,7 +3,7 @@
 ghost use Rattle.std.specs.Prelude.{ℕ, ℤ, List};
 ghost use Rattle.cilk_names.specs.Syntax.{Source, Statements};
 ghost use Rattle.cilk_names.specs.Laws.{HasSerialRun, HasOneSerialRun, EndsAsElided, HasOneElision, AsksInside, HasShape, IsReached};
-ghost use Rattle.cilk_names.specs.Worked.{NothingRuns, CountdownRuns, EdgesRun, OperatorsRun, BranchesRun, NoReturnRuns, TicksCount, SkippedDivisionRuns, DivisionByZeroStops, ShortInputStops, EndlessStops};
+ghost use Rattle.cilk_names.specs.Worked.{NothingRuns, CountdownRuns, EdgesRun, OperatorsRun, BranchesRun, NoReturnRuns, TicksCount, FaultsInOrder, SkippedDivisionRuns, DivisionByZeroStops, ShortInputStops, EndlessStops};
 
 /// Where a program's serial run ends within the limits of a run, it ends as the serial elision does: with its result,
 /// memory and output, or by its fault.
@@ -54,5 +54,6 @@ pub fn worked_programs()
     ensures division_by_zero { DivisionByZeroStops }
     ensures short_input { ShortInputStops }
     ensures ticks { TicksCount }
+    ensures order { FaultsInOrder }
     ensures endless { EndlessStops }
 {}
