@@ -18,14 +18,14 @@ use Rattle.cilk_names.specs.Laws.{Rest, after, answer_full, answer, ran, ran_wit
 use Rattle.cilk_names.proofs.Runs.{fault_is, is_serial_run}
 
 -- how what is left of a frame ends, over a store with room for so many events
-abbrev ending : ℕ → Rest → Store → Ending
+abbrev pub ending : ℕ → Rest → Store → Ending
 ending room c m = (ran room c m).ending
 
 -- what is left of a frame is to do this
 abbrev pub At : Rest → (List ℤ → Got ℤ) → Type 0
 At c x = (answers : List ℤ) → c answers ≡ ended (x answers)
 
-fault_end : (f : Fault) (room : ℕ) (c : Rest) (m : Store) (left : ℕ) → c [] ≡ asks_for (asks.Fault f) left → ending room c m ≡ Stopped f
+pub fault_end : (f : Fault) (room : ℕ) (c : Rest) (m : Store) (left : ℕ) → c [] ≡ asks_for (asks.Fault f) left → ending room c m ≡ Stopped f
 fault_end f room c m left e = sym (fault_is f room c m (ap (λ q. q.ask) e)).ending_is
 
 -- an ask that makes an event: it is answered, or there is no room for it
@@ -40,7 +40,7 @@ no_room (Written x v) = refl
 no_room (Printed v) = refl
 no_room Synced = refl
 
-with_room : {m : Store} {k : Ask} {e : Event} {v : ℤ} {m' : Store} (n : ℕ) (c : Rest) → Makes m k e v m' → (answer k c m (ran n)).ending ≡ ending n (after v c) m'
+pub with_room : {m : Store} {k : Ask} {e : Event} {v : ℤ} {m' : Store} (n : ℕ) (c : Rest) → Makes m k e v m' → (answer k c m (ran n)).ending ≡ ending n (after v c) m'
 with_room n c Begun = refl
 with_room n c (Read x) = refl
 with_room n c (Written x v) = refl

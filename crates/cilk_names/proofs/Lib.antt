@@ -1,5 +1,6 @@
 pub mod Agreement
 pub mod Elisions
+pub mod Enough
 pub mod Places
 pub mod Rows
 pub mod Runs

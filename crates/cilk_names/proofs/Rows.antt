@@ -10,8 +10,8 @@ use Rattle.cilk_names.specs.Store.{Store, opening}
 use Rattle.cilk_names.specs.Elision.{Ending, Finished, Stopped}
 use Rattle.cilk_names.specs.SerialRun.{Serial, Begins, stop, act, Begun, Made, Faulted}
 use Rattle.cilk_names.specs.Laws.{ran_within}
-use Rattle.cilk_names.specs.Worked.{operators, OperatorsRun, branches, BranchesRun, no_return, NoReturnRuns, nothing, NothingRuns, countdown, CountdownRuns, endless, EndlessStops, edges, EdgesRun, division_by_zero, DivisionByZeroStops, skipped_division, SkippedDivisionRuns, short_input, ShortInputStops}
-use Rattle.cilk_names.proofs.Runs.{has_serial_run}
+use Rattle.cilk_names.specs.Worked.{FaultsInOrder, Takes, TicksCount, operators, OperatorsRun, branches, BranchesRun, no_return, NoReturnRuns, nothing, NothingRuns, countdown, CountdownRuns, endless, EndlessStops, edges, EdgesRun, division_by_zero, DivisionByZeroStops, skipped_division, SkippedDivisionRuns, short_input, ShortInputStops}
+use Rattle.cilk_names.proofs.Runs.{has_serial_run, has_run_within}
 
 abbrev result_of : Ending → ℤ
 result_of (Finished v m) = v
@@ -88,3 +88,47 @@ endless_within ticks room =
 
 pub endless_stops : EndlessStops
 endless_stops = record { run = act Begins stop; is_serial = endless_within MAX_TICKS 999999; makes = refl }
+
+nothing_takes : Takes 2 3 nothing []
+unfolding int_wrap
+nothing_takes = record {
+  ends = let e = (ran_within 2 3 nothing []).ending in ((ran_within 2 3 nothing []).run, result_of e, store_of (opening nothing) e, has_run_within 2 3 nothing []);
+  takes_ticks = ((ran_within 1 3 nothing []).run, has_run_within 1 3 nothing []);
+  takes_events = ((ran_within 2 2 nothing []).run, has_run_within 2 2 nothing []);
+}
+
+countdown_takes : Takes 28 20 countdown []
+unfolding int_wrap
+countdown_takes = record {
+  ends = let e = (ran_within 28 20 countdown []).ending in ((ran_within 28 20 countdown []).run, result_of e, store_of (opening countdown) e, has_run_within 28 20 countdown []);
+  takes_ticks = ((ran_within 27 20 countdown []).run, has_run_within 27 20 countdown []);
+  takes_events = ((ran_within 28 19 countdown []).run, has_run_within 28 19 countdown []);
+}
+
+branches_take : Takes 24 10 branches []
+unfolding int_wrap
+branches_take = record {
+  ends = let e = (ran_within 24 10 branches []).ending in ((ran_within 24 10 branches []).run, result_of e, store_of (opening branches) e, has_run_within 24 10 branches []);
+  takes_ticks = ((ran_within 23 10 branches []).run, has_run_within 23 10 branches []);
+  takes_events = ((ran_within 24 9 branches []).run, has_run_within 24 9 branches []);
+}
+
+operators_take : Takes 114 32 operators (pos 5 ∷ pos 6 ∷ [])
+unfolding int_wrap
+operators_take = record {
+  ends = let e = (ran_within 114 32 operators (pos 5 ∷ pos 6 ∷ [])).ending in ((ran_within 114 32 operators (pos 5 ∷ pos 6 ∷ [])).run, result_of e, store_of (opening operators) e, has_run_within 114 32 operators (pos 5 ∷ pos 6 ∷ []));
+  takes_ticks = ((ran_within 113 32 operators (pos 5 ∷ pos 6 ∷ [])).run, has_run_within 113 32 operators (pos 5 ∷ pos 6 ∷ []));
+  takes_events = ((ran_within 114 31 operators (pos 5 ∷ pos 6 ∷ [])).run, has_run_within 114 31 operators (pos 5 ∷ pos 6 ∷ []));
+}
+
+pub ticks_count : TicksCount
+ticks_count = (nothing_takes, countdown_takes, branches_take, operators_take)
+
+pub faults_in_order : FaultsInOrder
+unfolding int_wrap
+faults_in_order = (
+  record { run = (ran_within 1 20 countdown []).run; is_serial = has_run_within 1 20 countdown []; makes = refl },
+  record { run = (ran_within 2 20 countdown []).run; is_serial = has_run_within 2 20 countdown []; makes = refl },
+  record { run = (ran_within 2 1 division_by_zero []).run; is_serial = has_run_within 2 1 division_by_zero []; makes = refl },
+  record { run = (ran_within 3 1 division_by_zero []).run; is_serial = has_run_within 3 1 division_by_zero []; makes = refl },
+)

@@ -9,7 +9,7 @@ use Rattle.cilk_names.specs.Behaviour.{Behaviour, asks_for, frame_asks}
 use Rattle.cilk_names.specs.Store.{Store, cell_of, put, print, opening}
 use Rattle.cilk_names.specs.Elision.{Ending, Finished, Stopped}
 use Rattle.cilk_names.specs.SerialRun.{Event, Begins, Syncs, Ends, Run, stop, act, Makes, Begun, Read, Written, Printed, Synced, HasEvent, Serial, Made, Ended, Faulted, Full, IsSerialRun}
-use Rattle.cilk_names.specs.Laws.{Rest, after, Ran, grown, answer_full, answer, ran, ran_within, HasSerialRun, HasOneSerialRun}
+use Rattle.cilk_names.specs.Laws.{Rest, after, Ran, grown, answer_full, answer, ran, ran_within, HasSerialRun, HasOneSerialRun, IsSerialRunWithin}
 
 -- after this history a frame with this behaviour asks for what this rest asks for
 pub record Follows (b : Behaviour) (start : ℕ) (history : List ℤ) (c : Rest) : Type 0 where
@@ -91,11 +91,17 @@ serial_is {b = b} c h (Faulted {start = start} {history = history} {m = m} {room
 serial_is {b = b} c h (Full {start = start} {history = history} {m = m} k left q some) =
     subst (λ k. Is stop (Stopped TooManyEvents) (answer_full k)) (asked b start history c k left h q) (full_is k some)
 
+pub has_run_within : (ticks room : ℕ) (p : Source) (inputs : List ℤ) → IsSerialRunWithin ticks room p inputs (ran_within ticks room p inputs).run (ran_within ticks room p inputs).ending
+has_run_within ticks room p inputs = ran_run room (frame_asks inputs p.main) ticks [] (opening p) (λ answers. frame_asks inputs p.main answers ticks) (record { same = λ answers. refl })
+
 pub has_serial_run : (p : Source) (inputs : List ℤ) → HasSerialRun p inputs
-has_serial_run p inputs = ran_run MAX_EVENTS (frame_asks inputs p.main) MAX_TICKS [] (opening p) (λ answers. frame_asks inputs p.main answers MAX_TICKS) (record { same = λ answers. refl })
+has_serial_run p inputs = has_run_within MAX_TICKS MAX_EVENTS p inputs
+
+pub is_run_within : (ticks room : ℕ) (p : Source) (inputs : List ℤ) (r : Run) (end : Ending) → IsSerialRunWithin ticks room p inputs r end → Is r end (ran_within ticks room p inputs)
+is_run_within ticks room p inputs r end s = serial_is (λ answers. frame_asks inputs p.main answers ticks) (record { same = λ answers. refl }) s
 
 pub is_serial_run : (p : Source) (inputs : List ℤ) (r : Run) (end : Ending) → IsSerialRun p inputs r end → Is r end (ran_within MAX_TICKS MAX_EVENTS p inputs)
-is_serial_run p inputs r end s = serial_is (λ answers. frame_asks inputs p.main answers MAX_TICKS) (record { same = λ answers. refl }) s
+is_serial_run p inputs r end s = is_run_within MAX_TICKS MAX_EVENTS p inputs r end s
 
 pub one_serial_run : (p : Source) (inputs : List ℤ) → HasOneSerialRun p inputs
 one_serial_run p inputs r r' end end' s s' =

@@ -1,5 +1,5 @@
 -- Laws that tie the meanings of a program together, and the function that computes its serial run.
-use Rattle.std.specs.Prelude.{◌≡◌, ℕ, zero, suc, ◌<◌, ℤ, pos, IsTrue, List, [], ◌∷◌, ◌⊎◌}
+use Rattle.std.specs.Prelude.{◌≡◌, ℕ, zero, suc, ◌<◌, ◌≤◌, ℤ, pos, IsTrue, List, [], ◌∷◌, ◌⊎◌}
 use Rattle.cilk_types.specs.declared.fault.Fault.TheVariants.{TooManyEvents}
 use Rattle.cilk_types.specs.declared.limits.TheConstants.{MAX_EVENTS, MAX_TICKS}
 use Rattle.cilk_names.specs.declared.syntax.Place.TheVariants.{Global}
@@ -9,7 +9,7 @@ use Rattle.cilk_names.specs.Syntax.{Source, Statements, all_places_in}
 use Rattle.cilk_names.specs.Behaviour.{Asked, frame_asks}
 use Rattle.cilk_names.specs.Store.{Store, cell_of, put, print, opening}
 use Rattle.cilk_names.specs.Elision.{Ending, Finished, Stopped, IsElision}
-use Rattle.cilk_names.specs.SerialRun.{Event, Begins, Reads, Writes, Prints, Syncs, Ends, Run, stop, act, IsSerialRun}
+use Rattle.cilk_names.specs.SerialRun.{Event, Begins, Reads, Writes, Prints, Syncs, Ends, Run, stop, act, Serial, IsSerialRun}
 
 -- what is left of a frame: what it asks for after these answers
 abbrev pub Rest : Type 0
@@ -70,6 +70,16 @@ HasOneSerialRun p inputs = (r r' : Run) (end end' : Ending) → IsSerialRun p in
 -- a program ends as its elision does, with the same result, store and output or by the same fault; only the limits of a run are the run's own
 abbrev pub EndsAsElided : Source → List ℤ → Type 0
 EndsAsElided p inputs = (r : Run) (end : Ending) → IsSerialRun p inputs r end → IsElision p inputs end ⊎ (end ≡ Stopped TooManyEvents)
+
+-- a serial run with so many ticks and room for so many events
+abbrev pub IsSerialRunWithin : ℕ → ℕ → Source → List ℤ → Run → Ending → Type 0
+IsSerialRunWithin ticks room p inputs r end = Serial (frame_asks inputs p.main) ticks [] (opening p) room r end
+
+-- and where the elision ends, serial runs with ticks and room enough end so
+abbrev pub IsReached : Source → List ℤ → Type 0
+IsReached p inputs =
+    (end : Ending) → IsElision p inputs end
+    → (enough : ℕ) × ((ticks room : ℕ) → enough ≤ ticks → enough ≤ room → (r : Run) (end' : Ending) → IsSerialRunWithin ticks room p inputs r end' → end' ≡ end)
 
 -- the elision ends in one way
 abbrev pub HasOneElision : Source → List ℤ → Type 0

@@ -1,7 +1,8 @@
 -- Worked programs, and what they do.
-use Rattle.std.specs.Prelude.{◌≡◌, ℕ, ℤ, pos, negsuc, List, [], ◌∷◌}
+use Rattle.std.specs.Prelude.{◌≡◌, ℕ, ◌-◌, ℤ, pos, negsuc, List, [], ◌∷◌}
 use Rattle.cilk_types.specs.declared.fault.Fault.{Fault}
 use Rattle.cilk_types.specs.declared.fault.Fault.TheVariants.{DivisionByZero, InputOutside, TooManyEvents}
+use Rattle.cilk_types.specs.declared.limits.TheConstants.{MAX_EVENTS, MAX_TICKS}
 use Rattle.cilk_types.specs.declared.event.Event as numbers
 use Rattle.cilk_types.specs.declared.event.Event.TheVariants.{Begin, Read, Write, Print as Prints, Sync, End}
 use Rattle.cilk_types.specs.declared.outcome.Outcome.{Outcome}
@@ -12,6 +13,7 @@ use Rattle.cilk_names.specs.declared.syntax.Operator.TheVariants.{Add, Subtract,
 use Rattle.cilk_names.specs.Syntax.{Source, Expression, Number, Variable, Negate, Not, Binary, And, Or, Input, InputCount, Statement, Empty, Block, Assign, If, IfElse, While, Print, Return, Statements, Nothing, Then}
 use Rattle.cilk_names.specs.Store.{Store}
 use Rattle.cilk_names.specs.Elision.{Finished, Stopped}
+use Rattle.cilk_names.specs.Laws.{IsSerialRunWithin}
 use Rattle.cilk_names.specs.SerialRun.{Run, IsSerialRun, trace_of, outcome_of}
 
 -- the program's serial run makes these events, and leaves this
@@ -23,11 +25,14 @@ pub record RunsTo (p : Source) (inputs : List ℤ) (events : List numbers.Event)
   pub makes : trace_of run ≡ events
   pub leaves : outcome_of p result store ≡ outcome
 
--- the program's serial run makes these events, and stops by this fault
-pub record StopsBy (p : Source) (inputs : List ℤ) (events : List numbers.Event) (fault : Fault) : Type 0 where
+-- within these limits the program's serial run makes these events, and stops by this fault
+pub record StopsWithin (ticks room : ℕ) (p : Source) (inputs : List ℤ) (events : List numbers.Event) (fault : Fault) : Type 0 where
   pub run : Run
-  pub is_serial : IsSerialRun p inputs run (Stopped fault)
+  pub is_serial : IsSerialRunWithin ticks room p inputs run (Stopped fault)
   pub makes : trace_of run ≡ events
+
+abbrev pub StopsBy : Source → List ℤ → List numbers.Event → Fault → Type 0
+StopsBy = StopsWithin MAX_TICKS MAX_EVENTS
 
 -- int main() { return 0; }
 abbrev pub nothing : Source
@@ -176,9 +181,35 @@ BranchesRun =
     (Begin 1 ∷ Write 0 (pos 1) ∷ Read 0 (pos 1) ∷ Read 0 (pos 1) ∷ Write 0 (pos 11) ∷ Read 0 (pos 11) ∷ Write 0 (pos 111) ∷ Read 0 (pos 111) ∷ Sync ∷ End ∷ [])
     (record { result = pos 111; globals = pos 111 ∷ []; output = []; reducers = [] })
 
--- int g = 4; int h = 8; int main() { h = g; }
+-- int g = 4; int h = 8; int main() { g = h; h = 9; }
 abbrev pub no_return : Source
-no_return = record { openings = pos 4 ∷ pos 8 ∷ []; main = Then (Assign (Global 1) (Variable cell)) Nothing }
+no_return = record { openings = pos 4 ∷ pos 8 ∷ []; main = Then (Assign cell (Variable (Global 1))) (Then (Assign (Global 1) (num 9)) Nothing) }
 
 abbrev pub NoReturnRuns : Type 0
-NoReturnRuns = RunsTo no_return [] (Begin 1 ∷ Read 0 (pos 4) ∷ Write 1 (pos 4) ∷ Sync ∷ End ∷ []) (record { result = pos 0; globals = pos 4 ∷ pos 4 ∷ []; output = []; reducers = [] })
+NoReturnRuns = RunsTo no_return [] (Begin 1 ∷ Read 1 (pos 8) ∷ Write 0 (pos 8) ∷ Write 1 (pos 9) ∷ Sync ∷ End ∷ []) (record { result = pos 0; globals = pos 8 ∷ pos 9 ∷ []; output = []; reducers = [] })
+
+-- within these limits the program's serial run ends
+abbrev pub EndsWithin : ℕ → ℕ → Source → List ℤ → Type 0
+EndsWithin ticks room p inputs = (r : Run) × (v : ℤ) × (m : Store) × IsSerialRunWithin ticks room p inputs r (Finished v m)
+
+-- within these limits it doesn't
+abbrev pub IsTooLong : ℕ → ℕ → Source → List ℤ → Type 0
+IsTooLong ticks room p inputs = (r : Run) × IsSerialRunWithin ticks room p inputs r (Stopped TooManyEvents)
+
+-- the program's serial run takes so many ticks and makes so many events
+pub record Takes (ticks room : ℕ) (p : Source) (inputs : List ℤ) : Type 0 where
+  pub ends : EndsWithin ticks room p inputs
+  pub takes_ticks : IsTooLong (ticks - 1) room p inputs
+  pub takes_events : IsTooLong ticks (room - 1) p inputs
+
+abbrev pub TicksCount : Type 0
+TicksCount =
+    Takes 2 3 nothing [] × Takes 28 20 countdown [] × Takes 24 10 branches [] × Takes 114 32 operators (pos 5 ∷ pos 6 ∷ [])
+
+-- a tick comes before its event; a fault of the program comes before a tick and before the room for an event is asked for
+abbrev pub FaultsInOrder : Type 0
+FaultsInOrder =
+    StopsWithin 1 20 countdown [] (Begin 1 ∷ []) TooManyEvents
+    × StopsWithin 2 20 countdown [] (Begin 1 ∷ Read 0 (pos 3) ∷ []) TooManyEvents
+    × StopsWithin 2 1 division_by_zero [] (Begin 1 ∷ []) TooManyEvents
+    × StopsWithin 3 1 division_by_zero [] (Begin 1 ∷ []) DivisionByZero

@@ -2,13 +2,19 @@
 
 ghost use Rattle.std.specs.Prelude.{ℕ, ℤ, List};
 ghost use Rattle.cilk_names.specs.Syntax.{Source, Statements};
-ghost use Rattle.cilk_names.specs.Laws.{HasSerialRun, HasOneSerialRun, EndsAsElided, HasOneElision, AsksInside, HasShape};
-ghost use Rattle.cilk_names.specs.Worked.{NothingRuns, CountdownRuns, EdgesRun, OperatorsRun, BranchesRun, NoReturnRuns, SkippedDivisionRuns, DivisionByZeroStops, ShortInputStops, EndlessStops};
+ghost use Rattle.cilk_names.specs.Laws.{HasSerialRun, HasOneSerialRun, EndsAsElided, HasOneElision, AsksInside, HasShape, IsReached};
+ghost use Rattle.cilk_names.specs.Worked.{NothingRuns, CountdownRuns, EdgesRun, OperatorsRun, BranchesRun, NoReturnRuns, TicksCount, FaultsInOrder, SkippedDivisionRuns, DivisionByZeroStops, ShortInputStops, EndlessStops};
 
 /// Where a program's serial run ends within the limits of a run, it ends as the serial elision does: with its result,
 /// memory and output, or by its fault.
 pub fn serial_run_ends_as_elided()
     ensures { (p : Source) (inputs : List ℤ) → EndsAsElided p inputs }
+{}
+
+/// Where a program's serial elision ends, each serial run with ticks and room enough ends so: only the limits of a run
+/// part the two.
+pub fn elision_is_reached()
+    ensures { (p : Source) (inputs : List ℤ) → IsReached p inputs }
 {}
 
 /// Each program has a serial run on each input.
@@ -47,5 +53,7 @@ pub fn worked_programs()
     ensures no_return { NoReturnRuns }
     ensures division_by_zero { DivisionByZeroStops }
     ensures short_input { ShortInputStops }
+    ensures ticks { TicksCount }
+    ensures order { FaultsInOrder }
     ensures endless { EndlessStops }
 {}
