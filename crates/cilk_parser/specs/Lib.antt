@@ -1,0 +1,6 @@
+pub mod Grammar
+pub mod Inputs
+pub mod Limits
+pub mod Refused
+pub mod Texts
+pub mod Trees
