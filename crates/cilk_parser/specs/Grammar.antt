@@ -80,6 +80,10 @@ SpellsExpr (Input e) ts rest =
 SpellsExpr InputCount ts rest =
     (ts1 ts2 : List Token) × Is kinds.InputCount ts ts1 × Is kinds.Open ts1 ts2 × Is kinds.Close ts2 rest
 
+-- an expression and a closing parenthesis
+abbrev pub SpellsClosed : Expression → List Token → List Token → Type 0
+SpellsClosed e ts rest = (ts1 : List Token) × SpellsExpr e ts ts1 × Is kinds.Close ts1 rest
+
 -- an `else` belongs to the nearest `if`
 abbrev pub NoElse : List Token → Type 0
 NoElse [] = Unit {0}
@@ -90,15 +94,18 @@ unfoldable pub SpellsInside : Expression → List Token → List Token → Type 
 SpellsInside e ts rest =
     (ts1 ts2 : List Token) × Is kinds.Open ts ts1 × SpellsExpr e ts1 ts2 × Is kinds.Close ts2 rest
 
+-- an expression and a semicolon
+abbrev pub SpellsEnded : Expression → List Token → List Token → Type 0
+SpellsEnded e ts rest = (ts1 : List Token) × SpellsExpr e ts ts1 × Is kinds.Semicolon ts1 rest
+
 -- what stands behind the name in an assignment
 unfoldable pub SpellsAssigned : Expression → List Token → List Token → Type 0
-SpellsAssigned e ts rest =
-    (ts1 ts2 : List Token) × Is kinds.Assign ts ts1 × SpellsExpr e ts1 ts2 × Is kinds.Semicolon ts2 rest
+SpellsAssigned e ts rest = (ts1 : List Token) × Is kinds.Assign ts ts1 × SpellsEnded e ts1 rest
 
 -- what stands behind a `return`
 unfoldable pub SpellsReturned : Option Expression → List Token → List Token → Type 0
 SpellsReturned None ts rest = Is kinds.Semicolon ts rest
-SpellsReturned (Some e) ts rest = (ts1 : List Token) × SpellsExpr e ts ts1 × Is kinds.Semicolon ts1 rest
+SpellsReturned (Some e) ts rest = SpellsEnded e ts rest
 
 abbrev mutual
   pub SpellsStmt : Statement → List Token → List Token → Type 0
@@ -121,12 +128,20 @@ abbrev mutual
   SpellsAll End ts rest = ts ≡ rest
   SpellsAll (Then s row) ts rest = (ts1 : List Token) × SpellsStmt s ts ts1 × SpellsAll row ts1 rest
 
+-- the tokens behind an `if` are the rest of such a statement
+abbrev pub SpellsChoice : Statement → List Token → List Token → Type 0
+SpellsChoice s ts rest = (t : Token) → t.kind ≡ kinds.If → SpellsStmt s (t ∷ ts) rest
+
+-- a number, or a minus and a number
+abbrev pub SpellsLiteral : Initializer → List Token → List Token → Type 0
+SpellsLiteral initializers.Absent ts rest = ⊥
+SpellsLiteral (initializers.Number n) ts rest = Is (kinds.Number n) ts rest
+SpellsLiteral (initializers.Negative n) ts rest = (ts1 : List Token) × Is kinds.Minus ts ts1 × Is (kinds.Number n) ts1 rest
+
 -- what stands behind a global variable's name
 abbrev pub SpellsInitializer : Initializer → List Token → List Token → Type 0
 SpellsInitializer initializers.Absent ts rest = ts ≡ rest
-SpellsInitializer (initializers.Number n) ts rest = (ts1 : List Token) × Is kinds.Assign ts ts1 × Is (kinds.Number n) ts1 rest
-SpellsInitializer (initializers.Negative n) ts rest =
-    (ts1 ts2 : List Token) × Is kinds.Assign ts ts1 × Is kinds.Minus ts1 ts2 × Is (kinds.Number n) ts2 rest
+SpellsInitializer i ts rest = (ts1 : List Token) × Is kinds.Assign ts ts1 × SpellsLiteral i ts1 rest
 
 -- further variables, each behind a comma
 abbrev pub SpellsMore : List GlobalVariable → List Token → List Token → Type 0
@@ -140,21 +155,30 @@ SpellsVariables name [] ts rest = ⊥
 SpellsVariables name (v ∷ list) ts rest =
     (ts1 : List Token) × (v.name ≡ name) × SpellsInitializer v.initializer ts ts1 × SpellsMore list ts1 rest
 
+-- and the semicolon behind them
+unfoldable pub SpellsLine : Name → List GlobalVariable → List Token → List Token → Type 0
+SpellsLine name list ts rest = (ts1 : List Token) × SpellsVariables name list ts ts1 × Is kinds.Semicolon ts1 rest
+
 -- what stands between a function's parentheses
 abbrev pub SpellsParameters : Parameters → List Token → List Token → Type 0
 SpellsParameters parameters.Empty ts rest = ts ≡ rest
 SpellsParameters parameters.Void ts rest = Is kinds.Void ts rest
 
--- a function from its first parenthesis on
+-- a function's body
+unfoldable pub SpellsBody : Statements → List Token → List Token → Type 0
+SpellsBody row ts rest =
+    (ts1 ts2 : List Token) × Is kinds.OpenBrace ts ts1 × SpellsAll row ts1 ts2 × Is kinds.CloseBrace ts2 rest
+
+-- a function from behind its first parenthesis on
 unfoldable pub SpellsFunction : Parameters → Statements → List Token → List Token → Type 0
 SpellsFunction ps row ts rest =
-    (ts1 ts2 ts3 ts4 ts5 : List Token) × Is kinds.Open ts ts1 × SpellsParameters ps ts1 ts2 × Is kinds.Close ts2 ts3 × Is kinds.OpenBrace ts3 ts4 × SpellsAll row ts4 ts5 × Is kinds.CloseBrace ts5 rest
+    (ts1 ts2 : List Token) × SpellsParameters ps ts ts1 × Is kinds.Close ts1 ts2 × SpellsBody row ts2 rest
 
 -- what stands behind an `int`
 abbrev pub SpellsDeclared : Item → List Token → List Token → Type 0
-SpellsDeclared (Globals list) ts rest =
-    (name : Name) × (ts1 ts2 : List Token) × IsName name ts ts1 × SpellsVariables name list ts1 ts2 × Is kinds.Semicolon ts2 rest
-SpellsDeclared (Function name ps row) ts rest = (ts1 : List Token) × IsName name ts ts1 × SpellsFunction ps row ts1 rest
+SpellsDeclared (Globals list) ts rest = (name : Name) × (ts1 : List Token) × IsName name ts ts1 × SpellsLine name list ts1 rest
+SpellsDeclared (Function name ps row) ts rest =
+    (ts1 ts2 : List Token) × IsName name ts ts1 × Is kinds.Open ts1 ts2 × SpellsFunction ps row ts2 rest
 
 -- one item after the other
 abbrev pub SpellsItems : List Item → List Token → List Token → Type 0
