@@ -1,3 +1,6 @@
+pub mod Accepted
 pub mod Lists
 pub mod MarkLaws
 pub mod Runs
+pub mod Spelled
+pub mod Traces
