@@ -1,4 +1,6 @@
 pub mod Accepted
+pub mod Completes
+pub mod Laws
 pub mod Lists
 pub mod MarkLaws
 pub mod Runs
