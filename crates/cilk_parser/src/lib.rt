@@ -6,6 +6,7 @@ pub mod fault;
 pub mod input;
 pub mod items;
 pub mod marks;
+pub mod parse;
 pub mod statements;
 pub mod stop;
 pub mod tree;
