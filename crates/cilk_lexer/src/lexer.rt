@@ -240,12 +240,12 @@ fn word(fresh: bool, bytes: &[u8]) -> Front<'_>
     }
 }
 
-/// The value of digits, if it isn't over the greatest.
+/// The value of digits, if it is at most 2^63.
 #[tactic(auto, using(crate::proofs::Words::value_grows))]
-fn value_of(digits: &[u8]) -> Option<i64>
+pub fn value_of(digits: &[u8]) -> Option<u64>
     requires { Lexing.all_digits digits.now ≡ true }
-    ensures found { IfSome result (λ n. (value_of digits.now ≤ 9223372036854775807) × (n ≡ pos (value_of digits.now))) }
-    ensures none { IfNone result (9223372036854775807 < value_of digits.now) }
+    ensures found { IfSome result (λ n. (value_of digits.now ≤ 9223372036854775808) × (n ≡ value_of digits.now)) }
+    ensures none { IfNone result (9223372036854775808 < value_of digits.now) }
 {
     let mut value: u64 = 0;
     let mut rest = digits;
@@ -254,15 +254,16 @@ fn value_of(digits: &[u8]) -> Option<i64>
             return None;
         }
         value = 10 * value + u64::from(*first - 48);
-        if value > 9_223_372_036_854_775_807 {
+        if value > 9_223_372_036_854_775_808 {
             return None;
         }
         rest = tail;
     }
-    Some(value as i64)
+    Some(value)
 }
 
-fn all_digits(bytes: &[u8]) -> bool
+/// Tells whether all of the bytes are digits.
+pub fn all_digits(bytes: &[u8]) -> bool
     ensures { result ≡ Lexing.all_digits bytes.now }
 {
     let mut rest = bytes;
@@ -299,8 +300,8 @@ fn number(fresh: bool, bytes: &[u8]) -> Front<'_>
         return Front::Fault(Bad::Numeral);
     }
     match value_of(word) {
-        Some(n) => Front::Word(Kind::Number(n), rest),
-        None => Front::Fault(Bad::TooLarge),
+        Some(n) if n <= 9_223_372_036_854_775_807 => Front::Word(Kind::Number(n as i64), rest),
+        _ => Front::Fault(Bad::TooLarge),
     }
 }
 

@@ -1,5 +1,6 @@
 pub mod Accepted
 pub mod Completes
+pub mod InputLaws
 pub mod Laws
 pub mod Lists
 pub mod MarkLaws

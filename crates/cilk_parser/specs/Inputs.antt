@@ -1,7 +1,9 @@
 -- The numbers of an input text, and its faults.
-use Rattle.std.specs.Prelude.{◌≡◌, ◌≢◌, ℕ, ◌+◌, ◌^◌, ◌≤◌, ◌<◌, nat_le, Bool, true, false, ◌&&◌, ◌||◌, ◌==◌, if◌then◌else◌, ℤ, pos, negsuc, neg_ℤ, List, [], ◌∷◌, length, Option, Some, None, slice_get}
+use Rattle.std.specs.Prelude.{◌≡◌, ℕ, ◌+◌, ◌≤◌, ◌<◌, nat_le, Bool, true, false, ◌&&◌, ◌==◌, if◌then◌else◌, ℤ, pos, negsuc, neg_ℤ, List, [], ◌∷◌, length, Option, Some, None, slice_get}
 use Rattle.cilk_lexer.specs.declared.lexer.Class.TheVariants.{Solid}
 use Rattle.cilk_lexer.specs.Lexing.{belongs, front_of, behind, value_of, all_digits}
+use Rattle.cilk_parser.specs.declared.input.Front.{Front}
+use Rattle.cilk_parser.specs.declared.input.Front.TheVariants as fronts
 use Rattle.cilk_parser.specs.declared.fault.TextNumber.{TextNumber}
 use Rattle.cilk_parser.specs.declared.fault.TextNumber.TheVariants.{BadNumber, TooManyNumbers}
 use Rattle.cilk_parser.specs.declared.fault.TextFault.{TextFault}
@@ -35,23 +37,30 @@ abbrev pub number_in : List ℕ → Option ℤ
 number_in [] = None
 number_in (b ∷ digits) = if b == 45 then negative digits else if b == 43 then positive digits else positive (b ∷ digits)
 
+-- the first byte stands between words
+abbrev pub IsGap : List ℕ → List ℕ → Type 0
+IsGap bytes rest = (b : ℕ) × (bytes ≡ b ∷ rest) × (belongs Solid b ≡ false)
+
+-- the bytes before rest are a word that writes this number
+abbrev pub IsNumber : ℤ → List ℕ → List ℕ → Type 0
+IsNumber n bytes rest = (starts_word bytes ≡ true) × (number_in (word_of bytes) ≡ Some n) × (rest ≡ behind_word bytes)
+
+-- a word stands first that writes no number
+abbrev pub IsBadWord : List ℕ → Type 0
+IsBadWord bytes = (starts_word bytes ≡ true) × (number_in (word_of bytes) ≡ None)
+
 -- the bytes hold these numbers, one word after the other
 pub data Holds : List ℕ → List ℤ → Type 0 where
   Ended : Holds [] []
-  Skipped : {b : ℕ} {bytes : List ℕ} {ns : List ℤ} → belongs Solid b ≡ false → Holds bytes ns → Holds (b ∷ bytes) ns
-  Found : {bytes : List ℕ} {n : ℤ} {ns : List ℤ} → starts_word bytes ≡ true → number_in (word_of bytes) ≡ Some n → Holds (behind_word bytes) ns → Holds bytes (n ∷ ns)
-
--- what is wrong with a word behind so many numbers
-abbrev pub IsBadWord : ℕ → List ℕ → TextNumber → Type 0
-IsBadWord count word BadNumber = number_in word ≡ None
-IsBadWord count word TooManyNumbers = (number_in word ≢ None) × (count ≡ 65536)
-IsBadWord count word n = ⊥
+  Skipped : {bytes rest : List ℕ} {ns : List ℤ} → IsGap bytes rest → Holds rest ns → Holds bytes ns
+  Found : {bytes rest : List ℕ} {ns : List ℤ} (n : ℤ) → IsNumber n bytes rest → Holds rest ns → Holds bytes (n ∷ ns)
 
 -- Behind count numbers, the words before the place are numbers and not too many; total is the length of the whole text.
 pub data Fails (total : ℕ) : ℕ → List ℕ → TextNumber → ℕ → Type 0 where
-  Here : {count : ℕ} {bytes : List ℕ} {n : TextNumber} {place : ℕ} → starts_word bytes ≡ true → IsBadWord count (word_of bytes) n → place + length bytes ≡ total → Fails total count bytes n place
-  Behind : {count b : ℕ} {bytes : List ℕ} {n : TextNumber} {place : ℕ} → belongs Solid b ≡ false → Fails total count bytes n place → Fails total count (b ∷ bytes) n place
-  Beyond : {count : ℕ} {bytes : List ℕ} {m : ℤ} {n : TextNumber} {place : ℕ} → starts_word bytes ≡ true → number_in (word_of bytes) ≡ Some m → count < 65536 → Fails total (count + 1) (behind_word bytes) n place → Fails total count bytes n place
+  NoNumber : {count : ℕ} {bytes : List ℕ} {place : ℕ} → IsBadWord bytes → place + length bytes ≡ total → Fails total count bytes BadNumber place
+  OneTooMany : {count : ℕ} {bytes rest : List ℕ} {place : ℕ} (n : ℤ) → IsNumber n bytes rest → count ≡ 65536 → place + length bytes ≡ total → Fails total count bytes TooManyNumbers place
+  Behind : {count : ℕ} {bytes rest : List ℕ} {fault : TextNumber} {place : ℕ} → IsGap bytes rest → Fails total count rest fault place → Fails total count bytes fault place
+  Beyond : {count : ℕ} {bytes rest : List ℕ} {fault : TextNumber} {place : ℕ} (n : ℤ) → IsNumber n bytes rest → count < 65536 → Fails total (count + 1) rest fault place → Fails total count bytes fault place
 
 -- the numbers of an input text
 pub record IsInput (bytes : List ℕ) (ns : List ℤ) : Type 0 where
@@ -67,3 +76,9 @@ IsInputFault (At n place) bytes = Fails (length bytes) 0 bytes n place
 abbrev pub number_at : List ℤ → ℤ → Option ℤ
 number_at ns (pos k) = slice_get ns k
 number_at ns (negsuc k) = None
+
+-- what the reader says of the bytes that it looks at
+abbrev pub IsFront : List ℕ → Front → Type 0
+IsFront bytes (fronts.Gap rest) = IsGap bytes rest.now × (length rest.now < length bytes)
+IsFront bytes (fronts.Number n rest) = IsNumber n bytes rest.now × (length rest.now < length bytes)
+IsFront bytes fronts.Bad = IsBadWord bytes

@@ -2,7 +2,9 @@
 
 ghost use Rattle.std.specs.Prelude.{◌≡◌};
 ghost use Rattle.cilk_parser.specs.Texts;
+ghost use Rattle.cilk_parser.specs.declared.fault.TextFault.TheVariants.{Memory};
 
+use std::alloc::{AllocError, AllocFailed};
 use thiserror::Error;
 
 /// What is wrong at a place of a text.
@@ -51,4 +53,20 @@ pub enum TextFault {
     Memory,
     #[error("{0} at byte {1}")]
     At(TextNumber, usize),
+}
+
+impl From<AllocError> for TextFault {
+    ghost from_gives = { λ _ e. e ≡ Memory };
+
+    fn from(_error: AllocError) -> Self {
+        TextFault::Memory
+    }
+}
+
+impl<T: Drop> From<AllocFailed<T>> for TextFault {
+    ghost from_gives = { λ _ e. e ≡ Memory };
+
+    fn from(_error: AllocFailed<T>) -> Self {
+        TextFault::Memory
+    }
 }
