@@ -1,6 +1,9 @@
 pub mod Behaviour
 pub mod Elision
+pub mod Misnamings
+pub mod Names
 pub mod Programs
+pub mod Resolution
 pub mod SerialRun
 pub mod Store
 pub mod Syntax

@@ -7,5 +7,8 @@
 #![tactic(auto)]
 
 pub mod ask;
+pub mod fault;
 pub mod program;
+pub mod resolve;
 pub mod syntax;
+pub mod table;
