@@ -2,6 +2,7 @@ pub mod Behaviour
 pub mod Elision
 pub mod Misnamings
 pub mod Names
+pub mod Pass
 pub mod Programs
 pub mod Resolution
 pub mod SerialRun

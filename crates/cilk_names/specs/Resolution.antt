@@ -82,11 +82,15 @@ ResolvesMain text ds (trees.Function name parameters body ∷ rest) r =
       (ResolvesRow (known_at text ds (trees.Function name parameters body ∷ rest)) body r)
       (ResolvesMain text (with_item text ds (trees.Function name parameters body)) rest r)
 
--- what the global variables of these items open with, in order
+-- what the global variables of an item open with
+abbrev pub item_openings : trees.Item → List ℤ
+item_openings (trees.Globals vs) = map (λ v. opening_value v.initializer) vs
+item_openings (trees.Function name parameters body) = []
+
+-- those of these items, in order
 abbrev pub openings_of : List trees.Item → List ℤ
 openings_of [] = []
-openings_of (trees.Globals vs ∷ rest) = map (λ v. opening_value v.initializer) vs ++ openings_of rest
-openings_of (trees.Function name parameters body ∷ rest) = openings_of rest
+openings_of (i ∷ rest) = item_openings i ++ openings_of rest
 
 -- a tree whose names are right resolves to the opening values of its globals and the body of its main function
 pub record Resolves (t : Tree) (s : Source) : Type 0 where

@@ -7,8 +7,11 @@
 #![tactic(auto)]
 
 pub mod ask;
+mod expressions;
 pub mod fault;
 pub mod program;
+pub mod resolution;
 pub mod resolve;
+mod statements;
 pub mod syntax;
 pub mod table;
