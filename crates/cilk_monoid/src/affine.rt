@@ -83,7 +83,7 @@ impl Monoid for Affine {
         0
     }
 
-    fn room(_alloc: Global, _view: &mut AffineView, _n: usize) -> Result<(), AllocError> {
+    fn room(_alloc: Global, _view: &mut AffineView, _size: usize) -> Result<(), AllocError> {
         Ok(())
     }
 }

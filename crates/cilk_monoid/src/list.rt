@@ -65,7 +65,7 @@ impl Monoid for Append {
         view.items.len()
     }
 
-    fn room(_alloc: Global, view: &mut ListView, n: usize) -> Result<(), AllocError> {
-        view.items.reserve(n)
+    fn room(_alloc: Global, view: &mut ListView, size: usize) -> Result<(), AllocError> {
+        view.items.reserve(size)
     }
 }

@@ -62,7 +62,7 @@ impl Monoid for Add {
         0
     }
 
-    fn room(_alloc: Global, _view: &mut NumberView, _n: usize) -> Result<(), AllocError> {
+    fn room(_alloc: Global, _view: &mut NumberView, _size: usize) -> Result<(), AllocError> {
         Ok(())
     }
 }
@@ -117,7 +117,7 @@ impl Monoid for Least {
         0
     }
 
-    fn room(_alloc: Global, _view: &mut NumberView, _n: usize) -> Result<(), AllocError> {
+    fn room(_alloc: Global, _view: &mut NumberView, _size: usize) -> Result<(), AllocError> {
         Ok(())
     }
 }
@@ -172,7 +172,7 @@ impl Monoid for Greatest {
         0
     }
 
-    fn room(_alloc: Global, _view: &mut NumberView, _n: usize) -> Result<(), AllocError> {
+    fn room(_alloc: Global, _view: &mut NumberView, _size: usize) -> Result<(), AllocError> {
         Ok(())
     }
 }
