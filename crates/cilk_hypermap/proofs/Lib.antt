@@ -1,0 +1,4 @@
+pub mod Absorbing
+pub mod Fills
+pub mod Entries
+pub mod Writes

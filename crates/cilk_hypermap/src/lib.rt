@@ -1,0 +1,4 @@
+//! Hypermaps.
+#![tactic(auto)]
+
+pub mod views;
