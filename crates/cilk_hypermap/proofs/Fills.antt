@@ -63,6 +63,12 @@ module _ (S : MonoidStructure ViewValue) (IsMember : ViewValue → Type 0) (laws
   merged_left l l' (Some b) k (inr p) =
       ap (λ x. merged S x (Some b)) p.1 ∙ ap Some (laws.left_neutral b k) ∙ sym (ap (λ x. merged S x (Some b)) p.0)
 
+  -- the units that `room` puts change no product of two
+  pub merged_two : (l l' r r' none : Option ViewValue) → IsMemberIfAny r → none ≡ None → FillsOne S.unit (IsSome r ⊎ IsSome none) l l' → FillsOne S.unit (IsSome none) r r' → merged S l' r' ≡ merged S l r
+  merged_two l l' r r' none k empty left right =
+      let needed = λ (need : IsSome r ⊎ IsSome none). elim need as (λ _. IsSome r) [ inl h ↦ h | inr h ↦ absurd (true≢false (sym h ∙ ap is_some empty)) ] in
+      ap (merged S l') (fills_none r r' empty right) ∙ merged_left l l' r k (fills_weaker l l' needed left)
+
   units_once : (l m r : Option ViewValue) → IsMemberIfAny l → IsMemberIfAny m → IsMemberIfAny r → IsSome m ⊎ IsSome r → l ≡ None → merged S (merged S (Some S.unit) m) r ≡ merged S (merged S l m) r
   units_once l None None hl hm hr (inl h) e = absurd (true≢false (sym h))
   units_once l None None hl hm hr (inr h) e = absurd (true≢false (sym h))

@@ -1,1 +1,2 @@
+pub mod Hypermap
 pub mod Views

@@ -57,6 +57,14 @@ module _ {M V : Type 0} (S : MonoidStructure ViewValue) (value : V → ViewValue
   abbrev pub KeepsValues : Views M V → Views M V → Type 0
   KeepsValues old new = (j : Instance) → value_at new j ≡ value_at old j
 
+  -- the views of `right` fit in the room of `left`
+  abbrev pub Fits : (V → ℕ) → Views M V → Views M V → Type 0
+  Fits reserved left right = (j : Instance) → size_at right j ≤ room_at reserved left j
+
+  -- `new` has the room of `left` but for the sizes of the views of `right`
+  abbrev pub Loses : (V → ℕ) → Views M V → Views M V → Views M V → Type 0
+  Loses reserved left right new = (j : Instance) → room_at reserved left j ≤ room_at reserved new j + size_at right j
+
   -- `left` has a view wherever `middle` has one, with room for those of `middle` and `right`, and `middle` wherever `right` has one
   pub record HasRoom (reserved : V → ℕ) (left middle right : Views M V) : Type 0 where
     pub in_middle : (j : Instance) → IsSome (view_at value right j) → IsSome (view_at value middle j)

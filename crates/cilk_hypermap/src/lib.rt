@@ -1,4 +1,5 @@
 //! Hypermaps.
 #![tactic(auto)]
 
+pub mod hypermap;
 pub mod views;

@@ -169,7 +169,7 @@ impl<M: Monoid> Views<M> {
     }
 
     // Multiplies each view, which has the room, with that of `right`.
-    fn absorb(&mut self, alloc: Global, mut right: Self)
+    pub(crate) fn absorb(&mut self, alloc: Global, mut right: Self)
         requires present { (j : Instance) → IsSome (view_at M.value right j) → IsSome (view_at M.value self.old j) }
         requires room { (j : Instance) → size_at M.structure M.value right j ≤ room_at M.reserved self.old j }
         ensures views { (j : Instance) → view_at M.value self.new j ≡ merged M.structure (view_at M.value self.old j) (view_at M.value right j) }
