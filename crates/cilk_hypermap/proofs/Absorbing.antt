@@ -73,7 +73,7 @@ module _ {X : Type 0} (S : MonoidStructure ViewValue) (value : X → ViewValue) 
           let e = same_from_true k j p in
           let self : same_instance k k ≡ true = subst (λ (q : Instance). same_instance k q ≡ true) (sym e) p in
           subst (λ (q : Instance). merged S (option_map value (l' q)) (option_map value (r' q)) ≡ merged S (option_map value (l q)) (option_map value (r q))) e
-              (merged_step S (option_map value (l k)) (option_map value (l' k)) (option_map value (r k)) (option_map value (r' k)) (value b) present_at found_value (here self) (ap (option_map value) (taken_here k self)))
+          (merged_step S (option_map value (l k)) (option_map value (l' k)) (option_map value (r k)) (option_map value (r' k)) (value b) present_at found_value (here self) (ap (option_map value) (taken_here k self)))
       by false p = (λ i. merged S (there j p i) (option_map value (kept_there j p i)))
 
   pub spent_after : (j : Instance) → room_of (l j) + size_of (r' j) ≤ room_of (l' j) + size_of (r j)

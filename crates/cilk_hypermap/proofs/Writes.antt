@@ -43,7 +43,7 @@ module _ {X : Type 0} (f g : Instance → Option X) (i : Instance) (w : X) (writ
       by true p =
           let old : f j ≡ Some v = subst (λ (q : Instance). f q ≡ Some v) (same_from_true i j p) at in
           subst (λ (a : Option X). unwrap_or (option_map reserved a) 0 ≤ unwrap_or (option_map reserved (g j)) 0) (sym old)
-              (subst (λ (b : Option X). reserved v ≤ unwrap_or (option_map reserved b) 0) (sym (here j p)) more)
+          (subst (λ (b : Option X). reserved v ≤ unwrap_or (option_map reserved b) 0) (sym (here j p)) more)
       by false p = subst (λ (b : Option X). unwrap_or (option_map reserved (f j)) 0 ≤ unwrap_or (option_map reserved b) 0) (sym (there j p)) (omega arith)
 
   -- where there was none, the unit stands at i and nothing else has changed

@@ -1,4 +1,4 @@
-//! The views of all monoids.
+//! The views of all monoids that programs name.
 
 ghost use Rattle.std.specs.Prelude.{◌≡◌, None, Some, IsSome, IsOk, OnOk, OnErr, IfOk, IfErr, ◌⊎◌};
 ghost use Rattle.std.specs.Option.{option_map};
@@ -20,6 +20,9 @@ use cilk_types::sequence::Sequence;
 use std::alloc::{AllocError, Global};
 
 /// The views of each monoid that programs name, by the reducer instance that each belongs to.
+///
+/// Contracts see a finite map from kinds and instances to the values of their views (`view_in`). The ordered output is the
+/// view of [`Instance::OUTPUT`] among the lists. What is refused for want of memory leaves all views as they were.
 #[derive(Drop)]
 pub struct Hypermap {
     sums: Views<Add>,
@@ -130,7 +133,7 @@ impl Hypermap {
         self.lists.print(alloc, x)
     }
 
-    /// Takes the views of the instance out, of whichever kind.
+    /// Takes the view of the instance out, of whichever kind it is.
     pub fn retire(&mut self, instance: Instance)
         ensures { Retires self.old self.new instance }
     {
@@ -141,7 +144,8 @@ impl Hypermap {
         self.maps.retire(instance);
     }
 
-    /// Takes the view of the instance out as the value that it leaves when the run ends, without taking memory.
+    /// Takes the view of the instance out as the value that it leaves when the run ends, if there is one. It takes no memory,
+    /// and a list is moved.
     pub fn take(&mut self, instance: Instance, kind: MonoidKind) -> Option<Final>
         ensures value { result ≡ option_map final_of (view_in self.old kind instance) }
         ensures views { ChangesIn self.old self.new kind instance None }
@@ -208,7 +212,8 @@ impl Hypermap {
         Views::room(alloc, &mut left.maps, &mut middle.maps, &right.maps)
     }
 
-    /// Multiplies the views of each instance, the left one first. It costs its right side: no view is cloned.
+    /// Multiplies the views of each instance, the left one first, where an absent view counts as the unit. It costs its right
+    /// side: no view is cloned. A refused merge gives both back with the same values.
     pub fn merge(alloc: Global, mut left: Self, mut right: Self) -> Result<Self, (Self, Self)>
         ensures views { IfOk result (λ h. EachKind (λ k. (j : Instance) → view_in h k j ≡ merged (structure_of k) (view_in left k j) (view_in right k j))) }
         ensures values { IfOk result (λ h. EachKind (λ k. (j : Instance) → value_in h k j ≡ (structure_of k).combine (value_in left k j) (value_in right k j))) }
@@ -224,7 +229,8 @@ impl Hypermap {
         }
     }
 
-    /// Multiplies the views of each instance, from left to right. After [`Hypermap::room`] it takes no memory.
+    /// Multiplies the views of each instance, from left to right, where an absent view counts as the unit. After
+    /// [`Hypermap::room`] it takes no memory and succeeds. A refused merge gives all back with the same values.
     pub fn merge3(
         alloc: Global,
         mut left: Self,
@@ -253,3 +259,6 @@ fn number(view: Option<NumberView>) -> Option<Final>
 {
     view.map(|view| Final::Number(view.number))
 }
+
+#[cfg(test)]
+mod tests;

@@ -1,4 +1,7 @@
 //! The views of one monoid.
+//!
+//! A merge makes room in the left map first, for each view of the right one, and then moves the right views over: the first
+//! step may be refused, and the second can't fail.
 
 ghost use Rattle.std.specs.Prelude.{◌≡◌, ◌+◌, ◌<◌, ◌≤◌, ◌^◌, ℕ, if◌then◌else◌, cond, Option, None, Some, IsSome, IsOk, OnOk, OnErr, IfOk, IfErr, ◌⊎◌};
 ghost use Rattle.std.specs.Option.{option_map};
@@ -13,6 +16,9 @@ use std::alloc::{AllocError, Global};
 use std::mem;
 
 /// The views of one monoid, by the reducer instance that each belongs to.
+///
+/// Contracts see a finite map from instances to the values of their views (`view_at`), and beside it how much each view has
+/// reserved (`room_at`). A look-up costs one hash. What is refused for want of memory leaves all views as they were.
 #[derive(Drop)]
 pub struct Views<M: Monoid> {
     views: IndexMap<Instance, M::View>,
@@ -89,7 +95,7 @@ impl<M: Monoid> Views<M> {
         self.update(alloc, Instance::OUTPUT, x)
     }
 
-    /// Takes the instance's view out.
+    /// Takes the instance's view out, if there is one.
     pub fn retire(&mut self, instance: Instance) -> Option<M::View>
         ensures view { option_map M.value result ≡ view_at M.value self.old instance }
         ensures views { ChangesAt M.value self.old self.new instance None }
@@ -197,7 +203,8 @@ impl<M: Monoid> Views<M> {
         left.fit(alloc, middle, right)
     }
 
-    /// Multiplies the views of each instance, the left one first. It costs its right side: no view is cloned.
+    /// Multiplies the views of each instance, the left one first, where an absent view counts as the unit. It costs its right
+    /// side: no view is cloned. A refused merge gives both back with the same values.
     pub fn merge(alloc: Global, mut left: Self, mut right: Self) -> Result<Self, (Self, Self)>
         ensures views { IfOk result (λ m. (j : Instance) → view_at M.value m j ≡ merged M.structure (view_at M.value left j) (view_at M.value right j)) }
         ensures values { IfOk result (λ m. (j : Instance) → value_at M.structure M.value m j ≡ M.structure.combine (value_at M.structure M.value left j) (value_at M.structure M.value right j)) }
@@ -213,7 +220,8 @@ impl<M: Monoid> Views<M> {
         }
     }
 
-    /// Multiplies the views of each instance, from left to right. After [`Views::room`] it takes no memory.
+    /// Multiplies the views of each instance, from left to right, where an absent view counts as the unit. After
+    /// [`Views::room`] it takes no memory and succeeds. A refused merge gives all back with the same values.
     pub fn merge3(
         alloc: Global,
         mut left: Self,
@@ -235,3 +243,6 @@ impl<M: Monoid> Views<M> {
         }
     }
 }
+
+#[cfg(test)]
+mod tests;

@@ -28,6 +28,7 @@ returns-clause-err c =
     let left = values_kept c.args.left c.room.new.left in
     let right = values_kept c.args.right c.room.new.middle in
     let l = c.room.ensures.left in
-    let r = c.room.ensures.middle in
-    ((left Add _ l.0, left Least _ l.1, left Greatest _ l.2, left Append _ l.3, left Affine _ l.4),
-     (right Add _ r.0, right Least _ r.1, right Greatest _ r.2, right Append _ r.3, right Affine _ r.4))
+    let r = c.room.ensures.middle in (
+      (left Add _ l.0, left Least _ l.1, left Greatest _ l.2, left Append _ l.3, left Affine _ l.4),
+      (right Add _ r.0, right Least _ r.1, right Greatest _ r.2, right Append _ r.3, right Affine _ r.4),
+    )

@@ -27,6 +27,7 @@ returns-in-Ok-clause-values g c j =
 pub returns-clause-err : goal.returns-clause-err
 returns-clause-err g c =
     let m = g.M.Monoid in
-    let laws = g.met.M.Monoid in
-    (λ j. keeps_value m.structure m.IsMember laws.lawful (view_at m.value c.args.left j) (view_at m.value c.room.new.left j) (c.room.ensures.left j),
-     λ j. keeps_value m.structure m.IsMember laws.lawful (view_at m.value c.args.right j) (view_at m.value c.room.new.middle j) (c.room.ensures.middle j))
+    let laws = g.met.M.Monoid in (
+      λ j. keeps_value m.structure m.IsMember laws.lawful (view_at m.value c.args.left j) (view_at m.value c.room.new.left j) (c.room.ensures.left j),
+      λ j. keeps_value m.structure m.IsMember laws.lawful (view_at m.value c.args.right j) (view_at m.value c.room.new.middle j) (c.room.ensures.middle j),
+    )

@@ -36,7 +36,8 @@ returns-in-Ok-clause-values g c j =
 pub returns-in-Err-clause-err : goal.returns-in-Err-clause-err
 returns-in-Err-clause-err g c =
     let m = g.M.Monoid in
-    let laws = g.met.M.Monoid in
-    (λ j. keeps_value m.structure m.IsMember laws.lawful (view_at m.value c.args.left j) (view_at m.value c.room.new.left j) (c.room.ensures.left j),
-     λ j. keeps_value m.structure m.IsMember laws.lawful (view_at m.value c.args.middle j) (view_at m.value c.room.new.middle j) (c.room.ensures.middle j),
-     λ j. refl)
+    let laws = g.met.M.Monoid in (
+      λ j. keeps_value m.structure m.IsMember laws.lawful (view_at m.value c.args.left j) (view_at m.value c.room.new.left j) (c.room.ensures.left j),
+      λ j. keeps_value m.structure m.IsMember laws.lawful (view_at m.value c.args.middle j) (view_at m.value c.room.new.middle j) (c.room.ensures.middle j),
+      λ j. refl,
+    )
