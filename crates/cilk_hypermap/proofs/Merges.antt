@@ -12,7 +12,9 @@ use Rattle.cilk_monoid.specs.Values.{ViewValue}
 use Rattle.cilk_monoid.specs.Views.{number_value, list_value, affine_value}
 use Rattle.cilk_hypermap.specs.declared.hypermap.Hypermap.{Hypermap}
 use Rattle.cilk_hypermap.specs.Hypermap.{EachKind, view_in, value_in}
+use Rattle.cilk_hypermap.specs.Ranges.{JoinsRanges}
 use Rattle.cilk_hypermap.specs.Views.{merged, or_unit}
+use Rattle.cilk_monoid.proofs.RangeLaws.{view_of-adjoining}
 use Rattle.cilk_hypermap.proofs.Fills.{FillsOne, IsMemberIfAny, keeps_value, merged_two, merged_room, merged_some, merged_member, or_unit-merged, members_by_type}
 
 -- a fact of each kind, at one of them
@@ -71,3 +73,12 @@ pub present_in_product : (l m r one : Hypermap) (k : MonoidKind) → ((j : Insta
     → (j : Instance) → IsSome (view_in r k j) → IsSome (view_in one k j)
 present_in_product l m r one k first there j h =
     subst IsSome (sym (first j)) (merged_some (structure_of k) (IsMember k) (lawful k) (view_in l k j) (view_in m k j) (there j h))
+
+-- the product of the views of adjoining ranges is the view of the joined range
+pub joins_ranges : (l r h : Hypermap) → EachKind (λ k. (j : Instance) → value_in h k j ≡ (structure_of k).combine (value_in l k j) (value_in r k j)) → JoinsRanges l r h
+joins_ranges l r h values kinds left right wl wr apart shows_left shows_right i =
+    let k = kinds i in
+    let S = structure_of k in
+    each_kind (λ n. (j : Instance) → value_in h n j ≡ (structure_of n).combine (value_in l n j) (value_in r n j)) values k i
+    ∙ (λ t. S.combine (shows_left i t) (shows_right i t))
+    ∙ sym (view_of-adjoining S i (IsMember k) (lawful k) left right wl wr (apart i))

@@ -5,6 +5,7 @@ ghost use Rattle.std.specs.Option.{option_map};
 ghost use Rattle.cilk_types.specs.declared.event.Instance.{Instance};
 ghost use Rattle.cilk_monoid.specs.Kinds.{structure_of};
 ghost use Rattle.cilk_hypermap.specs.Hypermap.{EachKind, view_in, value_in, final_of, ChangesIn, KeepsAll, KeepsAllValues, Retires, FillsAll, FitsAll, LosesAtMost, HasRoomForAll};
+ghost use Rattle.cilk_hypermap.specs.Ranges.{JoinsRanges};
 ghost use Rattle.cilk_hypermap.specs.Views.{merged, output};
 ghost use Rattle.cilk_monoid.specs.Views.{number_value};
 
@@ -218,6 +219,9 @@ impl Hypermap {
         ensures views { IfOk result (λ h. EachKind (λ k. (j : Instance) → view_in h k j ≡ merged (structure_of k) (view_in left k j) (view_in right k j))) }
         ensures values { IfOk result (λ h. EachKind (λ k. (j : Instance) → value_in h k j ≡ (structure_of k).combine (value_in left k j) (value_in right k j))) }
         ensures err { IfErr result (λ p. KeepsAllValues left p.0 × KeepsAllValues right p.1) }
+
+        // Pieces of a run may be merged wherever it was cut.
+        ensures ranges { IfOk result (JoinsRanges left right) }
     {
         let none = Hypermap::new(alloc);
         match Hypermap::room(alloc, &mut left, &mut right, &none) {

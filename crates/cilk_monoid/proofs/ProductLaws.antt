@@ -1,5 +1,5 @@
 -- What the laws of a monoid give of products.
-use Rattle.std.proofs.Common.{◌≡◌, ℤ, List, [], ◌∷◌, ◌++◌, map, sym, ap, ◌∙◌, refl, subst}
+use Rattle.std.proofs.Common.{◌≡◌, List, [], ◌∷◌, ◌++◌, map, sym, ap, ◌∙◌, refl, subst}
 use Rattle.std.specs.List.{AllByRecursion}
 use Rattle.cilk_monoid.specs.Laws.{MonoidStructure, IsLawful}
 use Rattle.cilk_monoid.specs.Products.{Grouping, Empty, One, Both, values_in, product, product_by}

@@ -1,5 +1,5 @@
 -- What the laws of a monoid give of the views of ranges.
-use Rattle.std.proofs.Common.{◌≡◌, ℤ, Bool, true, false, cond, eqb, List, [], ◌∷◌, ◌++◌, ◌⊎◌, inl, inr, sym, ap, ◌∙◌, refl, subst, true≢false}
+use Rattle.std.proofs.Common.{◌≡◌, Bool, true, false, cond, eqb, List, [], ◌∷◌, ◌++◌, ◌⊎◌, inl, inr, sym, ap, ◌∙◌, refl, subst, true≢false}
 use Rattle.std.proofs.lemmas.Bool.{and_parts, and_from, eqb-true, eq-eqb, cond-true, cond-false, false_from_ne_true}
 use Rattle.cilk_types.specs.declared.event.Instance.{Instance}
 use Rattle.cilk_monoid.specs.Laws.{MonoidStructure, IsLawful}
@@ -53,6 +53,10 @@ module _ {V : Type 0} (M : MonoidStructure V) (i : Instance) where
   pub view_after-append : (es fs : List ReducerEvent) (v : V) → view_after M i (es ++ fs) v ≡ view_after M i fs (view_after M i es v)
   view_after-append [] fs v = refl
   view_after-append (e ∷ es) fs v = view_after-append es fs (after_event M i e v)
+
+  -- one more event
+  pub view_of-push : (es : List ReducerEvent) (e : ReducerEvent) → view_of M i (es ++ e ∷ []) ≡ after_event M i e (view_of M i es)
+  view_of-push es e = view_after-append es (e ∷ []) M.unit
 
   -- ---- what an event that resets i leaves
   reset_event : (e : ReducerEvent) (v : V) → same_instance (instance_of e) i ≡ true → IsReset e → after_event M i e v ≡ reset_view M e

@@ -1,5 +1,5 @@
 -- The five monoids that programs name.
-use Rattle.std.specs.Prelude.{ℕ, ◌+◌, ℤ, pos, negsuc, ◌+ℤ◌, ◌*ℤ◌, List, [], ◌∷◌, ◌++◌, length, All}
+use Rattle.std.specs.Prelude.{ℕ, ℤ, pos, negsuc, ◌+ℤ◌, ◌*ℤ◌, [], ◌∷◌, ◌++◌, length, All}
 use Rattle.std.specs.Int.{int_max, int_min}
 use Rattle.cilk_types.specs.Word.{word_of}
 use Rattle.cilk_monoid.specs.declared.kind.MonoidKind.{MonoidKind}

@@ -1,5 +1,5 @@
 -- The five monoids are lawful.
-use Rattle.std.specs.Prelude.{◌≡◌, Bool, true, false, cond, int_lt, ℕ, ◌+◌, ◌<◌, ◌^◌, ℤ, pos, negsuc, ◌+ℤ◌, ◌*ℤ◌, List, [], ◌++◌, All, refl}
+use Rattle.std.specs.Prelude.{◌≡◌, Bool, true, false, cond, int_lt, ◌<◌, ◌^◌, ℤ, pos, negsuc, ◌+ℤ◌, ◌*ℤ◌, [], refl}
 use Rattle.std.specs.Int.{int_max, int_min, int_wrap, w64}
 use Rattle.std.proofs.Common.{ap, sym, ◌∙◌, arith, append_assoc, lit<}
 use Rattle.std.proofs.lemmas.Int.{ints, clamps, int_wrap_fits, int_wrap-add_left, int_wrap-add_right, int_wrap-add_same, int_wrap-mul_left, int_wrap-mul_right, SFits-int_wrap}
@@ -11,7 +11,7 @@ use Rattle.cilk_types.specs.Word.{word_of}
 use Rattle.cilk_monoid.specs.declared.kind.MonoidKind.{MonoidKind}
 use Rattle.cilk_monoid.specs.declared.kind.MonoidKind.TheVariants.{Add, Least, Greatest, Append, Affine}
 use Rattle.cilk_monoid.specs.Kinds.{structure_of, on_numbers, appended, composed, number_of, size_of, IsNumber, IsList, IsMap, IsMember}
-use Rattle.cilk_monoid.specs.Laws.{MonoidStructure, IsLawful}
+use Rattle.cilk_monoid.specs.Laws.{IsLawful}
 use Rattle.cilk_monoid.specs.Rings.{times_assoc, times-sum}
 use Rattle.cilk_monoid.specs.Values.{ViewValue, Number, Elements, Map, IsWord}
 

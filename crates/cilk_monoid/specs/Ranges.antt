@@ -1,5 +1,5 @@
 -- The view that a range of a run's events gives to a reducer.
-use Rattle.std.specs.Prelude.{◌≡◌, ℤ, Bool, true, false, cond, ◌&&◌, eqb, List, [], ◌∷◌, ◌++◌, ◌⊎◌}
+use Rattle.std.specs.Prelude.{◌≡◌, ℤ, Bool, cond, ◌&&◌, eqb, List, [], ◌∷◌, ◌++◌, ◌⊎◌}
 use Rattle.cilk_types.specs.declared.event.Instance.{Instance}
 use Rattle.cilk_monoid.specs.Laws.{MonoidStructure}
 use Rattle.cilk_monoid.specs.Products.{product_of_updates}

@@ -11,7 +11,6 @@ use crate::view::NumberView;
 use cilk_types::word;
 use std::alloc::{AllocError, Global};
 
-
 /// `add`: the sum of words, which wraps. Its unit is 0.
 #[derive(Clone, Copy, PartialEq, Eq, Debug)]
 pub struct Add;

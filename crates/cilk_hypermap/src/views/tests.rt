@@ -167,6 +167,34 @@ fn a_refused_merge_gives_both_sides_back(rt: HostRuntime) -> Result<(), AllocErr
     Ok(())
 }
 
+// Makes room, and lets no view of the left side grow any more.
+fn with_room(
+    alloc: Global,
+    left: &mut Views<Refusing>,
+    middle: &mut Views<Refusing>,
+    right: &Views<Refusing>,
+) -> Result<(), AllocError> {
+    Views::room(alloc, left, middle, right)?;
+    for place in 1..4 {
+        if let Some(view) = left.views.get_mut(&instance(place)) {
+            view.growths = 0;
+        }
+    }
+    Ok(())
+}
+
+fn merge3(
+    alloc: Global,
+    left: Views<Refusing>,
+    middle: Views<Refusing>,
+    right: Views<Refusing>,
+) -> Result<Views<Refusing>, AllocError> {
+    match Views::merge3(alloc, left, middle, right) {
+        Ok(all) => Ok(all),
+        Err(_) => Err(AllocError),
+    }
+}
+
 #[test]
 fn after_room_three_merge_though_no_view_may_grow(rt: HostRuntime) -> Result<(), AllocError> {
     let alloc = rt.alloc();
@@ -174,15 +202,8 @@ fn after_room_three_merge_though_no_view_may_grow(rt: HostRuntime) -> Result<(),
     let mut middle = Views::new(alloc);
     middle.update(alloc, instance(2), 7)?;
     let right = three(alloc, 10, 8, 0)?;
-    Views::room(alloc, &mut left, &mut middle, &right)?;
-    for place in 1..4 {
-        if let Some(view) = left.views.get_mut(&instance(place)) {
-            view.growths = 0;
-        }
-    }
-    let Ok(all) = Views::merge3(alloc, left, middle, right) else {
-        return Err(AllocError);
-    };
+    with_room(alloc, &mut left, &mut middle, &right)?;
+    let all = merge3(alloc, left, middle, right)?;
     let want = repeated(
         alloc,
         &[(1, 1), (11, 8), (2, 1), (7, 1), (12, 8), (3, 1), (13, 8)],

@@ -1,8 +1,8 @@
 -- Each iteration multiplies the first two of the values that are left.
-use Rattle.std.proofs.Common.{rules, ◌≡◌, map, List, [], ◌∷◌, ◌++◌, reverse, sym, ap, ◌∙◌, arith}
+use Rattle.std.proofs.Common.{◌≡◌, map, List, [], ◌∷◌, ◌++◌, reverse, sym, ap, ◌∙◌, arith}
 use Rattle.std.proofs.lemmas.List.{reverse-append, reverse-reverse}
 use Rattle.std.proofs.lemmas.Grind.{common_steps}
-use Rattle.cilk_monoid.specs.Products.{Grouping, values_in, product, product_by}
+use Rattle.cilk_monoid.specs.Products.{product}
 use Rattle.cilk_monoid.proofs.ProductLaws.{product-combine, product-grouped, members_of}
 use Rattle.cilk_monoid.proofs.fold.fold_pieces.Goals as goal
 

@@ -2,7 +2,7 @@ use Rattle.std.proofs.Common.{◌≡◌, IsSome, ◌⊎◌}
 use Rattle.cilk_types.specs.declared.event.Instance.{Instance}
 use Rattle.cilk_monoid.specs.declared.kind.MonoidKind.TheVariants.{Add, Least, Greatest, Append, Affine}
 use Rattle.cilk_hypermap.specs.Hypermap.{view_in}
-use Rattle.cilk_hypermap.proofs.Merges.{two_views, two_values, values_kept}
+use Rattle.cilk_hypermap.proofs.Merges.{two_views, two_values, values_kept, joins_ranges}
 use Rattle.cilk_hypermap.proofs.hypermap.Hypermap.merge.Goals as goal
 
 pub returns-in-Ok-clause-views : goal.returns-in-Ok-clause-views
@@ -32,3 +32,6 @@ returns-clause-err c =
       (left Add _ l.0, left Least _ l.1, left Greatest _ l.2, left Append _ l.3, left Affine _ l.4),
       (right Add _ r.0, right Least _ r.1, right Greatest _ r.2, right Append _ r.3, right Affine _ r.4),
     )
+
+pub returns-in-Ok-clause-ranges : goal.returns-in-Ok-clause-ranges
+returns-in-Ok-clause-ranges c = joins_ranges c.args.left c.args.right c.absorb.new.self (returns-in-Ok-clause-values c)
