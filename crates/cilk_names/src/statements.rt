@@ -60,7 +60,7 @@ fn returned(
 
 /// A statement with its names resolved. What is wrong is noted.
 #[cycle(statements)]
-#[tactic(auto, using(crate::proofs::Earliest::earliest_append, crate::proofs::Rows::tree_block, crate::proofs::Rows::block))]
+#[tactic(auto, using(crate::proofs::Earliest::earliest_append, crate::proofs::Blocks::tree_block, crate::proofs::Blocks::block))]
 pub(crate) fn statement(
     alloc: Global,
     table: &Table,
