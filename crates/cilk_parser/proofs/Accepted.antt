@@ -1,6 +1,5 @@
 -- Tokens that spell a tree are read to their end, and the trace tells what the tree's tokens are to the limits.
-use Rattle.std.proofs.Common.{◌≡◌, ◌≢◌, ℕ, ◌+◌, ◌≤◌, Bool, true, false, List, [], ◌∷◌, Option, Some, None, refl, sym, ap, ◌∙◌, subst, arith}
-use Rattle.cilk_token.specs.declared.token.Kind.{Kind}
+use Rattle.std.proofs.Common.{◌≡◌, ℕ, ◌+◌, ◌≤◌, Bool, false, List, [], ◌∷◌, Option, Some, None, refl, ap, ◌∙◌, arith}
 use Rattle.cilk_token.specs.declared.token.Kind.TheVariants as kinds
 use Rattle.cilk_token.specs.declared.token.Token.{Token}
 use Rattle.cilk_parser.specs.declared.marks.Mark.TheVariants as marks
@@ -18,7 +17,7 @@ use Rattle.cilk_parser.specs.Limits as limits
 use Rattle.cilk_parser.specs.Limits.{is_deep, is_many, excess, excess_inside, excess_returned, excess_stmt, excess_all, excess_initializer, excess_more, excess_variables, excess_parameters, excess_item, excess_items}
 use Rattle.cilk_parser.specs.Expected as expected
 use Rattle.cilk_parser.specs.Expected.{Symbol, One, Named, Numeral, Operand, Tail, Anew, Returned, ElsePart, Declared, Literal, Initial, Variables, ParameterPart, Items, Goes, after}
-use Rattle.cilk_parser.specs.Grammar.{Is, IsName, sign_of, mark_of, level, level_in, SpellsExpr, SpellsInside, SpellsEnded, SpellsAssigned, SpellsReturned, SpellsStmt, SpellsAll, SpellsLiteral, SpellsInitializer, SpellsMore, SpellsVariables, SpellsLine, SpellsParameters, SpellsBody, SpellsFunction, SpellsDeclared, SpellsItems}
+use Rattle.cilk_parser.specs.Grammar.{Is, IsName, mark_of, level, level_in, SpellsExpr, SpellsInside, SpellsEnded, SpellsAssigned, SpellsReturned, SpellsStmt, SpellsAll, SpellsLiteral, SpellsInitializer, SpellsMore, SpellsVariables, SpellsLine, SpellsParameters, SpellsBody, SpellsFunction, SpellsDeclared, SpellsItems}
 use Rattle.cilk_parser.proofs.Traces.{trace, goes, absent, no_parameters, declares, returns, repeats, no_else}
 
 named : (name : Name) (ts rest : List Token) → IsName name ts rest → Is kinds.Name ts rest

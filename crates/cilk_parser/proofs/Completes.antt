@@ -1,16 +1,16 @@
 -- What is expected can always be finished. The shortest tokens for each expected symbol do, where the list of symbols is
 -- sound: behind a symbol that may stand for nothing no token comes that it would take.
-use Rattle.std.proofs.Common.{◌≡◌, ◌≢◌, ℕ, ◌+◌, Bool, true, false, cond, List, [], ◌∷◌, ◌++◌, Option, Some, None, refl, sym, ap, ◌∙◌, subst, pos}
+use Rattle.std.proofs.Common.{◌≡◌, ℕ, ◌+◌, Bool, true, false, cond, List, [], ◌∷◌, Option, Some, None, refl, sym, ap, ◌∙◌, subst, pos}
 use Rattle.cilk_token.specs.declared.token.Kind.{Kind}
 use Rattle.cilk_token.specs.declared.token.Kind.TheVariants as kinds
 use Rattle.cilk_token.specs.declared.token.Token.{Token}
 use Rattle.cilk_parser.specs.declared.marks.Mark.{Mark}
 use Rattle.cilk_parser.specs.declared.marks.Mark.TheVariants as marks
-use Rattle.cilk_parser.specs.Expected.{Symbol, One, Named, Numeral, Operand, Tail, Anew, Returned, Statement, Statements, ElsePart, Declared, Literal, Initial, Variables, ParameterPart, Items, Takes, Counts, Passes, Refuses, After, Goes, Fails, move_one, move_named, move_numeral, move_operand, move_tail, move_returned, move_statement, move_statements, move_else, move_declared, move_literal, move_initial, move_variables, move_parameters, move_items, kind_of, fits, level_of, begins_statement, followed, chosen, after, at_end}
-use Rattle.cilk_parser.specs.Limits.{is_deep, is_many}
+use Rattle.cilk_parser.specs.Expected.{Symbol, One, Named, Numeral, Operand, Tail, Anew, Returned, Statement, Statements, ElsePart, Declared, Literal, Initial, Variables, ParameterPart, Items, Passes, After, Goes, Fails, move_one, move_named, move_numeral, move_operand, move_tail, move_returned, move_statement, move_else, move_declared, move_literal, move_initial, move_variables, move_parameters, move_items, kind_of, fits, level_of, begins_statement, followed, chosen, after}
+use Rattle.cilk_parser.specs.Limits.{is_deep}
 use Rattle.cilk_parser.proofs.Lists.{form_repeats}
 use Rattle.cilk_parser.proofs.MarkLaws.{fits_own}
-use Rattle.cilk_parser.proofs.Traces.{trace, noted, ended, ahead}
+use Rattle.cilk_parser.proofs.Traces.{trace, noted, ahead}
 
 token : Kind → Token
 token kind = record { kind = kind; at = 0; end = 0 }

@@ -1,6 +1,5 @@
 -- Words of an input text.
 use Rattle.std.proofs.Common.{◌≡◌, ℕ, ◌<◌, Bool, true, false, cond, List, [], ◌∷◌, length, arith}
-use Rattle.cilk_lexer.specs.declared.lexer.Class.{Class}
 use Rattle.cilk_lexer.specs.declared.lexer.Class.TheVariants.{Solid}
 use Rattle.cilk_lexer.specs.Lexing.{belongs, behind}
 use Rattle.cilk_lexer.proofs.Words.{behind_shorter}

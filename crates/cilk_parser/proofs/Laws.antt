@@ -6,7 +6,7 @@ use Rattle.cilk_parser.specs.Trees.{Item}
 use Rattle.cilk_parser.specs.Expected.{Symbol, Items, After, Goes, Fails, Verdict, Whole, Unexpected, PastLimit, after, at_end, may_end, settled, run}
 use Rattle.cilk_parser.specs.Grammar.{SpellsItems}
 use Rattle.cilk_parser.specs.Limits.{Within, IsFirstPast, excess_items}
-use Rattle.cilk_parser.specs.Refused.{Begins, Refused, KeepsLimits, GoesPast, IsRefusal, IsPastLimit}
+use Rattle.cilk_parser.specs.Refused.{Begins, Refused, GoesPast, IsRefusal, IsPastLimit}
 use Rattle.cilk_parser.proofs.Accepted.{accepted}
 use Rattle.cilk_parser.proofs.Completes.{finish, Sound, SoundAfter, kept, Reads, completes}
 use Rattle.cilk_parser.proofs.Spelled.{spelled}

@@ -1,10 +1,10 @@
 -- How the reading of tokens goes on behind an expression.
-use Rattle.std.proofs.Common.{◌≡◌, ◌≢◌, ℕ, ◌+◌, ◌≤◌, false, List, [], ◌∷◌, Option, Some, None, refl, sym, ap, ◌∙◌, subst, arith}
+use Rattle.std.proofs.Common.{◌≡◌, ◌≢◌, ℕ, false, List, [], ◌∷◌, Option, Some, None, refl, ap, ◌∙◌, arith}
 use Rattle.cilk_token.specs.declared.token.Token.{Token}
 use Rattle.cilk_token.specs.declared.token.Kind.{Kind}
 use Rattle.cilk_token.specs.declared.token.Kind.TheVariants as kinds
 use Rattle.cilk_parser.specs.declared.marks.Mark.TheVariants.{Semicolon}
-use Rattle.cilk_parser.specs.Expected.{Symbol, One, Operand, Tail, Anew, Returned, Declared, Initial, Variables, Items, Named, After, Goes, chosen, after, move_tail, move_returned, move_operand, move_declared, move_initial, move_variables, move_items, level_of, settled, run}
+use Rattle.cilk_parser.specs.Expected.{Symbol, One, Operand, Tail, Anew, Returned, Declared, Initial, Variables, Items, After, Goes, chosen, after, move_tail, move_returned, move_operand, move_declared, move_initial, move_variables, move_items, level_of, settled, run}
 use Rattle.cilk_parser.specs.Grammar.{Is}
 use Rattle.cilk_parser.specs.Stops.{NoOperator, Loose, NotFirst}
 

@@ -1,6 +1,6 @@
 -- Tokens that are read to their end have a tree. Each expected symbol stands for a run of tokens, and a list of them for
 -- one run after the other; a token's move is read back, from what is expected behind it to what was expected before.
-use Rattle.std.proofs.Common.{◌≡◌, ◌≢◌, ℕ, ◌+◌, ◌<◌, ◌≤◌, Bool, true, false, cond, List, [], ◌∷◌, ◌⊎◌, inl, inr, Option, Some, None, refl, sym, ap, ◌∙◌, subst, arith}
+use Rattle.std.proofs.Common.{◌≡◌, ℕ, ◌+◌, ◌<◌, ◌≤◌, Bool, true, false, cond, List, [], ◌∷◌, ◌⊎◌, inl, inr, Option, Some, None, refl, sym, subst, arith}
 use Rattle.std.proofs.lemmas.Bool.{cases_lt}
 use Rattle.cilk_token.specs.declared.token.Kind.{Kind}
 use Rattle.cilk_token.specs.declared.token.Kind.TheVariants as kinds
@@ -19,7 +19,7 @@ use Rattle.cilk_parser.specs.declared.tree.Parameters.TheVariants as parameters
 use Rattle.cilk_parser.specs.Trees.{Expression, Number, Variable, Group, Unary, Binary, Input, InputCount, Statement, Empty, Block, Assign, If, IfElse, While, Print, Return, Statements, End, Then, Item, Globals, Function}
 use Rattle.cilk_parser.specs.Expected as expected
 use Rattle.cilk_parser.specs.Expected.{Symbol, One, Named, Numeral, Operand, Tail, Anew, Returned, ElsePart, Declared, Literal, Initial, Variables, ParameterPart, Items, After, Goes, Fails, Whole, move_one, move_named, move_numeral, move_operand, move_tail, move_returned, move_statement, move_else, move_declared, move_literal, move_initial, move_variables, move_parameters, move_items, kind_of, fits, level_of, begins_statement, followed, passed, chosen, after, at_end}
-use Rattle.cilk_parser.specs.Grammar.{Is, IsName, mark_of, level, level_in, SpellsExpr, SpellsInside, SpellsEnded, SpellsAssigned, SpellsReturned, SpellsStmt, SpellsAll, SpellsLiteral, SpellsInitializer, SpellsMore, SpellsVariables, SpellsLine, SpellsParameters, SpellsBody, SpellsFunction, SpellsDeclared, SpellsItems, NoElse}
+use Rattle.cilk_parser.specs.Grammar.{Is, IsName, mark_of, level, level_in, SpellsExpr, SpellsInside, SpellsEnded, SpellsAssigned, SpellsReturned, SpellsStmt, SpellsAll, SpellsLiteral, SpellsInitializer, SpellsMore, SpellsLine, SpellsParameters, SpellsBody, SpellsFunction, SpellsDeclared, SpellsItems, NoElse}
 use Rattle.cilk_parser.proofs.Lists.{form_repeats, spells_initial}
 use Rattle.cilk_parser.proofs.MarkLaws.{is_mark}
 use Rattle.cilk_parser.proofs.Accepted.{low}

@@ -155,70 +155,78 @@ mod tests {
         }
     }
 
-    #[test]
-    fn limits_stand_where_they_are_passed(rt: HostRuntime) -> Result<(), AllocError> {
-        let head: (&[u8], usize) = (b"int main(){return ", 1);
-        let cases: [(&[(&[u8], usize)], u16, usize); 14] = [
-            (&[head, (b"(", 64), (b"1", 1), (b")", 64), (b";}", 1)], 0, 1),
-            (
-                &[head, (b"(", 65), (b"1", 1), (b")", 65), (b";}", 1)],
-                104,
-                83,
-            ),
-            (&[head, (b"(", 65), (b";", 1)], 103, 83),
-            (&[head, (b"-", 1), (b" -", 63), (b"1;}", 1)], 0, 1),
-            (&[head, (b"- ", 65), (b"1;}", 1)], 104, 148),
-            (
-                &[head, (b"input(", 65), (b"1", 1), (b")", 65), (b";}", 1)],
-                104,
-                408,
-            ),
-            (&[head, (b"1+", 256), (b"1;}", 1)], 0, 1),
-            (&[head, (b"1+", 257), (b"1;}", 1)], 104, 531),
-            (
-                &[
-                    head,
-                    (b"1+", 200),
-                    (b"(!1)+", 28),
-                    (b"input(-1)", 1),
-                    (b";}", 1),
-                ],
-                104,
-                564,
-            ),
-            (
-                &[
-                    head,
-                    (b"1+", 256),
-                    (b"1; return ", 1),
-                    (b"1+", 256),
-                    (b"1;}", 1),
-                ],
-                0,
-                1,
-            ),
-            (
-                &[(b"int main()", 1), (b"{", 65), (b";", 1), (b"}", 65)],
-                0,
-                1,
-            ),
-            (
-                &[(b"int main()", 1), (b"{", 66), (b";", 1), (b"}", 66)],
-                104,
-                76,
-            ),
-            (&[(b"int main(){", 1), (b";", 262_132), (b"}", 1)], 0, 1),
-            (
-                &[(b"int main(){", 1), (b";", 262_133), (b"}", 1)],
-                106,
-                262_144,
-            ),
-        ];
-        for (parts, number, place) in cases {
-            let text = repeated(rt.alloc(), parts)?;
-            assert_eq!(rt; told(rt.alloc(), &text), (number, place));
+    /// The number and the place of the fault of such a text.
+    fn repeated_told(alloc: Global, parts: &[(&[u8], usize)]) -> (u16, usize) {
+        match repeated(alloc, parts) {
+            Ok(text) => told(alloc, &text),
+            Err(_) => (1, 0),
         }
-        Ok(())
+    }
+
+    const HEAD: &[u8] = b"int main(){return ";
+
+    #[test]
+    fn depth_is_limited(rt: HostRuntime) {
+        let parts = [
+            (HEAD, 1),
+            (b"(".as_slice(), 64),
+            (b"1", 1),
+            (b")", 64),
+            (b";}", 1),
+        ];
+        assert_eq!(rt; repeated_told(rt.alloc(), &parts), (0, 1));
+        let parts = [
+            (HEAD, 1),
+            (b"(".as_slice(), 65),
+            (b"1", 1),
+            (b")", 65),
+            (b";}", 1),
+        ];
+        assert_eq!(rt; repeated_told(rt.alloc(), &parts), (104, 83));
+        let parts = [(HEAD, 1), (b"(".as_slice(), 65), (b";", 1)];
+        assert_eq!(rt; repeated_told(rt.alloc(), &parts), (103, 83));
+        let parts = [(HEAD, 1), (b"- ".as_slice(), 64), (b"1;}", 1)];
+        assert_eq!(rt; repeated_told(rt.alloc(), &parts), (0, 1));
+        let parts = [(HEAD, 1), (b"- ".as_slice(), 65), (b"1;}", 1)];
+        assert_eq!(rt; repeated_told(rt.alloc(), &parts), (104, 148));
+        let parts = [
+            (HEAD, 1),
+            (b"input(".as_slice(), 65),
+            (b"1", 1),
+            (b")", 65),
+            (b";}", 1),
+        ];
+        assert_eq!(rt; repeated_told(rt.alloc(), &parts), (104, 408));
+        let parts = [
+            (b"int main()".as_slice(), 1),
+            (b"{", 65),
+            (b";", 1),
+            (b"}", 65),
+        ];
+        assert_eq!(rt; repeated_told(rt.alloc(), &parts), (0, 1));
+        let parts = [
+            (b"int main()".as_slice(), 1),
+            (b"{", 66),
+            (b";", 1),
+            (b"}", 66),
+        ];
+        assert_eq!(rt; repeated_told(rt.alloc(), &parts), (104, 76));
+    }
+
+    #[test]
+    fn operators_and_length_are_limited(rt: HostRuntime) {
+        let parts = [(HEAD, 1), (b"1+".as_slice(), 256), (b"1;}", 1)];
+        assert_eq!(rt; repeated_told(rt.alloc(), &parts), (0, 1));
+        let parts = [(HEAD, 1), (b"1+".as_slice(), 257), (b"1;}", 1)];
+        assert_eq!(rt; repeated_told(rt.alloc(), &parts), (104, 531));
+        let parts = [(HEAD, 1), (b"(!1)+".as_slice(), 128), (b"input(-1);}", 1)];
+        assert_eq!(rt; repeated_told(rt.alloc(), &parts), (104, 664));
+        let parts = [(HEAD, 1), (b"1+".as_slice(), 256), (b"1; return 1+1;}", 1)];
+        assert_eq!(rt; repeated_told(rt.alloc(), &parts), (0, 1));
+        let parts = [(b"int main(){".as_slice(), 1), (b";", 262_132), (b"}", 1)];
+        assert_eq!(rt; repeated_told(rt.alloc(), &parts), (0, 1));
+        let parts = [(b"int main(){".as_slice(), 1), (b";", 262_133), (b"}", 1)];
+        assert_eq!(rt; repeated_told(rt.alloc(), &parts), (106, 262_144));
     }
 
     #[test]

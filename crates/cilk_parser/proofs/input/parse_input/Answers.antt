@@ -1,4 +1,4 @@
-use Rattle.std.proofs.Common.{◌≡◌, ℕ, ◌+◌, [], ◌∷◌, length, arith, rules, append_assoc, append-nil, length-append, subst, sym, w64, SFits}
+use Rattle.std.proofs.Common.{◌≡◌, ◌+◌, [], length, arith, rules, append_assoc, append-nil, subst, w64, SFits}
 use Rattle.std.proofs.lemmas.Grind.{common_steps}
 use Rattle.std.proofs.lemmas.Int.{to_z-of_z}
 use Rattle.cilk_parser.specs.Inputs.{Skipped, Found, NoNumber, OneTooMany, Behind, Beyond, Fails}
