@@ -24,13 +24,25 @@ use std::alloc::{AllocError, Global};
 ///
 /// Contracts see a finite map from kinds and instances to the values of their views (`view_in`). The ordered output is the
 /// view of [`Instance::OUTPUT`] among the lists. What is refused for want of memory leaves all views as they were.
-#[derive(Drop)]
 pub struct Hypermap {
     sums: Views<Add>,
     least: Views<Least>,
     greatest: Views<Greatest>,
     lists: Views<Append>,
     maps: Views<Affine>,
+}
+
+// A function of its own, so that a proof follows one call where a hypermap is dropped.
+impl Drop for Hypermap {
+    fn drop(self) {
+        let Hypermap {
+            sums: _sums,
+            least: _least,
+            greatest: _greatest,
+            lists: _lists,
+            maps: _maps,
+        } = self;
+    }
 }
 
 impl Hypermap {
