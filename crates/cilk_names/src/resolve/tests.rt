@@ -12,10 +12,15 @@ use std::alloc::{AllocError, Global};
 const TEXT: &[u8] = b"int a,b=-4;int main(){a=b;return c;}";
 
 const A: Name = Name { at: 4, end: 5 };
+
 const B: Name = Name { at: 6, end: 7 };
+
 const MAIN: Name = Name { at: 15, end: 19 };
+
 const A_ASSIGNED: Name = Name { at: 22, end: 23 };
+
 const B_READ: Name = Name { at: 24, end: 25 };
+
 const C_READ: Name = Name { at: 33, end: 34 };
 
 /// The two global variables.
@@ -74,8 +79,18 @@ fn names_are_replaced(rt: HostRuntime) -> Result<(), NameFault> {
     let main = function(alloc, MAIN, Some(tree::Expr::Variable(A_ASSIGNED)))?;
     let program = resolved(alloc, Some(globals(alloc)?), Some(main), None)?;
     assert!(rt; program.globals.as_slice() == [0, -4].as_slice());
-    assert!(rt; matches!(program.main.get(0), Some(Stmt::Assign(Place::Global(0), Expr::Variable(Place::Global(1))))));
-    assert!(rt; matches!(program.main.get(1), Some(Stmt::Return(Expr::Variable(Place::Global(0))))));
+    assert!(rt;
+        matches!(
+            program.main.get(0),
+            Some(Stmt::Assign(Place::Global(0), Expr::Variable(Place::Global(1))))
+        )
+    );
+    assert!(rt;
+        matches!(
+            program.main.get(1),
+            Some(Stmt::Return(Expr::Variable(Place::Global(0))))
+        )
+    );
     Ok(())
 }
 
@@ -86,21 +101,45 @@ fn faults_are_placed(rt: HostRuntime) -> Result<(), NameFault> {
 
     // 111 at a name that isn't declared, and at one that is declared only further on.
     let main = function(alloc, MAIN, Some(tree::Expr::Variable(C_READ)))?;
-    assert!(rt; is_at(&resolved(alloc, Some(globals(alloc)?), Some(main), None), 111, 33));
+    assert!(rt;
+        is_at(
+            &resolved(alloc, Some(globals(alloc)?), Some(main), None),
+            111,
+            33
+        )
+    );
     let main = function(alloc, MAIN, zero())?;
-    assert!(rt; is_at(&resolved(alloc, Some(main), Some(globals(alloc)?), None), 111, 22));
+    assert!(rt;
+        is_at(
+            &resolved(alloc, Some(main), Some(globals(alloc)?), None),
+            111,
+            22
+        )
+    );
 
     // 112 at a second declaration.
     let twice = function(alloc, A, zero())?;
     let main = function(alloc, MAIN, zero())?;
-    assert!(rt; is_at(&resolved(alloc, Some(globals(alloc)?), Some(twice), Some(main)), 112, 4));
+    assert!(rt;
+        is_at(
+            &resolved(alloc, Some(globals(alloc)?), Some(twice), Some(main)),
+            112,
+            4
+        )
+    );
 
     // 114 at a function that is assigned, and at `return;`.
     let main = function(alloc, MAIN, zero())?;
     let other = function(alloc, A, zero())?;
     assert!(rt; is_at(&resolved(alloc, Some(main), Some(other), None), 114, 22));
     let main = function(alloc, MAIN, None)?;
-    assert!(rt; is_at(&resolved(alloc, Some(globals(alloc)?), Some(main), None), 114, 26));
+    assert!(rt;
+        is_at(
+            &resolved(alloc, Some(globals(alloc)?), Some(main), None),
+            114,
+            26
+        )
+    );
 
     // 115 at the text's end, where nothing else is wrong.
     assert!(rt; is_at(&resolved(alloc, Some(globals(alloc)?), None, None), 115, 36));
