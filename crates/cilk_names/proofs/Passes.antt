@@ -52,7 +52,7 @@ pub stands_global : (p p' : Pass) (v : GlobalVariable) (n : ℕ) (o : ℤ) → n
     → (text : List ℕ) (ds : List Declaration) (items : List Item) → Stands p text ds items → Stands p' text (with_variable text ds v) items
 stands_global p p' v n o e t f text ds items h = record {
   tells = subst (λ (k : ℕ). Tells p'.table text (ds ++ record { name = bytes_of text v.name; meaning = meanings.Variable k } ∷ []) (functions_of text items)) (e ∙ h.count) (t text ds (functions_of text items) h.tells);
-  count = ap length f ∙ length-append p.openings.items (o ∷ []) ∙ ap (λ (k : ℕ). k + 1) h.count ∙ sym (variables_push ds (bytes_of text v.name) (variables_in ds))
+  count = ap length f ∙ length-append p.openings.items (o ∷ []) ∙ ap (λ (k : ℕ). k + 1) h.count ∙ sym (variables_push ds (bytes_of text v.name) (variables_in ds));
 }
 
 pub adds_global : (p p' : Pass) (v : GlobalVariable) (o : ℤ)
@@ -62,7 +62,7 @@ pub adds_global : (p p' : Pass) (v : GlobalVariable) (o : ℤ)
 adds_global p p' v o t f m e text ds items h = record {
   faults_are = t text ds (functions_of text items) h.tells;
   openings_are = f ∙ ap (λ (x : ℤ). p.openings.items ++ x ∷ []) e;
-  main_is = ap body_in m ∙ sym (or_none (body_in p.main))
+  main_is = ap body_in m ∙ sym (or_none (body_in p.main));
 }
 
 -- along a line of variables, from its start up to the rest of it
@@ -93,7 +93,7 @@ along_next start now next text ds items vs rest v h s a = record {
   openings_are =
       ap (λ (x : List ℤ). x ++ map (λ (v : GlobalVariable). opening_value v.initializer) rest) (a text h.ahead items h.stands).openings_are
       ∙ append_assoc now.openings.items (opening_value v.initializer ∷ []) (map (λ (v : GlobalVariable). opening_value v.initializer) rest) ∙ h.openings_are;
-  main_is = (a text h.ahead items h.stands).main_is ∙ or_none (body_in now.main) ∙ h.main_is
+  main_is = (a text h.ahead items h.stands).main_is ∙ or_none (body_in now.main) ∙ h.main_is;
 }
 
 -- the rest of a list, at one of its elements
@@ -127,7 +127,7 @@ along_adds start now text ds items vs i le h =
     record {
       faults_are = k.faults_are;
       openings_are = sym (append-nil now.openings.items) ∙ k.openings_are;
-      main_is = k.main_is ∙ sym (or_none (body_in start.main))
+      main_is = k.main_is ∙ sym (or_none (body_in start.main));
     }
 
 -- a function's own names
@@ -150,7 +150,7 @@ pub stands_function : (p p' : Pass) (name : Name) (parameters : Parameters) (bod
     → (text : List ℕ) (ds : List Declaration) (rest : List Item) → Stands p text ds (trees.Function name parameters body ∷ rest) → Stands p' text (with_item text ds (trees.Function name parameters body)) rest
 stands_function p p' name parameters body f o text ds rest h = record {
   tells = function_tells p.table p'.table text ds name parameters body rest f h.tells;
-  count = ap (λ v. length v.items) o ∙ h.count ∙ sym (functions_push ds (bytes_of text name))
+  count = ap (λ v. length v.items) o ∙ h.count ∙ sym (functions_push ds (bytes_of text name));
 }
 
 pub adds_function : (p p' : Pass) (name : Name) (parameters : Parameters) (body : trees.Statements) (mid : Option Misnaming) (mine : Bool) (r : Statements)
@@ -174,7 +174,7 @@ adds_function p p' name parameters body mid mine r f a e er em m o text ds rest 
       openings_are = ap (λ v. v.items) o ∙ sym (append-nil p.openings.items);
       main_is =
           m ∙ ap (λ (b : Bool). option_or (body_in p.main) (if b then Some r else None)) (em ∙ ap (λ (bs : List ℕ). is_main bs name parameters) t.text_is)
-          ∙ ap (λ (x : Statements). option_or (body_in p.main) (if is_main text name parameters then Some x else None)) (er ∙ ap (λ (n : Names). row_of n body) ns)
+          ∙ ap (λ (x : Statements). option_or (body_in p.main) (if is_main text name parameters then Some x else None)) (er ∙ ap (λ (n : Names). row_of n body) ns);
     }
 
 -- the functions of a text, one more of them
@@ -187,7 +187,7 @@ tells_function t t' text items name same f h = record {
   meanings = λ q.
       ap (option_map (λ (e : Entry). e.meaning)) (f q ∙ ap (λ (bs : List ℕ). if bytes_eq (bytes_of bs name) q then Some (record { meaning = meanings.Function; declared = false }) else found t q) h.text_is)
       ∙ entry_meaning (bytes_eq (bytes_of text name) q) _ _ (h.meanings q) ∙ sym (function_meaning items q);
-  reached = λ q. ap (λ o. option_map_or (λ (e : Entry). e.declared) o false) (f q) ∙ entry_declared (bytes_eq (bytes_of t.text.now name) q) _ (h.reached q)
+  reached = λ q. ap (λ o. option_map_or (λ (e : Entry). e.declared) o false) (f q) ∙ entry_declared (bytes_eq (bytes_of t.text.now name) q) _ (h.reached q);
 }
   where
     entry_meaning : (b : Bool) (o : Option Entry) (m : Option Meaning) → option_map (λ (e : Entry). e.meaning) o ≡ m
@@ -243,14 +243,14 @@ onward_next now next text items rest i h s a =
       openings_are = ap (λ (x : List ℤ). x ++ openings_of rest) d.openings_are ∙ append_assoc now.openings.items (item_openings i) (openings_of rest) ∙ h.openings_are;
       main_is =
           ap (λ (x : Option Statements). option_or x (main_of text (with_item text h.ahead i) rest)) d.main_is
-          ∙ or_assoc (body_in now.main) (main_at text h.ahead i rest) (main_of text (with_item text h.ahead i) rest) ∙ h.main_is
+          ∙ or_assoc (body_in now.main) (main_at text h.ahead i rest) (main_of text (with_item text h.ahead i) rest) ∙ h.main_is;
     }
 
 pub onward_end : (now : Pass) (text : List ℕ) (items : List Item) → Onward now text items [] → Comes now text items
 onward_end now text items h = record {
   faults_are = h.faults_are;
   openings_are = sym (append-nil now.openings.items) ∙ h.openings_are;
-  main_is = sym (or_none (body_in now.main)) ∙ h.main_is
+  main_is = sym (or_none (body_in now.main)) ∙ h.main_is;
 }
 
 -- the tree's items, in parts
@@ -273,16 +273,16 @@ pub functions_step : (t t' : Table) (text : List ℕ) (list : List code.Item) (i
     → Tells t text [] (functions_of text (trees.items_of (take i list))) → Tells t' text [] (functions_of text (trees.items_of (take (i + 1) list)))
 functions_step t t' text list i x name parameters body h e is same f tells =
     subst (λ (fs : List Declaration). Tells t' text [] fs)
-      (sym (functions_more text list i x h e ∙ ap (λ (y : Item). functions_of text (trees.items_of (take i list)) ++ functions_of text (y ∷ [])) is))
-      (tells_function t t' text (trees.items_of (take i list)) name same f tells)
+    (sym (functions_more text list i x h e ∙ ap (λ (y : Item). functions_of text (trees.items_of (take i list)) ++ functions_of text (y ∷ [])) is))
+    (tells_function t t' text (trees.items_of (take i list)) name same f tells)
 
 pub functions_same : (t : Table) (text : List ℕ) (list : List code.Item) (i : ℕ) (x : code.Item) (vs : List GlobalVariable)
     → i < length list → x ≡ get_or list i x → trees.item x ≡ trees.Globals vs
     → Tells t text [] (functions_of text (trees.items_of (take i list))) → Tells t text [] (functions_of text (trees.items_of (take (i + 1) list)))
 functions_same t text list i x vs h e is tells =
     subst (λ (fs : List Declaration). Tells t text [] fs)
-      (sym (functions_more text list i x h e ∙ ap (λ (y : Item). functions_of text (trees.items_of (take i list)) ++ functions_of text (y ∷ [])) is ∙ append-nil (functions_of text (trees.items_of (take i list)))))
-      tells
+    (sym (functions_more text list i x h e ∙ ap (λ (y : Item). functions_of text (trees.items_of (take i list)) ++ functions_of text (y ∷ [])) is ∙ append-nil (functions_of text (trees.items_of (take i list)))))
+    tells
 
 -- a turn of the loop over items, and its end
 pub onward_step : (now next : Pass) (text : List ℕ) (list : List code.Item) (i : ℕ) (x : code.Item)
@@ -293,7 +293,7 @@ pub onward_step : (now next : Pass) (text : List ℕ) (list : List code.Item) (i
     → Onward next text (trees.items_of list) (trees.items_of (drop (i + 1) list))
 onward_step now next text list i x lt e h s a =
     onward_next now next text (trees.items_of list) (trees.items_of (drop (i + 1) list)) (trees.item x)
-      (subst (λ (l : List code.Item). Onward now text (trees.items_of list) (trees.items_of l)) (drop_at list i x lt e) h) s a
+    (subst (λ (l : List code.Item). Onward now text (trees.items_of list) (trees.items_of l)) (drop_at list i x lt e) h) s a
 
 pub onward_past : (now : Pass) (text : List ℕ) (list : List code.Item) (i : ℕ) → length list ≤ i
     → Onward now text (trees.items_of list) (trees.items_of (drop i list)) → Comes now text (trees.items_of list)
@@ -307,7 +307,7 @@ pub globals_stand : (p p' : Pass) (vs : List GlobalVariable)
     → (text : List ℕ) (ds : List Declaration) (rest : List Item) → Stands p text ds (y ∷ rest) → Stands p' text (with_item text ds y) rest
 globals_stand p p' vs f y e text ds rest =
     let g : Stands p text ds (trees.Globals vs ∷ rest) → Stands p' text (with_variables text ds vs) rest =
-      λ h. let k = f text ds (trees.Globals vs ∷ rest) h in record { tells = k.tells; count = k.count } in
+    λ h. let k = f text ds (trees.Globals vs ∷ rest) h in record { tells = k.tells; count = k.count } in
     subst (λ (i : Item). Stands p text ds (i ∷ rest) → Stands p' text (with_item text ds i) rest) e g
 
 pub globals_add : (p p' : Pass) (vs : List GlobalVariable)

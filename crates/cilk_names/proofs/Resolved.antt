@@ -121,8 +121,8 @@ main_only text ds [] r h = absurd h
 main_only text ds (trees.Globals vs ∷ rest) r h = main_only text (with_item text ds (trees.Globals vs)) rest r h
 main_only text ds (trees.Function name parameters body ∷ rest) r h =
     main_cases_only (is_main text name parameters) (known_at text ds (trees.Function name parameters body ∷ rest)) body
-      (ResolvesMain text (with_item text ds (trees.Function name parameters body)) rest r) (main_of text (with_item text ds (trees.Function name parameters body)) rest) r h
-      (main_only text (with_item text ds (trees.Function name parameters body)) rest r)
+    (ResolvesMain text (with_item text ds (trees.Function name parameters body)) rest r) (main_of text (with_item text ds (trees.Function name parameters body)) rest) r h
+    (main_only text (with_item text ds (trees.Function name parameters body)) rest r)
 
 main_cases_right : (b : Bool) (names : Names) (body : trees.Statements) (Later : Type 0) (later : Option Statements) (r : Statements)
     → row_faults names body ≡ [] → (later ≡ Some r → Later)
@@ -141,8 +141,8 @@ main_right text ds (trees.Function name parameters body ∷ rest) r f h =
     let p = both_nil (item_faults text ds (trees.Function name parameters body) rest) (items_faults text (with_item text ds (trees.Function name parameters body)) rest) f in
     let q = both_nil (again text ds name) (row_faults names body) p.0 in
     main_cases_right (is_main text name parameters) names body
-      (ResolvesMain text (with_item text ds (trees.Function name parameters body)) rest r) (main_of text (with_item text ds (trees.Function name parameters body)) rest) r q.1
-      (main_right text (with_item text ds (trees.Function name parameters body)) rest r p.1) h
+    (ResolvesMain text (with_item text ds (trees.Function name parameters body)) rest r) (main_of text (with_item text ds (trees.Function name parameters body)) rest) r q.1
+    (main_right text (with_item text ds (trees.Function name parameters body)) rest r p.1) h
 
 -- there is a main body where there is a main function
 has_cases : (b c : Bool) (x : Statements) (later : Option Statements) → option_or (if b then Some x else None) later ≡ None → (later ≡ None → c ≡ false) → (b || c) ≡ false
@@ -154,7 +154,7 @@ no_main text ds [] h = refl
 no_main text ds (trees.Globals vs ∷ rest) h = no_main text (with_item text ds (trees.Globals vs)) rest h
 no_main text ds (trees.Function name parameters body ∷ rest) h =
     has_cases (is_main text name parameters) (has_main text rest) (row_of (known_at text ds (trees.Function name parameters body ∷ rest)) body)
-      (main_of text (with_item text ds (trees.Function name parameters body)) rest) h (no_main text (with_item text ds (trees.Function name parameters body)) rest)
+    (main_of text (with_item text ds (trees.Function name parameters body)) rest) h (no_main text (with_item text ds (trees.Function name parameters body)) rest)
 
 some_cases : (b c : Bool) (x r : Statements) (later : Option Statements) → option_or (if b then Some x else None) later ≡ Some r → (later ≡ Some r → c ≡ true) → (b || c) ≡ true
 some_cases true c x r later h k = refl
@@ -165,4 +165,4 @@ some_main text ds [] r h = cc
 some_main text ds (trees.Globals vs ∷ rest) r h = some_main text (with_item text ds (trees.Globals vs)) rest r h
 some_main text ds (trees.Function name parameters body ∷ rest) r h =
     some_cases (is_main text name parameters) (has_main text rest) (row_of (known_at text ds (trees.Function name parameters body ∷ rest)) body) r
-      (main_of text (with_item text ds (trees.Function name parameters body)) rest) h (some_main text (with_item text ds (trees.Function name parameters body)) rest r)
+    (main_of text (with_item text ds (trees.Function name parameters body)) rest) h (some_main text (with_item text ds (trees.Function name parameters body)) rest r)

@@ -81,7 +81,7 @@ pub again_tells : (t : Table) (text : List ℕ) (ds later : List Declaration) (d
 again_tells t text ds later d h k = record {
   text_is = h.text_is;
   meanings = λ name. h.meanings name ∙ sym (meaning_again ds later d name k) ∙ ap (λ xs. meaning_in xs name) (sym (append_assoc ds (d ∷ []) later));
-  reached = λ name. h.reached name ∙ sym (declares_push ds d name ∙ declared_or name (bytes_eq d.name name) refl)
+  reached = λ name. h.reached name ∙ sym (declares_push ds d name ∙ declared_or name (bytes_eq d.name name) refl);
 }
   where
     declared_or : (name : List ℕ) (b : Bool) → bytes_eq d.name name ≡ b → (declares ds name || b) ≡ declares ds name
@@ -99,7 +99,7 @@ new_tells t t' text ds later d h k same f = record {
       ap (option_map (λ (e : Entry). e.meaning)) (f name) ∙ entry_meaning (bytes_eq d.name name) _ _ (h.meanings name)
       ∙ sym (meaning_new ds later d name k) ∙ ap (λ xs. meaning_in xs name) (sym (append_assoc ds (d ∷ []) later));
   reached = λ name.
-      ap (λ o. option_map_or (λ (e : Entry). e.declared) o false) (f name) ∙ entry_declared (bytes_eq d.name name) _ _ (h.reached name) ∙ sym (declares_push ds d name)
+      ap (λ o. option_map_or (λ (e : Entry). e.declared) o false) (f name) ∙ entry_declared (bytes_eq d.name name) _ _ (h.reached name) ∙ sym (declares_push ds d name);
 }
   where
     entry_meaning : (b : Bool) (o : Option Entry) (m : Option Meaning) → option_map (λ (e : Entry). e.meaning) o ≡ m
@@ -116,14 +116,14 @@ new_tells t t' text ds later d h k same f = record {
 pub names_are : (t : Table) (text : List ℕ) (ds : List Declaration) (items : List Item) → Tells t text ds (functions_of text items) → names_of t ≡ known_at text ds items
 names_are t text ds items h =
     ap (λ (f : Name → Option Meaning). let n : Names = record { meaning = f } in n)
-      (fun_ext (λ (x : Name). h.meanings (bytes_of t.text.now x) ∙ ap (λ bs. meaning_in (ds ++ functions_of text items) (bytes_of bs x)) h.text_is))
+    (fun_ext (λ (x : Name). h.meanings (bytes_of t.text.now x) ∙ ap (λ bs. meaning_in (ds ++ functions_of text items) (bytes_of bs x)) h.text_is))
 
 -- a declared function is known already
 pub function_known : (t : Table) (text : List ℕ) (ds later : List Declaration) (d : Declaration) → Tells t text (ds ++ d ∷ []) (d ∷ later) → Tells t text (ds ++ d ∷ []) later
 function_known t text ds later d h = record {
   text_is = h.text_is;
   meanings = λ name. h.meanings name ∙ meaning_again (ds ++ d ∷ []) later d name (declares_push ds d d.name ∙ ap (λ b. declares ds d.name || b) (itself d.name) ∙ or_true (declares ds d.name));
-  reached = h.reached
+  reached = h.reached;
 }
   where
     itself : (a : List ℕ) → bytes_eq a a ≡ true
@@ -145,4 +145,4 @@ pub tells_new : (t t' : Table) (x : Name) (m : Meaning) (text : List ℕ) (ds la
     → Tells t text ds later → Tells t' text (ds ++ record { name = bytes_of text x; meaning = m } ∷ []) later
 tells_new t t' x m text ds later k same f h =
     new_tells t t' text ds later (record { name = bytes_of text x; meaning = m }) h (reached_at t text ds later x false h k) same
-      (λ q. f q ∙ ap (λ bs. if bytes_eq (bytes_of bs x) q then Some (record { meaning = m; declared = true }) else found t q) h.text_is)
+    (λ q. f q ∙ ap (λ bs. if bytes_eq (bytes_of bs x) q then Some (record { meaning = m; declared = true }) else found t q) h.text_is)

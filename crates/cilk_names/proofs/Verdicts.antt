@@ -33,9 +33,9 @@ contains_head x xs = Contains-append_left (x ∷ []) xs x (Contains-push [] x)
 -- past the second of two
 contains_third : {A : Type 0} (x y z : A) (xs : List A) → Contains (x ∷ xs) z → Contains (x ∷ y ∷ xs) z
 contains_third x y z xs h = elim (Contains-append_cases (x ∷ []) xs z h) [
-    inl k ↦ Contains-append_left (x ∷ []) (y ∷ xs) z k
+  | inl k ↦ Contains-append_left (x ∷ []) (y ∷ xs) z k
   | inr k ↦ Contains-append_right (x ∷ y ∷ []) xs z k
-  ]
+]
 
 NotBefore : Misnaming → Misnaming → Type 0
 NotBefore f g = is_before g f ≡ false
@@ -44,24 +44,26 @@ first_of_two : (h f g : Misnaming) (fs : List Misnaming) (b : Bool) → is_befor
     → ((h : Misnaming) → earliest (Some h) fs ≡ Some f → IsFirst f (h ∷ fs))
     → earliest (if b then Some g else Some h) fs ≡ Some f → IsFirst f (h ∷ g ∷ fs)
 first_of_two h f g fs true e ih k =
-    let i : IsFirst f (g ∷ fs) = ih g k in
-    (Contains-append_right (h ∷ []) (g ∷ fs) f i.0,
-     All-cons (λ x. is_before x f ≡ false) h (g ∷ fs)
-       (lower_first f.place (number_of f.number) g.place (number_of g.number) h.place (number_of h.number) (All-head (λ x. is_before x f ≡ false) g fs i.1) e) i.1)
+    let i : IsFirst f (g ∷ fs) = ih g k in (
+      Contains-append_right (h ∷ []) (g ∷ fs) f i.0,
+      All-cons (λ x. is_before x f ≡ false) h (g ∷ fs)
+          (lower_first f.place (number_of f.number) g.place (number_of g.number) h.place (number_of h.number) (All-head (λ x. is_before x f ≡ false) g fs i.1) e) i.1,
+    )
 first_of_two h f g fs false e ih k =
     let i : IsFirst f (h ∷ fs) = ih h k in
-    let hf : is_before h f ≡ false = All-head (λ x. is_before x f ≡ false) h fs i.1 in
-    (contains_third h g f fs i.0,
-     All-cons (λ x. is_before x f ≡ false) h (g ∷ fs) hf
-       (All-cons (λ x. is_before x f ≡ false) g fs
-         (lower_second f.place (number_of f.number) g.place (number_of g.number) h.place (number_of h.number) hf e)
-         (All-tail (λ x. is_before x f ≡ false) h fs i.1)))
+    let hf : is_before h f ≡ false = All-head (λ x. is_before x f ≡ false) h fs i.1 in (
+      contains_third h g f fs i.0,
+      All-cons (λ x. is_before x f ≡ false) h (g ∷ fs) hf
+          (All-cons (λ x. is_before x f ≡ false) g fs
+          (lower_second f.place (number_of f.number) g.place (number_of g.number) h.place (number_of h.number) hf e)
+          (All-tail (λ x. is_before x f ≡ false) h fs i.1)),
+    )
 
 first_from : (fs : List Misnaming) (f h : Misnaming) → earliest (Some h) fs ≡ Some f → IsFirst f (h ∷ fs)
 first_from [] f h e =
     let same : h ≡ f = cc in
     subst (λ (x : Misnaming). IsFirst f (x ∷ [])) (sym same)
-      (contains_head f [], All-cons (λ x. is_before x f ≡ false) f [] (lower_itself f.place (number_of f.number)) (λ k d lt. absurd (omega arith)))
+    (contains_head f [], All-cons (λ x. is_before x f ≡ false) f [] (lower_itself f.place (number_of f.number)) (λ k d lt. absurd (omega arith)))
 first_from (g ∷ fs) f h e = first_of_two h f g fs (is_before g h) refl (first_from fs f) e
 
 -- the earliest of a list is its first
@@ -90,7 +92,7 @@ pub fault_is : (t : Tree) (first : Option Misnaming) (f : Misnaming) → first �
 fault_is t first f e is =
     let k : earliest None (items_faults t.text.items [] (program t)) ≡ Some f = sym e ∙ is in
     subst (IsFirst f) (sym (or_other (has_main t.text.items (program t)) (length t.text.items) (items_faults t.text.items [] (program t)) f k))
-      (earliest_first (items_faults t.text.items [] (program t)) f k)
+    (earliest_first (items_faults t.text.items [] (program t)) f k)
 
 -- where it finds none, and no main function, that is the fault
 pub no_main_is : (t : Tree) (first : Option Misnaming) (main : Option Statements) (place : ℕ)
@@ -102,9 +104,9 @@ no_main_is t first main place e is m none at =
     let missing : has_main t.text.items (program t) ≡ false = no_main t.text.items [] (program t) (sym m ∙ none) in
     let f : Misnaming = record { number = NoMain; place = place } in
     let fs : faults_of t ≡ f ∷ [] =
-        ap (λ b. or_no_main b (length t.text.items) (items_faults t.text.items [] (program t))) missing
-        ∙ ap (or_no_main false (length t.text.items)) right
-        ∙ ap (λ (n : ℕ). let g : Misnaming = record { number = NoMain; place = n } in g ∷ []) (sym at) in
+    ap (λ b. or_no_main b (length t.text.items) (items_faults t.text.items [] (program t))) missing
+    ∙ ap (or_no_main false (length t.text.items)) right
+    ∙ ap (λ (n : ℕ). let g : Misnaming = record { number = NoMain; place = n } in g ∷ []) (sym at) in
     subst (IsFirst f) (sym fs) (contains_head f [], All-cons (λ x. is_before x f ≡ false) f [] (lower_itself place 115) (λ k d lt. absurd (omega arith)))
 
 -- where it finds none, and a main function, the tree resolves
@@ -119,7 +121,7 @@ resolves_is t first main openings body e is m some o =
       right =
           ap (λ b. or_no_main b (length t.text.items) (items_faults t.text.items [] (program t))) found ∙ ap (or_no_main true (length t.text.items)) right;
       openings = o;
-      main = main_right t.text.items [] (program t) body right (sym m ∙ some)
+      main = main_right t.text.items [] (program t) body right (sym m ∙ some);
     }
 
 -- a tree resolves to one source
@@ -148,6 +150,7 @@ some_of (Some r) h = (r, refl)
 pub right_resolves : (t : Tree) → faults_of t ≡ [] → (s : Source) × Resolves t s
 right_resolves t h =
     let p = nothing_wrong (has_main t.text.items (program t)) (length t.text.items) (items_faults t.text.items [] (program t)) h in
-    let m = some_of (main_of t.text.items [] (program t)) (λ e. let f : has_main t.text.items (program t) ≡ false = no_main t.text.items [] (program t) e in let g : has_main t.text.items (program t) ≡ true = p.1 in cc) in
-    (record { openings = openings_of (program t); main = m.0 },
-     record { right = h; openings = refl; main = main_right t.text.items [] (program t) m.0 p.0 m.1 })
+    let m = some_of (main_of t.text.items [] (program t)) (λ e. let f : has_main t.text.items (program t) ≡ false = no_main t.text.items [] (program t) e in let g : has_main t.text.items (program t) ≡ true = p.1 in cc) in (
+      record { openings = openings_of (program t); main = m.0 },
+      record { right = h; openings = refl; main = main_right t.text.items [] (program t) m.0 p.0 m.1 },
+    )

@@ -70,8 +70,8 @@ mutual
   statement_in k names (trees.If e s) h = both (places_in k (expression_of names e)) (statement_places_in k (statement_of names s)) (expression_in k names e h) (statement_in k names s h)
   statement_in k names (trees.IfElse e s other) h =
       both (places_in k (expression_of names e) && statement_places_in k (statement_of names s)) (statement_places_in k (statement_of names other))
-        (both (places_in k (expression_of names e)) (statement_places_in k (statement_of names s)) (expression_in k names e h) (statement_in k names s h))
-        (statement_in k names other h)
+      (both (places_in k (expression_of names e)) (statement_places_in k (statement_of names s)) (expression_in k names e h) (statement_in k names s h))
+      (statement_in k names other h)
   statement_in k names (trees.While e s) h = both (places_in k (expression_of names e)) (statement_places_in k (statement_of names s)) (expression_in k names e h) (statement_in k names s h)
   statement_in k names (trees.Print e) h = expression_in k names e h
   statement_in k names (trees.Return place e) h = return_in k names e h
@@ -116,8 +116,8 @@ one_below k n e = let same : k ≡ n = cc in omega arith
 variable_below : (text : List ℕ) (ds : List Declaration) (v : GlobalVariable) → DeclareBelow (variables_in ds) ds → DeclareBelow (variables_in (with_variable text ds v)) (with_variable text ds v)
 variable_below text ds v h =
     subst (λ (k : ℕ). DeclareBelow k (with_variable text ds v)) (sym (variables_push ds (bytes_of text v.name) (variables_in ds)))
-      (below_append (variables_in ds + 1) ds (record { name = bytes_of text v.name; meaning = meanings.Variable (variables_in ds) } ∷ [])
-        (below_more (variables_in ds) (variables_in ds + 1) ds (omega arith) h) (one_below (variables_in ds), tt))
+    (below_append (variables_in ds + 1) ds (record { name = bytes_of text v.name; meaning = meanings.Variable (variables_in ds) } ∷ [])
+    (below_more (variables_in ds) (variables_in ds + 1) ds (omega arith) h) (one_below (variables_in ds), tt))
 
 variables_below : (text : List ℕ) (ds : List Declaration) (vs : List GlobalVariable) → DeclareBelow (variables_in ds) ds → DeclareBelow (variables_in (with_variables text ds vs)) (with_variables text ds vs)
 variables_below text ds [] h = h
@@ -146,9 +146,9 @@ main_places k text ds (trees.Globals vs ∷ rest) r h le e =
     main_places k text (with_variables text ds vs) rest r (variables_below text ds vs h) (omega arith) e
 main_places k text ds (trees.Function name parameters body ∷ rest) r h le e =
     main_cases k (is_main text name parameters) (known_at text ds (trees.Function name parameters body ∷ rest)) body (main_of text (with_item text ds (trees.Function name parameters body)) rest) r
-      (λ x n m. meaning_below k (ds ++ functions_of text (trees.Function name parameters body ∷ rest)) (bytes_of text x) n
-        (below_append k ds (functions_of text (trees.Function name parameters body ∷ rest)) (below_more (variables_in ds) k ds (omega arith) h) (functions_below k text (trees.Function name parameters body ∷ rest))) m)
-      (main_places k text (ds ++ function_named text name ∷ []) rest r (function_declared ds h) (counted_same le)) e
+    (λ x n m. meaning_below k (ds ++ functions_of text (trees.Function name parameters body ∷ rest)) (bytes_of text x) n
+    (below_append k ds (functions_of text (trees.Function name parameters body ∷ rest)) (below_more (variables_in ds) k ds (omega arith) h) (functions_below k text (trees.Function name parameters body ∷ rest))) m)
+    (main_places k text (ds ++ function_named text name ∷ []) rest r (function_declared ds h) (counted_same le)) e
   where
     count_is : variables_in (ds ++ function_named text name ∷ []) ≡ variables_in ds
     count_is = functions_push ds (bytes_of text name)
@@ -156,7 +156,7 @@ main_places k text ds (trees.Function name parameters body ∷ rest) r h le e =
     function_declared : (es : List Declaration) → DeclareBelow (variables_in ds) es → DeclareBelow (variables_in (ds ++ function_named text name ∷ [])) (es ++ function_named text name ∷ [])
     function_declared es j =
         subst (λ (l : ℕ). DeclareBelow l (es ++ function_named text name ∷ [])) (sym count_is)
-          (below_append (variables_in ds) es (function_named text name ∷ []) j (function_below (variables_in ds), tt))
+        (below_append (variables_in ds) es (function_named text name ∷ []) j (function_below (variables_in ds), tt))
 
     counted_same : variables_in ds + length (openings_of rest) ≤ k → variables_in (ds ++ function_named text name ∷ []) + length (openings_of rest) ≤ k
     counted_same j = subst (λ (l : ℕ). l + length (openings_of rest) ≤ k) (sym count_is) j

@@ -79,8 +79,8 @@ ResolvesMain text ds [] r = ⊥
 ResolvesMain text ds (trees.Globals vs ∷ rest) r = ResolvesMain text (with_item text ds (trees.Globals vs)) rest r
 ResolvesMain text ds (trees.Function name parameters body ∷ rest) r =
     MatchBool (is_main text name parameters)
-      (ResolvesRow (known_at text ds (trees.Function name parameters body ∷ rest)) body r)
-      (ResolvesMain text (with_item text ds (trees.Function name parameters body)) rest r)
+    (ResolvesRow (known_at text ds (trees.Function name parameters body ∷ rest)) body r)
+    (ResolvesMain text (with_item text ds (trees.Function name parameters body)) rest r)
 
 -- what the global variables of an item open with
 abbrev pub item_openings : trees.Item → List ℤ

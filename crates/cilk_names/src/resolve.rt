@@ -168,3 +168,6 @@ pub fn resolve(alloc: Global, tree: &Tree) -> Result<Program, NameFault>
         None => Err(NameFault::At(NameNumber::NoMain, text.len())),
     }
 }
+
+#[cfg(test)]
+mod tests;

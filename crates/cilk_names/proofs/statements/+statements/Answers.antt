@@ -11,5 +11,5 @@ row-each-preserved t c = record {
       c.each-test.true c.tree-item.is c.each.invariant.faults c.in_ok-statement.ensures.faults;
   value = ap statements c.in_ok-push.ensures.items
       ∙ row_step (names_of c.args.table.now) c.each.resolved.items c.args.list.now c.each.tree-index c.in_ok-statement.field-0 c.tree-item.result
-      c.each-test.true c.tree-item.is c.each.invariant.value c.in_ok-statement.ensures.value
+      c.each-test.true c.tree-item.is c.each.invariant.value c.in_ok-statement.ensures.value;
 }

@@ -9,5 +9,5 @@ use Rattle.cilk_names.proofs.statements.+statements.Given as goal
 abbrev pub invariant-row-each : goal.invariant-row-each
 invariant-row-each l = record {
   faults : l.first ≡ earliest l.initial.first (row_faults (names_of l.table) (trees.statements (take l.tree-index l.list)));
-  value : statements l.resolved.items ≡ row_of (names_of l.table) (trees.statements (take l.tree-index l.list))
+  value : statements l.resolved.items ≡ row_of (names_of l.table) (trees.statements (take l.tree-index l.list));
 }

@@ -15,4 +15,4 @@ pub returns-clause-adds : goal.returns-clause-adds
 returns-clause-adds c =
     let next : Pass = record { table = c.declare.new.self; openings = c.args.self.now.openings; first = c.row.new.first; main = c.keep_first.new.main } in
     adds_function c.args.self.now next c.args.name c.args.parameters (trees.statements c.args.body.now) c.declare.new.first c.is_main-is_main.result (statements c.in_ok-body.body.items)
-      c.in_ok-declare.ensures.tells c.in_ok-declare.ensures.faults c.in_ok-body.ensures.faults c.in_ok-body.ensures.value c.is_main-is_main.ensures c.keep_first.ensures refl
+    c.in_ok-declare.ensures.tells c.in_ok-declare.ensures.faults c.in_ok-body.ensures.faults c.in_ok-body.ensures.value c.is_main-is_main.ensures c.keep_first.ensures refl

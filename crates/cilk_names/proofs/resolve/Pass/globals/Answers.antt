@@ -8,7 +8,7 @@ pub each-preserved : goal.each-preserved
 each-preserved c = λ text ds items h.
     let none : GlobalVariable = record { name = record { at = 0; end = 0 }; initializer = initializers.Absent } in
     along_step c.args.self.now c.each.self c.global.new.self text ds items c.args.variables.now c.each.variable-index none c.each-test.true
-      (c.each.invariant text ds items h) c.in_ok-global.ensures.stands c.in_ok-global.ensures.adds
+    (c.each.invariant text ds items h) c.in_ok-global.ensures.stands c.in_ok-global.ensures.adds
 
 pub returns-clause-stands : goal.returns-clause-stands
 returns-clause-stands c = λ text ds items h.

@@ -10,4 +10,4 @@ returns-then-is_declared-clause-tells c = λ text ds later.
 pub returns-clause-tells : goal.returns-clause-tells
 returns-clause-tells c = λ text ds later.
     tells_new c.args.self.now c.put.new.self c.args.name c.args.meaning text ds later
-      (sym c.is_declared.ensures ∙ c.if-is_declared.false) c.put.ensures.text c.in_ok-put.ensures.updates
+    (sym c.is_declared.ensures ∙ c.if-is_declared.false) c.put.ensures.text c.in_ok-put.ensures.updates

@@ -7,5 +7,5 @@ use Rattle.cilk_names.proofs.table.Table.put.Goals as goal
 pub returns-clause-updates : goal.returns-clause-updates
 returns-clause-updates c = λ q.
     subst (λ (bs : List ℕ). found (record { text = c.args.self.now.text; entries = c.insert.new.self }) q ≡ (if bytes_eq bs q then Some c.args.entry else found c.args.self.now q))
-      c.bytes_of.ensures
-      (hash_map_updates_str c.bytes_of.result.now c.args.self.now.entries c.insert.new.self _ c.in_ok-insert.ensures.updates q)
+    c.bytes_of.ensures
+    (hash_map_updates_str c.bytes_of.result.now c.args.self.now.entries c.insert.new.self _ c.in_ok-insert.ensures.updates q)
