@@ -1,0 +1,4 @@
+pub mod Cuts
+pub mod Dues
+pub mod Numerals
+pub mod Readings
