@@ -1,4 +1,6 @@
 pub mod Cuts
 pub mod Dues
+pub mod Entries
 pub mod Numerals
 pub mod Readings
+pub mod Spellings
