@@ -1,8 +1,10 @@
 pub mod Certificates
 pub mod Fault
+pub mod Gathering
 pub mod Lines
 pub mod Parsing
 pub mod Places
 pub mod Readers
 pub mod Reading
 pub mod Words
+pub mod Writing

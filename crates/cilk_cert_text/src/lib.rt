@@ -1,9 +1,11 @@
 //! The text form of certificates, read and written; each certificate has one text, and each text one certificate.
 #![tactic(auto)]
 
+pub mod certificate;
 pub mod fault;
 pub mod line;
 mod parse;
 mod place;
 pub mod reader;
 mod word;
+pub mod write;
