@@ -6,3 +6,4 @@ pub mod Readings
 pub mod Shown
 pub mod Spellings
 pub mod Wholes
+pub mod Written

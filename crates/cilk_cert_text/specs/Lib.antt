@@ -3,6 +3,7 @@ pub mod Fault
 pub mod Gathering
 pub mod Lines
 pub mod Parsing
+pub mod Parts
 pub mod Places
 pub mod Readers
 pub mod Reading

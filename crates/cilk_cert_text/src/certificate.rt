@@ -2,7 +2,7 @@
 
 ghost use Rattle.std.specs.Prelude.{◌≡◌, ◌≤◌, length};
 
-use crate::line::{Entry, Frame, Strand, Version};
+use crate::line::{Entry, Frame, Size, Strand, Version};
 use std::marker::Model;
 
 /// A certificate within the limits of the format: at most 1,000,000 events, 65,536 frames and 1,000,000 strands, and each
@@ -27,7 +27,7 @@ impl Model for Certificate {
 }
 
 impl Certificate {
-    ghost use Rattle.cilk_cert_text.specs.Certificates.{Contents, IsCertificate};
+    ghost use Rattle.cilk_cert_text.specs.Certificates.{Contents, IsCertificate, size_of};
 
     /// The certificate of these parts, with the result's value last.
     pub fn new(
@@ -54,6 +54,18 @@ impl Certificate {
         ensures certificate { IsCertificate self.now }
     {
         self.version
+    }
+
+    /// How many lines of each kind its text has.
+    pub fn size(&self) -> Size
+        ensures value { result ≡ size_of self.now }
+        ensures certificate { IsCertificate self.now }
+    {
+        Size {
+            events: self.events.len() as u32,
+            frames: self.frames.len() as u32,
+            strands: self.strands.len() as u32,
+        }
     }
 
     pub fn frames(&self) -> &[Frame]

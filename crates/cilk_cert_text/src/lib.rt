@@ -6,6 +6,7 @@ pub mod fault;
 pub mod line;
 mod parse;
 mod place;
+pub mod read;
 pub mod reader;
 mod word;
 pub mod write;

@@ -1,15 +1,15 @@
 //! A certificate's text.
 
-ghost use Rattle.std.specs.Prelude.{◌≡◌, ◌∷◌, [], ◌++◌, IfOk, OnOk};
+ghost use Rattle.std.specs.Prelude.{◌≡◌, ◌≤◌, ◌∷◌, [], ◌++◌, length, IfOk, OnOk};
 ghost use Rattle.std.specs.Fmt.{decimal, signed_decimal};
-ghost use Rattle.cilk_cert_text.specs.Lines.{spelled, version_word, reducer_words};
+ghost use Rattle.cilk_cert_text.specs.Lines.{spelled, reducer_words};
 ghost use Rattle.cilk_cert_text.specs.declared.line.Line.TheVariants as lines;
-ghost use Rattle.cilk_cert_text.specs.Certificates.{text_of};
+ghost use Rattle.cilk_cert_text.specs.Certificates.{text_of, text_of_lines, frame_lines, strand_lines, event_lines};
 ghost use Rattle.cilk_cert_text.specs.Writing.{behind_spaces};
 
 use crate::certificate::Certificate;
-use crate::line::{Entry, Line, Reducer, Size, Version};
-use itoa::write_digits;
+use crate::line::{Entry, Frame, Line, Reducer, Strand, Version};
+use itoa::Buffer;
 use std::alloc::{AllocError, Global};
 
 /// No line is longer, its LF included.
@@ -19,9 +19,9 @@ const LONGEST: usize = 53;
 fn number(out: &mut Vec<u8>, number: u32) -> Result<(), AllocError>
     ensures { OnOk result (out.new.items ≡ out.old.items ++ (32 ∷ decimal number)) }
 {
-    let mut text = [b' '; 11];
-    let start = write_digits(u64::from(number), &mut text, 11);
-    out.extend_from_slice(&text[start - 1..])?;
+    let mut buffer = Buffer::new();
+    out.push(b' ')?;
+    out.extend_from_slice(buffer.format(number).as_bytes())?;
     Ok(())
 }
 
@@ -29,13 +29,9 @@ fn number(out: &mut Vec<u8>, number: u32) -> Result<(), AllocError>
 fn value(out: &mut Vec<u8>, value: i64) -> Result<(), AllocError>
     ensures { OnOk result (out.new.items ≡ out.old.items ++ (32 ∷ signed_decimal value)) }
 {
-    let mut text = [b' '; 21];
-    let mut start = write_digits(value.unsigned_abs(), &mut text, 21);
-    if value < 0 {
-        start -= 1;
-        text[start] = b'-';
-    }
-    out.extend_from_slice(&text[start - 1..])?;
+    let mut buffer = Buffer::new();
+    out.push(b' ')?;
+    out.extend_from_slice(buffer.format(value).as_bytes())?;
     Ok(())
 }
 
@@ -53,6 +49,7 @@ fn reducer(out: &mut Vec<u8>, name: Reducer) -> Result<(), AllocError>
 }
 
 /// Appends an event's line without its LF.
+#[tactic(auto, unfolding(crate::specs::Lines::spelled))]
 fn entry(out: &mut Vec<u8>, entry: Entry) -> Result<(), AllocError>
     ensures { OnOk result (out.new.items ≡ out.old.items ++ spelled (lines.Event entry)) }
 {
@@ -130,6 +127,7 @@ fn entry(out: &mut Vec<u8>, entry: Entry) -> Result<(), AllocError>
 }
 
 /// Appends a line with its LF.
+#[tactic(auto, unfolding(crate::specs::Lines::spelled))]
 fn line(out: &mut Vec<u8>, line: Line) -> Result<(), AllocError>
     ensures { OnOk result (out.new.items ≡ out.old.items ++ (spelled line ++ 10 ∷ [])) }
 {
@@ -166,36 +164,63 @@ fn line(out: &mut Vec<u8>, line: Line) -> Result<(), AllocError>
     Ok(())
 }
 
+/// Appends the lines of the frames.
+fn frames(out: &mut Vec<u8>, frames: &[Frame]) -> Result<(), AllocError>
+    requires { length frames.now ≤ 65536 }
+    ensures { OnOk result (out.new.items ≡ out.old.items ++ text_of_lines (frame_lines 1 frames.now)) }
+{
+    for (at, frame) in frames.iter().enumerate() {
+        let number = at as u32 + 1;
+        let frame = *frame;
+        line(out, Line::Frame { number, frame })?;
+    }
+    Ok(())
+}
+
+/// Appends the lines of the strands.
+fn strands(out: &mut Vec<u8>, strands: &[Strand]) -> Result<(), AllocError>
+    requires { length strands.now ≤ 1000000 }
+    ensures { OnOk result (out.new.items ≡ out.old.items ++ text_of_lines (strand_lines 1 strands.now)) }
+{
+    for (at, strand) in strands.iter().enumerate() {
+        let number = at as u32 + 1;
+        let strand = *strand;
+        line(out, Line::Strand { number, strand })?;
+    }
+    Ok(())
+}
+
+/// Appends the lines of the events.
+fn events(out: &mut Vec<u8>, events: &[Entry]) -> Result<(), AllocError>
+    ensures { OnOk result (out.new.items ≡ out.old.items ++ text_of_lines (event_lines events.now)) }
+{
+    for event in events {
+        line(out, Line::Event(*event))?;
+    }
+    Ok(())
+}
+
+/// Appends all lines.
+fn text(out: &mut Vec<u8>, certificate: &Certificate) -> Result<(), AllocError>
+    ensures { OnOk result (out.new.items ≡ out.old.items ++ text_of certificate.now) }
+{
+    line(out, Line::Version(certificate.version()))?;
+    line(out, Line::Size(certificate.size()))?;
+    frames(out, certificate.frames())?;
+    strands(out, certificate.strands())?;
+    events(out, certificate.events())?;
+    line(out, Line::Result(certificate.result()))?;
+    line(out, Line::End)?;
+    Ok(())
+}
+
 /// The one text of the certificate. Its only error is want of memory, and it reserves once: room for 53 bytes a line.
 pub fn write(alloc: Global, certificate: &Certificate) -> Result<Vec<u8>, AllocError>
     ensures { IfOk result (λ text. text.items ≡ text_of certificate.now) }
 {
-    let frames = certificate.frames();
-    let strands = certificate.strands();
-    let events = certificate.events();
-    let count = frames.len() + strands.len() + events.len() + 4;
-    let mut out = Vec::with_capacity(alloc, LONGEST * count)?;
-    let size = Size {
-        events: events.len() as u32,
-        frames: frames.len() as u32,
-        strands: strands.len() as u32,
-    };
-    line(&mut out, Line::Version(certificate.version()))?;
-    line(&mut out, Line::Size(size))?;
-    for (at, frame) in frames.iter().enumerate() {
-        let number = at as u32 + 1;
-        let frame = *frame;
-        line(&mut out, Line::Frame { number, frame })?;
-    }
-    for (at, strand) in strands.iter().enumerate() {
-        let number = at as u32 + 1;
-        let strand = *strand;
-        line(&mut out, Line::Strand { number, strand })?;
-    }
-    for event in events {
-        line(&mut out, Line::Event(*event))?;
-    }
-    line(&mut out, Line::Result(certificate.result()))?;
-    line(&mut out, Line::End)?;
+    let size = certificate.size();
+    let lines = size.events as usize + size.frames as usize + size.strands as usize + 4;
+    let mut out = Vec::with_capacity(alloc, LONGEST * lines)?;
+    text(&mut out, certificate)?;
     Ok(out)
 }
