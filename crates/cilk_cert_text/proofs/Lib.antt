@@ -3,6 +3,7 @@ pub mod Dues
 pub mod Entries
 pub mod Numerals
 pub mod Readings
+pub mod Texts
 pub mod Shown
 pub mod Spellings
 pub mod Wholes

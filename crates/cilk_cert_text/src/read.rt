@@ -5,6 +5,7 @@ ghost use Rattle.cilk_cert_text.specs.declared.fault.CertFault.TheVariants.{Memo
 ghost use Rattle.cilk_cert_text.specs.Certificates.{Contents, IsCertificate, text_of, lines_of};
 ghost use Rattle.cilk_cert_text.specs.Reading.{reading_of};
 ghost use Rattle.cilk_cert_text.specs.Readers.{ahead};
+ghost use Rattle.cilk_cert_text.specs.Gathering.{nothing, gathered};
 ghost use Rattle.cilk_cert_text.specs.Parts.{said, Leads};
 
 use crate::certificate::Certificate;
@@ -24,7 +25,7 @@ struct Parts {
 }
 
 impl Parts {
-    ghost use Rattle.cilk_cert_text.specs.Gathering.{nothing, with_said, gathered};
+    ghost use Rattle.cilk_cert_text.specs.Gathering.{nothing, with_said};
     ghost use Rattle.cilk_cert_text.specs.Parts.{said};
 
     fn new(alloc: Global) -> Self
@@ -90,20 +91,29 @@ fn take(
     Ok(())
 }
 
-/// The certificate whose text this is, or why it is none: the first fault, with its line. No byte is looked at twice, but
-/// for those of a line when it is read.
-pub fn read(alloc: Global, text: &[u8]) -> Result<Certificate, CertFault>
-    // It is a certificate, and this is its text.
-    ensures found { IfOk result (λ c. IsCertificate c × (text.now ≡ text_of c)) }
-    // A certificate's text is read, unless memory runs out.
-    ensures only { (c : Contents) → IsCertificate c → text.now ≡ text_of c → MatchResult result (λ d. d ≡ c) (λ fault. fault ≡ Memory) }
-    // Which fault it is.
+/// What the text's lines say.
+fn parts_of(alloc: Global, text: &[u8]) -> Result<Parts, CertFault>
+    ensures said { IfOk result (λ parts. said parts ≡ gathered nothing (reading_of text.now).lines) }
+    ensures whole { OnOk result ((reading_of text.now).fault ≡ None) }
     ensures fault { IfErr result (λ fault. fault ≢ Memory → (reading_of text.now).fault ≡ Some fault) }
-    ensures lines { IfOk result (λ c. reading_of text.now ≡ record { lines = lines_of c; fault = None }) }
 {
     let mut reader = LineReader::new();
     let mut parts = Parts::new(alloc);
     take(&mut reader, &mut parts, text)?;
     reader.end()?;
+    Ok(parts)
+}
+
+/// The certificate whose text this is, or why it is none: the first fault, with its line. It is one pass over the text.
+pub fn read(alloc: Global, text: &[u8]) -> Result<Certificate, CertFault>
+    // It is a certificate, and this is its text.
+    ensures found { IfOk result (λ c. IsCertificate c × (text.now ≡ text_of c)) }
+    // A certificate's text is read, unless memory runs out.
+    ensures only { (c : Contents) → IsCertificate c → text.now ≡ text_of c → MatchResult result (λ d. d ≡ c) (λ fault. fault ≡ Memory) }
+    // Which lines they are, and which fault it is.
+    ensures lines { IfOk result (λ c. reading_of text.now ≡ record { lines = lines_of c; fault = None }) }
+    ensures fault { IfErr result (λ fault. fault ≢ Memory → (reading_of text.now).fault ≡ Some fault) }
+{
+    let parts = parts_of(alloc, text)?;
     Ok(parts.finish())
 }

@@ -1,35 +1,24 @@
-use Rattle.std.proofs.Common.{rules, ◌≡◌, ◌≢◌, ◌++◌, List, ℕ, IfOk, IfErr, OnOk, Some, None, MatchResult, ◌+◌, ◌-◌, ◌*◌, ◌<◌, ◌≤◌, length, ◌/◌, ◌%◌, Bool, true, false, nat_eq, nat_lt, [], ◌∷◌, slice_index_or, slice_set, bit_and, bit_or, Fits, w8, w32, w64, Bor, MutBor}
-use Rattle.cilk_cert_text.specs.declared.fault.CertFault.TheVariants.{Memory}
-use Rattle.cilk_cert_text.specs.Certificates.{Contents, IsCertificate, text_of, lines_of}
-use Rattle.cilk_cert_text.specs.Reading.{reading_of}
-use Rattle.cilk_cert_text.specs.Readers.{ahead}
-use Rattle.cilk_cert_text.specs.Parts.{said, Leads}
+use Rattle.std.proofs.Common.{sym, ap, ◌∙◌, subst}
+use Rattle.std.proofs.lemmas.Result.{err_from_is_err_and}
+use Rattle.cilk_cert_text.specs.Parts.{said}
+use Rattle.cilk_cert_text.proofs.Texts.{IsRead, is_read, only_ok, only_err}
 use Rattle.cilk_cert_text.proofs.read.read.Goals as goal
 
--- src/read.rt:106:5
-pub returns-in_err-take-clause-only : goal.returns-in_err-take-clause-only
-returns-in_err-take-clause-only c = ?
+pub returns-in_err-parts-clause-only : goal.returns-in_err-parts-clause-only
+returns-in_err-parts-clause-only c = λ d fits is.
+    let p = err_from_is_err_and c.from_residual.result c.from_residual.ensures.1 in
+    rw (p.1, p.2) (only_err c.args.text.now c.in_err-parts.field-0.0 c.in_err-parts.ensures.fault d fits is)
 
--- src/read.rt:106:5
-pub returns-in_err-take-clause-fault : goal.returns-in_err-take-clause-fault
-returns-in_err-take-clause-fault c = ?
-
--- src/read.rt:107:5
-pub returns-in_err-end-clause-only : goal.returns-in_err-end-clause-only
-returns-in_err-end-clause-only c = ?
-
--- src/read.rt:108:8
 pub finish-requires : goal.finish-requires
-finish-requires c = ?
+finish-requires c = (is_read c.args.text.now (said c.in_ok-parts.parts) c.in_ok-parts.ensures.said c.in_ok-parts.ensures.whole).fits
 
--- src/read.rt:95:1
 pub returns-clause-found : goal.returns-clause-found
-returns-clause-found c = ?
+returns-clause-found c =
+    let r = is_read c.args.text.now c.finish.result (c.finish.ensures ∙ c.in_ok-parts.ensures.said) c.in_ok-parts.ensures.whole in
+    (r.fits, r.text_is)
 
--- src/read.rt:95:1
 pub returns-clause-only : goal.returns-clause-only
-returns-clause-only c = ?
+returns-clause-only c = λ d fits is. only_ok c.args.text.now c.finish.result d (c.finish.ensures ∙ c.in_ok-parts.ensures.said) fits is
 
--- src/read.rt:95:1
 pub returns-clause-lines : goal.returns-clause-lines
-returns-clause-lines c = ?
+returns-clause-lines c = (is_read c.args.text.now c.finish.result (c.finish.ensures ∙ c.in_ok-parts.ensures.said) c.in_ok-parts.ensures.whole).lines
