@@ -26,10 +26,10 @@ use Rattle.cilk_cert_text.specs.declared.line.Keyword.{Keyword}
 use Rattle.cilk_cert_text.specs.declared.line.Keyword.TheVariants as keywords
 use Rattle.cilk_cert_text.specs.Words.{◌>>=◌, joined, words, with_first, number_of, value_of, number_at, value_at, first_of, behind, ended}
 use Rattle.cilk_cert_text.specs.Lines.{spelling, reducer_words, entry_words, version_word, line_words, spelled, first_spelled, all_keywords, keyword_of, reducer_at, reducer_value_at, entry_at, event_line, version_of, version_line, is_size, size_line, frame_line, strand_line, result_line, end_line, words_line, line_of}
-use Rattle.cilk_cert_text.specs.Certificates.{IsNumber, IsValue, NamesReducer, IsEntry, IsFrame, IsStrand}
+use Rattle.cilk_cert_text.specs.Certificates.{IsNumber, IsValue, NamesReducer, IsEntry, IsFrame, IsStrand, IsAt}
 use Rattle.cilk_cert_text.specs.Reading.{first_line}
 use Rattle.cilk_cert_text.proofs.Numerals.{own, number_found, number_spelled, value_found, value_spelled}
-use Rattle.cilk_cert_text.proofs.Spellings.{is_plain, are_plain, number_plain, value_plain, words_joined, joined_words, joined_line, bind_some, number_step, value_step, behind_step, ended_step, prepend, some_is, cond_none, IsAt, Spells, both, frame_sound, strand_sound, end_sound, result_sound, number_again, value_again, size_within}
+use Rattle.cilk_cert_text.proofs.Spellings.{is_plain, are_plain, number_plain, value_plain, words_joined, joined_words, joined_line, bind_some, number_step, value_step, behind_step, ended_step, prepend, some_is, cond_none, Spells, both, frame_sound, strand_sound, end_sound, result_sound, number_again, value_again, size_within}
 
 
 -- ---- what is read as an event

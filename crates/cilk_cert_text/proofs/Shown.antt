@@ -16,10 +16,10 @@ use Rattle.cilk_cert_text.specs.declared.line.Form.{Form}
 use Rattle.cilk_cert_text.specs.declared.line.Form.TheVariants as forms
 use Rattle.cilk_cert_text.specs.Words.{joined, words}
 use Rattle.cilk_cert_text.specs.Lines.{reducer_words, entry_words, line_words, spelled, line_of, is_size, version_line, size_line}
-use Rattle.cilk_cert_text.specs.Certificates.{IsNumber, IsValue, NamesReducer, IsEntry}
+use Rattle.cilk_cert_text.specs.Certificates.{IsNumber, IsValue, NamesReducer, IsEntry, IsAt}
 use Rattle.cilk_cert_text.specs.Reading.{first_line}
 use Rattle.cilk_cert_text.proofs.Readings.{first_some}
-use Rattle.cilk_cert_text.proofs.Spellings.{is_plain, are_plain, both, number_plain, value_plain, words_joined, joined_line, IsAt, size_within, version_again, size_again}
+use Rattle.cilk_cert_text.proofs.Spellings.{is_plain, are_plain, both, number_plain, value_plain, words_joined, joined_line, size_within, version_again, size_again}
 use Rattle.cilk_cert_text.proofs.Entries.{words_again}
 
 -- the bytes that words take behind a first one

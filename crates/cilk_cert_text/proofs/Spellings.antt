@@ -26,7 +26,7 @@ use Rattle.cilk_cert_text.specs.declared.line.Keyword.{Keyword}
 use Rattle.cilk_cert_text.specs.declared.line.Keyword.TheVariants as keywords
 use Rattle.cilk_cert_text.specs.Words.{◌>>=◌, joined, words, with_first, number_of, value_of, number_at, value_at, first_of, behind, ended}
 use Rattle.cilk_cert_text.specs.Lines.{spelling, reducer_words, entry_words, version_word, line_words, spelled, first_spelled, all_keywords, keyword_of, reducer_at, reducer_value_at, entry_at, event_line, version_of, version_line, is_size, size_line, frame_line, strand_line, result_line, end_line, words_line, line_of}
-use Rattle.cilk_cert_text.specs.Certificates.{IsNumber, IsValue, NamesReducer, IsEntry, IsFrame, IsStrand}
+use Rattle.cilk_cert_text.specs.Certificates.{IsNumber, IsValue, NamesReducer, IsEntry, IsFrame, IsStrand, IsAt}
 use Rattle.cilk_cert_text.specs.Reading.{first_line}
 use Rattle.cilk_cert_text.proofs.Numerals.{own, number_found, number_spelled, value_found, value_spelled}
 use Rattle.cilk_cert_text.proofs.Readings.{first_none, first_some}
@@ -181,16 +181,6 @@ value_step (w ∷ ws) p e =
 pub ended_step : {A : Type 0} (x y : A) (ws : List (List ℕ)) → ended x ws ≡ Some y → (x ≡ y) × (ws ≡ [])
 ended_step x y [] e = (cc, refl)
 ended_step x y (w ∷ ws) e = absurd cc
-
--- ---- which lines may stand at a place
-
-abbrev pub IsAt : Form → Line → Type 0
-IsAt (forms.Frame k) (lines.Frame n f) = IsNumber n × (n ≡ k) × IsFrame f
-IsAt (forms.Strand k) (lines.Strand n s) = IsNumber n × (n ≡ k) × IsStrand s
-IsAt (forms.Event v) (lines.Event e) = IsEntry v e
-IsAt forms.Result (lines.Result z) = IsValue z
-IsAt forms.End lines.End = Unit {0}
-IsAt form line = ⊥
 
 -- words that are a line's
 pub record Spells (form : Form) (ws : List (List ℕ)) (x : Line) : Type 0 where

@@ -7,7 +7,7 @@ use Rattle.cilk_cert_text.specs.Certificates.{Contents, lines_of, text_of, IsCer
 use Rattle.cilk_cert_text.specs.Reading.{Reading, whole, stops, reading_of}
 use Rattle.cilk_cert_text.specs.Gathering.{nothing, gathered}
 use Rattle.cilk_cert_text.specs.Parts.{Leads}
-use Rattle.cilk_cert_text.proofs.Wholes.{IsTextOf, certificate_sound, certificate_again, gathered_lines}
+use Rattle.cilk_cert_text.proofs.Wholes.{IsTextOf, certificate_sound, certificate_again, certificate_over, gathered_lines}
 
 same_reading : (r : Reading) (ls : List Line) → r.lines ≡ ls → r.fault ≡ None → r ≡ record { lines = ls; fault = None }
 same_reading r ls e f = rw (← e, ← f) refl
@@ -60,3 +60,20 @@ lead_whole r first last c e l w = ap (λ (x : Reading). x.fault) (sym e) ∙ l.f
 
 pub lead_fault : (r first last : Reading) (c : Contents) (f : CertFault) → first ≡ r → Leads first nothing last c → last ≡ stops f → r.fault ≡ Some f
 lead_fault r first last c f e l w = ap (λ (x : Reading). x.fault) (sym e) ∙ l.fault ∙ ap (λ (x : Reading). x.fault) w
+
+-- ---- one text, one certificate
+
+pub one_certificate : (c d : Contents) → IsCertificate c → IsCertificate d → text_of c ≡ text_of d → c ≡ d
+one_certificate c d h k e =
+    let same = sym (certificate_again c h) ∙ ap reading_of e ∙ certificate_again d k in
+    sym (gathered_lines c) ∙ ap (λ (x : Reading). gathered nothing x.lines) same ∙ gathered_lines d
+
+pub from_text : (text : List ℕ) → (reading_of text).fault ≡ None → (c : Contents) × IsCertificate c × ((reading_of text).lines ≡ lines_of c) × (text ≡ text_of c)
+from_text text clean = let t = certificate_sound text (reading_of text) refl clean in (t.certificate, t.fits, t.lines, t.text)
+
+pub no_beginning : (c d : Contents) (rest : List ℕ) → IsCertificate c → IsCertificate d → text_of c ++ rest ≡ text_of d → rest ≡ []
+no_beginning c d [] h k e = refl
+no_beginning c d (b ∷ rest) h k e =
+    let o = certificate_over c h b rest in
+    let clean = ap (λ (x : Reading). x.fault) (ap reading_of e ∙ certificate_again d k) in
+    absurd (none_some o.0 (sym clean ∙ o.1))

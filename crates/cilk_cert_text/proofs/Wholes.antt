@@ -16,10 +16,10 @@ use Rattle.cilk_cert_text.specs.declared.line.Form.{Form}
 use Rattle.cilk_cert_text.specs.declared.line.Form.TheVariants as forms
 use Rattle.cilk_cert_text.specs.Words.{words, joined}
 use Rattle.cilk_cert_text.specs.Lines.{line_words, spelled, line_of, is_size, version_line, size_line}
-use Rattle.cilk_cert_text.specs.Certificates.{Contents, frame_lines, strand_lines, event_lines, size_of, lines_of, text_of_lines, text_of, IsNumber, IsValue, IsEntry, IsFrame, IsStrand, IsCertificate}
+use Rattle.cilk_cert_text.specs.Certificates.{Contents, frame_lines, strand_lines, event_lines, size_of, lines_of, text_of_lines, text_of, IsNumber, IsValue, IsEntry, IsFrame, IsStrand, IsCertificate, IsAt}
 use Rattle.cilk_cert_text.specs.Reading.{Reading, whole, stops, with_line, first_line, taken, step, frame_forms, strand_forms, event_forms, forms_of, Opening, reading_lines, reading_size, reading, reading_of}
 use Rattle.cilk_cert_text.specs.Gathering.{nothing, with_said, gathered}
-use Rattle.cilk_cert_text.proofs.Spellings.{IsAt, both, version_sound, size_sound, size_within, version_again, size_again, joined_words}
+use Rattle.cilk_cert_text.proofs.Spellings.{both, version_sound, size_sound, size_within, version_again, size_again, joined_words}
 use Rattle.cilk_cert_text.proofs.Entries.{line_sound}
 use Rattle.cilk_cert_text.proofs.Shown.{Shown, shown_line, shown_version, shown_size, words_shown, short, front_line, line_again}
 
@@ -168,6 +168,42 @@ certificate_again c h =
       ∙ ap (with_line (lines.Version c.version))
         (step_again 2 (λ l. size_line (words l)) (λ size rest. with_line (lines.Size size) (reading_lines 3 (forms_of c.version size) rest)) (lines.Size (size_of c)) (size_of c) _ s size_is
           ∙ ap (with_line (lines.Size (size_of c))) (lines_again 3 (forms_of c.version (size_of c)) (body_lines c) (body_at c h)))
+
+-- ---- bytes behind a certificate's text
+
+-- the fault that a reading ends with
+abbrev pub Ends : Reading → Type 0
+Ends r = (f : CertFault) × (r.fault ≡ Some f)
+
+ends_step : (r r' : Reading) → r ≡ r' → Ends r' → Ends r
+ends_step r r' e h = (h.0, ap (λ (x : Reading). x.fault) e ∙ h.1)
+
+lines_over : (n : ℕ) (fs : List Form) (xs : List Line) (b : ℕ) (more : List ℕ) → AllAt fs xs → Ends (reading_lines n fs (text_of_lines xs ++ b ∷ more))
+lines_over n [] [] b more h = (Malformed n, refl)
+lines_over n [] (x ∷ xs) b more h = absurd h
+lines_over n (f ∷ fs) [] b more h = absurd h
+lines_over n (f ∷ fs) (x ∷ xs) b more h =
+    let later = lines_over (n + 1) fs xs b more h.1 in
+    let regrouped : text_of_lines (x ∷ xs) ++ b ∷ more ≡ (spelled x ++ 10 ∷ []) ++ (text_of_lines xs ++ b ∷ more) = append_assoc (spelled x ++ 10 ∷ []) (text_of_lines xs) (b ∷ more) in
+    ends_step _ _ (ap (reading_lines n (f ∷ fs)) regrouped
+      ∙ step_again n (line_of f) (λ line rest. with_line line (reading_lines (n + 1) fs rest)) x x (text_of_lines xs ++ b ∷ more) (shown_line f x h.0) (line_again f x h.0)) later
+
+pub certificate_over : (c : Contents) → IsCertificate c → (b : ℕ) (more : List ℕ) → Ends (reading_of (text_of c ++ b ∷ more))
+unfolding reading
+certificate_over c h b more =
+    let fits = size_fits c h in
+    let v = shown_version c.version in
+    let s = shown_size (size_of c) fits in
+    let version_is : version_line (words (spelled (lines.Version c.version))) ≡ Some c.version = ap version_line (words_shown (lines.Version c.version) v) ∙ version_again c.version in
+    let size_is : size_line (words (spelled (lines.Size (size_of c)))) ≡ Some (size_of c) = ap size_line (words_shown (lines.Size (size_of c)) s) ∙ size_again (size_of c) fits in
+    let body = lines_over 3 (forms_of c.version (size_of c)) (body_lines c) b more (body_at c h) in
+    let rest : List ℕ = text_of_lines (body_lines c) ++ b ∷ more in
+    let second : text_of_lines (lines.Size (size_of c) ∷ body_lines c) ++ b ∷ more ≡ (spelled (lines.Size (size_of c)) ++ 10 ∷ []) ++ rest = append_assoc (spelled (lines.Size (size_of c)) ++ 10 ∷ []) (text_of_lines (body_lines c)) (b ∷ more) in
+    let first : text_of c ++ b ∷ more ≡ (spelled (lines.Version c.version) ++ 10 ∷ []) ++ (text_of_lines (lines.Size (size_of c) ∷ body_lines c) ++ b ∷ more) = append_assoc (spelled (lines.Version c.version) ++ 10 ∷ []) (text_of_lines (lines.Size (size_of c) ∷ body_lines c)) (b ∷ more) in
+    ends_step _ _ (ap reading_of first
+      ∙ step_again 1 (λ l. version_line (words l)) (λ version rest. with_line (lines.Version version) (reading_size version 2 rest)) (lines.Version c.version) c.version (text_of_lines (lines.Size (size_of c) ∷ body_lines c) ++ b ∷ more) v version_is
+      ∙ ap (λ (t : List ℕ). with_line (lines.Version c.version) (reading_size c.version 2 t)) second
+      ∙ ap (with_line (lines.Version c.version)) (step_again 2 (λ l. size_line (words l)) (λ size rest. with_line (lines.Size size) (reading_lines 3 (forms_of c.version size) rest)) (lines.Size (size_of c)) (size_of c) rest s size_is)) body
 
 -- ---- back to the certificate
 

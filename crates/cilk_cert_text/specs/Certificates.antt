@@ -14,6 +14,8 @@ use Rattle.cilk_cert_text.specs.declared.line.Frame.{Frame}
 use Rattle.cilk_cert_text.specs.declared.line.Strand.{Strand}
 use Rattle.cilk_cert_text.specs.declared.line.Line.{Line}
 use Rattle.cilk_cert_text.specs.declared.line.Line.TheVariants as lines
+use Rattle.cilk_cert_text.specs.declared.line.Form.{Form}
+use Rattle.cilk_cert_text.specs.declared.line.Form.TheVariants as forms
 use Rattle.cilk_cert_text.specs.Lines.{spelled}
 
 -- what a certificate says: frame and strand number k stand at place k of their lists, counted from 1
@@ -87,6 +89,15 @@ IsFrame f = IsNumber f.parent × IsNumber f.ordinal
 
 abbrev pub IsStrand : Strand → Type 0
 IsStrand s = IsNumber s.frame × IsNumber s.hebrew × IsNumber s.class
+
+-- which lines may stand at a place
+abbrev pub IsAt : Form → Line → Type 0
+IsAt (forms.Frame k) (lines.Frame n f) = IsNumber n × (n ≡ k) × IsFrame f
+IsAt (forms.Strand k) (lines.Strand n s) = IsNumber n × (n ≡ k) × IsStrand s
+IsAt (forms.Event v) (lines.Event e) = IsEntry v e
+IsAt forms.Result (lines.Result z) = IsValue z
+IsAt forms.End lines.End = Unit {0}
+IsAt form line = ⊥
 
 -- what has a text
 pub record IsCertificate (c : Contents) : Type 0 where

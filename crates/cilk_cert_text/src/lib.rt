@@ -3,6 +3,7 @@
 
 pub mod certificate;
 pub mod fault;
+pub mod laws;
 pub mod line;
 mod parse;
 mod place;
@@ -10,3 +11,6 @@ pub mod read;
 pub mod reader;
 mod word;
 pub mod write;
+
+#[cfg(test)]
+mod tests;
