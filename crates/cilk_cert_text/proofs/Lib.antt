@@ -1,0 +1,10 @@
+pub mod Cuts
+pub mod Dues
+pub mod Entries
+pub mod Numerals
+pub mod Readings
+pub mod Texts
+pub mod Shown
+pub mod Spellings
+pub mod Wholes
+pub mod Written

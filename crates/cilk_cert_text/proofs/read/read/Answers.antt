@@ -1,0 +1,24 @@
+use Rattle.std.proofs.Common.{sym, ap, ◌∙◌, subst}
+use Rattle.std.proofs.lemmas.Result.{err_from_is_err_and}
+use Rattle.cilk_cert_text.specs.Parts.{said}
+use Rattle.cilk_cert_text.proofs.Texts.{IsRead, is_read, only_ok, only_err}
+use Rattle.cilk_cert_text.proofs.read.read.Goals as goal
+
+pub returns-in_err-parts-clause-only : goal.returns-in_err-parts-clause-only
+returns-in_err-parts-clause-only c = λ d fits is.
+    let p = err_from_is_err_and c.from_residual.result c.from_residual.ensures.1 in
+    rw (p.1, p.2) (only_err c.args.text.now c.in_err-parts.field-0.0 c.in_err-parts.ensures.fault d fits is)
+
+pub finish-requires : goal.finish-requires
+finish-requires c = (is_read c.args.text.now (said c.in_ok-parts.parts) c.in_ok-parts.ensures.said c.in_ok-parts.ensures.whole).fits
+
+pub returns-clause-found : goal.returns-clause-found
+returns-clause-found c =
+    let r = is_read c.args.text.now c.finish.result (c.finish.ensures ∙ c.in_ok-parts.ensures.said) c.in_ok-parts.ensures.whole in
+    (r.fits, r.text_is)
+
+pub returns-clause-only : goal.returns-clause-only
+returns-clause-only c = λ d fits is. only_ok c.args.text.now c.finish.result d (c.finish.ensures ∙ c.in_ok-parts.ensures.said) fits is
+
+pub returns-clause-lines : goal.returns-clause-lines
+returns-clause-lines c = (is_read c.args.text.now c.finish.result (c.finish.ensures ∙ c.in_ok-parts.ensures.said) c.in_ok-parts.ensures.whole).lines

@@ -1,0 +1,10 @@
+use Rattle.std.proofs.Common.{sym, ◌∙◌, arith}
+use Rattle.cilk_cert_text.proofs.Numerals.{number_found, number_none}
+use Rattle.cilk_cert_text.proofs.word.number_in.Goals as goal
+
+pub returns-in_err-number : goal.returns-in_err-number
+returns-in_err-number c =
+    c.from_residual.ensures ∙ sym (number_none c.args.word.now (λ n h e. c.in_err-number.ensures.none n (omega (arith, c.from.ensures)) e))
+
+pub returns : goal.returns
+returns c = sym (number_found c.in_ok-number.number c.args.word.now (omega (arith, c.in_ok-number.ensures.found.0, c.from.ensures)) c.in_ok-number.ensures.found.1)

@@ -1,0 +1,11 @@
+pub mod Certificates
+pub mod Fault
+pub mod Gathering
+pub mod Lines
+pub mod Parsing
+pub mod Parts
+pub mod Places
+pub mod Readers
+pub mod Reading
+pub mod Words
+pub mod Writing

@@ -1,0 +1,14 @@
+-- What was put together so far.
+use Rattle.std.specs.Prelude.{◌≡◌}
+use Rattle.cilk_cert_text.specs.declared.read.Parts.{Parts}
+use Rattle.cilk_cert_text.specs.Certificates.{Contents}
+use Rattle.cilk_cert_text.specs.Reading.{Reading}
+use Rattle.cilk_cert_text.specs.Gathering.{gathered}
+
+-- Two readings, each behind what was said before it, say the same in all.
+pub record Leads (r : Reading) (c : Contents) (r' : Reading) (c' : Contents) : Type 0 where
+  pub lines : gathered c r.lines ≡ gathered c' r'.lines
+  pub fault : r.fault ≡ r'.fault
+
+abbrev pub said : Parts → Contents
+said p = record { version = p.version; frames = p.frames.items; strands = p.strands.items; events = p.events.items; result = p.result }

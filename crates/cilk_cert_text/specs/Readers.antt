@@ -1,0 +1,31 @@
+-- What a reader in the middle of a text stands for.
+use Rattle.std.specs.Prelude.{◌≡◌, ℕ, ◌+◌, List, [], ◌++◌, take, Option, Some, None}
+use Rattle.cilk_cert_text.specs.declared.fault.CertFault.{CertFault}
+use Rattle.cilk_cert_text.specs.declared.line.Line.{Line}
+use Rattle.cilk_cert_text.specs.declared.reader.LineReader.{LineReader}
+use Rattle.cilk_cert_text.specs.Places.{due_of, number_at}
+use Rattle.cilk_cert_text.specs.Reading.{Reading, Due, stops, with_line, reading}
+
+-- the fault that it has answered
+abbrev pub fault_of : LineReader → Option CertFault
+fault_of r = r.fault
+
+-- the number of the line at hand
+abbrev pub line_number : LineReader → ℕ
+line_number r = number_at r.place
+
+abbrev pub rest_of : Option CertFault → Due → ℕ → List ℕ → Reading
+rest_of (Some fault) due number bytes = stops fault
+rest_of None due number bytes = reading due number bytes
+
+-- What it will give if these bytes come, and then the end.
+abbrev pub ahead : LineReader → List ℕ → Reading
+ahead r more = rest_of r.fault (due_of r.place) (number_at r.place) (take r.length r.bytes ++ more)
+
+abbrev pub with_lines : Option Line → Reading → Reading
+with_lines None reading = reading
+with_lines (Some line) reading = with_line line reading
+
+-- the fault comes, whatever bytes follow
+abbrev pub IsCertain : LineReader → CertFault → Type 0
+IsCertain r fault = (more : List ℕ) → ahead r more ≡ stops fault

@@ -1,0 +1,98 @@
+//! A certificate: what a run claims about itself.
+
+ghost use Rattle.std.specs.Prelude.{◌≡◌, ◌≤◌, length};
+
+use crate::line::{Entry, Frame, Size, Strand, Version};
+use std::marker::Model;
+
+/// A certificate within the limits of the format: at most 1,000,000 events, 65,536 frames and 1,000,000 strands, and each
+/// reducer named as the version does it. Frame number k stands at place k - 1, and so does strand number k.
+#[derive(Drop, Debug)]
+pub struct Certificate {
+    version: Version,
+    frames: Vec<Frame>,
+    strands: Vec<Strand>,
+    events: Vec<Entry>,
+    result: i64,
+}
+
+impl Model for Certificate {
+    ghost use Rattle.cilk_cert_text.specs.Certificates.{Contents, IsCertificate};
+
+    ghost Value = { Contents };
+
+    ghost view = { λ c. record { version = c.version; frames = c.frames.items; strands = c.strands.items; events = c.events.items; result = c.result } };
+
+    ghost invariant = { λ c. IsCertificate (record { version = c.version; frames = c.frames.items; strands = c.strands.items; events = c.events.items; result = c.result }) };
+}
+
+impl Certificate {
+    ghost use Rattle.cilk_cert_text.specs.Certificates.{Contents, IsCertificate, size_of};
+
+    /// The certificate of these parts, with the result's value last.
+    pub fn new(
+        version: Version,
+        frames: Vec<Frame>,
+        strands: Vec<Strand>,
+        events: Vec<Entry>,
+        value: i64,
+    ) -> Self
+        requires { IsCertificate (record { version = version; frames = frames.items; strands = strands.items; events = events.items; result = value }) }
+        ensures { result ≡ record { version = version; frames = frames.items; strands = strands.items; events = events.items; result = value } }
+    {
+        Certificate {
+            version,
+            frames,
+            strands,
+            events,
+            result: value,
+        }
+    }
+
+    pub fn version(&self) -> Version
+        ensures value { result ≡ self.now.version }
+        ensures certificate { IsCertificate self.now }
+    {
+        self.version
+    }
+
+    /// How many lines of each kind its text has.
+    pub fn size(&self) -> Size
+        ensures value { result ≡ size_of self.now }
+        ensures certificate { IsCertificate self.now }
+    {
+        Size {
+            events: self.events.len() as u32,
+            frames: self.frames.len() as u32,
+            strands: self.strands.len() as u32,
+        }
+    }
+
+    pub fn frames(&self) -> &[Frame]
+        ensures value { result.now ≡ self.now.frames }
+        ensures certificate { IsCertificate self.now }
+    {
+        self.frames.as_slice()
+    }
+
+    pub fn strands(&self) -> &[Strand]
+        ensures value { result.now ≡ self.now.strands }
+        ensures certificate { IsCertificate self.now }
+    {
+        self.strands.as_slice()
+    }
+
+    pub fn events(&self) -> &[Entry]
+        ensures value { result.now ≡ self.now.events }
+        ensures certificate { IsCertificate self.now }
+    {
+        self.events.as_slice()
+    }
+
+    pub fn result(&self) -> i64
+        ensures value { result ≡ self.now.result }
+        ensures certificate { IsCertificate self.now }
+    {
+        self.result
+    }
+}

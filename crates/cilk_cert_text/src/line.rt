@@ -1,0 +1,138 @@
+//! What a line of a certificate says.
+
+use cilk_types::event::{Cell, FrameNo, Instance, Pos, StrandNo};
+
+/// The version of the format. They differ in how an event names a reducer.
+#[derive(Clone, Copy, PartialEq, Eq, Debug)]
+pub enum Version {
+    One,
+    Two,
+}
+
+/// How an event names a reducer.
+#[derive(Clone, Copy, PartialEq, Eq, Debug)]
+pub enum Reducer {
+    /// In version 1: the reducers are counted from 1 as they are created.
+    Number(u32),
+    /// In version 2: by the frame that created it, and its place among that frame's reducers from 1.
+    Place(Instance),
+}
+
+/// An event as a certificate lists it: as the run makes it, and with the source of each read.
+#[derive(Clone, Copy, PartialEq, Eq, Debug)]
+pub enum Entry {
+    Begin {
+        frame: FrameNo,
+    },
+    Spawn {
+        child: FrameNo,
+    },
+    Call {
+        child: FrameNo,
+    },
+    Resume {
+        parent: FrameNo,
+    },
+    Sync,
+    End,
+    /// The source is the position of the last earlier write of the cell, 0 where there is none.
+    Read {
+        cell: Cell,
+        value: i64,
+        source: Pos,
+    },
+    Write {
+        cell: Cell,
+        value: i64,
+    },
+    Create {
+        reducer: Reducer,
+    },
+    Update {
+        reducer: Reducer,
+        value: i64,
+    },
+    Set {
+        reducer: Reducer,
+        value: i64,
+    },
+    Value {
+        reducer: Reducer,
+        value: i64,
+    },
+    Print {
+        value: i64,
+    },
+}
+
+/// How many lines of each kind there are.
+#[derive(Clone, Copy, PartialEq, Eq, Debug)]
+pub struct Size {
+    pub events: u32,
+    pub frames: u32,
+    pub strands: u32,
+}
+
+/// The parent of a frame, and the number of its invocation there from 1; both are 0 for the root.
+#[derive(Clone, Copy, PartialEq, Eq, Debug)]
+pub struct Frame {
+    pub parent: FrameNo,
+    pub ordinal: u32,
+}
+
+/// The frame of a strand, its Hebrew number (Feng and Leiserson 1997) and its peer class (Lee and Schardl 2015).
+#[derive(Clone, Copy, PartialEq, Eq, Debug)]
+pub struct Strand {
+    pub frame: FrameNo,
+    pub hebrew: u32,
+    pub class: StrandNo,
+}
+
+/// A line of a certificate.
+#[derive(Clone, Copy, PartialEq, Eq, Debug)]
+pub enum Line {
+    Version(Version),
+    Size(Size),
+    Frame { number: FrameNo, frame: Frame },
+    Strand { number: StrandNo, strand: Strand },
+    Event(Entry),
+    Result(i64),
+    End,
+}
+
+/// What stands at a place of a certificate behind its first two lines.
+#[derive(Clone, Copy, PartialEq, Eq, Debug)]
+pub enum Form {
+    /// The line of the frame with this number.
+    Frame(FrameNo),
+    /// The line of the strand with this number.
+    Strand(StrandNo),
+    /// An event as the version writes it.
+    Event(Version),
+    Result,
+    End,
+}
+
+/// The word that an event's line begins with.
+#[derive(Clone, Copy, PartialEq, Eq, Debug)]
+pub enum Keyword {
+    Begin,
+    Spawn,
+    Call,
+    Resume,
+    Sync,
+    End,
+    Read,
+    Write,
+    Create,
+    Update,
+    Set,
+    Value,
+    Print,
+}
+
+/// The most events, and the most strands, that a certificate may have.
+pub const MAX_EVENTS: u32 = 1_000_000;
+
+/// The most frames that a certificate may have.
+pub const MAX_FRAMES: u32 = 65_536;

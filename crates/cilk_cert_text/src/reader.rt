@@ -1,0 +1,196 @@
+//! A certificate's text read in pieces.
+
+ghost use Rattle.std.specs.Prelude.{◌≡◌, ◌+◌, ◌<◌, ◌≤◌, [], ◌++◌, length as len_of, take, drop, Some, None, IfSome, IfNone};
+ghost use Rattle.cilk_cert_text.specs.Reading.{first_line, Lines};
+ghost use Rattle.cilk_cert_text.specs.Places.{due_of};
+
+use crate::fault::CertFault;
+use crate::line::Line;
+use crate::place::Place;
+
+/// The most bytes of a line before its LF.
+const LONGEST: usize = 96;
+
+/// Reads a certificate's text in whatever pieces it comes, and gives its lines. It takes no memory.
+#[derive(Drop, Debug)]
+pub struct LineReader {
+    place: Place,
+    // The bytes of the line at hand so far stand in front.
+    bytes: [u8; LONGEST],
+    length: usize,
+    fault: Option<CertFault>,
+    ghost room: { length ≤ 96 },
+    ghost whole: { len_of bytes ≡ 96 },
+    ghost no_lf: { first_line (take length bytes) ≡ None },
+    ghost at_end: { due_of place ≡ Lines [] → length ≡ 0 },
+}
+
+/// Where the first LF is.
+fn end_of_line(piece: &[u8]) -> Option<usize>
+    ensures found { IfSome result (λ at. first_line piece.now ≡ Some (take at piece.now, drop (at + 1) piece.now)) }
+    ensures within { IfSome result (λ at. at < len_of piece.now) }
+    ensures none { IfNone result (first_line piece.now ≡ None) }
+{
+    for (at, byte) in piece.iter().enumerate() {
+        if *byte == b'\n' {
+            return Some(at);
+        }
+    }
+    None
+}
+
+/// Writes the bytes behind the first `length`.
+fn append(bytes: &mut [u8; LONGEST], length: usize, more: &[u8])
+    requires { length + len_of more.now ≤ 96 }
+    ensures front { take (length + len_of more.now) bytes.new ≡ take length bytes.old ++ more.now }
+    ensures whole { len_of bytes.new ≡ 96 }
+{
+    bytes[length..length + more.len()].copy_from_slice(more);
+}
+
+impl Default for LineReader {
+    fn default() -> Self {
+        LineReader::new()
+    }
+}
+
+impl LineReader {
+    ghost use Rattle.std.specs.Prelude.{◌≢◌, ℕ, List, MatchResult, IfErr, IfOk, OnOk, option_map};
+    ghost use Rattle.cilk_cert_text.specs.declared.fault.CertFault.{CertFault};
+    ghost use Rattle.cilk_cert_text.specs.declared.fault.CertFault.TheVariants.{Malformed, Truncated};
+    ghost use Rattle.cilk_cert_text.specs.Places.{line_at, number_at};
+    ghost use Rattle.cilk_cert_text.specs.Reading.{reading_of, stops, whole};
+    ghost use Rattle.cilk_cert_text.specs.Readers.{ahead, fault_of, with_lines, line_number, IsCertain};
+
+    /// At the beginning of a text.
+    pub fn new() -> Self
+        ensures text { (text : List ℕ) → ahead result text ≡ reading_of text }
+        ensures fault { fault_of result ≡ None }
+    {
+        LineReader {
+            place: Place::Version,
+            bytes: [0; LONGEST],
+            length: 0,
+            fault: None,
+        }
+    }
+
+    /// Ends with a malformed line.
+    fn malformed(&mut self) -> CertFault
+        ensures value { result ≡ Malformed (line_number self.old) }
+        ensures stays { fault_of self.new ≡ Some result }
+    {
+        let line = self.place.number();
+        let fault = CertFault::Malformed { line };
+        self.fault = Some(fault);
+        fault
+    }
+
+    /// The line that these bytes end, and the place behind it.
+    fn line(&self, front: &[u8]) -> Option<(Line, Place)>
+        requires { self.now.length + len_of front.now ≤ 96 }
+        ensures line { option_map (λ r. (r.0, due_of r.1)) result ≡ line_at (due_of self.now.place) (take self.now.length self.now.bytes ++ front.now) }
+        ensures number { IfSome result (λ r. number_at r.1 ≡ number_at self.now.place + 1) }
+    {
+        if self.length == 0 {
+            return self.place.line(front);
+        }
+        let mut bytes = self.bytes;
+        append(&mut bytes, self.length, front);
+        self.place.line(&bytes[..self.length + front.len()])
+    }
+
+    /// Takes the bytes up to the first LF.
+    fn end_line(&mut self, at: usize, piece: &[u8]) -> Result<(usize, Option<Line>), CertFault>
+        requires within { at < len_of piece.now }
+        requires found { first_line piece.now ≡ Some (take at piece.now, drop (at + 1) piece.now) }
+        requires fault { fault_of self.old ≡ None }
+        requires due { due_of self.old.place ≢ Lines [] }
+        ensures fault { IfErr result (λ fault. (more : List ℕ) → ahead self.old (piece.now ++ more) ≡ stops fault) }
+        ensures stays { IfErr result (λ fault. fault_of self.new ≡ Some fault) }
+        ensures malformed { IfErr result (λ fault. fault ≡ Malformed (line_number self.old)) }
+        ensures line { IfOk result (λ r. (more : List ℕ) → ahead self.old (piece.now ++ more) ≡ with_lines r.1 (ahead self.new (drop r.0 piece.now ++ more))) }
+        ensures taken { IfOk result (λ r. r.0 ≡ at + 1) }
+        ensures silent { OnOk result (fault_of self.new ≡ None) }
+    {
+        if at > LONGEST - self.length {
+            return Err(self.malformed());
+        }
+        match self.line(&piece[..at]) {
+            None => Err(self.malformed()),
+            Some((line, place)) => {
+                self.place = place;
+                self.length = 0;
+                Ok((at + 1, Some(line)))
+            }
+        }
+    }
+
+    /// Takes bytes with no LF.
+    fn go_on(&mut self, piece: &[u8]) -> Result<(usize, Option<Line>), CertFault>
+        requires none { first_line piece.now ≡ None }
+        requires fault { fault_of self.old ≡ None }
+        requires due { due_of self.old.place ≢ Lines [] }
+        ensures fault { IfErr result (λ fault. (more : List ℕ) → ahead self.old (piece.now ++ more) ≡ stops fault) }
+        ensures stays { IfErr result (λ fault. fault_of self.new ≡ Some fault) }
+        ensures malformed { IfErr result (λ fault. fault ≡ Malformed (line_number self.old)) }
+        ensures line { IfOk result (λ r. (more : List ℕ) → ahead self.old (piece.now ++ more) ≡ with_lines r.1 (ahead self.new (drop r.0 piece.now ++ more))) }
+        ensures taken { IfOk result (λ r. r.0 ≡ len_of piece.now) }
+        ensures silent { OnOk result (fault_of self.new ≡ None) }
+    {
+        if piece.len() > LONGEST - self.length {
+            return Err(self.malformed());
+        }
+        append(&mut self.bytes, self.length, piece);
+        self.length += piece.len();
+        Ok((piece.len(), None))
+    }
+
+    /// Takes bytes from the front of the piece, up to the end of a line at most; gives how many, and the line that
+    /// became whole. A fault comes as soon as it is certain, whatever bytes follow; every later call answers it too.
+    pub fn next(&mut self, piece: &[u8]) -> Result<(usize, Option<Line>), CertFault>
+        ensures fault { IfErr result (λ fault. (more : List ℕ) → ahead self.old (piece.now ++ more) ≡ stops fault) }
+        ensures stays { IfErr result (λ fault. fault_of self.new ≡ Some fault) }
+        ensures same { (fault : CertFault) → fault_of self.old ≡ Some fault → result ≡ Err fault }
+        ensures malformed { IfErr result (λ fault. fault_of self.old ≡ None → fault ≡ Malformed (line_number self.old)) }
+        ensures line { IfOk result (λ r. (more : List ℕ) → ahead self.old (piece.now ++ more) ≡ with_lines r.1 (ahead self.new (drop r.0 piece.now ++ more))) }
+        ensures taken { IfOk result (λ r. r.0 ≤ len_of piece.now) }
+        ensures progress { IfOk result (λ r. r.0 ≡ 0 → piece.now ≡ []) }
+        ensures silent { OnOk result (fault_of self.new ≡ None) }
+        ensures prompt { OnOk result ((fault : CertFault) → IsCertain self.new fault → ⊥) }
+    {
+        if let Some(fault) = self.fault {
+            return Err(fault);
+        }
+        if piece.is_empty() {
+            return Ok((0, None));
+        }
+        if self.place.is_finished() {
+            return Err(self.malformed());
+        }
+        match end_of_line(piece) {
+            Some(at) => self.end_line(at, piece),
+            None => self.go_on(piece),
+        }
+    }
+
+    /// Says that the text has ended. A text that ends too early is a fault, which every later call answers too.
+    pub fn end(&mut self) -> Result<(), CertFault>
+        ensures whole { OnOk result ((ahead self.old [] ≡ whole) × (self.new ≡ self.old)) }
+        ensures fault { IfErr result (λ fault. ahead self.old [] ≡ stops fault) }
+        ensures stays { IfErr result (λ fault. fault_of self.new ≡ Some fault) }
+        ensures same { (fault : CertFault) → fault_of self.old ≡ Some fault → result ≡ Err fault }
+        ensures truncated { IfErr result (λ fault. fault_of self.old ≡ None → fault ≡ Truncated (line_number self.old)) }
+    {
+        if let Some(fault) = self.fault {
+            return Err(fault);
+        }
+        if self.place.is_finished() {
+            return Ok(());
+        }
+        let line = self.place.number();
+        let fault = CertFault::Truncated { line };
+        self.fault = Some(fault);
+        Err(fault)
+    }
+}
