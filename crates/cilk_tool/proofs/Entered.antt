@@ -12,8 +12,6 @@ use Rattle.clap.specs.declared.parser.matches.ArgMatches.{ArgMatches}
 use Rattle.clap.specs.declared.parser.matches.Found.{Found}
 use Rattle.clap.proofs.OnLiterals.{clap_on_literals}
 use Rattle.clap.proofs.WalkLemmas.{first_value-rows}
-use Rattle.std.specs.Option.{ok_or}
-use Rattle.std.specs.Prelude.{IfOk, IfErr}
 use Rattle.cilk_tool.specs.declared.words.Order.{Order}
 use Rattle.cilk_tool.specs.Words.{order_view, Asked, File, IsRefusal, IsWordsFault, Run, Standard, cilk_app, order_by, order_in, run_with, texts}
 use Rattle.cilk_tool.specs.declared.words.WordsFault.{WordsFault}
@@ -76,11 +74,10 @@ order_of_refused c (w ∷ words) e shape some kinds (Usage text) r =
       | inr h ↦ rw (among _ _ h) refl
     ]
 
--- the order that was found, or nothing is asked for
-pub order_found : (o : Option Order) (f : WordsFault) (words : List Text) → order_in words ≡ option_map order_view o → IfOk (ok_or o f) (λ p. order_in words ≡ Some (order_view p))
-order_found None f words h = tt
-order_found (Some p) f words h = h
+-- the order that was found
+pub order_found : (o : Option Order) (p : Order) (words : List Text) → order_in words ≡ option_map order_view o → o ≡ Some p → order_in words ≡ Some (order_view p)
+order_found o p words h e = h ∙ ap (option_map order_view) e
 
-pub order_lost : (o : Option Order) (f : WordsFault) (words : List Text) → order_in words ≡ option_map order_view o → (order_in words ≡ None → IsWordsFault words f) → IfErr (ok_or o f) (λ e. IsWordsFault words e)
-order_lost None f words h k = k h
-order_lost (Some p) f words h k = tt
+-- nothing is asked for
+pub order_lost : (o : Option Order) (words : List Text) → order_in words ≡ option_map order_view o → o ≡ None → order_in words ≡ None
+order_lost o words h e = h ∙ ap (option_map order_view) e

@@ -1,20 +1,20 @@
 -- What `serve` shows.
 use Rattle.std.specs.Prelude.{◌≡◌, ◌⊎◌, ◌<◌, ℕ, ℤ, List, [], Option, Some, None, IfSome, codes, take}
 use Rattle.std.specs.Io.KnownBytes.{Appends}
-use Rattle.cilk_names.specs.declared.program.Program.{Program}
+use Rattle.cilk_names.specs.Syntax.{Source}
 use Rattle.cilk_tool.specs.declared.streams.TheConstants.{MAX_READ}
 use Rattle.cilk_tool.specs.Files.{IsHeld}
 use Rattle.cilk_tool.specs.Judging.{InputFails, IsInputText, IsProgramText, ProgramFails, RunShows}
 use Rattle.cilk_tool.specs.Replies.{BadWords, IsErrorText, NoMemory, Reply, Text, Unreadable, line, out_text, status_of}
 use Rattle.cilk_tool.specs.Streams.{AppendsFront, AppendsPart}
-use Rattle.cilk_tool.specs.Words.{Asked, File, Run, Source, Standard, order_in}
+use Rattle.cilk_tool.specs.Words.{Asked, File, Run, Origin, Standard, order_in}
 
 -- standard input gives the text: all of it, up to the limit
 abbrev pub IsReceived : Option Text → Text → Type 0
 IsReceived known text = IfSome known (λ all. text ≡ take MAX_READ all)
 
--- the program text of a source, over what each file holds and what standard input gives
-abbrev pub GivesProgram : (Text → Option Text) → Option Text → Source → Text → Type 0
+-- the program text of an origin, over what each file holds and what standard input gives
+abbrev pub GivesProgram : (Text → Option Text) → Option Text → Origin → Text → Type 0
 GivesProgram files input Standard text = IsReceived input text
 GivesProgram files input (File path) text = IsHeld (files path) text
 
@@ -35,9 +35,9 @@ StandardFails (Unreadable name) = name ≡ codes "-"
 StandardFails NoMemory = Unit {0}
 StandardFails _ = ⊥
 
-abbrev pub SourceFails : ℕ → ℕ → Source → Reply → Type 0
-SourceFails failed failed' Standard r = StandardFails r
-SourceFails failed failed' (File path) r = FileFails failed failed' path r
+abbrev pub OriginFails : ℕ → ℕ → Origin → Reply → Type 0
+OriginFails failed failed' Standard r = StandardFails r
+OriginFails failed failed' (File path) r = FileFails failed failed' path r
 
 -- the empty input can't fail
 abbrev pub InputFileFails : ℕ → ℕ → Option Text → Reply → Type 0
@@ -57,14 +57,14 @@ world files input failed failed' = record { files = files; input = input; failed
 
 -- what a run is answered: the program text is read and judged, then the input text is read and judged, then the
 -- program runs; the first that fails is shown
-pub data RunReply (w : World) (program : Source) (input : Option Text) (r : Reply) : Type 0 where
-  ProgramUnread : SourceFails w.failed w.failed' program r → RunReply w program input r
+pub data RunReply (w : World) (program : Origin) (input : Option Text) (r : Reply) : Type 0 where
+  ProgramUnread : OriginFails w.failed w.failed' program r → RunReply w program input r
   ProgramRefused : (text : Text) → GivesProgram w.files w.input program text → ProgramFails text r → RunReply w program input r
-  InputUnread : (text : Text) (p : Program) → GivesProgram w.files w.input program text → IsProgramText text p
+  InputUnread : (text : Text) (p : Source) → GivesProgram w.files w.input program text → IsProgramText text p
       → InputFileFails w.failed w.failed' input r → RunReply w program input r
-  InputRefused : (text : Text) (p : Program) (numbers : Text) → GivesProgram w.files w.input program text → IsProgramText text p
+  InputRefused : (text : Text) (p : Source) (numbers : Text) → GivesProgram w.files w.input program text → IsProgramText text p
       → GivesInput w.files input numbers → InputFails numbers r → RunReply w program input r
-  Ran : (text : Text) (p : Program) (numbers : Text) (inputs : List ℤ) → GivesProgram w.files w.input program text → IsProgramText text p
+  Ran : (text : Text) (p : Source) (numbers : Text) (inputs : List ℤ) → GivesProgram w.files w.input program text → IsProgramText text p
       → GivesInput w.files input numbers → IsInputText numbers inputs → RunShows p inputs r → RunReply w program input r
 
 -- words that ask for nothing

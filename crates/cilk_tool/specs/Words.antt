@@ -12,8 +12,8 @@ use Rattle.clap.specs.declared.error.kind.ErrorKind.{ErrorKind}
 use Rattle.clap.specs.declared.error.kind.ErrorKind.TheVariants.{OutOfMemory}
 use Rattle.cilk_tool.specs.declared.words.Order.{Order}
 use Rattle.cilk_tool.specs.declared.words.Order.TheVariants as orders
-use Rattle.cilk_tool.specs.declared.words.Source.TheVariants as sources
-use Rattle.cilk_tool.specs.declared.words.Source as code
+use Rattle.cilk_tool.specs.declared.words.Origin.TheVariants as origins
+use Rattle.cilk_tool.specs.declared.words.Origin as code
 use Rattle.cilk_tool.specs.declared.words.WordsFault.{WordsFault}
 use Rattle.cilk_tool.specs.declared.words.WordsFault.TheVariants.{Usage, Memory}
 
@@ -22,20 +22,20 @@ abbrev pub texts : List (Bor Text) → List Text
 texts words = map (λ w. w.now) words
 
 -- where a program text comes from
-pub data Source : Type 0 where
-  Standard : Source
-  File : (path : Text) → Source
+pub data Origin : Type 0 where
+  Standard : Origin
+  File : (path : Text) → Origin
 
 -- what is asked for; a run without an input file has the empty input
 pub data Asked : Type 0 where
-  Run : (program : Source) (input : Option Text) → Asked
+  Run : (program : Origin) (input : Option Text) → Asked
 
-abbrev pub source_view : code.Source → Source
-source_view sources.Standard = Standard
-source_view (sources.File path) = File path.now
+abbrev pub origin_view : code.Origin → Origin
+origin_view origins.Standard = Standard
+origin_view (origins.File path) = File path.now
 
 abbrev pub order_view : Order → Asked
-order_view (orders.Run program input) = Run (source_view program) (option_map (λ path. path.now) input)
+order_view (orders.Run program input) = Run (origin_view program) (option_map (λ path. path.now) input)
 
 -- `run PROGRAM [--input FILE]`
 abbrev pub program_rule : Rule

@@ -14,6 +14,7 @@ use std::rt::Files as System;
 pub const MAX_FILE: u64 = 268_435_456;
 
 /// The files of the system, and how many reads failed so far.
+#[derive(Drop)]
 pub struct Disk<'a, R> {
     system: &'a R,
     failures: u64,

@@ -1,6 +1,7 @@
 //! Texts are judged: the program text first, then the input text, then the program runs.
 
 ghost use Rattle.std.specs.Prelude.{◌≡◌, IfOk, IfErr};
+ghost use Rattle.cilk_names.specs.Programs.{source};
 ghost use Rattle.cilk_tool.specs.Judging.{IsProgramText, IsInputText, ProgramFails, InputFails, RunShows};
 ghost use Rattle.cilk_tool.specs.Replies.{answer_view, failure_view};
 
@@ -11,7 +12,7 @@ use std::alloc::Global;
 
 /// The program of a text.
 pub fn program<'a>(_alloc: Global, _text: &[u8]) -> Result<Program, Failure<'a>>
-    ensures ok { IfOk result (λ p. IsProgramText _text.now p) }
+    ensures ok { IfOk result (λ p. IsProgramText _text.now (source p)) }
     ensures err { IfErr result (λ e. ProgramFails _text.now (failure_view e)) }
 {
     Err(Failure::Memory)
@@ -27,8 +28,8 @@ pub fn input<'a>(_alloc: Global, _text: &[u8]) -> Result<Input, Failure<'a>>
 
 /// What the run of a program on an input leaves.
 pub fn run<'a>(_alloc: Global, _program: &Program, _input: &Input) -> Result<Answer, Failure<'a>>
-    ensures ok { IfOk result (λ a. RunShows _program.now _input.now (answer_view a)) }
-    ensures err { IfErr result (λ e. RunShows _program.now _input.now (failure_view e)) }
+    ensures ok { IfOk result (λ a. RunShows (source _program.now) _input.now (answer_view a)) }
+    ensures err { IfErr result (λ e. RunShows (source _program.now) _input.now (failure_view e)) }
 {
     Err(Failure::Memory)
 }

@@ -3,14 +3,14 @@
 ghost use Rattle.std.specs.Prelude.{◌≡◌, ◌<◌, ℕ, List, IfOk, IfErr, OnOk, option_map, codes};
 ghost use Rattle.cilk_tool.specs.Files.{IsHeld};
 ghost use Rattle.cilk_tool.specs.Replies.{answer_view, failure_view};
-ghost use Rattle.cilk_tool.specs.Serving.{FileFails, GivesInput, GivesProgram, InputFileFails, IsReceived, RunReply, SourceFails, StandardFails, world};
-ghost use Rattle.cilk_tool.specs.Words.{source_view};
+ghost use Rattle.cilk_tool.specs.Serving.{FileFails, GivesInput, GivesProgram, InputFileFails, IsReceived, RunReply, OriginFails, StandardFails, world};
+ghost use Rattle.cilk_tool.specs.Words.{origin_view};
 
 use crate::files::{FileFault, Files};
 use crate::judge;
 use crate::reply::{Answer, Failure};
 use crate::streams::{ReadFault, receive};
-use crate::words::Source;
+use crate::words::Origin;
 use std::alloc::Global;
 use std::io::Read;
 
@@ -48,19 +48,19 @@ fn read_standard<'a, R: Read>(alloc: Global, reader: &mut R) -> Result<Vec<u8>, 
 /// A program text.
 fn read_program<'a, F: Files, R: Read>(
     alloc: Global,
-    source: Source<'a>,
+    origin: Origin<'a>,
     files: &mut F,
     reader: &mut R,
 ) -> Result<Vec<u8>, Failure<'a>>
     requires { F.failed files.old < 18446744073709551615 }
-    ensures given { IfOk result (λ text. GivesProgram (F.holds files.old) (R.remaining reader.old) (source_view source.entry) text.items) }
-    ensures fault { IfErr result (λ e. SourceFails (F.failed files.old) (F.failed files.new) (source_view source.entry) (failure_view e)) }
+    ensures given { IfOk result (λ text. GivesProgram (F.holds files.old) (R.remaining reader.old) (origin_view origin.entry) text.items) }
+    ensures fault { IfErr result (λ e. OriginFails (F.failed files.old) (F.failed files.new) (origin_view origin.entry) (failure_view e)) }
     ensures uncounted { OnOk result (F.failed files.new ≡ F.failed files.old) }
     ensures same { (p : List ℕ) → F.holds files.new p ≡ F.holds files.old p }
 {
-    match source {
-        Source::Standard => read_standard(alloc, reader),
-        Source::File(path) => read_file(alloc, path, files),
+    match origin {
+        Origin::Standard => read_standard(alloc, reader),
+        Origin::File(path) => read_file(alloc, path, files),
     }
 }
 
@@ -84,16 +84,16 @@ fn read_input<'a, F: Files>(
 /// Runs a program on an input. The input isn't read where the program text has a fault.
 pub fn run<'a, F: Files, R: Read>(
     alloc: Global,
-    program: Source<'a>,
+    program: Origin<'a>,
     input: Option<&'a str>,
     files: &mut F,
     reader: &mut R,
 ) -> Result<Answer, Failure<'a>>
     requires { F.failed files.old < 18446744073709551615 }
     ensures answer { IfOk result (λ a. RunReply (world (F.holds files.old) (R.remaining reader.old) (F.failed files.old) (F.failed files.new))
-        (source_view program.entry) (option_map (λ p. p.now) input.entry) (answer_view a)) }
+        (origin_view program.entry) (option_map (λ p. p.now) input.entry) (answer_view a)) }
     ensures failure { IfErr result (λ e. RunReply (world (F.holds files.old) (R.remaining reader.old) (F.failed files.old) (F.failed files.new))
-        (source_view program.entry) (option_map (λ p. p.now) input.entry) (failure_view e)) }
+        (origin_view program.entry) (option_map (λ p. p.now) input.entry) (failure_view e)) }
 {
     let text = read_program(alloc, program, files, reader)?;
     let program = judge::program(alloc, text.as_slice())?;

@@ -55,7 +55,8 @@ fn receive_some<R: Read>(
 /// Reads a text of at most [`MAX_READ`] bytes, in at most as many reads. What stands after them stays unread. Any read
 /// that fails ends the reading.
 pub fn receive<R: Read>(alloc: Global, input: &mut R) -> Result<Vec<u8>, ReadFault>
-    ensures { IfOk result (λ text. IfSome (R.remaining input.old) (λ all. text.items ≡ take MAX_READ all)) }
+    ensures whole { IfOk result (λ text. IfSome (R.remaining input.old) (λ all. text.items ≡ take MAX_READ all)) }
+    ensures taken { IfOk result (λ text. Consumes (R.remaining input.old) (R.remaining input.new) text.items) }
 {
     let mut text = Vec::new(alloc);
     let mut buffer = [0u8; PIECE];

@@ -13,7 +13,7 @@ use std::alloc::{AllocError, Global};
 
 /// Where a program text comes from.
 #[derive(Clone, Copy, PartialEq, Eq, Debug)]
-pub enum Source<'a> {
+pub enum Origin<'a> {
     /// Standard input.
     Standard,
     /// The file of a path.
@@ -25,7 +25,7 @@ pub enum Source<'a> {
 pub enum Order<'a> {
     /// Run a program, on the input of a file or on the empty input.
     Run {
-        program: Source<'a>,
+        program: Origin<'a>,
         input: Option<&'a str>,
     },
 }
@@ -77,7 +77,7 @@ fn run_order<'a>(run: &ArgMatches<'a>) -> Option<Order<'a>>
     let program = run.get_str("program")?;
     let input = run.get_str("input");
     Some(Order::Run {
-        program: Source::File(program),
+        program: Origin::File(program),
         input,
     })
 }
@@ -112,12 +112,15 @@ pub fn read<'a>(alloc: Global, words: &'a [&'a str]) -> Result<Order<'a>, WordsF
 {
     if words.is_empty() {
         return Ok(Order::Run {
-            program: Source::Standard,
+            program: Origin::Standard,
             input: None,
         });
     }
     match command(alloc)?.try_get_matches_from(words) {
-        Ok(matches) => order_of(&matches).ok_or(WordsFault::Usage(String::new(alloc))),
+        Ok(matches) => match order_of(&matches) {
+            Some(order) => Ok(order),
+            None => Err(WordsFault::Usage(String::from_str(alloc, "error: no command\n")?)),
+        },
         Err(error) => Err(refusal(alloc, &error)),
     }
 }

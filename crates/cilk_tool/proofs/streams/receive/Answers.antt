@@ -12,16 +12,19 @@ loop-turn-preserved g c =
       read = more_read _ _ _ _ _ _ c.loop-turn.invariant.read c.in_ok-count.ensures.grows;
     }
 
-pub returns-then-count-eq0 : goal.returns-then-count-eq0
-returns-then-count-eq0 g c =
+pub returns-then-count-eq0-clause-whole : goal.returns-then-count-eq0-clause-whole
+returns-then-count-eq0-clause-whole g c =
     read_last _ _ _ _ _ _ _ c.loop-turn.invariant.within c.loop-turn.invariant.read c.in_ok-count.ensures.grows c.if-count-eq0.true
 
-pub returns-then-room-eq0 : goal.returns-then-room-eq0
-returns-then-room-eq0 g c =
+pub returns-then-room-eq0-clause-whole : goal.returns-then-room-eq0-clause-whole
+returns-then-room-eq0-clause-whole g c =
     let full : length c.loop-turn.text.items ≡ 262145 = omega arith in
     subst (λ n. IfSome (g.R.Read.remaining c.args.input.now) (λ all. c.loop-turn.text.items ≡ take n all)) full (read_enough _ _ _ c.loop-turn.invariant.read)
 
-pub returns : goal.returns
-returns g c =
+pub returns-clause-whole : goal.returns-clause-whole
+returns-clause-whole g c =
     let full : length c.loop-turn.text.items ≡ 262145 = omega arith in
     subst (λ n. IfSome (g.R.Read.remaining c.args.input.now) (λ all. c.loop-turn.text.items ≡ take n all)) full (read_enough _ _ _ c.loop-turn.invariant.read)
+
+pub returns-then-count-eq0-clause-taken : goal.returns-then-count-eq0-clause-taken
+returns-then-count-eq0-clause-taken g c = more_read _ _ _ _ _ _ c.loop-turn.invariant.read c.in_ok-count.ensures.grows
