@@ -1,1 +1,10 @@
+pub mod Acts
+pub mod Jumps
 pub mod Lands
+pub mod Leads
+pub mod Once
+pub mod Patch
+pub mod Places
+pub mod Rows
+pub mod Ticks
+pub mod Values

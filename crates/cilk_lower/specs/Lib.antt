@@ -1,3 +1,4 @@
 pub mod Behaves
 pub mod Code
 pub mod Machine
+pub mod Rooms

@@ -1,4 +1,24 @@
 //! From a program whose names are resolved to the instructions of its body.
+//!
+//! A frame has to stop at each of its asks and go on once the answer came, which a recursion over the syntax tree can't.
+//! So a body becomes code for a machine with a stack of operands (McCarthy and Painter 1967), of which each instruction
+//! takes at most one tick and makes at most one ask. This is the code of `while (x < 3) x = x + 1;`:
+//!
+//! ```text
+//!  0 Tick            6 Load x
+//!  1 Load x          7 Push 1
+//!  2 Push 3          8 Apply Add
+//!  3 Apply Less      9 Store x
+//!  4 SkipIfZero 6   10 GoBack 9
+//!  5 Tick           11 Sync
+//!                   12 Finish
+//! ```
+//!
+//! [`lower::lower`] makes the code. Its contract is the law that ties code to meaning: whatever the inputs, the answers so far
+//! and the ticks, the machine (`specs/Machine`) asks next what the body asks (`specs/Behaves`). [`laws`] has what is true
+//! of all code.
 #![tactic(auto)]
 
 pub mod code;
+pub mod laws;
+pub mod lower;

@@ -7,5 +7,6 @@
 #![tactic(auto)]
 
 pub mod ask;
+pub mod laws;
 pub mod program;
 pub mod syntax;

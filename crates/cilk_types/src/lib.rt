@@ -8,6 +8,7 @@
 pub mod event;
 pub mod fault;
 pub mod input;
+pub mod laws;
 pub mod limits;
 pub mod outcome;
 pub mod sequence;

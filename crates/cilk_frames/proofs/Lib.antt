@@ -1,0 +1,5 @@
+pub mod Asking
+pub mod Effort
+pub mod Following
+pub mod Printing
+pub mod Straight

@@ -1,0 +1,86 @@
+-- A cursor that follows a behaviour.
+use Rattle.std.specs.Prelude.{◌≡◌, ℕ, ◌+◌, ◌-◌, ◌≤◌, ℤ, pos, List, [], ◌∷◌, ◌++◌}
+use Rattle.cilk_names.specs.declared.ask.Ask.{Ask}
+use Rattle.cilk_names.specs.declared.ask.Ask.TheVariants as asks
+use Rattle.cilk_names.specs.Syntax.{Statements}
+use Rattle.cilk_names.specs.Behaviour.{Behaviour, asks_for, frame_asks}
+use Rattle.cilk_lower.specs.declared.code.Instr.{Instr}
+use Rattle.cilk_lower.specs.declared.code.Owed.{Owed}
+use Rattle.cilk_lower.specs.declared.code.Owed.TheVariants.{Nothing, Word}
+use Rattle.cilk_lower.specs.Machine.{Run, Reaches, exec, received}
+use Rattle.cilk_frames.specs.declared.cursor.Answer.{Answer}
+use Rattle.cilk_frames.specs.declared.cursor.Answer.TheVariants.{Done, Value}
+use Rattle.cilk_frames.specs.Cursor.{CursorView}
+
+-- an answer that brings what is owed
+abbrev pub Fits : Owed → Answer → Type 0
+Fits Nothing Done = Unit {0}
+Fits Nothing (Value v) = ⊥
+Fits Word Done = ⊥
+Fits Word (Value v) = Unit {0}
+
+-- what the answer to an ask brings
+abbrev pub owed_for : Ask → Owed
+owed_for asks.Begin = Nothing
+owed_for (asks.Read x) = Word
+owed_for (asks.Write x v) = Nothing
+owed_for (asks.Print v) = Nothing
+owed_for asks.Sync = Nothing
+owed_for (asks.End v) = Nothing
+owed_for (asks.Fault f) = Nothing
+
+-- what an answer adds to a history
+abbrev pub word_in : Answer → ℤ
+word_in Done = pos 0
+word_in (Value v) = v
+
+-- an ask that has an answer
+abbrev pub HasAnswer : Ask → Type 0
+HasAnswer asks.Begin = Unit {0}
+HasAnswer (asks.Read x) = Unit {0}
+HasAnswer (asks.Write x v) = Unit {0}
+HasAnswer (asks.Print v) = Unit {0}
+HasAnswer asks.Sync = Unit {0}
+HasAnswer (asks.End v) = ⊥
+HasAnswer (asks.Fault f) = ⊥
+
+-- the machine from where the cursor stands, once the answer came
+abbrev pub resumes : List Instr → List ℤ → CursorView → ℕ → ℤ → List ℤ → ℕ → Run
+resumes code inputs c n a answers left = received c.room c.owed a c.stack (λ stack. exec inputs c.room code n c.place stack answers left)
+
+-- whatever the answers and the ticks, the machine asks what the behaviour says
+pub record Follows (code : List Instr) (inputs : List ℤ) (c : CursorView) (b : Behaviour) : Type 0 where
+  pub by : (a : ℤ) (answers : List ℤ) (left : ℕ) → (n : ℕ) × (resumes code inputs c n a answers left ≡ Reaches (b (a ∷ answers) left))
+
+-- the cursor follows some behaviour
+abbrev pub Runs : List Instr → List ℤ → CursorView → Type 0
+Runs code inputs c = (b : Behaviour) × Follows code inputs c b
+
+-- what is left of a behaviour after an answer and so many ticks
+abbrev pub rest : Behaviour → ℤ → ℕ → Behaviour
+rest b a took answers left = b (a ∷ answers) (left + took)
+
+-- the next ask is the behaviour's, and the cursor follows what is left of it
+pub record Steps (code : List Instr) (inputs : List ℤ) (c : CursorView) (answer : Answer) (left : ℕ) (k : Ask) (c' : CursorView) (left' : ℕ) : Type 0 where
+  pub less : left' ≤ left
+  pub asks : (b : Behaviour) → Follows code inputs c b → b (word_in answer ∷ []) left ≡ asks_for k left'
+  pub follows : (b : Behaviour) → Follows code inputs c b → HasAnswer k → Follows code inputs c' (rest b (word_in answer) (left - left'))
+  pub owes : HasAnswer k → c'.owed ≡ owed_for k
+
+-- a frame of this body stands at the cursor: it had these answers, and it took so many ticks
+abbrev pub Stands : List Instr → List ℤ → Statements → CursorView → List ℤ → ℕ → Type 0
+Stands code inputs row c history took = Follows code inputs c (λ answers left. frame_asks inputs row (history ++ answers) (took + left))
+
+-- the frame's next ask after its history, and where it then stands
+pub record GoesOn (code : List Instr) (inputs : List ℤ) (c : CursorView) (answer : Answer) (left : ℕ) (k : Ask) (c' : CursorView) (left' : ℕ) (row : Statements) (history : List ℤ) (took : ℕ) : Type 0 where
+  pub less : left' ≤ left
+  pub asks : frame_asks inputs row (history ++ word_in answer ∷ []) (took + left) ≡ asks_for k left'
+  pub stands : HasAnswer k → Stands code inputs row c' (history ++ word_in answer ∷ []) (took + (left - left'))
+  pub owes : HasAnswer k → c'.owed ≡ owed_for k
+
+-- a frame of this body that has asked: what a caller keeps of it between two steps. It had these answers, it took so many
+-- ticks, and so many were left to all frames as it asked
+pub record Asking (code : List Instr) (inputs : List ℤ) (row : Statements) (c : CursorView) (history : List ℤ) (took : ℕ) (k : Ask) (left : ℕ) : Type 0 where
+  pub asks : frame_asks inputs row history (took + left) ≡ asks_for k left
+  pub stands : HasAnswer k → Stands code inputs row c history took
+  pub owes : HasAnswer k → c.owed ≡ owed_for k

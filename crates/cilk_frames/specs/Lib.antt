@@ -1,0 +1,4 @@
+pub mod Cursor
+pub mod Following
+pub mod Moving
+pub mod Operands

@@ -1,0 +1,48 @@
+-- What the code does for one instruction.
+use Rattle.std.specs.Prelude.{◌≡◌, ℕ, suc, ◌+◌, ◌-◌, ◌*◌, ◌<◌, Bool, true, false, if◌then◌else◌, ℤ, List, ◌∷◌, length, slice_get}
+use Rattle.cilk_lower.specs.declared.code.Instr.{Instr}
+use Rattle.cilk_lower.specs.declared.code.Owed.{Owed}
+use Rattle.cilk_lower.specs.declared.code.Owed.TheVariants.{Nothing, Word}
+use Rattle.cilk_lower.specs.Code.{ticks}
+use Rattle.cilk_lower.specs.Machine.{Move, Goes, Waits, Stops, move}
+use Rattle.cilk_frames.specs.declared.cursor.Answer.{Answer}
+use Rattle.cilk_frames.specs.declared.cursor.Answer.TheVariants.{Done, Value}
+use Rattle.cilk_frames.specs.declared.stepping.Moved.{Moved}
+use Rattle.cilk_frames.specs.declared.stepping.Moved.TheVariants as did
+use Rattle.cilk_frames.specs.Cursor.{CursorView}
+
+-- the machine's move at the cursor
+abbrev pub move_at : List Instr → List ℤ → CursorView → ℕ → Move
+move_at code inputs c left = move inputs c.room (slice_get code c.place) c.place c.stack left
+
+-- what the code says of one instruction
+abbrev pub moved : Moved → CursorView → ℕ → Move
+moved did.Goes c left = Goes c.place c.stack left
+moved (did.Waits k) c left = Waits k c.owed c.place c.stack left
+moved (did.Stops k) c left = Stops k left
+
+abbrev pub IsGoing : Moved → Type 0
+IsGoing did.Goes = Unit {0}
+IsGoing (did.Waits k) = ⊥
+IsGoing (did.Stops k) = ⊥
+
+abbrev pub TakesTick : ℕ → Bool → ℕ → Type 0
+TakesTick left true left' = left ≡ suc left'
+TakesTick left false left' = (left ≡ 0) × (left' ≡ 0)
+
+-- falls with each instruction: the ticks that are left, then the instructions up to one that takes a tick
+abbrev pub effort : List Instr → ℕ → ℕ → ℕ
+effort code place left = left * (length code + 2) + (if ticks (slice_get code place) then 0 else length code + 1 - place)
+
+-- room for a word that is owed
+abbrev pub RoomFor : Owed → List ℤ → ℕ → Type 0
+RoomFor Nothing stack room = Unit {0}
+RoomFor Word stack room = length stack < room
+
+abbrev pub HasRoom : CursorView → Type 0
+HasRoom c = RoomFor c.owed c.stack c.room
+
+-- the cursor once the answer came
+abbrev pub told : CursorView → Answer → CursorView
+told c Done = c
+told c (Value v) = record c { stack = v ∷ c.stack }

@@ -1,0 +1,47 @@
+//! What operators give on words.
+
+ghost use Rattle.std.specs.Prelude.{◌≡◌};
+ghost use Rattle.cilk_names.specs.Words.{apply, is_zero, truth, truth_of};
+
+use cilk_names::syntax::Operator;
+use cilk_types::word;
+
+/// The operator's value, or none for a division by 0.
+pub fn apply(operator: Operator, x: i64, y: i64) -> Option<i64>
+    ensures { result ≡ apply operator x y }
+{
+    match operator {
+        Operator::Add => Some(word::add(x, y)),
+        Operator::Subtract => Some(word::sub(x, y)),
+        Operator::Multiply => Some(word::mul(x, y)),
+        Operator::Divide => word::div(x, y),
+        Operator::Remainder => word::rem(x, y),
+        Operator::Less => Some(truth_of(x < y)),
+        Operator::LessEqual => Some(truth_of(x <= y)),
+        Operator::Greater => Some(truth_of(x > y)),
+        Operator::GreaterEqual => Some(truth_of(x >= y)),
+        Operator::Equal => Some(truth_of(x == y)),
+        Operator::NotEqual => Some(truth_of(x != y)),
+    }
+}
+
+/// 1 where it holds, else 0.
+pub fn truth_of(holds: bool) -> i64
+    ensures { result ≡ truth_of holds }
+{
+    if holds { 1 } else { 0 }
+}
+
+/// 0 for 0, else 1.
+pub fn truth(word: i64) -> i64
+    ensures { result ≡ truth word }
+{
+    if word == 0 { 0 } else { 1 }
+}
+
+/// 1 for 0, else 0.
+pub fn negation(word: i64) -> i64
+    ensures { result ≡ truth_of (is_zero word) }
+{
+    if word == 0 { 1 } else { 0 }
+}

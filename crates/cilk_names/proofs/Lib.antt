@@ -1,0 +1,7 @@
+pub mod Agreement
+pub mod Elisions
+pub mod Enough
+pub mod Places
+pub mod Rows
+pub mod Runs
+pub mod Shapes

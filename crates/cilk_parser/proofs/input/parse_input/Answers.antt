@@ -1,0 +1,37 @@
+use Rattle.std.proofs.Common.{◌≡◌, ℕ, ◌+◌, [], ◌∷◌, length, arith, rules, append_assoc, append-nil, length-append, subst, sym, w64, SFits}
+use Rattle.std.proofs.lemmas.Grind.{common_steps}
+use Rattle.std.proofs.lemmas.Int.{to_z-of_z}
+use Rattle.cilk_parser.specs.Inputs.{Skipped, Found, NoNumber, OneTooMany, Behind, Beyond, Fails}
+use Rattle.cilk_parser.proofs.InputLaws.{nothing_left}
+use Rattle.cilk_parser.proofs.input.parse_input.Goals as goal
+
+pub each-preserved-in-Gap : goal.each-preserved-in-Gap
+each-preserved-in-Gap c = record {
+  numbers = λ ns h. c.each.invariant.numbers ns (Skipped c.in-Gap.ensures.0 h);
+  fault = λ n place h. c.each.invariant.fault n place (Behind c.in-Gap.ensures.0 h);
+  few = c.each.invariant.few;
+  shorter = grind (arith, common_steps);
+}
+
+pub each-preserved : goal.each-preserved
+each-preserved c =
+    let fits : SFits w64 c.in-Number.number = search rules in
+    let more : length c.push.new.self.items ≡ length c.each.numbers.items + 1 = grind (arith, common_steps) in
+    record {
+      numbers = λ ns h. rw (c.in_ok-push-in-Number.ensures.items, append_assoc, to_z-of_z w64 c.in-Number.number fits) (c.each.invariant.numbers _ (Found c.in-Number.number c.in-Number.ensures.0 h));
+      fault = λ n place h. c.each.invariant.fault n place (Beyond c.in-Number.number c.in-Number.ensures.0 (grind (arith, common_steps)) (subst (λ k. Fails (length c.args.text.now) k c.in-Number.after.now n place) more h));
+      few = grind (arith, common_steps);
+      shorter = grind (arith, common_steps);
+    }
+
+pub returns-then-len-eq-MOST_NUMBERS-clause-fault : goal.returns-then-len-eq-MOST_NUMBERS-clause-fault
+returns-then-len-eq-MOST_NUMBERS-clause-fault c =
+    c.each.invariant.fault _ _ (OneTooMany c.in-Number.number c.in-Number.ensures.0 (grind (arith, common_steps)) (omega (arith, c.each.invariant.shorter)))
+
+pub returns-in-Bad-clause-fault : goal.returns-in-Bad-clause-fault
+returns-in-Bad-clause-fault c =
+    c.each.invariant.fault _ _ (NoNumber c.in-Bad.ensures (omega (arith, c.each.invariant.shorter)))
+
+pub returns-clause-numbers : goal.returns-clause-numbers
+returns-clause-numbers c =
+    rw c.new.ensures (record { few = c.each.invariant.few; numbers = simp append-nil at (c.each.invariant.numbers [] (nothing_left _ c.in_default.len_below)) })

@@ -1,0 +1,15 @@
+use Rattle.std.proofs.Common.{ℕ, ◌≤◌, ℤ, List, ◌++◌, length}
+use Rattle.cilk_parser.specs.declared.fault.TextNumber.{TextNumber}
+use Rattle.cilk_parser.specs.Inputs.{Holds, Fails}
+use Rattle.cilk_parser.proofs.input.parse_input.Given as goal
+
+abbrev pub invariant-each : goal.invariant-each
+invariant-each l = record {
+  numbers : (ns : List ℤ) → Holds l.rest ns → Holds l.text (l.numbers.items ++ ns);
+  fault : (n : TextNumber) (place : ℕ) → Fails (length l.text) (length l.numbers.items) l.rest n place → Fails (length l.text) 0 l.text n place;
+  few : length l.numbers.items ≤ 65536;
+  shorter : length l.rest ≤ length l.text;
+}
+
+abbrev pub decreases-each : goal.decreases-each
+decreases-each l = length l.rest

@@ -1,0 +1,162 @@
+//! Input texts: numbers between spaces, tabs and line ends.
+
+ghost use Rattle.std.specs.Prelude.{◌≡◌, ◌==◌, ◌∷◌, IfOk, IfErr, IfSome, IfNone, length};
+ghost use Rattle.cilk_parser.specs.Inputs;
+ghost use Rattle.cilk_parser.specs.Inputs.{IsInput, IsInputFault, IsFront, number_at, number_in};
+
+use crate::fault::{TextFault, TextNumber};
+use cilk_lexer::lexer::{Class, all_digits, belongs, split, value_of};
+use cilk_types::sequence::Sequence;
+use std::alloc::Global;
+use std::marker::Model;
+
+/// The greatest count of numbers in an input.
+pub const MOST_NUMBERS: usize = 65_536;
+
+/// The numbers of an input. Contracts see their list.
+#[derive(Debug, Drop)]
+pub struct Input {
+    numbers: Sequence<i64>,
+}
+
+impl Model for Input {
+    ghost use Rattle.std.specs.Prelude.{List, ℤ};
+
+    ghost Value = { List ℤ };
+
+    ghost view = { λ s. s.numbers };
+}
+
+impl Input {
+    /// An input of these numbers, without taking memory.
+    pub fn new(numbers: Vec<i64>) -> Self
+        ensures { result ≡ numbers.items }
+    {
+        Input {
+            numbers: Sequence::new(numbers),
+        }
+    }
+
+    /// The numbers as a slice.
+    pub fn as_slice(&self) -> &[i64]
+        ensures { result.now ≡ self.now }
+    {
+        self.numbers.as_slice()
+    }
+
+    /// How many numbers there are.
+    pub fn len(&self) -> usize
+        ensures { result ≡ length self.now }
+    {
+        self.numbers.len()
+    }
+
+    /// Whether there is no number.
+    pub fn is_empty(&self) -> bool
+        ensures { result ≡ (length self.now == 0) }
+    {
+        self.numbers.is_empty()
+    }
+
+    /// The number at this place, counted from 0, or `None` outside.
+    pub fn value(&self, place: i64) -> Option<i64>
+        ensures { result ≡ number_at self.now place }
+    {
+        if place < 0 {
+            return None;
+        }
+        self.numbers.as_slice().get(place as usize).copied()
+    }
+}
+
+/// The number that digits write, up to 2^63 - 1.
+fn positive(digits: &[u8]) -> Option<i64>
+    ensures { result ≡ Inputs.positive digits.now }
+{
+    if digits.is_empty() || !all_digits(digits) {
+        return None;
+    }
+    match value_of(digits) {
+        Some(n) if n <= 9_223_372_036_854_775_807 => Some(n as i64),
+        _ => None,
+    }
+}
+
+/// The number that digits behind a minus write, down to -2^63.
+fn negative(digits: &[u8]) -> Option<i64>
+    ensures { result ≡ Inputs.negative digits.now }
+{
+    if digits.is_empty() || !all_digits(digits) {
+        return None;
+    }
+    match value_of(digits) {
+        Some(n) if n <= 9_223_372_036_854_775_807 => Some(-(n as i64)),
+        Some(_) => Some(i64::MIN),
+        None => None,
+    }
+}
+
+/// The number that a word writes.
+fn number_in(word: &[u8]) -> Option<i64>
+    ensures { result ≡ number_in word.now }
+{
+    match word {
+        [] => None,
+        [b'-', digits @ ..] => negative(digits),
+        [b'+', digits @ ..] => positive(digits),
+        _ => positive(word),
+    }
+}
+
+/// What the bytes of an input text begin with.
+#[derive(Drop)]
+enum Front<'a> {
+    Gap(&'a [u8]),
+    Number(i64, &'a [u8]),
+    Bad,
+}
+
+/// What the bytes begin with: a byte between words, a number, or a word that is none.
+#[tactic(auto, using(crate::proofs::InputLaws::word_behind))]
+fn piece<'a>(first: u8, tail: &'a [u8], bytes: &'a [u8]) -> Front<'a>
+    requires { bytes.now ≡ first ∷ tail.now }
+    ensures { IsFront bytes.now result }
+{
+    if !belongs(Class::Solid, first) {
+        return Front::Gap(tail);
+    }
+    let (word, after) = split(Class::Solid, bytes);
+    match number_in(word) {
+        Some(number) => Front::Number(number, after),
+        None => Front::Bad,
+    }
+}
+
+/// The numbers of an input text, or its first fault by place: a word that is no number, or number 65,537.
+/// Linear in the text's length.
+pub fn parse_input(alloc: Global, text: &[u8]) -> Result<Input, TextFault>
+    ensures numbers { IfOk result (λ ns. IsInput text.now ns) }
+    ensures fault { IfErr result (λ e. IsInputFault e text.now) }
+{
+    let mut numbers = Vec::new(alloc);
+    let mut rest = text;
+    'each: while let [first, tail @ ..] = rest {
+        let place = text.len() - rest.len();
+        match piece(*first, tail, rest) {
+            Front::Gap(after) => {
+                rest = after;
+            }
+            Front::Number(number, after) => {
+                if numbers.len() == MOST_NUMBERS {
+                    return Err(TextFault::At(TextNumber::TooManyNumbers, place));
+                }
+                numbers.push(number)?;
+                rest = after;
+            }
+            Front::Bad => {
+                return Err(TextFault::At(TextNumber::BadNumber, place));
+            }
+        }
+    }
+    Ok(Input::new(numbers))
+}

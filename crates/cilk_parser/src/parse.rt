@@ -1,0 +1,72 @@
+//! From the bytes of a text to its tree.
+
+ghost use Rattle.std.specs.Prelude.{IfErr, IfOk, length, ◌≡◌};
+ghost use Rattle.cilk_parser.specs.Texts;
+ghost use Rattle.cilk_parser.specs.Texts.{IsText, IsTextFault, place_of};
+
+use crate::fault::{TextFault, TextNumber};
+use crate::items::program;
+use crate::stop::Stop;
+use crate::tree::Tree;
+use cilk_lexer::lexer::{Bad, LexFault, lex};
+use cilk_token::token::Token;
+use std::alloc::Global;
+
+/// The greatest length of a program text, in bytes.
+pub const LONGEST: usize = 262_144;
+
+fn number_of(bad: Bad) -> TextNumber
+    ensures { result ≡ Texts.number_of bad }
+{
+    match bad {
+        Bad::NotAscii => TextNumber::NotAscii,
+        Bad::TooLarge => TextNumber::TooLarge,
+        _ => TextNumber::BadToken,
+    }
+}
+
+/// The byte at which the first of the tokens stands, or the text ends.
+fn place_of(text: &[u8], rest: &[Token]) -> usize
+    ensures { result ≡ place_of (length text.now) rest.now }
+{
+    match rest {
+        [] => text.len(),
+        [first, ..] => first.at,
+    }
+}
+
+/// The tree of a program text, or its first fault. Linear in the text's length.
+///
+/// A text of more than [`LONGEST`] bytes comes first. Next come bytes that aren't tokens, by place; then, by place, a
+/// token that no text of the grammar has there, and one that goes past a limit: it begins a statement or a part of an
+/// expression that stands in more than 64 others, or it is an operator behind 256 of its expression.
+pub fn parse(alloc: Global, text: &[u8]) -> Result<Tree, TextFault>
+    ensures tree { IfOk result (λ t. IsText text.now t) }
+    ensures fault { IfErr result (λ e. IsTextFault e text.now) }
+{
+    if text.len() > LONGEST {
+        return Err(TextFault::At(TextNumber::TooLong, LONGEST));
+    }
+    let tokens = match lex(alloc, text) {
+        Ok(tokens) => tokens,
+        Err(LexFault::Memory) => {
+            return Err(TextFault::Memory);
+        }
+        Err(LexFault::At(bad, place)) => {
+            return Err(TextFault::At(number_of(bad), place));
+        }
+    };
+    match program(alloc, &tokens) {
+        Ok(items) => match text.to_vec(alloc) {
+            Ok(text) => Ok(Tree { text, items }),
+            Err(_) => Err(TextFault::Memory),
+        },
+        Err(Stop::Memory) => Err(TextFault::Memory),
+        Err(Stop::Unexpected(rest)) => {
+            Err(TextFault::At(TextNumber::Unexpected, place_of(text, rest)))
+        }
+        Err(Stop::PastLimit(rest)) => {
+            Err(TextFault::At(TextNumber::TooDeep, place_of(text, rest)))
+        }
+    }
+}

@@ -1,0 +1,4 @@
+pub mod Driving
+pub mod Ending
+pub mod Going
+pub mod Shows

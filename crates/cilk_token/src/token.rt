@@ -1,0 +1,61 @@
+//! The tokens of a program text.
+
+/// What a token is: a number, a name, a reserved word or a mark.
+#[derive(Clone, Copy, Debug)]
+pub enum Kind {
+    Number(i64),
+    Name,
+    Int,
+    Void,
+    If,
+    Else,
+    While,
+    For,
+    Return,
+    CilkSpawn,
+    CilkSync,
+    CilkFor,
+    CilkReducer,
+    Print,
+    Update,
+    Set,
+    Value,
+    Input,
+    InputCount,
+    Open,
+    Close,
+    OpenBrace,
+    CloseBrace,
+    OpenBracket,
+    CloseBracket,
+    Semicolon,
+    Comma,
+    Assign,
+    Plus,
+    Minus,
+    Star,
+    Slash,
+    Percent,
+    Less,
+    Greater,
+    Not,
+    LessEqual,
+    GreaterEqual,
+    Equal,
+    NotEqual,
+    And,
+    Or,
+    PlusAssign,
+    MinusAssign,
+    StarAssign,
+    Increment,
+    Decrement,
+}
+
+/// A token, with the places of its first byte and of the byte behind it.
+#[derive(Clone, Copy, Debug)]
+pub struct Token {
+    pub kind: Kind,
+    pub at: usize,
+    pub end: usize,
+}
