@@ -1,5 +1,5 @@
 -- Laws that tie the meanings of a program together, and the function that computes its serial run.
-use Rattle.std.specs.Prelude.{◌≡◌, ℕ, zero, suc, ◌<◌, ◌≤◌, ℤ, pos, IsTrue, List, [], ◌∷◌, ◌⊎◌}
+use Rattle.std.specs.Prelude.{◌≡◌, ℕ, zero, suc, ◌<◌, ◌≤◌, ℤ, pos, IsTrue, List, [], ◌∷◌, length, ◌⊎◌}
 use Rattle.cilk_types.specs.declared.fault.Fault.TheVariants.{TooManyEvents}
 use Rattle.cilk_types.specs.declared.limits.TheConstants.{MAX_EVENTS, MAX_TICKS}
 use Rattle.cilk_names.specs.declared.syntax.Place.TheVariants.{Global}
@@ -9,7 +9,7 @@ use Rattle.cilk_names.specs.Syntax.{Source, Statements, all_places_in}
 use Rattle.cilk_names.specs.Behaviour.{Asked, frame_asks}
 use Rattle.cilk_names.specs.Store.{Store, cell_of, put, print, opening}
 use Rattle.cilk_names.specs.Elision.{Ending, Finished, Stopped, IsElision}
-use Rattle.cilk_names.specs.SerialRun.{Event, Begins, Reads, Writes, Prints, Syncs, Ends, Run, stop, act, Serial, IsSerialRun}
+use Rattle.cilk_names.specs.SerialRun.{Event, Begins, Reads, Writes, Prints, Syncs, Ends, Run, stop, act, Serial, IsSerialRun, number_of_cell, trace_of}
 
 -- what is left of a frame: what it asks for after these answers
 abbrev pub Rest : Type 0
@@ -125,3 +125,24 @@ EndsSo r (Stopped f) = IsCutShort r
 -- a serial run begins once; where it ends, its last events are a sync and its one end
 abbrev pub HasShape : Source → List ℤ → Type 0
 HasShape p inputs = (r : Run) (end : Ending) → IsSerialRun p inputs r end → (rest : Run) × (r ≡ act Begins rest) × EndsSo rest end
+
+-- the cell that an event names exists where there are so many global cells
+abbrev pub CellExists : ℕ → Event → Type 0
+CellExists globals Begins = Unit {0}
+CellExists globals (Reads c v) = number_of_cell c < globals
+CellExists globals (Writes c v) = number_of_cell c < globals
+CellExists globals (Prints v) = Unit {0}
+CellExists globals Syncs = Unit {0}
+CellExists globals Ends = Unit {0}
+
+abbrev pub CellsExist : ℕ → Run → Type 0
+CellsExist globals stop = Unit {0}
+CellsExist globals (act e r) = CellExists globals e × CellsExist globals r
+
+-- the serial run of a program that names places that exist has events at its global cells alone
+abbrev pub StaysInside : Source → List ℤ → Type 0
+StaysInside p inputs = IsTrue (all_places_in (length p.openings) p.main) → (r : Run) (end : Ending) → IsSerialRun p inputs r end → CellsExist (length p.openings) r
+
+-- a serial run has no more events than it may
+abbrev pub IsShort : Source → List ℤ → Type 0
+IsShort p inputs = (r : Run) (end : Ending) → IsSerialRun p inputs r end → length (trace_of r) ≤ MAX_EVENTS

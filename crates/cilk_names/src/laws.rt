@@ -1,8 +1,8 @@
-// Laws that tie the meanings of a program together. Each is a function that does nothing: its contract is the law.
+//! Laws that tie the meanings of a program together. Each is a function that does nothing: its contract is the law.
 
 ghost use Rattle.std.specs.Prelude.{ℕ, ℤ, List};
 ghost use Rattle.cilk_names.specs.Syntax.{Source, Statements};
-ghost use Rattle.cilk_names.specs.Laws.{HasSerialRun, HasOneSerialRun, EndsAsElided, HasOneElision, AsksInside, HasShape, IsReached};
+ghost use Rattle.cilk_names.specs.Laws.{HasSerialRun, HasOneSerialRun, EndsAsElided, HasOneElision, AsksInside, HasShape, IsReached, StaysInside, IsShort};
 ghost use Rattle.cilk_names.specs.Worked.{NothingRuns, CountdownRuns, EdgesRun, OperatorsRun, BranchesRun, NoReturnRuns, TicksCount, FaultsInOrder, SkippedDivisionRuns, DivisionByZeroStops, ShortInputStops, EndlessStops};
 
 /// Where a program's serial run ends within the limits of a run, it ends as the serial elision does: with its result,
@@ -35,6 +35,16 @@ pub fn elision_is_one()
 /// Whatever its answers, a body whose names are resolved asks for no cell but those that exist.
 pub fn asks_are_inside()
     ensures { (globals : ℕ) (inputs : List ℤ) (row : Statements) → AsksInside globals inputs row }
+{}
+
+/// A program whose names are resolved has events at its global cells alone.
+pub fn events_are_inside()
+    ensures { (p : Source) (inputs : List ℤ) → StaysInside p inputs }
+{}
+
+/// A serial run has at most [`MAX_EVENTS`](cilk_types::limits::MAX_EVENTS) events.
+pub fn serial_run_is_short()
+    ensures { (p : Source) (inputs : List ℤ) → IsShort p inputs }
 {}
 
 /// A serial run begins once, and where it ends its last events are a sync and its one end.

@@ -65,7 +65,7 @@ impl Input {
         if place < 0 {
             return None;
         }
-        self.numbers.as_slice().get(place as usize).copied()
+        self.as_slice().get(place as usize).copied()
     }
 }
 

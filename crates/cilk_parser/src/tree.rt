@@ -5,6 +5,7 @@
 
 ghost use Rattle.std.specs.Prelude.{◌≡◌};
 ghost use Rattle.cilk_parser.specs.Trees;
+ghost use Rattle.cilk_parser.specs.Trees.{bytes_of};
 
 use cilk_types::word::neg;
 
@@ -112,4 +113,16 @@ pub enum Item {
 pub struct Tree {
     pub text: Vec<u8>,
     pub items: Vec<Item>,
+}
+
+impl Tree {
+    /// The bytes of a name in the tree's text.
+    #[tactic(auto, using(std::proofs::lemmas::List::take_min, std::proofs::lemmas::List::drop_min))]
+    pub fn bytes_of(&self, name: Name) -> &[u8]
+        ensures { result.now ≡ bytes_of self.now.text.items name }
+    {
+        let rest = &self.text[name.at.min(self.text.len())..];
+        let length = name.end.saturating_sub(name.at).min(rest.len());
+        &rest[..length]
+    }
 }

@@ -1,12 +1,14 @@
 -- Words are whole numbers modulo 2^64, and their division is exact.
-use Rattle.std.proofs.Common.{◌≡◌, ◌≢◌, ℕ, zero, suc, ◌+◌, ◌-◌, ◌*◌, ◌/◌, ◌%◌, ◌^◌, ◌<◌, ◌≤◌, ltb, Bool, true, false, ℤ, pos, negsuc, neg_ℤ, ◌+ℤ◌, ◌*ℤ◌, ◌≤ℤ◌, ◌<ℤ◌, refl, sym, ap, ◌∙◌, arith, w64, Option, Some, None}
+use Rattle.std.proofs.Common.{◌≡◌, ◌≢◌, ℕ, zero, suc, ◌+◌, ◌-◌, ◌*◌, ◌/◌, ◌%◌, ◌^◌, ◌<◌, ◌≤◌, ltb, Bool, true, false, ℤ, pos, negsuc, ◌+ℤ◌, ◌*ℤ◌, ◌≤ℤ◌, refl, sym, ap, ◌∙◌, arith, w64, Some}
 use Rattle.std.specs.Prelude.{int_div, int_rem, unsigned_abs}
 use Rattle.std.specs.Int.{int_wrap, cast_signed}
-use Rattle.std.proofs.lemmas.Int.{ints, SFits-int_wrap, quot-rem, rem_below}
+use Rattle.std.proofs.lemmas.Int.{ints, SFits-int_wrap, quot-rem, rem_below, fits_signed_from_abs, int_wrap_fits}
 use Rattle.std.proofs.Math.IntN.{*ℤ_comm}
+use Rattle.std.specs.Int.RustNames.{FitsSigned}
+use Rattle.cilk_types.proofs.Quotients.{abs_quotient}
 use mir.Val.{sel}
-use native.Mathlib.Nat.{mod-le}
-use Rattle.cilk_types.specs.Word.{word_of, quotient, remainder, IsWordOf, IsDivision, HasOneWord, Divides, DividesExactly}
+use native.Mathlib.Nat.{mod-le, div-le_self, div-mul-le_self, mul-le-mul_left}
+use Rattle.cilk_types.specs.Word.{word_of, quotient, remainder, IsWordOf, IsDivision, HasOneWord, Divides, DividesExactly, IsOutsideWords, DividesWithin}
 
 -- the signed value of n's bits, and how many times 2^64 it lies below n
 reads : (n : ℕ) → n < 2 ^ 64 → (t : Bool) → ltb n (2 ^ 63) ≡ t → (j : ℕ) × (sel t (pos n) (negsuc (2 ^ 64 - suc n)) +ℤ pos (j * 2 ^ 64) ≡ pos n)
@@ -64,10 +66,43 @@ division a b h = record {
   not_above = rem_not_above a b;
 }
 
+whole_quotient : (a b : ℤ) → b ≢ pos 0 → quotient a b ≡ Some (word_of (int_div a b))
+whole_quotient a (pos zero) h = absurd (h refl)
+whole_quotient a (pos (suc n)) h = refl
+whole_quotient a (negsuc n) h = refl
+
+whole_remainder : (a b : ℤ) → b ≢ pos 0 → remainder a b ≡ Some (int_rem a b)
+whole_remainder a (pos zero) h = absurd (h refl)
+whole_remainder a (pos (suc n)) h = refl
+whole_remainder a (negsuc n) h = refl
+
 divides : (a b : ℤ) → b ≢ pos 0 → Divides a b
-divides a (pos zero) h = absurd (h refl)
-divides a (pos (suc n)) h = (int_div a (pos (suc n)), int_rem a (pos (suc n)), division a (pos (suc n)) h, refl, refl)
-divides a (negsuc n) h = (int_div a (negsuc n), int_rem a (negsuc n), division a (negsuc n) h, refl, refl)
+divides a b h = (int_div a b, int_rem a b, division a b h, whole_quotient a b h, whole_remainder a b h)
 
 pub divides_exactly : (a : ℤ) → DividesExactly a
 divides_exactly a = (divides a, refl, refl)
+
+-- a quotient that stays a word
+quotient_fits : (a b : ℤ) → unsigned_abs a ≤ 2 ^ 63 → (pos 0 ≤ℤ a → unsigned_abs a < 2 ^ 63) → b ≢ pos 0 → ¬ (IsOutsideWords a b) → FitsSigned w64 (int_div a b)
+quotient_fits (pos a) b low above some inside =
+    let here : pos 0 ≤ℤ pos a = omega (arith, ints) in let high : a < 2 ^ 63 = above here in
+    fits_signed_from_abs w64 (int_div (pos a) b) (omega (arith, abs_quotient (pos a) b))
+quotient_fits (negsuc a) (pos b) low above some inside = let small = div-le_self (suc a) b in omega (arith, ints)
+quotient_fits (negsuc a) (negsuc zero) low above some inside =
+    let whole : suc a / 1 ≡ suc a = omega arith in
+    let apart : ¬ (suc a ≡ 2 ^ 63) = λ e. inside (let same : a ≡ 2 ^ 63 - 1 = omega arith in ap negsuc same, refl) in
+    fits_signed_from_abs w64 (pos (suc a / 1)) (omega arith)
+quotient_fits (negsuc a) (negsuc (suc b)) low above some inside =
+    let half = div-mul-le_self (suc a) (suc (suc b)) in
+    let more : (suc a / suc (suc b)) * 2 ≤ (suc a / suc (suc b)) * suc (suc b) = mul-le-mul_left (suc a / suc (suc b)) (omega arith) in
+    fits_signed_from_abs w64 (pos (suc a / suc (suc b))) (omega arith)
+
+word_size : (a : ℤ) → IsWordOf a a → (unsigned_abs a ≤ 2 ^ 63) × (pos 0 ≤ℤ a → unsigned_abs a < 2 ^ 63)
+word_size (pos a) h = let high = h.high in let low : a < 2 ^ 63 = omega (arith, ints) in (omega arith, λ _. low)
+word_size (negsuc a) h = let low = h.low in (omega (arith, ints), λ z. absurd (z.le))
+
+pub divides_within : (a b : ℤ) → DividesWithin a b
+divides_within a b word some inside =
+    let size = word_size a word in
+    let fits = quotient_fits a b size.0 size.1 some inside in
+    (int_div a b, int_rem a b, division a b some, whole_quotient a b some ∙ ap Some (int_wrap_fits w64 (int_div a b) fits), whole_remainder a b some)
