@@ -72,11 +72,6 @@ abbrev pub IsInputFault : TextFault → List ℕ → Type 0
 IsInputFault Memory bytes = Unit {0}
 IsInputFault (At n place) bytes = Fails (length bytes) 0 bytes n place
 
--- input number z, counted from 0
-abbrev pub number_at : List ℤ → ℤ → Option ℤ
-number_at ns (pos k) = slice_get ns k
-number_at ns (negsuc k) = None
-
 -- what the reader says of the bytes that it looks at
 abbrev pub IsFront : List ℕ → Front → Type 0
 IsFront bytes (fronts.Gap rest) = IsGap bytes rest.now × (length rest.now < length bytes)

@@ -21,7 +21,7 @@
 //! statement round them counts, and in an expression each pair of parentheses, each `input(` and each unary operator, but
 //! not the parentheses of `if`, `while` and `print`. An expression has at most 256 operators, those of its groups too.
 //!
-//! [`parse::parse`] gives a [`tree::Tree`] or a [`fault::TextFault`], and [`input::parse_input`] an [`input::Input`].
+//! [`parse::parse`] gives a [`tree::Tree`] or a [`fault::TextFault`], and [`input::parse_input`] an [`Input`](cilk_types::input::Input).
 #![tactic(auto)]
 
 mod expressions;

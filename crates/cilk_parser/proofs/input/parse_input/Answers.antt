@@ -24,8 +24,8 @@ each-preserved c =
       shorter = grind (arith, common_steps);
     }
 
-pub returns-then-len-eq-MOST_NUMBERS-clause-fault : goal.returns-then-len-eq-MOST_NUMBERS-clause-fault
-returns-then-len-eq-MOST_NUMBERS-clause-fault c =
+pub returns-then-len-eq-MAX_INPUTS-clause-fault : goal.returns-then-len-eq-MAX_INPUTS-clause-fault
+returns-then-len-eq-MAX_INPUTS-clause-fault c =
     c.each.invariant.fault _ _ (OneTooMany c.in-Number.number c.in-Number.ensures.0 (grind (arith, common_steps)) (omega (arith, c.each.invariant.shorter)))
 
 pub returns-in-Bad-clause-fault : goal.returns-in-Bad-clause-fault
