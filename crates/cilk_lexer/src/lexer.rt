@@ -1,10 +1,11 @@
-// From bytes to tokens.
+//! From bytes to tokens.
 
 ghost use Rattle.std.specs.Prelude.{◌≡◌, ◌≢◌, ℕ, ◌+◌, ◌<◌, ◌≤◌, Bool, true, false, List, ◌∷◌, IfOk, IfErr, IfSome, IfNone, length, None, Some, pos};
 ghost use Rattle.cilk_lexer.specs.declared.lexer.Bad.TheVariants as bads;
 ghost use Rattle.cilk_lexer.specs.declared.lexer.Gap.TheVariants as gaps;
 ghost use Rattle.cilk_lexer.specs.declared.lexer.Class.TheVariants as classes;
 ghost use Rattle.cilk_token.specs.declared.token.Kind.{Kind};
+ghost use Rattle.cilk_token.specs.declared.token.Token.{Token};
 ghost use Rattle.cilk_token.specs.Kinds.{spelling, is_reserved};
 ghost use Rattle.cilk_lexer.specs.Lexing;
 ghost use Rattle.cilk_lexer.specs.Lexing.{behind, front_of, after_close, Directs, NotNext, Spells, is_numeral, value_of, starts_digit, starts_letter};
@@ -14,8 +15,10 @@ ghost use Rattle.cilk_lexer.specs.declared.lexer.LexFault.TheVariants.{Memory};
 
 use cilk_token::token::{Kind, Token};
 use std::alloc::{AllocError, AllocFailed, Global};
+use thiserror::Error;
 
-/// A class of bytes.
+/// A class of bytes: letters, digits and `_`; what isn't the end of a line; the blanks within a line; what isn't space,
+/// tab, LF or CR.
 #[derive(Clone, Copy, Debug)]
 pub enum Class {
     Word,
@@ -34,19 +37,25 @@ pub enum Gap {
 }
 
 /// Why a text can't be cut into tokens.
-#[derive(Clone, Copy, Debug)]
+#[derive(Clone, Copy, Debug, Error)]
 pub enum Bad {
+    #[error("a byte over 127")]
     NotAscii,
+    #[error("an unclosed comment")]
     Unclosed,
+    #[error("an unknown `#` line")]
     Directive,
+    #[error("no number")]
     Numeral,
+    #[error("no token")]
     NoToken,
+    #[error("a number over 9223372036854775807")]
     TooLarge,
 }
 
-/// What stands first.
+/// What stands first: something between tokens, a token, or neither.
 #[derive(Drop)]
-pub enum Front<'a> {
+enum Front<'a> {
     Skip(Gap, bool, &'a [u8]),
     Word(Kind, &'a [u8]),
     Fault(Bad),
@@ -70,6 +79,7 @@ fn is_letter(byte: u8) -> bool
     (byte > 64 && byte < 91) || (byte > 96 && byte < 123) || byte == b'_'
 }
 
+/// Tells whether the byte is of the class.
 pub fn belongs(class: Class, byte: u8) -> bool
     ensures { result ≡ Lexing.belongs class byte }
 {
@@ -142,6 +152,7 @@ fn directive(fresh: bool, tail: &[u8]) -> Front<'_>
     }
 }
 
+/// Tells whether a `#` line with this word is skipped.
 fn directs(word: &[u8]) -> bool
     ensures yes { result ≡ true → Directs word.now }
     ensures no { result ≡ false → Directs word.now → ⊥ }
@@ -399,10 +410,12 @@ fn piece<'a>(fresh: bool, first: u8, tail: &'a [u8], bytes: &'a [u8]) -> Front<'
     }
 }
 
-/// Why there are no tokens.
-#[derive(Debug, Drop)]
+/// Why there are no tokens: memory ran out, or what is wrong at which byte, counted from 0.
+#[derive(Debug, Drop, Error)]
 pub enum LexFault {
+    #[error("no memory")]
     Memory,
+    #[error("{0} at byte {1}")]
     At(Bad, usize),
 }
 
@@ -422,7 +435,7 @@ impl<T: Drop> From<AllocFailed<T>> for LexFault {
     }
 }
 
-/// The tokens of a text.
+/// The tokens of a text, or the first place at which it can't be cut on. Looks at each byte a few times.
 pub fn lex(alloc: Global, text: &[u8]) -> Result<Vec<Token>, LexFault>
     ensures tokens { IfOk result (λ v. AreTokens text.now v.items) }
     ensures fault { IfErr result (λ e. IsLexFault e text.now) }
@@ -452,3 +465,9 @@ pub fn lex(alloc: Global, text: &[u8]) -> Result<Vec<Token>, LexFault>
     }
     Ok(tokens)
 }
+
+/// One text has one list of tokens.
+#[tactic(auto, using(crate::proofs::Unique::unique))]
+pub fn tokens_are_one()
+    ensures { (text : List ℕ) (ts us : List Token) → AreTokens text ts → AreTokens text us → ts ≡ us }
+{}

@@ -1,8 +1,15 @@
 pub mod Agreement
+pub mod Blocks
+pub mod Earliest
 pub mod Elisions
 pub mod Enough
 pub mod Events
+pub mod Passes
 pub mod Places
+pub mod Resolved
 pub mod Rows
 pub mod Runs
 pub mod Shapes
+pub mod Tables
+pub mod Verdicts
+pub mod WellNamed

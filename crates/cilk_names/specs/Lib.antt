@@ -1,7 +1,11 @@
 pub mod Behaviour
 pub mod Elision
 pub mod Laws
+pub mod Misnamings
+pub mod Names
+pub mod Pass
 pub mod Programs
+pub mod Resolution
 pub mod SerialRun
 pub mod Store
 pub mod Syntax

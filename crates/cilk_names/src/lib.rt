@@ -7,6 +7,12 @@
 #![tactic(auto)]
 
 pub mod ask;
+mod expressions;
+pub mod fault;
 pub mod laws;
 pub mod program;
+pub mod resolution;
+pub mod resolve;
+mod statements;
 pub mod syntax;
+pub mod table;

@@ -108,9 +108,9 @@ binary_reads : (op : BinaryOperator) (a b : Expression) → ExprReads a → Expr
 binary_reads op a b left right = record {
   part = λ ts rest d n m stack past h l c k. absurd (omega (arith, l, low op));
   whole = λ ts rest d n m stack past h c k.
-    left ts h.0 d n (n + limits.operators a) stack _ h.2 refl
-    (goes (mark_of op) h.0 h.1 (Tail d ∷ stack) (Operand d ∷ Tail d ∷ stack) (n + limits.operators a) (n + limits.operators a + 1) _ _ h.4 (operated op d stack (n + limits.operators a))
-    (right h.1 rest d (n + limits.operators a + 1) m stack past h.5 (omega (arith, c)) k));
+      left ts h.0 d n (n + limits.operators a) stack _ h.2 refl
+      (goes (mark_of op) h.0 h.1 (Tail d ∷ stack) (Operand d ∷ Tail d ∷ stack) (n + limits.operators a) (n + limits.operators a + 1) _ _ h.4 (operated op d stack (n + limits.operators a))
+      (right h.1 rest d (n + limits.operators a + 1) m stack past h.5 (omega (arith, c)) k));
 }
 
 reads : (e : Expression) → Reads e

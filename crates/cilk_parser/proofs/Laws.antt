@@ -146,13 +146,15 @@ begun used stack' n' w =
 -- a token that isn't expected, or the end, is the first that no text has there
 pub refusal : (ts rest : List Token) → run ts start 0 ≡ Unexpected rest → (used : List Token) × IsRefusal ts used rest
 refusal ts rest h =
-    let u = stops_at ts rest start 0 h in
-    (u.0, record {
-      parts = u.3;
-      begins = begun u.0 u.1 u.2 u.4;
-      within = λ w p s. (read_back u.0 w start u.1 0 u.2 (excess_items p) u.4 (accepted p (u.0 ++ w) s)).2;
-      refused = none_goes u.0 rest u.1 u.2 u.4 u.5;
-    })
+    let u = stops_at ts rest start 0 h in (
+      u.0,
+      record {
+        parts = u.3;
+        begins = begun u.0 u.1 u.2 u.4;
+        within = λ w p s. (read_back u.0 w start u.1 0 u.2 (excess_items p) u.4 (accepted p (u.0 ++ w) s)).2;
+        refused = none_goes u.0 rest u.1 u.2 u.4 u.5;
+      },
+    )
 
 goes_past : (used : List Token) (x : Token) (stack' s : List Symbol) (n' m : ℕ) → Walk used start 0 stack' n' → after stack' n' x.kind ≡ Goes true s m → GoesPast used x
 goes_past used x stack' s n' m k a = λ w p sp.
@@ -172,9 +174,14 @@ begun_past used x stack' s n' m k a =
 -- a token at which reading goes past a limit is in the grammar, and the first in each text that goes past one
 pub past_limit : (ts rest : List Token) → run ts start 0 ≡ PastLimit rest → (used : List Token) × (x : Token) × (more : List Token) × (rest ≡ x ∷ more) × IsPastLimit ts used x more
 past_limit ts rest h =
-    let u = crosses ts rest start 0 h in
-    (u.0, u.1, u.2, u.7, record {
-      parts = u.8;
-      begins = begun_past u.0 u.1 u.3 u.5 u.4 u.6 u.9 u.10;
-      past = goes_past u.0 u.1 u.3 u.5 u.4 u.6 u.9 u.10;
-    })
+    let u = crosses ts rest start 0 h in (
+      u.0,
+      u.1,
+      u.2,
+      u.7,
+      record {
+        parts = u.8;
+        begins = begun_past u.0 u.1 u.3 u.5 u.4 u.6 u.9 u.10;
+        past = goes_past u.0 u.1 u.3 u.5 u.4 u.6 u.9 u.10;
+      },
+    )

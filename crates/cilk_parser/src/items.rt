@@ -33,7 +33,8 @@ fn literal<'a>(tokens: &'a [Token]) -> Result<(Initializer, &'a [Token]), Stop<'
         ] => Ok((Initializer::Number(*value), rest)),
         [
             Token {
-                kind: Kind::Minus, ..
+                kind: Kind::Minus,
+                ..
             },
             after @ ..,
         ] => {
@@ -57,7 +58,8 @@ fn initializer<'a>(tokens: &'a [Token]) -> Result<(Initializer, &'a [Token]), St
     match tokens {
         [
             Token {
-                kind: Kind::Assign, ..
+                kind: Kind::Assign,
+                ..
             },
             after @ ..,
         ] => literal(after),
@@ -134,7 +136,8 @@ fn parameters<'a>(tokens: &'a [Token]) -> (Parameters, &'a [Token])
     match tokens {
         [
             Token {
-                kind: Kind::Void, ..
+                kind: Kind::Void,
+                ..
             },
             after @ ..,
         ] => (Parameters::Void, after),
@@ -191,7 +194,8 @@ fn declared<'a>(alloc: Global, tokens: &'a [Token]) -> Result<(Item, &'a [Token]
     match rest {
         [
             Token {
-                kind: Kind::Open, ..
+                kind: Kind::Open,
+                ..
             },
             after @ ..,
         ] => {

@@ -1,0 +1,5 @@
+pub mod Absorbing
+pub mod Fills
+pub mod Entries
+pub mod Merges
+pub mod Writes

@@ -1,0 +1,14 @@
+use Rattle.std.proofs.Common.{◌≡◌, ℕ, ◌<◌, Option, Some, IsSome, slice_get}
+use Rattle.indexmap.specs.IndexMap.{keys}
+use Rattle.cilk_types.specs.declared.event.Instance.{Instance}
+use Rattle.cilk_hypermap.specs.Views.{view_at, FillsIn}
+use Rattle.cilk_hypermap.proofs.views.Views.fill.Given as goal
+
+-- the views so far have been filled in at the instances so far
+abbrev pub invariant-loop-i : goal.invariant-loop-i
+invariant-loop-i g l =
+    let m = g.M.Monoid in
+    record {
+      views : FillsIn m.structure m.value (λ j. IsSome (view_at m.value l.later j)) l.initial.self l.self;
+      present : (k : ℕ) (q : Instance) → k < l.i → slice_get (keys l.later.views) k ≡ Some q → IsSome (view_at m.value l.self q);
+    }

@@ -1,0 +1,90 @@
+-- What the contracts of `Hypermap` cite: a finite map from kinds and instances to the values of their views.
+use Rattle.std.specs.Prelude.{◌≡◌, ℕ, ℤ, Bool, true, false, cond, ◌&&◌, Option, Some, None, IsSome, ◌⊎◌}
+use Rattle.cilk_types.specs.declared.event.Instance.{Instance}
+use Rattle.cilk_types.specs.declared.outcome.Final.{Final}
+use Rattle.cilk_types.specs.declared.outcome.Final.TheVariants as final
+use Rattle.cilk_monoid.specs.declared.kind.MonoidKind.{MonoidKind}
+use Rattle.cilk_monoid.specs.declared.kind.MonoidKind.TheVariants.{Add, Least, Greatest, Append, Affine}
+use Rattle.cilk_monoid.specs.Kinds.{structure_of}
+use Rattle.cilk_monoid.specs.Laws.{MonoidStructure}
+use Rattle.cilk_monoid.specs.Ranges.{same_instance}
+use Rattle.cilk_monoid.specs.Values.{ViewValue, Number, Elements, Map}
+use Rattle.cilk_monoid.specs.Views.{number_value, list_value, affine_value, list_room, unlimited}
+use Rattle.cilk_hypermap.specs.declared.hypermap.Hypermap.{Hypermap}
+use Rattle.cilk_hypermap.specs.Views.{or_unit, view_at, HasRoom, Fits, Loses}
+
+-- whether two kinds are one
+abbrev pub same_kind : MonoidKind → MonoidKind → Bool
+same_kind Add Add = true
+same_kind Least Least = true
+same_kind Greatest Greatest = true
+same_kind Append Append = true
+same_kind Affine Affine = true
+same_kind j k = false
+
+-- a fact of each kind
+abbrev pub EachKind : (MonoidKind → Type 0) → Type 0
+EachKind P = P Add × P Least × P Greatest × P Append × P Affine
+
+-- the value of the view of the instance of the kind, if there is one
+abbrev pub view_in : Hypermap → MonoidKind → Instance → Option ViewValue
+view_in h Add i = view_at number_value h.sums i
+view_in h Least i = view_at number_value h.least i
+view_in h Greatest i = view_at number_value h.greatest i
+view_in h Append i = view_at list_value h.lists i
+view_in h Affine i = view_at affine_value h.maps i
+
+-- the value of the view, where none counts as the unit
+abbrev pub value_in : Hypermap → MonoidKind → Instance → ViewValue
+value_in h k i = or_unit (structure_of k) (view_in h k i)
+
+-- the view of the instance of the kind has become w, and the others are as they were
+abbrev pub ChangesIn : Hypermap → Hypermap → MonoidKind → Instance → Option ViewValue → Type 0
+ChangesIn old new k i w = EachKind (λ k'. (j : Instance) → view_in new k' j ≡ cond (same_kind k k' && same_instance i j) w (view_in old k' j))
+
+-- all views are as they were
+abbrev pub KeepsAll : Hypermap → Hypermap → Type 0
+KeepsAll old new = EachKind (λ k. (j : Instance) → view_in new k j ≡ view_in old k j)
+
+-- the values are as they were, an absent view counting as the unit
+abbrev pub KeepsAllValues : Hypermap → Hypermap → Type 0
+KeepsAllValues old new = EachKind (λ k. (j : Instance) → value_in new k j ≡ value_in old k j)
+
+-- the instance has no view of any kind, and the others are as they were
+abbrev pub Retires : Hypermap → Hypermap → Instance → Type 0
+Retires old new i = EachKind (λ k. (j : Instance) → view_in new k j ≡ cond (same_instance i j) None (view_in old k j))
+
+-- the views are as they were, but that the unit stands at some instances that had none and are needed
+abbrev pub FillsAll : (MonoidKind → Instance → Type 0) → Hypermap → Hypermap → Type 0
+FillsAll IsNeeded old new = EachKind (λ k. (j : Instance) → (view_in new k j ≡ view_in old k j)
+    ⊎ ((view_in old k j ≡ None) × (view_in new k j ≡ Some (structure_of k).unit) × IsNeeded k j))
+
+-- `left` has the room for the views of `middle` and `right`, of each kind
+abbrev pub HasRoomForAll : Hypermap → Hypermap → Hypermap → Type 0
+HasRoomForAll left middle right = HasRoom (structure_of Add) number_value (λ _. unlimited) left.sums middle.sums right.sums
+    × HasRoom (structure_of Least) number_value (λ _. unlimited) left.least middle.least right.least
+    × HasRoom (structure_of Greatest) number_value (λ _. unlimited) left.greatest middle.greatest right.greatest
+    × HasRoom (structure_of Append) list_value list_room left.lists middle.lists right.lists
+    × HasRoom (structure_of Affine) affine_value (λ _. unlimited) left.maps middle.maps right.maps
+
+-- what a view leaves when the run ends: a list, or the number that a program reads
+abbrev pub final_of : ViewValue → Final
+final_of (Number z) = final.Number z
+final_of (Elements zs) = final.List zs
+final_of (Map a b) = final.Number b
+
+-- the views of `right` fit in the room of `left`, of each kind
+abbrev pub FitsAll : Hypermap → Hypermap → Type 0
+FitsAll left right = Fits (structure_of Add) number_value (λ _. unlimited) left.sums right.sums
+    × Fits (structure_of Least) number_value (λ _. unlimited) left.least right.least
+    × Fits (structure_of Greatest) number_value (λ _. unlimited) left.greatest right.greatest
+    × Fits (structure_of Append) list_value list_room left.lists right.lists
+    × Fits (structure_of Affine) affine_value (λ _. unlimited) left.maps right.maps
+
+-- `new` has the room of `left` but for the sizes of the views of `right`, of each kind
+abbrev pub LosesAtMost : Hypermap → Hypermap → Hypermap → Type 0
+LosesAtMost left right new = Loses (structure_of Add) number_value (λ _. unlimited) left.sums right.sums new.sums
+    × Loses (structure_of Least) number_value (λ _. unlimited) left.least right.least new.least
+    × Loses (structure_of Greatest) number_value (λ _. unlimited) left.greatest right.greatest new.greatest
+    × Loses (structure_of Append) list_value list_room left.lists right.lists new.lists
+    × Loses (structure_of Affine) affine_value (λ _. unlimited) left.maps right.maps new.maps

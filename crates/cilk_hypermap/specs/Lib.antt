@@ -1,0 +1,3 @@
+pub mod Hypermap
+pub mod Ranges
+pub mod Views

@@ -1,0 +1,68 @@
+-- The five monoids that programs name.
+use Rattle.std.specs.Prelude.{ℕ, ℤ, pos, negsuc, ◌+ℤ◌, ◌*ℤ◌, [], ◌∷◌, ◌++◌, length, All}
+use Rattle.std.specs.Int.{int_max, int_min}
+use Rattle.cilk_types.specs.Word.{word_of}
+use Rattle.cilk_monoid.specs.declared.kind.MonoidKind.{MonoidKind}
+use Rattle.cilk_monoid.specs.declared.kind.MonoidKind.TheVariants.{Add, Least, Greatest, Append, Affine}
+use Rattle.cilk_monoid.specs.Laws.{MonoidStructure}
+use Rattle.cilk_monoid.specs.Values.{ViewValue, Number, Elements, Map, IsWord}
+
+-- an operation on numbers, as one on views
+abbrev pub on_numbers : (ℤ → ℤ → ℤ) → ViewValue → ViewValue → ViewValue
+on_numbers f (Number a) (Number b) = Number (f a b)
+on_numbers f (Number a) v = Number a
+on_numbers f u v = u
+
+-- the left list, then the right one
+abbrev pub appended : ViewValue → ViewValue → ViewValue
+appended (Elements xs) (Elements ys) = Elements (xs ++ ys)
+appended (Elements xs) v = Elements xs
+appended u v = u
+
+-- the left map, then the right one, over words
+abbrev pub composed : ViewValue → ViewValue → ViewValue
+composed (Map a b) (Map c d) = Map (word_of (a *ℤ c)) (word_of (c *ℤ b +ℤ d))
+composed (Map a b) v = Map a b
+composed u v = u
+
+-- the number of a view: itself, the length of a list, what a map makes of 0
+abbrev pub number_of : ViewValue → ℤ
+number_of (Number z) = z
+number_of (Elements zs) = pos (length zs)
+number_of (Map a b) = b
+
+-- the room that a view takes once it is appended
+abbrev pub size_of : ViewValue → ℕ
+size_of (Elements zs) = length zs
+size_of v = 0
+
+-- the monoid of a kind
+abbrev pub structure_of : MonoidKind → MonoidStructure ViewValue
+structure_of Add = record { unit = Number (pos 0); combine = on_numbers (λ a b. word_of (a +ℤ b)); single = Number; number = number_of; size = size_of }
+structure_of Least = record { unit = Number (pos 9223372036854775807); combine = on_numbers int_min; single = Number; number = number_of; size = size_of }
+structure_of Greatest = record { unit = Number (negsuc 9223372036854775807); combine = on_numbers int_max; single = Number; number = number_of; size = size_of }
+structure_of Append = record { unit = Elements []; combine = appended; single = λ x. Elements (x ∷ []); number = number_of; size = size_of }
+structure_of Affine = record { unit = Map (pos 1) (pos 0); combine = composed; single = λ x. Map (pos 10) x; number = number_of; size = size_of }
+
+-- a number that is a word
+abbrev pub IsNumber : ViewValue → Type 0
+IsNumber (Number z) = IsWord z
+IsNumber v = ⊥
+
+-- a list of words
+abbrev pub IsList : ViewValue → Type 0
+IsList (Elements zs) = All IsWord zs
+IsList v = ⊥
+
+-- a map whose factor and offset are words
+abbrev pub IsMap : ViewValue → Type 0
+IsMap (Map a b) = IsWord a × IsWord b
+IsMap v = ⊥
+
+-- the views of a kind
+abbrev pub IsMember : MonoidKind → ViewValue → Type 0
+IsMember Add v = IsNumber v
+IsMember Least v = IsNumber v
+IsMember Greatest v = IsNumber v
+IsMember Append v = IsList v
+IsMember Affine v = IsMap v

@@ -1,0 +1,20 @@
+-- Monoids of views, and their laws on a set of members.
+use Rattle.std.specs.Prelude.{◌≡◌, ℕ, ℤ}
+use Rattle.cilk_monoid.specs.Values.{IsWord}
+
+-- a monoid with what an update adds, the number that a program reads, and the room that a value takes in a product on its left
+pub record MonoidStructure (V : Type 0) : Type 0 where
+  pub unit : V
+  pub combine : V → V → V
+  pub single : ℤ → V
+  pub number : V → ℤ
+  pub size : V → ℕ
+
+-- the members are closed under the operations, and a monoid: the unit is neutral on both sides, `combine` is associative
+pub record IsLawful {V : Type 0} (M : MonoidStructure V) (IsMember : V → Type 0) : Type 0 where
+  pub unit_member : IsMember M.unit
+  pub single_member : (x : ℤ) → IsWord x → IsMember (M.single x)
+  pub combine_member : (a b : V) → IsMember a → IsMember b → IsMember (M.combine a b)
+  pub left_neutral : (v : V) → IsMember v → M.combine M.unit v ≡ v
+  pub right_neutral : (v : V) → IsMember v → M.combine v M.unit ≡ v
+  pub associative : (a b c : V) → IsMember a → IsMember b → IsMember c → M.combine (M.combine a b) c ≡ M.combine a (M.combine b c)

@@ -1,0 +1,30 @@
+//! Views: the values that a reducer's monoid multiplies, as a worker holds them while it runs.
+//!
+//! Each keeps in its type that its numbers are words.
+
+ghost use Rattle.std.specs.Prelude.{All};
+ghost use Rattle.std.proofs.Props.{props};
+ghost use Rattle.cilk_monoid.specs.Values.{IsWord};
+
+/// A view that is a word. Its products take no memory.
+#[derive(Clone, Copy, PartialEq, Eq, Debug)]
+pub struct NumberView {
+    pub number: i64,
+    ghost word: { IsWord number },
+}
+
+/// A view that is a list of words, with room for more behind them.
+#[derive(Drop, Debug)]
+pub struct ListView {
+    pub items: Vec<i64>,
+    ghost words: { All IsWord items.items } by { Prim.hlevel props },
+}
+
+/// A view that is the map `y -> factor * y + offset` on words. Its products take no memory.
+#[derive(Clone, Copy, PartialEq, Eq, Debug)]
+pub struct AffineView {
+    pub factor: i64,
+    pub offset: i64,
+    ghost factor_word: { IsWord factor },
+    ghost offset_word: { IsWord offset },
+}

@@ -1,0 +1,6 @@
+-- A tree resolves exactly where its names are right.
+use Rattle.cilk_names.proofs.Verdicts.{resolves_right, right_resolves}
+use Rattle.cilk_names.proofs.resolution.resolves_where_right.Goals as goal
+
+pub returns : goal.returns
+returns c = λ t. (resolves_right t, right_resolves t)

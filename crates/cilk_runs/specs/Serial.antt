@@ -1,0 +1,63 @@
+-- The serial run.
+use Rattle.std.specs.Prelude.{◌≡◌, ℕ, List, [], ◌∷◌, ◌++◌}
+use Rattle.cilk_runs.specs.Runs.{Cell, Kind, Calls, Spawns, Ask, Invoke, Event, Reads, Writes, Syncs, Ends, Passes, Deed, Does, Invokes, Run, stop, act, child, ask_of}
+use Rattle.cilk_runs.specs.Machine.{put}
+
+-- a cell's value after the run, from its value before
+abbrev pub value_after : {W : Type 0} → Run W → Cell → ℕ → ℕ
+value_after stop c x = x
+value_after (act e r) c x = value_after r c (put e c x)
+value_after (child k w u r) c x = value_after r c (value_after u c x)
+
+-- each read's answer is the value of the last write before it, or what the cell held before the run
+abbrev pub IsRight : Event → (Cell → ℕ) → Type 0
+IsRight (Reads c v) memory = v ≡ memory c
+IsRight (Writes c v) memory = Unit {0}
+IsRight Syncs memory = Unit {0}
+IsRight Ends memory = Unit {0}
+IsRight (Passes m) memory = Unit {0}
+
+abbrev pub IsSerial : {W : Type 0} → Run W → (Cell → ℕ) → Type 0
+IsSerial stop memory = Unit {0}
+IsSerial (act e r) memory = IsRight e memory × IsSerial r (λ c. put e c (memory c))
+IsSerial (child k w u r) memory = IsSerial u memory × IsSerial r (λ c. value_after u c (memory c))
+
+-- the frame has a sync ahead; it has something ahead
+abbrev pub SyncAhead : {W : Type 0} → Run W → Type 0
+SyncAhead stop = ⊥
+SyncAhead (act (Reads c v) r) = SyncAhead r
+SyncAhead (act (Writes c v) r) = SyncAhead r
+SyncAhead (act Syncs r) = Unit {0}
+SyncAhead (act Ends r) = SyncAhead r
+SyncAhead (act (Passes m) r) = SyncAhead r
+SyncAhead (child k w u r) = SyncAhead r
+
+abbrev pub GoesOn : {W : Type 0} → Run W → Type 0
+GoesOn stop = ⊥
+GoesOn (act e r) = Unit {0}
+GoesOn (child k w u r) = Unit {0}
+
+abbrev pub ComesAfter : {W : Type 0} → Kind → Run W → Type 0
+ComesAfter Calls r = GoesOn r
+ComesAfter Spawns r = SyncAhead r
+
+-- the end comes last, a call is followed by an event and a spawn by a sync
+abbrev pub IsClosed : {W : Type 0} → Run W → Type 0
+IsClosed stop = Unit {0}
+IsClosed (act (Reads c v) r) = IsClosed r
+IsClosed (act (Writes c v) r) = IsClosed r
+IsClosed (act Syncs r) = IsClosed r
+IsClosed (act Ends r) = r ≡ stop
+IsClosed (act (Passes m) r) = IsClosed r
+IsClosed (child k w u r) = ComesAfter k r × IsClosed u × IsClosed r
+
+module _ (W : Type 0) (Next : W → List (Deed W) → Ask W → Type 0) where
+  -- each frame of the run asks what its behaviour asks, after what it has done, until it asks nothing
+  abbrev pub Behaves : W → List (Deed W) → Run W → Type 0
+  Behaves w past stop = (a : Ask W) → Next w past a → ⊥
+  Behaves w past (act e r) = Next w past (ask_of e) × Behaves w (past ++ Does e ∷ []) r
+  Behaves w past (child k v u r) = Next w past (Invoke k v) × Behaves v [] u × Behaves w (past ++ Invokes k v ∷ []) r
+
+  -- what a frame asks next follows from what it has done
+  abbrev pub IsDetermined : Type 0
+  IsDetermined = (w : W) (past : List (Deed W)) (a b : Ask W) → Next w past a → Next w past b → a ≡ b
