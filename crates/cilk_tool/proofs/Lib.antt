@@ -1,4 +1,5 @@
 pub mod Entered
+pub mod Judged
 pub mod Lines
 pub mod Reading
 pub mod Replying

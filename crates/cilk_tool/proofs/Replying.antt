@@ -5,7 +5,8 @@ use Rattle.std.specs.Io.KnownBytes.{Appends}
 use Rattle.std.proofs.lemmas.List.{append-nil, take_all}
 use Rattle.cilk_tool.specs.Replies.{NoMemory, Reply, Text, answer_view, failure_view, out_text, status_of}
 use Rattle.cilk_names.specs.Syntax.{Source}
-use Rattle.cilk_tool.specs.Judging.{InputFails, IsInputText, IsProgramText, ProgramFails, RunShows}
+use Rattle.cilk_parser.specs.Inputs.{IsInput}
+use Rattle.cilk_tool.specs.Judging.{InputFails, IsProgramText, ProgramFails, RunShows}
 use Rattle.cilk_tool.specs.Files.{IsHeld}
 use Rattle.cilk_tool.specs.Serving.{Answers, GivesInput, GivesProgram, InputFileFails, InputRefused, InputUnread, IsOrNoMemory, ProgramRefused, ProgramUnread, Ran, RunReply, Serves, Shows, ShowsError, World}
 use Rattle.cilk_tool.specs.Streams.{AppendsFront, AppendsPart}
@@ -84,10 +85,10 @@ input_refused w p i r text slice q files numbers slice' given e h same input e' 
 
 pub ran : (w : World) (p : Origin) (i : Option Text) (r : Reply) (text slice : Text) (q : Source) (files : Text → Option Text) (numbers slice' : Text) (inputs : List ℤ)
     → GivesProgram w.files w.input p text → slice ≡ text → IsProgramText slice q → ((path : Text) → files path ≡ w.files path) → GivesInput files i numbers → slice' ≡ numbers
-    → IsInputText slice' inputs → RunShows q inputs r → RunReply w p i r
+    → IsInput slice' inputs → RunShows q inputs r → RunReply w p i r
 ran w p i r text slice q files numbers slice' inputs given e h same input e' spelled shown =
     Ran text q numbers inputs given (subst (λ (t : Text). IsProgramText t q) e h) (same_input files w.files i numbers same input)
-    (subst (λ (t : Text). IsInputText t inputs) e' spelled) shown
+    (subst (λ (t : Text). IsInput t inputs) e' spelled) shown
 
 -- a run's answer
 pub ran_ok : {T : Type 0} (x : Result Answer T) (w : World) (p : Origin) (i : Option Text) (q : Source) (inputs : List ℤ)

@@ -4,7 +4,8 @@ use Rattle.std.specs.Io.KnownBytes.{Appends}
 use Rattle.cilk_names.specs.Syntax.{Source}
 use Rattle.cilk_tool.specs.declared.streams.TheConstants.{MAX_READ}
 use Rattle.cilk_tool.specs.Files.{IsHeld}
-use Rattle.cilk_tool.specs.Judging.{InputFails, IsInputText, IsProgramText, ProgramFails, RunShows}
+use Rattle.cilk_parser.specs.Inputs.{IsInput}
+use Rattle.cilk_tool.specs.Judging.{InputFails, IsProgramText, ProgramFails, RunShows}
 use Rattle.cilk_tool.specs.Replies.{BadWords, IsErrorText, NoMemory, Reply, Text, Unreadable, line, out_text, status_of}
 use Rattle.cilk_tool.specs.Streams.{AppendsFront, AppendsPart}
 use Rattle.cilk_tool.specs.Words.{Asked, File, Run, Origin, Standard, order_in}
@@ -65,7 +66,7 @@ pub data RunReply (w : World) (program : Origin) (input : Option Text) (r : Repl
   InputRefused : (text : Text) (p : Source) (numbers : Text) → GivesProgram w.files w.input program text → IsProgramText text p
       → GivesInput w.files input numbers → InputFails numbers r → RunReply w program input r
   Ran : (text : Text) (p : Source) (numbers : Text) (inputs : List ℤ) → GivesProgram w.files w.input program text → IsProgramText text p
-      → GivesInput w.files input numbers → IsInputText numbers inputs → RunShows p inputs r → RunReply w program input r
+      → GivesInput w.files input numbers → IsInput numbers inputs → RunShows p inputs r → RunReply w program input r
 
 -- words that ask for nothing
 abbrev pub WordsFail : Reply → Type 0

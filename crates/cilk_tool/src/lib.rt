@@ -16,3 +16,6 @@ pub mod streams;
 pub mod words;
 
 pub use serving::serve;
+
+#[cfg(test)]
+mod tests;
