@@ -1,0 +1,83 @@
+-- From clap's matches to what is asked for.
+use Rattle.std.proofs.Common.{◌≡◌, ◌<◌, ◌⊎◌, ℕ, List, [], ◌∷◌, Option, Some, None, option_map, refl, sym, ap, ap₂, ◌∙◌, subst, codes, true, false, length, map, inl, inr, arith, rules}
+use Rattle.std.specs.Prelude.{if◌then◌else◌, Result, Ok, Err}
+use Rattle.std.specs.Borrow.{Bor}
+use Rattle.clap.specs.Words.{App, FailsBy, HasMatchesOf, Row, Text, app_of, fault_of, first_of, first_value, found_of, is_simple, is_simple_and_free, kind_of, rows_of, subcommand_of, subcommand_rows_of}
+use Rattle.clap.specs.Kinds.{HasKind, IsAmong, Kinds}
+use Rattle.clap.specs.Walk.{is_empty}
+use Rattle.clap.specs.declared.builder.command.Command.{Command}
+use Rattle.clap.specs.declared.error.Error.{Error}
+use Rattle.clap.specs.declared.error.kind.ErrorKind.{ErrorKind}
+use Rattle.clap.specs.declared.parser.matches.ArgMatches.{ArgMatches}
+use Rattle.clap.specs.declared.parser.matches.Found.{Found}
+use Rattle.clap.proofs.OnLiterals.{clap_on_literals}
+use Rattle.clap.proofs.WalkLemmas.{first_value-rows}
+use Rattle.cilk_tool.specs.declared.words.Order.{Order}
+use Rattle.cilk_tool.specs.Words.{order_view, Asked, File, IsRefusal, IsWordsFault, Run, Standard, cilk_app, order_by, order_in, run_with, texts}
+use Rattle.cilk_tool.specs.declared.words.WordsFault.{WordsFault}
+use Rattle.cilk_tool.specs.declared.words.WordsFault.TheVariants.{Usage, Memory}
+
+-- `run` with no program
+pub run_is_none : (f : Found) (o : Option (Bor Text)) → option_map (λ s. s.now) o ≡ first_value f (codes "program") → o ≡ None → run_with (rows_of f) ≡ None
+run_is_none f o h e =
+    let none : first_of (codes "program") (rows_of f) ≡ None = sym (first_value-rows f (codes "program")) ∙ sym h ∙ ap (option_map (λ (s : Bor Text). s.now)) e in
+    ap (option_map (λ (program : Text). Run (File program) (first_of (codes "input") (rows_of f)))) none
+
+-- `run` with a program
+pub run_is_some : (f : Found) (o i : Option (Bor Text)) (p : Bor Text) → option_map (λ s. s.now) o ≡ first_value f (codes "program") → o ≡ Some p
+    → option_map (λ s. s.now) i ≡ first_value f (codes "input") → run_with (rows_of f) ≡ Some (Run (File p.now) (option_map (λ s. s.now) i))
+run_is_some f o i p h e k =
+    let some : first_of (codes "program") (rows_of f) ≡ Some p.now = sym (first_value-rows f (codes "program")) ∙ sym h ∙ ap (option_map (λ (s : Bor Text). s.now)) e in
+    let input : first_of (codes "input") (rows_of f) ≡ option_map (λ (s : Bor Text). s.now) i = sym (first_value-rows f (codes "input")) ∙ sym k in
+    ap (option_map (λ (program : Text). Run (File program) (first_of (codes "input") (rows_of f)))) some ∙ ap (λ (x : Option Text). Some (Run (File p.now) x)) input
+
+simple : is_simple cilk_app ≡ true
+unfolding clap_on_literals
+simple = refl
+
+free : is_simple_and_free cilk_app ≡ true
+unfolding clap_on_literals
+free = refl
+
+pub free_shape : (c : Command) → app_of c ≡ cilk_app → is_simple_and_free (app_of c) ≡ true
+free_shape c shape = ap is_simple_and_free shape ∙ free
+
+-- no words
+pub order_of_none : (words : List (Bor Text)) → length words ≡ 0 → order_in (texts words) ≡ Some (Run Standard None)
+unfolding order_in
+order_of_none [] h = refl
+order_of_none (w ∷ words) h = absurd (omega (arith, h))
+
+-- words that clap matches
+pub order_of_matches : (c : Command) (words : List (Bor Text)) (m : ArgMatches) → app_of c ≡ cilk_app → (length words ≡ 0 → ⊥)
+    → fault_of (app_of c) (texts words) ≡ [] → HasMatchesOf (app_of c) (texts words) m → order_in (texts words) ≡ order_by (subcommand_rows_of m)
+unfolding order_in
+order_of_matches c [] m shape some fault met = absurd (some refl)
+order_of_matches c (w ∷ words) m shape some fault met =
+    let right : fault_of cilk_app (texts (w ∷ words)) ≡ [] = subst (λ (a : App). fault_of a (texts (w ∷ words)) ≡ []) shape fault in
+    let rows : subcommand_rows_of m ≡ subcommand_of cilk_app (texts (w ∷ words)) = (subst (λ (a : App). HasMatchesOf a (texts (w ∷ words)) m) shape met simple).1 in
+    ap (λ (kinds : Kinds). if is_empty kinds then order_by (subcommand_of cilk_app (texts (w ∷ words))) else None) right ∙ ap order_by (sym rows)
+
+among : (k : ErrorKind) (kinds : Kinds) → IsAmong k kinds → is_empty kinds ≡ false
+among k [] h = absurd h
+among k (x ∷ kinds) h = search rules
+
+-- words that clap refuses
+pub order_of_refused : (c : Command) (words : List (Bor Text)) (e : Error) → app_of c ≡ cilk_app → (length words ≡ 0 → ⊥)
+    → HasKind (fault_of (app_of c) (texts words)) e → (f : WordsFault) → IsRefusal (kind_of e) f → IsWordsFault (texts words) f
+unfolding order_in
+order_of_refused c [] e shape some kinds f r = absurd (some refl)
+order_of_refused c (w ∷ words) e shape some kinds Memory r = tt
+order_of_refused c (w ∷ words) e shape some kinds (Usage text) r =
+    elim (subst (λ (a : App). HasKind (fault_of a (texts (w ∷ words))) e) shape kinds) [
+      | inl h ↦ absurd (r h)
+      | inr h ↦ rw (among _ _ h) refl
+    ]
+
+-- the order that was found
+pub order_found : (o : Option Order) (p : Order) (words : List Text) → order_in words ≡ option_map order_view o → o ≡ Some p → order_in words ≡ Some (order_view p)
+order_found o p words h e = h ∙ ap (option_map order_view) e
+
+-- nothing is asked for
+pub order_lost : (o : Option Order) (words : List Text) → order_in words ≡ option_map order_view o → o ≡ None → order_in words ≡ None
+order_lost o words h e = h ∙ ap (option_map order_view) e

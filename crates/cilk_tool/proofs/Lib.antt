@@ -1,0 +1,6 @@
+pub mod Entered
+pub mod Judged
+pub mod Lines
+pub mod Reading
+pub mod Replying
+pub mod Writing

@@ -1,0 +1,6 @@
+pub mod Files
+pub mod Judging
+pub mod Replies
+pub mod Serving
+pub mod Streams
+pub mod Words

@@ -1,0 +1,21 @@
+//! The tool: words, files and streams on one side, texts and replies on the other.
+//!
+//! [`serve`] reads the words of a command line, reads the texts that they name, judges them, and shows one reply: a
+//! text on standard output or a line on standard error, and a status. It runs over any [`files::Files`], any reader
+//! and any writers, so what it shows is a stated function of what these give (`specs/Serving.antt`).
+#![tactic(auto)]
+
+pub mod disk;
+pub mod files;
+mod judge;
+mod render;
+pub mod reply;
+mod running;
+mod serving;
+pub mod streams;
+pub mod words;
+
+pub use serving::serve;
+
+#[cfg(test)]
+mod tests;

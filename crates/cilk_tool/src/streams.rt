@@ -1,0 +1,90 @@
+//! Bytes in from a reader and out to a writer.
+
+ghost use Rattle.std.specs.Prelude.{◌≡◌, ℕ, ◌+◌, ◌≤◌, ◌<◌, length, take, IsTrue, IsFalse, IfOk, IfSome};
+ghost use Rattle.std.specs.Io.KnownBytes.{Appends, Consumes};
+ghost use Rattle.cilk_tool.specs.Streams.{AppendsPart, ReadsOn};
+
+use cilk_types::limits::MAX_TEXT;
+use std::alloc::{AllocError, AllocFailed, Global};
+use std::io::{Read, Write};
+use thiserror::Error;
+
+/// The bytes after which a program text on standard input is read no further: one more than it may have.
+pub const MAX_READ: usize = MAX_TEXT + 1;
+
+const PIECE: usize = 4096;
+
+/// Why a reader gave no text.
+#[derive(Clone, Copy, PartialEq, Eq, Debug, Error)]
+pub enum ReadFault {
+    #[error("cannot read")]
+    Device,
+    #[error("no memory")]
+    Memory,
+}
+
+impl From<AllocError> for ReadFault {
+    fn from(_: AllocError) -> ReadFault {
+        ReadFault::Memory
+    }
+}
+
+impl<T: Drop> From<AllocFailed<T>> for ReadFault {
+    fn from(_: AllocFailed<T>) -> ReadFault {
+        ReadFault::Memory
+    }
+}
+
+/// Reads once, and puts what came at the end of the text. No byte came only at the input's end.
+fn receive_some<R: Read>(
+    input: &mut R,
+    text: &mut Vec<u8>,
+    piece: &mut [u8],
+) -> Result<usize, ReadFault>
+    requires { 0 < length piece.old }
+    ensures grows { IfOk result (λ n. ReadsOn (R.remaining input.old) (R.remaining input.new) text.old.items text.new.items n) }
+    ensures within { IfOk result (λ n. n ≤ length piece.old) }
+{
+    let Ok(count) = input.read(piece) else {
+        return Err(ReadFault::Device);
+    };
+    text.extend_from_slice(&piece[..count])?;
+    Ok(count)
+}
+
+/// Reads a text of at most [`MAX_READ`] bytes, in at most as many reads. What stands after them stays unread. Any read
+/// that fails ends the reading.
+pub fn receive<R: Read>(alloc: Global, input: &mut R) -> Result<Vec<u8>, ReadFault>
+    ensures whole { IfOk result (λ text. IfSome (R.remaining input.old) (λ all. text.items ≡ take MAX_READ all)) }
+    ensures taken { IfOk result (λ text. Consumes (R.remaining input.old) (R.remaining input.new) text.items) }
+{
+    let mut text = Vec::new(alloc);
+    let mut buffer = [0u8; PIECE];
+    for _turn in 0..MAX_READ {
+        let room = (MAX_READ - text.len()).min(PIECE);
+        if room == 0 {
+            return Ok(text);
+        }
+        let count = receive_some(input, &mut text, &mut buffer[..room])?;
+        if count == 0 {
+            return Ok(text);
+        }
+    }
+    Ok(text)
+}
+
+/// Writes a text, and says whether all of it went out. A write that fails, or takes nothing, ends the writing, and
+/// then a beginning of the text, less than all of it, went out.
+pub fn send<W: Write>(out: &mut W, text: &[u8]) -> bool
+    ensures all { IsTrue result → Appends (W.contents out.old) (W.contents out.new) text.now }
+    ensures part { IsFalse result → AppendsPart (W.contents out.old) (W.contents out.new) text.now }
+{
+    let mut done = 0;
+    while done < text.len() {
+        match out.write(&text[done..]) {
+            Ok(count) if count > 0 => done += count,
+            _ => return false,
+        }
+    }
+    true
+}

@@ -1,0 +1,126 @@
+//! The words of a command line.
+//!
+//! With no words a program text is read from standard input and run. Else the words are read by `clap`: a command and
+//! what it takes.
+
+ghost use Rattle.std.specs.Prelude.{◌≡◌, option_map, IfOk, IfErr, Some};
+ghost use Rattle.clap.specs.Words.{found_of, kind_of, rows_of, subcommand_rows_of};
+ghost use Rattle.cilk_tool.specs.Words.{HasShape, run_app, cilk_app, order_in, order_by, run_with, IsWordsFault, order_view, IsRefusal, texts};
+
+use clap::error::ErrorKind;
+use clap::{Arg, ArgAction, ArgMatches, Command, Error};
+use std::alloc::{AllocError, Global};
+
+/// Where a program text comes from.
+#[derive(Clone, Copy, PartialEq, Eq, Debug)]
+pub enum Origin<'a> {
+    /// Standard input.
+    Standard,
+    /// The file of a path.
+    File(&'a str),
+}
+
+/// What the words ask for.
+#[derive(Clone, Copy, Debug)]
+pub enum Order<'a> {
+    /// Run a program, on the input of a file or on the empty input.
+    Run {
+        program: Origin<'a>,
+        input: Option<&'a str>,
+    },
+}
+
+/// Why words are no order.
+#[derive(Debug, Drop)]
+pub enum WordsFault {
+    /// They are no command, or ask for help: clap's own text.
+    Usage(String),
+    Memory,
+}
+
+impl From<AllocError> for WordsFault {
+    ghost use Rattle.cilk_tool.specs.declared.words.WordsFault.TheVariants.{Memory};
+
+    ghost from_gives = { λ _ e. e ≡ Memory };
+
+    fn from(_: AllocError) -> WordsFault {
+        WordsFault::Memory
+    }
+}
+
+/// `run PROGRAM [--input FILE]`.
+fn run_command<'a>(alloc: Global) -> Result<Command<'a>, AllocError>
+    ensures { IfOk result (λ c. HasShape c run_app) }
+{
+    let program = Arg::new(alloc, "program").required(true);
+    let input = Arg::new(alloc, "input")
+        .long("input")
+        .action(ArgAction::Set);
+    Command::new(alloc, "run").arg(program)?.arg(input)
+}
+
+/// The commands, each a simple one.
+fn command<'a>(alloc: Global) -> Result<Command<'a>, AllocError>
+    ensures { IfOk result (λ c. HasShape c cilk_app) }
+{
+    let run = run_command(alloc)?;
+    Command::new(alloc, "cilk")
+        .no_binary_name(true)
+        .subcommand_required(true)
+        .subcommand(run)
+}
+
+/// What the matches of `run` ask for.
+fn run_order<'a>(run: &ArgMatches<'a>) -> Option<Order<'a>>
+    ensures { option_map order_view result ≡ run_with (rows_of (found_of run.now)) }
+{
+    let program = run.get_str("program")?;
+    let input = run.get_str("input");
+    Some(Order::Run {
+        program: Origin::File(program),
+        input,
+    })
+}
+
+/// What the matches ask for.
+fn order_of<'a>(matches: &ArgMatches<'a>) -> Option<Order<'a>>
+    ensures { option_map order_view result ≡ order_by (subcommand_rows_of matches.now) }
+{
+    match matches.subcommand() {
+        Some(("run", run)) => run_order(run),
+        _ => None,
+    }
+}
+
+/// What is shown in place of an order.
+fn refusal(alloc: Global, error: &Error) -> WordsFault
+    ensures { IsRefusal (kind_of error.now) result }
+{
+    match error.kind() {
+        ErrorKind::OutOfMemory => WordsFault::Memory,
+        _ => match format!(in alloc; "{error}") {
+            Ok(text) => WordsFault::Usage(text),
+            Err(_) => WordsFault::Memory,
+        },
+    }
+}
+
+/// Reads the words after the program's own name.
+pub fn read<'a>(alloc: Global, words: &'a [&'a str]) -> Result<Order<'a>, WordsFault>
+    ensures order { IfOk result (λ o. order_in (texts words.now) ≡ Some (order_view o)) }
+    ensures fault { IfErr result (λ e. IsWordsFault (texts words.now) e) }
+{
+    if words.is_empty() {
+        return Ok(Order::Run {
+            program: Origin::Standard,
+            input: None,
+        });
+    }
+    match command(alloc)?.try_get_matches_from(words) {
+        Ok(matches) => match order_of(&matches) {
+            Some(order) => Ok(order),
+            None => Err(WordsFault::Usage(String::from_str(alloc, "error: no command\n")?)),
+        },
+        Err(error) => Err(refusal(alloc, &error)),
+    }
+}
