@@ -22,7 +22,9 @@ pub struct Disk<'a, R> {
 
 impl<'a, R: System> Disk<'a, R> {
     /// The files of a system, none of which was read yet.
-    pub fn new(system: &'a R) -> Self {
+    pub fn new(system: &'a R) -> Self
+        ensures { result.failures ≡ 0 }
+    {
         Disk {
             system,
             failures: 0,

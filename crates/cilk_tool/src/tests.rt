@@ -1,5 +1,7 @@
 //! What no clause says: that ample memory and sound devices give an answer, and how a fault of a device shows.
 
+ghost use Rattle.std.specs.Prelude.{◌≡◌};
+
 use crate::files::{FileFault, Files};
 use crate::serve;
 use std::alloc::Global;
@@ -17,7 +19,9 @@ struct Folder {
     failures: u64,
 }
 
-fn folder_with(program: &'static [u8]) -> Folder {
+fn folder_with(program: &'static [u8]) -> Folder
+    ensures { result.failures ≡ 0 }
+{
     Folder {
         program,
         reads: 0,
