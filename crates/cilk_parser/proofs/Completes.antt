@@ -12,9 +12,6 @@ use Rattle.cilk_parser.proofs.Lists.{form_repeats}
 use Rattle.cilk_parser.proofs.MarkLaws.{fits_own}
 use Rattle.cilk_parser.proofs.Traces.{trace, noted, ahead}
 
-token : Kind → Token
-token kind = record { kind = kind; at = 0; end = 0 }
-
 -- the shortest tokens for a symbol
 abbrev least : Symbol → List Kind
 least (One mark) = kind_of mark ∷ []
