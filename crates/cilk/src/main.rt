@@ -5,10 +5,9 @@
 use cilk_tool::disk::Disk;
 use cilk_tool::serve;
 use std::alloc::{AllocError, Global};
-use std::env;
-use std::io;
 use std::io::ErrorKind;
 use std::process::ExitCode;
+use std::{env, io};
 
 /// The arguments after the program's own name. They fail as a whole where one of them isn't text.
 fn arguments(rt: &HostRuntime) -> io::Result<Vec<String>> {
