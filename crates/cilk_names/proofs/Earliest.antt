@@ -1,5 +1,5 @@
 -- The earliest fault of a list, along its parts.
-use Rattle.std.proofs.Common.{◌≡◌, Bool, true, false, List, [], ◌∷◌, ◌++◌, Option, Some, None, refl}
+use Rattle.std.proofs.Common.{◌≡◌, List, [], ◌∷◌, ◌++◌, Option, refl}
 use Rattle.cilk_names.specs.declared.fault.Misnaming.{Misnaming}
 use Rattle.cilk_names.specs.Misnamings.{earlier, earliest}
 

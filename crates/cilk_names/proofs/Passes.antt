@@ -1,8 +1,8 @@
 -- The pass over a text's items, step by step.
-use Rattle.std.proofs.Common.{◌≡◌, ℕ, suc, ◌+◌, ◌<◌, ◌≤◌, ℤ, Bool, true, false, if◌then◌else◌, List, [], ◌∷◌, ◌++◌, length, take, drop, get_or, map, Option, Some, None, refl, sym, ap, ◌∙◌, subst, append_assoc, length-append, option_map, bytes_eq, arith, add-one}
+use Rattle.std.proofs.Common.{◌≡◌, ℕ, suc, ◌+◌, ◌<◌, ◌≤◌, ℤ, Bool, true, false, if◌then◌else◌, List, [], ◌∷◌, ◌++◌, length, take, drop, get_or, map, Option, Some, None, refl, sym, ap, ◌∙◌, subst, append_assoc, length-append, option_map, bytes_eq, add-one}
 use Rattle.std.specs.Option.{option_map_or, option_or}
 use Rattle.std.proofs.lemmas.List.{append-nil, drop_all}
-use Rattle.std.proofs.Math.Seq.{drop-cons, take-suc}
+use Rattle.std.proofs.Math.Seq.{drop-cons}
 use Rattle.cilk_parser.specs.declared.tree.Name.{Name}
 use Rattle.cilk_parser.specs.declared.tree.GlobalVariable.{GlobalVariable}
 use Rattle.cilk_parser.specs.declared.tree.Parameters.{Parameters}
@@ -16,10 +16,10 @@ use Rattle.cilk_names.specs.declared.table.Entry.{Entry}
 use Rattle.cilk_names.specs.declared.table.Table.{Table}
 use Rattle.cilk_names.specs.declared.resolve.Pass.{Pass}
 use Rattle.cilk_names.specs.Syntax.{Statements}
-use Rattle.cilk_names.specs.Names.{Declaration, Names, meaning_in, declares, functions_of, function_named, known_at, variables_in, counted, with_variable, with_variables, with_item, is_main}
+use Rattle.cilk_names.specs.Names.{Declaration, Names, meaning_in, functions_of, function_named, known_at, variables_in, counted, with_variable, with_variables, with_item, is_main}
 use Rattle.cilk_names.specs.Misnamings.{earliest, again, line_faults, row_faults, item_faults, items_faults}
 use Rattle.cilk_names.specs.Resolution.{item_openings, openings_of}
-use Rattle.cilk_names.specs.Pass.{found, names_of, has_declared, Tells, Stands, Adds, Comes, body_in, row_of, main_at, main_of}
+use Rattle.cilk_names.specs.Pass.{found, names_of, Tells, Stands, Adds, Comes, body_in, row_of, main_at, main_of}
 use Rattle.cilk_names.proofs.Earliest.{earliest_append}
 use Rattle.cilk_names.proofs.Blocks.{take_more}
 use Rattle.cilk_names.proofs.Tables.{names_are, function_known}

@@ -1,21 +1,17 @@
 -- What the pass makes of a tree resolves it where no name is wrong, and nothing else does.
-use Rattle.std.proofs.Common.{◌≡◌, ℕ, ◌+◌, ◌<◌, ◌≤◌, Bool, true, false, ◌&&◌, ◌||◌, if◌then◌else◌, List, [], ◌∷◌, ◌++◌, length, map, Option, Some, None, refl, sym, ap, ◌∙◌, subst, arith, nat_lt}
+use Rattle.std.proofs.Common.{◌≡◌, ℕ, Bool, true, false, ◌||◌, if◌then◌else◌, List, [], ◌∷◌, ◌++◌, Option, Some, None, refl, sym, ap, ◌∙◌, subst}
 use Rattle.std.specs.Bool.{MatchBool}
 use Rattle.std.specs.Option.{option_or}
-use Rattle.cilk_parser.specs.declared.tree.Name.{Name}
-use Rattle.cilk_parser.specs.declared.tree.Parameters.{Parameters}
 use Rattle.cilk_parser.specs.Trees as trees
 use Rattle.cilk_parser.specs.Trees.{Item}
-use Rattle.cilk_names.specs.declared.fault.Misnaming.{Misnaming}
 use Rattle.cilk_names.specs.declared.table.Meaning.{Meaning}
 use Rattle.cilk_names.specs.declared.table.Meaning.TheVariants as meanings
-use Rattle.cilk_names.specs.declared.syntax.Place.{Place}
 use Rattle.cilk_names.specs.declared.syntax.Place.TheVariants as places
-use Rattle.cilk_names.specs.Syntax.{Expression, Variable, Input, Statement, Block, Assign, If, IfElse, While, Print, Return, Statements, Then}
+use Rattle.cilk_names.specs.Syntax.{Expression, Input, Statement, Block, Assign, If, IfElse, While, Print, Return, Statements, Then}
 use Rattle.cilk_names.specs.Names.{Declaration, Names, with_item, known_at, is_main}
 use Rattle.cilk_names.specs.Misnamings.{variable_faults, expression_faults, return_faults, statement_faults, row_faults, again, item_faults, items_faults, has_main}
 use Rattle.cilk_names.specs.Resolution.{prefixed, joined, ResolvesExpression, ResolvesReturn, ResolvesStatement, ResolvesRow, ResolvesMain}
-use Rattle.cilk_names.specs.Pass.{place_of, read_of, assignment_of, expression_of, return_of, statement_of, row_of, main_at, main_of}
+use Rattle.cilk_names.specs.Pass.{place_of, read_of, assignment_of, expression_of, return_of, statement_of, row_of, main_of}
 
 -- two lists with nothing in them
 pub both_nil : {A : Type 0} (xs ys : List A) → xs ++ ys ≡ [] → (xs ≡ []) × (ys ≡ [])

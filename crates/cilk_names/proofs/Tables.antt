@@ -1,15 +1,14 @@
 -- What a table says, after one more declaration.
-use Rattle.std.proofs.Common.{◌≡◌, ◌≢◌, ℕ, ◌+◌, Bool, true, false, cond, ◌&&◌, ◌||◌, if◌then◌else◌, List, [], ◌∷◌, ◌++◌, Option, Some, None, refl, sym, ap, ◌∙◌, subst, append_assoc, option_map, bytes_eq, arith}
+use Rattle.std.proofs.Common.{◌≡◌, ℕ, Bool, true, false, ◌||◌, if◌then◌else◌, List, [], ◌∷◌, ◌++◌, Option, Some, refl, sym, ap, ◌∙◌, subst, append_assoc, option_map, bytes_eq, arith}
 use Rattle.std.specs.Option.{option_map_or}
 use Rattle.std.proofs.Math.Path.{fun_ext}
 use Rattle.std.proofs.lemmas.Slice.Eq.{bytes_eq-Decides}
 use Rattle.cilk_parser.specs.declared.tree.Name.{Name}
 use Rattle.cilk_parser.specs.Trees.{Item, bytes_of}
 use Rattle.cilk_names.specs.declared.table.Meaning.{Meaning}
-use Rattle.cilk_names.specs.declared.table.Meaning.TheVariants as meanings
 use Rattle.cilk_names.specs.declared.table.Entry.{Entry}
 use Rattle.cilk_names.specs.declared.table.Table.{Table}
-use Rattle.cilk_names.specs.Names.{Declaration, Names, meaning_in, declares, functions_of, function_named, known_at, variables_in, counted}
+use Rattle.cilk_names.specs.Names.{Declaration, Names, meaning_in, declares, functions_of, known_at}
 use Rattle.cilk_names.specs.Pass.{found, names_of, has_declared, Tells}
 
 -- equal bytes

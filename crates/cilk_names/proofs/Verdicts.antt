@@ -1,14 +1,14 @@
 -- What the whole pass says of a tree.
-use Rattle.std.proofs.Common.{◌≡◌, ℕ, ◌+◌, ◌<◌, ◌≤◌, ℤ, Bool, true, false, ◌&&◌, ◌||◌, if◌then◌else◌, List, [], ◌∷◌, ◌++◌, length, All, Contains, Option, Some, None, refl, sym, ap, ◌∙◌, subst, inl, inr, arith, nat_lt, nat_eq}
+use Rattle.std.proofs.Common.{◌≡◌, ℕ, ℤ, Bool, true, false, ◌&&◌, ◌||◌, if◌then◌else◌, List, [], ◌∷◌, length, Contains, Option, Some, None, refl, sym, ap, ◌∙◌, subst, inl, inr, arith, nat_lt, nat_eq}
 use Rattle.std.proofs.lemmas.List.Elements.{All-cons, All-head, All-tail, Contains-append_right, Contains-append_left, Contains-append_cases, Contains-push}
 use Rattle.std.proofs.lemmas.Bool.Decides.{nat_tests}
 use Rattle.cilk_parser.specs.declared.tree.Tree.{Tree}
-use Rattle.cilk_parser.specs.Trees.{Item, program}
+use Rattle.cilk_parser.specs.Trees.{program}
 use Rattle.cilk_names.specs.declared.fault.NameNumber.TheVariants.{NoMain}
 use Rattle.cilk_names.specs.declared.fault.Misnaming.{Misnaming}
 use Rattle.cilk_names.specs.Syntax.{Source, Statements}
-use Rattle.cilk_names.specs.Misnamings.{number_of, is_before, IsFirst, earlier, earliest, items_faults, has_main, or_no_main, faults_of}
-use Rattle.cilk_names.specs.Resolution.{Resolves, openings_of, ResolvesMain}
+use Rattle.cilk_names.specs.Misnamings.{number_of, is_before, IsFirst, earliest, items_faults, has_main, or_no_main, faults_of}
+use Rattle.cilk_names.specs.Resolution.{Resolves, openings_of}
 use Rattle.cilk_names.specs.Pass.{main_of}
 use Rattle.cilk_names.proofs.Resolved.{main_only, main_right, no_main, some_main}
 

@@ -15,7 +15,7 @@ use Rattle.cilk_names.specs.declared.table.Meaning.{Meaning}
 use Rattle.cilk_names.specs.declared.table.Meaning.TheVariants as meanings
 use Rattle.cilk_names.specs.Syntax.{Expression, Statements, places_in, statement_places_in, all_places_in}
 use Rattle.cilk_names.specs.Names.{Declaration, Names, meaning_in, variables_in, functions_of, function_named, with_variable, with_variables, with_item, known_at, is_main}
-use Rattle.cilk_names.specs.Resolution.{prefixed, joined, item_openings, openings_of}
+use Rattle.cilk_names.specs.Resolution.{prefixed, joined, openings_of}
 use Rattle.cilk_names.specs.Pass.{place_of, read_of, assignment_of, expression_of, return_of, statement_of, row_of, main_of}
 use Rattle.cilk_names.proofs.Passes.{variables_push, functions_push}
 

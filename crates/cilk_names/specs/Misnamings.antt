@@ -1,5 +1,5 @@
 -- Where names go wrong, along the tree.
-use Rattle.std.specs.Prelude.{◌≡◌, ℕ, nat_lt, nat_eq, Bool, true, false, ◌&&◌, ◌||◌, if◌then◌else◌, List, [], ◌∷◌, ◌++◌, Option, Some, None, length, All, Contains}
+use Rattle.std.specs.Prelude.{◌≡◌, ℕ, nat_lt, nat_eq, Bool, false, ◌&&◌, ◌||◌, if◌then◌else◌, List, [], ◌∷◌, ◌++◌, Option, Some, None, length, All, Contains}
 use Rattle.cilk_parser.specs.declared.tree.Name.{Name}
 use Rattle.cilk_parser.specs.declared.tree.GlobalVariable.{GlobalVariable}
 use Rattle.cilk_parser.specs.declared.tree.Tree.{Tree}

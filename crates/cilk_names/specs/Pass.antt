@@ -4,7 +4,6 @@ use Rattle.std.specs.Prelude.{◌≡◌, ℕ, ℤ, Bool, length, if◌then◌els
 use Rattle.std.specs.Option.{option_map_or, option_or}
 use Rattle.std.specs.HashMap as hash
 use Rattle.std.specs.declared.alloc.Global.{Global}
-use Rattle.cilk_parser.specs.declared.tree.Name.{Name}
 use Rattle.cilk_parser.specs.Trees as trees
 use Rattle.cilk_parser.specs.Trees.{bytes_of}
 use Rattle.cilk_names.specs.declared.table.Meaning.{Meaning}

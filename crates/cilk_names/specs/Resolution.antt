@@ -1,7 +1,6 @@
 -- The program that a tree resolves to: each name replaced by what it means, groups gone, main's body alone kept.
-use Rattle.std.specs.Prelude.{◌≡◌, ℕ, ℤ, Bool, List, [], ◌∷◌, ◌++◌, map, Option, Some, None, MatchBool}
+use Rattle.std.specs.Prelude.{◌≡◌, ℕ, ℤ, List, [], ◌∷◌, ◌++◌, map, Option, Some, None, MatchBool}
 use Rattle.cilk_parser.specs.declared.tree.Tree.{Tree}
-use Rattle.cilk_parser.specs.declared.tree.GlobalVariable.{GlobalVariable}
 use Rattle.cilk_parser.specs.declared.tree.UnaryOperator.{UnaryOperator}
 use Rattle.cilk_parser.specs.declared.tree.UnaryOperator.TheVariants as unary
 use Rattle.cilk_parser.specs.declared.tree.BinaryOperator.{BinaryOperator}

@@ -1,6 +1,6 @@
 -- What the pass has found decides.
-use Rattle.std.proofs.Common.{◌≡◌, length, ap, sym, ◌∙◌, subst}
-use Rattle.cilk_parser.specs.Trees.{items_of, program}
+use Rattle.std.proofs.Common.{length, ap, ◌∙◌}
+use Rattle.cilk_parser.specs.Trees.{program}
 use Rattle.cilk_names.specs.Syntax.{statements}
 use Rattle.cilk_names.specs.Pass.{body_in, Comes}
 use Rattle.cilk_names.proofs.Verdicts.{fault_is, no_main_is, resolves_is}

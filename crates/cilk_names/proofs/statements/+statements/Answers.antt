@@ -1,5 +1,5 @@
 -- One more statement of a row.
-use Rattle.std.proofs.Common.{ap, ◌∙◌, sym}
+use Rattle.std.proofs.Common.{ap, ◌∙◌}
 use Rattle.cilk_names.specs.Syntax.{statements}
 use Rattle.cilk_names.specs.Pass.{names_of}
 use Rattle.cilk_names.proofs.Blocks.{faults_step, row_step}

@@ -1,5 +1,5 @@
 -- One more global variable.
-use Rattle.std.proofs.Common.{◌≡◌, ℕ, [], ◌∷◌, ◌++◌, length, refl, arith, rules}
+use Rattle.std.proofs.Common.{◌≡◌, [], ◌∷◌, ◌++◌, length, refl, arith, rules}
 use Rattle.cilk_names.specs.declared.resolve.Pass.{Pass}
 use Rattle.cilk_names.proofs.Passes.{stands_global, adds_global}
 use Rattle.cilk_names.proofs.resolve.Pass.global.Goals as goal

@@ -1,5 +1,5 @@
 -- An item is a line of variables, or a function.
-use Rattle.std.proofs.Common.{◌≡◌, ap, sym, ◌∙◌}
+use Rattle.std.proofs.Common.{ap, sym, ◌∙◌}
 use Rattle.cilk_parser.specs.Trees as trees
 use Rattle.cilk_parser.specs.Trees.{Item}
 use Rattle.cilk_names.proofs.Passes.{globals_stand, globals_add, function_stands, function_adds}

@@ -1,5 +1,5 @@
 -- What an insertion changes, at the bytes of a key.
-use Rattle.std.proofs.Common.{sym, subst, List, ℕ, Some, ◌≡◌, if◌then◌else◌, bytes_eq}
+use Rattle.std.proofs.Common.{subst, List, ℕ, Some, ◌≡◌, if◌then◌else◌, bytes_eq}
 use Rattle.std.proofs.lemmas.Map.Text.{hash_map_updates_str}
 use Rattle.cilk_names.specs.Pass.{found}
 use Rattle.cilk_names.proofs.table.Table.put.Goals as goal
