@@ -72,11 +72,7 @@ impl Parts {
 }
 
 /// Reads the lines of a piece.
-fn take(
-    reader: &mut LineReader,
-    parts: &mut Parts,
-    piece: &[u8],
-) -> Result<(), CertFault>
+fn take(reader: &mut LineReader, parts: &mut Parts, piece: &[u8]) -> Result<(), CertFault>
     ensures lines { OnOk result ((more : List ℕ) → Leads (ahead reader.old (piece.now ++ more)) (said parts.old) (ahead reader.new more) (said parts.new)) }
     ensures fault { IfErr result (λ fault. fault ≢ Memory → (more : List ℕ) → (ahead reader.old (piece.now ++ more)).fault ≡ Some fault) }
 {
