@@ -37,6 +37,8 @@ pub enum Entry {
     Print { value: i64 },
 }
 
+const _: () = prove!(std::mem::size_of::<Entry>() <= 40);
+
 /// How many lines of each kind there are.
 #[derive(Clone, Copy, PartialEq, Eq, Debug)]
 pub struct Size {

@@ -47,7 +47,12 @@ impl Parts {
     {
         match line {
             Line::Version(version) => self.version = version,
-            Line::Size(_) | Line::End => {}
+            Line::Size(size) => {
+                self.frames.reserve_exact(size.frames as usize)?;
+                self.strands.reserve_exact(size.strands as usize)?;
+                self.events.reserve_exact(size.events as usize)?;
+            }
+            Line::End => {}
             Line::Frame { frame, .. } => self.frames.push(frame)?,
             Line::Strand { strand, .. } => self.strands.push(strand)?,
             Line::Event(event) => self.events.push(event)?,
