@@ -1,7 +1,6 @@
 -- Cutting a line at its spaces.
-use Rattle.std.proofs.Common.{◌≡◌, ◌≢◌, ℕ, zero, suc, ◌+◌, ◌-◌, ◌<◌, ◌≤◌, Bool, true, false, cond, List, [], ◌∷◌, ◌++◌, length, get_or, take, drop, Option, Some, None, refl, sym, ap, ◌∙◌, append_assoc, eqb, arith, inl, inr, subst}
-use Rattle.std.proofs.lemmas.List.{append-nil}
-use Rattle.cilk_cert_text.specs.Words.{joined, words, with_first, ended}
+use Rattle.std.proofs.Common.{◌≡◌, ℕ, Bool, true, false, cond, List, [], ◌∷◌, ◌++◌, None, refl, sym, ap, append_assoc, eqb}
+use Rattle.cilk_cert_text.specs.Words.{words, with_first, ended}
 
 -- these bytes at the front of the first word
 abbrev pub with_front : List ℕ → List (List ℕ) → List (List ℕ)

@@ -1,5 +1,5 @@
 -- The lines that are due, as they are counted down.
-use Rattle.std.proofs.Common.{◌≡◌, ℕ, zero, suc, ◌+◌, ◌-◌, ◌<◌, ◌≤◌, List, [], ◌∷◌, ◌++◌, refl, sym, ap, ◌∙◌, arith}
+use Rattle.std.proofs.Common.{◌≡◌, ℕ, suc, ◌+◌, ◌-◌, ◌<◌, ◌≤◌, List, [], ◌∷◌, ◌++◌, refl, arith}
 use Rattle.cilk_cert_text.specs.declared.line.Version.{Version}
 use Rattle.cilk_cert_text.specs.declared.line.Form.{Form}
 use Rattle.cilk_cert_text.specs.declared.line.Form.TheVariants as forms

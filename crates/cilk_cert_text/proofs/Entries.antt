@@ -1,36 +1,24 @@
 -- An event that was written is read again, and a line is short and has no blank beside those between its words.
-use Rattle.std.proofs.Common.{◌≡◌, ◌≢◌, ℕ, zero, suc, ◌+◌, ◌-◌, ◌*◌, ◌^◌, ◌<◌, ◌≤◌, Bool, true, false, cond, not, ◌&&◌, List, [], ◌∷◌, ◌++◌, length, Option, Some, None, ℤ, pos, negsuc, refl, sym, ap, subst, ◌∙◌, append_assoc, append-nil, eqb, eq-eqb, ltb, arith, length-append}
-use Rattle.std.specs.Prelude.{option_map, codes}
+use Rattle.std.proofs.Common.{◌≡◌, ℕ, Bool, true, false, cond, List, [], ◌∷◌, ◌++◌, Option, Some, ℤ, refl, sym, ap, subst, ◌∙◌, append_assoc, append-nil, eqb, eq-eqb}
 use Rattle.std.specs.Fmt.{decimal, signed_decimal}
-use Rattle.std.specs.Char.{is_ascii_digit}
-use Rattle.std.specs.Str.{all_ascii_digits, bytes_eq}
-use Rattle.std.proofs.lemmas.Bool.{lt-ltb, eqb-true, ltb-true}
-use Rattle.std.proofs.lemmas.Fmt.{digits_decimal, length-decimal-le, length_signed_le}
+use Rattle.std.specs.Str.{bytes_eq}
 use Rattle.std.proofs.lemmas.Slice.Eq.{bytes_eq-Decides}
-use lib.Signed.{mag}
-use Rattle.cilk_types.specs.declared.event.Instance.{Instance}
 use Rattle.cilk_cert_text.specs.declared.line.Version.{Version}
 use Rattle.cilk_cert_text.specs.declared.line.Version.TheVariants.{One, Two}
 use Rattle.cilk_cert_text.specs.declared.line.Reducer.{Reducer}
 use Rattle.cilk_cert_text.specs.declared.line.Reducer.TheVariants.{Number, Place}
 use Rattle.cilk_cert_text.specs.declared.line.Entry.{Entry}
 use Rattle.cilk_cert_text.specs.declared.line.Entry.TheVariants as entries
-use Rattle.cilk_cert_text.specs.declared.line.Size.{Size}
-use Rattle.cilk_cert_text.specs.declared.line.Frame.{Frame}
-use Rattle.cilk_cert_text.specs.declared.line.Strand.{Strand}
 use Rattle.cilk_cert_text.specs.declared.line.Line.{Line}
 use Rattle.cilk_cert_text.specs.declared.line.Line.TheVariants as lines
 use Rattle.cilk_cert_text.specs.declared.line.Form.{Form}
 use Rattle.cilk_cert_text.specs.declared.line.Form.TheVariants as forms
 use Rattle.cilk_cert_text.specs.declared.line.Keyword.{Keyword}
 use Rattle.cilk_cert_text.specs.declared.line.Keyword.TheVariants as keywords
-use Rattle.cilk_cert_text.specs.Words.{◌>>=◌, joined, words, with_first, number_of, value_of, number_at, value_at, first_of, behind, ended}
-use Rattle.cilk_cert_text.specs.Lines.{spelling, reducer_words, entry_words, version_word, line_words, spelled, first_spelled, all_keywords, keyword_of, reducer_at, reducer_value_at, entry_at, event_line, version_of, version_line, is_size, size_line, frame_line, strand_line, result_line, end_line, words_line, line_of}
-use Rattle.cilk_cert_text.specs.Certificates.{IsNumber, IsValue, NamesReducer, IsEntry, IsFrame, IsStrand, IsAt}
-use Rattle.cilk_cert_text.specs.Reading.{first_line}
-use Rattle.cilk_cert_text.proofs.Numerals.{own, number_found, number_spelled, value_found, value_spelled}
-use Rattle.cilk_cert_text.proofs.Spellings.{is_plain, are_plain, number_plain, value_plain, words_joined, joined_words, joined_line, bind_some, number_step, value_step, behind_step, ended_step, prepend, some_is, cond_none, Spells, both, frame_sound, strand_sound, end_sound, result_sound, number_again, value_again, size_within}
-
+use Rattle.cilk_cert_text.specs.Words.{joined, words, number_at, value_at}
+use Rattle.cilk_cert_text.specs.Lines.{spelling, reducer_words, entry_words, line_words, spelled, first_spelled, all_keywords, keyword_of, reducer_at, reducer_value_at, entry_at, event_line, frame_line, strand_line, result_line, end_line, words_line, line_of}
+use Rattle.cilk_cert_text.specs.Certificates.{IsValue, NamesReducer, IsEntry, IsAt}
+use Rattle.cilk_cert_text.proofs.Spellings.{joined_words, bind_some, number_step, value_step, ended_step, prepend, some_is, Spells, frame_sound, strand_sound, end_sound, result_sound, number_again, value_again}
 
 -- ---- what is read as an event
 
@@ -76,7 +64,7 @@ reducer_value_sound v ws p e =
     let r' = reducer_sound v ws r.0 r.1 in
     let z' = value_step r.0.1 z.0 z.1 in
     let whole : ws ≡ (reducer_words r.0.0 ++ signed_decimal z.0.0 ∷ []) ++ z.0.1 =
-        r'.words ∙ ap (λ (t : List (List ℕ)). reducer_words r.0.0 ++ t) z'.1 ∙ sym (append_assoc (reducer_words r.0.0) (signed_decimal z.0.0 ∷ []) z.0.1) in
+    r'.words ∙ ap (λ (t : List (List ℕ)). reducer_words r.0.0 ++ t) z'.1 ∙ sym (append_assoc (reducer_words r.0.0) (signed_decimal z.0.0 ∷ []) z.0.1) in
     let made : (Reducer × ℤ) × List (List ℕ) = ((r.0.0, z.0.0), z.0.1) in
     subst (λ (q : (Reducer × ℤ) × List (List ℕ)). NamesValue v ws q) (some_is made p z.2) (record { names = (r'.names, z'.0); words = whole })
 

@@ -1,5 +1,5 @@
 -- Which digits are the decimal spelling of a number.
-use Rattle.std.proofs.Common.{◌≡◌, ◌≢◌, ℕ, zero, suc, ◌+◌, ◌-◌, ◌*◌, ◌^◌, ◌<◌, ◌≤◌, Bool, true, false, cond, ◌&&◌, List, [], ◌∷◌, ◌++◌, length, get_or, drop, refl, sym, ap, ◌∙◌, subst, eqb, ltb, arith, rules, add-one, drop-cons, ℤ, pos, negsuc, neg_ℤ, ◌-ℤ◌, w64, to_z, of_z, Option, Some, None}
+use Rattle.std.proofs.Common.{◌≡◌, ℕ, zero, suc, ◌+◌, ◌-◌, ◌*◌, ◌^◌, ◌<◌, ◌≤◌, Bool, true, false, cond, ◌&&◌, List, [], ◌∷◌, length, get_or, drop, refl, sym, ap, ◌∙◌, eqb, ltb, arith, rules, drop-cons, ℤ, pos, negsuc, neg_ℤ, ◌-ℤ◌, w64, to_z, of_z, Some, None}
 use Rattle.std.specs.Fmt.{decimal, signed_decimal}
 use Rattle.std.specs.Char.{is_ascii_digit}
 use Rattle.std.specs.Str.{all_ascii_digits, bytes_eq}
@@ -118,7 +118,7 @@ pub number_none : (w : List ℕ) → ((n : ℕ) → n < 2 ^ 32 → w ≡ decimal
 unfolding number_of
 number_none w none =
     chosen_none _ (Some (digits_value 10 w)) None (λ t.
-      none (digits_value 10 w) (ltb-true (digits_value 10 w) (2 ^ 32) (and_right (bytes_eq w (decimal (digits_value 10 w))) _ t)) ((bytes_eq-Decides w (decimal (digits_value 10 w))).0 (and_left _ (ltb (digits_value 10 w) (2 ^ 32)) t)))
+    none (digits_value 10 w) (ltb-true (digits_value 10 w) (2 ^ 32) (and_right (bytes_eq w (decimal (digits_value 10 w))) _ t)) ((bytes_eq-Decides w (decimal (digits_value 10 w))).0 (and_left _ (ltb (digits_value 10 w) (2 ^ 32)) t)))
 
 -- what is read as a number is its spelling
 pub number_spelled : (n : ℕ) (w : List ℕ) → number_of w ≡ Some n → (n < 2 ^ 32) × (w ≡ decimal n)
@@ -153,7 +153,7 @@ pub value_none : (w : List ℕ) → ((z : ℤ) → mag z < 2 ^ 63 → w ≡ sign
 unfolding value_of
 value_none w none =
     chosen_none _ (Some (signed_value w)) None (λ t.
-      none (signed_value w) (ltb-true (mag (signed_value w)) (2 ^ 63) (and_right (bytes_eq w (signed_decimal (signed_value w))) _ t)) ((bytes_eq-Decides w (signed_decimal (signed_value w))).0 (and_left _ (ltb (mag (signed_value w)) (2 ^ 63)) t)))
+    none (signed_value w) (ltb-true (mag (signed_value w)) (2 ^ 63) (and_right (bytes_eq w (signed_decimal (signed_value w))) _ t)) ((bytes_eq-Decides w (signed_decimal (signed_value w))).0 (and_left _ (ltb (mag (signed_value w)) (2 ^ 63)) t)))
 
 pub value_spelled : (z : ℤ) (w : List ℕ) → value_of w ≡ Some z → (mag z < 2 ^ 63) × (w ≡ signed_decimal z)
 unfolding value_of

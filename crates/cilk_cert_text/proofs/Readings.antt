@@ -1,5 +1,5 @@
 -- What a text is read as, where it is taken in pieces.
-use Rattle.std.proofs.Common.{◌≡◌, ◌≢◌, ℕ, zero, suc, ◌+◌, ◌-◌, ◌<◌, ◌≤◌, Bool, true, false, cond, List, [], ◌∷◌, ◌++◌, length, take, drop, get_or, Option, Some, None, Result, Ok, Err, ◌⊎◌, inl, inr, refl, sym, ap, ◌∙◌, append_assoc, eqb, ltb, arith, length-append, drop-cons, add-one, append-nil, length-take}
+use Rattle.std.proofs.Common.{◌≡◌, ℕ, suc, ◌+◌, ◌-◌, ◌<◌, ◌≤◌, Bool, true, false, cond, List, [], ◌∷◌, ◌++◌, length, take, drop, get_or, Option, Some, None, Result, Ok, Err, ◌⊎◌, inl, inr, refl, sym, ap, ◌∙◌, append_assoc, eqb, ltb, arith, length-append, drop-cons, add-one, append-nil, length-take}
 use Rattle.std.proofs.Math.Seq.{take-suc}
 use Rattle.std.specs.Prelude.{option_map, OnOk}
 use Rattle.std.proofs.lemmas.Bool.{lt-ltb, le-ltb, ne_eqb}
@@ -10,9 +10,9 @@ use Rattle.cilk_cert_text.specs.declared.line.Line.TheVariants as lines
 use Rattle.cilk_cert_text.specs.declared.line.Form.{Form}
 use Rattle.cilk_cert_text.specs.Words.{words}
 use Rattle.cilk_cert_text.specs.Lines.{version_line, size_line, line_of}
-use Rattle.cilk_cert_text.specs.Reading.{Reading, whole, stops, with_line, first_line, taken, step, forms_of, Due, Opening, Sizing, Lines, reading_lines, reading_size, reading}
+use Rattle.cilk_cert_text.specs.Reading.{Reading, whole, stops, with_line, first_line, taken, step, forms_of, Due, Opening, Sizing, Lines, reading}
 use Rattle.cilk_cert_text.specs.Places.{line_at}
-use Rattle.cilk_cert_text.specs.Readers.{rest_of, with_lines}
+use Rattle.cilk_cert_text.specs.Readers.{rest_of}
 
 -- ---- one step for each place
 
@@ -102,7 +102,7 @@ long_step n line next a b (Some p) e h big =
 pub endless_law : (due : Due) (n : ℕ) (part piece more : List ℕ) → (due ≡ Lines [] → ⊥) → first_line part ≡ None → first_line piece ≡ None → 96 < length part + length piece → reading due n (part ++ (piece ++ more)) ≡ stops (Malformed n)
 endless_law due n part piece more unread h k big =
     ap (reading due n) (sym (append_assoc part piece more)) ∙ (reading_step due n ((part ++ piece) ++ more) unread
-      ∙ long_step n (line_at due) (after_line n) (part ++ piece) more (first_line more) refl (first_none part piece h k) (omega (arith, length-append part piece)))
+    ∙ long_step n (line_at due) (after_line n) (part ++ piece) more (first_line more) refl (first_none part piece h k) (omega (arith, length-append part piece)))
 
 pub over_law : (due : Due) (n b : ℕ) (bs : List ℕ) → due ≡ Lines [] → reading due n (b ∷ bs) ≡ stops (Malformed n)
 unfolding reading
@@ -206,8 +206,9 @@ nothing_certain fault due n len bytes e h at_end fits f certain =
       | inl d ↦ no_fault f (ap (λ (r : Reading). r.fault) (sym (end_whole fault due n len bytes e d (at_end d)) ∙ certain []))
       | inr unread ↦
           no_two n (line_at due (take len bytes ++ [])) f
-            (sym (end_cut fault due n n len bytes e unread h fits refl) ∙ certain [])
-            (sym (rw e (after_part due n (take len bytes) unread h (omega (arith, fits, length-take len bytes)))) ∙ certain (10 ∷ [])) ]
+          (sym (end_cut fault due n n len bytes e unread h fits refl) ∙ certain [])
+          (sym (rw e (after_part due n (take len bytes) unread h (omega (arith, fits, length-take len bytes)))) ∙ certain (10 ∷ []))
+    ]
 
 pub on_ok : {A E : Type 0} {P Q : Type 0} (r : Result A E) → OnOk r P → (P → Q) → OnOk r Q
 on_ok (Ok x) h f = f h

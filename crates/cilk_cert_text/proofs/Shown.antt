@@ -1,5 +1,5 @@
 -- A line's words have no blank in them, and are short.
-use Rattle.std.proofs.Common.{◌≡◌, ℕ, ◌+◌, ◌^◌, ◌<◌, ◌≤◌, Bool, true, ◌&&◌, List, [], ◌∷◌, ◌++◌, length, Option, Some, None, ℤ, pos, negsuc, refl, sym, ap, ◌∙◌, append-nil, append_assoc, arith, length-append}
+use Rattle.std.proofs.Common.{◌≡◌, ℕ, ◌+◌, ◌≤◌, true, List, [], ◌∷◌, ◌++◌, length, Some, None, ℤ, refl, ap, ◌∙◌, append-nil, append_assoc, arith, length-append}
 use Rattle.std.specs.Prelude.{codes}
 use Rattle.std.specs.Fmt.{decimal, signed_decimal}
 use Rattle.std.proofs.lemmas.Fmt.{length-decimal-le, length_signed_le}
@@ -15,11 +15,11 @@ use Rattle.cilk_cert_text.specs.declared.line.Line.TheVariants as lines
 use Rattle.cilk_cert_text.specs.declared.line.Form.{Form}
 use Rattle.cilk_cert_text.specs.declared.line.Form.TheVariants as forms
 use Rattle.cilk_cert_text.specs.Words.{joined, words}
-use Rattle.cilk_cert_text.specs.Lines.{reducer_words, entry_words, line_words, spelled, line_of, is_size, version_line, size_line}
+use Rattle.cilk_cert_text.specs.Lines.{reducer_words, entry_words, line_words, spelled, line_of, is_size}
 use Rattle.cilk_cert_text.specs.Certificates.{IsNumber, IsValue, NamesReducer, IsEntry, IsAt}
 use Rattle.cilk_cert_text.specs.Reading.{first_line}
 use Rattle.cilk_cert_text.proofs.Readings.{first_some}
-use Rattle.cilk_cert_text.proofs.Spellings.{is_plain, are_plain, both, number_plain, value_plain, words_joined, joined_line, size_within, version_again, size_again}
+use Rattle.cilk_cert_text.proofs.Spellings.{is_plain, are_plain, both, number_plain, value_plain, words_joined, joined_line, size_within}
 use Rattle.cilk_cert_text.proofs.Entries.{words_again}
 
 -- the bytes that words take behind a first one
@@ -124,7 +124,7 @@ short x s = rw s.are (omega (arith, s.short, joined_length s.first s.rest))
 pub front_line : (x : Line) (text : List ℕ) → Shown (line_words x) → first_line ((spelled x ++ 10 ∷ []) ++ text) ≡ Some (spelled x, text)
 front_line x text s =
     ap first_line (append_assoc (spelled x) (10 ∷ []) text)
-      ∙ (first_some (spelled x) (10 ∷ text) [] text (no_lf x s) refl ∙ ap (λ (l : List ℕ). Some (l, text)) (append-nil (spelled x)))
+    ∙ (first_some (spelled x) (10 ∷ text) [] text (no_lf x s) refl ∙ ap (λ (l : List ℕ). Some (l, text)) (append-nil (spelled x)))
 
 pub line_again : (form : Form) (x : Line) → IsAt form x → line_of form (spelled x) ≡ Some x
 unfolding line_of

@@ -1,35 +1,25 @@
 -- A line's spelling is read as that line, and nothing else is.
-use Rattle.std.proofs.Common.{◌≡◌, ◌≢◌, ℕ, zero, suc, ◌+◌, ◌-◌, ◌*◌, ◌^◌, ◌<◌, ◌≤◌, Bool, true, false, cond, not, ◌&&◌, List, [], ◌∷◌, ◌++◌, length, Option, Some, None, ℤ, pos, negsuc, refl, sym, ap, subst, ◌∙◌, append_assoc, append-nil, eqb, ltb, arith, length-append}
+use Rattle.std.proofs.Common.{◌≡◌, ℕ, suc, ◌≤◌, Bool, true, false, cond, not, ◌&&◌, List, [], ◌∷◌, ◌++◌, Option, Some, None, ℤ, pos, negsuc, refl, sym, ap, subst, ◌∙◌, eqb, ltb, arith}
 use Rattle.std.specs.Prelude.{option_map, codes}
 use Rattle.std.specs.Fmt.{decimal, signed_decimal}
 use Rattle.std.specs.Char.{is_ascii_digit}
 use Rattle.std.specs.Str.{all_ascii_digits, bytes_eq}
-use Rattle.std.proofs.lemmas.Bool.{lt-ltb, eqb-true, ltb-true}
-use Rattle.std.proofs.lemmas.Fmt.{digits_decimal, length-decimal-le, length_signed_le}
+use Rattle.std.proofs.lemmas.Bool.{eqb-true, ltb-true}
+use Rattle.std.proofs.lemmas.Fmt.{digits_decimal}
 use Rattle.std.proofs.lemmas.Slice.Eq.{bytes_eq-Decides}
-use lib.Signed.{mag}
-use Rattle.cilk_types.specs.declared.event.Instance.{Instance}
 use Rattle.cilk_cert_text.specs.declared.line.Version.{Version}
 use Rattle.cilk_cert_text.specs.declared.line.Version.TheVariants.{One, Two}
-use Rattle.cilk_cert_text.specs.declared.line.Reducer.{Reducer}
-use Rattle.cilk_cert_text.specs.declared.line.Reducer.TheVariants.{Number, Place}
-use Rattle.cilk_cert_text.specs.declared.line.Entry.{Entry}
-use Rattle.cilk_cert_text.specs.declared.line.Entry.TheVariants as entries
 use Rattle.cilk_cert_text.specs.declared.line.Size.{Size}
-use Rattle.cilk_cert_text.specs.declared.line.Frame.{Frame}
-use Rattle.cilk_cert_text.specs.declared.line.Strand.{Strand}
 use Rattle.cilk_cert_text.specs.declared.line.Line.{Line}
 use Rattle.cilk_cert_text.specs.declared.line.Line.TheVariants as lines
 use Rattle.cilk_cert_text.specs.declared.line.Form.{Form}
 use Rattle.cilk_cert_text.specs.declared.line.Form.TheVariants as forms
-use Rattle.cilk_cert_text.specs.declared.line.Keyword.{Keyword}
-use Rattle.cilk_cert_text.specs.declared.line.Keyword.TheVariants as keywords
 use Rattle.cilk_cert_text.specs.Words.{◌>>=◌, joined, words, with_first, number_of, value_of, number_at, value_at, first_of, behind, ended}
-use Rattle.cilk_cert_text.specs.Lines.{spelling, reducer_words, entry_words, version_word, line_words, spelled, first_spelled, all_keywords, keyword_of, reducer_at, reducer_value_at, entry_at, event_line, version_of, version_line, is_size, size_line, frame_line, strand_line, result_line, end_line, words_line, line_of}
-use Rattle.cilk_cert_text.specs.Certificates.{IsNumber, IsValue, NamesReducer, IsEntry, IsFrame, IsStrand, IsAt}
+use Rattle.cilk_cert_text.specs.Lines.{version_word, line_words, version_of, version_line, is_size, size_line, frame_line, strand_line, result_line, end_line}
+use Rattle.cilk_cert_text.specs.Certificates.{IsNumber, IsValue, IsAt}
 use Rattle.cilk_cert_text.specs.Reading.{first_line}
 use Rattle.cilk_cert_text.proofs.Numerals.{own, number_found, number_spelled, value_found, value_spelled}
-use Rattle.cilk_cert_text.proofs.Readings.{first_none, first_some}
+use Rattle.cilk_cert_text.proofs.Readings.{first_none}
 
 -- ---- words without blanks
 
@@ -77,7 +67,7 @@ pub words_joined : (w : List ℕ) (ws : List (List ℕ)) → are_plain (w ∷ ws
 words_joined w [] h = words_last w (and_left (is_plain w) true h)
 words_joined w (v ∷ ws) h =
     words_front w (joined (v ∷ ws)) (and_left (is_plain w) (are_plain (v ∷ ws)) h)
-      ∙ ap (λ (x : List (List ℕ)). w ∷ x) (words_joined v ws (and_right (is_plain w) (are_plain (v ∷ ws)) h))
+    ∙ ap (λ (x : List (List ℕ)). w ∷ x) (words_joined v ws (and_right (is_plain w) (are_plain (v ∷ ws)) h))
 
 plain_line : (w : List ℕ) → is_plain w ≡ true → first_line w ≡ None
 plain_line [] h = refl
@@ -93,7 +83,7 @@ pub joined_line : (w : List ℕ) (ws : List (List ℕ)) → are_plain (w ∷ ws)
 joined_line w [] h = plain_line w (and_left (is_plain w) true h)
 joined_line w (v ∷ ws) h =
     first_none w (32 ∷ joined (v ∷ ws)) (plain_line w (and_left (is_plain w) (are_plain (v ∷ ws)) h))
-      (space_line (joined (v ∷ ws)) (joined_line v ws (and_right (is_plain w) (are_plain (v ∷ ws)) h)))
+    (space_line (joined (v ∷ ws)) (joined_line v ws (and_right (is_plain w) (are_plain (v ∷ ws)) h)))
 
 -- ---- cut words are put together again
 

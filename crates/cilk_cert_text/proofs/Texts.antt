@@ -1,5 +1,5 @@
 -- What the lines of a text without a fault add up to.
-use Rattle.std.proofs.Common.{◌≡◌, ◌≢◌, ℕ, List, [], ◌∷◌, ◌++◌, Option, Some, None, refl, sym, ap, subst, ◌∙◌, append-nil}
+use Rattle.std.proofs.Common.{◌≡◌, ◌≢◌, ℕ, List, [], ◌∷◌, ◌++◌, Option, Some, None, refl, sym, ap, subst, ◌∙◌}
 use Rattle.cilk_cert_text.specs.declared.fault.CertFault.{CertFault}
 use Rattle.cilk_cert_text.specs.declared.fault.CertFault.TheVariants.{Malformed, Truncated, Memory}
 use Rattle.cilk_cert_text.specs.declared.line.Line.{Line}
@@ -7,7 +7,7 @@ use Rattle.cilk_cert_text.specs.Certificates.{Contents, lines_of, text_of, IsCer
 use Rattle.cilk_cert_text.specs.Reading.{Reading, whole, stops, reading_of}
 use Rattle.cilk_cert_text.specs.Gathering.{nothing, gathered}
 use Rattle.cilk_cert_text.specs.Parts.{Leads}
-use Rattle.cilk_cert_text.proofs.Wholes.{IsTextOf, certificate_sound, certificate_again, certificate_over, gathered_lines}
+use Rattle.cilk_cert_text.proofs.Wholes.{certificate_sound, certificate_again, certificate_over, gathered_lines}
 
 same_reading : (r : Reading) (ls : List Line) → r.lines ≡ ls → r.fault ≡ None → r ≡ record { lines = ls; fault = None }
 same_reading r ls e f = rw (← e, ← f) refl

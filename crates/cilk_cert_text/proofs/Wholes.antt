@@ -1,10 +1,10 @@
 -- A certificate's text is read as its lines, and what is read without a fault is a certificate's text.
-use Rattle.std.proofs.Common.{◌≡◌, ℕ, zero, suc, ◌+◌, ◌-◌, ◌*◌, ◌^◌, ◌<◌, ◌≤◌, Bool, true, false, cond, List, [], ◌∷◌, ◌++◌, length, Option, Some, None, ℤ, refl, sym, ap, subst, ◌∙◌, append-nil, append_assoc, eqb, ltb, arith, length-append, map}
+use Rattle.std.proofs.Common.{◌≡◌, ℕ, zero, suc, ◌+◌, ◌^◌, ◌≤◌, Bool, true, false, cond, List, [], ◌∷◌, ◌++◌, length, Option, Some, None, ℤ, refl, sym, ap, subst, ◌∙◌, append-nil, append_assoc, eqb, ltb, arith}
 use Rattle.std.specs.Prelude.{option_map}
-use Rattle.std.specs.List.{flat_map, AllByRecursion}
-use Rattle.std.proofs.lemmas.Bool.{lt-ltb, ltb-true, ltb-false, eqb-true}
+use Rattle.std.specs.List.{AllByRecursion}
+use Rattle.std.proofs.lemmas.Bool.{lt-ltb, eqb-true}
 use Rattle.cilk_cert_text.specs.declared.fault.CertFault.{CertFault}
-use Rattle.cilk_cert_text.specs.declared.fault.CertFault.TheVariants.{Malformed, Truncated, Memory}
+use Rattle.cilk_cert_text.specs.declared.fault.CertFault.TheVariants.{Malformed, Truncated}
 use Rattle.cilk_cert_text.specs.declared.line.Version.{Version}
 use Rattle.cilk_cert_text.specs.declared.line.Entry.{Entry}
 use Rattle.cilk_cert_text.specs.declared.line.Size.{Size}
@@ -16,9 +16,9 @@ use Rattle.cilk_cert_text.specs.declared.line.Form.{Form}
 use Rattle.cilk_cert_text.specs.declared.line.Form.TheVariants as forms
 use Rattle.cilk_cert_text.specs.Words.{words, joined}
 use Rattle.cilk_cert_text.specs.Lines.{line_words, spelled, line_of, is_size, version_line, size_line}
-use Rattle.cilk_cert_text.specs.Certificates.{Contents, frame_lines, strand_lines, event_lines, size_of, lines_of, text_of_lines, text_of, IsNumber, IsValue, IsEntry, IsFrame, IsStrand, IsCertificate, IsAt}
-use Rattle.cilk_cert_text.specs.Reading.{Reading, whole, stops, with_line, first_line, taken, step, frame_forms, strand_forms, event_forms, forms_of, Opening, reading_lines, reading_size, reading, reading_of}
-use Rattle.cilk_cert_text.specs.Gathering.{nothing, with_said, gathered}
+use Rattle.cilk_cert_text.specs.Certificates.{Contents, frame_lines, strand_lines, event_lines, size_of, lines_of, text_of_lines, text_of, IsValue, IsEntry, IsFrame, IsStrand, IsCertificate, IsAt}
+use Rattle.cilk_cert_text.specs.Reading.{Reading, stops, with_line, first_line, taken, step, frame_forms, strand_forms, event_forms, forms_of, reading_lines, reading_size, reading, reading_of}
+use Rattle.cilk_cert_text.specs.Gathering.{nothing, gathered}
 use Rattle.cilk_cert_text.proofs.Spellings.{both, version_sound, size_sound, size_within, version_again, size_again, joined_words}
 use Rattle.cilk_cert_text.proofs.Entries.{line_sound}
 use Rattle.cilk_cert_text.proofs.Shown.{Shown, shown_line, shown_version, shown_size, words_shown, short, front_line, line_again}
@@ -44,7 +44,7 @@ lines_again n [] (x ∷ xs) h = absurd h
 lines_again n (f ∷ fs) [] h = absurd h
 lines_again n (f ∷ fs) (x ∷ xs) h =
     step_again n (line_of f) (λ line rest. with_line line (reading_lines (n + 1) fs rest)) x x (text_of_lines xs) (shown_line f x h.0) (line_again f x h.0)
-      ∙ ap (with_line x) (lines_again (n + 1) fs xs h.1)
+    ∙ ap (with_line x) (lines_again (n + 1) fs xs h.1)
 
 -- ---- back from the bytes
 
@@ -118,7 +118,7 @@ lines_sound n (f ∷ fs) bytes r e clean =
     let below = lines_sound (n + 1) fs t.rest later refl no_later in
     let s = line_sound f t.front t.read t.line_is in
     subst (λ (x : Reading). AreRead (f ∷ fs) bytes x.lines) t.next_is
-      (record { at = (s.0, below.at); text = t.parts ∙ line_text t.read t.front t.rest later.lines s.1 below.text })
+    (record { at = (s.0, below.at); text = t.parts ∙ line_text t.read t.front t.rest later.lines s.1 below.text })
 
 -- ---- the lines of a certificate
 
@@ -153,7 +153,7 @@ body_at c h =
 size_fits : (c : Contents) → IsCertificate c → is_size (size_of c) ≡ true
 size_fits c h =
     both _ _ (lt-ltb (length c.events) 1000001 (omega (arith, h.few_events)))
-      (both _ _ (lt-ltb (length c.frames) 65537 (omega (arith, h.few_frames))) (lt-ltb (length c.strands) 1000001 (omega (arith, h.few_strands))))
+    (both _ _ (lt-ltb (length c.frames) 65537 (omega (arith, h.few_frames))) (lt-ltb (length c.strands) 1000001 (omega (arith, h.few_strands))))
 
 -- a certificate's text is read as its lines
 pub certificate_again : (c : Contents) → IsCertificate c → reading_of (text_of c) ≡ all_lines (lines_of c)
@@ -165,9 +165,9 @@ certificate_again c h =
     let version_is : version_line (words (spelled (lines.Version c.version))) ≡ Some c.version = ap version_line (words_shown (lines.Version c.version) v) ∙ version_again c.version in
     let size_is : size_line (words (spelled (lines.Size (size_of c)))) ≡ Some (size_of c) = ap size_line (words_shown (lines.Size (size_of c)) s) ∙ size_again (size_of c) fits in
     step_again 1 (λ l. version_line (words l)) (λ version rest. with_line (lines.Version version) (reading_size version 2 rest)) (lines.Version c.version) c.version _ v version_is
-      ∙ ap (with_line (lines.Version c.version))
-        (step_again 2 (λ l. size_line (words l)) (λ size rest. with_line (lines.Size size) (reading_lines 3 (forms_of c.version size) rest)) (lines.Size (size_of c)) (size_of c) _ s size_is
-          ∙ ap (with_line (lines.Size (size_of c))) (lines_again 3 (forms_of c.version (size_of c)) (body_lines c) (body_at c h)))
+    ∙ ap (with_line (lines.Version c.version))
+    (step_again 2 (λ l. size_line (words l)) (λ size rest. with_line (lines.Size size) (reading_lines 3 (forms_of c.version size) rest)) (lines.Size (size_of c)) (size_of c) _ s size_is
+    ∙ ap (with_line (lines.Size (size_of c))) (lines_again 3 (forms_of c.version (size_of c)) (body_lines c) (body_at c h)))
 
 -- ---- bytes behind a certificate's text
 
@@ -186,7 +186,7 @@ lines_over n (f ∷ fs) (x ∷ xs) b more h =
     let later = lines_over (n + 1) fs xs b more h.1 in
     let regrouped : text_of_lines (x ∷ xs) ++ b ∷ more ≡ (spelled x ++ 10 ∷ []) ++ (text_of_lines xs ++ b ∷ more) = append_assoc (spelled x ++ 10 ∷ []) (text_of_lines xs) (b ∷ more) in
     ends_step _ _ (ap (reading_lines n (f ∷ fs)) regrouped
-      ∙ step_again n (line_of f) (λ line rest. with_line line (reading_lines (n + 1) fs rest)) x x (text_of_lines xs ++ b ∷ more) (shown_line f x h.0) (line_again f x h.0)) later
+    ∙ step_again n (line_of f) (λ line rest. with_line line (reading_lines (n + 1) fs rest)) x x (text_of_lines xs ++ b ∷ more) (shown_line f x h.0) (line_again f x h.0)) later
 
 pub certificate_over : (c : Contents) → IsCertificate c → (b : ℕ) (more : List ℕ) → Ends (reading_of (text_of c ++ b ∷ more))
 unfolding reading
@@ -201,9 +201,9 @@ certificate_over c h b more =
     let second : text_of_lines (lines.Size (size_of c) ∷ body_lines c) ++ b ∷ more ≡ (spelled (lines.Size (size_of c)) ++ 10 ∷ []) ++ rest = append_assoc (spelled (lines.Size (size_of c)) ++ 10 ∷ []) (text_of_lines (body_lines c)) (b ∷ more) in
     let first : text_of c ++ b ∷ more ≡ (spelled (lines.Version c.version) ++ 10 ∷ []) ++ (text_of_lines (lines.Size (size_of c) ∷ body_lines c) ++ b ∷ more) = append_assoc (spelled (lines.Version c.version) ++ 10 ∷ []) (text_of_lines (lines.Size (size_of c) ∷ body_lines c)) (b ∷ more) in
     ends_step _ _ (ap reading_of first
-      ∙ step_again 1 (λ l. version_line (words l)) (λ version rest. with_line (lines.Version version) (reading_size version 2 rest)) (lines.Version c.version) c.version (text_of_lines (lines.Size (size_of c) ∷ body_lines c) ++ b ∷ more) v version_is
-      ∙ ap (λ (t : List ℕ). with_line (lines.Version c.version) (reading_size c.version 2 t)) second
-      ∙ ap (with_line (lines.Version c.version)) (step_again 2 (λ l. size_line (words l)) (λ size rest. with_line (lines.Size size) (reading_lines 3 (forms_of c.version size) rest)) (lines.Size (size_of c)) (size_of c) rest s size_is)) body
+    ∙ step_again 1 (λ l. version_line (words l)) (λ version rest. with_line (lines.Version version) (reading_size version 2 rest)) (lines.Version c.version) c.version (text_of_lines (lines.Size (size_of c) ∷ body_lines c) ++ b ∷ more) v version_is
+    ∙ ap (λ (t : List ℕ). with_line (lines.Version c.version) (reading_size c.version 2 t)) second
+    ∙ ap (with_line (lines.Version c.version)) (step_again 2 (λ l. size_line (words l)) (λ size rest. with_line (lines.Size size) (reading_lines 3 (forms_of c.version size) rest)) (lines.Size (size_of c)) (size_of c) rest s size_is)) body
 
 -- ---- back to the certificate
 
@@ -313,17 +313,22 @@ body_sound v s xs few h =
     let l = last e.rest e.later in
     let c : Contents = record { version = v; frames = f.items; strands = t.items; events = e.items; result = l.result } in
     let whole_lines : xs ≡ body_lines c =
-        f.are ∙ ap (λ (ys : List Line). frame_lines 1 f.items ++ ys) (t.are ∙ ap (λ (ys : List Line). strand_lines 1 t.items ++ ys) (e.are ∙ ap (λ (ys : List Line). event_lines e.items ++ ys) l.are)) in
-    let same_size : size_of c ≡ s = rw (e.count, f.count, t.count) refl in
-    (c, record {
-      few_events = omega (arith, e.count);
-      few_frames = omega (arith, f.count);
-      few_strands = omega (arith, t.count);
-      frames = f.fit;
-      strands = t.fit;
-      events = e.fit;
-      result = l.fits;
-    }, refl, same_size, whole_lines)
+    f.are ∙ ap (λ (ys : List Line). frame_lines 1 f.items ++ ys) (t.are ∙ ap (λ (ys : List Line). strand_lines 1 t.items ++ ys) (e.are ∙ ap (λ (ys : List Line). event_lines e.items ++ ys) l.are)) in
+    let same_size : size_of c ≡ s = rw (e.count, f.count, t.count) refl in (
+      c,
+      record {
+        few_events = omega (arith, e.count);
+        few_frames = omega (arith, f.count);
+        few_strands = omega (arith, t.count);
+        frames = f.fit;
+        strands = t.fit;
+        events = e.fit;
+        result = l.fits;
+      },
+      refl,
+      same_size,
+      whole_lines,
+    )
 
 head_is : (v : Version) (s : Size) (c : Contents) (xs : List Line) → c.version ≡ v → size_of c ≡ s → xs ≡ body_lines c → lines.Version v ∷ lines.Size s ∷ xs ≡ lines_of c
 head_is v s c xs e f g = rw (← e, ← f, g) refl
@@ -346,8 +351,8 @@ certificate_sound bytes r e clean =
     let all : r.lines ≡ head = sym (ap (λ (x : Reading). x.lines) t.next_is) ∙ ap (λ (x : Reading). lines.Version v ∷ x.lines) (sym u.next_is) in
     let same : head ≡ lines_of c = head_is v u.read c third.lines b.2 b.3 b.4 in
     let text : bytes ≡ text_of_lines head =
-        t.parts ∙ line_text (lines.Version v) t.front t.rest (lines.Size u.read ∷ third.lines) (spelled_from t.front (lines.Version v) (version_sound (words t.front) v t.line_is))
-          (u.parts ∙ line_text (lines.Size u.read) u.front u.rest third.lines (spelled_from u.front (lines.Size u.read) s.words) body.text) in
+    t.parts ∙ line_text (lines.Version v) t.front t.rest (lines.Size u.read ∷ third.lines) (spelled_from t.front (lines.Version v) (version_sound (words t.front) v t.line_is))
+    (u.parts ∙ line_text (lines.Size u.read) u.front u.rest third.lines (spelled_from u.front (lines.Size u.read) s.words) body.text) in
     record { certificate = c; fits = b.1; lines = all ∙ same; text = text ∙ ap text_of_lines same }
 
 -- ---- what the lines add up to
@@ -371,5 +376,5 @@ gathered_events (e ∷ es) c ys =
 pub gathered_lines : (c : Contents) → gathered nothing (lines_of c) ≡ c
 gathered_lines c =
     gathered_frames 1 c.frames (record nothing { version = c.version }) _
-      ∙ (gathered_strands 1 c.strands (record nothing { version = c.version; frames = c.frames }) _
-        ∙ gathered_events c.events (record nothing { version = c.version; frames = c.frames; strands = c.strands }) (lines.Result c.result ∷ lines.End ∷ []))
+    ∙ (gathered_strands 1 c.strands (record nothing { version = c.version; frames = c.frames }) _
+    ∙ gathered_events c.events (record nothing { version = c.version; frames = c.frames; strands = c.strands }) (lines.Result c.result ∷ lines.End ∷ []))

@@ -2,7 +2,6 @@
 use Rattle.std.specs.Prelude.{◌≡◌, ℕ, ◌+◌, ◌^◌, ◌<◌, ◌≤◌, List, [], ◌∷◌, ◌++◌, length, ℤ, map}
 use Rattle.std.specs.List.{flat_map, AllByRecursion}
 use lib.Signed.{mag}
-use Rattle.cilk_types.specs.declared.event.Instance.{Instance}
 use Rattle.cilk_cert_text.specs.declared.line.Version.{Version}
 use Rattle.cilk_cert_text.specs.declared.line.Version.TheVariants.{One, Two}
 use Rattle.cilk_cert_text.specs.declared.line.Reducer.{Reducer}

@@ -1,8 +1,7 @@
 -- How a line is spelled, and which line a text spells at a place.
-use Rattle.std.specs.Prelude.{◌≡◌, ℕ, ◌+◌, ◌^◌, ◌<◌, ◌≤◌, Bool, true, false, ◌&&◌, List, [], ◌∷◌, ◌++◌, ℤ, Option, Some, None, nat_lt, ◌==◌, if◌then◌else◌, codes}
+use Rattle.std.specs.Prelude.{ℕ, Bool, ◌&&◌, List, [], ◌∷◌, ◌++◌, ℤ, Option, Some, None, nat_lt, ◌==◌, if◌then◌else◌, codes}
 use Rattle.std.specs.Fmt.{decimal, signed_decimal}
 use Rattle.std.specs.Str.{bytes_eq}
-use Rattle.cilk_types.specs.declared.event.Instance.{Instance}
 use Rattle.cilk_cert_text.specs.declared.line.Version.{Version}
 use Rattle.cilk_cert_text.specs.declared.line.Version.TheVariants.{One, Two}
 use Rattle.cilk_cert_text.specs.declared.line.Reducer.{Reducer}

@@ -10,31 +10,26 @@ ghost use Rattle.cilk_cert_text.specs.Reading.{reading_of};
 /// A certificate has one text, and a text is of one certificate.
 pub fn one_certificate()
     ensures { (c d : Contents) → IsCertificate c → IsCertificate d → text_of c ≡ text_of d → c ≡ d }
-{
-}
+{}
 
 /// No certificate's text begins another's.
 pub fn none_begins_another()
     ensures { (c d : Contents) (rest : List ℕ) → IsCertificate c → IsCertificate d → text_of c ++ rest ≡ text_of d → rest ≡ [] }
-{
-}
+{}
 
 /// A certificate's text is read as its lines, without a fault.
 pub fn written_is_read()
     ensures { (c : Contents) → IsCertificate c → reading_of (text_of c) ≡ record { lines = lines_of c; fault = None } }
-{
-}
+{}
 
 /// A text that is read without a fault is the text of a certificate, whose lines they are.
 pub fn read_is_written()
     ensures { (text : List ℕ) → (reading_of text).fault ≡ None → (c : Contents) × IsCertificate c × ((reading_of text).lines ≡ lines_of c) × (text ≡ text_of c) }
-{
-}
+{}
 
 /// A line may stand at a place and is spelled so exactly where it is read there: one spelling for each line, and one line
 /// for each spelling.
 pub fn one_spelling()
     ensures read { (form : Form) (line : Line) → IsAt form line → line_of form (spelled line) ≡ Some line }
     ensures written { (form : Form) (bytes : List ℕ) (line : Line) → line_of form bytes ≡ Some line → IsAt form line × (bytes ≡ spelled line) }
-{
-}
+{}

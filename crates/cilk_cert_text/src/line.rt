@@ -21,49 +21,23 @@ pub enum Reducer {
 /// An event as a certificate lists it: as the run makes it, and with the source of each read.
 #[derive(Clone, Copy, PartialEq, Eq, Debug)]
 pub enum Entry {
-    Begin {
-        frame: FrameNo,
-    },
-    Spawn {
-        child: FrameNo,
-    },
-    Call {
-        child: FrameNo,
-    },
-    Resume {
-        parent: FrameNo,
-    },
+    Begin { frame: FrameNo },
+    Spawn { child: FrameNo },
+    Call { child: FrameNo },
+    Resume { parent: FrameNo },
     Sync,
     End,
     /// The source is the position of the last earlier write of the cell, 0 where there is none.
-    Read {
-        cell: Cell,
-        value: i64,
-        source: Pos,
-    },
-    Write {
-        cell: Cell,
-        value: i64,
-    },
-    Create {
-        reducer: Reducer,
-    },
-    Update {
-        reducer: Reducer,
-        value: i64,
-    },
-    Set {
-        reducer: Reducer,
-        value: i64,
-    },
-    Value {
-        reducer: Reducer,
-        value: i64,
-    },
-    Print {
-        value: i64,
-    },
+    Read { cell: Cell, value: i64, source: Pos },
+    Write { cell: Cell, value: i64 },
+    Create { reducer: Reducer },
+    Update { reducer: Reducer, value: i64 },
+    Set { reducer: Reducer, value: i64 },
+    Value { reducer: Reducer, value: i64 },
+    Print { value: i64 },
 }
+
+const _: () = prove!(std::mem::size_of::<Entry>() <= 40);
 
 /// How many lines of each kind there are.
 #[derive(Clone, Copy, PartialEq, Eq, Debug)]

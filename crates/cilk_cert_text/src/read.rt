@@ -47,7 +47,12 @@ impl Parts {
     {
         match line {
             Line::Version(version) => self.version = version,
-            Line::Size(_) | Line::End => {}
+            Line::Size(size) => {
+                self.frames.reserve_exact(size.frames as usize)?;
+                self.strands.reserve_exact(size.strands as usize)?;
+                self.events.reserve_exact(size.events as usize)?;
+            }
+            Line::End => {}
             Line::Frame { frame, .. } => self.frames.push(frame)?,
             Line::Strand { strand, .. } => self.strands.push(strand)?,
             Line::Event(event) => self.events.push(event)?,
@@ -72,11 +77,7 @@ impl Parts {
 }
 
 /// Reads the lines of a piece.
-fn take(
-    reader: &mut LineReader,
-    parts: &mut Parts,
-    piece: &[u8],
-) -> Result<(), CertFault>
+fn take(reader: &mut LineReader, parts: &mut Parts, piece: &[u8]) -> Result<(), CertFault>
     ensures lines { OnOk result ((more : List ℕ) → Leads (ahead reader.old (piece.now ++ more)) (said parts.old) (ahead reader.new more) (said parts.new)) }
     ensures fault { IfErr result (λ fault. fault ≢ Memory → (more : List ℕ) → (ahead reader.old (piece.now ++ more)).fault ≡ Some fault) }
 {

@@ -1,3 +1,5 @@
+ghost use Rattle.std.specs.Prelude.{◌<◌};
+
 use crate::fault::CertFault;
 use crate::read::read;
 use crate::reader::LineReader;
@@ -18,17 +20,23 @@ const LINES: [&[u8]; 10] = [
     b"end",
 ];
 
-const SMALL: &[u8] = b"cilkcert 1\nsize 3 1 2\nframe 1 0 0\nstrand 1 1 1 0\nstrand 2 1 2 0\nbegin 1\nsync\nend\nresult 0\nend\n";
+const SMALL: &[u8] =
+    b"cilkcert 1\nsize 3 1 2\nframe 1 0 0\nstrand 1 1 1 0\nstrand 2 1 2 0\nbegin 1\nsync\nend\nresult 0\nend\n";
 
-const SPAWN: &[u8] = b"cilkcert 1\nsize 15 2 6\nframe 1 0 0\nframe 2 1 1\nstrand 1 1 1 0\nstrand 2 2 3 2\nstrand 3 2 4 2\nstrand 4 1 2 4\nstrand 5 1 5 0\nstrand 6 1 6 0\nbegin 1\nwrite 0 0\nwrite 1 0\nspawn 2\nbegin 2\nsync\nwrite 0 1\nend\nresume 1\nread 0 1 7\nwrite 1 1\nsync\nread 1 1 11\nsync\nend\nresult 1\nend\n";
+const SPAWN: &[u8] =
+    b"cilkcert 1\nsize 15 2 6\nframe 1 0 0\nframe 2 1 1\nstrand 1 1 1 0\nstrand 2 2 3 2\nstrand 3 2 4 2\nstrand 4 1 2 4\nstrand 5 1 5 0\nstrand 6 1 6 0\nbegin 1\nwrite 0 0\nwrite 1 0\nspawn 2\nbegin 2\nsync\nwrite 0 1\nend\nresume 1\nread 0 1 7\nwrite 1 1\nsync\nread 1 1 11\nsync\nend\nresult 1\nend\n";
 
-const SECOND_SMALL: &[u8] = b"cilkcert 2\nsize 3 1 2\nframe 1 0 0\nstrand 1 1 1 0\nstrand 2 1 2 0\nbegin 1\nsync\nend\nresult 0\nend\n";
+const SECOND_SMALL: &[u8] =
+    b"cilkcert 2\nsize 3 1 2\nframe 1 0 0\nstrand 1 1 1 0\nstrand 2 1 2 0\nbegin 1\nsync\nend\nresult 0\nend\n";
 
-const SECOND_SPAWN: &[u8] = b"cilkcert 2\nsize 15 2 6\nframe 1 0 0\nframe 2 1 1\nstrand 1 1 1 0\nstrand 2 2 3 2\nstrand 3 2 4 2\nstrand 4 1 2 4\nstrand 5 1 5 0\nstrand 6 1 6 0\nbegin 1\nwrite 0 0\nwrite 1 0\nspawn 2\nbegin 2\nsync\nwrite 0 1\nend\nresume 1\nread 0 1 7\nwrite 1 1\nsync\nread 1 1 11\nsync\nend\nresult 1\nend\n";
+const SECOND_SPAWN: &[u8] =
+    b"cilkcert 2\nsize 15 2 6\nframe 1 0 0\nframe 2 1 1\nstrand 1 1 1 0\nstrand 2 2 3 2\nstrand 3 2 4 2\nstrand 4 1 2 4\nstrand 5 1 5 0\nstrand 6 1 6 0\nbegin 1\nwrite 0 0\nwrite 1 0\nspawn 2\nbegin 2\nsync\nwrite 0 1\nend\nresume 1\nread 0 1 7\nwrite 1 1\nsync\nread 1 1 11\nsync\nend\nresult 1\nend\n";
 
-const FIRST_REDUCERS: &[u8] = b"cilkcert 1\nsize 6 0 0\ncreate 1\nupdate 1 -9223372036854775808\nset 1 9223372036854775807\nvalue 1 7\nprint -7\ncall 4294967295\nresult -1\nend\n";
+const FIRST_REDUCERS: &[u8] =
+    b"cilkcert 1\nsize 6 0 0\ncreate 1\nupdate 1 -9223372036854775808\nset 1 9223372036854775807\nvalue 1 7\nprint -7\ncall 4294967295\nresult -1\nend\n";
 
-const SECOND_REDUCERS: &[u8] = b"cilkcert 2\nsize 5 0 0\ncreate 1 2\nupdate 1 2 -3\nset 1 2 3\nvalue 1 2 3\nprint 0\nresult 0\nend\n";
+const SECOND_REDUCERS: &[u8] =
+    b"cilkcert 2\nsize 5 0 0\ncreate 1 2\nupdate 1 2 -3\nset 1 2 3\nvalue 1 2 3\nprint 0\nresult 0\nend\n";
 
 fn written_again(rt: &impl Abort, alloc: std::alloc::Global, text: &[u8]) -> Result<(), Fail> {
     let certificate = read(alloc, text)?;
@@ -85,13 +93,19 @@ fn pieces(rt: HostRuntime) {
         assert_eq!(rt; count(text, 4096), Ok(lines));
     }
     assert_eq!(rt; count(b"x\n", 1), Err(CertFault::Malformed { line: 1 }));
-    assert_eq!(rt; count(&SMALL[..40], 7), Err(CertFault::Truncated { line: 4 }));
+    assert_eq!(rt;
+        count(&SMALL[..40], 7),
+        Err(CertFault::Truncated { line: 4 })
+    );
 }
 
 fn cut(rt: &impl Abort, alloc: std::alloc::Global, text: &[u8]) {
     let mut line = 1_u32;
     for (at, byte) in text.iter().enumerate() {
-        assert_eq!(rt; read(alloc, &text[..at]).err(), Some(CertFault::Truncated { line }));
+        assert_eq!(rt;
+            read(alloc, &text[..at]).err(),
+            Some(CertFault::Truncated { line })
+        );
         if *byte == b'\n' {
             line = line.saturating_add(1);
         }
@@ -122,7 +136,10 @@ fn doubled_lines(rt: HostRuntime) -> Result<(), Fail> {
         let mut lines = LINES.to_vec(rt.alloc())?;
         assert!(rt; at < lines.len());
         lines.insert(at, lines[at])?;
-        assert_eq!(rt; fault_of(rt.alloc(), &lines)?, Some(CertFault::Malformed { line }));
+        assert_eq!(rt;
+            fault_of(rt.alloc(), &lines)?,
+            Some(CertFault::Malformed { line })
+        );
     }
     Ok(())
 }
@@ -143,7 +160,11 @@ fn exchanged_lines(rt: HostRuntime) -> Result<(), Fail> {
     Ok(())
 }
 
-fn with_line(alloc: std::alloc::Global, at: usize, line: &[u8]) -> Result<Option<CertFault>, Fail> {
+fn with_line(
+    alloc: std::alloc::Global,
+    at: usize,
+    line: &'static [u8],
+) -> Result<Option<CertFault>, Fail> {
     let mut lines = LINES.to_vec(alloc)?;
     if at < lines.len() {
         lines[at] = line;
@@ -153,7 +174,7 @@ fn with_line(alloc: std::alloc::Global, at: usize, line: &[u8]) -> Result<Option
 
 #[test]
 fn other_lines(rt: HostRuntime) -> Result<(), Fail> {
-    let cases: [(usize, &[u8], u32); 15] = [
+    let cases: [(usize, &'static [u8], u32); 15] = [
         (0, b"cilkcert 3", 1),
         (1, b"size 1000001 1 2", 2),
         (1, b"size 1000000 1 2", 9),
@@ -171,7 +192,10 @@ fn other_lines(rt: HostRuntime) -> Result<(), Fail> {
         (9, b"end\n", 11),
     ];
     for (at, line, number) in cases {
-        assert_eq!(rt; with_line(rt.alloc(), at, line)?, Some(CertFault::Malformed { line: number }));
+        assert_eq!(rt;
+            with_line(rt.alloc(), at, line)?,
+            Some(CertFault::Malformed { line: number })
+        );
     }
     Ok(())
 }
@@ -179,6 +203,12 @@ fn other_lines(rt: HostRuntime) -> Result<(), Fail> {
 #[test]
 fn long_lines(rt: HostRuntime) {
     let line = [b'x'; 97];
-    assert_eq!(rt; read(rt.alloc(), &line).err(), Some(CertFault::Malformed { line: 1 }));
-    assert_eq!(rt; read(rt.alloc(), &line[..96]).err(), Some(CertFault::Truncated { line: 1 }));
+    assert_eq!(rt;
+        read(rt.alloc(), &line).err(),
+        Some(CertFault::Malformed { line: 1 })
+    );
+    assert_eq!(rt;
+        read(rt.alloc(), &line[..96]).err(),
+        Some(CertFault::Truncated { line: 1 })
+    );
 }

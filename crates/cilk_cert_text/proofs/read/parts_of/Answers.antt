@@ -1,6 +1,5 @@
 use Rattle.std.proofs.Common.{[], sym, ap, ◌∙◌, append-nil}
 use Rattle.std.proofs.lemmas.Result.{err_from_is_err_and}
-use Rattle.cilk_cert_text.specs.Readers.{ahead}
 use Rattle.cilk_cert_text.specs.Reading.{Reading, reading_of}
 use Rattle.cilk_cert_text.proofs.read.parts_of.Goals as goal
 

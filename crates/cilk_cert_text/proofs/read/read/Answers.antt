@@ -1,7 +1,7 @@
-use Rattle.std.proofs.Common.{sym, ap, ◌∙◌, subst}
+use Rattle.std.proofs.Common.{◌∙◌}
 use Rattle.std.proofs.lemmas.Result.{err_from_is_err_and}
 use Rattle.cilk_cert_text.specs.Parts.{said}
-use Rattle.cilk_cert_text.proofs.Texts.{IsRead, is_read, only_ok, only_err}
+use Rattle.cilk_cert_text.proofs.Texts.{is_read, only_ok, only_err}
 use Rattle.cilk_cert_text.proofs.read.read.Goals as goal
 
 pub returns-in_err-parts-clause-only : goal.returns-in_err-parts-clause-only

@@ -25,6 +25,7 @@ returns-then-value-most-clause-none c = λ n h e.
     too_large n c.loop-digit.digit-index c.loop-digit.value c.args.most c.args.digits.now h c.requires c.loop-digit-test.false c.if-value-most.true c.loop-digit.invariant.value e
 
 pub returns-else-value-most-clause-found : goal.returns-else-value-most-clause-found
-returns-else-value-most-clause-found c =
-    (c.if-value-most.false,
-    spells c.loop-digit.digit-index c.loop-digit.value c.args.digits.now (omega arith) c.loop-digit-test.false (not_nil c.args.digits.now c.if-is_empty.ensures) c.if-digits-eq48.false c.loop-digit.invariant.digits c.loop-digit.invariant.value)
+returns-else-value-most-clause-found c = (
+  c.if-value-most.false,
+  spells c.loop-digit.digit-index c.loop-digit.value c.args.digits.now (omega arith) c.loop-digit-test.false (not_nil c.args.digits.now c.if-is_empty.ensures) c.if-digits-eq48.false c.loop-digit.invariant.digits c.loop-digit.invariant.value,
+)

@@ -1,4 +1,4 @@
-use Rattle.std.proofs.Common.{sym, ◌∙◌, ap, arith}
+use Rattle.std.proofs.Common.{sym, ◌∙◌}
 use Rattle.cilk_cert_text.proofs.Numerals.{minus_none, minus_zero, minus_found}
 use Rattle.cilk_cert_text.proofs.word.negative.Goals as goal
 

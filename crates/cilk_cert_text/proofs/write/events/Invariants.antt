@@ -1,4 +1,4 @@
-use Rattle.std.proofs.Common.{◌≡◌, ◌+◌, ◌++◌, drop}
+use Rattle.std.proofs.Common.{◌≡◌, ◌++◌, drop}
 use Rattle.cilk_cert_text.specs.Certificates.{text_of_lines, event_lines}
 use Rattle.cilk_cert_text.proofs.write.events.Given as goal
 

@@ -11,13 +11,13 @@ pub returns-then-self-2-clause-form : goal.returns-then-self-2-clause-form
 unfolding forms_left
 returns-then-self-2-clause-form c =
     rw (no_frames (c.args.self.frames + 1) c.args.self.frames c.args.self.size.frames c.if-self.false)
-      (next_strand c.args.self.strands c.args.self.size.strands _ c.if-self-2.true)
+    (next_strand c.args.self.strands c.args.self.size.strands _ c.if-self-2.true)
 
 pub returns-then-self-3-clause-form : goal.returns-then-self-3-clause-form
 unfolding forms_left
 returns-then-self-3-clause-form c =
     rw (no_frames (c.args.self.frames + 1) c.args.self.frames c.args.self.size.frames c.if-self.false, no_strands (c.args.self.strands + 1) c.args.self.strands c.args.self.size.strands c.if-self-2.false)
-      (next_event c.args.self.version c.args.self.events c.args.self.size.events _ c.if-self-3.true)
+    (next_event c.args.self.version c.args.self.events c.args.self.size.events _ c.if-self-3.true)
 
 pub returns-in-Result-clause-form : goal.returns-in-Result-clause-form
 unfolding forms_left

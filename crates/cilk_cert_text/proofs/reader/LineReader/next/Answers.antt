@@ -10,7 +10,7 @@ returns-then-is_empty-clause-prompt c =
 pub returns-then-is_finished-clause-fault : goal.returns-then-is_finished-clause-fault
 returns-then-is_finished-clause-fault c = λ more.
     rw c.malformed.ensures.value (over c.args.self.now.fault (due_of c.args.self.now.place) (number_at c.args.self.now.place) c.args.self.now.length c.args.self.now.bytes c.args.piece.now more
-      c.in_default.is (c.if-is_finished.ensures.yes refl) (c.args.self.now.at_end (c.if-is_finished.ensures.yes refl)) c.if-is_empty.ensures)
+    c.in_default.is (c.if-is_finished.ensures.yes refl) (c.args.self.now.at_end (c.if-is_finished.ensures.yes refl)) c.if-is_empty.ensures)
 
 pub returns-in-Some-end_of_line-clause-prompt : goal.returns-in-Some-end_of_line-clause-prompt
 returns-in-Some-end_of_line-clause-prompt c =
