@@ -1,5 +1,5 @@
 -- The events of a serial run: their cells, and how many there are.
-use Rattle.std.proofs.Common.{◌≡◌, ℕ, zero, suc, ◌<◌, ◌≤◌, ℤ, List, length, sym, ap, subst, arith}
+use Rattle.std.proofs.Common.{ℕ, ◌≤◌, ℤ, List, length, subst, arith}
 use Rattle.cilk_names.specs.declared.syntax.Place.TheVariants.{Global}
 use Rattle.cilk_names.specs.declared.ask.Ask.{Ask}
 use Rattle.cilk_names.specs.Syntax.{Source}

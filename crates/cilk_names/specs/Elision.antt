@@ -1,6 +1,6 @@
 -- The serial elision of a program: its meaning with the parallel words deleted, statement by statement over one store,
 -- as a natural semantics (Kahn 1987). It knows no ticks, frames, events or limits of a run.
-use Rattle.std.specs.Prelude.{◌≡◌, ℕ, ℤ, pos, neg_ℤ, Bool, true, false, if◌then◌else◌, List, [], length, Option, Some, None}
+use Rattle.std.specs.Prelude.{◌≡◌, ℤ, pos, neg_ℤ, true, false, if◌then◌else◌, List, Option, Some, None}
 use Rattle.cilk_types.specs.Input.{input_at, input_count}
 use Rattle.cilk_types.specs.Word.{word_of}
 use Rattle.cilk_types.specs.declared.fault.Fault.{Fault}

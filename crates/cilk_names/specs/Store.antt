@@ -1,5 +1,5 @@
 -- Memory and output while a program runs.
-use Rattle.std.specs.Prelude.{ℕ, ℤ, pos, Bool, true, false, nat_eq, if◌then◌else◌, List, [], ◌∷◌, ◌++◌, suc, zero, ◌+◌, slice_get, unwrap_or}
+use Rattle.std.specs.Prelude.{ℕ, ℤ, pos, Bool, nat_eq, if◌then◌else◌, List, [], ◌∷◌, ◌++◌, suc, zero, slice_get, unwrap_or}
 use Rattle.cilk_names.specs.declared.syntax.Place.{Place}
 use Rattle.cilk_names.specs.declared.syntax.Place.TheVariants as places
 use Rattle.cilk_names.specs.Syntax.{Source}

@@ -1,5 +1,5 @@
 -- Resolved programs without where they lie in memory.
-use Rattle.std.specs.Prelude.{ℕ, ℤ, Bool, true, false, ◌&&◌, nat_lt, List, [], ◌∷◌}
+use Rattle.std.specs.Prelude.{ℕ, ℤ, Bool, true, ◌&&◌, nat_lt, List, [], ◌∷◌}
 use Rattle.cilk_names.specs.declared.syntax.Operator.{Operator}
 use Rattle.cilk_names.specs.declared.syntax.Place.{Place}
 use Rattle.cilk_names.specs.declared.syntax.Place.TheVariants.{Global}

@@ -1,5 +1,5 @@
 -- What operators give.
-use Rattle.std.specs.Prelude.{zero, suc, ℤ, pos, negsuc, ◌+ℤ◌, ◌-ℤ◌, ◌*ℤ◌, neg_ℤ, Bool, true, false, not, if◌then◌else◌, int_lt, Option, Some, None}
+use Rattle.std.specs.Prelude.{zero, suc, ℤ, pos, negsuc, ◌+ℤ◌, ◌-ℤ◌, ◌*ℤ◌, Bool, true, false, not, if◌then◌else◌, int_lt, Option, Some}
 use Rattle.std.specs.Ordering.{int_eq}
 use Rattle.cilk_types.specs.Word.{word_of, quotient, remainder}
 use Rattle.cilk_names.specs.declared.syntax.Operator.{Operator}
