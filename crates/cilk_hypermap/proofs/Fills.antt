@@ -1,7 +1,6 @@
 -- Views to which units were added, and products with them.
-use Rattle.std.proofs.Common.{◌≡◌, Bool, true, false, Option, Some, None, IsSome, is_some, ◌⊎◌, inl, inr, sym, ap, ◌∙◌, refl, subst, true≢false}
-use Rattle.std.specs.Option.{option_map, unwrap_or}
-use Rattle.cilk_types.specs.declared.event.Instance.{Instance}
+use Rattle.std.proofs.Common.{◌≡◌, true, false, Option, Some, None, IsSome, is_some, ◌⊎◌, inl, inr, sym, ap, ◌∙◌, refl, subst, true≢false}
+use Rattle.std.specs.Option.{option_map}
 use Rattle.cilk_monoid.specs.Laws.{MonoidStructure, IsLawful}
 use Rattle.cilk_monoid.specs.Values.{ViewValue}
 use Rattle.cilk_hypermap.specs.Views.{merged, or_unit}

@@ -1,14 +1,12 @@
 -- Merges of hypermaps, one kind at a time.
-use Rattle.std.proofs.Common.{◌≡◌, Option, Some, None, IsSome, ◌⊎◌, sym, ap, ◌∙◌, refl, subst}
+use Rattle.std.proofs.Common.{◌≡◌, None, IsSome, ◌⊎◌, sym, ap, ◌∙◌, subst}
 use Rattle.indexmap.specs.IndexMap.{get}
 use Rattle.cilk_types.specs.declared.event.Instance.{Instance}
 use Rattle.cilk_monoid.specs.declared.kind.MonoidKind.{MonoidKind}
 use Rattle.cilk_monoid.specs.declared.kind.MonoidKind.TheVariants.{Add, Least, Greatest, Append, Affine}
 use Rattle.cilk_monoid.specs.Kinds.{structure_of, IsMember}
-use Rattle.cilk_monoid.specs.Laws.{MonoidStructure}
 use Rattle.cilk_monoid.specs.Lawful.{lawful}
 use Rattle.cilk_monoid.specs.Ranges.{same_instance}
-use Rattle.cilk_monoid.specs.Values.{ViewValue}
 use Rattle.cilk_monoid.specs.Views.{number_value, list_value, affine_value}
 use Rattle.cilk_hypermap.specs.declared.hypermap.Hypermap.{Hypermap}
 use Rattle.cilk_hypermap.specs.Hypermap.{EachKind, view_in, value_in}

@@ -1,12 +1,11 @@
 -- What the contracts of `Hypermap` cite: a finite map from kinds and instances to the values of their views.
-use Rattle.std.specs.Prelude.{◌≡◌, ℕ, ℤ, Bool, true, false, cond, ◌&&◌, Option, Some, None, IsSome, ◌⊎◌}
+use Rattle.std.specs.Prelude.{◌≡◌, Bool, true, false, cond, ◌&&◌, Option, Some, None, ◌⊎◌}
 use Rattle.cilk_types.specs.declared.event.Instance.{Instance}
 use Rattle.cilk_types.specs.declared.outcome.Final.{Final}
 use Rattle.cilk_types.specs.declared.outcome.Final.TheVariants as final
 use Rattle.cilk_monoid.specs.declared.kind.MonoidKind.{MonoidKind}
 use Rattle.cilk_monoid.specs.declared.kind.MonoidKind.TheVariants.{Add, Least, Greatest, Append, Affine}
 use Rattle.cilk_monoid.specs.Kinds.{structure_of}
-use Rattle.cilk_monoid.specs.Laws.{MonoidStructure}
 use Rattle.cilk_monoid.specs.Ranges.{same_instance}
 use Rattle.cilk_monoid.specs.Values.{ViewValue, Number, Elements, Map}
 use Rattle.cilk_monoid.specs.Views.{number_value, list_value, affine_value, list_room, unlimited}

@@ -1,7 +1,4 @@
-use Rattle.std.proofs.Common.{◌≡◌, IsSome, ◌⊎◌}
-use Rattle.cilk_types.specs.declared.event.Instance.{Instance}
 use Rattle.cilk_monoid.specs.declared.kind.MonoidKind.TheVariants.{Add, Least, Greatest, Append, Affine}
-use Rattle.cilk_hypermap.specs.Hypermap.{view_in}
 use Rattle.cilk_hypermap.proofs.Merges.{two_views, two_values, values_kept, joins_ranges}
 use Rattle.cilk_hypermap.proofs.hypermap.Hypermap.merge.Goals as goal
 

@@ -1,11 +1,8 @@
-use Rattle.std.proofs.Common.{◌≡◌, Option, Some, None, IsSome, cond, sym, ap, ◌∙◌, refl, subst, arith}
+use Rattle.std.proofs.Common.{◌≡◌, Some, IsSome, sym, ap, ◌∙◌, refl, subst, arith}
 use Rattle.std.specs.Option.{option_map, unwrap_or}
-use Rattle.std.proofs.lemmas.Bool.{cond-true}
 use Rattle.indexmap.specs.IndexMap.{get}
-use Rattle.cilk_types.specs.declared.event.Instance.{Instance}
 use Rattle.cilk_monoid.specs.Ranges.{same_instance}
-use Rattle.cilk_monoid.proofs.RangeLaws.{same_self}
-use Rattle.cilk_hypermap.specs.Views.{view_at, size_at}
+use Rattle.cilk_hypermap.specs.Views.{size_at}
 use Rattle.cilk_hypermap.proofs.Absorbing.{present_after, room_after, views_after, spent_after}
 use Rattle.cilk_hypermap.proofs.Entries.{found_last}
 use Rattle.cilk_hypermap.proofs.views.Views.absorb.Goals as goal

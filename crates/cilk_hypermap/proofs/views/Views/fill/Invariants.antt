@@ -1,4 +1,4 @@
-use Rattle.std.proofs.Common.{◌≡◌, ℕ, ◌<◌, Option, Some, IsSome, slice_get}
+use Rattle.std.proofs.Common.{◌≡◌, ℕ, ◌<◌, Some, IsSome, slice_get}
 use Rattle.indexmap.specs.IndexMap.{keys}
 use Rattle.cilk_types.specs.declared.event.Instance.{Instance}
 use Rattle.cilk_hypermap.specs.Views.{view_at, FillsIn}

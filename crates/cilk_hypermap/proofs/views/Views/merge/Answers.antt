@@ -1,6 +1,5 @@
 use Rattle.std.proofs.Common.{ap, ◌∙◌}
 use Rattle.indexmap.specs.IndexMap.{get}
-use Rattle.cilk_types.specs.declared.event.Instance.{Instance}
 use Rattle.cilk_monoid.specs.Ranges.{same_instance}
 use Rattle.cilk_hypermap.specs.Views.{or_unit, view_at}
 use Rattle.cilk_hypermap.proofs.Fills.{keeps_value, merged_two, or_unit-merged, members_by_type}

@@ -1,4 +1,4 @@
-use Rattle.std.proofs.Common.{◌≡◌, Option, Some, None, IsSome, inl, sym, subst, refl, rules, ◌∙◌}
+use Rattle.std.proofs.Common.{◌≡◌, Some, None, IsSome, inl, sym, subst, refl, rules, ◌∙◌}
 use Rattle.indexmap.specs.IndexMap.{get}
 use Rattle.cilk_monoid.specs.Ranges.{same_instance}
 use Rattle.cilk_hypermap.proofs.Writes.{same_values, more_room, based_on, fills_in, new_room}

@@ -1,4 +1,4 @@
-use Rattle.std.proofs.Common.{◌≡◌, Option, Some, IsSome, sym, subst, refl}
+use Rattle.std.proofs.Common.{◌≡◌, Some, IsSome, sym, subst, refl}
 use Rattle.indexmap.specs.IndexMap.{get}
 use Rattle.cilk_monoid.specs.Ranges.{same_instance}
 use Rattle.cilk_hypermap.proofs.Writes.{on_err, same_values}
