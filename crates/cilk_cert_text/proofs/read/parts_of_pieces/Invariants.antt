@@ -1,4 +1,4 @@
-use Rattle.std.proofs.Common.{ℕ, List, ◌++◌, drop}
+use Rattle.std.proofs.Common.{drop}
 use Rattle.cilk_cert_text.specs.Reading.{reading_of}
 use Rattle.cilk_cert_text.specs.Readers.{ahead}
 use Rattle.cilk_cert_text.specs.Gathering.{nothing}
