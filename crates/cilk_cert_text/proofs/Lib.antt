@@ -1,3 +1,4 @@
+pub mod Bounds
 pub mod Cuts
 pub mod Dues
 pub mod Entries

@@ -1,5 +1,7 @@
 -- What was put together so far.
-use Rattle.std.specs.Prelude.{◌≡◌}
+use Rattle.std.specs.Prelude.{◌≡◌, ℕ, List}
+use Rattle.std.specs.List.{flat_map}
+use Rattle.std.specs.Borrow.{Bor}
 use Rattle.cilk_cert_text.specs.declared.read.Parts.{Parts}
 use Rattle.cilk_cert_text.specs.Certificates.{Contents}
 use Rattle.cilk_cert_text.specs.Reading.{Reading}
@@ -12,3 +14,7 @@ pub record Leads (r : Reading) (c : Contents) (r' : Reading) (c' : Contents) : T
 
 abbrev pub said : Parts → Contents
 said p = record { version = p.version; frames = p.frames.items; strands = p.strands.items; events = p.events.items; result = p.result }
+
+-- the text that the pieces are
+abbrev pub joined_pieces : List (Bor (List ℕ)) → List ℕ
+joined_pieces pieces = flat_map (λ piece. piece.now) pieces

@@ -33,3 +33,9 @@ pub fn one_spelling()
     ensures read { (form : Form) (line : Line) → IsAt form line → line_of form (spelled line) ≡ Some line }
     ensures written { (form : Form) (bytes : List ℕ) (line : Line) → line_of form bytes ≡ Some line → IsAt form line × (bytes ≡ spelled line) }
 {}
+
+/// The lines before a fault end at least 97 bytes before byte 134,217,729. So no line holds that byte that isn't too long
+/// already, and a text's limit of 134,217,728 bytes needs no test.
+pub fn within_limit()
+    ensures { (text : List ℕ) → length (text_of_lines (reading_of text).lines) + 97 ≤ 134217728 }
+{}

@@ -6,7 +6,7 @@ ghost use Rattle.cilk_cert_text.specs.Certificates.{Contents, IsCertificate, tex
 ghost use Rattle.cilk_cert_text.specs.Reading.{reading_of};
 ghost use Rattle.cilk_cert_text.specs.Readers.{ahead};
 ghost use Rattle.cilk_cert_text.specs.Gathering.{nothing, gathered};
-ghost use Rattle.cilk_cert_text.specs.Parts.{said, Leads};
+ghost use Rattle.cilk_cert_text.specs.Parts.{said, Leads, joined_pieces};
 
 use crate::certificate::Certificate;
 use crate::fault::CertFault;
@@ -116,5 +116,31 @@ pub fn read(alloc: Global, text: &[u8]) -> Result<Certificate, CertFault>
     ensures fault { IfErr result (λ fault. fault ≢ Memory → (reading_of text.now).fault ≡ Some fault) }
 {
     let parts = parts_of(alloc, text)?;
+    Ok(parts.finish())
+}
+
+/// What the lines of a text in pieces say.
+fn parts_of_pieces(alloc: Global, pieces: &[&[u8]]) -> Result<Parts, CertFault>
+    ensures said { IfOk result (λ parts. said parts ≡ gathered nothing (reading_of (joined_pieces pieces.now)).lines) }
+    ensures whole { OnOk result ((reading_of (joined_pieces pieces.now)).fault ≡ None) }
+    ensures fault { IfErr result (λ fault. fault ≢ Memory → (reading_of (joined_pieces pieces.now)).fault ≡ Some fault) }
+{
+    let mut reader = LineReader::new();
+    let mut parts = Parts::new(alloc);
+    for piece in pieces {
+        take(&mut reader, &mut parts, piece)?;
+    }
+    reader.end()?;
+    Ok(parts)
+}
+
+/// The same of a text in pieces, however it is cut.
+pub fn read_pieces(alloc: Global, pieces: &[&[u8]]) -> Result<Certificate, CertFault>
+    ensures found { IfOk result (λ c. IsCertificate c × (joined_pieces pieces.now ≡ text_of c)) }
+    ensures only { (c : Contents) → IsCertificate c → joined_pieces pieces.now ≡ text_of c → MatchResult result (λ d. d ≡ c) (λ fault. fault ≡ Memory) }
+    ensures lines { IfOk result (λ c. reading_of (joined_pieces pieces.now) ≡ record { lines = lines_of c; fault = None }) }
+    ensures fault { IfErr result (λ fault. fault ≢ Memory → (reading_of (joined_pieces pieces.now)).fault ≡ Some fault) }
+{
+    let parts = parts_of_pieces(alloc, pieces)?;
     Ok(parts.finish())
 }

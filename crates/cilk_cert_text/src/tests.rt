@@ -1,7 +1,7 @@
 ghost use Rattle.std.specs.Prelude.{◌<◌};
 
 use crate::fault::CertFault;
-use crate::read::read;
+use crate::read::{read, read_pieces};
 use crate::reader::LineReader;
 use crate::write::write;
 use std::process::Abort;
@@ -40,6 +40,9 @@ const SECOND_REDUCERS: &[u8] =
 
 fn written_again(rt: &impl Abort, alloc: std::alloc::Global, text: &[u8]) -> Result<(), Fail> {
     let certificate = read(alloc, text)?;
+    assert_eq!(rt; write(alloc, &certificate)?.as_slice(), text);
+    assert!(rt; text.len() > 5);
+    let certificate = read_pieces(alloc, &[&text[..5], &text[5..]])?;
     assert_eq!(rt; write(alloc, &certificate)?.as_slice(), text);
     Ok(())
 }
