@@ -1,9 +1,9 @@
 -- A frame that isn't waiting stands at its next deed of the serial run.
-use Rattle.std.proofs.Common.{◌≡◌, ℕ, suc, ◌≤◌, Bool, List, [], ◌∷◌, ◌++◌, Option, Some, None, refl, sym, ap, ◌∙◌, subst, arith, ⊎_elim, append_assoc, append-nil, ℤ, zero}
+use Rattle.std.proofs.Common.{◌≡◌, ℕ, suc, ◌≤◌, Bool, List, [], ◌∷◌, ◌++◌, Option, Some, None, refl, sym, ap, ◌∙◌, subst, arith, ⊎_elim, append_assoc, append-nil, ℤ, zero, ap₂}
 use Rattle.std.proofs.lemmas.Bool.{cases_eq}
 use Rattle.cilk_runs.specs.Runs.{Name, Cell, Kind, Calls, Spawns, Ask, Invoke, Sync, Event, Reads, Writes, Syncs, Ends, Passes, Deed, Does, Invokes, Run, stop, act, child, ask_of}
 use Rattle.cilk_runs.specs.Machine.{Frame, Frames, deeds_at, HasEnd, HasSync, Ready, put}
-use Rattle.cilk_runs.specs.Serial.{value_after, IsSerial, SyncAhead, GoesOn, ComesAfter, IsClosed, Behaves, IsDetermined}
+use Rattle.cilk_runs.specs.Serial.{own_deeds, value_after, IsSerial, SyncAhead, GoesOn, ComesAfter, IsClosed, Behaves, IsDetermined}
 use Rattle.cilk_runs.specs.Cuts.{below, IsStarted, IsFull, IsPast, NoneFrom, IsCut}
 use Rattle.cilk_runs.proofs.Basics.{has_sync, IsSyncDeed, last_sync}
 use Rattle.cilk_runs.proofs.Front.{Front, here_act, here_child, past_act, past_child, inside}
@@ -38,6 +38,15 @@ module _ {W : Type 0} where
   all_past : (i : Kind) (r : Run W) (k : ℕ) (ds : List (Deed W)) (kids : ℕ → Frames W) → IsFull r k ds kids → IsCut r k ds kids → ComesAfter i r → IsPast i ds
   all_past Calls r k ds kids full cut h = full_goes r k ds kids full h
   all_past Spawns r k ds kids full cut h = full_sync r k ds kids full cut h
+
+  -- a frame that has made each event has done what it does in the run
+  pub full_deeds : (r : Run W) (k : ℕ) (ds : List (Deed W)) (kids : ℕ → Frames W) → IsFull r k ds kids → IsCut r k ds kids → ds ≡ own_deeds r
+  full_deeds stop k [] kids full cut = refl
+  full_deeds stop k (d ∷ ds) kids full cut = absurd full
+  full_deeds (act e r) k [] kids full cut = absurd full
+  full_deeds (act e r) k (d ∷ ds) kids full cut = ap₂ (λ a b. a ∷ b) cut.0 (full_deeds r k ds kids full cut.1)
+  full_deeds (child i w u r) k [] kids full cut = absurd full
+  full_deeds (child i w u r) k (d ∷ ds) kids full cut = ap₂ (λ a b. a ∷ b) cut.0 (full_deeds r (suc k) ds kids full.1 cut.4)
 
   full_stop : (r : Run W) (k : ℕ) (ds : List (Deed W)) (kids : ℕ → Frames W) → r ≡ stop → IsCut r k ds kids → IsFull r k ds kids
   full_stop r k [] kids q cut = rw q tt

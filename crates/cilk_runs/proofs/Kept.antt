@@ -1,17 +1,19 @@
 -- Each step keeps a consistent cut of a serial run without a race.
-use Rattle.std.proofs.Common.{◌+◌, None, ◌≡◌, ℕ, Bool, true, false, cond, ◌&&◌, List, [], ◌∷◌, ◌++◌, Some, refl, sym, ap, ◌∙◌, subst, arith, inl, ⊎_elim, eq-eqb, ℤ, suc, pos}
+use Rattle.std.proofs.Common.{◌+◌, None, ◌≡◌, ℕ, Bool, true, false, cond, ◌&&◌, List, [], ◌∷◌, ◌++◌, Some, refl, sym, ap, ◌∙◌, subst, arith, inl, ⊎_elim, eq-eqb, ℤ, suc, pos, ◌≤◌}
 use mathlib.Core.Path.{fun_ext}
 use Rattle.std.proofs.lemmas.Bool.{cases_Bool, cond-true, cond-false}
 use Rattle.cilk_runs.specs.Runs.{Name, same_name, Cell, Global, same_cell, Ask, Read, Write, Invoke, Sync, End, Pass, Fail, Mark, Begins, Resumes, Creates, Updates, Sets, Values, Prints, wish_of, Reads, Writes, Syncs, Ends, Passes, Deed, Does, Invokes, Run, Instance}
-use Rattle.cilk_runs.specs.Machine.{Frame, Frames, State, deeds_at, HasEnd, started, put, effect, mark_of, deed_of, begun, after_deed, is_fault, block_view, with_view, after_views, Makes, Steals, Step, Steps, IsOpening}
-use Rattle.cilk_runs.specs.Serial.{value_after, IsSerial, IsClosed, Behaves, IsDetermined}
+use Rattle.cilk_runs.specs.Machine.{Frame, Frames, State, deeds_at, HasEnd, started, put, effect, mark_of, deed_of, begun, after_deed, block_view, with_view, after_views, IsAsking, Makes, Steals, Stops, Step, Steps, IsOpening}
+use Rattle.cilk_runs.specs.Serial.{own_deeds, value_after, IsSerial, IsClosed, Behaves, IsDetermined}
+use Rattle.cilk_runs.specs.Costs.{Costs, Total, cost, fault_of, weight}
+use Rattle.cilk_runs.proofs.Spent.{CostsAt, spent_nil, spent_le, spent_step, no_fault}
 use Rattle.cilk_runs.specs.Races.{RaceFree}
 use Rattle.cilk_runs.specs.Cuts.{times, joined, below, IsStarted, IsFull, NoneFrom, IsCut, made, Lies, IsConsistent}
 use Rattle.cilk_runs.specs.Monoids.{Monoid, IsLawful, number_of, numbers_of, unit_of}
 use Rattle.cilk_runs.specs.Views.{view_after, IsSerialViews, ViewFree, IsResumed}
 use Rattle.cilk_runs.proofs.Basics.{same_cell-eq, same_name-eq, same_name-refl}
 use Rattle.cilk_runs.proofs.Front.{Front, here_act, here_child, past_act, past_child, inside, grown, front_value, made_nil, made_full}
-use Rattle.cilk_runs.proofs.Find.{front_right, ended_full, ask_by, Asks, find, counts_from}
+use Rattle.cilk_runs.proofs.Find.{front_right, full_deeds, ended_full, ask_by, Asks, find, counts_from}
 use Rattle.cilk_runs.proofs.Grows.{Grows, GrowsTree, tree_grows, cut_nil, cut_step, made_other, made_write}
 use Rattle.cilk_runs.proofs.Pieces.{Moved, Rests, lies_nil, lies_step}
 use Rattle.cilk_runs.proofs.Stolen.{At, Taken, find_stolen, lies_steal}
@@ -65,14 +67,6 @@ module _ {W : Type 0} where
   same_deed (Does (Passes m)) a memory number q h g = rw q (ap (λ z. Does (Passes z)) (same_mark m number (g m refl)))
   same_deed (Invokes i w) a memory number q h g = rw q refl
 
-  no_fault : (e : Deed W) (a : Ask W) → a ≡ ask_by e → is_fault a ≡ false
-  no_fault (Does (Reads c v)) a q = rw q refl
-  no_fault (Does (Writes c v)) a q = rw q refl
-  no_fault (Does Syncs) a q = rw q refl
-  no_fault (Does (Ends val gone)) a q = rw q refl
-  no_fault (Does (Passes m)) a q = rw q refl
-  no_fault (Invokes i w) a q = rw q refl
-
   module _ {c : Cell} {r : Run W} {ds : List (Deed W)} {kids : ℕ → Frames W} {n : Name} {x y : ℤ} where
     -- what is made with the deed at the front
     made_step : (e : Deed W) → Front W c r 1 ds kids n e x y → IsCut r 1 ds kids → RaceFree r → (kids' : ℕ → Frames W) → Grows n e (suc (started ds)) kids kids' → (z : ℤ) → made r 1 (grown n ds e) kids' c z ≡ effect e c (made r 1 ds kids c z)
@@ -124,7 +118,7 @@ module _ {W V : Type 0} (M : Monoid V) (i : Instance) where
   )
 
 -- the frame that makes a step, as the whole tree has it
-module _ (W V : Type 0) (M : Instance → Monoid V) (Next : W → List (Deed W) → Ask W → Type 0) (w : W) (t : Run W) (opening : Cell → ℤ) where
+module _ (W V : Type 0) (M : Instance → Monoid V) (Next : W → List (Deed W) → Ask W → Type 0) (C : Costs W) (w : W) (t : Run W) (opening : Cell → ℤ) where
   nonempty_name : (m : Name) (K : ℕ) → m ++ K ∷ [] ≡ [] → ⊥
   nonempty_name [] K q = cc
   nonempty_name (j ∷ m) K q = cc
@@ -142,7 +136,7 @@ module _ (W V : Type 0) (M : Instance → Monoid V) (Next : W → List (Deed W) 
         (taken_top o m K (λ n. stolen (j ∷ n)) (λ n. views (j ∷ n)) off)),
   )
 
-  at_top : (s s' : State W V) (n : Name) → IsStarted w s.frames → (m : Steals W V M Next s n s') → At (suc (started m.before)) 1 (deeds_at (s.frames [])) (below s.frames) n
+  at_top : (s s' : State W V) (n : Name) → IsStarted w s.frames → (m : Steals W V M Next C s n s') → At (suc (started m.before)) 1 (deeds_at (s.frames [])) (below s.frames) n
   at_top s s' [] root m = (m.before, m.what, rw m.here m.spawned, omega arith)
   at_top s s' (j ∷ n) root m = (counts_from s.frames j n m.frame root.1 m.here, m.frame, m.before, m.what, m.here, m.spawned, refl)
 
@@ -158,22 +152,27 @@ module _ (W V : Type 0) (M : Instance → Monoid V) (Next : W → List (Deed W) 
   joined_same (Does (Passes m)) a n ds q = rw q refl
   joined_same (Invokes b v) a n ds q = rw q refl
 
-  asks_top : (s s' : State W V) (n : Name) → IsStarted w s.frames → (m : Makes W V M Next s n s') → Asks W Next s.stolen m.ask w [] (deeds_at (s.frames [])) 1 (below s.frames) n
-  asks_top s s' [] root m =
-      let f = m.frame in
+  asks_top : (s : State W V) (n : Name) → IsStarted w s.frames → (f : Frame W) (a : Ask W) → IsAsking W V M Next C s n f a → Asks W Next s.stolen a w [] (deeds_at (s.frames [])) 1 (below s.frames) n
+  asks_top s [] root f a m =
       let e : f.what ≡ w = rw m.here at root.0 in
-      (rw m.here (subst (λ z. Next z f.deeds m.ask) e m.next), rw m.here m.ready)
-  asks_top s s' (j ∷ n) root m = (counts_from s.frames j n m.frame root.1 m.here, m.frame, m.here, m.next, m.ready)
+      (rw m.here (subst (λ z. Next z f.deeds a) e m.next), rw m.here m.ready)
+  asks_top s (j ∷ n) root f a m = (counts_from s.frames j n f root.1 m.here, f, m.here, m.next, m.ready)
 
-  rests_top : (i : Instance) (s s' : State W V) (n : Name) → (m : Makes W V M Next s n s') → Rests (M i) i s.stolen m.ask (deeds_at (s.frames [])) 1 (below s.frames) n
-  rests_top i s s' [] m = rw m.here m.ready
-  rests_top i s s' (j ∷ n) m = (m.frame, m.here, m.ready)
+  rests_top : (i : Instance) (s : State W V) (n : Name) (f : Frame W) (a : Ask W) → IsAsking W V M Next C s n f a → Rests (M i) i s.stolen a (deeds_at (s.frames [])) 1 (below s.frames) n
+  rests_top i s [] f a m = rw m.here m.ready
+  rests_top i s (j ∷ n) f a m = (f, m.here, m.ready)
+
+  costs_top : (total : Total) (s : State W V) (n : Name) → IsStarted w s.frames → (f : Frame W) (a : Ask W) (e : Deed W) → a ≡ ask_by e → s.frames n ≡ Some f → CostsAt C total w [] (deeds_at (s.frames [])) (below s.frames) n e (cost C total f.what f.deeds a)
+  costs_top total s [] root f a e q here =
+      let is : f.what ≡ w = rw here at root.0 in
+      rw here (ap (cost C total f.what f.deeds) q ∙ ap (λ z. cost C total z f.deeds (ask_by e)) is)
+  costs_top total s (j ∷ n) root f a e q here = (f, here, ap (cost C total f.what f.deeds) q)
 
   view_at : (pcs : Name → V) (n : Name) → view_of (pcs []) pcs n ≡ pcs n
   view_at pcs [] = refl
   view_at pcs (j ∷ n) = refl
 
-  pub opening_ok : (s : State W V) → IsOpening W V M Next w opening s → IsConsistent M w t opening s
+  pub opening_ok : (s : State W V) → IsOpening W V M Next C w opening s → IsConsistent M C w t opening s
   opening_ok s o =
       let root : s.frames [] ≡ Some (begun w) = o.0 [] in
       let none : NoneFrom 1 (below s.frames) = λ j le n. o.0 (j ∷ n) in
@@ -183,11 +182,12 @@ module _ (W V : Type 0) (M : Instance → Monoid V) (Next : W → List (Deed W) 
         memory = λ c. ap (λ z. z c) o.1 ∙ sym (rw root (made_nil c t 1 (below s.frames) (opening c)));
         pieces = λ i. rw root (lies_nil (M i) i t 1 (below s.frames) s.stolen (λ z. s.piece z i) (unit_of M i) (unit_of M i) (s.piece [] i) (o.5 i) (λ j le n. o.4 (j ∷ n)));
         joins = λ m. rw o.2 (sym (joined_none s.frames m (λ n. ap deeds_at (o.0 n) ∙ no_deeds (same_name [] n))));
-        no_fault = o.3;
+        totals = λ total. rw root (omega (arith, o.6 total, spent_nil C total w [] t 1 (below s.frames)));
+        no_stop = o.3;
       }
 
-  module _ (determined : IsDetermined W Next) (behaves : Behaves W Next w [] t) (closed : IsClosed t) (serial : IsSerial t opening) (free : RaceFree t) (law : (i : Instance) → IsLawful (M i)) (resumed : IsResumed false t) (views : IsSerialViews M t (unit_of M)) (apart : (i : Instance) → ViewFree (M i) i t (unit_of M i)) where
-    answered : (s : State W V) (n : Name) (ok : IsConsistent M w t opening s) (m : Mark) {c : Cell} {x y : ℤ} → Front W c t 1 (deeds_at (s.frames [])) (below s.frames) n (Does (Passes m)) x y → IsAnswered m (numbers_of M (s.piece n))
+  module _ (determined : IsDetermined W Next) (behaves : Behaves W Next w [] t) (closed : IsClosed t) (serial : IsSerial t opening) (free : RaceFree t) (law : (i : Instance) → IsLawful (M i)) (resumed : IsResumed false t) (views : IsSerialViews M t (unit_of M)) (apart : (i : Instance) → ViewFree (M i) i t (unit_of M i)) (within : (total : Total) → C.used total + weight C total w [] t ≤ C.limit total) where
+    answered : (s : State W V) (n : Name) (ok : IsConsistent M C w t opening s) (m : Mark) {c : Cell} {x y : ℤ} → Front W c t 1 (deeds_at (s.frames [])) (below s.frames) n (Does (Passes m)) x y → IsAnswered m (numbers_of M (s.piece n))
     answered s n ok Begins f = tt
     answered s n ok Resumes f = tt
     answered s n ok (Updates i x) f = tt
@@ -200,7 +200,7 @@ module _ (W V : Type 0) (M : Instance → Monoid V) (Next : W → List (Deed W) 
         let seen : view_of (s.piece [] i) (λ z. s.piece z i) n ≡ g.0 = view_front (M i) (law i) i g.1 v refl s.stolen (λ z. s.piece z i) (unit_of M i) (unit_of M i) (s.piece [] i) false resumed ok.cut closed (ok.pieces i) (apart i) (λ z. inl (refl, refl), inl refl) in
         right ∙ ap (number_of (M i)) (sym seen ∙ view_at (λ z. s.piece z i) n)
 
-    kept_at : (s s' : State W V) (n : Name) (ok : IsConsistent M w t opening s) (m : Makes W V M Next s n s') (e : Deed W) (y : ℤ) → m.ask ≡ ask_by e → Front W (cell_of m.ask) t 1 (deeds_at (s.frames [])) (below s.frames) n e (opening (cell_of m.ask)) y → IsConsistent M w t opening s'
+    kept_at : (s s' : State W V) (n : Name) (ok : IsConsistent M C w t opening s) (m : Makes W V M Next C s n s') (e : Deed W) (y : ℤ) → m.ask ≡ ask_by e → Front W (cell_of m.ask) t 1 (deeds_at (s.frames [])) (below s.frames) n e (opening (cell_of m.ask)) y → IsConsistent M C w t opening s'
     kept_at s s' n ok m e y q front =
         let ds = deeds_at (s.frames []) in
         let kids = below s.frames in
@@ -213,7 +213,7 @@ module _ (W V : Type 0) (M : Instance → Monoid V) (Next : W → List (Deed W) 
         λ z h. answered s n ok z (subst (λ a. Front W c t 1 ds kids n a (opening c) y) h front) in
         let deed : deed_of s.memory number m.ask ≡ e = same_deed e m.ask s.memory number q right told in
         let frames : s'.frames ≡ after_deed s.frames n m.frame e = m.frames ∙ ap (after_deed s.frames n m.frame) deed in
-        let grows : GrowsTree n e s.frames s'.frames = subst (λ z. GrowsTree n e s.frames z) (sym frames) (tree_grows n s.frames m.frame e m.here) in
+        let grows : GrowsTree n e s.frames s'.frames = subst (λ z. GrowsTree n e s.frames z) (sym frames) (tree_grows n s.frames m.frame e m.asking.here) in
         let memory : (b : Cell) → s'.memory b ≡ made t 1 (grown n ds e) (below s'.frames) b (opening b) =
         λ b. let g = front_cell front b (opening b) in
         ap (λ z. z b) m.memory
@@ -225,22 +225,41 @@ module _ (W V : Type 0) (M : Instance → Monoid V) (Next : W → List (Deed W) 
         let new : Name → V = after_views (M i) i s.stolen n m.frame.deeds e old in
         let same : new ≡ (λ z. s'.piece z i) = sym (fun_ext (λ z. m.piece i z ∙ ap (λ d. after_views (M i) i s.stolen n m.frame.deeds d old z) deed)) in
         subst (λ (z : Name → V). Lies (M i) i t 1 (grown n ds e) (below s'.frames) s.stolen z (unit_of M i) (unit_of M i) (z [])) same
-        (lies_step (M i) i front ok.cut closed false tt resumed s.stolen m.ask (rests_top i s s' n m) (unit_of M i) _ (unit_of M i) old (old []) refl (ok.pieces i) (suc (started ds)) (below s'.frames) (omega arith) grows.2 new (new []) (views_moved (M i) i n s.frames m.frame e s.stolen old m.here)) in
+        (lies_step (M i) i front ok.cut closed false tt resumed s.stolen m.ask (rests_top i s n m.frame m.ask m.asking) (unit_of M i) _ (unit_of M i) old (old []) refl (ok.pieces i) (suc (started ds)) (below s'.frames) (omega arith) grows.2 new (new []) (views_moved (M i) i n s.frames m.frame e s.stolen old m.asking.here)) in
         record {
           root = grows.0 w ok.root;
           cut = rw grows.1 (cut_step front ok.cut (suc (started ds)) (below s'.frames) (omega arith) grows.2);
           memory = λ b. rw grows.1 (memory b);
           pieces = λ i. rw (grows.1, m.stolen) (pieces i);
-          joins = λ z. ap (times z) (m.joins ∙ ap (λ l. l ++ s.joins) (joined_same e m.ask n m.frame.deeds q)) ∙ times-append z (joins_of e n m.frame.deeds) s.joins ∙ ap (λ l. times z (joins_of e n m.frame.deeds) + l) (ok.joins z) ∙ sym (joined_front s.frames m.frame front ok.cut m.here z) ∙ ap (λ l. joined l z) (sym frames);
-          no_fault = m.fault ∙ no_fault e m.ask q;
+          joins = λ z. ap (times z) (m.joins ∙ ap (λ l. l ++ s.joins) (joined_same e m.ask n m.frame.deeds q)) ∙ times-append z (joins_of e n m.frame.deeds) s.joins ∙ ap (λ l. times z (joins_of e n m.frame.deeds) + l) (ok.joins z) ∙ sym (joined_front s.frames m.frame front ok.cut m.asking.here z) ∙ ap (λ l. joined l z) (sym frames);
+          totals = λ total. rw grows.1 (m.totals total ∙ ap (λ z. z + cost C total m.frame.what m.frame.deeds m.ask) (ok.totals total) ∙ omega (arith, spent_step C total front ok.cut w [] _ (costs_top total s n ok.root m.frame m.ask e q m.asking.here) (suc (started ds)) (below s'.frames) (omega arith) grows.2));
+          no_stop = m.stopped ∙ ok.no_stop;
         }
 
-    pub makes_keeps : (s s' : State W V) (n : Name) → IsConsistent M w t opening s → Makes W V M Next s n s' → IsConsistent M w t opening s'
+    -- with what the frame asks for next no total is more than the serial run's
+    pub room_at : (s : State W V) (n : Name) → IsConsistent M C w t opening s → (total : Total) (f : Frame W) (a : Ask W) → IsAsking W V M Next C s n f a → s.totals total + cost C total f.what f.deeds a ≤ C.used total + weight C total w [] t
+    room_at s n ok total f a m =
+        let ds = deeds_at (s.frames []) in
+        let (e, y, q, front) = find W Next determined (cell_of a) t 1 w [] ds (below s.frames) s.stolen a n (opening (cell_of a)) ok.cut behaves closed (asks_top s n ok.root f a m) in
+        let grows : GrowsTree n e s.frames (after_deed s.frames n f e) = tree_grows n s.frames f e m.here in
+        let more = spent_step C total front ok.cut w [] _ (costs_top total s n ok.root f a e q m.here) (suc (started ds)) (below (after_deed s.frames n f e)) (omega arith) grows.2 in
+        omega (arith, ok.totals total, more, spent_le C total w [] t 1 (grown n ds e) (below (after_deed s.frames n f e)))
+
+    -- so nothing stops the run
+    pub never_stops : (s s' : State W V) (n : Name) → IsConsistent M C w t opening s → Stops W V M Next C s n s' → {X : Type 0} → X
+    never_stops s s' n ok m =
+        let (e, y, q, front) = find W Next determined (cell_of m.ask) t 1 w [] (deeds_at (s.frames [])) (below s.frames) s.stolen m.ask n (opening (cell_of m.ask)) ok.cut behaves closed (asks_top s n ok.root m.frame m.ask m.asking) in
+        let fits : (total : Total) → s.totals total + cost C total m.frame.what m.frame.deeds m.ask ≤ C.limit total = λ total. omega (arith, room_at s n ok total m.frame m.ask m.asking, within total) in
+        let off : fault_of C s.totals m.frame.what m.frame.deeds m.ask ≡ None = no_fault C s.totals m.frame.what m.frame.deeds e m.ask q fits in
+        let z : None ≡ Some m.fault = sym off ∙ m.why in
+        absurd (cc)
+
+    pub makes_keeps : (s s' : State W V) (n : Name) → IsConsistent M C w t opening s → Makes W V M Next C s n s' → IsConsistent M C w t opening s'
     makes_keeps s s' n ok m =
-        let (e, y, q, front) = find W Next determined (cell_of m.ask) t 1 w [] (deeds_at (s.frames [])) (below s.frames) s.stolen m.ask n (opening (cell_of m.ask)) ok.cut behaves closed (asks_top s s' n ok.root m) in
+        let (e, y, q, front) = find W Next determined (cell_of m.ask) t 1 w [] (deeds_at (s.frames [])) (below s.frames) s.stolen m.ask n (opening (cell_of m.ask)) ok.cut behaves closed (asks_top s n ok.root m.frame m.ask m.asking) in
         kept_at s s' n ok m e y q front
 
-    pub steals_keeps : (s s' : State W V) (n : Name) → IsConsistent M w t opening s → Steals W V M Next s n s' → IsConsistent M w t opening s'
+    pub steals_keeps : (s s' : State W V) (n : Name) → IsConsistent M C w t opening s → Steals W V M Next C s n s' → IsConsistent M C w t opening s'
     steals_keeps s s' n ok m =
         let K = suc (started m.before) in
         let at = at_top s s' n ok.root m in
@@ -257,21 +276,23 @@ module _ (W V : Type 0) (M : Instance → Monoid V) (Next : W → List (Deed W) 
           memory = λ c. rw (m.frames, m.memory) (ok.memory c);
           pieces = λ i. rw m.frames (pieces i);
           joins = λ z. rw (m.frames, m.joins) (ok.joins z);
-          no_fault = m.fault ∙ ok.no_fault;
+          totals = λ total. rw (m.frames, m.totals) (ok.totals total);
+          no_stop = m.stopped ∙ ok.no_stop;
         }
 
-    pub step_keeps : (s s' : State W V) (n : Name) → IsConsistent M w t opening s → Step W V M Next s n s' → IsConsistent M w t opening s'
-    step_keeps s s' n ok m = ⊎_elim (makes_keeps s s' n ok) (steals_keeps s s' n ok) m.1
+    pub step_keeps : (s s' : State W V) (n : Name) → IsConsistent M C w t opening s → Step W V M Next C s n s' → IsConsistent M C w t opening s'
+    step_keeps s s' n ok m = ⊎_elim (makes_keeps s s' n ok) (⊎_elim (steals_keeps s s' n ok) (λ x. never_stops s s' n ok x)) m.1
 
-    pub steps_keep : (ns : List Name) (s s' : State W V) → IsConsistent M w t opening s → Steps W V M Next ns s s' → IsConsistent M w t opening s'
+    pub steps_keep : (ns : List Name) (s s' : State W V) → IsConsistent M C w t opening s → Steps W V M Next C ns s s' → IsConsistent M C w t opening s'
     steps_keep [] s s' ok q = rw q ok
     steps_keep (n ∷ ns) s s' ok (mid, first, rest) = steps_keep ns mid s' (step_keeps s mid n ok first) rest
 
     -- once the root has ended every frame has, and memory and views are the serial run's
-    pub ended_ok : (s : State W V) → IsConsistent M w t opening s → HasEnd (deeds_at (s.frames [])) → IsFull t 1 (deeds_at (s.frames [])) (below s.frames) × ((c : Cell) → s.memory c ≡ value_after t c (opening c)) × ((i : Instance) → s.piece [] i ≡ view_after (M i) i t (unit_of M i))
+    pub ended_ok : (s : State W V) → IsConsistent M C w t opening s → HasEnd (deeds_at (s.frames [])) → IsFull t 1 (deeds_at (s.frames [])) (below s.frames) × ((c : Cell) → s.memory c ≡ value_after t c (opening c)) × ((i : Instance) → s.piece [] i ≡ view_after (M i) i t (unit_of M i)) × (deeds_at (s.frames []) ≡ own_deeds t)
     ended_ok s ok h =
         let full = ended_full t 1 (deeds_at (s.frames [])) (below s.frames) ok.cut closed h in (
           full,
           (λ c. ok.memory c ∙ made_full c t 1 (deeds_at (s.frames [])) (below s.frames) (opening c) full),
-          λ i. final_view (M i) (law i) i t 1 (deeds_at (s.frames [])) (below s.frames) s.stolen (λ z. s.piece z i) (unit_of M i) (unit_of M i) (s.piece [] i) (unit_of M i) false resumed full ok.cut closed (ok.pieces i) (apart i) (inl (refl, refl)),
+          (λ i. final_view (M i) (law i) i t 1 (deeds_at (s.frames [])) (below s.frames) s.stolen (λ z. s.piece z i) (unit_of M i) (unit_of M i) (s.piece [] i) (unit_of M i) false resumed full ok.cut closed (ok.pieces i) (apart i) (inl (refl, refl))),
+          full_deeds t 1 (deeds_at (s.frames [])) (below s.frames) full ok.cut,
         )

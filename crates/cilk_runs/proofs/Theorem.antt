@@ -2,25 +2,28 @@
 use Rattle.std.proofs.Common.{◌≡◌, ℤ, List, Option, Some, sym, ◌∙◌}
 use Rattle.cilk_runs.specs.Runs.{Cell, Instance, Ask, Deed, Run}
 use Rattle.cilk_runs.specs.Serial.{IsDetermined}
+use Rattle.cilk_runs.specs.Costs.{Costs}
 use Rattle.cilk_runs.specs.Monoids.{Monoid, IsLawful, unit_of}
 use Rattle.cilk_runs.specs.Views.{ViewFree}
 use Rattle.cilk_runs.specs.Races.{RaceFree}
 use Rattle.cilk_runs.specs.Theorem.{IsSerialRun, IsKept, IsDeterminate, follows}
 use Rattle.cilk_runs.proofs.Joins.{full_joined}
-use Rattle.cilk_runs.proofs.Kept.{opening_ok, step_keeps, steps_keep, ended_ok}
+use Rattle.cilk_runs.proofs.Kept.{opening_ok, room_at, step_keeps, steps_keep, ended_ok}
 
-pub kept : (W V : Type 0) (M : Instance → Monoid V) (Next : W → List (Deed W) → Ask W → Type 0) → ((i : Instance) → IsLawful (M i)) → IsDetermined W Next → (w : W) (t : Run W) (opening : Cell → ℤ) → IsSerialRun W V M Next w t opening → RaceFree t → ((i : Instance) → ViewFree (M i) i t (unit_of M i)) → IsKept W V M Next w t opening
-kept W V M Next law determined w t opening run free apart s s' n ok step = step_keeps W V M Next w t opening determined run.behaves run.closed run.serial free law run.resumed run.views apart s s' n ok step
+pub kept : (W V : Type 0) (M : Instance → Monoid V) (Next : W → List (Deed W) → Ask W → Type 0) (C : Costs W) → ((i : Instance) → IsLawful (M i)) → IsDetermined W Next → (w : W) (t : Run W) (opening : Cell → ℤ) → IsSerialRun W V M Next C w t opening → RaceFree t → ((i : Instance) → ViewFree (M i) i t (unit_of M i)) → IsKept W V M Next C w t opening
+kept W V M Next C law determined w t opening run free apart s s' n ok step = step_keeps W V M Next C w t opening determined run.behaves run.closed run.serial free law run.resumed run.views apart run.within s s' n ok step
 
-pub determinate : (W V : Type 0) (M : Instance → Monoid V) (Next : W → List (Deed W) → Ask W → Type 0) → ((i : Instance) → IsLawful (M i)) → IsDetermined W Next → (w : W) (t : Run W) (opening : Cell → ℤ) → IsSerialRun W V M Next w t opening → RaceFree t → ((i : Instance) → ViewFree (M i) i t (unit_of M i)) → IsDeterminate W V M Next w t opening
-determinate W V M Next law determined w t opening run free apart ns s s' o steps =
-    let ok = steps_keep W V M Next w t opening determined run.behaves run.closed run.serial free law run.resumed run.views apart ns s s' (opening_ok W V M Next w t opening s o) steps in
+pub determinate : (W V : Type 0) (M : Instance → Monoid V) (Next : W → List (Deed W) → Ask W → Type 0) (C : Costs W) → ((i : Instance) → IsLawful (M i)) → IsDetermined W Next → (w : W) (t : Run W) (opening : Cell → ℤ) → IsSerialRun W V M Next C w t opening → RaceFree t → ((i : Instance) → ViewFree (M i) i t (unit_of M i)) → IsDeterminate W V M Next C w t opening
+determinate W V M Next C law determined w t opening run free apart ns s s' o steps =
+    let ok = steps_keep W V M Next C w t opening determined run.behaves run.closed run.serial free law run.resumed run.views apart run.within ns s s' (opening_ok W V M Next C w t opening s o) steps in
     record {
       consistent = ok;
-      complete = λ h. (ended_ok W V M Next w t opening determined run.behaves run.closed run.serial free law run.resumed run.views apart s' ok h).0;
-      outcome = λ h. (ended_ok W V M Next w t opening determined run.behaves run.closed run.serial free law run.resumed run.views apart s' ok h).1;
-      once = λ h n. ok.joins n ∙ full_joined n t w s'.frames ok.root (ended_ok W V M Next w t opening determined run.behaves run.closed run.serial free law run.resumed run.views apart s' ok h).0 ok.cut run.closed;
-      reducers = λ h. (ended_ok W V M Next w t opening determined run.behaves run.closed run.serial free law run.resumed run.views apart s' ok h).2;
+      room = λ total n f a m. room_at W V M Next C w t opening determined run.behaves run.closed run.serial free law run.resumed run.views apart run.within s' n ok total f a m;
+      deeds = λ h. (ended_ok W V M Next C w t opening determined run.behaves run.closed run.serial free law run.resumed run.views apart run.within s' ok h).3;
+      complete = λ h. (ended_ok W V M Next C w t opening determined run.behaves run.closed run.serial free law run.resumed run.views apart run.within s' ok h).0;
+      outcome = λ h. (ended_ok W V M Next C w t opening determined run.behaves run.closed run.serial free law run.resumed run.views apart run.within s' ok h).1;
+      once = λ h n. ok.joins n ∙ full_joined n t w s'.frames ok.root (ended_ok W V M Next C w t opening determined run.behaves run.closed run.serial free law run.resumed run.views apart run.within s' ok h).0 ok.cut run.closed;
+      reducers = λ h. (ended_ok W V M Next C w t opening determined run.behaves run.closed run.serial free law run.resumed run.views apart run.within s' ok h).2;
     }
 
 pub follows_determined : {W : Type 0} (next : W → List (Deed W) → Option (Ask W)) → IsDetermined W (follows next)

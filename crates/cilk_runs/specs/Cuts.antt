@@ -1,6 +1,7 @@
 -- A state that is a consistent cut of a serial run.
-use Rattle.std.specs.Prelude.{◌+◌, cond, nat_eq, ◌≡◌, ℕ, suc, ℤ, ◌≤◌, Bool, true, false, List, [], ◌∷◌, Option, Some, None}
-use Rattle.cilk_runs.specs.Runs.{Name, same_name, Cell, Instance, Kind, Calls, Spawns, Event, Reads, Writes, Syncs, Ends, Passes, Deed, Does, Invokes, Run, stop, act, child}
+use Rattle.std.specs.Prelude.{◌+◌, cond, nat_eq, ◌≡◌, ℕ, suc, ℤ, ◌≤◌, Bool, true, false, List, [], ◌∷◌, ◌++◌, Option, Some, None}
+use Rattle.cilk_runs.specs.Runs.{Name, same_name, Cell, Instance, Kind, Calls, Spawns, Event, Reads, Writes, Syncs, Ends, Passes, Deed, Does, Invokes, Run, stop, act, child, Invoke, ask_of}
+use Rattle.cilk_runs.specs.Costs.{Costs, Total, cost}
 use Rattle.cilk_runs.specs.Monoids.{Monoid, unit_of, on_view}
 use Rattle.cilk_runs.specs.Machine.{Frame, Frames, State, deeds_at, HasSync, put}
 
@@ -57,6 +58,15 @@ made (act e r) k [] kids c x = x
 made (act e r) k (d ∷ ds) kids c x = made r k ds kids c (put e c x)
 made (child i w u r) k [] kids c x = x
 made (child i w u r) k (d ∷ ds) kids c x = made r (suc k) ds kids c (made u 1 (deeds_at (kids k [])) (below (kids k)) c x)
+
+-- what the events made add to a total, of a frame that was started as w and has this history
+abbrev pub spent : {W : Type 0} → Costs W → Total → W → List (Deed W) → Run W → ℕ → List (Deed W) → (ℕ → Frames W) → ℕ
+spent C total w past stop k ds kids = 0
+spent C total w past (act e r) k [] kids = 0
+spent C total w past (act e r) k (d ∷ ds) kids = cost C total w past (ask_of e) + spent C total w (past ++ Does e ∷ []) r k ds kids
+spent C total w past (child i v u r) k [] kids = 0
+spent C total w past (child i v u r) k (d ∷ ds) kids =
+    cost C total w past (Invoke i v) + (spent C total v [] u 1 (deeds_at (kids k [])) (below (kids k)) + spent C total w (past ++ Invokes i v ∷ []) r (suc k) ds kids)
 
 -- no continuation from this ordinal on is stolen
 abbrev pub NoneStolen : ℕ → (Name → Bool) → Type 0
@@ -145,10 +155,11 @@ spawned frames (k ∷ []) = spawned_at 1 k (deeds_at (frames []))
 spawned frames (j ∷ k ∷ n) = spawned (below frames j) (k ∷ n)
 
 -- the whole state
-pub record IsConsistent {W V : Type 0} (M : Instance → Monoid V) (w : W) (t : Run W) (opening : Cell → ℤ) (s : State W V) : Type 0 where
+pub record IsConsistent {W V : Type 0} (M : Instance → Monoid V) (C : Costs W) (w : W) (t : Run W) (opening : Cell → ℤ) (s : State W V) : Type 0 where
   pub root : IsStarted w s.frames
   pub cut : IsCut t 1 (deeds_at (s.frames [])) (below s.frames)
   pub memory : (c : Cell) → s.memory c ≡ made t 1 (deeds_at (s.frames [])) (below s.frames) c (opening c)
   pub pieces : (i : Instance) → Lies (M i) i t 1 (deeds_at (s.frames [])) (below s.frames) s.stolen (λ n. s.piece n i) (unit_of M i) (unit_of M i) (s.piece [] i)
   pub joins : (m : Name) → times m s.joins ≡ joined s.frames m
-  pub no_fault : s.fault ≡ false
+  pub totals : (total : Total) → s.totals total ≡ C.used total + spent C total w [] t 1 (deeds_at (s.frames [])) (below s.frames)
+  pub no_stop : s.stopped ≡ None

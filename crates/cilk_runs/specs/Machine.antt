@@ -1,6 +1,8 @@
 -- The free machine: any frame that isn't waiting may make its next event at any moment.
-use Rattle.std.specs.Prelude.{◌≡◌, ℕ, suc, ℤ, Bool, true, false, cond, List, [], ◌∷◌, ◌++◌, Option, Some, None, ◌⊎◌}
+use Rattle.std.specs.Prelude.{◌≡◌, ℕ, suc, ◌+◌, nat_eq, ℤ, Bool, true, false, cond, List, [], ◌∷◌, ◌++◌, Option, Some, None, ◌⊎◌}
 use Rattle.cilk_runs.specs.Runs.{Name, same_name, Cell, same_cell, Instance, Calls, Spawns, Ask, Read, Write, Invoke, Sync, End, Pass, Fail, Wish, Begin, Resume, Create, Update, Set, Value, Print, Mark, Begins, Resumes, Creates, Updates, Sets, Values, Prints, Event, Reads, Writes, Syncs, Ends, Passes, Deed, Does, Invokes}
+use Rattle.cilk_types.specs.declared.fault.Fault.{Fault}
+use Rattle.cilk_runs.specs.Costs.{Costs, Total, cost, fault_of}
 use Rattle.cilk_runs.specs.Monoids.{Monoid, unit_of, numbers_of, on_view}
 
 pub record Frame (W : Type 0) : Type 0 where
@@ -11,6 +13,12 @@ pub record Frame (W : Type 0) : Type 0 where
 abbrev pub Frames : Type 0 → Type 0
 Frames W = Name → Option (Frame W)
 
+-- where and why a run stopped: the strand, by its frame and its number among the frame's strands, from 1
+pub record Stop : Type 0 where
+  pub frame : Name
+  pub strand : ℕ
+  pub fault : Fault
+
 -- A state. The continuation that goes on beside a spawned child is named by that child.
 pub record State (W V : Type 0) : Type 0 where
   pub frames : Frames W
@@ -18,7 +26,8 @@ pub record State (W V : Type 0) : Type 0 where
   pub memory : Cell → ℤ
   pub piece : Name → Instance → V  -- the views of the piece that a frame holds, or has left where it ended
   pub joins : List Name
-  pub fault : Bool
+  pub totals : Total → ℕ
+  pub stopped : Option Stop
 
 abbrev pub deeds_at : {W : Type 0} → Option (Frame W) → List (Deed W)
 deeds_at None = []
@@ -57,6 +66,26 @@ Ready kid loose a k (Invokes Calls w ∷ ds) = (ds ≡ [] → HasEnd (deeds_at (
 Ready kid loose a k (Invokes Spawns w ∷ ds) =
     (ds ≡ [] → HasEnd (deeds_at (kid k)) ⊎ (loose k ≡ true)) × (a ≡ Sync → ¬ (HasSync ds) → HasEnd (deeds_at (kid k))) × Ready kid loose a (suc k) ds
 
+-- the strands begun: at the frame's begin, at each resume and at each sync
+abbrev pub strands : {W : Type 0} → List (Deed W) → ℕ
+strands [] = 0
+strands (Does (Reads c v) ∷ ds) = strands ds
+strands (Does (Writes c v) ∷ ds) = strands ds
+strands (Does Syncs ∷ ds) = suc (strands ds)
+strands (Does (Ends val gone) ∷ ds) = strands ds
+strands (Does (Passes Begins) ∷ ds) = suc (strands ds)
+strands (Does (Passes Resumes) ∷ ds) = suc (strands ds)
+strands (Does (Passes (Creates i)) ∷ ds) = strands ds
+strands (Does (Passes (Updates i x)) ∷ ds) = strands ds
+strands (Does (Passes (Sets i x)) ∷ ds) = strands ds
+strands (Does (Passes (Values i n)) ∷ ds) = strands ds
+strands (Does (Passes (Prints x)) ∷ ds) = strands ds
+strands (Invokes k w ∷ ds) = strands ds
+
+-- the latest strand begun, and the first before the frame's begin
+abbrev pub strand_of : {W : Type 0} → List (Deed W) → ℕ
+strand_of ds = cond (nat_eq (strands ds) 0) 1 (strands ds)
+
 abbrev pub mark_of : (Instance → ℤ) → Wish → Mark
 mark_of number Begin = Begins
 mark_of number Resume = Resumes
@@ -66,7 +95,7 @@ mark_of number (Set i x) = Sets i x
 mark_of number (Value i) = Values i (number i)
 mark_of number (Print x) = Prints x
 
--- what is done by an ask, where the memory is this and the views' numbers are these
+-- What is done by an ask, where the memory is this and the views' numbers are these. A fault does nothing: it stops the run instead.
 abbrev pub deed_of : {W : Type 0} → (Cell → ℤ) → (Instance → ℤ) → Ask W → Deed W
 deed_of memory number (Read c) = Does (Reads c (memory c))
 deed_of memory number (Write c v) = Does (Writes c v)
@@ -124,15 +153,6 @@ joined_by (End v gone) n ds = []
 joined_by (Pass m) n ds = []
 joined_by (Fail m) n ds = []
 
-abbrev pub is_fault : {W : Type 0} → Ask W → Bool
-is_fault (Read c) = false
-is_fault (Write c v) = false
-is_fault (Invoke k w) = false
-is_fault Sync = false
-is_fault (End v gone) = false
-is_fault (Pass m) = false
-is_fault (Fail m) = true
-
 -- The product of the pieces that lie at the block open at the end of the deeds, by ascending ordinal: those of its stolen children.
 abbrev pub block_view : {W V : Type 0} → Monoid V → (ℕ → V) → (ℕ → Bool) → V → ℕ → List (Deed W) → V
 block_view M kid loose acc k [] = acc
@@ -168,20 +188,26 @@ after_views M i stolen n ds (Does e) views =
     with_view views n (own_view M i (block_view M (λ k. views (n ++ k ∷ [])) (λ k. stolen (n ++ k ∷ [])) M.unit 1 ds) (stolen (n ++ started ds ∷ [])) (views (n ++ started ds ∷ [])) e (views n))
 after_views M i stolen n ds (Invokes k w) views = with_view views (n ++ suc (started ds) ∷ []) (views n)
 
-module _ (W V : Type 0) (M : Instance → Monoid V) (Next : W → List (Deed W) → Ask W → Type 0) where
+module _ (W V : Type 0) (M : Instance → Monoid V) (Next : W → List (Deed W) → Ask W → Type 0) (C : Costs W) where
+  -- frame n isn't waiting, and asks this next
+  pub record IsAsking (s : State W V) (n : Name) (frame : Frame W) (ask : Ask W) : Type 0 where
+    pub here : s.frames n ≡ Some frame
+    pub next : Next frame.what frame.deeds ask
+    pub ready : Ready (λ k. s.frames (n ++ k ∷ [])) (λ k. s.stolen (n ++ k ∷ [])) ask 1 frame.deeds
+
   -- frame n makes its next event
   pub record Makes (s : State W V) (n : Name) (s' : State W V) : Type 0 where
     pub frame : Frame W
     pub ask : Ask W
-    pub here : s.frames n ≡ Some frame
-    pub next : Next frame.what frame.deeds ask
-    pub ready : Ready (λ k. s.frames (n ++ k ∷ [])) (λ k. s.stolen (n ++ k ∷ [])) ask 1 frame.deeds
+    pub asking : IsAsking s n frame ask
+    pub within : fault_of C s.totals frame.what frame.deeds ask ≡ None
     pub frames : s'.frames ≡ after_deed s.frames n frame (deed_of s.memory (numbers_of M (s.piece n)) ask)
     pub memory : s'.memory ≡ (λ c. effect (deed_of s.memory (numbers_of M (s.piece n)) ask) c (s.memory c))
     pub stolen : s'.stolen ≡ s.stolen
     pub piece : (i : Instance) (m : Name) → s'.piece m i ≡ after_views (M i) i s.stolen n frame.deeds (deed_of s.memory (numbers_of M (s.piece n)) ask) (λ z. s.piece z i) m
     pub joins : s'.joins ≡ joined_by ask n frame.deeds ++ s.joins
-    pub fault : s'.fault ≡ is_fault ask
+    pub totals : (total : Total) → s'.totals total ≡ s.totals total + cost C total frame.what frame.deeds ask
+    pub stopped : s'.stopped ≡ s.stopped
 
   -- a thief takes the continuation beside the child that frame n spawned last
   pub record Steals (s : State W V) (n : Name) (s' : State W V) : Type 0 where
@@ -196,11 +222,21 @@ module _ (W V : Type 0) (M : Instance → Monoid V) (Next : W → List (Deed W) 
     pub stolen : s'.stolen ≡ (λ m. cond (same_name (n ++ suc (started before) ∷ []) m) true (s.stolen m))
     pub piece : (i : Instance) (m : Name) → s'.piece m i ≡ with_view (λ z. s.piece z i) n (unit_of M i) m
     pub joins : s'.joins ≡ s.joins
-    pub fault : s'.fault ≡ s.fault
+    pub totals : s'.totals ≡ s.totals
+    pub stopped : s'.stopped ≡ s.stopped
 
-  -- a run that faulted makes no step
+  -- what frame n asks next is a fault, or would take a total over its limit
+  pub record Stops (s : State W V) (n : Name) (s' : State W V) : Type 0 where
+    pub frame : Frame W
+    pub ask : Ask W
+    pub fault : Fault
+    pub asking : IsAsking s n frame ask
+    pub why : fault_of C s.totals frame.what frame.deeds ask ≡ Some fault
+    pub after : s' ≡ record s { stopped = Some (record { frame = n; strand = strand_of frame.deeds; fault = fault }) }
+
+  -- a run that was stopped makes no step
   abbrev pub Step : State W V → Name → State W V → Type 0
-  Step s n s' = (s.fault ≡ false) × (Makes s n s' ⊎ Steals s n s')
+  Step s n s' = (s.stopped ≡ None) × (Makes s n s' ⊎ (Steals s n s' ⊎ Stops s n s'))
 
   -- one step after another, at these names
   abbrev pub Steps : List Name → State W V → State W V → Type 0
@@ -209,4 +245,4 @@ module _ (W V : Type 0) (M : Instance → Monoid V) (Next : W → List (Deed W) 
 
   abbrev pub IsOpening : W → (Cell → ℤ) → State W V → Type 0
   IsOpening w opening s =
-      ((n : Name) → s.frames n ≡ cond (same_name [] n) (Some (begun w)) None) × (s.memory ≡ opening) × (s.joins ≡ []) × (s.fault ≡ false) × ((n : Name) → s.stolen n ≡ false) × ((i : Instance) → s.piece [] i ≡ unit_of M i)
+      ((n : Name) → s.frames n ≡ cond (same_name [] n) (Some (begun w)) None) × (s.memory ≡ opening) × (s.joins ≡ []) × (s.stopped ≡ None) × ((n : Name) → s.stolen n ≡ false) × ((i : Instance) → s.piece [] i ≡ unit_of M i) × ((total : Total) → s.totals total ≡ C.used total)

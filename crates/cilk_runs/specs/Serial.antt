@@ -3,6 +3,12 @@ use Rattle.std.specs.Prelude.{◌≡◌, ℤ, List, [], ◌∷◌, ◌++◌}
 use Rattle.cilk_runs.specs.Runs.{Cell, Kind, Calls, Spawns, Ask, Invoke, Event, Reads, Writes, Syncs, Ends, Passes, Deed, Does, Invokes, Run, stop, act, child, ask_of}
 use Rattle.cilk_runs.specs.Machine.{put}
 
+-- what the frame itself does in the run
+abbrev pub own_deeds : {W : Type 0} → Run W → List (Deed W)
+own_deeds stop = []
+own_deeds (act e r) = Does e ∷ own_deeds r
+own_deeds (child k w u r) = Invokes k w ∷ own_deeds r
+
 -- a cell's value after the run, from its value before
 abbrev pub value_after : {W : Type 0} → Run W → Cell → ℤ → ℤ
 value_after stop c x = x

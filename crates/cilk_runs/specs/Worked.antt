@@ -1,6 +1,7 @@
 -- Worked programs as nested runs. What a frame is started as is a number here.
 use Rattle.std.specs.Prelude.{◌≡◌, ℕ, zero, suc, ℤ, pos, ◌+ℤ◌, cond, List, [], ◌∷◌, length, Option, slice_get}
 use Rattle.cilk_runs.specs.Runs.{Cell, Global, Own, same_cell, Instance, Spawns, Ask, Read, Write, Invoke, Sync, End, Pass, Begin, Resume, Event, Reads, Writes, Syncs, Ends, Passes, Begins, Resumes, Deed, Run, stop, act, child}
+use Rattle.cilk_runs.specs.Costs.{Costs, Total, TickTotal, EventTotal, FrameTotal, CellTotal}
 use Rattle.cilk_runs.specs.Monoids.{Monoid}
 use Rattle.cilk_runs.specs.Trees.{trace, races}
 use Rattle.cilk_runs.specs.Theorem.{IsSerialRun, follows}
@@ -64,6 +65,22 @@ sum i = record { unit = pos 0; join = λ a b. a +ℤ b; single = λ a. a; number
 abbrev pub opening : Cell → ℤ
 opening c = cond (same_cell c (Global 0)) (pos 7) (pos 0)
 
+-- each frame takes a tick before each ask, and has two cells
+abbrev pub used : Total → ℕ
+used TickTotal = 0
+used EventTotal = 0
+used FrameTotal = 1
+used CellTotal = 3
+
+abbrev pub limit : Total → ℕ
+limit TickTotal = 22
+limit EventTotal = 22
+limit FrameTotal = 3
+limit CellTotal = 7
+
+abbrev pub costs : Costs ℕ
+costs = record { ticks = λ w past. 1; cells = λ w. 2; used = used; limit = limit }
+
 -- the premises of the theorem can be met: this is the serial run of that program
 abbrev pub BothReadRuns : Type 0
-BothReadRuns = IsSerialRun ℕ ℤ sum (follows asked) 0 both_read opening
+BothReadRuns = IsSerialRun ℕ ℤ sum (follows asked) costs 0 both_read opening

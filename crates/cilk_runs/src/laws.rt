@@ -1,28 +1,29 @@
 //! The theorem and what it rests on. Each is a function that does nothing: its contract is the law.
 //!
 //! In each, `W` is what a frame can be started as, `V` a reducer's view, `M` the monoid of each reducer, and `next` the program's
-//! behaviour: what a frame asks for next, after what it has done. `t` is the serial run, nested.
+//! behaviour: what a frame asks for next, after what it has done. `C` has the costs and limits that are counted over a whole run. `t` is the serial run, nested.
 
 ghost use Rattle.std.specs.Prelude.{ℤ, List, Option};
 ghost use Rattle.cilk_runs.specs.Runs.{Cell, Instance, Ask, Deed, Run};
+ghost use Rattle.cilk_runs.specs.Costs.{Costs};
 ghost use Rattle.cilk_runs.specs.Monoids.{Monoid, IsLawful};
 ghost use Rattle.cilk_runs.specs.Theorem.{IsSerialRun, HasNoRaces, IsOpened, IsKept, IsDeterminate, follows};
 ghost use Rattle.cilk_runs.specs.Worked.{EarlyReadRaces, TwoReadsDoNotRace, TwoWritesRace, BothReadRuns};
 
 /// The opening state of the free machine is a consistent cut of any run.
 pub fn opening_is_consistent<W, V>()
-    ensures { (M : Instance → Monoid V) (next : W → List (Deed W) → Option (Ask W)) (w : W) (t : Run W) (opening : Cell → ℤ) → IsOpened W V M (follows next) w t opening }
+    ensures { (M : Instance → Monoid V) (next : W → List (Deed W) → Option (Ask W)) (C : Costs W) (w : W) (t : Run W) (opening : Cell → ℤ) → IsOpened W V M (follows next) C w t opening }
 {}
 
 /// Where the serial run has no race, each single step of the free machine leads from a consistent cut of it to a consistent cut.
 pub fn step_is_consistent<W, V>()
-    ensures { (M : Instance → Monoid V) (next : W → List (Deed W) → Option (Ask W)) (w : W) (t : Run W) (opening : Cell → ℤ) → ((i : Instance) → IsLawful (M i)) → IsSerialRun W V M (follows next) w t opening → HasNoRaces t → IsKept W V M (follows next) w t opening }
+    ensures { (M : Instance → Monoid V) (next : W → List (Deed W) → Option (Ask W)) (C : Costs W) (w : W) (t : Run W) (opening : Cell → ℤ) → ((i : Instance) → IsLawful (M i)) → IsSerialRun W V M (follows next) C w t opening → HasNoRaces t → IsKept W V M (follows next) C w t opening }
 {}
 
 /// Where the serial run of a program has no determinacy race and no view-read race, each state that steps of the free
 /// machine lead to is a consistent cut of it, and once the root has ended memory and views are the serial run's.
 pub fn determinate<W, V>()
-    ensures { (M : Instance → Monoid V) (next : W → List (Deed W) → Option (Ask W)) (w : W) (t : Run W) (opening : Cell → ℤ) → ((i : Instance) → IsLawful (M i)) → IsSerialRun W V M (follows next) w t opening → HasNoRaces t → IsDeterminate W V M (follows next) w t opening }
+    ensures { (M : Instance → Monoid V) (next : W → List (Deed W) → Option (Ask W)) (C : Costs W) (w : W) (t : Run W) (opening : Cell → ℤ) → ((i : Instance) → IsLawful (M i)) → IsSerialRun W V M (follows next) C w t opening → HasNoRaces t → IsDeterminate W V M (follows next) C w t opening }
 {}
 
 /// Small programs, with the pairs of positions at which they race, and the serial run of one that has no race.

@@ -3,4 +3,4 @@ use Rattle.cilk_runs.proofs.Kept.{opening_ok}
 use Rattle.cilk_runs.proofs.laws.opening_is_consistent.Goals as goal
 
 pub returns : goal.returns
-returns types c = λ M next w t opening s o. opening_ok _ _ M (follows next) w t opening s o
+returns types c = λ M next C w t opening s o. opening_ok _ _ M (follows next) C w t opening s o
