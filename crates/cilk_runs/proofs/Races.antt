@@ -175,7 +175,7 @@ module _ {W : Type 0} where
   get_right [] b q = ap (slice_get b) (zero-add q)
   get_right (x ∷ a) b q = ap (slice_get (x ∷ (a ++ b))) (suc-add (length a) q) ∙ get_right a b q
 
-  clash_none : (o : Option (Deed W)) → clash o None ≡ false
+  pub clash_none : (o : Option (Deed W)) → clash o None ≡ false
   clash_none None = refl
   clash_none (Some (Does (Reads c v))) = refl
   clash_none (Some (Does (Writes c v))) = refl

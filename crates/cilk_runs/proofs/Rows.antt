@@ -1,7 +1,15 @@
 -- Worked programs, by computation.
-use Rattle.std.proofs.Common.{refl, arith, inl, ◌+◌, ◌≤◌, []}
+use Rattle.std.proofs.Common.{refl, arith, inl, ◌+◌, ◌≤◌, [], ℕ, ℤ, ⊎_elim}
+use Rattle.std.proofs.Math.IntN.{+ℤ_idl, +ℤ_idr, +ℤ_assoc}
+use Rattle.cilk_runs.specs.Runs.{Instance}
+use Rattle.cilk_runs.specs.Monoids.{IsLawful}
+use Rattle.cilk_runs.specs.Races.{HasEventWith}
+use Rattle.cilk_runs.specs.Views.{IsReducerRead}
+use Rattle.cilk_runs.specs.Theorem.{HasNoRaces, follows}
+use Rattle.cilk_runs.proofs.Listed.{listed, unread}
+use Rattle.cilk_runs.proofs.Theorem.{race_free_determinate, follows_determined}
 use Rattle.cilk_runs.specs.Costs.{Total, TickTotal, EventTotal, FrameTotal, CellTotal, weight}
-use Rattle.cilk_runs.specs.Worked.{costs, both_read, EarlyReadRaces, TwoReadsDoNotRace, TwoWritesRace, BothReadRuns}
+use Rattle.cilk_runs.specs.Worked.{costs, both_read, EarlyReadRaces, TwoReadsDoNotRace, TwoWritesRace, BothReadRuns, BothReadIsDeterminate, sum, asked, opening}
 
 pub early_read_races : EarlyReadRaces
 early_read_races = (refl, refl)
@@ -32,3 +40,15 @@ both_read_runs =
       within = fits;
       inhabited = ((tt, (omega arith, (tt, tt), (tt, (omega arith, (tt, tt), tt)))), (tt, tt));
     }
+
+nothing_reduced : (i : Instance) → ¬ (HasEventWith (IsReducerRead i) both_read)
+nothing_reduced i = ⊎_elim (λ z. z) (⊎_elim (λ z. z) (⊎_elim (λ z. z) (⊎_elim (⊎_elim (λ z. z) (⊎_elim (λ z. z) (⊎_elim (λ z. z) (⊎_elim (λ z. z) (⊎_elim (λ z. z) (λ z. z)))))) (⊎_elim (λ z. z) (⊎_elim (⊎_elim (λ z. z) (⊎_elim (λ z. z) (⊎_elim (λ z. z) (⊎_elim (λ z. z) (⊎_elim (λ z. z) (λ z. z)))))) (⊎_elim (λ z. z) (⊎_elim (λ z. z) (⊎_elim (λ z. z) (⊎_elim (λ z. z) (⊎_elim (λ z. z) (⊎_elim (λ z. z) (λ z. z))))))))))))
+
+both_read_has_no_races : HasNoRaces both_read
+both_read_has_no_races = (listed both_read two_reads_do_not_race, λ i. unread i both_read (nothing_reduced i))
+
+sum_is_lawful : (i : Instance) → IsLawful (sum i)
+sum_is_lawful i = record { left = +ℤ_idl; right = +ℤ_idr; assoc = +ℤ_assoc }
+
+pub both_read_is_determinate : BothReadIsDeterminate
+both_read_is_determinate = (both_read_has_no_races, race_free_determinate ℕ ℤ sum (follows asked) costs sum_is_lawful (follows_determined asked) 0 both_read opening both_read_runs both_read_has_no_races)

@@ -4,7 +4,7 @@ use Rattle.cilk_runs.specs.Runs.{Cell, Global, Own, same_cell, Instance, Spawns,
 use Rattle.cilk_runs.specs.Costs.{Costs, Total, TickTotal, EventTotal, FrameTotal, CellTotal}
 use Rattle.cilk_runs.specs.Monoids.{Monoid}
 use Rattle.cilk_runs.specs.Trees.{trace, races}
-use Rattle.cilk_runs.specs.Theorem.{IsSerialRun, follows}
+use Rattle.cilk_runs.specs.Theorem.{IsSerialRun, HasNoRaces, IsDeterminate, follows}
 
 abbrev pub begin : Event
 begin = Passes Begins
@@ -84,3 +84,7 @@ costs = record { ticks = λ w past. 1; cells = λ w. 2; used = used; limit = lim
 -- the premises of the theorem can be met: this is the serial run of that program
 abbrev pub BothReadRuns : Type 0
 BothReadRuns = IsSerialRun ℕ ℤ sum (follows asked) costs 0 both_read opening
+
+-- and the theorem speaks of it
+abbrev pub BothReadIsDeterminate : Type 0
+BothReadIsDeterminate = HasNoRaces both_read × IsDeterminate ℕ ℤ sum (follows asked) costs 0 both_read opening
