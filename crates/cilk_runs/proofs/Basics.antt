@@ -2,7 +2,7 @@
 use Rattle.std.proofs.Common.{◌≡◌, true, List, [], ◌∷◌, ◌++◌, refl, ap, arith, ◌⊎◌, inl, inr, eq-eqb, eqb-true}
 use Rattle.std.specs.Prelude.{nat_eq}
 use Rattle.std.proofs.lemmas.Bool.{and_parts, and_from}
-use Rattle.cilk_runs.specs.Runs.{Name, same_name, Cell, Global, Own, same_cell, Reads, Writes, Syncs, Ends, Passes, Deed, Does, Invokes}
+use Rattle.cilk_runs.specs.Runs.{Name, same_name, Cell, Global, Own, same_cell, Instance, Output, Reducer, same_instance, Reads, Writes, Syncs, Ends, Passes, Deed, Does, Invokes}
 use Rattle.cilk_runs.specs.Machine.{HasSync}
 
 pub same_name-refl : (n : Name) → same_name n n ≡ true
@@ -33,13 +33,27 @@ same_cell-eq (Own n a) (Own m b) h =
     let y : a ≡ b = eqb-true a b p.1 in
     cc
 
+pub same_instance-refl : (i : Instance) → same_instance i i ≡ true
+same_instance-refl Output = refl
+same_instance-refl (Reducer n a) = and_from (same_name n n) (nat_eq a a) (same_name-refl n) (eq-eqb a a refl)
+
+pub same_instance-eq : (i j : Instance) → same_instance i j ≡ true → i ≡ j
+same_instance-eq Output Output h = refl
+same_instance-eq Output (Reducer m b) h = grind arith
+same_instance-eq (Reducer n a) Output h = grind arith
+same_instance-eq (Reducer n a) (Reducer m b) h =
+    let p = and_parts (same_name n m) (nat_eq a b) h in
+    let x : n ≡ m = same_name-eq n m p.0 in
+    let y : a ≡ b = eqb-true a b p.1 in
+    cc
+
 -- a sync among the deeds or none
 pub has_sync : {W : Type 0} (ds : List (Deed W)) → HasSync ds ⊎ (¬ (HasSync ds))
 has_sync [] = inr (λ h. h)
 has_sync (Does (Reads c v) ∷ ds) = has_sync ds
 has_sync (Does (Writes c v) ∷ ds) = has_sync ds
 has_sync (Does Syncs ∷ ds) = inl tt
-has_sync (Does Ends ∷ ds) = has_sync ds
+has_sync (Does (Ends val gone) ∷ ds) = has_sync ds
 has_sync (Does (Passes m) ∷ ds) = has_sync ds
 has_sync (Invokes k w ∷ ds) = has_sync ds
 
@@ -47,7 +61,7 @@ abbrev pub IsSyncDeed : {W : Type 0} → Deed W → Type 0
 IsSyncDeed (Does (Reads c v)) = ⊥
 IsSyncDeed (Does (Writes c v)) = ⊥
 IsSyncDeed (Does Syncs) = Unit {0}
-IsSyncDeed (Does Ends) = ⊥
+IsSyncDeed (Does (Ends val gone)) = ⊥
 IsSyncDeed (Does (Passes m)) = ⊥
 IsSyncDeed (Invokes k w) = ⊥
 
@@ -55,13 +69,13 @@ pub last_sync : {W : Type 0} (ds : List (Deed W)) (d : Deed W) → HasSync (ds +
 last_sync [] (Does (Reads c v)) h = inl h
 last_sync [] (Does (Writes c v)) h = inl h
 last_sync [] (Does Syncs) h = inr tt
-last_sync [] (Does Ends) h = inl h
+last_sync [] (Does (Ends val gone)) h = inl h
 last_sync [] (Does (Passes m)) h = inl h
 last_sync [] (Invokes k w) h = inl h
 last_sync (Does (Reads c v) ∷ ds) d h = last_sync ds d h
 last_sync (Does (Writes c v) ∷ ds) d h = last_sync ds d h
 last_sync (Does Syncs ∷ ds) d h = inl tt
-last_sync (Does Ends ∷ ds) d h = last_sync ds d h
+last_sync (Does (Ends val gone) ∷ ds) d h = last_sync ds d h
 last_sync (Does (Passes m) ∷ ds) d h = last_sync ds d h
 last_sync (Invokes k w ∷ ds) d h = last_sync ds d h
 
@@ -70,6 +84,6 @@ more_sync [] d h = absurd h
 more_sync (Does (Reads c v) ∷ ds) d h = more_sync ds d h
 more_sync (Does (Writes c v) ∷ ds) d h = more_sync ds d h
 more_sync (Does Syncs ∷ ds) d h = tt
-more_sync (Does Ends ∷ ds) d h = more_sync ds d h
+more_sync (Does (Ends val gone) ∷ ds) d h = more_sync ds d h
 more_sync (Does (Passes m) ∷ ds) d h = more_sync ds d h
 more_sync (Invokes k w ∷ ds) d h = more_sync ds d h

@@ -1,16 +1,16 @@
 -- A frame that isn't waiting stands at its next deed of the serial run.
-use Rattle.std.proofs.Common.{◌≡◌, ℕ, suc, ◌≤◌, Bool, List, [], ◌∷◌, ◌++◌, Option, Some, None, refl, sym, ap, ◌∙◌, subst, arith, ⊎_elim, append_assoc, append-nil}
+use Rattle.std.proofs.Common.{◌≡◌, ℕ, suc, ◌≤◌, Bool, List, [], ◌∷◌, ◌++◌, Option, Some, None, refl, sym, ap, ◌∙◌, subst, arith, ⊎_elim, append_assoc, append-nil, ℤ, zero, ap₂}
 use Rattle.std.proofs.lemmas.Bool.{cases_eq}
 use Rattle.cilk_runs.specs.Runs.{Name, Cell, Kind, Calls, Spawns, Ask, Invoke, Sync, Event, Reads, Writes, Syncs, Ends, Passes, Deed, Does, Invokes, Run, stop, act, child, ask_of}
 use Rattle.cilk_runs.specs.Machine.{Frame, Frames, deeds_at, HasEnd, HasSync, Ready, put}
-use Rattle.cilk_runs.specs.Serial.{value_after, IsSerial, SyncAhead, GoesOn, ComesAfter, IsClosed, Behaves, IsDetermined}
+use Rattle.cilk_runs.specs.Serial.{own_deeds, value_after, IsSerial, SyncAhead, GoesOn, ComesAfter, IsClosed, Behaves, IsDetermined}
 use Rattle.cilk_runs.specs.Cuts.{below, IsStarted, IsFull, IsPast, NoneFrom, IsCut}
 use Rattle.cilk_runs.proofs.Basics.{has_sync, IsSyncDeed, last_sync}
 use Rattle.cilk_runs.proofs.Front.{Front, here_act, here_child, past_act, past_child, inside}
 
 -- the read at the front answers what the cell holds there in the serial run
 module _ {W : Type 0} {c : Cell} where
-  pub front_right : {r : Run W} {k : ℕ} {ds : List (Deed W)} {kids : ℕ → Frames W} {n : Name} {e : Event} {x y : ℕ} → Front W c r k ds kids n (Does e) x y → (v : ℕ) → e ≡ Reads c v → (memory : Cell → ℕ) → memory c ≡ x → IsSerial r memory → v ≡ y
+  pub front_right : {r : Run W} {k : ℕ} {ds : List (Deed W)} {kids : ℕ → Frames W} {n : Name} {e : Event} {x y : ℤ} → Front W c r k ds kids n (Does e) x y → (v : ℤ) → e ≡ Reads c v → (memory : Cell → ℤ) → memory c ≡ x → IsSerial r memory → v ≡ y
   front_right here_act v is memory q s = (rw is at s.0) ∙ q
   front_right (past_act {e = a} f) v is memory q s = front_right f v is (λ d. put a d (memory d)) (ap (put a c) q) s.1
   front_right (past_child {u = u} p f) v is memory q s = front_right f v is (λ d. value_after u d (memory d)) (ap (value_after u c) q) s.1
@@ -23,7 +23,7 @@ module _ {W : Type 0} where
   full_sync (act (Reads c v) r) k (d ∷ ds) kids full cut h = rw cut.0 (full_sync r k ds kids full cut.1 h)
   full_sync (act (Writes c v) r) k (d ∷ ds) kids full cut h = rw cut.0 (full_sync r k ds kids full cut.1 h)
   full_sync (act Syncs r) k (d ∷ ds) kids full cut h = rw cut.0 tt
-  full_sync (act Ends r) k (d ∷ ds) kids full cut h = rw cut.0 (full_sync r k ds kids full cut.1 h)
+  full_sync (act (Ends val gone) r) k (d ∷ ds) kids full cut h = rw cut.0 (full_sync r k ds kids full cut.1 h)
   full_sync (act (Passes m) r) k (d ∷ ds) kids full cut h = rw cut.0 (full_sync r k ds kids full cut.1 h)
   full_sync (child i w u r) k [] kids full cut h = absurd full
   full_sync (child i w u r) k (d ∷ ds) kids full cut h = rw cut.0 (full_sync r (suc k) ds kids full.1 cut.4 h)
@@ -39,6 +39,15 @@ module _ {W : Type 0} where
   all_past Calls r k ds kids full cut h = full_goes r k ds kids full h
   all_past Spawns r k ds kids full cut h = full_sync r k ds kids full cut h
 
+  -- a frame that has made each event has done what it does in the run
+  pub full_deeds : (r : Run W) (k : ℕ) (ds : List (Deed W)) (kids : ℕ → Frames W) → IsFull r k ds kids → IsCut r k ds kids → ds ≡ own_deeds r
+  full_deeds stop k [] kids full cut = refl
+  full_deeds stop k (d ∷ ds) kids full cut = absurd full
+  full_deeds (act e r) k [] kids full cut = absurd full
+  full_deeds (act e r) k (d ∷ ds) kids full cut = ap₂ (λ a b. a ∷ b) cut.0 (full_deeds r k ds kids full cut.1)
+  full_deeds (child i w u r) k [] kids full cut = absurd full
+  full_deeds (child i w u r) k (d ∷ ds) kids full cut = ap₂ (λ a b. a ∷ b) cut.0 (full_deeds r (suc k) ds kids full.1 cut.4)
+
   full_stop : (r : Run W) (k : ℕ) (ds : List (Deed W)) (kids : ℕ → Frames W) → r ≡ stop → IsCut r k ds kids → IsFull r k ds kids
   full_stop r k [] kids q cut = rw q tt
   full_stop r k (d ∷ ds) kids q cut = absurd (rw q at cut)
@@ -50,7 +59,7 @@ module _ {W : Type 0} where
   ended_full (act (Reads c v) r) k (d ∷ ds) kids cut closed h = ended_full r k ds kids cut.1 closed (rw cut.0 at h)
   ended_full (act (Writes c v) r) k (d ∷ ds) kids cut closed h = ended_full r k ds kids cut.1 closed (rw cut.0 at h)
   ended_full (act Syncs r) k (d ∷ ds) kids cut closed h = ended_full r k ds kids cut.1 closed (rw cut.0 at h)
-  ended_full (act Ends r) k (d ∷ ds) kids cut closed h = full_stop r k ds kids closed cut.1
+  ended_full (act (Ends val gone) r) k (d ∷ ds) kids cut closed h = full_stop r k ds kids closed cut.1
   ended_full (act (Passes m) r) k (d ∷ ds) kids cut closed h = ended_full r k ds kids cut.1 closed (rw cut.0 at h)
   ended_full (child i w u r) k (d ∷ ds) kids cut closed h =
       let rest = ended_full r (suc k) ds kids cut.4 closed.2 (rw cut.0 at h) in
@@ -64,7 +73,7 @@ module _ {W : Type 0} where
   sync_ask (Does (Reads c v)) a q h = absurd h
   sync_ask (Does (Writes c v)) a q h = absurd h
   sync_ask (Does Syncs) a q h = q
-  sync_ask (Does Ends) a q h = absurd h
+  sync_ask (Does (Ends val gone)) a q h = absurd h
   sync_ask (Does (Passes m)) a q h = absurd h
   sync_ask (Invokes i w) a q h = absurd h
 
@@ -79,22 +88,27 @@ module _ {W : Type 0} where
   closed_act (Reads c v) r h = h
   closed_act (Writes c v) r h = h
   closed_act Syncs r h = h
-  closed_act Ends r h = rw h tt
+  closed_act (Ends val gone) r h = rw h tt
   closed_act (Passes m) r h = h
 
   pub ready_child : (i : Kind) (w : W) (kid : ℕ → Option (Frame W)) (loose : ℕ → Bool) (a : Ask W) (k : ℕ) (ds : List (Deed W)) → Ready kid loose a k (Invokes i w ∷ ds) → Ready kid loose a (suc k) ds
   ready_child Calls w kid loose a k ds h = h.1
   ready_child Spawns w kid loose a k ds h = h.2
 
+-- ordinals count from 1
+pub counts_from : {W : Type 0} (t : Frames W) (i : ℕ) (m : Name) (f : Frame W) → ((n : Name) → t (0 ∷ n) ≡ None) → t (i ∷ m) ≡ Some f → 1 ≤ i
+counts_from t zero m f none q = let z : None ≡ Some f = sym (none m) ∙ q in absurd (cc)
+counts_from t (suc i) m f none q = omega arith
+
 module _ (W : Type 0) (Next : W → List (Deed W) → Ask W → Type 0) where
   -- frame n, by its name below the frame at the top, asks this and isn't waiting
   abbrev pub Asks : (Name → Bool) → Ask W → W → List (Deed W) → List (Deed W) → ℕ → (ℕ → Frames W) → Name → Type 0
   Asks loose a w past ds k kids [] = Next w (past ++ ds) a × Ready (λ i. kids i []) (λ i. loose (i ∷ [])) a k ds
   Asks loose a w past ds k kids (j ∷ m) =
-      (k ≤ j) × (f : Frame W) × (kids j m ≡ Some f) × Next f.what f.deeds a × Ready (λ i. kids j (m ++ i ∷ [])) (λ i. loose (j ∷ (m ++ i ∷ []))) a 0 f.deeds
+      (k ≤ j) × (f : Frame W) × (kids j m ≡ Some f) × Next f.what f.deeds a × Ready (λ i. kids j (m ++ i ∷ [])) (λ i. loose (j ∷ (m ++ i ∷ []))) a 1 f.deeds
 
-  abbrev pub Found : Cell → Run W → ℕ → List (Deed W) → (ℕ → Frames W) → Name → Ask W → ℕ → Type 0
-  Found c r k ds kids n a x = (e : Deed W) × (y : ℕ) × (a ≡ ask_by e) × Front W c r k ds kids n e x y
+  abbrev pub Found : Cell → Run W → ℕ → List (Deed W) → (ℕ → Frames W) → Name → Ask W → ℤ → Type 0
+  Found c r k ds kids n a x = (e : Deed W) × (y : ℤ) × (a ≡ ask_by e) × Front W c r k ds kids n e x y
 
   past_more : (w : W) (past ds : List (Deed W)) (d e : Deed W) (a : Ask W) → d ≡ e → Next w (past ++ (d ∷ ds)) a → Next w ((past ++ e ∷ []) ++ ds) a
   past_more w past ds d e a q h = rw (append_assoc past (e ∷ []) ds) (rw q at h)
@@ -104,17 +118,17 @@ module _ (W : Type 0) (Next : W → List (Deed W) → Ask W → Type 0) where
   asks_act loose a w past ds d e k kids (j ∷ m) q h = h
 
   -- the same frame, by its name below the child
-  asks_inside : (loose : Name → Bool) (a : Ask W) (w v : W) (past ds : List (Deed W)) (k j : ℕ) (kids : ℕ → Frames W) (m : Name) → IsStarted v (kids j []) → Asks loose a w past ds k kids (j ∷ m) → Asks (λ n. loose (j ∷ n)) a v [] (deeds_at (kids j [])) 0 (below (kids j)) m
+  asks_inside : (loose : Name → Bool) (a : Ask W) (w v : W) (past ds : List (Deed W)) (k j : ℕ) (kids : ℕ → Frames W) (m : Name) → IsStarted v (kids j) → Asks loose a w past ds k kids (j ∷ m) → Asks (λ n. loose (j ∷ n)) a v [] (deeds_at (kids j [])) 1 (below (kids j)) m
   asks_inside loose a w v past ds k j kids [] s (le, f, q, next, ready) =
-      let e : f.what ≡ v = rw q at s in
+      let e : f.what ≡ v = rw q at s.0 in
       (rw q (subst (λ z. Next z f.deeds a) e next), rw q ready)
-  asks_inside loose a w v past ds k j kids (i ∷ m) s (le, f, q, next, ready) = (omega arith, f, q, next, ready)
+  asks_inside loose a w v past ds k j kids (i ∷ m) s (le, f, q, next, ready) = (counts_from (kids j) i m f s.1 q, f, q, next, ready)
 
   module _ (determined : IsDetermined W Next) (c : Cell) where
     none_there : (k j : ℕ) (m : Name) (kids : ℕ → Frames W) (f : Frame W) (X : Type 0) → NoneFrom k kids → k ≤ j → kids j m ≡ Some f → X
     none_there k j m kids f X none le q = let z : None ≡ Some f = sym (none j le m) ∙ q in absurd (cc)
 
-    pub find : (r : Run W) (k : ℕ) (w : W) (past ds : List (Deed W)) (kids : ℕ → Frames W) (loose : Name → Bool) (a : Ask W) (n : Name) (x : ℕ) → IsCut r k ds kids → Behaves W Next w past r → IsClosed r → Asks loose a w past ds k kids n → Found c r k ds kids n a x
+    pub find : (r : Run W) (k : ℕ) (w : W) (past ds : List (Deed W)) (kids : ℕ → Frames W) (loose : Name → Bool) (a : Ask W) (n : Name) (x : ℤ) → IsCut r k ds kids → Behaves W Next w past r → IsClosed r → Asks loose a w past ds k kids n → Found c r k ds kids n a x
     find stop k w past [] kids loose a [] x cut behaves closed asks = absurd (behaves a (rw append-nil at asks.0))
     find stop k w past [] kids loose a (j ∷ m) x cut behaves closed (le, f, q, next, ready) = none_there k j m kids f _ cut le q
     find stop k w past (d ∷ ds) kids loose a n x cut behaves closed asks = absurd cut
@@ -130,11 +144,11 @@ module _ (W : Type 0) (Next : W → List (Deed W) → Ask W → Type 0) where
     find (child i v u r) k w past (d ∷ ds) kids loose a [] x cut behaves closed asks =
         let ready : Ready (λ i. kids i []) (λ i. loose (i ∷ [])) a k (Invokes i v ∷ ds) = rw cut.0 at asks.1 in
         let g = find r (suc k) w (past ++ Invokes i v ∷ []) ds kids loose a [] (value_after u c x) cut.4 behaves.2 closed.2 (past_more w past ds d (Invokes i v) a cut.0 asks.0, ready_child i v (λ t. kids t []) (λ t. loose (t ∷ [])) a k ds ready) in
-        (g.0, g.1, g.2, past_child (settled i v (λ t. kids t []) (λ t. loose (t ∷ [])) a k ds g.0 _ ready cut.3 (ended_full u 0 (deeds_at (kids k [])) (below (kids k)) cut.2 closed.1) g.2) g.3)
+        (g.0, g.1, g.2, past_child (settled i v (λ t. kids t []) (λ t. loose (t ∷ [])) a k ds g.0 _ ready cut.3 (ended_full u 1 (deeds_at (kids k [])) (below (kids k)) cut.2 closed.1) g.2) g.3)
     find (child i v u r) k w past (d ∷ ds) kids loose a (j ∷ m) x cut behaves closed asks =
         ⊎_elim
         (λ same. subst (λ t. Found c (child i v u r) k (d ∷ ds) kids (t ∷ m) a x) same
-        (let g = find u 0 v [] (deeds_at (kids k [])) (below (kids k)) (λ n. loose (k ∷ n)) a m x cut.2 behaves.1 closed.1 (asks_inside loose a w v past (d ∷ ds) k k kids m cut.1 (subst (λ t. Asks loose a w past (d ∷ ds) k kids (t ∷ m)) (sym same) asks)) in
+        (let g = find u 1 v [] (deeds_at (kids k [])) (below (kids k)) (λ n. loose (k ∷ n)) a m x cut.2 behaves.1 closed.1 (asks_inside loose a w v past (d ∷ ds) k k kids m cut.1 (subst (λ t. Asks loose a w past (d ∷ ds) k kids (t ∷ m)) (sym same) asks)) in
         (g.0, g.1, g.2, inside g.3)))
         (λ other. let le : suc k ≤ j = omega (arith, asks.0) in
         let g = find r (suc k) w (past ++ Invokes i v ∷ []) ds kids loose a (j ∷ m) (value_after u c x) cut.4 behaves.2 closed.2 (le, asks.1, asks.2, asks.3, asks.4) in

@@ -1,12 +1,12 @@
 -- How often a spawned child stands in the joins.
-use Rattle.std.proofs.Common.{◌≡◌, ℕ, suc, ◌+◌, ◌<◌, ◌≤◌, false, cond, List, [], ◌∷◌, ◌++◌, Some, None, refl, sym, ap, ◌∙◌, subst, arith, ⊎_elim, eq-eqb, ne_eqb, zero-add}
+use Rattle.std.proofs.Common.{◌≡◌, ℕ, suc, ◌+◌, ◌<◌, ◌≤◌, false, cond, List, [], ◌∷◌, ◌++◌, Some, None, refl, sym, ap, ◌∙◌, subst, arith, ⊎_elim, eq-eqb, ne_eqb, zero-add, ℤ, zero}
 use Rattle.std.specs.Prelude.{nat_eq}
 use Rattle.std.proofs.lemmas.Bool.{cases_eq, cases_Bool, cond-true, cond-false}
 use Rattle.cilk_runs.specs.Runs.{Name, same_name, Cell, Kind, Calls, Spawns, Event, Reads, Writes, Syncs, Ends, Passes, Deed, Does, Invokes}
 use Rattle.cilk_runs.specs.Machine.{Frame, Frames, deeds_at, started, begun, after_deed, open_block, children}
 use Rattle.cilk_runs.specs.Cuts.{below, times, sync_bit, spawn_bit, joined_at, joined}
 use Rattle.cilk_runs.specs.Runs.{Run, stop, act, child}
-use Rattle.cilk_runs.specs.Cuts.{IsCut, IsFull, spawned_at, spawned}
+use Rattle.cilk_runs.specs.Cuts.{IsStarted, IsCut, IsFull, spawned_at, spawned}
 use Rattle.cilk_runs.specs.Machine.{HasSync}
 use Rattle.cilk_runs.specs.Serial.{IsClosed, ComesAfter}
 use Rattle.cilk_runs.proofs.Find.{full_sync, closed_act}
@@ -37,7 +37,7 @@ module _ {W : Type 0} where
   left_of (Does (Reads c v) ∷ ds) n = left_of ds n
   left_of (Does (Writes c v) ∷ ds) n = left_of ds n
   left_of (Does Syncs ∷ ds) n = 0
-  left_of (Does Ends ∷ ds) n = left_of ds n
+  left_of (Does (Ends val gone) ∷ ds) n = left_of ds n
   left_of (Does (Passes m) ∷ ds) n = left_of ds n
   left_of (Invokes b w ∷ ds) n = left_of ds n
 
@@ -46,7 +46,7 @@ module _ {W : Type 0} where
   left_of-add (Does (Reads c v) ∷ ds) a b = left_of-add ds a b
   left_of-add (Does (Writes c v) ∷ ds) a b = left_of-add ds a b
   left_of-add (Does Syncs ∷ ds) a b = omega arith
-  left_of-add (Does Ends ∷ ds) a b = left_of-add ds a b
+  left_of-add (Does (Ends val gone) ∷ ds) a b = left_of-add ds a b
   left_of-add (Does (Passes m) ∷ ds) a b = left_of-add ds a b
   left_of-add (Invokes h w ∷ ds) a b = left_of-add ds a b
 
@@ -55,7 +55,7 @@ module _ {W : Type 0} where
   left_of-zero (Does (Reads c v) ∷ ds) = left_of-zero ds
   left_of-zero (Does (Writes c v) ∷ ds) = left_of-zero ds
   left_of-zero (Does Syncs ∷ ds) = refl
-  left_of-zero (Does Ends ∷ ds) = left_of-zero ds
+  left_of-zero (Does (Ends val gone) ∷ ds) = left_of-zero ds
   left_of-zero (Does (Passes m) ∷ ds) = left_of-zero ds
   left_of-zero (Invokes h w ∷ ds) = left_of-zero ds
 
@@ -64,7 +64,7 @@ module _ {W : Type 0} where
   sync_or_left (Does (Reads c v) ∷ ds) = sync_or_left ds
   sync_or_left (Does (Writes c v) ∷ ds) = sync_or_left ds
   sync_or_left (Does Syncs ∷ ds) = refl
-  sync_or_left (Does Ends ∷ ds) = sync_or_left ds
+  sync_or_left (Does (Ends val gone) ∷ ds) = sync_or_left ds
   sync_or_left (Does (Passes m) ∷ ds) = sync_or_left ds
   sync_or_left (Invokes h w ∷ ds) = sync_or_left ds
 
@@ -84,7 +84,7 @@ module _ {W : Type 0} where
   block_count z k block (Does (Reads c v) ∷ ds) = block_count z k block ds
   block_count z k block (Does (Writes c v) ∷ ds) = block_count z k block ds
   block_count z k block (Does Syncs ∷ ds) = omega (arith, block_count z k [] ds, left_of-zero ds)
-  block_count z k block (Does Ends ∷ ds) = block_count z k block ds
+  block_count z k block (Does (Ends val gone) ∷ ds) = block_count z k block ds
   block_count z k block (Does (Passes m) ∷ ds) = block_count z k block ds
   block_count z k block (Invokes Calls w ∷ ds) =
       ⊎_elim
@@ -108,7 +108,7 @@ module _ {W : Type 0} where
   sync_bit_sync (Does (Reads c v) ∷ ds) = sync_bit_sync ds
   sync_bit_sync (Does (Writes c v) ∷ ds) = sync_bit_sync ds
   sync_bit_sync (Does Syncs ∷ ds) = refl
-  sync_bit_sync (Does Ends ∷ ds) = sync_bit_sync ds
+  sync_bit_sync (Does (Ends val gone) ∷ ds) = sync_bit_sync ds
   sync_bit_sync (Does (Passes m) ∷ ds) = sync_bit_sync ds
   sync_bit_sync (Invokes h w ∷ ds) = sync_bit_sync ds
 
@@ -116,13 +116,13 @@ module _ {W : Type 0} where
   sync_bit_other [] (Does (Reads c v)) never = refl
   sync_bit_other [] (Does (Writes c v)) never = refl
   sync_bit_other [] (Does Syncs) never = absurd (never tt)
-  sync_bit_other [] (Does Ends) never = refl
+  sync_bit_other [] (Does (Ends val gone)) never = refl
   sync_bit_other [] (Does (Passes m)) never = refl
   sync_bit_other [] (Invokes h w) never = refl
   sync_bit_other (Does (Reads c v) ∷ ds) d never = sync_bit_other ds d never
   sync_bit_other (Does (Writes c v) ∷ ds) d never = sync_bit_other ds d never
   sync_bit_other (Does Syncs ∷ ds) d never = refl
-  sync_bit_other (Does Ends ∷ ds) d never = sync_bit_other ds d never
+  sync_bit_other (Does (Ends val gone) ∷ ds) d never = sync_bit_other ds d never
   sync_bit_other (Does (Passes m) ∷ ds) d never = sync_bit_other ds d never
   sync_bit_other (Invokes h w ∷ ds) d never = sync_bit_other ds d never
 
@@ -190,69 +190,69 @@ module _ {W : Type 0} where
   abbrev pub joins_of : Deed W → Name → List (Deed W) → List Name
   joins_of (Does (Reads c v)) n ds = []
   joins_of (Does (Writes c v)) n ds = []
-  joins_of (Does Syncs) n ds = children n (open_block 0 [] ds)
-  joins_of (Does Ends) n ds = []
+  joins_of (Does Syncs) n ds = children n (open_block 1 [] ds)
+  joins_of (Does (Ends val gone)) n ds = []
   joins_of (Does (Passes m)) n ds = []
   joins_of (Invokes b w) n ds = []
 
   joins_under : (d : Deed W) (j : ℕ) (n m : Name) (ds : List (Deed W)) → times (j ∷ m) (joins_of d (j ∷ n) ds) ≡ times m (joins_of d n ds)
   joins_under (Does (Reads c v)) j n m ds = refl
   joins_under (Does (Writes c v)) j n m ds = refl
-  joins_under (Does Syncs) j n m ds = times_inner j n m (open_block 0 [] ds)
-  joins_under (Does Ends) j n m ds = refl
+  joins_under (Does Syncs) j n m ds = times_inner j n m (open_block 1 [] ds)
+  joins_under (Does (Ends val gone)) j n m ds = refl
   joins_under (Does (Passes x)) j n m ds = refl
   joins_under (Invokes b w) j n m ds = refl
 
   joins_aside : (d : Deed W) (i j : ℕ) (n m : Name) (ds : List (Deed W)) → (i ≡ j → ⊥) → times (j ∷ m) (joins_of d (i ∷ n) ds) ≡ 0
   joins_aside (Does (Reads c v)) i j n m ds ne = refl
   joins_aside (Does (Writes c v)) i j n m ds ne = refl
-  joins_aside (Does Syncs) i j n m ds ne = times_other i j n m (open_block 0 [] ds) ne
-  joins_aside (Does Ends) i j n m ds ne = refl
+  joins_aside (Does Syncs) i j n m ds ne = times_other i j n m (open_block 1 [] ds) ne
+  joins_aside (Does (Ends val gone)) i j n m ds ne = refl
   joins_aside (Does (Passes x)) i j n m ds ne = refl
   joins_aside (Invokes b w) i j n m ds ne = refl
 
   joins_root : (d : Deed W) (n : Name) (ds : List (Deed W)) → times [] (joins_of d n ds) ≡ 0
   joins_root (Does (Reads c v)) n ds = refl
   joins_root (Does (Writes c v)) n ds = refl
-  joins_root (Does Syncs) n ds = times_root n (open_block 0 [] ds)
-  joins_root (Does Ends) n ds = refl
+  joins_root (Does Syncs) n ds = times_root n (open_block 1 [] ds)
+  joins_root (Does (Ends val gone)) n ds = refl
   joins_root (Does (Passes x)) n ds = refl
   joins_root (Invokes b w) n ds = refl
 
   joins_deep : (d : Deed W) (j k : ℕ) (m : Name) (ds : List (Deed W)) → times (j ∷ k ∷ m) (joins_of d [] ds) ≡ 0
   joins_deep (Does (Reads c v)) j k m ds = refl
   joins_deep (Does (Writes c v)) j k m ds = refl
-  joins_deep (Does Syncs) j k m ds = times_below j k m (open_block 0 [] ds)
-  joins_deep (Does Ends) j k m ds = refl
+  joins_deep (Does Syncs) j k m ds = times_below j k m (open_block 1 [] ds)
+  joins_deep (Does (Ends val gone)) j k m ds = refl
   joins_deep (Does (Passes x)) j k m ds = refl
   joins_deep (Invokes b w) j k m ds = refl
 
   joined_ext : (t t' : Frames W) (m : Name) → ((n : Name) → deeds_at (t' n) ≡ deeds_at (t n)) → joined t' m ≡ joined t m
   joined_ext t t' [] e = refl
-  joined_ext t t' (k ∷ []) e = ap (joined_at 0 k) (e [])
+  joined_ext t t' (k ∷ []) e = ap (joined_at 1 k) (e [])
   joined_ext t t' (j ∷ k ∷ m) e = joined_ext (below t j) (below t' j) (k ∷ m) (λ n. e (j ∷ n))
 
-  joined_here : (k : ℕ) (d : Deed W) (ds : List (Deed W)) → joined_at 0 k (ds ++ d ∷ []) ≡ times (k ∷ []) (joins_of d [] ds) + joined_at 0 k ds
-  joined_here k (Does (Reads c v)) ds = joined_other 0 k ds (Does (Reads c v)) (λ z. z) ∙ sym (zero-add _)
-  joined_here k (Does (Writes c v)) ds = joined_other 0 k ds (Does (Writes c v)) (λ z. z) ∙ sym (zero-add _)
-  joined_here k (Does Syncs) ds = omega (arith, joined_sync 0 k ds, times_here k (open_block 0 [] ds), block_count 0 k [] ds, left_of-zero ds)
-  joined_here k (Does Ends) ds = joined_other 0 k ds (Does Ends) (λ z. z) ∙ sym (zero-add _)
-  joined_here k (Does (Passes m)) ds = joined_other 0 k ds (Does (Passes m)) (λ z. z) ∙ sym (zero-add _)
-  joined_here k (Invokes b w) ds = joined_other 0 k ds (Invokes b w) (λ z. z) ∙ sym (zero-add _)
+  joined_here : (k : ℕ) (d : Deed W) (ds : List (Deed W)) → joined_at 1 k (ds ++ d ∷ []) ≡ times (k ∷ []) (joins_of d [] ds) + joined_at 1 k ds
+  joined_here k (Does (Reads c v)) ds = joined_other 1 k ds (Does (Reads c v)) (λ z. z) ∙ sym (zero-add _)
+  joined_here k (Does (Writes c v)) ds = joined_other 1 k ds (Does (Writes c v)) (λ z. z) ∙ sym (zero-add _)
+  joined_here k (Does Syncs) ds = omega (arith, joined_sync 1 k ds, times_here k (open_block 1 [] ds), block_count 1 k [] ds, left_of-zero ds)
+  joined_here k (Does (Ends val gone)) ds = joined_other 1 k ds (Does (Ends val gone)) (λ z. z) ∙ sym (zero-add _)
+  joined_here k (Does (Passes m)) ds = joined_other 1 k ds (Does (Passes m)) (λ z. z) ∙ sym (zero-add _)
+  joined_here k (Invokes b w) ds = joined_other 1 k ds (Invokes b w) (λ z. z) ∙ sym (zero-add _)
 
   -- the child to be started isn't there
   abbrev pub IsNew : Frames W → Name → Frame W → Deed W → Type 0
   IsNew t n f (Does e) = Unit {0}
-  IsNew t n f (Invokes b w) = deeds_at (t (n ++ started f.deeds ∷ [])) ≡ []
+  IsNew t n f (Invokes b w) = deeds_at (t (n ++ suc (started f.deeds) ∷ [])) ≡ []
 
   new_deeds : (t : Frames W) (f : Frame W) (d : Deed W) (j : ℕ) (n : Name) → IsNew t [] f d → deeds_at (after_deed t [] f d (j ∷ n)) ≡ deeds_at (t (j ∷ n))
   new_deeds t f (Does e) j n new = refl
   new_deeds t f (Invokes b w) j n new =
       ⊎_elim
-      (λ e. let q : started f.deeds ∷ [] ≡ j ∷ n = same_name-eq (started f.deeds ∷ []) (j ∷ n) e in
-      ap deeds_at (cond-true (same_name (started f.deeds ∷ []) (j ∷ n)) (Some (begun w)) (t (j ∷ n)) e) ∙ sym new ∙ ap (λ z. deeds_at (t z)) q)
-      (λ e. ap deeds_at (cond-false (same_name (started f.deeds ∷ []) (j ∷ n)) (Some (begun w)) (t (j ∷ n)) e))
-      (cases_Bool (same_name (started f.deeds ∷ []) (j ∷ n)))
+      (λ e. let q : suc (started f.deeds) ∷ [] ≡ j ∷ n = same_name-eq (suc (started f.deeds) ∷ []) (j ∷ n) e in
+      ap deeds_at (cond-true (same_name (suc (started f.deeds) ∷ []) (j ∷ n)) (Some (begun w)) (t (j ∷ n)) e) ∙ sym new ∙ ap (λ z. deeds_at (t z)) q)
+      (λ e. ap deeds_at (cond-false (same_name (suc (started f.deeds) ∷ []) (j ∷ n)) (Some (begun w)) (t (j ∷ n)) e))
+      (cases_Bool (same_name (suc (started f.deeds) ∷ []) (j ∷ n)))
 
   root_deeds : (t : Frames W) (f : Frame W) (d : Deed W) → deeds_at (after_deed t [] f d []) ≡ f.deeds ++ d ∷ []
   root_deeds t f (Does e) = refl
@@ -264,7 +264,7 @@ module _ {W : Type 0} where
 
   pub joined_step : (n : Name) (t : Frames W) (f : Frame W) (d : Deed W) → t n ≡ Some f → IsNew t n f d → (m : Name) → joined (after_deed t n f d) m ≡ times m (joins_of d n f.deeds) + joined t m
   joined_step n t f d q new [] = omega (arith, joins_root d n f.deeds)
-  joined_step [] t f d q new (k ∷ []) = ap (joined_at 0 k) (root_deeds t f d) ∙ joined_here k d f.deeds ∙ ap (λ z. times (k ∷ []) (joins_of d [] f.deeds) + joined_at 0 k (deeds_at z)) (sym q)
+  joined_step [] t f d q new (k ∷ []) = ap (joined_at 1 k) (root_deeds t f d) ∙ joined_here k d f.deeds ∙ ap (λ z. times (k ∷ []) (joins_of d [] f.deeds) + joined_at 1 k (deeds_at z)) (sym q)
   joined_step [] t f d q new (j ∷ k ∷ m) =
       joined_ext (below t j) (below (after_deed t [] f d) j) (k ∷ m) (λ n. new_deeds t f d j n new) ∙ omega (arith, joins_deep d j k m f.deeds)
   joined_step (i ∷ n) t f d q new (k ∷ []) =
@@ -273,7 +273,7 @@ module _ {W : Type 0} where
       (λ e. ap (λ z. times (z ∷ []) (joins_of d (i ∷ n) f.deeds)) (sym e) ∙ joins_under d i n [] f.deeds ∙ joins_root d n f.deeds)
       (λ ne. joins_aside d i k n [] f.deeds ne)
       (cases_eq i k) in
-      ap (λ z. joined_at 0 k (deeds_at z)) (root_same i n t f d) ∙ omega (arith, none)
+      ap (λ z. joined_at 1 k (deeds_at z)) (root_same i n t f d) ∙ omega (arith, none)
   joined_step (i ∷ n) t f d q new (j ∷ k ∷ m) =
       ⊎_elim
       (λ e. subst (λ z. joined (below (after_deed t (i ∷ n) f d) z) (k ∷ m) ≡ times (z ∷ k ∷ m) (joins_of d (i ∷ n) f.deeds) + joined (below t z) (k ∷ m)) e
@@ -284,9 +284,9 @@ module _ {W : Type 0} where
   -- the child that the frame at the front would start next isn't there
   abbrev NewAt : ℕ → List (Deed W) → (ℕ → Frames W) → Name → Type 0
   NewAt k ds kids [] = kids (k + started ds) [] ≡ None
-  NewAt k ds kids (j ∷ m) = (f : Frame W) → kids j m ≡ Some f → kids j (m ++ started f.deeds ∷ []) ≡ None
+  NewAt k ds kids (j ∷ m) = (f : Frame W) → kids j m ≡ Some f → kids j (m ++ suc (started f.deeds) ∷ []) ≡ None
 
-  new_at : {c : Cell} {r : Run W} {k : ℕ} {ds : List (Deed W)} {kids : ℕ → Frames W} {n : Name} {a : Deed W} {x y : ℕ} → Front W c r k ds kids n a x y → IsCut r k ds kids → NewAt k ds kids n
+  new_at : {c : Cell} {r : Run W} {k : ℕ} {ds : List (Deed W)} {kids : ℕ → Frames W} {n : Name} {a : Deed W} {x y : ℤ} → Front W c r k ds kids n a x y → IsCut r k ds kids → NewAt k ds kids n
   new_at (here_act {k = k}) cut = cut (k + 0) (omega arith) []
   new_at (here_child {k = k}) cut = cut (k + 0) (omega arith) []
   new_at (past_act {k = k} {kids = kids} {n = []} f) cut = rw cut.0 (new_at f cut.1)
@@ -296,23 +296,23 @@ module _ {W : Type 0} where
       rw cut.0 (ap (λ z. kids z []) e ∙ new_at f cut.4)
   new_at (past_child {n = j ∷ m} p f) cut = new_at f cut.4
   new_at (inside {k = k} {kids = kids} {m = []} f) cut = λ g q.
-      let e : started g.deeds ≡ 0 + started (deeds_at (kids k [])) = rw q (omega arith) in
+      let e : suc (started g.deeds) ≡ 1 + started (deeds_at (kids k [])) = rw q (omega arith) in
       ap (λ z. kids k (z ∷ [])) e ∙ new_at f cut.2
   new_at (inside {m = j ∷ m} f) cut = new_at f cut.2
 
-  is_new : (t : Frames W) (n : Name) (f : Frame W) (d : Deed W) → t n ≡ Some f → NewAt 0 (deeds_at (t [])) (below t) n → IsNew t n f d
+  is_new : (t : Frames W) (n : Name) (f : Frame W) (d : Deed W) → t n ≡ Some f → NewAt 1 (deeds_at (t [])) (below t) n → IsNew t n f d
   is_new t n f (Does e) q h = tt
   is_new t [] f (Invokes b w) q h =
-      let e : started f.deeds ≡ 0 + started (deeds_at (t [])) = rw q (omega arith) in
+      let e : suc (started f.deeds) ≡ 1 + started (deeds_at (t [])) = rw q (omega arith) in
       ap deeds_at (ap (λ z. t (z ∷ [])) e ∙ h)
   is_new t (j ∷ n) f (Invokes b w) q h = ap deeds_at (h f q)
 
-  pub joined_front : {c : Cell} {r : Run W} {n : Name} {a : Deed W} {x y : ℕ} (t : Frames W) (f : Frame W) → Front W c r 0 (deeds_at (t [])) (below t) n a x y → IsCut r 0 (deeds_at (t [])) (below t) → t n ≡ Some f → (m : Name) → joined (after_deed t n f a) m ≡ times m (joins_of a n f.deeds) + joined t m
+  pub joined_front : {c : Cell} {r : Run W} {n : Name} {a : Deed W} {x y : ℤ} (t : Frames W) (f : Frame W) → Front W c r 1 (deeds_at (t [])) (below t) n a x y → IsCut r 1 (deeds_at (t [])) (below t) → t n ≡ Some f → (m : Name) → joined (after_deed t n f a) m ≡ times m (joins_of a n f.deeds) + joined t m
   joined_front {n = n} {a = a} t f front cut q m = joined_step n t f a q (is_new t n f a q (new_at front cut)) m
 
   pub joined_none : (t : Frames W) (m : Name) → ((n : Name) → deeds_at (t n) ≡ []) → joined t m ≡ 0
   joined_none t [] h = refl
-  joined_none t (k ∷ []) h = ap (joined_at 0 k) (h [])
+  joined_none t (k ∷ []) h = ap (joined_at 1 k) (h [])
   joined_none t (j ∷ k ∷ m) h = joined_none (below t j) (k ∷ m) (λ n. h (j ∷ n))
 
   sync_bit_has : (ds : List (Deed W)) → HasSync ds → sync_bit ds ≡ 1
@@ -320,7 +320,7 @@ module _ {W : Type 0} where
   sync_bit_has (Does (Reads c v) ∷ ds) h = sync_bit_has ds h
   sync_bit_has (Does (Writes c v) ∷ ds) h = sync_bit_has ds h
   sync_bit_has (Does Syncs ∷ ds) h = refl
-  sync_bit_has (Does Ends ∷ ds) h = sync_bit_has ds h
+  sync_bit_has (Does (Ends val gone) ∷ ds) h = sync_bit_has ds h
   sync_bit_has (Does (Passes m) ∷ ds) h = sync_bit_has ds h
   sync_bit_has (Invokes b w ∷ ds) h = sync_bit_has ds h
 
@@ -343,26 +343,28 @@ module _ {W : Type 0} where
       (cases_eq z k))
 
   -- below a child of a full frame
-  full_below : (r : Run W) (z : ℕ) (ds : List (Deed W)) (kids : ℕ → Frames W) (j : ℕ) (P : Frames W → Type 0) → IsFull r z ds kids → IsCut r z ds kids → IsClosed r → z ≤ j → ((u : Run W) (t : Frames W) → IsFull u 0 (deeds_at (t [])) (below t) → IsCut u 0 (deeds_at (t [])) (below t) → IsClosed u → P t) → ((t : Frames W) → ((n : Name) → t n ≡ None) → P t) → P (kids j)
+  full_below : (r : Run W) (z : ℕ) (ds : List (Deed W)) (kids : ℕ → Frames W) (j : ℕ) (P : Frames W → Type 0) → IsFull r z ds kids → IsCut r z ds kids → IsClosed r → z ≤ j → ((u : Run W) (v : W) (t : Frames W) → IsStarted v t → IsFull u 1 (deeds_at (t [])) (below t) → IsCut u 1 (deeds_at (t [])) (below t) → IsClosed u → P t) → ((t : Frames W) → ((n : Name) → t n ≡ None) → P t) → P (kids j)
   full_below r z [] kids j P full cut closed le f g = g (kids j) (λ n. cut_none r z kids cut j le n)
   full_below stop z (d ∷ ds) kids j P full cut closed le f g = absurd cut
   full_below (act e r) z (d ∷ ds) kids j P full cut closed le f g = full_below r z ds kids j P full cut.1 (closed_act e r closed) le f g
   full_below (child b w u r) z (d ∷ ds) kids j P full cut closed le f g =
       ⊎_elim
-      (λ e. subst (λ x. P (kids x)) e (f u (kids z) full.0 cut.2 closed.1))
+      (λ e. subst (λ x. P (kids x)) e (f u w (kids z) cut.1 full.0 cut.2 closed.1))
       (λ ne. full_below r (suc z) ds kids j P full.1 cut.4 closed.2 (omega arith) f g)
       (cases_eq z j)
 
   spawned_none : (t : Frames W) (m : Name) → ((n : Name) → t n ≡ None) → spawned t m ≡ 0
   spawned_none t [] h = refl
-  spawned_none t (k ∷ []) h = ap (λ z. spawned_at 0 k (deeds_at z)) (h [])
+  spawned_none t (k ∷ []) h = ap (λ z. spawned_at 1 k (deeds_at z)) (h [])
   spawned_none t (j ∷ k ∷ m) h = spawned_none (below t j) (k ∷ m) (λ n. h (j ∷ n))
 
   -- once a frame and all below it have made each of their events, each spawned child has been joined
-  pub full_joined : (m : Name) (r : Run W) (t : Frames W) → IsFull r 0 (deeds_at (t [])) (below t) → IsCut r 0 (deeds_at (t [])) (below t) → IsClosed r → joined t m ≡ spawned t m
-  full_joined [] r t full cut closed = refl
-  full_joined (k ∷ []) r t full cut closed = full_here r 0 (deeds_at (t [])) (below t) k full cut closed
-  full_joined (j ∷ k ∷ m) r t full cut closed =
-      full_below r 0 (deeds_at (t [])) (below t) j (λ x. joined x (k ∷ m) ≡ spawned x (k ∷ m)) full cut closed (omega arith)
-      (λ u x a b c. full_joined (k ∷ m) u x a b c)
+  pub full_joined : (m : Name) (r : Run W) (w : W) (t : Frames W) → IsStarted w t → IsFull r 1 (deeds_at (t [])) (below t) → IsCut r 1 (deeds_at (t [])) (below t) → IsClosed r → joined t m ≡ spawned t m
+  full_joined [] r w t begins full cut closed = refl
+  full_joined (k ∷ []) r w t begins full cut closed = full_here r 1 (deeds_at (t [])) (below t) k full cut closed
+  full_joined (zero ∷ k ∷ m) r w t begins full cut closed =
+      joined_none (below t 0) (k ∷ m) (λ n. ap deeds_at (begins.1 n)) ∙ sym (spawned_none (below t 0) (k ∷ m) begins.1)
+  full_joined (suc j ∷ k ∷ m) r w t begins full cut closed =
+      full_below r 1 (deeds_at (t [])) (below t) (suc j) (λ x. joined x (k ∷ m) ≡ spawned x (k ∷ m)) full cut closed (omega arith)
+      (λ u v x s a b c. full_joined (k ∷ m) u v x s a b c)
       (λ x h. joined_none x (k ∷ m) (λ n. ap deeds_at (h n)) ∙ sym (spawned_none x (k ∷ m) h))

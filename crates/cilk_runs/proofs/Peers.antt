@@ -2,52 +2,102 @@
 use Rattle.std.proofs.Common.{◌≡◌, ℕ, zero, suc, ◌+◌, ◌<◌, Bool, true, false, cond, List, [], ◌∷◌, ◌++◌, length, Option, Some, None, refl, sym, ap, ◌∙◌, subst, arith, ◌⊎◌, inl, inr, ⊎_elim, lt-ltb, le-ltb, ap₂, add_assoc, zero-add, le_refl}
 use Rattle.std.proofs.lemmas.Bool.{cases_Bool, cond-true, cond-false, cases_order}
 use Rattle.std.specs.Prelude.{slice_get, nat_lt}
-use Rattle.cilk_runs.specs.Runs.{Cell, same_cell, Kind, Calls, Spawns, Event, Reads, Writes, Syncs, Ends, Passes, Mark, Marks, Resumes, Updates, Resets, Values, Deed, Does, Invokes, Run, stop, act, child}
-use Rattle.cilk_runs.specs.Monoids.{Monoid, mark_view, on_view}
-use Rattle.cilk_runs.specs.Races.{HasEventWith}
-use Rattle.cilk_runs.specs.Views.{view_after, IsReducerRead, IsUpdate, IsCreatedFirst, ReadRule, IsReadApart, ViewApart, ViewFree}
+use Rattle.cilk_runs.specs.Runs.{same_instance, Output, has_instance, Kind, Calls, Spawns, Event, Reads, Writes, Syncs, Ends, Passes, Mark, Begins, Resumes, Creates, Updates, Sets, Values, Prints, Deed, Does, Invokes, Run, stop, act, child, Instance}
+use Rattle.cilk_runs.specs.Monoids.{Monoid, IsLawful, mark_view, on_view}
+use Rattle.cilk_runs.specs.Races.{HasEventWith, HasInBlockWith}
+use Rattle.cilk_runs.specs.Views.{view_after, IsReducerRead, IsTouch, IsCreate, IsRetire, IsRetiredAtHome, IsCreated, IsUpdate, IsCreatedFirst, ReadRule, IsReadApart, ViewApart, ViewFree}
 use Rattle.cilk_runs.specs.Trees.{trace, Tree, Strand, Series, Beside, in_series, child_tree, blocks, tree, size, are_parallel, events_of, peers, HasNoViewRace, HasChildren}
-use Rattle.cilk_runs.proofs.Basics.{same_cell-refl, same_cell-eq}
+use Rattle.cilk_runs.specs.Serial.{IsClosed, SyncAhead, ComesAfter}
+use Rattle.cilk_runs.proofs.Find.{closed_act}
+use Rattle.cilk_runs.proofs.Values.{quiet_free}
+use Rattle.cilk_runs.proofs.Basics.{same_instance-refl, same_instance-eq}
 use Rattle.cilk_runs.proofs.Races.{Among, tree_events, some_trace, some_block, among_left, among_right, among_at, child_events, get_left, get_after, par_right, tree_size}
 
-dec_cell : (a b : Cell) → (a ≡ b) ⊎ (¬ (a ≡ b))
-dec_cell a b = ⊎_elim (λ e. inl (same_cell-eq a b e)) (λ e. inr (λ q. let z : true ≡ false = sym (same_cell-refl a) ∙ ap (same_cell a) q ∙ e in absurd (cc))) (cases_Bool (same_cell a b))
+dec_instance : (a b : Instance) → (a ≡ b) ⊎ (¬ (a ≡ b))
+dec_instance a b = ⊎_elim (λ e. inl (same_instance-eq a b e)) (λ e. inr (λ q. let z : true ≡ false = sym (same_instance-refl a) ∙ ap (same_instance a) q ∙ e in absurd (cc))) (cases_Bool (same_instance a b))
 
 dec_sum : (A B : Type 0) → A ⊎ (¬ A) → B ⊎ (¬ B) → (A ⊎ B) ⊎ (¬ (A ⊎ B))
 dec_sum A B (inl a) q = inl (inl a)
 dec_sum A B (inr n) (inl b) = inl (inr b)
 dec_sum A B (inr n) (inr m) = inr (⊎_elim n m)
 
-module _ (i : Cell) where
+module _ (i : Instance) where
   dec_read : (e : Event) → IsReducerRead i e ⊎ (¬ (IsReducerRead i e))
   dec_read (Reads c v) = inr (λ z. z)
   dec_read (Writes c v) = inr (λ z. z)
   dec_read Syncs = inr (λ z. z)
-  dec_read Ends = inr (λ z. z)
-  dec_read (Passes (Marks m)) = inr (λ z. z)
+  dec_read (Ends val gone) = inr (λ z. z)
+  dec_read (Passes Begins) = inr (λ z. z)
   dec_read (Passes Resumes) = inr (λ z. z)
   dec_read (Passes (Updates j x)) = inr (λ z. z)
-  dec_read (Passes (Resets j o)) = dec_cell j i
-  dec_read (Passes (Values j n)) = dec_cell j i
+  dec_read (Passes (Creates j)) = dec_instance j i
+  dec_read (Passes (Sets j x)) = dec_instance j i
+  dec_read (Passes (Values j n)) = dec_instance j i
+  dec_read (Passes (Prints x)) = inr (λ z. z)
 
   dec_some : {W : Type 0} (r : Run W) → HasEventWith (IsReducerRead i) r ⊎ (¬ (HasEventWith (IsReducerRead i) r))
   dec_some stop = inr (λ z. z)
   dec_some (act e r) = dec_sum _ _ (dec_read e) (dec_some r)
   dec_some (child b w u r) = dec_sum _ _ (dec_some u) (dec_some r)
 
+  create_read : (e : Event) → IsCreate i e → IsReducerRead i e
+  create_read (Reads c v) h = h
+  create_read (Writes c v) h = h
+  create_read Syncs h = h
+  create_read (Ends val gone) h = h
+  create_read (Passes Begins) h = h
+  create_read (Passes Resumes) h = h
+  create_read (Passes (Creates j)) h = h
+  create_read (Passes (Updates j x)) h = h
+  create_read (Passes (Sets j x)) h = absurd h
+  create_read (Passes (Values j n)) h = absurd h
+  create_read (Passes (Prints x)) h = h
+
+  touch_parts : (e : Event) → IsTouch i e → IsReducerRead i e ⊎ IsRetire i e
+  touch_parts (Reads c v) h = inl h
+  touch_parts (Writes c v) h = inl h
+  touch_parts Syncs h = inl h
+  touch_parts (Ends val gone) h = inr h
+  touch_parts (Passes m) h = inl h
+
+  -- what is retired in a run was created there
+  touch_read : {W : Type 0} (r : Run W) (mine : Type 0) → IsRetiredAtHome i r mine → HasEventWith (IsTouch i) r → HasEventWith (IsReducerRead i) r ⊎ mine
+  touch_read stop mine home h = absurd h
+  touch_read (act e r) mine home (inl h) = ⊎_elim (λ z. inl (inl z)) (λ z. inr (home.0 z)) (touch_parts e h)
+  touch_read (act e r) mine home (inr h) = ⊎_elim (λ z. inl (inr z)) (λ z. ⊎_elim (λ m. inr m) (λ c. inl (inl (create_read e c))) z) (touch_read r _ home.1 h)
+  touch_read (child b w u r) mine home (inl h) = ⊎_elim (λ z. inl (inl z)) (λ z. absurd z) (touch_read u ⊥ home.0 h)
+  touch_read (child b w u r) mine home (inr h) = ⊎_elim (λ z. inl (inr z)) (λ z. inr z) (touch_read r mine home.1 h)
+
+  -- So before a sync that is still to come it is retired only with a frame that created it there: a frame's own end comes after its syncs.
+  block_read : {W : Type 0} (r : Run W) (mine : Type 0) → IsRetiredAtHome i r mine → IsClosed r → SyncAhead r → HasInBlockWith (IsTouch i) r → HasInBlockWith (IsReducerRead i) r
+  block_read stop mine home closed ahead h = absurd h
+  block_read (act (Reads c v) r) mine home closed ahead (inl h) = absurd h
+  block_read (act (Reads c v) r) mine home closed ahead (inr h) = inr (h.0, block_read r _ home.1 closed ahead h.1)
+  block_read (act (Writes c v) r) mine home closed ahead (inl h) = absurd h
+  block_read (act (Writes c v) r) mine home closed ahead (inr h) = inr (h.0, block_read r _ home.1 closed ahead h.1)
+  block_read (act Syncs r) mine home closed ahead (inl h) = absurd h
+  block_read (act Syncs r) mine home closed ahead (inr h) = absurd (h.0 tt)
+  block_read (act (Ends val gone) r) mine home closed ahead h = absurd (rw closed at ahead)
+  block_read (act (Passes m) r) mine home closed ahead (inl h) = inl h
+  block_read (act (Passes m) r) mine home closed ahead (inr h) = inr (h.0, block_read r _ home.1 closed ahead h.1)
+  block_read (child b w u r) mine home closed ahead (inl h) = inl (⊎_elim (λ z. z) (λ z. absurd z) (touch_read u ⊥ home.0 h))
+  block_read (child b w u r) mine home closed ahead (inr h) = inr (block_read r mine home.1 closed.2 ahead h)
+
   module _ {V : Type 0} (M : Monoid V) where
     mark_unit : (m : Mark) → ¬ (IsReducerRead i (Passes m)) → ¬ (IsUpdate i (Passes m)) → mark_view M m i M.unit ≡ M.unit
-    mark_unit (Marks m) p q = refl
+    mark_unit Begins p q = refl
     mark_unit Resumes p q = refl
-    mark_unit (Updates j x) p q = ⊎_elim (λ e. absurd (q (same_cell-eq j i e))) (λ e. cond-false (same_cell j i) _ _ e) (cases_Bool (same_cell j i))
-    mark_unit (Resets j o) p q = ⊎_elim (λ e. absurd (p (same_cell-eq j i e))) (λ e. cond-false (same_cell j i) _ _ e) (cases_Bool (same_cell j i))
+    mark_unit (Updates j x) p q = ⊎_elim (λ e. absurd (q (same_instance-eq j i e))) (λ e. cond-false (same_instance j i) _ _ e) (cases_Bool (same_instance j i))
+    mark_unit (Creates j) p q = ⊎_elim (λ e. absurd (p (same_instance-eq j i e))) (λ e. cond-false (same_instance j i) _ _ e) (cases_Bool (same_instance j i))
+    mark_unit (Sets j x) p q = ⊎_elim (λ e. absurd (p (same_instance-eq j i e))) (λ e. cond-false (same_instance j i) _ _ e) (cases_Bool (same_instance j i))
+    mark_unit (Prints x) p q = ⊎_elim (λ e. absurd (q (same_instance-eq Output i e))) (λ e. cond-false (same_instance Output i) _ _ e) (cases_Bool (same_instance Output i))
     mark_unit (Values j n) p q = refl
 
     on_unit : (e : Event) → ¬ (IsReducerRead i e) → ¬ (IsUpdate i e) → on_view M i e M.unit ≡ M.unit
     on_unit (Reads c n) p q = refl
     on_unit (Writes c n) p q = refl
     on_unit Syncs p q = refl
-    on_unit Ends p q = refl
+    on_unit (Ends val gone) p q = ⊎_elim (λ e. cond-true (has_instance gone i) _ _ e) (λ e. cond-false (has_instance gone i) _ _ e) (cases_Bool (has_instance gone i))
     on_unit (Passes m) p q = mark_unit m p q
 
     module _ {W : Type 0} where
@@ -59,26 +109,26 @@ module _ (i : Cell) where
       unseen (child b w u r) seen x first new none q =
           unseen r _ (view_after M i u x) first.1 (⊎_elim new (λ h. none (inl h))) (λ h. none (inr h)) (unseen u seen x first.0 new (λ h. none (inl h)) q)
 
-      rule_apart : (b : Kind) (seen : Type 0) (v : V) (r : Run W) → ReadRule i b seen r → seen ⊎ (v ≡ M.unit) → ViewApart M i b v r
-      rule_apart Calls seen v r rule h = tt
-      rule_apart Spawns seen v r rule (inl s) = inr (rule s)
-      rule_apart Spawns seen v r rule (inr q) = inl q
+      rule_apart : (b : Kind) (seen mine : Type 0) (v : V) (r : Run W) → IsRetiredAtHome i r mine → IsClosed r → ComesAfter b r → ReadRule i b seen r → seen ⊎ (v ≡ M.unit) → ViewApart M i b v r
+      rule_apart Calls seen mine v r home closed ahead rule h = tt
+      rule_apart Spawns seen mine v r home closed ahead rule (inl s) = inr (λ z. rule s (block_read r mine home closed ahead z))
+      rule_apart Spawns seen mine v r home closed ahead rule (inr q) = inl q
 
-      pub apart_free : (r : Run W) (seen : Type 0) (x : V) → IsCreatedFirst i r seen → IsReadApart i r seen → seen ⊎ (¬ seen) → (¬ seen → x ≡ M.unit) → ViewFree M i r x
-      apart_free stop seen x first apart dec h = tt
-      apart_free (act e r) seen x first apart dec h =
-          apart_free r _ (on_view M i e x) first.1 apart (dec_sum _ _ dec (dec_read e))
+      pub apart_free : (r : Run W) (seen mine : Type 0) (x : V) → IsRetiredAtHome i r mine → IsClosed r → IsCreatedFirst i r seen → IsReadApart i r seen → seen ⊎ (¬ seen) → (¬ seen → x ≡ M.unit) → ViewFree M i r x
+      apart_free stop seen mine x home closed first apart dec h = tt
+      apart_free (act e r) seen mine x home closed first apart dec h =
+          apart_free r _ _ (on_view M i e x) home.1 (closed_act e r closed) first.1 apart (dec_sum _ _ dec (dec_read e))
           (λ n. ap (on_view M i e) (h (λ s. n (inl s))) ∙ on_unit e (λ z. n (inr z)) (λ z. n (inl (first.0 z))))
-      apart_free (child b w u r) seen x first apart dec h =
+      apart_free (child b w u r) seen mine x home closed first apart dec h =
           let dec' = dec_sum _ _ dec (dec_some u) in
           let new : ¬ (seen ⊎ HasEventWith (IsReducerRead i) u) → view_after M i u x ≡ M.unit =
           λ n. unseen u seen x first.0 (λ s. n (inl s)) (λ z. n (inr z)) (h (λ s. n (inl s))) in (
-            rule_apart b _ (view_after M i u x) r apart.0 (⊎_elim (λ s. inl s) (λ n. inr (new n)) dec'),
-            apart_free u seen x first.0 apart.1 dec h,
-            apart_free r _ (view_after M i u x) first.1 apart.2 dec' new,
+            rule_apart b _ mine (view_after M i u x) r home.1 closed.2 closed.0 apart.0 (⊎_elim (λ s. inl s) (λ n. inr (new n)) dec'),
+            apart_free u seen ⊥ x home.0 closed.1 first.0 apart.1 dec h,
+            apart_free r _ mine (view_after M i u x) home.1 closed.2 first.1 apart.2 dec' new,
           )
 
-module _ {W : Type 0} (i : Cell) where
+module _ {W : Type 0} (i : Instance) where
   -- the same over the tree
   abbrev ReadTree : Tree W → Type 0 → Type 0
   ReadTree (Strand s) seen = Unit {0}
@@ -144,7 +194,7 @@ module _ {W : Type 0} (i : Cell) where
   tree_apart (act Syncs r) s seen a b =
       let p = read_split (blocks r (Does Syncs ∷ [])).0 (blocks r (Does Syncs ∷ [])).1 _ b in
       apart_weaken r _ _ (⊎_elim (λ x. inl x) (λ x. absurd x)) (tree_apart r (Does Syncs ∷ []) _ p.0 p.1)
-  tree_apart (act Ends r) s seen a b = apart_weaken r _ _ (add_event s Ends seen) (tree_apart r _ seen a b)
+  tree_apart (act (Ends val gone) r) s seen a b = apart_weaken r _ _ (add_event s (Ends val gone) seen) (tree_apart r _ seen a b)
   tree_apart (act (Passes m) r) s seen a b = apart_weaken r _ _ (add_event s (Passes m) seen) (tree_apart r _ seen a b)
   tree_apart (child Calls w u r) s seen a b =
       let d = Invokes Calls w in
@@ -167,7 +217,7 @@ get_some (d ∷ xs) zero lt = (d, refl)
 get_some (d ∷ xs) (suc p) lt = get_some xs p (omega arith)
 
 -- positions: a tree from position o on in a whole whose events and pairs in parallel are these
-module _ {W : Type 0} (i : Cell) (get : ℕ → Option (Deed W)) (par : ℕ → ℕ → Bool) (self : (p : ℕ) → par p p ≡ false) (swap : (p q : ℕ) → par p q ≡ par q p) where
+module _ {W : Type 0} (i : Instance) (get : ℕ → Option (Deed W)) (par : ℕ → ℕ → Bool) (self : (p : ℕ) → par p p ≡ false) (swap : (p q : ℕ) → par p q ≡ par q p) where
   abbrev ReadAt : ℕ → Type 0
   ReadAt p = (e : Event) × (get p ≡ Some (Does e)) × IsReducerRead i e
 
@@ -270,8 +320,8 @@ module _ {W : Type 0} where
       (cases_order p q)
 
   -- reducer-reads with equal peers: a stolen continuation finds the view that it reads, or reads none
-  pub no_view_race : {V : Type 0} (M : Monoid V) (i : Cell) (t : Run W) → HasNoViewRace i t → HasChildren (tree t) → IsCreatedFirst i t ⊥ → ViewFree M i t M.unit
-  no_view_race M i t free kids first =
+  created_view : {V : Type 0} (M : Monoid V) (i : Instance) (t : Run W) → HasNoViewRace i t → HasChildren (tree t) → IsClosed t → IsRetiredAtHome i t ⊥ → IsCreatedFirst i t ⊥ → ViewFree M i t M.unit
+  created_view M i t free kids closed home first =
       let placed0 : (p q : ℕ) → p < q → q < size (tree t) → peers (tree t) (0 + p) (0 + q) ≡ are_parallel (tree t) p q =
       λ p q lt within. ap₂ (peers (tree t)) (zero-add p) (zero-add q) ∙ peers_less (tree t) p q lt in
       let placed1 : (p : ℕ) → p < size (tree t) → slice_get (trace t) (0 + p) ≡ slice_get (events_of (tree t)) p =
@@ -279,4 +329,8 @@ module _ {W : Type 0} where
       let all = positions_tree i (slice_get (trace t)) (peers (tree t)) (peers_self (tree t)) (peers_swap (tree t)) (λ p q a b z d at. free p q a.0 b.0 a.1 b.1 a.2 b.2 z d at) (tree t) 0 ⊥ kids (placed0, placed1) (λ s. absurd s) in
       let p = read_split i (blocks t []).0 (blocks t []).1 ⊥ all in
       let apart = apart_weaken i t _ ⊥ (λ s. absurd s) (tree_apart i t [] ⊥ p.0 p.1) in
-      apart_free i M t ⊥ M.unit first apart (inr (λ s. s)) (λ s. refl)
+      apart_free i M t ⊥ ⊥ M.unit home closed first apart (inr (λ s. s)) (λ s. refl)
+
+  pub no_view_race : {V : Type 0} (M : Monoid V) → IsLawful M → (i : Instance) (t : Run W) → HasNoViewRace i t → HasChildren (tree t) → IsClosed t → IsRetiredAtHome i t ⊥ → IsCreated i t → ViewFree M i t M.unit
+  no_view_race M law i t free kids closed home (inl first) = created_view M i t free kids closed home first
+  no_view_race M law i t free kids closed home (inr never) = quiet_free M law i t M.unit (λ h. ⊎_elim never (λ z. z) (touch_read i t ⊥ home h))

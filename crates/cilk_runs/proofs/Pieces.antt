@@ -1,8 +1,8 @@
 -- What one more deed does to the pieces.
-use Rattle.std.proofs.Common.{◌≡◌, ℕ, suc, pred, ◌+◌, ◌≤◌, Bool, true, false, cond, List, [], ◌∷◌, ◌++◌, Some, refl, sym, ap, ◌∙◌, subst, arith, ⊎_elim, le_refl}
+use Rattle.std.proofs.Common.{◌≡◌, ℕ, suc, pred, ◌+◌, ◌≤◌, Bool, true, false, cond, List, [], ◌∷◌, ◌++◌, Some, refl, sym, ap, ◌∙◌, subst, arith, ⊎_elim, le_refl, ℤ}
 use mathlib.Core.Path.{fun_ext}
 use Rattle.std.proofs.lemmas.Bool.{cases_Bool}
-use Rattle.cilk_runs.specs.Runs.{Name, Cell, Kind, Calls, Spawns, Ask, Event, Reads, Writes, Syncs, Ends, Passes, Marks, Resumes, Updates, Resets, Values, Deed, Does, Invokes, Run, stop, act, child}
+use Rattle.cilk_runs.specs.Runs.{Name, Cell, Kind, Calls, Spawns, Ask, Event, Reads, Writes, Syncs, Ends, Passes, Begins, Resumes, Creates, Updates, Sets, Values, Prints, Deed, Does, Invokes, Run, stop, act, child, Instance}
 use Rattle.cilk_runs.specs.Monoids.{Monoid}
 use Rattle.cilk_runs.specs.Views.{IsResume, IsResumed}
 use Rattle.cilk_runs.specs.Machine.{Frame, Frames, deeds_at, HasEnd, HasSync, Ready, started, begun, block_view, own_view}
@@ -16,7 +16,7 @@ pub when_stolen_map : (b : Bool) (X Y X' Y' : Type 0) → (X → X') → (Y → 
 when_stolen_map true X Y X' Y' f g h = f h
 when_stolen_map false X Y X' Y' f g h = g h
 
-pub front_nonempty : {W : Type 0} {c : Cell} {r : Run W} {k j : ℕ} {ds : List (Deed W)} {kids : ℕ → Frames W} {n m : Name} {a : Deed W} {x y : ℕ} {X : Type 0} → Front W c r k ds kids n a x y → n ≡ j ∷ m → ds ≡ [] → X
+pub front_nonempty : {W : Type 0} {c : Cell} {r : Run W} {k j : ℕ} {ds : List (Deed W)} {kids : ℕ → Frames W} {n m : Name} {a : Deed W} {x y : ℤ} {X : Type 0} → Front W c r k ds kids n a x y → n ≡ j ∷ m → ds ≡ [] → X
 front_nonempty here_act p q = absurd (cc)
 front_nonempty here_child p q = absurd (cc)
 front_nonempty (past_act f) p q = absurd (cc)
@@ -27,29 +27,33 @@ abbrev pub under : {V : Type 0} → (Name → V) → ℕ → Name → V
 under pcs k m = pcs (k ∷ m)
 
 -- an event other than a resume, at a frame that holds its piece
-own_same : {V : Type 0} (M : Monoid V) (i : Cell) (e : Event) (B : V) (l : Bool) (last : V) (v : V) → ¬ (IsResume e) → own_view M i B l last e v ≡ own_after M i e B v
+own_same : {V : Type 0} (M : Monoid V) (i : Instance) (e : Event) (B : V) (l : Bool) (last : V) (v : V) → ¬ (IsResume e) → own_view M i B l last e v ≡ own_after M i e B v
 own_same M i (Reads c n) B l last v no' = refl
 own_same M i (Writes c n) B l last v no' = refl
 own_same M i Syncs B l last v no' = refl
-own_same M i Ends B l last v no' = refl
-own_same M i (Passes (Marks m)) B l last v no' = refl
+own_same M i (Ends val gone) B l last v no' = refl
+own_same M i (Passes Begins) B l last v no' = refl
 own_same M i (Passes Resumes) B l last v no' = absurd (no' tt)
 own_same M i (Passes (Updates j x)) B l last v no' = refl
-own_same M i (Passes (Resets j o)) B l last v no' = refl
+own_same M i (Passes (Creates j)) B l last v no' = refl
+own_same M i (Passes (Sets j x)) B l last v no' = refl
 own_same M i (Passes (Values j n)) B l last v no' = refl
+own_same M i (Passes (Prints x)) B l last v no' = refl
 
 pub is_resume : (e : Event) → IsResume e → e ≡ Passes Resumes
 is_resume (Reads c n) h = absurd h
 is_resume (Writes c n) h = absurd h
 is_resume Syncs h = absurd h
-is_resume Ends h = absurd h
-is_resume (Passes (Marks m)) h = absurd h
+is_resume (Ends val gone) h = absurd h
+is_resume (Passes Begins) h = absurd h
 is_resume (Passes Resumes) h = refl
 is_resume (Passes (Updates j x)) h = absurd h
-is_resume (Passes (Resets j o)) h = absurd h
+is_resume (Passes (Creates j)) h = absurd h
+is_resume (Passes (Sets j x)) h = absurd h
 is_resume (Passes (Values j n)) h = absurd h
+is_resume (Passes (Prints x)) h = absurd h
 
-module _ {W V : Type 0} (M : Monoid V) (i : Cell) where
+module _ {W V : Type 0} (M : Monoid V) (i : Instance) where
   pub lies_nil : (r : Run W) (k : ℕ) (kids : ℕ → Frames W) (loose : Name → Bool) (pcs : Name → V) (acc p root : V) → root ≡ p → NoneStolen k loose → Lies M i r k [] kids loose pcs acc p root
   lies_nil stop k kids loose pcs acc p root q h = (q, h)
   lies_nil (act e r) k kids loose pcs acc p root q h = (q, h)
@@ -75,16 +79,16 @@ module _ {W V : Type 0} (M : Monoid V) (i : Cell) where
       let t = sym (e k (le_refl k)) in
       let v = sym (fun_ext {A = Name} {B = λ m. V} (λ m. q k (le_refl k) m)) in (
         h.0,
-        subst (λ (z : Name → V). Lies M i u 0 (deeds_at (kids' k [])) (below (kids' k)) (λ n. loose (k ∷ n)) z M.unit p (z [])) v (subst (λ (z : Frames W). Lies M i u 0 (deeds_at (z [])) (below z) (λ n. loose (k ∷ n)) (λ n. pcs (k ∷ n)) M.unit p (pcs (k ∷ []))) t h.1),
+        subst (λ (z : Name → V). Lies M i u 1 (deeds_at (kids' k [])) (below (kids' k)) (λ n. loose (k ∷ n)) z M.unit p (z [])) v (subst (λ (z : Frames W). Lies M i u 1 (deeds_at (z [])) (below z) (λ n. loose (k ∷ n)) (λ n. pcs (k ∷ n)) M.unit p (pcs (k ∷ []))) t h.1),
         when_resumed_map (suc k) loose ds _ _ (λ x. subst (λ (z : Name → V). Lies M i r (suc k) ds kids' loose pcs' acc (z []) root) v (lies_ext r (suc k) ds kids kids' loose pcs pcs' acc (pcs (k ∷ [])) root (λ j le. e j (omega arith)) (λ j le. q j (omega arith)) x)) h.2,
       )
   lies_ext (child Spawns w u r) k (d ∷ ds) kids kids' loose pcs pcs' acc p root e q h =
       let t = sym (e k (le_refl k)) in
       let v = sym (fun_ext {A = Name} {B = λ m. V} (λ m. q k (le_refl k) m)) in (
-        subst (λ (z : Name → V). Lies M i u 0 (deeds_at (kids' k [])) (below (kids' k)) (λ n. loose (k ∷ n)) z M.unit p (z [])) v (subst (λ (z : Frames W). Lies M i u 0 (deeds_at (z [])) (below z) (λ n. loose (k ∷ n)) (λ n. pcs (k ∷ n)) M.unit p (pcs (k ∷ []))) t h.0),
+        subst (λ (z : Name → V). Lies M i u 1 (deeds_at (kids' k [])) (below (kids' k)) (λ n. loose (k ∷ n)) z M.unit p (z [])) v (subst (λ (z : Frames W). Lies M i u 1 (deeds_at (z [])) (below z) (λ n. loose (k ∷ n)) (λ n. pcs (k ∷ n)) M.unit p (pcs (k ∷ []))) t h.0),
         when_stolen_map (loose (k ∷ [])) _ _ _ _
             (λ x. subst (λ (z : Name → V). Lies M i r (suc k) ds kids' loose pcs' (M.join acc (z [])) M.unit root) v (lies_ext r (suc k) ds kids kids' loose pcs pcs' _ _ root (λ j le. e j (omega arith)) (λ j le. q j (omega arith)) x))
-            (when_resumed_map (suc k) loose ds _ _ (λ x. (subst (λ (z : Frames W). IsFull u 0 (deeds_at (z [])) (below z)) t x.0, subst (λ (z : Name → V). Lies M i r (suc k) ds kids' loose pcs' acc (z []) root) v (lies_ext r (suc k) ds kids kids' loose pcs pcs' acc (pcs (k ∷ [])) root (λ j le. e j (omega arith)) (λ j le. q j (omega arith)) x.1))))
+            (when_resumed_map (suc k) loose ds _ _ (λ x. (subst (λ (z : Frames W). IsFull u 1 (deeds_at (z [])) (below z)) t x.0, subst (λ (z : Name → V). Lies M i r (suc k) ds kids' loose pcs' acc (z []) root) v (lies_ext r (suc k) ds kids kids' loose pcs pcs' acc (pcs (k ∷ [])) root (λ j le. e j (omega arith)) (λ j le. q j (omega arith)) x.1))))
             h.1,
       )
 
@@ -96,7 +100,7 @@ module _ {W V : Type 0} (M : Monoid V) (i : Cell) where
   lies_acc (act (Reads c n) r) k (d ∷ ds) kids loose pcs acc acc' p root cut never h = lies_acc r k ds kids loose pcs acc acc' _ root cut.1 (rw cut.0 at never) h
   lies_acc (act (Writes c n) r) k (d ∷ ds) kids loose pcs acc acc' p root cut never h = lies_acc r k ds kids loose pcs acc acc' _ root cut.1 (rw cut.0 at never) h
   lies_acc (act Syncs r) k (d ∷ ds) kids loose pcs acc acc' p root cut never h = absurd ((rw cut.0 at never) tt)
-  lies_acc (act Ends r) k (d ∷ ds) kids loose pcs acc acc' p root cut never h = lies_acc r k ds kids loose pcs acc acc' _ root cut.1 (rw cut.0 at never) h
+  lies_acc (act (Ends val gone) r) k (d ∷ ds) kids loose pcs acc acc' p root cut never h = lies_acc r k ds kids loose pcs acc acc' _ root cut.1 (rw cut.0 at never) h
   lies_acc (act (Passes m) r) k (d ∷ ds) kids loose pcs acc acc' p root cut never h = lies_acc r k ds kids loose pcs acc acc' _ root cut.1 (rw cut.0 at never) h
   lies_acc (child b w u r) k [] kids loose pcs acc acc' p root cut never h = h
   lies_acc (child Calls w u r) k (d ∷ ds) kids loose pcs acc acc' p root cut never h =
@@ -113,7 +117,7 @@ module _ {W V : Type 0} (M : Monoid V) (i : Cell) where
   block_act kid loose acc k d ds (Reads c n) q = rw q refl
   block_act kid loose acc k d ds (Writes c n) q = rw q refl
   block_act kid loose acc k d ds Syncs q = rw q refl
-  block_act kid loose acc k d ds Ends q = rw q refl
+  block_act kid loose acc k d ds (Ends val gone) q = rw q refl
   block_act kid loose acc k d ds (Passes m) q = rw q refl
 
   -- one instance's views of a frame, root, and below it, pcs, turn to root' and pcs' by one more deed of frame n
@@ -125,7 +129,7 @@ module _ {W V : Type 0} (M : Monoid V) (i : Cell) where
   Moved (j ∷ m) a loose B K kids pcs root pcs' root' =
       (root' ≡ root)
       × ((h : ℕ) (n : Name) → (h ≡ j → ⊥) → pcs' (h ∷ n) ≡ pcs (h ∷ n))
-      × Moved m a (λ n. loose (j ∷ n)) (block_view M (λ h. pcs (j ∷ h ∷ [])) (λ h. loose (j ∷ h ∷ [])) M.unit 0 (deeds_at (kids j []))) (started (deeds_at (kids j []))) (below (kids j)) (λ n. pcs (j ∷ n)) (pcs (j ∷ [])) (λ n. pcs' (j ∷ n)) (pcs' (j ∷ []))
+      × Moved m a (λ n. loose (j ∷ n)) (block_view M (λ h. pcs (j ∷ h ∷ [])) (λ h. loose (j ∷ h ∷ [])) M.unit 1 (deeds_at (kids j []))) (suc (started (deeds_at (kids j [])))) (below (kids j)) (λ n. pcs (j ∷ n)) (pcs (j ∷ [])) (λ n. pcs' (j ∷ n)) (pcs' (j ∷ []))
 
   kept_views : (n : Name) (a : Deed W) (loose : Name → Bool) (B : V) (K : ℕ) (kids : ℕ → Frames W) (pcs pcs' : Name → V) (root root' : V) (k : ℕ) → From (suc k) n → suc k ≤ K → Moved n a loose B K kids pcs root pcs' root' → under pcs k ≡ under pcs' k
   kept_views [] (Does e) loose B K kids pcs pcs' root root' k from le mv = fun_ext (λ m. sym (mv.1 k m))
@@ -135,7 +139,7 @@ module _ {W V : Type 0} (M : Monoid V) (i : Cell) where
   -- the frame at the front isn't waiting
   abbrev pub Rests : (Name → Bool) → Ask W → List (Deed W) → ℕ → (ℕ → Frames W) → Name → Type 0
   Rests loose a ds k kids [] = Ready (λ j. kids j []) (λ j. loose (j ∷ [])) a k ds
-  Rests loose a ds k kids (j ∷ m) = (f : Frame W) × (kids j m ≡ Some f) × Ready (λ h. kids j (m ++ h ∷ [])) (λ h. loose (j ∷ (m ++ h ∷ []))) a 0 f.deeds
+  Rests loose a ds k kids (j ∷ m) = (f : Frame W) × (kids j m ≡ Some f) × Ready (λ h. kids j (m ++ h ∷ [])) (λ h. loose (j ∷ (m ++ h ∷ []))) a 1 f.deeds
 
   rests_act : (loose : Name → Bool) (a : Ask W) (d : Deed W) (ds : List (Deed W)) (e : Event) (k : ℕ) (kids : ℕ → Frames W) (n : Name) → d ≡ Does e → Rests loose a (d ∷ ds) k kids n → Rests loose a ds k kids n
   rests_act loose a d ds e k kids [] q h = rw q at h
@@ -145,7 +149,7 @@ module _ {W V : Type 0} (M : Monoid V) (i : Cell) where
   rests_child loose a b w d ds k kids [] q h = ready_child b w (λ t. kids t []) (λ t. loose (t ∷ [])) a k ds (rw q at h)
   rests_child loose a b w d ds k kids (j ∷ m) q h = h
 
-  rests_inside : (loose : Name → Bool) (a : Ask W) (ds : List (Deed W)) (k j : ℕ) (kids : ℕ → Frames W) (m : Name) → Rests loose a ds k kids (j ∷ m) → Rests (λ n. loose (j ∷ n)) a (deeds_at (kids j [])) 0 (below (kids j)) m
+  rests_inside : (loose : Name → Bool) (a : Ask W) (ds : List (Deed W)) (k j : ℕ) (kids : ℕ → Frames W) (m : Name) → Rests loose a ds k kids (j ∷ m) → Rests (λ n. loose (j ∷ n)) a (deeds_at (kids j [])) 1 (below (kids j)) m
   rests_inside loose a ds k j kids [] (f, q, h) = rw q h
   rests_inside loose a ds k j kids (l ∷ m) h = h
 
@@ -169,15 +173,15 @@ module _ {W V : Type 0} (M : Monoid V) (i : Cell) where
   block_spawn kid loose acc k d ds w b q e = rw (q, e) refl
 
   -- the views below a child that isn't touched
-  pub lies_moved : (u : Run W) (k : ℕ) (kids kids' : ℕ → Frames W) (loose : Name → Bool) (pcs pcs' : Name → V) (p : V) → kids k ≡ kids' k → under pcs k ≡ under pcs' k → Lies M i u 0 (deeds_at (kids k [])) (below (kids k)) (λ n. loose (k ∷ n)) (λ n. pcs (k ∷ n)) M.unit p (pcs (k ∷ [])) → Lies M i u 0 (deeds_at (kids' k [])) (below (kids' k)) (λ n. loose (k ∷ n)) (λ n. pcs' (k ∷ n)) M.unit p (pcs' (k ∷ []))
+  pub lies_moved : (u : Run W) (k : ℕ) (kids kids' : ℕ → Frames W) (loose : Name → Bool) (pcs pcs' : Name → V) (p : V) → kids k ≡ kids' k → under pcs k ≡ under pcs' k → Lies M i u 1 (deeds_at (kids k [])) (below (kids k)) (λ n. loose (k ∷ n)) (λ n. pcs (k ∷ n)) M.unit p (pcs (k ∷ [])) → Lies M i u 1 (deeds_at (kids' k [])) (below (kids' k)) (λ n. loose (k ∷ n)) (λ n. pcs' (k ∷ n)) M.unit p (pcs' (k ∷ []))
   lies_moved u k kids kids' loose pcs pcs' p t v h =
-      subst (λ (z : Name → V). Lies M i u 0 (deeds_at (kids' k [])) (below (kids' k)) (λ n. loose (k ∷ n)) z M.unit p (z [])) v (subst (λ (z : Frames W). Lies M i u 0 (deeds_at (z [])) (below z) (λ n. loose (k ∷ n)) (λ n. pcs (k ∷ n)) M.unit p (pcs (k ∷ []))) t h)
+      subst (λ (z : Name → V). Lies M i u 1 (deeds_at (kids' k [])) (below (kids' k)) (λ n. loose (k ∷ n)) z M.unit p (z [])) v (subst (λ (z : Frames W). Lies M i u 1 (deeds_at (z [])) (below z) (λ n. loose (k ∷ n)) (λ n. pcs (k ∷ n)) M.unit p (pcs (k ∷ []))) t h)
 
   pub resumed_rest : (b : Bool) (e : Event) (r : Run W) → IsResumed b (act e r) → IsResumed false r
   resumed_rest true e r h = h.1
   resumed_rest false e r h = h.1
 
-module _ {W V : Type 0} (M : Monoid V) (i : Cell) (loose : Name → Bool) (a : Deed W) (B : V) (K : ℕ) (kids kids' : ℕ → Frames W) (pcs pcs' : Name → V) (root root' : V) where
+module _ {W V : Type 0} (M : Monoid V) (i : Instance) (loose : Name → Bool) (a : Deed W) (B : V) (K : ℕ) (kids kids' : ℕ → Frames W) (pcs pcs' : Name → V) (root root' : V) where
   -- the frame that resumes, by its flag
   resumed_root : (k : ℕ) (b : Bool) (q : V) → a ≡ Does (Passes Resumes) → K ≡ suc k → loose (k ∷ []) ≡ b → cond b root (pcs (k ∷ [])) ≡ q → Moved M i [] a loose B K kids pcs root pcs' root' → root' ≡ q
   resumed_root k b q is at flag e mv =
@@ -185,12 +189,12 @@ module _ {W V : Type 0} (M : Monoid V) (i : Cell) (loose : Name → Bool) (a : D
       let p : pred K ≡ k = rw at refl in
       m.0 ∙ ap (λ z. cond (loose (z ∷ [])) root (pcs (z ∷ []))) p ∙ ap (λ z. cond z root (pcs (k ∷ []))) flag ∙ e
 
-module _ {W V : Type 0} (M : Monoid V) (i : Cell) {c : Cell} where
-  pub front_resume : {r : Run W} {k : ℕ} {kids : ℕ → Frames W} {a : Deed W} {x y : ℕ} → Front W c r k [] kids [] a x y → IsResumed true r → a ≡ Does (Passes Resumes)
+module _ {W V : Type 0} (M : Monoid V) (i : Instance) {c : Cell} where
+  pub front_resume : {r : Run W} {k : ℕ} {kids : ℕ → Frames W} {a : Deed W} {x y : ℤ} → Front W c r k [] kids [] a x y → IsResumed true r → a ≡ Does (Passes Resumes)
   front_resume (here_act {e = e}) h = ap Does (is_resume e h.0)
   front_resume here_child h = absurd h
 
-  resume_step : {r : Run W} {k : ℕ} {kids : ℕ → Frames W} {a : Deed W} {x y : ℕ} → Front W c r k [] kids [] a x y → IsResumed true r → (kids' : ℕ → Frames W) (loose : Name → Bool) (pcs' : Name → V) (acc q root' : V) → root' ≡ q → NoneStolen k loose → Lies M i r k (a ∷ []) kids' loose pcs' acc q root'
+  resume_step : {r : Run W} {k : ℕ} {kids : ℕ → Frames W} {a : Deed W} {x y : ℤ} → Front W c r k [] kids [] a x y → IsResumed true r → (kids' : ℕ → Frames W) (loose : Name → Bool) (pcs' : Name → V) (acc q root' : V) → root' ≡ q → NoneStolen k loose → Lies M i r k (a ∷ []) kids' loose pcs' acc q root'
   resume_step (here_act {e = e} {r = r} {k = k}) h kids' loose pcs' acc q root' at none =
       let is : e ≡ Passes Resumes = is_resume e h.0 in
       rw is (lies_nil M i r k kids' loose pcs' acc q root' at none)
@@ -198,7 +202,7 @@ module _ {W V : Type 0} (M : Monoid V) (i : Cell) {c : Cell} where
 
   module _ (loose : Name → Bool) (a : Deed W) (B : V) (K : ℕ) (kids kids' : ℕ → Frames W) (pcs pcs' : Name → V) (root root' : V) where
     -- what follows a child that was not left to a thief
-    called_rest : {r : Run W} {k : ℕ} {x y : ℕ} (n : Name) (ds : List (Deed W)) (acc : V) → Front W c r (suc k) ds kids n a x y → IsResumed true r → K ≡ suc k + started ds → Moved M i n a loose B K kids pcs root pcs' root' → loose (k ∷ []) ≡ false → pcs (k ∷ []) ≡ pcs' (k ∷ []) → (NotFirst {W = W} M i true ds → Lies M i r (suc k) ds kids loose pcs acc (pcs (k ∷ [])) root → Lies M i r (suc k) (grown n ds a) kids' loose pcs' acc (pcs (k ∷ [])) root') → WhenResumed (suc k) loose ds (Lies M i r (suc k) ds kids loose pcs acc (pcs (k ∷ [])) root) → WhenResumed (suc k) loose (grown n ds a) (Lies M i r (suc k) (grown n ds a) kids' loose pcs' acc (pcs' (k ∷ [])) root')
+    called_rest : {r : Run W} {k : ℕ} {x y : ℤ} (n : Name) (ds : List (Deed W)) (acc : V) → Front W c r (suc k) ds kids n a x y → IsResumed true r → K ≡ suc k + started ds → Moved M i n a loose B K kids pcs root pcs' root' → loose (k ∷ []) ≡ false → pcs (k ∷ []) ≡ pcs' (k ∷ []) → (NotFirst {W = W} M i true ds → Lies M i r (suc k) ds kids loose pcs acc (pcs (k ∷ [])) root → Lies M i r (suc k) (grown n ds a) kids' loose pcs' acc (pcs (k ∷ [])) root') → WhenResumed (suc k) loose ds (Lies M i r (suc k) ds kids loose pcs acc (pcs (k ∷ [])) root) → WhenResumed (suc k) loose (grown n ds a) (Lies M i r (suc k) (grown n ds a) kids' loose pcs' acc (pcs' (k ∷ [])) root')
     called_rest {r = r} {k = k} [] [] acc f res at mv flag same ih h =
         let e : root' ≡ pcs' (k ∷ []) = resumed_root M i loose a B K kids kids' pcs pcs' root root' k false (pcs (k ∷ [])) (front_resume f res) (omega arith) flag refl mv ∙ same in
         resume_step f res kids' loose pcs' acc (pcs' (k ∷ [])) root' e h
@@ -207,7 +211,7 @@ module _ {W V : Type 0} (M : Monoid V) (i : Cell) {c : Cell} where
     called_rest {r = r} {k = k} (j ∷ m) (d ∷ ds) acc f res at mv flag same ih h = subst (λ z. Lies M i r (suc k) (d ∷ ds) kids' loose pcs' acc z root') same (ih tt h)
 
     -- what follows a child whose continuation was stolen
-    stolen_rest : {r : Run W} {k : ℕ} {x y : ℕ} (n : Name) (ds : List (Deed W)) (acc acc' : V) → Front W c r (suc k) ds kids n a x y → IsResumed true r → K ≡ suc k + started ds → Moved M i n a loose B K kids pcs root pcs' root' → loose (k ∷ []) ≡ true → acc ≡ acc' → (NotFirst {W = W} M i true ds → Lies M i r (suc k) ds kids loose pcs acc M.unit root → Lies M i r (suc k) (grown n ds a) kids' loose pcs' acc M.unit root') → Lies M i r (suc k) ds kids loose pcs acc M.unit root → Lies M i r (suc k) (grown n ds a) kids' loose pcs' acc' M.unit root'
+    stolen_rest : {r : Run W} {k : ℕ} {x y : ℤ} (n : Name) (ds : List (Deed W)) (acc acc' : V) → Front W c r (suc k) ds kids n a x y → IsResumed true r → K ≡ suc k + started ds → Moved M i n a loose B K kids pcs root pcs' root' → loose (k ∷ []) ≡ true → acc ≡ acc' → (NotFirst {W = W} M i true ds → Lies M i r (suc k) ds kids loose pcs acc M.unit root → Lies M i r (suc k) (grown n ds a) kids' loose pcs' acc M.unit root') → Lies M i r (suc k) ds kids loose pcs acc M.unit root → Lies M i r (suc k) (grown n ds a) kids' loose pcs' acc' M.unit root'
     stolen_rest {r = r} {k = k} [] [] acc acc' f res at mv flag same ih h =
         let old = from_nil M i r (suc k) kids loose pcs acc M.unit root h in
         let e : root' ≡ M.unit = resumed_root M i loose a B K kids kids' pcs pcs' root root' k true M.unit (front_resume f res) (omega arith) flag old.0 mv in
@@ -217,7 +221,7 @@ module _ {W V : Type 0} (M : Monoid V) (i : Cell) {c : Cell} where
     stolen_rest {r = r} {k = k} (j ∷ m) (d ∷ ds) acc acc' f res at mv flag same ih h = subst (λ z. Lies M i r (suc k) (d ∷ ds) kids' loose pcs' z M.unit root') same (ih tt h)
 
   -- a spawned child whose continuation is resumed and was not stolen has ended
-  full_now : {r : Run W} {k : ℕ} {a : Deed W} {kids : ℕ → Frames W} {x y : ℕ} (n : Name) (d : Deed W) (ds : List (Deed W)) (w : W) (u : Run W) (loose : Name → Bool) (ask : Ask W) (Y : Type 0) → Front W c r (suc k) ds kids n a x y → d ≡ Invokes Spawns w → loose (k ∷ []) ≡ false → Rests M i loose ask (d ∷ ds) k kids n → (HasEnd (deeds_at (kids k [])) → IsFull u 0 (deeds_at (kids k [])) (below (kids k))) → WhenResumed (suc k) loose ds (IsFull u 0 (deeds_at (kids k [])) (below (kids k)) × Y) → IsFull u 0 (deeds_at (kids k [])) (below (kids k))
+  full_now : {r : Run W} {k : ℕ} {a : Deed W} {kids : ℕ → Frames W} {x y : ℤ} (n : Name) (d : Deed W) (ds : List (Deed W)) (w : W) (u : Run W) (loose : Name → Bool) (ask : Ask W) (Y : Type 0) → Front W c r (suc k) ds kids n a x y → d ≡ Invokes Spawns w → loose (k ∷ []) ≡ false → Rests M i loose ask (d ∷ ds) k kids n → (HasEnd (deeds_at (kids k [])) → IsFull u 1 (deeds_at (kids k [])) (below (kids k))) → WhenResumed (suc k) loose ds (IsFull u 1 (deeds_at (kids k [])) (below (kids k)) × Y) → IsFull u 1 (deeds_at (kids k [])) (below (kids k))
   full_now {k = k} {kids = kids} [] d [] w u loose ask Y f q flag rests ended h =
       let ready : Ready (λ t. kids t []) (λ t. loose (t ∷ [])) ask k (Invokes Spawns w ∷ []) = rw q at rests in
       ⊎_elim ended (λ e. let z : true ≡ false = sym e ∙ flag in absurd (cc)) (ready.0 refl)
@@ -225,7 +229,7 @@ module _ {W V : Type 0} (M : Monoid V) (i : Cell) {c : Cell} where
   full_now n d (e ∷ ds) w u loose ask Y f q flag rests ended h = h.0
 
   -- the pieces with the deed at the front
-  pub lies_step : {r : Run W} {k : ℕ} {ds : List (Deed W)} {kids : ℕ → Frames W} {n : Name} {a : Deed W} {x y : ℕ} → Front W c r k ds kids n a x y → IsCut r k ds kids → IsClosed r → (b : Bool) → NotFirst {W = W} M i b ds → IsResumed b r → (loose : Name → Bool) (ask : Ask W) → Rests M i loose ask ds k kids n → (acc B p : V) (pcs : Name → V) (root : V) → B ≡ block_view M (λ h. pcs (h ∷ [])) (λ h. loose (h ∷ [])) acc k ds → Lies M i r k ds kids loose pcs acc p root → (K : ℕ) (kids' : ℕ → Frames W) → K ≡ k + started ds → Grows n a K kids kids' → (pcs' : Name → V) (root' : V) → Moved M i n a loose B K kids pcs root pcs' root' → Lies M i r k (grown n ds a) kids' loose pcs' acc p root'
+  pub lies_step : {r : Run W} {k : ℕ} {ds : List (Deed W)} {kids : ℕ → Frames W} {n : Name} {a : Deed W} {x y : ℤ} → Front W c r k ds kids n a x y → IsCut r k ds kids → IsClosed r → (b : Bool) → NotFirst {W = W} M i b ds → IsResumed b r → (loose : Name → Bool) (ask : Ask W) → Rests M i loose ask ds k kids n → (acc B p : V) (pcs : Name → V) (root : V) → B ≡ block_view M (λ h. pcs (h ∷ [])) (λ h. loose (h ∷ [])) acc k ds → Lies M i r k ds kids loose pcs acc p root → (K : ℕ) (kids' : ℕ → Frames W) → K ≡ k + started ds → Grows n a K kids kids' → (pcs' : Name → V) (root' : V) → Moved M i n a loose B K kids pcs root pcs' root' → Lies M i r k (grown n ds a) kids' loose pcs' acc p root'
   lies_step (here_act {e = e} {r = r} {k = k} {kids = kids}) cut closed true not res loose ask rests acc B p pcs root be lies K kids' at g pcs' root' mv = absurd not
   lies_step (here_act {e = e} {r = r} {k = k} {kids = kids}) cut closed false not res loose ask rests acc B p pcs root be lies K kids' at g pcs' root' mv =
       lies_nil M i r k kids' loose pcs' _ _ root' (mv.0 ∙ own_same M i e B (loose (pred K ∷ [])) (pcs (pred K ∷ [])) root res.0 ∙ ap (λ z. own_after M i e z root) be ∙ ap (own_after M i e acc) lies.0) lies.1
@@ -235,7 +239,7 @@ module _ {W V : Type 0} (M : Monoid V) (i : Cell) {c : Cell} where
       let first : kids' k [] ≡ Some (begun w) = subst (λ t. kids' t [] ≡ Some (begun w)) here g.1 in
       let view : pcs' (k ∷ []) ≡ p = ap (λ t. pcs' (t ∷ [])) (sym here) ∙ mv.1 ∙ lies.0 in (
         lies.1 k (le_refl k) [],
-        rw first (lies_nil M i u 0 (below (kids' k)) (λ n. loose (k ∷ n)) (λ n. pcs' (k ∷ n)) M.unit p (pcs' (k ∷ [])) view (λ j le m. lies.1 k (le_refl k) (j ∷ m))),
+        rw first (lies_nil M i u 1 (below (kids' k)) (λ n. loose (k ∷ n)) (λ n. pcs' (k ∷ n)) M.unit p (pcs' (k ∷ [])) view (λ j le m. lies.1 k (le_refl k) (j ∷ m))),
         λ j le m. lies.1 j (omega arith) m,
       )
   lies_step (here_child {i = Spawns} {w = w} {u = u} {r = r} {k = k} {kids = kids}) cut closed false not res loose ask rests acc B p pcs root be lies K kids' at g pcs' root' mv =
@@ -243,7 +247,7 @@ module _ {W V : Type 0} (M : Monoid V) (i : Cell) {c : Cell} where
       let first : kids' k [] ≡ Some (begun w) = subst (λ t. kids' t [] ≡ Some (begun w)) here g.1 in
       let view : pcs' (k ∷ []) ≡ p = ap (λ t. pcs' (t ∷ [])) (sym here) ∙ mv.1 ∙ lies.0 in
       let flag : loose (k ∷ []) ≡ false = lies.1 k (le_refl k) [] in (
-        rw first (lies_nil M i u 0 (below (kids' k)) (λ n. loose (k ∷ n)) (λ n. pcs' (k ∷ n)) M.unit p (pcs' (k ∷ [])) view (λ j le m. lies.1 k (le_refl k) (j ∷ m))),
+        rw first (lies_nil M i u 1 (below (kids' k)) (λ n. loose (k ∷ n)) (λ n. pcs' (k ∷ n)) M.unit p (pcs' (k ∷ [])) view (λ j le m. lies.1 k (le_refl k) (j ∷ m))),
         rw flag (λ j le m. lies.1 j (omega arith) m),
       )
   lies_step (past_act {e = e} {r = r} {k = k} {d = d} {ds = ds} {kids = kids} {n = n} {a = a} f) cut closed b not res loose ask rests acc B p pcs root be lies K kids' at g pcs' root' mv =
@@ -279,8 +283,8 @@ module _ {W V : Type 0} (M : Monoid V) (i : Cell) {c : Cell} where
             (rw flag at lies.1)))
             (λ flag. rw flag
             (let old = rw flag at lies.1 in
-            let full = full_now n d ds w u loose ask _ f cut.0 flag rests (ended_full u 0 (deeds_at (kids k [])) (below (kids k)) cut.2 closed.1) old in
-            when_resumed_map M i (suc k) loose (grown n ds a) _ _ (λ y. (subst (λ (z : Frames W). IsFull u 0 (deeds_at (z [])) (below z)) same full, y))
+            let full = full_now n d ds w u loose ask _ f cut.0 flag rests (ended_full u 1 (deeds_at (kids k [])) (below (kids k)) cut.2 closed.1) old in
+            when_resumed_map M i (suc k) loose (grown n ds a) _ _ (λ y. (subst (λ (z : Frames W). IsFull u 1 (deeds_at (z [])) (below z)) same full, y))
             (called_rest loose a B K kids kids' pcs pcs' root root' n ds acc f parts.1 at2 mv flag (ap (λ (z : Name → V). z []) views)
             (λ nf h. lies_step f cut.4 closed.2 true nf parts.1 loose ask rests' acc B (pcs (k ∷ [])) pcs root (be ∙ block_spawn M i (λ h. pcs (h ∷ [])) (λ h. loose (h ∷ [])) acc k d ds w false cut.0 flag) h K kids' at2 g pcs' root' mv)
             (when_resumed_map M i (suc k) loose ds _ _ (λ y. y.1) old))))
@@ -288,10 +292,10 @@ module _ {W V : Type 0} (M : Monoid V) (i : Cell) {c : Cell} where
       )
   lies_step (inside {i = Calls} {w = w} {u = u} {r = r} {k = k} {d = d} {ds = e ∷ ds} {kids = kids} {m = m} {a = a} f) cut closed b not res loose ask rests acc B p pcs root be lies K kids' at g pcs' root' mv = absurd (full_stuck f (cut.3 tt))
   lies_step (inside {i = Calls} {w = w} {u = u} {r = r} {k = k} {d = d} {ds = []} {kids = kids} {m = m} {a = a} f) cut closed b not res loose ask rests acc B p pcs root be lies K kids' at g pcs' root' mv =
-      let inner = lies_step f cut.2 closed.1 false tt (resumed_parts M i b Calls w u r res).0 (λ n. loose (k ∷ n)) ask (rests_inside M i loose ask (d ∷ []) k k kids m rests) M.unit _ p (λ n. pcs (k ∷ n)) (pcs (k ∷ [])) refl lies.1 (started (deeds_at (kids k []))) (below (kids' k)) (omega arith) g.3 (λ n. pcs' (k ∷ n)) (pcs' (k ∷ [])) mv.2 in
+      let inner = lies_step f cut.2 closed.1 false tt (resumed_parts M i b Calls w u r res).0 (λ n. loose (k ∷ n)) ask (rests_inside M i loose ask (d ∷ []) k k kids m rests) M.unit _ p (λ n. pcs (k ∷ n)) (pcs (k ∷ [])) refl lies.1 (suc (started (deeds_at (kids k [])))) (below (kids' k)) (omega arith) g.3 (λ n. pcs' (k ∷ n)) (pcs' (k ∷ [])) mv.2 in
       (lies.0, rw g.2 inner, lies.2)
   lies_step (inside {i = Spawns} {w = w} {u = u} {r = r} {k = k} {d = d} {ds = ds} {kids = kids} {m = m} {a = a} f) cut closed b not res loose ask rests acc B p pcs root be lies K kids' at g pcs' root' mv =
-      let inner = lies_step f cut.2 closed.1 false tt (resumed_parts M i b Spawns w u r res).0 (λ n. loose (k ∷ n)) ask (rests_inside M i loose ask (d ∷ ds) k k kids m rests) M.unit _ p (λ n. pcs (k ∷ n)) (pcs (k ∷ [])) refl lies.0 (started (deeds_at (kids k []))) (below (kids' k)) (omega arith) g.3 (λ n. pcs' (k ∷ n)) (pcs' (k ∷ [])) mv.2 in (
+      let inner = lies_step f cut.2 closed.1 false tt (resumed_parts M i b Spawns w u r res).0 (λ n. loose (k ∷ n)) ask (rests_inside M i loose ask (d ∷ ds) k k kids m rests) M.unit _ p (λ n. pcs (k ∷ n)) (pcs (k ∷ [])) refl lies.0 (suc (started (deeds_at (kids k [])))) (below (kids' k)) (omega arith) g.3 (λ n. pcs' (k ∷ n)) (pcs' (k ∷ [])) mv.2 in (
         rw g.2 inner,
         when_stolen_map (loose (k ∷ [])) _ _ _ _
             (λ h. subst (λ z. Lies M i r (suc k) ds kids' loose pcs' (M.join acc (pcs' (k ∷ []))) M.unit z) (sym mv.0)

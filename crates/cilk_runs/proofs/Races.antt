@@ -1,5 +1,5 @@
 -- No race over all pairs of positions is no race by the nested run.
-use Rattle.std.proofs.Common.{◌≡◌, ℕ, suc, ◌+◌, ◌-◌, ◌<◌, Bool, true, false, cond, List, [], ◌∷◌, ◌++◌, length, Option, Some, None, refl, sym, ap, ◌∙◌, subst, arith, ◌⊎◌, inl, inr, ⊎_elim, append_assoc, append-nil, zero, length-append, zero-add, suc-add, lt-ltb, le-ltb}
+use Rattle.std.proofs.Common.{◌≡◌, ℕ, suc, ◌+◌, ◌-◌, ◌<◌, Bool, true, false, cond, List, [], ◌∷◌, ◌++◌, length, Option, Some, None, refl, sym, ap, ◌∙◌, subst, arith, ◌⊎◌, inl, inr, ⊎_elim, append_assoc, append-nil, zero, length-append, zero-add, suc-add, lt-ltb, le-ltb, ℤ}
 use Rattle.std.specs.Prelude.{slice_get, nat_lt}
 use Rattle.std.proofs.Common.{ap₂}
 use Rattle.std.proofs.lemmas.Bool.{cases_lt, cond-true}
@@ -67,7 +67,7 @@ module _ {W : Type 0} where
   blocks_events (act (Reads c v) r) s = blocks_events r (s ++ Does (Reads c v) ∷ []) ∙ append_assoc s _ _
   blocks_events (act (Writes c v) r) s = blocks_events r (s ++ Does (Writes c v) ∷ []) ∙ append_assoc s _ _
   blocks_events (act Syncs r) s = ap (λ z. s ++ z) (series_events (blocks r (Does Syncs ∷ [])).0 (blocks r (Does Syncs ∷ [])).1 ∙ blocks_events r (Does Syncs ∷ []))
-  blocks_events (act Ends r) s = blocks_events r (s ++ Does Ends ∷ []) ∙ append_assoc s _ _
+  blocks_events (act (Ends val gone) r) s = blocks_events r (s ++ Does (Ends val gone) ∷ []) ∙ append_assoc s _ _
   blocks_events (act (Passes m) r) s = blocks_events r (s ++ Does (Passes m) ∷ []) ∙ append_assoc s _ _
   blocks_events (child b w u r) s =
       let inner = in_series (blocks u []).0 (blocks u []).1 in
@@ -93,7 +93,7 @@ module _ {W : Type 0} where
   strand_kept P (act (Reads c v) r) s h = strand_kept P r _ (among_left P s _ h)
   strand_kept P (act (Writes c v) r) s h = strand_kept P r _ (among_left P s _ h)
   strand_kept P (act Syncs r) s h = h
-  strand_kept P (act Ends r) s h = strand_kept P r _ (among_left P s _ h)
+  strand_kept P (act (Ends val gone) r) s h = strand_kept P r _ (among_left P s _ h)
   strand_kept P (act (Passes m) r) s h = strand_kept P r _ (among_left P s _ h)
   strand_kept P (child b w u r) s h = among_left P (s ++ Invokes b w ∷ []) _ (among_left P s _ h)
 
@@ -105,8 +105,8 @@ module _ {W : Type 0} where
   some_block P never (act (Writes c v) r) s (inr h) = some_block P never r _ h.1
   some_block P never (act Syncs r) s (inl h) = absurd (never h)
   some_block P never (act Syncs r) s (inr h) = absurd (h.0 tt)
-  some_block P never (act Ends r) s (inl h) = strand_kept P r _ (among_right P s _ (inl h))
-  some_block P never (act Ends r) s (inr h) = some_block P never r _ h.1
+  some_block P never (act (Ends val gone) r) s (inl h) = strand_kept P r _ (among_right P s _ (inl h))
+  some_block P never (act (Ends val gone) r) s (inr h) = some_block P never r _ h.1
   some_block P never (act (Passes m) r) s (inl h) = strand_kept P r _ (among_right P s _ (inl h))
   some_block P never (act (Passes m) r) s (inr h) = some_block P never r _ h.1
   some_block P never (child b w u r) s (inl h) =
@@ -127,7 +127,7 @@ module _ {W : Type 0} where
   clean_free (act (Reads c v) r) s a b = clean_free r _ a b
   clean_free (act (Writes c v) r) s a b = clean_free r _ a b
   clean_free (act Syncs r) s a b = let p = clean_split (blocks r (Does Syncs ∷ [])).0 (blocks r (Does Syncs ∷ [])).1 b in clean_free r _ p.0 p.1
-  clean_free (act Ends r) s a b = clean_free r _ a b
+  clean_free (act (Ends val gone) r) s a b = clean_free r _ a b
   clean_free (act (Passes m) r) s a b = clean_free r _ a b
   clean_free (child Calls w u r) s a b = let p = clean_split (blocks u []).0 (blocks u []).1 a.1.0 in (tt, clean_free u [] p.0 p.1, clean_free r [] a.1.1 b)
   clean_free (child Spawns w u r) s a b = let p = clean_split (blocks u []).0 (blocks u []).1 a.1.0 in (foreign_apart u r a.1.2, clean_free u [] p.0 p.1, clean_free r [] a.1.1 b)
@@ -135,18 +135,18 @@ module _ {W : Type 0} where
   pub tree_free : (r : Run W) → Clean (tree r) → RaceFree r
   tree_free r h = let p = clean_split (blocks r []).0 (blocks r []).1 h in clean_free r [] p.0 p.1
 
-clash_write : (a : Event) (y : Cell) (u : ℕ) (c : Cell) → IsAccess a c → y ≡ c → event_clash a (Writes y u) ≡ true
+clash_write : (a : Event) (y : Cell) (u : ℤ) (c : Cell) → IsAccess a c → y ≡ c → event_clash a (Writes y u) ≡ true
 clash_write (Reads x v) y u c h g = rw (h, g) (same_cell-refl c)
 clash_write (Writes x v) y u c h g = rw (h, g) (same_cell-refl c)
 clash_write Syncs y u c h g = absurd h
-clash_write Ends y u c h g = absurd h
+clash_write (Ends val gone) y u c h g = absurd h
 clash_write (Passes m) y u c h g = absurd h
 
 clash_to : (c : Cell) (a b : Event) → IsAccess a c → IsWrite b c → event_clash a b ≡ true
 clash_to c a (Reads y u) h g = absurd g
 clash_to c a (Writes y u) h g = clash_write a y u c h g
 clash_to c a Syncs h g = absurd g
-clash_to c a Ends h g = absurd g
+clash_to c a (Ends val gone) h g = absurd g
 clash_to c a (Passes m) h g = absurd g
 
 clash_from : (c : Cell) (a b : Event) → IsWrite a c → IsAccess b c → event_clash a b ≡ true
@@ -154,10 +154,10 @@ clash_from c (Reads x v) b h g = absurd h
 clash_from c (Writes x v) (Reads y u) h g = rw (h, g) (same_cell-refl c)
 clash_from c (Writes x v) (Writes y u) h g = rw (h, g) (same_cell-refl c)
 clash_from c (Writes x v) Syncs h g = absurd g
-clash_from c (Writes x v) Ends h g = absurd g
+clash_from c (Writes x v) (Ends val gone) h g = absurd g
 clash_from c (Writes x v) (Passes m) h g = absurd g
 clash_from c Syncs b h g = absurd h
-clash_from c Ends b h g = absurd h
+clash_from c (Ends val gone) b h g = absurd h
 clash_from c (Passes m) b h g = absurd h
 
 module _ {W : Type 0} where
@@ -175,12 +175,12 @@ module _ {W : Type 0} where
   get_right [] b q = ap (slice_get b) (zero-add q)
   get_right (x ∷ a) b q = ap (slice_get (x ∷ (a ++ b))) (suc-add (length a) q) ∙ get_right a b q
 
-  clash_none : (o : Option (Deed W)) → clash o None ≡ false
+  pub clash_none : (o : Option (Deed W)) → clash o None ≡ false
   clash_none None = refl
   clash_none (Some (Does (Reads c v))) = refl
   clash_none (Some (Does (Writes c v))) = refl
   clash_none (Some (Does Syncs)) = refl
-  clash_none (Some (Does Ends)) = refl
+  clash_none (Some (Does (Ends val gone))) = refl
   clash_none (Some (Does (Passes m))) = refl
   clash_none (Some (Invokes b w)) = refl
 

@@ -1,8 +1,8 @@
 -- What a steal does to the pieces.
-use Rattle.std.proofs.Common.{◌≡◌, ℕ, suc, ◌+◌, ◌≤◌, Bool, true, false, List, [], ◌∷◌, ◌++◌, Some, None, refl, sym, ap, ◌∙◌, subst, arith, ⊎_elim, le_refl}
+use Rattle.std.proofs.Common.{◌≡◌, ℕ, suc, ◌+◌, ◌≤◌, Bool, true, false, List, [], ◌∷◌, ◌++◌, Some, None, refl, sym, ap, ◌∙◌, subst, arith, ⊎_elim, le_refl, ℤ}
 use mathlib.Core.Path.{fun_ext}
 use Rattle.std.proofs.lemmas.Bool.{cases_eq}
-use Rattle.cilk_runs.specs.Runs.{Name, Cell, Kind, Calls, Spawns, Event, Passes, Resumes, Deed, Does, Invokes, Run, stop, act, child}
+use Rattle.cilk_runs.specs.Runs.{Name, Cell, Kind, Calls, Spawns, Event, Passes, Resumes, Deed, Does, Invokes, Run, stop, act, child, Instance}
 use Rattle.cilk_runs.specs.Monoids.{Monoid}
 use Rattle.cilk_runs.specs.Views.{IsResumed}
 use Rattle.cilk_runs.specs.Machine.{Frame, Frames, deeds_at, started, put}
@@ -10,6 +10,7 @@ use Rattle.cilk_runs.specs.Serial.{value_after}
 use Rattle.cilk_runs.specs.Cuts.{below, IsFull, IsPast, NoneFrom, IsCut, NoneStolen, WhenResumed, block_after, own_after, Lies}
 use Rattle.cilk_runs.proofs.Basics.{last_sync}
 use Rattle.cilk_runs.proofs.Front.{Front, here_act, here_child, past_act, past_child, inside, full_stuck}
+use Rattle.cilk_runs.proofs.Find.{counts_from}
 use Rattle.cilk_runs.proofs.Grows.{From, front_from}
 use Rattle.cilk_runs.proofs.Pieces.{under, NotFirst, front_nonempty, is_resume, lies_nil, lies_acc, when_stolen_map}
 
@@ -17,7 +18,7 @@ module _ {W : Type 0} where
   -- the last deed of frame n, by its name below the frame at the top, spawned its child K
   abbrev pub At : ℕ → ℕ → List (Deed W) → (ℕ → Frames W) → Name → Type 0
   At K k ds kids [] = (bef : List (Deed W)) × (v : W) × (ds ≡ bef ++ Invokes Spawns v ∷ []) × (K ≡ k + started bef)
-  At K k ds kids (j ∷ m) = (k ≤ j) × (f : Frame W) × (bef : List (Deed W)) × (v : W) × (kids j m ≡ Some f) × (f.deeds ≡ bef ++ Invokes Spawns v ∷ []) × (K ≡ started bef)
+  At K k ds kids (j ∷ m) = (k ≤ j) × (f : Frame W) × (bef : List (Deed W)) × (v : W) × (kids j m ≡ Some f) × (f.deeds ≡ bef ++ Invokes Spawns v ∷ []) × (K ≡ suc (started bef))
 
   nil_snoc : (bef : List (Deed W)) (d : Deed W) {X : Type 0} → [] ≡ bef ++ d ∷ [] → X
   nil_snoc [] d q = absurd (cc)
@@ -45,9 +46,9 @@ module _ {W : Type 0} where
       (bef, v, rest, omega arith)
   at_child K k d ds b w kids (j ∷ m) is from more (le, f, bef, v, q, e, g) = (from, f, bef, v, q, e, g)
 
-  at_inside : (K k : ℕ) (ds : List (Deed W)) (kids : ℕ → Frames W) (m : Name) → At K k ds kids (k ∷ m) → At K 0 (deeds_at (kids k [])) (below (kids k)) m
-  at_inside K k ds kids [] (le, f, bef, v, q, e, g) = (bef, v, rw q e, omega arith)
-  at_inside K k ds kids (j ∷ m) (le, f, bef, v, q, e, g) = (omega arith, f, bef, v, q, e, g)
+  at_inside : (K k : ℕ) (ds : List (Deed W)) (kids : ℕ → Frames W) (m : Name) → ((n : Name) → kids k (0 ∷ n) ≡ None) → At K k ds kids (k ∷ m) → At K 1 (deeds_at (kids k [])) (below (kids k)) m
+  at_inside K k ds kids [] none (le, f, bef, v, q, e, g) = (bef, v, rw q e, omega arith)
+  at_inside K k ds kids (j ∷ m) none (le, f, bef, v, q, e, g) = (counts_from (kids k) j m f none q, f, bef, v, q, e, g)
 
   resumed_rest_of : (b : Bool) (e : Event) (r : Run W) → IsResumed b (act e r) → IsResumed false r
   resumed_rest_of true e r h = h.1
@@ -67,16 +68,16 @@ module _ {W : Type 0} where
   still_past Spawns e ds h = ⊎_elim (λ z. z) (λ z. absurd z) (last_sync (e ∷ ds) (Does (Passes Resumes)) h)
 
   module _ (c : Cell) where
-    abbrev Met : Run W → ℕ → List (Deed W) → (ℕ → Frames W) → Name → ℕ → Type 0
-    Met r k ds kids n x = (y : ℕ) × Front W c r k ds kids n (Does (Passes Resumes)) x y
+    abbrev Met : Run W → ℕ → List (Deed W) → (ℕ → Frames W) → Name → ℤ → Type 0
+    Met r k ds kids n x = (y : ℤ) × Front W c r k ds kids n (Does (Passes Resumes)) x y
 
-    resume_here : (r : Run W) (k : ℕ) (kids : ℕ → Frames W) (x : ℕ) → IsResumed true r → Met r k [] kids [] x
+    resume_here : (r : Run W) (k : ℕ) (kids : ℕ → Frames W) (x : ℤ) → IsResumed true r → Met r k [] kids [] x
     resume_here stop k kids x res = absurd res
     resume_here (act e r) k kids x res = (x, subst (λ z. Front W c (act e r) k [] kids [] (Does z) x x) (is_resume e res.0) here_act)
     resume_here (child b w u r) k kids x res = absurd res
 
     -- where a continuation can be stolen its frame stands before the resume
-    pub find_stolen : (r : Run W) (k : ℕ) (ds : List (Deed W)) (kids : ℕ → Frames W) (n : Name) (x K : ℕ) (b : Bool) → IsResumed b r → IsCut r k ds kids → At K k ds kids n → (y : ℕ) × Front W c r k ds kids n (Does (Passes Resumes)) x y
+    pub find_stolen : (r : Run W) (k : ℕ) (ds : List (Deed W)) (kids : ℕ → Frames W) (n : Name) (x : ℤ) (K : ℕ) (b : Bool) → IsResumed b r → IsCut r k ds kids → At K k ds kids n → (y : ℤ) × Front W c r k ds kids n (Does (Passes Resumes)) x y
     find_stolen stop k [] kids n x K b res cut at = at_none K k kids n cut at
     find_stolen stop k (d ∷ ds) kids n x K b res cut at = absurd cut
     find_stolen (act e r) k [] kids n x K b res cut at = at_none K k kids n cut at
@@ -95,8 +96,8 @@ module _ {W : Type 0} where
     find_stolen (child i w u r) k (d ∷ ds) kids (j ∷ m) x K b res cut at =
         let parts = resumed_parts_of b i w u r res in
         ⊎_elim
-        (λ same. subst (λ t. (y : ℕ) × Front W c (child i w u r) k (d ∷ ds) kids (t ∷ m) (Does (Passes Resumes)) x y) same
-        (let g = find_stolen u 0 (deeds_at (kids k [])) (below (kids k)) m x K false parts.0 cut.2 (at_inside K k (d ∷ ds) kids m (subst (λ t. At K k (d ∷ ds) kids (t ∷ m)) (sym same) at)) in
+        (λ same. subst (λ t. (y : ℤ) × Front W c (child i w u r) k (d ∷ ds) kids (t ∷ m) (Does (Passes Resumes)) x y) same
+        (let g = find_stolen u 1 (deeds_at (kids k [])) (below (kids k)) m x K false parts.0 cut.2 (at_inside K k (d ∷ ds) kids m cut.1.1 (subst (λ t. At K k (d ∷ ds) kids (t ∷ m)) (sym same) at)) in
         (g.0, inside g.1)))
         (λ other. let g = find_stolen r (suc k) ds kids (j ∷ m) (value_after u c x) K true parts.1 cut.4 (at_child K k d ds i w kids (j ∷ m) cut.0 (omega arith) (λ q z. cc) at) in
         (g.0, past_child cut.3 g.1))
@@ -130,11 +131,11 @@ only_last : {W : Type 0} (K k : ℕ) (d : Deed W) (kids : ℕ → Frames W) → 
 only_last K k d kids ([], v, q, g) = omega arith
 only_last K k d kids (b ∷ bef, v, q, g) = let z : [] ≡ bef ++ Invokes Spawns v ∷ [] = cc in nil_snoc bef _ z
 
-module _ {W V : Type 0} (M : Monoid V) (i : Cell) where
-  child_same : (u : Run W) (k : ℕ) (kids : ℕ → Frames W) (loose loose' : Name → Bool) (pcs pcs' : Name → V) (p : V) → under loose k ≡ under loose' k → under pcs k ≡ under pcs' k → Lies M i u 0 (deeds_at (kids k [])) (below (kids k)) (λ n. loose (k ∷ n)) (λ n. pcs (k ∷ n)) M.unit p (pcs (k ∷ [])) → Lies M i u 0 (deeds_at (kids k [])) (below (kids k)) (λ n. loose' (k ∷ n)) (λ n. pcs' (k ∷ n)) M.unit p (pcs' (k ∷ []))
+module _ {W V : Type 0} (M : Monoid V) (i : Instance) where
+  child_same : (u : Run W) (k : ℕ) (kids : ℕ → Frames W) (loose loose' : Name → Bool) (pcs pcs' : Name → V) (p : V) → under loose k ≡ under loose' k → under pcs k ≡ under pcs' k → Lies M i u 1 (deeds_at (kids k [])) (below (kids k)) (λ n. loose (k ∷ n)) (λ n. pcs (k ∷ n)) M.unit p (pcs (k ∷ [])) → Lies M i u 1 (deeds_at (kids k [])) (below (kids k)) (λ n. loose' (k ∷ n)) (λ n. pcs' (k ∷ n)) M.unit p (pcs' (k ∷ []))
   child_same u k kids loose loose' pcs pcs' p f v h =
-      subst (λ (z : Name → V). Lies M i u 0 (deeds_at (kids k [])) (below (kids k)) (λ n. loose' (k ∷ n)) z M.unit p (z [])) v
-      (subst (λ (z : Name → Bool). Lies M i u 0 (deeds_at (kids k [])) (below (kids k)) z (λ n. pcs (k ∷ n)) M.unit p (pcs (k ∷ []))) f h)
+      subst (λ (z : Name → V). Lies M i u 1 (deeds_at (kids k [])) (below (kids k)) (λ n. loose' (k ∷ n)) z M.unit p (z [])) v
+      (subst (λ (z : Name → Bool). Lies M i u 1 (deeds_at (kids k [])) (below (kids k)) z (λ n. pcs (k ∷ n)) M.unit p (pcs (k ∷ []))) f h)
 
   resumed_flags : (k : ℕ) (loose loose' : Name → Bool) (ds : List (Deed W)) (X Y : Type 0) → ((j : ℕ) → suc k ≤ j → (n : Name) → loose' (j ∷ n) ≡ loose (j ∷ n)) → (X → Y) → WhenResumed (suc k) loose ds X → WhenResumed (suc k) loose' ds Y
   resumed_flags k loose loose' [] X Y fl g h = λ j le n. fl j le n ∙ h j le n
@@ -167,11 +168,11 @@ module _ {W V : Type 0} (M : Monoid V) (i : Cell) where
 
   module _ {c : Cell} where
     -- nothing goes on beside a child that isn't done and wasn't left to a thief
-    stuck_resumed : (u : Run W) (kids : ℕ → Frames W) {m : Name} {a : Deed W} {x y : ℕ} (X Y : Type 0) (k : ℕ) (loose loose' : Name → Bool) (ds : List (Deed W)) → Front W c u 0 (deeds_at (kids k [])) (below (kids k)) m a x y → ((j : ℕ) → suc k ≤ j → (n : Name) → loose' (j ∷ n) ≡ loose (j ∷ n)) → WhenResumed (suc k) loose ds (IsFull u 0 (deeds_at (kids k [])) (below (kids k)) × X) → WhenResumed (suc k) loose' ds (IsFull u 0 (deeds_at (kids k [])) (below (kids k)) × Y)
+    stuck_resumed : (u : Run W) (kids : ℕ → Frames W) {m : Name} {a : Deed W} {x y : ℤ} (X Y : Type 0) (k : ℕ) (loose loose' : Name → Bool) (ds : List (Deed W)) → Front W c u 1 (deeds_at (kids k [])) (below (kids k)) m a x y → ((j : ℕ) → suc k ≤ j → (n : Name) → loose' (j ∷ n) ≡ loose (j ∷ n)) → WhenResumed (suc k) loose ds (IsFull u 1 (deeds_at (kids k [])) (below (kids k)) × X) → WhenResumed (suc k) loose' ds (IsFull u 1 (deeds_at (kids k [])) (below (kids k)) × Y)
     stuck_resumed u kids X Y k loose loose' [] f fl h = λ j le n. fl j le n ∙ h j le n
     stuck_resumed u kids X Y k loose loose' (d ∷ ds) f fl h = absurd (full_stuck f h.0)
 
-    pub lies_steal : {r : Run W} {k : ℕ} {ds : List (Deed W)} {kids : ℕ → Frames W} {n : Name} {a : Deed W} {x y : ℕ} → Front W c r k ds kids n a x y → a ≡ Does (Passes Resumes) → IsCut r k ds kids → (b : Bool) → NotFirst {W = W} M i b ds → IsResumed b r → (K : ℕ) → At K k ds kids n → (loose loose' : Name → Bool) (acc p : V) (pcs pcs' : Name → V) (root root' : V) → Lies M i r k ds kids loose pcs acc p root → Taken M n K loose loose' pcs root pcs' root' → Lies M i r k ds kids loose' pcs' acc p root'
+    pub lies_steal : {r : Run W} {k : ℕ} {ds : List (Deed W)} {kids : ℕ → Frames W} {n : Name} {a : Deed W} {x y : ℤ} → Front W c r k ds kids n a x y → a ≡ Does (Passes Resumes) → IsCut r k ds kids → (b : Bool) → NotFirst {W = W} M i b ds → IsResumed b r → (K : ℕ) → At K k ds kids n → (loose loose' : Name → Bool) (acc p : V) (pcs pcs' : Name → V) (root root' : V) → Lies M i r k ds kids loose pcs acc p root → Taken M n K loose loose' pcs root pcs' root' → Lies M i r k ds kids loose' pcs' acc p root'
     lies_steal (here_act {e = e}) is cut true not res K at loose loose' acc p pcs pcs' root root' lies tk = absurd not
     lies_steal (here_act {e = e}) is cut false not res K at loose loose' acc p pcs pcs' root root' lies tk = let z : e ≡ Passes Resumes = cc in absurd (res.0 (rw z tt))
     lies_steal here_child is cut b not res K at loose loose' acc p pcs pcs' root root' lies tk = absurd (cc)
@@ -192,8 +193,8 @@ module _ {W V : Type 0} (M : Monoid V) (i : Cell) where
         let off : loose (k ∷ []) ≡ false = subst (λ z. loose (z ∷ []) ≡ false) here tk.0 in
         let on : loose' (k ∷ []) ≡ true = subst (λ z. loose' (z ∷ []) ≡ true) here tk.1 in
         let old : NoneStolen (suc k) loose = rw off at lies.1 in (
-          subst (λ z. Lies M i u 0 (deeds_at (kids k [])) (below (kids k)) (λ n. loose' (k ∷ n)) (λ n. pcs' (k ∷ n)) M.unit p z) (sym (tk.4 k []))
-              (lies_flags u 0 (deeds_at (kids k [])) (below (kids k)) (λ n. loose (k ∷ n)) (λ n. loose' (k ∷ n)) (λ n. pcs (k ∷ n)) (λ n. pcs' (k ∷ n)) M.unit p (pcs (k ∷ [])) (λ j le m. tk.2 k (j ∷ m) (λ q. cc)) (λ j le m. tk.4 k (j ∷ m)) lies.0),
+          subst (λ z. Lies M i u 1 (deeds_at (kids k [])) (below (kids k)) (λ n. loose' (k ∷ n)) (λ n. pcs' (k ∷ n)) M.unit p z) (sym (tk.4 k []))
+              (lies_flags u 1 (deeds_at (kids k [])) (below (kids k)) (λ n. loose (k ∷ n)) (λ n. loose' (k ∷ n)) (λ n. pcs (k ∷ n)) (λ n. pcs' (k ∷ n)) M.unit p (pcs (k ∷ [])) (λ j le m. tk.2 k (j ∷ m) (λ q. cc)) (λ j le m. tk.4 k (j ∷ m)) lies.0),
           rw on (lies_nil M i r (suc k) kids loose' pcs' _ M.unit root' tk.3 (λ j le n. tk.2 j n (λ q. let z : j ≡ K = cc in omega arith) ∙ old j le n)),
         )
     lies_steal (past_child {i = Spawns} {ds = []} {n = j ∷ m} q f) is cut b not res K at loose loose' acc p pcs pcs' root root' lies tk = front_nonempty f refl refl
@@ -211,10 +212,10 @@ module _ {W V : Type 0} (M : Monoid V) (i : Cell) where
         )
     lies_steal (inside {i = Calls} {w = w} {u = u} {r = r} {k = k} {d = d} {ds = e ∷ ds} {kids = kids} {m = m} {a = a} f) is cut b not res K at loose loose' acc p pcs pcs' root root' lies tk = absurd (full_stuck f (cut.3 tt))
     lies_steal (inside {i = Calls} {w = w} {u = u} {r = r} {k = k} {d = d} {ds = []} {kids = kids} {m = m} {a = a} f) is cut b not res K at loose loose' acc p pcs pcs' root root' lies tk =
-        let inner = lies_steal f is cut.2 false tt (resumed_parts_of b Calls w u r res).0 K (at_inside K k (d ∷ []) kids m at) (λ n. loose (k ∷ n)) (λ n. loose' (k ∷ n)) M.unit p (λ n. pcs (k ∷ n)) (λ n. pcs' (k ∷ n)) (pcs (k ∷ [])) (pcs' (k ∷ [])) lies.1 tk.4 in
+        let inner = lies_steal f is cut.2 false tt (resumed_parts_of b Calls w u r res).0 K (at_inside K k (d ∷ []) kids m cut.1.1 at) (λ n. loose (k ∷ n)) (λ n. loose' (k ∷ n)) M.unit p (λ n. pcs (k ∷ n)) (λ n. pcs' (k ∷ n)) (pcs (k ∷ [])) (pcs' (k ∷ [])) lies.1 tk.4 in
         (tk.0 ∙ lies.0, inner, λ j le n. tk.1 j n (λ q. omega arith) ∙ lies.2 j le n)
     lies_steal (inside {i = Spawns} {w = w} {u = u} {r = r} {k = k} {d = d} {ds = ds} {kids = kids} {m = m} {a = a} f) is cut b not res K at loose loose' acc p pcs pcs' root root' lies tk =
-        let inner = lies_steal f is cut.2 false tt (resumed_parts_of b Spawns w u r res).0 K (at_inside K k (d ∷ ds) kids m at) (λ n. loose (k ∷ n)) (λ n. loose' (k ∷ n)) M.unit p (λ n. pcs (k ∷ n)) (λ n. pcs' (k ∷ n)) (pcs (k ∷ [])) (pcs' (k ∷ [])) lies.0 tk.4 in (
+        let inner = lies_steal f is cut.2 false tt (resumed_parts_of b Spawns w u r res).0 K (at_inside K k (d ∷ ds) kids m cut.1.1 at) (λ n. loose (k ∷ n)) (λ n. loose' (k ∷ n)) M.unit p (λ n. pcs (k ∷ n)) (λ n. pcs' (k ∷ n)) (pcs (k ∷ [])) (pcs' (k ∷ [])) lies.0 tk.4 in (
           inner,
           rw tk.0
               (when_stolen_map (loose (k ∷ [])) _ _ _ _

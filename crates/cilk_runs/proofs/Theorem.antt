@@ -1,24 +1,49 @@
--- The theorem.
-use Rattle.std.proofs.Common.{◌≡◌, ℕ, List, Option, Some, sym, ◌∙◌}
-use Rattle.cilk_runs.specs.Runs.{Cell, Ask, Deed, Run}
+-- The theorem. What a crate cites that has a behaviour of its own, for any types W, V and any relation Next:
+--   IsDetermined            shown of its Next (follows_determined does it for a function of the history);
+--   opening_ok              (Kept) the opening state is consistent, whatever the run;
+--   race_free_kept          one step, from races over all pairs of positions: for machines and schedulers;
+--   race_free_determinate   all lists of steps, likewise;
+--   kept, determinate       the same from the nested forms RaceFree and ViewFree, which no_race (Races) and no_view_race (Peers) give;
+--   room_at, never_stops    (Kept) the totals of one consistent state;
+--   listed, unread          (Listed) HasNoRace from an empty list of pairs, and HasNoViewRace of a reducer that nobody reads.
+use Rattle.std.proofs.Common.{◌≡◌, ℤ, List, Option, Some, sym, ◌∙◌}
+use Rattle.cilk_runs.specs.Runs.{Cell, Instance, Ask, Deed, Run}
 use Rattle.cilk_runs.specs.Serial.{IsDetermined}
-use Rattle.cilk_runs.specs.Monoids.{Monoid, IsLawful}
+use Rattle.cilk_runs.specs.Costs.{Costs}
+use Rattle.cilk_runs.specs.Monoids.{Monoid, IsLawful, unit_of}
 use Rattle.cilk_runs.specs.Views.{ViewFree}
 use Rattle.cilk_runs.specs.Races.{RaceFree}
-use Rattle.cilk_runs.specs.Theorem.{IsSerialRun, IsDeterminate, follows}
+use Rattle.cilk_runs.specs.Theorem.{IsSerialRun, HasNoRaces, IsKept, IsDeterminate, follows}
+use Rattle.cilk_runs.proofs.Races.{no_race}
+use Rattle.cilk_runs.proofs.Peers.{no_view_race}
 use Rattle.cilk_runs.proofs.Joins.{full_joined}
-use Rattle.cilk_runs.proofs.Kept.{opening_ok, steps_keep, ended_ok}
+use Rattle.cilk_runs.proofs.Kept.{opening_ok, room_at, step_keeps, steps_keep, ended_ok}
 
-pub determinate : (W V : Type 0) (M : Monoid V) (Next : W → List (Deed W) → Ask W → Type 0) → IsLawful M → IsDetermined W Next → (w : W) (t : Run W) (opening : Cell → ℕ) → IsSerialRun W V M Next w t opening → RaceFree t → ((i : Cell) → ViewFree M i t M.unit) → IsDeterminate W V M Next w t opening
-determinate W V M Next law determined w t opening run free apart ns s s' o steps =
-    let ok = steps_keep W V M Next w t opening determined run.behaves run.closed run.serial free law run.resumed run.views apart ns s s' (opening_ok W V M Next w t opening determined run.behaves run.closed run.serial free law run.resumed run.views apart s o) steps in
+pub kept : (W V : Type 0) (M : Instance → Monoid V) (Next : W → List (Deed W) → Ask W → Type 0) (C : Costs W) → ((i : Instance) → IsLawful (M i)) → IsDetermined W Next → (w : W) (t : Run W) (opening : Cell → ℤ) → IsSerialRun W V M Next C w t opening → RaceFree t → ((i : Instance) → ViewFree (M i) i t (unit_of M i)) → IsKept W V M Next C w t opening
+kept W V M Next C law determined w t opening run free apart s s' n ok step = step_keeps W V M Next C w t opening determined run.behaves run.closed run.serial free law run.resumed run.views apart run.within s s' n ok step
+
+pub determinate : (W V : Type 0) (M : Instance → Monoid V) (Next : W → List (Deed W) → Ask W → Type 0) (C : Costs W) → ((i : Instance) → IsLawful (M i)) → IsDetermined W Next → (w : W) (t : Run W) (opening : Cell → ℤ) → IsSerialRun W V M Next C w t opening → RaceFree t → ((i : Instance) → ViewFree (M i) i t (unit_of M i)) → IsDeterminate W V M Next C w t opening
+determinate W V M Next C law determined w t opening run free apart ns s s' o steps =
+    let ok = steps_keep W V M Next C w t opening determined run.behaves run.closed run.serial free law run.resumed run.views apart run.within ns s s' (opening_ok W V M Next C w t opening s o) steps in
     record {
       consistent = ok;
-      complete = λ h. (ended_ok W V M Next w t opening determined run.behaves run.closed run.serial free law run.resumed run.views apart s' ok h).0;
-      outcome = λ h. (ended_ok W V M Next w t opening determined run.behaves run.closed run.serial free law run.resumed run.views apart s' ok h).1;
-      once = λ h n. ok.joins n ∙ full_joined n t s'.frames (ended_ok W V M Next w t opening determined run.behaves run.closed run.serial free law run.resumed run.views apart s' ok h).0 ok.cut run.closed;
-      reducers = λ h. (ended_ok W V M Next w t opening determined run.behaves run.closed run.serial free law run.resumed run.views apart s' ok h).2;
+      room = λ total n f a m. room_at W V M Next C w t opening determined run.behaves run.closed run.serial free law run.resumed run.views apart run.within s' n ok total f a m;
+      deeds = λ h. (ended_ok W V M Next C w t opening determined run.behaves run.closed run.serial free law run.resumed run.views apart run.within s' ok h).3;
+      complete = λ h. (ended_ok W V M Next C w t opening determined run.behaves run.closed run.serial free law run.resumed run.views apart run.within s' ok h).0;
+      outcome = λ h. (ended_ok W V M Next C w t opening determined run.behaves run.closed run.serial free law run.resumed run.views apart run.within s' ok h).1;
+      once = λ h n. ok.joins n ∙ full_joined n t w s'.frames ok.root (ended_ok W V M Next C w t opening determined run.behaves run.closed run.serial free law run.resumed run.views apart run.within s' ok h).0 ok.cut run.closed;
+      reducers = λ h. (ended_ok W V M Next C w t opening determined run.behaves run.closed run.serial free law run.resumed run.views apart run.within s' ok h).2;
     }
 
-pub follows_determined : (next : ℕ → List (Deed ℕ) → Option (Ask ℕ)) → IsDetermined ℕ (follows next)
+module _ (W V : Type 0) (M : Instance → Monoid V) (Next : W → List (Deed W) → Ask W → Type 0) (C : Costs W) (law : (i : Instance) → IsLawful (M i)) (determined : IsDetermined W Next) (w : W) (t : Run W) (opening : Cell → ℤ) (run : IsSerialRun W V M Next C w t opening) (free : HasNoRaces t) where
+  apart_views : (i : Instance) → ViewFree (M i) i t (unit_of M i)
+  apart_views i = no_view_race (M i) (law i) i t (free.1 i) run.inhabited run.closed (run.retired i) (run.created i)
+
+  pub race_free_kept : IsKept W V M Next C w t opening
+  race_free_kept = kept W V M Next C law determined w t opening run (no_race t free.0) apart_views
+
+  pub race_free_determinate : IsDeterminate W V M Next C w t opening
+  race_free_determinate = determinate W V M Next C law determined w t opening run (no_race t free.0) apart_views
+
+pub follows_determined : {W : Type 0} (next : W → List (Deed W) → Option (Ask W)) → IsDetermined W (follows next)
 follows_determined next w past a b p q = let h : Some a ≡ Some b = sym p ∙ q in cc

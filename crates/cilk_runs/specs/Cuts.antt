@@ -1,16 +1,21 @@
 -- A state that is a consistent cut of a serial run.
-use Rattle.std.specs.Prelude.{◌+◌, cond, nat_eq, ◌≡◌, ℕ, suc, ◌≤◌, Bool, true, false, List, [], ◌∷◌, Option, Some, None}
-use Rattle.cilk_runs.specs.Runs.{Name, same_name, Cell, Kind, Calls, Spawns, Event, Reads, Writes, Syncs, Ends, Passes, Deed, Does, Invokes, Run, stop, act, child}
-use Rattle.cilk_runs.specs.Monoids.{Monoid, on_view}
+use Rattle.std.specs.Prelude.{◌+◌, cond, nat_eq, ◌≡◌, ℕ, suc, ℤ, ◌≤◌, Bool, true, false, List, [], ◌∷◌, ◌++◌, Option, Some, None}
+use Rattle.cilk_runs.specs.Runs.{Name, same_name, Cell, Instance, Kind, Calls, Spawns, Event, Reads, Writes, Syncs, Ends, Passes, Deed, Does, Invokes, Run, stop, act, child, Invoke, ask_of}
+use Rattle.cilk_runs.specs.Costs.{Costs, Total, cost}
+use Rattle.cilk_runs.specs.Monoids.{Monoid, unit_of, on_view}
 use Rattle.cilk_runs.specs.Machine.{Frame, Frames, State, deeds_at, HasSync, put}
 
 -- the frames below each child of a frame, by the child's ordinal
 abbrev pub below : {W : Type 0} → Frames W → ℕ → Frames W
 below frames k n = frames (k ∷ n)
 
-abbrev pub IsStarted : {W : Type 0} → W → Option (Frame W) → Type 0
-IsStarted w None = ⊥
-IsStarted w (Some f) = f.what ≡ w
+abbrev pub IsAs : {W : Type 0} → W → Option (Frame W) → Type 0
+IsAs w None = ⊥
+IsAs w (Some f) = f.what ≡ w
+
+-- the frame is there, started as w, and the ordinals of its children count from 1
+abbrev pub IsStarted : {W : Type 0} → W → Frames W → Type 0
+IsStarted w frames = IsAs w (frames []) × ((n : Name) → frames (0 ∷ n) ≡ None)
 
 -- the frame has made each event of the run, and so has each frame in it
 abbrev pub IsFull : {W : Type 0} → Run W → ℕ → List (Deed W) → (ℕ → Frames W) → Type 0
@@ -19,7 +24,7 @@ IsFull stop k (d ∷ ds) kids = ⊥
 IsFull (act e r) k [] kids = ⊥
 IsFull (act e r) k (d ∷ ds) kids = IsFull r k ds kids
 IsFull (child i w u r) k [] kids = ⊥
-IsFull (child i w u r) k (d ∷ ds) kids = IsFull u 0 (deeds_at (kids k [])) (below (kids k)) × IsFull r (suc k) ds kids
+IsFull (child i w u r) k (d ∷ ds) kids = IsFull u 1 (deeds_at (kids k [])) (below (kids k)) × IsFull r (suc k) ds kids
 
 -- what must have ended by now: a called child once there is a further deed, a spawned one once there is a sync
 abbrev pub IsPast : {W : Type 0} → Kind → List (Deed W) → Type 0
@@ -41,18 +46,27 @@ IsCut (act e r) k (d ∷ ds) kids = (d ≡ Does e) × IsCut r k ds kids
 IsCut (child i w u r) k [] kids = NoneFrom k kids
 IsCut (child i w u r) k (d ∷ ds) kids =
     (d ≡ Invokes i w)
-    × IsStarted w (kids k [])
-    × IsCut u 0 (deeds_at (kids k [])) (below (kids k))
-    × (IsPast i ds → IsFull u 0 (deeds_at (kids k [])) (below (kids k)))
+    × IsStarted w (kids k)
+    × IsCut u 1 (deeds_at (kids k [])) (below (kids k))
+    × (IsPast i ds → IsFull u 1 (deeds_at (kids k [])) (below (kids k)))
     × IsCut r (suc k) ds kids
 
 -- a cell's value after the events made, in serial order, from its value before
-abbrev pub made : {W : Type 0} → Run W → ℕ → List (Deed W) → (ℕ → Frames W) → Cell → ℕ → ℕ
+abbrev pub made : {W : Type 0} → Run W → ℕ → List (Deed W) → (ℕ → Frames W) → Cell → ℤ → ℤ
 made stop k ds kids c x = x
 made (act e r) k [] kids c x = x
 made (act e r) k (d ∷ ds) kids c x = made r k ds kids c (put e c x)
 made (child i w u r) k [] kids c x = x
-made (child i w u r) k (d ∷ ds) kids c x = made r (suc k) ds kids c (made u 0 (deeds_at (kids k [])) (below (kids k)) c x)
+made (child i w u r) k (d ∷ ds) kids c x = made r (suc k) ds kids c (made u 1 (deeds_at (kids k [])) (below (kids k)) c x)
+
+-- what the events made add to a total, of a frame that was started as w and has this history
+abbrev pub spent : {W : Type 0} → Costs W → Total → W → List (Deed W) → Run W → ℕ → List (Deed W) → (ℕ → Frames W) → ℕ
+spent C total w past stop k ds kids = 0
+spent C total w past (act e r) k [] kids = 0
+spent C total w past (act e r) k (d ∷ ds) kids = cost C total w past (ask_of e) + spent C total w (past ++ Does e ∷ []) r k ds kids
+spent C total w past (child i v u r) k [] kids = 0
+spent C total w past (child i v u r) k (d ∷ ds) kids =
+    cost C total w past (Invoke i v) + (spent C total v [] u 1 (deeds_at (kids k [])) (below (kids k)) + spent C total w (past ++ Invokes i v ∷ []) r (suc k) ds kids)
 
 -- no continuation from this ordinal on is stolen
 abbrev pub NoneStolen : ℕ → (Name → Bool) → Type 0
@@ -71,20 +85,20 @@ abbrev pub block_after : {V : Type 0} → Monoid V → Event → V → V
 block_after M (Reads c n) acc = acc
 block_after M (Writes c n) acc = acc
 block_after M Syncs acc = M.unit
-block_after M Ends acc = acc
+block_after M (Ends val gone) acc = acc
 block_after M (Passes m) acc = acc
 
-abbrev pub own_after : {V : Type 0} → Monoid V → Cell → Event → V → V → V
+abbrev pub own_after : {V : Type 0} → Monoid V → Instance → Event → V → V → V
 own_after M i (Reads c n) acc p = p
 own_after M i (Writes c n) acc p = p
 own_after M i Syncs acc p = M.join acc p
-own_after M i Ends acc p = p
+own_after M i (Ends val gone) acc p = on_view M i (Ends val gone) p
 own_after M i (Passes m) acc p = on_view M i (Passes m) p
 
 -- The pieces' views of instance i are those of the ranges that they cover. The frame began with view p, acc is the product at its block, root
 -- is its own view now, pcs those of the frames below it. A child begins with its parent's piece. If its continuation was stolen
 -- that goes on from the unit, and the child's piece goes to the block, else it goes on with the child's piece once that has ended.
-abbrev pub Lies : {W V : Type 0} → Monoid V → Cell → Run W → ℕ → List (Deed W) → (ℕ → Frames W) → (Name → Bool) → (Name → V) → V → V → V → Type 0
+abbrev pub Lies : {W V : Type 0} → Monoid V → Instance → Run W → ℕ → List (Deed W) → (ℕ → Frames W) → (Name → Bool) → (Name → V) → V → V → V → Type 0
 Lies M i stop k [] kids loose pcs acc p root = (root ≡ p) × NoneStolen k loose
 Lies M i stop k (d ∷ ds) kids loose pcs acc p root = ⊥
 Lies M i (act e r) k [] kids loose pcs acc p root = (root ≡ p) × NoneStolen k loose
@@ -92,13 +106,13 @@ Lies M i (act e r) k (d ∷ ds) kids loose pcs acc p root = Lies M i r k ds kids
 Lies M i (child b w u r) k [] kids loose pcs acc p root = (root ≡ p) × NoneStolen k loose
 Lies M i (child Calls w u r) k (d ∷ ds) kids loose pcs acc p root =
     (loose (k ∷ []) ≡ false)
-    × Lies M i u 0 (deeds_at (kids k [])) (below (kids k)) (λ n. loose (k ∷ n)) (λ n. pcs (k ∷ n)) M.unit p (pcs (k ∷ []))
+    × Lies M i u 1 (deeds_at (kids k [])) (below (kids k)) (λ n. loose (k ∷ n)) (λ n. pcs (k ∷ n)) M.unit p (pcs (k ∷ []))
     × WhenResumed (suc k) loose ds (Lies M i r (suc k) ds kids loose pcs acc (pcs (k ∷ [])) root)
 Lies M i (child Spawns w u r) k (d ∷ ds) kids loose pcs acc p root =
-    Lies M i u 0 (deeds_at (kids k [])) (below (kids k)) (λ n. loose (k ∷ n)) (λ n. pcs (k ∷ n)) M.unit p (pcs (k ∷ []))
+    Lies M i u 1 (deeds_at (kids k [])) (below (kids k)) (λ n. loose (k ∷ n)) (λ n. pcs (k ∷ n)) M.unit p (pcs (k ∷ []))
     × WhenStolen (loose (k ∷ []))
     (Lies M i r (suc k) ds kids loose pcs (M.join acc (pcs (k ∷ []))) M.unit root)
-    (WhenResumed (suc k) loose ds (IsFull u 0 (deeds_at (kids k [])) (below (kids k)) × Lies M i r (suc k) ds kids loose pcs acc (pcs (k ∷ [])) root))
+    (WhenResumed (suc k) loose ds (IsFull u 1 (deeds_at (kids k [])) (below (kids k)) × Lies M i r (suc k) ds kids loose pcs acc (pcs (k ∷ [])) root))
 
 abbrev pub times : Name → List Name → ℕ
 times m [] = 0
@@ -109,7 +123,7 @@ sync_bit [] = 0
 sync_bit (Does (Reads c v) ∷ ds) = sync_bit ds
 sync_bit (Does (Writes c v) ∷ ds) = sync_bit ds
 sync_bit (Does Syncs ∷ ds) = 1
-sync_bit (Does Ends ∷ ds) = sync_bit ds
+sync_bit (Does (Ends val gone) ∷ ds) = sync_bit ds
 sync_bit (Does (Passes m) ∷ ds) = sync_bit ds
 sync_bit (Invokes k w ∷ ds) = sync_bit ds
 
@@ -126,7 +140,7 @@ joined_at z k (Invokes b w ∷ ds) = cond (nat_eq z k) (spawn_bit b (sync_bit ds
 -- the same by name
 abbrev pub joined : {W : Type 0} → Frames W → Name → ℕ
 joined frames [] = 0
-joined frames (k ∷ []) = joined_at 0 k (deeds_at (frames []))
+joined frames (k ∷ []) = joined_at 1 k (deeds_at (frames []))
 joined frames (j ∷ k ∷ n) = joined (below frames j) (k ∷ n)
 
 -- 1 where the name is that of a spawned child, and else 0
@@ -137,14 +151,15 @@ spawned_at z k (Invokes b w ∷ ds) = cond (nat_eq z k) (spawn_bit b 1) (spawned
 
 abbrev pub spawned : {W : Type 0} → Frames W → Name → ℕ
 spawned frames [] = 0
-spawned frames (k ∷ []) = spawned_at 0 k (deeds_at (frames []))
+spawned frames (k ∷ []) = spawned_at 1 k (deeds_at (frames []))
 spawned frames (j ∷ k ∷ n) = spawned (below frames j) (k ∷ n)
 
 -- the whole state
-pub record IsConsistent {W V : Type 0} (M : Monoid V) (w : W) (t : Run W) (opening : Cell → ℕ) (s : State W V) : Type 0 where
-  pub root : IsStarted w (s.frames [])
-  pub cut : IsCut t 0 (deeds_at (s.frames [])) (below s.frames)
-  pub memory : (c : Cell) → s.memory c ≡ made t 0 (deeds_at (s.frames [])) (below s.frames) c (opening c)
-  pub pieces : (i : Cell) → Lies M i t 0 (deeds_at (s.frames [])) (below s.frames) s.stolen (λ n. s.piece n i) M.unit M.unit (s.piece [] i)
+pub record IsConsistent {W V : Type 0} (M : Instance → Monoid V) (C : Costs W) (w : W) (t : Run W) (opening : Cell → ℤ) (s : State W V) : Type 0 where
+  pub root : IsStarted w s.frames
+  pub cut : IsCut t 1 (deeds_at (s.frames [])) (below s.frames)
+  pub memory : (c : Cell) → s.memory c ≡ made t 1 (deeds_at (s.frames [])) (below s.frames) c (opening c)
+  pub pieces : (i : Instance) → Lies (M i) i t 1 (deeds_at (s.frames [])) (below s.frames) s.stolen (λ n. s.piece n i) (unit_of M i) (unit_of M i) (s.piece [] i)
   pub joins : (m : Name) → times m s.joins ≡ joined s.frames m
-  pub no_fault : s.fault ≡ false
+  pub totals : (total : Total) → s.totals total ≡ C.used total + spent C total w [] t 1 (deeds_at (s.frames [])) (below s.frames)
+  pub no_stop : s.stopped ≡ None

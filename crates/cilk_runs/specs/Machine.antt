@@ -1,7 +1,9 @@
 -- The free machine: any frame that isn't waiting may make its next event at any moment.
-use Rattle.std.specs.Prelude.{◌≡◌, ℕ, suc, pred, Bool, true, false, cond, List, [], ◌∷◌, ◌++◌, Option, Some, None, ◌⊎◌}
-use Rattle.cilk_runs.specs.Runs.{Name, same_name, Cell, same_cell, Calls, Spawns, Ask, Read, Write, Invoke, Sync, End, Pass, Fail, Wish, Plain, Resume, Update, Reset, Value, Mark, Marks, Resumes, Updates, Resets, Values, Event, Reads, Writes, Syncs, Ends, Passes, Deed, Does, Invokes}
-use Rattle.cilk_runs.specs.Monoids.{Monoid, mark_view}
+use Rattle.std.specs.Prelude.{◌≡◌, ℕ, suc, ◌+◌, nat_eq, ℤ, Bool, true, false, cond, List, [], ◌∷◌, ◌++◌, Option, Some, None, ◌⊎◌}
+use Rattle.cilk_runs.specs.Runs.{Name, same_name, Cell, same_cell, Instance, Calls, Spawns, Ask, Read, Write, Invoke, Sync, End, Pass, Fail, Wish, Begin, Resume, Create, Update, Set, Value, Print, Mark, Begins, Resumes, Creates, Updates, Sets, Values, Prints, Event, Reads, Writes, Syncs, Ends, Passes, Deed, Does, Invokes}
+use Rattle.cilk_types.specs.declared.fault.Fault.{Fault}
+use Rattle.cilk_runs.specs.Costs.{Costs, Total, cost, fault_of}
+use Rattle.cilk_runs.specs.Monoids.{Monoid, unit_of, numbers_of, on_view}
 
 pub record Frame (W : Type 0) : Type 0 where
   pub what : W
@@ -11,14 +13,21 @@ pub record Frame (W : Type 0) : Type 0 where
 abbrev pub Frames : Type 0 → Type 0
 Frames W = Name → Option (Frame W)
 
+-- where and why a run stopped: the strand, by its frame and its number among the frame's strands, from 1
+pub record Stop : Type 0 where
+  pub frame : Name
+  pub strand : ℕ
+  pub fault : Fault
+
 -- A state. The continuation that goes on beside a spawned child is named by that child.
 pub record State (W V : Type 0) : Type 0 where
   pub frames : Frames W
   pub stolen : Name → Bool
-  pub memory : Cell → ℕ
-  pub piece : Name → Cell → V  -- the views of the piece that a frame holds, or has left where it ended
+  pub memory : Cell → ℤ
+  pub piece : Name → Instance → V  -- the views of the piece that a frame holds, or has left where it ended
   pub joins : List Name
-  pub fault : Bool
+  pub totals : Total → ℕ
+  pub stopped : Option Stop
 
 abbrev pub deeds_at : {W : Type 0} → Option (Frame W) → List (Deed W)
 deeds_at None = []
@@ -29,7 +38,7 @@ HasEnd [] = ⊥
 HasEnd (Does (Reads c v) ∷ ds) = HasEnd ds
 HasEnd (Does (Writes c v) ∷ ds) = HasEnd ds
 HasEnd (Does Syncs ∷ ds) = HasEnd ds
-HasEnd (Does Ends ∷ ds) = Unit {0}
+HasEnd (Does (Ends val gone) ∷ ds) = Unit {0}
 HasEnd (Does (Passes m) ∷ ds) = HasEnd ds
 HasEnd (Invokes k w ∷ ds) = HasEnd ds
 
@@ -38,11 +47,11 @@ HasSync [] = ⊥
 HasSync (Does (Reads c v) ∷ ds) = HasSync ds
 HasSync (Does (Writes c v) ∷ ds) = HasSync ds
 HasSync (Does Syncs ∷ ds) = Unit {0}
-HasSync (Does Ends ∷ ds) = HasSync ds
+HasSync (Does (Ends val gone) ∷ ds) = HasSync ds
 HasSync (Does (Passes m) ∷ ds) = HasSync ds
 HasSync (Invokes k w ∷ ds) = HasSync ds
 
--- the number of frames started
+-- the number of frames started, which is the ordinal of the last
 abbrev pub started : {W : Type 0} → List (Deed W) → ℕ
 started [] = 0
 started (Does e ∷ ds) = started ds
@@ -57,32 +66,54 @@ Ready kid loose a k (Invokes Calls w ∷ ds) = (ds ≡ [] → HasEnd (deeds_at (
 Ready kid loose a k (Invokes Spawns w ∷ ds) =
     (ds ≡ [] → HasEnd (deeds_at (kid k)) ⊎ (loose k ≡ true)) × (a ≡ Sync → ¬ (HasSync ds) → HasEnd (deeds_at (kid k))) × Ready kid loose a (suc k) ds
 
-abbrev pub mark_of : (Cell → ℕ) → Wish → Mark
-mark_of number (Plain m) = Marks m
-mark_of number Resume = Resumes
-mark_of number (Update i x) = Updates i x
-mark_of number (Reset i o) = Resets i o
-mark_of number (Value i) = Values i (number i)
+-- the strands begun: at the frame's begin, at each resume and at each sync
+abbrev pub strands : {W : Type 0} → List (Deed W) → ℕ
+strands [] = 0
+strands (Does (Reads c v) ∷ ds) = strands ds
+strands (Does (Writes c v) ∷ ds) = strands ds
+strands (Does Syncs ∷ ds) = suc (strands ds)
+strands (Does (Ends val gone) ∷ ds) = strands ds
+strands (Does (Passes Begins) ∷ ds) = suc (strands ds)
+strands (Does (Passes Resumes) ∷ ds) = suc (strands ds)
+strands (Does (Passes (Creates i)) ∷ ds) = strands ds
+strands (Does (Passes (Updates i x)) ∷ ds) = strands ds
+strands (Does (Passes (Sets i x)) ∷ ds) = strands ds
+strands (Does (Passes (Values i n)) ∷ ds) = strands ds
+strands (Does (Passes (Prints x)) ∷ ds) = strands ds
+strands (Invokes k w ∷ ds) = strands ds
 
--- what is done by an ask, where the memory is this and the views' numbers are these
-abbrev pub deed_of : {W : Type 0} → (Cell → ℕ) → (Cell → ℕ) → Ask W → Deed W
+-- the latest strand begun, and the first before the frame's begin
+abbrev pub strand_of : {W : Type 0} → List (Deed W) → ℕ
+strand_of ds = cond (nat_eq (strands ds) 0) 1 (strands ds)
+
+abbrev pub mark_of : (Instance → ℤ) → Wish → Mark
+mark_of number Begin = Begins
+mark_of number Resume = Resumes
+mark_of number (Create i) = Creates i
+mark_of number (Update i x) = Updates i x
+mark_of number (Set i x) = Sets i x
+mark_of number (Value i) = Values i (number i)
+mark_of number (Print x) = Prints x
+
+-- What is done by an ask, where the memory is this and the views' numbers are these. A fault does nothing: it stops the run instead.
+abbrev pub deed_of : {W : Type 0} → (Cell → ℤ) → (Instance → ℤ) → Ask W → Deed W
 deed_of memory number (Read c) = Does (Reads c (memory c))
 deed_of memory number (Write c v) = Does (Writes c v)
 deed_of memory number (Invoke k w) = Invokes k w
 deed_of memory number Sync = Does Syncs
-deed_of memory number End = Does Ends
+deed_of memory number (End v gone) = Does (Ends v gone)
 deed_of memory number (Pass a) = Does (Passes (mark_of number a))
-deed_of memory number (Fail n) = Does (Passes (Marks n))
+deed_of memory number (Fail n) = Does (Passes Begins)
 
 -- what an event leaves in a cell that held x
-abbrev pub put : Event → Cell → ℕ → ℕ
+abbrev pub put : Event → Cell → ℤ → ℤ
 put (Reads c v) at x = x
 put (Writes c v) at x = cond (same_cell c at) v x
 put Syncs at x = x
-put Ends at x = x
+put (Ends val gone) at x = x
 put (Passes m) at x = x
 
-abbrev pub effect : {W : Type 0} → Deed W → Cell → ℕ → ℕ
+abbrev pub effect : {W : Type 0} → Deed W → Cell → ℤ → ℤ
 effect (Does e) at x = put e at x
 effect (Invokes k w) at x = x
 
@@ -96,7 +127,7 @@ begun w = record { what = w; deeds = [] }
 abbrev pub after_deed : {W : Type 0} → Frames W → Name → Frame W → Deed W → Frames W
 after_deed frames n f (Does e) = with_frame frames n (record f { deeds = f.deeds ++ Does e ∷ [] })
 after_deed frames n f (Invokes k w) =
-    with_frame (with_frame frames n (record f { deeds = f.deeds ++ Invokes k w ∷ [] })) (n ++ started f.deeds ∷ []) (begun w)
+    with_frame (with_frame frames n (record f { deeds = f.deeds ++ Invokes k w ∷ [] })) (n ++ suc (started f.deeds) ∷ []) (begun w)
 
 -- the ordinals of the children spawned in the block that is open at the end of the deeds
 abbrev pub open_block : {W : Type 0} → ℕ → List ℕ → List (Deed W) → List ℕ
@@ -104,7 +135,7 @@ open_block k block [] = block
 open_block k block (Does (Reads c v) ∷ ds) = open_block k block ds
 open_block k block (Does (Writes c v) ∷ ds) = open_block k block ds
 open_block k block (Does Syncs ∷ ds) = open_block k [] ds
-open_block k block (Does Ends ∷ ds) = open_block k block ds
+open_block k block (Does (Ends val gone) ∷ ds) = open_block k block ds
 open_block k block (Does (Passes m) ∷ ds) = open_block k block ds
 open_block k block (Invokes Calls w ∷ ds) = open_block (suc k) block ds
 open_block k block (Invokes Spawns w ∷ ds) = open_block (suc k) (block ++ k ∷ []) ds
@@ -117,19 +148,10 @@ abbrev pub joined_by : {W : Type 0} → Ask W → Name → List (Deed W) → Lis
 joined_by (Read c) n ds = []
 joined_by (Write c v) n ds = []
 joined_by (Invoke k w) n ds = []
-joined_by Sync n ds = children n (open_block 0 [] ds)
-joined_by End n ds = []
+joined_by Sync n ds = children n (open_block 1 [] ds)
+joined_by (End v gone) n ds = []
 joined_by (Pass m) n ds = []
 joined_by (Fail m) n ds = []
-
-abbrev pub is_fault : {W : Type 0} → Ask W → Bool
-is_fault (Read c) = false
-is_fault (Write c v) = false
-is_fault (Invoke k w) = false
-is_fault Sync = false
-is_fault End = false
-is_fault (Pass m) = false
-is_fault (Fail m) = true
 
 -- The product of the pieces that lie at the block open at the end of the deeds, by ascending ordinal: those of its stolen children.
 abbrev pub block_view : {W V : Type 0} → Monoid V → (ℕ → V) → (ℕ → Bool) → V → ℕ → List (Deed W) → V
@@ -137,47 +159,55 @@ block_view M kid loose acc k [] = acc
 block_view M kid loose acc k (Does (Reads c v) ∷ ds) = block_view M kid loose acc k ds
 block_view M kid loose acc k (Does (Writes c v) ∷ ds) = block_view M kid loose acc k ds
 block_view M kid loose acc k (Does Syncs ∷ ds) = block_view M kid loose M.unit k ds
-block_view M kid loose acc k (Does Ends ∷ ds) = block_view M kid loose acc k ds
+block_view M kid loose acc k (Does (Ends val gone) ∷ ds) = block_view M kid loose acc k ds
 block_view M kid loose acc k (Does (Passes m) ∷ ds) = block_view M kid loose acc k ds
 block_view M kid loose acc k (Invokes Calls w ∷ ds) = block_view M kid loose acc (suc k) ds
 block_view M kid loose acc k (Invokes Spawns w ∷ ds) = block_view M kid loose (cond (loose k) (M.join acc (kid k)) acc) (suc k) ds
 
 -- A frame's view of one instance after its event, where the block's product and the last child's view and flag are these.
 -- A resume takes the child's piece, unless a thief has an empty one.
-abbrev pub own_view : {V : Type 0} → Monoid V → Cell → V → Bool → V → Event → V → V
+abbrev pub own_view : {V : Type 0} → Monoid V → Instance → V → Bool → V → Event → V → V
 own_view M i block loose last (Reads c n) v = v
 own_view M i block loose last (Writes c n) v = v
 own_view M i block loose last Syncs v = M.join block v
-own_view M i block loose last Ends v = v
-own_view M i block loose last (Passes (Marks m)) v = v
+own_view M i block loose last (Ends val gone) v = on_view M i (Ends val gone) v
+own_view M i block loose last (Passes Begins) v = v
 own_view M i block loose last (Passes Resumes) v = cond loose v last
-own_view M i block loose last (Passes (Updates j x)) v = mark_view M (Updates j x) i v
-own_view M i block loose last (Passes (Resets j o)) v = mark_view M (Resets j o) i v
+own_view M i block loose last (Passes (Creates j)) v = on_view M i (Passes (Creates j)) v
+own_view M i block loose last (Passes (Updates j x)) v = on_view M i (Passes (Updates j x)) v
+own_view M i block loose last (Passes (Sets j x)) v = on_view M i (Passes (Sets j x)) v
 own_view M i block loose last (Passes (Values j n)) v = v
+own_view M i block loose last (Passes (Prints x)) v = on_view M i (Passes (Prints x)) v
 
 abbrev pub with_view : {V : Type 0} → (Name → V) → Name → V → Name → V
 with_view views n v m = cond (same_name n m) v (views m)
 
 -- one instance's views by name after one more deed of frame n. A child begins with its parent's piece.
-abbrev pub after_views : {W V : Type 0} → Monoid V → Cell → (Name → Bool) → Name → List (Deed W) → Deed W → (Name → V) → Name → V
+abbrev pub after_views : {W V : Type 0} → Monoid V → Instance → (Name → Bool) → Name → List (Deed W) → Deed W → (Name → V) → Name → V
 after_views M i stolen n ds (Does e) views =
-    with_view views n (own_view M i (block_view M (λ k. views (n ++ k ∷ [])) (λ k. stolen (n ++ k ∷ [])) M.unit 0 ds) (stolen (n ++ pred (started ds) ∷ [])) (views (n ++ pred (started ds) ∷ [])) e (views n))
-after_views M i stolen n ds (Invokes k w) views = with_view views (n ++ started ds ∷ []) (views n)
+    with_view views n (own_view M i (block_view M (λ k. views (n ++ k ∷ [])) (λ k. stolen (n ++ k ∷ [])) M.unit 1 ds) (stolen (n ++ started ds ∷ [])) (views (n ++ started ds ∷ [])) e (views n))
+after_views M i stolen n ds (Invokes k w) views = with_view views (n ++ suc (started ds) ∷ []) (views n)
 
-module _ (W V : Type 0) (M : Monoid V) (Next : W → List (Deed W) → Ask W → Type 0) where
+module _ (W V : Type 0) (M : Instance → Monoid V) (Next : W → List (Deed W) → Ask W → Type 0) (C : Costs W) where
+  -- frame n isn't waiting, and asks this next
+  pub record IsAsking (s : State W V) (n : Name) (frame : Frame W) (ask : Ask W) : Type 0 where
+    pub here : s.frames n ≡ Some frame
+    pub next : Next frame.what frame.deeds ask
+    pub ready : Ready (λ k. s.frames (n ++ k ∷ [])) (λ k. s.stolen (n ++ k ∷ [])) ask 1 frame.deeds
+
   -- frame n makes its next event
   pub record Makes (s : State W V) (n : Name) (s' : State W V) : Type 0 where
     pub frame : Frame W
     pub ask : Ask W
-    pub here : s.frames n ≡ Some frame
-    pub next : Next frame.what frame.deeds ask
-    pub ready : Ready (λ k. s.frames (n ++ k ∷ [])) (λ k. s.stolen (n ++ k ∷ [])) ask 0 frame.deeds
-    pub frames : s'.frames ≡ after_deed s.frames n frame (deed_of s.memory (λ i. M.number (s.piece n i)) ask)
-    pub memory : s'.memory ≡ (λ c. effect (deed_of s.memory (λ i. M.number (s.piece n i)) ask) c (s.memory c))
+    pub asking : IsAsking s n frame ask
+    pub within : fault_of C s.totals frame.what frame.deeds ask ≡ None
+    pub frames : s'.frames ≡ after_deed s.frames n frame (deed_of s.memory (numbers_of M (s.piece n)) ask)
+    pub memory : s'.memory ≡ (λ c. effect (deed_of s.memory (numbers_of M (s.piece n)) ask) c (s.memory c))
     pub stolen : s'.stolen ≡ s.stolen
-    pub piece : (i : Cell) (m : Name) → s'.piece m i ≡ after_views M i s.stolen n frame.deeds (deed_of s.memory (λ j. M.number (s.piece n j)) ask) (λ z. s.piece z i) m
+    pub piece : (i : Instance) (m : Name) → s'.piece m i ≡ after_views (M i) i s.stolen n frame.deeds (deed_of s.memory (numbers_of M (s.piece n)) ask) (λ z. s.piece z i) m
     pub joins : s'.joins ≡ joined_by ask n frame.deeds ++ s.joins
-    pub fault : s'.fault ≡ is_fault ask
+    pub totals : (total : Total) → s'.totals total ≡ s.totals total + cost C total frame.what frame.deeds ask
+    pub stopped : s'.stopped ≡ s.stopped
 
   -- a thief takes the continuation beside the child that frame n spawned last
   pub record Steals (s : State W V) (n : Name) (s' : State W V) : Type 0 where
@@ -186,23 +216,33 @@ module _ (W V : Type 0) (M : Monoid V) (Next : W → List (Deed W) → Ask W →
     pub what : W
     pub here : s.frames n ≡ Some frame
     pub spawned : frame.deeds ≡ before ++ Invokes Spawns what ∷ []
-    pub not_yet : s.stolen (n ++ started before ∷ []) ≡ false
+    pub not_yet : s.stolen (n ++ suc (started before) ∷ []) ≡ false
     pub frames : s'.frames ≡ s.frames
     pub memory : s'.memory ≡ s.memory
-    pub stolen : s'.stolen ≡ (λ m. cond (same_name (n ++ started before ∷ []) m) true (s.stolen m))
-    pub piece : (i : Cell) (m : Name) → s'.piece m i ≡ with_view (λ z. s.piece z i) n M.unit m
+    pub stolen : s'.stolen ≡ (λ m. cond (same_name (n ++ suc (started before) ∷ []) m) true (s.stolen m))
+    pub piece : (i : Instance) (m : Name) → s'.piece m i ≡ with_view (λ z. s.piece z i) n (unit_of M i) m
     pub joins : s'.joins ≡ s.joins
-    pub fault : s'.fault ≡ s.fault
+    pub totals : s'.totals ≡ s.totals
+    pub stopped : s'.stopped ≡ s.stopped
 
-  -- a run that faulted makes no step
+  -- what frame n asks next is a fault, or would take a total over its limit
+  pub record Stops (s : State W V) (n : Name) (s' : State W V) : Type 0 where
+    pub frame : Frame W
+    pub ask : Ask W
+    pub fault : Fault
+    pub asking : IsAsking s n frame ask
+    pub why : fault_of C s.totals frame.what frame.deeds ask ≡ Some fault
+    pub after : s' ≡ record s { stopped = Some (record { frame = n; strand = strand_of frame.deeds; fault = fault }) }
+
+  -- a run that was stopped makes no step
   abbrev pub Step : State W V → Name → State W V → Type 0
-  Step s n s' = (s.fault ≡ false) × (Makes s n s' ⊎ Steals s n s')
+  Step s n s' = (s.stopped ≡ None) × (Makes s n s' ⊎ (Steals s n s' ⊎ Stops s n s'))
 
   -- one step after another, at these names
   abbrev pub Steps : List Name → State W V → State W V → Type 0
   Steps [] s s' = s' ≡ s
   Steps (n ∷ ns) s s' = (mid : State W V) × Step s n mid × Steps ns mid s'
 
-  abbrev pub IsOpening : W → (Cell → ℕ) → State W V → Type 0
+  abbrev pub IsOpening : W → (Cell → ℤ) → State W V → Type 0
   IsOpening w opening s =
-      ((n : Name) → s.frames n ≡ cond (same_name [] n) (Some (begun w)) None) × (s.memory ≡ opening) × (s.joins ≡ []) × (s.fault ≡ false) × ((n : Name) → s.stolen n ≡ false) × ((i : Cell) → s.piece [] i ≡ M.unit)
+      ((n : Name) → s.frames n ≡ cond (same_name [] n) (Some (begun w)) None) × (s.memory ≡ opening) × (s.joins ≡ []) × (s.stopped ≡ None) × ((n : Name) → s.stolen n ≡ false) × ((i : Instance) → s.piece [] i ≡ unit_of M i) × ((total : Total) → s.totals total ≡ C.used total)

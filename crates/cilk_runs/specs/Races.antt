@@ -6,21 +6,21 @@ abbrev pub IsAccess : Event → Cell → Type 0
 IsAccess (Reads d v) c = d ≡ c
 IsAccess (Writes d v) c = d ≡ c
 IsAccess Syncs c = ⊥
-IsAccess Ends c = ⊥
+IsAccess (Ends val gone) c = ⊥
 IsAccess (Passes m) c = ⊥
 
 abbrev pub IsWrite : Event → Cell → Type 0
 IsWrite (Reads d v) c = ⊥
 IsWrite (Writes d v) c = d ≡ c
 IsWrite Syncs c = ⊥
-IsWrite Ends c = ⊥
+IsWrite (Ends val gone) c = ⊥
 IsWrite (Passes m) c = ⊥
 
 abbrev pub IsSync : Event → Type 0
 IsSync (Reads d v) = ⊥
 IsSync (Writes d v) = ⊥
 IsSync Syncs = Unit {0}
-IsSync Ends = ⊥
+IsSync (Ends val gone) = ⊥
 IsSync (Passes m) = ⊥
 
 -- some event of the run, or of a frame in it, has P

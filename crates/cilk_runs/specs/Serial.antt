@@ -1,23 +1,29 @@
 -- The serial run.
-use Rattle.std.specs.Prelude.{◌≡◌, ℕ, List, [], ◌∷◌, ◌++◌}
+use Rattle.std.specs.Prelude.{◌≡◌, ℤ, List, [], ◌∷◌, ◌++◌}
 use Rattle.cilk_runs.specs.Runs.{Cell, Kind, Calls, Spawns, Ask, Invoke, Event, Reads, Writes, Syncs, Ends, Passes, Deed, Does, Invokes, Run, stop, act, child, ask_of}
 use Rattle.cilk_runs.specs.Machine.{put}
 
+-- what the frame itself does in the run
+abbrev pub own_deeds : {W : Type 0} → Run W → List (Deed W)
+own_deeds stop = []
+own_deeds (act e r) = Does e ∷ own_deeds r
+own_deeds (child k w u r) = Invokes k w ∷ own_deeds r
+
 -- a cell's value after the run, from its value before
-abbrev pub value_after : {W : Type 0} → Run W → Cell → ℕ → ℕ
+abbrev pub value_after : {W : Type 0} → Run W → Cell → ℤ → ℤ
 value_after stop c x = x
 value_after (act e r) c x = value_after r c (put e c x)
 value_after (child k w u r) c x = value_after r c (value_after u c x)
 
 -- each read's answer is the value of the last write before it, or what the cell held before the run
-abbrev pub IsRight : Event → (Cell → ℕ) → Type 0
+abbrev pub IsRight : Event → (Cell → ℤ) → Type 0
 IsRight (Reads c v) memory = v ≡ memory c
 IsRight (Writes c v) memory = Unit {0}
 IsRight Syncs memory = Unit {0}
-IsRight Ends memory = Unit {0}
+IsRight (Ends val gone) memory = Unit {0}
 IsRight (Passes m) memory = Unit {0}
 
-abbrev pub IsSerial : {W : Type 0} → Run W → (Cell → ℕ) → Type 0
+abbrev pub IsSerial : {W : Type 0} → Run W → (Cell → ℤ) → Type 0
 IsSerial stop memory = Unit {0}
 IsSerial (act e r) memory = IsRight e memory × IsSerial r (λ c. put e c (memory c))
 IsSerial (child k w u r) memory = IsSerial u memory × IsSerial r (λ c. value_after u c (memory c))
@@ -28,7 +34,7 @@ SyncAhead stop = ⊥
 SyncAhead (act (Reads c v) r) = SyncAhead r
 SyncAhead (act (Writes c v) r) = SyncAhead r
 SyncAhead (act Syncs r) = Unit {0}
-SyncAhead (act Ends r) = SyncAhead r
+SyncAhead (act (Ends val gone) r) = SyncAhead r
 SyncAhead (act (Passes m) r) = SyncAhead r
 SyncAhead (child k w u r) = SyncAhead r
 
@@ -47,7 +53,7 @@ IsClosed stop = Unit {0}
 IsClosed (act (Reads c v) r) = IsClosed r
 IsClosed (act (Writes c v) r) = IsClosed r
 IsClosed (act Syncs r) = IsClosed r
-IsClosed (act Ends r) = r ≡ stop
+IsClosed (act (Ends val gone) r) = r ≡ stop
 IsClosed (act (Passes m) r) = IsClosed r
 IsClosed (child k w u r) = ComesAfter k r × IsClosed u × IsClosed r
 

@@ -1,35 +1,53 @@
--- The theorem: a program whose serial run has no determinacy race is determinate.
-use Rattle.std.specs.Prelude.{◌≡◌, ℕ, false, List, [], Option, Some}
-use Rattle.cilk_runs.specs.Runs.{Name, Cell, Ask, Deed, Run}
-use Rattle.cilk_runs.specs.Machine.{State, deeds_at, HasEnd, Steps, IsOpening}
-use Rattle.cilk_runs.specs.Monoids.{Monoid}
-use Rattle.cilk_runs.specs.Views.{view_after, IsSerialViews, IsResumed, IsCreatedFirst}
-use Rattle.cilk_runs.specs.Trees.{tree, HasChildren}
-use Rattle.cilk_runs.specs.Serial.{value_after, IsSerial, IsClosed, Behaves}
+-- The theorem: a program whose serial run has no race is determinate.
+use Rattle.std.specs.Prelude.{◌≡◌, ◌+◌, ◌≤◌, ℤ, false, List, [], Option, Some}
+use Rattle.cilk_runs.specs.Runs.{Name, Cell, Instance, Ask, Deed, Run}
+use Rattle.cilk_runs.specs.Machine.{Frame, State, deeds_at, HasEnd, IsAsking, Step, Steps, IsOpening}
+use Rattle.cilk_runs.specs.Costs.{Costs, Total, cost, weight}
+use Rattle.cilk_runs.specs.Monoids.{Monoid, unit_of}
+use Rattle.cilk_runs.specs.Views.{view_after, IsSerialViews, IsResumed, IsCreated, IsRetiredAtHome}
+use Rattle.cilk_runs.specs.Trees.{tree, HasChildren, HasNoRace, HasNoViewRace}
+use Rattle.cilk_runs.specs.Serial.{own_deeds, value_after, IsSerial, IsClosed, Behaves}
 use Rattle.cilk_runs.specs.Cuts.{times, spawned, below, IsFull, IsConsistent}
 
-module _ (W V : Type 0) (M : Monoid V) (Next : W → List (Deed W) → Ask W → Type 0) where
+module _ (W V : Type 0) (M : Instance → Monoid V) (Next : W → List (Deed W) → Ask W → Type 0) (C : Costs W) where
   -- t is the serial run of a program that begins as w, with these opening values
-  pub record IsSerialRun (w : W) (t : Run W) (opening : Cell → ℕ) : Type 0 where
+  pub record IsSerialRun (w : W) (t : Run W) (opening : Cell → ℤ) : Type 0 where
     pub behaves : Behaves W Next w [] t
     pub closed : IsClosed t
     pub resumed : IsResumed false t
     pub serial : IsSerial t opening
-    pub views : IsSerialViews M t (λ i. M.unit)
-    pub created : (i : Cell) → IsCreatedFirst i t ⊥
+    pub views : IsSerialViews M t (unit_of M)
+    pub created : (i : Instance) → IsCreated i t
+    pub retired : (i : Instance) → IsRetiredAtHome i t ⊥
     pub inhabited : HasChildren (tree t)
+    pub within : (total : Total) → C.used total + weight C total w [] t ≤ C.limit total
 
   -- what holds of a state that steps lead to
-  pub record Agrees (w : W) (t : Run W) (opening : Cell → ℕ) (s : State W V) : Type 0 where
-    pub consistent : IsConsistent M w t opening s
-    pub complete : HasEnd (deeds_at (s.frames [])) → IsFull t 0 (deeds_at (s.frames [])) (below s.frames)
+  pub record Agrees (w : W) (t : Run W) (opening : Cell → ℤ) (s : State W V) : Type 0 where
+    pub consistent : IsConsistent M C w t opening s
+    -- with what any frame that isn't waiting asks for next, no total is more than the whole serial run's
+    pub room : (total : Total) (n : Name) (frame : Frame W) (ask : Ask W) → IsAsking W V M Next C s n frame ask → s.totals total + cost C total frame.what frame.deeds ask ≤ C.used total + weight C total w [] t
+    pub complete : HasEnd (deeds_at (s.frames [])) → IsFull t 1 (deeds_at (s.frames [])) (below s.frames)
+    pub deeds : HasEnd (deeds_at (s.frames [])) → deeds_at (s.frames []) ≡ own_deeds t
     pub outcome : HasEnd (deeds_at (s.frames [])) → (c : Cell) → s.memory c ≡ value_after t c (opening c)
     pub once : HasEnd (deeds_at (s.frames [])) → (n : Name) → times n s.joins ≡ spawned s.frames n
-    pub reducers : HasEnd (deeds_at (s.frames [])) → (i : Cell) → s.piece [] i ≡ view_after M i t M.unit
+    pub reducers : HasEnd (deeds_at (s.frames [])) → (i : Instance) → s.piece [] i ≡ view_after (M i) i t (unit_of M i)
 
-  abbrev pub IsDeterminate : W → Run W → (Cell → ℕ) → Type 0
-  IsDeterminate w t opening = (ns : List Name) (s s' : State W V) → IsOpening W V M Next w opening s → Steps W V M Next ns s s' → Agrees w t opening s'
+  -- the opening state is a consistent cut
+  abbrev pub IsOpened : W → Run W → (Cell → ℤ) → Type 0
+  IsOpened w t opening = (s : State W V) → IsOpening W V M Next C w opening s → IsConsistent M C w t opening s
 
--- a behaviour given as a function
-abbrev pub follows : (ℕ → List (Deed ℕ) → Option (Ask ℕ)) → ℕ → List (Deed ℕ) → Ask ℕ → Type 0
+  -- each single step leads from a consistent cut to a consistent cut
+  abbrev pub IsKept : W → Run W → (Cell → ℤ) → Type 0
+  IsKept w t opening = (s s' : State W V) (n : Name) → IsConsistent M C w t opening s → Step W V M Next C s n s' → IsConsistent M C w t opening s'
+
+  abbrev pub IsDeterminate : W → Run W → (Cell → ℤ) → Type 0
+  IsDeterminate w t opening = (ns : List Name) (s s' : State W V) → IsOpening W V M Next C w opening s → Steps W V M Next C ns s s' → Agrees w t opening s'
+
+-- neither race, over all pairs of positions of the serial run
+abbrev pub HasNoRaces : {W : Type 0} → Run W → Type 0
+HasNoRaces t = HasNoRace t × ((i : Instance) → HasNoViewRace i t)
+
+-- a behaviour given as a function of what the frame has done
+abbrev pub follows : {W : Type 0} → (W → List (Deed W) → Option (Ask W)) → W → List (Deed W) → Ask W → Type 0
 follows next w past a = next w past ≡ Some a

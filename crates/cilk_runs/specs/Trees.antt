@@ -1,7 +1,7 @@
 -- The events of a run in serial order, its tree of strands, and races over all pairs of positions.
 use Rattle.std.specs.Prelude.{◌≡◌, ℕ, zero, suc, ◌+◌, ◌-◌, ◌<◌, Bool, true, false, cond, ◌&&◌, List, [], ◌∷◌, ◌++◌, length, nat_lt, Option, Some, None, slice_get}
 use Rattle.cilk_runs.specs.Views.{IsReducerRead}
-use Rattle.cilk_runs.specs.Runs.{Cell, same_cell, Kind, Calls, Spawns, Event, Reads, Writes, Syncs, Ends, Passes, Deed, Does, Invokes, Run, stop, act, child}
+use Rattle.cilk_runs.specs.Runs.{Instance, same_cell, Kind, Calls, Spawns, Event, Reads, Writes, Syncs, Ends, Passes, Deed, Does, Invokes, Run, stop, act, child}
 
 -- in serial order; the position of an event is its place here, counted from 1
 abbrev pub trace : {W : Type 0} → Run W → List (Deed W)
@@ -26,7 +26,7 @@ abbrev pub is_sync : Event → Bool
 is_sync (Reads c v) = false
 is_sync (Writes c v) = false
 is_sync Syncs = true
-is_sync Ends = false
+is_sync (Ends val gone) = false
 is_sync (Passes m) = false
 
 -- The sync block that is open, whose strand has these events so far, and the later blocks. A block is a strand alone, or a strand ended by a
@@ -93,7 +93,7 @@ abbrev pub peers : {W : Type 0} → Tree W → ℕ → ℕ → Bool
 peers t p q = cond (nat_lt p q) (are_parallel t p q) (cond (nat_lt q p) (are_parallel t q p) false)
 
 -- two reducer-reads of instance i have the same peers, over all pairs
-abbrev pub HasNoViewRace : {W : Type 0} → Cell → Run W → Type 0
+abbrev pub HasNoViewRace : {W : Type 0} → Instance → Run W → Type 0
 HasNoViewRace {W = W} i t = (p q : ℕ) (d e : Event) → slice_get (trace t) p ≡ Some (Does d) → slice_get (trace t) q ≡ Some (Does e) → IsReducerRead i d → IsReducerRead i e → (z : ℕ) (f : Deed W) → slice_get (trace t) z ≡ Some f → peers (tree t) p z ≡ peers (tree t) q z
 
 -- each child has an event

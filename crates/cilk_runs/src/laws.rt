@@ -1,13 +1,49 @@
-//! The theorem. It is a function that does nothing: its contract is the law.
+//! The theorem and what it rests on. Each is a function that does nothing: its contract is the law.
+//!
+//! In each, `W` is what a frame can be started as, `V` a reducer's view, `M` the monoid of each reducer, and `next` the program's
+//! behaviour: what a frame asks for next, after what it has done. `C` has the costs and limits that are counted over a whole run. `t` is the serial run, nested.
 
-ghost use Rattle.std.specs.Prelude.{ℕ, List, Option};
-ghost use Rattle.cilk_runs.specs.Runs.{Cell, Ask, Deed, Run};
+ghost use Rattle.std.specs.Prelude.{◌≡◌, ℤ, List, [], Option};
+ghost use Rattle.cilk_runs.specs.Runs.{Cell, Instance, Ask, Deed, Run};
+ghost use Rattle.cilk_runs.specs.Costs.{Costs};
 ghost use Rattle.cilk_runs.specs.Monoids.{Monoid, IsLawful};
-ghost use Rattle.cilk_runs.specs.Trees.{HasNoRace, HasNoViewRace};
-ghost use Rattle.cilk_runs.specs.Theorem.{IsSerialRun, IsDeterminate, follows};
+ghost use Rattle.cilk_runs.specs.Races.{HasEventWith};
+ghost use Rattle.cilk_runs.specs.Trees.{races, HasNoRace, HasNoViewRace};
+ghost use Rattle.cilk_runs.specs.Views.{IsReducerRead};
+ghost use Rattle.cilk_runs.specs.Theorem.{IsSerialRun, HasNoRaces, IsOpened, IsKept, IsDeterminate, follows};
+ghost use Rattle.cilk_runs.specs.Worked.{EarlyReadRaces, TwoReadsDoNotRace, TwoWritesRace, BothReadRuns, BothReadIsDeterminate};
+
+/// The opening state of the free machine is a consistent cut of any run.
+pub fn opening_is_consistent<W, V>()
+    ensures { (M : Instance → Monoid V) (next : W → List (Deed W) → Option (Ask W)) (C : Costs W) (w : W) (t : Run W) (opening : Cell → ℤ) → IsOpened W V M (follows next) C w t opening }
+{}
+
+/// Where the serial run has no race, each single step of the free machine leads from a consistent cut of it to a consistent cut.
+pub fn step_is_consistent<W, V>()
+    ensures { (M : Instance → Monoid V) (next : W → List (Deed W) → Option (Ask W)) (C : Costs W) (w : W) (t : Run W) (opening : Cell → ℤ) → ((i : Instance) → IsLawful (M i)) → IsSerialRun W V M (follows next) C w t opening → HasNoRaces t → IsKept W V M (follows next) C w t opening }
+{}
 
 /// Where the serial run of a program has no determinacy race and no view-read race, each state that steps of the free
 /// machine lead to is a consistent cut of it, and once the root has ended memory and views are the serial run's.
-pub fn determinate()
-    ensures { (M : Monoid ℕ) (next : ℕ → List (Deed ℕ) → Option (Ask ℕ)) (w : ℕ) (t : Run ℕ) (opening : Cell → ℕ) → IsLawful M → IsSerialRun ℕ ℕ M (follows next) w t opening → HasNoRace t → ((i : Cell) → HasNoViewRace i t) → IsDeterminate ℕ ℕ M (follows next) w t opening }
+pub fn determinate<W, V>()
+    ensures { (M : Instance → Monoid V) (next : W → List (Deed W) → Option (Ask W)) (C : Costs W) (w : W) (t : Run W) (opening : Cell → ℤ) → ((i : Instance) → IsLawful (M i)) → IsSerialRun W V M (follows next) C w t opening → HasNoRaces t → IsDeterminate W V M (follows next) C w t opening }
+{}
+
+/// A serial run has no determinacy race if no pair is listed, so a bounded test decides.
+pub fn listed_races_are_all<W>()
+    ensures { (t : Run W) → races t ≡ [] → HasNoRace t }
+{}
+
+/// A reducer that nobody creates, sets or reads has no view-read race: the ordered output is one.
+pub fn unread_reducers_do_not_race<W>()
+    ensures { (i : Instance) (t : Run W) → ¬ (HasEventWith (IsReducerRead i) t) → HasNoViewRace i t }
+{}
+
+/// Small programs, with the pairs of positions at which they race, and the serial run of one that has no race.
+pub fn worked_programs()
+    ensures early_read { EarlyReadRaces }
+    ensures two_reads { TwoReadsDoNotRace }
+    ensures two_writes { TwoWritesRace }
+    ensures both_read { BothReadRuns }
+    ensures both_read_whole { BothReadIsDeterminate }
 {}

@@ -1,0 +1,72 @@
+-- What is counted over a whole run, what an ask adds to it, and when a run stops.
+use Rattle.std.specs.Prelude.{ℕ, ◌+◌, Bool, cond, nat_lt, List, [], ◌∷◌, ◌++◌, Option, Some, None}
+use Rattle.cilk_types.specs.declared.fault.Fault.{Fault}
+use Rattle.cilk_types.specs.declared.fault.Fault.TheVariants.{TooManyEvents, TooManyFrames, TooManyCells}
+use Rattle.cilk_runs.specs.Runs.{Ask, Read, Write, Invoke, Sync, End, Pass, Fail, Deed, Does, Invokes, Run, stop, act, child, ask_of}
+
+pub data Total : Type 0 where
+  TickTotal : Total
+  EventTotal : Total
+  FrameTotal : Total
+  CellTotal : Total
+
+-- The ticks that a frame takes after a history before its next ask, the cells that a frame begins with, what the opening state has used (the root
+-- is a frame, and the globals and its own cells are cells), and the limits.
+pub record Costs (W : Type 0) : Type 0 where
+  pub ticks : W → List (Deed W) → ℕ
+  pub cells : W → ℕ
+  pub used : Total → ℕ
+  pub limit : Total → ℕ
+
+abbrev pub frames_of : {W : Type 0} → Ask W → ℕ
+frames_of (Read c) = 0
+frames_of (Write c v) = 0
+frames_of (Invoke k v) = 1
+frames_of Sync = 0
+frames_of (End v gone) = 0
+frames_of (Pass m) = 0
+frames_of (Fail f) = 0
+
+abbrev pub cells_of : {W : Type 0} → (W → ℕ) → Ask W → ℕ
+cells_of cells (Read c) = 0
+cells_of cells (Write c v) = 0
+cells_of cells (Invoke k v) = cells v
+cells_of cells Sync = 0
+cells_of cells (End v gone) = 0
+cells_of cells (Pass m) = 0
+cells_of cells (Fail f) = 0
+
+-- what an ask adds, of a frame that was started as w and has this history
+abbrev pub cost : {W : Type 0} → Costs W → Total → W → List (Deed W) → Ask W → ℕ
+cost C TickTotal w past a = C.ticks w past
+cost C EventTotal w past a = 1
+cost C FrameTotal w past a = frames_of a
+cost C CellTotal w past a = cells_of C.cells a
+
+abbrev pub is_over : {W : Type 0} → Costs W → Total → (Total → ℕ) → W → List (Deed W) → Ask W → Bool
+is_over C total totals w past a = nat_lt (C.limit total) (totals total + cost C total w past a)
+
+-- a fault of the frame's own, or else the other
+abbrev pub own_fault : {W : Type 0} → Ask W → Option Fault → Option Fault
+own_fault (Read c) other = other
+own_fault (Write c v) other = other
+own_fault (Invoke k v) other = other
+own_fault Sync other = other
+own_fault (End v gone) other = other
+own_fault (Pass m) other = other
+own_fault (Fail f) other = Some f
+
+-- The fault by which this ask stops the run, if any: too many ticks before the frame's own fault, before too many events, frames, cells.
+abbrev pub fault_of : {W : Type 0} → Costs W → (Total → ℕ) → W → List (Deed W) → Ask W → Option Fault
+fault_of C totals w past a =
+    cond (is_over C TickTotal totals w past a) (Some TooManyEvents)
+    (own_fault a
+    (cond (is_over C EventTotal totals w past a) (Some TooManyEvents)
+    (cond (is_over C FrameTotal totals w past a) (Some TooManyFrames)
+    (cond (is_over C CellTotal totals w past a) (Some TooManyCells) None))))
+
+-- what a whole run adds
+abbrev pub weight : {W : Type 0} → Costs W → Total → W → List (Deed W) → Run W → ℕ
+weight C total w past stop = 0
+weight C total w past (act e r) = cost C total w past (ask_of e) + weight C total w (past ++ Does e ∷ []) r
+weight C total w past (child k v u r) = cost C total w past (Invoke k v) + (weight C total v [] u + weight C total w (past ++ Invokes k v ∷ []) r)

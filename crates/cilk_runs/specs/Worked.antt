@@ -1,0 +1,90 @@
+-- Worked programs as nested runs. What a frame is started as is a number here.
+use Rattle.std.specs.Prelude.{◌≡◌, ℕ, zero, suc, ℤ, pos, ◌+ℤ◌, cond, List, [], ◌∷◌, length, Option, slice_get}
+use Rattle.cilk_runs.specs.Runs.{Cell, Global, Own, same_cell, Instance, Spawns, Ask, Read, Write, Invoke, Sync, End, Pass, Begin, Resume, Event, Reads, Writes, Syncs, Ends, Passes, Begins, Resumes, Deed, Run, stop, act, child}
+use Rattle.cilk_runs.specs.Costs.{Costs, Total, TickTotal, EventTotal, FrameTotal, CellTotal}
+use Rattle.cilk_runs.specs.Monoids.{Monoid}
+use Rattle.cilk_runs.specs.Trees.{trace, races}
+use Rattle.cilk_runs.specs.Theorem.{IsSerialRun, HasNoRaces, IsDeterminate, follows}
+
+abbrev pub begin : Event
+begin = Passes Begins
+
+abbrev pub resume : Event
+resume = Passes Resumes
+
+abbrev pub end : Event
+end = Ends (pos 0) []
+
+-- x = cilk_spawn one(); y = x;
+abbrev pub early_read : Run ℕ
+early_read =
+    act begin (act (Writes (Own [] 0) (pos 0)) (act (Writes (Own [] 1) (pos 0))
+    (child Spawns 1 (act begin (act Syncs (act (Writes (Own [] 0) (pos 1)) (act end stop))))
+    (act resume (act (Reads (Own [] 0) (pos 1)) (act (Writes (Own [] 1) (pos 1)) (act Syncs (act (Reads (Own [] 1) (pos 1)) (act Syncs (act end stop))))))))))
+
+-- the child's result is written while the parent reads it
+abbrev pub EarlyReadRaces : Type 0
+EarlyReadRaces = (length (trace early_read) ≡ 15) × (races early_read ≡ (7, 10) ∷ [])
+
+-- two spawned children that read one global, with their results in two variables
+abbrev pub both_read : Run ℕ
+both_read =
+    act begin (act (Writes (Own [] 0) (pos 0)) (act (Writes (Own [] 1) (pos 0))
+    (child Spawns 1 (act begin (act (Reads (Global 0) (pos 7)) (act Syncs (act (Writes (Own [] 0) (pos 7)) (act end stop)))))
+    (act resume
+    (child Spawns 2 (act begin (act (Reads (Global 0) (pos 7)) (act Syncs (act (Writes (Own [] 1) (pos 7)) (act end stop)))))
+    (act resume (act Syncs (act (Reads (Own [] 0) (pos 7)) (act (Reads (Own [] 1) (pos 7)) (act Syncs (act end stop)))))))))))
+
+abbrev pub TwoReadsDoNotRace : Type 0
+TwoReadsDoNotRace = races both_read ≡ []
+
+-- two spawned children that write one global
+abbrev pub two_writes : Run ℕ
+two_writes =
+    act begin
+    (child Spawns 1 (act begin (act (Writes (Global 0) (pos 1)) (act Syncs (act end stop))))
+    (act resume
+    (child Spawns 1 (act begin (act (Writes (Global 0) (pos 1)) (act Syncs (act end stop))))
+    (act resume (act Syncs (act (Reads (Global 0) (pos 1)) (act Syncs (act end stop))))))))
+
+abbrev pub TwoWritesRace : Type 0
+TwoWritesRace = races two_writes ≡ (4, 10) ∷ []
+
+-- What the root and its two children ask, one after the other, whatever is answered.
+abbrev pub script : ℕ → List (Ask ℕ)
+script zero = Pass Begin ∷ Write (Own [] 0) (pos 0) ∷ Write (Own [] 1) (pos 0) ∷ Invoke Spawns 1 ∷ Pass Resume ∷ Invoke Spawns 2 ∷ Pass Resume ∷ Sync ∷ Read (Own [] 0) ∷ Read (Own [] 1) ∷ Sync ∷ End (pos 0) [] ∷ []
+script (suc zero) = Pass Begin ∷ Read (Global 0) ∷ Sync ∷ Write (Own [] 0) (pos 7) ∷ End (pos 0) [] ∷ []
+script (suc (suc n)) = Pass Begin ∷ Read (Global 0) ∷ Sync ∷ Write (Own [] 1) (pos 7) ∷ End (pos 0) [] ∷ []
+
+abbrev pub asked : ℕ → List (Deed ℕ) → Option (Ask ℕ)
+asked w past = slice_get (script w) (length past)
+
+abbrev pub sum : Instance → Monoid ℤ
+sum i = record { unit = pos 0; join = λ a b. a +ℤ b; single = λ a. a; number = λ a. a }
+
+abbrev pub opening : Cell → ℤ
+opening c = cond (same_cell c (Global 0)) (pos 7) (pos 0)
+
+-- each frame takes a tick before each ask, and has two cells
+abbrev pub used : Total → ℕ
+used TickTotal = 0
+used EventTotal = 0
+used FrameTotal = 1
+used CellTotal = 3
+
+abbrev pub limit : Total → ℕ
+limit TickTotal = 22
+limit EventTotal = 22
+limit FrameTotal = 3
+limit CellTotal = 7
+
+abbrev pub costs : Costs ℕ
+costs = record { ticks = λ w past. 1; cells = λ w. 2; used = used; limit = limit }
+
+-- the premises of the theorem can be met: this is the serial run of that program
+abbrev pub BothReadRuns : Type 0
+BothReadRuns = IsSerialRun ℕ ℤ sum (follows asked) costs 0 both_read opening
+
+-- and the theorem speaks of it
+abbrev pub BothReadIsDeterminate : Type 0
+BothReadIsDeterminate = HasNoRaces both_read × IsDeterminate ℕ ℤ sum (follows asked) costs 0 both_read opening
