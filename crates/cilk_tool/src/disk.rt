@@ -4,11 +4,10 @@ ghost use Rattle.std.specs.Prelude.{◌≡◌, ◌≤◌, None, IfOk, vec_len};
 
 use crate::files::{FileFault, Files};
 use std::alloc::Global;
-use std::fs;
 use std::fs::OpenFile;
-use std::io;
 use std::io::{ErrorKind, Read};
 use std::rt::Files as System;
+use std::{fs, io};
 
 /// The bytes of the largest file that is read.
 pub const MAX_FILE: u64 = 268_435_456;

@@ -28,10 +28,12 @@ fn answer<'a, F: Files, R: Read>(
         (order_in (texts words.entry.now)) (failure_view e)) }
 {
     match read(alloc, words) {
-        Ok(Order::Run {
-            program,
-            input: numbers,
-        }) => run(alloc, program, numbers, files, input),
+        Ok(
+            Order::Run {
+                program,
+                input: numbers,
+            },
+        ) => run(alloc, program, numbers, files, input),
         Err(WordsFault::Usage(text)) => Err(Failure::Words(text)),
         Err(WordsFault::Memory) => Err(Failure::Memory),
     }
