@@ -3,13 +3,16 @@
 //! In each, `W` is what a frame can be started as, `V` a reducer's view, `M` the monoid of each reducer, and `next` the program's
 //! behaviour: what a frame asks for next, after what it has done. `C` has the costs and limits that are counted over a whole run. `t` is the serial run, nested.
 
-ghost use Rattle.std.specs.Prelude.{◌≡◌, ℤ, List, [], Option};
+ghost use Rattle.std.specs.Prelude.{◌≡◌, ℕ, ℤ, List, [], Option};
 ghost use Rattle.cilk_runs.specs.Runs.{Cell, Instance, Ask, Deed, Run};
 ghost use Rattle.cilk_runs.specs.Costs.{Costs};
 ghost use Rattle.cilk_runs.specs.Monoids.{Monoid, IsLawful};
 ghost use Rattle.cilk_runs.specs.Races.{HasEventWith};
 ghost use Rattle.cilk_runs.specs.Trees.{races, HasNoRace, HasNoViewRace};
 ghost use Rattle.cilk_runs.specs.Views.{IsReducerRead};
+ghost use Rattle.cilk_runs.specs.Machine.{Frames};
+ghost use Rattle.cilk_runs.specs.Cuts.{IsCut};
+ghost use Rattle.cilk_runs.specs.Positions.{made_at, IsClosedBefore};
 ghost use Rattle.cilk_runs.specs.Theorem.{IsSerialRun, HasNoRaces, IsOpened, IsKept, IsDeterminate, follows};
 ghost use Rattle.cilk_runs.specs.Worked.{EarlyReadRaces, TwoReadsDoNotRace, TwoWritesRace, BothReadRuns, BothReadIsDeterminate};
 
@@ -27,6 +30,12 @@ pub fn step_is_consistent<W, V>()
 /// machine lead to is a consistent cut of it, and once the root has ended memory and views are the serial run's.
 pub fn determinate<W, V>()
     ensures { (M : Instance → Monoid V) (next : W → List (Deed W) → Option (Ask W)) (C : Costs W) (w : W) (t : Run W) (opening : Cell → ℤ) → ((i : Instance) → IsLawful (M i)) → IsSerialRun W V M (follows next) C w t opening → HasNoRaces t → IsDeterminate W V M (follows next) C w t opening }
+{}
+
+/// A consistent cut by positions of the serial run: with an event made, each event before it is made, where one is before
+/// another if it comes first and isn't parallel to it.
+pub fn cuts_are_closed<W>()
+    ensures { (t : Run W) (deeds : List (Deed W)) (kids : ℕ → Frames W) → IsCut t 1 deeds kids → IsClosedBefore t (made_at t 1 deeds kids) }
 {}
 
 /// A serial run has no determinacy race if no pair is listed, so a bounded test decides.
