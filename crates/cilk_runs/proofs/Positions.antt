@@ -1,13 +1,13 @@
 -- A cut is closed under before, by positions.
-use Rattle.std.proofs.Common.{◌≡◌, ℕ, zero, suc, ◌+◌, ◌-◌, ◌<◌, Bool, true, false, cond, List, [], ◌∷◌, ◌++◌, length, Option, Some, None, refl, sym, ap, ◌∙◌, subst, arith, ◌⊎◌, inl, inr, ⊎_elim, append_assoc, append-nil, length-append, zero-add, suc-add, lt-ltb, le-ltb}
+use Rattle.std.proofs.Common.{◌≡◌, ℕ, zero, suc, ◌+◌, ◌-◌, ◌<◌, Bool, true, false, List, [], ◌∷◌, ◌++◌, length, Option, Some, None, refl, sym, ap, ◌∙◌, subst, arith, ◌⊎◌, inl, inr, ⊎_elim, append_assoc, append-nil, length-append, zero-add, suc-add, lt-ltb, le-ltb}
 use Rattle.std.specs.Prelude.{slice_get, nat_lt}
 use Rattle.std.proofs.lemmas.Bool.{cases_lt, cond-true, cond-false}
-use Rattle.cilk_runs.specs.Runs.{Kind, Calls, Spawns, Event, Reads, Writes, Syncs, Ends, Passes, Deed, Does, Invokes, Run, stop, act, child}
+use Rattle.cilk_runs.specs.Runs.{Kind, Calls, Spawns, Reads, Writes, Syncs, Ends, Passes, Deed, Does, Run, stop, act, child}
 use Rattle.cilk_runs.specs.Machine.{Frames, deeds_at, HasSync}
-use Rattle.cilk_runs.specs.Cuts.{below, IsFull, IsPast, NoneFrom, IsCut}
-use Rattle.cilk_runs.specs.Trees.{trace, Tree, Strand, Series, Beside, in_series, child_tree, blocks, tree, size, are_parallel}
+use Rattle.cilk_runs.specs.Cuts.{below, IsFull, IsPast, IsCut}
+use Rattle.cilk_runs.specs.Trees.{Tree, Strand, Series, Beside, in_series, child_tree, blocks, tree, size, are_parallel}
 use Rattle.cilk_runs.specs.Positions.{unmade, made_at, IsClosedBefore}
-use Rattle.cilk_runs.proofs.Grows.{cut_none, cut_nil}
+use Rattle.cilk_runs.proofs.Grows.{cut_nil}
 use Rattle.cilk_runs.proofs.Races.{tree_size, tree_events}
 
 abbrev AllTrue : List Bool → Type 0

@@ -1,4 +1,4 @@
-//! The theorem and what it rests on. Each is a function that does nothing: its contract is the law.
+//! The theorem and what stands beside it. Each is a function that does nothing: its contract is the law.
 //!
 //! In each, `W` is what a frame can be started as, `V` a reducer's view, `M` the monoid of each reducer, and `next` the program's
 //! behaviour: what a frame asks for next, after what it has done. `C` has the costs and limits that are counted over a whole run. `t` is the serial run, nested.
@@ -14,7 +14,7 @@ ghost use Rattle.cilk_runs.specs.Machine.{Frames};
 ghost use Rattle.cilk_runs.specs.Cuts.{IsCut};
 ghost use Rattle.cilk_runs.specs.Positions.{made_at, IsClosedBefore};
 ghost use Rattle.cilk_runs.specs.Theorem.{IsSerialRun, HasNoRaces, IsOpened, IsKept, IsDeterminate, follows};
-ghost use Rattle.cilk_runs.specs.Worked.{EarlyReadRaces, TwoReadsDoNotRace, TwoWritesRace, BothReadRuns, BothReadIsDeterminate};
+ghost use Rattle.cilk_runs.specs.Worked.{EarlyReadRaces, TwoReadsDoNotRace, TwoWritesRace, BothReadRuns, BothReadIsDeterminate, EarlyValueRaces};
 
 /// The opening state of the free machine is a consistent cut of any run.
 pub fn opening_is_consistent<W, V>()
@@ -26,8 +26,11 @@ pub fn step_is_consistent<W, V>()
     ensures { (M : Instance → Monoid V) (next : W → List (Deed W) → Option (Ask W)) (C : Costs W) (w : W) (t : Run W) (opening : Cell → ℤ) → ((i : Instance) → IsLawful (M i)) → IsSerialRun W V M (follows next) C w t opening → HasNoRaces t → IsKept W V M (follows next) C w t opening }
 {}
 
-/// Where the serial run of a program has no determinacy race and no view-read race, each state that steps of the free
-/// machine lead to is a consistent cut of it, and once the root has ended memory and views are the serial run's.
+/// Where the serial run of a program has no determinacy race and no view-read race, each state that steps of the free machine lead to
+/// is a consistent cut of it, which nothing stopped, and no total is more than the serial run's. Once the root has ended it has
+/// done what it does serially, memory and reducers are the serial run's, and each spawned child was joined once.
+///
+/// After Feng and Leiserson (1997), whose tree of strands this is, and Lee and Schardl (2015) for the reads of reducers.
 pub fn determinate<W, V>()
     ensures { (M : Instance → Monoid V) (next : W → List (Deed W) → Option (Ask W)) (C : Costs W) (w : W) (t : Run W) (opening : Cell → ℤ) → ((i : Instance) → IsLawful (M i)) → IsSerialRun W V M (follows next) C w t opening → HasNoRaces t → IsDeterminate W V M (follows next) C w t opening }
 {}
@@ -48,11 +51,13 @@ pub fn unread_reducers_do_not_race<W>()
     ensures { (i : Instance) (t : Run W) → ¬ (HasEventWith (IsReducerRead i) t) → HasNoViewRace i t }
 {}
 
-/// Small programs, with the pairs of positions at which they race, and the serial run of one that has no race.
+/// Small programs: the pairs of positions at which they race, the serial run of one that has no race and that the theorem then speaks of,
+/// and one that reads a reducer too early.
 pub fn worked_programs()
     ensures early_read { EarlyReadRaces }
     ensures two_reads { TwoReadsDoNotRace }
     ensures two_writes { TwoWritesRace }
     ensures both_read { BothReadRuns }
     ensures both_read_whole { BothReadIsDeterminate }
+    ensures early_value { EarlyValueRaces }
 {}
