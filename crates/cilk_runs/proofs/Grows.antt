@@ -1,5 +1,5 @@
 -- What one more deed does to a cut.
-use Rattle.std.proofs.Common.{◌≡◌, ℕ, suc, ◌+◌, ◌≤◌, cond, ◌&&◌, List, [], ◌∷◌, ◌++◌, Option, Some, refl, sym, ap, ◌∙◌, subst, arith, ⊎_elim, eq-eqb, le_refl, ℤ, None}
+use Rattle.std.proofs.Common.{◌≡◌, ℕ, suc, ◌+◌, ◌≤◌, cond, ◌&&◌, List, [], ◌∷◌, ◌++◌, Some, refl, sym, ap, ◌∙◌, subst, arith, ⊎_elim, eq-eqb, le_refl, ℤ, None}
 use mathlib.Core.Path.{fun_ext}
 use Rattle.std.proofs.lemmas.Bool.{cond-true, cond-false, cases_Bool}
 use Rattle.cilk_runs.specs.Runs.{Name, same_name, Cell, same_cell, Kind, Calls, Spawns, Event, Writes, Deed, Does, Invokes, Run, stop, act, child}

@@ -3,7 +3,7 @@ use Rattle.std.proofs.Common.{◌≡◌, ℕ, zero, suc, ◌<◌, Bool, true, fa
 use Rattle.std.specs.Prelude.{◌&&◌, slice_get}
 use Rattle.std.proofs.lemmas.Bool.{cases_Bool, cases_lt, cases_eq, and_from}
 use Rattle.std.proofs.lemmas.Option.{slice_get_past}
-use Rattle.cilk_runs.specs.Runs.{Instance, Event, Deed, Does, Invokes, Run, stop, act, child}
+use Rattle.cilk_runs.specs.Runs.{Instance, Event, Deed, Does, Run, stop, act, child}
 use Rattle.cilk_runs.specs.Races.{HasEventWith}
 use Rattle.cilk_runs.specs.Views.{IsReducerRead}
 use Rattle.cilk_runs.specs.Trees.{trace, tree, are_parallel, clash, races_with, races_below, races, HasNoRace, HasNoViewRace}

@@ -1,7 +1,7 @@
 -- Worked programs, by computation.
-use Rattle.std.proofs.Common.{refl, arith, inl, ◌+◌, ◌≤◌, [], ℕ, ℤ, ⊎_elim}
+use Rattle.std.proofs.Common.{refl, arith, inl, ◌+◌, ◌≤◌, [], ℕ, ℤ, ⊎_elim, ◌≡◌, false, true, pos}
 use Rattle.std.proofs.Math.IntN.{+ℤ_idl, +ℤ_idr, +ℤ_assoc}
-use Rattle.cilk_runs.specs.Runs.{Instance}
+use Rattle.cilk_runs.specs.Runs.{Instance, Passes, Creates, Updates, Values, Does}
 use Rattle.cilk_runs.specs.Monoids.{IsLawful}
 use Rattle.cilk_runs.specs.Races.{HasEventWith}
 use Rattle.cilk_runs.specs.Views.{IsReducerRead}
@@ -9,7 +9,7 @@ use Rattle.cilk_runs.specs.Theorem.{HasNoRaces, follows}
 use Rattle.cilk_runs.proofs.Listed.{listed, unread}
 use Rattle.cilk_runs.proofs.Theorem.{race_free_determinate, follows_determined}
 use Rattle.cilk_runs.specs.Costs.{Total, TickTotal, EventTotal, FrameTotal, CellTotal, weight}
-use Rattle.cilk_runs.specs.Worked.{costs, both_read, EarlyReadRaces, TwoReadsDoNotRace, TwoWritesRace, BothReadRuns, BothReadIsDeterminate, sum, asked, opening}
+use Rattle.cilk_runs.specs.Worked.{costs, both_read, EarlyReadRaces, TwoReadsDoNotRace, TwoWritesRace, BothReadRuns, BothReadIsDeterminate, EarlyValueRaces, reducer, sum, asked, opening}
 
 pub early_read_races : EarlyReadRaces
 early_read_races = (refl, refl)
@@ -52,3 +52,8 @@ sum_is_lawful i = record { left = +ℤ_idl; right = +ℤ_idr; assoc = +ℤ_assoc
 
 pub both_read_is_determinate : BothReadIsDeterminate
 both_read_is_determinate = (both_read_has_no_races, race_free_determinate ℕ ℤ sum (follows asked) costs sum_is_lawful (follows_determined asked) 0 both_read opening both_read_runs both_read_has_no_races)
+
+pub early_value_races : EarlyValueRaces
+early_value_races h =
+    let z : false ≡ true = h 1 9 (Passes (Creates reducer)) (Passes (Values reducer (pos 1))) refl refl refl refl 5 (Does (Passes (Updates reducer (pos 1)))) refl in
+    absurd (cc)

@@ -1,8 +1,8 @@
 -- What the events made add to the totals.
-use Rattle.std.proofs.Common.{◌≡◌, false, ℕ, suc, ◌+◌, ◌≤◌, List, [], ◌∷◌, ◌++◌, Option, Some, None, refl, sym, ap, ◌∙◌, subst, arith, append_assoc, append-nil, le_refl, le-ltb, ℤ}
+use Rattle.std.proofs.Common.{◌≡◌, false, ℕ, suc, ◌+◌, ◌≤◌, List, [], ◌∷◌, ◌++◌, Option, Some, None, refl, ap, ◌∙◌, subst, arith, append_assoc, append-nil, le_refl, le-ltb, ℤ}
 use Rattle.std.proofs.lemmas.Bool.{cond-false}
 use Rattle.cilk_types.specs.declared.fault.Fault.{Fault}
-use Rattle.cilk_runs.specs.Runs.{Name, Cell, Ask, Invoke, Event, Reads, Writes, Syncs, Ends, Passes, Deed, Does, Invokes, Run, stop, act, child, ask_of}
+use Rattle.cilk_runs.specs.Runs.{Name, Cell, Ask, Invoke, Reads, Writes, Syncs, Ends, Passes, Deed, Does, Invokes, Run, stop, act, child, ask_of}
 use Rattle.cilk_runs.specs.Costs.{Costs, Total, TickTotal, EventTotal, FrameTotal, CellTotal, cost, is_over, own_fault, fault_of, weight}
 use Rattle.cilk_runs.specs.Machine.{Frame, Frames, deeds_at, started, begun}
 use Rattle.cilk_runs.specs.Cuts.{below, IsStarted, IsCut, spent}

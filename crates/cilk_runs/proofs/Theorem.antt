@@ -6,7 +6,7 @@
 --   kept, determinate       the same from the nested forms RaceFree and ViewFree, which no_race (Races) and no_view_race (Peers) give;
 --   room_at, never_stops    (Kept) the totals of one consistent state;
 --   listed, unread          (Listed) HasNoRace from an empty list of pairs, and HasNoViewRace of a reducer that nobody reads.
-use Rattle.std.proofs.Common.{◌≡◌, ℤ, List, Option, Some, sym, ◌∙◌}
+use Rattle.std.proofs.Common.{◌≡◌, ℤ, List, Option, Some, sym, ◌∙◌, arith}
 use Rattle.cilk_runs.specs.Runs.{Cell, Instance, Ask, Deed, Run}
 use Rattle.cilk_runs.specs.Serial.{IsDetermined}
 use Rattle.cilk_runs.specs.Costs.{Costs}
@@ -16,6 +16,7 @@ use Rattle.cilk_runs.specs.Races.{RaceFree}
 use Rattle.cilk_runs.specs.Theorem.{IsSerialRun, HasNoRaces, IsKept, IsDeterminate, follows}
 use Rattle.cilk_runs.proofs.Races.{no_race}
 use Rattle.cilk_runs.proofs.Peers.{no_view_race}
+use Rattle.cilk_runs.proofs.Begins.{begins, joined_le}
 use Rattle.cilk_runs.proofs.Joins.{full_joined}
 use Rattle.cilk_runs.proofs.Kept.{opening_ok, room_at, step_keeps, steps_keep, ended_ok}
 
@@ -27,6 +28,8 @@ determinate W V M Next C law determined w t opening run free apart ns s s' o ste
     let ok = steps_keep W V M Next C w t opening determined run.behaves run.closed run.serial free law run.resumed run.views apart run.within ns s s' (opening_ok W V M Next C w t opening s o) steps in
     record {
       consistent = ok;
+      strands = λ n. begins n t w s'.frames ok.root ok.cut;
+      at_most_once = λ n. omega (arith, ok.joins n, joined_le s'.frames n);
       room = λ total n f a m. room_at W V M Next C w t opening determined run.behaves run.closed run.serial free law run.resumed run.views apart run.within s' n ok total f a m;
       deeds = λ h. (ended_ok W V M Next C w t opening determined run.behaves run.closed run.serial free law run.resumed run.views apart run.within s' ok h).3;
       complete = λ h. (ended_ok W V M Next C w t opening determined run.behaves run.closed run.serial free law run.resumed run.views apart run.within s' ok h).0;

@@ -2,6 +2,7 @@
 use Rattle.std.specs.Prelude.{◌+◌, cond, nat_eq, ◌≡◌, ℕ, suc, ℤ, ◌≤◌, Bool, true, false, List, [], ◌∷◌, ◌++◌, Option, Some, None}
 use Rattle.cilk_runs.specs.Runs.{Name, same_name, Cell, Instance, Kind, Calls, Spawns, Event, Reads, Writes, Syncs, Ends, Passes, Deed, Does, Invokes, Run, stop, act, child, Invoke, ask_of}
 use Rattle.cilk_runs.specs.Costs.{Costs, Total, cost}
+use Rattle.cilk_runs.specs.Serial.{own_deeds, run_in}
 use Rattle.cilk_runs.specs.Monoids.{Monoid, unit_of, on_view}
 use Rattle.cilk_runs.specs.Machine.{Frame, Frames, State, deeds_at, HasSync, put}
 
@@ -50,6 +51,13 @@ IsCut (child i w u r) k (d ∷ ds) kids =
     × IsCut u 1 (deeds_at (kids k [])) (below (kids k))
     × (IsPast i ds → IsFull u 1 (deeds_at (kids k [])) (below (kids k)))
     × IsCut r (suc k) ds kids
+
+abbrev pub Begins : {A : Type 0} → List A → List A → Type 0
+Begins {A = A} xs ys = (rest : List A) × (xs ++ rest ≡ ys)
+
+-- frame n is one of the run's, and what it has done begins what that does
+abbrev pub BeginsSerially : {W : Type 0} → Run W → Frames W → Name → Type 0
+BeginsSerially {W = W} t frames n = (f : Frame W) → frames n ≡ Some f → (u : Run W) × (run_in (Some t) n ≡ Some u) × Begins f.deeds (own_deeds u)
 
 -- a cell's value after the events made, in serial order, from its value before
 abbrev pub made : {W : Type 0} → Run W → ℕ → List (Deed W) → (ℕ → Frames W) → Cell → ℤ → ℤ

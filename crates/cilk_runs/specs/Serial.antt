@@ -1,6 +1,6 @@
 -- The serial run.
-use Rattle.std.specs.Prelude.{◌≡◌, ℤ, List, [], ◌∷◌, ◌++◌}
-use Rattle.cilk_runs.specs.Runs.{Cell, Kind, Calls, Spawns, Ask, Invoke, Event, Reads, Writes, Syncs, Ends, Passes, Deed, Does, Invokes, Run, stop, act, child, ask_of}
+use Rattle.std.specs.Prelude.{◌≡◌, ℤ, List, [], ◌∷◌, ◌++◌, ℕ, suc, cond, nat_eq, Option, Some, None}
+use Rattle.cilk_runs.specs.Runs.{Cell, Kind, Calls, Spawns, Ask, Invoke, Event, Reads, Writes, Syncs, Ends, Passes, Deed, Does, Invokes, Run, stop, act, child, ask_of, Name}
 use Rattle.cilk_runs.specs.Machine.{put}
 
 -- what the frame itself does in the run
@@ -8,6 +8,18 @@ abbrev pub own_deeds : {W : Type 0} → Run W → List (Deed W)
 own_deeds stop = []
 own_deeds (act e r) = Does e ∷ own_deeds r
 own_deeds (child k w u r) = Invokes k w ∷ own_deeds r
+
+-- the run of the child of this ordinal, where the next one is child k
+abbrev pub child_at : {W : Type 0} → Run W → ℕ → ℕ → Option (Run W)
+child_at stop k j = None
+child_at (act e r) k j = child_at r k j
+child_at (child b w u r) k j = cond (nat_eq k j) (Some u) (child_at r (suc k) j)
+
+-- the run of the frame of this name
+abbrev pub run_in : {W : Type 0} → Option (Run W) → Name → Option (Run W)
+run_in None n = None
+run_in (Some t) [] = Some t
+run_in (Some t) (j ∷ n) = run_in (child_at t 1 j) n
 
 -- a cell's value after the run, from its value before
 abbrev pub value_after : {W : Type 0} → Run W → Cell → ℤ → ℤ

@@ -7,7 +7,7 @@ use Rattle.cilk_runs.specs.Monoids.{Monoid, unit_of}
 use Rattle.cilk_runs.specs.Views.{view_after, IsSerialViews, IsResumed, IsCreated, IsRetiredAtHome}
 use Rattle.cilk_runs.specs.Trees.{tree, HasChildren, HasNoRace, HasNoViewRace}
 use Rattle.cilk_runs.specs.Serial.{own_deeds, value_after, IsSerial, IsClosed, Behaves}
-use Rattle.cilk_runs.specs.Cuts.{times, spawned, below, IsFull, IsConsistent}
+use Rattle.cilk_runs.specs.Cuts.{BeginsSerially, times, spawned, below, IsFull, IsConsistent}
 
 module _ (W V : Type 0) (M : Instance → Monoid V) (Next : W → List (Deed W) → Ask W → Type 0) (C : Costs W) where
   -- t is the serial run of a program that begins as w, with these opening values
@@ -25,6 +25,9 @@ module _ (W V : Type 0) (M : Instance → Monoid V) (Next : W → List (Deed W) 
   -- what holds of a state that steps lead to
   pub record Agrees (w : W) (t : Run W) (opening : Cell → ℤ) (s : State W V) : Type 0 where
     pub consistent : IsConsistent M C w t opening s
+    -- each frame is one of the serial run's, and what it has done, with the answers, begins what it does there
+    pub strands : (n : Name) → BeginsSerially t s.frames n
+    pub at_most_once : (n : Name) → times n s.joins ≤ 1
     -- with what any frame that isn't waiting asks for next, no total is more than the whole serial run's
     pub room : (total : Total) (n : Name) (frame : Frame W) (ask : Ask W) → IsAsking W V M Next C s n frame ask → s.totals total + cost C total frame.what frame.deeds ask ≤ C.used total + weight C total w [] t
     pub complete : HasEnd (deeds_at (s.frames [])) → IsFull t 1 (deeds_at (s.frames [])) (below s.frames)

@@ -1,5 +1,5 @@
 -- View-read races of a run, and the serial run's views.
-use Rattle.std.specs.Prelude.{◌≡◌, ℤ, Bool, true, false, ◌⊎◌}
+use Rattle.std.specs.Prelude.{◌≡◌, Bool, true, false, ◌⊎◌}
 use Rattle.cilk_runs.specs.Runs.{Instance, Output, has_instance, Kind, Calls, Spawns, Event, Reads, Writes, Syncs, Ends, Passes, Mark, Begins, Resumes, Creates, Updates, Sets, Values, Prints, Run, stop, act, child}
 use Rattle.cilk_runs.specs.Monoids.{Monoid, numbers_of, on_view}
 use Rattle.cilk_runs.specs.Races.{HasEventWith, HasInBlockWith}

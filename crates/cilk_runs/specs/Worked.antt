@@ -1,9 +1,9 @@
 -- Worked programs as nested runs. What a frame is started as is a number here.
 use Rattle.std.specs.Prelude.{◌≡◌, ℕ, zero, suc, ℤ, pos, ◌+ℤ◌, cond, List, [], ◌∷◌, length, Option, slice_get}
-use Rattle.cilk_runs.specs.Runs.{Cell, Global, Own, same_cell, Instance, Spawns, Ask, Read, Write, Invoke, Sync, End, Pass, Begin, Resume, Event, Reads, Writes, Syncs, Ends, Passes, Begins, Resumes, Deed, Run, stop, act, child}
+use Rattle.cilk_runs.specs.Runs.{Cell, Global, Own, same_cell, Instance, Reducer, Spawns, Ask, Read, Write, Invoke, Sync, End, Pass, Begin, Resume, Event, Reads, Writes, Syncs, Ends, Passes, Begins, Resumes, Creates, Updates, Values, Deed, Run, stop, act, child}
 use Rattle.cilk_runs.specs.Costs.{Costs, Total, TickTotal, EventTotal, FrameTotal, CellTotal}
 use Rattle.cilk_runs.specs.Monoids.{Monoid}
-use Rattle.cilk_runs.specs.Trees.{trace, races}
+use Rattle.cilk_runs.specs.Trees.{trace, races, HasNoViewRace}
 use Rattle.cilk_runs.specs.Theorem.{IsSerialRun, HasNoRaces, IsDeterminate, follows}
 
 abbrev pub begin : Event
@@ -88,3 +88,18 @@ BothReadRuns = IsSerialRun ℕ ℤ sum (follows asked) costs 0 both_read opening
 -- and the theorem speaks of it
 abbrev pub BothReadIsDeterminate : Type 0
 BothReadIsDeterminate = HasNoRaces both_read × IsDeterminate ℕ ℤ sum (follows asked) costs 0 both_read opening
+
+-- the root's first reducer
+abbrev pub reducer : Instance
+reducer = Reducer [] 1
+
+-- update(r, 1) in a spawned child; x = value(r) before the sync
+abbrev pub early_value : Run ℕ
+early_value =
+    act begin (act (Passes (Creates reducer)) (act (Writes (Own [] 0) (pos 0))
+    (child Spawns 1 (act begin (act (Passes (Updates reducer (pos 1))) (act Syncs (act end stop))))
+    (act resume (act (Passes (Values reducer (pos 1))) (act (Writes (Own [] 0) (pos 1)) (act Syncs (act (Reads (Own [] 0) (pos 1)) (act Syncs (act end stop))))))))))
+
+-- the value, at position 10, runs in parallel with the child, and the creation, at position 2, doesn't
+abbrev pub EarlyValueRaces : Type 0
+EarlyValueRaces = ¬ (HasNoViewRace reducer early_value)

@@ -1,23 +1,41 @@
 //! Nested runs of spawned frames, the free machine, and the theorem that a program without races is determinate.
 //!
 //! A program is known here only by its *behaviour*: what a frame asks for next, after what it has done and was answered.
-//! A frame may read and write cells, call or spawn a child, wait for its spawned children at a sync, use reducers, and end.
+//! A frame may read and write cells, call or spawn a child, wait for its spawned children at a sync, use reducers, and end
+//! with a result. Frames are named by their paths from the root, which no schedule changes.
 //!
 //! * The **serial run** lets one frame after another act: a child runs where it is started, and its parent goes on once it
-//!   has ended. It is kept nested, each child's run inside its parent's (`specs/Runs`, `specs/Serial`).
+//!   has ended. It is kept nested, each child's run inside its parent's (`specs/Runs`, `specs/Serial`, `specs/Views`).
 //! * The **free machine** lets any frame that isn't waiting make its next event at any moment, over one memory. A
 //!   continuation beside a spawned child may be stolen at any moment, and then goes on with empty reducer views, which the
-//!   sync multiplies back in serial order (`specs/Machine`). It has no workers, deques or locks, so a runtime by random
-//!   stealing (Frigo, Leiserson, Randall 1998) makes some of its steps, and none other.
+//!   sync multiplies back in serial order (Frigo, Halpern, Leiserson, Lewin-Berlin 2009). A fault, or a total of ticks,
+//!   events, frames or cells over its limit, stops the run (`specs/Machine`, `specs/Costs`). It has no workers, deques or
+//!   locks, so a runtime that steals at random (Frigo, Leiserson, Randall 1998) makes some of its steps, and none other.
 //! * A **determinacy race** is two accesses of one cell, one of them a write, in strands that are parallel in the tree of
-//!   the serial run (Feng, Leiserson 1997). A **view-read race** is two reads of one reducer in strands with different
-//!   peers (Lee, Schardl 2015). Both are stated over all pairs of positions of the serial run (`specs/Trees`).
+//!   the serial run (Feng, Leiserson 1997). A **view-read race** is two reads of one reducer (its creation, a set, a value)
+//!   in strands with different peers (Lee, Schardl 2015). Both are stated over all pairs of positions (`specs/Trees`).
 //!
 //! The theorem, on [`laws::determinate`]: where the serial run of a program has neither race, then after every list of steps of
 //! the free machine the state is a consistent cut of that serial run (`specs/Cuts`). Each frame has made a beginning of
-//! its serial events, with the same values. What is before anything made is made. Memory and views are those of the events made,
-//! in serial order. Once the root has ended, memory and reducers are the serial run's, and each spawned child was joined
-//! once.
+//! its serial events, with the same values. What is before anything made is made ([`laws::cuts_are_closed`] says so by
+//! positions). Memory and views are those of the events made, in serial order, and the totals are theirs, so nothing stops
+//! the run. Once the root has ended its result, memory and reducers are the serial run's, and each spawned child was joined once.
+//!
+//! A scheduler needs the single step, [`laws::step_is_consistent`], which leads from a consistent cut to a consistent cut.
+//!
+//! # To use it for a language
+//!
+//! These contracts are for behaviours given as functions of a frame's history. A crate with a behaviour of its own, also one
+//! given as a relation, cites the lemmas listed at the head of `proofs/Theorem`, which hold for any types and any
+//! relation. It shows that its serial run is one (`IsSerialRun` in `specs/Theorem`):
+//!
+//! | Field | Where it comes from |
+//! |---|---|
+//! | `behaves`, `serial`, `views` | the serial run's own definition: asks, reads and values |
+//! | `closed`, `resumed` | the shape of a frame: its end comes last, a sync after each spawn, a resume after each child |
+//! | `created`, `retired` | a frame creates its reducers before it uses them, and its end retires those and no others |
+//! | `inhabited` | each child makes an event |
+//! | `within` | the serial run keeps the limits |
 #![tactic(auto)]
 
 pub mod laws;

@@ -1,4 +1,4 @@
-use Rattle.cilk_runs.proofs.Rows.{early_read_races, two_reads_do_not_race, two_writes_race, both_read_runs, both_read_is_determinate}
+use Rattle.cilk_runs.proofs.Rows.{early_read_races, two_reads_do_not_race, two_writes_race, both_read_runs, both_read_is_determinate, early_value_races}
 use Rattle.cilk_runs.proofs.laws.worked_programs.Goals as goal
 
 pub returns : goal.returns
@@ -9,4 +9,5 @@ returns c =
       two_writes = two_writes_race;
       both_read = both_read_runs;
       both_read_whole = both_read_is_determinate;
+      early_value = early_value_races;
     }
