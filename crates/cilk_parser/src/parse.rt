@@ -90,7 +90,7 @@ mod tests {
     /// The number and the place of an input's fault, or 0 and how many numbers it has.
     fn input_told(alloc: Global, text: &[u8]) -> (u16, usize) {
         match parse_input(alloc, text) {
-            Ok(input) => (0, input.len()),
+            Ok(input) => (0, input.as_slice().len()),
             Err(TextFault::At(number, place)) => (number.number(), place),
             Err(TextFault::Memory) => (1, 0),
         }
@@ -287,9 +287,9 @@ mod tests {
             panic!(rt; "no numbers");
         };
         assert_eq!(rt; input.as_slice(), [10, -20].as_slice());
-        assert_eq!(rt; input.value(0), Some(10));
-        assert_eq!(rt; input.value(1), Some(-20));
-        assert_eq!(rt; input.value(2), None);
-        assert_eq!(rt; input.value(-1), None);
+        assert_eq!(rt; input.at(0), Some(10));
+        assert_eq!(rt; input.at(1), Some(-20));
+        assert_eq!(rt; input.at(2), None);
+        assert_eq!(rt; input.at(-1), None);
     }
 }
