@@ -4,6 +4,7 @@ use Rattle.cilk_types.specs.declared.fault.Fault.{Fault}
 use Rattle.cilk_types.specs.declared.fault.Fault.TheVariants.{TooManyEvents, TooManyFrames, TooManyCells}
 use Rattle.cilk_runs.specs.Runs.{Ask, Read, Write, Invoke, Sync, End, Pass, Fail, Deed, Does, Invokes, Run, stop, act, child, ask_of}
 
+-- what is counted over a whole run
 pub data Total : Type 0 where
   TickTotal : Total
   EventTotal : Total
@@ -18,6 +19,7 @@ pub record Costs (W : Type 0) : Type 0 where
   pub used : Total → ℕ
   pub limit : Total → ℕ
 
+-- the frames that an ask starts
 abbrev pub frames_of : {W : Type 0} → Ask W → ℕ
 frames_of (Read c) = 0
 frames_of (Write c v) = 0
@@ -27,6 +29,7 @@ frames_of (End v gone) = 0
 frames_of (Pass m) = 0
 frames_of (Fail f) = 0
 
+-- the cells of the frame that an ask starts
 abbrev pub cells_of : {W : Type 0} → (W → ℕ) → Ask W → ℕ
 cells_of cells (Read c) = 0
 cells_of cells (Write c v) = 0
@@ -43,6 +46,7 @@ cost C EventTotal w past a = 1
 cost C FrameTotal w past a = frames_of a
 cost C CellTotal w past a = cells_of C.cells a
 
+-- with this ask the total is over its limit
 abbrev pub is_over : {W : Type 0} → Costs W → Total → (Total → ℕ) → W → List (Deed W) → Ask W → Bool
 is_over C total totals w past a = nat_lt (C.limit total) (totals total + cost C total w past a)
 

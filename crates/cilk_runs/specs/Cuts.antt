@@ -10,6 +10,7 @@ use Rattle.cilk_runs.specs.Machine.{Frame, Frames, State, deeds_at, HasSync, put
 abbrev pub below : {W : Type 0} → Frames W → ℕ → Frames W
 below frames k n = frames (k ∷ n)
 
+-- the frame is there, and was started as w
 abbrev pub IsAs : {W : Type 0} → W → Option (Frame W) → Type 0
 IsAs w None = ⊥
 IsAs w (Some f) = f.what ≡ w
@@ -52,6 +53,7 @@ IsCut (child i w u r) k (d ∷ ds) kids =
     × (IsPast i ds → IsFull u 1 (deeds_at (kids k [])) (below (kids k)))
     × IsCut r (suc k) ds kids
 
+-- the one list begins the other
 abbrev pub Begins : {A : Type 0} → List A → List A → Type 0
 Begins {A = A} xs ys = (rest : List A) × (xs ++ rest ≡ ys)
 
@@ -85,10 +87,12 @@ abbrev pub WhenResumed : {W : Type 0} → ℕ → (Name → Bool) → List (Deed
 WhenResumed k loose [] X = NoneStolen k loose
 WhenResumed k loose (d ∷ ds) X = X
 
+-- the first where the continuation was stolen, else the second
 abbrev pub WhenStolen : Bool → Type 0 → Type 0 → Type 0
 WhenStolen true X Y = X
 WhenStolen false X Y = Y
 
+-- the product at the frame's block after an event
 abbrev pub block_after : {V : Type 0} → Monoid V → Event → V → V
 block_after M (Reads c n) acc = acc
 block_after M (Writes c n) acc = acc
@@ -96,6 +100,7 @@ block_after M Syncs acc = M.unit
 block_after M (Ends val gone) acc = acc
 block_after M (Passes m) acc = acc
 
+-- the frame's own view after an event, where its block has this product
 abbrev pub own_after : {V : Type 0} → Monoid V → Instance → Event → V → V → V
 own_after M i (Reads c n) acc p = p
 own_after M i (Writes c n) acc p = p
@@ -122,10 +127,12 @@ Lies M i (child Spawns w u r) k (d ∷ ds) kids loose pcs acc p root =
     (Lies M i r (suc k) ds kids loose pcs (M.join acc (pcs (k ∷ []))) M.unit root)
     (WhenResumed (suc k) loose ds (IsFull u 1 (deeds_at (kids k [])) (below (kids k)) × Lies M i r (suc k) ds kids loose pcs acc (pcs (k ∷ [])) root))
 
+-- how often a name stands in a list
 abbrev pub times : Name → List Name → ℕ
 times m [] = 0
 times m (n ∷ ns) = cond (same_name n m) 1 0 + times m ns
 
+-- 1 where there is a sync, and else 0
 abbrev pub sync_bit : {W : Type 0} → List (Deed W) → ℕ
 sync_bit [] = 0
 sync_bit (Does (Reads c v) ∷ ds) = sync_bit ds
@@ -135,6 +142,7 @@ sync_bit (Does (Ends val gone) ∷ ds) = sync_bit ds
 sync_bit (Does (Passes m) ∷ ds) = sync_bit ds
 sync_bit (Invokes k w ∷ ds) = sync_bit ds
 
+-- the number for a spawn, and 0 for a call
 abbrev pub spawn_bit : Kind → ℕ → ℕ
 spawn_bit Calls n = 0
 spawn_bit Spawns n = n
@@ -157,6 +165,7 @@ spawned_at z k [] = 0
 spawned_at z k (Does e ∷ ds) = spawned_at z k ds
 spawned_at z k (Invokes b w ∷ ds) = cond (nat_eq z k) (spawn_bit b 1) (spawned_at (suc z) k ds)
 
+-- the same by name
 abbrev pub spawned : {W : Type 0} → Frames W → Name → ℕ
 spawned frames [] = 0
 spawned frames (k ∷ []) = spawned_at 1 k (deeds_at (frames []))

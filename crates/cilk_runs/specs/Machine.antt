@@ -5,6 +5,7 @@ use Rattle.cilk_types.specs.declared.fault.Fault.{Fault}
 use Rattle.cilk_runs.specs.Costs.{Costs, Total, cost, fault_of}
 use Rattle.cilk_runs.specs.Monoids.{Monoid, unit_of, numbers_of, on_view}
 
+-- what a frame was started as, and what it has done
 pub record Frame (W : Type 0) : Type 0 where
   pub what : W
   pub deeds : List (Deed W)
@@ -29,10 +30,12 @@ pub record State (W V : Type 0) : Type 0 where
   pub totals : Total → ℕ
   pub stopped : Option Stop
 
+-- nothing, where there is no frame
 abbrev pub deeds_at : {W : Type 0} → Option (Frame W) → List (Deed W)
 deeds_at None = []
 deeds_at (Some f) = f.deeds
 
+-- the frame has ended
 abbrev pub HasEnd : {W : Type 0} → List (Deed W) → Type 0
 HasEnd [] = ⊥
 HasEnd (Does (Reads c v) ∷ ds) = HasEnd ds
@@ -42,6 +45,7 @@ HasEnd (Does (Ends val gone) ∷ ds) = Unit {0}
 HasEnd (Does (Passes m) ∷ ds) = HasEnd ds
 HasEnd (Invokes k w ∷ ds) = HasEnd ds
 
+-- the frame has made a sync
 abbrev pub HasSync : {W : Type 0} → List (Deed W) → Type 0
 HasSync [] = ⊥
 HasSync (Does (Reads c v) ∷ ds) = HasSync ds
@@ -86,6 +90,7 @@ strands (Invokes k w ∷ ds) = strands ds
 abbrev pub strand_of : {W : Type 0} → List (Deed W) → ℕ
 strand_of ds = cond (nat_eq (strands ds) 0) 1 (strands ds)
 
+-- the answer to a wish, where the views have these numbers
 abbrev pub mark_of : (Instance → ℤ) → Wish → Mark
 mark_of number Begin = Begins
 mark_of number Resume = Resumes
@@ -113,13 +118,16 @@ put Syncs at x = x
 put (Ends val gone) at x = x
 put (Passes m) at x = x
 
+-- what a deed leaves in a cell that held x
 abbrev pub effect : {W : Type 0} → Deed W → Cell → ℤ → ℤ
 effect (Does e) at x = put e at x
 effect (Invokes k w) at x = x
 
+-- one frame is another
 abbrev pub with_frame : {W : Type 0} → Frames W → Name → Frame W → Frames W
 with_frame frames n f = λ m. cond (same_name n m) (Some f) (frames m)
 
+-- a frame that has done nothing yet
 abbrev pub begun : {W : Type 0} → W → Frame W
 begun w = record { what = w; deeds = [] }
 
@@ -140,10 +148,12 @@ open_block k block (Does (Passes m) ∷ ds) = open_block k block ds
 open_block k block (Invokes Calls w ∷ ds) = open_block (suc k) block ds
 open_block k block (Invokes Spawns w ∷ ds) = open_block (suc k) (block ++ k ∷ []) ds
 
+-- the children of these ordinals, by name
 abbrev pub children : Name → List ℕ → List Name
 children n [] = []
 children n (k ∷ ks) = (n ++ k ∷ []) ∷ children n ks
 
+-- the children that enter the joins with this ask: those of the open block, at a sync
 abbrev pub joined_by : {W : Type 0} → Ask W → Name → List (Deed W) → List Name
 joined_by (Read c) n ds = []
 joined_by (Write c v) n ds = []
@@ -179,6 +189,7 @@ own_view M i block loose last (Passes (Sets j x)) v = on_view M i (Passes (Sets 
 own_view M i block loose last (Passes (Values j n)) v = v
 own_view M i block loose last (Passes (Prints x)) v = on_view M i (Passes (Prints x)) v
 
+-- one frame has another view
 abbrev pub with_view : {V : Type 0} → (Name → V) → Name → V → Name → V
 with_view views n v m = cond (same_name n m) v (views m)
 
@@ -243,6 +254,7 @@ module _ (W V : Type 0) (M : Instance → Monoid V) (Next : W → List (Deed W) 
   Steps [] s s' = s' ≡ s
   Steps (n ∷ ns) s s' = (mid : State W V) × Step s n mid × Steps ns mid s'
 
+  -- the root alone is there and has done nothing, the cells have their opening values, and nothing is stolen, joined or stopped
   abbrev pub IsOpening : W → (Cell → ℤ) → State W V → Type 0
   IsOpening w opening s =
       ((n : Name) → s.frames n ≡ cond (same_name [] n) (Some (begun w)) None) × (s.memory ≡ opening) × (s.joins ≡ []) × (s.stopped ≡ None) × ((n : Name) → s.stolen n ≡ false) × ((i : Instance) → s.piece [] i ≡ unit_of M i) × ((total : Total) → s.totals total ≡ C.used total)

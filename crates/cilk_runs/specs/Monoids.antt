@@ -9,14 +9,17 @@ pub record Monoid (V : Type 0) : Type 0 where
   pub single : ℤ → V
   pub number : V → ℤ
 
+-- the unit is neutral on both sides, and joining is associative
 pub record IsLawful {V : Type 0} (M : Monoid V) : Type 0 where
   pub left : (v : V) → M.join M.unit v ≡ v
   pub right : (v : V) → M.join v M.unit ≡ v
   pub assoc : (a b c : V) → M.join (M.join a b) c ≡ M.join a (M.join b c)
 
+-- what a view gives as a number
 abbrev pub number_of : {V : Type 0} → Monoid V → V → ℤ
 number_of M v = M.number v
 
+-- the unit of an instance's monoid
 abbrev pub unit_of : {V : Type 0} → (Instance → Monoid V) → Instance → V
 unit_of M i = let m = M i in m.unit
 
@@ -24,6 +27,7 @@ unit_of M i = let m = M i in m.unit
 abbrev pub numbers_of : {V : Type 0} → (Instance → Monoid V) → (Instance → V) → Instance → ℤ
 numbers_of M views i = number_of (M i) (views i)
 
+-- instance i's view after a reducer's event, where M is that instance's monoid
 abbrev pub mark_view : {V : Type 0} → Monoid V → Mark → Instance → V → V
 mark_view M Begins i v = v
 mark_view M Resumes i v = v

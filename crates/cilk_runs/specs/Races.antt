@@ -2,6 +2,7 @@
 use Rattle.std.specs.Prelude.{◌≡◌, ◌⊎◌}
 use Rattle.cilk_runs.specs.Runs.{Cell, Kind, Calls, Spawns, Event, Reads, Writes, Syncs, Ends, Passes, Run, stop, act, child}
 
+-- a read or a write of the cell
 abbrev pub IsAccess : Event → Cell → Type 0
 IsAccess (Reads d v) c = d ≡ c
 IsAccess (Writes d v) c = d ≡ c
@@ -9,6 +10,7 @@ IsAccess Syncs c = ⊥
 IsAccess (Ends val gone) c = ⊥
 IsAccess (Passes m) c = ⊥
 
+-- a write of the cell
 abbrev pub IsWrite : Event → Cell → Type 0
 IsWrite (Reads d v) c = ⊥
 IsWrite (Writes d v) c = d ≡ c
@@ -16,6 +18,7 @@ IsWrite Syncs c = ⊥
 IsWrite (Ends val gone) c = ⊥
 IsWrite (Passes m) c = ⊥
 
+-- the event is a sync
 abbrev pub IsSync : Event → Type 0
 IsSync (Reads d v) = ⊥
 IsSync (Writes d v) = ⊥
@@ -43,10 +46,12 @@ Apart u r =
     → (HasEventWith (λ e. IsAccess e c) u → HasInBlockWith (λ e. IsWrite e c) r → ⊥)
     × (HasEventWith (λ e. IsWrite e c) u → HasInBlockWith (λ e. IsAccess e c) r → ⊥)
 
+-- a called child runs in parallel with nothing of its parent
 abbrev pub ApartIf : {W : Type 0} → Kind → Run W → Run W → Type 0
 ApartIf Calls u r = Unit {0}
 ApartIf Spawns u r = Apart u r
 
+-- no two parallel parts of the run race
 abbrev pub RaceFree : {W : Type 0} → Run W → Type 0
 RaceFree stop = Unit {0}
 RaceFree (act e r) = RaceFree r

@@ -35,6 +35,7 @@ IsRight Syncs memory = Unit {0}
 IsRight (Ends val gone) memory = Unit {0}
 IsRight (Passes m) memory = Unit {0}
 
+-- each read of the run is right, where the cells hold these values before it
 abbrev pub IsSerial : {W : Type 0} → Run W → (Cell → ℤ) → Type 0
 IsSerial stop memory = Unit {0}
 IsSerial (act e r) memory = IsRight e memory × IsSerial r (λ c. put e c (memory c))
@@ -50,11 +51,13 @@ SyncAhead (act (Ends val gone) r) = SyncAhead r
 SyncAhead (act (Passes m) r) = SyncAhead r
 SyncAhead (child k w u r) = SyncAhead r
 
+-- the frame has something ahead
 abbrev pub GoesOn : {W : Type 0} → Run W → Type 0
 GoesOn stop = ⊥
 GoesOn (act e r) = Unit {0}
 GoesOn (child k w u r) = Unit {0}
 
+-- what must come after a call, and after a spawn
 abbrev pub ComesAfter : {W : Type 0} → Kind → Run W → Type 0
 ComesAfter Calls r = GoesOn r
 ComesAfter Spawns r = SyncAhead r

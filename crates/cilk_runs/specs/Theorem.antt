@@ -44,6 +44,7 @@ module _ (W V : Type 0) (M : Instance → Monoid V) (Next : W → List (Deed W) 
   abbrev pub IsKept : W → Run W → (Cell → ℤ) → Type 0
   IsKept w t opening = (s s' : State W V) (n : Name) → IsConsistent M C w t opening s → Step W V M Next C s n s' → IsConsistent M C w t opening s'
 
+  -- whatever steps are made from the opening state, this holds then
   abbrev pub IsDeterminate : W → Run W → (Cell → ℤ) → Type 0
   IsDeterminate w t opening = (ns : List Name) (s s' : State W V) → IsOpening W V M Next C w opening s → Steps W V M Next C ns s s' → Agrees w t opening s'
 

@@ -9,19 +9,23 @@ trace stop = []
 trace (act e r) = Does e ∷ trace r
 trace (child b w u r) = Invokes b w ∷ (trace u ++ trace r)
 
+-- strands with their events, in series or in parallel (Feng, Leiserson 1997)
 pub data Tree (W : Type 0) : Type 0 where
   Strand : (events : List (Deed W)) → Tree W
   Series : (left : Tree W) → (right : Tree W) → Tree W
   Beside : (left : Tree W) → (right : Tree W) → Tree W
 
+-- a tree, and what follows it if anything
 abbrev pub in_series : {W : Type 0} → Tree W → Option (Tree W) → Tree W
 in_series a None = a
 in_series a (Some b) = Series a b
 
+-- a called child is in series with what follows, a spawned one beside it
 abbrev pub child_tree : {W : Type 0} → Kind → Tree W → Tree W → Tree W
 child_tree Calls u r = Series u r
 child_tree Spawns u r = Beside u r
 
+-- the event is a sync
 abbrev pub is_sync : Event → Bool
 is_sync (Reads c v) = false
 is_sync (Writes c v) = false
@@ -42,9 +46,11 @@ blocks (child b w u r) s =
     let rest = blocks r [] in
     (Series (Strand (s ++ Invokes b w ∷ [])) (child_tree b (in_series inner.0 inner.1) rest.0), rest.1)
 
+-- the tree of strands of a run
 abbrev pub tree : {W : Type 0} → Run W → Tree W
 tree r = in_series (blocks r []).0 (blocks r []).1
 
+-- the number of events
 abbrev pub size : {W : Type 0} → Tree W → ℕ
 size (Strand s) = length s
 size (Series a b) = size a + size b
@@ -63,6 +69,7 @@ event_clash (Writes c v) (Writes d x) = same_cell c d
 event_clash (Writes c v) (Reads d x) = same_cell c d
 event_clash _ _ = false
 
+-- the same for deeds: only accesses clash
 abbrev pub clash : {W : Type 0} → Option (Deed W) → Option (Deed W) → Bool
 clash (Some (Does a)) (Some (Does b)) = event_clash a b
 clash _ _ = false
@@ -76,13 +83,16 @@ abbrev pub races_with : {W : Type 0} → Run W → ℕ → ℕ → List (ℕ × 
 races_with t q zero = []
 races_with t q (suc p) = races_with t q p ++ cond (are_parallel (tree t) p q && clash (slice_get (trace t) p) (slice_get (trace t) q)) ((suc p, suc q) ∷ []) []
 
+-- the pairs whose second position is below this one
 abbrev pub races_below : {W : Type 0} → Run W → ℕ → List (ℕ × ℕ)
 races_below t zero = []
 races_below t (suc q) = races_below t q ++ races_with t q q
 
+-- all pairs
 abbrev pub races : {W : Type 0} → Run W → List (ℕ × ℕ)
 races t = races_below t (length (trace t))
 
+-- the events at the leaves, from left to right
 abbrev pub events_of : {W : Type 0} → Tree W → List (Deed W)
 events_of (Strand s) = s
 events_of (Series a b) = events_of a ++ events_of b

@@ -10,6 +10,7 @@ view_after M i stop x = x
 view_after M i (act e r) x = view_after M i r (on_view M i e x)
 view_after M i (child k w u r) x = view_after M i r (view_after M i u x)
 
+-- a value is the number of the view
 abbrev pub IsValueRight : {V : Type 0} → (Instance → Monoid V) → Mark → (Instance → V) → Type 0
 IsValueRight M Begins views = Unit {0}
 IsValueRight M Resumes views = Unit {0}
@@ -19,6 +20,7 @@ IsValueRight M (Sets i x) views = Unit {0}
 IsValueRight M (Values i n) views = n ≡ numbers_of M views i
 IsValueRight M (Prints x) views = Unit {0}
 
+-- the same for each event
 abbrev pub IsViewRight : {V : Type 0} → (Instance → Monoid V) → Event → (Instance → V) → Type 0
 IsViewRight M (Reads c v) views = Unit {0}
 IsViewRight M (Writes c v) views = Unit {0}
@@ -42,6 +44,7 @@ IsMarkRead i (Sets j x) = j ≡ i
 IsMarkRead i (Values j n) = j ≡ i
 IsMarkRead i (Prints x) = ⊥
 
+-- the same for events
 abbrev pub IsReducerRead : Instance → Event → Type 0
 IsReducerRead i (Reads c v) = ⊥
 IsReducerRead i (Writes c v) = ⊥
@@ -57,6 +60,7 @@ IsTouch i Syncs = ⊥
 IsTouch i (Ends val gone) = has_instance gone i ≡ true
 IsTouch i (Passes m) = IsMarkRead i m
 
+-- the creation of instance i
 abbrev pub IsMarkCreate : Instance → Mark → Type 0
 IsMarkCreate i Begins = ⊥
 IsMarkCreate i Resumes = ⊥
@@ -66,6 +70,7 @@ IsMarkCreate i (Sets j x) = ⊥
 IsMarkCreate i (Values j n) = ⊥
 IsMarkCreate i (Prints x) = ⊥
 
+-- the same for events
 abbrev pub IsCreate : Instance → Event → Type 0
 IsCreate i (Reads c v) = ⊥
 IsCreate i (Writes c v) = ⊥
@@ -73,6 +78,7 @@ IsCreate i Syncs = ⊥
 IsCreate i (Ends val gone) = ⊥
 IsCreate i (Passes m) = IsMarkCreate i m
 
+-- the end that retires instance i
 abbrev pub IsRetire : Instance → Event → Type 0
 IsRetire i (Reads c v) = ⊥
 IsRetire i (Writes c v) = ⊥
@@ -91,6 +97,7 @@ abbrev pub ViewApart : {W V : Type 0} → Monoid V → Instance → Kind → V �
 ViewApart M i Calls v r = Unit {0}
 ViewApart M i Spawns v r = (v ≡ M.unit) ⊎ (¬ (HasInBlockWith (IsTouch i) r))
 
+-- so it is at each continuation of the run, whose view begins as x
 abbrev pub ViewFree : {W V : Type 0} → Monoid V → Instance → Run W → V → Type 0
 ViewFree M i stop x = Unit {0}
 ViewFree M i (act e r) x = ViewFree M i r (on_view M i e x)
@@ -110,6 +117,7 @@ IsResume (Passes (Sets i x)) = ⊥
 IsResume (Passes (Values i n)) = ⊥
 IsResume (Passes (Prints x)) = ⊥
 
+-- in the run a resume stands where it must; true: one is due at its start
 abbrev pub IsResumed : {W : Type 0} → Bool → Run W → Type 0
 IsResumed true stop = ⊥
 IsResumed true (act e r) = IsResume e × IsResumed false r
@@ -118,6 +126,7 @@ IsResumed false stop = Unit {0}
 IsResumed false (act e r) = (¬ (IsResume e)) × IsResumed false r
 IsResumed false (child k w u r) = IsResumed false u × IsResumed true r
 
+-- an update of instance i; a print updates the output
 abbrev pub IsMarkUpdate : Instance → Mark → Type 0
 IsMarkUpdate i Begins = ⊥
 IsMarkUpdate i Resumes = ⊥
@@ -127,6 +136,7 @@ IsMarkUpdate i (Sets j x) = ⊥
 IsMarkUpdate i (Values j n) = ⊥
 IsMarkUpdate i (Prints x) = Output ≡ i
 
+-- the same for events
 abbrev pub IsUpdate : Instance → Event → Type 0
 IsUpdate i (Reads c v) = ⊥
 IsUpdate i (Writes c v) = ⊥
@@ -144,6 +154,7 @@ IsCreatedFirst i (child b w u r) seen = IsCreatedFirst i u seen × IsCreatedFirs
 abbrev pub IsCreated : {W : Type 0} → Instance → Run W → Type 0
 IsCreated i t = IsCreatedFirst i t ⊥ ⊎ (¬ (HasEventWith (IsReducerRead i) t))
 
+-- beside a spawned child nothing is read that was read before
 abbrev pub ReadRule : {W : Type 0} → Instance → Kind → Type 0 → Run W → Type 0
 ReadRule i Calls seen r = Unit {0}
 ReadRule i Spawns seen r = seen → HasInBlockWith (IsReducerRead i) r → ⊥

@@ -6,12 +6,15 @@ use Rattle.cilk_runs.specs.Monoids.{Monoid}
 use Rattle.cilk_runs.specs.Trees.{trace, races, HasNoViewRace}
 use Rattle.cilk_runs.specs.Theorem.{IsSerialRun, HasNoRaces, IsDeterminate, follows}
 
+-- a frame begins
 abbrev pub begin : Event
 begin = Passes Begins
 
+-- a parent goes on after its child
 abbrev pub resume : Event
 resume = Passes Resumes
 
+-- a frame ends with 0 and retires nothing
 abbrev pub end : Event
 end = Ends (pos 0) []
 
@@ -35,6 +38,7 @@ both_read =
     (child Spawns 2 (act begin (act (Reads (Global 0) (pos 7)) (act Syncs (act (Writes (Own [] 1) (pos 7)) (act end stop)))))
     (act resume (act Syncs (act (Reads (Own [] 0) (pos 7)) (act (Reads (Own [] 1) (pos 7)) (act Syncs (act end stop)))))))))))
 
+-- two reads do not race, and each result has a variable of its own
 abbrev pub TwoReadsDoNotRace : Type 0
 TwoReadsDoNotRace = races both_read ≡ []
 
@@ -47,6 +51,7 @@ two_writes =
     (child Spawns 1 (act begin (act (Writes (Global 0) (pos 1)) (act Syncs (act end stop))))
     (act resume (act Syncs (act (Reads (Global 0) (pos 1)) (act Syncs (act end stop))))))))
 
+-- the writes, at positions 4 and 10, race
 abbrev pub TwoWritesRace : Type 0
 TwoWritesRace = races two_writes ≡ (4, 10) ∷ []
 
@@ -56,28 +61,33 @@ script zero = Pass Begin ∷ Write (Own [] 0) (pos 0) ∷ Write (Own [] 1) (pos 
 script (suc zero) = Pass Begin ∷ Read (Global 0) ∷ Sync ∷ Write (Own [] 0) (pos 7) ∷ End (pos 0) [] ∷ []
 script (suc (suc n)) = Pass Begin ∷ Read (Global 0) ∷ Sync ∷ Write (Own [] 1) (pos 7) ∷ End (pos 0) [] ∷ []
 
+-- what a frame asks after so many deeds
 abbrev pub asked : ℕ → List (Deed ℕ) → Option (Ask ℕ)
 asked w past = slice_get (script w) (length past)
 
+-- each reducer is a sum
 abbrev pub sum : Instance → Monoid ℤ
 sum i = record { unit = pos 0; join = λ a b. a +ℤ b; single = λ a. a; number = λ a. a }
 
+-- the global holds 7, the variables 0
 abbrev pub opening : Cell → ℤ
 opening c = cond (same_cell c (Global 0)) (pos 7) (pos 0)
 
--- each frame takes a tick before each ask, and has two cells
+-- what the opening state has used: the root is a frame, and the global and its two variables are cells
 abbrev pub used : Total → ℕ
 used TickTotal = 0
 used EventTotal = 0
 used FrameTotal = 1
 used CellTotal = 3
 
+-- limits that this run just keeps
 abbrev pub limit : Total → ℕ
 limit TickTotal = 22
 limit EventTotal = 22
 limit FrameTotal = 3
 limit CellTotal = 7
 
+-- each frame takes a tick before each ask, and has two cells
 abbrev pub costs : Costs ℕ
 costs = record { ticks = λ w past. 1; cells = λ w. 2; used = used; limit = limit }
 

@@ -1,7 +1,8 @@
 //! The theorem and what stands beside it. Each is a function that does nothing: its contract is the law.
 //!
 //! In each, `W` is what a frame can be started as, `V` a reducer's view, `M` the monoid of each reducer, and `next` the program's
-//! behaviour: what a frame asks for next, after what it has done. `C` has the costs and limits that are counted over a whole run. `t` is the serial run, nested.
+//! behaviour: what a frame asks for next, after what it has done. `C` has the costs and limits that are counted over a
+//! whole run. `t` is the serial run, nested.
 
 ghost use Rattle.std.specs.Prelude.{◌≡◌, ℕ, ℤ, List, [], Option};
 ghost use Rattle.cilk_runs.specs.Runs.{Cell, Instance, Ask, Deed, Run};
