@@ -1,0 +1,5 @@
+pub mod Building
+pub mod Built
+pub mod Marks
+pub mod Shape
+pub mod Tree
