@@ -13,7 +13,7 @@ length-hebrews (series a b) h = let p = length-hebrews a h in let q = length-heb
 length-hebrews (parallel a b) h = let p = length-hebrews a (h + leaves b) in let q = length-hebrews b h in let l = length-append (hebrews a (h + leaves b)) (hebrews b h) in omega (arith, p, q, l)
 
 -- the number of leaf u, where leaves are counted from o on
-abbrev at : List ℕ → ℕ → ℕ → ℕ
+abbrev pub at : List ℕ → ℕ → ℕ → ℕ
 at xs o u = get_or xs (u - o) 0
 
 at_left : (xs ys : List ℕ) (o u : ℕ) → o ≤ u → u < o + length xs → at (xs ++ ys) o u ≡ at xs o u
@@ -30,7 +30,7 @@ held_in a b o u p q =
     elim (cases_lt u (o + leaves a)) [ inl l ↦ inl (p, l) | inr l ↦ inr (l, omega arith) ]
 
 -- the numbers of a tree stand in a range without gaps
-bounds : (t : Tree) (h o u : ℕ) → Holds t o u → (h ≤ at (hebrews t h) o u) × (at (hebrews t h) o u < h + leaves t)
+pub bounds : (t : Tree) (h o u : ℕ) → Holds t o u → (h ≤ at (hebrews t h) o u) × (at (hebrews t h) o u < h + leaves t)
 bounds (strand n) h o u (p, q) =
     let z : u - o ≡ 0 = omega arith in
     let e : at (h ∷ []) o u ≡ h = ap (λ (k : ℕ). get_or (h ∷ []) k 0) z in
@@ -80,7 +80,7 @@ not_to_itself (parallel a b) o u (inr (inr (inr h))) = let p = h.0 in let q = h.
 apart : (a b : Tree) (o u : ℕ) → Holds a o u → Holds b (o + leaves a) u → ⊥
 apart a b o u p q = omega (arith, p, q)
 
-abbrev Tells : Tree → ℕ → ℕ → ℕ → ℕ → Type 0
+abbrev pub Tells : Tree → ℕ → ℕ → ℕ → ℕ → Type 0
 Tells t h o u v = (Parallel t o u v × (at (hebrews t h) o v < at (hebrews t h) o u)) ⊎ ((Parallel t o u v → ⊥) × (at (hebrews t h) o u < at (hebrews t h) o v))
 
 -- the same two leaves, with numbers that are known to be equal
@@ -113,7 +113,7 @@ parallel_right a b o u v p q (inr (inr (inl h))) = absurd (apart a b o u h.0 p)
 parallel_right a b o u v p q (inr (inr (inr h))) = absurd (apart a b o v h.0 q)
 
 -- of two leaves, the earlier one has the greater Hebrew number exactly where they are parallel
-tells : (t : Tree) (h o u v : ℕ) → Holds t o u → Holds t o v → u < v → Tells t h o u v
+pub tells : (t : Tree) (h o u v : ℕ) → Holds t o u → Holds t o v → u < v → Tells t h o u v
 tells (strand n) h o u v p q l = absurd (omega (arith, p, q))
 tells (series a b) h o u v (p, p') (q, q') l =
     let xs = hebrews a h in
