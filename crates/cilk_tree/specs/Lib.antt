@@ -3,5 +3,6 @@ pub mod Built
 pub mod Hebrew
 pub mod Marks
 pub mod Parallel
+pub mod Races
 pub mod Shape
 pub mod Tree

@@ -20,3 +20,13 @@ mark_of (events.Update i v) = Plain
 mark_of (events.Set i v) = Plain
 mark_of (events.Value i v) = Plain
 mark_of (events.Print v) = Plain
+
+-- how many strands an event begins
+abbrev pub begun_by : Mark → ℕ
+begun_by Begin = 1
+begun_by End = 0
+begun_by Sync = 1
+begun_by Resume = 1
+begun_by Spawn = 0
+begun_by Call = 0
+begun_by Plain = 0

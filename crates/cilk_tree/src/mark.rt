@@ -24,7 +24,7 @@ pub enum Mark {
 }
 
 impl Mark {
-    ghost use Rattle.cilk_tree.specs.Marks.{mark_of};
+    ghost use Rattle.cilk_tree.specs.Marks.{mark_of, begun_by};
 
     /// What an event is to strands.
     pub fn of(event: &Event) -> Mark
@@ -38,6 +38,16 @@ impl Mark {
             Event::Spawn { .. } => Mark::Spawn,
             Event::Call { .. } => Mark::Call,
             _ => Mark::Plain,
+        }
+    }
+
+    /// How many strands such an event begins: one or none.
+    pub fn strands(self) -> u32
+        ensures { result ≡ begun_by self }
+    {
+        match self {
+            Mark::Begin | Mark::Sync | Mark::Resume => 1,
+            _ => 0,
         }
     }
 }
