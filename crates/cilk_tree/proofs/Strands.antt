@@ -69,7 +69,7 @@ strand_grows (e ∷ es) zero q l = omega arith
 strand_grows (e ∷ es) (suc p) zero l = absurd (omega (arith, l))
 strand_grows (e ∷ es) (suc p) (suc q) l = let h = strand_grows es p q (omega (arith, l)) in omega (arith, h)
 
-strand_zero : (es : List Event) → strand_at es 0 ≡ 0
+pub strand_zero : (es : List Event) → strand_at es 0 ≡ 0
 strand_zero [] = refl
 strand_zero (e ∷ es) = refl
 
