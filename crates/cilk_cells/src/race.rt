@@ -42,3 +42,38 @@ pub fn first_race(
     }
     Ok(None)
 }
+
+#[cfg(test)]
+mod tests {
+    use super::*;
+    use cilk_labels::label;
+    use cilk_tree::building::tree_of;
+    use cilk_types::event::Event;
+    use std::test::Fail;
+
+    #[test]
+    fn a_spawned_write_races_with_the_read_after_it(rt: HostRuntime) -> Result<(), Fail> {
+        let events = [
+            Event::Begin { frame: 1 },
+            Event::Write { cell: 0, value: 0 },
+            Event::Write { cell: 1, value: 0 },
+            Event::Spawn { child: 2 },
+            Event::Begin { frame: 2 },
+            Event::Sync,
+            Event::Write { cell: 0, value: 1 },
+            Event::End,
+            Event::Resume { parent: 1 },
+            Event::Read { cell: 0, value: 1 },
+            Event::Write { cell: 1, value: 1 },
+            Event::Sync,
+            Event::Read { cell: 1, value: 1 },
+            Event::Sync,
+            Event::End,
+        ];
+        let trace = Trace::new(events.to_vec(rt.alloc())?);
+        let tree = tree_of(rt.alloc(), &trace)?;
+        let labels = label(rt.alloc(), &tree)?;
+        assert_eq!(rt; first_race(rt.alloc(), &trace, &labels)?, Some((7, 10)));
+        Ok(())
+    }
+}

@@ -16,10 +16,10 @@ length-hebrews (parallel a b) h = let p = length-hebrews a (h + leaves b) in let
 abbrev pub at : List ℕ → ℕ → ℕ → ℕ
 at xs o u = get_or xs (u - o) 0
 
-at_left : (xs ys : List ℕ) (o u : ℕ) → o ≤ u → u < o + length xs → at (xs ++ ys) o u ≡ at xs o u
+pub at_left : (xs ys : List ℕ) (o u : ℕ) → o ≤ u → u < o + length xs → at (xs ++ ys) o u ≡ at xs o u
 at_left xs ys o u p q = get_or-append xs ys 0 (u - o) (omega arith)
 
-at_right : (xs ys : List ℕ) (o n u : ℕ) → length xs ≡ n → o + n ≤ u → at (xs ++ ys) o u ≡ at ys (o + n) u
+pub at_right : (xs ys : List ℕ) (o n u : ℕ) → length xs ≡ n → o + n ≤ u → at (xs ++ ys) o u ≡ at ys (o + n) u
 at_right xs ys o n u l p =
     let e : u - o - n ≡ u - (o + n) = omega arith in
     get_or-append_right xs ys n (u - o) 0 l (omega arith) ∙ ap (λ (k : ℕ). get_or ys k 0) e
@@ -77,7 +77,7 @@ not_to_itself (parallel a b) o u (inr (inr (inl h))) = let p = h.0 in let q = h.
 not_to_itself (parallel a b) o u (inr (inr (inr h))) = let p = h.0 in let q = h.1 in omega (arith, p, q)
 
 -- no leaf stands in both parts
-apart : (a b : Tree) (o u : ℕ) → Holds a o u → Holds b (o + leaves a) u → ⊥
+pub apart : (a b : Tree) (o u : ℕ) → Holds a o u → Holds b (o + leaves a) u → ⊥
 apart a b o u p q = omega (arith, p, q)
 
 abbrev pub Tells : Tree → ℕ → ℕ → ℕ → ℕ → Type 0
@@ -88,11 +88,11 @@ tells_along : (A B : Type 0) (x y x' y' : ℕ) → x ≡ x' → y ≡ y' → (A 
 tells_along A B x y x' y' e f to from (inl (p, l)) = inl (to p, omega (arith, e, f, l))
 tells_along A B x y x' y' e f to from (inr (p, l)) = inr ((λ b. p (from b)), omega (arith, e, f, l))
 
-series_left : (a b : Tree) (o u v : ℕ) → Holds a o u → Parallel (series a b) o u v → Parallel a o u v
+pub series_left : (a b : Tree) (o u v : ℕ) → Holds a o u → Parallel (series a b) o u v → Parallel a o u v
 series_left a b o u v p (inl h) = h
 series_left a b o u v p (inr h) = absurd (apart a b o u p (holds_both b (o + leaves a) u v h).0)
 
-series_right : (a b : Tree) (o u v : ℕ) → Holds b (o + leaves a) u → Parallel (series a b) o u v → Parallel b (o + leaves a) u v
+pub series_right : (a b : Tree) (o u v : ℕ) → Holds b (o + leaves a) u → Parallel (series a b) o u v → Parallel b (o + leaves a) u v
 series_right a b o u v p (inl h) = absurd (apart a b o u (holds_both a o u v h).0 p)
 series_right a b o u v p (inr h) = h
 
@@ -100,13 +100,13 @@ series_across : (a b : Tree) (o u v : ℕ) → Holds a o u → Holds b (o + leav
 series_across a b o u v p q (inl h) = apart a b o v (holds_both a o u v h).1 q
 series_across a b o u v p q (inr h) = apart a b o u p (holds_both b (o + leaves a) u v h).0
 
-parallel_left : (a b : Tree) (o u v : ℕ) → Holds a o u → Holds a o v → Parallel (parallel a b) o u v → Parallel a o u v
+pub parallel_left : (a b : Tree) (o u v : ℕ) → Holds a o u → Holds a o v → Parallel (parallel a b) o u v → Parallel a o u v
 parallel_left a b o u v p q (inl h) = h
 parallel_left a b o u v p q (inr (inl h)) = absurd (apart a b o u p (holds_both b (o + leaves a) u v h).0)
 parallel_left a b o u v p q (inr (inr (inl h))) = absurd (apart a b o v q h.1)
 parallel_left a b o u v p q (inr (inr (inr h))) = absurd (apart a b o u p h.1)
 
-parallel_right : (a b : Tree) (o u v : ℕ) → Holds b (o + leaves a) u → Holds b (o + leaves a) v → Parallel (parallel a b) o u v → Parallel b (o + leaves a) u v
+pub parallel_right : (a b : Tree) (o u v : ℕ) → Holds b (o + leaves a) u → Holds b (o + leaves a) v → Parallel (parallel a b) o u v → Parallel b (o + leaves a) u v
 parallel_right a b o u v p q (inl h) = absurd (apart a b o u (holds_both a o u v h).0 p)
 parallel_right a b o u v p q (inr (inl h)) = h
 parallel_right a b o u v p q (inr (inr (inl h))) = absurd (apart a b o u h.0 p)

@@ -161,3 +161,24 @@ pub fn tree_of(alloc: Global, trace: &Trace) -> Result<SpTree, AllocError>
     }
     Ok(SpTree::new(building.nodes.into_vec()))
 }
+
+#[cfg(test)]
+mod tests {
+    use super::*;
+    use cilk_types::event::Event;
+    use std::test::Fail;
+
+    #[test]
+    fn an_empty_root_has_two_strands(rt: HostRuntime) -> Result<(), Fail> {
+        let events = [Event::Begin { frame: 1 }, Event::Sync, Event::End];
+        let trace = Trace::new(events.to_vec(rt.alloc())?);
+        let tree = tree_of(rt.alloc(), &trace)?;
+        let nodes = [
+            Node::Series { left: 1 },
+            Node::Strand { events: 1 },
+            Node::Strand { events: 2 },
+        ];
+        assert_eq!(rt; tree.as_slice(), nodes.as_slice());
+        Ok(())
+    }
+}
