@@ -1,12 +1,11 @@
 -- The walk gives each tree's Hebrew numbers.
-use Rattle.std.proofs.Common.{◌≡◌, ℕ, suc, ◌+◌, ◌-◌, ◌^◌, ◌<◌, ◌≤◌, min, List, [], ◌∷◌, ◌++◌, length, get_or, drop, refl, sym, ◌∙◌, ap, subst, arith, ◌⊎◌, inl, inr, ◌↔◌, Bool, true, false, IsTrue}
+use Rattle.std.proofs.Common.{◌≡◌, ℕ, suc, ◌+◌, ◌-◌, ◌^◌, ◌<◌, ◌≤◌, min, List, [], ◌∷◌, ◌++◌, length, get_or, drop, refl, sym, ◌∙◌, ap, subst, arith, inl, inr, ◌↔◌, Bool, true, false, IsTrue}
 use Rattle.std.proofs.lemmas.List.{append_assoc, append-nil, length-append, drop_all}
 use Rattle.std.proofs.Math.Seq.{drop-cons}
 use Rattle.cilk_tree.specs.Tree.{Tree, strand, series, parallel, leaves, preorder}
 use Rattle.cilk_tree.specs.Hebrew.{hebrews, hebrew}
 use Rattle.cilk_tree.specs.Parallel.{Holds, Parallel}
 use Rattle.cilk_tree.specs.declared.tree.Node.{Node}
-use Rattle.cilk_tree.specs.declared.tree.Node.TheVariants as nodes
 use Rattle.cilk_tree.proofs.Backward.{has_leaf}
 use Rattle.cilk_tree.proofs.Order.{length-hebrews, tells, parallel_sym, not_to_itself}
 use Rattle.std.proofs.Math.Dec.{ltb}
@@ -24,7 +23,7 @@ walk (series a b) h ns hs fits =
     let p = has_leaf b in
     let e : min (h + leaves a) (2 ^ 32 - 1) ≡ h + leaves a = omega (arith, p, fits) in
     let f : numbers_from (preorder a ++ (preorder b ++ ns)) (h ∷ (h + leaves a) ∷ hs) ≡ hebrews a h ++ (hebrews b (h + leaves a) ++ numbers_from ns hs) =
-        walk a h (preorder b ++ ns) ((h + leaves a) ∷ hs) (omega (arith, fits)) ∙ ap (λ (l : List ℕ). hebrews a h ++ l) (walk b (h + leaves a) ns hs (omega (arith, fits))) in
+    walk a h (preorder b ++ ns) ((h + leaves a) ∷ hs) (omega (arith, fits)) ∙ ap (λ (l : List ℕ). hebrews a h ++ l) (walk b (h + leaves a) ns hs (omega (arith, fits))) in
     let w = min (h + leaves a) (2 ^ 32 - 1) in
     ap (λ (l : List Node). numbers_from l (h ∷ w ∷ hs)) (append_assoc (preorder a) (preorder b) ns)
     ∙ (ap (λ (x : ℕ). numbers_from (preorder a ++ (preorder b ++ ns)) (h ∷ x ∷ hs)) e ∙ (f ∙ sym (append_assoc (hebrews a h) (hebrews b (h + leaves a)) (numbers_from ns hs))))
@@ -32,7 +31,7 @@ walk (parallel a b) h ns hs fits =
     let p = has_leaf a in
     let e : min (h + leaves b) (2 ^ 32 - 1) ≡ h + leaves b = omega (arith, p, fits) in
     let f : numbers_from (preorder a ++ (preorder b ++ ns)) ((h + leaves b) ∷ h ∷ hs) ≡ hebrews a (h + leaves b) ++ (hebrews b h ++ numbers_from ns hs) =
-        walk a (h + leaves b) (preorder b ++ ns) (h ∷ hs) (omega (arith, fits)) ∙ ap (λ (l : List ℕ). hebrews a (h + leaves b) ++ l) (walk b h ns hs (omega (arith, fits))) in
+    walk a (h + leaves b) (preorder b ++ ns) (h ∷ hs) (omega (arith, fits)) ∙ ap (λ (l : List ℕ). hebrews a (h + leaves b) ++ l) (walk b h ns hs (omega (arith, fits))) in
     let w = min (h + leaves b) (2 ^ 32 - 1) in
     ap (λ (l : List Node). numbers_from l (w ∷ h ∷ hs)) (append_assoc (preorder a) (preorder b) ns)
     ∙ (ap (λ (x : ℕ). numbers_from (preorder a ++ (preorder b ++ ns)) (x ∷ h ∷ hs)) e ∙ (f ∙ sym (append_assoc (hebrews a (h + leaves b)) (hebrews b h) (numbers_from ns hs))))
@@ -59,9 +58,9 @@ pub walked_next : (ns : List Node) (i count count' : ℕ) (d : Node) (numbers st
     → count' ≤ count + 1 → Walked ns (i + 1) count' numbers' starts'
 walked_next ns i count count' d numbers starts numbers' starts' w lt f g = record {
   numbered =
-    let e : suc i ≡ i + 1 = omega arith in
-    let c : drop i ns ≡ get_or ns i d ∷ drop (i + 1) ns = subst (λ (k : ℕ). drop i ns ≡ get_or ns i d ∷ drop k ns) e (drop-cons ns i d lt) in
-    f (drop (i + 1) ns) ∙ (ap (λ (l : List Node). numbers ++ numbers_from l starts) (sym c) ∙ w.numbered);
+      let e : suc i ≡ i + 1 = omega arith in
+      let c : drop i ns ≡ get_or ns i d ∷ drop (i + 1) ns = subst (λ (k : ℕ). drop i ns ≡ get_or ns i d ∷ drop k ns) e (drop-cons ns i d lt) in
+      f (drop (i + 1) ns) ∙ (ap (λ (l : List Node). numbers ++ numbers_from l starts) (sym c) ∙ w.numbered);
   few = let p = w.few in omega (arith, p, g);
 }
 
@@ -89,12 +88,15 @@ told t xs u v x y e p p' q q' f g =
     let f' : x ≡ hebrew t u = f ∙ ap (λ (l : List ℕ). get_or l (u - 1) 0) e in
     let g' : y ≡ hebrew t v = g ∙ ap (λ (l : List ℕ). get_or l (v - 1) 0) e in
     elim (cases_order u v) [
-      inl same ↦ (let z : x ≡ y = f ∙ (ap (λ (k : ℕ). get_or xs (k - 1) 0) same ∙ sym g) in
+      | inl same ↦ (let z : x ≡ y = f ∙ (ap (λ (k : ℕ). get_or xs (k - 1) 0) same ∙ sym g) in
           let a : u ≤ v = omega (arith, same) in let a' : v ≤ u = omega (arith, same) in let b : y ≤ x = omega (arith, z) in
           no (Parallel t 1 u v) _ _ (le-ltb u v a' ∙ sym (le-ltb x y b)) (λ h. not_to_itself t 1 u (subst (λ (k : ℕ). Parallel t 1 u k) (sym same) h)))
-    | inr (inl l) ↦ elim (tells t 1 1 u v hu hv l) [
-        inl w ↦ (let k = w.1 in let b : y ≤ x = omega (arith, f', g', k) in yes (Parallel t 1 u v) _ _ (lt-ltb u v l ∙ ap not (sym (le-ltb x y b))) w.0)
-      | inr w ↦ (let k = w.1 in let b : x < y = omega (arith, f', g', k) in no (Parallel t 1 u v) _ _ (lt-ltb u v l ∙ sym (lt-ltb x y b)) w.0) ]
-    | inr (inr l) ↦ (let a : v ≤ u = omega (arith, l) in elim (tells t 1 1 v u hv hu l) [
-        inl w ↦ (let k = w.1 in let b : x < y = omega (arith, f', g', k) in yes (Parallel t 1 u v) _ _ (le-ltb u v a ∙ ap not (sym (lt-ltb x y b))) (parallel_sym t 1 v u w.0))
-      | inr w ↦ (let k = w.1 in let b : y ≤ x = omega (arith, f', g', k) in no (Parallel t 1 u v) _ _ (le-ltb u v a ∙ sym (le-ltb x y b)) (λ h. w.0 (parallel_sym t 1 u v h))) ]) ]
+      | inr (inl l) ↦ elim (tells t 1 1 u v hu hv l) [
+        | inl w ↦ (let k = w.1 in let b : y ≤ x = omega (arith, f', g', k) in yes (Parallel t 1 u v) _ _ (lt-ltb u v l ∙ ap not (sym (le-ltb x y b))) w.0)
+        | inr w ↦ (let k = w.1 in let b : x < y = omega (arith, f', g', k) in no (Parallel t 1 u v) _ _ (lt-ltb u v l ∙ sym (lt-ltb x y b)) w.0)
+      ]
+      | inr (inr l) ↦ (let a : v ≤ u = omega (arith, l) in elim (tells t 1 1 v u hv hu l) [
+        | inl w ↦ (let k = w.1 in let b : x < y = omega (arith, f', g', k) in yes (Parallel t 1 u v) _ _ (le-ltb u v a ∙ ap not (sym (lt-ltb x y b))) (parallel_sym t 1 v u w.0))
+        | inr w ↦ (let k = w.1 in let b : y ≤ x = omega (arith, f', g', k) in no (Parallel t 1 u v) _ _ (le-ltb u v a ∙ sym (le-ltb x y b)) (λ h. w.0 (parallel_sym t 1 u v h)))
+      ])
+    ]

@@ -138,7 +138,8 @@ mod tests {
         for one in 1..7 {
             assert_eq!(rt; labels.hebrew(one), hebrews[one as usize - 1]);
             for other in 1..7 {
-                let is_peer = (one == 4 && (other == 2 || other == 3)) || (other == 4 && (one == 2 || one == 3));
+                let is_peer = (one == 4 && (other == 2 || other == 3))
+                    || (other == 4 && (one == 2 || one == 3));
                 assert_eq!(rt; labels.parallel(one, other), is_peer);
             }
         }

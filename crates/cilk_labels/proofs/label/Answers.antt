@@ -1,5 +1,4 @@
-use Rattle.std.proofs.Common.{arith, ap, ◌∙◌, sym, ◌<◌, ◌^◌, length, List, ℕ, ◌++◌, [], refl}
-use Rattle.cilk_labels.specs.Walk.{numbers_from}
+use Rattle.std.proofs.Common.{arith, ap, ◌∙◌, length, refl}
 use Rattle.cilk_labels.proofs.Walks.{walked_next, walked_all}
 use Rattle.cilk_labels.proofs.label.Goals as goal
 
