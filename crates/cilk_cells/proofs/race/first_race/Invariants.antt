@@ -1,0 +1,9 @@
+use Rattle.std.proofs.Common.{◌≡◌, ◌≤◌, length}
+use Rattle.cilk_tree.specs.Shape.{Shape, Spells}
+use Rattle.cilk_tree.specs.Tree.{tree}
+use Rattle.cilk_tree.specs.Hebrew.{hebrews}
+use Rattle.cilk_cells.proofs.Pass.{Standing}
+use Rattle.cilk_cells.proofs.race.first_race.Given as goal
+
+abbrev pub invariant-loop-index : goal.invariant-loop-index
+invariant-loop-index l = Standing l.trace l.labels l.index l.strand l.histories.writes.items l.histories.accesses.items

@@ -1,0 +1,90 @@
+//! The walk that finds all classes.
+
+ghost use Rattle.std.specs.Prelude.{◌≡◌, ◌+◌, ◌<◌, ◌≤◌, ◌^◌, ◌∷◌, ◌++◌, List, IfOk, vec_len};
+ghost use Rattle.cilk_tree.specs.Tree.{Tree, preorder};
+ghost use Rattle.cilk_tree.specs.declared.tree.Node.{Node};
+ghost use Rattle.cilk_peers.specs.Peers.{class_numbers};
+ghost use Rattle.cilk_peers.specs.Walk.{classes_from};
+
+use crate::class::Classes;
+use cilk_tree::stack::Stack;
+use cilk_tree::tree::{Node, SpTree};
+use std::alloc::{AllocError, Global};
+
+/// The classes of a tree's strands. Cost and memory: linear in the strands.
+pub fn classes(alloc: Global, tree: &SpTree) -> Result<Classes, AllocError>
+    ensures { IfOk result (λ c. (t : Tree) → tree.now ≡ preorder t → c ≡ class_numbers t 0 1) }
+{
+    let mut numbers = Vec::new(alloc);
+    let mut waiting = Stack::new(alloc);
+    waiting.push(0)?;
+    for node in tree.as_slice() {
+        visit(node, &mut waiting, &mut numbers)?;
+    }
+    Ok(Classes::new(numbers))
+}
+
+// Goes into a node, whose class is on top of those that wait.
+fn visit(node: &Node, waiting: &mut Stack<u32>, numbers: &mut Vec<u32>) -> Result<(), AllocError>
+    requires { vec_len numbers.old + 1 < 2 ^ 32 }
+    ensures numbered { IfOk result (λ _. (rest : List Node) → numbers.new.items ++ classes_from rest (vec_len numbers.new + 1) waiting.new ≡ numbers.old.items ++ classes_from (node.now ∷ rest) (vec_len numbers.old + 1) waiting.old) }
+    ensures grows { IfOk result (λ _. vec_len numbers.new ≤ vec_len numbers.old + 1) }
+{
+    let Some(class) = waiting.pop() else {
+        return Ok(());
+    };
+    match *node {
+        Node::Strand { .. } => numbers.push(class)?,
+        Node::Series { .. } => {
+            waiting.push(class)?;
+            waiting.push(class)?;
+        }
+        Node::Parallel { left, .. } => {
+            let first = numbers.len() as u32 + 1;
+            waiting.push(first.saturating_add(left))?;
+            waiting.push(first)?;
+        }
+    }
+    Ok(())
+}
+
+#[cfg(test)]
+mod tests {
+    use super::*;
+    use cilk_serial::trace::Trace;
+    use cilk_tree::building::tree_of;
+    use cilk_types::event::Event;
+    use std::test::Fail;
+
+    #[test]
+    fn a_child_and_the_rest_of_its_block_are_two_classes(rt: HostRuntime) -> Result<(), Fail> {
+        let events = [
+            Event::Begin { frame: 1 },
+            Event::Write { cell: 0, value: 0 },
+            Event::Write { cell: 1, value: 0 },
+            Event::Spawn { child: 2 },
+            Event::Begin { frame: 2 },
+            Event::Sync,
+            Event::Write { cell: 0, value: 1 },
+            Event::End,
+            Event::Resume { parent: 1 },
+            Event::Read { cell: 0, value: 1 },
+            Event::Write { cell: 1, value: 1 },
+            Event::Sync,
+            Event::Read { cell: 1, value: 1 },
+            Event::Sync,
+            Event::End,
+        ];
+        let trace = Trace::new(events.to_vec(rt.alloc())?);
+        let tree = tree_of(rt.alloc(), &trace)?;
+        let found = classes(rt.alloc(), &tree)?;
+        assert_eq!(rt; found.count(), 6);
+        let numbers = [0, 2, 2, 4, 0, 0];
+        for one in 1..7 {
+            assert_eq!(rt; found.class(one), numbers[one as usize - 1]);
+        }
+        assert!(rt; found.same_peers(2, 3));
+        assert!(rt; !found.same_peers(1, 4));
+        Ok(())
+    }
+}

@@ -1,0 +1,3 @@
+pub mod Backward
+pub mod Order
+pub mod Strands

@@ -1,0 +1,49 @@
+-- Determinacy races, over all pairs of positions (Feng and Leiserson 1997, section 2).
+use Rattle.std.specs.Prelude.{◌≡◌, ℕ, zero, suc, ◌+◌, ◌-◌, ◌<◌, ◌≤◌, ◌⊎◌, List, [], ◌∷◌, Option, Some, None, slice_get}
+use Rattle.cilk_types.specs.declared.event.Event.{Event}
+use Rattle.cilk_types.specs.declared.event.Event.TheVariants.{Read, Write}
+use Rattle.cilk_tree.specs.Marks.{mark_of, begun_by}
+use Rattle.cilk_tree.specs.Tree.{Tree}
+use Rattle.cilk_tree.specs.Parallel.{Parallel}
+use Rattle.cilk_tree.specs.Hebrew.{hebrew}
+
+-- the strand of a position: how many strands the events up to it begin
+abbrev pub strand_at : List Event → ℕ → ℕ
+strand_at [] p = 0
+strand_at (e ∷ es) zero = 0
+strand_at (e ∷ es) (suc p) = begun_by (mark_of e) + strand_at es p
+
+-- the event at a position, from 1
+abbrev pub event_at : List Event → ℕ → Option Event
+event_at events p = slice_get events (p - 1)
+
+-- an event that reads or writes the cell
+abbrev pub Accesses : Option Event → ℕ → Type 0
+Accesses (Some (Read d v)) c = d ≡ c
+Accesses (Some (Write d v)) c = d ≡ c
+Accesses _ c = ⊥
+
+-- an event that writes the cell
+abbrev pub Writes : Option Event → ℕ → Type 0
+Writes (Some (Write d v)) c = d ≡ c
+Writes _ c = ⊥
+
+-- two accesses of one cell, at least one of them a write, by parallel strands
+pub record IsRace (t : Tree) (events : List Event) (p q : ℕ) : Type 0 where
+  pub first : 1 ≤ p
+  pub earlier : p < q
+  pub cell : ℕ
+  pub clash : (Writes (event_at events p) cell × Accesses (event_at events q) cell) ⊎ (Accesses (event_at events p) cell × Writes (event_at events q) cell)
+  pub parallel : Parallel t 1 (strand_at events p) (strand_at events q)
+
+-- The least position that an earlier access races with, and of those accesses the one of greatest Hebrew number, the earliest at equal numbers.
+pub record IsFirstRace (t : Tree) (events : List Event) (p q : ℕ) : Type 0 where
+  pub race : IsRace t events p q
+  pub least : (p' q' : ℕ) → IsRace t events p' q' → q ≤ q'
+  pub greatest : (p' : ℕ) → IsRace t events p' q
+      → (hebrew t (strand_at events p') < hebrew t (strand_at events p))
+      ⊎ ((hebrew t (strand_at events p') ≡ hebrew t (strand_at events p)) × (p ≤ p'))
+
+-- no two positions race
+abbrev pub HasNoRace : Tree → List Event → Type 0
+HasNoRace t events = (p q : ℕ) → IsRace t events p q → ⊥

@@ -1,0 +1,184 @@
+//! The tree of a trace, built from the trace's last event to its first.
+//!
+//! Read backwards, a tree's nodes come after the nodes of their parts, right before left. So a stack of the frames
+//! whose `end` was met is all that is needed, and each frame there is three counts of strands.
+
+ghost use Rattle.std.specs.Prelude.{◌≡◌, ◌≤◌, ◌+◌, ◌<◌, ◌^◌, length, IfOk};
+ghost use Rattle.cilk_types.specs.declared.limits.TheConstants.{MAX_EVENTS};
+ghost use Rattle.cilk_tree.specs.Shape.{Shape, Spells};
+ghost use Rattle.cilk_tree.specs.Tree.{tree, preorder};
+ghost use Rattle.cilk_tree.specs.Building.{opening, step, strand_closed, block_closed, frame_closed};
+
+use crate::mark::Mark;
+use crate::stack::Stack;
+use crate::tree::{Node, SpTree};
+use cilk_serial::trace::Trace;
+use std::alloc::{AllocError, Global};
+use std::marker::Model;
+
+/// Where the pass stands in a frame, by the number of strands met before: behind the frame, behind its block at hand,
+/// and behind the child at hand.
+#[derive(Clone, Copy, Debug)]
+pub struct Place {
+    pub frame: u32,
+    pub block: u32,
+    pub child: u32,
+}
+
+/// A tree that is being built: its nodes so far, the frames that wait, the frame at hand, and how many strands and
+/// how many events of the next strand were met.
+#[derive(Drop)]
+pub struct Building {
+    nodes: Stack<Node>,
+    outer: Stack<Place>,
+    place: Place,
+    strands: u32,
+    events: u32,
+}
+
+impl Model for Building {
+    ghost use Rattle.cilk_tree.specs.Built.{Built};
+
+    ghost Value = { Built };
+
+    ghost view = { λ b. record { nodes = b.nodes; outer = b.outer; place = b.place; strands = b.strands; events = b.events } };
+}
+
+impl Building {
+    fn new(alloc: Global) -> Building
+        ensures { result ≡ opening }
+    {
+        Building {
+            nodes: Stack::new(alloc),
+            outer: Stack::new(alloc),
+            place: Place {
+                frame: 0,
+                block: 0,
+                child: 0,
+            },
+            strands: 0,
+            events: 0,
+        }
+    }
+
+    // The strand at hand is whole; what its block has after it was met.
+    fn close_strand(&mut self) -> Result<(), AllocError>
+        requires { self.old.strands + 1 < 2 ^ 32 }
+        ensures { IfOk result (λ _. self.new ≡ strand_closed self.old) }
+    {
+        let is_alone = self.strands == self.place.block;
+        self.nodes.push(Node::Strand {
+            events: self.events,
+        })?;
+        if !is_alone {
+            self.nodes.push(Node::Series { left: 1 })?;
+        }
+        self.strands += 1;
+        self.events = 0;
+        Ok(())
+    }
+
+    // The block at hand is whole; the later blocks of its frame were met.
+    fn close_block(&mut self) -> Result<(), AllocError>
+        ensures { IfOk result (λ _. self.new ≡ block_closed self.old) }
+    {
+        if self.place.block != self.place.frame {
+            self.nodes.push(Node::Series {
+                left: self.strands.saturating_sub(self.place.block),
+            })?;
+        }
+        Ok(())
+    }
+
+    // The event before the ones that were met.
+    fn step(&mut self, mark: Mark) -> Result<(), AllocError>
+        requires strands { self.old.strands + 1 < 2 ^ 32 }
+        requires events { self.old.events + 1 < 2 ^ 32 }
+        ensures { IfOk result (λ _. self.new ≡ step mark self.old) }
+    {
+        self.events += 1;
+        match mark {
+            Mark::Plain => {}
+            Mark::End => {
+                self.outer.push(self.place)?;
+                self.place = Place {
+                    frame: self.strands,
+                    block: self.strands,
+                    child: self.strands,
+                };
+            }
+            Mark::Begin => {
+                self.close_strand()?;
+                self.close_block()?;
+                self.leave();
+            }
+            Mark::Sync => {
+                self.close_strand()?;
+                self.close_block()?;
+                self.place.block = self.strands;
+            }
+            Mark::Resume => {
+                self.close_strand()?;
+                self.place.child = self.strands;
+            }
+            Mark::Spawn => {
+                self.nodes.push(Node::Parallel {
+                    left: self.strands.saturating_sub(self.place.child),
+                    right: self.place.child.saturating_sub(self.place.block),
+                })?;
+            }
+            Mark::Call => {
+                self.nodes.push(Node::Series {
+                    left: self.strands.saturating_sub(self.place.child),
+                })?;
+            }
+        }
+        Ok(())
+    }
+
+    // To the frame that waits.
+    fn leave(&mut self)
+        ensures { self.new ≡ frame_closed self.old }
+    {
+        if let Some(place) = self.outer.pop() {
+            self.place = place;
+        }
+    }
+}
+
+/// The series-parallel tree of a trace. Cost and memory: linear in the events. A list of events that no run makes has
+/// some tree or other.
+pub fn tree_of(alloc: Global, trace: &Trace) -> Result<SpTree, AllocError>
+    requires { length trace.now ≤ MAX_EVENTS }
+    ensures { IfOk result (λ t. (s : Shape) → Spells s trace.now → t ≡ preorder (tree s)) }
+{
+    let mut building = Building::new(alloc);
+    let events = trace.as_slice();
+    let mut place = events.len();
+    while place > 0 {
+        place -= 1;
+        building.step(Mark::of(&events[place]))?;
+    }
+    Ok(SpTree::new(building.nodes.into_vec()))
+}
+
+#[cfg(test)]
+mod tests {
+    use super::*;
+    use cilk_types::event::Event;
+    use std::test::Fail;
+
+    #[test]
+    fn an_empty_root_has_two_strands(rt: HostRuntime) -> Result<(), Fail> {
+        let events = [Event::Begin { frame: 1 }, Event::Sync, Event::End];
+        let trace = Trace::new(events.to_vec(rt.alloc())?);
+        let tree = tree_of(rt.alloc(), &trace)?;
+        let nodes = [
+            Node::Series { left: 1 },
+            Node::Strand { events: 1 },
+            Node::Strand { events: 2 },
+        ];
+        assert_eq!(rt; tree.as_slice(), nodes.as_slice());
+        Ok(())
+    }
+}
