@@ -1,23 +1,22 @@
 -- The pass over a run's events.
-use Rattle.std.proofs.Common.{◌≡◌, ◌≢◌, ℕ, zero, suc, ◌+◌, ◌-◌, ◌<◌, ◌≤◌, ◌^◌, Bool, true, false, cond, List, [], ◌∷◌, ◌++◌, length, get_or, set, replicate, Option, Some, None, slice_get, refl, sym, ◌∙◌, ap, subst, arith, ◌⊎◌, inl, inr, ◌↔◌, MatchOption}
+use Rattle.std.proofs.Common.{◌≡◌, ◌≢◌, ℕ, ◌+◌, ◌-◌, ◌<◌, ◌≤◌, List, length, get_or, replicate, Option, Some, None, slice_get, refl, sym, ◌∙◌, ap, subst, arith, ◌⊎◌, inl, inr}
 use Rattle.std.proofs.lemmas.Bool.{cases_lt, cases_order}
 use Rattle.std.proofs.lemmas.Option.{slice_get_past, slice_get-get_or}
 use Rattle.std.proofs.lemmas.List.{get_or-set_same, get_or-set_other, get_or-replicate, length-set, get_or_past, length-replicate, get_or_default}
 use Rattle.cilk_types.specs.declared.event.Event.{Event}
 use Rattle.cilk_types.specs.declared.event.Event.TheVariants as events
 use Rattle.cilk_tree.specs.declared.mark.Mark.{Mark}
-use Rattle.cilk_tree.specs.declared.mark.Mark.TheVariants.{Begin, End, Sync, Resume, Spawn, Call, Plain}
+use Rattle.cilk_tree.specs.declared.mark.Mark.TheVariants.{Begin, Sync, Resume}
 use Rattle.cilk_tree.specs.Shape.{Shape, Spells}
 use Rattle.cilk_tree.specs.Tree.{Tree, tree}
 use Rattle.cilk_tree.specs.Hebrew.{hebrews, hebrew}
-use Rattle.cilk_tree.specs.Parallel.{Parallel}
 use Rattle.cilk_tree.specs.Marks.{mark_of, begun_by}
-use Rattle.cilk_tree.specs.Races.{strand_at, event_at, Accesses, Writes, IsRace, IsFirstRace, HasNoRace}
+use Rattle.cilk_tree.specs.Races.{strand_at, Accesses, Writes, IsRace, IsFirstRace, HasNoRace}
 use Rattle.cilk_tree.proofs.Strands.{parallel_positions, strand_next, strand_zero, strand_held}
 use Rattle.cilk_tree.proofs.Order.{length-hebrews}
 use Rattle.cilk_cells.specs.declared.histories.Access.{Access}
 use Rattle.cilk_cells.specs.Keeping.{greater_of, racing_with, kept_after, accesses_after, writes_after, answer_at, Fits}
-use Rattle.cilk_cells.proofs.Greatest.{IsGreatest, skipped, joined, answered, IsRacing, found}
+use Rattle.cilk_cells.proofs.Greatest.{IsGreatest, skipped, joined, answered, found}
 
 -- the Hebrew number of an index's strand
 abbrev pub number : Tree → List Event → ℕ → ℕ
@@ -36,8 +35,9 @@ Keeps P H i xs = (c : ℕ) → c < length xs → IsGreatest (P c) H i (get_or xs
 get_or_nothing : (n c : ℕ) → get_or {A = Option Access} (replicate n None) c None ≡ None
 get_or_nothing n c =
     elim (cases_lt c n) [
-      inl l ↦ get_or-replicate n c None None l
-    | inr l ↦ get_or_past (replicate n None) c None (let k = length-replicate {A = Option Access} n None in omega (arith, k, l)) ]
+      | inl l ↦ get_or-replicate n c None None l
+      | inr l ↦ get_or_past (replicate n None) c None (let k = length-replicate {A = Option Access} n None in omega (arith, k, l))
+    ]
 
 keeps_nothing : (P : ℕ → ℕ → Type 0) (H : ℕ → ℕ) (n : ℕ) → Keeps P H 0 (replicate n None)
 keeps_nothing P H n c l = subst (λ (o : Option Access). IsGreatest (P c) H 0 o) (sym (get_or_nothing n c)) (λ k m p. omega (arith, m))
@@ -50,11 +50,12 @@ keeps_new : (P : ℕ → ℕ → Type 0) (H : ℕ → ℕ) (i : ℕ) (xs : List 
 keeps_new P H i xs d a g fits e f p n c l =
     let m : c < length xs = let k = length-set xs d (greater_of (get_or xs d None) a) in omega (arith, l, k) in
     elim (cases_order c d) [
-      inl same ↦ (let r : IsGreatest (P d) H (i + 1) (get_or (kept_after d a xs) d None) =
-            subst (λ (o : Option Access). IsGreatest (P d) H (i + 1) o) (sym (get_or-set_same xs d (greater_of (get_or xs d None) a) None fits)) (joined (P d) H i (get_or xs d None) a (g d fits) e f p) in
+      | inl same ↦ (let r : IsGreatest (P d) H (i + 1) (get_or (kept_after d a xs) d None) =
+          subst (λ (o : Option Access). IsGreatest (P d) H (i + 1) o) (sym (get_or-set_same xs d (greater_of (get_or xs d None) a) None fits)) (joined (P d) H i (get_or xs d None) a (g d fits) e f p) in
           subst (λ (x : ℕ). IsGreatest (P x) H (i + 1) (get_or (kept_after d a xs) x None)) (sym same) r)
-    | inr other ↦ (let ne : c ≢ d = λ q. elim other [ inl u ↦ omega (arith, u, q) | inr u ↦ omega (arith, u, q) ] in
-          subst (λ (o : Option Access). IsGreatest (P c) H (i + 1) o) (sym (get_or-set_other xs d c (greater_of (get_or xs d None) a) None ne)) (skipped (P c) H i (get_or xs c None) (g c m) (n c ne))) ]
+      | inr other ↦ (let ne : c ≢ d = λ q. elim other [ inl u ↦ omega (arith, u, q) | inr u ↦ omega (arith, u, q) ] in
+          subst (λ (o : Option Access). IsGreatest (P c) H (i + 1) o) (sym (get_or-set_other xs d c (greater_of (get_or xs d None) a) None ne)) (skipped (P c) H i (get_or xs c None) (g c m) (n c ne)))
+    ]
 
 -- what may race with this event
 abbrev Rival : List Event → Event → ℕ → Type 0
@@ -157,12 +158,14 @@ Kept_at t es i e a ws as' =
 kept_next : (t : Tree) (es : List Event) (i : ℕ) (e : Event) (a : Access) (ws as' : List (Option Access)) → slice_get es i ≡ Some e
     → Keeps (WritesAt es) (number t es) i ws → Keeps (AccessesAt es) (number t es) i as' → Fits (length ws) e → Fits (length as') e
     → a.at ≡ i + 1 → a.hebrew ≡ number t es i → Kept_at t es i e a ws as'
-kept_next t es i (events.Read d v) a ws as' h g g' f f' x y =
-    (keeps_on (WritesAt es) (number t es) i ws g (λ c p. rw h at p),
-      keeps_new (AccessesAt es) (number t es) i as' d a g' f' x y (subst (λ (o : Option Event). Accesses o d) (sym h) refl) (λ c n p. n (sym (rw h at p))))
-kept_next t es i (events.Write d v) a ws as' h g g' f f' x y =
-    (keeps_new (WritesAt es) (number t es) i ws d a g f x y (subst (λ (o : Option Event). Writes o d) (sym h) refl) (λ c n p. n (sym (rw h at p))),
-      keeps_new (AccessesAt es) (number t es) i as' d a g' f' x y (subst (λ (o : Option Event). Accesses o d) (sym h) refl) (λ c n p. n (sym (rw h at p))))
+kept_next t es i (events.Read d v) a ws as' h g g' f f' x y = (
+  keeps_on (WritesAt es) (number t es) i ws g (λ c p. rw h at p),
+  keeps_new (AccessesAt es) (number t es) i as' d a g' f' x y (subst (λ (o : Option Event). Accesses o d) (sym h) refl) (λ c n p. n (sym (rw h at p))),
+)
+kept_next t es i (events.Write d v) a ws as' h g g' f f' x y = (
+  keeps_new (WritesAt es) (number t es) i ws d a g f x y (subst (λ (o : Option Event). Writes o d) (sym h) refl) (λ c n p. n (sym (rw h at p))),
+  keeps_new (AccessesAt es) (number t es) i as' d a g' f' x y (subst (λ (o : Option Event). Accesses o d) (sym h) refl) (λ c n p. n (sym (rw h at p))),
+)
 kept_next t es i _ a ws as' h g g' f f' x y =
     (keeps_on (WritesAt es) (number t es) i ws g (λ c p. rw h at p), keeps_on (AccessesAt es) (number t es) i as' g' (λ c p. rw h at p))
 
@@ -175,13 +178,14 @@ passed_next s es sp i e a ws as' h w f f' x y n =
       writes = k.0;
       accesses = k.1;
       none = λ p q l r. elim (cases_lt q (i + 1)) [
-          inl m ↦ w.none p q (omega (arith, m)) r
+        | inl m ↦ w.none p q (omega (arith, m)) r
         | inr m ↦ (let z : q ≡ i + 1 = omega (arith, l, m) in
             let r' = subst (λ (j : ℕ). IsRace (tree s) es p j) z r in
             let t = meets s es sp i e h p r' in
             let u = t.first in let v = t.earlier in let b = t.greater in
             answered (Rival es e) (number (tree s) es) i (slot e ws as') a.hebrew (greatest_slot es (number (tree s) es) i e ws as' w.writes w.accesses f f')
-              (sym (answer_slot e a.hebrew ws as') ∙ sym n) (p - 1) (omega (arith, u, v)) t.has (omega (arith, b, y))) ];
+            (sym (answer_slot e a.hebrew ws as') ∙ sym n) (p - 1) (omega (arith, u, v)) t.has (omega (arith, b, y)))
+      ];
     }
 
 pub passed_found : (s : Shape) (es : List Event) → Spells s es → (i : ℕ) (e : Event) (a : Access) (p : ℕ) (ws as' : List (Option Access)) → slice_get es i ≡ Some e
@@ -189,22 +193,23 @@ pub passed_found : (s : Shape) (es : List Event) → Spells s es → (i : ℕ) (
     → Some p ≡ answer_at e a.hebrew ws as' → IsFirstRace (tree s) es p (i + 1)
 passed_found s es sp i e a p ws as' h w f f' x y n =
     let g = found (Rival es e) (number (tree s) es) i (slot e ws as') a.hebrew p (greatest_slot es (number (tree s) es) i e ws as' w.writes w.accesses f f')
-              (sym (answer_slot e a.hebrew ws as') ∙ sym n) in
+    (sym (answer_slot e a.hebrew ws as') ∙ sym n) in
     let b = g.greater in
     record {
       race = race_of s es sp i e h p (record { first = g.first; earlier = g.earlier; has = g.has; greater = omega (arith, b, y) });
       least = λ p' q' r. elim (cases_lt q' (i + 1)) [ inl m ↦ absurd (w.none p' q' (omega (arith, m)) r) | inr m ↦ m ];
       greatest = λ p' r.
-        let t = meets s es sp i e h p' r in
-        let u = t.first in
-        let v = t.earlier in
-        let c : p' - 1 + 1 ≡ p' = omega (arith, u) in
-        let c' : p - 1 + 1 ≡ p = (let k = g.first in omega (arith, k)) in
-        let d = ap (λ (k : ℕ). hebrew (tree s) (strand_at es k)) c in
-        let d' = ap (λ (k : ℕ). hebrew (tree s) (strand_at es k)) c' in
-        elim (g.greatest (p' - 1) (omega (arith, u, v)) t.has) [
-          inl k ↦ inl (omega (arith, k, d, d'))
-        | inr k ↦ inr (sym d ∙ (k.0 ∙ d'), (let j = k.1 in omega (arith, j, c))) ];
+          let t = meets s es sp i e h p' r in
+          let u = t.first in
+          let v = t.earlier in
+          let c : p' - 1 + 1 ≡ p' = omega (arith, u) in
+          let c' : p - 1 + 1 ≡ p = (let k = g.first in omega (arith, k)) in
+          let d = ap (λ (k : ℕ). hebrew (tree s) (strand_at es k)) c in
+          let d' = ap (λ (k : ℕ). hebrew (tree s) (strand_at es k)) c' in
+          elim (g.greatest (p' - 1) (omega (arith, u, v)) t.has) [
+            | inl k ↦ inl (omega (arith, k, d, d'))
+            | inr k ↦ inr (sym d ∙ (k.0 ∙ d'), (let j = k.1 in omega (arith, j, c)))
+          ];
     }
 
 pub fits_more : (n m : ℕ) (e : Event) → n ≤ m → Fits n e → Fits m e
@@ -217,9 +222,10 @@ pub fits_next : (es : List Event) (i n m x : ℕ) (d : Event) → ((k : ℕ) (e 
     → n ≤ m → x ≤ m → (k : ℕ) (e : Event) → k < i + 1 → Fits m (get_or es k e)
 fits_next es i n m x d g lt f a b k e l =
     elim (cases_lt k i) [
-      inl j ↦ fits_more n m (get_or es k e) a (g k e j)
-    | inr j ↦ (let z : k ≡ i = omega (arith, l, j) in
-        subst (λ (y : ℕ). Fits m (get_or es y e)) (sym z) (subst (λ (y : Event). Fits m y) (get_or_default es i d e lt) (fits_more x m (get_or es i d) b f))) ]
+      | inl j ↦ fits_more n m (get_or es k e) a (g k e j)
+      | inr j ↦ (let z : k ≡ i = omega (arith, l, j) in
+          subst (λ (y : ℕ). Fits m (get_or es y e)) (sym z) (subst (λ (y : Event). Fits m y) (get_or_default es i d e lt) (fits_more x m (get_or es i d) b f)))
+    ]
 
 -- the pass, whatever shape the events have
 pub record Standing (es : List Event) (labels : List ℕ) (i n : ℕ) (ws as' : List (Option Access)) : Type 0 where
@@ -293,10 +299,11 @@ pub standing_last : (es : List Event) (labels : List ℕ) (i n : ℕ) (ws as' : 
     → (t : Shape) → Spells t es → labels ≡ hebrews (tree t) 1 → HasNoRace (tree t) es
 standing_last es labels i n ws as' s l t sp lb p q r =
     elim (cases_lt i q) [
-      inl m ↦ (let z : slice_get es (q - 1) ≡ None = slice_get_past es (q - 1) (omega (arith, l, m)) in
+      | inl m ↦ (let z : slice_get es (q - 1) ≡ None = slice_get_past es (q - 1) (omega (arith, l, m)) in
           no_access (subst (λ (o : Option Event). (Writes (slice_get es (p - 1)) r.cell × Accesses o r.cell) ⊎ (Accesses (slice_get es (p - 1)) r.cell × Writes o r.cell)) z r.clash))
-    | inr m ↦ (s.passed t sp lb).none p q m r ]
-  
+      | inr m ↦ (s.passed t sp lb).none p q m r
+    ]
+
 -- the strands of a run are those of its labels
 pub strands_labelled : (es : List Event) (labels : List ℕ) (i n' : ℕ) → n' ≡ strand_at es (i + 1) → (n' ≡ 0) ⊎ (length labels < n')
     → (t : Shape) → Spells t es → labels ≡ hebrews (tree t) 1 → ⊥

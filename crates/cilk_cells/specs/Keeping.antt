@@ -1,5 +1,5 @@
 -- What a pass over a run's events keeps of each cell.
-use Rattle.std.specs.Prelude.{ℕ, ◌<◌, ◌≤◌, cond, nat_lt, nat_le, List, Option, Some, None, slice_index_or, slice_set}
+use Rattle.std.specs.Prelude.{ℕ, ◌<◌, cond, nat_lt, nat_le, List, Option, Some, None, slice_index_or, slice_set}
 use Rattle.cilk_types.specs.declared.event.Event.{Event}
 use Rattle.cilk_types.specs.declared.event.Event.TheVariants.{Read, Write}
 use Rattle.cilk_cells.specs.declared.histories.Access.{Access}

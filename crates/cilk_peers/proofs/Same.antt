@@ -1,7 +1,6 @@
 -- Two strands have the same peers exactly where they are of one class.
-use Rattle.std.proofs.Common.{◌≡◌, ◌≢◌, ℕ, suc, ◌+◌, ◌-◌, ◌<◌, ◌≤◌, List, [], ◌∷◌, ◌++◌, length, get_or, Option, Some, None, refl, sym, ◌∙◌, ap, subst, arith, ◌⊎◌, inl, inr, ◌↔◌}
+use Rattle.std.proofs.Common.{◌≡◌, ◌≢◌, ℕ, suc, ◌+◌, ◌-◌, ◌<◌, ◌≤◌, List, [], ◌∷◌, ◌++◌, length, get_or, Option, Some, None, refl, sym, ◌∙◌, ap, arith, ◌⊎◌, inl, inr, ◌↔◌}
 use Rattle.std.proofs.lemmas.List.{length-append}
-use Rattle.std.proofs.lemmas.Bool.{cases_lt}
 use Rattle.cilk_tree.specs.Shape.{Kind, called, spawned, Shape, finish, act, sync, child}
 use Rattle.cilk_tree.specs.Tree.{Tree, strand, series, parallel, then_later, beside, Rest, block, blocks, rest_of, tree, leaves}
 use Rattle.cilk_tree.specs.Parallel.{Holds, Parallel}
@@ -43,20 +42,26 @@ range : (t : Tree) (c o u : ℕ) → Sound t → Holds t o u → (class_of t c o
 range (strand n) c o u s (p, q) = let z : u - o ≡ 0 = omega (arith, p, q) in inl (ap (λ (k : ℕ). get_or (c ∷ []) k 0) z)
 range (series a b) c o u s (p, q) =
     elim (held_in a b o u p q) [
-      inl l ↦ (let e = class_left a b c c o u l in elim (range a c o u s.0 l) [
-          inl r ↦ inl (e ∙ r)
-        | inr r ↦ inr (let x = r.0 in let y = r.1 in (omega (arith, e, x), omega (arith, e, y), λ d. (let z = r.2 d in omega (arith, e, z)))) ])
-    | inr l ↦ (let e = class_right a b c c o u l in let k = has_leaf a in elim (range b c (o + leaves a) u s.1 l) [
-          inl r ↦ inl (e ∙ r)
-        | inr r ↦ inr (let x = r.0 in let y = r.1 in (omega (arith, e, x), omega (arith, e, y), λ d. omega (arith, e, x, k))) ]) ]
+      | inl l ↦ (let e = class_left a b c c o u l in elim (range a c o u s.0 l) [
+        | inl r ↦ inl (e ∙ r)
+        | inr r ↦ inr (let x = r.0 in let y = r.1 in (omega (arith, e, x), omega (arith, e, y), λ d. (let z = r.2 d in omega (arith, e, z))))
+      ])
+      | inr l ↦ (let e = class_right a b c c o u l in let k = has_leaf a in elim (range b c (o + leaves a) u s.1 l) [
+        | inl r ↦ inl (e ∙ r)
+        | inr r ↦ inr (let x = r.0 in let y = r.1 in (omega (arith, e, x), omega (arith, e, y), λ d. omega (arith, e, x, k)))
+      ])
+    ]
 range (parallel a b) c o u s (p, q) =
     elim (held_in a b o u p q) [
-      inl l ↦ (let e = class_left a b o (o + leaves a) o u l in let k = has_leaf a in elim (range a o o u s.2 l) [
-          inl r ↦ inr (omega (arith, e, r), omega (arith, e, r, k), λ d. absurd d)
-        | inr r ↦ inr (let x = r.0 in let y = r.1 in (omega (arith, e, x), omega (arith, e, y), λ d. absurd d)) ])
-    | inr l ↦ (let e = class_right a b o (o + leaves a) o u l in let k = has_leaf b in elim (range b (o + leaves a) (o + leaves a) u s.3 l) [
-          inl r ↦ inr (omega (arith, e, r), omega (arith, e, r, k), λ d. absurd d)
-        | inr r ↦ inr (let x = r.0 in let y = r.1 in (omega (arith, e, x), omega (arith, e, y), λ d. absurd d)) ]) ]
+      | inl l ↦ (let e = class_left a b o (o + leaves a) o u l in let k = has_leaf a in elim (range a o o u s.2 l) [
+        | inl r ↦ inr (omega (arith, e, r), omega (arith, e, r, k), λ d. absurd d)
+        | inr r ↦ inr (let x = r.0 in let y = r.1 in (omega (arith, e, x), omega (arith, e, y), λ d. absurd d))
+      ])
+      | inr l ↦ (let e = class_right a b o (o + leaves a) o u l in let k = has_leaf b in elim (range b (o + leaves a) (o + leaves a) u s.3 l) [
+        | inl r ↦ inr (omega (arith, e, r), omega (arith, e, r, k), λ d. absurd d)
+        | inr r ↦ inr (let x = r.0 in let y = r.1 in (omega (arith, e, x), omega (arith, e, y), λ d. absurd d))
+      ])
+    ]
 
 -- the class round the tree is none of its inner classes
 abbrev Outside : Tree → ℕ → ℕ → Type 0
@@ -83,21 +88,31 @@ alone : (t : Tree) (c o u : ℕ) → Sound t → Outside t c o → Holds t o u �
 alone (strand n) c o u s out (p, q) = let z : u - o ≡ 0 = omega (arith, p, q) in inl (ap (λ (k : ℕ). get_or (c ∷ []) k 0) z, λ w h. h)
 alone (series a b) c o u s out (p, q) =
     elim (held_in a b o u p q) [
-      inl l ↦ (let e = class_left a b c c o u l in elim (alone a c o u s.0 (outside_left a b c o out) l) [
-          inl r ↦ inl (e ∙ r.0, λ w h. r.1 w (series_left a b o u w l h))
-        | inr r ↦ inr ((let i = r.0 in let x = i.0 in let y = i.1 in (omega (arith, e, x), omega (arith, e, y), λ d. (let z = i.2 d in omega (arith, e, z)))),
-            (λ f. r.1 (sym e ∙ f)), (r.2.0, inl r.2.1)) ])
-    | inr l ↦ (let e = class_right a b c c o u l in let k = has_leaf a in elim (alone b c (o + leaves a) u s.1 (outside_right a b c o out) l) [
-          inl r ↦ inl (e ∙ r.0, λ w h. r.1 w (series_right a b o u w l h))
-        | inr r ↦ inr ((let i = r.0 in let x = i.0 in let y = i.1 in (omega (arith, e, x), omega (arith, e, y), λ d. omega (arith, e, x, k))),
-            (λ f. r.1 (sym e ∙ f)), (r.2.0, inr r.2.1)) ]) ]
+      | inl l ↦ (let e = class_left a b c c o u l in elim (alone a c o u s.0 (outside_left a b c o out) l) [
+        | inl r ↦ inl (e ∙ r.0, λ w h. r.1 w (series_left a b o u w l h))
+        | inr r ↦ inr (
+          (let i = r.0 in let x = i.0 in let y = i.1 in (omega (arith, e, x), omega (arith, e, y), λ d. (let z = i.2 d in omega (arith, e, z)))),
+          (λ f. r.1 (sym e ∙ f)),
+          (r.2.0, inl r.2.1),
+        )
+      ])
+      | inr l ↦ (let e = class_right a b c c o u l in let k = has_leaf a in elim (alone b c (o + leaves a) u s.1 (outside_right a b c o out) l) [
+        | inl r ↦ inl (e ∙ r.0, λ w h. r.1 w (series_right a b o u w l h))
+        | inr r ↦ inr (
+          (let i = r.0 in let x = i.0 in let y = i.1 in (omega (arith, e, x), omega (arith, e, y), λ d. omega (arith, e, x, k))),
+          (λ f. r.1 (sym e ∙ f)),
+          (r.2.0, inr r.2.1),
+        )
+      ])
+    ]
 alone (parallel a b) c o u s out (p, q) =
     let inner : Inner (parallel a b) o (class_of (parallel a b) c o u) =
-        elim (range (parallel a b) o o u s (p, q)) [ inl r ↦ (let k = has_leaf a in (omega (arith, r), omega (arith, r, k), λ d. absurd d)) | inr r ↦ r ] in
+    elim (range (parallel a b) o o u s (p, q)) [ inl r ↦ (let k = has_leaf a in (omega (arith, r), omega (arith, r, k), λ d. absurd d)) | inr r ↦ r ] in
     let ne = not_inner (parallel a b) c o (class_of (parallel a b) c o u) out inner in
     elim (held_in a b o u p q) [
-      inl l ↦ (let k = has_leaf b in inr (inner, ne, (o + leaves a, inr (inr (inl (l, (omega arith, omega (arith, k))))))))
-    | inr l ↦ (let k = has_leaf a in inr (inner, ne, (o, inr (inr (inr ((omega arith, omega (arith, k)), l)))))) ]
+      | inl l ↦ (let k = has_leaf b in inr (inner, ne, (o + leaves a, inr (inr (inl (l, (omega arith, omega (arith, k))))))))
+      | inr l ↦ (let k = has_leaf a in inr (inner, ne, (o, inr (inr (inr ((omega arith, omega (arith, k)), l))))))
+    ]
 
 abbrev SameIn : Tree → ℕ → ℕ → ℕ → Type 0
 SameIn t o u v = (w : ℕ) → Parallel t o u w ↔ Parallel t o v w
@@ -121,17 +136,25 @@ across a b c o u v s out i j =
     let e = class_left a b c c o u i in
     let f = class_right a b c c o v j in
     elim (alone a c o u s.0 (outside_left a b c o out) i) [
-      inl x ↦ elim (alone b c (o + leaves a) v s.1 (outside_right a b c o out) j) [
-        inl y ↦ inl (e ∙ (x.0 ∙ (sym y.0 ∙ sym f)),
-            λ w. ((λ h. absurd (x.1 w (series_left a b o u w i h))), λ h. absurd (y.1 w (series_right a b o v w j h))))
-      | inr y ↦ inr ((λ g. y.1 (sym f ∙ (sym g ∙ (e ∙ x.0)))),
-            λ g. x.1 y.2.0 (series_left a b o u y.2.0 i ((g y.2.0).1 (inr y.2.1)))) ]
-    | inr x ↦ inr (
+      | inl x ↦ elim (alone b c (o + leaves a) v s.1 (outside_right a b c o out) j) [
+        | inl y ↦ inl (
+          e ∙ (x.0 ∙ (sym y.0 ∙ sym f)),
+          λ w. ((λ h. absurd (x.1 w (series_left a b o u w i h))), λ h. absurd (y.1 w (series_right a b o v w j h))),
+        )
+        | inr y ↦ inr (
+          (λ g. y.1 (sym f ∙ (sym g ∙ (e ∙ x.0)))),
+          λ g. x.1 y.2.0 (series_left a b o u y.2.0 i ((g y.2.0).1 (inr y.2.1))),
+        )
+      ]
+      | inr x ↦ inr (
         (λ g. elim (range b c (o + leaves a) v s.1 j) [
-            inl r ↦ x.1 (sym e ∙ (g ∙ (f ∙ r)))
-          | inr r ↦ (let k = x.0.1 in let m = r.0 in omega (arith, e, f, g, k, m)) ]),
+          | inl r ↦ x.1 (sym e ∙ (g ∙ (f ∙ r)))
+          | inr r ↦ (let k = x.0.1 in let m = r.0 in omega (arith, e, f, g, k, m))
+        ]),
         λ g. (let h = series_right a b o v x.2.0 j ((g x.2.0).0 (inl x.2.1)) in
-            apart a b o x.2.0 (holds_both a o u x.2.0 x.2.1).1 (holds_both b (o + leaves a) v x.2.0 h).1)) ]
+            apart a b o x.2.0 (holds_both a o u x.2.0 x.2.1).1 (holds_both b (o + leaves a) v x.2.0 h).1),
+      )
+    ]
 
 -- on the two sides of a P node
 beside_each_other : (a b : Tree) (c o u v : ℕ) → Sound (parallel a b) → Holds a o u → Holds b (o + leaves a) v → Told (parallel a b) c o u v
@@ -164,32 +187,38 @@ told (strand n) c o u v s out (p, q) (p', q') =
     inl (ap (λ (k : ℕ). get_or (c ∷ []) k 0) z, λ w. ((λ h. h), λ h. h))
 told (series a b) c o u v s out (p, q) (p', q') =
     elim (held_in a b o u p q) [
-      inl i ↦ elim (held_in a b o v p' q') [
-        inl j ↦ along _ _ _ _ (SameIn a o u v) (SameIn (series a b) o u v) (class_left a b c c o u i) (class_left a b c c o v j)
+      | inl i ↦ elim (held_in a b o v p' q') [
+        | inl j ↦ along _ _ _ _ (SameIn a o u v) (SameIn (series a b) o u v) (class_left a b c c o u i) (class_left a b c c o v j)
             (λ g w. ((λ h. inl ((g w).0 (series_left a b o u w i h))), λ h. inl ((g w).1 (series_left a b o v w j h))))
             (λ g w. ((λ h. series_left a b o v w j ((g w).0 (inl h))), λ h. series_left a b o u w i ((g w).1 (inl h))))
             (told a c o u v s.0 (outside_left a b c o out) i j)
-      | inr j ↦ across a b c o u v s out i j ]
-    | inr i ↦ elim (held_in a b o v p' q') [
-        inl j ↦ turned (series a b) c o v u (across a b c o v u s out j i)
-      | inr j ↦ along _ _ _ _ (SameIn b (o + leaves a) u v) (SameIn (series a b) o u v) (class_right a b c c o u i) (class_right a b c c o v j)
+        | inr j ↦ across a b c o u v s out i j
+      ]
+      | inr i ↦ elim (held_in a b o v p' q') [
+        | inl j ↦ turned (series a b) c o v u (across a b c o v u s out j i)
+        | inr j ↦ along _ _ _ _ (SameIn b (o + leaves a) u v) (SameIn (series a b) o u v) (class_right a b c c o u i) (class_right a b c c o v j)
             (λ g w. ((λ h. inr ((g w).0 (series_right a b o u w i h))), λ h. inr ((g w).1 (series_right a b o v w j h))))
             (λ g w. ((λ h. series_right a b o v w j ((g w).0 (inr h))), λ h. series_right a b o u w i ((g w).1 (inr h))))
-            (told b c (o + leaves a) u v s.1 (outside_right a b c o out) i j) ] ]
+            (told b c (o + leaves a) u v s.1 (outside_right a b c o out) i j)
+      ]
+    ]
 told (parallel a b) c o u v s out (p, q) (p', q') =
     elim (held_in a b o u p q) [
-      inl i ↦ elim (held_in a b o v p' q') [
-        inl j ↦ along _ _ _ _ (SameIn a o u v) (SameIn (parallel a b) o u v) (class_left a b o (o + leaves a) o u i) (class_left a b o (o + leaves a) o v j)
+      | inl i ↦ elim (held_in a b o v p' q') [
+        | inl j ↦ along _ _ _ _ (SameIn a o u v) (SameIn (parallel a b) o u v) (class_left a b o (o + leaves a) o u i) (class_left a b o (o + leaves a) o v j)
             (λ g w. (wide_left a b o u v i j g w, wide_left a b o v u j i (back a o u v g) w))
             (λ g w. ((λ h. parallel_left a b o v w j (holds_both a o u w h).1 ((g w).0 (inl h))), λ h. parallel_left a b o u w i (holds_both a o v w h).1 ((g w).1 (inl h))))
             (told a o o u v s.2 (inr (refl, s.0)) i j)
-      | inr j ↦ beside_each_other a b c o u v s i j ]
-    | inr i ↦ elim (held_in a b o v p' q') [
-        inl j ↦ turned (parallel a b) c o v u (beside_each_other a b c o v u s j i)
-      | inr j ↦ along _ _ _ _ (SameIn b (o + leaves a) u v) (SameIn (parallel a b) o u v) (class_right a b o (o + leaves a) o u i) (class_right a b o (o + leaves a) o v j)
+        | inr j ↦ beside_each_other a b c o u v s i j
+      ]
+      | inr i ↦ elim (held_in a b o v p' q') [
+        | inl j ↦ turned (parallel a b) c o v u (beside_each_other a b c o v u s j i)
+        | inr j ↦ along _ _ _ _ (SameIn b (o + leaves a) u v) (SameIn (parallel a b) o u v) (class_right a b o (o + leaves a) o u i) (class_right a b o (o + leaves a) o v j)
             (λ g w. (wide_right a b o u v i j g w, wide_right a b o v u j i (back b (o + leaves a) u v g) w))
             (λ g w. ((λ h. parallel_right a b o v w j (holds_both b (o + leaves a) u w h).1 ((g w).0 (inr (inl h)))), λ h. parallel_right a b o u w i (holds_both b (o + leaves a) v w h).1 ((g w).1 (inr (inl h)))))
-            (told b (o + leaves a) (o + leaves a) u v s.3 (inr (refl, s.1)) i j) ] ]
+            (told b (o + leaves a) (o + leaves a) u v s.3 (inr (refl, s.1)) i j)
+      ]
+    ]
 
 -- the trees of shapes are sound
 abbrev SoundIf : Option Tree → Type 0
@@ -233,5 +262,6 @@ one_class s xs u v x y e p p' q q' f g =
     let f' : x ≡ class_of (tree s) 0 1 u = f ∙ ap (λ (l : List ℕ). get_or l (u - 1) 0) e in
     let g' : y ≡ class_of (tree s) 0 1 v = g ∙ ap (λ (l : List ℕ). get_or l (v - 1) 0) e in
     elim (told (tree s) 0 1 u v (sound-blocks (rest_of s) (sound_rest s).0 (sound_rest s).1) (inl (omega arith)) (p, omega (arith, p', n, m)) (q, omega (arith, q', n, m))) [
-      inl r ↦ ((λ _. r.1), λ _. f' ∙ (r.0 ∙ sym g'))
-    | inr r ↦ ((λ k. absurd (r.0 (sym f' ∙ (k ∙ g')))), λ h. absurd (r.1 h)) ]
+      | inl r ↦ ((λ _. r.1), λ _. f' ∙ (r.0 ∙ sym g'))
+      | inr r ↦ ((λ k. absurd (r.0 (sym f' ∙ (k ∙ g')))), λ h. absurd (r.1 h))
+    ]

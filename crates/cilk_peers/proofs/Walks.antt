@@ -17,8 +17,8 @@ walk (strand n) c o ns cs fits = refl
 walk (series a b) c o ns cs fits =
     let z : o + leaves a + leaves b ≡ o + (leaves a + leaves b) = omega arith in
     let f : classes_from (preorder a ++ (preorder b ++ ns)) o (c ∷ c ∷ cs) ≡ class_numbers a c o ++ (class_numbers b c (o + leaves a) ++ classes_from ns (o + (leaves a + leaves b)) cs) =
-        walk a c o (preorder b ++ ns) (c ∷ cs) (omega (arith, fits))
-        ∙ ap (λ (l : List ℕ). class_numbers a c o ++ l) (walk b c (o + leaves a) ns cs (omega (arith, fits)) ∙ ap (λ (k : ℕ). class_numbers b c (o + leaves a) ++ classes_from ns k cs) z) in
+    walk a c o (preorder b ++ ns) (c ∷ cs) (omega (arith, fits))
+    ∙ ap (λ (l : List ℕ). class_numbers a c o ++ l) (walk b c (o + leaves a) ns cs (omega (arith, fits)) ∙ ap (λ (k : ℕ). class_numbers b c (o + leaves a) ++ classes_from ns k cs) z) in
     ap (λ (l : List Node). classes_from l o (c ∷ c ∷ cs)) (append_assoc (preorder a) (preorder b) ns)
     ∙ (f ∙ sym (append_assoc (class_numbers a c o) (class_numbers b c (o + leaves a)) (classes_from ns (o + (leaves a + leaves b)) cs)))
 walk (parallel a b) c o ns cs fits =
@@ -27,8 +27,8 @@ walk (parallel a b) c o ns cs fits =
     let e : w ≡ o + leaves a = omega (arith, p, fits) in
     let z : o + leaves a + leaves b ≡ o + (leaves a + leaves b) = omega arith in
     let f : classes_from (preorder a ++ (preorder b ++ ns)) o (o ∷ (o + leaves a) ∷ cs) ≡ class_numbers a o o ++ (class_numbers b (o + leaves a) (o + leaves a) ++ classes_from ns (o + (leaves a + leaves b)) cs) =
-        walk a o o (preorder b ++ ns) ((o + leaves a) ∷ cs) (omega (arith, fits))
-        ∙ ap (λ (l : List ℕ). class_numbers a o o ++ l) (walk b (o + leaves a) (o + leaves a) ns cs (omega (arith, fits)) ∙ ap (λ (k : ℕ). class_numbers b (o + leaves a) (o + leaves a) ++ classes_from ns k cs) z) in
+    walk a o o (preorder b ++ ns) ((o + leaves a) ∷ cs) (omega (arith, fits))
+    ∙ ap (λ (l : List ℕ). class_numbers a o o ++ l) (walk b (o + leaves a) (o + leaves a) ns cs (omega (arith, fits)) ∙ ap (λ (k : ℕ). class_numbers b (o + leaves a) (o + leaves a) ++ classes_from ns k cs) z) in
     ap (λ (l : List Node). classes_from l o (o ∷ w ∷ cs)) (append_assoc (preorder a) (preorder b) ns)
     ∙ (ap (λ (x : ℕ). classes_from (preorder a ++ (preorder b ++ ns)) o (o ∷ x ∷ cs)) e
     ∙ (f ∙ sym (append_assoc (class_numbers a o o) (class_numbers b (o + leaves a) (o + leaves a)) (classes_from ns (o + (leaves a + leaves b)) cs))))
@@ -55,9 +55,9 @@ pub walked_next : (ns : List Node) (i count count' : ℕ) (d : Node) (numbers wa
     → count' ≤ count + 1 → Walked ns (i + 1) count' numbers' waiting'
 walked_next ns i count count' d numbers waiting numbers' waiting' w lt f g = record {
   numbered =
-    let e : suc i ≡ i + 1 = omega arith in
-    let c : drop i ns ≡ get_or ns i d ∷ drop (i + 1) ns = subst (λ (k : ℕ). drop i ns ≡ get_or ns i d ∷ drop k ns) e (drop-cons ns i d lt) in
-    f (drop (i + 1) ns) ∙ (ap (λ (l : List Node). numbers ++ classes_from l (count + 1) waiting) (sym c) ∙ w.numbered);
+      let e : suc i ≡ i + 1 = omega arith in
+      let c : drop i ns ≡ get_or ns i d ∷ drop (i + 1) ns = subst (λ (k : ℕ). drop i ns ≡ get_or ns i d ∷ drop k ns) e (drop-cons ns i d lt) in
+      f (drop (i + 1) ns) ∙ (ap (λ (l : List Node). numbers ++ classes_from l (count + 1) waiting) (sym c) ∙ w.numbered);
   few = let p = w.few in omega (arith, p, g);
 }
 

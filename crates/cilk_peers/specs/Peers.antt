@@ -1,5 +1,5 @@
 -- Peer sets of strands (Lee and Schardl 2015, "Efficiently detecting races in Cilk programs that use reducer hyperobjects"), and their classes.
-use Rattle.std.specs.Prelude.{ℕ, ◌+◌, ◌-◌, ◌↔◌, List, [], ◌∷◌, ◌++◌, slice_index}
+use Rattle.std.specs.Prelude.{ℕ, ◌+◌, ◌↔◌, List, [], ◌∷◌, ◌++◌}
 use Rattle.cilk_tree.specs.Tree.{Tree, strand, series, parallel, leaves}
 use Rattle.cilk_tree.specs.Parallel.{Parallel}
 

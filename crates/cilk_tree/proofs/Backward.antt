@@ -1,5 +1,5 @@
 -- The pass from the last event to the first gives the tree's nodes in preorder.
-use Rattle.std.proofs.Common.{◌≡◌, ◌≢◌, ℕ, zero, suc, ◌+◌, ◌-◌, ◌<◌, ◌≤◌, ◌*◌, ◌^◌, Bool, true, false, cond, nat_eq, List, [], ◌∷◌, ◌++◌, length, map, drop, get_or, Option, Some, None, refl, sym, ◌∙◌, ap, subst, arith, ◌⊎◌, inl, inr}
+use Rattle.std.proofs.Common.{◌≡◌, ◌≢◌, ℕ, suc, ◌+◌, ◌-◌, ◌<◌, ◌≤◌, ◌*◌, Bool, true, false, cond, nat_eq, List, [], ◌∷◌, ◌++◌, length, map, drop, get_or, Option, Some, None, refl, sym, ◌∙◌, ap, subst, arith}
 use Rattle.std.proofs.lemmas.List.{append_assoc, append-nil, length-map, length-drop}
 use Rattle.std.proofs.Math.Seq.{drop-cons, drop-length}
 use Rattle.std.proofs.lemmas.Bool.{eq-eqb, ne_eqb}
@@ -13,7 +13,7 @@ use Rattle.cilk_tree.specs.Marks.{mark_of}
 use Rattle.cilk_tree.specs.Shape.{Kind, called, spawned, Shape, finish, act, sync, child, start_of, marks, Spells}
 use Rattle.cilk_tree.specs.Tree.{Tree, strand, series, parallel, then_later, beside, Rest, block, blocks, rest_of, tree, leaves, preorder}
 use Rattle.cilk_tree.specs.Built.{Built}
-use Rattle.cilk_tree.specs.Building.{opening, place_at, strand_closed, block_closed, frame_closed, inner_place, outer_places, counted, marked, step}
+use Rattle.cilk_tree.specs.Building.{opening, strand_closed, block_closed, frame_closed, inner_place, outer_places, counted, step}
 
 -- after the pass over these events, last one first
 abbrev pub after : List Mark → Built
@@ -139,7 +139,7 @@ starts : (k : Kind) (y x : Rest) (b0 b1 b2 : Built)
 starts called y x b0 b1 b2 c l =
     let d : b2.strands - b2.place.child ≡ leaves (blocks y) = let p = l.strands in let q = ap (λ (z : Place). z.child) l.place in omega (arith, p, q) in
     let e : b2.nodes ≡ (preorder (blocks y) ++ preorder (block x)) ++ (listed x.later ++ b0.nodes) =
-        l.list ∙ (ap (λ (z : List Node). preorder (blocks y) ++ z) c.list ∙ sym (append_assoc (preorder (blocks y)) (preorder (block x)) (listed x.later ++ b0.nodes))) in
+    l.list ∙ (ap (λ (z : List Node). preorder (blocks y) ++ z) c.list ∙ sym (append_assoc (preorder (blocks y)) (preorder (block x)) (listed x.later ++ b0.nodes))) in
     record {
       list = rw d (ap (λ (z : List Node). nodes.Series (leaves (blocks y)) ∷ z) e);
       events = let p = l.events in omega (arith, p);
@@ -151,9 +151,9 @@ starts called y x b0 b1 b2 c l =
 starts spawned y x b0 b1 b2 c l =
     let d : b2.strands - b2.place.child ≡ leaves (blocks y) = let p = l.strands in let q = ap (λ (z : Place). z.child) l.place in omega (arith, p, q) in
     let f : b2.place.child - b2.place.block ≡ leaves (block x) =
-        let q = ap (λ (z : Place). z.child) l.place in let r = ap (λ (z : Place). z.block) l.place in let s = c.block in let t = c.strands in omega (arith, q, r, s, t) in
+    let q = ap (λ (z : Place). z.child) l.place in let r = ap (λ (z : Place). z.block) l.place in let s = c.block in let t = c.strands in omega (arith, q, r, s, t) in
     let e : b2.nodes ≡ (preorder (blocks y) ++ preorder (block x)) ++ (listed x.later ++ b0.nodes) =
-        l.list ∙ (ap (λ (z : List Node). preorder (blocks y) ++ z) c.list ∙ sym (append_assoc (preorder (blocks y)) (preorder (block x)) (listed x.later ++ b0.nodes))) in
+    l.list ∙ (ap (λ (z : List Node). preorder (blocks y) ++ z) c.list ∙ sym (append_assoc (preorder (blocks y)) (preorder (block x)) (listed x.later ++ b0.nodes))) in
     record {
       list = rw d (rw f (ap (λ (z : List Node). nodes.Parallel (leaves (blocks y)) (leaves (block x)) ∷ z) e));
       events = let p = l.events in omega (arith, p);
@@ -246,7 +246,7 @@ at_next events slice place d m b b' e (le, h) p q s =
     let lt : place - 1 < length events = omega arith in
     let k : suc (place - 1) ≡ place = omega arith in
     let c : drop (place - 1) events ≡ get_or events (place - 1) d ∷ drop place events =
-        subst (λ (n : ℕ). drop (place - 1) events ≡ get_or events (place - 1) d ∷ drop n events) k (drop-cons events (place - 1) d lt) in
+    subst (λ (n : ℕ). drop (place - 1) events ≡ get_or events (place - 1) d ∷ drop n events) k (drop-cons events (place - 1) d lt) in
     let f : m ≡ mark_of (get_or events (place - 1) d) = subst (λ (l : List Event). m ≡ mark_of (get_or l (place - 1) d)) e q in
     (omega arith, rw c (s ∙ (ap (λ (x : Mark). step x b) f ∙ ap (step (mark_of (get_or events (place - 1) d))) h)))
 

@@ -1,8 +1,8 @@
 -- Two strands are parallel exactly where the serial order and the Hebrew order disagree.
-use Rattle.std.proofs.Common.{◌≡◌, ℕ, suc, ◌+◌, ◌-◌, ◌<◌, ◌≤◌, List, [], ◌∷◌, ◌++◌, length, get_or, refl, sym, ◌∙◌, ap, subst, arith, ◌⊎◌, inl, inr, ◌↔◌}
+use Rattle.std.proofs.Common.{◌≡◌, ℕ, ◌+◌, ◌-◌, ◌<◌, ◌≤◌, List, [], ◌∷◌, ◌++◌, length, get_or, refl, ◌∙◌, ap, arith, ◌⊎◌, inl, inr, ◌↔◌}
 use Rattle.std.proofs.lemmas.List.{length-append, get_or-append_right}
 use Rattle.std.proofs.Math.ListN.{get_or-append}
-use Rattle.std.proofs.lemmas.Bool.{cases_lt, cases_order}
+use Rattle.std.proofs.lemmas.Bool.{cases_lt}
 use Rattle.cilk_tree.specs.Tree.{Tree, strand, series, parallel, leaves}
 use Rattle.cilk_tree.specs.Parallel.{Holds, Parallel}
 use Rattle.cilk_tree.specs.Hebrew.{hebrews, hebrew}
@@ -37,16 +37,18 @@ bounds (strand n) h o u (p, q) =
     (omega (arith, e), omega (arith, e))
 bounds (series a b) h o u (p, q) =
     elim (held_in a b o u p q) [
-      inl l ↦ (let e = at_left (hebrews a h) (hebrews b (h + leaves a)) o u l.0 (let n = length-hebrews a h in let k = l.1 in omega (arith, n, k)) in
+      | inl l ↦ (let e = at_left (hebrews a h) (hebrews b (h + leaves a)) o u l.0 (let n = length-hebrews a h in let k = l.1 in omega (arith, n, k)) in
           let i = bounds a h o u l in let x = i.0 in let y = i.1 in (omega (arith, e, x), omega (arith, e, y)))
-    | inr l ↦ (let e = at_right (hebrews a h) (hebrews b (h + leaves a)) o (leaves a) u (length-hebrews a h) l.0 in
-          let i = bounds b (h + leaves a) (o + leaves a) u l in let x = i.0 in let y = i.1 in (omega (arith, e, x), omega (arith, e, y))) ]
+      | inr l ↦ (let e = at_right (hebrews a h) (hebrews b (h + leaves a)) o (leaves a) u (length-hebrews a h) l.0 in
+          let i = bounds b (h + leaves a) (o + leaves a) u l in let x = i.0 in let y = i.1 in (omega (arith, e, x), omega (arith, e, y)))
+    ]
 bounds (parallel a b) h o u (p, q) =
     elim (held_in a b o u p q) [
-      inl l ↦ (let e = at_left (hebrews a (h + leaves b)) (hebrews b h) o u l.0 (let n = length-hebrews a (h + leaves b) in let k = l.1 in omega (arith, n, k)) in
+      | inl l ↦ (let e = at_left (hebrews a (h + leaves b)) (hebrews b h) o u l.0 (let n = length-hebrews a (h + leaves b) in let k = l.1 in omega (arith, n, k)) in
           let i = bounds a (h + leaves b) o u l in let x = i.0 in let y = i.1 in (omega (arith, e, x), omega (arith, e, y)))
-    | inr l ↦ (let e = at_right (hebrews a (h + leaves b)) (hebrews b h) o (leaves a) u (length-hebrews a (h + leaves b)) l.0 in
-          let i = bounds b h (o + leaves a) u l in let x = i.0 in let y = i.1 in (omega (arith, e, x), omega (arith, e, y))) ]
+      | inr l ↦ (let e = at_right (hebrews a (h + leaves b)) (hebrews b h) o (leaves a) u (length-hebrews a (h + leaves b)) l.0 in
+          let i = bounds b h (o + leaves a) u l in let x = i.0 in let y = i.1 in (omega (arith, e, x), omega (arith, e, y)))
+    ]
 
 -- parallel strands stand in the tree
 pub holds_both : (t : Tree) (o u v : ℕ) → Parallel t o u v → Holds t o u × Holds t o v
@@ -120,39 +122,50 @@ tells (series a b) h o u v (p, p') (q, q') l =
     let ys = hebrews b (h + leaves a) in
     let n = length-hebrews a h in
     elim (held_in a b o u p p') [
-      inl i ↦ elim (held_in a b o v q q') [
-        inl j ↦ tells_along (Parallel a o u v) (Parallel (series a b) o u v) _ _ _ _
+      | inl i ↦ elim (held_in a b o v q q') [
+        | inl j ↦ tells_along (Parallel a o u v) (Parallel (series a b) o u v) _ _ _ _
             (at_left xs ys o u i.0 (let k = i.1 in omega (arith, n, k))) (at_left xs ys o v j.0 (let k = j.1 in omega (arith, n, k)))
             (λ g. inl g) (series_left a b o u v i) (tells a h o u v i j l)
-      | inr j ↦ inr (series_across a b o u v i j,
+        | inr j ↦ inr (
+          series_across a b o u v i j,
           (let e = at_left xs ys o u i.0 (let k = i.1 in omega (arith, n, k)) in let f = at_right xs ys o (leaves a) v n j.0 in
-           let x = (bounds a h o u i).1 in let y = (bounds b (h + leaves a) (o + leaves a) v j).0 in omega (arith, e, f, x, y))) ]
-    | inr i ↦ elim (held_in a b o v q q') [
-        inl j ↦ absurd (omega (arith, i, j, l))
-      | inr j ↦ tells_along (Parallel b (o + leaves a) u v) (Parallel (series a b) o u v) _ _ _ _
+              let x = (bounds a h o u i).1 in let y = (bounds b (h + leaves a) (o + leaves a) v j).0 in omega (arith, e, f, x, y)),
+        )
+      ]
+      | inr i ↦ elim (held_in a b o v q q') [
+        | inl j ↦ absurd (omega (arith, i, j, l))
+        | inr j ↦ tells_along (Parallel b (o + leaves a) u v) (Parallel (series a b) o u v) _ _ _ _
             (at_right xs ys o (leaves a) u n i.0) (at_right xs ys o (leaves a) v n j.0)
-            (λ g. inr g) (series_right a b o u v i) (tells b (h + leaves a) (o + leaves a) u v i j l) ] ]
+            (λ g. inr g) (series_right a b o u v i) (tells b (h + leaves a) (o + leaves a) u v i j l)
+      ]
+    ]
 tells (parallel a b) h o u v (p, p') (q, q') l =
     let xs = hebrews a (h + leaves b) in
     let ys = hebrews b h in
     let n = length-hebrews a (h + leaves b) in
     elim (held_in a b o u p p') [
-      inl i ↦ elim (held_in a b o v q q') [
-        inl j ↦ tells_along (Parallel a o u v) (Parallel (parallel a b) o u v) _ _ _ _
+      | inl i ↦ elim (held_in a b o v q q') [
+        | inl j ↦ tells_along (Parallel a o u v) (Parallel (parallel a b) o u v) _ _ _ _
             (at_left xs ys o u i.0 (let k = i.1 in omega (arith, n, k))) (at_left xs ys o v j.0 (let k = j.1 in omega (arith, n, k)))
             (λ g. inl g) (parallel_left a b o u v i j) (tells a (h + leaves b) o u v i j l)
-      | inr j ↦ inl (inr (inr (inl (i, j))),
+        | inr j ↦ inl (
+          inr (inr (inl (i, j))),
           (let e = at_left xs ys o u i.0 (let k = i.1 in omega (arith, n, k)) in let f = at_right xs ys o (leaves a) v n j.0 in
-           let x = (bounds a (h + leaves b) o u i).0 in let y = (bounds b h (o + leaves a) v j).1 in omega (arith, e, f, x, y))) ]
-    | inr i ↦ elim (held_in a b o v q q') [
-        inl j ↦ absurd (omega (arith, i, j, l))
-      | inr j ↦ tells_along (Parallel b (o + leaves a) u v) (Parallel (parallel a b) o u v) _ _ _ _
+              let x = (bounds a (h + leaves b) o u i).0 in let y = (bounds b h (o + leaves a) v j).1 in omega (arith, e, f, x, y)),
+        )
+      ]
+      | inr i ↦ elim (held_in a b o v q q') [
+        | inl j ↦ absurd (omega (arith, i, j, l))
+        | inr j ↦ tells_along (Parallel b (o + leaves a) u v) (Parallel (parallel a b) o u v) _ _ _ _
             (at_right xs ys o (leaves a) u n i.0) (at_right xs ys o (leaves a) v n j.0)
-            (λ g. inr (inl g)) (parallel_right a b o u v i j) (tells b h (o + leaves a) u v i j l) ] ]
+            (λ g. inr (inl g)) (parallel_right a b o u v i j) (tells b h (o + leaves a) u v i j l)
+      ]
+    ]
 
 -- for two strands in serial order
 pub parallel_by_order : (t : Tree) (u v : ℕ) → Holds t 1 u → Holds t 1 v → u < v → (hebrew t v < hebrew t u) ↔ Parallel t 1 u v
 parallel_by_order t u v p q l =
     elim (tells t 1 1 u v p q l) [
-      inl w ↦ ((λ _. w.0), λ _. w.1)
-    | inr w ↦ ((λ k. absurd (let m = w.1 in omega (arith, k, m))), λ g. absurd (w.0 g)) ]
+      | inl w ↦ ((λ _. w.0), λ _. w.1)
+      | inr w ↦ ((λ k. absurd (let m = w.1 in omega (arith, k, m))), λ g. absurd (w.0 g))
+    ]

@@ -1,12 +1,12 @@
 -- The strands of positions.
-use Rattle.std.proofs.Common.{◌≡◌, ℕ, zero, suc, ◌+◌, ◌-◌, ◌<◌, ◌≤◌, List, [], ◌∷◌, ◌++◌, length, get_or, map, Option, Some, None, refl, sym, ◌∙◌, ap, subst, arith, ◌⊎◌, inl, inr, ◌↔◌}
+use Rattle.std.proofs.Common.{◌≡◌, ℕ, zero, suc, ◌+◌, ◌<◌, ◌≤◌, List, [], ◌∷◌, ◌++◌, length, get_or, map, Option, Some, None, refl, ap, subst, arith, inl, inr, ◌↔◌}
 use Rattle.std.proofs.lemmas.Bool.{cases_lt}
 use Rattle.cilk_types.specs.declared.event.Event.{Event}
 use Rattle.cilk_tree.specs.declared.mark.Mark.{Mark}
-use Rattle.cilk_tree.specs.declared.mark.Mark.TheVariants.{Begin, End, Sync, Resume, Spawn, Call, Plain}
+use Rattle.cilk_tree.specs.declared.mark.Mark.TheVariants.{Begin, Resume}
 use Rattle.cilk_tree.specs.Marks.{mark_of, begun_by}
 use Rattle.cilk_tree.specs.Shape.{Kind, called, spawned, Shape, finish, act, sync, child, start_of, marks, Spells}
-use Rattle.cilk_tree.specs.Tree.{Tree, strand, series, parallel, then_later, beside, Rest, block, blocks, rest_of, tree, leaves}
+use Rattle.cilk_tree.specs.Tree.{Tree, strand, then_later, beside, Rest, block, blocks, rest_of, tree, leaves}
 use Rattle.cilk_tree.specs.Parallel.{Holds, Parallel}
 use Rattle.cilk_tree.specs.Hebrew.{hebrew}
 use Rattle.cilk_tree.specs.Races.{strand_at}
@@ -107,7 +107,8 @@ parallel_positions s es sp p q l m =
     let b = strand_held s es sp q (omega (arith, l, m)) in
     let g = strand_grows es p q (omega (arith, m)) in
     elim (cases_lt (strand_at es p) (strand_at es q)) [
-      inl k ↦ parallel_by_order (tree s) (strand_at es p) (strand_at es q) a b k
-    | inr k ↦ (let e : strand_at es p ≡ strand_at es q = omega (arith, g, k) in
-        let f = ap (λ (x : ℕ). hebrew (tree s) x) e in
-        ((λ h. absurd (omega (arith, h, f))), λ h. absurd (not_to_itself (tree s) 1 (strand_at es q) (subst (λ (x : ℕ). Parallel (tree s) 1 x (strand_at es q)) e h)))) ]
+      | inl k ↦ parallel_by_order (tree s) (strand_at es p) (strand_at es q) a b k
+      | inr k ↦ (let e : strand_at es p ≡ strand_at es q = omega (arith, g, k) in
+          let f = ap (λ (x : ℕ). hebrew (tree s) x) e in
+          ((λ h. absurd (omega (arith, h, f))), λ h. absurd (not_to_itself (tree s) 1 (strand_at es q) (subst (λ (x : ℕ). Parallel (tree s) 1 x (strand_at es q)) e h))))
+    ]

@@ -1,5 +1,5 @@
 -- The series-parallel tree of a run (Feng and Leiserson 1997, section 2), whose leaves are strands.
-use Rattle.std.specs.Prelude.{ℕ, suc, ◌+◌, ◌<◌, ◌≤◌, ◌⊎◌, List, [], ◌∷◌, ◌++◌, Option, Some, None}
+use Rattle.std.specs.Prelude.{ℕ, suc, ◌+◌, List, [], ◌∷◌, ◌++◌, Option, Some, None}
 use Rattle.cilk_tree.specs.Shape.{Kind, called, spawned, Shape, finish, act, sync, child}
 use Rattle.cilk_tree.specs.declared.tree.Node.{Node}
 use Rattle.cilk_tree.specs.declared.tree.Node.TheVariants as nodes

@@ -31,7 +31,8 @@ impl<T> Stack<T> {
 
     /// An item onto the top.
     pub fn push(&mut self, item: T) -> Result<(), AllocError>
-        where T: Drop
+    where
+        T: Drop,
         ensures { IfOk result (λ _. self.new ≡ item ∷ self.old) }
     {
         self.items.push(item)?;

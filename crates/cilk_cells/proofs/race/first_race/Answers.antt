@@ -1,4 +1,4 @@
-use Rattle.std.proofs.Common.{refl, inl, inr, arith, ap, length, List, sym, ◌∙◌}
+use Rattle.std.proofs.Common.{refl, inl, inr, arith, ap, length}
 use Rattle.cilk_cells.proofs.Pass.{here, here_strand, fits_here, standing_first, standing_next, standing_found, standing_last, strands_labelled}
 use Rattle.cilk_cells.proofs.race.first_race.Goals as goal
 use Rattle.cilk_cells.proofs.race.first_race.Goals.{then-strand-eq0-via-then-strand-eq0, then-strand-eq0-via-else-strand-eq0+then-strand-count}
@@ -27,8 +27,9 @@ returns-then-strand-eq0 c = λ s sp lb p q r.
     let i = c.loop-index.invariant in
     let n = here_strand _ _ _ _ _ _ _ c.as_slice-events.ensures c.loop-index-test.true i.strand c.of.ensures c.strands-strand.ensures in
     elim c.then-strand-eq0.branch [
-      then-strand-eq0-via-then-strand-eq0 w ↦ absurd (strands_labelled _ _ _ _ n (inl w.if-strand-eq0.true) s sp lb)
-    | then-strand-eq0-via-else-strand-eq0+then-strand-count w ↦ absurd (strands_labelled _ _ _ _ n (inr (let k = w.count.ensures in let l = w.if-strand-count.true in omega (arith, k, l))) s sp lb) ]
+      | then-strand-eq0-via-then-strand-eq0 w ↦ absurd (strands_labelled _ _ _ _ n (inl w.if-strand-eq0.true) s sp lb)
+      | then-strand-eq0-via-else-strand-eq0+then-strand-count w ↦ absurd (strands_labelled _ _ _ _ n (inr (let k = w.count.ensures in let l = w.if-strand-count.true in omega (arith, k, l))) s sp lb)
+    ]
 
 pub returns : goal.returns
 returns c = λ s sp lb.

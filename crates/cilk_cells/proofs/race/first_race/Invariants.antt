@@ -1,7 +1,3 @@
-use Rattle.std.proofs.Common.{◌≡◌, ◌≤◌, length}
-use Rattle.cilk_tree.specs.Shape.{Shape, Spells}
-use Rattle.cilk_tree.specs.Tree.{tree}
-use Rattle.cilk_tree.specs.Hebrew.{hebrews}
 use Rattle.cilk_cells.proofs.Pass.{Standing}
 use Rattle.cilk_cells.proofs.race.first_race.Given as goal
 

@@ -1,4 +1,4 @@
-use Rattle.std.proofs.Common.{arith, ap, ◌∙◌, length, ◌≤◌, ◌+◌}
+use Rattle.std.proofs.Common.{arith, ap, ◌∙◌, length}
 use Rattle.cilk_peers.proofs.Walks.{walked_first, walked_next, walked_all}
 use Rattle.cilk_peers.proofs.walk.classes.Goals as goal
 
