@@ -1,2 +1,5 @@
+pub mod Firsts
 pub mod Greatest
+pub mod Nested
+pub mod NestedRaces
 pub mod Pass

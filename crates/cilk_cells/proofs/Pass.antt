@@ -313,7 +313,7 @@ strands_labelled es labels i n' z o t sp lb =
     let k = ap (λ (x : List ℕ). length x) lb in
     elim o [ inl u ↦ omega (arith, u, z, h) | inr u ↦ omega (arith, u, z, h, n, k) ]
 
-begun_once : (m : Mark) → begun_by m ≤ 1
+pub begun_once : (m : Mark) → begun_by m ≤ 1
 begun_once Begin = omega arith
 begun_once Sync = omega arith
 begun_once Resume = omega arith

@@ -1,25 +1,14 @@
 -- What the contracts of `Hypermap` cite: a finite map from kinds and instances to the values of their views.
 use Rattle.std.specs.Prelude.{◌≡◌, Bool, true, false, cond, ◌&&◌, Option, Some, None, ◌⊎◌}
 use Rattle.cilk_types.specs.declared.event.Instance.{Instance}
-use Rattle.cilk_types.specs.declared.outcome.Final.{Final}
-use Rattle.cilk_types.specs.declared.outcome.Final.TheVariants as final
 use Rattle.cilk_monoid.specs.declared.kind.MonoidKind.{MonoidKind}
 use Rattle.cilk_monoid.specs.declared.kind.MonoidKind.TheVariants.{Add, Least, Greatest, Append, Affine}
-use Rattle.cilk_monoid.specs.Kinds.{structure_of}
+use Rattle.cilk_monoid.specs.Kinds.{structure_of, same_kind}
 use Rattle.cilk_monoid.specs.Ranges.{same_instance}
-use Rattle.cilk_monoid.specs.Values.{ViewValue, Number, Elements, Map}
+use Rattle.cilk_monoid.specs.Values.{ViewValue}
 use Rattle.cilk_monoid.specs.Views.{number_value, list_value, affine_value, list_room, unlimited}
 use Rattle.cilk_hypermap.specs.declared.hypermap.Hypermap.{Hypermap}
 use Rattle.cilk_hypermap.specs.Views.{or_unit, view_at, HasRoom, Fits, Loses}
-
--- whether two kinds are one
-abbrev pub same_kind : MonoidKind → MonoidKind → Bool
-same_kind Add Add = true
-same_kind Least Least = true
-same_kind Greatest Greatest = true
-same_kind Append Append = true
-same_kind Affine Affine = true
-same_kind j k = false
 
 -- a fact of each kind
 abbrev pub EachKind : (MonoidKind → Type 0) → Type 0
@@ -65,12 +54,6 @@ HasRoomForAll left middle right = HasRoom (structure_of Add) number_value (λ _.
     × HasRoom (structure_of Greatest) number_value (λ _. unlimited) left.greatest middle.greatest right.greatest
     × HasRoom (structure_of Append) list_value list_room left.lists middle.lists right.lists
     × HasRoom (structure_of Affine) affine_value (λ _. unlimited) left.maps middle.maps right.maps
-
--- what a view leaves when the run ends: a list, or the number that a program reads
-abbrev pub final_of : ViewValue → Final
-final_of (Number z) = final.Number z
-final_of (Elements zs) = final.List zs
-final_of (Map a b) = final.Number b
 
 -- the views of `right` fit in the room of `left`, of each kind
 abbrev pub FitsAll : Hypermap → Hypermap → Type 0

@@ -3,8 +3,8 @@
 ghost use Rattle.std.specs.Prelude.{◌≡◌, None, Some, IsSome, IsOk, OnOk, OnErr, IfOk, IfErr, ◌⊎◌};
 ghost use Rattle.std.specs.Option.{option_map};
 ghost use Rattle.cilk_types.specs.declared.event.Instance.{Instance};
-ghost use Rattle.cilk_monoid.specs.Kinds.{structure_of};
-ghost use Rattle.cilk_hypermap.specs.Hypermap.{EachKind, view_in, value_in, final_of, ChangesIn, KeepsAll, KeepsAllValues, Retires, FillsAll, FitsAll, LosesAtMost, HasRoomForAll};
+ghost use Rattle.cilk_monoid.specs.Kinds.{structure_of, final_of};
+ghost use Rattle.cilk_hypermap.specs.Hypermap.{EachKind, view_in, value_in, ChangesIn, KeepsAll, KeepsAllValues, Retires, FillsAll, FitsAll, LosesAtMost, HasRoomForAll};
 ghost use Rattle.cilk_hypermap.specs.Ranges.{JoinsRanges};
 ghost use Rattle.cilk_hypermap.specs.Views.{merged, output};
 ghost use Rattle.cilk_monoid.specs.Views.{number_value};

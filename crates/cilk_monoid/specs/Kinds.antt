@@ -1,7 +1,9 @@
 -- The five monoids that programs name.
-use Rattle.std.specs.Prelude.{ℕ, ℤ, pos, negsuc, ◌+ℤ◌, ◌*ℤ◌, [], ◌∷◌, ◌++◌, length, All}
+use Rattle.std.specs.Prelude.{Bool, true, false, ℕ, ℤ, pos, negsuc, ◌+ℤ◌, ◌*ℤ◌, [], ◌∷◌, ◌++◌, length, All}
 use Rattle.std.specs.Int.{int_max, int_min}
 use Rattle.cilk_types.specs.Word.{word_of}
+use Rattle.cilk_types.specs.declared.outcome.Final.{Final}
+use Rattle.cilk_types.specs.declared.outcome.Final.TheVariants as final
 use Rattle.cilk_monoid.specs.declared.kind.MonoidKind.{MonoidKind}
 use Rattle.cilk_monoid.specs.declared.kind.MonoidKind.TheVariants.{Add, Least, Greatest, Append, Affine}
 use Rattle.cilk_monoid.specs.Laws.{MonoidStructure}
@@ -66,3 +68,18 @@ IsMember Least v = IsNumber v
 IsMember Greatest v = IsNumber v
 IsMember Append v = IsList v
 IsMember Affine v = IsMap v
+
+-- whether two kinds are one
+abbrev pub same_kind : MonoidKind → MonoidKind → Bool
+same_kind Add Add = true
+same_kind Least Least = true
+same_kind Greatest Greatest = true
+same_kind Append Append = true
+same_kind Affine Affine = true
+same_kind j k = false
+
+-- what a view leaves when the run ends: a list, or the number that a program reads
+abbrev pub final_of : ViewValue → Final
+final_of (Number z) = final.Number z
+final_of (Elements zs) = final.List zs
+final_of (Map a b) = final.Number b

@@ -1,2 +1,4 @@
+pub mod Creations
+pub mod Frames
 pub mod Same
 pub mod Walks

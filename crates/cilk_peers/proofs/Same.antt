@@ -14,7 +14,7 @@ length-class_numbers (series a b) c o = let p = length-class_numbers a c o in le
 length-class_numbers (parallel a b) c o = let p = length-class_numbers a o o in let q = length-class_numbers b (o + leaves a) (o + leaves a) in let l = length-append (class_numbers a o o) (class_numbers b (o + leaves a) (o + leaves a)) in omega (arith, p, q, l)
 
 -- the first leaf stands under no P node
-abbrev Leads : Tree → Type 0
+abbrev pub Leads : Tree → Type 0
 Leads (strand n) = Unit {0}
 Leads (series a b) = Leads a
 Leads (parallel a b) = ⊥
@@ -114,7 +114,7 @@ alone (parallel a b) c o u s out (p, q) =
       | inr l ↦ (let k = has_leaf a in inr (inner, ne, (o, inr (inr (inr ((omega arith, omega (arith, k)), l))))))
     ]
 
-abbrev SameIn : Tree → ℕ → ℕ → ℕ → Type 0
+abbrev pub SameIn : Tree → ℕ → ℕ → ℕ → Type 0
 SameIn t o u v = (w : ℕ) → Parallel t o u w ↔ Parallel t o v w
 
 abbrev Told : Tree → ℕ → ℕ → ℕ → ℕ → Type 0
@@ -166,19 +166,19 @@ beside_each_other a b c o u v s i j =
     let high : o + leaves a ≤ class_of b (o + leaves a) (o + leaves a) v = elim (range b (o + leaves a) (o + leaves a) v s.3 j) [ inl r ↦ omega (arith, r) | inr r ↦ r.0 ] in
     inr ((λ g. omega (arith, e, f, g, low, high)), λ g. not_to_itself (parallel a b) o v ((g v).0 (inr (inr (inl (i, j))))))
 
-wide_left : (a b : Tree) (o u v : ℕ) → Holds a o u → Holds a o v → SameIn a o u v → (w : ℕ) → Parallel (parallel a b) o u w → Parallel (parallel a b) o v w
+pub wide_left : (a b : Tree) (o u v : ℕ) → Holds a o u → Holds a o v → SameIn a o u v → (w : ℕ) → Parallel (parallel a b) o u w → Parallel (parallel a b) o v w
 wide_left a b o u v i j g w (inl h) = inl ((g w).0 h)
 wide_left a b o u v i j g w (inr (inl h)) = absurd (apart a b o u i (holds_both b (o + leaves a) u w h).0)
 wide_left a b o u v i j g w (inr (inr (inl h))) = inr (inr (inl (j, h.1)))
 wide_left a b o u v i j g w (inr (inr (inr h))) = absurd (apart a b o u i h.1)
 
-wide_right : (a b : Tree) (o u v : ℕ) → Holds b (o + leaves a) u → Holds b (o + leaves a) v → SameIn b (o + leaves a) u v → (w : ℕ) → Parallel (parallel a b) o u w → Parallel (parallel a b) o v w
+pub wide_right : (a b : Tree) (o u v : ℕ) → Holds b (o + leaves a) u → Holds b (o + leaves a) v → SameIn b (o + leaves a) u v → (w : ℕ) → Parallel (parallel a b) o u w → Parallel (parallel a b) o v w
 wide_right a b o u v i j g w (inl h) = absurd (apart a b o u (holds_both a o u w h).0 i)
 wide_right a b o u v i j g w (inr (inl h)) = inr (inl ((g w).0 h))
 wide_right a b o u v i j g w (inr (inr (inl h))) = absurd (apart a b o u h.0 i)
 wide_right a b o u v i j g w (inr (inr (inr h))) = inr (inr (inr (h.0, j)))
 
-back : (t : Tree) (o u v : ℕ) → SameIn t o u v → SameIn t o v u
+pub back : (t : Tree) (o u v : ℕ) → SameIn t o u v → SameIn t o v u
 back t o u v g w = ((g w).1, (g w).0)
 
 told : (t : Tree) (c o u v : ℕ) → Sound t → Outside t c o → Holds t o u → Holds t o v → Told t c o u v

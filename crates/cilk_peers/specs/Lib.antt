@@ -1,2 +1,5 @@
+pub mod Frames
 pub mod Peers
+pub mod ViewRaces
 pub mod Walk
+pub mod Worked

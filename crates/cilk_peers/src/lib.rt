@@ -9,4 +9,5 @@
 #![tactic(auto)]
 
 pub mod class;
+pub mod laws;
 pub mod walk;

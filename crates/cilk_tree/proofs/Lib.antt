@@ -1,3 +1,9 @@
 pub mod Backward
+pub mod Before
 pub mod Order
+pub mod Lines
+pub mod Places
+pub mod Reaches
+pub mod Spans
 pub mod Strands
+pub mod Tied

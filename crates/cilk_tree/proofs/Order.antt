@@ -98,7 +98,7 @@ pub series_right : (a b : Tree) (o u v : ℕ) → Holds b (o + leaves a) u → P
 series_right a b o u v p (inl h) = absurd (apart a b o u (holds_both a o u v h).0 p)
 series_right a b o u v p (inr h) = h
 
-series_across : (a b : Tree) (o u v : ℕ) → Holds a o u → Holds b (o + leaves a) v → Parallel (series a b) o u v → ⊥
+pub series_across : (a b : Tree) (o u v : ℕ) → Holds a o u → Holds b (o + leaves a) v → Parallel (series a b) o u v → ⊥
 series_across a b o u v p q (inl h) = apart a b o v (holds_both a o u v h).1 q
 series_across a b o u v p q (inr h) = apart a b o u p (holds_both b (o + leaves a) u v h).0
 

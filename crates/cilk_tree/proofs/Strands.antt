@@ -13,15 +13,15 @@ use Rattle.cilk_tree.specs.Races.{strand_at}
 use Rattle.cilk_tree.proofs.Order.{parallel_by_order, not_to_itself}
 
 -- how many strands these events begin
-abbrev count : List Mark → ℕ
+abbrev pub count : List Mark → ℕ
 count [] = 0
 count (m ∷ ms) = begun_by m + count ms
 
-count-append : (xs ys : List Mark) → count (xs ++ ys) ≡ count xs + count ys
+pub count-append : (xs ys : List Mark) → count (xs ++ ys) ≡ count xs + count ys
 count-append [] ys = omega arith
 count-append (x ∷ xs) ys = let h = count-append xs ys in omega (arith, h)
 
-abbrev number : Option Tree → ℕ
+abbrev pub number : Option Tree → ℕ
 number None = 0
 number (Some t) = leaves t
 
@@ -29,18 +29,18 @@ leaves-then_later : (t : Tree) (o : Option Tree) → leaves (then_later t o) ≡
 leaves-then_later t None = omega arith
 leaves-then_later t (Some l) = refl
 
-leaves-blocks : (x : Rest) → leaves (blocks x) ≡ 1 + number x.after + number x.later
+pub leaves-blocks : (x : Rest) → leaves (blocks x) ≡ 1 + number x.after + number x.later
 leaves-blocks x = let p = leaves-then_later (block x) x.later in let q = leaves-then_later (strand (suc x.events)) x.after in omega (arith, p, q)
 
-leaves-beside : (k : Kind) (a b : Tree) → leaves (beside k a b) ≡ leaves a + leaves b
+pub leaves-beside : (k : Kind) (a b : Tree) → leaves (beside k a b) ≡ leaves a + leaves b
 leaves-beside called a b = refl
 leaves-beside spawned a b = refl
 
-begun-start_of : (k : Kind) → begun_by (start_of k) ≡ 0
+pub begun-start_of : (k : Kind) → begun_by (start_of k) ≡ 0
 begun-start_of called = refl
 begun-start_of spawned = refl
 
-count-marks : (r : Shape) → count (marks r) ≡ number (rest_of r).after + number (rest_of r).later
+pub count-marks : (r : Shape) → count (marks r) ≡ number (rest_of r).after + number (rest_of r).later
 count-marks finish = refl
 count-marks (act r) = let h = count-marks r in omega (arith, h)
 count-marks (sync r) = let h = count-marks r in let p = leaves-blocks (rest_of r) in omega (arith, h, p)

@@ -1,8 +1,13 @@
+pub mod Before
 pub mod Building
 pub mod Built
 pub mod Hebrew
 pub mod Marks
 pub mod Parallel
 pub mod Races
+pub mod Reach
 pub mod Shape
+pub mod Span
+pub mod Spans
 pub mod Tree
+pub mod Worked

@@ -8,10 +8,13 @@
 //! (Feng and Leiserson 1997, "Efficient detection of determinacy races in Cilk programs", section 2; strands are cut finer here.)
 //!
 //! [`building::tree_of`] makes the tree in one pass over the events from the last to the first, and
-//! [`span::span`] is the length of the longest chain of events in it.
+//! [`span::span`] is the length of the longest chain of events in it. [`laws::before_is_reachability`] says what a scheduler needs:
+//! an event is before another exactly where it is reached from it by immediate predecessors.
 #![tactic(auto)]
 
 pub mod building;
+pub mod laws;
 pub mod mark;
+pub mod span;
 pub mod stack;
 pub mod tree;

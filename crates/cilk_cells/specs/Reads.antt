@@ -1,0 +1,31 @@
+-- What a pass over a run's events keeps of each reducer.
+use Rattle.std.specs.Prelude.{◌≡◌, Bool, ◌==◌, ◌&&◌, cond, Option, Some, None, unwrap_or}
+use Rattle.std.specs.HashMap.{get}
+use Rattle.cilk_types.specs.declared.event.Event.{Event}
+use Rattle.cilk_types.specs.declared.event.Event.TheVariants.{Create, Set, Value}
+use Rattle.cilk_types.specs.declared.event.Instance.{Instance}
+use Rattle.cilk_cells.specs.declared.first_reads.FirstReads.{FirstReads}
+use Rattle.cilk_cells.specs.declared.first_reads.Read.{Read}
+
+-- whether two instances are one
+abbrev pub same_instance : Instance → Instance → Bool
+same_instance a b = (a.frame == b.frame) && (a.place == b.place)
+
+-- the instance of a reducer-read
+abbrev pub instance_read : Event → Option Instance
+instance_read (Create i) = Some i
+instance_read (Set i v) = Some i
+instance_read (Value i v) = Some i
+instance_read _ = None
+
+-- the first reducer-read of an instance that was met, if one was
+abbrev pub read_at : FirstReads → Instance → Option Read
+read_at m i = get same_instance m.reads i
+
+-- the first one where the reducer-read at hand counts too
+abbrev pub first_of_all : FirstReads → Instance → Read → Read
+first_of_all m i here = unwrap_or (read_at m i) here
+
+-- the instance has this first reducer-read, and the others are as they were
+abbrev pub KeepsAt : FirstReads → FirstReads → Instance → Read → Type 0
+KeepsAt old new i r = (j : Instance) → read_at new j ≡ cond (same_instance i j) (Some r) (read_at old j)

@@ -1,0 +1,63 @@
+//! What a pass over a run's events keeps of each reducer.
+
+ghost use Rattle.std.specs.Prelude.{◌≡◌, None, IfOk, OnOk};
+ghost use Rattle.cilk_types.specs.declared.event.Instance.{Instance};
+ghost use Rattle.cilk_cells.specs.Reads.{instance_read, read_at, first_of_all, KeepsAt};
+
+use cilk_types::event::{Event, Instance, Pos};
+use std::alloc::{AllocError, Global};
+use std::collections::HashMap;
+
+/// A reducer-read: its strand's peer class, and its position.
+#[derive(Clone, Copy, PartialEq, Eq, Debug)]
+pub struct Read {
+    pub class: u32,
+    pub at: Pos,
+}
+
+/// For each reducer its first reducer-read.
+pub struct FirstReads {
+    reads: HashMap<Instance, Read>,
+}
+
+// A function of its own, so that a proof follows one call where the reads are dropped.
+impl Drop for FirstReads {
+    fn drop(self) {
+        let FirstReads { reads: _reads } = self;
+    }
+}
+
+impl FirstReads {
+    /// Nothing yet of any reducer.
+    pub fn new(alloc: Global) -> FirstReads
+        ensures { (i : Instance) → read_at result i ≡ None }
+    {
+        FirstReads {
+            reads: HashMap::new(alloc),
+        }
+    }
+
+    /// The first reducer-read of the instance, where the one at hand is kept if it is the first.
+    pub fn meet(&mut self, instance: Instance, here: Read) -> Result<Read, AllocError>
+        ensures first { IfOk result (λ r. r ≡ first_of_all self.old instance here) }
+        ensures kept { OnOk result (KeepsAt self.old self.new instance (first_of_all self.old instance here)) }
+    {
+        if let Some(first) = self.reads.get(&instance) {
+            return Ok(*first);
+        }
+        self.reads.insert(instance, here)?;
+        Ok(here)
+    }
+}
+
+/// The instance that a reducer-read reads: its creation, a set or a value. Other events read none.
+pub fn instance_of(event: &Event) -> Option<Instance>
+    ensures { result ≡ instance_read event.now }
+{
+    match *event {
+        Event::Create { instance } => Some(instance),
+        Event::Set { instance, .. } => Some(instance),
+        Event::Value { instance, .. } => Some(instance),
+        _ => None,
+    }
+}

@@ -1,0 +1,54 @@
+-- That the elision and the serial run agree.
+use Rattle.std.specs.Prelude.{◌≡◌, ◌≤◌, ◌⊎◌, ℕ, ℤ, List, IsTrue}
+use Rattle.cilk_types.specs.declared.fault.Fault.{Fault}
+use Rattle.cilk_types.specs.declared.fault.Fault.TheVariants.{DivisionByZero, IndexOutside, InputOutside, TooManyEvents, TooManyFrames, TooManyCells}
+use Rattle.cilk_types.specs.declared.event.Event.{Event}
+use Rattle.cilk_program.specs.Syntax.{Source}
+use Rattle.cilk_program.specs.WellNamed.{is_well_named}
+use Rattle.cilk_program.specs.Outcomes.{Conclusion, Leaves, StopsBy}
+use Rattle.cilk_program.specs.Elision.{IsElision}
+use Rattle.cilk_program.specs.SerialRun.{Run, IsSerialRunWithin}
+
+-- a limit of runs, and no fault of the program's own
+abbrev pub IsLimit : Fault → Type 0
+IsLimit DivisionByZero = ⊥
+IsLimit IndexOutside = ⊥
+IsLimit InputOutside = ⊥
+IsLimit TooManyEvents = Unit {0}
+IsLimit TooManyFrames = Unit {0}
+IsLimit TooManyCells = Unit {0}
+
+-- a limit that is the same however many ticks and events a run has
+abbrev pub IsCrowd : Fault → Type 0
+IsCrowd DivisionByZero = ⊥
+IsCrowd IndexOutside = ⊥
+IsCrowd InputOutside = ⊥
+IsCrowd TooManyEvents = ⊥
+IsCrowd TooManyFrames = Unit {0}
+IsCrowd TooManyCells = Unit {0}
+
+-- a limit of runs was met
+abbrev pub IsCutOff : Conclusion → Type 0
+IsCutOff (Leaves o) = ⊥
+IsCutOff (StopsBy f) = IsLimit f
+
+-- too many frames or cells were met
+abbrev pub IsCrowded : Conclusion → Type 0
+IsCrowded (Leaves o) = ⊥
+IsCrowded (StopsBy f) = IsCrowd f
+
+-- within any ticks and events, a program ends as its elision does, with the same result, globals, output and reducers or by the same fault; only the limits of a run are the run's own
+abbrev pub EndsAsElided : Source → List ℤ → Type 0
+EndsAsElided p inputs =
+    IsTrue (is_well_named p) → (ticks room : ℕ) (r : Run) (es : List Event) (c : Conclusion) → IsSerialRunWithin p inputs ticks room r es c → ¬ (IsCutOff c) → IsElision p inputs c
+
+-- the elision ends in one way
+abbrev pub HasOneElision : Source → List ℤ → Type 0
+HasOneElision p inputs = (c c' : Conclusion) → IsElision p inputs c → IsElision p inputs c' → c ≡ c'
+
+-- The elision's end is reached: with ticks and events enough each serial run ends so, unless there are too many frames or cells,
+-- whose limits are the same for all runs.
+abbrev pub IsReached : Source → List ℤ → Type 0
+IsReached p inputs =
+    IsTrue (is_well_named p) → (c : Conclusion) → IsElision p inputs c
+    → (enough : ℕ) × ((ticks room : ℕ) → enough ≤ ticks → enough ≤ room → (r : Run) (es : List Event) (c' : Conclusion) → IsSerialRunWithin p inputs ticks room r es c' → (c' ≡ c) ⊎ IsCrowded c')

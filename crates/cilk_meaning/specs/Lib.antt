@@ -1,0 +1,12 @@
+pub mod Agreement
+pub mod Answered
+pub mod Behaved
+pub mod Closed
+pub mod Created
+pub mod Numbering
+pub mod Order
+pub mod Runs
+pub mod Spelled
+pub mod Worked
+pub mod WorkedFrames
+pub mod WorkedReducers

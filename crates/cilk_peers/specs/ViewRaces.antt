@@ -1,0 +1,60 @@
+-- View-read races, over all pairs of reducer-reads (Lee and Schardl 2015, section 3).
+use Rattle.std.specs.Prelude.{◌≡◌, ℕ, ◌<◌, ◌≤◌, List, Option, Some}
+use Rattle.cilk_types.specs.declared.event.Event.{Event}
+use Rattle.cilk_types.specs.declared.event.Event.TheVariants.{Create, Set, Value}
+use Rattle.cilk_types.specs.declared.event.Instance.{Instance}
+use Rattle.cilk_tree.specs.Tree.{Tree}
+use Rattle.cilk_tree.specs.Races.{strand_at, event_at}
+use Rattle.cilk_peers.specs.Peers.{SamePeers}
+
+-- A reducer-read: an event that makes or shows the view of the instance, its creation, a set or a value. An update only
+-- multiplies a view, and a print is an update of the ordered output.
+abbrev pub ReadsReducer : Option Event → Instance → Type 0
+ReadsReducer (Some (Create j)) i = j ≡ i
+ReadsReducer (Some (Set j v)) i = j ≡ i
+ReadsReducer (Some (Value j v)) i = j ≡ i
+ReadsReducer _ i = ⊥
+
+-- two reducer-reads of one instance, by strands whose peers differ
+pub record IsViewRace (t : Tree) (events : List Event) (p q : ℕ) : Type 0 where
+  pub first : 1 ≤ p
+  pub earlier : p < q
+  pub instance : Instance
+  pub one : ReadsReducer (event_at events p) instance
+  pub other : ReadsReducer (event_at events q) instance
+  pub differ : SamePeers t (strand_at events p) (strand_at events q) → ⊥
+
+-- The least position that an earlier reducer-read of its instance races with, and of those the first reducer-read of the instance.
+-- In a serial run that is the instance's creation.
+pub record IsFirstViewRace (t : Tree) (events : List Event) (p q : ℕ) : Type 0 where
+  pub race : IsViewRace t events p q
+  pub least : (p' q' : ℕ) → IsViewRace t events p' q' → q ≤ q'
+  pub first_read : (k : ℕ) → 1 ≤ k → ReadsReducer (event_at events k) race.instance → p ≤ k
+
+-- no two positions have a view-read race
+abbrev pub HasNoViewRace : Tree → List Event → Type 0
+HasNoViewRace t events = (p q : ℕ) → IsViewRace t events p q → ⊥
+
+-- a set or a value
+abbrev pub UsesReducer : Option Event → Instance → Type 0
+UsesReducer (Some (Set j v)) i = j ≡ i
+UsesReducer (Some (Value j v)) i = j ≡ i
+UsesReducer _ i = ⊥
+
+-- each reducer is created once, ahead of its other reducer-reads, as in a serial run
+pub record AreCreated (events : List Event) : Type 0 where
+  pub ahead : (q : ℕ) (i : Instance) → 1 ≤ q → UsesReducer (event_at events q) i → (p : ℕ) × (1 ≤ p) × (p < q) × (event_at events p ≡ Some (Create i))
+  pub once : (p q : ℕ) (i : Instance) → 1 ≤ p → p < q → event_at events p ≡ Some (Create i) → event_at events q ≡ Some (Create i) → ⊥
+
+-- The second is the least set or value whose strand has other peers than its reducer's creation, the first is that creation.
+pub record IsCreationAndUse (t : Tree) (events : List Event) (p q : ℕ) : Type 0 where
+  pub instance : Instance
+  pub created : event_at events p ≡ Some (Create instance)
+  pub used : UsesReducer (event_at events q) instance
+  pub differ : SamePeers t (strand_at events p) (strand_at events q) → ⊥
+  pub least : (p' q' : ℕ) (i : Instance) → 1 ≤ p' → 1 ≤ q' → event_at events p' ≡ Some (Create i) → UsesReducer (event_at events q') i
+      → (SamePeers t (strand_at events p') (strand_at events q') → ⊥) → q ≤ q'
+
+-- where reducers are created the first view-read race is that pair
+abbrev pub FirstIsCreationAndUse : Type 0
+FirstIsCreationAndUse = (t : Tree) (events : List Event) → AreCreated events → (p q : ℕ) → IsFirstViewRace t events p q → IsCreationAndUse t events p q

@@ -1,0 +1,12 @@
+pub mod Behaviour
+pub mod Elision
+pub mod Inside
+pub mod Operators
+pub mod Outcomes
+pub mod Programs
+pub mod Scopes
+pub mod SerialRun
+pub mod Sources
+pub mod Store
+pub mod Syntax
+pub mod WellNamed

@@ -1,0 +1,117 @@
+-- Resolved programs without where they lie in memory.
+use Rattle.std.specs.Prelude.{ℕ, ◌+◌, nat_lt, ℤ, pos, negsuc, if◌then◌else◌, List, [], ◌∷◌, Option, Some, None, slice_get, unwrap_or}
+use Rattle.cilk_monoid.specs.declared.kind.MonoidKind.{MonoidKind}
+use Rattle.cilk_program.specs.declared.syntax.Operator.{Operator}
+use Rattle.cilk_program.specs.declared.syntax.Compound.{Compound}
+use Rattle.cilk_program.specs.declared.syntax.Place.{Place}
+use Rattle.cilk_program.specs.declared.syntax.Place.TheVariants as places
+use Rattle.cilk_program.specs.declared.syntax.Array.{Array}
+use Rattle.cilk_program.specs.declared.syntax.Reducer.{Reducer}
+use Rattle.cilk_program.specs.declared.syntax.Invocation.{Invocation}
+use Rattle.cilk_program.specs.declared.program.Body.{Body}
+use Rattle.cilk_program.specs.declared.program.Body.TheVariants as bodies
+
+pub data Expression : Type 0 where
+  Number : (value : ℤ) → Expression
+  Variable : (place : Place) → Expression
+  Element : (array : Array) (index : Expression) → Expression
+  Negate : (inner : Expression) → Expression
+  Not : (inner : Expression) → Expression
+  Binary : (operator : Operator) (left : Expression) (right : Expression) → Expression
+  And : (left : Expression) (right : Expression) → Expression
+  Or : (left : Expression) (right : Expression) → Expression
+  Value : (reducer : Reducer) → Expression
+  Input : (place : Expression) → Expression
+  InputCount : Expression
+
+-- what is written to
+pub data Target : Type 0 where
+  ToVariable : (place : Place) → Target
+  ToElement : (array : Array) (index : Expression) → Target
+
+-- a call or spawn of a function, and the variable that takes the result
+pub record Invoke : Type 0 where
+  pub how : Invocation
+  pub function : ℕ
+  pub arguments : List Expression
+  pub reducers : List Reducer
+  pub result : Option Place
+
+-- one variable of a declaration, by its place among the frame's cells
+pub data Declaration : Type 0 where
+  Zero : (number : ℕ) → Declaration
+  Opening : (number : ℕ) (value : Expression) → Declaration
+  Invoking : (invoke : Invoke) → Declaration
+
+mutual
+  pub data Statement : Type 0 where
+    Empty : Statement
+    Block : (row : Statements) → Statement
+    Declare : (declarations : List Declaration) → Statement
+    Assign : (target : Target) (value : Expression) → Statement
+    Change : (target : Target) (operator : Compound) (value : Expression) → Statement
+    Step : (target : Target) (number : ℤ) → Statement
+    Invokes : (invoke : Invoke) → Statement
+    Sync : Statement
+    If : (test : Expression) (first : Statement) → Statement
+    IfElse : (test : Expression) (first : Statement) (second : Statement) → Statement
+    For : (beginning : Statements) (test : Option Expression) (step : Statements) (body : Statement) → Statement
+    ParallelFor : (low : Expression) (high : Expression) (loop : ℕ) → Statement
+    Print : (value : Expression) → Statement
+    Update : (reducer : Reducer) (value : Expression) → Statement
+    Set : (reducer : Reducer) (value : Expression) → Statement
+    Return : (value : Option Expression) → Statement
+
+  pub data Statements : Type 0 where
+    Nothing : Statements
+    Then : (first : Statement) (row : Statements) → Statements
+
+-- a function: how many of its parameters are words, the monoids of those that are reducers, the cells of its frame (its words first), the monoids of
+-- the reducers that its frame creates, and its body
+pub record Function : Type 0 where
+  pub words : ℕ
+  pub given : List MonoidKind
+  pub cells : ℕ
+  pub reducers : List MonoidKind
+  pub body : Statements
+
+-- a parallel loop: what it stands in, the cells of the frame of a turn (the loop's variable first), and its body
+pub record Loop : Type 0 where
+  pub within : Body
+  pub cells : ℕ
+  pub body : Statements
+
+-- what a program means depends on this alone
+pub record Source : Type 0 where
+  pub openings : List ℤ
+  pub reducers : List MonoidKind
+  pub functions : List Function
+  pub loops : List Loop
+  pub main : ℕ
+
+-- a function that does nothing
+abbrev pub idle : Function
+idle = record { words = 0; given = []; cells = 0; reducers = []; body = Nothing }
+
+abbrev pub function_at : Source → ℕ → Function
+function_at p k = unwrap_or (slice_get p.functions k) idle
+
+abbrev pub main_of : Source → Function
+main_of p = function_at p p.main
+
+-- a loop that does nothing
+abbrev pub idle_loop : Loop
+idle_loop = record { within = bodies.Function 0; cells = 0; body = Nothing }
+
+abbrev pub loop_at : Source → ℕ → Loop
+loop_at p n = unwrap_or (slice_get p.loops n) idle_loop
+
+-- the element of an array at an index; none outside
+abbrev pub element : Array → ℤ → Option Place
+element a (pos n) = if nat_lt n a.length then Some (places.Global (a.first + n)) else None
+element a (negsuc n) = None
+
+-- where a target lies, once its index is known; none outside its array
+abbrev pub place_of : Target → ℤ → Option Place
+place_of (ToVariable x) i = Some x
+place_of (ToElement a e) i = element a i

@@ -1,0 +1,73 @@
+-- Before as reachability: each event has its immediate predecessors, and an event is before what it reaches by them.
+use Rattle.std.specs.Prelude.{◌≡◌, ℕ, suc, ◌+◌, ◌-◌, ◌↔◌, List, [], ◌∷◌, ◌++◌, length, Some, slice_get, slice_index_or}
+use Rattle.cilk_types.specs.declared.event.Event.{Event}
+use Rattle.cilk_tree.specs.Shape.{Kind, called, spawned, Shape, finish, act, sync, child, marks, Spells}
+use Rattle.cilk_tree.specs.Tree.{tree}
+use Rattle.cilk_tree.specs.Before.{IsPosition, IsBefore}
+
+-- what comes right before the `resume` after a child: the child's `end` after a call, and the spawn after a spawn
+abbrev pub resumed_from : Kind → ℕ → ℕ → List ℕ
+resumed_from called start end = end ∷ []
+resumed_from spawned start end = start ∷ []
+
+-- the ends that the block's `sync` awaits, once such a child has ended
+abbrev pub awaited : Kind → ℕ → List ℕ → List ℕ
+awaited called end ends = ends
+awaited spawned end ends = end ∷ ends
+
+-- The immediate predecessors of a shape's events, from position p on: those of its first event are `ahead`, and `ends` are the
+-- `end`s of the children that were spawned in the block so far. A `sync` has the event ahead of it and those ends, the `resume` after
+-- a spawn has the spawn, and every other event has the one ahead of it.
+abbrev pub predecessors_from : Shape → ℕ → List ℕ → List ℕ → List (List ℕ)
+predecessors_from finish p ahead ends = ahead ∷ []
+predecessors_from (act r) p ahead ends = ahead ∷ predecessors_from r (suc p) (p ∷ []) ends
+predecessors_from (sync r) p ahead ends = (ahead ++ ends) ∷ predecessors_from r (suc p) (p ∷ []) []
+predecessors_from (child k u r) p ahead ends =
+    let end = suc p + length (marks u) in
+    ahead ∷ (p ∷ []) ∷ predecessors_from u (suc (suc p)) (suc p ∷ []) []
+    ++ (resumed_from k p end ∷ predecessors_from r (suc (suc end)) (suc end ∷ []) (awaited k end ends))
+
+-- of each event of a run, whose first one has none
+abbrev pub predecessors : Shape → List (List ℕ)
+predecessors s = [] ∷ predecessors_from s 2 (1 ∷ []) []
+
+-- of the event at a position, counted from 1
+abbrev pub preceding : Shape → ℕ → List ℕ
+preceding s p = slice_index_or (predecessors s) (p - 1) []
+
+pub record Among (q : ℕ) (ps : List ℕ) : Type 0 where
+  pub place : ℕ
+  pub is : slice_get ps place ≡ Some q
+
+-- q comes right before p, or before an event that does
+pub data Reaches (preceding : ℕ → List ℕ) : ℕ → ℕ → Type 0 where
+  direct : {q p : ℕ} → Among q (preceding p) → Reaches preceding q p
+  through : {q e p : ℕ} → Reaches preceding q e → Among e (preceding p) → Reaches preceding q p
+
+-- the frame has a sync ahead
+abbrev pub HasSync : Shape → Type 0
+HasSync finish = ⊥
+HasSync (act r) = HasSync r
+HasSync (sync r) = Unit {0}
+HasSync (child k u r) = HasSync r
+
+abbrev pub HasSyncIf : Kind → Shape → Type 0
+HasSyncIf called r = Unit {0}
+HasSyncIf spawned r = HasSync r
+
+-- each frame syncs after it spawned, as a frame does before it ends
+abbrev pub IsSynced : Shape → Type 0
+IsSynced finish = Unit {0}
+IsSynced (act r) = IsSynced r
+IsSynced (sync r) = IsSynced r
+IsSynced (child k u r) = HasSyncIf k r × IsSynced u × IsSynced r
+
+-- An event that reaches another is before it.
+abbrev pub ReachesOnlyLater : Type 0
+ReachesOnlyLater = (s : Shape) (events : List Event) → Spells s events → (p q : ℕ) → IsPosition events p → IsPosition events q
+    → Reaches (preceding s) p q → IsBefore (tree s) events p q
+
+-- Where each frame syncs after it spawned, before is reachability.
+abbrev pub IsReachability : Type 0
+IsReachability = (s : Shape) (events : List Event) → Spells s events → IsSynced s → (p q : ℕ) → IsPosition events p → IsPosition events q
+    → IsBefore (tree s) events p q ↔ Reaches (preceding s) p q
