@@ -1,5 +1,7 @@
 pub mod Asking
+pub mod Calling
 pub mod Effort
 pub mod Following
-pub mod Printing
+pub mod Given
+pub mod Middle
 pub mod Straight

@@ -1,13 +1,14 @@
 -- A cursor that follows a behaviour.
-use Rattle.std.specs.Prelude.{◌≡◌, ℕ, ◌+◌, ◌-◌, ◌≤◌, ℤ, pos, List, [], ◌∷◌, ◌++◌}
-use Rattle.cilk_names.specs.declared.ask.Ask.{Ask}
-use Rattle.cilk_names.specs.declared.ask.Ask.TheVariants as asks
-use Rattle.cilk_names.specs.Syntax.{Statements}
-use Rattle.cilk_names.specs.Behaviour.{Behaviour, asks_for, frame_asks}
-use Rattle.cilk_lower.specs.declared.code.Instr.{Instr}
+use Rattle.std.specs.Prelude.{◌≡◌, ℕ, ◌+◌, ◌-◌, ◌≤◌, ℤ, pos, List, [], ◌∷◌, ◌++◌, Option, Some, None}
+use Rattle.cilk_program.specs.declared.ask.Ask.{Ask}
+use Rattle.cilk_program.specs.declared.ask.Ask.TheVariants as asks
+use Rattle.cilk_program.specs.declared.ask.Callee.{Callee}
+use Rattle.cilk_program.specs.Syntax.{Source}
+use Rattle.cilk_program.specs.Behaviour.{Behaviour, asks_for, frame_asks}
 use Rattle.cilk_lower.specs.declared.code.Owed.{Owed}
 use Rattle.cilk_lower.specs.declared.code.Owed.TheVariants.{Nothing, Word}
-use Rattle.cilk_lower.specs.Machine.{Run, Reaches, exec, received}
+use Rattle.cilk_lower.specs.Code.{CodeView}
+use Rattle.cilk_lower.specs.Machine.{Setting, Run, Reaches, exec, received}
 use Rattle.cilk_frames.specs.declared.cursor.Answer.{Answer}
 use Rattle.cilk_frames.specs.declared.cursor.Answer.TheVariants.{Done, Value}
 use Rattle.cilk_frames.specs.Cursor.{CursorView}
@@ -24,8 +25,15 @@ abbrev pub owed_for : Ask → Owed
 owed_for asks.Begin = Nothing
 owed_for (asks.Read x) = Word
 owed_for (asks.Write x v) = Nothing
+owed_for (asks.Create r) = Nothing
+owed_for (asks.Update r v) = Nothing
+owed_for (asks.Set r v) = Nothing
+owed_for (asks.Value r) = Word
 owed_for (asks.Print v) = Nothing
+owed_for (asks.Invoke how callee) = Nothing
+owed_for asks.Resume = Nothing
 owed_for asks.Sync = Nothing
+owed_for (asks.Result v) = Nothing
 owed_for (asks.End v) = Nothing
 owed_for (asks.Fault f) = Nothing
 
@@ -39,21 +47,52 @@ abbrev pub HasAnswer : Ask → Type 0
 HasAnswer asks.Begin = Unit {0}
 HasAnswer (asks.Read x) = Unit {0}
 HasAnswer (asks.Write x v) = Unit {0}
+HasAnswer (asks.Create r) = Unit {0}
+HasAnswer (asks.Update r v) = Unit {0}
+HasAnswer (asks.Set r v) = Unit {0}
+HasAnswer (asks.Value r) = Unit {0}
 HasAnswer (asks.Print v) = Unit {0}
+HasAnswer (asks.Invoke how callee) = Unit {0}
+HasAnswer asks.Resume = Unit {0}
 HasAnswer asks.Sync = Unit {0}
+HasAnswer (asks.Result v) = Unit {0}
 HasAnswer (asks.End v) = ⊥
 HasAnswer (asks.Fault f) = ⊥
 
+-- what the frame runs that an ask begins
+abbrev pub child_of : Ask → Option Callee
+child_of asks.Begin = None
+child_of (asks.Read x) = None
+child_of (asks.Write x v) = None
+child_of (asks.Create r) = None
+child_of (asks.Update r v) = None
+child_of (asks.Set r v) = None
+child_of (asks.Value r) = None
+child_of (asks.Print v) = None
+child_of (asks.Invoke how callee) = Some callee
+child_of asks.Resume = None
+child_of asks.Sync = None
+child_of (asks.Result v) = None
+child_of (asks.End v) = None
+child_of (asks.Fault f) = None
+
+-- what stays the same while the frame runs
+abbrev pub setting_of : List ℤ → CodeView → Callee → ℕ → Setting
+setting_of inputs code callee room = record { inputs = inputs; code = code; callee = callee; room = room }
+
+abbrev pub setting_at : List ℤ → CodeView → CursorView → Setting
+setting_at inputs code c = setting_of inputs code c.callee c.room
+
 -- the machine from where the cursor stands, once the answer came
-abbrev pub resumes : List Instr → List ℤ → CursorView → ℕ → ℤ → List ℤ → ℕ → Run
-resumes code inputs c n a answers left = received c.room c.owed a c.stack (λ stack. exec inputs c.room code n c.place stack answers left)
+abbrev pub resumes : CodeView → List ℤ → CursorView → ℕ → ℤ → List ℤ → ℕ → Run
+resumes code inputs c n a answers left = received c.room c.owed a c.stack (λ stack. exec (setting_at inputs code c) n c.place stack c.held answers left)
 
 -- whatever the answers and the ticks, the machine asks what the behaviour says
-pub record Follows (code : List Instr) (inputs : List ℤ) (c : CursorView) (b : Behaviour) : Type 0 where
+pub record Follows (code : CodeView) (inputs : List ℤ) (c : CursorView) (b : Behaviour) : Type 0 where
   pub by : (a : ℤ) (answers : List ℤ) (left : ℕ) → (n : ℕ) × (resumes code inputs c n a answers left ≡ Reaches (b (a ∷ answers) left))
 
 -- the cursor follows some behaviour
-abbrev pub Runs : List Instr → List ℤ → CursorView → Type 0
+abbrev pub Runs : CodeView → List ℤ → CursorView → Type 0
 Runs code inputs c = (b : Behaviour) × Follows code inputs c b
 
 -- what is left of a behaviour after an answer and so many ticks
@@ -61,26 +100,26 @@ abbrev pub rest : Behaviour → ℤ → ℕ → Behaviour
 rest b a took answers left = b (a ∷ answers) (left + took)
 
 -- the next ask is the behaviour's, and the cursor follows what is left of it
-pub record Steps (code : List Instr) (inputs : List ℤ) (c : CursorView) (answer : Answer) (left : ℕ) (k : Ask) (c' : CursorView) (left' : ℕ) : Type 0 where
+pub record Steps (code : CodeView) (inputs : List ℤ) (c : CursorView) (answer : Answer) (left : ℕ) (k : Ask) (c' : CursorView) (left' : ℕ) : Type 0 where
   pub less : left' ≤ left
   pub asks : (b : Behaviour) → Follows code inputs c b → b (word_in answer ∷ []) left ≡ asks_for k left'
   pub follows : (b : Behaviour) → Follows code inputs c b → HasAnswer k → Follows code inputs c' (rest b (word_in answer) (left - left'))
   pub owes : HasAnswer k → c'.owed ≡ owed_for k
 
--- a frame of this body stands at the cursor: it had these answers, and it took so many ticks
-abbrev pub Stands : List Instr → List ℤ → Statements → CursorView → List ℤ → ℕ → Type 0
-Stands code inputs row c history took = Follows code inputs c (λ answers left. frame_asks inputs row (history ++ answers) (took + left))
+-- a frame of this callee stands at the cursor: it had these answers, and it took so many ticks
+abbrev pub Stands : CodeView → List ℤ → Source → Callee → CursorView → List ℤ → ℕ → Type 0
+Stands code inputs p callee c history took = Follows code inputs c (λ answers left. frame_asks p inputs callee (history ++ answers) (took + left))
 
 -- the frame's next ask after its history, and where it then stands
-pub record GoesOn (code : List Instr) (inputs : List ℤ) (c : CursorView) (answer : Answer) (left : ℕ) (k : Ask) (c' : CursorView) (left' : ℕ) (row : Statements) (history : List ℤ) (took : ℕ) : Type 0 where
+pub record GoesOn (code : CodeView) (inputs : List ℤ) (c : CursorView) (answer : Answer) (left : ℕ) (k : Ask) (c' : CursorView) (left' : ℕ) (p : Source) (callee : Callee) (history : List ℤ) (took : ℕ) : Type 0 where
   pub less : left' ≤ left
-  pub asks : frame_asks inputs row (history ++ word_in answer ∷ []) (took + left) ≡ asks_for k left'
-  pub stands : HasAnswer k → Stands code inputs row c' (history ++ word_in answer ∷ []) (took + (left - left'))
+  pub asks : frame_asks p inputs callee (history ++ word_in answer ∷ []) (took + left) ≡ asks_for k left'
+  pub stands : HasAnswer k → Stands code inputs p callee c' (history ++ word_in answer ∷ []) (took + (left - left'))
   pub owes : HasAnswer k → c'.owed ≡ owed_for k
 
--- a frame of this body that has asked: what a caller keeps of it between two steps. It had these answers, it took so many
+-- a frame of this callee that has asked: what a caller keeps of it between two steps. It had these answers, it took so many
 -- ticks, and so many were left to all frames as it asked
-pub record Asking (code : List Instr) (inputs : List ℤ) (row : Statements) (c : CursorView) (history : List ℤ) (took : ℕ) (k : Ask) (left : ℕ) : Type 0 where
-  pub asks : frame_asks inputs row history (took + left) ≡ asks_for k left
-  pub stands : HasAnswer k → Stands code inputs row c history took
+pub record Asking (code : CodeView) (inputs : List ℤ) (p : Source) (callee : Callee) (c : CursorView) (history : List ℤ) (took : ℕ) (k : Ask) (left : ℕ) : Type 0 where
+  pub asks : frame_asks p inputs callee history (took + left) ≡ asks_for k left
+  pub stands : HasAnswer k → Stands code inputs p callee c history took
   pub owes : HasAnswer k → c.owed ≡ owed_for k

@@ -1,30 +1,58 @@
 -- What the code does for one instruction.
-use Rattle.std.specs.Prelude.{◌≡◌, ℕ, suc, ◌+◌, ◌-◌, ◌*◌, ◌<◌, Bool, true, false, if◌then◌else◌, ℤ, List, ◌∷◌, length, slice_get}
+use Rattle.std.specs.Prelude.{◌≡◌, ℕ, suc, ◌+◌, ◌-◌, ◌*◌, ◌<◌, Bool, true, false, if◌then◌else◌, ℤ, List, [], ◌∷◌, length, slice_get}
+use Rattle.cilk_program.specs.declared.ask.Ask.{Ask}
+use Rattle.cilk_program.specs.declared.ask.Ask.TheVariants as asks
+use Rattle.cilk_program.specs.declared.ask.Callee.TheVariants as callees
 use Rattle.cilk_lower.specs.declared.code.Instr.{Instr}
 use Rattle.cilk_lower.specs.declared.code.Owed.{Owed}
 use Rattle.cilk_lower.specs.declared.code.Owed.TheVariants.{Nothing, Word}
-use Rattle.cilk_lower.specs.Code.{ticks}
-use Rattle.cilk_lower.specs.Machine.{Move, Goes, Waits, Stops, move}
+use Rattle.cilk_lower.specs.Code.{CodeView, ticks}
+use Rattle.cilk_lower.specs.Machine.{Move, Goes, Waits, Stops, move, on_some, on_words, on_none, invoked}
+use Rattle.cilk_frames.specs.declared.brief.Brief.{Brief}
+use Rattle.cilk_frames.specs.declared.brief.Brief.TheVariants as brief
 use Rattle.cilk_frames.specs.declared.cursor.Answer.{Answer}
 use Rattle.cilk_frames.specs.declared.cursor.Answer.TheVariants.{Done, Value}
 use Rattle.cilk_frames.specs.declared.stepping.Moved.{Moved}
 use Rattle.cilk_frames.specs.declared.stepping.Moved.TheVariants as did
 use Rattle.cilk_frames.specs.Cursor.{CursorView}
+use Rattle.cilk_frames.specs.Following.{setting_at}
+
+-- an ask in full
+abbrev pub in_full : Brief → Ask
+in_full (brief.Read x) = asks.Read x
+in_full (brief.Write x v) = asks.Write x v
+in_full (brief.Create r) = asks.Create r
+in_full (brief.Update r v) = asks.Update r v
+in_full (brief.Set r v) = asks.Set r v
+in_full (brief.Value r) = asks.Value r
+in_full (brief.Print v) = asks.Print v
+in_full (brief.Turns how l) = asks.Invoke how (callees.Loop l)
+in_full brief.Resume = asks.Resume
+in_full brief.Sync = asks.Sync
+in_full (brief.Result v) = asks.Result v
+in_full (brief.End v) = asks.End v
+in_full (brief.Fault f) = asks.Fault f
 
 -- the machine's move at the cursor
-abbrev pub move_at : List Instr → List ℤ → CursorView → ℕ → Move
-move_at code inputs c left = move inputs c.room (slice_get code c.place) c.place c.stack left
+abbrev pub move_at : CodeView → List ℤ → CursorView → ℕ → Move
+move_at code inputs c left = move (setting_at inputs code c) (slice_get code.instrs c.place) c.place c.stack c.held left
+
+-- the invocation at a call site, whose words still stand on the stack
+abbrev pub invoking : CodeView → ℕ → CursorView → ℕ → Move
+invoking code number c left = on_some (slice_get code.sites number) (λ s. on_words s.words [] c.stack (λ words rest. on_none rest (Waits (invoked s words) c.owed c.place [] c.held left)))
 
 -- what the code says of one instruction
-abbrev pub moved : Moved → CursorView → ℕ → Move
-moved did.Goes c left = Goes c.place c.stack left
-moved (did.Waits k) c left = Waits k c.owed c.place c.stack left
-moved (did.Stops k) c left = Stops k left
+abbrev pub moved : CodeView → Moved → CursorView → ℕ → Move
+moved code did.Goes c left = Goes c.place c.stack c.held left
+moved code (did.Waits k) c left = Waits (in_full k) c.owed c.place c.stack c.held left
+moved code (did.Stops k) c left = Stops (in_full k) left
+moved code (did.Invokes number) c left = invoking code number c left
 
 abbrev pub IsGoing : Moved → Type 0
 IsGoing did.Goes = Unit {0}
 IsGoing (did.Waits k) = ⊥
 IsGoing (did.Stops k) = ⊥
+IsGoing (did.Invokes number) = ⊥
 
 abbrev pub TakesTick : ℕ → Bool → ℕ → Type 0
 TakesTick left true left' = left ≡ suc left'

@@ -1,32 +1,39 @@
 //! Where a frame stands in its code.
 
-ghost use Rattle.std.specs.Prelude.{◌≡◌, ◌≢◌, ◌+◌, ◌-◌, ◌<◌, ◌^◌, ◌∷◌, length, ℤ, List, [], IfOk};
-ghost use Rattle.cilk_names.specs.Syntax.{Statements};
-ghost use Rattle.cilk_names.specs.declared.ask.Ask.TheVariants.{Begin};
+ghost use Rattle.std.specs.Prelude.{◌≡◌, ◌≢◌, ◌+◌, ◌-◌, ◌<◌, ◌≤◌, ◌^◌, ◌∷◌, length, slice_get, ℤ, List, [], IfOk, IfSome, IsSome};
+ghost use Rattle.cilk_program.specs.Syntax.{Source};
+ghost use Rattle.cilk_program.specs.Inside.{CalleeIsFit};
+ghost use Rattle.cilk_program.specs.declared.ask.Ask.TheVariants.{Begin};
 ghost use Rattle.cilk_lower.specs.Behaves.{Behaves};
-ghost use Rattle.cilk_frames.specs.Following.{Fits, Stands, owed_for};
+ghost use Rattle.cilk_lower.specs.Machine.{Move, on_words, part_of, takes_result, words_of};
+ghost use Rattle.cilk_frames.specs.Cursor.{first_of};
+ghost use Rattle.cilk_frames.specs.Following.{Fits, Stands, child_of, owed_for};
 ghost use Rattle.cilk_frames.specs.Moving.{HasRoom, told};
 
 use crate::operands::Operands;
 use cilk_lower::code::{Code, Owed};
+use cilk_program::ask::{Ask, Callee, LoopPart};
+use cilk_program::given::Words;
 use std::alloc::{AllocError, Global};
 use std::marker::Model;
 
 /// The answer to what a frame asked for.
 #[derive(Clone, Copy, Debug)]
 pub enum Answer {
-    /// The event was made. This is the answer to each ask but a read.
+    /// The event was made. This is the answer to each ask but `Read` and `Value`.
     Done,
-    /// The value that was read.
+    /// The value that was read, or the number of a view.
     Value(i64),
 }
 
-/// Where a frame stands: the next instruction, the operands, and what it is owed.
+/// Where a frame stands: what it runs, the next instruction, the operands, what it is owed, and the result that it holds.
 #[derive(Drop)]
 pub struct Cursor {
+    callee: Callee,
     place: usize,
     owed: Owed,
     operands: Operands,
+    held: i64,
 }
 
 impl Model for Cursor {
@@ -34,19 +41,44 @@ impl Model for Cursor {
 
     ghost Value = { CursorView };
 
-    ghost view = { λ c. record { place = c.place; owed = c.owed; stack = c.operands.stack; room = c.operands.room } };
+    ghost view = { λ c. record { callee = c.callee; place = c.place; owed = c.owed; stack = c.operands.stack; room = c.operands.room; held = c.held } };
 }
 
 impl Cursor {
-    /// A frame of the code's body before it begins. It takes the memory that the frame's operands need.
+    /// The root's frame before it begins. It takes the memory that the frame's operands need.
+    #[tactic(auto, using(crate::proofs::Following::root_stands))]
     pub fn root(alloc: Global, code: &Code) -> Result<Cursor, AllocError>
-        ensures stands { IfOk result (λ c. (inputs : List ℤ) (row : Statements) → Behaves row code.now → Stands code.now.instrs inputs row c [] 0) }
+        ensures stands { IfOk result (λ c. (p : Source) (inputs : List ℤ) → Behaves p code.now → Stands code.now inputs p Callee.Root c [] 0) }
         ensures owes { IfOk result (λ c. c.owed ≡ owed_for Begin) }
     {
+        Cursor::first(alloc, code, Callee::Root)
+    }
+
+    /// The frame that an invocation asks for, before it begins. It takes the memory that the frame's operands need.
+    #[tactic(auto, using(crate::proofs::Following::stands_first))]
+    pub fn new(alloc: Global, code: &Code, ask: &Ask) -> Result<Cursor, AllocError>
+        requires { IsSome (child_of ask.now) }
+        ensures stands { IfOk result (λ c. IfSome (child_of ask.now) (λ callee. (p : Source) (inputs : List ℤ) → Behaves p code.now → CalleeIsFit p callee → Stands code.now inputs p callee c [] 0)) }
+        ensures owes { IfOk result (λ c. c.owed ≡ owed_for Begin) }
+    {
+        match ask {
+            Ask::Invoke(_, callee) => Cursor::first(alloc, code, callee.copied()),
+            _ => unreachable!(),
+        }
+    }
+
+    // A frame before it begins.
+    fn first(alloc: Global, code: &Code, callee: Callee) -> Result<Cursor, AllocError>
+        ensures { IfOk result (λ c. c ≡ first_of code.now callee) }
+    {
+        let entry = code.entry(&callee);
+        let operands = Operands::new(alloc, entry.room)?;
         Ok(Cursor {
-            place: 0,
+            callee,
+            place: entry.place,
             owed: Owed::Nothing,
-            operands: Operands::new(alloc, code.room())?,
+            operands,
+            held: 0,
         })
     }
 
@@ -55,6 +87,43 @@ impl Cursor {
         ensures { result ≡ self.now.place }
     {
         self.place
+    }
+
+    // The result that is held.
+    pub(crate) fn held(&self) -> i64
+        ensures { result ≡ self.now.held }
+    {
+        self.held
+    }
+
+    // A word that the frame was given.
+    pub(crate) fn given(&self, number: usize) -> Option<i64>
+        ensures { result ≡ slice_get (words_of self.now.callee) number }
+    {
+        match &self.callee {
+            Callee::Function(call) => call.words.as_slice().get(number).copied(),
+            _ => None,
+        }
+    }
+
+    // The turns of a loop that the frame runs.
+    pub(crate) fn part(&self) -> Option<LoopPart>
+        ensures { result ≡ part_of self.now.callee }
+    {
+        match &self.callee {
+            Callee::Loop(part) => Some(*part),
+            _ => None,
+        }
+    }
+
+    // Whether the caller takes the frame's result.
+    pub(crate) fn gives_result(&self) -> bool
+        ensures { result ≡ takes_result self.now.callee }
+    {
+        match &self.callee {
+            Callee::Function(call) => call.result.is_some(),
+            _ => false,
+        }
     }
 
     // The answer comes.
@@ -83,12 +152,42 @@ impl Cursor {
         ensures stack { self.old.stack ≡ result ∷ self.new.stack }
         ensures place { self.new.place ≡ self.old.place }
         ensures room { self.new.room ≡ self.old.room }
+        ensures callee { self.new.callee ≡ self.old.callee }
+        ensures held { self.new.held ≡ self.old.held }
         ensures bound { length self.new.stack < self.new.room }
     {
         let Some(word) = self.operands.pop() else {
             unreachable!()
         };
         word
+    }
+
+    // So many words leave, the uppermost as the last.
+    pub(crate) fn gather(&mut self, count: usize) -> Words
+        requires few { count ≤ 16 }
+        requires there { count ≤ length self.old.stack }
+        ensures words { (go : List ℤ → List ℤ → Move) → on_words count [] self.old.stack go ≡ go result self.new.stack }
+        ensures place { self.new.place ≡ self.old.place }
+        ensures owed { self.new.owed ≡ self.old.owed }
+        ensures room { self.new.room ≡ self.old.room }
+        ensures callee { self.new.callee ≡ self.old.callee }
+        ensures held { self.new.held ≡ self.old.held }
+    {
+        self.operands.gather(count)
+    }
+
+    // No operand waits where one would leave the machine stuck.
+    #[tactic(auto, using(crate::proofs::Given::none_there))]
+    pub(crate) fn no_operand_waits(&self)
+        requires { (x : ℤ) (rest : List ℤ) → self.now.stack ≢ (x ∷ rest) }
+        ensures { self.now.stack ≡ [] }
+    {}
+
+    // A result is held.
+    pub(crate) fn hold(&mut self, word: i64)
+        ensures { self.new ≡ record self.old { held = word } }
+    {
+        self.held = word;
     }
 
     // On behind so many instructions.
@@ -105,6 +204,14 @@ impl Cursor {
         ensures { self.new ≡ record self.old { place = self.old.place + 1 } }
     {
         self.place += 1;
+    }
+
+    // On behind the next instruction.
+    pub(crate) fn pass_next(&mut self)
+        requires { self.old.place + 2 < 2 ^ 64 }
+        ensures { self.new ≡ record self.old { place = self.old.place + 2 } }
+    {
+        self.place += 2;
     }
 
     // Back by so many instructions.

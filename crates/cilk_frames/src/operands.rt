@@ -1,7 +1,9 @@
 //! A stack of words with room for so many, which takes no memory.
 
-ghost use Rattle.std.specs.Prelude.{◌≡◌, ◌<◌, ◌∷◌, [], length, IfOk, IfSome, MatchOption};
+ghost use Rattle.std.specs.Prelude.{◌≡◌, ◌<◌, ◌≤◌, ◌∷◌, [], length, List, ℤ, IfOk, IfSome, MatchOption};
+ghost use Rattle.cilk_lower.specs.Machine.{Move, on_words};
 
+use cilk_program::given::Words;
 use std::alloc::{AllocError, Global};
 use std::marker::Model;
 
@@ -52,5 +54,25 @@ impl Operands {
         ensures room { self.new.room ≡ self.old.room }
     {
         self.items.pop()
+    }
+
+    /// So many words leave, the uppermost as the last.
+    #[tactic(auto, using(crate::proofs::Given::words_more))]
+    pub fn gather(&mut self, count: usize) -> Words
+        requires few { count ≤ 16 }
+        requires there { count ≤ length self.old.stack }
+        ensures words { (go : List ℤ → List ℤ → Move) → on_words count [] self.old.stack go ≡ go result self.new.stack }
+        ensures room { self.new.room ≡ self.old.room }
+    {
+        let mut words = Words::new();
+        let mut more = count;
+        'each: while more > 0 {
+            let Some(word) = self.pop() else {
+                unreachable!()
+            };
+            words.put(word);
+            more -= 1;
+        }
+        words
     }
 }

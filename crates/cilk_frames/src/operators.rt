@@ -1,9 +1,10 @@
 //! What operators give on words.
 
-ghost use Rattle.std.specs.Prelude.{◌≡◌};
-ghost use Rattle.cilk_names.specs.Words.{apply, is_zero, truth, truth_of};
+ghost use Rattle.std.specs.Prelude.{◌≡◌, ◌+◌, ◌^◌, ◌≤◌};
+ghost use Rattle.cilk_program.specs.Operators.{apply, change, is_zero, truth, truth_of};
+ghost use Rattle.cilk_program.specs.Syntax.{element};
 
-use cilk_names::syntax::Operator;
+use cilk_program::syntax::{Array, Compound, Operator, Place};
 use cilk_types::word;
 
 /// The operator's value, or none for a division by 0.
@@ -22,6 +23,17 @@ pub fn apply(operator: Operator, x: i64, y: i64) -> Option<i64>
         Operator::GreaterEqual => Some(truth_of(x >= y)),
         Operator::Equal => Some(truth_of(x == y)),
         Operator::NotEqual => Some(truth_of(x != y)),
+    }
+}
+
+/// What `+=`, `-=` and `*=` give.
+pub fn change(operator: Compound, x: i64, y: i64) -> i64
+    ensures { result ≡ change operator x y }
+{
+    match operator {
+        Compound::Add => word::add(x, y),
+        Compound::Subtract => word::sub(x, y),
+        Compound::Multiply => word::mul(x, y),
     }
 }
 
@@ -44,4 +56,21 @@ pub fn negation(word: i64) -> i64
     ensures { result ≡ truth_of (is_zero word) }
 {
     if word == 0 { 1 } else { 0 }
+}
+
+/// The element of an array at an index, if there is one.
+pub fn element(array: Array, index: i64) -> Option<Place>
+    requires { array.first + array.length ≤ 2 ^ 32 }
+    ensures { result ≡ element array index }
+{
+    match u32::try_from(index) {
+        Ok(number) => {
+            if number < array.length {
+                Some(Place::Global(array.first + number))
+            } else {
+                None
+            }
+        }
+        Err(_) => None,
+    }
 }

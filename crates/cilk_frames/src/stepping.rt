@@ -1,18 +1,23 @@
 //! From one ask of a frame to the next.
 
-ghost use Rattle.std.specs.Prelude.{◌≡◌, ◌≢◌, ◌+◌, ◌<◌, ◌^◌, ◌∷◌, length, suc, ℕ, ℤ, List};
-ghost use Rattle.cilk_names.specs.Syntax.{Statements};
-ghost use Rattle.cilk_names.specs.declared.ask.Ask.TheVariants.{Read};
+ghost use Rattle.std.specs.Prelude.{◌≡◌, ◌≢◌, ◌+◌, ◌<◌, ◌≤◌, ◌^◌, ◌∷◌, [], length, suc, ℕ, ℤ, List};
+ghost use Rattle.cilk_program.specs.Syntax.{Source, element};
+ghost use Rattle.cilk_program.specs.declared.ask.Ask.TheVariants.{Read};
+ghost use Rattle.cilk_program.specs.declared.ask.Callee.{Callee};
+ghost use Rattle.cilk_lower.specs.Code.{CodeView};
 ghost use Rattle.cilk_lower.specs.declared.code.Owed.TheVariants.{Word};
-ghost use Rattle.cilk_lower.specs.Machine.{Goes, Waits, Stuck, ticked, or_stops};
+ghost use Rattle.cilk_lower.specs.Machine.{Goes, Waits, Stuck, on_top, or_stops, ticked};
+ghost use Rattle.cilk_types.specs.declared.fault.Fault.TheVariants.{IndexOutside};
 ghost use Rattle.cilk_frames.specs.Following.{Fits, GoesOn, Runs, Stands, Steps};
-ghost use Rattle.cilk_frames.specs.Moving.{IsGoing, TakesTick, effort, move_at, moved};
+ghost use Rattle.cilk_frames.specs.Moving.{IsGoing, TakesTick, effort, in_full, invoking, move_at, moved};
 
+use crate::brief::Brief;
 use crate::cursor::{Answer, Cursor};
-use crate::operators::{apply, negation, truth};
+use crate::halves::{first_half, has_one, second_half};
+use crate::operators::{apply, change, element, negation, truth};
 use cilk_lower::code::{Code, Instr, Owed};
-use cilk_names::ask::Ask;
-use cilk_names::syntax::Place;
+use cilk_program::ask::{Ask, Callee, FunctionCall, LoopPart};
+use cilk_program::syntax::{Array, Invocation, Place};
 use cilk_types::fault::Fault;
 use cilk_types::input::Input;
 use cilk_types::word;
@@ -20,28 +25,31 @@ use cilk_types::word;
 #[cfg(test)]
 mod tests;
 
-// What an instruction did: it went on, it asks and waits for the answer, or it asks for the last time.
-#[derive(Drop)]
+// What an instruction did: it went on, it asks and waits for the answer, it asks for the last time, or it invokes the
+// function of a call site, whose words still stand on the stack.
+#[derive(Clone, Copy)]
 enum Moved {
     Goes,
-    Waits(Ask),
-    Stops(Ask),
+    Waits(Brief),
+    Stops(Brief),
+    Invokes(usize),
 }
 
 /// Goes on from the answer to the next thing that the frame asks for. `left` is the ticks that the run has left: the
 /// step takes those that the frame's statements and expressions take meanwhile. It takes no memory and always ends.
 pub fn step(code: &Code, input: &Input, cursor: &mut Cursor, answer: Answer, left: &mut u32) -> Ask
-    requires runs { Runs code.now.instrs input.now cursor.old }
+    requires runs { Runs code.now input.now cursor.old }
     requires fits { Fits cursor.old.owed answer }
-    ensures follows { Steps code.now.instrs input.now cursor.old answer left.old result cursor.new left.new }
-    ensures stands { (row : Statements) (history : List ℤ) (took : ℕ) → Stands code.now.instrs input.now row cursor.old history took → GoesOn code.now.instrs input.now cursor.old answer left.old result cursor.new left.new row history took }
+    ensures follows { Steps code.now input.now cursor.old answer left.old result cursor.new left.new }
+    ensures stands { (p : Source) (callee : Callee) (history : List ℤ) (took : ℕ) → Stands code.now input.now p callee cursor.old history took → GoesOn code.now input.now cursor.old answer left.old result cursor.new left.new p callee history took }
 {
     cursor.receive(answer);
     'each: loop {
         match advance(code, input, cursor, left) {
             Moved::Goes => {}
-            Moved::Waits(ask) => return ask,
-            Moved::Stops(ask) => return ask,
+            Moved::Waits(ask) => return ask.in_full(),
+            Moved::Stops(ask) => return ask.in_full(),
+            Moved::Invokes(number) => return invocation(code, cursor, number),
         }
     }
 }
@@ -49,9 +57,10 @@ pub fn step(code: &Code, input: &Input, cursor: &mut Cursor, answer: Answer, lef
 // One instruction.
 #[tactic(auto, using(crate::proofs::Effort::effort_back))]
 fn advance(code: &Code, input: &Input, cursor: &mut Cursor, left: &mut u32) -> Moved
-    requires { move_at code.now.instrs input.now cursor.old left.old ≢ Stuck }
-    ensures moves { move_at code.now.instrs input.now cursor.old left.old ≡ moved result cursor.new left.new }
+    requires { move_at code.now input.now cursor.old left.old ≢ Stuck }
+    ensures moves { move_at code.now input.now cursor.old left.old ≡ moved code.now result cursor.new left.new }
     ensures room { cursor.new.room ≡ cursor.old.room }
+    ensures callee { cursor.new.callee ≡ cursor.old.callee }
     ensures falls { IsGoing result → effort code.now.instrs cursor.new.place left.new < effort code.now.instrs cursor.old.place left.old }
 {
     let Some(instr) = code.at(cursor.place()) else {
@@ -60,11 +69,44 @@ fn advance(code: &Code, input: &Input, cursor: &mut Cursor, left: &mut u32) -> M
     match instr {
         Instr::Tick => tick(cursor, left),
         Instr::Push(word) => give(cursor, word, left),
-        Instr::Load(place) => load(cursor, place, left),
+        Instr::Load(place) => load(cursor, Brief::Read(place), left),
+        Instr::LoadElement(array) => load_element(cursor, array, left),
+        Instr::Fetch(place) => wait(cursor, Brief::Read(place), Owed::Word),
+        Instr::FetchElement(array) => {
+            let index = cursor.pop();
+            cursor.push(index);
+            match element(array, index) {
+                Some(place) => wait(cursor, Brief::Read(place), Owed::Word),
+                None => Moved::Stops(Brief::Fault(Fault::IndexOutside)),
+            }
+        }
         Instr::Store(place) => {
             let word = cursor.pop();
-            cursor.wait(Owed::Nothing);
-            Moved::Waits(Ask::Write(place, word))
+            wait(cursor, Brief::Write(place, word), Owed::Nothing)
+        }
+        Instr::StoreElement(array) => {
+            let word = cursor.pop();
+            let index = cursor.pop();
+            match element(array, index) {
+                Some(place) => wait(cursor, Brief::Write(place, word), Owed::Nothing),
+                None => Moved::Stops(Brief::Fault(Fault::IndexOutside)),
+            }
+        }
+        Instr::Zero(number) => {
+            wait(
+                cursor,
+                Brief::Write(Place::Local(0, number), 0),
+                Owed::Nothing,
+            )
+        }
+        Instr::Combine(operator) => {
+            let y = cursor.pop();
+            let x = cursor.pop();
+            put(cursor, change(operator, x, y))
+        }
+        Instr::AddNumber(number) => {
+            let x = cursor.pop();
+            put(cursor, word::add(x, number))
         }
         Instr::Negate => {
             let x = cursor.pop();
@@ -83,6 +125,7 @@ fn advance(code: &Code, input: &Input, cursor: &mut Cursor, left: &mut u32) -> M
             let x = cursor.pop();
             give(cursor, truth(x), left)
         }
+        Instr::Value(reducer) => load(cursor, Brief::Value(reducer), left),
         Instr::Input => {
             let x = cursor.pop();
             give_checked(cursor, input.at(x), Fault::InputOutside, left)
@@ -90,14 +133,98 @@ fn advance(code: &Code, input: &Input, cursor: &mut Cursor, left: &mut u32) -> M
         Instr::InputCount => give(cursor, input.count(), left),
         Instr::Print => {
             let word = cursor.pop();
-            cursor.wait(Owed::Nothing);
-            Moved::Waits(Ask::Print(word))
+            wait(cursor, Brief::Print(word), Owed::Nothing)
         }
+        Instr::Create(reducer) => wait(cursor, Brief::Create(reducer), Owed::Nothing),
+        Instr::Update(reducer) => {
+            let word = cursor.pop();
+            wait(cursor, Brief::Update(reducer, word), Owed::Nothing)
+        }
+        Instr::Set(reducer) => {
+            let word = cursor.pop();
+            wait(cursor, Brief::Set(reducer, word), Owed::Nothing)
+        }
+        Instr::Word(number) => {
+            let Some(word) = cursor.given(number as usize) else {
+                unreachable!()
+            };
+            wait(
+                cursor,
+                Brief::Write(Place::Local(0, number), word),
+                Owed::Nothing,
+            )
+        }
+        Instr::Turn => {
+            let Some(part) = cursor.part() else {
+                unreachable!()
+            };
+            wait(
+                cursor,
+                Brief::Write(Place::Local(0, 0), part.low),
+                Owed::Nothing,
+            )
+        }
+        Instr::Invoke(number) => {
+            cursor.wait(Owed::Nothing);
+            Moved::Invokes(number)
+        }
+        Instr::CallLoop(number) => {
+            let high = cursor.pop();
+            let low = cursor.pop();
+            cursor.no_operand_waits();
+            if low < high {
+                let up = 0;
+                wait(
+                    cursor,
+                    Brief::Turns(
+                        Invocation::Call,
+                        LoopPart {
+                            number,
+                            up,
+                            low,
+                            high,
+                        },
+                    ),
+                    Owed::Nothing,
+                )
+            } else {
+                cursor.pass_next();
+                Moved::Goes
+            }
+        }
+        Instr::SpawnHalf => {
+            let Some(part) = cursor.part() else {
+                unreachable!()
+            };
+            cursor.no_operand_waits();
+            let half = first_half(part);
+            wait(cursor, Brief::Turns(Invocation::Spawn, half), Owed::Nothing)
+        }
+        Instr::CallHalf => {
+            let Some(part) = cursor.part() else {
+                unreachable!()
+            };
+            cursor.no_operand_waits();
+            let half = second_half(part);
+            wait(cursor, Brief::Turns(Invocation::Call, half), Owed::Nothing)
+        }
+        Instr::Resume => wait(cursor, Brief::Resume, Owed::Nothing),
         Instr::SkipIfZero(count) => {
             if cursor.pop() == 0 {
                 cursor.skip(count);
             } else {
                 cursor.next();
+            }
+            Moved::Goes
+        }
+        Instr::SkipUnlessOne(count) => {
+            let Some(part) = cursor.part() else {
+                unreachable!()
+            };
+            if has_one(part) {
+                cursor.next();
+            } else {
+                cursor.skip(count);
             }
             Moved::Goes
         }
@@ -109,71 +236,147 @@ fn advance(code: &Code, input: &Input, cursor: &mut Cursor, left: &mut u32) -> M
             cursor.go_back(count);
             Moved::Goes
         }
-        Instr::Sync => {
-            cursor.wait(Owed::Nothing);
-            Moved::Waits(Ask::Sync)
+        Instr::Hold => {
+            let word = cursor.pop();
+            cursor.hold(word);
+            cursor.next();
+            Moved::Goes
         }
-        Instr::End => Moved::Stops(Ask::End(cursor.pop())),
-        Instr::Finish => Moved::Stops(Ask::End(0)),
+        Instr::Sync => {
+            cursor.no_operand_waits();
+            wait(cursor, Brief::Sync, Owed::Nothing)
+        }
+        Instr::GiveResult => {
+            if cursor.gives_result() {
+                let word = cursor.held();
+                wait(cursor, Brief::Result(word), Owed::Nothing)
+            } else {
+                cursor.next();
+                Moved::Goes
+            }
+        }
+        Instr::End => Moved::Stops(Brief::End(cursor.held())),
     }
+}
+
+// On to the next instruction, which waits for the answer to an ask.
+fn wait(cursor: &mut Cursor, ask: Brief, owed: Owed) -> Moved
+    requires { cursor.old.place < 2 ^ 63 }
+    ensures moved { result ≡ Moved.Waits ask }
+    ensures cursor { cursor.new ≡ record cursor.old { place = cursor.old.place + 1; owed = owed } }
+{
+    cursor.wait(owed);
+    Moved::Waits(ask)
+}
+
+// A value that takes no tick goes onto the stack.
+fn put(cursor: &mut Cursor, word: i64) -> Moved
+    requires room { length cursor.old.stack < cursor.old.room }
+    requires small { cursor.old.place < 2 ^ 63 }
+    ensures moved { result ≡ Moved.Goes }
+    ensures cursor { cursor.new ≡ record cursor.old { place = cursor.old.place + 1; stack = word ∷ cursor.old.stack } }
+{
+    cursor.push(word);
+    cursor.next();
+    Moved::Goes
 }
 
 // A statement begins.
 fn tick(cursor: &mut Cursor, left: &mut u32) -> Moved
     requires { cursor.old.place < 2 ^ 63 }
-    ensures moves { moved result cursor.new left.new ≡ ticked left.old (Goes (cursor.old.place + 1) cursor.old.stack) }
+    ensures moves { (code : CodeView) → ticked left.old (Goes (cursor.old.place + 1) cursor.old.stack cursor.old.held) ≡ moved code result cursor.new left.new }
     ensures room { cursor.new.room ≡ cursor.old.room }
+    ensures callee { cursor.new.callee ≡ cursor.old.callee }
     ensures falls { IsGoing result → left.old ≡ suc left.new }
 {
     if !take_tick(left) {
-        return Moved::Stops(Ask::Fault(Fault::TooManyEvents));
+        return Moved::Stops(Brief::Fault(Fault::TooManyEvents));
     }
     cursor.next();
     Moved::Goes
 }
 
-// A value is read, which takes its tick first.
-fn load(cursor: &mut Cursor, place: Place, left: &mut u32) -> Moved
+// A value is asked for, which takes its tick first.
+fn load(cursor: &mut Cursor, ask: Brief, left: &mut u32) -> Moved
     requires { cursor.old.place < 2 ^ 63 }
-    ensures moves { moved result cursor.new left.new ≡ ticked left.old (Waits (Read place) Word (cursor.old.place + 1) cursor.old.stack) }
+    ensures moves { (code : CodeView) → ticked left.old (Waits (in_full ask) Word (cursor.old.place + 1) cursor.old.stack cursor.old.held) ≡ moved code result cursor.new left.new }
     ensures room { cursor.new.room ≡ cursor.old.room }
+    ensures callee { cursor.new.callee ≡ cursor.old.callee }
     ensures asks { IsGoing result → ⊥ }
 {
     if !take_tick(left) {
-        return Moved::Stops(Ask::Fault(Fault::TooManyEvents));
+        return Moved::Stops(Brief::Fault(Fault::TooManyEvents));
     }
-    cursor.wait(Owed::Word);
-    Moved::Waits(Ask::Read(place))
+    wait(cursor, ask, Owed::Word)
+}
+
+// An array's element is asked for, once its index is checked.
+fn load_element(cursor: &mut Cursor, array: Array, left: &mut u32) -> Moved
+    requires index { cursor.old.stack ≢ [] }
+    requires array { array.first + array.length ≤ 2 ^ 32 }
+    requires small { cursor.old.place < 2 ^ 63 }
+    ensures moves { (code : CodeView) → on_top cursor.old.stack (λ i rest. or_stops IndexOutside (element array i) left.old (λ x. ticked left.old (Waits (Read x) Word (cursor.old.place + 1) rest cursor.old.held))) ≡ moved code result cursor.new left.new }
+    ensures room { cursor.new.room ≡ cursor.old.room }
+    ensures callee { cursor.new.callee ≡ cursor.old.callee }
+    ensures asks { IsGoing result → ⊥ }
+{
+    let index = cursor.pop();
+    match element(array, index) {
+        Some(place) => load(cursor, Brief::Read(place), left),
+        None => Moved::Stops(Brief::Fault(Fault::IndexOutside)),
+    }
 }
 
 // A value takes its tick and goes onto the stack.
 fn give(cursor: &mut Cursor, word: i64, left: &mut u32) -> Moved
     requires room { length cursor.old.stack < cursor.old.room }
     requires small { cursor.old.place < 2 ^ 63 }
-    ensures moves { moved result cursor.new left.new ≡ ticked left.old (Goes (cursor.old.place + 1) (word ∷ cursor.old.stack)) }
+    ensures moves { (code : CodeView) → ticked left.old (Goes (cursor.old.place + 1) (word ∷ cursor.old.stack) cursor.old.held) ≡ moved code result cursor.new left.new }
     ensures room { cursor.new.room ≡ cursor.old.room }
+    ensures callee { cursor.new.callee ≡ cursor.old.callee }
     ensures falls { IsGoing result → left.old ≡ suc left.new }
 {
     if !take_tick(left) {
-        return Moved::Stops(Ask::Fault(Fault::TooManyEvents));
+        return Moved::Stops(Brief::Fault(Fault::TooManyEvents));
     }
-    cursor.push(word);
-    cursor.next();
-    Moved::Goes
+    put(cursor, word)
 }
 
 // A value that passed its check takes its tick and goes onto the stack.
 fn give_checked(cursor: &mut Cursor, word: Option<i64>, fault: Fault, left: &mut u32) -> Moved
     requires room { length cursor.old.stack < cursor.old.room }
     requires small { cursor.old.place < 2 ^ 63 }
-    ensures moves { moved result cursor.new left.new ≡ or_stops fault word left.old (λ v. Goes (cursor.old.place + 1) (v ∷ cursor.old.stack)) }
+    ensures moves { (code : CodeView) → or_stops fault word left.old (λ v. ticked left.old (Goes (cursor.old.place + 1) (v ∷ cursor.old.stack) cursor.old.held)) ≡ moved code result cursor.new left.new }
     ensures room { cursor.new.room ≡ cursor.old.room }
+    ensures callee { cursor.new.callee ≡ cursor.old.callee }
     ensures falls { IsGoing result → left.old ≡ suc left.new }
 {
     match word {
         Some(word) => give(cursor, word, left),
-        None => Moved::Stops(Ask::Fault(fault)),
+        None => Moved::Stops(Brief::Fault(fault)),
     }
+}
+
+// The invocation of a call site's function, with the words that stand on the stack.
+#[tactic(auto, using(crate::proofs::Given::words_there))]
+fn invocation(code: &Code, cursor: &mut Cursor, number: usize) -> Ask
+    requires { (left : ℕ) × (invoking code.now number cursor.old left ≢ Stuck) }
+    ensures moves { (left : ℕ) → invoking code.now number cursor.old left ≡ Waits result cursor.new.owed cursor.new.place cursor.new.stack cursor.new.held left }
+    ensures room { cursor.new.room ≡ cursor.old.room }
+    ensures callee { cursor.new.callee ≡ cursor.old.callee }
+{
+    let Some(site) = code.site(number) else {
+        unreachable!()
+    };
+    let words = cursor.gather(site.words);
+    cursor.no_operand_waits();
+    let call = FunctionCall {
+        function: site.function,
+        words,
+        reducers: site.reducers,
+        result: site.result,
+    };
+    Ask::Invoke(site.how, Callee::Function(call))
 }
 
 // One tick less, if one is left.

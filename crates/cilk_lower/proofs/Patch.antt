@@ -1,11 +1,14 @@
 -- A jump is written again once what it passes stands behind it. Each lemma follows the code of `lower` from a list to the next.
-use Rattle.std.proofs.Common.{◌≡◌, ℕ, ◌+◌, ◌-◌, ◌<◌, List, pos, [], ◌∷◌, ◌++◌, length, ap, ◌∙◌, arith, append_assoc, length-append}
+use Rattle.std.proofs.Common.{◌≡◌, ℕ, ◌+◌, ◌-◌, ◌<◌, List, pos, [], ◌∷◌, ◌++◌, length, Option, Some, None, sym, ap, ◌∙◌, arith, append_assoc, length-append}
 use Rattle.std.specs.Prelude.{slice_set}
 use Rattle.std.proofs.Math.Seq.{set-append_seam}
 use Rattle.std.proofs.lemmas.List.{set-append_left}
 use Rattle.cilk_lower.specs.declared.code.Instr.{Instr}
-use Rattle.cilk_lower.specs.declared.code.Instr.TheVariants.{Tick, Push, Truth, SkipIfZero, GoOn, GoBack}
-use Rattle.cilk_lower.specs.Code.{if_code, if_else_code, while_code, and_code, or_code}
+use Rattle.cilk_lower.specs.declared.code.Instr.TheVariants.{Tick, Push, Truth, SkipIfZero, GoOn, GoBack, SkipUnlessOne, Turn}
+use Rattle.cilk_program.specs.Syntax.{Expression}
+use Rattle.cilk_lower.specs.Turns.{test_code, exit_of, exits, turned}
+use Rattle.cilk_lower.proofs.Lists.{append_none}
+use Rattle.cilk_lower.specs.Code.{expr_code, turns_code, ends, halves_code, if_code, if_else_code, and_code, or_code}
 
 -- a jump, and what stands behind it
 jumped : (c1 c2 c3 a : List Instr) (x : Instr) → c2 ≡ c1 ++ x ∷ [] → c3 ≡ c2 ++ a → c3 ≡ c1 ++ x ∷ a
@@ -26,44 +29,37 @@ jump_passes c front behind x n e m = written c front behind x _ n e m ∙ ap (λ
 one_more : (a : List Instr) (x : Instr) → length (a ++ x ∷ []) ≡ length a + 1
 one_more a x = omega (arith, length-append a (x ∷ []))
 
-pub patch_if : (base tc ac c1 c2 c3 c4 : List Instr) (n : ℕ) → c1 ≡ base ++ (Tick ∷ tc) → n ≡ length c1 → c2 ≡ c1 ++ SkipIfZero 0 ∷ [] → c3 ≡ c2 ++ ac → c4 ≡ slice_set c3 n (SkipIfZero (length c3 - n - 1)) → c4 ≡ base ++ (Tick ∷ if_code tc ac)
-patch_if base tc ac c1 c2 c3 c4 n e1 m e2 e3 e4 =
-    let i = SkipIfZero (length ac) in
-    e4 ∙ test_passes c3 c1 ac (SkipIfZero 0) n (jumped c1 c2 c3 ac _ e2 e3) m ∙ ap (λ l. l ++ i ∷ ac) e1 ∙ append_assoc base (Tick ∷ tc) (i ∷ ac)
+-- a tick, a test, and the jump that it decides
+begun : (base tc c : List Instr) → c ≡ base ++ (Tick ∷ (tc ++ SkipIfZero 0 ∷ [])) → c ≡ (base ++ (Tick ∷ tc)) ++ SkipIfZero 0 ∷ []
+begun base tc c e = e ∙ sym (append_assoc base (Tick ∷ tc) (SkipIfZero 0 ∷ []))
 
-pub patch_if_else : (base tc ac bc c1 c2 c3 c4 c5 c6 c7 : List Instr) (n1 n2 : ℕ) → c1 ≡ base ++ (Tick ∷ tc) → n1 ≡ length c1 → c2 ≡ c1 ++ SkipIfZero 0 ∷ [] → c3 ≡ c2 ++ ac → n2 ≡ length c3 → c4 ≡ c3 ++ GoOn 0 ∷ [] → c5 ≡ slice_set c4 n1 (SkipIfZero (length c4 - n1 - 1)) → c6 ≡ c5 ++ bc → c7 ≡ slice_set c6 n2 (GoOn (length c6 - n2 - 1)) → c7 ≡ base ++ (Tick ∷ if_else_code tc ac bc)
-patch_if_else base tc ac bc c1 c2 c3 c4 c5 c6 c7 n1 n2 e1 m1 e2 e3 m2 e4 e5 e6 e7 =
+begun_long : (base tc : List Instr) (n : ℕ) → n ≡ length base + 1 + length tc → n ≡ length (base ++ (Tick ∷ tc))
+begun_long base tc n m = omega (arith, m, length-append base (Tick ∷ tc))
+
+pub patch_if : (base tc ac c2 c3 c4 : List Instr) (n : ℕ) → c2 ≡ base ++ (Tick ∷ (tc ++ SkipIfZero 0 ∷ [])) → n ≡ length base + 1 + length tc → c3 ≡ c2 ++ ac → c4 ≡ slice_set c3 n (SkipIfZero (length c3 - n - 1)) → c4 ≡ base ++ (Tick ∷ if_code tc ac)
+patch_if base tc ac c2 c3 c4 n e2 m e3 e4 =
+    let i = SkipIfZero (length ac) in
+    let c1 = base ++ (Tick ∷ tc) in
+    e4 ∙ test_passes c3 c1 ac (SkipIfZero 0) n (jumped c1 c2 c3 ac _ (begun base tc c2 e2) e3) (begun_long base tc n m) ∙ append_assoc base (Tick ∷ tc) (i ∷ ac)
+
+pub patch_if_else : (base tc ac bc c2 c3 c5 c6 c7 : List Instr) (n1 n2 : ℕ) → c2 ≡ base ++ (Tick ∷ (tc ++ SkipIfZero 0 ∷ [])) → n1 ≡ length base + 1 + length tc → c3 ≡ c2 ++ ac → n2 ≡ length c3 → c5 ≡ slice_set (c3 ++ GoOn 0 ∷ []) n1 (SkipIfZero (length c3 - n1)) → c6 ≡ c5 ++ bc → c7 ≡ slice_set c6 n2 (GoOn (length c6 - n2 - 1)) → c7 ≡ base ++ (Tick ∷ if_else_code tc ac bc)
+patch_if_else base tc ac bc c2 c3 c5 c6 c7 n1 n2 e2 m1 e3 m2 e5 e6 e7 =
+    let c1 = base ++ (Tick ∷ tc) in
     let first = ac ++ GoOn 0 ∷ [] in
     let i = SkipIfZero (length ac + 1) in
     let j = GoOn (length bc) in
     let front = c1 ++ i ∷ ac in
-    let k3 = jumped c1 c2 c3 ac _ e2 e3 in
-    let k4 : c4 ≡ c1 ++ SkipIfZero 0 ∷ first = e4 ∙ ap (λ l. l ++ GoOn 0 ∷ []) k3 ∙ append_assoc c1 (SkipIfZero 0 ∷ ac) (GoOn 0 ∷ []) in
-    let k5 : c5 ≡ c1 ++ i ∷ first = e5 ∙ test_passes c4 c1 first (SkipIfZero 0) n1 k4 m1 ∙ ap (λ k. c1 ++ SkipIfZero k ∷ first) (one_more ac (GoOn 0)) in
-    let flat : (c1 ++ i ∷ first) ++ bc ≡ front ++ GoOn 0 ∷ bc = simp append_assoc in
+    let at1 = begun_long base tc n1 m1 in
+    let k3 = jumped c1 c2 c3 ac _ (begun base tc c2 e2) e3 in
     let l3 = ap length k3 ∙ length-append c1 (SkipIfZero 0 ∷ ac) in
+    let k4 : c3 ++ GoOn 0 ∷ [] ≡ c1 ++ SkipIfZero 0 ∷ first = ap (λ l. l ++ GoOn 0 ∷ []) k3 ∙ append_assoc c1 (SkipIfZero 0 ∷ ac) (GoOn 0 ∷ []) in
+    let far : length c3 - n1 ≡ length ac + 1 = omega arith in
+    let k5 : c5 ≡ c1 ++ i ∷ first = e5 ∙ ap (λ k. slice_set (c3 ++ GoOn 0 ∷ []) n1 (SkipIfZero k)) far ∙ written (c3 ++ GoOn 0 ∷ []) c1 first (SkipIfZero 0) i n1 k4 at1 in
+    let flat : (c1 ++ i ∷ first) ++ bc ≡ front ++ GoOn 0 ∷ bc = simp append_assoc in
     let at : n2 ≡ length front = omega (arith, length-append c1 (i ∷ ac)) in
     e7 ∙ jump_passes c6 front bc (GoOn 0) n2 (e6 ∙ ap (λ l. l ++ bc) k5 ∙ flat) at
     ∙ append_assoc c1 (i ∷ ac) (j ∷ bc)
-    ∙ ap (λ l. l ++ (i ∷ (ac ++ j ∷ bc))) e1
     ∙ append_assoc base (Tick ∷ tc) (i ∷ (ac ++ j ∷ bc))
-
-pub patch_while : (base tc ac c0 c1 c2 c3 c4 c5 : List Instr) (n0 n1 : ℕ) → c0 ≡ base ++ Tick ∷ [] → n0 ≡ length c0 → c1 ≡ c0 ++ tc → n1 ≡ length c1 → c2 ≡ c1 ++ SkipIfZero 0 ∷ [] → c3 ≡ c2 ++ ac → c4 ≡ c3 ++ GoBack (length c3 - n0) ∷ [] → c5 ≡ slice_set c4 n1 (SkipIfZero (length c4 - n1 - 1)) → c5 ≡ base ++ (Tick ∷ while_code tc ac)
-patch_while base tc ac c0 c1 c2 c3 c4 c5 n0 n1 e0 m0 e1 m1 e2 e3 e4 e5 =
-    let d = GoBack (length c3 - n0) in
-    let j = GoBack (length tc + 1 + length ac) in
-    let i = SkipIfZero (length ac + 1) in
-    let k3 = jumped c1 c2 c3 ac _ e2 e3 in
-    let l1 = ap length e1 ∙ length-append c0 tc in
-    let l3 = ap length k3 ∙ length-append c1 (SkipIfZero 0 ∷ ac) in
-    let far : length c3 - n0 ≡ length tc + 1 + length ac = omega arith in
-    let k4 : c4 ≡ c1 ++ SkipIfZero 0 ∷ (ac ++ j ∷ []) =
-    e4 ∙ ap (λ n. c3 ++ GoBack n ∷ []) far ∙ ap (λ l. l ++ j ∷ []) k3 ∙ append_assoc c1 (SkipIfZero 0 ∷ ac) (j ∷ []) in
-    let k1 : c1 ≡ base ++ (Tick ∷ tc) = e1 ∙ ap (λ l. l ++ tc) e0 ∙ append_assoc base (Tick ∷ []) tc in
-    e5 ∙ test_passes c4 c1 (ac ++ j ∷ []) (SkipIfZero 0) n1 k4 m1
-    ∙ ap (λ k. c1 ++ SkipIfZero k ∷ (ac ++ j ∷ [])) (one_more ac j)
-    ∙ ap (λ l. l ++ i ∷ (ac ++ j ∷ [])) k1
-    ∙ append_assoc base (Tick ∷ tc) (i ∷ (ac ++ j ∷ []))
 
 pub patch_and : (base ca cb c1 c2 c3 c4 : List Instr) (n : ℕ) → c1 ≡ base ++ ca → n ≡ length c1 → c2 ≡ c1 ++ SkipIfZero 0 ∷ [] → c3 ≡ c2 ++ cb → c4 ≡ slice_set c3 n (SkipIfZero (length c3 - n + 1)) ++ (Truth ∷ (GoOn 1 ∷ (Push (pos 0) ∷ []))) → c4 ≡ base ++ and_code ca cb
 patch_and base ca cb c1 c2 c3 c4 n e1 m e2 e3 e4 =
@@ -108,3 +104,54 @@ or_ends c0 c1 c2 n low e1 e2 =
     let l1 = ap length e1 ∙ length-append c0 (Truth ∷ []) in
     let far : length c1 - n - 1 ≡ length c0 - n = omega arith in
     e2 ∙ ap (λ k. slice_set c1 n (GoOn k)) far ∙ ap (λ l. slice_set l n j) e1 ∙ set-append_left c0 (Truth ∷ []) n j low
+
+-- the turns of a `for`: their condition, then a turn, then back
+pub patch_turns : (test : Option Expression) (base turn c1 c2 c3 : List Instr) → c1 ≡ base ++ test_code test → c2 ≡ c1 ++ turn → c3 ≡ turned (length base) (exit_of (length base) test) c2 → c3 ≡ base ++ turns_code test turn
+patch_turns None base turn c1 c2 c3 e1 e2 e3 =
+    let k2 : c2 ≡ base ++ turn = e2 ∙ ap (λ l. l ++ turn) (e1 ∙ append_none base) in
+    let far : length c2 - length base ≡ length turn = omega (arith, ap length k2, length-append base turn) in
+    e3 ∙ ap (λ d. c2 ++ GoBack d ∷ []) far ∙ ap (λ l. l ++ GoBack (length turn) ∷ []) k2 ∙ append_assoc base turn (GoBack (length turn) ∷ [])
+patch_turns (Some e) base turn c1 c2 c3 e1 e2 e3 =
+    let ce = expr_code e in
+    let front = base ++ ce in
+    let n = length base + length ce in
+    let d = GoBack (length ce + 1 + length turn) in
+    let i = SkipIfZero (length turn + 1) in
+    let lf = length-append base ce in
+    let k1 : c1 ≡ front ++ SkipIfZero 0 ∷ [] = e1 ∙ sym (append_assoc base ce (SkipIfZero 0 ∷ [])) in
+    let k2 : c2 ≡ front ++ SkipIfZero 0 ∷ turn = e2 ∙ ap (λ l. l ++ turn) k1 ∙ append_assoc front (SkipIfZero 0 ∷ []) turn in
+    let l2 = ap length k2 ∙ length-append front (SkipIfZero 0 ∷ turn) in
+    let far : length c2 - length base ≡ length ce + 1 + length turn = omega arith in
+    let at : n ≡ length front = omega arith in
+    let k3 : c2 ++ d ∷ [] ≡ front ++ SkipIfZero 0 ∷ (turn ++ d ∷ []) = ap (λ l. l ++ d ∷ []) k2 ∙ append_assoc front (SkipIfZero 0 ∷ turn) (d ∷ []) in
+    e3 ∙ ap (λ k. exits (Some n) (c2 ++ GoBack k ∷ [])) far
+    ∙ test_passes (c2 ++ d ∷ []) front (turn ++ d ∷ []) (SkipIfZero 0) n k3 at
+    ∙ ap (λ k. front ++ SkipIfZero k ∷ (turn ++ d ∷ [])) (one_more turn d)
+    ∙ append_assoc base ce (i ∷ (turn ++ d ∷ []))
+
+pub patch_for : (test : Option Expression) (base row cs cp c1 c2 c3 c4 c5 c6 : List Instr) (start : ℕ) (exit : Option ℕ) → c1 ≡ base ++ Tick ∷ [] → c2 ≡ c1 ++ row → start ≡ length c2 → c3 ≡ c2 ++ test_code test → exit ≡ exit_of (length c2) test → c4 ≡ c3 ++ cs → c5 ≡ c4 ++ cp → c6 ≡ turned start exit c5 →
+    c6 ≡ base ++ (Tick ∷ (row ++ turns_code test (cs ++ cp)))
+patch_for test base row cs cp c1 c2 c3 c4 c5 c6 start exit e1 e2 m e3 out e4 e5 e6 =
+    let turn : c5 ≡ c3 ++ (cs ++ cp) = e5 ∙ ap (λ l. l ++ cp) e4 ∙ append_assoc c3 cs cp in
+    let end : c6 ≡ turned (length c2) (exit_of (length c2) test) c5 = e6 ∙ ap (λ n. turned n exit c5) m ∙ ap (λ o. turned (length c2) o c5) out in
+    let loop = turns_code test (cs ++ cp) in
+    patch_turns test c2 (cs ++ cp) c3 c5 c6 e3 turn end
+    ∙ ap (λ l. l ++ loop) (e2 ∙ ap (λ l. l ++ row) e1 ∙ append_assoc base (Tick ∷ []) row)
+    ∙ append_assoc base (Tick ∷ row) loop
+
+pub turn_starts : (test cs cp c2 c3 c4 c5 : List Instr) → c3 ≡ c2 ++ test → c4 ≡ c3 ++ cs → c5 ≡ c4 ++ cp → 0 < length cs → length c2 < length c5
+turn_starts test cs cp c2 c3 c4 c5 e3 e4 e5 some =
+    let l3 = ap length e3 ∙ length-append c2 test in
+    let l4 = ap length e4 ∙ length-append c3 cs in
+    let l5 = ap length e5 ∙ length-append c4 cp in
+    omega arith
+
+-- a loop's frame
+pub patch_loop : (base cb c1 c2 c3 c4 c5 c6 : List Instr) (n : ℕ) → c1 ≡ base ++ SkipUnlessOne 0 ∷ [] → n ≡ length base → c2 ≡ c1 ++ Turn ∷ [] → c3 ≡ c2 ++ cb → c4 ≡ c3 ++ ends → c5 ≡ slice_set c4 n (SkipUnlessOne (length c4 - n - 1)) → c6 ≡ c5 ++ halves_code →
+    c6 ≡ base ++ (SkipUnlessOne (length cb + 4) ∷ (Turn ∷ (cb ++ (ends ++ halves_code))))
+patch_loop base cb c1 c2 c3 c4 c5 c6 n e1 m e2 e3 e4 e5 e6 =
+    let behind = Turn ∷ (cb ++ ends) in
+    let i = SkipUnlessOne (length cb + 4) in
+    let k4 : c4 ≡ base ++ SkipUnlessOne 0 ∷ behind = e4 ∙ ap (λ l. l ++ ends) (e3 ∙ ap (λ l. l ++ cb) (e2 ∙ ap (λ l. l ++ Turn ∷ []) e1)) ∙ simp append_assoc in
+    let far : length c4 - n - 1 ≡ length cb + 4 = omega (arith, behind_it c4 base behind (SkipUnlessOne 0) n k4 m, length-append cb ends) in
+    e6 ∙ ap (λ l. l ++ halves_code) (e5 ∙ ap (λ k. slice_set c4 n (SkipUnlessOne k)) far ∙ written c4 base behind (SkipUnlessOne 0) i n k4 m) ∙ simp append_assoc

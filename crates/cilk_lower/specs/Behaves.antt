@@ -1,10 +1,12 @@
--- Code that asks what a body asks.
-use Rattle.std.specs.Prelude.{◌≡◌, ℕ, ℤ, List, []}
-use Rattle.cilk_names.specs.Syntax.{Statements}
-use Rattle.cilk_names.specs.Behaviour.{ended, body_gives}
+-- Code that asks what a program's frames ask.
+use Rattle.std.specs.Prelude.{◌≡◌, ℕ, ℤ, List}
+use Rattle.cilk_program.specs.declared.ask.Callee.{Callee}
+use Rattle.cilk_program.specs.Behaviour.{ended, frame_gives}
+use Rattle.cilk_program.specs.Inside.{CalleeIsFit}
+use Rattle.cilk_program.specs.Syntax.{Source}
 use Rattle.cilk_lower.specs.Code.{CodeView}
-use Rattle.cilk_lower.specs.Machine.{exec, Reaches}
+use Rattle.cilk_lower.specs.Machine.{exec_frame, Reaches}
 
--- whatever the inputs, the answers and the ticks
-pub record Behaves (row : Statements) (c : CodeView) : Type 0 where
-  pub asks : (inputs answers : List ℤ) (left : ℕ) → (n : ℕ) × (exec inputs c.room c.instrs n 0 [] answers left ≡ Reaches (ended (body_gives inputs row answers left)))
+-- whatever a frame runs, and whatever the inputs, the answers and the ticks
+pub record Behaves (p : Source) (c : CodeView) : Type 0 where
+  pub asks : (callee : Callee) → CalleeIsFit p callee → (inputs answers : List ℤ) (left : ℕ) → (n : ℕ) × (exec_frame inputs c callee n answers left ≡ Reaches (ended (frame_gives p inputs callee answers left)))

@@ -1,4 +1,6 @@
 pub mod Behaves
+pub mod Bodies
 pub mod Code
 pub mod Machine
 pub mod Rooms
+pub mod Turns

@@ -1,22 +1,40 @@
--- What the machine does with a list of instructions.
-use Rattle.std.specs.Prelude.{ℕ, zero, suc, ◌+◌, ◌-◌, ℤ, pos, neg_ℤ, if◌then◌else◌, List, [], ◌∷◌, Option, Some, None, slice_get, length, nat_lt}
+-- What the machine does with a program's instructions.
+use Rattle.std.specs.Prelude.{ℕ, zero, suc, ◌+◌, ◌-◌, ℤ, pos, ◌+ℤ◌, ◌-ℤ◌, neg_ℤ, int_lt, Bool, false, if◌then◌else◌, List, [], ◌∷◌, Option, Some, None, slice_get, length, nat_lt}
+use Rattle.std.specs.Option.{is_some}
+use Rattle.std.specs.Ordering.{int_eq}
 use Rattle.cilk_types.specs.Input.{input_at, input_count}
 use Rattle.cilk_types.specs.Word.{word_of}
 use Rattle.cilk_types.specs.declared.fault.Fault.{Fault}
-use Rattle.cilk_types.specs.declared.fault.Fault.TheVariants.{DivisionByZero, InputOutside, TooManyEvents}
-use Rattle.cilk_names.specs.declared.ask.Ask.{Ask}
-use Rattle.cilk_names.specs.declared.ask.Ask.TheVariants as asks
-use Rattle.cilk_names.specs.Words.{is_zero, truth, truth_of, apply}
-use Rattle.cilk_names.specs.Behaviour.{Asked, asks_for}
+use Rattle.cilk_types.specs.declared.fault.Fault.TheVariants.{DivisionByZero, IndexOutside, InputOutside, TooManyEvents}
+use Rattle.cilk_program.specs.declared.ask.Ask.{Ask}
+use Rattle.cilk_program.specs.declared.ask.Ask.TheVariants as asks
+use Rattle.cilk_program.specs.declared.ask.Callee.{Callee}
+use Rattle.cilk_program.specs.declared.ask.Callee.TheVariants as callees
+use Rattle.cilk_program.specs.declared.ask.LoopPart.{LoopPart}
+use Rattle.cilk_program.specs.declared.syntax.Invocation.TheVariants.{Call, Spawn}
+use Rattle.cilk_program.specs.declared.syntax.Place.TheVariants as places
+use Rattle.cilk_program.specs.Behaviour.{Asked, asks_for, middle, part}
+use Rattle.cilk_program.specs.Operators.{is_zero, truth, truth_of, apply, change}
+use Rattle.cilk_program.specs.Syntax.{element}
 use Rattle.cilk_lower.specs.declared.code.Instr.{Instr}
 use Rattle.cilk_lower.specs.declared.code.Instr.TheVariants as instrs
 use Rattle.cilk_lower.specs.declared.code.Owed.{Owed}
 use Rattle.cilk_lower.specs.declared.code.Owed.TheVariants.{Nothing, Word}
+use Rattle.cilk_lower.specs.declared.code.Site.{Site}
+use Rattle.cilk_lower.specs.Code.{CodeView, entry_of}
 
--- what one instruction does: the machine goes on, waits for an answer to an ask, asks for the last time, or is stuck
+-- what stays the same while a frame runs: the input, the program's code, what the frame runs, and the room for its operands
+pub record Setting : Type 0 where
+  pub inputs : List ℤ
+  pub code : CodeView
+  pub callee : Callee
+  pub room : ℕ
+
+-- What one instruction does: the machine goes on, waits for an answer to an ask, asks for the last time, or is stuck. Its
+-- state is the next instruction's place, the operands with their top first, and the result that a `return` has left.
 pub data Move : Type 0 where
-  Goes : (place : ℕ) (stack : List ℤ) (left : ℕ) → Move
-  Waits : (ask : Ask) (owed : Owed) (place : ℕ) (stack : List ℤ) (left : ℕ) → Move
+  Goes : (place : ℕ) (stack : List ℤ) (held : ℤ) (left : ℕ) → Move
+  Waits : (ask : Ask) (owed : Owed) (place : ℕ) (stack : List ℤ) (held : ℤ) (left : ℕ) → Move
   Stops : (ask : Ask) (left : ℕ) → Move
   Stuck : Move
 
@@ -33,36 +51,118 @@ on_two [] go = Stuck
 on_two (y ∷ []) go = Stuck
 on_two (y ∷ x ∷ stack) go = go x y stack
 
--- a checked value takes its tick
-abbrev pub or_stops : Fault → Option ℤ → ℕ → (ℤ → ℕ → Move) → Move
-or_stops f None left go = Stops (asks.Fault f) left
-or_stops f (Some v) left go = ticked left (go v)
+-- no operand waits while a child runs, or while the frame waits for its children
+abbrev pub on_none : List ℤ → Move → Move
+on_none [] go = go
+on_none (x ∷ stack) go = Stuck
 
--- the stack has room for so many words
-abbrev pub move : List ℤ → ℕ → Option Instr → ℕ → List ℤ → ℕ → Move
-move inputs room None place stack left = Stuck
-move inputs room (Some instrs.Tick) place stack left = ticked left (Goes (place + 1) stack)
-move inputs room (Some (instrs.Push n)) place stack left =
-    if nat_lt (length stack) room then ticked left (Goes (place + 1) (n ∷ stack)) else Stuck
-move inputs room (Some (instrs.Load x)) place stack left = ticked left (Waits (asks.Read x) Word (place + 1) stack)
-move inputs room (Some (instrs.Store x)) place stack left = on_top stack (λ v rest. Waits (asks.Write x v) Nothing (place + 1) rest left)
-move inputs room (Some instrs.Negate) place stack left = on_top stack (λ v rest. ticked left (Goes (place + 1) (word_of (neg_ℤ v) ∷ rest)))
-move inputs room (Some instrs.Not) place stack left = on_top stack (λ v rest. ticked left (Goes (place + 1) (truth_of (is_zero v) ∷ rest)))
-move inputs room (Some (instrs.Apply op)) place stack left =
-    on_two stack (λ x y rest. or_stops DivisionByZero (apply op x y) left (λ v. Goes (place + 1) (v ∷ rest)))
-move inputs room (Some instrs.Truth) place stack left = on_top stack (λ v rest. ticked left (Goes (place + 1) (truth v ∷ rest)))
-move inputs room (Some instrs.Input) place stack left =
-    on_top stack (λ x rest. or_stops InputOutside (input_at inputs x) left (λ v. Goes (place + 1) (v ∷ rest)))
-move inputs room (Some instrs.InputCount) place stack left =
-    if nat_lt (length stack) room then ticked left (Goes (place + 1) (input_count inputs ∷ stack)) else Stuck
-move inputs room (Some instrs.Print) place stack left = on_top stack (λ v rest. Waits (asks.Print v) Nothing (place + 1) rest left)
-move inputs room (Some (instrs.SkipIfZero n)) place stack left =
-    on_top stack (λ v rest. if is_zero v then Goes (place + 1 + n) rest left else Goes (place + 1) rest left)
-move inputs room (Some (instrs.GoOn n)) place stack left = Goes (place + 1 + n) stack left
-move inputs room (Some (instrs.GoBack n)) place stack left = Goes (place - n) stack left
-move inputs room (Some instrs.Sync) place stack left = Waits asks.Sync Nothing (place + 1) stack left
-move inputs room (Some instrs.End) place stack left = on_top stack (λ v rest. Stops (asks.End v) left)
-move inputs room (Some instrs.Finish) place stack left = Stops (asks.End (pos 0)) left
+-- so many from the top, the uppermost last, ahead of these
+abbrev pub on_words : ℕ → List ℤ → List ℤ → (List ℤ → List ℤ → Move) → Move
+on_words zero words stack go = go words stack
+on_words (suc n) words [] go = Stuck
+on_words (suc n) words (x ∷ stack) go = on_words n (x ∷ words) stack go
+
+abbrev pub on_some : {A : Type 0} → Option A → (A → Move) → Move
+on_some None go = Stuck
+on_some (Some x) go = go x
+
+-- a check
+abbrev pub or_stops : {A : Type 0} → Fault → Option A → ℕ → (A → Move) → Move
+or_stops f None left go = Stops (asks.Fault f) left
+or_stops f (Some x) left go = go x
+
+-- what a function's frame was given
+abbrev pub words_of : Callee → List ℤ
+words_of callees.Root = []
+words_of (callees.Function c) = c.words
+words_of (callees.Loop l) = []
+
+-- the turns of a loop's frame
+abbrev pub part_of : Callee → Option LoopPart
+part_of callees.Root = None
+part_of (callees.Function c) = None
+part_of (callees.Loop l) = Some l
+
+-- whether the caller takes the result
+abbrev pub takes_result : Callee → Bool
+takes_result callees.Root = false
+takes_result (callees.Function c) = is_some c.result
+takes_result (callees.Loop l) = false
+
+-- a call site with its words
+abbrev pub invoked : Site → List ℤ → Ask
+invoked s words = asks.Invoke s.how (callees.Function (record { function = s.function; words = words; reducers = s.reducers; result = s.result }))
+
+abbrev pub loop_called : ℕ → ℤ → ℤ → Ask
+loop_called n low high = asks.Invoke Call (callees.Loop (record { number = n; up = 0; low = low; high = high }))
+
+abbrev pub has_one : LoopPart → Bool
+has_one l = int_eq (l.high -ℤ l.low) (pos 1)
+
+-- the halves of a loop's turns
+abbrev pub first_half : LoopPart → Ask
+first_half l = asks.Invoke Spawn (part l l.low (middle l.low l.high))
+
+abbrev pub second_half : LoopPart → Ask
+second_half l = asks.Invoke Call (part l (middle l.low l.high) l.high)
+
+module _ (m : Setting) where
+  abbrev pub move : Option Instr → ℕ → List ℤ → ℤ → ℕ → Move
+  move None place stack held left = Stuck
+  move (Some instrs.Tick) place stack held left = ticked left (Goes (place + 1) stack held)
+  move (Some (instrs.Push n)) place stack held left = if nat_lt (length stack) m.room then ticked left (Goes (place + 1) (n ∷ stack) held) else Stuck
+  move (Some (instrs.Load x)) place stack held left = ticked left (Waits (asks.Read x) Word (place + 1) stack held)
+  move (Some (instrs.LoadElement a)) place stack held left =
+      on_top stack (λ i rest. or_stops IndexOutside (element a i) left (λ x. ticked left (Waits (asks.Read x) Word (place + 1) rest held)))
+  move (Some (instrs.Fetch x)) place stack held left = Waits (asks.Read x) Word (place + 1) stack held left
+  move (Some (instrs.FetchElement a)) place stack held left =
+      on_top stack (λ i rest. or_stops IndexOutside (element a i) left (λ x. Waits (asks.Read x) Word (place + 1) (i ∷ rest) held left))
+  move (Some (instrs.Store x)) place stack held left = on_top stack (λ v rest. Waits (asks.Write x v) Nothing (place + 1) rest held left)
+  move (Some (instrs.StoreElement a)) place stack held left =
+      on_two stack (λ i v rest. or_stops IndexOutside (element a i) left (λ x. Waits (asks.Write x v) Nothing (place + 1) rest held left))
+  move (Some (instrs.Zero n)) place stack held left = Waits (asks.Write (places.Local 0 n) (pos 0)) Nothing (place + 1) stack held left
+  move (Some (instrs.Combine op)) place stack held left = on_two stack (λ x y rest. Goes (place + 1) (change op x y ∷ rest) held left)
+  move (Some (instrs.AddNumber n)) place stack held left = on_top stack (λ x rest. Goes (place + 1) (word_of (x +ℤ n) ∷ rest) held left)
+  move (Some instrs.Negate) place stack held left = on_top stack (λ v rest. ticked left (Goes (place + 1) (word_of (neg_ℤ v) ∷ rest) held))
+  move (Some instrs.Not) place stack held left = on_top stack (λ v rest. ticked left (Goes (place + 1) (truth_of (is_zero v) ∷ rest) held))
+  move (Some (instrs.Apply op)) place stack held left =
+      on_two stack (λ x y rest. or_stops DivisionByZero (apply op x y) left (λ v. ticked left (Goes (place + 1) (v ∷ rest) held)))
+  move (Some instrs.Truth) place stack held left = on_top stack (λ v rest. ticked left (Goes (place + 1) (truth v ∷ rest) held))
+  move (Some (instrs.Value r)) place stack held left = ticked left (Waits (asks.Value r) Word (place + 1) stack held)
+  move (Some instrs.Input) place stack held left =
+      on_top stack (λ x rest. or_stops InputOutside (input_at m.inputs x) left (λ v. ticked left (Goes (place + 1) (v ∷ rest) held)))
+  move (Some instrs.InputCount) place stack held left =
+      if nat_lt (length stack) m.room then ticked left (Goes (place + 1) (input_count m.inputs ∷ stack) held) else Stuck
+  move (Some instrs.Print) place stack held left = on_top stack (λ v rest. Waits (asks.Print v) Nothing (place + 1) rest held left)
+  move (Some (instrs.Create r)) place stack held left = Waits (asks.Create r) Nothing (place + 1) stack held left
+  move (Some (instrs.Update r)) place stack held left = on_top stack (λ v rest. Waits (asks.Update r v) Nothing (place + 1) rest held left)
+  move (Some (instrs.Set r)) place stack held left = on_top stack (λ v rest. Waits (asks.Set r v) Nothing (place + 1) rest held left)
+  move (Some (instrs.Word n)) place stack held left =
+      on_some (slice_get (words_of m.callee) n) (λ v. Waits (asks.Write (places.Local 0 n) v) Nothing (place + 1) stack held left)
+  move (Some instrs.Turn) place stack held left =
+      on_some (part_of m.callee) (λ l. Waits (asks.Write (places.Local 0 0) l.low) Nothing (place + 1) stack held left)
+  move (Some (instrs.Invoke k)) place stack held left =
+      on_some (slice_get m.code.sites k) (λ s. on_words s.words [] stack (λ words rest. on_none rest (Waits (invoked s words) Nothing (place + 1) [] held left)))
+  move (Some (instrs.CallLoop n)) place stack held left =
+      on_two stack (λ low high rest. on_none rest (
+      if int_lt low high then Waits (loop_called n low high) Nothing (place + 1) [] held left else Goes (place + 2) [] held left
+      ))
+  move (Some instrs.SpawnHalf) place stack held left =
+      on_some (part_of m.callee) (λ l. on_none stack (Waits (first_half l) Nothing (place + 1) [] held left))
+  move (Some instrs.CallHalf) place stack held left =
+      on_some (part_of m.callee) (λ l. on_none stack (Waits (second_half l) Nothing (place + 1) [] held left))
+  move (Some instrs.Resume) place stack held left = Waits asks.Resume Nothing (place + 1) stack held left
+  move (Some (instrs.SkipIfZero n)) place stack held left =
+      on_top stack (λ v rest. if is_zero v then Goes (place + 1 + n) rest held left else Goes (place + 1) rest held left)
+  move (Some (instrs.SkipUnlessOne n)) place stack held left =
+      on_some (part_of m.callee) (λ l. if has_one l then Goes (place + 1) stack held left else Goes (place + 1 + n) stack held left)
+  move (Some (instrs.GoOn n)) place stack held left = Goes (place + 1 + n) stack held left
+  move (Some (instrs.GoBack n)) place stack held left = Goes (place - n) stack held left
+  move (Some instrs.Hold) place stack held left = on_top stack (λ v rest. Goes (place + 1) rest v left)
+  move (Some instrs.Sync) place stack held left = on_none stack (Waits asks.Sync Nothing (place + 1) [] held left)
+  move (Some instrs.GiveResult) place stack held left =
+      if takes_result m.callee then Waits (asks.Result held) Nothing (place + 1) stack held left else Goes (place + 1) stack held left
+  move (Some instrs.End) place stack held left = Stops (asks.End held) left
 
 -- what a run of the machine comes to: an ask without an answer, no more steps allowed, or stuck
 pub data Run : Type 0 where
@@ -70,26 +170,34 @@ pub data Run : Type 0 where
   Unfinished : Run
   Fails : Run
 
--- a place, a stack, the answers to come and the ticks left
+-- a place, a stack, the result that is held, the answers to come and the ticks left
 abbrev pub Next : Type 0
-Next = ℕ → List ℤ → List ℤ → ℕ → Run
+Next = ℕ → List ℤ → ℤ → List ℤ → ℕ → Run
 
 -- goes on once the answer came
 abbrev pub received : ℕ → Owed → ℤ → List ℤ → (List ℤ → Run) → Run
 received room Nothing a stack go = go stack
 received room Word a stack go = if nat_lt (length stack) room then go (a ∷ stack) else Fails
 
-abbrev pub waiting : ℕ → Ask → Owed → ℕ → List ℤ → List ℤ → ℕ → Next → Run
-waiting room k owed place stack [] left next = Reaches (asks_for k left)
-waiting room k owed place stack (a ∷ answers) left next = received room owed a stack (λ stack. next place stack answers left)
+abbrev pub waiting : ℕ → Ask → Owed → ℕ → List ℤ → ℤ → List ℤ → ℕ → Next → Run
+waiting room k owed place stack held [] left next = Reaches (asks_for k left)
+waiting room k owed place stack held (a ∷ answers) left next = received room owed a stack (λ stack. next place stack held answers left)
 
 abbrev pub going : ℕ → Move → List ℤ → Next → Run
-going room (Goes place stack left) answers next = next place stack answers left
-going room (Waits k owed place stack left) answers next = waiting room k owed place stack answers left next
+going room (Goes place stack held left) answers next = next place stack held answers left
+going room (Waits k owed place stack held left) answers next = waiting room k owed place stack held answers left next
 going room (Stops k left) answers next = Reaches (asks_for k left)
 going room Stuck answers next = Fails
 
 -- at most so many instructions
-abbrev pub exec : List ℤ → ℕ → List Instr → ℕ → Next
-exec inputs room code zero place stack answers left = Unfinished
-exec inputs room code (suc n) place stack answers left = going room (move inputs room (slice_get code place) place stack left) answers (exec inputs room code n)
+abbrev pub exec : Setting → ℕ → Next
+exec m zero place stack held answers left = Unfinished
+exec m (suc n) place stack held answers left = going m.room (move m (slice_get m.code.instrs place) place stack held left) answers (exec m n)
+
+-- a frame of a callee
+abbrev pub setting : List ℤ → CodeView → Callee → Setting
+setting inputs c callee = record { inputs = inputs; code = c; callee = callee; room = (entry_of c callee).room }
+
+-- it begins with no operand, and with 0 for its result
+abbrev pub exec_frame : List ℤ → CodeView → Callee → ℕ → List ℤ → ℕ → Run
+exec_frame inputs c callee n answers left = exec (setting inputs c callee) n (entry_of c callee).place [] (pos 0) answers left

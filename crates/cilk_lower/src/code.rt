@@ -1,22 +1,38 @@
-//! The instructions of a body.
+//! The instructions of all bodies.
 
-ghost use Rattle.std.specs.Prelude.{◌≡◌, ◌<◌, ◌^◌, slice_get, length, IfSome};
-ghost use Rattle.cilk_lower.specs.Code.{JumpsLand, Lands};
+ghost use Rattle.std.specs.Prelude.{◌≡◌, ◌<◌, ◌≤◌, ◌^◌, slice_get, unwrap_or, length, IfSome};
+ghost use Rattle.cilk_lower.specs.Code.{ArraysFit, JumpsLand, Lands, ArrayFits, SitesFit, entry_of};
 
-use cilk_names::syntax::{Operator, Place};
+use cilk_program::ask::Callee;
+use cilk_program::given::References;
+use cilk_program::syntax::{Array, Compound, Invocation, Operator, Place, Reducer};
 use std::marker::Model;
 
 /// One instruction. It makes at most one event and takes at most one tick. A jump says how many instructions it passes.
-#[derive(Clone, Copy, Debug)]
+#[derive(Clone, Copy)]
 pub enum Instr {
     /// A statement begins: a tick.
     Tick,
     /// A number onto the stack.
     Push(i64),
-    /// The value at a place onto the stack.
+    /// A tick, and the value at a place onto the stack.
     Load(Place),
+    /// A tick, and the value of the element whose index is the top in place of it.
+    LoadElement(Array),
+    /// The value at a place onto the stack, without a tick.
+    Fetch(Place),
+    /// The value of the element whose index is the top above it, without a tick.
+    FetchElement(Array),
     /// The top of the stack to a place.
     Store(Place),
+    /// The top of the stack to the element whose index lies below it.
+    StoreElement(Array),
+    /// 0 to a cell of the frame.
+    Zero(u32),
+    /// An old value and another one above it combined, without a tick.
+    Combine(Compound),
+    /// A number is added to the top, without a tick.
+    AddNumber(i64),
     /// The opposite of the top.
     Negate,
     /// 1 for a top of 0, else 0.
@@ -25,75 +41,173 @@ pub enum Instr {
     Apply(Operator),
     /// 0 for a top of 0, else 1.
     Truth,
+    /// A tick, and the number of a reducer's view onto the stack.
+    Value(Reducer),
     /// The input number at the place that the top says.
     Input,
     /// How many input numbers there are.
     InputCount,
     /// The top is printed.
     Print,
+    /// A reducer begins with its monoid's unit.
+    Create(Reducer),
+    /// A reducer's view is multiplied by the top from the right.
+    Update(Reducer),
+    /// A reducer's view becomes that of the top alone.
+    Set(Reducer),
+    /// The word with this number that the frame was given, to the cell with this number.
+    Word(u32),
+    /// The frame's one turn to the loop's variable.
+    Turn,
+    /// The call or spawn of the call site with this number, whose words are on the stack.
+    Invoke(usize),
+    /// The frame of all turns of a loop between the two bounds on the stack. Without any turn it goes on behind `Resume`.
+    CallLoop(u32),
+    /// The first half of the frame's turns is spawned.
+    SpawnHalf,
+    /// The second half of the frame's turns is called.
+    CallHalf,
+    /// The frame goes on after an invocation.
+    Resume,
     /// Goes on behind so many instructions where the top is 0.
     SkipIfZero(usize),
+    /// Goes on behind so many instructions where the frame has several turns.
+    SkipUnlessOne(usize),
     /// Goes on behind so many instructions.
     GoOn(usize),
     /// Goes back by so many instructions.
     GoBack(usize),
+    /// The top is held for the frame's result.
+    Hold,
     /// The frame waits for the children that it spawned.
     Sync,
-    /// The frame ends with the top as its result.
+    /// The result goes to the caller's variable, where it takes one.
+    GiveResult,
+    /// The frame ends with its result.
     End,
-    /// The frame ends with 0.
-    Finish,
 }
 
 /// What the answer to an ask brings onto the stack of the frame that asked.
-#[derive(Clone, Copy, Debug)]
+#[derive(Clone, Copy)]
 pub enum Owed {
     Nothing,
     Word,
 }
 
-/// The instructions of a body, and the room that they need for operands.
+/// Where the frame of a body begins, and the room that it needs for operands.
+#[derive(Clone, Copy)]
+pub struct Entry {
+    pub place: usize,
+    pub room: usize,
+}
+
+/// A call site: a call or spawn, the function, how many words lie on the stack for it, the reducers that it is given, and the
+/// variable that takes the result.
+#[derive(Drop)]
+pub struct Site {
+    pub how: Invocation,
+    pub function: u32,
+    pub words: usize,
+    pub reducers: References,
+    pub result: Option<Place>,
+}
+
+impl Site {
+    // The same call site.
+    fn copied(&self) -> Site
+        ensures { result ≡ self.now }
+    {
+        Site {
+            how: self.how,
+            function: self.function,
+            words: self.words,
+            reducers: self.reducers.copied(),
+            result: self.result,
+        }
+    }
+}
+
+/// The instructions of all bodies, the call sites, and where bodies begin.
 #[derive(Drop)]
 pub struct Code {
     instrs: Vec<Instr>,
-    room: usize,
+    sites: Vec<Site>,
+    root: Entry,
+    functions: Vec<Entry>,
+    loops: Vec<Entry>,
 }
 
 impl Model for Code {
-    ghost use Rattle.cilk_lower.specs.Code.{CodeView, JumpsLand};
+    ghost use Rattle.cilk_lower.specs.Code.{CodeView, JumpsLand, ArraysFit, SitesFit};
 
     ghost Value = { CodeView };
 
-    ghost view = { λ c. record { instrs = c.instrs.items; room = c.room } };
+    ghost view = { λ c. record { instrs = c.instrs.items; sites = c.sites.items; root = c.root; functions = c.functions.items; loops = c.loops.items } };
 
-    ghost invariant = { λ c. JumpsLand c.instrs.items };
+    ghost invariant = { λ c. (JumpsLand c.instrs.items × ArraysFit c.instrs.items) × SitesFit c.sites.items };
 }
 
 impl Code {
-    /// The code of these instructions, with room for so many operands.
-    pub fn new(instrs: Vec<Instr>, room: usize) -> Code
-        requires { JumpsLand instrs.items }
-        ensures { result ≡ record { instrs = instrs.items; room = room } }
+    /// The code of these parts.
+    pub fn new(
+        instrs: Vec<Instr>,
+        sites: Vec<Site>,
+        root: Entry,
+        functions: Vec<Entry>,
+        loops: Vec<Entry>,
+    ) -> Code
+        requires jumps { JumpsLand instrs.items }
+        requires arrays { ArraysFit instrs.items }
+        requires sites_fit { SitesFit sites.items }
+        ensures { result ≡ record { instrs = instrs.items; sites = sites.items; root = root; functions = functions.items; loops = loops.items } }
     {
-        Code { instrs, room }
+        Code {
+            instrs,
+            sites,
+            root,
+            functions,
+            loops,
+        }
     }
 
-    /// How many operands the code may have on its stack.
-    pub fn room(&self) -> usize
-        ensures { result ≡ self.now.room }
+    /// Where the frame of a callee begins.
+    pub fn entry(&self, callee: &Callee) -> Entry
+        ensures { result ≡ entry_of self.now callee.now }
     {
-        self.room
+        match callee {
+            Callee::Root => self.root,
+            Callee::Function(call) => entry_at(&self.functions, call.function, self.root),
+            Callee::Loop(part) => entry_at(&self.loops, part.number, self.root),
+        }
     }
 
     /// The instruction at a place.
-    #[tactic(auto, using(crate::proofs::Lands::at_lands))]
+    #[tactic(auto, using(crate::proofs::Lands::at_lands, crate::proofs::Arrays::at_fits))]
     pub fn at(&self, place: usize) -> Option<Instr>
         ensures value { result ≡ slice_get self.now.instrs place }
         ensures lands { IfSome result (λ i. Lands self.now.instrs place i) }
+        ensures arrays { IfSome result (λ i. ArrayFits i) }
         ensures small { IfSome result (λ _. place < 2 ^ 63) }
         ensures fits { length self.now.instrs < 2 ^ 63 }
     {
         get(&self.instrs, place)
+    }
+
+    /// The call site with a number.
+    pub fn site(&self, number: usize) -> Option<Site>
+        ensures value { result ≡ slice_get self.now.sites number }
+        ensures few { IfSome result (λ s. s.words ≤ 16) }
+    {
+        site_at(&self.sites, number)
+    }
+}
+
+fn entry_at(entries: &[Entry], number: u32, root: Entry) -> Entry
+    ensures { result ≡ unwrap_or (slice_get entries.now number) root }
+{
+    match entries.get(number as usize) {
+        Some(entry) => *entry,
+        None => root,
     }
 }
 
@@ -102,4 +216,13 @@ fn get(instrs: &[Instr], place: usize) -> Option<Instr>
     ensures small { IfSome result (λ _. place < 2 ^ 63) }
 {
     instrs.get(place).copied()
+}
+
+fn site_at(sites: &[Site], number: usize) -> Option<Site>
+    ensures { result ≡ slice_get sites.now number }
+{
+    match sites.get(number) {
+        Some(site) => Some(site.copied()),
+        None => None,
+    }
 }

@@ -1,134 +1,88 @@
--- The worked programs do what is said of them.
-use Rattle.std.proofs.Common.{◌≡◌, ℕ, zero, suc, ℤ, pos, List, [], ◌∷◌, refl, ap}
-use Rattle.std.specs.Int.{int_wrap}
-use Rattle.cilk_types.specs.declared.fault.Fault.TheVariants.{TooManyEvents}
-use Rattle.cilk_types.specs.declared.limits.TheConstants.{MAX_EVENTS, MAX_TICKS}
-use Rattle.cilk_names.specs.declared.ask.Ask.TheVariants as asks
-use Rattle.cilk_names.specs.Syntax.{Number, Empty, Return, Nothing, Then}
-use Rattle.cilk_names.specs.Behaviour.{Gives, Asks, ask, all_do, unless_returned, returned, ◌>>=◌, asks_for, ended, value, does, turns, frame_asks}
-use Rattle.cilk_names.specs.Store.{Store, opening}
-use Rattle.cilk_names.specs.Elision.{Ending, Finished, Stopped}
-use Rattle.cilk_names.specs.SerialRun.{Serial, Begins, stop, act, Begun, Made, Faulted}
-use Rattle.cilk_names.specs.Laws.{ran_within}
-use Rattle.cilk_names.specs.Worked.{FaultsInOrder, Takes, TicksCount, operators, OperatorsRun, branches, BranchesRun, no_return, NoReturnRuns, nothing, NothingRuns, countdown, CountdownRuns, endless, EndlessStops, edges, EdgesRun, division_by_zero, DivisionByZeroStops, skipped_division, SkippedDivisionRuns, short_input, ShortInputStops}
-use Rattle.cilk_names.proofs.Runs.{has_serial_run, has_run_within}
+-- Statements one after the other, and loops in their list.
+use Rattle.std.proofs.Common.{◌≡◌, ℕ, suc, ◌+◌, ◌<◌, ◌≤◌, List, [], ◌∷◌, ◌++◌, length, drop, get_or, Option, sym, ap, ◌∙◌, append_assoc, add-one}
+use Rattle.std.proofs.lemmas.List.{append-nil, drop_all}
+use Rattle.std.proofs.Math.Seq.{drop-cons}
+use Rattle.cilk_parser.specs.declared.tree.Stmt as code
+use Rattle.cilk_parser.specs.Trees as trees
+use Rattle.cilk_program.specs.declared.syntax.Stmt as resolved
+use Rattle.cilk_program.specs.Programs as programs
+use Rattle.cilk_program.specs.Syntax.{Loop, Then}
+use Rattle.cilk_names.specs.declared.fault.Misnaming.{Misnaming}
+use Rattle.cilk_names.specs.Names.{Context, ahead, behind, behind_row}
+use Rattle.cilk_names.specs.Misnamings.{earliest, statement_faults, row_faults}
+use Rattle.cilk_names.specs.Pass.{statement_of, row_of, loops_of, row_loops}
+use Rattle.cilk_names.proofs.Earliest.{earliest_append}
+use Rattle.cilk_names.proofs.Blocks.{followed, followed_push, followed_nothing}
 
-abbrev result_of : Ending → ℤ
-result_of (Finished v m) = v
-result_of (Stopped f) = pos 0
+-- what is left, at one of them
+left : (list : List code.Stmt) (i : ℕ) (s : code.Stmt) → i < length list → s ≡ get_or list i s → trees.statements (drop i list) ≡ trees.Then (trees.statement s) (trees.statements (drop (suc i) list))
+left list i s h e = ap trees.statements (drop-cons list i s h ∙ ap (λ y. y ∷ drop (suc i) list) (sym e))
 
-abbrev store_of : Store → Ending → Store
-store_of s (Finished v m) = m
-store_of s (Stopped f) = s
+none : (list : List code.Stmt) (i : ℕ) → length list ≤ i → trees.statements (drop i list) ≡ trees.End
+none list i h = ap trees.statements (drop_all i list h)
 
-pub nothing_runs : NothingRuns
-nothing_runs =
-    let r = ran_within MAX_TICKS MAX_EVENTS nothing [] in
-    record { run = r.run; result = result_of r.ending; store = store_of (opening nothing) r.ending; is_serial = has_serial_run nothing []; makes = refl; leaves = refl }
+module _ (start before mid now : Context) (list : List code.Stmt) (i : ℕ) (s : code.Stmt) (lt : i < length list) (at : s ≡ get_or list i s)
+    (reaches : mid ≡ ahead before (trees.statement s)) (goes : now ≡ behind mid (trees.statement s)) where
+  passes : now ≡ behind (ahead before (trees.statement s)) (trees.statement s)
+  passes = goes ∙ ap (λ c. behind c (trees.statement s)) reaches
 
-pub countdown_runs : CountdownRuns
-unfolding int_wrap
-countdown_runs =
-    let r = ran_within MAX_TICKS MAX_EVENTS countdown [] in
-    record { run = r.run; result = result_of r.ending; store = store_of (opening countdown) r.ending; is_serial = has_serial_run countdown []; makes = refl; leaves = refl }
+  pub row_context : behind_row before (trees.statements (drop i list)) ≡ behind_row start (trees.statements list)
+      → behind_row now (trees.statements (drop (i + 1) list)) ≡ behind_row start (trees.statements list)
+  row_context h =
+      rw add-one (
+      ap (λ c. behind_row c (trees.statements (drop (suc i) list))) passes
+      ∙ ap (λ x. behind_row before x) (sym (left list i s lt at)) ∙ h)
 
-pub edges_run : EdgesRun
-unfolding int_wrap
-edges_run =
-    let r = ran_within MAX_TICKS MAX_EVENTS edges [] in
-    record { run = r.run; result = result_of r.ending; store = store_of (opening edges) r.ending; is_serial = has_serial_run edges []; makes = refl; leaves = refl }
+  pub row_step : (from first next : Option Misnaming)
+      → earliest first (row_faults before (trees.statements (drop i list))) ≡ earliest from (row_faults start (trees.statements list))
+      → next ≡ earliest first (statement_faults mid (trees.statement s))
+      → earliest next (row_faults now (trees.statements (drop (i + 1) list))) ≡ earliest from (row_faults start (trees.statements list))
+  row_step from first next h n =
+      rw add-one (
+      ap (λ c. earliest next (row_faults c (trees.statements (drop (suc i) list)))) passes
+      ∙ ap (λ x. earliest x (row_faults (behind (ahead before (trees.statement s)) (trees.statement s)) (trees.statements (drop (suc i) list)))) (n ∙ ap (λ c. earliest first (statement_faults c (trees.statement s))) reaches)
+      ∙ sym (earliest_append first (statement_faults (ahead before (trees.statement s)) (trees.statement s)) (row_faults (behind (ahead before (trees.statement s)) (trees.statement s)) (trees.statements (drop (suc i) list))))
+      ∙ ap (λ x. earliest first (row_faults before x)) (sym (left list i s lt at))
+      ∙ h)
 
-pub skipped_division_runs : SkippedDivisionRuns
-unfolding int_wrap
-skipped_division_runs =
-    let r = ran_within MAX_TICKS MAX_EVENTS skipped_division [] in
-    record { run = r.run; result = result_of r.ending; store = store_of (opening skipped_division) r.ending; is_serial = has_serial_run skipped_division []; makes = refl; leaves = refl }
+  pub row_loops_step : (from done more : List Loop)
+      → done ++ row_loops before (trees.statements (drop i list)) ≡ from ++ row_loops start (trees.statements list)
+      → more ≡ done ++ loops_of mid (trees.statement s)
+      → more ++ row_loops now (trees.statements (drop (i + 1) list)) ≡ from ++ row_loops start (trees.statements list)
+  row_loops_step from done more h n =
+      rw add-one (
+      ap (λ c. more ++ row_loops c (trees.statements (drop (suc i) list))) passes
+      ∙ ap (λ x. x ++ row_loops (behind (ahead before (trees.statement s)) (trees.statement s)) (trees.statements (drop (suc i) list))) (n ∙ ap (λ c. done ++ loops_of c (trees.statement s)) reaches)
+      ∙ append_assoc done (loops_of (ahead before (trees.statement s)) (trees.statement s)) (row_loops (behind (ahead before (trees.statement s)) (trees.statement s)) (trees.statements (drop (suc i) list)))
+      ∙ ap (λ x. done ++ row_loops before x) (sym (left list i s lt at))
+      ∙ h)
 
-pub operators_run : OperatorsRun
-unfolding int_wrap
-operators_run =
-    let r = ran_within MAX_TICKS MAX_EVENTS operators (pos 5 ∷ pos 6 ∷ []) in
-    record { run = r.run; result = result_of r.ending; store = store_of (opening operators) r.ending; is_serial = has_serial_run operators (pos 5 ∷ pos 6 ∷ []); makes = refl; leaves = refl }
+  pub row_value_step : (done more : List resolved.Stmt) (r : resolved.Stmt)
+      → followed done (row_of before (trees.statements (drop i list))) ≡ row_of start (trees.statements list)
+      → programs.statement r ≡ statement_of mid (trees.statement s)
+      → more ≡ done ++ r ∷ []
+      → followed more (row_of now (trees.statements (drop (i + 1) list))) ≡ row_of start (trees.statements list)
+  row_value_step done more r h n e =
+      rw add-one (
+      ap (λ c. followed more (row_of c (trees.statements (drop (suc i) list)))) passes
+      ∙ ap (λ x. followed x (row_of (behind (ahead before (trees.statement s)) (trees.statement s)) (trees.statements (drop (suc i) list)))) e
+      ∙ followed_push done r (row_of (behind (ahead before (trees.statement s)) (trees.statement s)) (trees.statements (drop (suc i) list)))
+      ∙ ap (λ x. followed done (Then x (row_of (behind (ahead before (trees.statement s)) (trees.statement s)) (trees.statements (drop (suc i) list))))) (n ∙ ap (λ c. statement_of c (trees.statement s)) reaches)
+      ∙ ap (λ x. followed done (row_of before x)) (sym (left list i s lt at))
+      ∙ h)
 
-pub branches_run : BranchesRun
-unfolding int_wrap
-branches_run =
-    let r = ran_within MAX_TICKS MAX_EVENTS branches [] in
-    record { run = r.run; result = result_of r.ending; store = store_of (opening branches) r.ending; is_serial = has_serial_run branches []; makes = refl; leaves = refl }
+module _ (start now : Context) (list : List code.Stmt) (i : ℕ) (le : length list ≤ i) where
+  pub row_context_end : behind_row now (trees.statements (drop i list)) ≡ behind_row start (trees.statements list) → now ≡ behind_row start (trees.statements list)
+  row_context_end h = ap (λ x. behind_row now x) (sym (none list i le)) ∙ h
 
-pub no_return_runs : NoReturnRuns
-unfolding int_wrap
-no_return_runs =
-    let r = ran_within MAX_TICKS MAX_EVENTS no_return [] in
-    record { run = r.run; result = result_of r.ending; store = store_of (opening no_return) r.ending; is_serial = has_serial_run no_return []; makes = refl; leaves = refl }
+  pub row_end : (from first : Option Misnaming) → earliest first (row_faults now (trees.statements (drop i list))) ≡ earliest from (row_faults start (trees.statements list))
+      → first ≡ earliest from (row_faults start (trees.statements list))
+  row_end from first h = ap (λ x. earliest first (row_faults now x)) (sym (none list i le)) ∙ h
 
-pub division_by_zero_stops : DivisionByZeroStops
-unfolding int_wrap
-division_by_zero_stops = record { run = (ran_within MAX_TICKS MAX_EVENTS division_by_zero []).run; is_serial = has_serial_run division_by_zero []; makes = refl }
+  pub row_loops_end : (from done : List Loop) → done ++ row_loops now (trees.statements (drop i list)) ≡ from ++ row_loops start (trees.statements list)
+      → done ≡ from ++ row_loops start (trees.statements list)
+  row_loops_end from done h = sym (append-nil done) ∙ ap (λ x. done ++ row_loops now x) (sym (none list i le)) ∙ h
 
-pub short_input_stops : ShortInputStops
-unfolding int_wrap
-short_input_stops = record { run = (ran_within MAX_TICKS MAX_EVENTS short_input (pos 5 ∷ [])).run; is_serial = has_serial_run short_input (pos 5 ∷ []); makes = refl }
-
--- a loop that never ends takes all ticks, however many there are
-turns_on : (n left : ℕ) (inputs answers : List ℤ) → turns n (value inputs (Number (pos 1))) (does inputs Empty) answers left ≡ Asks (asks_for (asks.Fault TooManyEvents) 0)
-turns_on zero left inputs answers = refl
-turns_on (suc n) zero inputs answers = refl
-turns_on (suc n) (suc zero) inputs answers = refl
-turns_on (suc n) (suc (suc left)) inputs answers = turns_on n left inputs answers
-
-faults : (ticks : ℕ) (a : ℤ) (answers : List ℤ) → frame_asks [] endless.main (a ∷ answers) ticks ≡ asks_for (asks.Fault TooManyEvents) 0
-faults zero a answers = refl
-faults (suc left) a answers =
-    ap (λ g. ended ((g >>= λ f. unless_returned f (all_do [] (Then (Return (Number (pos 0))) Nothing))) >>= λ f answers left. ask asks.Sync answers left >>= λ _. Gives (returned f))) (turns_on (suc left) left [] answers)
-
-endless_within : (ticks room : ℕ) → Serial (frame_asks [] endless.main) ticks [] (opening endless) (suc room) (act Begins stop) (Stopped TooManyEvents)
-endless_within ticks room =
-    Made {start = ticks} {history = []} asks.Begin ticks Begins (pos 0) (opening endless) refl Begun (Faulted {start = ticks} {history = pos 0 ∷ []} TooManyEvents 0 (faults ticks (pos 0) []))
-
-pub endless_stops : EndlessStops
-endless_stops = record { run = act Begins stop; is_serial = endless_within MAX_TICKS 999999; makes = refl }
-
-nothing_takes : Takes 2 3 nothing []
-unfolding int_wrap
-nothing_takes = record {
-  ends = let e = (ran_within 2 3 nothing []).ending in ((ran_within 2 3 nothing []).run, result_of e, store_of (opening nothing) e, has_run_within 2 3 nothing []);
-  takes_ticks = ((ran_within 1 3 nothing []).run, has_run_within 1 3 nothing []);
-  takes_events = ((ran_within 2 2 nothing []).run, has_run_within 2 2 nothing []);
-}
-
-countdown_takes : Takes 28 20 countdown []
-unfolding int_wrap
-countdown_takes = record {
-  ends = let e = (ran_within 28 20 countdown []).ending in ((ran_within 28 20 countdown []).run, result_of e, store_of (opening countdown) e, has_run_within 28 20 countdown []);
-  takes_ticks = ((ran_within 27 20 countdown []).run, has_run_within 27 20 countdown []);
-  takes_events = ((ran_within 28 19 countdown []).run, has_run_within 28 19 countdown []);
-}
-
-branches_take : Takes 24 10 branches []
-unfolding int_wrap
-branches_take = record {
-  ends = let e = (ran_within 24 10 branches []).ending in ((ran_within 24 10 branches []).run, result_of e, store_of (opening branches) e, has_run_within 24 10 branches []);
-  takes_ticks = ((ran_within 23 10 branches []).run, has_run_within 23 10 branches []);
-  takes_events = ((ran_within 24 9 branches []).run, has_run_within 24 9 branches []);
-}
-
-operators_take : Takes 114 32 operators (pos 5 ∷ pos 6 ∷ [])
-unfolding int_wrap
-operators_take = record {
-  ends = let e = (ran_within 114 32 operators (pos 5 ∷ pos 6 ∷ [])).ending in ((ran_within 114 32 operators (pos 5 ∷ pos 6 ∷ [])).run, result_of e, store_of (opening operators) e, has_run_within 114 32 operators (pos 5 ∷ pos 6 ∷ []));
-  takes_ticks = ((ran_within 113 32 operators (pos 5 ∷ pos 6 ∷ [])).run, has_run_within 113 32 operators (pos 5 ∷ pos 6 ∷ []));
-  takes_events = ((ran_within 114 31 operators (pos 5 ∷ pos 6 ∷ [])).run, has_run_within 114 31 operators (pos 5 ∷ pos 6 ∷ []));
-}
-
-pub ticks_count : TicksCount
-ticks_count = (nothing_takes, countdown_takes, branches_take, operators_take)
-
-pub faults_in_order : FaultsInOrder
-unfolding int_wrap
-faults_in_order = (
-  record { run = (ran_within 1 20 countdown []).run; is_serial = has_run_within 1 20 countdown []; makes = refl },
-  record { run = (ran_within 2 20 countdown []).run; is_serial = has_run_within 2 20 countdown []; makes = refl },
-  record { run = (ran_within 2 1 division_by_zero []).run; is_serial = has_run_within 2 1 division_by_zero []; makes = refl },
-  record { run = (ran_within 3 1 division_by_zero []).run; is_serial = has_run_within 3 1 division_by_zero []; makes = refl },
-)
+  pub row_value_end : (done : List resolved.Stmt) → followed done (row_of now (trees.statements (drop i list))) ≡ row_of start (trees.statements list)
+      → programs.statements done ≡ row_of start (trees.statements list)
+  row_value_end done h = sym (followed_nothing done) ∙ ap (λ x. followed done (row_of now x)) (sym (none list i le)) ∙ h

@@ -1,147 +1,72 @@
--- What a table says, after one more declaration.
-use Rattle.std.proofs.Common.{◌≡◌, ℕ, Bool, true, false, ◌||◌, if◌then◌else◌, List, [], ◌∷◌, ◌++◌, Option, Some, refl, sym, ap, ◌∙◌, subst, append_assoc, option_map, bytes_eq, arith}
-use Rattle.std.specs.Option.{option_map_or}
+-- What a stack of scopes says of a name.
+use Rattle.std.proofs.Common.{◌≡◌, ℕ, ◌+◌, ◌-◌, ◌<◌, ◌≤◌, List, [], ◌∷◌, ◌++◌, length, take, get_or, map, Option, Some, None, refl, sym, ap, ◌∙◌, bytes_eq, add-one, arith, Bor}
+use Rattle.std.specs.Option.{option_or}
 use Rattle.std.proofs.Math.Path.{fun_ext}
-use Rattle.std.proofs.lemmas.Slice.Eq.{bytes_eq-Decides}
-use Rattle.cilk_parser.specs.declared.tree.Name.{Name}
-use Rattle.cilk_parser.specs.Trees.{Item, bytes_of}
-use Rattle.cilk_names.specs.declared.table.Meaning.{Meaning}
+use Rattle.std.proofs.Math.Seq.{take-suc}
+use Rattle.std.proofs.lemmas.Map.Text.{hash_map_updates_str}
+use Rattle.std.specs.HashMap as hash
+use Rattle.std.specs.HashMap.{HashMap}
 use Rattle.cilk_names.specs.declared.table.Entry.{Entry}
-use Rattle.cilk_names.specs.declared.table.Table.{Table}
-use Rattle.cilk_names.specs.Names.{Declaration, Names, meaning_in, declares, functions_of, known_at}
-use Rattle.cilk_names.specs.Pass.{found, names_of, has_declared, Tells}
+use Rattle.cilk_names.specs.Names.{Scope, found_in, with_entry}
+use Rattle.cilk_names.specs.States.{scope_of}
 
--- equal bytes
-pub same_bytes : (a b : List ℕ) → bytes_eq a b ≡ true → a ≡ b
-same_bytes a b h = grind (arith, bytes_eq-Decides a b)
+or_none : {A : Type 0} (o : Option A) → o ≡ option_or o None
+or_none None = refl
+or_none (Some x) = refl
 
-or_false : (b : Bool) → (b || false) ≡ b
-or_false true = refl
-or_false false = refl
+or_assoc : {A : Type 0} (a b c : Option A) → option_or (option_or a b) c ≡ option_or a (option_or b c)
+or_assoc None b c = refl
+or_assoc (Some x) b c = refl
 
-or_or : (a b c : Bool) → (a || (b || c)) ≡ ((a || b) || c)
-or_or true b c = refl
-or_or false b c = refl
+-- the innermost of them
+pub found_last : (xs : List Scope) (s : Scope) (q : List ℕ) → found_in (xs ++ s ∷ []) q ≡ option_or (s q) (found_in xs q)
+found_last [] s q = or_none (s q)
+found_last (x ∷ xs) s q = ap (λ o. option_or o (x q)) (found_last xs s q) ∙ or_assoc (s q) (found_in xs q) (x q)
 
-or_true : (b : Bool) → (b || true) ≡ true
-or_true true = refl
-or_true false = refl
+pub map_append : {A B : Type 0} (f : A → B) (xs ys : List A) → map f (xs ++ ys) ≡ map f xs ++ map f ys
+map_append f [] ys = refl
+map_append f (x ∷ xs) ys = ap (λ zs. f x ∷ zs) (map_append f xs ys)
 
--- one more declaration
-pub declares_push : (ds : List Declaration) (d : Declaration) (name : List ℕ) → declares (ds ++ d ∷ []) name ≡ (declares ds name || bytes_eq d.name name)
-declares_push [] d name = or_false (bytes_eq d.name name)
-declares_push (a ∷ ds) d name = ap (λ b. bytes_eq a.name name || b) (declares_push ds d name) ∙ or_or (bytes_eq a.name name) (declares ds name) (bytes_eq d.name name)
+-- one more of a list
+pub take_more : {A : Type 0} (list : List A) (i : ℕ) (x : A) → i < length list → x ≡ get_or list i x → take (i + 1) list ≡ take i list ++ x ∷ []
+take_more list i x h e = rw add-one (take-suc list i x h ∙ ap (λ y. take i list ++ y ∷ []) (sym e))
 
-decided : (b : Bool) (m : Meaning) (c : Bool) (x y : Option Meaning) → (b || c) ≡ true → (c ≡ true → x ≡ y) → (if b then Some m else x) ≡ (if b then Some m else y)
-decided true m c x y h k = refl
-decided false m c x y h k = k h
+-- one more of a stack of maps
+found_next : {S : Type 0} (ms : List (HashMap (Bor (List ℕ)) Entry S)) (n : ℕ) (m : HashMap (Bor (List ℕ)) Entry S) (q : List ℕ)
+    → n < length ms → m ≡ get_or ms n m
+    → found_in (map scope_of (take (n + 1) ms)) q ≡ option_or (scope_of m q) (found_in (map scope_of (take n ms)) q)
+found_next ms n m q h e =
+    ap (λ xs. found_in (map scope_of xs) q) (take_more ms n m h e)
+    ∙ ap (λ xs. found_in xs q) (map_append scope_of (take n ms) (m ∷ []))
+    ∙ found_last (map scope_of (take n ms)) (scope_of m) q
 
--- the first declaration of a name decides
-meaning_declared : (ds xs ys : List Declaration) (name : List ℕ) → declares ds name ≡ true → meaning_in (ds ++ xs) name ≡ meaning_in (ds ++ ys) name
-meaning_declared [] xs ys name h = cc
-meaning_declared (a ∷ ds) xs ys name h = decided (bytes_eq a.name name) a.meaning (declares ds name) _ _ h (meaning_declared ds xs ys name)
+-- the last of the first so many
+found_here : {S : Type 0} (ms : List (HashMap (Bor (List ℕ)) Entry S)) (d : ℕ) (m : HashMap (Bor (List ℕ)) Entry S) (q : List ℕ)
+    → 0 < d → d ≤ length ms → m ≡ get_or ms (d - 1) m
+    → found_in (map scope_of (take d ms)) q ≡ option_or (scope_of m q) (found_in (map scope_of (take (d - 1) ms)) q)
+found_here ms d m q p h e =
+    let lt : d - 1 < length ms = omega arith in
+    let same : d ≡ (d - 1) + 1 = omega arith in
+    ap (λ n. found_in (map scope_of (take n ms)) q) same ∙ found_next ms (d - 1) m q lt e
 
-undecided : (b : Bool) (m : Meaning) (c : Bool) (x y : Option Meaning) → (b || c) ≡ false → (c ≡ false → x ≡ y) → (if b then Some m else x) ≡ y
-undecided true m c x y h k = cc
-undecided false m c x y h k = k h
+-- it knows the name
+pub found_some : {S : Type 0} (ms : List (HashMap (Bor (List ℕ)) Entry S)) (d : ℕ) (m : HashMap (Bor (List ℕ)) Entry S) (q : List ℕ) (o : Option Entry) (e : Entry)
+    → 0 < d → d ≤ length ms → m ≡ get_or ms (d - 1) m → o ≡ None → Some e ≡ scope_of m q
+    → found_in (map scope_of ms) q ≡ found_in (map scope_of (take d ms)) q → Some e ≡ option_or o (found_in (map scope_of ms) q)
+found_some ms d m q o e p h k n f r =
+    sym (ap (λ x. option_or x (found_in (map scope_of ms) q)) n ∙ r ∙ found_here ms d m q p h k ∙ ap (λ x. option_or x (found_in (map scope_of (take (d - 1) ms)) q)) (sym f))
 
--- where none of these declares it, the next do
-meaning_undeclared : (ds xs : List Declaration) (name : List ℕ) → declares ds name ≡ false → meaning_in (ds ++ xs) name ≡ meaning_in xs name
-meaning_undeclared [] xs name h = refl
-meaning_undeclared (a ∷ ds) xs name h = undecided (bytes_eq a.name name) a.meaning (declares ds name) _ _ h (meaning_undeclared ds xs name)
+-- it doesn't
+pub found_none : {S : Type 0} (ms : List (HashMap (Bor (List ℕ)) Entry S)) (d : ℕ) (m : HashMap (Bor (List ℕ)) Entry S) (q : List ℕ)
+    → 0 < d → d ≤ length ms → m ≡ get_or ms (d - 1) m → scope_of m q ≡ None
+    → found_in (map scope_of ms) q ≡ found_in (map scope_of (take d ms)) q
+    → found_in (map scope_of ms) q ≡ found_in (map scope_of (take (d - 1) ms)) q
+found_none ms d m q p h k f r =
+    r ∙ found_here ms d m q p h k ∙ ap (λ x. option_or x (found_in (map scope_of (take (d - 1) ms)) q)) f
 
--- a declaration of another name changes nothing
-meaning_other : (ds xs : List Declaration) (d : Declaration) (name : List ℕ) → bytes_eq d.name name ≡ false → meaning_in (ds ++ d ∷ xs) name ≡ meaning_in (ds ++ xs) name
-meaning_other [] xs d name h = ap (λ b. if b then Some d.meaning else meaning_in xs name) h
-meaning_other (a ∷ ds) xs d name h = ap (λ x. if bytes_eq a.name name then Some a.meaning else x) (meaning_other ds xs d name h)
-
--- neither does one of a name that is declared ahead
-pub meaning_again : (ds xs : List Declaration) (d : Declaration) (name : List ℕ) → declares ds d.name ≡ true → meaning_in (ds ++ d ∷ xs) name ≡ meaning_in (ds ++ xs) name
-meaning_again ds xs d name h = again_cases (bytes_eq d.name name) refl
-  where
-    again_cases : (b : Bool) → bytes_eq d.name name ≡ b → meaning_in (ds ++ d ∷ xs) name ≡ meaning_in (ds ++ xs) name
-    again_cases false e = meaning_other ds xs d name e
-    again_cases true e = meaning_declared ds (d ∷ xs) xs name (subst (λ q. declares ds q ≡ true) (same_bytes d.name name e) h)
-
--- a new one says what its name means
-pub meaning_new : (ds xs : List Declaration) (d : Declaration) (name : List ℕ) → declares ds d.name ≡ false
-    → meaning_in (ds ++ d ∷ xs) name ≡ (if bytes_eq d.name name then Some d.meaning else meaning_in (ds ++ xs) name)
-meaning_new ds xs d name h = new_cases (bytes_eq d.name name) refl
-  where
-    new_cases : (b : Bool) → bytes_eq d.name name ≡ b → meaning_in (ds ++ d ∷ xs) name ≡ (if b then Some d.meaning else meaning_in (ds ++ xs) name)
-    new_cases false e = meaning_other ds xs d name e
-    new_cases true e =
-        meaning_undeclared ds (d ∷ xs) name (subst (λ q. declares ds q ≡ false) (same_bytes d.name name e) h)
-        ∙ ap (λ b. if b then Some d.meaning else meaning_in xs name) e
-
--- a table whose name is declared already tells of a second declaration as it is
-pub again_tells : (t : Table) (text : List ℕ) (ds later : List Declaration) (d : Declaration)
-    → Tells t text ds later → declares ds d.name ≡ true → Tells t text (ds ++ d ∷ []) later
-again_tells t text ds later d h k = record {
-  text_is = h.text_is;
-  meanings = λ name. h.meanings name ∙ sym (meaning_again ds later d name k) ∙ ap (λ xs. meaning_in xs name) (sym (append_assoc ds (d ∷ []) later));
-  reached = λ name. h.reached name ∙ sym (declares_push ds d name ∙ declared_or name (bytes_eq d.name name) refl);
-}
-  where
-    declared_or : (name : List ℕ) (b : Bool) → bytes_eq d.name name ≡ b → (declares ds name || b) ≡ declares ds name
-    declared_or name false e = or_false (declares ds name)
-    declared_or name true e = let f : declares ds name ≡ true = subst (λ q. declares ds q ≡ true) (same_bytes d.name name e) k in ap (λ b. b || true) f ∙ sym f
-
--- and one with a new entry of a new declaration
-pub new_tells : (t t' : Table) (text : List ℕ) (ds later : List Declaration) (d : Declaration)
-    → Tells t text ds later → declares ds d.name ≡ false → t'.text.now ≡ t.text.now
-    → ((q : List ℕ) → found t' q ≡ (if bytes_eq d.name q then Some (record { meaning = d.meaning; declared = true }) else found t q))
-    → Tells t' text (ds ++ d ∷ []) later
-new_tells t t' text ds later d h k same f = record {
-  text_is = same ∙ h.text_is;
-  meanings = λ name.
-      ap (option_map (λ (e : Entry). e.meaning)) (f name) ∙ entry_meaning (bytes_eq d.name name) _ _ (h.meanings name)
-      ∙ sym (meaning_new ds later d name k) ∙ ap (λ xs. meaning_in xs name) (sym (append_assoc ds (d ∷ []) later));
-  reached = λ name.
-      ap (λ o. option_map_or (λ (e : Entry). e.declared) o false) (f name) ∙ entry_declared (bytes_eq d.name name) _ _ (h.reached name) ∙ sym (declares_push ds d name);
-}
-  where
-    entry_meaning : (b : Bool) (o : Option Entry) (m : Option Meaning) → option_map (λ (e : Entry). e.meaning) o ≡ m
-        → option_map (λ (e : Entry). e.meaning) (if b then Some (record { meaning = d.meaning; declared = true }) else o) ≡ (if b then Some d.meaning else m)
-    entry_meaning true o m e = refl
-    entry_meaning false o m e = e
-
-    entry_declared : (b : Bool) (o : Option Entry) (c : Bool) → option_map_or (λ (e : Entry). e.declared) o false ≡ c
-        → option_map_or (λ (e : Entry). e.declared) (if b then Some (record { meaning = d.meaning; declared = true }) else o) false ≡ (c || b)
-    entry_declared true o c e = sym (or_true c)
-    entry_declared false o c e = e ∙ sym (or_false c)
-
--- the names of a table that tells so
-pub names_are : (t : Table) (text : List ℕ) (ds : List Declaration) (items : List Item) → Tells t text ds (functions_of text items) → names_of t ≡ known_at text ds items
-names_are t text ds items h =
-    ap (λ (f : Name → Option Meaning). let n : Names = record { meaning = f } in n)
-    (fun_ext (λ (x : Name). h.meanings (bytes_of t.text.now x) ∙ ap (λ bs. meaning_in (ds ++ functions_of text items) (bytes_of bs x)) h.text_is))
-
--- a declared function is known already
-pub function_known : (t : Table) (text : List ℕ) (ds later : List Declaration) (d : Declaration) → Tells t text (ds ++ d ∷ []) (d ∷ later) → Tells t text (ds ++ d ∷ []) later
-function_known t text ds later d h = record {
-  text_is = h.text_is;
-  meanings = λ name. h.meanings name ∙ meaning_again (ds ++ d ∷ []) later d name (declares_push ds d d.name ∙ ap (λ b. declares ds d.name || b) (itself d.name) ∙ or_true (declares ds d.name));
-  reached = h.reached;
-}
-  where
-    itself : (a : List ℕ) → bytes_eq a a ≡ true
-    itself a = grind (arith, bytes_eq-Decides a a)
-
--- what is declared, by the table's own text
-reached_at : (t : Table) (text : List ℕ) (ds later : List Declaration) (x : Name) (b : Bool) → Tells t text ds later → has_declared t (bytes_of t.text.now x) ≡ b → declares ds (bytes_of text x) ≡ b
-reached_at t text ds later x b h k = sym (h.reached (bytes_of text x)) ∙ ap (λ bs. has_declared t (bytes_of bs x)) (sym h.text_is) ∙ k
-
--- a second declaration of a name
-pub tells_again : (t : Table) (x : Name) (m : Meaning) (text : List ℕ) (ds later : List Declaration)
-    → has_declared t (bytes_of t.text.now x) ≡ true → Tells t text ds later → Tells t text (ds ++ record { name = bytes_of text x; meaning = m } ∷ []) later
-tells_again t x m text ds later k h = again_tells t text ds later (record { name = bytes_of text x; meaning = m }) h (reached_at t text ds later x true h k)
-
--- the first
-pub tells_new : (t t' : Table) (x : Name) (m : Meaning) (text : List ℕ) (ds later : List Declaration)
-    → has_declared t (bytes_of t.text.now x) ≡ false → t'.text.now ≡ t.text.now
-    → ((q : List ℕ) → found t' q ≡ (if bytes_eq (bytes_of t.text.now x) q then Some (record { meaning = m; declared = true }) else found t q))
-    → Tells t text ds later → Tells t' text (ds ++ record { name = bytes_of text x; meaning = m } ∷ []) later
-tells_new t t' x m text ds later k same f h =
-    new_tells t t' text ds later (record { name = bytes_of text x; meaning = m }) h (reached_at t text ds later x false h k) same
-    (λ q. f q ∙ ap (λ bs. if bytes_eq (bytes_of bs x) q then Some (record { meaning = m; declared = true }) else found t q) h.text_is)
+-- an insertion
+pub put_entry : {S : Type 0} (m n : HashMap (Bor (List ℕ)) Entry S) (bs bs' : List ℕ) (e : Entry) → bs' ≡ bs
+    → hash.UpdatesBy (λ x y. bytes_eq x.now y.now) (λ k. bytes_eq bs' k.now) m n (Some e)
+    → scope_of n ≡ with_entry (scope_of m) bs e
+put_entry m n bs bs' e same h =
+    fun_ext (λ (q : List ℕ). hash_map_updates_str bs' m n _ h q ∙ ap (λ b. with_entry (scope_of m) b e q) same)

@@ -1,156 +1,103 @@
--- What the whole pass says of a tree.
-use Rattle.std.proofs.Common.{◌≡◌, ℕ, ℤ, Bool, true, false, ◌&&◌, ◌||◌, if◌then◌else◌, List, [], ◌∷◌, length, Contains, Option, Some, None, refl, sym, ap, ◌∙◌, subst, inl, inr, arith, nat_lt, nat_eq}
-use Rattle.std.proofs.lemmas.List.Elements.{All-cons, All-head, All-tail, Contains-append_right, Contains-append_left, Contains-append_cases, Contains-push}
-use Rattle.std.proofs.lemmas.Bool.Decides.{nat_tests}
+-- A tree resolves exactly where nothing is wrong with its names, and to one program.
+use Rattle.std.proofs.Common.{◌≡◌, ℕ, List, [], ◌∷◌, ◌++◌, length, map, Option, Some, None, refl, sym, ap, ◌∙◌}
 use Rattle.cilk_parser.specs.declared.tree.Tree.{Tree}
-use Rattle.cilk_parser.specs.Trees.{program}
-use Rattle.cilk_names.specs.declared.fault.NameNumber.TheVariants.{NoMain}
+use Rattle.cilk_parser.specs.Trees as trees
+use Rattle.cilk_parser.specs.Trees.{Item, program}
+use Rattle.cilk_program.specs.Syntax as syntax
+use Rattle.cilk_program.specs.Syntax.{Loop, Source, Statements}
 use Rattle.cilk_names.specs.declared.fault.Misnaming.{Misnaming}
-use Rattle.cilk_names.specs.Syntax.{Source, Statements}
-use Rattle.cilk_names.specs.Misnamings.{number_of, is_before, IsFirst, earliest, items_faults, has_main, or_no_main, faults_of}
-use Rattle.cilk_names.specs.Resolution.{Resolves, openings_of}
-use Rattle.cilk_names.specs.Pass.{main_of}
-use Rattle.cilk_names.proofs.Resolved.{main_only, main_right, no_main, some_main}
+use Rattle.cilk_names.specs.Names.{behind_row, with_parameters}
+use Rattle.cilk_names.specs.Globals.{Known, start, in_function, behind_item, behind_items, main_of}
+use Rattle.cilk_names.specs.Misnamings.{again_faults, limit_faults, parameters_faults, row_faults, item_faults, items_faults, or_no_main, faults_of}
+use Rattle.cilk_names.specs.declared.limits.TheConstants.{MAX_FUNCTIONS}
+use Rattle.cilk_names.specs.Pass.{row_of, row_loops, function_of_body, items_functions, items_loops, program_of}
+use Rattle.cilk_names.specs.Resolution.{ResolvesItems, Resolves}
+use Rattle.cilk_names.proofs.Rights.{both_nil, row_right}
+use Rattle.cilk_names.proofs.Onlys.{row_only}
 
--- by place, then number: an order of its own on numbers
-abbrev lower : ℕ → ℕ → ℕ → ℕ → Bool
-lower p n q m = nat_lt p q || (nat_eq p q && nat_lt n m)
+-- a function's body
+pub function_row_right : (k : Known) (returns : _) (x : _) (ps : List _) (body : trees.Statements) → item_faults k (trees.Function returns x ps body) ≡ []
+    → (parameters_faults (in_function k returns x) ps ≡ []) × (row_faults (with_parameters (in_function k returns x) ps) body ≡ []) × (limit_faults MAX_FUNCTIONS k.functions x ≡ [])
+function_row_right k returns x ps body h =
+    let c = in_function k returns x in
+    let p = both_nil (again_faults k.names x ++ limit_faults MAX_FUNCTIONS k.functions x ++ parameters_faults c ps) (row_faults (with_parameters c ps) body) h in
+    let q = both_nil (again_faults k.names x ++ limit_faults MAX_FUNCTIONS k.functions x) (parameters_faults c ps) p.0 in
+    (q.1, p.1, (both_nil (again_faults k.names x) (limit_faults MAX_FUNCTIONS k.functions x) q.0).1)
 
-lower_itself : (p n : ℕ) → lower p n p n ≡ false
-lower_itself p n = grind (arith, nat_tests)
-
--- f ≤ g and g < h
-lower_first : (fp fn gp gn hp hn : ℕ) → lower gp gn fp fn ≡ false → lower gp gn hp hn ≡ true → lower hp hn fp fn ≡ false
-lower_first fp fn gp gn hp hn a b = grind (arith, nat_tests)
-
--- f ≤ h and h ≤ g
-lower_second : (fp fn gp gn hp hn : ℕ) → lower hp hn fp fn ≡ false → lower gp gn hp hn ≡ false → lower gp gn fp fn ≡ false
-lower_second fp fn gp gn hp hn a b = grind (arith, nat_tests)
-
-contains_head : {A : Type 0} (x : A) (xs : List A) → Contains (x ∷ xs) x
-contains_head x xs = Contains-append_left (x ∷ []) xs x (Contains-push [] x)
-
--- past the second of two
-contains_third : {A : Type 0} (x y z : A) (xs : List A) → Contains (x ∷ xs) z → Contains (x ∷ y ∷ xs) z
-contains_third x y z xs h = elim (Contains-append_cases (x ∷ []) xs z h) [
-  | inl k ↦ Contains-append_left (x ∷ []) (y ∷ xs) z k
-  | inr k ↦ Contains-append_right (x ∷ y ∷ []) xs z k
-]
-
-NotBefore : Misnaming → Misnaming → Type 0
-NotBefore f g = is_before g f ≡ false
-
-first_of_two : (h f g : Misnaming) (fs : List Misnaming) (b : Bool) → is_before g h ≡ b
-    → ((h : Misnaming) → earliest (Some h) fs ≡ Some f → IsFirst f (h ∷ fs))
-    → earliest (if b then Some g else Some h) fs ≡ Some f → IsFirst f (h ∷ g ∷ fs)
-first_of_two h f g fs true e ih k =
-    let i : IsFirst f (g ∷ fs) = ih g k in (
-      Contains-append_right (h ∷ []) (g ∷ fs) f i.0,
-      All-cons (λ x. is_before x f ≡ false) h (g ∷ fs)
-          (lower_first f.place (number_of f.number) g.place (number_of g.number) h.place (number_of h.number) (All-head (λ x. is_before x f ≡ false) g fs i.1) e) i.1,
-    )
-first_of_two h f g fs false e ih k =
-    let i : IsFirst f (h ∷ fs) = ih h k in
-    let hf : is_before h f ≡ false = All-head (λ x. is_before x f ≡ false) h fs i.1 in (
-      contains_third h g f fs i.0,
-      All-cons (λ x. is_before x f ≡ false) h (g ∷ fs) hf
-          (All-cons (λ x. is_before x f ≡ false) g fs
-          (lower_second f.place (number_of f.number) g.place (number_of g.number) h.place (number_of h.number) hf e)
-          (All-tail (λ x. is_before x f ≡ false) h fs i.1)),
+items_right : (k : Known) (items : List Item) → items_faults k items ≡ [] → ResolvesItems k items (items_functions k items) (items_loops k items)
+items_right k [] h = (refl, refl)
+items_right k (trees.Globals vs ∷ rest) h =
+    items_right (behind_item k (trees.Globals vs)) rest (both_nil (item_faults k (trees.Globals vs)) (items_faults (behind_item k (trees.Globals vs)) rest) h).1
+items_right k (trees.Item.Reducer r ∷ rest) h =
+    items_right (behind_item k (trees.Item.Reducer r)) rest (both_nil (item_faults k (trees.Item.Reducer r)) (items_faults (behind_item k (trees.Item.Reducer r)) rest) h).1
+items_right k (trees.Function returns x ps body ∷ rest) h =
+    let i = trees.Function returns x ps body in
+    let c = with_parameters (in_function k returns x) ps in
+    let p = both_nil (item_faults k i) (items_faults (behind_item k i) rest) h in (
+      row_of c body,
+      items_functions (behind_item k i) rest,
+      row_loops c body,
+      items_loops (behind_item k i) rest,
+      row_right c body (function_row_right k returns x ps body p.0).1,
+      items_right (behind_item k i) rest p.1,
+      refl,
+      refl,
     )
 
-first_from : (fs : List Misnaming) (f h : Misnaming) → earliest (Some h) fs ≡ Some f → IsFirst f (h ∷ fs)
-first_from [] f h e =
-    let same : h ≡ f = cc in
-    subst (λ (x : Misnaming). IsFirst f (x ∷ [])) (sym same)
-    (contains_head f [], All-cons (λ x. is_before x f ≡ false) f [] (lower_itself f.place (number_of f.number)) (λ k d lt. absurd (omega arith)))
-first_from (g ∷ fs) f h e = first_of_two h f g fs (is_before g h) refl (first_from fs f) e
+items_only : (k : Known) (items : List Item) (fs : List syntax.Function) (ls : List Loop) → ResolvesItems k items fs ls → (fs ≡ items_functions k items) × (ls ≡ items_loops k items)
+items_only k [] fs ls h = h
+items_only k (trees.Globals vs ∷ rest) fs ls h = items_only (behind_item k (trees.Globals vs)) rest fs ls h
+items_only k (trees.Item.Reducer r ∷ rest) fs ls h = items_only (behind_item k (trees.Item.Reducer r)) rest fs ls h
+items_only k (trees.Function returns x ps body ∷ rest) fs ls (row, fs', first, second, m, n, is, all) =
+    let i = trees.Function returns x ps body in
+    let c = with_parameters (in_function k returns x) ps in
+    let after = behind_row c body in
+    let p = row_only c body row first m in
+    let q = items_only (behind_item k i) rest fs' second n in (
+      is
+          ∙ ap (λ y. let f : syntax.Function = record { words = c.frame.cells; given = after.given; cells = after.frame.cells; reducers = after.own; body = y } in f ∷ fs') p.0
+          ∙ ap (λ y. function_of_body c body ∷ y) q.0,
+      all ∙ ap (λ y. y ++ second) p.1 ∙ ap (λ y. row_loops c body ++ y) q.1,
+    )
 
--- the earliest of a list is its first
-pub earliest_first : (fs : List Misnaming) (f : Misnaming) → earliest None fs ≡ Some f → IsFirst f fs
-earliest_first [] f e = absurd cc
-earliest_first (g ∷ fs) f e = first_from fs f g e
+-- nothing is wrong, and there is a main function
+right_parts : (main : Option ℕ) (place : ℕ) (fs : List Misnaming) → or_no_main main place fs ≡ [] → (fs ≡ []) × ((n : ℕ) × (main ≡ Some n))
+right_parts None place [] h = absurd cc
+right_parts (Some n) place [] h = (refl, (n, refl))
+right_parts None place (f ∷ fs) h = absurd cc
+right_parts (Some n) place (f ∷ fs) h = absurd cc
 
-stays : (b : Bool) (g h : Misnaming) (fs : List Misnaming) → ((h : Misnaming) → earliest (Some h) fs ≡ None → ⊥) → earliest (if b then Some g else Some h) fs ≡ None → ⊥
-stays true g h fs k e = k g e
-stays false g h fs k e = k h e
+pub tree_parts : (t : Tree) → faults_of t ≡ [] → (items_faults (start t.text.items (program t)) (program t) ≡ []) × ((n : ℕ) × (main_of t.text.items 0 (program t) ≡ Some n))
+tree_parts t h = right_parts (main_of t.text.items 0 (program t)) (length t.text.items) (items_faults (start t.text.items (program t)) (program t)) h
 
-some_stays : (fs : List Misnaming) (h : Misnaming) → earliest (Some h) fs ≡ None → ⊥
-some_stays [] h e = cc
-some_stays (g ∷ fs) h e = stays (is_before g h) g h fs (some_stays fs) e
+pub program_resolves : (t : Tree) (n : ℕ) → faults_of t ≡ [] → main_of t.text.items 0 (program t) ≡ Some n → Resolves t (program_of t n)
+program_resolves t n h m = record {
+  right = h;
+  openings = refl;
+  reducers = refl;
+  functions = items_right (start t.text.items (program t)) (program t) (tree_parts t h).0;
+  main = m;
+}
 
-pub none_right : (fs : List Misnaming) → earliest None fs ≡ None → fs ≡ []
-none_right [] e = refl
-none_right (g ∷ fs) e = absurd (some_stays fs g e)
-
-or_other : (b : Bool) (n : ℕ) (fs : List Misnaming) (f : Misnaming) → earliest None fs ≡ Some f → or_no_main b n fs ≡ fs
-or_other b n [] f e = absurd cc
-or_other b n (g ∷ fs) f e = refl
-
--- the first fault that the pass finds is the tree's first
-pub fault_is : (t : Tree) (first : Option Misnaming) (f : Misnaming) → first ≡ earliest None (items_faults t.text.items [] (program t)) → first ≡ Some f → IsFirst f (faults_of t)
-fault_is t first f e is =
-    let k : earliest None (items_faults t.text.items [] (program t)) ≡ Some f = sym e ∙ is in
-    subst (IsFirst f) (sym (or_other (has_main t.text.items (program t)) (length t.text.items) (items_faults t.text.items [] (program t)) f k))
-    (earliest_first (items_faults t.text.items [] (program t)) f k)
-
--- where it finds none, and no main function, that is the fault
-pub no_main_is : (t : Tree) (first : Option Misnaming) (main : Option Statements) (place : ℕ)
-    → first ≡ earliest None (items_faults t.text.items [] (program t)) → first ≡ None
-    → main ≡ main_of t.text.items [] (program t) → main ≡ None → place ≡ length t.text.items
-    → IsFirst (record { number = NoMain; place = place }) (faults_of t)
-no_main_is t first main place e is m none at =
-    let right : items_faults t.text.items [] (program t) ≡ [] = none_right _ (sym e ∙ is) in
-    let missing : has_main t.text.items (program t) ≡ false = no_main t.text.items [] (program t) (sym m ∙ none) in
-    let f : Misnaming = record { number = NoMain; place = place } in
-    let fs : faults_of t ≡ f ∷ [] =
-    ap (λ b. or_no_main b (length t.text.items) (items_faults t.text.items [] (program t))) missing
-    ∙ ap (or_no_main false (length t.text.items)) right
-    ∙ ap (λ (n : ℕ). let g : Misnaming = record { number = NoMain; place = n } in g ∷ []) (sym at) in
-    subst (IsFirst f) (sym fs) (contains_head f [], All-cons (λ x. is_before x f ≡ false) f [] (lower_itself place 115) (λ k d lt. absurd (omega arith)))
-
--- where it finds none, and a main function, the tree resolves
-pub resolves_is : (t : Tree) (first : Option Misnaming) (main : Option Statements) (openings : List ℤ) (body : Statements)
-    → first ≡ earliest None (items_faults t.text.items [] (program t)) → first ≡ None
-    → main ≡ main_of t.text.items [] (program t) → main ≡ Some body → openings ≡ openings_of (program t)
-    → Resolves t (record { openings = openings; main = body })
-resolves_is t first main openings body e is m some o =
-    let right : items_faults t.text.items [] (program t) ≡ [] = none_right _ (sym e ∙ is) in
-    let found : has_main t.text.items (program t) ≡ true = some_main t.text.items [] (program t) body (sym m ∙ some) in
-    record {
-      right =
-          ap (λ b. or_no_main b (length t.text.items) (items_faults t.text.items [] (program t))) found ∙ ap (or_no_main true (length t.text.items)) right;
-      openings = o;
-      main = main_right t.text.items [] (program t) body right (sym m ∙ some);
-    }
-
--- a tree resolves to one source
-pub resolves_once : (t : Tree) (s s' : Source) → Resolves t s → Resolves t s' → s ≡ s'
-resolves_once t s s' h k =
-    let m : main_of t.text.items [] (program t) ≡ Some s.main = main_only t.text.items [] (program t) s.main h.main in
-    let m' : main_of t.text.items [] (program t) ≡ Some s'.main = main_only t.text.items [] (program t) s'.main k.main in
-    let same : s.main ≡ s'.main = cc in
-    ap (λ (o : List ℤ). let x : Source = record { openings = o; main = s.main } in x) (h.openings ∙ sym k.openings)
-    ∙ ap (λ (b : Statements). let x : Source = record { openings = s'.openings; main = b } in x) same
-
--- and only where its names are right
-pub resolves_right : (t : Tree) → ((s : Source) × Resolves t s) → faults_of t ≡ []
-resolves_right t h = h.1.right
-
-nothing_wrong : (b : Bool) (n : ℕ) (fs : List Misnaming) → or_no_main b n fs ≡ [] → (fs ≡ []) × (b ≡ true)
-nothing_wrong true n [] h = (refl, refl)
-nothing_wrong false n [] h = absurd cc
-nothing_wrong b n (f ∷ fs) h = absurd cc
-
-some_of : (o : Option Statements) → (o ≡ None → ⊥) → (r : Statements) × (o ≡ Some r)
-some_of None h = absurd (h refl)
-some_of (Some r) h = (r, refl)
-
--- where they are right, it does
 pub right_resolves : (t : Tree) → faults_of t ≡ [] → (s : Source) × Resolves t s
-right_resolves t h =
-    let p = nothing_wrong (has_main t.text.items (program t)) (length t.text.items) (items_faults t.text.items [] (program t)) h in
-    let m = some_of (main_of t.text.items [] (program t)) (λ e. let f : has_main t.text.items (program t) ≡ false = no_main t.text.items [] (program t) e in let g : has_main t.text.items (program t) ≡ true = p.1 in cc) in (
-      record { openings = openings_of (program t); main = m.0 },
-      record { right = h; openings = refl; main = main_right t.text.items [] (program t) m.0 p.0 m.1 },
-    )
+right_resolves t h = let m = (tree_parts t h).1 in (program_of t m.0, program_resolves t m.0 h m.1)
+
+pub resolves_right : (t : Tree) → ((s : Source) × Resolves t s) → faults_of t ≡ []
+resolves_right t (s, h) = h.right
+
+-- what it resolves to is what the pass makes
+pub resolves_only : (t : Tree) (s : Source) → Resolves t s → s ≡ program_of t s.main
+resolves_only t s h =
+    let k = start t.text.items (program t) in
+    let after = behind_items k (program t) in
+    let p = items_only k (program t) s.functions s.loops h.functions in
+    ap (λ y. let r : Source = record { openings = y; reducers = s.reducers; functions = s.functions; loops = s.loops; main = s.main } in r) h.openings
+    ∙ ap (λ y. let r : Source = record { openings = after.openings; reducers = y; functions = s.functions; loops = s.loops; main = s.main } in r) h.reducers
+    ∙ ap (λ y. let r : Source = record { openings = after.openings; reducers = map (λ g. g.kind) after.shared; functions = y; loops = s.loops; main = s.main } in r) p.0
+    ∙ ap (λ y. let r : Source = record { openings = after.openings; reducers = map (λ g. g.kind) after.shared; functions = items_functions k (program t); loops = y; main = s.main } in r) p.1
+
+pub resolves_once : (t : Tree) (s s' : Source) → Resolves t s → Resolves t s' → s ≡ s'
+resolves_once t s s' h h' =
+    let same : Some s.main ≡ Some s'.main = sym h.main ∙ h'.main in
+    let e : s.main ≡ s'.main = cc in
+    resolves_only t s h ∙ ap (program_of t) e ∙ sym (resolves_only t s' h')

@@ -1,13 +1,8 @@
-pub mod Behaviour
-pub mod Elision
-pub mod Laws
+pub mod Globals
 pub mod Misnamings
 pub mod Names
+pub mod Operators
 pub mod Pass
-pub mod Programs
 pub mod Resolution
-pub mod SerialRun
-pub mod Store
-pub mod Syntax
-pub mod Words
-pub mod Worked
+pub mod Sights
+pub mod States

@@ -1,78 +1,228 @@
--- What names mean, by the rules of scopes: a function is known in the whole text, a variable from its declaration on.
-use Rattle.std.specs.Prelude.{ℕ, ◌+◌, Bool, true, false, ◌&&◌, ◌||◌, if◌then◌else◌, List, [], ◌∷◌, ◌++◌, Option, Some, None, bytes_eq, codes}
+-- What names mean, by the rules of scopes: a function is known in the whole text, another name from its declaration on,
+-- up to the end of its scope; an inner name hides an outer one.
+use Rattle.std.specs.Prelude.{ℕ, ◌+◌, nat_lt, Bool, true, false, if◌then◌else◌, List, [], ◌∷◌, ◌++◌, length, Option, Some, None, option_map, unwrap_or, bytes_eq, codes}
+use Rattle.std.specs.Option.{is_some, option_map_or, option_or}
+use Rattle.cilk_monoid.specs.declared.kind.MonoidKind.{MonoidKind}
+use Rattle.cilk_monoid.specs.declared.kind.MonoidKind.TheVariants as monoids
 use Rattle.cilk_parser.specs.declared.tree.Name.{Name}
-use Rattle.cilk_parser.specs.declared.tree.GlobalVariable.{GlobalVariable}
-use Rattle.cilk_parser.specs.declared.tree.Parameters.{Parameters}
-use Rattle.cilk_parser.specs.declared.tree.Parameters.TheVariants as parameters
+use Rattle.cilk_parser.specs.declared.tree.Parameter.{Parameter}
+use Rattle.cilk_parser.specs.declared.tree.Parameter.TheVariants as parameters
+use Rattle.cilk_parser.specs.declared.tree.Reducer.{Reducer}
+use Rattle.cilk_parser.specs.Trees as trees
 use Rattle.cilk_parser.specs.Trees.{Item, Globals, Function, bytes_of}
+use Rattle.cilk_program.specs.declared.program.Body.TheVariants as bodies
+use Rattle.cilk_names.specs.declared.limits.TheConstants.{MAX_CELLS, MAX_REDUCERS}
 use Rattle.cilk_names.specs.declared.table.Meaning.{Meaning}
 use Rattle.cilk_names.specs.declared.table.Meaning.TheVariants as meanings
+use Rattle.cilk_names.specs.declared.table.Home.TheVariants as homes
+use Rattle.cilk_names.specs.declared.table.Entry.{Entry}
+use Rattle.cilk_names.specs.declared.table.Frame.{Frame}
+use Rattle.cilk_names.specs.declared.signature.ParameterKind.{ParameterKind}
+use Rattle.cilk_names.specs.declared.signature.ParameterKind.TheVariants as kinds
+use Rattle.cilk_names.specs.declared.signature.Signature.{Signature}
 
--- a declared name, by its bytes, and what it means
-pub record Declaration : Type 0 where
-  pub name : List ℕ
-  pub meaning : Meaning
+-- the monoid of a name
+abbrev pub monoid_of : List ℕ → Option MonoidKind
+monoid_of name =
+    if bytes_eq name (codes "add") then Some monoids.Add
+    else (if bytes_eq name (codes "min") then Some monoids.Least
+    else (if bytes_eq name (codes "max") then Some monoids.Greatest
+    else (if bytes_eq name (codes "append") then Some monoids.Append
+    else (if bytes_eq name (codes "affine") then Some monoids.Affine else None))))
 
--- what names mean at a place of the text
+-- what a scope says of a name: what it means, and whether its declaration stands ahead
+abbrev pub Scope : Type 0
+Scope = List ℕ → Option Entry
+
+-- What names mean at a place of the text: by the scope in which it stands, and by those round it, outermost first. It stands in
+-- so many bodies of parallel loops.
 pub record Names : Type 0 where
-  pub meaning : Name → Option Meaning
+  pub text : List ℕ
+  pub signatures : List Signature
+  pub inner : Scope
+  pub outer : List Scope
+  pub level : ℕ
 
--- a block is a scope of its own, and so is the statement under `if`, `else` or `while`; nothing is declared in one yet
-abbrev pub inner : Names → Names
-inner names = names
+-- an inner scope hides an outer one
+abbrev pub found_in : List Scope → List ℕ → Option Entry
+found_in [] name = None
+found_in (s ∷ scopes) name = option_or (found_in scopes name) (s name)
 
--- among these declarations, in order of text, the first of a name says what it means
-abbrev pub meaning_in : List Declaration → List ℕ → Option Meaning
-meaning_in [] name = None
-meaning_in (d ∷ ds) name = if bytes_eq d.name name then Some d.meaning else meaning_in ds name
+abbrev pub found : Names → List ℕ → Option Entry
+found names name = option_or (names.inner name) (found_in names.outer name)
 
--- a name is declared here
-abbrev pub declares : List Declaration → List ℕ → Bool
-declares [] name = false
-declares (d ∷ ds) name = bytes_eq d.name name || declares ds name
+abbrev pub meaning : Names → Name → Option Meaning
+meaning names x = option_map (λ e. e.meaning) (found names (bytes_of names.text x))
 
--- with one more where it is a variable
-abbrev pub counted : Meaning → ℕ → ℕ
-counted (meanings.Variable number) n = n + 1
-counted meanings.Function n = n
+-- a name is declared in this scope
+abbrev pub is_declared : Scope → List ℕ → Bool
+is_declared s name = option_map_or (λ e. e.declared) (s name) false
 
--- how many variables these declare
-abbrev pub variables_in : List Declaration → ℕ
-variables_in [] = 0
-variables_in (d ∷ ds) = counted d.meaning (variables_in ds)
+abbrev pub with_entry : Scope → List ℕ → Entry → Scope
+with_entry s name e q = if bytes_eq name q then Some e else s q
 
--- with a global variable, whose number is that of the variables ahead of it
-abbrev pub with_variable : List ℕ → List Declaration → GlobalVariable → List Declaration
-with_variable text ds v = ds ++ record { name = bytes_of text v.name; meaning = meanings.Variable (variables_in ds) } ∷ []
+-- with one more declaration; the first of a name says what it means
+abbrev pub with_name : Scope → List ℕ → Meaning → Scope
+with_name s name m = if is_declared s name then s else with_entry s name (record { meaning = m; declared = true })
 
--- with a line of them
-abbrev pub with_variables : List ℕ → List Declaration → List GlobalVariable → List Declaration
-with_variables text ds [] = ds
-with_variables text ds (v ∷ vs) = with_variables text (with_variable text ds v) vs
+abbrev pub declare : Names → Name → Meaning → Names
+declare names x m = record names { inner = with_name names.inner (bytes_of names.text x) m }
 
-abbrev pub function_named : List ℕ → Name → Declaration
-function_named text name = record { name = bytes_of text name; meaning = meanings.Function }
+-- nothing is declared yet
+abbrev pub empty : Scope
+empty name = None
 
--- with what an item declares
-abbrev pub with_item : List ℕ → List Declaration → Item → List Declaration
-with_item text ds (Globals vs) = with_variables text ds vs
-with_item text ds (Function name parameters body) = ds ++ function_named text name ∷ []
+-- a scope of its own
+abbrev pub opened : Names → Names
+opened names = record names { inner = empty; outer = names.outer ++ names.inner ∷ [] }
 
--- the functions of these items
-abbrev pub functions_of : List ℕ → List Item → List Declaration
-functions_of text [] = []
-functions_of text (Globals vs ∷ rest) = functions_of text rest
-functions_of text (Function name parameters body ∷ rest) = function_named text name ∷ functions_of text rest
+-- the scope of a parallel loop's variable, which is known in its body alone
+abbrev pub in_loop : Names → Name → Names
+in_loop names x = declare (record (opened names) { level = names.level + 1 }) x (meanings.Turn (names.level + 1))
 
--- what is known at the first of these items: what is declared ahead of it, and the functions from there on
-abbrev pub known_at : List ℕ → List Declaration → List Item → Names
-known_at text ds items = record { meaning = λ name. meaning_in (ds ++ functions_of text items) (bytes_of text name) }
+-- one more of what a program may have so many of; past that no more are counted
+abbrev pub counted : ℕ → ℕ → ℕ
+counted limit n = if nat_lt n limit then n + 1 else n
 
--- nothing stands between the parentheses, or `void`
-abbrev pub takes_none : Parameters → Bool
-takes_none parameters.Empty = true
-takes_none parameters.Void = true
+-- What is known at a place of a body: names, the frame of the body, the monoids of the reducers that the function was given and of its own
+-- so far, and how many declarations of reducers and how many loops stand ahead in the text.
+pub record Context : Type 0 where
+  pub names : Names
+  pub frame : Frame
+  pub given : List MonoidKind
+  pub own : List MonoidKind
+  pub reducers : ℕ
+  pub loops : ℕ
 
--- a function that the program begins with
-abbrev pub is_main : List ℕ → Name → Parameters → Bool
-is_main text name parameters = takes_none parameters && bytes_eq (bytes_of text name) (codes "main")
+-- a scope in a body, where no reducer is declared
+abbrev pub inside : Context → Context
+inside c = record c { names = opened c.names; frame = record c.frame { heading = false } }
+
+-- behind a scope names mean what they meant ahead of it
+abbrev pub behind_scope : Context → Context → Context
+behind_scope c after = record after { names = c.names }
+
+-- a statement that declares no reducer ends those of its function
+abbrev pub keeps_heading : trees.Statement → Bool → Bool
+keeps_heading (trees.Statement.Reducer r) heading = heading
+keeps_heading s heading = false
+
+abbrev pub ahead : Context → trees.Statement → Context
+ahead c s = record c { frame = record c.frame { heading = keeps_heading s c.frame.heading } }
+
+-- a variable takes the frame's next cell
+abbrev pub with_variable : Context → Name → Context
+with_variable c x = record c {
+  names = declare c.names x (meanings.Local c.names.level c.frame.cells);
+  frame = record c.frame { cells = counted MAX_CELLS c.frame.cells };
+}
+
+abbrev pub monoid_at : Names → Reducer → Option MonoidKind
+monoid_at names r = monoid_of (bytes_of names.text r.monoid)
+
+-- the kind of a reducer; one whose monoid is unknown counts as a sum
+abbrev pub kind_or_sum : Option MonoidKind → MonoidKind
+kind_or_sum kind = unwrap_or kind monoids.Add
+
+abbrev pub with_reducer : Context → Reducer → Context
+with_reducer c r = record c {
+  names = declare c.names r.name (meanings.Reducer (homes.Own (length c.own)) (monoid_at c.names r));
+  own = c.own ++ kind_or_sum (monoid_at c.names r) ∷ [];
+  reducers = counted MAX_REDUCERS c.reducers;
+}
+
+abbrev pub behind_locals : Context → List trees.Local → Context
+behind_locals c [] = c
+behind_locals c (l ∷ ls) = behind_locals (with_variable c l.name) ls
+
+abbrev pub behind_beginning : Context → Option trees.Beginning → Context
+behind_beginning c None = c
+behind_beginning c (Some (trees.Declares x e)) = with_variable c x
+behind_beginning c (Some (trees.Assigns a)) = c
+
+-- in the body of a parallel loop, whose frame has the loop's variable first
+abbrev pub in_body : Context → Name → Context
+in_body c x = record c {
+  names = in_loop c.names x;
+  frame = record c.frame { body = bodies.Loop c.loops; cells = 1; heading = false };
+  loops = c.loops + 1;
+}
+
+-- behind a parallel loop
+abbrev pub behind_loop : Context → Context → Context
+behind_loop c after = record after { names = c.names; frame = c.frame }
+
+abbrev mutual
+  -- behind a statement; the statement under `if`, `else`, `while`, `for` and `cilk_for` is a scope
+  pub behind : Context → trees.Statement → Context
+  behind c trees.Empty = c
+  behind c (trees.Block row) = behind_scope c (behind_row (inside c) row)
+  behind c (trees.Declare ls) = behind_locals c ls
+  behind c (trees.Statement.Reducer r) = with_reducer c r
+  behind c (trees.Assign a) = c
+  behind c (trees.Statement.Invoke how k) = c
+  behind c (trees.AssignCall x how k) = c
+  behind c trees.Sync = c
+  behind c (trees.If e s) = behind_scope c (behind (inside c) s)
+  behind c (trees.IfElse e s other) = behind_scope c (behind (inside (behind_scope c (behind (inside c) s))) other)
+  behind c (trees.While e s) = behind_scope c (behind (inside c) s)
+  behind c (trees.For b e a s) = behind_scope c (behind (inside (behind_beginning (inside c) b)) s)
+  behind c (trees.ParallelFor b s) = behind_loop c (behind (inside (in_body c b.variable)) s)
+  behind c (trees.Return place e) = c
+  behind c (trees.Print e) = c
+  behind c (trees.Update x e) = c
+  behind c (trees.Statement.Set x e) = c
+
+  pub behind_row : Context → trees.Statements → Context
+  behind_row c trees.End = c
+  behind_row c (trees.Then s row) = behind_row (behind (ahead c s) s) row
+
+-- what a parameter takes
+abbrev pub kind_of : List ℕ → Parameter → ParameterKind
+kind_of text (parameters.Variable x) = kinds.Word
+kind_of text (parameters.Reducer r) = kinds.Reducer (monoid_of (bytes_of text r.monoid))
+
+abbrev pub kinds_of : List ℕ → List Parameter → List ParameterKind
+kinds_of text [] = []
+kinds_of text (p ∷ ps) = kind_of text p ∷ kinds_of text ps
+
+-- what the functions of these items take and return, in order
+abbrev pub signatures_of : List ℕ → List Item → List Signature
+signatures_of text [] = []
+signatures_of text (Globals vs ∷ rest) = signatures_of text rest
+signatures_of text (Item.Reducer r ∷ rest) = signatures_of text rest
+signatures_of text (Function returns name ps body ∷ rest) = record { returns = returns; parameters = kinds_of text ps } ∷ signatures_of text rest
+
+-- the functions of these items, of which so many stand ahead: known, and not declared yet; of two of one name the first
+abbrev pub functions_known : List ℕ → ℕ → List Item → Scope
+functions_known text n [] name = None
+functions_known text n (Globals vs ∷ rest) name = functions_known text n rest name
+functions_known text n (Item.Reducer r ∷ rest) name = functions_known text n rest name
+functions_known text n (Function returns x ps body ∷ rest) name =
+    if bytes_eq (bytes_of text x) name then Some (record { meaning = meanings.Function n; declared = false }) else functions_known text (n + 1) rest name
+
+abbrev pub with_parameter : Context → Parameter → Context
+with_parameter c (parameters.Variable x) = with_variable c x
+with_parameter c (parameters.Reducer r) = record c {
+  names = declare c.names r.name (meanings.Reducer (homes.Given (length c.given)) (monoid_at c.names r));
+  given = c.given ++ kind_or_sum (monoid_at c.names r) ∷ [];
+}
+
+abbrev pub with_parameters : Context → List Parameter → Context
+with_parameters c [] = c
+with_parameters c (p ∷ ps) = with_parameters (with_parameter c p) ps
+
+-- with a function that is known, unless its name is known already
+abbrev pub with_function : Scope → List ℕ → ℕ → Scope
+with_function s name n = if is_some (s name) then s else with_entry s name (record { meaning = meanings.Function n; declared = false })
+
+abbrev pub with_item : List ℕ → Scope → ℕ → Item → Scope
+with_item text s n (Globals vs) = s
+with_item text s n (Item.Reducer r) = s
+with_item text s n (Function returns x ps body) = with_function s (bytes_of text x) n
+
+-- how many functions stand behind an item, where so many stand ahead
+abbrev pub functions_behind : ℕ → Item → ℕ
+functions_behind n (Globals vs) = n
+functions_behind n (Item.Reducer r) = n
+functions_behind n (Function returns x ps body) = n + 1

@@ -1,113 +1,223 @@
--- What one pass over a tree makes of it, wrong names too: a variable that isn't one reads as 0, and an assignment to one
--- and a `return` without a value do nothing. Where no name is wrong, that is the resolved program.
-use Rattle.std.specs.Prelude.{◌≡◌, ℕ, ℤ, Bool, length, if◌then◌else◌, List, [], ◌∷◌, ◌++◌, pos, Option, Some, None, option_map, false, bytes_eq, Vec}
-use Rattle.std.specs.Option.{option_map_or, option_or}
-use Rattle.std.specs.HashMap as hash
-use Rattle.std.specs.declared.alloc.Global.{Global}
+-- What one pass over a tree makes of it, wrong names too: a variable that isn't one reads as 0, and a statement whose name is wrong does
+-- nothing. Where no name is wrong, that is the resolved program.
+use Rattle.std.specs.Prelude.{ℕ, pos, negsuc, List, [], ◌∷◌, ◌++◌, map, Option, Some, None, option_map}
+use Rattle.std.specs.Option.{option_to_list}
+use Rattle.cilk_parser.specs.declared.tree.Name.{Name}
+use Rattle.cilk_parser.specs.declared.tree.Invocation as invoked
+use Rattle.cilk_parser.specs.declared.tree.Tree.{Tree}
 use Rattle.cilk_parser.specs.Trees as trees
-use Rattle.cilk_parser.specs.Trees.{bytes_of}
-use Rattle.cilk_names.specs.declared.table.Meaning.{Meaning}
-use Rattle.cilk_names.specs.declared.table.Meaning.TheVariants as meanings
-use Rattle.cilk_names.specs.declared.table.Entry.{Entry}
-use Rattle.cilk_names.specs.declared.table.Table.{Table}
-use Rattle.cilk_names.specs.declared.syntax.Place.{Place}
-use Rattle.cilk_names.specs.declared.syntax.Stmt.{Stmt}
-use Rattle.cilk_names.specs.declared.syntax.Place.TheVariants as places
-use Rattle.cilk_names.specs.Syntax.{Expression, Number, Variable, Input, InputCount, Statement, Empty, Block, Assign, If, IfElse, While, Print, Return, Statements, Nothing, Then, statements}
-use Rattle.cilk_names.specs.declared.fault.Misnaming.{Misnaming}
-use Rattle.cilk_names.specs.declared.resolve.Pass.{Pass}
-use Rattle.cilk_names.specs.Names.{Declaration, Names, inner, meaning_in, declares, variables_in, functions_of, with_item, known_at, is_main}
-use Rattle.cilk_names.specs.Misnamings.{earliest, items_faults}
-use Rattle.cilk_names.specs.Resolution.{prefixed, joined, openings_of}
-
--- what the table has at these bytes
-abbrev pub found : Table → List ℕ → Option Entry
-found t name = hash.get_by (λ k. bytes_eq name k.now) t.entries
-
--- what names mean by the table
-abbrev pub names_of : Table → Names
-names_of t = record { meaning = λ name. option_map (λ e. e.meaning) (found t (bytes_of t.text.now name)) }
-
--- a name's declaration has been reached, by the table
-abbrev pub has_declared : Table → List ℕ → Bool
-has_declared t name = option_map_or (λ e. e.declared) (found t name) false
-
--- where a name's variable lives
-abbrev pub place_of : Option Meaning → Option Place
-place_of None = None
-place_of (Some meanings.Function) = None
-place_of (Some (meanings.Variable n)) = Some (places.Global n)
+use Rattle.cilk_parser.specs.Trees.{Item, Globals, Function, program}
+use Rattle.cilk_program.specs.declared.syntax.Array.{Array}
+use Rattle.cilk_program.specs.declared.syntax.Place.{Place}
+use Rattle.cilk_program.specs.declared.syntax.Place.TheVariants.{Local}
+use Rattle.cilk_program.specs.declared.syntax.Reducer.{Reducer}
+use Rattle.cilk_program.specs.Syntax as syntax
+use Rattle.cilk_program.specs.Syntax.{Expression, Number, Variable, Element, Value, Input, InputCount, Target, ToVariable, ToElement, Invoke, Declaration, Zero, Opening, Invoking, Statement, Empty, Block, Declare, Assign, Change, Step, Invokes, Sync, If, IfElse, For, ParallelFor, Print, Update, Set, Return, Statements, Nothing, Then, Loop, Source}
+use Rattle.cilk_names.specs.declared.signature.ParameterKind.{ParameterKind}
+use Rattle.cilk_names.specs.declared.signature.ParameterKind.TheVariants as kinds
+use Rattle.cilk_names.specs.Names.{Names, Context, inside, behind_scope, ahead, with_variable, behind_beginning, in_body, behind, behind_row, with_parameters}
+use Rattle.cilk_names.specs.Sights.{variable, array, reducer, called, signature_of, first_of, rest_of, bare_name}
+use Rattle.cilk_names.specs.Globals.{Known, start, in_function, behind_item, behind_items}
+use Rattle.cilk_names.specs.Operators.{prefixed, joined, compound, invocation}
 
 abbrev pub read_of : Option Place → Expression
 read_of None = Number (pos 0)
 read_of (Some x) = Variable x
 
-abbrev pub assignment_of : Option Place → Expression → Statement
-assignment_of None e = Empty
-assignment_of (Some x) e = Assign x e
+abbrev pub element_of : Option Array → Expression → Expression
+element_of None e = Number (pos 0)
+element_of (Some a) e = Element a e
+
+abbrev pub value_of : Option Reducer → Expression
+value_of None = Number (pos 0)
+value_of (Some r) = Value r
 
 abbrev pub expression_of : Names → trees.Expression → Expression
 expression_of names (trees.Number n) = Number n
-expression_of names (trees.Variable x) = read_of (place_of (names.meaning x))
+expression_of names (trees.Expression.Variable x) = read_of (variable names x)
+expression_of names (trees.Expression.Element x e) = element_of (array names x) (expression_of names e)
 expression_of names (trees.Group e) = expression_of names e
 expression_of names (trees.Unary op e) = prefixed op (expression_of names e)
 expression_of names (trees.Binary op a b) = joined op (expression_of names a) (expression_of names b)
+expression_of names (trees.Expression.Value x) = value_of (reducer names x)
 expression_of names (trees.Input e) = Input (expression_of names e)
 expression_of names trees.InputCount = InputCount
 
-abbrev pub return_of : Names → Option trees.Expression → Statement
-return_of names None = Empty
-return_of names (Some e) = Return (expression_of names e)
+abbrev pub optional_of : Names → Option trees.Expression → Option Expression
+optional_of names None = None
+optional_of names (Some e) = Some (expression_of names e)
+
+abbrev pub to_variable : Option Place → Option Target
+to_variable None = None
+to_variable (Some x) = Some (ToVariable x)
+
+abbrev pub to_element : Option Array → Expression → Option Target
+to_element None e = None
+to_element (Some a) e = Some (ToElement a e)
+
+abbrev pub target_of : Names → trees.Place → Option Target
+target_of names (trees.Place.Variable x) = to_variable (variable names x)
+target_of names (trees.Place.Element x e) = to_element (array names x) (expression_of names e)
+
+-- a statement, if there is what it needs
+abbrev pub or_empty : {A : Type 0} → Option A → (A → Statement) → Statement
+or_empty None f = Empty
+or_empty (Some x) f = f x
+
+abbrev pub assignment_of : Names → trees.Assignment → Statement
+assignment_of names (trees.Assignment.Set p e) = or_empty (target_of names p) (λ t. Assign t (expression_of names e))
+assignment_of names (trees.Compound op p e) = or_empty (target_of names p) (λ t. Change t (compound op) (expression_of names e))
+assignment_of names (trees.Increment p) = or_empty (target_of names p) (λ t. Step t (pos 1))
+assignment_of names (trees.Decrement p) = or_empty (target_of names p) (λ t. Step t (negsuc 0))
+
+-- a row of one statement or of none
+abbrev pub optional_row : Names → Option trees.Assignment → Statements
+optional_row names None = Nothing
+optional_row names (Some a) = Then (assignment_of names a) Nothing
+
+abbrev pub word_of_argument : Names → ParameterKind → trees.Argument → List Expression
+word_of_argument names kinds.Word a = expression_of names a.value ∷ []
+word_of_argument names (kinds.Reducer k) a = []
+
+abbrev pub bare_reducer : Names → Option Name → Option Reducer
+bare_reducer names None = None
+bare_reducer names (Some x) = reducer names x
+
+abbrev pub reducer_of_argument : Names → ParameterKind → trees.Argument → List Reducer
+reducer_of_argument names kinds.Word a = []
+reducer_of_argument names (kinds.Reducer k) a = option_to_list (bare_reducer names (bare_name a.value))
+
+abbrev pub words_of : Names → List ParameterKind → List trees.Argument → List Expression
+words_of names ks [] = []
+words_of names ks (a ∷ list) = word_of_argument names (first_of ks) a ++ words_of names (rest_of ks) list
+
+abbrev pub reducers_of : Names → List ParameterKind → List trees.Argument → List Reducer
+reducers_of names ks [] = []
+reducers_of names ks (a ∷ list) = reducer_of_argument names (first_of ks) a ++ reducers_of names (rest_of ks) list
+
+abbrev pub invoke_of : Names → invoked.Invocation → trees.Call → Option Place → Option Invoke
+invoke_of names how c result =
+    let s = signature_of names (called names c.name) in
+    option_map (λ n. record {
+      how = invocation how;
+      function = n;
+      arguments = words_of names s.parameters c.arguments;
+      reducers = reducers_of names s.parameters c.arguments;
+      result = result;
+    })
+    (called names c.name)
+
+-- a declaration of the cell of a number
+abbrev pub invoking : ℕ → Option Invoke → Declaration
+invoking n None = Zero n
+invoking n (Some i) = Invoking i
+
+abbrev pub declaration_of : Names → ℕ → trees.LocalInitializer → Declaration
+declaration_of names n trees.Absent = Zero n
+declaration_of names n (trees.LocalInitializer.Value e) = Opening n (expression_of names e)
+declaration_of names n (trees.LocalInitializer.Invoke how c) = invoking n (invoke_of names how c (Some (Local 0 n)))
+
+abbrev pub declarations_of : Context → List trees.Local → List Declaration
+declarations_of c [] = []
+declarations_of c (l ∷ ls) = let c' = with_variable c l.name in declaration_of c'.names c.frame.cells l.initializer ∷ declarations_of c' ls
+
+abbrev pub beginning_of : Context → Option trees.Beginning → Statements
+beginning_of c None = Nothing
+beginning_of c (Some (trees.Declares x e)) = let c' = with_variable c x in Then (Declare (Opening c.frame.cells (expression_of c'.names e) ∷ [])) Nothing
+beginning_of c (Some (trees.Assigns a)) = Then (assignment_of c.names a) Nothing
 
 abbrev mutual
-  pub statement_of : Names → trees.Statement → Statement
-  statement_of names trees.Empty = Empty
-  statement_of names (trees.Block row) = Block (row_of (inner names) row)
-  statement_of names (trees.Assign x e) = assignment_of (place_of (names.meaning x)) (expression_of names e)
-  statement_of names (trees.If e s) = If (expression_of names e) (statement_of (inner names) s)
-  statement_of names (trees.IfElse e s other) = IfElse (expression_of names e) (statement_of (inner names) s) (statement_of (inner names) other)
-  statement_of names (trees.While e s) = While (expression_of names e) (statement_of (inner names) s)
-  statement_of names (trees.Print e) = Print (expression_of names e)
-  statement_of names (trees.Return place e) = return_of names e
+  pub statement_of : Context → trees.Statement → Statement
+  statement_of c trees.Empty = Empty
+  statement_of c (trees.Block row) = Block (row_of (inside c) row)
+  statement_of c (trees.Declare ls) = Declare (declarations_of c ls)
+  statement_of c (trees.Statement.Reducer r) = Empty
+  statement_of c (trees.Assign a) = assignment_of c.names a
+  statement_of c (trees.Statement.Invoke how k) = or_empty (invoke_of c.names how k None) Invokes
+  statement_of c (trees.AssignCall x how k) = or_empty (invoke_of c.names how k (variable c.names x)) Invokes
+  statement_of c trees.Sync = Sync
+  statement_of c (trees.If e s) = If (expression_of c.names e) (statement_of (inside c) s)
+  statement_of c (trees.IfElse e s other) =
+      IfElse (expression_of c.names e) (statement_of (inside c) s) (statement_of (inside (behind_scope c (behind (inside c) s))) other)
+  statement_of c (trees.While e s) = For Nothing (Some (expression_of c.names e)) Nothing (statement_of (inside c) s)
+  statement_of c (trees.For b e a s) =
+      let c' = behind_beginning (inside c) b in
+      For (beginning_of (inside c) b) (optional_of c'.names e) (optional_row c'.names a) (statement_of (inside c') s)
+  statement_of c (trees.ParallelFor b s) = ParallelFor (expression_of c.names b.low) (expression_of c.names b.high) c.loops
+  statement_of c (trees.Return place e) = Return (optional_of c.names e)
+  statement_of c (trees.Print e) = Print (expression_of c.names e)
+  statement_of c (trees.Update x e) = or_empty (reducer c.names x) (λ r. Update r (expression_of c.names e))
+  statement_of c (trees.Statement.Set x e) = or_empty (reducer c.names x) (λ r. Set r (expression_of c.names e))
 
-  pub row_of : Names → trees.Statements → Statements
-  row_of names trees.End = Nothing
-  row_of names (trees.Then s row) = Then (statement_of names s) (row_of names row)
+  pub row_of : Context → trees.Statements → Statements
+  row_of c trees.End = Nothing
+  row_of c (trees.Then s row) = Then (statement_of (ahead c s) s) (row_of (behind (ahead c s) s) row)
 
--- the body of the first of these items, where it is a main function
-abbrev pub main_at : List ℕ → List Declaration → trees.Item → List trees.Item → Option Statements
-main_at text ds (trees.Globals vs) rest = None
-main_at text ds (trees.Function name parameters body) rest =
-    if is_main text name parameters then Some (row_of (known_at text ds (trees.Function name parameters body ∷ rest)) body) else None
+-- a parallel loop
+abbrev pub loop_of : Context → Name → trees.Statement → Loop
+loop_of c x s =
+    let c' = inside (in_body c x) in
+    let after = behind c' s in
+    record { within = c.frame.body; cells = after.frame.cells; body = Then (statement_of c' s) Nothing }
 
--- the body of the first main function of these items, which stand behind these declarations
-abbrev pub main_of : List ℕ → List Declaration → List trees.Item → Option Statements
-main_of text ds [] = None
-main_of text ds (i ∷ rest) = option_or (main_at text ds i rest) (main_of text (with_item text ds i) rest)
+abbrev mutual
+  -- the parallel loops of a statement, each ahead of those in its body
+  pub loops_of : Context → trees.Statement → List Loop
+  loops_of c trees.Empty = []
+  loops_of c (trees.Block row) = row_loops (inside c) row
+  loops_of c (trees.Declare ls) = []
+  loops_of c (trees.Statement.Reducer r) = []
+  loops_of c (trees.Assign a) = []
+  loops_of c (trees.Statement.Invoke how k) = []
+  loops_of c (trees.AssignCall x how k) = []
+  loops_of c trees.Sync = []
+  loops_of c (trees.If e s) = loops_of (inside c) s
+  loops_of c (trees.IfElse e s other) = loops_of (inside c) s ++ loops_of (inside (behind_scope c (behind (inside c) s))) other
+  loops_of c (trees.While e s) = loops_of (inside c) s
+  loops_of c (trees.For b e a s) = loops_of (inside (behind_beginning (inside c) b)) s
+  loops_of c (trees.ParallelFor b s) = loop_of c b.variable s ∷ loops_of (inside (in_body c b.variable)) s
+  loops_of c (trees.Return place e) = []
+  loops_of c (trees.Print e) = []
+  loops_of c (trees.Update x e) = []
+  loops_of c (trees.Statement.Set x e) = []
 
--- the table says what names mean behind these declarations, where the later ones are known too
-pub record Tells (t : Table) (text : List ℕ) (ds later : List Declaration) : Type 0 where
-  pub text_is : t.text.now ≡ text
-  pub meanings : (name : List ℕ) → option_map (λ e. e.meaning) (found t name) ≡ meaning_in (ds ++ later) name
-  pub reached : (name : List ℕ) → has_declared t name ≡ declares ds name
+  pub row_loops : Context → trees.Statements → List Loop
+  row_loops c trees.End = []
+  row_loops c (trees.Then s row) = loops_of (ahead c s) s ++ row_loops (behind (ahead c s) s) row
 
--- the pass stands behind these declarations, ahead of these items
-pub record Stands (p : Pass) (text : List ℕ) (ds : List Declaration) (items : List trees.Item) : Type 0 where
-  pub tells : Tells p.table text ds (functions_of text items)
-  pub count : length p.openings.items ≡ variables_in ds
+-- the body of a function
+abbrev pub function_of_body : Context → trees.Statements → syntax.Function
+function_of_body c body =
+    let after = behind_row c body in
+    record { words = c.frame.cells; given = after.given; cells = after.frame.cells; reducers = after.own; body = row_of c body }
 
--- main's body, where the pass has come past it
-abbrev pub body_in : Option (Vec Stmt Global) → Option Statements
-body_in main = option_map (λ v. statements v.items) main
+abbrev pub item_functions : Known → Item → List syntax.Function
+item_functions k (Globals vs) = []
+item_functions k (Item.Reducer r) = []
+item_functions k (Function returns x ps body) = function_of_body (with_parameters (in_function k returns x) ps) body ∷ []
 
--- what a part of the text adds: its faults, the opening values of its variables, and main's body
-pub record Adds (old new : Pass) (faults : List Misnaming) (openings : List ℤ) (main : Option Statements) : Type 0 where
-  pub faults_are : new.first ≡ earliest old.first faults
-  pub openings_are : new.openings.items ≡ old.openings.items ++ openings
-  pub main_is : body_in new.main ≡ option_or (body_in old.main) main
+abbrev pub item_loops : Known → Item → List Loop
+item_loops k (Globals vs) = []
+item_loops k (Item.Reducer r) = []
+item_loops k (Function returns x ps body) = row_loops (with_parameters (in_function k returns x) ps) body
 
--- what the pass over all items comes to
-pub record Comes (p : Pass) (text : List ℕ) (items : List trees.Item) : Type 0 where
-  pub faults_are : p.first ≡ earliest None (items_faults text [] items)
-  pub openings_are : p.openings.items ≡ openings_of items
-  pub main_is : body_in p.main ≡ main_of text [] items
+abbrev pub items_functions : Known → List Item → List syntax.Function
+items_functions k [] = []
+items_functions k (i ∷ rest) = item_functions k i ++ items_functions (behind_item k i) rest
+
+abbrev pub items_loops : Known → List Item → List Loop
+items_loops k [] = []
+items_loops k (i ∷ rest) = item_loops k i ++ items_loops (behind_item k i) rest
+
+-- the program of a tree whose main function has this number
+abbrev pub program_of : Tree → ℕ → Source
+program_of t main =
+    let before = start t.text.items (program t) in
+    let after = behind_items before (program t) in
+    record {
+      openings = after.openings;
+      reducers = map (λ r. r.kind) after.shared;
+      functions = items_functions before (program t);
+      loops = items_loops before (program t);
+      main = main;
+    }

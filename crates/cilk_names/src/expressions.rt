@@ -1,75 +1,19 @@
-//! Expressions with their names resolved.
+//! Expressions and assignments with their names resolved.
 
-ghost use Rattle.std.specs.Prelude.{◌≡◌, OnOk, IfOk};
+ghost use Rattle.std.specs.Prelude.{◌≡◌, OnOk, IfOk, option_map};
 ghost use Rattle.cilk_parser.specs.Trees as trees;
-ghost use Rattle.cilk_names.specs.Syntax.{expression};
-ghost use Rattle.cilk_names.specs.Misnamings.{earliest, expression_faults, variable_faults};
-ghost use Rattle.cilk_names.specs.Resolution.{prefixed, joined};
-ghost use Rattle.cilk_names.specs.Pass.{names_of, place_of, expression_of};
+ghost use Rattle.cilk_program.specs.Programs.{expression, optional, statement, target};
+ghost use Rattle.cilk_names.specs.Misnamings.{earliest, expression_faults, optional_faults, place_faults, assignment_faults};
+ghost use Rattle.cilk_names.specs.Pass.{expression_of, optional_of, target_of, assignment_of};
+ghost use Rattle.cilk_names.specs.States.{names_of};
 
-use crate::fault::{Misnaming, NameNumber};
-use crate::syntax::{Expr, Operator, Place};
-use crate::table::{Meaning, Table};
+use crate::fault::Misnaming;
+use crate::operators::{between, compound, in_front};
+use crate::sights::{array, reducer, variable, written};
+use crate::table::Table;
 use cilk_parser::tree;
-use cilk_parser::tree::{BinaryOperator, Name, UnaryOperator};
+use cilk_program::syntax::{Expr, Stmt, Target};
 use std::alloc::{AllocError, Global};
-
-/// Where a name's variable lives, or none with a fault noted.
-pub(crate) fn variable(table: &Table, name: Name, first: &mut Option<Misnaming>) -> Option<Place>
-    ensures place { result ≡ place_of ((names_of table.now).meaning name) }
-    ensures faults { first.new ≡ earliest first.old (variable_faults ((names_of table.now).meaning name) name.at) }
-{
-    let number = match table.meaning(name) {
-        Some(Meaning::Variable(number)) => return Some(Place::Global(number)),
-        Some(Meaning::Function) => NameNumber::WrongKind,
-        None => NameNumber::Unknown,
-    };
-    Misnaming {
-        number,
-        place: name.at,
-    }
-    .note(first);
-    None
-}
-
-/// An operator in front of its operand.
-fn in_front(alloc: Global, operator: UnaryOperator, operand: Expr) -> Result<Expr, AllocError>
-    ensures { IfOk result (λ r. expression r ≡ prefixed operator (expression operand)) }
-{
-    let operand = Box::new(alloc, operand)?;
-    Ok(match operator {
-        UnaryOperator::Negate => Expr::Negate(operand),
-        UnaryOperator::Not => Expr::Not(operand),
-    })
-}
-
-/// An operator between its operands.
-fn between(
-    alloc: Global,
-    operator: BinaryOperator,
-    left: Expr,
-    right: Expr,
-) -> Result<Expr, AllocError>
-    ensures { IfOk result (λ r. expression r ≡ joined operator (expression left) (expression right)) }
-{
-    let left = Box::new(alloc, left)?;
-    let right = Box::new(alloc, right)?;
-    Ok(match operator {
-        BinaryOperator::Or => Expr::Or(left, right),
-        BinaryOperator::And => Expr::And(left, right),
-        BinaryOperator::Equal => Expr::Binary(Operator::Equal, left, right),
-        BinaryOperator::NotEqual => Expr::Binary(Operator::NotEqual, left, right),
-        BinaryOperator::Less => Expr::Binary(Operator::Less, left, right),
-        BinaryOperator::LessEqual => Expr::Binary(Operator::LessEqual, left, right),
-        BinaryOperator::Greater => Expr::Binary(Operator::Greater, left, right),
-        BinaryOperator::GreaterEqual => Expr::Binary(Operator::GreaterEqual, left, right),
-        BinaryOperator::Add => Expr::Binary(Operator::Add, left, right),
-        BinaryOperator::Subtract => Expr::Binary(Operator::Subtract, left, right),
-        BinaryOperator::Multiply => Expr::Binary(Operator::Multiply, left, right),
-        BinaryOperator::Divide => Expr::Binary(Operator::Divide, left, right),
-        BinaryOperator::Remainder => Expr::Binary(Operator::Remainder, left, right),
-    })
-}
 
 /// An expression with its names resolved. What is wrong is noted, and a wrong name reads as 0.
 #[tactic(auto, using(crate::proofs::Earliest::earliest_append))]
@@ -88,6 +32,14 @@ pub(crate) fn expression(
             Some(place) => Ok(Expr::Variable(place)),
             None => Ok(Expr::Number(0)),
         },
+        tree::Expr::Element(name, index) => {
+            let array = array(table, *name, first);
+            let index = expression(alloc, table, index, first)?;
+            match array {
+                Some(array) => Ok(Expr::Element(array, Box::new(alloc, index)?)),
+                None => Ok(Expr::Number(0)),
+            }
+        }
         tree::Expr::Group(inner) => expression(alloc, table, inner, first),
         tree::Expr::Unary(operator, operand) => {
             let operand = expression(alloc, table, operand, first)?;
@@ -98,10 +50,96 @@ pub(crate) fn expression(
             let right = expression(alloc, table, right, first)?;
             between(alloc, *operator, left, right)
         }
+        tree::Expr::Value(name) => match reducer(table, *name, first) {
+            Some(reducer) => Ok(Expr::Value(reducer)),
+            None => Ok(Expr::Number(0)),
+        },
         tree::Expr::Input(place) => {
             let place = expression(alloc, table, place, first)?;
             Ok(Expr::Input(Box::new(alloc, place)?))
         }
         tree::Expr::InputCount => Ok(Expr::InputCount),
+    }
+}
+
+/// An expression that may be absent.
+pub(crate) fn optional(
+    alloc: Global,
+    table: &Table,
+    tree: &Option<tree::Expr>,
+    first: &mut Option<Misnaming>,
+) -> Result<Option<Expr>, AllocError>
+    ensures faults { OnOk result (first.new ≡ earliest first.old (optional_faults (names_of table.now) (trees.optional tree.now))) }
+    ensures value { IfOk result (λ r. optional r ≡ optional_of (names_of table.now) (trees.optional tree.now)) }
+{
+    match tree {
+        Some(tree) => Ok(Some(expression(alloc, table, tree, first)?)),
+        None => Ok(None),
+    }
+}
+
+/// What is written to, or none with a fault noted.
+#[tactic(auto, using(crate::proofs::Earliest::earliest_append))]
+fn target(
+    alloc: Global,
+    table: &Table,
+    tree: &tree::Place,
+    first: &mut Option<Misnaming>,
+) -> Result<Option<Target>, AllocError>
+    ensures faults { OnOk result (first.new ≡ earliest first.old (place_faults (names_of table.now) (trees.place tree.now))) }
+    ensures value { IfOk result (λ r. option_map target r ≡ target_of (names_of table.now) (trees.place tree.now)) }
+{
+    match tree {
+        tree::Place::Variable(name) => match written(table, *name, first) {
+            Some(place) => Ok(Some(Target::Variable(place))),
+            None => Ok(None),
+        },
+        tree::Place::Element(name, index) => {
+            let array = array(table, *name, first);
+            let index = expression(alloc, table, index, first)?;
+            match array {
+                Some(array) => Ok(Some(Target::Element(array, index))),
+                None => Ok(None),
+            }
+        }
+    }
+}
+
+/// An assignment with its names resolved. What is wrong is noted, and then nothing may be assigned.
+#[tactic(auto, using(crate::proofs::Earliest::earliest_append))]
+pub(crate) fn assignment(
+    alloc: Global,
+    table: &Table,
+    tree: &tree::Assignment,
+    first: &mut Option<Misnaming>,
+) -> Result<Stmt, AllocError>
+    ensures faults { OnOk result (first.new ≡ earliest first.old (assignment_faults (names_of table.now) (trees.assignment tree.now))) }
+    ensures value { IfOk result (λ r. statement r ≡ assignment_of (names_of table.now) (trees.assignment tree.now)) }
+{
+    match tree {
+        tree::Assignment::Set(place, value) => {
+            let place = target(alloc, table, place, first)?;
+            let value = expression(alloc, table, value, first)?;
+            match place {
+                Some(place) => Ok(Stmt::Assign(place, value)),
+                None => Ok(Stmt::Empty),
+            }
+        }
+        tree::Assignment::Compound(operator, place, value) => {
+            let place = target(alloc, table, place, first)?;
+            let value = expression(alloc, table, value, first)?;
+            match place {
+                Some(place) => Ok(Stmt::Change(place, compound(*operator), value)),
+                None => Ok(Stmt::Empty),
+            }
+        }
+        tree::Assignment::Increment(place) => match target(alloc, table, place, first)? {
+            Some(place) => Ok(Stmt::Step(place, 1)),
+            None => Ok(Stmt::Empty),
+        },
+        tree::Assignment::Decrement(place) => match target(alloc, table, place, first)? {
+            Some(place) => Ok(Stmt::Step(place, -1)),
+            None => Ok(Stmt::Empty),
+        },
     }
 }

@@ -14,22 +14,37 @@ pub enum NameNumber {
     Unknown,
     #[error("a name that is declared twice in a scope")]
     DeclaredTwice,
+    #[error("a wrong count of arguments")]
+    WrongCount,
     #[error("a name of the wrong kind")]
     WrongKind,
     #[error("no `int main` without parameters")]
     NoMain,
+    #[error("a `return` inside a `cilk_for`")]
+    ReturnInLoop,
+    #[error("a `cilk_for`'s variable that is written")]
+    LoopVariable,
+    #[error("a reducer that isn't first in a function's body")]
+    ReducerNotFirst,
+    #[error("past a limit of a program")]
+    OverLimit,
 }
 
 impl NameNumber {
-    /// The number by which the fault is reported: 111, 112, 114 or 115.
+    /// The number by which the fault is reported: 111 to 119.
     pub fn number(self) -> u16
         ensures { result ≡ number_of self }
     {
         match self {
             NameNumber::Unknown => 111,
             NameNumber::DeclaredTwice => 112,
+            NameNumber::WrongCount => 113,
             NameNumber::WrongKind => 114,
             NameNumber::NoMain => 115,
+            NameNumber::ReturnInLoop => 116,
+            NameNumber::LoopVariable => 117,
+            NameNumber::ReducerNotFirst => 118,
+            NameNumber::OverLimit => 119,
         }
     }
 }

@@ -1,18 +1,21 @@
-//! Programs with each name replaced by what it names, and what they mean.
+//! From the tree of a program text to the program that it resolves to.
 //!
-//! [`program::Program`] keeps the shape of the source tree. Its meaning is defined once, in this crate's `specs/`:
-//! what a frame's body asks for next after these answers (`Behaviour`), the serial elision over one store (`Elision`),
-//! and the serial run, which is the list of events that the behaviours make over one store (`SerialRun`).
-//! The public laws in [`laws`] tie them together.
+//! Names are replaced by what they mean, by the rules of scopes: a function is known in the whole text, another name from
+//! its declaration on, and an inner name hides an outer one. The relation between a tree and its program is defined in
+//! this crate's `specs/` (`Resolution`), and so is all that can be wrong with the names of a tree (`Misnamings`).
 #![tactic(auto)]
 
-pub mod ask;
+mod calls;
 mod expressions;
 pub mod fault;
-pub mod laws;
-pub mod program;
+mod headings;
+mod items;
+pub mod limits;
+mod operators;
 pub mod resolution;
 pub mod resolve;
+mod scene;
+mod sights;
+pub mod signature;
 mod statements;
-pub mod syntax;
 pub mod table;

@@ -1,114 +1,445 @@
 //! Statements with their names resolved.
 
-ghost use Rattle.std.specs.Prelude.{◌≡◌, OnOk, IfOk};
+ghost use Rattle.std.specs.Prelude.{◌≡◌, ◌<◌, List, [], ◌∷◌, ◌++◌, OnOk, IfOk, true, false, Some, None, length, map, slice_set};
 ghost use Rattle.cilk_parser.specs.Trees as trees;
-ghost use Rattle.cilk_names.specs.Syntax.{expression, statement, statements};
-ghost use Rattle.cilk_names.specs.Misnamings.{earliest, statement_faults, row_faults, return_faults};
-ghost use Rattle.cilk_names.specs.Pass.{names_of, statement_of, row_of, return_of};
+ghost use Rattle.cilk_program.specs.Programs.{expression, loop, optional, statement, statements};
+ghost use Rattle.cilk_program.specs.Syntax as syntax;
+ghost use Rattle.cilk_program.specs.Syntax.{For, Invokes, Nothing, Return, Set, Then, Update};
+ghost use Rattle.cilk_names.specs.Names.{Scope, ahead, behind, behind_row, behind_scope, in_body, inside, keeps_heading};
+ghost use Rattle.cilk_names.specs.Misnamings.{earliest, call_faults, expression_faults, gives_what_it_returns, head_faults, optional_assignment_faults, reducer_faults, return_faults, row_faults, same_faults, statement_faults, written_faults};
+ghost use Rattle.cilk_names.specs.Pass.{expression_of, invoke_of, loops_of, optional_of, optional_row, or_empty, row_loops, row_of, statement_of};
+ghost use Rattle.cilk_names.specs.Sights.{reducer, variable};
+ghost use Rattle.cilk_names.specs.States.{context_of, names_of};
 
-use crate::expressions::{expression, variable};
+use crate::calls::call;
+use crate::expressions::{assignment, expression, optional};
 use crate::fault::{Misnaming, NameNumber};
-use crate::syntax::{Expr, Stmt};
-use crate::table::Table;
+use crate::scene::{Scene, number_of};
+use crate::sights::{note_unless, reducer, written};
+use crate::table::{Frame, Meaning, Table, bytes_of};
 use cilk_parser::tree;
-use cilk_parser::tree::Name;
+use cilk_parser::tree::{Beginning, Bounds, Name, ReturnType};
+use cilk_program::program::{Body, Loop};
+use cilk_program::syntax::{Expr, Stmt};
 use std::alloc::{AllocError, Global};
 
-/// An assignment. What is wrong is noted, and then nothing is assigned.
+/// Whether a function's reducers may go on behind a statement.
+fn keeps_heading(tree: &tree::Stmt, heading: bool) -> bool
+    ensures { result ≡ keeps_heading (trees.statement tree.now) heading }
+{
+    match tree {
+        tree::Stmt::Reducer(_) => heading,
+        _ => false,
+    }
+}
+
+/// Whether a `return` gives what its function returns.
+fn gives_what_it_returns(returns: ReturnType, value: &Option<tree::Expr>) -> bool
+    ensures { result ≡ gives_what_it_returns returns (trees.optional value.now) }
+{
+    match (returns, value) {
+        (ReturnType::Int, Some(_)) | (ReturnType::Void, None) => true,
+        (ReturnType::Int, None) | (ReturnType::Void, Some(_)) => false,
+    }
+}
+
+/// A `return` at a place of the text.
 #[tactic(auto, using(crate::proofs::Earliest::earliest_append))]
-fn assignment(
+fn returned(
+    alloc: Global,
+    table: &Table,
+    returns: ReturnType,
+    place: usize,
+    value: &Option<tree::Expr>,
+    first: &mut Option<Misnaming>,
+) -> Result<Stmt, AllocError>
+    ensures faults { OnOk result (first.new ≡ earliest first.old (return_faults (names_of table.now) returns place (trees.optional value.now))) }
+    ensures value { IfOk result (λ r. statement r ≡ Return (optional_of (names_of table.now) (trees.optional value.now))) }
+{
+    let is_outside = table.level == 0;
+    note_unless(is_outside, NameNumber::ReturnInLoop, place, first);
+    let gives = gives_what_it_returns(returns, value);
+    note_unless(gives, NameNumber::WrongKind, place, first);
+    Ok(Stmt::Return(optional(alloc, table, value, first)?))
+}
+
+/// The step of a `for`, a row of one statement or of none.
+fn step(
+    alloc: Global,
+    table: &Table,
+    tree: &Option<tree::Assignment>,
+    first: &mut Option<Misnaming>,
+) -> Result<Vec<Stmt>, AllocError>
+    ensures faults { OnOk result (first.new ≡ earliest first.old (optional_assignment_faults (names_of table.now) (trees.optional_assignment tree.now))) }
+    ensures value { IfOk result (λ r. statements r.items ≡ optional_row (names_of table.now) (trees.optional_assignment tree.now)) }
+{
+    let mut row = Vec::new(alloc);
+    if let Some(tree) = tree {
+        row.push(assignment(alloc, table, tree, first)?)?;
+    }
+    Ok(row)
+}
+
+/// A call that is a statement, and the variable that takes its result.
+fn invoked(
+    alloc: Global,
+    table: &Table,
+    how: tree::Invocation,
+    tree: &tree::Call,
+    first: &mut Option<Misnaming>,
+) -> Result<Stmt, AllocError>
+    ensures faults { OnOk result (first.new ≡ earliest first.old (call_faults (names_of table.now) false (trees.call tree.now))) }
+    ensures value { IfOk result (λ r. statement r ≡ or_empty (invoke_of (names_of table.now) how (trees.call tree.now) None) Invokes) }
+{
+    match call(alloc, table, how, tree, false, None, first)? {
+        Some(invoke) => Ok(Stmt::Invoke(invoke)),
+        None => Ok(Stmt::Empty),
+    }
+}
+
+/// A call whose result a variable takes.
+#[tactic(auto, using(crate::proofs::Earliest::earliest_append))]
+fn assigned(
+    alloc: Global,
+    table: &Table,
+    name: Name,
+    how: tree::Invocation,
+    tree: &tree::Call,
+    first: &mut Option<Misnaming>,
+) -> Result<Stmt, AllocError>
+    ensures faults { OnOk result (first.new ≡ earliest first.old (written_faults (names_of table.now) name ++ call_faults (names_of table.now) true (trees.call tree.now))) }
+    ensures value { IfOk result (λ r. statement r ≡ or_empty (invoke_of (names_of table.now) how (trees.call tree.now) (variable (names_of table.now) name)) Invokes) }
+{
+    let place = written(table, name, first);
+    match call(alloc, table, how, tree, true, place, first)? {
+        Some(invoke) => Ok(Stmt::Invoke(invoke)),
+        None => Ok(Stmt::Empty),
+    }
+}
+
+/// An `update` of a reducer.
+#[tactic(auto, using(crate::proofs::Earliest::earliest_append))]
+fn update(
     alloc: Global,
     table: &Table,
     name: Name,
     value: &tree::Expr,
     first: &mut Option<Misnaming>,
 ) -> Result<Stmt, AllocError>
-    ensures faults { OnOk result (first.new ≡ earliest first.old (statement_faults (names_of table.now) (trees.Assign name (trees.expression value.now)))) }
-    ensures value { IfOk result (λ r. statement r ≡ statement_of (names_of table.now) (trees.Assign name (trees.expression value.now))) }
+    ensures faults { OnOk result (first.new ≡ earliest first.old (reducer_faults (names_of table.now) name ++ expression_faults (names_of table.now) (trees.expression value.now))) }
+    ensures value { IfOk result (λ r. statement r ≡ or_empty (reducer (names_of table.now) name) (λ x. Update x (expression_of (names_of table.now) (trees.expression value.now)))) }
 {
-    let place = variable(table, name, first);
+    let reducer = reducer(table, name, first);
     let value = expression(alloc, table, value, first)?;
-    match place {
-        Some(place) => Ok(Stmt::Assign(place, value)),
+    match reducer {
+        Some(reducer) => Ok(Stmt::Update(reducer, value)),
         None => Ok(Stmt::Empty),
     }
 }
 
-/// A `return` at a place of the text: of a value, since each function returns an `int`.
-fn returned(
+/// A `set` of a reducer.
+#[tactic(auto, using(crate::proofs::Earliest::earliest_append))]
+fn set(
     alloc: Global,
     table: &Table,
-    place: usize,
-    value: &Option<tree::Expr>,
+    name: Name,
+    value: &tree::Expr,
     first: &mut Option<Misnaming>,
 ) -> Result<Stmt, AllocError>
-    ensures faults { OnOk result (first.new ≡ earliest first.old (return_faults (names_of table.now) place (trees.returned value.now))) }
-    ensures value { IfOk result (λ r. statement r ≡ return_of (names_of table.now) (trees.returned value.now)) }
+    ensures faults { OnOk result (first.new ≡ earliest first.old (reducer_faults (names_of table.now) name ++ expression_faults (names_of table.now) (trees.expression value.now))) }
+    ensures value { IfOk result (λ r. statement r ≡ or_empty (reducer (names_of table.now) name) (λ x. Set x (expression_of (names_of table.now) (trees.expression value.now)))) }
 {
-    match value {
-        Some(value) => Ok(Stmt::Return(expression(alloc, table, value, first)?)),
-        None => {
-            Misnaming {
-                number: NameNumber::WrongKind,
-                place,
+    let reducer = reducer(table, name, first);
+    let value = expression(alloc, table, value, first)?;
+    match reducer {
+        Some(reducer) => Ok(Stmt::Set(reducer, value)),
+        None => Ok(Stmt::Empty),
+    }
+}
+
+/// A `for` of these parts.
+fn for_of(
+    alloc: Global,
+    beginning: Vec<Stmt>,
+    test: Option<Expr>,
+    step: Vec<Stmt>,
+    body: Stmt,
+) -> Result<Stmt, AllocError>
+    ensures { IfOk result (λ r. statement r ≡ For (statements beginning.items) (optional test) (statements step.items) (statement body)) }
+{
+    Ok(Stmt::For(beginning, test, step, Box::new(alloc, body)?))
+}
+
+/// A `while`, which is a `for` with a condition alone.
+fn while_of(alloc: Global, test: Expr, body: Stmt) -> Result<Stmt, AllocError>
+    ensures { IfOk result (λ r. statement r ≡ For Nothing (Some (expression test)) Nothing (statement body)) }
+{
+    let (beginning, step) = (Vec::new(alloc), Vec::new(alloc));
+    for_of(alloc, beginning, Some(test), step, body)
+}
+
+/// Two names of a head that have to be one.
+fn same(table: &Table, name: Name, other: Name, first: &mut Option<Misnaming>)
+    ensures { first.new ≡ earliest first.old (same_faults (names_of table.now) name other) }
+{
+    let is_same = bytes_of(table.text, other) == bytes_of(table.text, name);
+    note_unless(is_same, NameNumber::WrongKind, other.at, first);
+}
+
+/// The bounds of a `cilk_for`, which don't know its variable.
+#[tactic(auto, using(crate::proofs::Earliest::earliest_append))]
+fn bounds(
+    alloc: Global,
+    table: &Table,
+    head: &Bounds,
+    first: &mut Option<Misnaming>,
+) -> Result<(Expr, Expr), AllocError>
+    ensures faults { OnOk result (first.new ≡ earliest first.old (head_faults (names_of table.now) (trees.bounds head.now))) }
+    ensures low { IfOk result (λ r. expression r.0 ≡ (let b = trees.bounds head.now in expression_of (names_of table.now) b.low)) }
+    ensures high { IfOk result (λ r. expression r.1 ≡ (let b = trees.bounds head.now in expression_of (names_of table.now) b.high)) }
+{
+    let low = expression(alloc, table, &head.low, first)?;
+    same(table, head.variable, head.tested, first);
+    let high = expression(alloc, table, &head.high, first)?;
+    same(table, head.variable, head.stepped, first);
+    Ok((low, high))
+}
+
+/// What stands outside a parallel loop's body: the frame, in how many loop bodies it stands, and the loop's number.
+#[derive(Clone, Copy)]
+struct Outside {
+    frame: Frame,
+    level: u32,
+    number: u32,
+}
+
+impl Scene<'_> {
+    /// Opens a scope in which no reducer is declared.
+    fn open(&mut self, alloc: Global) -> Result<(), AllocError>
+        ensures context { OnOk result (context_of self.new ≡ inside (context_of self.old)) }
+        ensures same { (self.new.loops ≡ self.old.loops) × (self.new.first ≡ self.old.first) }
+    {
+        self.frame.heading = false;
+        self.table.open(alloc)
+    }
+
+    /// Ends a function's reducers at a statement that declares none.
+    fn reach(&mut self, tree: &tree::Stmt)
+        ensures context { context_of self.new ≡ ahead (context_of self.old) (trees.statement tree.now) }
+        ensures same { (self.new.loops ≡ self.old.loops) × (self.new.first ≡ self.old.first) }
+    {
+        self.frame.heading = keeps_heading(tree, self.frame.heading);
+    }
+
+    /// Closes the innermost scope.
+    fn close(&mut self)
+        ensures context { (outer : List Scope) (inner : Scope) → (let n = names_of self.old.table in n.outer) ≡ outer ++ inner ∷ [] → context_of self.new ≡ record (context_of self.old) { names = record (names_of self.old.table) { inner = inner; outer = outer } } }
+        ensures same { (self.new.loops ≡ self.old.loops) × (self.new.first ≡ self.old.first) }
+    {
+        self.table.close();
+    }
+
+    /// Enters the body of a parallel loop with this variable. Its place among the loops is taken.
+    fn enter(&mut self, alloc: Global, name: Name) -> Result<Outside, AllocError>
+        ensures context { OnOk result (context_of self.new ≡ in_body (context_of self.old) name) }
+        ensures first { OnOk result (self.new.first ≡ self.old.first) }
+        ensures loops { IfOk result (λ o. (p : syntax.Loop) × (map loop self.new.loops.items ≡ map loop self.old.loops.items ++ p ∷ [])) }
+        ensures outside { IfOk result (λ o. (o.frame ≡ self.old.frame) × (o.level ≡ self.old.table.level) × (o.number ≡ length self.old.loops.items)) }
+    {
+        let outside = Outside {
+            frame: self.frame,
+            level: self.table.level,
+            number: number_of(self.loops.len())?,
+        };
+        let Some(level) = outside.level.checked_add(1) else {
+            return Err(AllocError);
+        };
+        self.table.open(alloc)?;
+        self.table.level = level;
+        self.table
+            .declare(name, Meaning::Turn(level), &mut self.first)?;
+        self.loops.push(Loop {
+            within: outside.frame.body,
+            cells: 0,
+            body: Vec::new(alloc),
+        })?;
+        self.frame.body = Body::Loop(outside.number);
+        self.frame.cells = 1;
+        self.frame.heading = false;
+        Ok(outside)
+    }
+
+    /// Leaves the body of a parallel loop, which takes its place among the loops.
+    fn leave(&mut self, alloc: Global, outside: Outside, body: Stmt) -> Result<(), AllocError>
+        requires { outside.number < length self.old.loops.items }
+        ensures context { OnOk result ((outer : List Scope) (inner : Scope) → (let n = names_of self.old.table in n.outer) ≡ outer ++ inner ∷ [] → context_of self.new ≡ record (context_of self.old) { names = record (names_of self.old.table) { inner = inner; outer = outer; level = outside.level }; frame = outside.frame }) }
+        ensures first { self.new.first ≡ self.old.first }
+        ensures loops { OnOk result (map loop self.new.loops.items ≡ slice_set (map loop self.old.loops.items) outside.number (record { within = outside.frame.body; cells = self.old.frame.cells; body = Then (statement body) Nothing })) }
+    {
+        let mut row = Vec::new(alloc);
+        row.push(body)?;
+        let index = outside.number as usize;
+        self.loops[index] = Loop {
+            within: outside.frame.body,
+            cells: self.frame.cells,
+            body: row,
+        };
+        self.frame = outside.frame;
+        self.table.close();
+        self.table.level = outside.level;
+        Ok(())
+    }
+
+    /// A `cilk_for`: its bounds, and then its body, which is a loop of the program.
+    #[cycle(statements)]
+    #[tactic(auto, using(crate::proofs::Earliest::earliest_append))]
+    fn parallel(
+        &mut self,
+        alloc: Global,
+        head: &Bounds,
+        body: &tree::Stmt,
+    ) -> Result<Stmt, AllocError>
+        ensures context { OnOk result (context_of self.new ≡ behind (context_of self.old) (trees.ParallelFor (trees.bounds head.now) (trees.statement body.now))) }
+        ensures faults { OnOk result (self.new.first ≡ earliest self.old.first (statement_faults (context_of self.old) (trees.ParallelFor (trees.bounds head.now) (trees.statement body.now)))) }
+        ensures loops { OnOk result (map loop self.new.loops.items ≡ map loop self.old.loops.items ++ loops_of (context_of self.old) (trees.ParallelFor (trees.bounds head.now) (trees.statement body.now))) }
+        ensures value { IfOk result (λ r. statement r ≡ statement_of (context_of self.old) (trees.ParallelFor (trees.bounds head.now) (trees.statement body.now))) }
+    {
+        let (low, high) = bounds(alloc, &self.table, head, &mut self.first)?;
+        let outside = self.enter(alloc, head.variable)?;
+        let body = self.scoped(alloc, body)?;
+        self.leave(alloc, outside, body)?;
+        Ok(Stmt::ParallelFor(low, high, outside.number))
+    }
+
+    /// A `for`, whose head is a scope.
+    #[cycle(statements)]
+    #[tactic(auto, using(crate::proofs::Earliest::earliest_append))]
+    fn repeated(
+        &mut self,
+        alloc: Global,
+        beginning: &Option<Beginning>,
+        test: &Option<tree::Expr>,
+        tree: &Option<tree::Assignment>,
+        body: &tree::Stmt,
+    ) -> Result<Stmt, AllocError>
+        ensures context { OnOk result (context_of self.new ≡ behind (context_of self.old) (trees.For (trees.optional_beginning beginning.now) (trees.optional test.now) (trees.optional_assignment tree.now) (trees.statement body.now))) }
+        ensures faults { OnOk result (self.new.first ≡ earliest self.old.first (statement_faults (context_of self.old) (trees.For (trees.optional_beginning beginning.now) (trees.optional test.now) (trees.optional_assignment tree.now) (trees.statement body.now)))) }
+        ensures loops { OnOk result (map loop self.new.loops.items ≡ map loop self.old.loops.items ++ loops_of (context_of self.old) (trees.For (trees.optional_beginning beginning.now) (trees.optional test.now) (trees.optional_assignment tree.now) (trees.statement body.now))) }
+        ensures value { IfOk result (λ r. statement r ≡ statement_of (context_of self.old) (trees.For (trees.optional_beginning beginning.now) (trees.optional test.now) (trees.optional_assignment tree.now) (trees.statement body.now))) }
+    {
+        self.open(alloc)?;
+        let row = self.beginning(alloc, beginning)?;
+        let test = optional(alloc, &self.table, test, &mut self.first)?;
+        let step = step(alloc, &self.table, tree, &mut self.first)?;
+        let body = self.scoped(alloc, body)?;
+        self.close();
+        Ok(for_of(alloc, row, test, step, body)?)
+    }
+
+    /// A statement in a scope of its own.
+    #[cycle(statements)]
+    fn scoped(&mut self, alloc: Global, tree: &tree::Stmt) -> Result<Stmt, AllocError>
+        ensures context { OnOk result (context_of self.new ≡ behind_scope (context_of self.old) (behind (inside (context_of self.old)) (trees.statement tree.now))) }
+        ensures faults { OnOk result (self.new.first ≡ earliest self.old.first (statement_faults (inside (context_of self.old)) (trees.statement tree.now))) }
+        ensures loops { OnOk result (map loop self.new.loops.items ≡ map loop self.old.loops.items ++ loops_of (inside (context_of self.old)) (trees.statement tree.now)) }
+        ensures value { IfOk result (λ r. statement r ≡ statement_of (inside (context_of self.old)) (trees.statement tree.now)) }
+    {
+        self.open(alloc)?;
+        let statement = self.statement(alloc, tree)?;
+        self.close();
+        Ok(statement)
+    }
+
+    /// A statement with its names resolved. What is wrong is noted.
+    #[cycle(statements)]
+    #[tactic(auto, using(crate::proofs::Earliest::earliest_append, crate::proofs::Blocks::tree_block, crate::proofs::Blocks::block))]
+    fn statement(&mut self, alloc: Global, tree: &tree::Stmt) -> Result<Stmt, AllocError>
+        ensures context { OnOk result (context_of self.new ≡ behind (context_of self.old) (trees.statement tree.now)) }
+        ensures faults { OnOk result (self.new.first ≡ earliest self.old.first (statement_faults (context_of self.old) (trees.statement tree.now))) }
+        ensures loops { OnOk result (map loop self.new.loops.items ≡ map loop self.old.loops.items ++ loops_of (context_of self.old) (trees.statement tree.now)) }
+        ensures value { IfOk result (λ r. statement r ≡ statement_of (context_of self.old) (trees.statement tree.now)) }
+    {
+        match tree {
+            tree::Stmt::Empty => Ok(Stmt::Empty),
+            tree::Stmt::Block(list) => self.block(alloc, list),
+            tree::Stmt::Declare(locals) => Ok(Stmt::Declare(self.locals(alloc, locals)?)),
+            tree::Stmt::Reducer(reducer) => {
+                self.reducer(*reducer)?;
+                Ok(Stmt::Empty)
             }
-            .note(first);
-            Ok(Stmt::Empty)
+            tree::Stmt::Assign(tree) => assignment(alloc, &self.table, tree, &mut self.first),
+            tree::Stmt::Invoke(how, tree) => {
+                invoked(alloc, &self.table, *how, tree, &mut self.first)
+            }
+            tree::Stmt::AssignCall(name, how, tree) => {
+                assigned(alloc, &self.table, *name, *how, tree, &mut self.first)
+            }
+            tree::Stmt::Sync => Ok(Stmt::Sync),
+            tree::Stmt::If(test, body) => {
+                let test = expression(alloc, &self.table, test, &mut self.first)?;
+                let body = self.scoped(alloc, body)?;
+                Ok(Stmt::If(test, Box::new(alloc, body)?))
+            }
+            tree::Stmt::IfElse(test, body, other) => {
+                let test = expression(alloc, &self.table, test, &mut self.first)?;
+                let body = self.scoped(alloc, body)?;
+                let other = self.scoped(alloc, other)?;
+                Ok(Stmt::IfElse(test, Box::new(alloc, body)?, Box::new(alloc, other)?))
+            }
+            tree::Stmt::While(test, body) => {
+                let test = expression(alloc, &self.table, test, &mut self.first)?;
+                let body = self.scoped(alloc, body)?;
+                while_of(alloc, test, body)
+            }
+            tree::Stmt::For(beginning, test, step, body) => {
+                self.repeated(alloc, beginning, test, step, body)
+            }
+            tree::Stmt::ParallelFor(head, body) => self.parallel(alloc, head, body),
+            tree::Stmt::Return(place, value) => {
+                let returns = self.frame.returns;
+                returned(alloc, &self.table, returns, *place, value, &mut self.first)
+            }
+            tree::Stmt::Print(value) => Ok(Stmt::Print(expression(
+                alloc,
+                &self.table,
+                value,
+                &mut self.first,
+            )?)),
+            tree::Stmt::Update(name, value) => {
+                update(alloc, &self.table, *name, value, &mut self.first)
+            }
+            tree::Stmt::Set(name, value) => set(alloc, &self.table, *name, value, &mut self.first),
         }
     }
-}
 
-/// A statement with its names resolved. What is wrong is noted.
-#[cycle(statements)]
-#[tactic(auto, using(crate::proofs::Earliest::earliest_append, crate::proofs::Blocks::tree_block, crate::proofs::Blocks::block))]
-pub(crate) fn statement(
-    alloc: Global,
-    table: &Table,
-    tree: &tree::Stmt,
-    first: &mut Option<Misnaming>,
-) -> Result<Stmt, AllocError>
-    ensures faults { OnOk result (first.new ≡ earliest first.old (statement_faults (names_of table.now) (trees.statement tree.now))) }
-    ensures value { IfOk result (λ r. statement r ≡ statement_of (names_of table.now) (trees.statement tree.now)) }
-{
-    match tree {
-        tree::Stmt::Empty => Ok(Stmt::Empty),
-        tree::Stmt::Block(list) => Ok(Stmt::Block(row(alloc, table, list, first)?)),
-        tree::Stmt::Assign(name, value) => assignment(alloc, table, *name, value, first),
-        tree::Stmt::If(test, body) => {
-            let test = expression(alloc, table, test, first)?;
-            let body = statement(alloc, table, body, first)?;
-            Ok(Stmt::If(test, Box::new(alloc, body)?))
-        }
-        tree::Stmt::IfElse(test, body, other) => {
-            let test = expression(alloc, table, test, first)?;
-            let body = statement(alloc, table, body, first)?;
-            let other = statement(alloc, table, other, first)?;
-            Ok(Stmt::IfElse(test, Box::new(alloc, body)?, Box::new(alloc, other)?))
-        }
-        tree::Stmt::While(test, body) => {
-            let test = expression(alloc, table, test, first)?;
-            let body = statement(alloc, table, body, first)?;
-            Ok(Stmt::While(test, Box::new(alloc, body)?))
-        }
-        tree::Stmt::Print(value) => Ok(Stmt::Print(expression(alloc, table, value, first)?)),
-        tree::Stmt::Return(place, value) => returned(alloc, table, *place, value, first),
+    /// A block, which is a scope.
+    #[cycle(statements)]
+    #[tactic(auto, using(crate::proofs::Blocks::block))]
+    fn block(&mut self, alloc: Global, list: &[tree::Stmt]) -> Result<Stmt, AllocError>
+        ensures context { OnOk result (context_of self.new ≡ behind (context_of self.old) (trees.Block (trees.statements list.now))) }
+        ensures faults { OnOk result (self.new.first ≡ earliest self.old.first (statement_faults (context_of self.old) (trees.Block (trees.statements list.now)))) }
+        ensures loops { OnOk result (map loop self.new.loops.items ≡ map loop self.old.loops.items ++ loops_of (context_of self.old) (trees.Block (trees.statements list.now))) }
+        ensures value { IfOk result (λ r. statement r ≡ statement_of (context_of self.old) (trees.Block (trees.statements list.now))) }
+    {
+        self.open(alloc)?;
+        let row = self.row(alloc, list)?;
+        self.close();
+        Ok(Stmt::Block(row))
     }
-}
 
-/// Statements one after the other, with their names resolved. What is wrong is noted.
-#[cycle(statements)]
-pub(crate) fn row(
-    alloc: Global,
-    table: &Table,
-    list: &[tree::Stmt],
-    first: &mut Option<Misnaming>,
-) -> Result<Vec<Stmt>, AllocError>
-    ensures faults { OnOk result (first.new ≡ earliest first.old (row_faults (names_of table.now) (trees.statements list.now))) }
-    ensures value { IfOk result (λ r. statements r.items ≡ row_of (names_of table.now) (trees.statements list.now)) }
-{
-    let mut resolved = Vec::new(alloc);
-    'each: for tree in list {
-        resolved.push(statement(alloc, table, tree, first)?)?;
+    /// Statements one after the other, with their names resolved. What is wrong is noted.
+    #[cycle(statements)]
+    pub fn row(&mut self, alloc: Global, list: &[tree::Stmt]) -> Result<Vec<Stmt>, AllocError>
+        ensures context { OnOk result (context_of self.new ≡ behind_row (context_of self.old) (trees.statements list.now)) }
+        ensures faults { OnOk result (self.new.first ≡ earliest self.old.first (row_faults (context_of self.old) (trees.statements list.now))) }
+        ensures loops { OnOk result (map loop self.new.loops.items ≡ map loop self.old.loops.items ++ row_loops (context_of self.old) (trees.statements list.now)) }
+        ensures value { IfOk result (λ r. statements r.items ≡ row_of (context_of self.old) (trees.statements list.now)) }
+    {
+        let mut row = Vec::new(alloc);
+        'each: for tree in list {
+            self.reach(tree);
+            row.push(self.statement(alloc, tree)?)?;
+        }
+        Ok(row)
     }
-    Ok(resolved)
 }

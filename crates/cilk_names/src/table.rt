@@ -1,78 +1,118 @@
 //! The table of a text's names.
 
-ghost use Rattle.std.specs.Prelude.{◌≡◌, ℕ, List, [], ◌∷◌, ◌++◌, OnOk, Some, None, if◌then◌else◌, bytes_eq};
+ghost use Rattle.std.specs.Prelude.{◌≡◌, List, [], ◌++◌, ◌∷◌, OnOk};
 ghost use Rattle.cilk_parser.specs.Trees.{bytes_of};
-ghost use Rattle.cilk_names.specs.Pass.{found, names_of, has_declared, Tells};
-ghost use Rattle.cilk_names.specs.Names.{Declaration};
-ghost use Rattle.cilk_names.specs.Misnamings.{earliest, again};
+ghost use Rattle.cilk_names.specs.Names.{Scope, declare, found, is_declared, meaning, opened, with_entry};
+ghost use Rattle.cilk_names.specs.Misnamings.{earliest, again_faults};
+ghost use Rattle.cilk_names.specs.States.{names_of, scope_of};
 
 use crate::fault::{Misnaming, NameNumber};
-use cilk_parser::tree::Name;
+use crate::signature::Signature;
+use cilk_monoid::kind::MonoidKind;
+use cilk_parser::tree::{Name, ReturnType};
+use cilk_program::program::Body;
+use cilk_program::syntax::Array;
 use std::alloc::{AllocError, Global};
 use std::collections::HashMap;
+use std::mem;
 
-/// What a name means: a global variable by its number, counted from 0 in order of declaration, or a function.
-#[derive(Clone, Copy, PartialEq, Eq, Debug)]
-pub enum Meaning {
-    Variable(u32),
-    Function,
+/// Which reducer of a frame's function, or of the program: each counted from 0 in order of declaration.
+#[derive(Clone, Copy, Debug)]
+pub enum Home {
+    Global(u32),
+    Own(u32),
+    Given(u32),
 }
 
-/// What the table says of a name: what it means, and whether its declaration has been reached.
+/// What a name means. Global cells and functions are counted from 0 in order of declaration.
+#[derive(Clone, Copy, Debug)]
+pub enum Meaning {
+    Global(u32),
+    Array(Array),
+    /// A variable of the body that stands in so many loop bodies, by its cell in that body's frame.
+    Local(u32, u32),
+    /// The variable of the parallel loop whose body stands in so many loop bodies, itself counted.
+    Turn(u32),
+    /// A reducer, and its monoid, if that is one.
+    Reducer(Home, Option<MonoidKind>),
+    Function(u32),
+}
+
+/// What a scope says of a name: what it means, and whether its declaration has been reached.
 #[derive(Clone, Copy)]
 pub(crate) struct Entry {
     pub meaning: Meaning,
     pub declared: bool,
 }
 
-/// What the names of a text mean at a place. Names are looked up by their bytes in the text.
+/// The frame of a body: which body, what its function returns, how many cells it has so far, and whether only declarations
+/// of reducers stand ahead in the function's own block.
+#[derive(Clone, Copy)]
+pub(crate) struct Frame {
+    pub body: Body,
+    pub returns: ReturnType,
+    pub cells: u32,
+    pub heading: bool,
+}
+
+/// What names mean at a place of the text: the scope in which it stands, those round it, outermost first, and in how many
+/// loop bodies it stands. Names are looked up by their bytes in the text.
 #[derive(Drop)]
 pub(crate) struct Table<'a> {
     pub text: &'a [u8],
-    pub entries: HashMap<&'a [u8], Entry>,
+    pub signatures: &'a [Signature],
+    pub inner: HashMap<&'a [u8], Entry>,
+    pub outer: Vec<HashMap<&'a [u8], Entry>>,
+    pub level: u32,
 }
 
 impl<'a> Table<'a> {
-    /// No name means anything.
-    pub fn new(alloc: Global, text: &'a [u8]) -> Table<'a>
-        ensures text { result.text.now ≡ text.now }
-        ensures empty { (q : List ℕ) → found result q ≡ None }
+    /// What a scope or those round it say of these bytes.
+    fn find(&self, name: &[u8]) -> Option<Entry>
+        ensures { result ≡ found (names_of self.now) name.now }
     {
-        Table {
-            text,
-            entries: HashMap::new(alloc),
+        if let Some(entry) = self.inner.get(name) {
+            return Some(*entry);
         }
+        let mut depth = self.outer.len();
+        'scopes: while depth > 0 {
+            depth -= 1;
+            if let Some(entry) = self.outer[depth].get(name) {
+                return Some(*entry);
+            }
+        }
+        None
     }
 
     /// What a name means.
     pub fn meaning(&self, name: Name) -> Option<Meaning>
-        ensures { result ≡ (names_of self.now).meaning name }
+        ensures { result ≡ meaning (names_of self.now) name }
     {
-        match self.entries.get(bytes_of(self.text, name)) {
+        match self.find(bytes_of(self.text, name)) {
             Some(entry) => Some(entry.meaning),
             None => None,
         }
     }
 
-    /// Whether the declaration of a name has been reached.
+    /// Whether a name is declared in the innermost scope.
     pub fn is_declared(&self, name: Name) -> bool
-        ensures { result ≡ has_declared self.now (bytes_of self.now.text.now name) }
+        ensures { result ≡ is_declared (scope_of self.now.inner) (bytes_of self.now.text.now name) }
     {
-        match self.entries.get(bytes_of(self.text, name)) {
+        match self.inner.get(bytes_of(self.text, name)) {
             Some(entry) => entry.declared,
             None => false,
         }
     }
 
-    /// Reaches the declaration of a name, which means what the first of its declarations says. A second is noted.
+    /// Declares a name in the innermost scope. A second declaration is noted, and changes nothing.
     pub fn declare(
         &mut self,
         name: Name,
         meaning: Meaning,
         first: &mut Option<Misnaming>,
     ) -> Result<(), AllocError>
-        ensures tells { OnOk result ((text : List ℕ) (ds later : List Declaration) → Tells self.old text ds later → Tells self.new text (ds ++ record { name = bytes_of text name; meaning = meaning } ∷ []) later) }
-        ensures faults { OnOk result ((text : List ℕ) (ds later : List Declaration) → Tells self.old text ds later → first.new ≡ earliest first.old (again text ds name)) }
+        ensures names { OnOk result (names_of self.new ≡ declare (names_of self.old) name meaning) }
+        ensures faults { OnOk result (first.new ≡ earliest first.old (again_faults (names_of self.old) name)) }
     {
         if self.is_declared(name) {
             Misnaming {
@@ -92,13 +132,32 @@ impl<'a> Table<'a> {
         Ok(())
     }
 
-    /// Gives a name another entry.
+    /// Gives a name another entry in the innermost scope.
     pub fn put(&mut self, name: Name, entry: Entry) -> Result<(), AllocError>
-        ensures text { self.new.text.now ≡ self.old.text.now }
-        ensures updates { OnOk result ((q : List ℕ) → found self.new q ≡ (if bytes_eq (bytes_of self.old.text.now name) q then Some entry else found self.old q)) }
+        ensures same { (self.new.text ≡ self.old.text) × (self.new.signatures ≡ self.old.signatures) × (self.new.outer ≡ self.old.outer) × (self.new.level ≡ self.old.level) }
+        ensures updates { OnOk result (scope_of self.new.inner ≡ with_entry (scope_of self.old.inner) (bytes_of self.old.text.now name) entry) }
     {
-        self.entries.insert(bytes_of(self.text, name), entry)?;
+        self.inner.insert(bytes_of(self.text, name), entry)?;
         Ok(())
+    }
+
+    /// Opens a scope in the innermost one.
+    pub fn open(&mut self, alloc: Global) -> Result<(), AllocError>
+        ensures names { OnOk result (names_of self.new ≡ opened (names_of self.old)) }
+        ensures same { OnOk result ((self.new.text ≡ self.old.text) × (self.new.signatures ≡ self.old.signatures) × (self.new.level ≡ self.old.level)) }
+    {
+        let scope = mem::replace(&mut self.inner, HashMap::new(alloc));
+        self.outer.push(scope)?;
+        Ok(())
+    }
+
+    /// Closes the innermost scope.
+    pub fn close(&mut self)
+        ensures names { (outer : List Scope) (inner : Scope) → (names_of self.old).outer ≡ outer ++ inner ∷ [] → names_of self.new ≡ record (names_of self.old) { inner = inner; outer = outer } }
+    {
+        if let Some(scope) = self.outer.pop() {
+            self.inner = scope;
+        }
     }
 }
 

@@ -121,25 +121,26 @@ whole_within : (ts : List Token) (stack : List Symbol) (n : ℕ) (past : List Bo
 whole_within [] stack n past h k = tt
 whole_within (t ∷ ts) stack n past h k = whole_step (after stack n t.kind) t ts past (λ s m more e f. whole_within ts s m more e f) h k
 
-pub keeps : (p : List Item) (ts : List Token) → SpellsItems p ts [] → run ts start 0 ≡ Whole → Within ts (excess_items p)
-keeps p ts h k = whole_within ts start 0 (excess_items p) k (accepted p ts h)
+pub keeps : (p : List Item) (ts : List Token) → SpellsItems p ts [] → run ts start 0 ≡ Whole → Within ts (excess_items p ts)
+keeps p ts h k = whole_within ts start 0 (excess_items p ts) k (accepted p ts h)
 
 -- tokens behind a walk that stops are in no text
 none_goes : (used rest : List Token) (stack' : List Symbol) (n' : ℕ) → Walk used start 0 stack' n' → Stuck rest stack' n' → Refused used rest
 none_goes used [] stack' n' w stuck = λ p s.
-    let whole : trace (used ++ []) start 0 ≡ Some (excess_items p) = ap (λ x. trace x start 0) (append-nil used) ∙ accepted p used s in
-    let r = read_back used [] start stack' 0 n' (excess_items p) w whole in
+    let whole : trace (used ++ []) start 0 ≡ Some (excess_items p used) = ap (λ x. trace x start 0) (append-nil used) ∙ accepted p used s in
+    let r = read_back used [] start stack' 0 n' (excess_items p used) w whole in
     let some : ended (at_end stack') ≡ Some r.0 = r.1 in
     cc
 none_goes used (x ∷ rest) stack' n' w stuck = λ b.
-    let whole : trace (used ++ x ∷ b.0) start 0 ≡ Some (excess_items b.1) = ap (λ y. trace y start 0) (sym (append_assoc used (x ∷ []) b.0)) ∙ accepted b.1 ((used ++ x ∷ []) ++ b.0) b.2 in
-    let r = read_back used (x ∷ b.0) start stack' 0 n' (excess_items b.1) w whole in
+    let past = excess_items b.1 ((used ++ x ∷ []) ++ b.0) in
+    let whole : trace (used ++ x ∷ b.0) start 0 ≡ Some past = ap (λ y. trace y start 0) (sym (append_assoc used (x ∷ []) b.0)) ∙ accepted b.1 ((used ++ x ∷ []) ++ b.0) b.2 in
+    let r = read_back used (x ∷ b.0) start stack' 0 n' past w whole in
     let some : None ≡ Some r.0 = ap (λ a. noted a (trace b.0)) (sym stuck) ∙ r.1 in
     cc
 
 begun : (used : List Token) (stack' : List Symbol) (n' : ℕ) → Walk used start 0 stack' n' → Begins used
 begun used stack' n' w =
-    let r = read_on used (finish stack') start stack' 0 n' w (completes stack' n' (sound_behind used start stack' 0 n' w (tt, tt, tt))) in
+    let r = read_on used (finish stack') start stack' 0 n' w (completes stack' n' (sound_behind used start stack' 0 n' w (tt, tt))) in
     let p = spelled (used ++ finish stack') r.0 r.1 in
     (finish stack', p.0, p.1)
 
@@ -151,21 +152,22 @@ refusal ts rest h =
       record {
         parts = u.3;
         begins = begun u.0 u.1 u.2 u.4;
-        within = λ w p s. (read_back u.0 w start u.1 0 u.2 (excess_items p) u.4 (accepted p (u.0 ++ w) s)).2;
+        within = λ w p s. (read_back u.0 w start u.1 0 u.2 (excess_items p (u.0 ++ w)) u.4 (accepted p (u.0 ++ w) s)).2;
         refused = none_goes u.0 rest u.1 u.2 u.4 u.5;
       },
     )
 
 goes_past : (used : List Token) (x : Token) (stack' s : List Symbol) (n' m : ℕ) → Walk used start 0 stack' n' → after stack' n' x.kind ≡ Goes true s m → GoesPast used x
 goes_past used x stack' s n' m k a = λ w p sp.
-    let whole : trace (used ++ x ∷ w) start 0 ≡ Some (excess_items p) = ap (λ y. trace y start 0) (sym (append_assoc used (x ∷ []) w)) ∙ accepted p ((used ++ x ∷ []) ++ w) sp in
-    let r = read_back used (x ∷ w) start stack' 0 n' (excess_items p) k whole in
+    let past = excess_items p ((used ++ x ∷ []) ++ w) in
+    let whole : trace (used ++ x ∷ w) start 0 ≡ Some past = ap (λ y. trace y start 0) (sym (append_assoc used (x ∷ []) w)) ∙ accepted p ((used ++ x ∷ []) ++ w) sp in
+    let r = read_back used (x ∷ w) start stack' 0 n' past k whole in
     let f = front true (trace w s m) r.0 (ap (λ y. noted y (trace w)) (sym a) ∙ r.1) in
     r.3 (subst (λ y. IsFirstPast [] y) f.2 refl)
 
 begun_past : (used : List Token) (x : Token) (stack' s : List Symbol) (n' m : ℕ) → Walk used start 0 stack' n' → after stack' n' x.kind ≡ Goes true s m → Begins (used ++ x ∷ [])
 begun_past used x stack' s n' m k a =
-    let sound : Sound s = subst SoundAfter a (kept stack' n' x.kind (sound_behind used start stack' 0 n' k (tt, tt, tt))) in
+    let sound : Sound s = subst SoundAfter a (kept stack' n' x.kind (sound_behind used start stack' 0 n' k (tt, tt))) in
     let c = completes s m sound in
     let r = read_on used (x ∷ finish s) start stack' 0 n' k (true ∷ c.0, ap (λ y. noted y (trace (finish s))) a ∙ ap (ahead true) c.1) in
     let p = spelled (used ++ x ∷ finish s) r.0 r.1 in

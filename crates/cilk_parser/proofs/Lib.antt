@@ -6,4 +6,5 @@ pub mod Lists
 pub mod MarkLaws
 pub mod Runs
 pub mod Spelled
+pub mod Stopping
 pub mod Traces

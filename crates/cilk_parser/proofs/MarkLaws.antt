@@ -3,7 +3,7 @@ use Rattle.std.proofs.Common.{◌≡◌, ◌≢◌, true, false, refl, ap, ◌�
 use Rattle.cilk_token.specs.declared.token.Kind.{Kind}
 use Rattle.cilk_token.specs.declared.token.Kind.TheVariants as kinds
 use Rattle.cilk_parser.specs.declared.marks.Mark.{Mark}
-use Rattle.cilk_parser.specs.declared.marks.Mark.TheVariants.{Open, Close, OpenBrace, CloseBrace, Semicolon, Comma, Assign, Int}
+use Rattle.cilk_parser.specs.declared.marks.Mark.TheVariants.{Open, Close, OpenBrace, CloseBrace, CloseBracket, Semicolon, Comma, Assign, Less, Int}
 use Rattle.cilk_parser.specs.Expected.{kind_of, fits}
 
 pub is_mark : (m : Mark) (k : Kind) → fits m k ≡ true → k ≡ kind_of m
@@ -11,9 +11,11 @@ is_mark Open kinds.Open h = refl
 is_mark Close kinds.Close h = refl
 is_mark OpenBrace kinds.OpenBrace h = refl
 is_mark CloseBrace kinds.CloseBrace h = refl
+is_mark CloseBracket kinds.CloseBracket h = refl
 is_mark Semicolon kinds.Semicolon h = refl
 is_mark Comma kinds.Comma h = refl
 is_mark Assign kinds.Assign h = refl
+is_mark Less kinds.Less h = refl
 is_mark Int kinds.Int h = refl
 is_mark _ _ h = cc
 
@@ -23,9 +25,11 @@ fits_own Open = refl
 fits_own Close = refl
 fits_own OpenBrace = refl
 fits_own CloseBrace = refl
+fits_own CloseBracket = refl
 fits_own Semicolon = refl
 fits_own Comma = refl
 fits_own Assign = refl
+fits_own Less = refl
 fits_own Int = refl
 
 -- so one that doesn't fit is another

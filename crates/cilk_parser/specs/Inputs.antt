@@ -1,5 +1,5 @@
 -- The numbers of an input text, and its faults.
-use Rattle.std.specs.Prelude.{◌≡◌, ℕ, ◌+◌, ◌≤◌, ◌<◌, nat_le, Bool, true, false, ◌&&◌, ◌==◌, if◌then◌else◌, ℤ, pos, negsuc, neg_ℤ, List, [], ◌∷◌, length, Option, Some, None, slice_get}
+use Rattle.std.specs.Prelude.{◌≡◌, ℕ, ◌+◌, ◌≤◌, ◌<◌, nat_le, Bool, true, false, ◌&&◌, ◌==◌, if◌then◌else◌, ℤ, pos, neg_ℤ, List, [], ◌∷◌, length, Option, Some, None}
 use Rattle.cilk_lexer.specs.declared.lexer.Class.TheVariants.{Solid}
 use Rattle.cilk_lexer.specs.Lexing.{belongs, front_of, behind, value_of, all_digits}
 use Rattle.cilk_parser.specs.declared.input.Front.{Front}

@@ -3,6 +3,7 @@ pub mod Grammar
 pub mod Inputs
 pub mod Limits
 pub mod Refused
+pub mod Sources
 pub mod Stops
 pub mod Texts
 pub mod Trees

@@ -16,11 +16,11 @@ Refused used (x ∷ rest) = Begins (used ++ x ∷ []) → ⊥
 
 -- in each program that begins with them these tokens keep the limits
 abbrev pub KeepsLimits : List Token → Type 0
-KeepsLimits used = (w : List Token) (p : List Item) → SpellsProgram p (used ++ w) → Within used (excess_items p)
+KeepsLimits used = (w : List Token) (p : List Item) → SpellsProgram p (used ++ w) → Within used (excess_items p (used ++ w))
 
 -- in each program that begins with used and x, x is the first token past a limit
 abbrev pub GoesPast : List Token → Token → Type 0
-GoesPast used x = (w : List Token) (p : List Item) → SpellsProgram p ((used ++ x ∷ []) ++ w) → IsFirstPast used (excess_items p)
+GoesPast used x = (w : List Token) (p : List Item) → SpellsProgram p ((used ++ x ∷ []) ++ w) → IsFirstPast used (excess_items p ((used ++ x ∷ []) ++ w))
 
 -- used is in the grammar and within the limits, and what follows isn't in the grammar
 pub record IsRefusal (ts used rest : List Token) : Type 0 where

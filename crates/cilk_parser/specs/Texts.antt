@@ -39,7 +39,7 @@ place_of end (t ∷ ts) = t.at
 pub record IsText (bytes : List ℕ) (t : Tree) : Type 0 where
   pub length : length bytes ≤ 262144
   pub text : t.text.items ≡ bytes
-  pub tokens : (ts : List Token) × AreTokens bytes ts × SpellsProgram (program t) ts × Within ts (excess_items (program t))
+  pub tokens : (ts : List Token) × AreTokens bytes ts × SpellsProgram (program t) ts × Within ts (excess_items (program t) ts)
 
 -- a fault of the tokens is the first by place
 abbrev pub LexicalFault : TextNumber → List ℕ → ℕ → Type 0

@@ -5,13 +5,13 @@
 
 ghost use Rattle.std.specs.Prelude.{◌≡◌, ℕ, ◌+◌, ◌<◌, ◌≤◌, if◌then◌else◌, List, ◌∷◌, IfOk, IfErr, IfSome, IfNone, length, drop, None, Some};
 ghost use Rattle.cilk_parser.specs.Expected;
-ghost use Rattle.cilk_parser.specs.Expected.{Symbol, Operand, Tail, Anew, One, PastLimit, run, level_of};
-ghost use Rattle.cilk_parser.specs.Grammar.{Is, SpellsExpr, SpellsClosed, level, level_in, mark_of};
+ghost use Rattle.cilk_parser.specs.Expected.{Symbol, Operand, Index, Tail, Anew, Optional, One, PastLimit, run, level_of, kind_of};
+ghost use Rattle.cilk_parser.specs.Grammar.{Is, SpellsExpr, SpellsBehindName, SpellsClosed, SpellsInside, SpellsEnded, SpellsOptional, level, level_in, mark_of};
 ghost use Rattle.cilk_parser.specs.Limits.{is_many};
 ghost use Rattle.cilk_parser.specs.Stops.{IsStop, NoOperator, NotOfLevel};
-ghost use Rattle.cilk_parser.specs.Trees.{expression};
+ghost use Rattle.cilk_parser.specs.Trees.{expression, optional};
 
-use crate::marks::{Mark, one};
+use crate::marks::{Mark, name, one};
 use crate::stop::{DEEPEST, MOST_OPERATORS, Stop};
 use crate::tree::{BinaryOperator, Expr, Name, UnaryOperator};
 use cilk_token::token::{Kind, Token};
@@ -86,6 +86,7 @@ fn begins_part(kind: Kind) -> bool
             | Kind::Minus
             | Kind::Not
             | Kind::Open
+            | Kind::Value
             | Kind::Input
             | Kind::InputCount
     )
@@ -164,7 +165,7 @@ fn operand<'a>(
                 at: first.at,
                 end: first.end,
             };
-            Ok((Expr::Variable(name), rest, operators))
+            behind_name(alloc, name, rest, depth, operators)
         }
         Kind::Minus => {
             if operators + 1 > MOST_OPERATORS {
@@ -183,12 +184,18 @@ fn operand<'a>(
             Ok((Expr::Unary(UnaryOperator::Not, inner), rest, count))
         }
         Kind::Open => {
-            let (inner, rest, count) = nested(alloc, rest, depth + 1, operators)?;
+            let (inner, rest, count) = nested(alloc, rest, depth + 1, operators, Mark::Close)?;
             Ok((Expr::Group(Box::new(alloc, inner)?), rest, count))
+        }
+        Kind::Value => {
+            let rest = one(rest, Mark::Open)?;
+            let (reducer, rest) = name(rest)?;
+            let rest = one(rest, Mark::Close)?;
+            Ok((Expr::Value(reducer), rest, operators))
         }
         Kind::Input => {
             let rest = one(rest, Mark::Open)?;
-            let (place, rest, count) = nested(alloc, rest, depth + 1, operators)?;
+            let (place, rest, count) = nested(alloc, rest, depth + 1, operators, Mark::Close)?;
             Ok((Expr::Input(Box::new(alloc, place)?), rest, count))
         }
         Kind::InputCount => {
@@ -200,7 +207,50 @@ fn operand<'a>(
     }
 }
 
-/// An expression within another one, and the parenthesis behind it.
+/// What a name stands for in an expression, from behind it: an element of an array, or a variable.
+#[cycle(expressions)]
+#[tactic(auto, using(crate::proofs::Runs::no_index))]
+fn behind_name<'a>(
+    alloc: Global,
+    name: Name,
+    tokens: &'a [Token],
+    depth: u32,
+    operators: u32,
+) -> Result<(Expr, &'a [Token], u32), Stop<'a>>
+    requires depth { depth ≤ 64 }
+    requires few { operators ≤ 256 }
+    ensures tree { IfOk result (λ x. SpellsBehindName (expression x.0) name tokens.now x.1.now) }
+    ensures tight { IfOk result (λ x. 6 ≤ level_in (expression x.0)) }
+    ensures ends { IfOk result (λ x. NoOperator 6 x.1.now) }
+    ensures shorter { IfOk result (λ x. length x.1.now ≤ length tokens.now) }
+    ensures few { IfOk result (λ x. x.2 ≤ 256) }
+    ensures reads { IfOk result (λ x. (stack : List Symbol) →
+        run tokens.now (Index depth ∷ stack) operators ≡ run x.1.now stack x.2) }
+    ensures stops { IfErr result (λ e. (stack : List Symbol) →
+        IsStop e (run tokens.now (Index depth ∷ stack) operators)) }
+{
+    match tokens {
+        [
+            Token {
+                kind: Kind::OpenBracket,
+                ..
+            },
+            after @ ..,
+        ] => {
+            let (index, rest, count) = nested(
+                alloc,
+                after,
+                depth + 1,
+                operators,
+                Mark::CloseBracket,
+            )?;
+            Ok((Expr::Element(name, Box::new(alloc, index)?), rest, count))
+        }
+        _ => Ok((Expr::Variable(name), tokens, operators)),
+    }
+}
+
+/// An expression within another one, and the mark that closes it.
 #[cycle(expressions)]
 #[tactic(auto, using(crate::proofs::Runs::tail_ends))]
 fn nested<'a>(
@@ -208,18 +258,19 @@ fn nested<'a>(
     tokens: &'a [Token],
     depth: u32,
     operators: u32,
+    close: Mark,
 ) -> Result<(Expr, &'a [Token], u32), Stop<'a>>
     requires { operators ≤ 256 }
-    ensures tree { IfOk result (λ x. SpellsClosed (expression x.0) tokens.now x.1.now) }
+    ensures tree { IfOk result (λ x. SpellsClosed (kind_of close) (expression x.0) tokens.now x.1.now) }
     ensures shorter { IfOk result (λ x. length x.1.now < length tokens.now) }
     ensures few { IfOk result (λ x. x.2 ≤ 256) }
     ensures reads { IfOk result (λ x. (stack : List Symbol) →
-        run tokens.now (Operand depth ∷ Tail depth ∷ One Mark.Close ∷ stack) operators ≡ run x.1.now stack x.2) }
+        run tokens.now (Operand depth ∷ Tail depth ∷ One close ∷ stack) operators ≡ run x.1.now stack x.2) }
     ensures stops { IfErr result (λ e. (stack : List Symbol) →
-        IsStop e (run tokens.now (Operand depth ∷ Tail depth ∷ One Mark.Close ∷ stack) operators)) }
+        IsStop e (run tokens.now (Operand depth ∷ Tail depth ∷ One close ∷ stack) operators)) }
 {
     let (inner, rest, count) = at_level(alloc, tokens, 0, depth, operators)?;
-    let rest = one(rest, Mark::Close)?;
+    let rest = one(rest, close)?;
     Ok((inner, rest, count))
 }
 
@@ -239,4 +290,71 @@ pub fn expr<'a>(
 {
     let (whole, rest, _) = at_level(alloc, tokens, 0, depth, 0)?;
     Ok((whole, rest))
+}
+
+/// An expression between parentheses.
+#[tactic(auto, unfolding(crate::specs::Grammar::SpellsInside))]
+pub fn parenthesized<'a>(
+    alloc: Global,
+    tokens: &'a [Token],
+    depth: u32,
+) -> Result<(Expr, &'a [Token]), Stop<'a>>
+    ensures tree { IfOk result (λ x. SpellsInside (expression x.0) tokens.now x.1.now) }
+    ensures shorter { IfOk result (λ x. length x.1.now < length tokens.now) }
+    ensures reads { IfOk result (λ x. (stack : List Symbol) →
+        run tokens.now (One Mark.Open ∷ Operand depth ∷ Tail depth ∷ Anew ∷ One Mark.Close ∷ stack) 0 ≡ run x.1.now stack 0) }
+    ensures stops { IfErr result (λ e. (stack : List Symbol) →
+        IsStop e (run tokens.now (One Mark.Open ∷ Operand depth ∷ Tail depth ∷ Anew ∷ One Mark.Close ∷ stack) 0)) }
+{
+    let rest = one(tokens, Mark::Open)?;
+    let (e, rest) = expr(alloc, rest, depth)?;
+    let rest = one(rest, Mark::Close)?;
+    Ok((e, rest))
+}
+
+/// An expression and the semicolon behind it.
+pub fn ended<'a>(
+    alloc: Global,
+    tokens: &'a [Token],
+    depth: u32,
+) -> Result<(Expr, &'a [Token]), Stop<'a>>
+    ensures tree { IfOk result (λ x. SpellsEnded (expression x.0) tokens.now x.1.now) }
+    ensures shorter { IfOk result (λ x. length x.1.now < length tokens.now) }
+    ensures reads { IfOk result (λ x. (stack : List Symbol) →
+        run tokens.now (Operand depth ∷ Tail depth ∷ Anew ∷ One Mark.Semicolon ∷ stack) 0 ≡ run x.1.now stack 0) }
+    ensures stops { IfErr result (λ e. (stack : List Symbol) →
+        IsStop e (run tokens.now (Operand depth ∷ Tail depth ∷ Anew ∷ One Mark.Semicolon ∷ stack) 0)) }
+{
+    let (e, rest) = expr(alloc, tokens, depth)?;
+    let rest = one(rest, Mark::Semicolon)?;
+    Ok((e, rest))
+}
+
+/// An expression and the semicolon behind it, or the semicolon alone.
+#[tactic(auto, using(crate::proofs::Runs::some_value), unfolding(crate::specs::Grammar::SpellsOptional))]
+pub fn optional<'a>(
+    alloc: Global,
+    tokens: &'a [Token],
+    depth: u32,
+) -> Result<(Option<Expr>, &'a [Token]), Stop<'a>>
+    ensures tree { IfOk result (λ x. SpellsOptional (optional x.0) tokens.now x.1.now) }
+    ensures shorter { IfOk result (λ x. length x.1.now < length tokens.now) }
+    ensures reads { IfOk result (λ x. (stack : List Symbol) →
+        run tokens.now (Optional depth ∷ stack) 0 ≡ run x.1.now stack 0) }
+    ensures stops { IfErr result (λ e. (stack : List Symbol) →
+        IsStop e (run tokens.now (Optional depth ∷ stack) 0)) }
+{
+    match tokens {
+        [
+            Token {
+                kind: Kind::Semicolon,
+                ..
+            },
+            rest @ ..,
+        ] => Ok((None, rest)),
+        _ => {
+            let (value, rest) = ended(alloc, tokens, depth)?;
+            Ok((Some(value), rest))
+        }
+    }
 }

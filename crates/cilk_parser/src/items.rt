@@ -1,16 +1,20 @@
 //! From tokens to the items of a program.
 
-ghost use Rattle.std.specs.Prelude.{◌≡◌, ℕ, ◌<◌, ◌≤◌, List, [], ◌∷◌, IfOk, IfErr, length};
-ghost use Rattle.cilk_parser.specs.Expected.{Symbol, Named, Declared, Literal, Initial, Variables, ParameterPart, Items, One, Statements, Whole, run};
-ghost use Rattle.cilk_parser.specs.Grammar.{SpellsBody, SpellsDeclared, SpellsFunction, SpellsInitializer, SpellsItems, SpellsLine, SpellsLiteral, SpellsParameters, SpellsProgram, SpellsVariables};
+ghost use Rattle.std.specs.Prelude.{◌≡◌, ℕ, ◌<◌, ◌≤◌, List, [], ◌∷◌, IfOk, IfErr, IfSome, IfNone, length};
+ghost use Rattle.cilk_parser.specs.Expected as expected;
+ghost use Rattle.cilk_parser.specs.Expected.{Symbol, Named, Declared, Literal, Initial, Variables, Items, One, Statements, Whole, behind_type, run};
+ghost use Rattle.cilk_parser.specs.Grammar.{Is, SpellsBody, SpellsFunction, SpellsGlobal, SpellsInitializer, SpellsItemRest, SpellsItems, SpellsLine, SpellsLiteral, SpellsProgram, SpellsTyped, SpellsVariables, type_of};
 ghost use Rattle.cilk_parser.specs.Stops.{IsStop, NotFirst};
 ghost use Rattle.cilk_token.specs.declared.token.Kind.TheVariants as kinds;
 ghost use Rattle.cilk_parser.specs.Trees as trees;
+ghost use Rattle.cilk_parser.specs.declared.tree.ReturnType.TheVariants as types;
 
+use crate::declarations::reducer;
 use crate::marks::{Mark, behind, name, numeral, one};
+use crate::parameters::parameters;
 use crate::statements::statements;
 use crate::stop::Stop;
-use crate::tree::{GlobalVariable, Initializer, Item, Name, Parameters, Stmt};
+use crate::tree::{GlobalVariable, Initializer, Item, Name, Parameter, ReturnType, Stmt};
 use cilk_token::token::{Kind, Token};
 use std::alloc::Global;
 
@@ -47,8 +51,8 @@ fn literal<'a>(tokens: &'a [Token]) -> Result<(Initializer, &'a [Token]), Stop<'
 
 /// What stands behind the name of a global variable.
 #[tactic(auto, using(crate::proofs::Lists::spells_initial))]
-fn initializer<'a>(tokens: &'a [Token]) -> Result<(Initializer, &'a [Token]), Stop<'a>>
-    ensures tree { IfOk result (λ x. SpellsInitializer x.0 tokens.now x.1.now) }
+fn global<'a>(name: Name, tokens: &'a [Token]) -> Result<(GlobalVariable, &'a [Token]), Stop<'a>>
+    ensures tree { IfOk result (λ x. SpellsGlobal x.0 name tokens.now x.1.now) }
     ensures shorter { IfOk result (λ x. length x.1.now ≤ length tokens.now) }
     ensures reads { IfOk result (λ x. (stack : List Symbol) →
         run tokens.now (Initial ∷ stack) 0 ≡ run x.1.now stack 0) }
@@ -62,8 +66,22 @@ fn initializer<'a>(tokens: &'a [Token]) -> Result<(Initializer, &'a [Token]), St
                 ..
             },
             after @ ..,
-        ] => literal(after),
-        _ => Ok((Initializer::Absent, tokens)),
+        ] => {
+            let (value, rest) = literal(after)?;
+            Ok((GlobalVariable::Variable(name, value), rest))
+        }
+        [
+            Token {
+                kind: Kind::OpenBracket,
+                ..
+            },
+            after @ ..,
+        ] => {
+            let (length, rest) = numeral(after)?;
+            let rest = one(rest, Mark::CloseBracket)?;
+            Ok((GlobalVariable::Array(name, length), rest))
+        }
+        _ => Ok((GlobalVariable::Variable(name, Initializer::Absent), tokens)),
     }
 }
 
@@ -82,18 +100,12 @@ fn variables<'a>(
         IsStop e (run tokens.now (Initial ∷ Variables ∷ stack) 0)) }
 {
     let mut list = Vec::new(alloc);
-    let (value, mut rest) = initializer(tokens)?;
-    list.push(GlobalVariable {
-        name: first,
-        initializer: value,
-    })?;
+    let (variable, mut rest) = global(first, tokens)?;
+    list.push(variable)?;
     'each: while let Some(after) = behind(rest, Mark::Comma) {
         let (next, after) = name(after)?;
-        let (value, after) = initializer(after)?;
-        list.push(GlobalVariable {
-            name: next,
-            initializer: value,
-        })?;
+        let (variable, after) = global(next, after)?;
+        list.push(variable)?;
         rest = after;
     }
     Ok((list, rest))
@@ -126,25 +138,6 @@ fn line<'a>(
     }
 }
 
-/// What stands between a function's parentheses.
-fn parameters<'a>(tokens: &'a [Token]) -> (Parameters, &'a [Token])
-    ensures tree { SpellsParameters result.0 tokens.now result.1.now }
-    ensures shorter { length result.1.now ≤ length tokens.now }
-    ensures reads { (stack : List Symbol) →
-        run tokens.now (ParameterPart ∷ stack) 0 ≡ run result.1.now stack 0 }
-{
-    match tokens {
-        [
-            Token {
-                kind: Kind::Void,
-                ..
-            },
-            after @ ..,
-        ] => (Parameters::Void, after),
-        _ => (Parameters::Empty, tokens),
-    }
-}
-
 /// A function's body.
 #[tactic(auto, unfolding(crate::specs::Grammar::SpellsBody))]
 fn body<'a>(alloc: Global, tokens: &'a [Token]) -> Result<(Vec<Stmt>, &'a [Token]), Stop<'a>>
@@ -161,37 +154,39 @@ fn body<'a>(alloc: Global, tokens: &'a [Token]) -> Result<(Vec<Stmt>, &'a [Token
     Ok((list, rest))
 }
 
-/// A function, from behind its first parenthesis.
+/// The parameters and the body of a function, from behind its first parenthesis.
 #[tactic(auto, unfolding(crate::specs::Grammar::SpellsFunction))]
 fn function<'a>(
     alloc: Global,
     tokens: &'a [Token],
-) -> Result<(Parameters, Vec<Stmt>, &'a [Token]), Stop<'a>>
-    ensures tree { IfOk result (λ x. SpellsFunction x.0 (trees.statements x.1.items) tokens.now x.2.now) }
+) -> Result<(Vec<Parameter>, Vec<Stmt>, &'a [Token]), Stop<'a>>
+    ensures tree { IfOk result (λ x. SpellsFunction x.0.items (trees.statements x.1.items) tokens.now x.2.now) }
     ensures shorter { IfOk result (λ x. length x.2.now < length tokens.now) }
     ensures reads { IfOk result (λ x. (stack : List Symbol) →
-        run tokens.now (ParameterPart ∷ One Mark.Close ∷ One Mark.OpenBrace ∷ Statements 0 ∷ One Mark.CloseBrace ∷ stack) 0 ≡ run x.2.now stack 0) }
+        run tokens.now (expected.Parameters ∷ One Mark.OpenBrace ∷ Statements 0 ∷ One Mark.CloseBrace ∷ stack) 0 ≡ run x.2.now stack 0) }
     ensures stops { IfErr result (λ e. (stack : List Symbol) →
-        IsStop e (run tokens.now (ParameterPart ∷ One Mark.Close ∷ One Mark.OpenBrace ∷ Statements 0 ∷ One Mark.CloseBrace ∷ stack) 0)) }
+        IsStop e (run tokens.now (expected.Parameters ∷ One Mark.OpenBrace ∷ Statements 0 ∷ One Mark.CloseBrace ∷ stack) 0)) }
 {
-    let (parameters, rest) = parameters(tokens);
-    let rest = one(rest, Mark::Close)?;
-    let (list, rest) = body(alloc, rest)?;
-    Ok((parameters, list, rest))
+    let (list, rest) = parameters(alloc, tokens)?;
+    let (body, rest) = body(alloc, rest)?;
+    Ok((list, body, rest))
 }
 
-/// What an `int` declares.
+/// What an `int` and a name declare, from behind the name.
 #[tactic(auto, using(crate::proofs::Runs::declares_variables))]
-fn declared<'a>(alloc: Global, tokens: &'a [Token]) -> Result<(Item, &'a [Token]), Stop<'a>>
-    ensures tree { IfOk result (λ x. SpellsDeclared (trees.item x.0) tokens.now x.1.now) }
-    ensures shorter { IfOk result (λ x. length x.1.now < length tokens.now) }
+fn declared<'a>(
+    alloc: Global,
+    first: Name,
+    tokens: &'a [Token],
+) -> Result<(Item, &'a [Token]), Stop<'a>>
+    ensures tree { IfOk result (λ x. SpellsItemRest types.Int first (trees.item x.0) tokens.now x.1.now) }
+    ensures shorter { IfOk result (λ x. length x.1.now ≤ length tokens.now) }
     ensures reads { IfOk result (λ x. (stack : List Symbol) →
-        run tokens.now (Named ∷ Declared ∷ stack) 0 ≡ run x.1.now stack 0) }
+        run tokens.now (Declared ∷ stack) 0 ≡ run x.1.now stack 0) }
     ensures stops { IfErr result (λ e. (stack : List Symbol) →
-        IsStop e (run tokens.now (Named ∷ Declared ∷ stack) 0)) }
+        IsStop e (run tokens.now (Declared ∷ stack) 0)) }
 {
-    let (first, rest) = name(tokens)?;
-    match rest {
+    match tokens {
         [
             Token {
                 kind: Kind::Open,
@@ -199,13 +194,101 @@ fn declared<'a>(alloc: Global, tokens: &'a [Token]) -> Result<(Item, &'a [Token]
             },
             after @ ..,
         ] => {
-            let (parameters, list, rest) = function(alloc, after)?;
-            Ok((Item::Function(first, parameters, list), rest))
+            let (list, body, rest) = function(alloc, after)?;
+            Ok((Item::Function(ReturnType::Int, first, list, body), rest))
         }
         _ => {
-            let (list, rest) = line(alloc, first, rest)?;
+            let (list, rest) = line(alloc, first, tokens)?;
             Ok((Item::Globals(list), rest))
         }
+    }
+}
+
+/// What an `int` declares, from behind it.
+#[tactic(auto, using(crate::proofs::Runs::declares_name))]
+fn declaration<'a>(alloc: Global, tokens: &'a [Token]) -> Result<(Item, &'a [Token]), Stop<'a>>
+    ensures tree { IfOk result (λ x. SpellsTyped types.Int (trees.item x.0) tokens.now x.1.now) }
+    ensures shorter { IfOk result (λ x. length x.1.now < length tokens.now) }
+    ensures reads { IfOk result (λ x. (stack : List Symbol) →
+        run tokens.now (expected.Item ∷ stack) 0 ≡ run x.1.now stack 0) }
+    ensures stops { IfErr result (λ e. (stack : List Symbol) →
+        IsStop e (run tokens.now (expected.Item ∷ stack) 0)) }
+{
+    match tokens {
+        [
+            Token {
+                kind: Kind::CilkReducer,
+                ..
+            },
+            after @ ..,
+        ] => {
+            let (declared, rest) = reducer(after)?;
+            let rest = one(rest, Mark::Semicolon)?;
+            Ok((Item::Reducer(declared), rest))
+        }
+        _ => {
+            let (first, rest) = name(tokens)?;
+            declared(alloc, first, rest)
+        }
+    }
+}
+
+/// A function that returns nothing, from behind its `void`.
+fn procedure<'a>(alloc: Global, tokens: &'a [Token]) -> Result<(Item, &'a [Token]), Stop<'a>>
+    ensures tree { IfOk result (λ x. SpellsTyped types.Void (trees.item x.0) tokens.now x.1.now) }
+    ensures shorter { IfOk result (λ x. length x.1.now < length tokens.now) }
+    ensures reads { IfOk result (λ x. (stack : List Symbol) →
+        run tokens.now (behind_type types.Void stack) 0 ≡ run x.1.now stack 0) }
+    ensures stops { IfErr result (λ e. (stack : List Symbol) →
+        IsStop e (run tokens.now (behind_type types.Void stack) 0)) }
+{
+    let (name, rest) = name(tokens)?;
+    let rest = one(rest, Mark::Open)?;
+    let (list, body, rest) = function(alloc, rest)?;
+    Ok((Item::Function(ReturnType::Void, name, list, body), rest))
+}
+
+/// The type that an item begins with, and the tokens behind it.
+fn first_type<'a>(tokens: &'a [Token]) -> Option<(ReturnType, &'a [Token])>
+    ensures found { IfSome result (λ x. Is (type_of x.0) tokens.now x.1.now) }
+    ensures shorter { IfSome result (λ x. length x.1.now < length tokens.now) }
+    ensures none { IfNone result (NotFirst kinds.Int tokens.now × NotFirst kinds.Void tokens.now) }
+{
+    match tokens {
+        [
+            Token {
+                kind: Kind::Int,
+                ..
+            },
+            rest @ ..,
+        ] => Some((ReturnType::Int, rest)),
+        [
+            Token {
+                kind: Kind::Void,
+                ..
+            },
+            rest @ ..,
+        ] => Some((ReturnType::Void, rest)),
+        _ => None,
+    }
+}
+
+/// An item, from behind its type.
+fn item<'a>(
+    alloc: Global,
+    returns: ReturnType,
+    tokens: &'a [Token],
+) -> Result<(Item, &'a [Token]), Stop<'a>>
+    ensures tree { IfOk result (λ x. SpellsTyped returns (trees.item x.0) tokens.now x.1.now) }
+    ensures shorter { IfOk result (λ x. length x.1.now < length tokens.now) }
+    ensures reads { IfOk result (λ x. (stack : List Symbol) →
+        run tokens.now (behind_type returns stack) 0 ≡ run x.1.now stack 0) }
+    ensures stops { IfErr result (λ e. (stack : List Symbol) →
+        IsStop e (run tokens.now (behind_type returns stack) 0)) }
+{
+    match returns {
+        ReturnType::Int => declaration(alloc, tokens),
+        ReturnType::Void => procedure(alloc, tokens),
     }
 }
 
@@ -218,8 +301,8 @@ fn items<'a>(alloc: Global, tokens: &'a [Token]) -> Result<(Vec<Item>, &'a [Toke
 {
     let mut list = Vec::new(alloc);
     let mut rest = tokens;
-    'each: while let Some(after) = behind(rest, Mark::Int) {
-        let (next, after) = declared(alloc, after)?;
+    'each: while let Some((returns, after)) = first_type(rest) {
+        let (next, after) = item(alloc, returns, after)?;
         list.push(next)?;
         rest = after;
     }

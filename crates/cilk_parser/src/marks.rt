@@ -1,7 +1,7 @@
 //! Tokens that the grammar asks for at one place.
 
-ghost use Rattle.std.specs.Prelude.{◌≡◌, ℕ, ◌<◌, List, ◌∷◌, IfOk, IfErr, IfSome, IfNone, length};
-ghost use Rattle.cilk_parser.specs.Expected.{Symbol, One, Named, Numeral, run, kind_of, fits};
+ghost use Rattle.std.specs.Prelude.{◌≡◌, ℕ, pos, ◌<◌, List, ◌∷◌, IfOk, IfErr, IfSome, IfNone, length};
+ghost use Rattle.cilk_parser.specs.Expected.{Symbol, One, Named, Numeral, Single, run, kind_of, fits};
 ghost use Rattle.cilk_parser.specs.Grammar.{Is, IsName};
 ghost use Rattle.cilk_parser.specs.Stops.{IsStop, NotFirst};
 ghost use Rattle.cilk_token.specs.declared.token.Kind.TheVariants as kinds;
@@ -17,9 +17,11 @@ pub enum Mark {
     Close,
     OpenBrace,
     CloseBrace,
+    CloseBracket,
     Semicolon,
     Comma,
     Assign,
+    Less,
     Int,
 }
 
@@ -33,9 +35,11 @@ fn fits(mark: Mark, kind: Kind) -> bool
             | (Mark::Close, Kind::Close)
             | (Mark::OpenBrace, Kind::OpenBrace)
             | (Mark::CloseBrace, Kind::CloseBrace)
+            | (Mark::CloseBracket, Kind::CloseBracket)
             | (Mark::Semicolon, Kind::Semicolon)
             | (Mark::Comma, Kind::Comma)
             | (Mark::Assign, Kind::Assign)
+            | (Mark::Less, Kind::Less)
             | (Mark::Int, Kind::Int)
     )
 }
@@ -112,6 +116,27 @@ pub fn numeral<'a>(tokens: &'a [Token]) -> Result<(i64, &'a [Token]), Stop<'a>>
             },
             rest @ ..,
         ] => Ok((*value, rest)),
+        _ => Err(Stop::Unexpected(tokens)),
+    }
+}
+
+/// The tokens behind the number 1.
+pub fn single<'a>(tokens: &'a [Token]) -> Result<&'a [Token], Stop<'a>>
+    ensures token { IfOk result (λ rest. Is (kinds.Number (pos 1)) tokens.now rest.now) }
+    ensures shorter { IfOk result (λ rest. length rest.now < length tokens.now) }
+    ensures reads { IfOk result (λ rest. (stack : List Symbol) (n : ℕ) →
+        run tokens.now (Single ∷ stack) n ≡ run rest.now stack n) }
+    ensures stops { IfErr result (λ e. (stack : List Symbol) (n : ℕ) →
+        IsStop e (run tokens.now (Single ∷ stack) n)) }
+{
+    match tokens {
+        [
+            Token {
+                kind: Kind::Number(1),
+                ..
+            },
+            rest @ ..,
+        ] => Ok(rest),
         _ => Err(Stop::Unexpected(tokens)),
     }
 }

@@ -75,7 +75,10 @@ pub fn parse(alloc: Global, text: &[u8]) -> Result<Tree, TextFault>
 mod tests {
     use super::*;
     use crate::input::parse_input;
-    use crate::tree::{BinaryOperator, Expr, Item, Stmt};
+    use crate::tree::{
+        Assignment, BinaryOperator, Compound, Expr, Invocation, Item, LocalInitializer, Parameter,
+        ReturnType, Stmt,
+    };
     use std::alloc::AllocError;
 
     /// The number and the place of a program's fault, or 0 and the number of its items.
@@ -121,8 +124,8 @@ mod tests {
             (b"int g = --1;", 103, 8),
             (b"int g = 1 + 2;", 103, 10),
             (b"int", 103, 3),
-            (b"void f(){}", 103, 0),
-            (b"int main(int a){}", 103, 9),
+            (b"void f(){}", 0, 1),
+            (b"int main(int a){}", 0, 1),
             (b"int main(){return 0;", 103, 20),
             (b"int main(){return 0;}}", 103, 21),
             (b"int main(){if (1) ; else ; else ;}", 103, 27),
@@ -230,12 +233,230 @@ mod tests {
     }
 
     #[test]
+    fn each_form_is_read(rt: HostRuntime) {
+        let cases: [(&[u8], usize); 13] = [
+            (b"int a, b = 3, c = -4, d[5];", 1),
+            (b"int cilk_reducer(add) r; int g;", 2),
+            (
+                b"void f(void) {} int g(int a, int cilk_reducer(min) m) {}",
+                2,
+            ),
+            (
+                b"void f(){ int x, y = 1, z = f(), w = cilk_spawn f(1, 2); }",
+                1,
+            ),
+            (b"void f(){ int cilk_reducer(max) m; ; {} }", 1),
+            (b"void f(){ x = 1; x += 2; x -= 3; x *= 4; x[1] = 2; }", 1),
+            (
+                b"void f(){ x[y[1]] *= 3; x++; x--; ++x; --x; x[0]++; --x[0]; }",
+                1,
+            ),
+            (
+                b"void f(){ f(); f(1, x[2]); cilk_spawn f(3); cilk_sync; }",
+                1,
+            ),
+            (
+                b"void f(){ x = f(); x = cilk_spawn f(4); x = y[1] + 2; }",
+                1,
+            ),
+            (
+                b"void f(){ for (;;) ; for (int i = 0; i < 9; i++) {} for (x[1] = 0; ; ++x) ; for (--y; y;) ; }",
+                1,
+            ),
+            (
+                b"void f(){ cilk_for (int i = 0; i < 9; i++) ; cilk_for (int i = 0; i < 9; ++i) ; cilk_for (int i = 0; j < 9; k += 1) ; }",
+                1,
+            ),
+            (b"void f(){ update(r, 1); set(r, value(r)); return; }", 1),
+            (
+                b"int f(){ if (a[1]) return 1; else while (0) print(2); }",
+                1,
+            ),
+        ];
+        for (text, items) in cases {
+            assert_eq!(rt; told(rt.alloc(), text), (0, items));
+        }
+    }
+
+    #[test]
+    fn other_forms_are_refused(rt: HostRuntime) {
+        let cases: [(&[u8], usize); 29] = [
+            (b"void f(){ x = 1 + f(2); }", 19),
+            (b"void f(){ x[0] = f(2); }", 18),
+            (b"void f(){ x += f(2); }", 16),
+            (b"void f(){ for (x = f(1);;) ; }", 20),
+            (b"void f(){ for (int i = f(1);;) ; }", 24),
+            (b"void f(){ return f(1); }", 18),
+            (b"void f(){ print(f(1)); }", 17),
+            (b"void f(){ x = cilk_spawn y; }", 26),
+            (b"void f(){ cilk_spawn; }", 20),
+            (b"void f(){ x[1]; }", 14),
+            (b"void f(){ x; }", 11),
+            (b"void f(){ f(1,); }", 14),
+            (b"void f(){ else ; }", 10),
+            (b"void f(){ cilk_for (int i = 0; i < 9; i += 2) ; }", 43),
+            (b"void f(){ cilk_for (int i = 0; i <= 9; i++) ; }", 33),
+            (b"void f(){ cilk_for (i = 0; i < 9; i++) ; }", 20),
+            (b"void f(){ for (int i; i < 9; i++) ; }", 20),
+            (b"void f(){ int a[3]; }", 15),
+            (b"void f(){ int cilk_reducer(add) r = 1; }", 34),
+            (b"void f(){ update(r); }", 18),
+            (b"void f(){ x = value(1); }", 20),
+            (b"void f(int a, void) {}", 14),
+            (b"void f(int) {}", 10),
+            (b"void g;", 6),
+            (b"int a[];", 6),
+            (b"int a[-1];", 6),
+            (b"int a[2] = 1;", 9),
+            (b"int cilk_reducer(add) r, s;", 23),
+            (b"int f(){} x", 10),
+        ];
+        for (text, place) in cases {
+            assert_eq!(rt; told(rt.alloc(), text), (103, place));
+        }
+    }
+
+    #[test]
+    fn brackets_and_calls_have_their_limits(rt: HostRuntime) {
+        let parts = [
+            (HEAD, 1),
+            (b"a[".as_slice(), 64),
+            (b"1", 1),
+            (b"]", 64),
+            (b";}", 1),
+        ];
+        assert_eq!(rt; repeated_told(rt.alloc(), &parts), (0, 1));
+        let parts = [
+            (HEAD, 1),
+            (b"a[".as_slice(), 65),
+            (b"1", 1),
+            (b"]", 65),
+            (b";}", 1),
+        ];
+        assert_eq!(rt; repeated_told(rt.alloc(), &parts), (104, 148));
+        let parts = [(b"int main(){x[".as_slice(), 1), (b"(", 64), (b"1", 1)];
+        assert_eq!(rt; repeated_told(rt.alloc(), &parts), (104, 77));
+        let parts = [
+            (b"int main(){f(".as_slice(), 1),
+            (b"(", 64),
+            (b"1", 1),
+            (b")", 65),
+            (b";}", 1),
+        ];
+        assert_eq!(rt; repeated_told(rt.alloc(), &parts), (0, 1));
+        let parts = [(b"int main(){f(".as_slice(), 1), (b"(", 65), (b"1", 1)];
+        assert_eq!(rt; repeated_told(rt.alloc(), &parts), (104, 78));
+        let parts = [(b"int main(){".as_slice(), 1), (b"for(;;)", 65), (b";}", 1)];
+        assert_eq!(rt; repeated_told(rt.alloc(), &parts), (104, 466));
+        let parts = [
+            (b"int main(){f(".as_slice(), 1),
+            (b"1+", 256),
+            (b"1,", 1),
+            (b"1+", 256),
+            (b"1);}", 1),
+        ];
+        assert_eq!(rt; repeated_told(rt.alloc(), &parts), (0, 1));
+        let parts = [
+            (b"int main(){x[".as_slice(), 1),
+            (b"1+", 256),
+            (b"1]=", 1),
+            (b"1+", 256),
+            (b"1;}", 1),
+        ];
+        assert_eq!(rt; repeated_told(rt.alloc(), &parts), (0, 1));
+        let parts = [
+            (HEAD, 1),
+            (b"a[".as_slice(), 1),
+            (b"1+", 256),
+            (b"1]+1;}", 1),
+        ];
+        assert_eq!(rt; repeated_told(rt.alloc(), &parts), (104, 534));
+    }
+
+    #[test]
+    fn an_else_belongs_to_the_nearest_if(rt: HostRuntime) {
+        let Ok(tree) = parse(rt.alloc(), b"void f(){if(1)if(2);else;}") else {
+            panic!(rt; "no tree");
+        };
+        let [Item::Function(returns, _, _, body)] = tree.items.as_slice() else {
+            panic!(rt; "no function");
+        };
+        assert!(rt; matches!(returns, ReturnType::Void));
+        let [Stmt::If(_, inner)] = body.as_slice() else {
+            panic!(rt; "no outer if");
+        };
+        assert!(rt; matches!(**inner, Stmt::IfElse(_, _, _)));
+    }
+
+    #[test]
+    fn calls_have_arguments_at_places(rt: HostRuntime) {
+        let text =
+            b"int f(int a, int cilk_reducer(add) r){ f(12, r); int y = cilk_spawn f(); a = f(1); }";
+        let Ok(tree) = parse(rt.alloc(), text) else {
+            panic!(rt; "no tree");
+        };
+        let [Item::Function(_, _, parameters, body)] = tree.items.as_slice() else {
+            panic!(rt; "no function");
+        };
+        assert!(rt;
+            matches!(
+                parameters.as_slice(),
+                [Parameter::Variable(_), Parameter::Reducer(_)]
+            )
+        );
+        let [
+            Stmt::Invoke(how, call),
+            Stmt::Declare(locals),
+            Stmt::AssignCall(_, assigned, _),
+        ] = body.as_slice()
+        else {
+            panic!(rt; "other statements");
+        };
+        assert!(rt; matches!((how, assigned), (Invocation::Call, Invocation::Call)));
+        let [first, second] = call.arguments.as_slice() else {
+            panic!(rt; "other arguments");
+        };
+        assert_eq!(rt; (first.at, second.at), (41, 45));
+        let [local] = locals.as_slice() else {
+            panic!(rt; "no variable");
+        };
+        assert!(rt;
+            matches!(
+                local.initializer,
+                LocalInitializer::Invoke(Invocation::Spawn, _)
+            )
+        );
+    }
+
+    #[test]
+    fn assignments_have_their_kinds(rt: HostRuntime) {
+        let text = b"void f(){ ++x; x--; x -= 2; x[1] *= y[2]; }";
+        let Ok(tree) = parse(rt.alloc(), text) else {
+            panic!(rt; "no tree");
+        };
+        let [Item::Function(_, _, _, body)] = tree.items.as_slice() else {
+            panic!(rt; "no function");
+        };
+        let [
+            Stmt::Assign(Assignment::Increment(_)),
+            Stmt::Assign(Assignment::Decrement(_)),
+            Stmt::Assign(Assignment::Compound(first, _, _)),
+            Stmt::Assign(Assignment::Compound(second, _, value)),
+        ] = body.as_slice()
+        else {
+            panic!(rt; "other assignments");
+        };
+        assert!(rt; matches!((first, second), (Compound::Subtract, Compound::Multiply)));
+        assert!(rt; matches!(value, Expr::Element(_, _)));
+    }
+
+    #[test]
     fn operators_group_from_the_left_by_level(rt: HostRuntime) {
         let text = b"int main(){return 1 - 2 - 3 * 4;}";
         let Ok(tree) = parse(rt.alloc(), text) else {
             panic!(rt; "no tree");
         };
-        let [Item::Function(name, _, body)] = tree.items.as_slice() else {
+        let [Item::Function(_, name, _, body)] = tree.items.as_slice() else {
             panic!(rt; "no function");
         };
         assert_eq!(rt; (name.at, name.end), (4, 8));

@@ -1,106 +1,174 @@
 //! From tokens to statements.
 
-ghost use Rattle.std.specs.Prelude.{◌≡◌, ℕ, ◌+◌, ◌<◌, ◌≤◌, List, ◌∷◌, IfOk, IfErr, length};
+ghost use Rattle.std.specs.Prelude.{◌≡◌, ◌+◌, ◌<◌, ◌≤◌, false, List, ◌∷◌, IfOk, IfErr, length};
 ghost use Rattle.cilk_parser.specs.Expected;
-ghost use Rattle.cilk_parser.specs.Expected.{Symbol, One, Operand, Tail, Anew, Returned, Statement, Statements, ElsePart, run, first_begins};
-ghost use Rattle.cilk_parser.specs.Grammar.{SpellsStmt, SpellsAll, SpellsInside, SpellsEnded, SpellsAssigned, SpellsReturned, SpellsChoice};
+ghost use Rattle.cilk_parser.specs.Expected.{Symbol, One, Named, Operand, Tail, Anew, Optional, Statement, Statements, ElsePart, AfterName, Step, run, first_begins, first_nests};
+ghost use Rattle.cilk_parser.specs.Grammar.{SpellsStmt, SpellsAll, SpellsNamed, SpellsRest, SpellsUpdate};
 ghost use Rattle.cilk_parser.specs.Stops.{IsStop};
+ghost use Rattle.cilk_token.specs.declared.token.Kind.TheVariants as kinds;
 ghost use Rattle.cilk_parser.specs.Trees as trees;
 
-use crate::expressions::expr;
-use crate::marks::{Mark, one};
+use crate::assignments::{assigned, target};
+use crate::calls::{Source, arguments, call, right_side};
+use crate::declarations::declaration;
+use crate::expressions::{expr, optional, parenthesized};
+use crate::loops::{bounds, loop_head};
+use crate::marks::{Mark, name, one};
 use crate::stop::{DEEPEST, Stop};
-use crate::tree::{Expr, Name, Stmt};
+use crate::tree::{Assignment, Call, Expr, Invocation, Name, Place, Stmt};
 use cilk_token::token::{Kind, Token};
 use std::alloc::Global;
 
-/// An expression between parentheses.
-#[tactic(auto, unfolding(crate::specs::Grammar::SpellsInside))]
-fn parenthesized<'a>(
+/// A reducer's name and an expression between parentheses, and the semicolon behind them.
+#[tactic(auto, unfolding(crate::specs::Grammar::SpellsUpdate))]
+fn update<'a>(
     alloc: Global,
     tokens: &'a [Token],
     depth: u32,
-) -> Result<(Expr, &'a [Token]), Stop<'a>>
-    ensures tree { IfOk result (λ x. SpellsInside (trees.expression x.0) tokens.now x.1.now) }
-    ensures shorter { IfOk result (λ x. length x.1.now < length tokens.now) }
+) -> Result<(Name, Expr, &'a [Token]), Stop<'a>>
+    ensures tree { IfOk result (λ x. SpellsUpdate x.0 (trees.expression x.1) tokens.now x.2.now) }
+    ensures shorter { IfOk result (λ x. length x.2.now < length tokens.now) }
     ensures reads { IfOk result (λ x. (stack : List Symbol) →
-        run tokens.now (One Mark.Open ∷ Operand depth ∷ Tail depth ∷ Anew ∷ One Mark.Close ∷ stack) 0 ≡ run x.1.now stack 0) }
+        run tokens.now (One Mark.Open ∷ Named ∷ One Mark.Comma ∷ Operand depth ∷ Tail depth ∷ Anew ∷ One Mark.Close ∷ One Mark.Semicolon ∷ stack) 0 ≡ run x.2.now stack 0) }
     ensures stops { IfErr result (λ e. (stack : List Symbol) →
-        IsStop e (run tokens.now (One Mark.Open ∷ Operand depth ∷ Tail depth ∷ Anew ∷ One Mark.Close ∷ stack) 0)) }
+        IsStop e (run tokens.now (One Mark.Open ∷ Named ∷ One Mark.Comma ∷ Operand depth ∷ Tail depth ∷ Anew ∷ One Mark.Close ∷ One Mark.Semicolon ∷ stack) 0)) }
 {
     let rest = one(tokens, Mark::Open)?;
-    let (e, rest) = expr(alloc, rest, depth)?;
+    let (reducer, rest) = name(rest)?;
+    let rest = one(rest, Mark::Comma)?;
+    let (value, rest) = expr(alloc, rest, depth)?;
     let rest = one(rest, Mark::Close)?;
-    Ok((e, rest))
-}
-
-/// An expression and the semicolon behind it.
-fn ended<'a>(
-    alloc: Global,
-    tokens: &'a [Token],
-    depth: u32,
-) -> Result<(Expr, &'a [Token]), Stop<'a>>
-    ensures tree { IfOk result (λ x. SpellsEnded (trees.expression x.0) tokens.now x.1.now) }
-    ensures shorter { IfOk result (λ x. length x.1.now < length tokens.now) }
-    ensures reads { IfOk result (λ x. (stack : List Symbol) →
-        run tokens.now (Operand depth ∷ Tail depth ∷ Anew ∷ One Mark.Semicolon ∷ stack) 0 ≡ run x.1.now stack 0) }
-    ensures stops { IfErr result (λ e. (stack : List Symbol) →
-        IsStop e (run tokens.now (Operand depth ∷ Tail depth ∷ Anew ∷ One Mark.Semicolon ∷ stack) 0)) }
-{
-    let (e, rest) = expr(alloc, tokens, depth)?;
     let rest = one(rest, Mark::Semicolon)?;
-    Ok((e, rest))
+    Ok((reducer, value, rest))
 }
 
-/// What is assigned, from the `=` to the semicolon.
-#[tactic(auto, unfolding(crate::specs::Grammar::SpellsAssigned))]
-fn assigned<'a>(
+/// The statement that begins with this name, from behind it.
+#[tactic(auto, using(crate::proofs::Runs::assigns))]
+fn named<'a>(
     alloc: Global,
+    name: Name,
     tokens: &'a [Token],
     depth: u32,
-) -> Result<(Expr, &'a [Token]), Stop<'a>>
-    ensures tree { IfOk result (λ x. SpellsAssigned (trees.expression x.0) tokens.now x.1.now) }
+) -> Result<(Stmt, &'a [Token]), Stop<'a>>
+    requires { depth ≤ 64 }
+    ensures tree { IfOk result (λ x. SpellsNamed (trees.statement x.0) name tokens.now x.1.now) }
     ensures shorter { IfOk result (λ x. length x.1.now < length tokens.now) }
     ensures reads { IfOk result (λ x. (stack : List Symbol) →
-        run tokens.now (One Mark.Assign ∷ Operand depth ∷ Tail depth ∷ Anew ∷ One Mark.Semicolon ∷ stack) 0 ≡ run x.1.now stack 0) }
+        run tokens.now (AfterName depth ∷ stack) 0 ≡ run x.1.now stack 0) }
     ensures stops { IfErr result (λ e. (stack : List Symbol) →
-        IsStop e (run tokens.now (One Mark.Assign ∷ Operand depth ∷ Tail depth ∷ Anew ∷ One Mark.Semicolon ∷ stack) 0)) }
-{
-    let rest = one(tokens, Mark::Assign)?;
-    ended(alloc, rest, depth)
-}
-
-/// What is returned, up to the semicolon.
-#[tactic(auto, using(crate::proofs::Runs::returns_value), unfolding(crate::specs::Grammar::SpellsReturned))]
-fn returned<'a>(
-    alloc: Global,
-    tokens: &'a [Token],
-    depth: u32,
-) -> Result<(Option<Expr>, &'a [Token]), Stop<'a>>
-    ensures tree { IfOk result (λ x. SpellsReturned (trees.returned x.0) tokens.now x.1.now) }
-    ensures shorter { IfOk result (λ x. length x.1.now < length tokens.now) }
-    ensures reads { IfOk result (λ x. (stack : List Symbol) →
-        run tokens.now (Returned depth ∷ stack) 0 ≡ run x.1.now stack 0) }
-    ensures stops { IfErr result (λ e. (stack : List Symbol) →
-        IsStop e (run tokens.now (Returned depth ∷ stack) 0)) }
+        IsStop e (run tokens.now (AfterName depth ∷ stack) 0)) }
 {
     match tokens {
         [
             Token {
-                kind: Kind::Semicolon,
+                kind: Kind::Open,
                 ..
             },
-            rest @ ..,
-        ] => Ok((None, rest)),
-        _ => {
-            let (value, rest) = ended(alloc, tokens, depth)?;
-            Ok((Some(value), rest))
+            after @ ..,
+        ] => {
+            let (arguments, rest) = arguments(alloc, after, depth)?;
+            let rest = one(rest, Mark::Semicolon)?;
+            Ok((
+                Stmt::Invoke(Invocation::Call, Call { name, arguments }),
+                rest,
+            ))
         }
+        [
+            Token {
+                kind: Kind::Assign,
+                ..
+            },
+            after @ ..,
+        ] => {
+            let (taken, rest) = right_side(alloc, after, depth)?;
+            let rest = one(rest, Mark::Semicolon)?;
+            match taken {
+                Source::Value(value) => {
+                    let assignment = Assignment::Set(Place::Variable(name), value);
+                    Ok((Stmt::Assign(assignment), rest))
+                }
+                Source::Invoke(how, call) => Ok((Stmt::AssignCall(name, how, call), rest)),
+            }
+        }
+        _ => {
+            let (assignment, rest) = assigned(alloc, name, tokens, depth)?;
+            let rest = one(rest, Mark::Semicolon)?;
+            Ok((Stmt::Assign(assignment), rest))
+        }
+    }
+}
+
+/// A statement that stands in `depth` others and holds none.
+fn simple<'a>(
+    alloc: Global,
+    tokens: &'a [Token],
+    depth: u32,
+) -> Result<(Stmt, &'a [Token]), Stop<'a>>
+    requires depth { depth ≤ 64 }
+    requires plain { first_nests tokens.now ≡ false }
+    ensures tree { IfOk result (λ x. SpellsStmt (trees.statement x.0) tokens.now x.1.now) }
+    ensures shorter { IfOk result (λ x. length x.1.now < length tokens.now) }
+    ensures reads { IfOk result (λ x. (stack : List Symbol) →
+        run tokens.now (Statement depth ∷ stack) 0 ≡ run x.1.now stack 0) }
+    ensures stops { IfErr result (λ e. (stack : List Symbol) →
+        IsStop e (run tokens.now (Statement depth ∷ stack) 0)) }
+{
+    let [first, rest @ ..] = tokens else {
+        return Err(Stop::Unexpected(tokens));
+    };
+    match first.kind {
+        Kind::Semicolon => Ok((Stmt::Empty, rest)),
+        Kind::Int => declaration(alloc, rest, depth),
+        Kind::Name => {
+            let name = Name {
+                at: first.at,
+                end: first.end,
+            };
+            named(alloc, name, rest, depth)
+        }
+        Kind::Increment => {
+            let (target, rest) = target(alloc, rest, depth)?;
+            let rest = one(rest, Mark::Semicolon)?;
+            Ok((Stmt::Assign(Assignment::Increment(target)), rest))
+        }
+        Kind::Decrement => {
+            let (target, rest) = target(alloc, rest, depth)?;
+            let rest = one(rest, Mark::Semicolon)?;
+            Ok((Stmt::Assign(Assignment::Decrement(target)), rest))
+        }
+        Kind::CilkSpawn => {
+            let (spawned, rest) = call(alloc, rest, depth)?;
+            let rest = one(rest, Mark::Semicolon)?;
+            Ok((Stmt::Invoke(Invocation::Spawn, spawned), rest))
+        }
+        Kind::CilkSync => {
+            let rest = one(rest, Mark::Semicolon)?;
+            Ok((Stmt::Sync, rest))
+        }
+        Kind::Return => {
+            let (value, rest) = optional(alloc, rest, depth)?;
+            Ok((Stmt::Return(first.at, value), rest))
+        }
+        Kind::Print => {
+            let (value, rest) = parenthesized(alloc, rest, depth)?;
+            let rest = one(rest, Mark::Semicolon)?;
+            Ok((Stmt::Print(value), rest))
+        }
+        Kind::Update => {
+            let (reducer, value, rest) = update(alloc, rest, depth)?;
+            Ok((Stmt::Update(reducer, value), rest))
+        }
+        Kind::Set => {
+            let (reducer, value, rest) = update(alloc, rest, depth)?;
+            Ok((Stmt::Set(reducer, value), rest))
+        }
+        _ => Err(Stop::Unexpected(tokens)),
     }
 }
 
 /// A statement that stands in `depth` others.
 #[cycle(statements)]
+#[tactic(auto, using(crate::proofs::Runs::holds_none))]
 fn statement<'a>(
     alloc: Global,
     tokens: &'a [Token],
@@ -124,19 +192,10 @@ fn statement<'a>(
         });
     }
     match first.kind {
-        Kind::Semicolon => Ok((Stmt::Empty, rest)),
         Kind::OpenBrace => {
             let (list, rest) = statements(alloc, rest, depth + 1)?;
             let rest = one(rest, Mark::CloseBrace)?;
             Ok((Stmt::Block(list), rest))
-        }
-        Kind::Name => {
-            let target = Name {
-                at: first.at,
-                end: first.end,
-            };
-            let (value, rest) = assigned(alloc, rest, depth)?;
-            Ok((Stmt::Assign(target, value), rest))
         }
         Kind::If => choice(alloc, rest, depth),
         Kind::While => {
@@ -144,17 +203,35 @@ fn statement<'a>(
             let (body, rest) = statement(alloc, rest, depth + 1)?;
             Ok((Stmt::While(test, Box::new(alloc, body)?), rest))
         }
-        Kind::Print => {
-            let (value, rest) = parenthesized(alloc, rest, depth)?;
-            let rest = one(rest, Mark::Semicolon)?;
-            Ok((Stmt::Print(value), rest))
+        Kind::For => for_loop(alloc, rest, depth),
+        Kind::CilkFor => {
+            let (bounds, rest) = bounds(alloc, rest, depth)?;
+            let (body, rest) = statement(alloc, rest, depth + 1)?;
+            Ok((Stmt::ParallelFor(bounds, Box::new(alloc, body)?), rest))
         }
-        Kind::Return => {
-            let (value, rest) = returned(alloc, rest, depth)?;
-            Ok((Stmt::Return(first.at, value), rest))
-        }
-        _ => Err(Stop::Unexpected(tokens)),
+        _ => simple(alloc, tokens, depth),
     }
+}
+
+/// What follows a `for`.
+#[cycle(statements)]
+fn for_loop<'a>(
+    alloc: Global,
+    tokens: &'a [Token],
+    depth: u32,
+) -> Result<(Stmt, &'a [Token]), Stop<'a>>
+    requires { depth ≤ 64 }
+    ensures tree { IfOk result (λ x. SpellsRest kinds.For (trees.statement x.0) tokens.now x.1.now) }
+    ensures shorter { IfOk result (λ x. length x.1.now < length tokens.now) }
+    ensures reads { IfOk result (λ x. (stack : List Symbol) →
+        run tokens.now (One Mark.Open ∷ Expected.Beginning depth ∷ Optional depth ∷ Step depth ∷ Statement (depth + 1) ∷ stack) 0 ≡ run x.1.now stack 0) }
+    ensures stops { IfErr result (λ e. (stack : List Symbol) →
+        IsStop e (run tokens.now (One Mark.Open ∷ Expected.Beginning depth ∷ Optional depth ∷ Step depth ∷ Statement (depth + 1) ∷ stack) 0)) }
+{
+    let (head, rest) = loop_head(alloc, tokens, depth)?;
+    let (body, rest) = statement(alloc, rest, depth + 1)?;
+    let body = Box::new(alloc, body)?;
+    Ok((Stmt::For(head.beginning, head.test, head.step, body), rest))
 }
 
 /// What follows an `if`, with the nearest `else`.
@@ -165,7 +242,7 @@ fn choice<'a>(
     depth: u32,
 ) -> Result<(Stmt, &'a [Token]), Stop<'a>>
     requires { depth ≤ 64 }
-    ensures tree { IfOk result (λ x. SpellsChoice (trees.statement x.0) tokens.now x.1.now) }
+    ensures tree { IfOk result (λ x. SpellsRest kinds.If (trees.statement x.0) tokens.now x.1.now) }
     ensures shorter { IfOk result (λ x. length x.1.now < length tokens.now) }
     ensures reads { IfOk result (λ x. (stack : List Symbol) →
         run tokens.now (One Mark.Open ∷ Operand depth ∷ Tail depth ∷ Anew ∷ One Mark.Close ∷ Statement (depth + 1) ∷ ElsePart (depth + 1) ∷ stack) 0 ≡ run x.1.now stack 0) }
@@ -233,10 +310,19 @@ fn begins_statement(kind: Kind) -> bool
         kind,
         Kind::OpenBrace
             | Kind::Semicolon
+            | Kind::Int
             | Kind::Name
+            | Kind::Increment
+            | Kind::Decrement
+            | Kind::CilkSpawn
+            | Kind::CilkSync
             | Kind::If
             | Kind::While
-            | Kind::Print
+            | Kind::For
+            | Kind::CilkFor
             | Kind::Return
+            | Kind::Print
+            | Kind::Update
+            | Kind::Set
     )
 }

@@ -41,29 +41,133 @@ pub enum BinaryOperator {
     Remainder,
 }
 
-/// An expression. `Group` is an expression between parentheses, `Input` asks for the input number at a place.
-#[derive(Debug, Drop)]
+/// What a compound assignment does: `+=`, `-=` or `*=`.
+#[derive(Clone, Copy, Debug)]
+pub enum Compound {
+    Add,
+    Subtract,
+    Multiply,
+}
+
+/// Whether a function is called or spawned.
+#[derive(Clone, Copy, Debug)]
+pub enum Invocation {
+    Call,
+    Spawn,
+}
+
+/// What a function returns.
+#[derive(Clone, Copy, Debug)]
+pub enum ReturnType {
+    Int,
+    Void,
+}
+
+/// A reducer that is declared, or that a function takes: the name of its monoid, and its own.
+#[derive(Clone, Copy, Debug)]
+pub struct Reducer {
+    pub monoid: Name,
+    pub name: Name,
+}
+
+/// An expression. `Element` is an element of an array, `Group` an expression between parentheses, `Value` the value of a
+/// reducer, and `Input` asks for the input number at a place.
+#[derive(Drop)]
 pub enum Expr {
     Number(i64),
     Variable(Name),
+    Element(Name, Box<Expr>),
     Group(Box<Expr>),
     Unary(UnaryOperator, Box<Expr>),
     Binary(BinaryOperator, Box<Expr>, Box<Expr>),
+    Value(Name),
     Input(Box<Expr>),
     InputCount,
 }
 
-/// A statement. `Return` holds the place of its first byte.
-#[derive(Debug, Drop)]
+/// An argument of a call, and the place of its first byte.
+#[derive(Drop)]
+pub struct Argument {
+    pub at: usize,
+    pub value: Expr,
+}
+
+/// A call: the function's name, and the arguments in order.
+#[derive(Drop)]
+pub struct Call {
+    pub name: Name,
+    pub arguments: Vec<Argument>,
+}
+
+/// What an assignment writes to: a variable, or an element of an array.
+#[derive(Drop)]
+pub enum Place {
+    Variable(Name),
+    Element(Name, Expr),
+}
+
+/// An assignment: `=`, one of `+=`, `-=` and `*=`, `++`, or `--`.
+#[derive(Drop)]
+pub enum Assignment {
+    Set(Place, Expr),
+    Compound(Compound, Place, Expr),
+    Increment(Place),
+    Decrement(Place),
+}
+
+/// What stands behind a local variable's name: nothing, `=` and an expression, or `=` and a call.
+#[derive(Drop)]
+pub enum LocalInitializer {
+    Absent,
+    Value(Expr),
+    Invoke(Invocation, Call),
+}
+
+/// A local variable that is declared.
+#[derive(Drop)]
+pub struct Local {
+    pub name: Name,
+    pub initializer: LocalInitializer,
+}
+
+/// What the head of a `for` begins with: `int` and a variable with its value, or an assignment.
+#[derive(Drop)]
+pub enum Beginning {
+    Declares(Name, Expr),
+    Assigns(Assignment),
+}
+
+/// The head of a `cilk_for`: `int variable = low; tested < high; stepped++`. The three names have to be one, which the
+/// grammar doesn't say.
+#[derive(Drop)]
+pub struct Bounds {
+    pub variable: Name,
+    pub low: Expr,
+    pub tested: Name,
+    pub high: Expr,
+    pub stepped: Name,
+}
+
+/// A statement. `Return` holds the place of its first byte. `AssignCall` is a call whose result the variable takes.
+#[derive(Drop)]
 pub enum Stmt {
     Empty,
     Block(Vec<Stmt>),
-    Assign(Name, Expr),
+    Declare(Vec<Local>),
+    Reducer(Reducer),
+    Assign(Assignment),
+    Invoke(Invocation, Call),
+    AssignCall(Name, Invocation, Call),
+    Sync,
     If(Expr, Box<Stmt>),
     IfElse(Expr, Box<Stmt>, Box<Stmt>),
     While(Expr, Box<Stmt>),
-    Print(Expr),
+    For(Option<Beginning>, Option<Expr>, Option<Assignment>, Box<Stmt>),
+    ParallelFor(Bounds, Box<Stmt>),
     Return(usize, Option<Expr>),
+    Print(Expr),
+    Update(Name, Expr),
+    Set(Name, Expr),
 }
 
 /// What stands behind a global variable's name: nothing, `= n`, or `= -n`.
@@ -87,29 +191,30 @@ impl Initializer {
     }
 }
 
-/// A global variable.
+/// A global variable, or a global array with the number of its elements.
 #[derive(Clone, Copy, Debug)]
-pub struct GlobalVariable {
-    pub name: Name,
-    pub initializer: Initializer,
+pub enum GlobalVariable {
+    Variable(Name, Initializer),
+    Array(Name, i64),
 }
 
-/// What stands between the parentheses of a function: nothing, or `void`.
+/// A parameter of a function: a word, or a reducer.
 #[derive(Clone, Copy, Debug)]
-pub enum Parameters {
-    Empty,
-    Void,
+pub enum Parameter {
+    Variable(Name),
+    Reducer(Reducer),
 }
 
-/// A line of global variables, or a function that returns an `int`.
-#[derive(Debug, Drop)]
+/// A line of global variables, a global reducer, or a function.
+#[derive(Drop)]
 pub enum Item {
     Globals(Vec<GlobalVariable>),
-    Function(Name, Parameters, Vec<Stmt>),
+    Reducer(Reducer),
+    Function(ReturnType, Name, Vec<Parameter>, Vec<Stmt>),
 }
 
 /// A program: its items, and the text that its names stand in.
-#[derive(Debug, Drop)]
+#[derive(Drop)]
 pub struct Tree {
     pub text: Vec<u8>,
     pub items: Vec<Item>,

@@ -1,5 +1,6 @@
 -- Worked programs as nested runs. What a frame is started as is a number here.
 use Rattle.std.specs.Prelude.{◌≡◌, ℕ, zero, suc, ℤ, pos, ◌+ℤ◌, cond, List, [], ◌∷◌, length, Option, slice_get}
+use Rattle.cilk_monoid.specs.declared.kind.MonoidKind.TheVariants.{Add}
 use Rattle.cilk_runs.specs.Runs.{Cell, Global, Own, same_cell, Instance, Reducer, Spawns, Ask, Read, Write, Invoke, Sync, End, Pass, Begin, Resume, Event, Reads, Writes, Syncs, Ends, Passes, Begins, Resumes, Creates, Updates, Values, Deed, Run, stop, act, child}
 use Rattle.cilk_runs.specs.Costs.{Costs, Total, TickTotal, EventTotal, FrameTotal, CellTotal}
 use Rattle.cilk_runs.specs.Monoids.{Monoid}
@@ -99,9 +100,9 @@ BothReadRuns = IsSerialRun ℕ ℤ sum (follows asked) costs 0 both_read opening
 abbrev pub BothReadIsDeterminate : Type 0
 BothReadIsDeterminate = HasNoRaces both_read × IsDeterminate ℕ ℤ sum (follows asked) costs 0 both_read opening
 
--- the root's first reducer
+-- a sum that the root created
 abbrev pub reducer : Instance
-reducer = Reducer [] 1
+reducer = Reducer [] 1 Add
 
 -- update(r, 1) in a spawned child; x = value(r) before the sync
 abbrev pub early_value : Run ℕ

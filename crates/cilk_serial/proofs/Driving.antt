@@ -1,73 +1,480 @@
--- The loop over one frame's asks.
-use Rattle.std.proofs.Common.{◌≡◌, ℕ, ◌+◌, ℤ, List, [], ◌∷◌, length, refl, sym, ap, ◌∙◌, subst, length-append}
+-- A run that goes on, from one event to the next.
+use Rattle.std.proofs.Common.{◌≡◌, ◌⊎◌, inl, inr, ⊎_elim, ℕ, zero, suc, ◌+◌, ◌-◌, ◌<◌, ◌≤◌, nat_eq, nat_lt, ℤ, pos, false, true≢false, if◌then◌else◌, List, [], ◌∷◌, ◌++◌, length, get_or, Some, None, IfSome, refl, sym, ap, ◌∙◌, subst, arith, length-append, append_assoc, append-nil}
+use Rattle.std.proofs.lemmas.Bool.{cases_Bool, ltb-true, ltb-false}
+use Rattle.std.proofs.lemmas.Option.{unwrap_or-slice_get}
 use Rattle.std.specs.Prelude.{IsTrue}
-use Rattle.cilk_types.specs.declared.event.Event as numbers
+use Rattle.cilk_types.specs.declared.event.Event.{Event}
+use Rattle.cilk_types.specs.declared.event.Event.TheVariants as events
 use Rattle.cilk_types.specs.declared.fault.Fault.{Fault}
-use Rattle.cilk_types.specs.declared.limits.TheConstants.{MAX_EVENTS, MAX_TICKS}
-use Rattle.cilk_names.specs.declared.ask.Ask.{Ask}
-use Rattle.cilk_names.specs.declared.ask.Ask.TheVariants as asks
-use Rattle.cilk_names.specs.Syntax.{Source, all_places_in}
-use Rattle.cilk_names.specs.Behaviour.{Asked}
-use Rattle.cilk_names.specs.Laws.{PlaceExists}
-use Rattle.cilk_names.specs.SerialRun.{HasEvent, by_number}
-use Rattle.cilk_names.proofs.Places.{asks_inside}
-use Rattle.cilk_lower.specs.declared.code.Instr.{Instr}
+use Rattle.cilk_types.specs.declared.fault.Fault.TheVariants.{DivisionByZero, IndexOutside, InputOutside, TooManyEvents, TooManyFrames, TooManyCells}
+use Rattle.cilk_types.specs.declared.event.Instance.{Instance}
+use Rattle.cilk_types.specs.declared.limits.TheConstants.{MAX_EVENTS, MAX_TICKS, MAX_FRAMES, MAX_CELLS}
+use Rattle.cilk_monoid.specs.declared.kind.MonoidKind.{MonoidKind}
+use Rattle.cilk_monoid.specs.Ranges.{same_instance}
+use Rattle.cilk_program.specs.declared.ask.Ask.{Ask}
+use Rattle.cilk_program.specs.declared.ask.Ask.TheVariants as asks
+use Rattle.cilk_program.specs.declared.ask.Callee.{Callee}
+use Rattle.cilk_program.specs.declared.ask.Callee.TheVariants as callees
+use Rattle.cilk_program.specs.declared.syntax.Invocation.{Invocation}
+use Rattle.cilk_program.specs.Syntax.{Source}
+use Rattle.cilk_program.specs.Behaviour.{asks_for, frame_asks}
+use Rattle.cilk_program.specs.Inside.{CalleeIsFit}
+use Rattle.cilk_program.specs.Store.{Store, clear, clear_all}
+use Rattle.cilk_program.specs.WellNamed.{is_well_named}
+use Rattle.cilk_program.specs.SerialRun.{Run, act, child, stop, Frame, Memory, Ending, Finished, Stopped, Serial, Made, Ended, Went, Broke, Refused, IsInner, answer_to, begun, before_root, cells_of, counted, crowded, event_of, first_place, full, invocation, next_frame, own_from, refused, root_frame, stored, with_store, IsSerialRun}
+use Rattle.cilk_lower.specs.Behaves.{Behaves}
+use Rattle.cilk_lower.specs.Code.{CodeView}
+use Rattle.cilk_lower.specs.declared.code.Owed.TheVariants.{Nothing}
+use Rattle.cilk_program.specs.Outcomes.{StopsBy}
+use Rattle.cilk_meaning.specs.Agreement.{IsLimit}
+use Rattle.cilk_meaning.proofs.Roots.{ends_as_elided}
+use Rattle.cilk_serial.specs.Ran.{Stops}
 use Rattle.cilk_frames.specs.declared.cursor.Answer.{Answer}
+use Rattle.cilk_frames.specs.declared.cursor.Answer.TheVariants.{Done}
 use Rattle.cilk_frames.specs.Cursor.{CursorView}
-use Rattle.cilk_frames.specs.Following.{Stands, owed_for}
-use Rattle.cilk_serial.specs.States.{Answers}
-use Rattle.cilk_serial.specs.Driven.{Ended, IsNoFault}
-use Rattle.cilk_serial.proofs.Shows.{shows_opening}
-use Rattle.cilk_serial.proofs.Going.{Going, Closes, going_first}
+use Rattle.cilk_frames.specs.Following.{Asking, GoesOn, HasAnswer, Runs, Stands, child_of, owed_for, word_in}
+use Rattle.cilk_frames.proofs.Asking.{asking_first, asking_next}
+use Rattle.cilk_serial.specs.declared.activation.Activation.{Activation}
+use Rattle.cilk_serial.specs.declared.running.Running.{Running}
+use Rattle.cilk_serial.specs.declared.state.State.{State}
+use Rattle.cilk_serial.specs.Going.{Whole, Completes, Wait, Going, HasEnded, IsAllowed}
+use Rattle.cilk_meaning.proofs.Naming.{well_named_parts}
+use Rattle.cilk_monoid.specs.Kinds.{structure_of}
+use Rattle.cilk_hypermap.specs.Hypermap.{EachKind, value_in, view_in}
+use Rattle.cilk_hypermap.specs.Views.{or_unit}
+use Rattle.cilk_serial.proofs.Shows.{each_kind}
+use Rattle.cilk_serial.proofs.Sights.{asked, asked_there, asked_rightly, begins, child_sees, root_sees, sees_more}
+use Rattle.cilk_serial.specs.Scoped.{Parent, Scoped, AreScoped, Seen, IsThere, IsBegunRightly, kinds_of, own_of}
+use Rattle.cilk_serial.specs.States.{Shows, Answers, Begins, Extends}
 
-pub no_fault : (k : Ask) → ((f : Fault) → k ≡ asks.Fault f → ⊥) → IsNoFault k
-no_fault asks.Begin h = tt
-no_fault (asks.Read x) h = tt
-no_fault (asks.Write x v) h = tt
-no_fault (asks.Print v) h = tt
-no_fault asks.Sync h = tt
-no_fault (asks.End v) h = tt
-no_fault (asks.Fault f) h = h f refl
+-- ---- the frames that wait
 
-pub has_event : (k : Ask) → IsNoFault k → HasEvent k
-has_event asks.Begin h = tt
-has_event (asks.Read x) h = tt
-has_event (asks.Write x v) h = tt
-has_event (asks.Print v) h = tt
-has_event asks.Sync h = tt
-has_event (asks.End v) h = tt
-has_event (asks.Fault f) h = h
+pub wait_scoped : (code : CodeView) (p : Source) (inputs : List ℤ) (n : ℕ) (below : List Activation) (parents : List Parent) → Wait code p inputs n below parents → AreScoped p below parents
+wait_scoped code p inputs n [] [] h = tt
+wait_scoped code p inputs n [] (q ∷ qs) h = absurd h
+wait_scoped code p inputs n (a ∷ list) [] h = absurd h
+wait_scoped code p inputs n (a ∷ list) (q ∷ qs) h = let w = h.0 in (w.scoped, wait_scoped code p inputs n list qs h.1)
 
--- the run before its first event
-pub drive_begins : (p : Source) (inputs : List ℤ) (ticks limit : ℕ) (code : List Instr) (c : CursorView) (cells output : List ℤ) (events : List numbers.Event)
-    → cells ≡ p.openings → output ≡ [] → events ≡ [] → Stands code inputs p.main c [] 0 → c.owed ≡ owed_for asks.Begin
-    → Going p inputs ticks limit code c cells output events asks.Begin ticks
-drive_begins p inputs ticks limit code c cells output events cells_are output_is events_are stands owes =
-    subst (λ es. Going p inputs ticks limit code c cells output es asks.Begin ticks) (sym events_are)
-    (subst (λ os. Going p inputs ticks limit code c cells os [] asks.Begin ticks) (sym output_is)
-    (going_first p inputs ticks limit code c cells [] stands owes (shows_opening p cells cells_are) (ap length cells_are)))
+wait_more : (code : CodeView) (p : Source) (inputs : List ℤ) (n n' : ℕ) (below : List Activation) (parents : List Parent) → n ≤ n' → Wait code p inputs n below parents → Wait code p inputs n' below parents
+wait_more code p inputs n n' [] [] low h = tt
+wait_more code p inputs n n' [] (q ∷ qs) low h = absurd h
+wait_more code p inputs n n' (a ∷ list) [] low h = absurd h
+wait_more code p inputs n n' (a ∷ list) (q ∷ qs) low h =
+    let w = h.0 in
+    (record { stands = w.stands; owes = w.owes; scoped = w.scoped; sees = sees_more p q.frame n n' low w.sees }, wait_more code p inputs n n' list qs low h.1)
 
--- what it asks for exists
-pub going_inside : (p : Source) (inputs : List ℤ) (ticks limit : ℕ) (code : List Instr) (c : CursorView) (cells output : List ℤ) (events : List numbers.Event) (k : Ask) (left : ℕ)
-    → IsTrue (all_places_in (length p.openings) p.main) → Going p inputs ticks limit code c cells output events k left → PlaceExists (length cells) k
-going_inside p inputs ticks limit code c cells output events k left named g =
-    subst (λ n. PlaceExists n k) (sym g.sized)
-    (subst (λ (a : Asked). PlaceExists (length p.openings) a.ask) g.asks (asks_inside (length p.openings) inputs p.main named g.history ticks))
+pub going_seen : (code : CodeView) (p : Source) (inputs : List ℤ) (r : Running) → (g : Going code p inputs r) → Seen p r.top r.below g.frame g.parents
+going_seen code p inputs r g = record { scoped = g.scoped; waits = wait_scoped code p inputs g.memory.cells r.below g.parents g.wait }
 
--- each turn makes an event
-pub grows : (cells output : List ℤ) (events : List numbers.Event) (cells' output' : List ℤ) (events' : List numbers.Event) (k : Ask) (a : Answer)
-    (p : Source) (inputs : List ℤ) (ticks limit : ℕ) (code : List Instr) (c : CursorView) (left : ℕ)
-    → Going p inputs ticks limit code c cells output events k left → Answers cells output events cells' output' events' k a → length events' ≡ length events + 1
-grows cells output events cells' output' events' k a p inputs ticks limit code c left g told =
-    let e = told.answered g.store g.shows in ap length e.traced ∙ length-append events (by_number e.event ∷ [])
+pub going_there : (code : CodeView) (p : Source) (inputs : List ℤ) (r : Running) → IsTrue (is_well_named p) → (g : Going code p inputs r) → IsThere p g.frame (length r.state.cells.items) r.ask
+going_there code p inputs r well g =
+    let s = g.shows in
+    subst (λ n. IsThere p g.frame n r.ask) s.cells (asked_there p well inputs g.frame g.memory.cells g.sees g.history (g.took + r.left) r.ask r.left g.asking.asks)
 
-pub ended : (p : Source) (inputs : List ℤ) (v : ℤ) (cells output : List ℤ) (events events' : List numbers.Event)
-    → Closes p inputs MAX_TICKS MAX_EVENTS v cells output events → events' ≡ events → Ended p inputs v cells output events'
-ended p inputs v cells output events events' closes e = record {
-  run = closes.run;
-  store = closes.store;
-  serial = closes.serial;
-  shows = closes.shows;
-  sized = closes.sized;
-  trace = e ∙ closes.trace;
+-- ---- what is allowed
+
+full_not : (m : Memory) → full m ≡ None → 0 < m.room
+full_not m e = has_room m.room e
+  where
+    has_room : (n : ℕ) → (if nat_eq n 0 then Some TooManyEvents else None) ≡ None → 0 < n
+    has_room zero e = cc
+    has_room (suc n) e = omega arith
+
+crowded_not : (p : Source) (callee : Callee) (m : Memory) → crowded p callee m ≡ None → (0 < m.room) × (m.frames < MAX_FRAMES) × (m.cells + cells_of p callee ≤ MAX_CELLS)
+crowded_not p callee m e = elim (cases_Bool (nat_eq m.room 0)) [
+  | inl past ↦ (let f : Some TooManyEvents ≡ None = sym (ap (λ b. if b then Some TooManyEvents else (if nat_lt m.frames MAX_FRAMES then (if nat_lt MAX_CELLS (m.cells + cells_of p callee) then Some TooManyCells else None) else Some TooManyFrames)) past) ∙ e in cc)
+  | inr room ↦ (
+      let e1 = sym (ap (λ b. if b then Some TooManyEvents else (if nat_lt m.frames MAX_FRAMES then (if nat_lt MAX_CELLS (m.cells + cells_of p callee) then Some TooManyCells else None) else Some TooManyFrames)) room) ∙ e in
+      elim (cases_Bool (nat_lt m.frames MAX_FRAMES)) [
+        | inr past ↦ (let f : Some TooManyFrames ≡ None = sym (ap (λ b. if b then (if nat_lt MAX_CELLS (m.cells + cells_of p callee) then Some TooManyCells else None) else Some TooManyFrames) past) ∙ e1 in cc)
+        | inl frames ↦ (
+            let e2 = sym (ap (λ b. if b then (if nat_lt MAX_CELLS (m.cells + cells_of p callee) then Some TooManyCells else None) else Some TooManyFrames) frames) ∙ e1 in
+            elim (cases_Bool (nat_lt MAX_CELLS (m.cells + cells_of p callee))) [
+              | inl past ↦ (let f : Some TooManyCells ≡ None = sym (ap (λ b. if b then Some TooManyCells else None) past) ∙ e2 in cc)
+              | inr cells ↦ (room_left m.room room, ltb-true m.frames MAX_FRAMES frames, ltb-false MAX_CELLS (m.cells + cells_of p callee) cells)
+            ])
+      ])
+]
+  where
+    room_left : (n : ℕ) → nat_eq n 0 ≡ false → 0 < n
+    room_left zero e = absurd (true≢false e)
+    room_left (suc n) e = omega arith
+
+pub room_left : (p : Source) (m : Memory) (k : Ask) → refused p m k ≡ None → 0 < m.room
+room_left p m asks.Begin e = full_not m e
+room_left p m (asks.Read x) e = full_not m e
+room_left p m (asks.Write x v) e = full_not m e
+room_left p m (asks.Create r) e = full_not m e
+room_left p m (asks.Update r v) e = full_not m e
+room_left p m (asks.Set r v) e = full_not m e
+room_left p m (asks.Value r) e = full_not m e
+room_left p m (asks.Print v) e = full_not m e
+room_left p m (asks.Invoke how callee) e = (crowded_not p callee m e).0
+room_left p m asks.Resume e = full_not m e
+room_left p m asks.Sync e = full_not m e
+room_left p m (asks.Result v) e = full_not m e
+room_left p m (asks.End v) e = full_not m e
+room_left p m (asks.Fault f) e = cc
+
+pub inner_has : (k : Ask) → IsInner k → HasAnswer k
+inner_has asks.Begin h = tt
+inner_has (asks.Read x) h = tt
+inner_has (asks.Write x v) h = tt
+inner_has (asks.Create r) h = tt
+inner_has (asks.Update r v) h = tt
+inner_has (asks.Set r v) h = tt
+inner_has (asks.Value r) h = tt
+inner_has (asks.Print v) h = tt
+inner_has (asks.Invoke how callee) h = absurd h
+inner_has asks.Resume h = tt
+inner_has asks.Sync h = tt
+inner_has (asks.Result v) h = tt
+inner_has (asks.End v) h = absurd h
+inner_has (asks.Fault f) h = absurd h
+
+cursor_moves : (p : Source) (a : Activation) (c : CursorView) (fr : Frame) (parents : List Parent) → Scoped p a fr parents → Scoped p (record a { cursor = c }) fr parents
+cursor_moves p a c fr parents s = record {
+  number = s.number;
+  outer = s.outer;
+  scope = s.scope;
+  leads = s.leads;
+  result = s.result;
+  first = s.first;
+  low = s.low;
+  creator = s.creator;
+  creates = s.creates;
 }
+
+-- one event more is counted
+one_more : (s s' : State) (m : Memory) (e : Event) → Shows s m → 0 < m.room → s'.events.items ≡ s.events.items ++ e ∷ [] → length s'.events.items ≤ MAX_EVENTS
+one_more s s' m e h some events =
+    let l = ap length events ∙ length-append s.events.items (e ∷ []) in
+    let r = h.room in
+    omega (arith, l, r, some)
+
+pub longer : (s s' : State) (e : Event) → s'.events.items ≡ s.events.items ++ e ∷ [] → length s'.events.items ≡ length s.events.items + 1
+longer s s' e events = ap length events ∙ length-append s.events.items (e ∷ [])
+
+behind : (es es' : List Event) (e : Event) (more : List Event) → es' ≡ es ++ e ∷ [] → es' ++ more ≡ es ++ e ∷ more
+behind es es' e more is = ap (λ l. l ++ more) is ∙ append_assoc es (e ∷ []) more
+
+-- ---- the frame goes on at once
+
+pub answers : (code : CodeView) (p : Source) (inputs : List ℤ) (r : Running) (s' : State) (a : Answer) (c' : CursorView) (k' : Ask) (left' : ℕ) → (g : Going code p inputs r) → IsAllowed p r.state r.ask → IsInner r.ask
+    → Answers p g.frame r.state s' r.ask a
+    → ((callee : Callee) (history : List ℤ) (took : ℕ) → Stands code inputs p callee r.top.cursor history took → GoesOn code inputs r.top.cursor a r.left k' c' left' p callee history took)
+    → Going code p inputs (record { state = s'; below = r.below; top = record r.top { cursor = c' }; ask = k'; left = left' })
+answers code p inputs r s' a c' k' left' g allowed inner told on =
+    let fr = g.frame in
+    let m = g.memory in
+    let k = r.ask in
+    let did = told.makes m g.shows in
+    let made = did.1 in
+    let has = inner_has k inner in
+    let step = on fr.callee g.history g.took (g.asking.stands has) in
+    let m' = with_store m (stored p fr m k) in
+    let ok = allowed m g.shows in
+    let same : g.took + (r.left - left') + left' ≡ g.took + r.left = omega (arith, step.less) in
+    record {
+      frame = fr;
+      history = g.history ++ word_in a ∷ [];
+      took = g.took + (r.left - left');
+      memory = m';
+      parents = g.parents;
+      shows = made.shows;
+      asking = asking_next code inputs p fr.callee r.top.cursor g.history g.took k r.left a r.left k' c' left' g.asking has (λ stands. on fr.callee g.history g.took stands);
+      completes = λ u es end s.
+          let s1 : Serial p inputs fr (g.took + r.left) (g.history ++ answer_to fr m k ∷ []) m' u es end = subst (λ w. Serial p inputs fr (g.took + r.left) (g.history ++ w ∷ []) m' u es end) did.0 (subst (λ n. Serial p inputs fr n (g.history ++ word_in a ∷ []) m' u es end) same s) in
+          subst (λ l. Completes p inputs g.parents l end) (sym (behind r.state.events.items s'.events.items (event_of fr m k) es made.events))
+          (g.completes (act k (answer_to fr m k) u) (event_of fr m k ∷ es) end (Made k r.left g.asking.asks inner ok s1));
+      scoped = cursor_moves p r.top c' fr g.parents g.scoped;
+      sees = g.sees;
+      wait = g.wait;
+      opened = g.opened;
+      counted = one_more r.state s' m (event_of fr m k) g.shows (room_left p m k ok) made.events;
+      small = g.small;
+      behaves = g.behaves;
+    }
+
+-- ---- a child begins
+
+child_completes : (p : Source) (inputs : List ℤ) (fr : Frame) (history : List ℤ) (took left : ℕ) (m : Memory) (parents : List Parent) (es0 es1 : List Event) (how : Invocation) (callee : Callee)
+    → frame_asks p inputs fr.callee history (took + left) ≡ asks_for (asks.Invoke how callee) left → refused p m (asks.Invoke how callee) ≡ None
+    → es1 ≡ es0 ++ invocation how (suc m.frames) ∷ []
+    → ((u : Run) (es : List Event) (end : Ending) → Serial p inputs fr (took + left) history m u es end → Completes p inputs parents (es0 ++ es) end)
+    → (u : Run) (es : List Event) (end : Ending) → Serial p inputs (next_frame p fr.scope m callee) left [] (begun p callee (counted m)) u es end
+    → Completes p inputs (record { frame = fr; history = history; took = took } ∷ parents) (es1 ++ es) end
+child_completes p inputs fr history took left m parents es0 es1 how callee asked ok is completes u es (Finished v left' m') s = λ u' es' end' s'.
+    let same : left' + took ≡ left' + (took + left - left) = omega arith in
+    let s1 = subst (λ n. Serial p inputs fr n (history ++ pos 0 ∷ []) m' u' es' end') same s' in
+    let list : (es1 ++ es) ++ es' ≡ es0 ++ invocation how (suc m.frames) ∷ (es ++ es') = append_assoc es1 es es' ∙ behind es0 es1 (invocation how (suc m.frames)) (es ++ es') is in
+    subst (λ l. Completes p inputs parents l end') (sym list)
+    (completes (child how callee u u') (invocation how (suc m.frames) ∷ (es ++ es')) end' (Went how callee left v left' m' asked ok s s1))
+child_completes p inputs fr history took left m parents es0 es1 how callee asked ok is completes u es (Stopped f) s =
+    subst (λ l. Completes p inputs parents l (Stopped f)) (sym (behind es0 es1 (invocation how (suc m.frames)) es is))
+    (completes (child how callee u stop) (invocation how (suc m.frames) ∷ es) (Stopped f) (Broke how callee left f asked ok s))
+
+pub invokes : (code : CodeView) (p : Source) (inputs : List ℤ) (r : Running) (s' : State) (a : Activation) (how : Invocation) (callee : Callee) → IsTrue (is_well_named p) → (g : Going code p inputs r) → IsAllowed p r.state r.ask
+    → r.ask ≡ asks.Invoke how callee → Begins r.state s' how (cells_of p callee)
+    → (CalleeIsFit p callee → Stands code inputs p callee a.cursor [] 0) → a.cursor.owed ≡ owed_for asks.Begin
+    → ((q : Parent) → q.frame ≡ g.frame → Scoped p a (next_frame p g.frame.scope g.memory callee) (q ∷ g.parents))
+    → Going code p inputs (record { state = s'; below = r.top ∷ r.below; top = a; ask = asks.Begin; left = r.left })
+invokes code p inputs r s' a how callee well g allowed is made stands owes scoped =
+    let fr = g.frame in
+    let m = g.memory in
+    let did = made m g.shows in
+    let k = asks.Invoke how callee in
+    let ok = subst (λ k. refused p m k ≡ None) is (allowed m g.shows) in
+    let asking : Asking code inputs p fr.callee r.top.cursor g.history g.took k r.left = subst (λ k. Asking code inputs p fr.callee r.top.cursor g.history g.took k r.left) is g.asking in
+    let q : Parent = record { frame = fr; history = g.history; took = g.took } in
+    let there = asked p well inputs fr.callee g.sees.fit g.history (g.took + r.left) k r.left asking.asks in
+    let sees = child_sees p well fr m g.sees g.opened callee there (begins p inputs fr.callee g.history (g.took + r.left) r.left how callee asking.asks) in
+    let none : 0 + r.left ≡ r.left = omega arith in
+    let low : m.cells ≤ m.cells + cells_of p callee = omega arith in
+    let op = g.opened in
+    record {
+      frame = next_frame p fr.scope m callee;
+      history = [];
+      took = 0;
+      memory = begun p callee (counted m);
+      parents = q ∷ g.parents;
+      shows = did.shows;
+      asking = asking_first code inputs p callee a.cursor r.left (stands sees.fit) owes;
+      completes = λ u es end s.
+          child_completes p inputs fr g.history g.took r.left m g.parents r.state.events.items s'.events.items how callee asking.asks ok did.events g.completes u es end
+          (subst (λ n. Serial p inputs (next_frame p fr.scope m callee) n [] (begun p callee (counted m)) u es end) none s);
+      scoped = scoped q refl;
+      sees = sees;
+      wait = (record { stands = asking.stands tt; owes = asking.owes tt; scoped = g.scoped; sees = sees_more p fr m.cells (m.cells + cells_of p callee) low g.sees }, wait_more code p inputs m.cells (m.cells + cells_of p callee) r.below g.parents low g.wait);
+      opened = omega (arith, op, low);
+      counted = one_more r.state s' m (invocation how (suc m.frames)) g.shows (room_left p m k ok) did.events;
+      small = (crowded_not p callee m ok).2;
+      behaves = g.behaves;
+    }
+
+-- ---- a frame ends
+
+-- what is known once it has
+pub record Closes (code : CodeView) (p : Source) (inputs : List ℤ) (s' : State) (v : ℤ) (left : ℕ) (below : List Activation) : Type 0 where
+  pub memory : Memory
+  pub parents : List Parent
+  pub shows : Shows s' memory
+  pub completes : Completes p inputs parents s'.events.items (Finished v left memory)
+  pub wait : Wait code p inputs memory.cells below parents
+  pub opened : length p.openings ≤ memory.cells
+  pub counted : length s'.events.items ≤ MAX_EVENTS
+  pub small : memory.cells ≤ MAX_CELLS
+  pub behaves : Behaves p code
+
+pub closes : (code : CodeView) (p : Source) (inputs : List ℤ) (r : Running) (s' : State) (v : ℤ) → (g : Going code p inputs r) → IsAllowed p r.state r.ask → r.ask ≡ asks.End v
+    → s'.events.items ≡ r.state.events.items ++ events.End ∷ []
+    → ((m : Memory) → Shows r.state m → Shows s' (record { store = clear_all same_instance (own_of r.top) 0 (kinds_of p r.top.creator) m.store; frames = m.frames; cells = m.cells; room = m.room - 1 }))
+    → Closes code p inputs s' v r.left r.below
+closes code p inputs r s' v g allowed is made cleared =
+    let fr = g.frame in
+    let m = g.memory in
+    let k = asks.End v in
+    let ok = subst (λ k. refused p m k ≡ None) is (allowed m g.shows) in
+    let asks = g.asking.asks ∙ ap (λ k. asks_for k r.left) is in
+    let sc = g.scoped in
+    let own : (n : ℕ) → own_from p fr n ≡ own_of r.top n = λ n. ap (λ x. record { frame = x; place = first_place p fr.callee + n }) sc.number ∙ ap (λ x. record { frame = r.top.number; place = x + n }) (sym sc.first) in
+    let store : clear_all same_instance (own_of r.top) 0 (kinds_of p r.top.creator) m.store ≡ stored p fr m k = cleared_same (own_of r.top) (own_from p fr) (λ n. sym (own n)) 0 (kinds_of p r.top.creator) m.store ∙ ap (λ ks. clear_all same_instance (own_from p fr) 0 ks m.store) (sym sc.creates) in
+    record {
+      memory = with_store m (stored p fr m k);
+      parents = g.parents;
+      shows = subst (λ (x : Store Instance). Shows s' (with_store m x)) store (cleared m g.shows);
+      completes = subst (λ l. Completes p inputs g.parents l (Finished v r.left (with_store m (stored p fr m k)))) (sym made) (g.completes (act k (pos 0) stop) (events.End ∷ []) _ (Ended v r.left asks ok));
+      wait = g.wait;
+      opened = g.opened;
+      counted = one_more r.state s' m events.End g.shows (room_left p m k ok) made;
+      small = g.small;
+      behaves = g.behaves;
+    }
+  where
+    cleared_same : (f h : ℕ → Instance) → ((n : ℕ) → f n ≡ h n) → (n : ℕ) (ks : List MonoidKind) (m : Store Instance) → clear_all same_instance f n ks m ≡ clear_all same_instance h n ks m
+    cleared_same f h same n [] m = refl
+    cleared_same f h same n (k ∷ ks) m = cleared_same f h same (suc n) ks (clear same_instance k (f n) m) ∙ ap (λ i. clear_all same_instance h (suc n) ks (clear same_instance k i m)) (same n)
+
+-- the root has
+pub last_ends : (code : CodeView) (p : Source) (inputs : List ℤ) (s' : State) (v : ℤ) (left : ℕ) (below : List Activation) → Closes code p inputs s' v left below → below ≡ [] → HasEnded p inputs s' v
+last_ends code p inputs s' v left below c none = all_end c.parents c.completes (subst (λ (b : List Activation). Wait code p inputs c.memory.cells b c.parents) none c.wait)
+  where
+    all_end : (parents : List Parent) → Completes p inputs parents s'.events.items (Finished v left c.memory) → Wait code p inputs c.memory.cells [] parents → HasEnded p inputs s' v
+    all_end [] whole wait = record { left = left; memory = c.memory; shows = c.shows; opened = c.opened; whole = whole }
+    all_end (q ∷ qs) whole wait = absurd wait
+
+-- the one that waits goes on
+pub resumes : (code : CodeView) (p : Source) (inputs : List ℤ) (s' : State) (v : ℤ) (left : ℕ) (below : List Activation) (a : Activation) (rest : List Activation) (c' : CursorView) (k' : Ask) (left' : ℕ) → Closes code p inputs s' v left below → below ≡ a ∷ rest
+    → ((callee : Callee) (history : List ℤ) (took : ℕ) → Stands code inputs p callee a.cursor history took → GoesOn code inputs a.cursor Done left k' c' left' p callee history took)
+    → Going code p inputs (record { state = s'; below = rest; top = record a { cursor = c' }; ask = k'; left = left' })
+resumes code p inputs s' v left below a rest c' k' left' c is on = one_goes c.parents c.completes (subst (λ (b : List Activation). Wait code p inputs c.memory.cells b c.parents) is c.wait)
+  where
+    one_goes : (parents : List Parent) → Completes p inputs parents s'.events.items (Finished v left c.memory) → Wait code p inputs c.memory.cells (a ∷ rest) parents
+        → Going code p inputs (record { state = s'; below = rest; top = record a { cursor = c' }; ask = k'; left = left' })
+    one_goes [] done wait = absurd wait
+    one_goes (q ∷ qs) done wait =
+        let w = wait.0 in
+        let step = on q.frame.callee q.history q.took w.stands in
+        let same : q.took + (left - left') + left' ≡ q.took + left = omega (arith, step.less) in
+        let turned : q.took + (left - left') + left' ≡ left + q.took = omega (arith, step.less) in
+        record {
+          frame = q.frame;
+          history = q.history ++ pos 0 ∷ [];
+          took = q.took + (left - left');
+          memory = c.memory;
+          parents = qs;
+          shows = c.shows;
+          asking = record { asks = ap (frame_asks p inputs q.frame.callee (q.history ++ pos 0 ∷ [])) same ∙ step.asks; stands = step.stands; owes = step.owes };
+          completes = λ u es end s. done u es end (subst (λ n. Serial p inputs q.frame n (q.history ++ pos 0 ∷ []) c.memory u es end) turned s);
+          scoped = cursor_moves p a c' q.frame qs w.scoped;
+          sees = w.sees;
+          wait = wait.1;
+          opened = c.opened;
+          counted = c.counted;
+          small = c.small;
+          behaves = c.behaves;
+        }
+
+-- a parent may take its step
+pub resumes_runs : (code : CodeView) (p : Source) (inputs : List ℤ) (s' : State) (v : ℤ) (left : ℕ) (below : List Activation) (a : Activation) (rest : List Activation) → Closes code p inputs s' v left below → below ≡ a ∷ rest
+    → Runs code inputs a.cursor × (a.cursor.owed ≡ Nothing)
+resumes_runs code p inputs s' v left below a rest c is = one_runs c.parents (subst (λ (b : List Activation). Wait code p inputs c.memory.cells b c.parents) is c.wait)
+  where
+    one_runs : (parents : List Parent) → Wait code p inputs c.memory.cells (a ∷ rest) parents → Runs code inputs a.cursor × (a.cursor.owed ≡ Nothing)
+    one_runs [] wait = absurd wait
+    one_runs (q ∷ qs) wait = let w = wait.0 in ((_, w.stands), w.owes)
+
+-- ---- a fault
+
+stopped_whole : (p : Source) (inputs : List ℤ) (parents : List Parent) (es : List Event) (f : Fault) → Completes p inputs parents es (Stopped f) → Whole p inputs es (Stopped f)
+stopped_whole p inputs [] es f h = h
+stopped_whole p inputs (q ∷ qs) es f h = stopped_whole p inputs qs es f h
+
+limit_or_not : (f : Fault) → IsLimit f ⊎ (IsLimit f → ⊥)
+limit_or_not DivisionByZero = inr (λ h. h)
+limit_or_not IndexOutside = inr (λ h. h)
+limit_or_not InputOutside = inr (λ h. h)
+limit_or_not TooManyEvents = inl tt
+limit_or_not TooManyFrames = inl tt
+limit_or_not TooManyCells = inl tt
+
+pub stops : (code : CodeView) (p : Source) (inputs : List ℤ) (r : Running) (f : Fault) (at : ℕ) → IsTrue (is_well_named p) → (g : Going code p inputs r) → ((m : Memory) → Shows r.state m → Some f ≡ refused p m r.ask)
+    → at ≡ length r.state.events.items + 1 → Stops p inputs f at
+stops code p inputs r f at well g fault is =
+    let es = r.state.events.items in
+    let s : Serial p inputs g.frame (g.took + r.left) g.history g.memory stop [] (Stopped f) = Refused r.ask r.left f g.asking.asks (sym (fault g.memory g.shows)) in
+    let whole = stopped_whole p inputs g.parents (es ++ []) f (g.completes stop [] (Stopped f) s) in
+    let w : Whole p inputs es (Stopped f) = subst (λ l. Whole p inputs l (Stopped f)) (append-nil es) whole in
+    let run : IsSerialRun p inputs w.run es (StopsBy f) = (Stopped f, w.serial, refl) in
+    record {
+      run = w.run;
+      events = es;
+      serial = run;
+      elision = ⊎_elim (λ h. inr h) (λ h. inl (ends_as_elided p inputs well MAX_TICKS MAX_EVENTS w.run es (StopsBy f) run h)) (limit_or_not f);
+      place = is;
+    }
+
+-- ---- what a step and an invocation need
+
+pub fits_callee : (code : CodeView) (p : Source) (inputs : List ℤ) (r : Running) (how : Invocation) (callee : Callee) → IsTrue (is_well_named p) → Going code p inputs r → r.ask ≡ asks.Invoke how callee → CalleeIsFit p callee
+fits_callee code p inputs r how callee well g is = subst (λ k. IsBegunRightly p k) is (asked_rightly p well inputs g.frame.callee g.sees.fit g.history (g.took + r.left) r.ask r.left g.asking.asks)
+
+pub not_crowded : (code : CodeView) (p : Source) (inputs : List ℤ) (r : Running) (how : Invocation) (callee : Callee) → Going code p inputs r → IsAllowed p r.state r.ask → r.ask ≡ asks.Invoke how callee → (r.state.frames < MAX_FRAMES) × (length r.state.cells.items ≤ MAX_CELLS)
+not_crowded code p inputs r how callee g allowed is =
+    let s = g.shows in
+    let h = crowded_not p callee g.memory (subst (λ k. refused p g.memory k ≡ None) is (allowed g.memory s)) in
+    (subst (λ n. n < MAX_FRAMES) s.frames h.1, subst (λ n. n ≤ MAX_CELLS) s.cells g.small)
+
+pub few_cells : (code : CodeView) (p : Source) (inputs : List ℤ) (r : Running) → Going code p inputs r → length r.state.cells.items ≤ MAX_CELLS
+few_cells code p inputs r g = let s = g.shows in subst (λ n. n ≤ MAX_CELLS) s.cells g.small
+
+-- a child begins, as the code says it
+pub invokes_as : (code : CodeView) (p : Source) (inputs : List ℤ) (r : Running) (s' : State) (a top : Activation) (below : List Activation) (how : Invocation) (callee : Callee) (count : ℕ) → IsTrue (is_well_named p) → (g : Going code p inputs r) → IsAllowed p r.state r.ask
+    → r.ask ≡ asks.Invoke how callee → Begins r.state s' how count → count ≡ cells_of p callee
+    → IfSome (child_of r.ask) (λ callee. (p : Source) (inputs : List ℤ) → Behaves p code → CalleeIsFit p callee → Stands code inputs p callee a.cursor [] 0) → a.cursor.owed ≡ owed_for asks.Begin
+    → IfSome (child_of r.ask) (λ callee. (p : Source) (fr : Frame) (parents : List Parent) (m : Memory) (q : Parent) → Seen p r.top r.below fr parents → IsThere p fr (length r.state.cells.items) r.ask → Shows r.state m → q.frame ≡ fr → Scoped p a (next_frame p fr.scope m callee) (q ∷ parents))
+    → top ≡ a → below ≡ r.top ∷ r.below
+    → Going code p inputs (record { state = s'; below = below; top = top; ask = asks.Begin; left = r.left })
+invokes_as code p inputs r s' a top below how callee count well g allowed is made cells stands owes scoped top_is below_is =
+    let there = going_there code p inputs r well g in
+    let made' = subst (λ n. Begins r.state s' how n) cells made in
+    let stands' = subst (λ k. IfSome (child_of k) (λ callee. (p : Source) (inputs : List ℤ) → Behaves p code → CalleeIsFit p callee → Stands code inputs p callee a.cursor [] 0)) is stands in
+    let scoped' = subst (λ k. IfSome (child_of k) (λ callee. (p : Source) (fr : Frame) (parents : List Parent) (m : Memory) (q : Parent) → Seen p r.top r.below fr parents → IsThere p fr (length r.state.cells.items) r.ask → Shows r.state m → q.frame ≡ fr → Scoped p a (next_frame p fr.scope m callee) (q ∷ parents))) is scoped in
+    subst (λ (b : List Activation). Going code p inputs (record { state = s'; below = b; top = top; ask = asks.Begin; left = r.left })) (sym below_is)
+    (subst (λ (t : Activation). Going code p inputs (record { state = s'; below = r.top ∷ r.below; top = t; ask = asks.Begin; left = r.left })) (sym top_is)
+    (invokes code p inputs r s' a how callee well g allowed is made' (λ fit. stands' p inputs g.behaves fit) owes
+    (λ q same. scoped' p g.frame g.parents g.memory q (going_seen code p inputs r g) there g.shows same)))
+
+-- ---- the first frame
+
+pub first_shows : (p : Source) (inputs : List ℤ) (s0 s1 : State) (count : ℕ) → s0.cells.items ≡ p.openings → EachKind (λ k. (i : Instance) → view_in s0.views k i ≡ None) → s0.output.items ≡ [] → s0.events.items ≡ [] → s0.frames ≡ 1
+    → Extends s0 s1 count → count ≡ cells_of p callees.Root → Shows s1 (begun p callees.Root (before_root p inputs MAX_EVENTS))
+first_shows p inputs s0 s1 count cells views output events frames more many =
+    let long = more.more in
+    let l0 = ap length cells in
+    let e1 = ap (λ v. length v.items) more.events in
+    let e0 = ap length events in
+    record {
+      cell = λ n. unwrap_or-slice_get p.openings n (pos 0) ∙ ap (λ l. get_or l n (pos 0)) (sym cells) ∙ sym (more.cells n);
+      view = λ k i. sym (ap (λ h. value_in h k i) more.views ∙ ap (or_unit (structure_of k)) (each_kind (λ k. (i : Instance) → view_in s0.views k i ≡ None) views k i));
+      printed = sym (ap (λ v. v.items) more.output ∙ output);
+      frames = sym (more.frames ∙ frames);
+      cells = omega (arith, long, l0, many);
+      room = omega (arith, e1, e0);
+    }
+
+pub goes_first : (code : CodeView) (p : Source) (inputs : List ℤ) (s : State) (a : Activation) (below : List Activation) → IsTrue (is_well_named p) → Behaves p code → Shows s (begun p callees.Root (before_root p inputs MAX_EVENTS)) → s.events.items ≡ []
+    → Stands code inputs p callees.Root a.cursor [] 0 → a.cursor.owed ≡ owed_for asks.Begin → Scoped p a (root_frame p inputs) [] → below ≡ []
+    → Going code p inputs (record { state = s; below = below; top = a; ask = asks.Begin; left = MAX_TICKS })
+goes_first code p inputs s a below well behaves shows events stands owes scoped none =
+    let named = well_named_parts p well in
+    let main = named.functions p.main named.main in
+    let openings = named.openings in
+    let cells = main.cells in
+    let start : 0 + MAX_TICKS ≡ MAX_TICKS = omega arith in
+    record {
+      frame = root_frame p inputs;
+      history = [];
+      took = 0;
+      memory = begun p callees.Root (before_root p inputs MAX_EVENTS);
+      parents = [];
+      shows = shows;
+      asking = asking_first code inputs p callees.Root a.cursor MAX_TICKS stands owes;
+      completes = λ u es end r. record { run = u; serial = subst (λ n. Serial p inputs (root_frame p inputs) n [] (begun p callees.Root (before_root p inputs MAX_EVENTS)) u (s.events.items ++ es) end) start (subst (λ (l : List Event). Serial p inputs (root_frame p inputs) (0 + MAX_TICKS) [] (begun p callees.Root (before_root p inputs MAX_EVENTS)) u (l ++ es) end) (sym events) r) };
+      scoped = scoped;
+      sees = root_sees p inputs;
+      wait = subst (λ (b : List Activation). Wait code p inputs (begun p callees.Root (before_root p inputs MAX_EVENTS)).cells b []) (sym none) tt;
+      opened = omega arith;
+      counted = subst (λ (l : List Event). length l ≤ MAX_EVENTS) (sym events) (omega arith);
+      small = omega (arith, openings, cells);
+      behaves = behaves;
+    }
+
+-- what is neither an invocation nor an end, and is no fault, lets the frame go on at once
+pub inner : (p : Source) (m : Memory) (k : Ask) → ((how : Invocation) (callee : Callee) → k ≡ asks.Invoke how callee → ⊥) → ((v : ℤ) → k ≡ asks.End v → ⊥) → refused p m k ≡ None → IsInner k
+inner p m asks.Begin i e ok = tt
+inner p m (asks.Read x) i e ok = tt
+inner p m (asks.Write x v) i e ok = tt
+inner p m (asks.Create r) i e ok = tt
+inner p m (asks.Update r v) i e ok = tt
+inner p m (asks.Set r v) i e ok = tt
+inner p m (asks.Value r) i e ok = tt
+inner p m (asks.Print v) i e ok = tt
+inner p m (asks.Invoke how callee) i e ok = i how callee refl
+inner p m asks.Resume i e ok = tt
+inner p m asks.Sync i e ok = tt
+inner p m (asks.Result v) i e ok = tt
+inner p m (asks.End v) i e ok = e v refl
+inner p m (asks.Fault f) i e ok = cc
+
+-- each event leaves room for fewer
+pub falls : (code : CodeView) (p : Source) (inputs : List ℤ) (r : Running) (s' : State) → (g : Going code p inputs r) → IsAllowed p r.state r.ask → length s'.events.items ≡ length r.state.events.items + 1 → MAX_EVENTS - length s'.events.items < MAX_EVENTS - length r.state.events.items
+falls code p inputs r s' g allowed more =
+    let s = g.shows in
+    let some = room_left p g.memory r.ask (allowed g.memory s) in
+    let room = s.room in
+    omega (arith, more, some, room)
+
+-- the same state by another name
+pub ended_as : (p : Source) (inputs : List ℤ) (s s' : State) (v w : ℤ) → s' ≡ s → w ≡ v → HasEnded p inputs s v → HasEnded p inputs s' w
+ended_as p inputs s s' v w same value h = subst (λ (s : State). HasEnded p inputs s w) (sym same) (subst (λ v. HasEnded p inputs s v) (sym value) h)

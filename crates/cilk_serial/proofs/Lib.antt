@@ -1,4 +1,9 @@
+pub mod Answering
+pub mod Beginnings
 pub mod Driving
-pub mod Ending
-pub mod Going
+pub mod Endings
+pub mod Finals
+pub mod Homes
 pub mod Shows
+pub mod Sights
+pub mod Stacks

@@ -1,109 +1,155 @@
--- The code's store as it changes.
-use Rattle.std.proofs.Common.{◌≡◌, ℕ, suc, ◌+◌, ◌<◌, ℤ, pos, Bool, true, false, List, [], ◌∷◌, ◌++◌, length, get_or, set, refl, sym, ap, ◌∙◌, subst, arith, inl, inr, get_or-set_same, get_or-set_other, length-set}
-use Rattle.std.specs.Prelude.{nat_eq}
-use Rattle.std.proofs.lemmas.Bool.Decides.{eqb_tells}
-use Rattle.std.proofs.lemmas.Option.{unwrap_or-slice_get, slice_get_read, get_or_from_slice_get}
-use Rattle.cilk_types.specs.declared.event.Event as numbers
-use Rattle.cilk_types.specs.declared.event.Event.TheVariants as numbered
-use Rattle.cilk_names.specs.declared.ask.Ask.TheVariants as asks
-use Rattle.cilk_names.specs.declared.syntax.Place.TheVariants as places
-use Rattle.cilk_names.specs.Syntax.{Source}
-use Rattle.cilk_names.specs.Store.{Cell, Global, Store, put, print, opening, globals_from}
-use Rattle.cilk_names.specs.SerialRun.{Begins, Reads, Writes, Prints, Syncs, Begun, Read, Written, Printed, Synced}
-use Rattle.cilk_frames.specs.declared.cursor.Answer.TheVariants.{Done, Value}
-use Rattle.cilk_serial.specs.States.{Shows, Answered, Answers}
+-- The code's store after an event.
+use Rattle.std.proofs.Common.{◌≡◌, ℕ, zero, suc, ◌+◌, ◌-◌, ◌<◌, ℤ, pos, Bool, true, false, true≢false, cond, ◌&&◌, if◌then◌else◌, List, [], ◌∷◌, ◌++◌, length, take, get_or, Option, Some, refl, sym, ap, ◌∙◌, subst, arith, length-append, length-take}
+use Rattle.std.proofs.lemmas.Bool.{and_parts}
+use Rattle.std.proofs.lemmas.List.{take_more}
+use Rattle.cilk_types.specs.declared.event.Event.{Event}
+use Rattle.cilk_types.specs.declared.event.Event.TheVariants.{Value}
+use Rattle.cilk_types.specs.declared.event.Instance.{Instance}
+use Rattle.cilk_types.specs.declared.limits.TheConstants.{MAX_EVENTS}
+use Rattle.cilk_monoid.specs.declared.kind.MonoidKind.{MonoidKind}
+use Rattle.cilk_monoid.specs.declared.kind.MonoidKind.TheVariants.{Add, Least, Greatest, Append, Affine}
+use Rattle.cilk_monoid.specs.Kinds.{structure_of, same_kind}
+use Rattle.cilk_monoid.specs.Laws.{MonoidStructure}
+use Rattle.cilk_monoid.specs.Ranges.{same_instance}
+use Rattle.cilk_monoid.specs.Values.{ViewValue}
+use Rattle.cilk_monoid.proofs.RangeLaws.{same_from_true}
+use Rattle.cilk_hypermap.specs.declared.hypermap.Hypermap.{Hypermap}
+use Rattle.cilk_hypermap.specs.Hypermap.{EachKind, ChangesIn, view_in, value_in}
+use Rattle.cilk_hypermap.specs.Views.{or_unit}
+use Rattle.cilk_program.specs.Store.{Store, put_view, clear, clear_all, update, set, number_at}
+use Rattle.cilk_program.specs.SerialRun.{Memory, with_store}
+use Rattle.cilk_serial.specs.declared.state.State.{State}
+use Rattle.cilk_serial.specs.States.{Shows, EventMade}
 
-pub shows_opening : (p : Source) (cells : List ℤ) → cells ≡ p.openings → Shows cells [] (opening p)
-shows_opening p cells e = record {
-  cell = λ n below. ap (λ xs. get_or xs n (pos 0)) e ∙ sym (unwrap_or-slice_get p.openings n (pos 0));
-  printed = refl;
+pub each_kind : (P : MonoidKind → Type 0) → EachKind P → (k : MonoidKind) → P k
+each_kind P h Add = h.0
+each_kind P h Least = h.1
+each_kind P h Greatest = h.2
+each_kind P h Append = h.3
+each_kind P h Affine = h.4
+
+chosen_view : (b : Bool) (S : MonoidStructure ViewValue) (w : ViewValue) (o : Option ViewValue) → or_unit S (cond b (Some w) o) ≡ (if b then w else or_unit S o)
+chosen_view true S w o = refl
+chosen_view false S w o = refl
+
+one_fewer : (l l' : ℕ) (room : ℕ) → room ≡ MAX_EVENTS - l → l' ≡ l + 1 → room - 1 ≡ MAX_EVENTS - l'
+one_fewer l l' room e e' = omega (arith, e, e')
+
+-- a view changes
+pub view_changes : (s s' : State) (e : Event) (k : MonoidKind) (i : Instance) (w : ViewValue) (m : Memory) → Shows s m
+    → s'.cells ≡ s.cells → s'.output ≡ s.output → s'.frames ≡ s.frames → s'.events.items ≡ s.events.items ++ e ∷ []
+    → ChangesIn s.views s'.views k i (Some w) → EventMade s s' e (with_store m (put_view same_instance k i w m.store))
+view_changes s s' e k i w m h cells output frames events changes = record {
+  shows = record {
+    cell = λ n. h.cell n ∙ ap (λ v. get_or v.items n (pos 0)) (sym cells);
+    view = λ k' j. ap (λ v. if same_kind k k' && same_instance i j then w else v) (h.view k' j)
+        ∙ sym (chosen_view (same_kind k k' && same_instance i j) (structure_of k') w (view_in s.views k' j))
+        ∙ sym (ap (or_unit (structure_of k')) (each_kind (λ k'. (j : Instance) → view_in s'.views k' j ≡ cond (same_kind k k' && same_instance i j) (Some w) (view_in s.views k' j)) changes k' j));
+    printed = h.printed ∙ ap (λ v. v.items) (sym output);
+    frames = h.frames ∙ sym frames;
+    cells = h.cells ∙ ap (λ v. length v.items) (sym cells);
+    room = one_fewer (length s.events.items) (length s'.events.items) m.room h.room (ap length events ∙ length-append s.events.items (e ∷ []));
+  };
+  events = events;
 }
 
-put_here : (n k : ℕ) (v x : ℤ) (m : Store) (b : Bool) → nat_eq n k ≡ b → b ≡ true → (put (Global n) v m).cells (Global k) ≡ v
-put_here n k v x m b e t = rw (e ∙ t) refl
+kinds_are : (k k' : MonoidKind) → same_kind k k' ≡ true → k ≡ k'
+kinds_are Add Add h = refl
+kinds_are Add Least h = absurd (true≢false (sym h))
+kinds_are Add Greatest h = absurd (true≢false (sym h))
+kinds_are Add Append h = absurd (true≢false (sym h))
+kinds_are Add Affine h = absurd (true≢false (sym h))
+kinds_are Least Add h = absurd (true≢false (sym h))
+kinds_are Least Least h = refl
+kinds_are Least Greatest h = absurd (true≢false (sym h))
+kinds_are Least Append h = absurd (true≢false (sym h))
+kinds_are Least Affine h = absurd (true≢false (sym h))
+kinds_are Greatest Add h = absurd (true≢false (sym h))
+kinds_are Greatest Least h = absurd (true≢false (sym h))
+kinds_are Greatest Greatest h = refl
+kinds_are Greatest Append h = absurd (true≢false (sym h))
+kinds_are Greatest Affine h = absurd (true≢false (sym h))
+kinds_are Append Add h = absurd (true≢false (sym h))
+kinds_are Append Least h = absurd (true≢false (sym h))
+kinds_are Append Greatest h = absurd (true≢false (sym h))
+kinds_are Append Append h = refl
+kinds_are Append Affine h = absurd (true≢false (sym h))
+kinds_are Affine Add h = absurd (true≢false (sym h))
+kinds_are Affine Least h = absurd (true≢false (sym h))
+kinds_are Affine Greatest h = absurd (true≢false (sym h))
+kinds_are Affine Append h = absurd (true≢false (sym h))
+kinds_are Affine Affine h = refl
 
-put_there : (n k : ℕ) (v : ℤ) (m : Store) → nat_eq n k ≡ false → (put (Global n) v m).cells (Global k) ≡ m.cells (Global k)
-put_there n k v m e = rw e refl
+-- a view that becomes what it is
+same_chosen : (v : MonoidKind → Instance → ViewValue) (k k' : MonoidKind) (i j : Instance) (b : Bool) → same_kind k k' && same_instance i j ≡ b → (if b then v k i else v k' j) ≡ v k' j
+same_chosen v k k' i j true h = let q = and_parts (same_kind k k') (same_instance i j) h in ap (λ k. v k i) (kinds_are k k' q.0) ∙ ap (v k') (same_from_true i j q.1)
+same_chosen v k k' i j false h = refl
 
-pub shows_put : (cells output : List ℤ) (m : Store) (n : ℕ) (v : ℤ) → Shows cells output m → n < length cells → Shows (set cells n v) output (put (Global n) v m)
-shows_put cells output m n v s below = record {
-  cell = λ k lt. elim (eqb_tells n k) [
-    | inl same ↦ ap (λ i. get_or (set cells n v) i (pos 0)) (sym same.1) ∙ get_or-set_same cells n v (pos 0) below ∙ sym (put_here n k v v m (nat_eq n k) refl same.0)
-    | inr other ↦ get_or-set_other cells n k v (pos 0) (λ e. other.1 (sym e)) ∙ s.cell k (subst (λ l. k < l) (length-set cells n v) lt) ∙ sym (put_there n k v m other.0)
-  ];
-  printed = s.printed;
-}
+pub views_stay : (h h' : Hypermap) (k : MonoidKind) (i : Instance) → ChangesIn h h' k i (Some (value_in h k i)) → (k' : MonoidKind) (j : Instance) → value_in h' k' j ≡ value_in h k' j
+views_stay h h' k i changes k' j =
+    ap (or_unit (structure_of k')) (each_kind (λ k'. (j : Instance) → view_in h' k' j ≡ cond (same_kind k k' && same_instance i j) (Some (value_in h k i)) (view_in h k' j)) changes k' j)
+    ∙ chosen_view (same_kind k k' && same_instance i j) (structure_of k') (value_in h k i) (view_in h k' j)
+    ∙ same_chosen (value_in h) k k' i j (same_kind k k' && same_instance i j) refl
 
-pub shows_print : (cells output : List ℤ) (m : Store) (v : ℤ) → Shows cells output m → Shows cells (output ++ v ∷ []) (print v m)
-shows_print cells output m v s = record { cell = s.cell; printed = ap (λ xs. xs ++ v ∷ []) s.printed }
+-- a view is read
+pub view_tells : (s s' : State) (k : MonoidKind) (i : Instance) (x y : ℤ) (m : Memory) → Shows s m
+    → s'.cells ≡ s.cells → s'.output ≡ s.output → s'.frames ≡ s.frames
+    → y ≡ x → x ≡ (structure_of k).number (value_in s.views k i)
+    → s'.events.items ≡ s.events.items ++ Value i y ∷ []
+    → ChangesIn s.views s'.views k i (Some (value_in s.views k i)) → (y ≡ number_at k i m.store) × EventMade s s' (Value i (number_at k i m.store)) (with_store m m.store)
+view_tells s s' k i x y m h cells output frames same number events changes =
+    let told : y ≡ number_at k i m.store = same ∙ number ∙ ap (structure_of k).number (sym (h.view k i)) in (
+      told,
+      record {
+        shows = record {
+          cell = λ n. h.cell n ∙ ap (λ v. get_or v.items n (pos 0)) (sym cells);
+          view = λ k' j. h.view k' j ∙ sym (views_stay s.views s'.views k i changes k' j);
+          printed = h.printed ∙ ap (λ v. v.items) (sym output);
+          frames = h.frames ∙ sym frames;
+          cells = h.cells ∙ ap (λ v. length v.items) (sym cells);
+          room = one_fewer (length s.events.items) (length s'.events.items) m.room h.room (ap length events ∙ length-append s.events.items (Value i y ∷ []));
+        };
+        events = events ∙ ap (λ z. s.events.items ++ Value i z ∷ []) told;
+      },
+    )
 
--- the global cells of a store are the list that shows them
-listed : (xs : List ℤ) (from : ℕ) (f : Cell → ℤ) → ((i : ℕ) → i < length xs → get_or xs i (pos 0) ≡ f (Global (from + i))) → globals_from from (length xs) f ≡ xs
-listed [] from f h = refl
-listed (x ∷ xs) from f h =
-    let first : f (Global from) ≡ x = ap (λ n. f (Global n)) (omega arith) ∙ sym (h 0 (omega arith)) in
-    let others : globals_from (suc from) (length xs) f ≡ xs = listed xs (suc from) f (λ i lt. h (suc i) (omega arith) ∙ ap (λ n. f (Global n)) (omega arith)) in
-    ap (λ y. y ∷ globals_from (suc from) (length xs) f) first ∙ ap (λ ys. x ∷ ys) others
+-- one cell more
+pub zero_more : (cells : List ℤ) (n : ℕ) → get_or (cells ++ pos 0 ∷ []) n (pos 0) ≡ get_or cells n (pos 0)
+zero_more [] zero = refl
+zero_more [] (suc n) = refl
+zero_more (x ∷ cells) zero = refl
+zero_more (x ∷ cells) (suc n) = zero_more cells n
 
-pub globals_are : (cells output : List ℤ) (m : Store) → Shows cells output m → globals_from 0 (length cells) m.cells ≡ cells
-globals_are cells output m s = listed cells 0 m.cells (λ i lt. s.cell i lt ∙ ap (λ n. m.cells (Global n)) (omega arith))
+-- one reducer more is retired
+cleared_more : (own : ℕ → Instance) (from : ℕ) (ks : List MonoidKind) (k : MonoidKind) (m : Store Instance) → clear_all same_instance own from (ks ++ k ∷ []) m ≡ clear same_instance k (own (from + length ks)) (clear_all same_instance own from ks m)
+cleared_more own from [] k m = let e : from ≡ from + 0 = omega arith in ap (λ n. clear same_instance k (own n) m) e
+cleared_more own from (k' ∷ ks) k m =
+    let e : suc from + length ks ≡ from + suc (length ks) = omega arith in
+    cleared_more own (suc from) ks k (clear same_instance k' (own from) m)
+    ∙ ap (λ n. clear same_instance k (own n) (clear_all same_instance own (suc from) ks (clear same_instance k' (own from) m))) e
 
-pub begin_answers : (cells output : List ℤ) (events : List numbers.Event) → Answers cells output events cells output (events ++ numbered.Begin 1 ∷ []) asks.Begin Done
-begin_answers cells output events = record { fits = tt; sized = refl; answered = λ m s. record { event = Begins; store = m; makes = Begun; shows = s; traced = refl } }
+pub cleared_next : (own : ℕ → Instance) (ks : List MonoidKind) (n : ℕ) (d : MonoidKind) (m : Store Instance) → n < length ks
+    → clear_all same_instance own 0 (take (n + 1) ks) m ≡ clear same_instance (get_or ks n d) (own n) (clear_all same_instance own 0 (take n ks) m)
+cleared_next own ks n d m low =
+    let l : 0 + length (take n ks) ≡ n = omega (arith, length-take n ks) in
+    ap (λ l. clear_all same_instance own 0 l m) (take_more ks n d low)
+    ∙ cleared_more own 0 (take n ks) (get_or ks n d) m
+    ∙ ap (λ j. clear same_instance (get_or ks n d) (own j) (clear_all same_instance own 0 (take n ks) m)) l
 
-pub sync_answers : (cells output : List ℤ) (events : List numbers.Event) → Answers cells output events cells output (events ++ numbered.Sync ∷ []) asks.Sync Done
-sync_answers cells output events = record { fits = tt; sized = refl; answered = λ m s. record { event = Syncs; store = m; makes = Synced; shows = s; traced = refl } }
+pub sets : (s s' : State) (e : Event) (k : MonoidKind) (i : Instance) (x y : ℤ) (m : Memory) → Shows s m
+    → s'.cells ≡ s.cells → s'.output ≡ s.output → s'.frames ≡ s.frames → s'.events.items ≡ s.events.items ++ e ∷ [] → x ≡ y
+    → ChangesIn s.views s'.views k i (Some ((structure_of k).single x)) → EventMade s s' e (with_store m (set same_instance k i y m.store))
+sets s s' e k i x y m h cells output frames events same changes =
+    subst (λ z. EventMade s s' e (with_store m (set same_instance k i z m.store))) same (view_changes s s' e k i ((structure_of k).single x) m h cells output frames events changes)
 
-pub read_answers : (cells output : List ℤ) (events : List numbers.Event) (n : ℕ) (v : ℤ) → n < length cells → v ≡ get_or cells n v
-    → Answers cells output events cells output (events ++ numbered.Read n v ∷ []) (asks.Read (places.Global n)) (Value v)
-read_answers cells output events n v below is = record {
-  fits = tt;
-  sized = refl;
-  answered = λ m s.
-      let e : v ≡ m.cells (Global n) = sym (get_or_from_slice_get cells n v (pos 0) (slice_get_read cells (length cells) n v refl below is)) ∙ s.cell n below in
-      subst (λ x. Answered events cells output (events ++ numbered.Read n x ∷ []) (asks.Read (places.Global n)) (Value x) m) (sym e)
-      (record { event = Reads (Global n) (m.cells (Global n)); store = m; makes = Read (places.Global n); shows = s; traced = refl });
-}
+pub updates : (s s' : State) (e : Event) (k : MonoidKind) (i : Instance) (x y : ℤ) (m : Memory) → Shows s m
+    → s'.cells ≡ s.cells → s'.output ≡ s.output → s'.frames ≡ s.frames → s'.events.items ≡ s.events.items ++ e ∷ [] → x ≡ y
+    → ChangesIn s.views s'.views k i (Some ((structure_of k).combine (value_in s.views k i) ((structure_of k).single x))) → EventMade s s' e (with_store m (update same_instance k i y m.store))
+updates s s' e k i x y m h cells output frames events same changes =
+    subst (λ z. EventMade s s' e (with_store m (update same_instance k i z m.store))) same
+    (subst (λ v. EventMade s s' e (with_store m (put_view same_instance k i ((structure_of k).combine v ((structure_of k).single x)) m.store))) (sym (h.view k i))
+    (view_changes s s' e k i ((structure_of k).combine (value_in s.views k i) ((structure_of k).single x)) m h cells output frames events changes))
 
-pub write_answers : (cells output : List ℤ) (events : List numbers.Event) (n : ℕ) (v : ℤ) → n < length cells
-    → Answers cells output events (set cells n v) output (events ++ numbered.Write n v ∷ []) (asks.Write (places.Global n) v) Done
-write_answers cells output events n v below = record {
-  fits = tt;
-  sized = length-set cells n v;
-  answered = λ m s. record { event = Writes (Global n) v; store = put (Global n) v m; makes = Written (places.Global n) v; shows = shows_put cells output m n v s below; traced = refl };
-}
-
-pub print_answers : (cells output : List ℤ) (events : List numbers.Event) (v : ℤ)
-    → Answers cells output events cells (output ++ v ∷ []) (events ++ numbered.Print v ∷ []) (asks.Print v) Done
-print_answers cells output events v = record {
-  fits = tt;
-  sized = refl;
-  answered = λ m s. record { event = Prints v; store = print v m; makes = Printed v; shows = shows_print cells output m v s; traced = refl };
-}
-
--- the same, from equations
-pub read_told : (cells output : List ℤ) (events events' : List numbers.Event) (n : ℕ) (v u w : ℤ) → n < length cells → v ≡ get_or cells n v → u ≡ v → w ≡ v
-    → events' ≡ events ++ numbered.Read n u ∷ [] → Answers cells output events cells output events' (asks.Read (places.Global n)) (Value w)
-read_told cells output events events' n v u w below is here same e =
-    subst (λ es. Answers cells output events cells output es (asks.Read (places.Global n)) (Value w)) (sym e)
-    (subst (λ y. Answers cells output events cells output (events ++ numbered.Read n y ∷ []) (asks.Read (places.Global n)) (Value w)) (sym here)
-    (subst (λ x. Answers cells output events cells output (events ++ numbered.Read n v ∷ []) (asks.Read (places.Global n)) (Value x)) (sym same) (read_answers cells output events n v below is)))
-
-pub write_told : (cells output : List ℤ) (events events' : List numbers.Event) (n : ℕ) (v w : ℤ) → n < length cells → w ≡ v
-    → events' ≡ events ++ numbered.Write n w ∷ [] → Answers cells output events (set cells n w) output events' (asks.Write (places.Global n) v) Done
-write_told cells output events events' n v w below same e =
-    subst (λ es. Answers cells output events (set cells n w) output es (asks.Write (places.Global n) v) Done) (sym e)
-    (subst (λ x. Answers cells output events (set cells n w) output (events ++ numbered.Write n w ∷ []) (asks.Write (places.Global n) x) Done) same (write_answers cells output events n w below))
-
-pub print_told : (cells output output' : List ℤ) (events events' : List numbers.Event) (v w : ℤ) → w ≡ v → output' ≡ output ++ w ∷ [] → events' ≡ events ++ numbered.Print w ∷ []
-    → Answers cells output events cells output' events' (asks.Print v) Done
-print_told cells output output' events events' v w same o e =
-    subst (λ os. Answers cells output events cells os events' (asks.Print v) Done) (sym o)
-    (subst (λ es. Answers cells output events cells (output ++ w ∷ []) es (asks.Print v) Done) (sym e)
-    (subst (λ x. Answers cells output events cells (output ++ w ∷ []) (events ++ numbered.Print w ∷ []) (asks.Print x) Done) same (print_answers cells output events w)))
-
-pub begin_told : (cells output : List ℤ) (events events' : List numbers.Event) → events' ≡ events ++ numbered.Begin 1 ∷ [] → Answers cells output events cells output events' asks.Begin Done
-begin_told cells output events events' e = subst (λ es. Answers cells output events cells output es asks.Begin Done) (sym e) (begin_answers cells output events)
-
-pub sync_told : (cells output : List ℤ) (events events' : List numbers.Event) → events' ≡ events ++ numbered.Sync ∷ [] → Answers cells output events cells output events' asks.Sync Done
-sync_told cells output events events' e = subst (λ es. Answers cells output events cells output es asks.Sync Done) (sym e) (sync_answers cells output events)
+-- an event of another value, which is the same
+pub event_is : (s s' : State) (e e' : Event) (m' : Memory) → e ≡ e' → EventMade s s' e m' → EventMade s s' e' m'
+event_is s s' e e' m' same made = subst (λ e. EventMade s s' e m') same made

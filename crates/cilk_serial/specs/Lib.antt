@@ -1,3 +1,5 @@
-pub mod Driven
+pub mod Going
 pub mod Ran
+pub mod Scoped
 pub mod States
+pub mod Stacks

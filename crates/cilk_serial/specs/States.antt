@@ -1,27 +1,65 @@
--- What the code's store and events stand for.
-use Rattle.std.specs.Prelude.{◌≡◌, ℕ, ◌<◌, ℤ, List, [], ◌∷◌, ◌++◌, length, pos, slice_index_or}
-use Rattle.cilk_types.specs.declared.event.Event as numbers
-use Rattle.cilk_names.specs.declared.ask.Ask.{Ask}
-use Rattle.cilk_names.specs.Store.{Global, Store}
-use Rattle.cilk_names.specs.SerialRun.{Event, Makes, by_number}
+-- What the code's store, counters and events stand for.
+use Rattle.std.specs.Prelude.{◌≡◌, ℕ, suc, ◌+◌, ◌-◌, false, ℤ, pos, [], ◌∷◌, ◌++◌, length, slice_index_or}
+use Rattle.cilk_types.specs.declared.event.Event.{Event}
+use Rattle.cilk_types.specs.declared.event.Instance.{Instance}
+use Rattle.cilk_types.specs.declared.limits.TheConstants.{MAX_EVENTS}
+use Rattle.cilk_monoid.specs.declared.kind.MonoidKind.{MonoidKind}
+use Rattle.cilk_hypermap.specs.Hypermap.{value_in}
+use Rattle.cilk_hypermap.specs.declared.hypermap.Hypermap.{Hypermap}
+use Rattle.cilk_program.specs.Syntax.{Source}
+use Rattle.cilk_program.specs.Store.{Store, clear}
+use Rattle.cilk_monoid.specs.Ranges.{same_instance}
+use Rattle.cilk_program.specs.declared.ask.Ask.{Ask}
+use Rattle.cilk_program.specs.SerialRun.{Memory, Frame, answer_to, event_of, invocation, stored, with_store}
+use Rattle.cilk_program.specs.declared.syntax.Invocation.{Invocation}
 use Rattle.cilk_frames.specs.declared.cursor.Answer.{Answer}
 use Rattle.cilk_frames.specs.Following.{Fits, owed_for, word_in}
+use Rattle.cilk_serial.specs.declared.state.State.{State}
 
--- the global cells and the output of a store
-pub record Shows (cells output : List ℤ) (m : Store) : Type 0 where
-  pub cell : (n : ℕ) → n < length cells → slice_index_or cells n (pos 0) ≡ m.cells (Global n)
-  pub printed : output ≡ m.output
+-- Cells that no frame has yet are 0, and an absent view counts as the unit.
+pub record Shows (s : State) (m : Memory) : Type 0 where
+  pub cell : (n : ℕ) → m.store.cells n ≡ slice_index_or s.cells.items n (pos 0)
+  pub view : (k : MonoidKind) (i : Instance) → m.store.views k i ≡ value_in s.views k i
+  pub printed : m.store.output ≡ s.output.items
+  pub frames : m.frames ≡ s.frames
+  pub cells : m.cells ≡ length s.cells.items
+  pub room : m.room ≡ MAX_EVENTS - length s.events.items
 
--- an ask over the store: one event more, and the store then
-pub record Answered (events : List numbers.Event) (cells' output' : List ℤ) (events' : List numbers.Event) (k : Ask) (a : Answer) (m : Store) : Type 0 where
-  pub event : Event
-  pub store : Store
-  pub makes : Makes m k event (word_in a) store
-  pub shows : Shows cells' output' store
-  pub traced : events' ≡ events ++ by_number event ∷ []
+-- the code made one event, whatever memory it stood for
+pub record EventMade (s s' : State) (event : Event) (m' : Memory) : Type 0 where
+  pub shows : Shows s' m'
+  pub events : s'.events.items ≡ s.events.items ++ event ∷ []
 
--- what the frame is told is what each store that the code's stands for gives
-pub record Answers (cells output : List ℤ) (events : List numbers.Event) (cells' output' : List ℤ) (events' : List numbers.Event) (k : Ask) (a : Answer) : Type 0 where
+-- an event that tells a word, and the store after it
+abbrev pub Makes : State → State → (Memory → ℤ) → ℤ → (Memory → Event) → (Memory → Store Instance) → Type 0
+Makes s s' word told event store = (m : Memory) → Shows s m → (told ≡ word m) × EventMade s s' (event m) (with_store m (store m))
+
+-- what a frame is told, the event of its ask, and the memory then
+pub record Answers (p : Source) (fr : Frame) (s s' : State) (k : Ask) (a : Answer) : Type 0 where
   pub fits : Fits (owed_for k) a
-  pub sized : length cells' ≡ length cells
-  pub answered : (m : Store) → Shows cells output m → Answered events cells' output' events' k a m
+  pub makes : Makes s s' (λ m. answer_to fr m k) (word_in a) (λ m. event_of fr m k) (λ m. stored p fr m k)
+
+-- a reducer is retired, and no event is made
+abbrev pub Retires : State → State → Instance → MonoidKind → Type 0
+Retires s s' i k = (m : Memory) → Shows s m → Shows s' (record { store = clear same_instance k i m.store; frames = m.frames; cells = m.cells; room = m.room })
+
+-- there are so many cells more, and nothing else is changed
+pub record Extends (s s' : State) (count : ℕ) : Type 0 where
+  pub cells : (n : ℕ) → slice_index_or s'.cells.items n (pos 0) ≡ slice_index_or s.cells.items n (pos 0)
+  pub more : length s'.cells.items ≡ length s.cells.items + count
+  pub views : s'.views ≡ s.views
+  pub output : s'.output ≡ s.output
+  pub events : s'.events ≡ s.events
+  pub frames : s'.frames ≡ s.frames
+
+-- an invocation, after which the child's cells are there
+abbrev pub Begins : State → State → Invocation → ℕ → Type 0
+Begins s s' how count = (m : Memory) → Shows s m → EventMade s s' (invocation how (suc m.frames)) (record { store = m.store; frames = suc m.frames; cells = m.cells + count; room = m.room - 1 })
+
+-- the views of a store, where an absent one counts as the unit
+abbrev pub ShowsViews : Hypermap → Store Instance → Type 0
+ShowsViews h m = (k : MonoidKind) (i : Instance) → m.views k i ≡ value_in h k i
+
+-- the values of all other reducers are as they were
+abbrev pub KeepsOthers : Hypermap → Hypermap → Instance → Type 0
+KeepsOthers old new i = (k : MonoidKind) (j : Instance) → same_instance i j ≡ false → value_in new k j ≡ value_in old k j

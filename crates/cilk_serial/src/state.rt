@@ -1,39 +1,33 @@
-// The store and the events of a run that goes on.
+// The store, the counters and the events of a run that goes on.
 
-ghost use Rattle.std.specs.Prelude.{◌≡◌, ◌↔◌, ◌+◌, ◌<◌, ◌≤◌, IsTrue, false, IfOk, length, slice_index_or};
-ghost use Rattle.cilk_names.specs.Laws.{PlaceExists};
-ghost use Rattle.cilk_names.specs.declared.ask.Ask.TheVariants as asks;
-ghost use Rattle.cilk_names.specs.declared.syntax.Place.TheVariants as places;
-ghost use Rattle.cilk_frames.specs.Following.{HasAnswer};
-ghost use Rattle.cilk_serial.specs.States.{Answers};
+ghost use Rattle.std.specs.Prelude.{◌≡◌, ◌+◌, ◌<◌, ◌≤◌, ◌^◌, ◌-◌, ℤ, pos, [], ◌∷◌, ◌++◌, length, slice_index_or, IfOk, OnOk};
+ghost use Rattle.cilk_types.specs.declared.event.Event.TheVariants as events;
+ghost use Rattle.cilk_types.specs.declared.limits.TheConstants.{MAX_EVENTS, MAX_FRAMES};
+ghost use Rattle.cilk_monoid.specs.Ranges.{same_instance};
+ghost use Rattle.cilk_program.specs.Store.{clear, number_at, print, put, set, update};
+ghost use Rattle.cilk_program.specs.SerialRun.{Memory};
+ghost use Rattle.cilk_frames.specs.Following.{word_in};
+ghost use Rattle.cilk_frames.specs.declared.cursor.Answer.TheVariants as answers;
+ghost use Rattle.cilk_serial.specs.States.{Begins, Extends, Makes, Retires};
 
 use cilk_frames::cursor::Answer;
-use cilk_names::ask::Ask;
-use cilk_names::syntax::Place;
-use cilk_types::event::{Cell, Event, FrameNo, Pos};
-use cilk_types::limits::MAX_EVENTS;
-use std::alloc::AllocError;
+use cilk_hypermap::hypermap::Hypermap;
+use cilk_monoid::kind::MonoidKind;
+use cilk_program::syntax::Invocation;
+use cilk_types::event::{Cell, Event, FrameNo, Instance, Pos};
+use std::alloc::{AllocError, Global};
 
-/// The frame that a run begins with.
-const ROOT: FrameNo = 1;
-
-/// The global cells, the printed numbers and the events so far.
+/// The cells of all frames, the reducers' views, the printed numbers and the events so far, and how many frames have begun.
 #[derive(Drop)]
 pub struct State {
     pub cells: Vec<i64>,
+    pub views: Hypermap,
     pub output: Vec<i64>,
     pub events: Vec<Event>,
+    pub frames: FrameNo,
 }
 
 impl State {
-    /// Whether there is no room for one more event.
-    pub fn is_full(&self) -> bool
-        ensures full { IsTrue result ↔ (MAX_EVENTS ≤ length self.now.events.items) }
-        ensures below { result ≡ false → length self.now.events.items < MAX_EVENTS }
-    {
-        self.events.len() >= MAX_EVENTS as usize
-    }
-
     /// The position of the next event.
     pub fn next_position(&self) -> Pos
         requires { length self.now.events.items ≤ MAX_EVENTS }
@@ -42,32 +36,20 @@ impl State {
         self.events.len() as Pos + 1
     }
 
-    /// Makes the event of an ask, and says what its frame is told.
-    pub fn answer(&mut self, ask: &Ask) -> Result<Answer, AllocError>
-        requires goes_on { HasAnswer ask.now }
-        requires exists { PlaceExists (length self.old.cells.items) ask.now }
-        ensures { IfOk result (λ a. Answers self.old.cells.items self.old.output.items self.old.events.items self.new.cells.items self.new.output.items self.new.events.items ask.now a) }
+    /// Makes an event that changes nothing, and tells nothing.
+    pub fn make(&mut self, event: Event) -> Result<Answer, AllocError>
+        ensures done { IfOk result (λ a. a ≡ answers.Done) }
+        ensures makes { OnOk result (Makes self.old self.new (λ m. pos 0) (pos 0) (λ m. event) (λ m. m.store)) }
     {
-        match ask {
-            Ask::Begin => {
-                self.events.push(Event::Begin { frame: ROOT })?;
-                Ok(Answer::Done)
-            }
-            Ask::Read(Place::Global(cell)) => self.read(*cell),
-            Ask::Write(Place::Global(cell), value) => self.write(*cell, *value),
-            Ask::Print(value) => self.print(*value),
-            Ask::Sync => {
-                self.events.push(Event::Sync)?;
-                Ok(Answer::Done)
-            }
-            Ask::End(_) => unreachable!(),
-            Ask::Fault(_) => unreachable!(),
-        }
+        self.events.push(event)?;
+        Ok(Answer::Done)
     }
 
-    fn read(&mut self, cell: Cell) -> Result<Answer, AllocError>
+    /// Reads a cell.
+    pub fn read(&mut self, cell: Cell) -> Result<Answer, AllocError>
         requires { cell < length self.old.cells.items }
-        ensures { IfOk result (λ a. Answers self.old.cells.items self.old.output.items self.old.events.items self.new.cells.items self.new.output.items self.new.events.items (asks.Read (places.Global cell)) a) }
+        ensures value { IfOk result (λ a. a ≡ answers.Value (word_in a)) }
+        ensures makes { IfOk result (λ a. Makes self.old self.new (λ m. m.store.cells cell) (word_in a) (λ m. events.Read cell (m.store.cells cell)) (λ m. m.store)) }
     {
         let cells = self.cells.as_slice();
         let value = value_at(cells, cell);
@@ -75,21 +57,119 @@ impl State {
         Ok(Answer::Value(value))
     }
 
-    fn write(&mut self, cell: Cell, value: i64) -> Result<Answer, AllocError>
+    /// Writes a cell.
+    pub fn write(&mut self, cell: Cell, value: i64) -> Result<Answer, AllocError>
         requires { cell < length self.old.cells.items }
-        ensures { IfOk result (λ a. Answers self.old.cells.items self.old.output.items self.old.events.items self.new.cells.items self.new.output.items self.new.events.items (asks.Write (places.Global cell) value) a) }
+        ensures done { IfOk result (λ a. a ≡ answers.Done) }
+        ensures makes { OnOk result (Makes self.old self.new (λ m. pos 0) (pos 0) (λ m. events.Write cell value) (λ m. put cell value m.store)) }
     {
         self.events.push(Event::Write { cell, value })?;
         self.cells[cell as usize] = value;
         Ok(Answer::Done)
     }
 
-    fn print(&mut self, value: i64) -> Result<Answer, AllocError>
-        ensures { IfOk result (λ a. Answers self.old.cells.items self.old.output.items self.old.events.items self.new.cells.items self.new.output.items self.new.events.items (asks.Print value) a) }
+    /// A reducer begins with its monoid's unit.
+    pub fn create(
+        &mut self,
+        alloc: Global,
+        instance: Instance,
+        kind: MonoidKind,
+    ) -> Result<Answer, AllocError>
+        ensures done { IfOk result (λ a. a ≡ answers.Done) }
+        ensures makes { OnOk result (Makes self.old self.new (λ m. pos 0) (pos 0) (λ m. events.Create instance) (λ m. clear same_instance kind instance m.store)) }
+    {
+        self.events.push(Event::Create { instance })?;
+        self.views.create(alloc, instance, kind)?;
+        Ok(Answer::Done)
+    }
+
+    /// A reducer's view is multiplied by a number from the right.
+    pub fn update(
+        &mut self,
+        alloc: Global,
+        instance: Instance,
+        kind: MonoidKind,
+        value: i64,
+    ) -> Result<Answer, AllocError>
+        ensures done { IfOk result (λ a. a ≡ answers.Done) }
+        ensures makes { OnOk result (Makes self.old self.new (λ m. pos 0) (pos 0) (λ m. events.Update instance value) (λ m. update same_instance kind instance value m.store)) }
+    {
+        self.events.push(Event::Update { instance, value })?;
+        self.views.update(alloc, instance, kind, value)?;
+        Ok(Answer::Done)
+    }
+
+    /// A reducer's view becomes that of a number alone.
+    pub fn set(
+        &mut self,
+        alloc: Global,
+        instance: Instance,
+        kind: MonoidKind,
+        value: i64,
+    ) -> Result<Answer, AllocError>
+        ensures done { IfOk result (λ a. a ≡ answers.Done) }
+        ensures makes { OnOk result (Makes self.old self.new (λ m. pos 0) (pos 0) (λ m. events.Set instance value) (λ m. set same_instance kind instance value m.store)) }
+    {
+        self.events.push(Event::Set { instance, value })?;
+        self.views.set(alloc, instance, kind, value)?;
+        Ok(Answer::Done)
+    }
+
+    /// The number of a reducer's view.
+    pub fn value(
+        &mut self,
+        alloc: Global,
+        instance: Instance,
+        kind: MonoidKind,
+    ) -> Result<Answer, AllocError>
+        ensures value { IfOk result (λ a. a ≡ answers.Value (word_in a)) }
+        ensures makes { IfOk result (λ a. Makes self.old self.new (λ m. number_at kind instance m.store) (word_in a) (λ m. events.Value instance (number_at kind instance m.store)) (λ m. m.store)) }
+    {
+        let value = self.views.value(alloc, instance, kind)?;
+        self.events.push(Event::Value { instance, value })?;
+        Ok(Answer::Value(value))
+    }
+
+    /// Prints a number.
+    pub fn print(&mut self, value: i64) -> Result<Answer, AllocError>
+        ensures done { IfOk result (λ a. a ≡ answers.Done) }
+        ensures makes { OnOk result (Makes self.old self.new (λ m. pos 0) (pos 0) (λ m. events.Print value) (λ m. print value m.store)) }
     {
         self.output.push(value)?;
         self.events.push(Event::Print { value })?;
         Ok(Answer::Done)
+    }
+
+    /// A reducer is retired.
+    pub fn retire(&mut self, instance: Instance, kind: MonoidKind)
+        ensures shows { Retires self.old self.new instance kind }
+        ensures events { self.new.events.items ≡ self.old.events.items }
+    {
+        let _last = self.views.take(instance, kind);
+    }
+
+    /// Makes the event of an invocation; the child has so many cells.
+    pub fn begin(&mut self, how: Invocation, cells: u32) -> Result<(), AllocError>
+        requires { self.old.frames < MAX_FRAMES }
+        ensures { OnOk result (Begins self.old self.new how cells) }
+    {
+        self.frames += 1;
+        let child = self.frames;
+        self.events.push(match how {
+            Invocation::Call => Event::Call { child },
+            Invocation::Spawn => Event::Spawn { child },
+        })?;
+        self.extend(cells)
+    }
+
+    /// A frame's cells begin, as 0.
+    pub fn extend(&mut self, count: u32) -> Result<(), AllocError>
+        ensures { OnOk result (Extends self.old self.new count) }
+    {
+        'each: for added in 0..count {
+            self.cells.push(0)?;
+        }
+        Ok(())
     }
 }
 

@@ -3,14 +3,12 @@ use Rattle.std.proofs.Common.{inr}
 use Rattle.std.specs.Prelude.{Result, Ok, Err, IfOk, IfErr}
 use Rattle.cilk_parser.specs.Texts.{IsText}
 use Rattle.cilk_parser.specs.declared.tree.Tree.{Tree}
-use Rattle.cilk_names.specs.Programs.{source}
-use Rattle.cilk_names.specs.Resolution.{Resolves}
-use Rattle.cilk_names.specs.declared.program.Program.{Program}
-use Rattle.cilk_tool.specs.Judging.{IsProgramText, NamesFail, ProgramFails}
+use Rattle.cilk_program.specs.declared.program.Program.{Program}
+use Rattle.cilk_tool.specs.Judging.{IsProgramText, NamesFail, ProgramFails, ResolvesTo, meant}
 use Rattle.cilk_tool.specs.Replies.{Text, failure_view}
 use Rattle.cilk_tool.specs.declared.reply.Failure.{Failure}
 
-pub resolved_right : (x : Result Program Failure) (text : Text) (t : Tree) → IsText text t → IfOk x (λ p. Resolves t (source p)) → IfOk x (λ p. IsProgramText text (source p))
+pub resolved_right : (x : Result Program Failure) (text : Text) (t : Tree) → IsText text t → IfOk x (λ p. ResolvesTo t (meant p)) → IfOk x (λ p. IsProgramText text (meant p))
 resolved_right (Ok p) text t spelled h = (t, spelled, h)
 resolved_right (Err e) text t spelled h = tt
 

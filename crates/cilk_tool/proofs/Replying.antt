@@ -4,9 +4,8 @@ use Rattle.std.specs.Prelude.{IsTrue, IsFalse, Result, Ok, Err, IfOk, IfErr, IsE
 use Rattle.std.specs.Io.KnownBytes.{Appends}
 use Rattle.std.proofs.lemmas.List.{append-nil, take_all}
 use Rattle.cilk_tool.specs.Replies.{NoMemory, Reply, Text, answer_view, failure_view, out_text, status_of}
-use Rattle.cilk_names.specs.Syntax.{Source}
 use Rattle.cilk_parser.specs.Inputs.{IsInput}
-use Rattle.cilk_tool.specs.Judging.{InputFails, IsProgramText, ProgramFails, RunShows}
+use Rattle.cilk_tool.specs.Judging.{InputFails, IsProgramText, Meant, ProgramFails, RunShows}
 use Rattle.cilk_tool.specs.Files.{IsHeld}
 use Rattle.cilk_tool.specs.Serving.{Answers, GivesInput, GivesProgram, InputFileFails, InputRefused, InputUnread, IsOrNoMemory, ProgramRefused, ProgramUnread, Ran, RunReply, Serves, Shows, ShowsError, World}
 use Rattle.cilk_tool.specs.Streams.{AppendsFront, AppendsPart}
@@ -72,18 +71,18 @@ pub program_refused : (w : World) (p : Origin) (i : Option Text) (r : Reply) (te
     → ProgramFails slice r → RunReply w p i r
 program_refused w p i r text slice given e h = ProgramRefused text given (subst (λ (t : Text). ProgramFails t r) e h)
 
-pub input_unread : (w : World) (p : Origin) (i : Option Text) (r : Reply) (text slice : Text) (q : Source) (failed : ℕ) → GivesProgram w.files w.input p text → slice ≡ text
+pub input_unread : (w : World) (p : Origin) (i : Option Text) (r : Reply) (text slice : Text) (q : Meant) (failed : ℕ) → GivesProgram w.files w.input p text → slice ≡ text
     → IsProgramText slice q → failed ≡ w.failed → InputFileFails failed w.failed' i r → RunReply w p i r
 input_unread w p i r text slice q failed given e h same unread =
     InputUnread text q given (subst (λ (t : Text). IsProgramText t q) e h) (subst (λ (n : ℕ). InputFileFails n w.failed' i r) same unread)
 
-pub input_refused : (w : World) (p : Origin) (i : Option Text) (r : Reply) (text slice : Text) (q : Source) (files : Text → Option Text) (numbers slice' : Text)
+pub input_refused : (w : World) (p : Origin) (i : Option Text) (r : Reply) (text slice : Text) (q : Meant) (files : Text → Option Text) (numbers slice' : Text)
     → GivesProgram w.files w.input p text → slice ≡ text → IsProgramText slice q → ((path : Text) → files path ≡ w.files path) → GivesInput files i numbers → slice' ≡ numbers
     → InputFails slice' r → RunReply w p i r
 input_refused w p i r text slice q files numbers slice' given e h same input e' fault =
     InputRefused text q numbers given (subst (λ (t : Text). IsProgramText t q) e h) (same_input files w.files i numbers same input) (subst (λ (t : Text). InputFails t r) e' fault)
 
-pub ran : (w : World) (p : Origin) (i : Option Text) (r : Reply) (text slice : Text) (q : Source) (files : Text → Option Text) (numbers slice' : Text) (inputs : List ℤ)
+pub ran : (w : World) (p : Origin) (i : Option Text) (r : Reply) (text slice : Text) (q : Meant) (files : Text → Option Text) (numbers slice' : Text) (inputs : List ℤ)
     → GivesProgram w.files w.input p text → slice ≡ text → IsProgramText slice q → ((path : Text) → files path ≡ w.files path) → GivesInput files i numbers → slice' ≡ numbers
     → IsInput slice' inputs → RunShows q inputs r → RunReply w p i r
 ran w p i r text slice q files numbers slice' inputs given e h same input e' spelled shown =
@@ -91,13 +90,13 @@ ran w p i r text slice q files numbers slice' inputs given e h same input e' spe
     (subst (λ (t : Text). IsInput t inputs) e' spelled) shown
 
 -- a run's answer
-pub ran_ok : {T : Type 0} (x : Result Answer T) (w : World) (p : Origin) (i : Option Text) (q : Source) (inputs : List ℤ)
+pub ran_ok : {T : Type 0} (x : Result Answer T) (w : World) (p : Origin) (i : Option Text) (q : Meant) (inputs : List ℤ)
     → ((r : Reply) → RunShows q inputs r → RunReply w p i r) → IfOk x (λ a. RunShows q inputs (answer_view a)) → IfOk x (λ a. RunReply w p i (answer_view a))
 ran_ok (Ok a) w p i q inputs all h = all (answer_view a) h
 ran_ok (Err e) w p i q inputs all h = tt
 
 -- a run's failure
-pub ran_err : {T : Type 0} (x : Result T Failure) (w : World) (p : Origin) (i : Option Text) (q : Source) (inputs : List ℤ)
+pub ran_err : {T : Type 0} (x : Result T Failure) (w : World) (p : Origin) (i : Option Text) (q : Meant) (inputs : List ℤ)
     → ((r : Reply) → RunShows q inputs r → RunReply w p i r) → IfErr x (λ e. RunShows q inputs (failure_view e)) → IfErr x (λ e. RunReply w p i (failure_view e))
 ran_err (Ok a) w p i q inputs all h = tt
 ran_err (Err e) w p i q inputs all h = all (failure_view e) h

@@ -1,5 +1,5 @@
 -- What a program text and an input text come to.
-use Rattle.std.specs.Prelude.{◌≡◌, ◌⊎◌, ℕ, ℤ, List, []}
+use Rattle.std.specs.Prelude.{◌≡◌, ◌⊎◌, ℕ, ℤ, List, map}
 use Rattle.cilk_types.specs.Fault as faults
 use Rattle.cilk_types.specs.declared.event.Event.{Event}
 use Rattle.cilk_types.specs.declared.fault.Fault.{Fault}
@@ -10,16 +10,30 @@ use Rattle.cilk_parser.specs.declared.fault.TextFault.TheVariants as text_faults
 use Rattle.cilk_parser.specs.declared.fault.TextNumber.{TextNumber}
 use Rattle.cilk_parser.specs.declared.tree.Tree.{Tree}
 use Rattle.cilk_names.specs.Misnamings.{IsNameFault, number_of}
-use Rattle.cilk_names.specs.Resolution.{Resolves}
-use Rattle.cilk_names.specs.Syntax.{Source}
+use Rattle.cilk_names.specs.Resolution.{Resolves, shared_of}
 use Rattle.cilk_names.specs.declared.fault.NameFault.TheVariants as name_faults
 use Rattle.cilk_names.specs.declared.fault.NameNumber.{NameNumber}
+use Rattle.cilk_program.specs.Syntax.{Source}
+use Rattle.cilk_program.specs.Sources.{source}
+use Rattle.cilk_program.specs.declared.program.Program.{Program}
 use Rattle.cilk_serial.specs.Ran.{Ran, Stops}
 use Rattle.cilk_tool.specs.Replies.{BadInput, BadProgram, Ended, Faulted, NoMemory, Reply, Text}
 
--- the text spells a tree, which resolves to a program that means this
-abbrev pub IsProgramText : Text → Source → Type 0
-IsProgramText text p = (t : Tree) × IsText text t × Resolves t p
+-- what a program means, and the names of its global reducers in order of declaration
+pub record Meant : Type 0 where
+  pub source : Source
+  pub names : List Text
+
+abbrev pub meant : Program → Meant
+meant p = record { source = source p; names = map (λ r. r.name) p.reducers.items }
+
+-- a tree resolves to this
+abbrev pub ResolvesTo : Tree → Meant → Type 0
+ResolvesTo t m = Resolves t m.source × (m.names ≡ map (λ r. r.name) (shared_of t))
+
+-- the text spells a tree, which resolves to this
+abbrev pub IsProgramText : Text → Meant → Type 0
+IsProgramText text m = (t : Tree) × IsText text t × ResolvesTo t m
 
 -- what is shown of a text that spells no tree: its first fault
 abbrev pub SpellingFails : Text → Reply → Type 0
@@ -44,8 +58,8 @@ InputFails text NoMemory = Unit {0}
 InputFails text _ = ⊥
 
 -- what is shown of a program's run: its outcome, or the fault that stops it, by number and position
-abbrev pub RunShows : Source → List ℤ → Reply → Type 0
-RunShows p inputs (Ended names o) = (names ≡ []) × ((events : List Event) × Ran p inputs o events)
-RunShows p inputs (Faulted number at) = (fault : Fault) × (number ≡ faults.number_of fault) × Stops p inputs fault at
-RunShows p inputs NoMemory = Unit {0}
-RunShows p inputs _ = ⊥
+abbrev pub RunShows : Meant → List ℤ → Reply → Type 0
+RunShows m inputs (Ended names o) = (names ≡ m.names) × ((events : List Event) × Ran m.source inputs o events)
+RunShows m inputs (Faulted number at) = (fault : Fault) × (number ≡ faults.number_of fault) × Stops m.source inputs fault at
+RunShows m inputs NoMemory = Unit {0}
+RunShows m inputs _ = ⊥

@@ -1,11 +1,10 @@
 -- What `serve` shows.
 use Rattle.std.specs.Prelude.{◌≡◌, ◌⊎◌, ◌<◌, ℕ, ℤ, List, [], Option, Some, None, IfSome, codes, take}
 use Rattle.std.specs.Io.KnownBytes.{Appends}
-use Rattle.cilk_names.specs.Syntax.{Source}
 use Rattle.cilk_tool.specs.declared.streams.TheConstants.{MAX_READ}
 use Rattle.cilk_tool.specs.Files.{IsHeld}
 use Rattle.cilk_parser.specs.Inputs.{IsInput}
-use Rattle.cilk_tool.specs.Judging.{InputFails, IsProgramText, ProgramFails, RunShows}
+use Rattle.cilk_tool.specs.Judging.{InputFails, IsProgramText, Meant, ProgramFails, RunShows}
 use Rattle.cilk_tool.specs.Replies.{BadWords, IsErrorText, NoMemory, Reply, Text, Unreadable, line, out_text, status_of}
 use Rattle.cilk_tool.specs.Streams.{AppendsFront, AppendsPart}
 use Rattle.cilk_tool.specs.Words.{Asked, File, Run, Origin, Standard, order_in}
@@ -61,11 +60,11 @@ world files input failed failed' = record { files = files; input = input; failed
 pub data RunReply (w : World) (program : Origin) (input : Option Text) (r : Reply) : Type 0 where
   ProgramUnread : OriginFails w.failed w.failed' program r → RunReply w program input r
   ProgramRefused : (text : Text) → GivesProgram w.files w.input program text → ProgramFails text r → RunReply w program input r
-  InputUnread : (text : Text) (p : Source) → GivesProgram w.files w.input program text → IsProgramText text p
+  InputUnread : (text : Text) (p : Meant) → GivesProgram w.files w.input program text → IsProgramText text p
       → InputFileFails w.failed w.failed' input r → RunReply w program input r
-  InputRefused : (text : Text) (p : Source) (numbers : Text) → GivesProgram w.files w.input program text → IsProgramText text p
+  InputRefused : (text : Text) (p : Meant) (numbers : Text) → GivesProgram w.files w.input program text → IsProgramText text p
       → GivesInput w.files input numbers → InputFails numbers r → RunReply w program input r
-  Ran : (text : Text) (p : Source) (numbers : Text) (inputs : List ℤ) → GivesProgram w.files w.input program text → IsProgramText text p
+  Ran : (text : Text) (p : Meant) (numbers : Text) (inputs : List ℤ) → GivesProgram w.files w.input program text → IsProgramText text p
       → GivesInput w.files input numbers → IsInput numbers inputs → RunShows p inputs r → RunReply w program input r
 
 -- words that ask for nothing

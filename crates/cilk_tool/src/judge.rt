@@ -1,26 +1,24 @@
 //! Texts are judged: the program text first, then the input text, then the program runs.
 
-ghost use Rattle.std.specs.Prelude.{◌≡◌, IfOk, IfErr};
-ghost use Rattle.cilk_names.specs.Programs.{source};
-ghost use Rattle.cilk_tool.specs.Judging.{InputFails, IsProgramText, NamesFail, ProgramFails, RunShows, SpellingFails};
-ghost use Rattle.cilk_names.specs.Resolution.{Resolves};
+ghost use Rattle.std.specs.Prelude.{◌≡◌, IfOk, IfErr, map};
+ghost use Rattle.cilk_tool.specs.Judging.{InputFails, IsProgramText, NamesFail, ProgramFails, ResolvesTo, RunShows, SpellingFails, meant};
 ghost use Rattle.cilk_parser.specs.Inputs.{IsInput};
 ghost use Rattle.cilk_parser.specs.Texts.{IsText};
 ghost use Rattle.cilk_tool.specs.Replies.{answer_view, failure_view};
 
 use crate::reply::{Answer, Failure};
 use cilk_names::fault::NameFault;
-use cilk_names::program::Program;
 use cilk_names::resolve::resolve;
 use cilk_parser::fault::TextFault;
 use cilk_parser::input::parse_input;
 use cilk_parser::parse::parse;
 use cilk_parser::tree::Tree;
+use cilk_program::program::{GlobalReducer, Program};
 use cilk_serial::fault::RunFault;
 use cilk_serial::run::run as run_serially;
 use cilk_types::input::Input;
 use cilk_types::sequence::Sequence;
-use std::alloc::Global;
+use std::alloc::{AllocError, Global};
 
 /// The tree of a program text.
 fn tree<'a>(alloc: Global, text: &[u8]) -> Result<Tree, Failure<'a>>
@@ -39,7 +37,7 @@ fn tree<'a>(alloc: Global, text: &[u8]) -> Result<Tree, Failure<'a>>
 
 /// The program of a tree.
 fn resolved<'a>(alloc: Global, tree: &Tree) -> Result<Program, Failure<'a>>
-    ensures ok { IfOk result (λ p. Resolves tree.now (source p)) }
+    ensures ok { IfOk result (λ p. ResolvesTo tree.now (meant p)) }
     ensures err { IfErr result (λ e. NamesFail tree.now (failure_view e)) }
 {
     match resolve(alloc, tree) {
@@ -54,7 +52,7 @@ fn resolved<'a>(alloc: Global, tree: &Tree) -> Result<Program, Failure<'a>>
 
 /// The program of a text.
 pub fn program<'a>(alloc: Global, text: &[u8]) -> Result<Program, Failure<'a>>
-    ensures ok { IfOk result (λ p. IsProgramText text.now (source p)) }
+    ensures ok { IfOk result (λ p. IsProgramText text.now (meant p)) }
     ensures err { IfErr result (λ e. ProgramFails text.now (failure_view e)) }
 {
     let tree = tree(alloc, text)?;
@@ -76,14 +74,26 @@ pub fn input<'a>(alloc: Global, text: &[u8]) -> Result<Input, Failure<'a>>
     }
 }
 
+/// The names of reducers, in order.
+fn names(alloc: Global, reducers: &[GlobalReducer]) -> Result<Sequence<Sequence<u8>>, AllocError>
+    ensures { IfOk result (λ names. names ≡ map (λ r. r.name) reducers.now) }
+{
+    let mut names = Vec::new(alloc);
+    for reducer in reducers {
+        let name = reducer.name.as_slice().to_vec(alloc)?;
+        names.push(Sequence::new(name))?;
+    }
+    Ok(Sequence::new(names))
+}
+
 /// What the run of a program on an input leaves.
 pub fn run<'a>(alloc: Global, program: &Program, input: &Input) -> Result<Answer, Failure<'a>>
-    ensures ok { IfOk result (λ a. RunShows (source program.now) input.now (answer_view a)) }
-    ensures err { IfErr result (λ e. RunShows (source program.now) input.now (failure_view e)) }
+    ensures ok { IfOk result (λ a. RunShows (meant program.now) input.now (answer_view a)) }
+    ensures err { IfErr result (λ e. RunShows (meant program.now) input.now (failure_view e)) }
 {
     match run_serially(alloc, program, input) {
         Ok((outcome, _trace)) => Ok(Answer::Outcome {
-            names: Sequence::new(Vec::new(alloc)),
+            names: names(alloc, program.reducers.as_slice())?,
             outcome,
         }),
         Err(RunFault::Memory) => Err(Failure::Memory),

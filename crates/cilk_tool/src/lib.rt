@@ -19,3 +19,5 @@ pub use serving::serve;
 
 #[cfg(test)]
 mod tests;
+#[cfg(test)]
+mod worked;

@@ -1,28 +1,56 @@
-//! A frame by itself, whose answers are given.
+//! Frames by themselves, whose answers are given.
 
-ghost use Rattle.std.specs.Prelude.{◌≡◌, map, ℤ, List, IsTrue, IfOk, IfSome};
-ghost use Rattle.cilk_names.specs.Syntax.{Statements};
-ghost use Rattle.cilk_names.specs.Behaviour.{asks_for, frame_asks};
+ghost use Rattle.std.specs.Prelude.{◌≡◌, map, ℤ, List, [], ◌∷◌, Option, IsTrue, IfOk, IfSome};
+ghost use Rattle.cilk_program.specs.Syntax.{Source};
+ghost use Rattle.cilk_program.specs.Inside.{CalleeIsFit};
+ghost use Rattle.cilk_program.specs.Behaviour.{asks_for, frame_asks};
+ghost use Rattle.cilk_program.specs.declared.ask.Ask.TheVariants.{Begin};
+ghost use Rattle.cilk_program.specs.declared.ask.Callee.{Callee};
+ghost use Rattle.cilk_program.specs.declared.syntax.Place.{Place};
 ghost use Rattle.cilk_lower.specs.Behaves.{Behaves};
-ghost use Rattle.cilk_frames.specs.Following.{Fits, HasAnswer, owed_for, word_in};
+ghost use Rattle.cilk_frames.specs.Following.{Fits, HasAnswer, Stands, owed_for, word_in};
 
 use super::*;
+use cilk_lower::code::{Entry, Site};
+use cilk_program::given::{References, Words};
 use std::alloc::{AllocError, Global};
 use std::test::*;
 
-// `print(x)`, where x is the first global cell.
-#[tactic(auto, using(crate::proofs::Printing::printing_lands))]
-fn printing(alloc: Global) -> Result<Code, AllocError>
-    ensures { IfOk result (λ code. (row : Statements) × Behaves row code) }
+// `int f(int a) { return a; } int main() { x = f(5); }`, where x is the first global cell.
+#[tactic(auto, using(crate::proofs::Calling::calling_lands, crate::proofs::Calling::calling_arrays, crate::proofs::Calling::calling_sites))]
+fn calling(alloc: Global) -> Result<Code, AllocError>
+    ensures { IfOk result (λ code. (p : Source) × Behaves p code × ((word : ℤ) (x : Option Place) → CalleeIsFit p (Callee.Function (record { function = 1; words = word ∷ []; reducers = []; result = x })))) }
 {
     let instrs = vec![in alloc;
         Instr::Tick,
-        Instr::Load(Place::Global(0)),
-        Instr::Print,
+        Instr::Push(5),
+        Instr::Invoke(0),
+        Instr::Resume,
         Instr::Sync,
-        Instr::Finish,
+        Instr::GiveResult,
+        Instr::End,
+        Instr::Word(0),
+        Instr::Tick,
+        Instr::Load(Place::Local(0, 0)),
+        Instr::Hold,
+        Instr::Sync,
+        Instr::GiveResult,
+        Instr::End,
     ]?;
-    Ok(Code::new(instrs, 1))
+    let reducers = References::new();
+    let call = Site {
+        how: Invocation::Call,
+        function: 1,
+        words: 1,
+        reducers,
+        result: Some(Place::Global(0)),
+    };
+    let sites = vec![in alloc; call]?;
+    let main = Entry { place: 0, room: 1 };
+    let f = Entry { place: 7, room: 1 };
+    let functions = vec![in alloc; main, f]?;
+    let loops = Vec::new(alloc);
+    Ok(Code::new(instrs, sites, main, functions, loops))
 }
 
 // Whether this may be an answer to the ask.
@@ -32,6 +60,7 @@ fn takes(ask: &Ask, answer: Answer) -> bool
 {
     match ask {
         Ask::Read(_) => matches!(answer, Answer::Value(_)),
+        Ask::Value(_) => matches!(answer, Answer::Value(_)),
         Ask::End(_) => false,
         Ask::Fault(_) => false,
         _ => matches!(answer, Answer::Done),
@@ -39,40 +68,81 @@ fn takes(ask: &Ask, answer: Answer) -> bool
 }
 
 // What a frame asks for after these answers. None where an answer isn't to what was asked.
-fn ask_after(
-    alloc: Global,
+fn answered(
     code: &Code,
     input: &Input,
+    cursor: &mut Cursor,
     answers: &[Answer],
     left: &mut u32,
-) -> Result<Option<Ask>, AllocError>
-    requires { (row : Statements) × Behaves row code.now }
-    ensures { (row : Statements) → Behaves row code.now → IfOk result (λ r. IfSome r (λ k. frame_asks input.now row (map word_in answers.now) left.old ≡ asks_for k left.new)) }
+) -> Option<Ask>
+    requires stands { (p : Source) × (callee : Callee) × Stands code.now input.now p callee cursor.old [] 0 }
+    requires owes { cursor.old.owed ≡ owed_for Begin }
+    ensures { (p : Source) (callee : Callee) → Stands code.now input.now p callee cursor.old [] 0 → IfSome result (λ k. frame_asks p input.now callee (map word_in answers.now) left.old ≡ asks_for k left.new) }
 {
-    let mut cursor = Cursor::root(alloc, code)?;
     let mut ask = Ask::Begin;
     'each: for answer in answers {
         if !takes(&ask, *answer) {
-            return Ok(None);
+            return None;
         }
-        ask = step(code, input, &mut cursor, *answer, left);
+        ask = step(code, input, cursor, *answer, left);
     }
-    Ok(Some(ask))
+    Some(ask)
+}
+
+// What the root's frame asks for after these answers.
+fn root_asks(
+    alloc: Global,
+    code: &Code,
+    answers: &[Answer],
+    left: &mut u32,
+) -> Result<Option<Ask>, AllocError>
+    requires { (p : Source) × Behaves p code.now }
+{
+    let input = Input::new(Vec::new(alloc));
+    let mut cursor = Cursor::root(alloc, code)?;
+    Ok(answered(code, &input, &mut cursor, answers, left))
+}
+
+// What the frame of `f(5)` asks for after these answers.
+fn child_asks(
+    alloc: Global,
+    code: &Code,
+    answers: &[Answer],
+    left: &mut u32,
+) -> Result<Option<Ask>, AllocError>
+    requires { (p : Source) × Behaves p code.now × ((word : ℤ) (x : Option Place) → CalleeIsFit p (Callee.Function (record { function = 1; words = word ∷ []; reducers = []; result = x }))) }
+{
+    let mut words = Words::new();
+    words.put(5);
+    let reducers = References::new();
+    let call = FunctionCall {
+        function: 1,
+        words,
+        reducers,
+        result: Some(Place::Global(0)),
+    };
+    let ask = Ask::Invoke(Invocation::Call, Callee::Function(call));
+    let input = Input::new(Vec::new(alloc));
+    let mut cursor = Cursor::new(alloc, code, &ask)?;
+    Ok(answered(code, &input, &mut cursor, answers, left))
 }
 
 #[test]
-fn asks_in_order(rt: HostRuntime) -> Result<(), Fail> {
-    let code = printing(rt.alloc())?;
-    let input = Input::new(Vec::new(rt.alloc()));
-    let answers = [Answer::Done, Answer::Value(7), Answer::Done, Answer::Done];
+fn a_call_is_asked_for(rt: HostRuntime) -> Result<(), Fail> {
+    let code = calling(rt.alloc())?;
+    let answers = [Answer::Done; 4];
     for (count, ticks) in [(0, 0), (1, 2), (2, 2), (3, 2), (4, 2)] {
         let mut left = 100;
-        let ask = ask_after(rt.alloc(), &code, &input, &answers[..count], &mut left)?;
+        let ask = root_asks(rt.alloc(), &code, &answers[..count], &mut left)?;
         assert_eq!(rt; left, 100 - ticks);
         let met = match ask {
             Some(Ask::Begin) => count == 0,
-            Some(Ask::Read(place)) => count == 1 && place == Place::Global(0),
-            Some(Ask::Print(word)) => count == 2 && word == 7,
+            Some(Ask::Invoke(Invocation::Call, Callee::Function(call))) => {
+                let whole = call.words.as_slice() == [5].as_slice()
+                    && call.reducers.as_slice().is_empty();
+                count == 1 && call.function == 1 && whole && call.result == Some(Place::Global(0))
+            }
+            Some(Ask::Resume) => count == 2,
             Some(Ask::Sync) => count == 3,
             Some(Ask::End(word)) => count == 4 && word == 0,
             _ => false,
@@ -80,8 +150,37 @@ fn asks_in_order(rt: HostRuntime) -> Result<(), Fail> {
         assert!(rt; met, "after {count} answers");
     }
     let mut few = 1;
-    let ask = ask_after(rt.alloc(), &code, &input, &answers[..1], &mut few)?;
+    let ask = root_asks(rt.alloc(), &code, &answers[..1], &mut few)?;
     assert!(rt; matches!(ask, Some(Ask::Fault(Fault::TooManyEvents))));
     assert_eq!(rt; few, 0);
+    Ok(())
+}
+
+#[test]
+fn a_child_gives_its_result(rt: HostRuntime) -> Result<(), Fail> {
+    let code = calling(rt.alloc())?;
+    let cell = Place::Local(0, 0);
+    let answers = [
+        Answer::Done,
+        Answer::Done,
+        Answer::Value(5),
+        Answer::Done,
+        Answer::Done,
+    ];
+    for (count, ticks) in [(0, 0), (1, 0), (2, 2), (3, 2), (4, 2), (5, 2)] {
+        let mut left = 100;
+        let ask = child_asks(rt.alloc(), &code, &answers[..count], &mut left)?;
+        assert_eq!(rt; left, 100 - ticks);
+        let met = match ask {
+            Some(Ask::Begin) => count == 0,
+            Some(Ask::Write(place, word)) => count == 1 && place == cell && word == 5,
+            Some(Ask::Read(place)) => count == 2 && place == cell,
+            Some(Ask::Sync) => count == 3,
+            Some(Ask::Result(word)) => count == 4 && word == 5,
+            Some(Ask::End(word)) => count == 5 && word == 5,
+            _ => false,
+        };
+        assert!(rt; met, "after {count} answers");
+    }
     Ok(())
 }

@@ -3,7 +3,7 @@ use Rattle.cilk_frames.proofs.Following.{Loop}
 use Rattle.cilk_frames.proofs.stepping.step.Given as goal
 
 abbrev pub invariant-each : goal.invariant-each
-invariant-each l = Loop l.code.instrs l.input l.fn.cursor l.fn.answer l.fn.left l.cursor l.left
+invariant-each l = Loop l.code l.input l.fn.cursor l.fn.answer l.fn.left l.cursor l.left
 
 abbrev pub decreases-each : goal.decreases-each
 decreases-each l = effort l.code.instrs l.cursor.place l.left

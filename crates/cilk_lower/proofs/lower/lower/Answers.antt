@@ -1,28 +1,59 @@
-use Rattle.std.proofs.Common.{◌≡◌, ◌≤◌, List, [], ◌∷◌, ◌++◌, sym, ap, ◌∙◌, subst, arith, append_assoc}
-use Rattle.cilk_names.specs.Syntax.{Statements, statements}
+use Rattle.std.proofs.Common.{◌≡◌, ◌++◌, List, map, refl, ap, ◌∙◌, sym, []}
+use Rattle.std.specs.Prelude.{slice_get}
+use Rattle.cilk_program.specs.declared.program.GlobalReducer.{GlobalReducer}
+use Rattle.cilk_program.specs.declared.syntax.ReducerPlace.TheVariants as reducers
 use Rattle.cilk_lower.specs.declared.code.Instr.{Instr}
-use Rattle.cilk_lower.specs.declared.code.Instr.TheVariants.{Sync, Finish}
-use Rattle.cilk_lower.specs.Behaves.{Behaves}
-use Rattle.cilk_lower.specs.Code.{CodeView, all_code, body_code, JumpsLand}
-use Rattle.cilk_lower.specs.Rooms.{deepest_of_all}
-use Rattle.cilk_lower.proofs.Acts.{lowered}
-use Rattle.cilk_lower.proofs.Jumps.{body_lands}
+use Rattle.cilk_lower.specs.Code.{creates_code}
+use Rattle.cilk_lower.proofs.Named.{named_fits}
+use Rattle.cilk_lower.proofs.Whole.{functions_fit, main_fits, main_next, main_at, whole_behaves, whole_rooms}
 use Rattle.cilk_lower.proofs.lower.lower.Goals as goal
 
-whole : (row : Statements) (a b c d : List Instr) → a ≡ [] → b ≡ a ++ all_code row → c ≡ b ++ Sync ∷ [] → d ≡ c ++ Finish ∷ [] → d ≡ body_code row
-whole row a b c d e f g h = h ∙ ap (λ x. x ++ Finish ∷ []) (g ∙ ap (λ x. x ++ Sync ∷ []) (f ∙ ap (λ x. x ++ all_code row) e)) ∙ simp append_assoc
+-- the code begins with the global reducers
+begins : (base code : List Instr) (rs list : List GlobalReducer) → base ≡ [] → list ≡ rs → code ≡ base ++ creates_code reducers.Global 0 (map (λ r. r.kind) list) → code ≡ creates_code reducers.Global 0 (map (λ r. r.kind) rs)
+begins base code rs list none same e =
+    e ∙ ap (λ l. l ++ creates_code reducers.Global 0 (map (λ (r : GlobalReducer). r.kind) list)) none ∙ ap (λ l. creates_code reducers.Global 0 (map (λ (r : GlobalReducer). r.kind) l)) same
 
-pub new-requires : goal.new-requires
-new-requires c =
-    let row = statements c.deref.result.now in
-    let lands : JumpsLand c.put-2.new.code.items = subst JumpsLand (sym (whole row _ _ _ _ c.new-instrs.ensures.items c.in_ok-emit_all.ensures.code c.in_ok-put.ensures c.in_ok-put-2.ensures)) (body_lands row) in
-    lands
+pub emit_function-requires : goal.emit_function-requires
+emit_function-requires c = let p = c.args.program.now in main_fits p.globals p.reducers.items p.functions.items p.loops.items p.main p.well_named c.index.result.now c.index.ensures
+
+pub emit_functions-requires-clause-sound : goal.emit_functions-requires-clause-sound
+emit_functions-requires-clause-sound c =
+    let p = c.args.program.now in
+    let made = c.in_ok-entry.ensures in
+    let first = begins c.new.result.items c.put_globals.new.code.items p.reducers.items c.deref.result.now c.new.ensures.items c.deref.ensures.value c.in_ok-put_globals.ensures in
+    let next = main_next p.globals p.reducers.items p.functions.items p.loops.items p.main p.well_named c.index.result.now c.index.ensures c.put_globals.new.code.items c.emit_function.new.self.instrs.items c.new-2.result.items c.emit_function.new.self.sites.items c.in_ok-entry.entry first c.new-2.ensures.items made.code made.sites made.place made.room in
+    next.sound
+
+pub emit_functions-requires-clause-fit : goal.emit_functions-requires-clause-fit
+emit_functions-requires-clause-fit c = let p = c.args.program.now in functions_fit p.globals p.reducers.items p.functions.items p.loops.items p.main p.well_named c.deref-2.result.now c.deref-2.ensures.value
+
+pub emit_functions-requires-clause-main : goal.emit_functions-requires-clause-main
+emit_functions-requires-clause-main c =
+    let p = c.args.program.now in
+    let made = c.in_ok-entry.ensures in
+    let first = begins c.new.result.items c.put_globals.new.code.items p.reducers.items c.deref.result.now c.new.ensures.items c.deref.ensures.value c.in_ok-put_globals.ensures in
+    main_at p.globals p.reducers.items p.functions.items p.loops.items p.main p.well_named c.index.result.now c.index.ensures c.put_globals.new.code.items c.emit_function.new.self.instrs.items c.new-2.result.items c.emit_function.new.self.sites.items c.in_ok-entry.entry first c.new-2.ensures.items made.code made.sites made.place made.room c.deref-2.result.now c.deref-2.ensures.value
+
+pub emit_loops-requires-clause-fit : goal.emit_loops-requires-clause-fit
+emit_loops-requires-clause-fit c =
+    let p = c.args.program.now in
+    let fits = named_fits p.globals p.reducers.items p.functions.items p.loops.items p.main p.well_named in
+    λ k l e. fits.loops k l (ap (λ list. slice_get list k) (sym c.deref-3.ensures.value) ∙ e)
 
 pub returns-clause-asks : goal.returns-clause-asks
 returns-clause-asks c =
-    let row = statements c.deref.result.now in
-    let e = whole row _ _ _ _ c.new-instrs.ensures.items c.in_ok-emit_all.ensures.code c.in_ok-put.ensures c.in_ok-put-2.ensures in
-    let view = c.new.ensures ∙ ap {A = List Instr} {B = CodeView} (λ is. record { instrs = is; room = c.emit_all.new.room }) e in
-    let enough : deepest_of_all row ≤ c.emit_all.new.room = omega (arith, c.in_ok-emit_all.ensures.room) in
-    subst (λ (r : List _). Behaves (statements r) c.new.result) c.deref.ensures.value
-    (subst (λ (v : CodeView). Behaves row v) (sym view) (record { asks = lowered row c.emit_all.new.room enough }))
+    let p = c.args.program.now in
+    let made = c.in_ok-entry.ensures in
+    let first = begins c.new.result.items c.put_globals.new.code.items p.reducers.items c.deref.result.now c.new.ensures.items c.deref.ensures.value c.in_ok-put_globals.ensures in
+    whole_behaves p.globals p.reducers.items p.functions.items p.loops.items p.main p.well_named c.index.result.now c.index.ensures c.put_globals.new.code.items c.emit_function.new.self.instrs.items c.new-2.result.items c.emit_function.new.self.sites.items c.in_ok-entry.entry first c.new-2.ensures.items made.code made.sites made.place made.room
+    c.emit_functions.new.out.instrs.items c.emit_loops.new.out.instrs.items c.emit_functions.new.out.sites.items c.emit_loops.new.out.sites.items _ c.in_ok-functions.functions.items c.in_ok-loops.loops.items c.deref-2.result.now c.deref-3.result.now refl refl c.deref-2.ensures.value c.deref-3.ensures.value
+    c.in_ok-functions.ensures.grows c.in_ok-loops.ensures.grows c.in_ok-functions.ensures.entries c.in_ok-loops.ensures.entries c.new-3.result c.new-3.ensures
+
+pub returns-clause-rooms : goal.returns-clause-rooms
+returns-clause-rooms c =
+    let p = c.args.program.now in
+    let made = c.in_ok-entry.ensures in
+    let first = begins c.new.result.items c.put_globals.new.code.items p.reducers.items c.deref.result.now c.new.ensures.items c.deref.ensures.value c.in_ok-put_globals.ensures in
+    whole_rooms p.globals p.reducers.items p.functions.items p.loops.items p.main p.well_named c.index.result.now c.index.ensures c.put_globals.new.code.items c.emit_function.new.self.instrs.items c.new-2.result.items c.emit_function.new.self.sites.items c.in_ok-entry.entry first c.new-2.ensures.items made.code made.sites made.place made.room
+    c.emit_functions.new.out.instrs.items c.emit_loops.new.out.instrs.items c.emit_functions.new.out.sites.items c.emit_loops.new.out.sites.items _ c.in_ok-functions.functions.items c.in_ok-loops.loops.items c.deref-2.result.now c.deref-3.result.now refl refl c.deref-2.ensures.value c.deref-3.ensures.value
+    c.in_ok-functions.ensures.grows c.in_ok-loops.ensures.grows c.in_ok-functions.ensures.entries c.in_ok-loops.ensures.entries c.new-3.result c.new-3.ensures

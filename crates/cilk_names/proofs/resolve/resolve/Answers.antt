@@ -1,34 +1,76 @@
 -- What the pass has found decides.
-use Rattle.std.proofs.Common.{length, ap, ◌∙◌}
-use Rattle.cilk_parser.specs.Trees.{program}
-use Rattle.cilk_names.specs.Syntax.{statements}
-use Rattle.cilk_names.specs.Pass.{body_in, Comes}
-use Rattle.cilk_names.proofs.Verdicts.{fault_is, no_main_is, resolves_is}
-use Rattle.cilk_names.proofs.Passes.{comes}
+use Rattle.std.proofs.Common.{◌≡◌, Some, None, IsTrue, length, ap, sym, ◌∙◌, subst}
+use Rattle.cilk_parser.specs.Trees.{items_of, program}
+use Rattle.cilk_program.specs.Syntax.{Source}
+use Rattle.cilk_program.specs.WellNamed.{is_well_named}
+use Rattle.cilk_names.specs.Globals.{main_of}
+use Rattle.cilk_names.specs.Misnamings.{faults_of}
+use Rattle.cilk_names.specs.Resolution.{Resolves}
+use Rattle.cilk_names.specs.States.{Comes}
+use Rattle.cilk_names.proofs.Firsts.{fault_is, no_main_is, right_is}
+use Rattle.cilk_names.proofs.Made.{comes, source_is, shared_is}
+use Rattle.cilk_names.proofs.Verdicts.{program_resolves}
 use Rattle.cilk_names.proofs.WellNamed.{well_named}
 use Rattle.cilk_names.proofs.resolve.resolve.Goals as goal
 
 pub returns-in-Some-clause-fault : goal.returns-in-Some-clause-fault
 returns-in-Some-clause-fault c =
-    let done : Comes c.in_ok-openings.field-0 c.args.tree.now.text.items (program c.args.tree.now) = comes c.in_ok-openings.field-0 c.as_slice-text.result.now c.args.tree.now.text.items c.deref.result.now c.args.tree.now.items.items c.as_slice-text.ensures.value c.deref.ensures.value c.in_ok-openings.ensures in
-    fault_is c.args.tree.now c.in_ok-openings.field-0.first c.in-Some.wrong done.faults_are c.in-Some.is
+    let t = c.args.tree.now in
+    let done : Comes c.in_ok-scene.field-0 t.text.items (program t) =
+    comes c.in_ok-scene.field-0 c.as_slice-text.result.now t.text.items c.as_slice-items.result.now t.items.items c.as_slice-text.ensures.value c.as_slice-items.ensures.value c.in_ok-scene.ensures in
+    fault_is t c.in_ok-scene.field-0.scene.first c.in-Some.wrong done.first c.in-Some.is
+
+pub returns-in_default-main_of-clause-fault : goal.returns-in_default-main_of-clause-fault
+returns-in_default-main_of-clause-fault c =
+    let t = c.args.tree.now in
+    let done : Comes c.in_ok-scene.field-0 t.text.items (program t) =
+    comes c.in_ok-scene.field-0 c.as_slice-text.result.now t.text.items c.as_slice-items.result.now t.items.items c.as_slice-text.ensures.value c.as_slice-items.ensures.value c.in_ok-scene.ensures in
+    let main : main_of t.text.items 0 (program t) ≡ None =
+    ap (λ x. main_of x 0 (program t)) (sym c.as_slice-text.ensures.value) ∙ ap (λ l. main_of c.as_slice-text.result.now 0 (items_of l)) (sym c.as_slice-items.ensures.value)
+    ∙ sym c.main_of.ensures ∙ c.in_default-main_of.is in
+    no_main_is t c.in_ok-scene.field-0.scene.first (length c.as_slice-text.result.now) done.first c.in_default.is main (ap length c.as_slice-text.ensures.value)
 
 pub invariant_of-result : goal.invariant_of-result
 invariant_of-result c =
-    let done : Comes c.in_ok-openings.field-0 c.args.tree.now.text.items (program c.args.tree.now) = comes c.in_ok-openings.field-0 c.as_slice-text.result.now c.args.tree.now.text.items c.deref.result.now c.args.tree.now.items.items c.as_slice-text.ensures.value c.deref.ensures.value c.in_ok-openings.ensures in
+    let t = c.args.tree.now in
+    let n = c.in_ok-number_of.field-0 in
+    let done : Comes c.in_ok-scene.field-0 t.text.items (program t) =
+    comes c.in_ok-scene.field-0 c.as_slice-text.result.now t.text.items c.as_slice-items.result.now t.items.items c.as_slice-text.ensures.value c.as_slice-items.ensures.value c.in_ok-scene.ensures in
+    let main : main_of t.text.items 0 (program t) ≡ Some n =
+    ap (λ x. main_of x 0 (program t)) (sym c.as_slice-text.ensures.value) ∙ ap (λ l. main_of c.as_slice-text.result.now 0 (items_of l)) (sym c.as_slice-items.ensures.value)
+    ∙ sym c.main_of.ensures ∙ c.in-Some-main_of.is ∙ ap Some (sym c.in_ok-number_of.ensures) in
+    let right : faults_of t ≡ _ = right_is t c.in_ok-scene.field-0.scene.first n done.first c.in_default.is main in
     record {
-      well_named = well_named c.args.tree.now.text.items (program c.args.tree.now) c.new.result (body_in c.in_ok-openings.field-0.main) (statements c.in-Some-main.main.items)
-          (c.new.ensures ∙ done.openings_are) done.main_is (ap body_in c.in-Some-main.is);
+      well_named = subst (λ (s : Source). IsTrue (is_well_named s)) (sym (source_is t c.in_ok-scene.field-0 c.new.result n done c.new.ensures)) (well_named t n right main);
     }
 
-pub returns-in-Some-main-clause-ok : goal.returns-in-Some-main-clause-ok
-returns-in-Some-main-clause-ok c =
-    let done : Comes c.in_ok-openings.field-0 c.args.tree.now.text.items (program c.args.tree.now) = comes c.in_ok-openings.field-0 c.as_slice-text.result.now c.args.tree.now.text.items c.deref.result.now c.args.tree.now.items.items c.as_slice-text.ensures.value c.deref.ensures.value c.in_ok-openings.ensures in
-    resolves_is c.args.tree.now c.in_ok-openings.field-0.first (body_in c.in_ok-openings.field-0.main) c.new.result (statements c.in-Some-main.main.items)
-    done.faults_are c.in_default.is done.main_is (ap body_in c.in-Some-main.is) (c.new.ensures ∙ done.openings_are)
+pub returns-clause-ok : goal.returns-clause-ok
+returns-clause-ok c =
+    let t = c.args.tree.now in
+    let n = c.in_ok-number_of.field-0 in
+    let done : Comes c.in_ok-scene.field-0 t.text.items (program t) =
+    comes c.in_ok-scene.field-0 c.as_slice-text.result.now t.text.items c.as_slice-items.result.now t.items.items c.as_slice-text.ensures.value c.as_slice-items.ensures.value c.in_ok-scene.ensures in
+    let main : main_of t.text.items 0 (program t) ≡ Some n =
+    ap (λ x. main_of x 0 (program t)) (sym c.as_slice-text.ensures.value) ∙ ap (λ l. main_of c.as_slice-text.result.now 0 (items_of l)) (sym c.as_slice-items.ensures.value)
+    ∙ sym c.main_of.ensures ∙ c.in-Some-main_of.is ∙ ap Some (sym c.in_ok-number_of.ensures) in
+    let right : faults_of t ≡ _ = right_is t c.in_ok-scene.field-0.scene.first n done.first c.in_default.is main in
+    subst (λ (s : Source). Resolves t s) (sym (source_is t c.in_ok-scene.field-0 c.new.result n done c.new.ensures)) (program_resolves t n right main)
 
-pub returns-in-None-clause-fault : goal.returns-in-None-clause-fault
-returns-in-None-clause-fault c =
-    let done : Comes c.in_ok-openings.field-0 c.args.tree.now.text.items (program c.args.tree.now) = comes c.in_ok-openings.field-0 c.as_slice-text.result.now c.args.tree.now.text.items c.deref.result.now c.args.tree.now.items.items c.as_slice-text.ensures.value c.deref.ensures.value c.in_ok-openings.ensures in
-    no_main_is c.args.tree.now c.in_ok-openings.field-0.first (body_in c.in_ok-openings.field-0.main) (length c.as_slice-text.result.now)
-    done.faults_are c.in_default.is done.main_is (ap body_in c.in-None.is) (ap length c.as_slice-text.ensures.value)
+pub returns-clause-reducers : goal.returns-clause-reducers
+returns-clause-reducers c =
+    let t = c.args.tree.now in
+    let done : Comes c.in_ok-scene.field-0 t.text.items (program t) =
+    comes c.in_ok-scene.field-0 c.as_slice-text.result.now t.text.items c.as_slice-items.result.now t.items.items c.as_slice-text.ensures.value c.as_slice-items.ensures.value c.in_ok-scene.ensures in
+    shared_is t c.in_ok-scene.field-0 done
+
+pub returns-clause-named : goal.returns-clause-named
+returns-clause-named c =
+    let t = c.args.tree.now in
+    let n = c.in_ok-number_of.field-0 in
+    let done : Comes c.in_ok-scene.field-0 t.text.items (program t) =
+    comes c.in_ok-scene.field-0 c.as_slice-text.result.now t.text.items c.as_slice-items.result.now t.items.items c.as_slice-text.ensures.value c.as_slice-items.ensures.value c.in_ok-scene.ensures in
+    let main : main_of t.text.items 0 (program t) ≡ Some n =
+    ap (λ x. main_of x 0 (program t)) (sym c.as_slice-text.ensures.value) ∙ ap (λ l. main_of c.as_slice-text.result.now 0 (items_of l)) (sym c.as_slice-items.ensures.value)
+    ∙ sym c.main_of.ensures ∙ c.in-Some-main_of.is ∙ ap Some (sym c.in_ok-number_of.ensures) in
+    let right : faults_of t ≡ _ = right_is t c.in_ok-scene.field-0.scene.first n done.first c.in_default.is main in
+    subst (λ (s : Source). IsTrue (is_well_named s)) (sym (source_is t c.in_ok-scene.field-0 c.new.result n done c.new.ensures)) (well_named t n right main)

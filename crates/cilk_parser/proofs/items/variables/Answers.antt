@@ -8,9 +8,9 @@ use Rattle.cilk_parser.proofs.items.variables.Goals as goal
 
 pub each-preserved : goal.each-preserved
 each-preserved c = record {
-  tree = rw c.in_ok-push-2.ensures.items (variables_push _ c.each.list.items _ _ _ _ _ _ c.each.invariant.tree c.in-Some.ensures.found c.in_ok-next.ensures.token c.in_ok-value-2.ensures.tree);
+  tree = rw c.in_ok-push-2.ensures.items (variables_push _ c.each.list.items _ _ _ _ _ _ _ c.each.invariant.tree c.in-Some.ensures.found c.in_ok-next.ensures.token c.in_ok-variable-2.ensures.tree);
   shorter = grind (arith, common_steps);
   reads = λ stack. c.each.invariant.reads stack
       ∙ (takes kinds.Comma _ _ (Variables ∷ stack) (Named ∷ Initial ∷ Variables ∷ stack) 0 0 c.in-Some.ensures.found refl
-      ∙ (c.in_ok-next.ensures.reads (Initial ∷ Variables ∷ stack) 0 ∙ c.in_ok-value-2.ensures.reads (Variables ∷ stack)));
+      ∙ (c.in_ok-next.ensures.reads (Initial ∷ Variables ∷ stack) 0 ∙ c.in_ok-variable-2.ensures.reads (Variables ∷ stack)));
 }

@@ -1,0 +1,148 @@
+-- The theorem at the language.
+use Rattle.std.proofs.Common.{◌≡◌, ℕ, ℤ, false, List, [], refl, sym, ap, ◌∙◌, subst}
+use Rattle.cilk_types.specs.declared.fault.Fault.TheVariants.{DivisionByZero, IndexOutside, InputOutside, TooManyEvents, TooManyFrames, TooManyCells}
+use Rattle.cilk_types.specs.declared.event.Event.{Event}
+use Rattle.cilk_types.specs.declared.limits.TheConstants.{MAX_EVENTS, MAX_TICKS}
+use Rattle.cilk_types.specs.declared.outcome.Outcome.{Outcome}
+use Rattle.cilk_program.specs.declared.ask.Ask.{Ask}
+use Rattle.cilk_program.specs.declared.ask.Ask.TheVariants as asks
+use Rattle.cilk_program.specs.declared.ask.Callee.TheVariants as callees
+use Rattle.cilk_program.specs.Elision.{IsElision}
+use Rattle.cilk_program.specs.Outcomes.{Conclusion, Leaves, StopsBy, outcome_of}
+use Rattle.cilk_program.specs.Syntax.{Source}
+use Rattle.cilk_program.specs.SerialRun as serial
+use Rattle.cilk_program.specs.SerialRun.{Memory, global_reducer, before_root, root_frame, begun, conclusion_of, Ending, Finished, Stopped, Serial}
+use Rattle.cilk_meaning.proofs.Roots.{ends_as_elided}
+use Rattle.cilk_tree.specs.Tree.{tree}
+use Rattle.cilk_tree.specs.Races.{HasNoRace}
+use Rattle.cilk_peers.specs.ViewRaces.{HasNoViewRace}
+use Rattle.cilk_runs.specs.Machine.{State, deeds_at, HasEnd}
+use Rattle.cilk_runs.specs.Monoids.{unit_of}
+use Rattle.cilk_runs.specs.Serial.{value_after}
+use Rattle.cilk_runs.specs.Views.{view_after}
+use Rattle.cilk_runs.specs.Theorem.{HasNoRaces, Agrees}
+use Rattle.cilk_runs.proofs.Kept.{opening_ok}
+use Rattle.cilk_runs.proofs.Theorem.{race_free_kept, race_free_determinate, follows_determined}
+use Rattle.cilk_cells.specs.Nested.{shape_of}
+use Rattle.cilk_cells.proofs.Nested.{events_spell}
+use Rattle.cilk_cells.proofs.NestedRaces.{freedom_nests}
+use Rattle.cilk_determinacy.specs.Reducers.{View, monoid_of}
+use Rattle.cilk_determinacy.specs.Worlds.{World, first_world}
+use Rattle.cilk_determinacy.specs.Machine.{next, costs, opening_values}
+use Rattle.cilk_determinacy.specs.Nested.{named}
+use Rattle.cilk_determinacy.specs.Theorem.{result_in, outcome_in, IsWithin, Next, IsSerial, IsAsSerial, RunsFree, TicksAddUp, SerialRunsByNames, SerialRunsAreNumbered, OpensAsCut, StepsKeepCuts, IsDeterminate}
+use Rattle.cilk_determinacy.proofs.Assembled.{views_lawful, remembers, is_framed, is_serial}
+use Rattle.cilk_determinacy.proofs.Ending.{run_result, same_outcome}
+use Rattle.cilk_determinacy.proofs.Numbers.{cell_number, instance_number}
+use Rattle.cilk_determinacy.proofs.Parts.{is_out}
+use Rattle.cilk_determinacy.proofs.Spelled.{spells_one}
+use Rattle.cilk_determinacy.proofs.Ticking.{frame_more, frame_further}
+
+-- ---- ticks
+
+not_out : (k : Ask) → IsWithin k → is_out k ≡ false
+not_out asks.Begin h = refl
+not_out (asks.Read x) h = refl
+not_out (asks.Write x v) h = refl
+not_out (asks.Create r) h = refl
+not_out (asks.Update r v) h = refl
+not_out (asks.Set r v) h = refl
+not_out (asks.Value r) h = refl
+not_out (asks.Print v) h = refl
+not_out (asks.Invoke how callee) h = refl
+not_out asks.Resume h = refl
+not_out asks.Sync h = refl
+not_out (asks.Result v) h = refl
+not_out (asks.End v) h = refl
+not_out (asks.Fault DivisionByZero) h = refl
+not_out (asks.Fault IndexOutside) h = refl
+not_out (asks.Fault InputOutside) h = refl
+not_out (asks.Fault TooManyEvents) h = absurd h
+not_out (asks.Fault TooManyFrames) h = refl
+not_out (asks.Fault TooManyCells) h = refl
+
+pub ticks_add_up : (p : Source) (inputs : List ℤ) → TicksAddUp p inputs
+ticks_add_up p inputs = record {
+  more = λ callee d history start h. frame_more p inputs callee d history start (not_out _ h);
+  fewer = λ callee answer history start. frame_further p inputs callee answer history start;
+}
+
+-- ---- a run that ends
+
+-- a serial run that leaves an outcome finishes
+record Ran (p : Source) (inputs : List ℤ) (r : serial.Run) (es : List Event) (outcome : Outcome) : Type 0 where
+  value : ℤ
+  left : ℕ
+  memory : Memory
+  derivation : Serial p inputs (root_frame p inputs) MAX_TICKS [] (begun p callees.Root (before_root p inputs MAX_EVENTS)) r es (Finished value left memory)
+  leaves : outcome ≡ outcome_of global_reducer p value memory.store
+
+abbrev IsLeft : Conclusion → Type 0
+IsLeft (Leaves o) = Unit {0}
+IsLeft (StopsBy f) = ⊥
+
+abbrev left_or : Outcome → Conclusion → Outcome
+left_or o (Leaves o') = o'
+left_or o (StopsBy f) = o
+
+ran : (p : Source) (inputs : List ℤ) (r : serial.Run) (es : List Event) (outcome : Outcome) → serial.IsSerialRun p inputs r es (Leaves outcome) → Ran p inputs r es outcome
+ran p inputs r es outcome (end, d, e) = by end d e
+  where
+    by : (end : Ending) → Serial p inputs (root_frame p inputs) MAX_TICKS [] (begun p callees.Root (before_root p inputs MAX_EVENTS)) r es end → Leaves outcome ≡ conclusion_of p inputs end → Ran p inputs r es outcome
+    by (Finished v left m) d e = record { value = v; left = left; memory = m; derivation = d; leaves = ap (left_or outcome) e }
+    by (Stopped f) d e = absurd (subst IsLeft e tt)
+
+pub serial_by_names : (p : Source) (inputs : List ℤ) → SerialRunsByNames p inputs
+serial_by_names p inputs r es outcome well runs words = let h = ran p inputs r es outcome runs in is_serial p inputs well r es h.value h.left h.memory h.derivation words
+
+pub serial_numbered : (p : Source) (inputs : List ℤ) → SerialRunsAreNumbered p inputs
+serial_numbered p inputs r es outcome well runs words =
+    let h = ran p inputs r es outcome runs in
+    let framed = is_framed p inputs well r es h.value h.left h.memory h.derivation words in
+    let known = remembers p inputs well r es h.value h.left h.memory h.derivation words in
+    record {
+      cell = cell_number p r;
+      instance = instance_number p r;
+      framed = framed;
+      written = known.written;
+      spells = events_spell World (cell_number p r) (instance_number p r) (named p r) es framed known.written;
+    }
+
+module _ (p : Source) (inputs : List ℤ) (r : serial.Run) (es : List Event) (outcome : Outcome) (free : RunsFree p inputs r es outcome) where
+  known : IsSerial p inputs r
+  known = serial_by_names p inputs r es outcome free.named free.runs free.sets
+
+  no_races : HasNoRaces (named p r)
+  no_races =
+      let n = serial_numbered p inputs r es outcome free.named free.runs free.sets in
+      let f = free.free in
+      let same : f.shape ≡ shape_of (named p r) = spells_one f.shape (shape_of (named p r)) es f.spells n.spells in
+      freedom_nests World n.cell n.instance (named p r) es n.framed n.written (subst (λ s. HasNoRace (tree s) es) same f.races) (subst (λ s. HasNoViewRace (tree s) es) same f.view_races)
+
+  as_serial : (s : State World View) → Agrees World View monoid_of (Next p inputs) (costs p inputs) (first_world p) (named p r) (opening_values p inputs) s → IsAsSerial p inputs r outcome s
+  as_serial s agrees = record {
+    agrees = agrees;
+    not_stopped = let c = agrees.consistent in c.no_stop;
+    outcome_is = outcome_is;
+    elided = λ ended. subst (λ o. IsElision p inputs (Leaves o)) (sym (outcome_is ended)) (ends_as_elided p inputs free.named MAX_TICKS MAX_EVENTS r es (Leaves outcome) free.runs (λ h. h));
+  }
+    where
+      outcome_is : HasEnd (deeds_at (s.frames [])) → outcome_in p s ≡ outcome
+      outcome_is ended =
+          let h = ran p inputs r es outcome free.runs in
+          let k = remembers p inputs free.named r es h.value h.left h.memory h.derivation free.sets in
+          same_outcome p r s h.value (λ c. value_after (named p r) c (opening_values p inputs c)) (λ i. view_after (monoid_of i) i (named p r) (unit_of monoid_of i)) h.memory.store k.same
+          (ap result_in (agrees.deeds ended) ∙ run_result h.derivation (first_world p) 1) (agrees.outcome ended) (agrees.reducers ended)
+          ∙ sym h.leaves
+
+pub opens_as_cut : (p : Source) (inputs : List ℤ) → OpensAsCut p inputs
+opens_as_cut p inputs r s first = opening_ok World View monoid_of (Next p inputs) (costs p inputs) (first_world p) (named p r) (opening_values p inputs) s first
+
+pub steps_keep_cuts : (p : Source) (inputs : List ℤ) → StepsKeepCuts p inputs
+steps_keep_cuts p inputs r es outcome free s s' n cut step =
+    race_free_kept World View monoid_of (Next p inputs) (costs p inputs) views_lawful (follows_determined (next p inputs)) (first_world p) (named p r) (opening_values p inputs) (known p inputs r es outcome free) (no_races p inputs r es outcome free) s s' n cut step
+
+pub is_determinate : (p : Source) (inputs : List ℤ) → IsDeterminate p inputs
+is_determinate p inputs r es outcome free ns s' (s, first, steps) =
+    as_serial p inputs r es outcome free s'
+    (race_free_determinate World View monoid_of (Next p inputs) (costs p inputs) views_lawful (follows_determined (next p inputs)) (first_world p) (named p r) (opening_values p inputs) (known p inputs r es outcome free) (no_races p inputs r es outcome free) ns s s' first steps)

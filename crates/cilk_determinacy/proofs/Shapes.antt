@@ -1,0 +1,279 @@
+-- The shape of the serial run by names: frames begin, resume and end where they must, and wait for what they spawned.
+use Rattle.std.proofs.Common.{◌≡◌, ℕ, suc, ◌<◌, ℤ, Bool, true, false, List, [], ◌∷◌, ◌++◌, length, Option, Some, None, refl, sym, ap, ◌∙◌, subst, arith}
+use Rattle.cilk_types.specs.declared.event.Event as numbers
+use Rattle.cilk_program.specs.declared.ask.Ask.{Ask}
+use Rattle.cilk_program.specs.declared.ask.Ask.TheVariants as asks
+use Rattle.cilk_program.specs.Syntax.{Source}
+use Rattle.cilk_program.specs.SerialRun as serial
+use Rattle.cilk_program.specs.SerialRun.{answer_to, IsInner, Ending, Finished, Serial, Made, Ended, Went}
+use Rattle.cilk_meaning.specs.Closed as language
+use Rattle.cilk_runs.specs.Runs.{Kind, Calls, Spawns, Reads, Writes, Syncs, Ends, Passes, Begins, Resumes, Creates, Updates, Sets, Values, Prints, Deed, Does, Run, stop, act, child}
+use Rattle.cilk_runs.specs.Serial.{SyncAhead, GoesOn, ComesAfter, IsClosed}
+use Rattle.cilk_runs.specs.Trees.{trace, Tree, in_series, child_tree, blocks, tree, size, HasChildren}
+use Rattle.cilk_runs.specs.Views.{IsResumed}
+use Rattle.cilk_runs.proofs.Races.{tree_events, tree_size}
+use Rattle.cilk_cells.specs.Nested.{Due, begin_due, resume_due, neither_due, IsFramed}
+use Rattle.cilk_determinacy.specs.Worlds.{World, child_world}
+use Rattle.cilk_determinacy.specs.Nested.{named_from}
+
+-- ---- from the language's run
+
+-- an event of a frame is one of its asks but a child or a fault, and its end comes last
+abbrev pub ProperAt : Ask → Type 0 → serial.Run → Type 0
+ProperAt (asks.Invoke how callee) P r = ⊥
+ProperAt (asks.Fault f) P r = ⊥
+ProperAt (asks.End v) P r = r ≡ serial.stop
+ProperAt k P r = P
+
+abbrev pub IsProper : serial.Run → Type 0
+IsProper serial.stop = ⊥
+IsProper (serial.act k v r) = ProperAt k (IsProper r) r
+IsProper (serial.child how callee u r) = IsProper u × IsProper r
+
+inner_proper : (k : Ask) (P : Type 0) (r : serial.Run) → IsInner k → P → ProperAt k P r
+inner_proper asks.Begin P r i h = h
+inner_proper (asks.Read x) P r i h = h
+inner_proper (asks.Write x y) P r i h = h
+inner_proper (asks.Create c) P r i h = h
+inner_proper (asks.Update c y) P r i h = h
+inner_proper (asks.Set c y) P r i h = h
+inner_proper (asks.Value c) P r i h = h
+inner_proper (asks.Print y) P r i h = h
+inner_proper (asks.Invoke how callee) P r i h = absurd i
+inner_proper asks.Resume P r i h = h
+inner_proper asks.Sync P r i h = h
+inner_proper (asks.Result y) P r i h = h
+inner_proper (asks.End y) P r i h = absurd i
+inner_proper (asks.Fault f) P r i h = absurd i
+
+abbrev pub ProperIf : Ending → serial.Run → Type 0
+ProperIf (Finished v left m) r = IsProper r
+ProperIf (serial.Stopped f) r = Unit {0}
+
+pub serial_proper : {p : Source} {inputs : List ℤ} {fr : _} {start : ℕ} {history : List ℤ} {m : _} {r : serial.Run} {es : List numbers.Event} {end : Ending} → Serial p inputs fr start history m r es end → ProperIf end r
+serial_proper (Made {fr = fr} {m = m} {r = r} {end = end} k left q inner ok rest) = by end (serial_proper rest)
+  where
+    by : (end : Ending) → ProperIf end r → ProperIf end (serial.act k (answer_to fr m k) r)
+    by (Finished v left m') h = inner_proper k (IsProper r) r inner h
+    by (serial.Stopped f) h = tt
+serial_proper (Ended v left q ok) = refl
+serial_proper (Went {u = u} {r = r} {end = end} how callee left v left' m' q ok inner rest) = by end (serial_proper inner) (serial_proper rest)
+  where
+    by : (end : Ending) → IsProper u → ProperIf end r → ProperIf end (serial.child how callee u r)
+    by (Finished v left m) h g = (h, g)
+    by (serial.Stopped f) h g = tt
+serial_proper (serial.Broke how callee left f q ok inner) = tt
+serial_proper (serial.Refused k left f q bad) = tt
+
+-- what a frame makes next is due as its events say
+abbrev Stage : Due → serial.Run → Type 0
+Stage begin_due r = language.BeginsOnce false r × language.IsResumed false r
+Stage resume_due r = language.BeginsOnce true r × language.IsResumed true r
+Stage neither_due r = language.BeginsOnce true r × language.IsResumed false r
+
+abbrev is_begin : Ask → Type 0
+is_begin asks.Begin = Unit {0}
+is_begin k = ⊥
+
+not_begin : {k : Ask} → k ≡ asks.Begin → is_begin k
+not_begin {k} e = subst is_begin (sym e) tt
+
+abbrev is_resume : Ask → Type 0
+is_resume asks.Resume = Unit {0}
+is_resume k = ⊥
+
+not_resume : {k : Ask} → k ≡ asks.Resume → is_resume k
+not_resume {k} e = subst is_resume (sym e) tt
+
+module _ (p : Source) where
+  pub framed : (d : Due) (w : World) (n : ℕ) (r : serial.Run) → IsProper r → Stage d r → IsFramed d (named_from p w n r)
+  framed d w n serial.stop h g = absurd h
+  framed begin_due w n (serial.act asks.Begin v r) h g = framed neither_due w n r h (g.0.1, g.1.1)
+  framed begin_due w n (serial.act (asks.Read x) v r) h g = absurd (not_begin g.0.0)
+  framed begin_due w n (serial.act (asks.Write x y) v r) h g = absurd (not_begin g.0.0)
+  framed begin_due w n (serial.act (asks.Create c) v r) h g = absurd (not_begin g.0.0)
+  framed begin_due w n (serial.act (asks.Update c y) v r) h g = absurd (not_begin g.0.0)
+  framed begin_due w n (serial.act (asks.Set c y) v r) h g = absurd (not_begin g.0.0)
+  framed begin_due w n (serial.act (asks.Value c) v r) h g = absurd (not_begin g.0.0)
+  framed begin_due w n (serial.act (asks.Print y) v r) h g = absurd (not_begin g.0.0)
+  framed begin_due w n (serial.act (asks.Invoke how callee) v r) h g = absurd (not_begin g.0.0)
+  framed begin_due w n (serial.act asks.Resume v r) h g = absurd (not_begin g.0.0)
+  framed begin_due w n (serial.act asks.Sync v r) h g = absurd (not_begin g.0.0)
+  framed begin_due w n (serial.act (asks.Result y) v r) h g = absurd (not_begin g.0.0)
+  framed begin_due w n (serial.act (asks.End y) v r) h g = absurd (not_begin g.0.0)
+  framed begin_due w n (serial.act (asks.Fault f) v r) h g = absurd (not_begin g.0.0)
+  framed begin_due w n (serial.child how callee u r) h g = absurd g.0
+  framed resume_due w n (serial.act asks.Begin v r) h g = absurd (not_resume g.1.0)
+  framed resume_due w n (serial.act (asks.Read x) v r) h g = absurd (not_resume g.1.0)
+  framed resume_due w n (serial.act (asks.Write x y) v r) h g = absurd (not_resume g.1.0)
+  framed resume_due w n (serial.act (asks.Create c) v r) h g = absurd (not_resume g.1.0)
+  framed resume_due w n (serial.act (asks.Update c y) v r) h g = absurd (not_resume g.1.0)
+  framed resume_due w n (serial.act (asks.Set c y) v r) h g = absurd (not_resume g.1.0)
+  framed resume_due w n (serial.act (asks.Value c) v r) h g = absurd (not_resume g.1.0)
+  framed resume_due w n (serial.act (asks.Print y) v r) h g = absurd (not_resume g.1.0)
+  framed resume_due w n (serial.act (asks.Invoke how callee) v r) h g = absurd (not_resume g.1.0)
+  framed resume_due w n (serial.act asks.Resume v r) h g = framed neither_due w n r h (g.0.1, g.1.1)
+  framed resume_due w n (serial.act asks.Sync v r) h g = absurd (not_resume g.1.0)
+  framed resume_due w n (serial.act (asks.Result y) v r) h g = absurd (not_resume g.1.0)
+  framed resume_due w n (serial.act (asks.End y) v r) h g = absurd (not_resume g.1.0)
+  framed resume_due w n (serial.act (asks.Fault f) v r) h g = absurd (not_resume g.1.0)
+  framed resume_due w n (serial.child how callee u r) h g = absurd g.1
+  framed neither_due w n (serial.act asks.Begin v r) h g = absurd g.0.0
+  framed neither_due w n (serial.act (asks.Read x) v r) h g = framed neither_due w n r h (g.0.1, g.1.1)
+  framed neither_due w n (serial.act (asks.Write x y) v r) h g = framed neither_due w n r h (g.0.1, g.1.1)
+  framed neither_due w n (serial.act (asks.Create c) v r) h g = framed neither_due w n r h (g.0.1, g.1.1)
+  framed neither_due w n (serial.act (asks.Update c y) v r) h g = framed neither_due w n r h (g.0.1, g.1.1)
+  framed neither_due w n (serial.act (asks.Set c y) v r) h g = framed neither_due w n r h (g.0.1, g.1.1)
+  framed neither_due w n (serial.act (asks.Value c) v r) h g = framed neither_due w n r h (g.0.1, g.1.1)
+  framed neither_due w n (serial.act (asks.Print y) v r) h g = framed neither_due w n r h (g.0.1, g.1.1)
+  framed neither_due w n (serial.act (asks.Invoke how callee) v r) h g = absurd h
+  framed neither_due w n (serial.act asks.Resume v r) h g = absurd g.1.0
+  framed neither_due w n (serial.act asks.Sync v r) h g = framed neither_due w n r h (g.0.1, g.1.1)
+  framed neither_due w n (serial.act (asks.Result y) v r) h g = framed neither_due w n r h (g.0.1, g.1.1)
+  framed neither_due w n (serial.act (asks.End y) v r) h g = ap (named_from p w n) h
+  framed neither_due w n (serial.act (asks.Fault f) v r) h g = absurd h
+  framed neither_due w n (serial.child how callee u r) h g = (framed begin_due (child_world p w n callee) 1 u h.0 (g.0.0, g.1.0), framed resume_due w (suc n) r h.1 (g.0.1, g.1.1))
+
+-- each spawned child is waited for
+abbrev pub IsSynced : Run World → Type 0
+IsSynced stop = Unit {0}
+IsSynced (act e t) = IsSynced t
+IsSynced (child k w u t) = SyncAhead t × IsSynced u × IsSynced t
+
+module _ (p : Source) where
+  sync_ahead : (w : World) (n : ℕ) (r : serial.Run) → language.HasSync r → SyncAhead (named_from p w n r)
+  sync_ahead w n serial.stop h = absurd h
+  sync_ahead w n (serial.act asks.Begin v r) h = sync_ahead w n r h
+  sync_ahead w n (serial.act (asks.Read x) v r) h = sync_ahead w n r h
+  sync_ahead w n (serial.act (asks.Write x y) v r) h = sync_ahead w n r h
+  sync_ahead w n (serial.act (asks.Create c) v r) h = sync_ahead w n r h
+  sync_ahead w n (serial.act (asks.Update c y) v r) h = sync_ahead w n r h
+  sync_ahead w n (serial.act (asks.Set c y) v r) h = sync_ahead w n r h
+  sync_ahead w n (serial.act (asks.Value c) v r) h = sync_ahead w n r h
+  sync_ahead w n (serial.act (asks.Print y) v r) h = sync_ahead w n r h
+  sync_ahead w n (serial.act (asks.Invoke how callee) v r) h = sync_ahead w n r h
+  sync_ahead w n (serial.act asks.Resume v r) h = sync_ahead w n r h
+  sync_ahead w n (serial.act asks.Sync v r) h = tt
+  sync_ahead w n (serial.act (asks.Result y) v r) h = sync_ahead w n r h
+  sync_ahead w n (serial.act (asks.End y) v r) h = sync_ahead w n r h
+  sync_ahead w n (serial.act (asks.Fault f) v r) h = sync_ahead w n r h
+  sync_ahead w n (serial.child how callee u r) h = sync_ahead w (suc n) r h
+
+  pub synced : (w : World) (n : ℕ) (r : serial.Run) → language.IsClosed r → IsSynced (named_from p w n r)
+  synced w n serial.stop h = absurd h
+  synced w n (serial.act asks.Begin v r) h = synced w n r h
+  synced w n (serial.act (asks.Read x) v r) h = synced w n r h
+  synced w n (serial.act (asks.Write x y) v r) h = synced w n r h
+  synced w n (serial.act (asks.Create c) v r) h = synced w n r h
+  synced w n (serial.act (asks.Update c y) v r) h = synced w n r h
+  synced w n (serial.act (asks.Set c y) v r) h = synced w n r h
+  synced w n (serial.act (asks.Value c) v r) h = synced w n r h
+  synced w n (serial.act (asks.Print y) v r) h = synced w n r h
+  synced w n (serial.act (asks.Invoke how callee) v r) h = synced w n r h
+  synced w n (serial.act asks.Resume v r) h = synced w n r h
+  synced w n (serial.act asks.Sync v r) h = synced w n r h
+  synced w n (serial.act (asks.Result y) v r) h = synced w n r h
+  synced w n (serial.act (asks.End y) v r) h = subst (λ r. IsSynced (named_from p w n r)) (sym h) tt
+  synced w n (serial.act (asks.Fault f) v r) h = synced w n r h
+  synced w n (serial.child how callee u r) h = (sync_ahead w (suc n) r h.1, synced (child_world p w n callee) 1 u h.0, synced w (suc n) r h.2)
+
+-- ---- of framed runs
+
+abbrev is_due : Due → Bool
+is_due begin_due = false
+is_due resume_due = true
+is_due neither_due = false
+
+pub resumed : {W : Type 0} (d : Due) (t : Run W) → IsFramed d t → IsResumed (is_due d) t
+resumed begin_due (act (Passes Begins) r) h = ((λ x. x), resumed neither_due r h)
+resumed resume_due (act (Passes Resumes) r) h = (tt, resumed neither_due r h)
+resumed neither_due (act (Reads c v) r) h = ((λ x. x), resumed neither_due r h)
+resumed neither_due (act (Writes c v) r) h = ((λ x. x), resumed neither_due r h)
+resumed neither_due (act Syncs r) h = ((λ x. x), resumed neither_due r h)
+resumed neither_due (act (Ends v gone) r) h = ((λ x. x), subst (IsResumed false) (sym h) tt)
+resumed neither_due (act (Passes (Creates i)) r) h = ((λ x. x), resumed neither_due r h)
+resumed neither_due (act (Passes (Updates i x)) r) h = ((λ x. x), resumed neither_due r h)
+resumed neither_due (act (Passes (Sets i x)) r) h = ((λ x. x), resumed neither_due r h)
+resumed neither_due (act (Passes (Values i x)) r) h = ((λ x. x), resumed neither_due r h)
+resumed neither_due (act (Passes (Prints x)) r) h = ((λ x. x), resumed neither_due r h)
+resumed neither_due (child k w u r) h = (resumed begin_due u h.0, resumed resume_due r h.1)
+resumed _ _ h = absurd h
+
+goes_on : {W : Type 0} (t : Run W) → SyncAhead t → GoesOn t
+goes_on stop h = absurd h
+goes_on (act e t) h = tt
+goes_on (child k w u t) h = tt
+
+comes_after : {W : Type 0} (k : Kind) (t : Run W) → SyncAhead t → ComesAfter k t
+comes_after Calls t h = goes_on t h
+comes_after Spawns t h = h
+
+pub closed : (d : Due) (t : Run World) → IsFramed d t → IsSynced t → IsClosed t
+closed begin_due (act (Passes Begins) r) h g = closed neither_due r h g
+closed resume_due (act (Passes Resumes) r) h g = closed neither_due r h g
+closed neither_due (act (Reads c v) r) h g = closed neither_due r h g
+closed neither_due (act (Writes c v) r) h g = closed neither_due r h g
+closed neither_due (act Syncs r) h g = closed neither_due r h g
+closed neither_due (act (Ends v gone) r) h g = h
+closed neither_due (act (Passes (Creates i)) r) h g = closed neither_due r h g
+closed neither_due (act (Passes (Updates i x)) r) h g = closed neither_due r h g
+closed neither_due (act (Passes (Sets i x)) r) h g = closed neither_due r h g
+closed neither_due (act (Passes (Values i x)) r) h g = closed neither_due r h g
+closed neither_due (act (Passes (Prints x)) r) h g = closed neither_due r h g
+closed neither_due (child k w u r) h g = (comes_after k r g.0, closed begin_due u h.0 g.1, closed resume_due r h.1 g.2)
+closed _ _ h g = absurd h
+
+-- each child makes an event
+abbrev AreInhabited : {W : Type 0} → Run W → Type 0
+AreInhabited stop = Unit {0}
+AreInhabited (act e t) = AreInhabited t
+AreInhabited (child k w u t) = (0 < length (trace u)) × AreInhabited u × AreInhabited t
+
+begun_inhabited : {W : Type 0} (t : Run W) → IsFramed begin_due t → 0 < length (trace t)
+begun_inhabited (act e t) h = omega arith
+begun_inhabited stop h = absurd h
+begun_inhabited (child k w u t) h = absurd h
+
+are_inhabited : {W : Type 0} (d : Due) (t : Run W) → IsFramed d t → AreInhabited t
+are_inhabited begin_due (act (Passes Begins) r) h = are_inhabited neither_due r h
+are_inhabited resume_due (act (Passes Resumes) r) h = are_inhabited neither_due r h
+are_inhabited neither_due (act (Reads c v) r) h = are_inhabited neither_due r h
+are_inhabited neither_due (act (Writes c v) r) h = are_inhabited neither_due r h
+are_inhabited neither_due (act Syncs r) h = are_inhabited neither_due r h
+are_inhabited neither_due (act (Ends v gone) r) h = subst AreInhabited (sym h) tt
+are_inhabited neither_due (act (Passes (Creates i)) r) h = are_inhabited neither_due r h
+are_inhabited neither_due (act (Passes (Updates i x)) r) h = are_inhabited neither_due r h
+are_inhabited neither_due (act (Passes (Sets i x)) r) h = are_inhabited neither_due r h
+are_inhabited neither_due (act (Passes (Values i x)) r) h = are_inhabited neither_due r h
+are_inhabited neither_due (act (Passes (Prints x)) r) h = are_inhabited neither_due r h
+are_inhabited neither_due (child k w u r) h = (begun_inhabited u h.0, are_inhabited begin_due u h.0, are_inhabited resume_due r h.1)
+are_inhabited _ _ h = absurd h
+
+abbrev LaterHasChildren : {W : Type 0} → Option (Tree W) → Type 0
+LaterHasChildren None = Unit {0}
+LaterHasChildren (Some t) = HasChildren t
+
+series_children : {W : Type 0} (a : Tree W) (o : Option (Tree W)) → HasChildren a → LaterHasChildren o → HasChildren (in_series a o)
+series_children a None h g = h
+series_children a (Some b) h g = (h, g)
+
+child_children : {W : Type 0} (k : Kind) (a b : Tree W) → 0 < size a → HasChildren a → HasChildren b → HasChildren (child_tree k a b)
+child_children Calls a b s h g = (h, g)
+child_children Spawns a b s h g = (s, h, g)
+
+blocks_children : {W : Type 0} (t : Run W) (s : List (Deed W)) → AreInhabited t → HasChildren (blocks t s).0 × LaterHasChildren (blocks t s).1
+blocks_children stop s h = (tt, tt)
+blocks_children (act (Reads c v) t) s h = blocks_children t (s ++ Does (Reads c v) ∷ []) h
+blocks_children (act (Writes c v) t) s h = blocks_children t (s ++ Does (Writes c v) ∷ []) h
+blocks_children (act Syncs t) s h = let g = blocks_children t (Does Syncs ∷ []) h in (tt, series_children (blocks t (Does Syncs ∷ [])).0 (blocks t (Does Syncs ∷ [])).1 g.0 g.1)
+blocks_children (act (Ends v gone) t) s h = blocks_children t (s ++ Does (Ends v gone) ∷ []) h
+blocks_children (act (Passes m) t) s h = blocks_children t (s ++ Does (Passes m) ∷ []) h
+blocks_children (child k w u t) s h =
+    let inner = blocks_children u [] h.1 in
+    let rest = blocks_children t [] h.2 in
+    let some : size (tree u) ≡ length (trace u) = tree_size (tree u) ∙ ap length (tree_events u) in
+    let many = h.0 in
+    ((tt, child_children k (tree u) (blocks t []).0 (omega (arith, some, many)) (series_children (blocks u []).0 (blocks u []).1 inner.0 inner.1) rest.0), rest.1)
+
+pub inhabited : {W : Type 0} (t : Run W) → IsFramed begin_due t → HasChildren (tree t)
+inhabited t h = let g = blocks_children t [] (are_inhabited begin_due t h) in series_children (blocks t []).0 (blocks t []).1 g.0 g.1

@@ -1,0 +1,37 @@
+-- The serial run of a program by names, each child's run inside its parent's.
+use Rattle.std.specs.Prelude.{ℕ, suc, ℤ}
+use Rattle.cilk_program.specs.declared.ask.Ask as language
+use Rattle.cilk_program.specs.declared.ask.Ask.TheVariants as asks
+use Rattle.cilk_program.specs.Syntax.{Source}
+use Rattle.cilk_program.specs.SerialRun as serial
+use Rattle.cilk_runs.specs.Runs.{Event, Reads, Writes, Syncs, Ends, Passes, Begins, Resumes, Creates, Updates, Sets, Values, Prints, Run, stop, act, child}
+use Rattle.cilk_determinacy.specs.Worlds.{World, first_world, child_world, cell_seen, reducer_seen, result_cell}
+use Rattle.cilk_determinacy.specs.Machine.{kind_of_child, retired_by}
+
+-- the event of an ask that was answered so; a frame of a run doesn't ask for a child or a fault so
+abbrev pub named_event : Source → World → language.Ask → ℤ → Event
+named_event p w asks.Begin a = Passes Begins
+named_event p w (asks.Read x) a = Reads (cell_seen w x) a
+named_event p w (asks.Write x v) a = Writes (cell_seen w x) v
+named_event p w (asks.Create r) a = Passes (Creates (reducer_seen w r))
+named_event p w (asks.Update r v) a = Passes (Updates (reducer_seen w r) v)
+named_event p w (asks.Set r v) a = Passes (Sets (reducer_seen w r) v)
+named_event p w (asks.Value r) a = Passes (Values (reducer_seen w r) a)
+named_event p w (asks.Print v) a = Passes (Prints v)
+named_event p w (asks.Invoke how callee) a = Passes Begins
+named_event p w asks.Resume a = Passes Resumes
+named_event p w asks.Sync a = Syncs
+named_event p w (asks.Result v) a = Writes (result_cell w) v
+named_event p w (asks.End v) a = Ends v (retired_by p w)
+named_event p w (asks.Fault f) a = Passes Begins
+
+-- a frame's run from a point on, where its next child has this ordinal
+abbrev pub named_from : Source → World → ℕ → serial.Run → Run World
+named_from p w k serial.stop = stop
+named_from p w k (serial.act a v r) = act (named_event p w a v) (named_from p w k r)
+named_from p w k (serial.child how callee u r) =
+    child (kind_of_child how) (child_world p w k callee) (named_from p (child_world p w k callee) 1 u) (named_from p w (suc k) r)
+
+-- the run of the first frame
+abbrev pub named : Source → serial.Run → Run World
+named p r = named_from p (first_world p) 1 r

@@ -1,0 +1,182 @@
+use Rattle.std.proofs.Common.{◌≡◌, ◌+◌, ◌<◌, ◌++◌, ◌∷◌, length, map, max, take, sym, ap, ◌∙◌, subst, rules, arith, append_assoc, List}
+use Rattle.std.proofs.lemmas.Result.{on_ok_weaker}
+use Rattle.cilk_program.specs.declared.syntax.Stmt.{Stmt, the_lemmas}
+use Rattle.cilk_program.specs.declared.syntax.Declaration.{Declaration}
+use Rattle.cilk_program.specs.Programs.{declaration, expression, optional, statement, statements}
+use Rattle.cilk_lower.specs.declared.code.Instr.TheVariants.{Tick}
+use Rattle.cilk_lower.specs.Code.{SitesFit, declarations_sites, expr_code, if_code, if_else_code, stmt_code, stmt_sites, all_code, all_sites}
+use Rattle.cilk_lower.specs.Rooms.{deepest, deepest_of_all}
+use Rattle.cilk_lower.specs.Turns.{test_code}
+use Rattle.cilk_lower.proofs.Named.{front_fits, back_fits}
+use Rattle.cilk_lower.proofs.Patch.{patch_if, patch_if_else, patch_for, turn_starts}
+use Rattle.cilk_lower.proofs.Rows.{block_is, for_is, row_fits, code_more, sites_more, room_more, row_code, meant, block_code, else_code, three_sites, for_code, stmt_some}
+use Rattle.cilk_lower.proofs.emitter.Emitter.+statements.Goals as goal
+
+pub emit_all-emit_stmt-requires : goal.emit_all-emit_stmt-requires
+emit_all-emit_stmt-requires t c =
+    let low : c.each.s-index < length c.args.row.now = omega (arith, c.each-test.true) in
+    (search (rules, the_lemmas), row_fits c.args.row.now c.each.s-index c.s-item.result low c.s-item.is c.requires)
+
+pub emit_all-each-preserved : goal.emit_all-each-preserved
+emit_all-each-preserved t c =
+    let row = c.args.row.now in
+    let i = c.each.s-index in
+    let s = c.s-item.result in
+    let low : i < length row = omega (arith, c.each-test.true) in
+    let base = c.args.self.now.instrs.items in
+    let sites = c.args.self.now.sites.items in
+    let so_far = statements (take i row) in
+    record {
+      code = row_code c.each.self.instrs.items c.emit_stmt.new.self.instrs.items sites c.each.self.sites.items so_far (statement s) c.each.invariant.sites c.in_ok-emit_stmt.ensures.code
+          ∙ ap (λ l. l ++ stmt_code (length sites + length (all_sites so_far)) (statement s)) c.each.invariant.code
+          ∙ append_assoc base (all_code (length sites) so_far) (stmt_code (length sites + length (all_sites so_far)) (statement s))
+          ∙ ap (λ l. base ++ l) (sym (code_more row i s low c.s-item.is (length sites)));
+      sites = c.in_ok-emit_stmt.ensures.sites
+          ∙ ap (λ l. l ++ stmt_sites (statement s)) c.each.invariant.sites
+          ∙ append_assoc sites (all_sites so_far) (stmt_sites (statement s))
+          ∙ ap (λ l. sites ++ l) (sym (sites_more row i s low c.s-item.is));
+      room = omega (arith, c.in_ok-emit_stmt.ensures.room, c.each.invariant.room, room_more row i s low c.s-item.is);
+    }
+
+pub emit_stmt-emit_all-requires : goal.emit_stmt-emit_all-requires
+emit_stmt-emit_all-requires t c =
+    let fits : SitesFit (all_sites (statements c.in-Block.row.items)) = subst (λ s. SitesFit (stmt_sites s)) (ap statement c.in-Block.is ∙ block_is c.in-Block.row) c.requires in
+    (search (rules, the_lemmas), subst (λ (row : List Stmt). SitesFit (all_sites (statements row))) (sym c.deref.ensures.value) fits)
+
+pub emit_stmt-emit_stmt-requires : goal.emit_stmt-emit_stmt-requires
+emit_stmt-emit_stmt-requires t c =
+    let fits : SitesFit (stmt_sites (statement c.in-If.body.value)) = subst (λ (s : Stmt). SitesFit (stmt_sites (statement s))) c.in-If.is c.requires in
+    (search (rules, the_lemmas), subst (λ (s : Stmt). SitesFit (stmt_sites (statement s))) (sym c.deref-in-If.ensures) fits)
+
+pub emit_stmt-emit_stmt-requires-in-IfElse : goal.emit_stmt-emit_stmt-requires-in-IfElse
+emit_stmt-emit_stmt-requires-in-IfElse t c =
+    let first = stmt_sites (statement c.in-IfElse.first.value) in
+    let second = stmt_sites (statement c.in-IfElse.second.value) in
+    let fits : SitesFit (first ++ second) = subst (λ (s : Stmt). SitesFit (stmt_sites (statement s))) c.in-IfElse.is c.requires in
+    (search (rules, the_lemmas), subst (λ (s : Stmt). SitesFit (stmt_sites (statement s))) (sym c.deref-in-IfElse.ensures) (front_fits first second fits))
+
+pub emit_stmt-emit_stmt-requires-in-IfElse-2 : goal.emit_stmt-emit_stmt-requires-in-IfElse-2
+emit_stmt-emit_stmt-requires-in-IfElse-2 t c =
+    let first = stmt_sites (statement c.in-IfElse.first.value) in
+    let second = stmt_sites (statement c.in-IfElse.second.value) in
+    let fits : SitesFit (first ++ second) = subst (λ (s : Stmt). SitesFit (stmt_sites (statement s))) c.in-IfElse.is c.requires in
+    (search (rules, the_lemmas), subst (λ (s : Stmt). SitesFit (stmt_sites (statement s))) (sym c.deref-in-IfElse-2.ensures) (back_fits first second fits))
+
+pub emit_stmt-emit_all-requires-in-For : goal.emit_stmt-emit_all-requires-in-For
+emit_stmt-emit_all-requires-in-For t c =
+    let a = c.in-For in
+    let row = all_sites (statements a.beginning.items) in
+    let body = stmt_sites (statement a.body.value) in
+    let step = all_sites (statements a.step.items) in
+    let fits : SitesFit (row ++ (body ++ step)) = subst (λ s. SitesFit (stmt_sites s)) (ap statement a.is ∙ for_is a.beginning a.step a.test a.body) c.requires in
+    (search (rules, the_lemmas), subst (λ (row : List Stmt). SitesFit (all_sites (statements row))) (sym c.deref-in-For.ensures.value) (front_fits row (body ++ step) fits))
+
+pub emit_stmt-emit_stmt-requires-in-For : goal.emit_stmt-emit_stmt-requires-in-For
+emit_stmt-emit_stmt-requires-in-For t c =
+    let a = c.in-For in
+    let row = all_sites (statements a.beginning.items) in
+    let body = stmt_sites (statement a.body.value) in
+    let step = all_sites (statements a.step.items) in
+    let fits : SitesFit (row ++ (body ++ step)) = subst (λ s. SitesFit (stmt_sites s)) (ap statement a.is ∙ for_is a.beginning a.step a.test a.body) c.requires in
+    (search (rules, the_lemmas), subst (λ (s : Stmt). SitesFit (stmt_sites (statement s))) (sym c.deref-in-For-2.ensures) (front_fits body step (back_fits row (body ++ step) fits)))
+
+pub emit_stmt-emit_all-requires-in-For-2 : goal.emit_stmt-emit_all-requires-in-For-2
+emit_stmt-emit_all-requires-in-For-2 t c =
+    let a = c.in-For in
+    let row = all_sites (statements a.beginning.items) in
+    let body = stmt_sites (statement a.body.value) in
+    let step = all_sites (statements a.step.items) in
+    let fits : SitesFit (row ++ (body ++ step)) = subst (λ s. SitesFit (stmt_sites s)) (ap statement a.is ∙ for_is a.beginning a.step a.test a.body) c.requires in
+    (search (rules, the_lemmas), subst (λ (row : List Stmt). SitesFit (all_sites (statements row))) (sym c.deref-in-For-3.ensures.value) (back_fits body step (back_fits row (body ++ step) fits)))
+
+pub emit_stmt-end_turn-requires-clause-start : goal.emit_stmt-end_turn-requires-clause-start
+emit_stmt-end_turn-requires-clause-start t c =
+    let test = optional c.in-For.test in
+    let s = statement c.deref-in-For-2.result.now in
+    let sites = c.emit_all-in-For.new.self.sites.items in
+    let starts = turn_starts (test_code test) (stmt_code (length sites) s) (all_code (length c.emit_stmt-in-For.new.self.sites.items) (statements c.deref-in-For-3.result.now)) c.emit_all-in-For.new.self.instrs.items _ _ _ c.in_ok-exit-in-For.ensures.code c.in_ok-emit_stmt-in-For.ensures.code c.in_ok-emit_all-in-For-2.ensures.code (stmt_some (length sites) s) in
+    omega (arith, starts, c.len-start.ensures, c.emit_all-in-For.new.self.instrs.ok.0)
+
+pub emit_stmt-emit_declarations-requires : goal.emit_stmt-emit_declarations-requires
+emit_stmt-emit_declarations-requires t c =
+    let fits : SitesFit (declarations_sites (map declaration c.in-Declare.row.items)) = subst (λ (s : Stmt). SitesFit (stmt_sites (statement s))) c.in-Declare.is c.requires in
+    subst (λ (row : List Declaration). SitesFit (declarations_sites (map declaration row))) (sym c.deref-in-Declare.ensures.value) fits
+
+pub emit_stmt-emit_statement_invoke-requires : goal.emit_stmt-emit_statement_invoke-requires
+emit_stmt-emit_statement_invoke-requires t c = subst (λ (s : Stmt). SitesFit (stmt_sites (statement s))) c.in-Invoke.is c.requires
+
+pub emit_stmt-returns-in_ok-begin-in-Block-clause-code : goal.emit_stmt-returns-in_ok-begin-in-Block-clause-code
+emit_stmt-returns-in_ok-begin-in-Block-clause-code t c =
+    let base = c.args.self.now.instrs.items in
+    let k = length c.args.self.now.sites.items in
+    on_ok_weaker {P = c.emit_all.new.self.instrs.items ≡ c.begin-in-Block.new.code.items ++ all_code k (statements c.deref.result.now)} {Q = c.emit_all.new.self.instrs.items ≡ base ++ stmt_code k (statement c.args.s.now)} c.emit_all.result (λ e.
+    block_code base c.begin-in-Block.new.code.items _ k (statements c.deref.result.now) c.in_ok-begin-in-Block.ensures e
+    ∙ ap (λ row. base ++ (Tick ∷ all_code k (statements row))) c.deref.ensures.value
+    ∙ ap (λ s. base ++ stmt_code k s) (sym (ap statement c.in-Block.is ∙ block_is c.in-Block.row))) c.emit_all.ensures.code
+
+pub emit_stmt-returns-in_ok-begin-in-Block-clause-sites : goal.emit_stmt-returns-in_ok-begin-in-Block-clause-sites
+emit_stmt-returns-in_ok-begin-in-Block-clause-sites t c =
+    let sites = c.args.self.now.sites.items in
+    on_ok_weaker {P = c.emit_all.new.self.sites.items ≡ sites ++ all_sites (statements c.deref.result.now)} {Q = c.emit_all.new.self.sites.items ≡ sites ++ stmt_sites (statement c.args.s.now)} c.emit_all.result (λ e. e
+    ∙ ap (λ row. sites ++ all_sites (statements row)) c.deref.ensures.value
+    ∙ ap (λ s. sites ++ stmt_sites s) (sym (ap statement c.in-Block.is ∙ block_is c.in-Block.row))) c.emit_all.ensures.sites
+
+pub emit_stmt-returns-in_ok-begin-in-Block-clause-room : goal.emit_stmt-returns-in_ok-begin-in-Block-clause-room
+emit_stmt-returns-in_ok-begin-in-Block-clause-room t c =
+    let room = c.args.self.now.room in
+    on_ok_weaker {P = c.emit_all.new.self.room ≡ max room (deepest_of_all (statements c.deref.result.now))} {Q = c.emit_all.new.self.room ≡ max room (deepest (statement c.args.s.now))} c.emit_all.result (λ e. e
+    ∙ ap (λ row. max room (deepest_of_all (statements row))) c.deref.ensures.value
+    ∙ ap (λ s. max room (deepest s)) (sym (ap statement c.in-Block.is ∙ block_is c.in-Block.row))) c.emit_all.ensures.room
+
+pub emit_stmt-returns-in_ok-emit_stmt-in-If-clause-code : goal.emit_stmt-returns-in_ok-emit_stmt-in-If-clause-code
+emit_stmt-returns-in_ok-emit_stmt-in-If-clause-code t c =
+    let base = c.args.self.now.instrs.items in
+    let k = length c.args.self.now.sites.items in
+    patch_if _ _ _ _ _ _ _ c.in_ok-skip-in-If.ensures.code c.in_ok-skip-in-If.ensures.place c.in_ok-emit_stmt-in-If.ensures.code c.pass_if_zero.ensures
+    ∙ ap (λ s. base ++ (Tick ∷ if_code (expr_code (expression c.in-If.test)) (stmt_code k (statement s)))) c.deref-in-If.ensures
+    ∙ ap (λ s. base ++ stmt_code k (statement s)) (sym c.in-If.is)
+
+pub emit_stmt-returns-in_ok-emit_stmt-in-IfElse-2-clause-code : goal.emit_stmt-returns-in_ok-emit_stmt-in-IfElse-2-clause-code
+emit_stmt-returns-in_ok-emit_stmt-in-IfElse-2-clause-code t c =
+    let base = c.args.self.now.instrs.items in
+    let sites = c.args.self.now.sites.items in
+    let k = length sites in
+    let test = expr_code (expression c.in-IfElse.test) in
+    let first = c.deref-in-IfElse.result.now in
+    let second = c.deref-in-IfElse-2.result.now in
+    let other = else_code c.begin_else.new.code.items _ sites c.emit_stmt-in-IfElse.new.self.sites.items (statement first) (statement second) c.in_ok-emit_stmt-in-IfElse.ensures.sites c.in_ok-emit_stmt-in-IfElse-2.ensures.code in
+    patch_if_else _ _ _ _ _ _ _ _ _ _ _ c.in_ok-skip-in-IfElse.ensures.code c.in_ok-skip-in-IfElse.ensures.place c.in_ok-emit_stmt-in-IfElse.ensures.code c.in_ok-jump-in-IfElse.ensures.place c.in_ok-jump-in-IfElse.ensures.code other c.pass.ensures
+    ∙ ap (λ s. base ++ (Tick ∷ if_else_code test (stmt_code k (statement s)) (stmt_code (k + length (stmt_sites (statement s))) (statement second)))) c.deref-in-IfElse.ensures
+    ∙ ap (λ s. base ++ (Tick ∷ if_else_code test (stmt_code k (statement c.in-IfElse.first.value)) (stmt_code (k + length (stmt_sites (statement c.in-IfElse.first.value))) (statement s)))) c.deref-in-IfElse-2.ensures
+    ∙ ap (λ s. base ++ stmt_code k (statement s)) (sym c.in-IfElse.is)
+
+pub emit_stmt-returns-in_ok-end_turn-in-For-clause-code : goal.emit_stmt-returns-in_ok-end_turn-in-For-clause-code
+emit_stmt-returns-in_ok-end_turn-in-For-clause-code t c =
+    let base = c.args.self.now.instrs.items in
+    let sites = c.args.self.now.sites.items in
+    let row = c.deref-in-For.result.now in
+    let body = c.deref-in-For-2.result.now in
+    let step = c.deref-in-For-3.result.now in
+    let test = optional c.in-For.test in
+    let s1 = c.emit_all-in-For.new.self.sites.items in
+    let s2 = c.emit_stmt-in-For.new.self.sites.items in
+    patch_for test base (all_code (length sites) (statements row)) (stmt_code (length s1) (statement body)) (all_code (length s2) (statements step)) _ _ _ _ _ _ _ _ c.in_ok-begin-in-For.ensures c.in_ok-emit_all-in-For.ensures.code (c.len-start.ensures ∙ c.emit_all-in-For.new.self.instrs.ok.0) c.in_ok-exit-in-For.ensures.code c.in_ok-exit-in-For.ensures.exit c.in_ok-emit_stmt-in-For.ensures.code c.in_ok-emit_all-in-For-2.ensures.code c.in_ok-end_turn-in-For.ensures
+    ∙ ap (λ l. base ++ l) (for_code sites s1 s2 (statements row) (statements step) test (statement body) c.in_ok-emit_all-in-For.ensures.sites c.in_ok-emit_stmt-in-For.ensures.sites)
+    ∙ ap (λ s. base ++ stmt_code (length sites) s) (sym (meant c.args.s.now c.in-For.beginning c.in-For.step c.in-For.test c.in-For.body row step body c.in-For.is c.deref-in-For.ensures.value c.deref-in-For-3.ensures.value c.deref-in-For-2.ensures))
+
+pub emit_stmt-returns-in_ok-end_turn-in-For-clause-sites : goal.emit_stmt-returns-in_ok-end_turn-in-For-clause-sites
+emit_stmt-returns-in_ok-end_turn-in-For-clause-sites t c =
+    let sites = c.args.self.now.sites.items in
+    let row = c.deref-in-For.result.now in
+    let body = c.deref-in-For-2.result.now in
+    let step = c.deref-in-For-3.result.now in
+    three_sites sites c.emit_all-in-For.new.self.sites.items c.emit_stmt-in-For.new.self.sites.items _ (all_sites (statements row)) (stmt_sites (statement body)) (all_sites (statements step)) c.in_ok-emit_all-in-For.ensures.sites c.in_ok-emit_stmt-in-For.ensures.sites c.in_ok-emit_all-in-For-2.ensures.sites
+    ∙ ap (λ s. sites ++ stmt_sites s) (sym (meant c.args.s.now c.in-For.beginning c.in-For.step c.in-For.test c.in-For.body row step body c.in-For.is c.deref-in-For.ensures.value c.deref-in-For-3.ensures.value c.deref-in-For-2.ensures))
+
+pub emit_stmt-returns-in_ok-end_turn-in-For-clause-room : goal.emit_stmt-returns-in_ok-end_turn-in-For-clause-room
+emit_stmt-returns-in_ok-end_turn-in-For-clause-room t c =
+    let row = c.deref-in-For.result.now in
+    let body = c.deref-in-For-2.result.now in
+    let step = c.deref-in-For-3.result.now in
+    let room = ap deepest (meant c.args.s.now c.in-For.beginning c.in-For.step c.in-For.test c.in-For.body row step body c.in-For.is c.deref-in-For.ensures.value c.deref-in-For-3.ensures.value c.deref-in-For-2.ensures) in
+    omega (arith, room, c.in_ok-emit_all-in-For.ensures.room, c.in_ok-exit-in-For.ensures.room, c.in_ok-emit_stmt-in-For.ensures.room, c.in_ok-emit_all-in-For-2.ensures.room)

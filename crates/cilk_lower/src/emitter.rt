@@ -1,0 +1,221 @@
+//! The instructions and call sites of statements and bodies.
+
+ghost use Rattle.std.specs.Prelude.{◌≡◌, ◌≤◌, max, map, [], ◌∷◌, ◌++◌, length, IfOk, OnOk};
+ghost use Rattle.cilk_lower.specs.declared.code.Instr.{Instr};
+ghost use Rattle.cilk_lower.specs.Bodies.{FunctionFits, LoopFits};
+ghost use Rattle.cilk_lower.specs.Code.{all_code, all_sites, declaration_code, declaration_sites, declarations_code, declarations_sites, function_code, invoke_code, loop_code, site, SitesFit, stmt_code, stmt_sites};
+ghost use Rattle.cilk_lower.specs.Rooms.{declaration_depth, declarations_depth, deepest, deepest_of_all, depths};
+ghost use Rattle.cilk_program.specs.Programs.{declaration, function, invoke, loop, statement, statements};
+
+use crate::bodies::{put_own, put_words};
+use crate::code::{Entry, Instr, Site};
+use crate::expressions::{emit_value, emit_values};
+use crate::put::{
+    begin, begin_else, end_turn, pass, pass_if_zero, pass_unless_one, put, put_ends, put_halves,
+    put_jump,
+};
+use crate::simple::{
+    emit_assign, emit_change, emit_choice, emit_last, emit_parallel, emit_return, emit_step,
+    emit_sync, emit_test,
+};
+use cilk_program::given::References;
+use cilk_program::program::{Function, Loop};
+use cilk_program::syntax::{Declaration, Invoke, Place, Reducer, Stmt};
+use std::alloc::AllocError;
+
+/// The instructions and call sites so far, and the room that the body at hand needs.
+#[derive(Drop)]
+pub struct Emitter {
+    pub instrs: Vec<Instr>,
+    pub sites: Vec<Site>,
+    pub room: usize,
+}
+
+impl Emitter {
+    /// A function: its words, its reducers, its body.
+    pub fn emit_function(&mut self, f: &Function) -> Result<Entry, AllocError>
+        requires { FunctionFits f.now }
+        ensures code { OnOk result (self.new.instrs.items ≡ self.old.instrs.items ++ function_code (length self.old.sites.items) (function f.now)) }
+        ensures sites { let g = function f.now in OnOk result (self.new.sites.items ≡ self.old.sites.items ++ all_sites g.body) }
+        ensures place { IfOk result (λ e. e.place ≡ length self.old.instrs.items) }
+        ensures room { let g = function f.now in IfOk result (λ e. e.room ≡ deepest_of_all g.body) }
+    {
+        let place = self.instrs.len();
+        put_words(&mut self.instrs, f.words)?;
+        put_own(&mut self.instrs, f.reducers.as_slice())?;
+        self.room = 0;
+        self.emit_all(&f.body)?;
+        put_ends(&mut self.instrs)?;
+        Ok(Entry {
+            place,
+            room: self.room,
+        })
+    }
+
+    /// The body of a `cilk_for`: a frame with one turn runs it, a frame with several halves them.
+    pub fn emit_loop(&mut self, l: &Loop) -> Result<Entry, AllocError>
+        requires { LoopFits l.now }
+        ensures code { OnOk result (self.new.instrs.items ≡ self.old.instrs.items ++ loop_code (length self.old.sites.items) (loop l.now)) }
+        ensures sites { let b = loop l.now in OnOk result (self.new.sites.items ≡ self.old.sites.items ++ all_sites b.body) }
+        ensures place { IfOk result (λ e. e.place ≡ length self.old.instrs.items) }
+        ensures room { let b = loop l.now in IfOk result (λ e. e.room ≡ deepest_of_all b.body) }
+    {
+        let place = put_jump(&mut self.instrs, Instr::SkipUnlessOne(0))?;
+        put(&mut self.instrs, Instr::Turn)?;
+        self.room = 0;
+        self.emit_all(&l.body)?;
+        put_ends(&mut self.instrs)?;
+        pass_unless_one(&mut self.instrs, place);
+        put_halves(&mut self.instrs)?;
+        Ok(Entry {
+            place,
+            room: self.room,
+        })
+    }
+
+    // The statements of a block or a body.
+    #[cycle(statements)]
+    fn emit_all(&mut self, row: &[Stmt]) -> Result<(), AllocError>
+        requires { SitesFit (all_sites (statements row.now)) }
+        ensures code { OnOk result (self.new.instrs.items ≡ self.old.instrs.items ++ all_code (length self.old.sites.items) (statements row.now)) }
+        ensures sites { OnOk result (self.new.sites.items ≡ self.old.sites.items ++ all_sites (statements row.now)) }
+        ensures room { OnOk result (self.new.room ≡ max self.old.room (deepest_of_all (statements row.now))) }
+    {
+        'each: for s in row {
+            self.emit_stmt(s)?;
+        }
+        Ok(())
+    }
+
+    #[cycle(statements)]
+    fn emit_stmt(&mut self, s: &Stmt) -> Result<(), AllocError>
+        requires { SitesFit (stmt_sites (statement s.now)) }
+        ensures code { OnOk result (self.new.instrs.items ≡ self.old.instrs.items ++ stmt_code (length self.old.sites.items) (statement s.now)) }
+        ensures sites { OnOk result (self.new.sites.items ≡ self.old.sites.items ++ stmt_sites (statement s.now)) }
+        ensures room { OnOk result (self.new.room ≡ max self.old.room (deepest (statement s.now))) }
+    {
+        match s {
+            Stmt::Empty => begin(&mut self.instrs),
+            Stmt::Block(row) => {
+                begin(&mut self.instrs)?;
+                self.emit_all(row)
+            }
+            Stmt::Declare(row) => self.emit_declarations(row),
+            Stmt::Assign(to, e) => emit_assign(&mut self.instrs, &mut self.room, to, e),
+            Stmt::Change(to, op, e) => emit_change(&mut self.instrs, &mut self.room, to, *op, e),
+            Stmt::Step(to, n) => emit_step(&mut self.instrs, &mut self.room, to, *n),
+            Stmt::Invoke(call) => self.emit_statement_invoke(call),
+            Stmt::Sync => emit_sync(&mut self.instrs),
+            Stmt::If(test, body) => {
+                let skip = emit_choice(&mut self.instrs, &mut self.room, test)?;
+                self.emit_stmt(body)?;
+                pass_if_zero(&mut self.instrs, skip);
+                Ok(())
+            }
+            Stmt::IfElse(test, first, second) => {
+                let skip = emit_choice(&mut self.instrs, &mut self.room, test)?;
+                self.emit_stmt(first)?;
+                let jump = begin_else(&mut self.instrs, skip)?;
+                self.emit_stmt(second)?;
+                pass(&mut self.instrs, jump);
+                Ok(())
+            }
+            Stmt::For(beginning, test, step, body) => {
+                begin(&mut self.instrs)?;
+                self.emit_all(beginning)?;
+                let start = self.instrs.len();
+                let exit = emit_test(&mut self.instrs, &mut self.room, test)?;
+                self.emit_stmt(body)?;
+                self.emit_all(step)?;
+                end_turn(&mut self.instrs, start, exit)?;
+                Ok(())
+            }
+            Stmt::ParallelFor(a, b, n) => emit_parallel(&mut self.instrs, &mut self.room, a, b, *n),
+            Stmt::Print(e) => emit_last(&mut self.instrs, &mut self.room, e, Instr::Print),
+            Stmt::Update(r, e) => emit_last(&mut self.instrs, &mut self.room, e, Instr::Update(*r)),
+            Stmt::Set(r, e) => emit_last(&mut self.instrs, &mut self.room, e, Instr::Set(*r)),
+            Stmt::Return(e) => emit_return(&mut self.instrs, &mut self.room, e),
+        }
+    }
+
+    // The variables of a declaration, one after the other.
+    fn emit_declarations(&mut self, row: &[Declaration]) -> Result<(), AllocError>
+        requires { SitesFit (declarations_sites (map declaration row.now)) }
+        ensures code { OnOk result (self.new.instrs.items ≡ self.old.instrs.items ++ (Instr.Tick ∷ declarations_code (length self.old.sites.items) (map declaration row.now))) }
+        ensures sites { OnOk result (self.new.sites.items ≡ self.old.sites.items ++ declarations_sites (map declaration row.now)) }
+        ensures room { OnOk result (self.new.room ≡ max self.old.room (declarations_depth (map declaration row.now))) }
+    {
+        begin(&mut self.instrs)?;
+        'each: for d in row {
+            self.emit_declaration(d)?;
+        }
+        Ok(())
+    }
+
+    fn emit_declaration(&mut self, d: &Declaration) -> Result<(), AllocError>
+        requires { SitesFit (declaration_sites (declaration d.now)) }
+        ensures code { OnOk result (self.new.instrs.items ≡ self.old.instrs.items ++ declaration_code (length self.old.sites.items) (declaration d.now)) }
+        ensures sites { OnOk result (self.new.sites.items ≡ self.old.sites.items ++ declaration_sites (declaration d.now)) }
+        ensures room { OnOk result (self.new.room ≡ max self.old.room (declaration_depth (declaration d.now))) }
+    {
+        match d {
+            Declaration::Zero(cell) => put(&mut self.instrs, Instr::Zero(*cell)),
+            Declaration::Value(cell, e) => {
+                emit_value(&mut self.instrs, &mut self.room, e)?;
+                put(&mut self.instrs, Instr::Store(Place::Local(0, *cell)))
+            }
+            Declaration::Invoke(call) => self.emit_invoke(call),
+        }
+    }
+
+    // A call or spawn that is a statement of its own.
+    fn emit_statement_invoke(&mut self, call: &Invoke) -> Result<(), AllocError>
+        requires { SitesFit (site (invoke call.now) ∷ []) }
+        ensures code { OnOk result (self.new.instrs.items ≡ self.old.instrs.items ++ (Instr.Tick ∷ invoke_code (length self.old.sites.items) (invoke call.now))) }
+        ensures sites { OnOk result (self.new.sites.items ≡ self.old.sites.items ++ site (invoke call.now) ∷ []) }
+        ensures room { let i = invoke call.now in OnOk result (self.new.room ≡ max self.old.room (depths i.arguments)) }
+    {
+        begin(&mut self.instrs)?;
+        self.emit_invoke(call)
+    }
+
+    // The arguments of a call or spawn, and then its call site.
+    fn emit_invoke(&mut self, call: &Invoke) -> Result<(), AllocError>
+        requires { SitesFit (site (invoke call.now) ∷ []) }
+        ensures code { OnOk result (self.new.instrs.items ≡ self.old.instrs.items ++ invoke_code (length self.old.sites.items) (invoke call.now)) }
+        ensures sites { OnOk result (self.new.sites.items ≡ self.old.sites.items ++ site (invoke call.now) ∷ []) }
+        ensures room { let i = invoke call.now in OnOk result (self.new.room ≡ max self.old.room (depths i.arguments)) }
+    {
+        emit_values(&mut self.instrs, &mut self.room, &call.arguments)?;
+        put(&mut self.instrs, Instr::Invoke(self.sites.len()))?;
+        put(&mut self.instrs, Instr::Resume)?;
+        self.sites.push(site_of(call))?;
+        Ok(())
+    }
+}
+
+// The call site of a call or spawn.
+fn site_of(call: &Invoke) -> Site
+    requires { length call.now.reducers.items ≤ 16 }
+    ensures { result ≡ site (invoke call.now) }
+{
+    Site {
+        how: call.how,
+        function: call.function,
+        words: call.arguments.len(),
+        reducers: references(&call.reducers),
+        result: call.result,
+    }
+}
+
+// The reducers of a call or spawn, the last one put first.
+fn references(reducers: &[Reducer]) -> References
+    requires { length reducers.now ≤ 16 }
+    ensures { result ≡ reducers.now }
+{
+    let mut references = References::new();
+    'each: for i in 0..reducers.len() {
+        references.put(reducers[reducers.len() - 1 - i]);
+    }
+    references
+}

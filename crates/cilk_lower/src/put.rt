@@ -1,0 +1,168 @@
+//! Instructions that are put behind the code so far.
+//!
+//! A jump forward is written with 0 first, and again once all that it passes stands behind it.
+
+ghost use Rattle.std.specs.Prelude.{◌≡◌, ◌+◌, ◌-◌, ◌<◌, pos, [], ◌∷◌, ◌++◌, length, IfOk, IfSome, OnOk, slice_set};
+ghost use Rattle.cilk_lower.specs.declared.code.Instr.{Instr};
+ghost use Rattle.cilk_lower.specs.Code.{ends, halves_code};
+ghost use Rattle.cilk_lower.specs.Turns.{turned};
+
+use crate::code::Instr;
+use cilk_monoid::kind::MonoidKind;
+use cilk_program::syntax::{Reducer, ReducerPlace};
+use std::alloc::AllocError;
+
+/// A statement's tick.
+pub fn begin(code: &mut Vec<Instr>) -> Result<(), AllocError>
+    ensures { OnOk result (code.new.items ≡ code.old.items ++ Instr.Tick ∷ []) }
+{
+    put(code, Instr::Tick)
+}
+
+/// A reducer begins with its monoid's unit.
+pub fn put_create(
+    code: &mut Vec<Instr>,
+    place: ReducerPlace,
+    kind: MonoidKind,
+) -> Result<(), AllocError>
+    ensures { OnOk result (code.new.items ≡ code.old.items ++ Instr.Create (record { place = place; kind = kind }) ∷ []) }
+{
+    put(code, Instr::Create(Reducer { place, kind }))
+}
+
+/// What a frame ends with.
+pub fn put_ends(code: &mut Vec<Instr>) -> Result<(), AllocError>
+    ensures { OnOk result (code.new.items ≡ code.old.items ++ ends) }
+{
+    put(code, Instr::Sync)?;
+    put(code, Instr::GiveResult)?;
+    put(code, Instr::End)
+}
+
+/// What a frame with several turns does: it spawns the first half and calls the second.
+pub fn put_halves(code: &mut Vec<Instr>) -> Result<(), AllocError>
+    ensures { OnOk result (code.new.items ≡ code.old.items ++ halves_code) }
+{
+    put(code, Instr::SpawnHalf)?;
+    put(code, Instr::Resume)?;
+    put(code, Instr::CallHalf)?;
+    put(code, Instr::Resume)?;
+    put_ends(code)
+}
+
+/// Behind the right side of `&&`: its truth, or 0 where the left side was 0.
+#[tactic(auto, using(crate::proofs::Patch::and_ends))]
+pub fn end_and(code: &mut Vec<Instr>, skip: usize) -> Result<(), AllocError>
+    requires { skip < length code.old.items }
+    ensures { OnOk result (code.new.items ≡ slice_set code.old.items skip (Instr.SkipIfZero (length code.old.items - skip + 1)) ++ (Instr.Truth ∷ (Instr.GoOn 1 ∷ (Instr.Push (pos 0) ∷ [])))) }
+{
+    put(code, Instr::Truth)?;
+    put(code, Instr::GoOn(1))?;
+    pass_if_zero(code, skip);
+    put(code, Instr::Push(0))
+}
+
+/// Between the sides of `||`: 1 where the left side wasn't 0, and then a jump behind the right side, whose place is the result.
+pub fn begin_or(code: &mut Vec<Instr>) -> Result<usize, AllocError>
+    ensures code { OnOk result (code.new.items ≡ code.old.items ++ (Instr.SkipIfZero 2 ∷ (Instr.Push (pos 1) ∷ (Instr.GoOn 0 ∷ [])))) }
+    ensures place { IfOk result (λ n. n ≡ length code.old.items + 2) }
+{
+    put(code, Instr::SkipIfZero(2))?;
+    put(code, Instr::Push(1))?;
+    put_jump(code, Instr::GoOn(0))
+}
+
+/// Behind the right side of `||`: its truth.
+#[tactic(auto, using(crate::proofs::Patch::or_ends))]
+pub fn end_or(code: &mut Vec<Instr>, jump: usize) -> Result<(), AllocError>
+    requires { jump < length code.old.items }
+    ensures { OnOk result (code.new.items ≡ slice_set code.old.items jump (Instr.GoOn (length code.old.items - jump)) ++ Instr.Truth ∷ []) }
+{
+    put(code, Instr::Truth)?;
+    pass(code, jump);
+    Ok(())
+}
+
+/// Between the branches of a choice: a jump behind the second, whose place is the result. The test at `skip` passes it too.
+pub fn begin_else(code: &mut Vec<Instr>, skip: usize) -> Result<usize, AllocError>
+    requires { skip < length code.old.items }
+    ensures code { OnOk result (code.new.items ≡ slice_set (code.old.items ++ Instr.GoOn 0 ∷ []) skip (Instr.SkipIfZero (length code.old.items - skip))) }
+    ensures place { IfOk result (λ n. n ≡ length code.old.items) }
+{
+    let jump = put_jump(code, Instr::GoOn(0))?;
+    pass_if_zero(code, skip);
+    Ok(jump)
+}
+
+/// Behind a turn: back to its start. Where the turns have a condition, its test passes all of them.
+pub fn end_turn(code: &mut Vec<Instr>, start: usize, exit: Option<usize>) -> Result<(), AllocError>
+    requires start { start < length code.old.items }
+    requires exit { IfSome exit (λ n. n < length code.old.items) }
+    ensures { OnOk result (code.new.items ≡ turned start exit code.old.items) }
+{
+    go_back(code, start)?;
+    if let Some(place) = exit {
+        pass_if_zero(code, place);
+    }
+    Ok(())
+}
+
+/// A jump back to a place.
+fn go_back(code: &mut Vec<Instr>, start: usize) -> Result<(), AllocError>
+    requires { start < length code.old.items }
+    ensures { OnOk result (code.new.items ≡ code.old.items ++ Instr.GoBack (length code.old.items - start) ∷ []) }
+{
+    let end = code.len();
+    put(code, Instr::GoBack(end - start))
+}
+
+/// The test at the place passes all that stands behind it.
+pub fn pass_if_zero(code: &mut Vec<Instr>, place: usize)
+    requires { place < length code.old.items }
+    ensures { code.new.items ≡ slice_set code.old.items place (Instr.SkipIfZero (length code.old.items - place - 1)) }
+{
+    code[place] = Instr::SkipIfZero(code.len() - place - 1);
+}
+
+/// The test for one turn at the place passes all that stands behind it.
+pub fn pass_unless_one(code: &mut Vec<Instr>, place: usize)
+    requires { place < length code.old.items }
+    ensures { code.new.items ≡ slice_set code.old.items place (Instr.SkipUnlessOne (length code.old.items - place - 1)) }
+{
+    code[place] = Instr::SkipUnlessOne(code.len() - place - 1);
+}
+
+/// The jump at the place passes all that stands behind it.
+pub fn pass(code: &mut Vec<Instr>, place: usize)
+    requires { place < length code.old.items }
+    ensures { code.new.items ≡ slice_set code.old.items place (Instr.GoOn (length code.old.items - place - 1)) }
+{
+    code[place] = Instr::GoOn(code.len() - place - 1);
+}
+
+/// One more instruction, and its place.
+pub fn put_jump(code: &mut Vec<Instr>, instr: Instr) -> Result<usize, AllocError>
+    ensures code { OnOk result (code.new.items ≡ code.old.items ++ instr ∷ []) }
+    ensures place { IfOk result (λ n. n ≡ length code.old.items) }
+{
+    let place = code.len();
+    put(code, instr)?;
+    Ok(place)
+}
+
+/// One more instruction, which brings an operand.
+pub fn put_operand(code: &mut Vec<Instr>, instr: Instr) -> Result<usize, AllocError>
+    ensures code { OnOk result (code.new.items ≡ code.old.items ++ instr ∷ []) }
+    ensures depth { IfOk result (λ d. d ≡ 1) }
+{
+    put(code, instr)?;
+    Ok(1)
+}
+
+/// One more instruction.
+pub fn put(code: &mut Vec<Instr>, instr: Instr) -> Result<(), AllocError>
+    ensures { OnOk result (code.new.items ≡ code.old.items ++ instr ∷ []) }
+{
+    code.push(instr)?;
+    Ok(())
+}

@@ -1,0 +1,202 @@
+//! The instructions of the statements that hold no other statement.
+
+ghost use Rattle.std.specs.Prelude.{◌≡◌, ◌+◌, max, [], ◌∷◌, ◌++◌, length, IfOk, OnOk};
+ghost use Rattle.cilk_lower.specs.declared.code.Instr.{Instr};
+ghost use Rattle.cilk_lower.specs.Code.{expr_code, fetch, index_code, return_code, store};
+ghost use Rattle.cilk_lower.specs.Rooms.{depth, index_depth, indices, optional_depth};
+ghost use Rattle.cilk_lower.specs.Turns.{exit_of, test_code};
+ghost use Rattle.cilk_program.specs.Programs.{expression, optional, target};
+
+use crate::code::Instr;
+use crate::expressions::{emit_above, emit_begun, emit_value};
+use crate::put::{begin, put, put_ends, put_jump};
+use cilk_program::syntax::{Compound, Expr, Target};
+use std::alloc::AllocError;
+
+/// A statement's tick, then its expression, and then the instruction that takes the value.
+pub fn emit_last(
+    code: &mut Vec<Instr>,
+    room: &mut usize,
+    e: &Expr,
+    last: Instr,
+) -> Result<(), AllocError>
+    ensures code { OnOk result (code.new.items ≡ code.old.items ++ (Instr.Tick ∷ (expr_code (expression e.now) ++ last ∷ []))) }
+    ensures room { OnOk result (room.new ≡ max room.old (depth (expression e.now))) }
+{
+    emit_begun(code, room, e)?;
+    put(code, last)
+}
+
+/// A statement's tick, then a test, and then a jump that doesn't yet say what it passes, whose place is the result.
+pub fn emit_choice(
+    code: &mut Vec<Instr>,
+    room: &mut usize,
+    test: &Expr,
+) -> Result<usize, AllocError>
+    ensures code { OnOk result (code.new.items ≡ code.old.items ++ (Instr.Tick ∷ (expr_code (expression test.now) ++ Instr.SkipIfZero 0 ∷ []))) }
+    ensures place { IfOk result (λ n. n ≡ length code.old.items + 1 + length (expr_code (expression test.now))) }
+    ensures room { OnOk result (room.new ≡ max room.old (depth (expression test.now))) }
+{
+    emit_begun(code, room, test)?;
+    put_jump(code, Instr::SkipIfZero(0))
+}
+
+/// The condition of the turns of a `for`, where it has one, and then a jump that doesn't yet say what it passes, whose place
+/// is the result.
+pub fn emit_test(
+    code: &mut Vec<Instr>,
+    room: &mut usize,
+    test: &Option<Expr>,
+) -> Result<Option<usize>, AllocError>
+    ensures code { OnOk result (code.new.items ≡ code.old.items ++ test_code (optional test.now)) }
+    ensures exit { IfOk result (λ exit. exit ≡ exit_of (length code.old.items) (optional test.now)) }
+    ensures room { OnOk result (room.new ≡ max room.old (optional_depth (optional test.now))) }
+{
+    match test {
+        Some(e) => {
+            emit_value(code, room, e)?;
+            let exit = put_jump(code, Instr::SkipIfZero(0))?;
+            Ok(Some(exit))
+        }
+        None => Ok(None),
+    }
+}
+
+/// A `sync`.
+pub fn emit_sync(code: &mut Vec<Instr>) -> Result<(), AllocError>
+    ensures { OnOk result (code.new.items ≡ code.old.items ++ (Instr.Tick ∷ (Instr.Sync ∷ []))) }
+{
+    begin(code)?;
+    put(code, Instr::Sync)
+}
+
+/// A new value for a target.
+#[tactic(auto, using(crate::proofs::Lists::assigned))]
+pub fn emit_assign(
+    code: &mut Vec<Instr>,
+    room: &mut usize,
+    to: &Target,
+    e: &Expr,
+) -> Result<(), AllocError>
+    ensures code { OnOk result (code.new.items ≡ code.old.items ++ (Instr.Tick ∷ (index_code (target to.now) ++ (expr_code (expression e.now) ++ store (target to.now) ∷ [])))) }
+    ensures room { OnOk result (room.new ≡ max room.old (max (index_depth (target to.now)) (depth (expression e.now) + indices (target to.now)))) }
+{
+    begin(code)?;
+    let below = emit_index(code, room, to)?;
+    emit_above(code, room, below, e)?;
+    put(code, store_to(to))
+}
+
+/// A target's old value, combined with another one.
+#[tactic(auto, using(crate::proofs::Lists::changed))]
+pub fn emit_change(
+    code: &mut Vec<Instr>,
+    room: &mut usize,
+    to: &Target,
+    operator: Compound,
+    e: &Expr,
+) -> Result<(), AllocError>
+    ensures code { OnOk result (code.new.items ≡ code.old.items ++ (Instr.Tick ∷ (index_code (target to.now) ++ (fetch (target to.now) ∷ (expr_code (expression e.now) ++ (Instr.Combine operator ∷ (store (target to.now) ∷ []))))))) }
+    ensures room { OnOk result (room.new ≡ max room.old (max (index_depth (target to.now)) (depth (expression e.now) + (indices (target to.now) + 1)))) }
+{
+    begin(code)?;
+    let below = emit_index(code, room, to)?;
+    put(code, fetch_from(to))?;
+    emit_above(code, room, below + 1, e)?;
+    put(code, Instr::Combine(operator))?;
+    put(code, store_to(to))
+}
+
+/// A target's old value, and a number more.
+pub fn emit_step(
+    code: &mut Vec<Instr>,
+    room: &mut usize,
+    to: &Target,
+    number: i64,
+) -> Result<(), AllocError>
+    ensures code { OnOk result (code.new.items ≡ code.old.items ++ (Instr.Tick ∷ (index_code (target to.now) ++ (fetch (target to.now) ∷ (Instr.AddNumber number ∷ (store (target to.now) ∷ [])))))) }
+    ensures room { OnOk result (room.new ≡ max room.old (max (index_depth (target to.now)) (indices (target to.now) + 1))) }
+{
+    begin(code)?;
+    let below = emit_index(code, room, to)?;
+    *room = (*room).max(below + 1);
+    put(code, fetch_from(to))?;
+    put(code, Instr::AddNumber(number))?;
+    put(code, store_to(to))
+}
+
+/// The two bounds of a parallel loop, and then the frame of all its turns.
+#[tactic(auto, using(crate::proofs::Lists::called))]
+pub fn emit_parallel(
+    code: &mut Vec<Instr>,
+    room: &mut usize,
+    low: &Expr,
+    high: &Expr,
+    number: u32,
+) -> Result<(), AllocError>
+    ensures code { OnOk result (code.new.items ≡ code.old.items ++ (Instr.Tick ∷ (expr_code (expression low.now) ++ (expr_code (expression high.now) ++ (Instr.CallLoop number ∷ (Instr.Resume ∷ [])))))) }
+    ensures room { OnOk result (room.new ≡ max room.old (max (depth (expression low.now)) (depth (expression high.now) + 1))) }
+{
+    emit_begun(code, room, low)?;
+    emit_above(code, room, 1, high)?;
+    put(code, Instr::CallLoop(number))?;
+    put(code, Instr::Resume)
+}
+
+/// A `return`. Its value, where it has one, is held until the frame's children have ended.
+#[tactic(auto, using(crate::proofs::Lists::returned_value))]
+pub fn emit_return(
+    code: &mut Vec<Instr>,
+    room: &mut usize,
+    e: &Option<Expr>,
+) -> Result<(), AllocError>
+    ensures code { OnOk result (code.new.items ≡ code.old.items ++ (Instr.Tick ∷ return_code (optional e.now))) }
+    ensures room { OnOk result (room.new ≡ max room.old (optional_depth (optional e.now))) }
+{
+    match e {
+        Some(e) => {
+            emit_begun(code, room, e)?;
+            put(code, Instr::Hold)?;
+            put_ends(code)
+        }
+        None => {
+            begin(code)?;
+            put_ends(code)
+        }
+    }
+}
+
+// A target's index, where it has one, and how many operands that leaves on the stack.
+fn emit_index(code: &mut Vec<Instr>, room: &mut usize, to: &Target) -> Result<usize, AllocError>
+    ensures code { OnOk result (code.new.items ≡ code.old.items ++ index_code (target to.now)) }
+    ensures room { OnOk result (room.new ≡ max room.old (index_depth (target to.now))) }
+    ensures indices { IfOk result (λ n. n ≡ indices (target to.now)) }
+{
+    match to {
+        Target::Variable(_) => Ok(0),
+        Target::Element(_, index) => {
+            emit_value(code, room, index)?;
+            Ok(1)
+        }
+    }
+}
+
+// The instruction that brings a target's old value.
+fn fetch_from(to: &Target) -> Instr
+    ensures { result ≡ fetch (target to.now) }
+{
+    match to {
+        Target::Variable(x) => Instr::Fetch(*x),
+        Target::Element(array, _) => Instr::FetchElement(*array),
+    }
+}
+
+// The instruction that takes a target's new value.
+fn store_to(to: &Target) -> Instr
+    ensures { result ≡ store (target to.now) }
+{
+    match to {
+        Target::Variable(x) => Instr::Store(*x),
+        Target::Element(array, _) => Instr::StoreElement(*array),
+    }
+}

@@ -1,0 +1,8 @@
+-- The signatures so far, and those that are left.
+use Rattle.std.proofs.Common.{◌≡◌, ◌++◌, drop}
+use Rattle.cilk_parser.specs.Trees.{items_of}
+use Rattle.cilk_names.specs.Names.{signatures_of}
+use Rattle.cilk_names.proofs.headings.signatures_of.Given as goal
+
+abbrev pub invariant-each : goal.invariant-each
+invariant-each l = l.signatures.items ++ signatures_of l.text (items_of (drop l.item-index l.items)) ≡ signatures_of l.text (items_of l.items)

@@ -1,0 +1,7 @@
+-- So many zeros so far.
+use Rattle.std.proofs.Common.{◌≡◌, ◌++◌}
+use Rattle.cilk_names.specs.Globals.{zeros}
+use Rattle.cilk_names.proofs.items.push_zeros.Given as goal
+
+abbrev pub invariant-each : goal.invariant-each
+invariant-each l = l.openings.items ≡ l.initial.openings.items ++ zeros l._index

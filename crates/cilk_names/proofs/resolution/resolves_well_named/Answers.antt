@@ -1,0 +1,6 @@
+-- What a tree resolves to is well named.
+use Rattle.cilk_names.proofs.WellNamed.{resolved_named}
+use Rattle.cilk_names.proofs.resolution.resolves_well_named.Goals as goal
+
+pub returns : goal.returns
+returns c = resolved_named

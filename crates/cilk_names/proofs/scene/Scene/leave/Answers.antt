@@ -1,0 +1,11 @@
+-- The loop takes its place.
+use Rattle.std.proofs.Common.{◌≡◌, [], ◌∷◌, rules}
+use Rattle.cilk_program.specs.declared.program.Loop.{Loop}
+use Rattle.cilk_names.proofs.Loops.{loop_left}
+use Rattle.cilk_names.proofs.scene.Scene.leave.Goals as goal
+
+pub returns-clause-loops : goal.returns-clause-loops
+returns-clause-loops c =
+    let made : Loop = record { within = c.args.outside.frame.body; cells = c.args.self.now.frame.cells; body = c.push.new.self } in
+    let one : c.push.new.self.items ≡ c.args.body ∷ [] = search rules in
+    loop_left c.args.self.now.loops.items c.args.outside.number made c.args.body one

@@ -1,0 +1,226 @@
+//! Calls with their names resolved.
+
+ghost use Rattle.std.specs.Prelude.{◌≡◌, ◌||◌, not, OnOk, IfOk, map, ◌++◌, Some, option_map, slice_get, unwrap_or};
+ghost use Rattle.std.specs.Option.{is_some};
+ghost use Rattle.cilk_parser.specs.Trees as trees;
+ghost use Rattle.cilk_program.specs.Programs.{expression, invoke};
+ghost use Rattle.cilk_names.specs.Names.{meaning};
+ghost use Rattle.cilk_names.specs.Sights.{bare_name, called, function_of, signature_of};
+ghost use Rattle.cilk_names.specs.Misnamings.{earliest, argument_faults, arguments_faults, bare_faults, call_faults, fit_faults, name_faults, returns_word};
+ghost use Rattle.cilk_names.specs.Pass.{bare_reducer, invoke_of, reducer_of_argument, reducers_of, word_of_argument, words_of};
+ghost use Rattle.cilk_names.specs.States.{names_of};
+ghost use Rattle.cilk_names.specs.declared.signature.ParameterKind.TheVariants.{Word};
+
+use crate::expressions::expression;
+use crate::fault::{Misnaming, NameNumber};
+use crate::operators::invocation;
+use crate::sights::note_unless;
+use crate::signature::ParameterKind;
+use crate::table::Table;
+use cilk_monoid::kind::MonoidKind;
+use cilk_parser::tree;
+use cilk_parser::tree::{Argument, Name, ReturnType};
+use cilk_program::syntax::{Expr, Invoke, Place, Reducer};
+use std::alloc::{AllocError, Global};
+
+/// The arguments of a call: its words and its reducers, each in order.
+#[derive(Drop)]
+struct Passed {
+    words: Vec<Expr>,
+    reducers: Vec<Reducer>,
+}
+
+/// The name that an argument is, if it is a bare name.
+fn bare_name(tree: &tree::Expr) -> Option<Name>
+    ensures { result ≡ bare_name (trees.expression tree.now) }
+{
+    match tree {
+        tree::Expr::Variable(name) => Some(*name),
+        tree::Expr::Number(_)
+        | tree::Expr::Element(_, _)
+        | tree::Expr::Group(_)
+        | tree::Expr::Unary(_, _)
+        | tree::Expr::Binary(_, _, _)
+        | tree::Expr::Value(_)
+        | tree::Expr::Input(_)
+        | tree::Expr::InputCount => None,
+    }
+}
+
+/// An argument for a reducer of a monoid. What is wrong is noted.
+#[tactic(auto, using(crate::proofs::Earliest::earliest_append))]
+fn bare(
+    alloc: Global,
+    table: &Table,
+    kind: Option<MonoidKind>,
+    argument: &Argument,
+    first: &mut Option<Misnaming>,
+) -> Result<Option<Reducer>, AllocError>
+    ensures faults { OnOk result (first.new ≡ earliest first.old (bare_faults (names_of table.now) kind (trees.argument argument.now).at (trees.argument argument.now).value (bare_name (trees.argument argument.now).value))) }
+    ensures value { IfOk result (λ r. r ≡ bare_reducer (names_of table.now) (bare_name (trees.argument argument.now).value)) }
+{
+    let Some(name) = bare_name(&argument.value) else {
+        note_unless(false, NameNumber::WrongKind, argument.at, first);
+        let _value = expression(alloc, table, &argument.value, first)?;
+        return Ok(None);
+    };
+    let Some(meaning) = table.meaning(name) else {
+        note_unless(false, NameNumber::Unknown, argument.at, first);
+        return Ok(None);
+    };
+    note_unless(
+        meaning.is_reducer_of(kind),
+        NameNumber::WrongKind,
+        argument.at,
+        first,
+    );
+    Ok(meaning.reducer(table.level))
+}
+
+impl Passed {
+    /// One more argument, for a parameter.
+    fn add(
+        &mut self,
+        alloc: Global,
+        table: &Table,
+        kind: ParameterKind,
+        argument: &Argument,
+        first: &mut Option<Misnaming>,
+    ) -> Result<(), AllocError>
+        ensures faults { OnOk result (first.new ≡ earliest first.old (argument_faults (names_of table.now) kind (trees.argument argument.now))) }
+        ensures words { OnOk result (map expression self.new.words.items ≡ map expression self.old.words.items ++ word_of_argument (names_of table.now) kind (trees.argument argument.now)) }
+        ensures reducers { OnOk result (self.new.reducers.items ≡ self.old.reducers.items ++ reducer_of_argument (names_of table.now) kind (trees.argument argument.now)) }
+    {
+        match kind {
+            ParameterKind::Word => {
+                let word = expression(alloc, table, &argument.value, first)?;
+                self.words.push(word)?;
+            }
+            ParameterKind::Reducer(kind) => {
+                if let Some(reducer) = bare(alloc, table, kind, argument, first)? {
+                    self.reducers.push(reducer)?;
+                }
+            }
+        }
+        Ok(())
+    }
+}
+
+/// What the parameter of a number takes; past the last a word.
+fn kind_at(kinds: &[ParameterKind], index: usize) -> ParameterKind
+    ensures { result ≡ unwrap_or (slice_get kinds.now index) Word }
+{
+    match kinds.get(index) {
+        Some(kind) => *kind,
+        None => ParameterKind::Word,
+    }
+}
+
+/// The arguments for these parameters. What is wrong is noted; those past the last parameter count as words.
+fn arguments(
+    alloc: Global,
+    table: &Table,
+    kinds: &[ParameterKind],
+    list: &[Argument],
+    first: &mut Option<Misnaming>,
+) -> Result<Passed, AllocError>
+    ensures faults { OnOk result (first.new ≡ earliest first.old (arguments_faults (names_of table.now) kinds.now (trees.arguments_of list.now))) }
+    ensures words { IfOk result (λ r. map expression r.words.items ≡ words_of (names_of table.now) kinds.now (trees.arguments_of list.now)) }
+    ensures reducers { IfOk result (λ r. r.reducers.items ≡ reducers_of (names_of table.now) kinds.now (trees.arguments_of list.now)) }
+{
+    let mut found = Passed {
+        words: Vec::new(alloc),
+        reducers: Vec::new(alloc),
+    };
+    'each: for (index, argument) in list.iter().enumerate() {
+        let kind = kind_at(kinds, index);
+        found.add(alloc, table, kind, argument, first)?;
+    }
+    Ok(found)
+}
+
+/// The function that a call names, or none with a fault noted.
+fn function(table: &Table, name: Name, first: &mut Option<Misnaming>) -> Option<u32>
+    ensures function { result ≡ called (names_of table.now) name }
+    ensures faults { first.new ≡ earliest first.old (name_faults (λ m. is_some (function_of m)) (meaning (names_of table.now) name) name.at) }
+{
+    let Some(meaning) = table.meaning(name) else {
+        note_unless(false, NameNumber::Unknown, name.at, first);
+        return None;
+    };
+    let function = meaning.function();
+    note_unless(function.is_some(), NameNumber::WrongKind, name.at, first);
+    function
+}
+
+/// Whether a function gives a value, or none is taken.
+fn gives(returns: ReturnType, is_taken: bool) -> bool
+    ensures { result ≡ (returns_word returns || not is_taken) }
+{
+    match returns {
+        ReturnType::Int => true,
+        ReturnType::Void => !is_taken,
+    }
+}
+
+/// A call with its names resolved, or none where its function isn't one. What is wrong is noted: also a wrong count of
+/// arguments, and a result that is taken of a function without one.
+#[tactic(auto, using(crate::proofs::Earliest::earliest_append))]
+pub(crate) fn call(
+    alloc: Global,
+    table: &Table,
+    how: tree::Invocation,
+    call: &tree::Call,
+    is_taken: bool,
+    result_place: Option<Place>,
+    first: &mut Option<Misnaming>,
+) -> Result<Option<Invoke>, AllocError>
+    ensures faults { OnOk result (first.new ≡ earliest first.old (call_faults (names_of table.now) is_taken (trees.call call.now))) }
+    ensures value { IfOk result (λ r. option_map invoke r ≡ invoke_of (names_of table.now) how (trees.call call.now) result_place) }
+{
+    let Some(function) = function(table, call.name, first) else {
+        let _arguments = arguments(alloc, table, &[], &call.arguments, first)?;
+        return Ok(None);
+    };
+    let kinds = fit(table, function, call, is_taken, first);
+    let Passed { words, reducers } = arguments(alloc, table, kinds, &call.arguments, first)?;
+    Ok(Some(Invoke {
+        how: invocation(how),
+        function,
+        arguments: words,
+        reducers,
+        result: result_place,
+    }))
+}
+
+/// The parameters of a call's function. A wrong count of arguments, and a result that is taken of a function without one, are
+/// noted.
+#[tactic(auto, using(crate::proofs::Earliest::earliest_append, crate::proofs::Arguments::length_arguments))]
+fn fit<'a>(
+    table: &'a Table,
+    function: u32,
+    call: &tree::Call,
+    is_taken: bool,
+    first: &mut Option<Misnaming>,
+) -> &'a [ParameterKind]
+    ensures kinds { result.now ≡ (let s = signature_of (names_of table.now) (Some function) in s.parameters) }
+    ensures faults { first.new ≡ earliest first.old (fit_faults (Some function) (signature_of (names_of table.now) (Some function)) is_taken (trees.call call.now)) }
+{
+    let (returns, kinds): (ReturnType, &'a [ParameterKind]) = signature(table, function);
+    let is_whole = call.arguments.len() == kinds.len();
+    note_unless(is_whole, NameNumber::WrongCount, call.name.at, first);
+    let gives = gives(returns, is_taken);
+    note_unless(gives, NameNumber::WrongKind, call.name.at, first);
+    kinds
+}
+
+/// What a function returns, and what it takes.
+fn signature<'a>(table: &'a Table, function: u32) -> (ReturnType, &'a [ParameterKind])
+    ensures returns { result.0 ≡ (let s = signature_of (names_of table.now) (Some function) in s.returns) }
+    ensures kinds { result.1.now ≡ (let s = signature_of (names_of table.now) (Some function) in s.parameters) }
+{
+    match table.signatures.get(function as usize) {
+        Some(signature) => (signature.returns, signature.parameters.as_slice()),
+        None => (ReturnType::Int, &[]),
+    }
+}

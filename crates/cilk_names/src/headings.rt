@@ -1,0 +1,184 @@
+//! What is known of a text's functions ahead of its first item.
+
+ghost use Rattle.std.specs.Prelude.{◌≡◌, ◌<◌, ◌-◌, ◌^◌, [], ◌∷◌, ◌++◌, IfOk, OnOk};
+ghost use Rattle.cilk_parser.specs.Trees as trees;
+ghost use Rattle.cilk_parser.specs.Trees.{bytes_of};
+ghost use Rattle.cilk_names.specs.Names.{functions_behind, functions_known, kind_of, kinds_of, signatures_of, with_function, with_item};
+ghost use Rattle.cilk_names.specs.Globals.{is_main, is_main_item, main_of};
+ghost use Rattle.cilk_names.specs.States.{names_of};
+
+use crate::scene::{monoid_of, number_of};
+use crate::signature::{ParameterKind, Signature};
+use crate::table::{Entry, Meaning, Table, bytes_of};
+use cilk_parser::tree::{Item, Name, Parameter, ReturnType};
+use cilk_types::sequence::Sequence;
+use std::alloc::{AllocError, Global};
+use std::collections::HashMap;
+
+/// What a parameter takes.
+fn kind_of(text: &[u8], parameter: Parameter) -> ParameterKind
+    ensures { result ≡ kind_of text.now parameter }
+{
+    match parameter {
+        Parameter::Variable(_) => ParameterKind::Word,
+        Parameter::Reducer(reducer) => {
+            ParameterKind::Reducer(monoid_of(bytes_of(text, reducer.monoid)))
+        }
+    }
+}
+
+/// What parameters take, in order.
+fn kinds_of(
+    alloc: Global,
+    text: &[u8],
+    parameters: &[Parameter],
+) -> Result<Sequence<ParameterKind>, AllocError>
+    ensures { IfOk result (λ r. r ≡ kinds_of text.now parameters.now) }
+{
+    let mut kinds = Vec::new(alloc);
+    'each: for parameter in parameters {
+        kinds.push(kind_of(text, *parameter))?;
+    }
+    Ok(Sequence::new(kinds))
+}
+
+/// Puts what an item's function takes and returns behind the others.
+fn push_signature(
+    alloc: Global,
+    text: &[u8],
+    item: &Item,
+    signatures: &mut Vec<Signature>,
+) -> Result<(), AllocError>
+    ensures { OnOk result (signatures.new.items ≡ signatures.old.items ++ signatures_of text.now (trees.item item.now ∷ [])) }
+{
+    match item {
+        Item::Globals(_) | Item::Reducer(_) => Ok(()),
+        Item::Function(returns, _, parameters, _) => {
+            let parameters = kinds_of(alloc, text, parameters)?;
+            signatures.push(Signature {
+                returns: *returns,
+                parameters,
+            })?;
+            Ok(())
+        }
+    }
+}
+
+/// What the functions of a text take and return, in order.
+pub(crate) fn signatures_of(
+    alloc: Global,
+    text: &[u8],
+    items: &[Item],
+) -> Result<Vec<Signature>, AllocError>
+    ensures { IfOk result (λ r. r.items ≡ signatures_of text.now (trees.items_of items.now)) }
+{
+    let mut signatures = Vec::new(alloc);
+    'each: for item in items {
+        push_signature(alloc, text, item, &mut signatures)?;
+    }
+    Ok(signatures)
+}
+
+/// How many functions stand behind an item, where so many stand ahead.
+fn functions_behind(count: usize, item: &Item) -> usize
+    requires { count < 2 ^ 64 - 1 }
+    ensures { result ≡ functions_behind count (trees.item item.now) }
+{
+    match item {
+        Item::Globals(_) | Item::Reducer(_) => count,
+        Item::Function(_, _, _, _) => count + 1,
+    }
+}
+
+/// The names that are known ahead of the first item: the functions of the text, none of them declared yet. Of two with one
+/// name the first is known.
+pub(crate) fn known<'a>(
+    alloc: Global,
+    text: &'a [u8],
+    signatures: &'a [Signature],
+    items: &[Item],
+) -> Result<Table<'a>, AllocError>
+    ensures { IfOk result (λ t. names_of t ≡ record { text = text.now; signatures = signatures.now; inner = functions_known text.now 0 (trees.items_of items.now); outer = []; level = 0 }) }
+{
+    let mut table = Table {
+        text,
+        signatures,
+        inner: HashMap::new(alloc),
+        outer: Vec::new(alloc),
+        level: 0,
+    };
+    let mut count = 0;
+    'each: for item in items {
+        table.know(item, count)?;
+        count = functions_behind(count, item);
+    }
+    Ok(table)
+}
+
+impl Table<'_> {
+    /// Knows a function by its number, unless its name is known already.
+    fn know_function(&mut self, name: Name, number: usize) -> Result<(), AllocError>
+        ensures names { OnOk result (names_of self.new ≡ (let n = names_of self.old in record n { inner = with_function n.inner (bytes_of n.text name) number })) }
+    {
+        let number = number_of(number)?;
+        if self.inner.get(bytes_of(self.text, name)).is_some() {
+            return Ok(());
+        }
+        let meaning = Meaning::Function(number);
+        self.put(
+            name,
+            Entry {
+                meaning,
+                declared: false,
+            },
+        )?;
+        Ok(())
+    }
+
+    /// Knows the function of an item, if it is one.
+    fn know(&mut self, item: &Item, number: usize) -> Result<(), AllocError>
+        ensures names { OnOk result (names_of self.new ≡ (let n = names_of self.old in record n { inner = with_item n.text n.inner number (trees.item item.now) })) }
+    {
+        match item {
+            Item::Globals(_) | Item::Reducer(_) => Ok(()),
+            Item::Function(_, name, _, _) => {
+                self.know_function(*name, number)?;
+                Ok(())
+            }
+        }
+    }
+}
+
+/// Whether a function is the one that a program begins with.
+fn is_main(text: &[u8], returns: ReturnType, name: Name, parameters: &[Parameter]) -> bool
+    ensures { result ≡ is_main text.now returns name parameters.now }
+{
+    match (returns, parameters) {
+        (ReturnType::Int, []) => bytes_of(text, name) == b"main".as_slice(),
+        (ReturnType::Int, [_, ..]) | (ReturnType::Void, _) => false,
+    }
+}
+
+/// Whether an item is that function.
+fn is_main_item(text: &[u8], item: &Item) -> bool
+    ensures { result ≡ is_main_item text.now (trees.item item.now) }
+{
+    match item {
+        Item::Globals(_) | Item::Reducer(_) => false,
+        Item::Function(returns, name, parameters, _) => is_main(text, *returns, *name, parameters),
+    }
+}
+
+/// The number of the function that a program begins with.
+pub(crate) fn main_of(text: &[u8], items: &[Item]) -> Option<usize>
+    ensures { result ≡ main_of text.now 0 (trees.items_of items.now) }
+{
+    let mut count = 0;
+    'each: for item in items {
+        if is_main_item(text, item) {
+            return Some(count);
+        }
+        count = functions_behind(count, item);
+    }
+    None
+}

@@ -1,0 +1,271 @@
+//! What is known at a place of a body, and what declarations change.
+
+ghost use Rattle.std.specs.Prelude.{◌≡◌, ◌+◌, nat_lt, [], ◌∷◌, OnOk, IfOk, length, map};
+ghost use Rattle.cilk_parser.specs.Trees as trees;
+ghost use Rattle.cilk_program.specs.Programs.{declaration, statements};
+ghost use Rattle.cilk_names.specs.Names.{behind_beginning, behind_locals, counted, monoid_at, monoid_of, with_parameter, with_parameters, with_reducer, with_variable};
+ghost use Rattle.cilk_names.specs.Misnamings.{earliest, beginning_faults, declared_faults, initializer_faults, local_faults, locals_faults, monoid_faults, own_faults, parameter_faults, parameters_faults};
+ghost use Rattle.cilk_names.specs.Pass.{beginning_of, declaration_of, declarations_of};
+ghost use Rattle.cilk_names.specs.States.{context_of, names_of};
+
+use crate::calls::call;
+use crate::expressions::{assignment, expression};
+use crate::fault::{Misnaming, NameNumber};
+use crate::limits::{MAX_CELLS, MAX_PARAMETERS, MAX_REDUCERS};
+use crate::sights::note_unless;
+use crate::table::{Frame, Home, Meaning, Table, bytes_of};
+use cilk_monoid::kind::MonoidKind;
+use cilk_parser::tree;
+use cilk_parser::tree::{Beginning, Local, LocalInitializer, Name, Parameter};
+use cilk_program::program::Loop;
+use cilk_program::syntax::{Declaration, Place, Stmt};
+use std::alloc::{AllocError, Global};
+
+/// What is known at a place of a body: what names mean, the frame of the body, the monoids of the reducers that the function
+/// was given and of its own so far, how many reducers stand declared ahead in the text, the loops so far, and the first
+/// fault so far.
+#[derive(Drop)]
+pub(crate) struct Scene<'a> {
+    pub table: Table<'a>,
+    pub frame: Frame,
+    pub given: Vec<MonoidKind>,
+    pub own: Vec<MonoidKind>,
+    pub reducers: u32,
+    pub loops: Vec<Loop>,
+    pub first: Option<Misnaming>,
+}
+
+/// One more of what there may be so many of; past that no more are counted.
+pub(crate) fn counted(limit: u32, count: u32) -> u32
+    ensures { result ≡ counted limit count }
+{
+    if count < limit { count + 1 } else { count }
+}
+
+/// A count as a number of 32 bits. Past them is a want of memory.
+pub(crate) fn number_of(count: usize) -> Result<u32, AllocError>
+    ensures { IfOk result (λ n. n ≡ count) }
+{
+    match u32::try_from(count) {
+        Ok(number) => Ok(number),
+        Err(_) => Err(AllocError),
+    }
+}
+
+/// The monoid of a name.
+pub(crate) fn monoid_of(name: &[u8]) -> Option<MonoidKind>
+    ensures { result ≡ monoid_of name.now }
+{
+    if name == b"add".as_slice() {
+        Some(MonoidKind::Add)
+    } else if name == b"min".as_slice() {
+        Some(MonoidKind::Least)
+    } else if name == b"max".as_slice() {
+        Some(MonoidKind::Greatest)
+    } else if name == b"append".as_slice() {
+        Some(MonoidKind::Append)
+    } else if name == b"affine".as_slice() {
+        Some(MonoidKind::Affine)
+    } else {
+        None
+    }
+}
+
+/// The monoid of a declared reducer, or none with a fault noted.
+pub(crate) fn monoid(
+    table: &Table,
+    reducer: tree::Reducer,
+    first: &mut Option<Misnaming>,
+) -> Option<MonoidKind>
+    ensures monoid { result ≡ monoid_at (names_of table.now) reducer }
+    ensures faults { first.new ≡ earliest first.old (monoid_faults (names_of table.now) reducer) }
+{
+    let kind = monoid_of(bytes_of(table.text, reducer.monoid));
+    note_unless(
+        kind.is_some(),
+        NameNumber::Unknown,
+        reducer.monoid.at,
+        first,
+    );
+    kind
+}
+
+impl Scene<'_> {
+    /// Declares a variable, which takes the frame's next cell.
+    #[tactic(auto, using(crate::proofs::Earliest::earliest_append))]
+    pub fn variable(&mut self, name: Name) -> Result<(), AllocError>
+        ensures context { OnOk result (context_of self.new ≡ with_variable (context_of self.old) name) }
+        ensures faults { OnOk result (self.new.first ≡ earliest self.old.first (declared_faults (context_of self.old) name)) }
+        ensures loops { self.new.loops ≡ self.old.loops }
+    {
+        let cells = self.frame.cells;
+        let level = self.table.level;
+        self.table
+            .declare(name, Meaning::Local(level, cells), &mut self.first)?;
+        let is_within = cells < MAX_CELLS;
+        note_unless(is_within, NameNumber::OverLimit, name.at, &mut self.first);
+        self.frame.cells = counted(MAX_CELLS, cells);
+        Ok(())
+    }
+
+    /// Declares a reducer of the function's own.
+    #[tactic(auto, using(crate::proofs::Earliest::earliest_append))]
+    pub fn reducer(&mut self, reducer: tree::Reducer) -> Result<(), AllocError>
+        ensures context { OnOk result (context_of self.new ≡ with_reducer (context_of self.old) reducer) }
+        ensures faults { OnOk result (self.new.first ≡ earliest self.old.first (own_faults (context_of self.old) reducer)) }
+        ensures loops { self.new.loops ≡ self.old.loops }
+    {
+        let kind = monoid(&self.table, reducer, &mut self.first);
+        let number = number_of(self.own.len())?;
+        let meaning = Meaning::Reducer(Home::Own(number), kind);
+        self.table.declare(reducer.name, meaning, &mut self.first)?;
+        let is_first = self.frame.heading;
+        let place = reducer.name.at;
+        note_unless(
+            is_first,
+            NameNumber::ReducerNotFirst,
+            place,
+            &mut self.first,
+        );
+        let is_within = self.reducers < MAX_REDUCERS;
+        note_unless(is_within, NameNumber::OverLimit, place, &mut self.first);
+        self.reducers = counted(MAX_REDUCERS, self.reducers);
+        self.own.push(kind.unwrap_or(MonoidKind::Add))?;
+        Ok(())
+    }
+
+    /// What a declared variable opens with, in its cell of this number.
+    fn initializer(
+        &mut self,
+        alloc: Global,
+        number: u32,
+        initializer: &LocalInitializer,
+    ) -> Result<Declaration, AllocError>
+        ensures context { context_of self.new ≡ context_of self.old }
+        ensures faults { OnOk result (self.new.first ≡ earliest self.old.first (initializer_faults (names_of self.old.table) (trees.local_initializer initializer.now))) }
+        ensures loops { self.new.loops ≡ self.old.loops }
+        ensures value { IfOk result (λ r. declaration r ≡ declaration_of (names_of self.old.table) number (trees.local_initializer initializer.now)) }
+    {
+        match initializer {
+            LocalInitializer::Absent => Ok(Declaration::Zero(number)),
+            LocalInitializer::Value(value) => Ok(Declaration::Value(
+                number,
+                expression(alloc, &self.table, value, &mut self.first)?,
+            )),
+            LocalInitializer::Invoke(how, tree) => {
+                let place = Some(Place::Local(0, number));
+                match call(alloc, &self.table, *how, tree, true, place, &mut self.first)? {
+                    Some(invoke) => Ok(Declaration::Invoke(invoke)),
+                    None => Ok(Declaration::Zero(number)),
+                }
+            }
+        }
+    }
+
+    /// A declared variable, which is known in its own initializer.
+    #[tactic(auto, using(crate::proofs::Earliest::earliest_append))]
+    fn local(&mut self, alloc: Global, local: &Local) -> Result<Declaration, AllocError>
+        ensures context { OnOk result (context_of self.new ≡ (let l = trees.local local.now in with_variable (context_of self.old) l.name)) }
+        ensures faults { OnOk result (self.new.first ≡ earliest self.old.first (local_faults (context_of self.old) (trees.local local.now))) }
+        ensures loops { self.new.loops ≡ self.old.loops }
+        ensures value { IfOk result (λ r. map declaration (r ∷ []) ≡ declarations_of (context_of self.old) (trees.local local.now ∷ [])) }
+    {
+        let number = self.frame.cells;
+        self.variable(local.name)?;
+        self.initializer(alloc, number, &local.initializer)
+    }
+
+    /// The variables of a declaration, one after the other.
+    pub fn locals(
+        &mut self,
+        alloc: Global,
+        locals: &[Local],
+    ) -> Result<Vec<Declaration>, AllocError>
+        ensures context { OnOk result (context_of self.new ≡ behind_locals (context_of self.old) (trees.locals_of locals.now)) }
+        ensures faults { OnOk result (self.new.first ≡ earliest self.old.first (locals_faults (context_of self.old) (trees.locals_of locals.now))) }
+        ensures loops { self.new.loops ≡ self.old.loops }
+        ensures value { IfOk result (λ r. map declaration r.items ≡ declarations_of (context_of self.old) (trees.locals_of locals.now)) }
+    {
+        let mut declarations = Vec::new(alloc);
+        'each: for local in locals {
+            declarations.push(self.local(alloc, local)?)?;
+        }
+        Ok(declarations)
+    }
+
+    /// What the head of a `for` begins with: a row of one statement or of none.
+    #[tactic(auto, using(crate::proofs::Earliest::earliest_append))]
+    pub fn beginning(
+        &mut self,
+        alloc: Global,
+        beginning: &Option<Beginning>,
+    ) -> Result<Vec<Stmt>, AllocError>
+        ensures context { OnOk result (context_of self.new ≡ behind_beginning (context_of self.old) (trees.optional_beginning beginning.now)) }
+        ensures faults { OnOk result (self.new.first ≡ earliest self.old.first (beginning_faults (context_of self.old) (trees.optional_beginning beginning.now))) }
+        ensures loops { self.new.loops ≡ self.old.loops }
+        ensures value { IfOk result (λ r. statements r.items ≡ beginning_of (context_of self.old) (trees.optional_beginning beginning.now)) }
+    {
+        let mut row = Vec::new(alloc);
+        match beginning {
+            Some(Beginning::Declares(name, value)) => {
+                let number = self.frame.cells;
+                self.variable(*name)?;
+                let value = expression(alloc, &self.table, value, &mut self.first)?;
+                let mut declarations = Vec::new(alloc);
+                declarations.push(Declaration::Value(number, value))?;
+                row.push(Stmt::Declare(declarations))?;
+            }
+            Some(Beginning::Assigns(tree)) => {
+                row.push(assignment(alloc, &self.table, tree, &mut self.first)?)?;
+            }
+            None => {}
+        }
+        Ok(row)
+    }
+
+    /// Declares a parameter: a word takes the frame's next cell.
+    #[tactic(auto, using(crate::proofs::Earliest::earliest_append))]
+    fn parameter(&mut self, parameter: Parameter) -> Result<(), AllocError>
+        ensures context { OnOk result (context_of self.new ≡ with_parameter (context_of self.old) parameter) }
+        ensures faults { OnOk result (self.new.first ≡ earliest self.old.first (parameter_faults (context_of self.old) parameter)) }
+        ensures loops { self.new.loops ≡ self.old.loops }
+    {
+        let is_within = self.has_room();
+        match parameter {
+            Parameter::Variable(name) => {
+                note_unless(is_within, NameNumber::OverLimit, name.at, &mut self.first);
+                self.variable(name)
+            }
+            Parameter::Reducer(reducer) => {
+                let kind = monoid(&self.table, reducer, &mut self.first);
+                let place = reducer.name.at;
+                note_unless(is_within, NameNumber::OverLimit, place, &mut self.first);
+                let number = number_of(self.given.len())?;
+                let meaning = Meaning::Reducer(Home::Given(number), kind);
+                self.table.declare(reducer.name, meaning, &mut self.first)?;
+                self.given.push(kind.unwrap_or(MonoidKind::Add))?;
+                Ok(())
+            }
+        }
+    }
+
+    /// Whether one more parameter is within the limit.
+    fn has_room(&self) -> bool
+        ensures { result ≡ nat_lt (self.now.frame.cells + length self.now.given.items) MAX_PARAMETERS }
+    {
+        let cells = self.frame.cells as usize;
+        cells < MAX_PARAMETERS && self.given.len() < MAX_PARAMETERS - cells
+    }
+
+    /// The parameters of a function.
+    pub fn parameters(&mut self, parameters: &[Parameter]) -> Result<(), AllocError>
+        ensures context { OnOk result (context_of self.new ≡ with_parameters (context_of self.old) parameters.now) }
+        ensures faults { OnOk result (self.new.first ≡ earliest self.old.first (parameters_faults (context_of self.old) parameters.now)) }
+        ensures loops { self.new.loops ≡ self.old.loops }
+    {
+        'each: for parameter in parameters {
+            self.parameter(*parameter)?;
+        }
+        Ok(())
+    }
+}

@@ -1,0 +1,36 @@
+-- What a frame is told, from what the store did.
+use Rattle.std.proofs.Common.{◌≡◌, ℤ, pos, Result, Ok, Err, IfOk, OnOk, sym, ap, ◌∙◌, subst}
+use Rattle.cilk_types.specs.declared.event.Event.{Event}
+use Rattle.cilk_types.specs.declared.event.Instance.{Instance}
+use Rattle.cilk_program.specs.declared.ask.Ask.{Ask}
+use Rattle.cilk_program.specs.Store.{Store}
+use Rattle.cilk_program.specs.Syntax.{Source}
+use Rattle.cilk_program.specs.SerialRun.{Frame, Memory, answer_to, event_of, stored, with_store}
+use Rattle.cilk_frames.specs.declared.cursor.Answer.{Answer}
+use Rattle.cilk_frames.specs.declared.cursor.Answer.TheVariants.{Done, Value}
+use Rattle.cilk_frames.specs.Following.{Fits, owed_for, word_in}
+use Rattle.cilk_serial.specs.declared.state.State.{State}
+use Rattle.cilk_serial.specs.States.{EventMade, Makes, Answers}
+
+module _ (p : Source) (fr : Frame) (s s' : State) (k : Ask) (word : Memory → ℤ) (event : Memory → Event) (store : Memory → Store Instance)
+    (words : (m : Memory) → word m ≡ answer_to fr m k) (events : (m : Memory) → event m ≡ event_of fr m k) (stores : (m : Memory) → store m ≡ stored p fr m k) where
+  makes_so : (told : ℤ) → Makes s s' word told event store → Makes s s' (λ m. answer_to fr m k) told (λ m. event_of fr m k) (λ m. stored p fr m k)
+  makes_so told makes m h =
+      let d = makes m h in
+      (d.0 ∙ words m, subst (λ (x : Store Instance). EventMade s s' (event_of fr m k) (with_store m x)) (stores m) (subst (λ (e : Event). EventMade s s' e (with_store m (store m))) (events m) d.1))
+
+  -- nothing is told
+  pub tells_nothing : {E : Type 0} (r : Result Answer E) → Fits (owed_for k) Done → IfOk r (λ a. a ≡ Done) → OnOk r (Makes s s' word (pos 0) event store) → IfOk r (λ a. Answers p fr s s' k a)
+  tells_nothing (Ok a) fits done makes = record {
+    fits = subst (λ (a : Answer). Fits (owed_for k) a) (sym done) fits;
+    makes = makes_so (word_in a) (subst (λ v. Makes s s' word v event store) (sym (ap word_in done)) makes);
+  }
+  tells_nothing (Err e) fits done makes = tt
+
+  -- a word is told
+  pub tells_word : {E : Type 0} (r : Result Answer E) → ((v : ℤ) → Fits (owed_for k) (Value v)) → IfOk r (λ a. a ≡ Value (word_in a)) → IfOk r (λ a. Makes s s' word (word_in a) event store) → IfOk r (λ a. Answers p fr s s' k a)
+  tells_word (Ok a) fits value makes = record {
+    fits = subst (λ (a : Answer). Fits (owed_for k) a) (sym value) (fits (word_in a));
+    makes = makes_so (word_in a) makes;
+  }
+  tells_word (Err e) fits value makes = tt

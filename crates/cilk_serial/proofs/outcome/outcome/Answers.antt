@@ -1,0 +1,32 @@
+use Rattle.std.proofs.Common.{length, take, ap, ◌∙◌, arith, w64}
+use Rattle.std.proofs.lemmas.Int.{to_z-of_z}
+use Rattle.std.proofs.lemmas.List.{length-map}
+use Rattle.cilk_program.specs.declared.program.GlobalReducer.{GlobalReducer}
+use Rattle.cilk_program.specs.Outcomes.{finals_from}
+use Rattle.cilk_program.specs.Sources.{source}
+use Rattle.cilk_program.specs.SerialRun.{global_reducer}
+use Rattle.cilk_meaning.proofs.Naming.{well_named_parts}
+use Rattle.cilk_serial.proofs.Endings.{leaves}
+use Rattle.cilk_serial.proofs.Finals.{kinds}
+use Rattle.cilk_serial.proofs.outcome.outcome.Goals as goal
+
+pub finals-requires : goal.finals-requires
+finals-requires c =
+    let p = c.args.program.now in
+    let named = well_named_parts (source p) p.well_named in
+    let few = named.reducers in
+    let many = length-map p.reducers.items (λ (r : GlobalReducer). r.kind) in
+    let same = ap length c.deref.ensures.value in
+    omega (arith, few, many, same)
+
+pub returns : goal.returns
+returns c = λ inputs h.
+    let p = c.args.program.now in
+    let s = c.args.state in
+    let sh = h.shows in
+    let m = h.memory in
+    leaves (source p) p.well_named inputs s c.args.value _ c.new.result c.new-2.result c.new-3.result c.new-4.result h (to_z-of_z w64 c.args.value c.ranges.value)
+    (c.new.ensures ∙ c.truncate.ensures.items ∙ ap (λ n. take n s.cells.items) c.len.ensures)
+    c.new-2.ensures
+    (c.new-3.ensures ∙ c.in_ok-reducers.ensures m.store sh.view ∙ ap (λ rs. finals_from global_reducer 0 (kinds rs) m.store) c.deref.ensures.value)
+    c.new-4.ensures

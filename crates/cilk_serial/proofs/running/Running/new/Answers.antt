@@ -1,0 +1,15 @@
+use Rattle.std.proofs.Common.{refl, ap, ◌∙◌}
+use Rattle.cilk_program.specs.Sources.{source}
+use Rattle.cilk_serial.specs.declared.state.State.{State}
+use Rattle.cilk_serial.proofs.Driving.{first_shows, goes_first}
+use Rattle.cilk_serial.proofs.running.Running.new.Goals as goal
+
+pub returns : goal.returns
+returns c = λ inputs.
+    let p = c.args.program.now in
+    let s0 : State = record { cells = c.in_ok-from_slice.field-0; views = c.new.result; output = c.new-2.result; events = c.new-3.result; frames = 1 } in
+    let more = c.in_ok-extend.ensures in
+    let root = c.in_ok-root.ensures in
+    let shows = first_shows (source p) inputs s0 c.extend.new.self c.cells_of.result (c.in_ok-from_slice.ensures.items ∙ c.as_slice.ensures) c.new.ensures c.new-2.ensures.items c.new-3.ensures.items refl more c.cells_of.ensures in
+    goes_first c.args.code.now (source p) inputs c.extend.new.self c.in_ok-root.field-0 c.new-4.result p.well_named c.requires shows (ap (λ v. v.items) more.events ∙ c.new-3.ensures.items)
+    (root.stands inputs c.requires) root.owes (root.scoped inputs) c.new-4.ensures

@@ -1,0 +1,17 @@
+use Rattle.std.proofs.Common.{refl, ap, w64, to_z, of_z}
+use Rattle.std.proofs.lemmas.Int.{to_z-of_z}
+use Rattle.cilk_types.specs.declared.event.Event.TheVariants as events
+use Rattle.cilk_serial.specs.declared.state.State.{State}
+use Rattle.cilk_serial.proofs.Shows.{sets, event_is}
+use Rattle.cilk_serial.proofs.state.State.set.Goals as goal
+
+pub returns-clause-makes : goal.returns-clause-makes
+returns-clause-makes c =
+    let old = c.args.self.now in
+    let new : State = record { cells = old.cells; views = c.set.new.self; output = old.output; events = c.push.new.self; frames = old.frames } in
+    let same = to_z-of_z w64 c.args.value c.ranges.value in
+    λ m h. (
+      refl,
+      event_is old new (events.Set c.args.instance (to_z w64 (of_z w64 c.args.value))) (events.Set c.args.instance c.args.value) _ (ap (events.Set c.args.instance) same)
+          (sets old new (events.Set c.args.instance (to_z w64 (of_z w64 c.args.value))) c.args.kind c.args.instance (to_z w64 (of_z w64 c.args.value)) c.args.value m h refl refl refl c.in_ok-push.ensures.items same c.in_ok-set.ensures.ok),
+    )

@@ -1,0 +1,148 @@
+-- What the code's activations stand for: the frame at hand, and the frames that wait for their children.
+use Rattle.std.specs.Prelude.{◌≡◌, ◌+◌, ◌<◌, ◌≤◌, ℕ, ℤ, IsTrue, List, [], ◌∷◌, length, drop, Option, Some, None}
+use Rattle.cilk_types.specs.declared.event.Instance.{Instance}
+use Rattle.cilk_monoid.specs.declared.kind.MonoidKind.{MonoidKind}
+use Rattle.cilk_program.specs.Syntax.{Source, function_at}
+use Rattle.cilk_program.specs.Scopes.{Scope, cell_in}
+use Rattle.cilk_program.specs.declared.ask.Ask.{Ask}
+use Rattle.cilk_program.specs.declared.ask.Ask.TheVariants as asks
+use Rattle.cilk_program.specs.declared.ask.Callee.{Callee}
+use Rattle.cilk_program.specs.declared.ask.Callee.TheVariants as callees
+use Rattle.cilk_program.specs.declared.program.Body.{Body}
+use Rattle.cilk_program.specs.declared.syntax.Place.{Place}
+use Rattle.cilk_program.specs.declared.syntax.Reducer.{Reducer}
+use Rattle.cilk_program.specs.declared.syntax.ReducerPlace.{ReducerPlace}
+use Rattle.cilk_program.specs.declared.syntax.ReducerPlace.TheVariants as reducers
+use Rattle.cilk_program.specs.Syntax.{loop_at}
+use Rattle.cilk_program.specs.WellNamed.{place_is_there}
+use Rattle.cilk_program.specs.Inside.{CalleeIsFit, IsTaken, body_of, is_whole}
+use Rattle.cilk_program.specs.SerialRun.{Frame, cell_at, first_place, home_of, itself, own_reducers}
+use Rattle.cilk_serial.specs.Stacks.{from_bottom}
+use Rattle.cilk_serial.specs.declared.activation.Activation.{Activation}
+
+-- a frame that waits for a child: the answers that it had, and the ticks that it took
+pub record Parent : Type 0 where
+  pub frame : Frame
+  pub history : List ℤ
+  pub took : ℕ
+
+-- what a static link leads to
+abbrev pub Leads : List Parent → Option ℕ → Scope ℕ Instance → Type 0
+Leads parents None scope = scope ≡ []
+Leads parents (Some n) scope = (q : Parent) × (from_bottom parents n ≡ Some q) × (scope ≡ q.frame.scope)
+
+-- the monoids of the reducers that a function's frame creates
+abbrev pub kinds_of : Source → Option ℕ → List MonoidKind
+kinds_of p None = []
+kinds_of p (Some k) = let f = function_at p k in f.reducers
+
+-- a function that is there, if any
+abbrev pub IsCreator : Source → Option ℕ → Type 0
+IsCreator p None = Unit {0}
+IsCreator p (Some k) = (k < length p.functions) × (length (kinds_of p (Some k)) ≤ 64)
+
+-- an activation stands for a frame, above these that wait
+pub record Scoped (p : Source) (a : Activation) (fr : Frame) (parents : List Parent) : Type 0 where
+  pub number : fr.number ≡ a.number
+  pub outer : Scope ℕ Instance
+  pub scope : fr.scope ≡ home_of p fr.callee a.number a.base a.given.items ∷ outer
+  pub leads : Leads parents a.outer outer
+  pub result : fr.result ≡ a.result
+  pub first : a.first ≡ first_place p fr.callee
+  pub low : a.first < 65536
+  pub creator : IsCreator p a.creator
+  pub creates : own_reducers p fr.callee ≡ kinds_of p a.creator
+
+-- and each that waits does
+abbrev pub AreScoped : Source → List Activation → List Parent → Type 0
+AreScoped p [] [] = Unit {0}
+AreScoped p [] (q ∷ qs) = ⊥
+AreScoped p (a ∷ list) [] = ⊥
+AreScoped p (a ∷ list) (q ∷ qs) = Scoped p a q.frame qs × AreScoped p list qs
+
+-- the frame at hand, and those below it
+pub record Seen (p : Source) (top : Activation) (below : List Activation) (fr : Frame) (parents : List Parent) : Type 0 where
+  pub scoped : Scoped p top fr parents
+  pub waits : AreScoped p below parents
+
+-- each cell that a body names is among the first so many
+abbrev pub SeesCells : Source → Body → Scope ℕ Instance → ℕ → Type 0
+SeesCells p b scope n = (x : Place) → IsTrue (place_is_there p b x) → cell_in itself scope x < n
+
+-- a loop's frame sees what its loop stands in
+abbrev pub SeesOuter : Source → Callee → Scope ℕ Instance → ℕ → Type 0
+SeesOuter p callees.Root scope n = Unit {0}
+SeesOuter p (callees.Function c) scope n = Unit {0}
+SeesOuter p (callees.Loop l) scope n = let body = loop_at p l.number in SeesCells p body.within (drop 1 scope) n
+
+-- what a frame names is there, once there are so many cells
+pub record Sees (p : Source) (fr : Frame) (n : ℕ) : Type 0 where
+  pub fit : CalleeIsFit p fr.callee
+  pub own : IsTrue (is_whole fr.callee) → SeesCells p (body_of p fr.callee) fr.scope n
+  pub outer : SeesOuter p fr.callee fr.scope n
+  pub result : IsTaken fr.callee → (c : ℕ) × (fr.result ≡ Some c) × (c < n)
+
+-- the number in a reducer's place
+abbrev pub number_in : ReducerPlace → ℕ
+number_in (reducers.Global n) = n
+number_in (reducers.Own up n) = n
+number_in (reducers.Given up n) = n
+
+abbrev pub AreSmall : List Reducer → Type 0
+AreSmall [] = Unit {0}
+AreSmall (r ∷ rs) = (number_in r.place < 65536) × AreSmall rs
+
+abbrev pub ResultFits : Frame → ℕ → Option Place → Type 0
+ResultFits fr n None = Unit {0}
+ResultFits fr n (Some x) = cell_at fr x < n
+
+-- what a frame begins: a function's reducers and result are there, and a loop's static link is short
+abbrev pub MayBegin : Source → Frame → ℕ → Callee → Type 0
+MayBegin p fr n callees.Root = ⊥
+MayBegin p fr n (callees.Function c) = AreSmall c.reducers × ResultFits fr n c.result × IsCreator p (Some c.function)
+MayBegin p fr n (callees.Loop l) = l.up ≤ 1
+
+-- what an ask names is there
+abbrev pub IsThere : Source → Frame → ℕ → Ask → Type 0
+IsThere p fr n asks.Begin = Unit {0}
+IsThere p fr n (asks.Read x) = cell_at fr x < n
+IsThere p fr n (asks.Write x v) = cell_at fr x < n
+IsThere p fr n (asks.Create r) = number_in r.place < 65536
+IsThere p fr n (asks.Update r v) = number_in r.place < 65536
+IsThere p fr n (asks.Set r v) = number_in r.place < 65536
+IsThere p fr n (asks.Value r) = number_in r.place < 65536
+IsThere p fr n (asks.Print v) = Unit {0}
+IsThere p fr n (asks.Invoke how callee) = MayBegin p fr n callee
+IsThere p fr n asks.Resume = Unit {0}
+IsThere p fr n asks.Sync = Unit {0}
+IsThere p fr n (asks.Result v) = (c : ℕ) × (fr.result ≡ Some c) × (c < n)
+IsThere p fr n (asks.End v) = Unit {0}
+IsThere p fr n (asks.Fault f) = Unit {0}
+
+-- an activation below has this scope
+pub record IsOuter (p : Source) (scope : Scope ℕ Instance) (a : Activation) : Type 0 where
+  pub parent : Parent
+  pub scope_is : scope ≡ parent.frame.scope
+  pub below : List Parent
+  pub scoped : Scoped p a parent.frame below
+
+-- a callee that an ask begins fits what it runs
+abbrev pub IsBegunRightly : Source → Ask → Type 0
+IsBegunRightly p asks.Begin = Unit {0}
+IsBegunRightly p (asks.Read x) = Unit {0}
+IsBegunRightly p (asks.Write x v) = Unit {0}
+IsBegunRightly p (asks.Create r) = Unit {0}
+IsBegunRightly p (asks.Update r v) = Unit {0}
+IsBegunRightly p (asks.Set r v) = Unit {0}
+IsBegunRightly p (asks.Value r) = Unit {0}
+IsBegunRightly p (asks.Print v) = Unit {0}
+IsBegunRightly p (asks.Invoke how callee) = CalleeIsFit p callee
+IsBegunRightly p asks.Resume = Unit {0}
+IsBegunRightly p asks.Sync = Unit {0}
+IsBegunRightly p (asks.Result v) = Unit {0}
+IsBegunRightly p (asks.End v) = Unit {0}
+IsBegunRightly p (asks.Fault f) = Unit {0}
+
+-- the reducers that an activation creates
+abbrev pub own_of : Activation → ℕ → Instance
+own_of a n = record { frame = a.number; place = a.first + n }

@@ -1,0 +1,55 @@
+// The fault that stands in place of an ask's event.
+
+ghost use Rattle.std.specs.Prelude.{◌≡◌};
+ghost use Rattle.cilk_program.specs.Inside.{CalleeIsFit};
+ghost use Rattle.cilk_program.specs.Sources.{source};
+ghost use Rattle.cilk_program.specs.SerialRun.{Memory, crowded, full, refused};
+ghost use Rattle.cilk_serial.specs.Scoped.{IsBegunRightly};
+ghost use Rattle.cilk_serial.specs.States.{Shows};
+
+use crate::callee::cells_of;
+use crate::state::State;
+use cilk_program::ask::{Ask, Callee};
+use cilk_program::program::Program;
+use cilk_types::fault::Fault;
+use cilk_types::limits::{MAX_CELLS, MAX_EVENTS, MAX_FRAMES};
+
+/// The fault that stands in place of the ask's event, if any.
+pub fn refused(program: &Program, state: &State, ask: &Ask) -> Option<Fault>
+    requires { IsBegunRightly (source program.now) ask.now }
+    ensures { (m : Memory) → Shows state.now m → result ≡ refused (source program.now) m ask.now }
+{
+    match ask {
+        Ask::Fault(fault) => Some(*fault),
+        Ask::Invoke(_, callee) => crowded(program, state, callee),
+        _ => full(state),
+    }
+}
+
+// The fault that stands in place of one more event.
+fn full(state: &State) -> Option<Fault>
+    ensures { (m : Memory) → Shows state.now m → result ≡ full m }
+{
+    if state.events.len() < MAX_EVENTS as usize {
+        None
+    } else {
+        Some(Fault::TooManyEvents)
+    }
+}
+
+// The fault that stands in place of one more frame.
+fn crowded(program: &Program, state: &State, callee: &Callee) -> Option<Fault>
+    requires { CalleeIsFit (source program.now) callee.now }
+    ensures { (m : Memory) → Shows state.now m → result ≡ crowded (source program.now) callee.now m }
+{
+    if state.events.len() >= MAX_EVENTS as usize {
+        return Some(Fault::TooManyEvents);
+    }
+    if state.frames >= MAX_FRAMES {
+        return Some(Fault::TooManyFrames);
+    }
+    if state.cells.len() + cells_of(program, callee) as usize > MAX_CELLS as usize {
+        return Some(Fault::TooManyCells);
+    }
+    None
+}
