@@ -1,3 +1,4 @@
+pub mod Asked
 pub mod Cursor
 pub mod Following
 pub mod Moving

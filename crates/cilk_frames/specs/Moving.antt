@@ -1,37 +1,17 @@
 -- What the code does for one instruction.
 use Rattle.std.specs.Prelude.{◌≡◌, ℕ, suc, ◌+◌, ◌-◌, ◌*◌, ◌<◌, Bool, true, false, if◌then◌else◌, ℤ, List, [], ◌∷◌, length, slice_get}
-use Rattle.cilk_program.specs.declared.ask.Ask.{Ask}
-use Rattle.cilk_program.specs.declared.ask.Ask.TheVariants as asks
-use Rattle.cilk_program.specs.declared.ask.Callee.TheVariants as callees
 use Rattle.cilk_lower.specs.declared.code.Instr.{Instr}
 use Rattle.cilk_lower.specs.declared.code.Owed.{Owed}
 use Rattle.cilk_lower.specs.declared.code.Owed.TheVariants.{Nothing, Word}
 use Rattle.cilk_lower.specs.Code.{CodeView, ticks}
 use Rattle.cilk_lower.specs.Machine.{Move, Goes, Waits, Stops, move, on_some, on_words, on_none, invoked}
-use Rattle.cilk_frames.specs.declared.brief.Brief.{Brief}
-use Rattle.cilk_frames.specs.declared.brief.Brief.TheVariants as brief
 use Rattle.cilk_frames.specs.declared.cursor.Answer.{Answer}
 use Rattle.cilk_frames.specs.declared.cursor.Answer.TheVariants.{Done, Value}
 use Rattle.cilk_frames.specs.declared.stepping.Moved.{Moved}
 use Rattle.cilk_frames.specs.declared.stepping.Moved.TheVariants as did
 use Rattle.cilk_frames.specs.Cursor.{CursorView}
+use Rattle.cilk_frames.specs.Asked.{in_full}
 use Rattle.cilk_frames.specs.Following.{setting_at}
-
--- an ask in full
-abbrev pub in_full : Brief → Ask
-in_full (brief.Read x) = asks.Read x
-in_full (brief.Write x v) = asks.Write x v
-in_full (brief.Create r) = asks.Create r
-in_full (brief.Update r v) = asks.Update r v
-in_full (brief.Set r v) = asks.Set r v
-in_full (brief.Value r) = asks.Value r
-in_full (brief.Print v) = asks.Print v
-in_full (brief.Turns how l) = asks.Invoke how (callees.Loop l)
-in_full brief.Resume = asks.Resume
-in_full brief.Sync = asks.Sync
-in_full (brief.Result v) = asks.Result v
-in_full (brief.End v) = asks.End v
-in_full (brief.Fault f) = asks.Fault f
 
 -- the machine's move at the cursor
 abbrev pub move_at : CodeView → List ℤ → CursorView → ℕ → Move

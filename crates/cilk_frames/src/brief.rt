@@ -1,16 +1,16 @@
 //! Asks that are small.
 
 ghost use Rattle.std.specs.Prelude.{◌≡◌};
-ghost use Rattle.cilk_frames.specs.Moving.{in_full};
+ghost use Rattle.cilk_frames.specs.Asked.{in_full};
 
 use cilk_program::ask::{Ask, Callee, LoopPart};
 use cilk_program::syntax::{Invocation, Place, Reducer};
 use cilk_types::fault::Fault;
 
-/// What a frame asks for, but for the invocation of a function. An `Ask` has room for the words and reducers of one, which
-/// would have to be moved with each instruction.
+/// What a frame asks for, but for the invocation of a function: see [`Ask`].
 #[derive(Clone, Copy)]
-pub(crate) enum Brief {
+pub enum Brief {
+    Begin,
     Read(Place),
     Write(Place, i64),
     Create(Reducer),
@@ -29,10 +29,11 @@ pub(crate) enum Brief {
 
 impl Brief {
     /// The ask.
-    pub(crate) fn in_full(self) -> Ask
+    pub fn in_full(self) -> Ask
         ensures { result ≡ in_full self }
     {
         match self {
+            Brief::Begin => Ask::Begin,
             Brief::Read(place) => Ask::Read(place),
             Brief::Write(place, word) => Ask::Write(place, word),
             Brief::Create(reducer) => Ask::Create(reducer),

@@ -13,7 +13,8 @@
 //! `GoesOn` are the two for a frame of a program with a history of answers.
 #![tactic(auto)]
 
-mod brief;
+pub mod asked;
+pub mod brief;
 pub mod cursor;
 mod halves;
 mod operands;

@@ -9,8 +9,10 @@ ghost use Rattle.cilk_lower.specs.declared.code.Owed.TheVariants.{Word};
 ghost use Rattle.cilk_lower.specs.Machine.{Goes, Waits, Stuck, on_top, or_stops, ticked};
 ghost use Rattle.cilk_types.specs.declared.fault.Fault.TheVariants.{IndexOutside};
 ghost use Rattle.cilk_frames.specs.Following.{Fits, GoesOn, Runs, Stands, Steps};
-ghost use Rattle.cilk_frames.specs.Moving.{IsGoing, TakesTick, effort, in_full, invoking, move_at, moved};
+ghost use Rattle.cilk_frames.specs.Asked.{in_full};
+ghost use Rattle.cilk_frames.specs.Moving.{IsGoing, TakesTick, effort, invoking, move_at, moved};
 
+use crate::asked::Asked;
 use crate::brief::Brief;
 use crate::cursor::{Answer, Cursor};
 use crate::halves::{first_half, has_one, second_half};
@@ -43,13 +45,32 @@ pub fn step(code: &Code, input: &Input, cursor: &mut Cursor, answer: Answer, lef
     ensures follows { Steps code.now input.now cursor.old answer left.old result cursor.new left.new }
     ensures stands { (p : Source) (callee : Callee) (history : List ℤ) (took : ℕ) → Stands code.now input.now p callee cursor.old history took → GoesOn code.now input.now cursor.old answer left.old result cursor.new left.new p callee history took }
 {
+    let mut asked = Asked::new();
+    go_on(code, input, cursor, answer, left, &mut asked);
+    asked.in_full()
+}
+
+/// The step of [`step`], which leaves what the frame asks for in a place of the caller's.
+pub fn go_on(
+    code: &Code,
+    input: &Input,
+    cursor: &mut Cursor,
+    answer: Answer,
+    left: &mut u32,
+    asked: &mut Asked,
+)
+    requires runs { Runs code.now input.now cursor.old }
+    requires fits { Fits cursor.old.owed answer }
+    ensures follows { Steps code.now input.now cursor.old answer left.old asked.new cursor.new left.new }
+    ensures stands { (p : Source) (callee : Callee) (history : List ℤ) (took : ℕ) → Stands code.now input.now p callee cursor.old history took → GoesOn code.now input.now cursor.old answer left.old asked.new cursor.new left.new p callee history took }
+{
     cursor.receive(answer);
     'each: loop {
         match advance(code, input, cursor, left) {
             Moved::Goes => {}
-            Moved::Waits(ask) => return ask.in_full(),
-            Moved::Stops(ask) => return ask.in_full(),
-            Moved::Invokes(number) => return invocation(code, cursor, number),
+            Moved::Waits(ask) => return asked.put(ask),
+            Moved::Stops(ask) => return asked.put(ask),
+            Moved::Invokes(number) => return invoke(code, cursor, number, asked),
         }
     }
 }
@@ -359,9 +380,9 @@ fn give_checked(cursor: &mut Cursor, word: Option<i64>, fault: Fault, left: &mut
 
 // The invocation of a call site's function, with the words that stand on the stack.
 #[tactic(auto, using(crate::proofs::Given::words_there))]
-fn invocation(code: &Code, cursor: &mut Cursor, number: usize) -> Ask
+fn invoke(code: &Code, cursor: &mut Cursor, number: usize, asked: &mut Asked)
     requires { (left : ℕ) × (invoking code.now number cursor.old left ≢ Stuck) }
-    ensures moves { (left : ℕ) → invoking code.now number cursor.old left ≡ Waits result cursor.new.owed cursor.new.place cursor.new.stack cursor.new.held left }
+    ensures moves { (left : ℕ) → invoking code.now number cursor.old left ≡ Waits asked.new cursor.new.owed cursor.new.place cursor.new.stack cursor.new.held left }
     ensures room { cursor.new.room ≡ cursor.old.room }
     ensures callee { cursor.new.callee ≡ cursor.old.callee }
 {
@@ -370,13 +391,15 @@ fn invocation(code: &Code, cursor: &mut Cursor, number: usize) -> Ask
     };
     let words = cursor.gather(site.words);
     cursor.no_operand_waits();
-    let call = FunctionCall {
-        function: site.function,
-        words,
-        reducers: site.reducers,
-        result: site.result,
-    };
-    Ask::Invoke(site.how, Callee::Function(call))
+    asked.invoke(
+        site.how,
+        FunctionCall {
+            function: site.function,
+            words,
+            reducers: site.reducers,
+            result: site.result,
+        },
+    );
 }
 
 // One tick less, if one is left.

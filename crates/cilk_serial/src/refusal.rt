@@ -1,29 +1,46 @@
 // The fault that stands in place of an ask's event.
 
-ghost use Rattle.std.specs.Prelude.{◌≡◌};
+ghost use Rattle.std.specs.Prelude.{◌≡◌, IsSome};
 ghost use Rattle.cilk_program.specs.Inside.{CalleeIsFit};
 ghost use Rattle.cilk_program.specs.Sources.{source};
 ghost use Rattle.cilk_program.specs.SerialRun.{Memory, crowded, full, refused};
+ghost use Rattle.cilk_frames.specs.Following.{child_of};
 ghost use Rattle.cilk_serial.specs.Scoped.{IsBegunRightly};
 ghost use Rattle.cilk_serial.specs.States.{Shows};
 
 use crate::callee::cells_of;
 use crate::state::State;
+use cilk_frames::asked::Asked;
+use cilk_frames::brief::Brief;
 use cilk_program::ask::{Ask, Callee};
 use cilk_program::program::Program;
 use cilk_types::fault::Fault;
 use cilk_types::limits::{MAX_CELLS, MAX_EVENTS, MAX_FRAMES};
 
 /// The fault that stands in place of the ask's event, if any.
-pub fn refused(program: &Program, state: &State, ask: &Ask) -> Option<Fault>
+pub fn refused(program: &Program, state: &State, ask: &Asked) -> Option<Fault>
     requires { IsBegunRightly (source program.now) ask.now }
     ensures { (m : Memory) → Shows state.now m → result ≡ refused (source program.now) m ask.now }
 {
-    match ask {
-        Ask::Fault(fault) => Some(*fault),
-        Ask::Invoke(_, callee) => crowded(program, state, callee),
-        _ => full(state),
+    match ask.brief() {
+        Some(Brief::Fault(fault)) => Some(fault),
+        Some(Brief::Turns(_, _)) => without_room(program, state, ask),
+        Some(_) => full(state),
+        None => without_room(program, state, ask),
     }
+}
+
+// The fault that stands in place of an invocation.
+fn without_room(program: &Program, state: &State, ask: &Asked) -> Option<Fault>
+    requires begins { IsSome (child_of ask.now) }
+    requires rightly { IsBegunRightly (source program.now) ask.now }
+    ensures { (m : Memory) → Shows state.now m → result ≡ refused (source program.now) m ask.now }
+{
+    let whole = ask.in_full();
+    let Ask::Invoke(_, callee) = &whole else {
+        unreachable!()
+    };
+    crowded(program, state, callee)
 }
 
 // The fault that stands in place of one more event.

@@ -10,9 +10,9 @@ use crate::outcome::outcome;
 use crate::refusal::refused;
 use crate::running::Running;
 use crate::trace::Trace;
+use cilk_frames::brief::Brief;
 use cilk_lower::code::Code;
 use cilk_lower::lower::lower;
-use cilk_program::ask::Ask;
 use cilk_program::program::Program;
 use cilk_types::input::Input;
 use cilk_types::outcome::Outcome;
@@ -47,14 +47,15 @@ fn drive(
             let at = running.state.next_position();
             return Err(RunFault::At { fault, at });
         }
-        match running.ask {
-            Ask::Invoke(_, _) => running.invoke(alloc, program, code)?,
-            Ask::End(result) => {
+        match running.ask.brief() {
+            None => running.invoke(alloc, program, code)?,
+            Some(Brief::Turns(_, _)) => running.invoke(alloc, program, code)?,
+            Some(Brief::End(result)) => {
                 if running.end(program, code, input)? {
                     return Ok(result);
                 }
             }
-            _ => running.answer(alloc, program, code, input)?,
+            Some(ask) => running.answer(alloc, program, code, input, ask)?,
         }
     }
 }

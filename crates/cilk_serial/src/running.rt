@@ -5,6 +5,7 @@ ghost use Rattle.cilk_program.specs.Sources.{source};
 ghost use Rattle.cilk_program.specs.SerialRun.{IsInner, Memory, refused};
 ghost use Rattle.cilk_program.specs.declared.ask.Ask.TheVariants.{End};
 ghost use Rattle.cilk_lower.specs.Behaves.{Behaves};
+ghost use Rattle.cilk_frames.specs.Asked.{in_full};
 ghost use Rattle.cilk_frames.specs.Following.{child_of};
 ghost use Rattle.cilk_lower.specs.Code.{CodeView};
 ghost use Rattle.cilk_serial.specs.States.{Shows};
@@ -17,8 +18,10 @@ use crate::frames::{child, retire, root};
 use crate::refusal::refused;
 use crate::stack::Stack;
 use crate::state::State;
+use cilk_frames::asked::Asked;
+use cilk_frames::brief::Brief;
 use cilk_frames::cursor::Answer;
-use cilk_frames::stepping::step;
+use cilk_frames::stepping::go_on;
 use cilk_hypermap::hypermap::Hypermap;
 use cilk_lower::code::Code;
 use cilk_program::ask::{Ask, Callee};
@@ -36,7 +39,7 @@ pub struct Running {
     pub state: State,
     pub below: Stack,
     pub top: Activation,
-    pub ask: Ask,
+    pub ask: Asked,
     pub left: u32,
 }
 
@@ -59,7 +62,7 @@ impl Running {
             state,
             below: Stack::new(alloc),
             top: root(alloc, program, code)?,
-            ask: Ask::Begin,
+            ask: Asked::new(),
             left: MAX_TICKS,
         })
     }
@@ -93,15 +96,24 @@ impl Running {
         program: &Program,
         code: &Code,
         input: &Input,
+        ask: Brief,
     ) -> Result<(), AllocError>
+        requires brief { self.old.ask ≡ in_full ask }
         requires going { Going code.now (source program.now) input.now self.old }
         requires allowed { IsAllowed (source program.now) self.old.state self.old.ask }
         requires inner { IsInner self.old.ask }
         ensures going { OnOk result (Going code.now (source program.now) input.now self.new) }
         ensures longer { OnOk result (length self.new.state.events.items ≡ length self.old.state.events.items + 1) }
     {
-        let told = answer(alloc, &mut self.state, &self.top, &self.below, &self.ask)?;
-        self.ask = step(code, input, &mut self.top.cursor, told, &mut self.left);
+        let told = answer(alloc, &mut self.state, &self.top, &self.below, ask)?;
+        go_on(
+            code,
+            input,
+            &mut self.top.cursor,
+            told,
+            &mut self.left,
+            &mut self.ask,
+        );
         Ok(())
     }
 
@@ -118,15 +130,16 @@ impl Running {
         ensures going { (inputs : List ℤ) → Going code.now (source program.now) inputs self.old → OnOk result (Going code.now (source program.now) inputs self.new) }
         ensures longer { OnOk result (length self.new.state.events.items ≡ length self.old.state.events.items + 1) }
     {
-        let Ask::Invoke(how, callee) = &self.ask else {
+        let ask = self.ask.in_full();
+        let Ask::Invoke(how, callee) = &ask else {
             unreachable!()
         };
         let cells = cells_of(program, callee);
-        let frame = child(alloc, code, &self.state, &self.top, &self.below, &self.ask)?;
+        let frame = child(alloc, code, &self.state, &self.top, &self.below, &ask)?;
         self.state.begin(*how, cells)?;
         let parent = mem::replace(&mut self.top, frame);
         self.below.push(parent)?;
-        self.ask = Ask::Begin;
+        self.ask.put(Brief::Begin);
         Ok(())
     }
 
@@ -145,12 +158,13 @@ impl Running {
             None => Ok(true),
             Some(parent) => {
                 self.top = parent;
-                self.ask = step(
+                go_on(
                     code,
                     input,
                     &mut self.top.cursor,
                     Answer::Done,
                     &mut self.left,
+                    &mut self.ask,
                 );
                 Ok(false)
             }

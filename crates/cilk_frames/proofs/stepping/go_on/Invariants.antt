@@ -1,6 +1,6 @@
 use Rattle.cilk_frames.specs.Moving.{effort}
 use Rattle.cilk_frames.proofs.Following.{Loop}
-use Rattle.cilk_frames.proofs.stepping.step.Given as goal
+use Rattle.cilk_frames.proofs.stepping.go_on.Given as goal
 
 abbrev pub invariant-each : goal.invariant-each
 invariant-each l = Loop l.code l.input l.fn.cursor l.fn.answer l.fn.left l.cursor l.left

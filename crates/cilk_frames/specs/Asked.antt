@@ -1,0 +1,36 @@
+-- What a frame asks for, where the invocation of a function is kept apart.
+use Rattle.std.specs.Prelude.{Option, Some, None}
+use Rattle.cilk_program.specs.declared.ask.Ask.{Ask}
+use Rattle.cilk_program.specs.declared.ask.Ask.TheVariants as asks
+use Rattle.cilk_program.specs.declared.ask.Callee.TheVariants as callees
+use Rattle.cilk_program.specs.declared.ask.FunctionCall.{FunctionCall}
+use Rattle.cilk_program.specs.declared.syntax.Invocation.{Invocation}
+use Rattle.cilk_frames.specs.declared.brief.Brief.{Brief}
+use Rattle.cilk_frames.specs.declared.brief.Brief.TheVariants as brief
+
+-- an ask in full
+abbrev pub in_full : Brief → Ask
+in_full brief.Begin = asks.Begin
+in_full (brief.Read x) = asks.Read x
+in_full (brief.Write x v) = asks.Write x v
+in_full (brief.Create r) = asks.Create r
+in_full (brief.Update r v) = asks.Update r v
+in_full (brief.Set r v) = asks.Set r v
+in_full (brief.Value r) = asks.Value r
+in_full (brief.Print v) = asks.Print v
+in_full (brief.Turns how l) = asks.Invoke how (callees.Loop l)
+in_full brief.Resume = asks.Resume
+in_full brief.Sync = asks.Sync
+in_full (brief.Result v) = asks.Result v
+in_full (brief.End v) = asks.End v
+in_full (brief.Fault f) = asks.Fault f
+
+-- the ask of these parts: where there is no brief one, a function is invoked
+abbrev pub ask_of : Option Brief → Invocation → FunctionCall → Ask
+ask_of (Some b) how call = in_full b
+ask_of None how call = asks.Invoke how (callees.Function call)
+
+-- a function is invoked
+abbrev pub IsFunctionCall : Ask → Type 0
+IsFunctionCall (asks.Invoke how (callees.Function call)) = Unit {0}
+IsFunctionCall k = ⊥
