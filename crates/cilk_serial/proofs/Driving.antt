@@ -31,6 +31,10 @@ use Rattle.cilk_meaning.proofs.Roots.{ends_as_elided}
 use Rattle.cilk_serial.specs.Ran.{Stops}
 use Rattle.cilk_frames.specs.declared.cursor.Answer.{Answer}
 use Rattle.cilk_frames.specs.declared.cursor.Answer.TheVariants.{Done}
+use Rattle.cilk_program.specs.declared.ask.LoopPart.{LoopPart}
+use Rattle.cilk_frames.specs.declared.brief.Brief.{Brief}
+use Rattle.cilk_frames.specs.declared.brief.Brief.TheVariants as briefs
+use Rattle.cilk_frames.specs.Asked.{in_full}
 use Rattle.cilk_frames.specs.Cursor.{CursorView}
 use Rattle.cilk_frames.specs.Following.{Asking, GoesOn, HasAnswer, Runs, Stands, child_of, owed_for, word_in}
 use Rattle.cilk_frames.proofs.Asking.{asking_first, asking_next}
@@ -451,21 +455,21 @@ goes_first code p inputs s a below well behaves shows events stands owes scoped 
     }
 
 -- what is neither an invocation nor an end, and is no fault, lets the frame go on at once
-pub inner : (p : Source) (m : Memory) (k : Ask) → ((how : Invocation) (callee : Callee) → k ≡ asks.Invoke how callee → ⊥) → ((v : ℤ) → k ≡ asks.End v → ⊥) → refused p m k ≡ None → IsInner k
-inner p m asks.Begin i e ok = tt
-inner p m (asks.Read x) i e ok = tt
-inner p m (asks.Write x v) i e ok = tt
-inner p m (asks.Create r) i e ok = tt
-inner p m (asks.Update r v) i e ok = tt
-inner p m (asks.Set r v) i e ok = tt
-inner p m (asks.Value r) i e ok = tt
-inner p m (asks.Print v) i e ok = tt
-inner p m (asks.Invoke how callee) i e ok = i how callee refl
-inner p m asks.Resume i e ok = tt
-inner p m asks.Sync i e ok = tt
-inner p m (asks.Result v) i e ok = tt
-inner p m (asks.End v) i e ok = e v refl
-inner p m (asks.Fault f) i e ok = cc
+pub inner : (p : Source) (m : Memory) (k : Brief) → ((how : Invocation) (part : LoopPart) → k ≡ briefs.Turns how part → ⊥) → ((v : ℤ) → k ≡ briefs.End v → ⊥) → refused p m (in_full k) ≡ None → IsInner (in_full k)
+inner p m briefs.Begin i e ok = tt
+inner p m (briefs.Read x) i e ok = tt
+inner p m (briefs.Write x v) i e ok = tt
+inner p m (briefs.Create r) i e ok = tt
+inner p m (briefs.Update r v) i e ok = tt
+inner p m (briefs.Set r v) i e ok = tt
+inner p m (briefs.Value r) i e ok = tt
+inner p m (briefs.Print v) i e ok = tt
+inner p m (briefs.Turns how part) i e ok = i how part refl
+inner p m briefs.Resume i e ok = tt
+inner p m briefs.Sync i e ok = tt
+inner p m (briefs.Result v) i e ok = tt
+inner p m (briefs.End v) i e ok = e v refl
+inner p m (briefs.Fault f) i e ok = cc
 
 -- each event leaves room for fewer
 pub falls : (code : CodeView) (p : Source) (inputs : List ℤ) (r : Running) (s' : State) → (g : Going code p inputs r) → IsAllowed p r.state r.ask → length s'.events.items ≡ length r.state.events.items + 1 → MAX_EVENTS - length s'.events.items < MAX_EVENTS - length r.state.events.items

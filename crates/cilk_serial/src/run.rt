@@ -47,15 +47,18 @@ fn drive(
             let at = running.state.next_position();
             return Err(RunFault::At { fault, at });
         }
-        match running.ask.brief() {
-            None => running.invoke(alloc, program, code)?,
-            Some(Brief::Turns(_, _)) => running.invoke(alloc, program, code)?,
-            Some(Brief::End(result)) => {
+        let Some(ask) = running.ask.brief() else {
+            running.invoke(alloc, program, code)?;
+            continue 'each;
+        };
+        match ask {
+            Brief::Turns(_, _) => running.invoke(alloc, program, code)?,
+            Brief::End(result) => {
                 if running.end(program, code, input)? {
                     return Ok(result);
                 }
             }
-            Some(ask) => running.answer(alloc, program, code, input, ask)?,
+            _ => running.answer(alloc, program, code, input, ask)?,
         }
     }
 }

@@ -4,6 +4,7 @@ use Rattle.cilk_types.specs.declared.event.Event.TheVariants as events
 use Rattle.cilk_program.specs.declared.ask.Ask.TheVariants as asks
 use Rattle.cilk_monoid.specs.Ranges.{same_instance}
 use Rattle.cilk_program.specs.SerialRun.{cell_at, reducer_at}
+use Rattle.cilk_frames.specs.Asked.{in_full}
 use Rattle.cilk_program.specs.Store.{clear, number_at, put, set, update}
 use Rattle.cilk_serial.specs.Scoped.{IsThere}
 use Rattle.cilk_serial.specs.States.{Answers}
@@ -13,26 +14,26 @@ use Rattle.cilk_serial.proofs.answer.answer.Goals as goal
 pub cell-requires : goal.cell-requires
 cell-requires c =
     let t = c.requires.there in
-    let there = subst (λ k. IsThere t.0 t.1 (length c.args.state.now.cells.items) k) c.in-Read.is t.4 in
+    let there = subst (λ k. IsThere t.0 t.1 (length c.args.state.now.cells.items) (in_full k)) c.in-Read.is t.4 in
     (t.0, t.1, t.2, t.3, omega (arith, there, c.requires.few))
 
 pub read-requires : goal.read-requires
 read-requires c =
     let t = c.requires.there in
-    let there = subst (λ k. IsThere t.0 t.1 (length c.args.state.now.cells.items) k) c.in-Read.is t.4 in
+    let there = subst (λ k. IsThere t.0 t.1 (length c.args.state.now.cells.items) (in_full k)) c.in-Read.is t.4 in
     let same = c.cell.ensures t.0 t.1 t.2 t.3 in
     omega (arith, there, same)
 
 pub cell-requires-in-Write : goal.cell-requires-in-Write
 cell-requires-in-Write c =
     let t = c.requires.there in
-    let there = subst (λ k. IsThere t.0 t.1 (length c.args.state.now.cells.items) k) c.in-Write.is t.4 in
+    let there = subst (λ k. IsThere t.0 t.1 (length c.args.state.now.cells.items) (in_full k)) c.in-Write.is t.4 in
     (t.0, t.1, t.2, t.3, omega (arith, there, c.requires.few))
 
 pub write-requires : goal.write-requires
 write-requires c =
     let t = c.requires.there in
-    let there = subst (λ k. IsThere t.0 t.1 (length c.args.state.now.cells.items) k) c.in-Write.is t.4 in
+    let there = subst (λ k. IsThere t.0 t.1 (length c.args.state.now.cells.items) (in_full k)) c.in-Write.is t.4 in
     let same = c.cell-in-Write.ensures t.0 t.1 t.2 t.3 in
     omega (arith, there, same)
 
@@ -40,7 +41,7 @@ pub returns-in-Read : goal.returns-in-Read
 returns-in-Read c = λ p fr parents seen.
     let same = c.cell.ensures p fr parents seen in
     let k = asks.Read c.in-Read.place in
-    subst (λ k. IfOk c.read.result (λ a. Answers p fr c.args.state.now c.read.new.self k a)) (sym c.in-Read.is)
+    subst (λ b. IfOk c.read.result (λ a. Answers p fr c.args.state.now c.read.new.self (in_full b) a)) (sym c.in-Read.is)
     (tells_word p fr c.args.state.now c.read.new.self k (λ m. m.store.cells c.cell.result) (λ m. events.Read c.cell.result (m.store.cells c.cell.result)) (λ m. m.store)
     (λ m. ap m.store.cells same) (λ m. ap (λ n. events.Read n (m.store.cells n)) same) (λ m. refl) c.read.result (λ v. tt) c.read.ensures.value c.read.ensures.makes)
 
@@ -51,7 +52,7 @@ returns-in-Write c = λ p fr parents seen.
     let fits : SFits w64 v = search rules in
     let word = to_z-of_z w64 v fits in
     let k = asks.Write c.in-Write.place v in
-    subst (λ k. IfOk c.write.result (λ a. Answers p fr c.args.state.now c.write.new.self k a)) (sym c.in-Write.is)
+    subst (λ b. IfOk c.write.result (λ a. Answers p fr c.args.state.now c.write.new.self (in_full b) a)) (sym c.in-Write.is)
     (tells_nothing p fr c.args.state.now c.write.new.self k (λ m. pos 0) (λ m. events.Write c.cell-in-Write.result (to_z w64 (of_z w64 v))) (λ m. put c.cell-in-Write.result (to_z w64 (of_z w64 v)) m.store)
     (λ m. refl) (λ m. ap (λ n. events.Write n (to_z w64 (of_z w64 v))) same ∙ ap (events.Write (cell_at fr c.in-Write.place)) word)
     (λ m. ap (λ n. put n (to_z w64 (of_z w64 v)) m.store) same ∙ ap (λ x. put (cell_at fr c.in-Write.place) x m.store) word) c.write.result tt c.write.ensures.done c.write.ensures.makes)
@@ -61,7 +62,7 @@ returns-in-Create c = λ p fr parents seen.
     let same = c.instance-instance.ensures p fr parents seen in
     let r = c.in-Create.reducer in
     let k = asks.Create r in
-    subst (λ k. IfOk c.create.result (λ a. Answers p fr c.args.state.now c.create.new.self k a)) (sym c.in-Create.is)
+    subst (λ b. IfOk c.create.result (λ a. Answers p fr c.args.state.now c.create.new.self (in_full b) a)) (sym c.in-Create.is)
     (tells_nothing p fr c.args.state.now c.create.new.self k (λ m. pos 0) (λ m. events.Create c.instance-instance.result) (λ m. clear same_instance r.kind c.instance-instance.result m.store)
     (λ m. refl) (λ m. ap events.Create same) (λ m. ap (λ i. clear same_instance r.kind i m.store) same) c.create.result tt c.create.ensures.done c.create.ensures.makes)
 
@@ -74,7 +75,7 @@ returns-in-Update c = λ p fr parents seen.
     let fits : SFits w64 v = search rules in
     let word = to_z-of_z w64 v fits in
     let k = asks.Update r v in
-    subst (λ k. IfOk c.update.result (λ a. Answers p fr c.args.state.now c.update.new.self k a)) (sym c.in-Update.is)
+    subst (λ b. IfOk c.update.result (λ a. Answers p fr c.args.state.now c.update.new.self (in_full b) a)) (sym c.in-Update.is)
     (tells_nothing p fr c.args.state.now c.update.new.self k (λ m. pos 0) (λ m. events.Update i (to_z w64 (of_z w64 v))) (λ m. update same_instance r.kind i (to_z w64 (of_z w64 v)) m.store)
     (λ m. refl) (λ m. ap (λ i. events.Update i (to_z w64 (of_z w64 v))) same ∙ ap (events.Update (reducer_at fr r)) word)
     (λ m. ap (λ i. update same_instance r.kind i (to_z w64 (of_z w64 v)) m.store) same ∙ ap (λ x. update same_instance r.kind (reducer_at fr r) x m.store) word) c.update.result tt c.update.ensures.done c.update.ensures.makes)
@@ -88,7 +89,7 @@ returns-in-Set c = λ p fr parents seen.
     let fits : SFits w64 v = search rules in
     let word = to_z-of_z w64 v fits in
     let k = asks.Set r v in
-    subst (λ k. IfOk c.set.result (λ a. Answers p fr c.args.state.now c.set.new.self k a)) (sym c.in-Set.is)
+    subst (λ b. IfOk c.set.result (λ a. Answers p fr c.args.state.now c.set.new.self (in_full b) a)) (sym c.in-Set.is)
     (tells_nothing p fr c.args.state.now c.set.new.self k (λ m. pos 0) (λ m. events.Set i (to_z w64 (of_z w64 v))) (λ m. set same_instance r.kind i (to_z w64 (of_z w64 v)) m.store)
     (λ m. refl) (λ m. ap (λ i. events.Set i (to_z w64 (of_z w64 v))) same ∙ ap (events.Set (reducer_at fr r)) word)
     (λ m. ap (λ i. set same_instance r.kind i (to_z w64 (of_z w64 v)) m.store) same ∙ ap (λ x. set same_instance r.kind (reducer_at fr r) x m.store) word) c.set.result tt c.set.ensures.done c.set.ensures.makes)
@@ -99,6 +100,6 @@ returns-in-Value c = λ p fr parents seen.
     let same = c.instance-instance-in-Value.ensures p fr parents seen in
     let r = c.in-Value.reducer in
     let k = asks.Value r in
-    subst (λ k. IfOk c.value.result (λ a. Answers p fr c.args.state.now c.value.new.self k a)) (sym c.in-Value.is)
+    subst (λ b. IfOk c.value.result (λ a. Answers p fr c.args.state.now c.value.new.self (in_full b) a)) (sym c.in-Value.is)
     (tells_word p fr c.args.state.now c.value.new.self k (λ m. number_at r.kind i m.store) (λ m. events.Value i (number_at r.kind i m.store)) (λ m. m.store)
     (λ m. ap (λ i. number_at r.kind i m.store) same) (λ m. ap (λ i. events.Value i (number_at r.kind i m.store)) same) (λ m. refl) c.value.result (λ v. tt) c.value.ensures.value c.value.ensures.makes)

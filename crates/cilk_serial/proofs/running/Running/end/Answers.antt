@@ -31,10 +31,10 @@ returns-in-Some-clause-going c = λ last.
     let made = (c.in_ok-make.ensures.makes g.memory g.shows).1 in
     let s = c.retire.new.state in
     let v = c.requires.ends.0 in
-    resumes c.args.code.now (source p) c.args.input.now s v r.left r.below c.in-Some.parent c.pop.new.self c.step-self.new.cursor c.step-self.result c.step-self.new.left
+    resumes c.args.code.now (source p) c.args.input.now s v r.left r.below c.in-Some.parent c.pop.new.self c.go_on.new.cursor c.go_on.new.asked c.go_on.new.left
     (closes c.args.code.now (source p) c.args.input.now r s v g c.requires.allowed c.requires.ends.1 (c.retire.ensures.events ∙ made.events)
     (λ m h. c.retire.ensures.shows (with_store m m.store) (c.in_ok-make.ensures.makes m h).1.shows))
-    c.in-Some.ensures (c.step-self.ensures.stands (source p))
+    c.in-Some.ensures (c.go_on.ensures.stands (source p))
 
 pub returns-in-Some-clause-longer : goal.returns-in-Some-clause-longer
 returns-in-Some-clause-longer c =

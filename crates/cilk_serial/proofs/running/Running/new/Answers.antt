@@ -1,6 +1,9 @@
-use Rattle.std.proofs.Common.{refl, ap, ◌∙◌}
+use Rattle.std.proofs.Common.{refl, ap, sym, subst, ◌∙◌}
+use Rattle.cilk_types.specs.declared.limits.TheConstants.{MAX_TICKS}
 use Rattle.cilk_program.specs.Sources.{source}
+use Rattle.cilk_program.specs.declared.ask.Ask.{Ask}
 use Rattle.cilk_serial.specs.declared.state.State.{State}
+use Rattle.cilk_serial.specs.Going.{Going}
 use Rattle.cilk_serial.proofs.Driving.{first_shows, goes_first}
 use Rattle.cilk_serial.proofs.running.Running.new.Goals as goal
 
@@ -11,5 +14,6 @@ returns c = λ inputs.
     let more = c.in_ok-extend.ensures in
     let root = c.in_ok-root.ensures in
     let shows = first_shows (source p) inputs s0 c.extend.new.self c.cells_of.result (c.in_ok-from_slice.ensures.items ∙ c.as_slice.ensures) c.new.ensures c.new-2.ensures.items c.new-3.ensures.items refl more c.cells_of.ensures in
-    goes_first c.args.code.now (source p) inputs c.extend.new.self c.in_ok-root.field-0 c.new-4.result p.well_named c.requires shows (ap (λ v. v.items) more.events ∙ c.new-3.ensures.items)
-    (root.stands inputs c.requires) root.owes (root.scoped inputs) c.new-4.ensures
+    subst (λ (k : Ask). Going c.args.code.now (source p) inputs (record { state = c.extend.new.self; below = c.new-4.result; top = c.in_ok-root.field-0; ask = k; left = MAX_TICKS })) (sym c.new-5.ensures)
+    (goes_first c.args.code.now (source p) inputs c.extend.new.self c.in_ok-root.field-0 c.new-4.result p.well_named c.requires shows (ap (λ v. v.items) more.events ∙ c.new-3.ensures.items)
+    (root.stands inputs c.requires) root.owes (root.scoped inputs) c.new-4.ensures)
