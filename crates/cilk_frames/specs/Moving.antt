@@ -1,5 +1,6 @@
 -- What the code does for one instruction.
 use Rattle.std.specs.Prelude.{◌≡◌, ℕ, suc, ◌+◌, ◌-◌, ◌*◌, ◌<◌, Bool, true, false, if◌then◌else◌, ℤ, List, [], ◌∷◌, length, slice_get}
+use Rattle.cilk_program.specs.declared.ask.Ask.{Ask}
 use Rattle.cilk_lower.specs.declared.code.Instr.{Instr}
 use Rattle.cilk_lower.specs.declared.code.Owed.{Owed}
 use Rattle.cilk_lower.specs.declared.code.Owed.TheVariants.{Nothing, Word}
@@ -10,7 +11,6 @@ use Rattle.cilk_frames.specs.declared.cursor.Answer.TheVariants.{Done, Value}
 use Rattle.cilk_frames.specs.declared.stepping.Moved.{Moved}
 use Rattle.cilk_frames.specs.declared.stepping.Moved.TheVariants as did
 use Rattle.cilk_frames.specs.Cursor.{CursorView}
-use Rattle.cilk_frames.specs.Asked.{in_full}
 use Rattle.cilk_frames.specs.Following.{setting_at}
 
 -- the machine's move at the cursor
@@ -21,17 +21,17 @@ move_at code inputs c left = move (setting_at inputs code c) (slice_get code.ins
 abbrev pub invoking : CodeView → ℕ → CursorView → ℕ → Move
 invoking code number c left = on_some (slice_get code.sites number) (λ s. on_words s.words [] c.stack (λ words rest. on_none rest (Waits (invoked s words) c.owed c.place [] c.held left)))
 
--- what the code says of one instruction
-abbrev pub moved : CodeView → Moved → CursorView → ℕ → Move
-moved code did.Goes c left = Goes c.place c.stack c.held left
-moved code (did.Waits k) c left = Waits (in_full k) c.owed c.place c.stack c.held left
-moved code (did.Stops k) c left = Stops (in_full k) left
-moved code (did.Invokes number) c left = invoking code number c left
+-- what the code says of one instruction, and what it then asked
+abbrev pub moved : CodeView → Moved → Ask → CursorView → ℕ → Move
+moved code did.Goes k c left = Goes c.place c.stack c.held left
+moved code did.Waits k c left = Waits k c.owed c.place c.stack c.held left
+moved code did.Stops k c left = Stops k left
+moved code (did.Invokes number) k c left = invoking code number c left
 
 abbrev pub IsGoing : Moved → Type 0
 IsGoing did.Goes = Unit {0}
-IsGoing (did.Waits k) = ⊥
-IsGoing (did.Stops k) = ⊥
+IsGoing did.Waits = ⊥
+IsGoing did.Stops = ⊥
 IsGoing (did.Invokes number) = ⊥
 
 abbrev pub TakesTick : ℕ → Bool → ℕ → Type 0

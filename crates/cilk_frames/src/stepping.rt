@@ -27,13 +27,13 @@ use cilk_types::word;
 #[cfg(test)]
 mod tests;
 
-// What an instruction did: it went on, it asks and waits for the answer, it asks for the last time, or it invokes the
+// What an instruction did: it went on, it asked and waits for the answer, it asked for the last time, or it invokes the
 // function of a call site, whose words still stand on the stack.
 #[derive(Clone, Copy)]
 enum Moved {
     Goes,
-    Waits(Brief),
-    Stops(Brief),
+    Waits,
+    Stops,
     Invokes(usize),
 }
 
@@ -66,10 +66,10 @@ pub fn go_on(
 {
     cursor.receive(answer);
     'each: loop {
-        match advance(code, input, cursor, left) {
+        match advance(code, input, cursor, left, asked) {
             Moved::Goes => {}
-            Moved::Waits(ask) => return asked.put(ask),
-            Moved::Stops(ask) => return asked.put(ask),
+            Moved::Waits => return,
+            Moved::Stops => return,
             Moved::Invokes(number) => return invoke(code, cursor, number, asked),
         }
     }
@@ -77,9 +77,15 @@ pub fn go_on(
 
 // One instruction.
 #[tactic(auto, using(crate::proofs::Effort::effort_back))]
-fn advance(code: &Code, input: &Input, cursor: &mut Cursor, left: &mut u32) -> Moved
+fn advance(
+    code: &Code,
+    input: &Input,
+    cursor: &mut Cursor,
+    left: &mut u32,
+    asked: &mut Asked,
+) -> Moved
     requires { move_at code.now input.now cursor.old left.old ≢ Stuck }
-    ensures moves { move_at code.now input.now cursor.old left.old ≡ moved code.now result cursor.new left.new }
+    ensures moves { move_at code.now input.now cursor.old left.old ≡ moved code.now result asked.new cursor.new left.new }
     ensures room { cursor.new.room ≡ cursor.old.room }
     ensures callee { cursor.new.callee ≡ cursor.old.callee }
     ensures falls { IsGoing result → effort code.now.instrs cursor.new.place left.new < effort code.now.instrs cursor.old.place left.old }
@@ -88,29 +94,29 @@ fn advance(code: &Code, input: &Input, cursor: &mut Cursor, left: &mut u32) -> M
         unreachable!()
     };
     match instr {
-        Instr::Tick => tick(cursor, left),
-        Instr::Push(word) => give(cursor, word, left),
-        Instr::Load(place) => load(cursor, Brief::Read(place), left),
-        Instr::LoadElement(array) => load_element(cursor, array, left),
-        Instr::Fetch(place) => wait(cursor, Brief::Read(place), Owed::Word),
+        Instr::Tick => tick(cursor, left, asked),
+        Instr::Push(word) => give(cursor, word, left, asked),
+        Instr::Load(place) => load(cursor, Brief::Read(place), left, asked),
+        Instr::LoadElement(array) => load_element(cursor, array, left, asked),
+        Instr::Fetch(place) => wait(cursor, Brief::Read(place), Owed::Word, asked),
         Instr::FetchElement(array) => {
             let index = cursor.pop();
             cursor.push(index);
             match element(array, index) {
-                Some(place) => wait(cursor, Brief::Read(place), Owed::Word),
-                None => Moved::Stops(Brief::Fault(Fault::IndexOutside)),
+                Some(place) => wait(cursor, Brief::Read(place), Owed::Word, asked),
+                None => stop(Brief::Fault(Fault::IndexOutside), asked),
             }
         }
         Instr::Store(place) => {
             let word = cursor.pop();
-            wait(cursor, Brief::Write(place, word), Owed::Nothing)
+            wait(cursor, Brief::Write(place, word), Owed::Nothing, asked)
         }
         Instr::StoreElement(array) => {
             let word = cursor.pop();
             let index = cursor.pop();
             match element(array, index) {
-                Some(place) => wait(cursor, Brief::Write(place, word), Owed::Nothing),
-                None => Moved::Stops(Brief::Fault(Fault::IndexOutside)),
+                Some(place) => wait(cursor, Brief::Write(place, word), Owed::Nothing, asked),
+                None => stop(Brief::Fault(Fault::IndexOutside), asked),
             }
         }
         Instr::Zero(number) => {
@@ -118,6 +124,7 @@ fn advance(code: &Code, input: &Input, cursor: &mut Cursor, left: &mut u32) -> M
                 cursor,
                 Brief::Write(Place::Local(0, number), 0),
                 Owed::Nothing,
+                asked,
             )
         }
         Instr::Combine(operator) => {
@@ -131,39 +138,45 @@ fn advance(code: &Code, input: &Input, cursor: &mut Cursor, left: &mut u32) -> M
         }
         Instr::Negate => {
             let x = cursor.pop();
-            give(cursor, word::neg(x), left)
+            give(cursor, word::neg(x), left, asked)
         }
         Instr::Not => {
             let x = cursor.pop();
-            give(cursor, negation(x), left)
+            give(cursor, negation(x), left, asked)
         }
         Instr::Apply(operator) => {
             let y = cursor.pop();
             let x = cursor.pop();
-            give_checked(cursor, apply(operator, x, y), Fault::DivisionByZero, left)
+            give_checked(
+                cursor,
+                apply(operator, x, y),
+                Fault::DivisionByZero,
+                left,
+                asked,
+            )
         }
         Instr::Truth => {
             let x = cursor.pop();
-            give(cursor, truth(x), left)
+            give(cursor, truth(x), left, asked)
         }
-        Instr::Value(reducer) => load(cursor, Brief::Value(reducer), left),
+        Instr::Value(reducer) => load(cursor, Brief::Value(reducer), left, asked),
         Instr::Input => {
             let x = cursor.pop();
-            give_checked(cursor, input.at(x), Fault::InputOutside, left)
+            give_checked(cursor, input.at(x), Fault::InputOutside, left, asked)
         }
-        Instr::InputCount => give(cursor, input.count(), left),
+        Instr::InputCount => give(cursor, input.count(), left, asked),
         Instr::Print => {
             let word = cursor.pop();
-            wait(cursor, Brief::Print(word), Owed::Nothing)
+            wait(cursor, Brief::Print(word), Owed::Nothing, asked)
         }
-        Instr::Create(reducer) => wait(cursor, Brief::Create(reducer), Owed::Nothing),
+        Instr::Create(reducer) => wait(cursor, Brief::Create(reducer), Owed::Nothing, asked),
         Instr::Update(reducer) => {
             let word = cursor.pop();
-            wait(cursor, Brief::Update(reducer, word), Owed::Nothing)
+            wait(cursor, Brief::Update(reducer, word), Owed::Nothing, asked)
         }
         Instr::Set(reducer) => {
             let word = cursor.pop();
-            wait(cursor, Brief::Set(reducer, word), Owed::Nothing)
+            wait(cursor, Brief::Set(reducer, word), Owed::Nothing, asked)
         }
         Instr::Word(number) => {
             let Some(word) = cursor.given(number as usize) else {
@@ -173,6 +186,7 @@ fn advance(code: &Code, input: &Input, cursor: &mut Cursor, left: &mut u32) -> M
                 cursor,
                 Brief::Write(Place::Local(0, number), word),
                 Owed::Nothing,
+                asked,
             )
         }
         Instr::Turn => {
@@ -183,6 +197,7 @@ fn advance(code: &Code, input: &Input, cursor: &mut Cursor, left: &mut u32) -> M
                 cursor,
                 Brief::Write(Place::Local(0, 0), part.low),
                 Owed::Nothing,
+                asked,
             )
         }
         Instr::Invoke(number) => {
@@ -207,6 +222,7 @@ fn advance(code: &Code, input: &Input, cursor: &mut Cursor, left: &mut u32) -> M
                         },
                     ),
                     Owed::Nothing,
+                    asked,
                 )
             } else {
                 cursor.pass_next();
@@ -219,7 +235,12 @@ fn advance(code: &Code, input: &Input, cursor: &mut Cursor, left: &mut u32) -> M
             };
             cursor.no_operand_waits();
             let half = first_half(part);
-            wait(cursor, Brief::Turns(Invocation::Spawn, half), Owed::Nothing)
+            wait(
+                cursor,
+                Brief::Turns(Invocation::Spawn, half),
+                Owed::Nothing,
+                asked,
+            )
         }
         Instr::CallHalf => {
             let Some(part) = cursor.part() else {
@@ -227,9 +248,14 @@ fn advance(code: &Code, input: &Input, cursor: &mut Cursor, left: &mut u32) -> M
             };
             cursor.no_operand_waits();
             let half = second_half(part);
-            wait(cursor, Brief::Turns(Invocation::Call, half), Owed::Nothing)
+            wait(
+                cursor,
+                Brief::Turns(Invocation::Call, half),
+                Owed::Nothing,
+                asked,
+            )
         }
-        Instr::Resume => wait(cursor, Brief::Resume, Owed::Nothing),
+        Instr::Resume => wait(cursor, Brief::Resume, Owed::Nothing, asked),
         Instr::SkipIfZero(count) => {
             if cursor.pop() == 0 {
                 cursor.skip(count);
@@ -265,29 +291,40 @@ fn advance(code: &Code, input: &Input, cursor: &mut Cursor, left: &mut u32) -> M
         }
         Instr::Sync => {
             cursor.no_operand_waits();
-            wait(cursor, Brief::Sync, Owed::Nothing)
+            wait(cursor, Brief::Sync, Owed::Nothing, asked)
         }
         Instr::GiveResult => {
             if cursor.gives_result() {
                 let word = cursor.held();
-                wait(cursor, Brief::Result(word), Owed::Nothing)
+                wait(cursor, Brief::Result(word), Owed::Nothing, asked)
             } else {
                 cursor.next();
                 Moved::Goes
             }
         }
-        Instr::End => Moved::Stops(Brief::End(cursor.held())),
+        Instr::End => stop(Brief::End(cursor.held()), asked),
     }
 }
 
 // On to the next instruction, which waits for the answer to an ask.
-fn wait(cursor: &mut Cursor, ask: Brief, owed: Owed) -> Moved
+fn wait(cursor: &mut Cursor, ask: Brief, owed: Owed, asked: &mut Asked) -> Moved
     requires { cursor.old.place < 2 ^ 63 }
-    ensures moved { result ≡ Moved.Waits ask }
+    ensures moved { result ≡ Moved.Waits }
+    ensures asked { asked.new ≡ in_full ask }
     ensures cursor { cursor.new ≡ record cursor.old { place = cursor.old.place + 1; owed = owed } }
 {
     cursor.wait(owed);
-    Moved::Waits(ask)
+    asked.put(ask);
+    Moved::Waits
+}
+
+// The last ask.
+fn stop(ask: Brief, asked: &mut Asked) -> Moved
+    ensures moved { result ≡ Moved.Stops }
+    ensures asked { asked.new ≡ in_full ask }
+{
+    asked.put(ask);
+    Moved::Stops
 }
 
 // A value that takes no tick goes onto the stack.
@@ -303,78 +340,84 @@ fn put(cursor: &mut Cursor, word: i64) -> Moved
 }
 
 // A statement begins.
-fn tick(cursor: &mut Cursor, left: &mut u32) -> Moved
+fn tick(cursor: &mut Cursor, left: &mut u32, asked: &mut Asked) -> Moved
     requires { cursor.old.place < 2 ^ 63 }
-    ensures moves { (code : CodeView) → ticked left.old (Goes (cursor.old.place + 1) cursor.old.stack cursor.old.held) ≡ moved code result cursor.new left.new }
+    ensures moves { (code : CodeView) → ticked left.old (Goes (cursor.old.place + 1) cursor.old.stack cursor.old.held) ≡ moved code result asked.new cursor.new left.new }
     ensures room { cursor.new.room ≡ cursor.old.room }
     ensures callee { cursor.new.callee ≡ cursor.old.callee }
     ensures falls { IsGoing result → left.old ≡ suc left.new }
 {
     if !take_tick(left) {
-        return Moved::Stops(Brief::Fault(Fault::TooManyEvents));
+        return stop(Brief::Fault(Fault::TooManyEvents), asked);
     }
     cursor.next();
     Moved::Goes
 }
 
 // A value is asked for, which takes its tick first.
-fn load(cursor: &mut Cursor, ask: Brief, left: &mut u32) -> Moved
+fn load(cursor: &mut Cursor, ask: Brief, left: &mut u32, asked: &mut Asked) -> Moved
     requires { cursor.old.place < 2 ^ 63 }
-    ensures moves { (code : CodeView) → ticked left.old (Waits (in_full ask) Word (cursor.old.place + 1) cursor.old.stack cursor.old.held) ≡ moved code result cursor.new left.new }
+    ensures moves { (code : CodeView) → ticked left.old (Waits (in_full ask) Word (cursor.old.place + 1) cursor.old.stack cursor.old.held) ≡ moved code result asked.new cursor.new left.new }
     ensures room { cursor.new.room ≡ cursor.old.room }
     ensures callee { cursor.new.callee ≡ cursor.old.callee }
     ensures asks { IsGoing result → ⊥ }
 {
     if !take_tick(left) {
-        return Moved::Stops(Brief::Fault(Fault::TooManyEvents));
+        return stop(Brief::Fault(Fault::TooManyEvents), asked);
     }
-    wait(cursor, ask, Owed::Word)
+    wait(cursor, ask, Owed::Word, asked)
 }
 
 // An array's element is asked for, once its index is checked.
-fn load_element(cursor: &mut Cursor, array: Array, left: &mut u32) -> Moved
+fn load_element(cursor: &mut Cursor, array: Array, left: &mut u32, asked: &mut Asked) -> Moved
     requires index { cursor.old.stack ≢ [] }
     requires array { array.first + array.length ≤ 2 ^ 32 }
     requires small { cursor.old.place < 2 ^ 63 }
-    ensures moves { (code : CodeView) → on_top cursor.old.stack (λ i rest. or_stops IndexOutside (element array i) left.old (λ x. ticked left.old (Waits (Read x) Word (cursor.old.place + 1) rest cursor.old.held))) ≡ moved code result cursor.new left.new }
+    ensures moves { (code : CodeView) → on_top cursor.old.stack (λ i rest. or_stops IndexOutside (element array i) left.old (λ x. ticked left.old (Waits (Read x) Word (cursor.old.place + 1) rest cursor.old.held))) ≡ moved code result asked.new cursor.new left.new }
     ensures room { cursor.new.room ≡ cursor.old.room }
     ensures callee { cursor.new.callee ≡ cursor.old.callee }
     ensures asks { IsGoing result → ⊥ }
 {
     let index = cursor.pop();
     match element(array, index) {
-        Some(place) => load(cursor, Brief::Read(place), left),
-        None => Moved::Stops(Brief::Fault(Fault::IndexOutside)),
+        Some(place) => load(cursor, Brief::Read(place), left, asked),
+        None => stop(Brief::Fault(Fault::IndexOutside), asked),
     }
 }
 
 // A value takes its tick and goes onto the stack.
-fn give(cursor: &mut Cursor, word: i64, left: &mut u32) -> Moved
+fn give(cursor: &mut Cursor, word: i64, left: &mut u32, asked: &mut Asked) -> Moved
     requires room { length cursor.old.stack < cursor.old.room }
     requires small { cursor.old.place < 2 ^ 63 }
-    ensures moves { (code : CodeView) → ticked left.old (Goes (cursor.old.place + 1) (word ∷ cursor.old.stack) cursor.old.held) ≡ moved code result cursor.new left.new }
+    ensures moves { (code : CodeView) → ticked left.old (Goes (cursor.old.place + 1) (word ∷ cursor.old.stack) cursor.old.held) ≡ moved code result asked.new cursor.new left.new }
     ensures room { cursor.new.room ≡ cursor.old.room }
     ensures callee { cursor.new.callee ≡ cursor.old.callee }
     ensures falls { IsGoing result → left.old ≡ suc left.new }
 {
     if !take_tick(left) {
-        return Moved::Stops(Brief::Fault(Fault::TooManyEvents));
+        return stop(Brief::Fault(Fault::TooManyEvents), asked);
     }
     put(cursor, word)
 }
 
 // A value that passed its check takes its tick and goes onto the stack.
-fn give_checked(cursor: &mut Cursor, word: Option<i64>, fault: Fault, left: &mut u32) -> Moved
+fn give_checked(
+    cursor: &mut Cursor,
+    word: Option<i64>,
+    fault: Fault,
+    left: &mut u32,
+    asked: &mut Asked,
+) -> Moved
     requires room { length cursor.old.stack < cursor.old.room }
     requires small { cursor.old.place < 2 ^ 63 }
-    ensures moves { (code : CodeView) → or_stops fault word left.old (λ v. ticked left.old (Goes (cursor.old.place + 1) (v ∷ cursor.old.stack) cursor.old.held)) ≡ moved code result cursor.new left.new }
+    ensures moves { (code : CodeView) → or_stops fault word left.old (λ v. ticked left.old (Goes (cursor.old.place + 1) (v ∷ cursor.old.stack) cursor.old.held)) ≡ moved code result asked.new cursor.new left.new }
     ensures room { cursor.new.room ≡ cursor.old.room }
     ensures callee { cursor.new.callee ≡ cursor.old.callee }
     ensures falls { IsGoing result → left.old ≡ suc left.new }
 {
     match word {
-        Some(word) => give(cursor, word, left),
-        None => Moved::Stops(Brief::Fault(fault)),
+        Some(word) => give(cursor, word, left, asked),
+        None => stop(Brief::Fault(fault), asked),
     }
 }
 

@@ -22,15 +22,13 @@ each-preserved c =
 
 pub returns-in-Waits : goal.returns-in-Waits
 returns-in-Waits c =
-    let is = c.in-Waits.ensures.moves ∙ ap (λ (k : Ask). Waits k c.advance.new.cursor.owed c.advance.new.cursor.place c.advance.new.cursor.stack c.advance.new.cursor.held c.advance.new.left) (sym c.put.ensures) in
-    let steps = loop_waits c.args.code.now c.args.input.now c.args.cursor.now c.args.answer c.args.left.now c.each.cursor c.each.left c.advance.new.cursor c.advance.new.left c.each.invariant c.advance.ensures.room c.advance.ensures.callee c.put.new.self is in
-    record { follows = steps; stands = stands_on c.args.code.now c.args.input.now c.args.cursor.now c.args.answer c.args.left.now c.put.new.self c.advance.new.cursor c.advance.new.left steps }
+    let steps = loop_waits c.args.code.now c.args.input.now c.args.cursor.now c.args.answer c.args.left.now c.each.cursor c.each.left c.advance.new.cursor c.advance.new.left c.each.invariant c.advance.ensures.room c.advance.ensures.callee c.advance.new.asked c.in-Waits.ensures.moves in
+    record { follows = steps; stands = stands_on c.args.code.now c.args.input.now c.args.cursor.now c.args.answer c.args.left.now c.advance.new.asked c.advance.new.cursor c.advance.new.left steps }
 
 pub returns-in-Stops : goal.returns-in-Stops
 returns-in-Stops c =
-    let is = c.in-Stops.ensures.moves ∙ ap (λ (k : Ask). Stops k c.advance.new.left) (sym c.put-in-Stops.ensures) in
-    let steps = loop_stops c.args.code.now c.args.input.now c.args.cursor.now c.args.answer c.args.left.now c.each.cursor c.each.left c.put-in-Stops.new.self c.advance.new.cursor c.advance.new.left c.each.invariant is in
-    record { follows = steps; stands = stands_on c.args.code.now c.args.input.now c.args.cursor.now c.args.answer c.args.left.now c.put-in-Stops.new.self c.advance.new.cursor c.advance.new.left steps }
+    let steps = loop_stops c.args.code.now c.args.input.now c.args.cursor.now c.args.answer c.args.left.now c.each.cursor c.each.left c.advance.new.asked c.advance.new.cursor c.advance.new.left c.each.invariant c.in-Stops.ensures.moves in
+    record { follows = steps; stands = stands_on c.args.code.now c.args.input.now c.args.cursor.now c.args.answer c.args.left.now c.advance.new.asked c.advance.new.cursor c.advance.new.left steps }
 
 pub invoke-requires : goal.invoke-requires
 invoke-requires c =
