@@ -1,8 +1,11 @@
 //! What a frame asked for last, kept in its place.
 
-ghost use Rattle.std.specs.Prelude.{◌≡◌, MatchOption, None};
-ghost use Rattle.cilk_program.specs.declared.ask.Ask.TheVariants.{Begin};
+ghost use Rattle.std.specs.Prelude.{◌≡◌, MatchOption, IfSome, IsSome, None, Some};
+ghost use Rattle.cilk_program.specs.declared.ask.Ask.TheVariants.{Begin, Invoke};
+ghost use Rattle.cilk_program.specs.declared.ask.Callee.TheVariants as callees;
+ghost use Rattle.cilk_program.specs.declared.syntax.Invocation.{Invocation};
 ghost use Rattle.cilk_frames.specs.Asked.{IsFunctionCall, ask_of, in_full};
+ghost use Rattle.cilk_frames.specs.Following.{child_of};
 
 use crate::brief::Brief;
 use cilk_program::ask::{Ask, Callee, FunctionCall};
@@ -53,21 +56,45 @@ impl Asked {
         self.brief
     }
 
+    /// Whether the child that begins is called or spawned.
+    pub fn how(&self) -> Invocation
+        requires { IsSome (child_of self.now) }
+        ensures { IfSome (child_of self.now) (λ callee. self.now ≡ Invoke result callee) }
+    {
+        match self.brief {
+            Some(Brief::Turns(how, _)) => how,
+            Some(_) => unreachable!(),
+            None => self.how,
+        }
+    }
+
+    /// The function that is invoked, with what it is given.
+    pub fn call(&self) -> &FunctionCall
+        requires { IsFunctionCall self.now }
+        ensures { (how : Invocation) × (self.now ≡ Invoke how (callees.Function result.now)) }
+    {
+        &self.call
+    }
+
+    /// What the child that begins runs.
+    pub fn callee(&self) -> Callee
+        requires { IsSome (child_of self.now) }
+        ensures { child_of self.now ≡ Some result }
+    {
+        match self.brief {
+            Some(Brief::Turns(_, part)) => Callee::Loop(part),
+            Some(_) => unreachable!(),
+            None => function(&self.call),
+        }
+    }
+
     /// The ask.
     pub fn in_full(&self) -> Ask
         ensures { result ≡ self.now }
     {
         match self.brief {
             Some(brief) => brief.in_full(),
-            None => Ask::Invoke(
-                self.how,
-                Callee::Function(FunctionCall {
-                    function: self.call.function,
-                    words: self.call.words.copied(),
-                    reducers: self.call.reducers.copied(),
-                    result: self.call.result,
-                }),
-            ),
+            None => Ask::Invoke(self.how, function(&self.call)),
         }
     }
 
@@ -86,4 +113,16 @@ impl Asked {
         self.how = how;
         self.call = call;
     }
+}
+
+// The frame of a function that is given the same.
+fn function(call: &FunctionCall) -> Callee
+    ensures { result ≡ callees.Function call.now }
+{
+    Callee::Function(FunctionCall {
+        function: call.function,
+        words: call.words.copied(),
+        reducers: call.reducers.copied(),
+        result: call.result,
+    })
 }

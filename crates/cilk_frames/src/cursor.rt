@@ -10,6 +10,7 @@ ghost use Rattle.cilk_frames.specs.Cursor.{first_of};
 ghost use Rattle.cilk_frames.specs.Following.{Fits, Stands, child_of, owed_for};
 ghost use Rattle.cilk_frames.specs.Moving.{HasRoom, told};
 
+use crate::asked::Asked;
 use crate::operands::Operands;
 use cilk_lower::code::{Code, Owed};
 use cilk_program::ask::{Ask, Callee, LoopPart};
@@ -65,6 +66,16 @@ impl Cursor {
             Ask::Invoke(_, callee) => Cursor::first(alloc, code, callee.copied()),
             _ => unreachable!(),
         }
+    }
+
+    /// The frame that a kept ask begins, as [`Cursor::new`] has it of an ask.
+    #[tactic(auto, using(crate::proofs::Following::stands_first))]
+    pub fn asked(alloc: Global, code: &Code, asked: &Asked) -> Result<Cursor, AllocError>
+        requires { IsSome (child_of asked.now) }
+        ensures stands { IfOk result (λ c. IfSome (child_of asked.now) (λ callee. (p : Source) (inputs : List ℤ) → Behaves p code.now → CalleeIsFit p callee → Stands code.now inputs p callee c [] 0)) }
+        ensures owes { IfOk result (λ c. c.owed ≡ owed_for Begin) }
+    {
+        Cursor::first(alloc, code, asked.callee())
     }
 
     // A frame before it begins.

@@ -1,5 +1,5 @@
 -- A run that goes on, from one event to the next.
-use Rattle.std.proofs.Common.{◌≡◌, ◌⊎◌, inl, inr, ⊎_elim, ℕ, zero, suc, ◌+◌, ◌-◌, ◌<◌, ◌≤◌, nat_eq, nat_lt, ℤ, pos, false, true≢false, if◌then◌else◌, List, [], ◌∷◌, ◌++◌, length, get_or, Some, None, IfSome, refl, sym, ap, ◌∙◌, subst, arith, length-append, append_assoc, append-nil}
+use Rattle.std.proofs.Common.{◌≡◌, ◌⊎◌, inl, inr, ⊎_elim, ℕ, zero, suc, ◌+◌, ◌-◌, ◌<◌, ◌≤◌, nat_eq, nat_lt, ℤ, pos, false, true≢false, if◌then◌else◌, List, [], ◌∷◌, ◌++◌, length, get_or, Option, Some, None, IfSome, IsSome, refl, sym, ap, ◌∙◌, subst, arith, length-append, append_assoc, append-nil}
 use Rattle.std.proofs.lemmas.Bool.{cases_Bool, ltb-true, ltb-false}
 use Rattle.std.proofs.lemmas.Option.{unwrap_or-slice_get}
 use Rattle.std.specs.Prelude.{IsTrue}
@@ -382,6 +382,14 @@ stops code p inputs r f at well g fault is =
 
 pub fits_callee : (code : CodeView) (p : Source) (inputs : List ℤ) (r : Running) (how : Invocation) (callee : Callee) → IsTrue (is_well_named p) → Going code p inputs r → r.ask ≡ asks.Invoke how callee → CalleeIsFit p callee
 fits_callee code p inputs r how callee well g is = subst (λ k. IsBegunRightly p k) is (asked_rightly p well inputs g.frame.callee g.sees.fit g.history (g.took + r.left) r.ask r.left g.asking.asks)
+
+pub going_rightly : (code : CodeView) (p : Source) (inputs : List ℤ) (r : Running) → IsTrue (is_well_named p) → Going code p inputs r → IsBegunRightly p r.ask
+going_rightly code p inputs r well g = asked_rightly p well inputs g.frame.callee g.sees.fit g.history (g.took + r.left) r.ask r.left g.asking.asks
+
+-- what is there, with what holds of it
+pub picked : {A : Type 0} (o : Option A) (P : A → Type 0) → IsSome o → IfSome o P → (a : A) × (o ≡ Some a) × P a
+picked (Some a) P is h = (a, refl, h)
+picked None P is h = cc
 
 pub not_crowded : (code : CodeView) (p : Source) (inputs : List ℤ) (r : Running) (how : Invocation) (callee : Callee) → Going code p inputs r → IsAllowed p r.state r.ask → r.ask ≡ asks.Invoke how callee → (r.state.frames < MAX_FRAMES) × (length r.state.cells.items ≤ MAX_CELLS)
 not_crowded code p inputs r how callee g allowed is =

@@ -21,10 +21,12 @@ use crate::activation::Activation;
 use crate::places::{cell, instances};
 use crate::stack::Stack;
 use crate::state::State;
+use cilk_frames::asked::Asked;
+use cilk_frames::brief::Brief;
 use cilk_frames::cursor::Cursor;
 use cilk_lower::code::Code;
 use cilk_monoid::kind::MonoidKind;
-use cilk_program::ask::{Ask, Callee, FunctionCall, LoopPart};
+use cilk_program::ask::{FunctionCall, LoopPart};
 use cilk_program::program::Program;
 use cilk_program::syntax::Place;
 use cilk_types::event::{Cell, FrameNo, Instance};
@@ -58,7 +60,7 @@ pub fn child(
     state: &State,
     top: &Activation,
     below: &Stack,
-    ask: &Ask,
+    ask: &Asked,
 ) -> Result<Activation, AllocError>
     requires begins { IsSome (child_of ask.now) }
     requires there { (p : Source) × (fr : Frame) × (parents : List Parent) × Seen p top.now below.now fr parents × IsThere p fr (length state.now.cells.items) ask.now }
@@ -68,16 +70,13 @@ pub fn child(
     ensures owes { IfOk result (λ a. a.cursor.owed ≡ owed_for Begin) }
     ensures scoped { IfOk result (λ a. IfSome (child_of ask.now) (λ callee. (p : Source) (fr : Frame) (parents : List Parent) (m : Memory) (q : Parent) → Seen p top.now below.now fr parents → IsThere p fr (length state.now.cells.items) ask.now → Shows state.now m → q.frame ≡ fr → Scoped p a (next_frame p fr.scope m callee) (q ∷ parents))) }
 {
-    let Ask::Invoke(_, callee) = ask else {
-        unreachable!()
-    };
-    let cursor = Cursor::new(alloc, code, ask)?;
+    let cursor = Cursor::asked(alloc, code, ask)?;
     let number = state.frames + 1;
     let base = state.cells.len() as Cell;
-    match callee {
-        Callee::Root => unreachable!(),
-        Callee::Function(call) => function(alloc, cursor, number, base, top, below, call),
-        Callee::Loop(part) => Ok(turns(alloc, cursor, number, base, top, below, part)),
+    match ask.brief() {
+        None => function(alloc, cursor, number, base, top, below, ask.call()),
+        Some(Brief::Turns(_, part)) => Ok(turns(alloc, cursor, number, base, top, below, &part)),
+        Some(_) => unreachable!(),
     }
 }
 

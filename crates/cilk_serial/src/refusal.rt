@@ -1,18 +1,18 @@
 // The fault that stands in place of an ask's event.
 
 ghost use Rattle.std.specs.Prelude.{◌≡◌, IsSome};
-ghost use Rattle.cilk_program.specs.Inside.{CalleeIsFit};
+ghost use Rattle.cilk_program.specs.Syntax.{Source};
+ghost use Rattle.cilk_program.specs.declared.ask.Callee.{Callee};
 ghost use Rattle.cilk_program.specs.Sources.{source};
-ghost use Rattle.cilk_program.specs.SerialRun.{Memory, crowded, full, refused};
+ghost use Rattle.cilk_program.specs.SerialRun.{Memory, cells_of, crowded, full, refused};
 ghost use Rattle.cilk_frames.specs.Following.{child_of};
 ghost use Rattle.cilk_serial.specs.Scoped.{IsBegunRightly};
 ghost use Rattle.cilk_serial.specs.States.{Shows};
 
-use crate::callee::cells_of;
+use crate::callee::cells_asked;
 use crate::state::State;
 use cilk_frames::asked::Asked;
 use cilk_frames::brief::Brief;
-use cilk_program::ask::{Ask, Callee};
 use cilk_program::program::Program;
 use cilk_types::fault::Fault;
 use cilk_types::limits::{MAX_CELLS, MAX_EVENTS, MAX_FRAMES};
@@ -36,11 +36,8 @@ fn without_room(program: &Program, state: &State, ask: &Asked) -> Option<Fault>
     requires rightly { IsBegunRightly (source program.now) ask.now }
     ensures { (m : Memory) → Shows state.now m → result ≡ refused (source program.now) m ask.now }
 {
-    let whole = ask.in_full();
-    let Ask::Invoke(_, callee) = &whole else {
-        unreachable!()
-    };
-    crowded(program, state, callee)
+    let cells = cells_asked(program, ask);
+    crowded(state, cells)
 }
 
 // The fault that stands in place of one more event.
@@ -54,10 +51,9 @@ fn full(state: &State) -> Option<Fault>
     }
 }
 
-// The fault that stands in place of one more frame.
-fn crowded(program: &Program, state: &State, callee: &Callee) -> Option<Fault>
-    requires { CalleeIsFit (source program.now) callee.now }
-    ensures { (m : Memory) → Shows state.now m → result ≡ crowded (source program.now) callee.now m }
+// The fault that stands in place of one more frame, with so many cells.
+fn crowded(state: &State, cells: u32) -> Option<Fault>
+    ensures { (p : Source) (callee : Callee) (m : Memory) → cells ≡ cells_of p callee → Shows state.now m → result ≡ crowded p callee m }
 {
     if state.events.len() >= MAX_EVENTS as usize {
         return Some(Fault::TooManyEvents);
@@ -65,7 +61,7 @@ fn crowded(program: &Program, state: &State, callee: &Callee) -> Option<Fault>
     if state.frames >= MAX_FRAMES {
         return Some(Fault::TooManyFrames);
     }
-    if state.cells.len() + cells_of(program, callee) as usize > MAX_CELLS as usize {
+    if state.cells.len() + cells as usize > MAX_CELLS as usize {
         return Some(Fault::TooManyCells);
     }
     None

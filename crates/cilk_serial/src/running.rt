@@ -13,7 +13,7 @@ ghost use Rattle.cilk_serial.specs.Going.{HasEnded, Going, IsAllowed};
 
 use crate::activation::Activation;
 use crate::answer::answer;
-use crate::callee::cells_of;
+use crate::callee::{cells_asked, cells_of};
 use crate::frames::{child, retire, root};
 use crate::refusal::refused;
 use crate::stack::Stack;
@@ -24,7 +24,7 @@ use cilk_frames::cursor::Answer;
 use cilk_frames::stepping::go_on;
 use cilk_hypermap::hypermap::Hypermap;
 use cilk_lower::code::Code;
-use cilk_program::ask::{Ask, Callee};
+use cilk_program::ask::Callee;
 use cilk_program::program::Program;
 use cilk_types::event::Event;
 use cilk_types::fault::Fault;
@@ -130,15 +130,11 @@ impl Running {
         ensures going { (inputs : List ℤ) → Going code.now (source program.now) inputs self.old → OnOk result (Going code.now (source program.now) inputs self.new) }
         ensures longer { OnOk result (length self.new.state.events.items ≡ length self.old.state.events.items + 1) }
     {
-        let ask = self.ask.in_full();
-        let Ask::Invoke(how, callee) = &ask else {
-            unreachable!()
-        };
-        let cells = cells_of(program, callee);
-        let frame = child(alloc, code, &self.state, &self.top, &self.below, &ask)?;
-        self.state.begin(*how, cells)?;
-        let parent = mem::replace(&mut self.top, frame);
-        self.below.push(parent)?;
+        let how = self.ask.how();
+        let cells = cells_asked(program, &self.ask);
+        let frame = child(alloc, code, &self.state, &self.top, &self.below, &self.ask)?;
+        self.state.begin(how, cells)?;
+        self.below.push(mem::replace(&mut self.top, frame))?;
         self.ask.put(Brief::Begin);
         Ok(())
     }

@@ -1,48 +1,46 @@
-use Rattle.std.proofs.Common.{ℕ, ℤ, List, [], ◌∷◌, length, IfSome, ap, ◌∙◌, sym, subst, ◌≡◌}
+use Rattle.std.proofs.Common.{◌≡◌, ◌∷◌, ap, ◌∙◌, sym, subst, IfSome}
 use Rattle.cilk_program.specs.Sources.{source}
-use Rattle.cilk_program.specs.Syntax.{Source}
+use Rattle.cilk_program.specs.SerialRun.{cells_of}
 use Rattle.cilk_program.specs.declared.ask.Ask.{Ask}
-use Rattle.cilk_program.specs.Inside.{CalleeIsFit}
-use Rattle.cilk_program.specs.SerialRun.{Frame, Memory, next_frame}
-use Rattle.cilk_lower.specs.Behaves.{Behaves}
-use Rattle.cilk_frames.specs.Following.{Stands, child_of}
-use Rattle.cilk_serial.specs.Scoped.{IsThere, Parent, Scoped, Seen}
-use Rattle.cilk_serial.specs.States.{Shows}
+use Rattle.cilk_program.specs.declared.ask.Ask.TheVariants.{Invoke}
 use Rattle.cilk_serial.specs.Going.{Going}
-use Rattle.cilk_serial.proofs.Driving.{fits_callee, going_seen, going_there, invokes_as, longer, not_crowded}
+use Rattle.cilk_serial.proofs.Driving.{going_rightly, going_seen, going_there, invokes_as, longer, not_crowded, picked}
 use Rattle.cilk_serial.proofs.running.Running.invoke.Goals as goal
 
-pub cells_of-cells-requires : goal.cells_of-cells-requires
-cells_of-cells-requires c = let p = c.args.program.now in fits_callee _ (source p) _ _ c.in-Invoke.how c.in-Invoke.callee p.well_named c.requires.going.1 (sym c.in_full-ask.ensures ∙ c.in-Invoke.is)
+pub cells_asked-cells-requires-clause-rightly : goal.cells_asked-cells-requires-clause-rightly
+cells_asked-cells-requires-clause-rightly c = let p = c.args.program.now in going_rightly _ (source p) _ c.args.self.now p.well_named c.requires.going.1
 
 pub child-requires-clause-there : goal.child-requires-clause-there
 child-requires-clause-there c =
     let p = c.args.program.now in
-    let r = c.args.self.now in
     let g = c.requires.going.1 in
-    let there = subst (λ k. IsThere (source p) g.frame (length r.state.cells.items) k) (sym c.in_full-ask.ensures) (going_there _ _ _ r p.well_named g) in
-    (source p, g.frame, g.parents, going_seen _ _ _ _ g, there)
+    (source p, g.frame, g.parents, going_seen _ _ _ _ g, going_there _ _ _ _ p.well_named g)
 
 pub child-requires-clause-frames : goal.child-requires-clause-frames
-child-requires-clause-frames c = (not_crowded _ _ _ _ c.in-Invoke.how c.in-Invoke.callee c.requires.going.1 c.requires.allowed (sym c.in_full-ask.ensures ∙ c.in-Invoke.is)).0
+child-requires-clause-frames c =
+    let k = picked _ (λ callee. c.args.self.now.ask ≡ Invoke c.how-how.result callee) c.requires.begins c.how-how.ensures in
+    (not_crowded _ _ _ _ c.how-how.result k.0 c.requires.going.1 c.requires.allowed k.2).0
 
 pub child-requires-clause-cells : goal.child-requires-clause-cells
-child-requires-clause-cells c = (not_crowded _ _ _ _ c.in-Invoke.how c.in-Invoke.callee c.requires.going.1 c.requires.allowed (sym c.in_full-ask.ensures ∙ c.in-Invoke.is)).1
+child-requires-clause-cells c =
+    let k = picked _ (λ callee. c.args.self.now.ask ≡ Invoke c.how-how.result callee) c.requires.begins c.how-how.ensures in
+    (not_crowded _ _ _ _ c.how-how.result k.0 c.requires.going.1 c.requires.allowed k.2).1
 
 pub begin-requires : goal.begin-requires
-begin-requires c = (not_crowded _ _ _ _ c.in-Invoke.how c.in-Invoke.callee c.requires.going.1 c.requires.allowed (sym c.in_full-ask.ensures ∙ c.in-Invoke.is)).0
+begin-requires c =
+    let k = picked _ (λ callee. c.args.self.now.ask ≡ Invoke c.how-how.result callee) c.requires.begins c.how-how.ensures in
+    (not_crowded _ _ _ _ c.how-how.result k.0 c.requires.going.1 c.requires.allowed k.2).0
 
 pub returns-clause-going : goal.returns-clause-going
 returns-clause-going c = λ inputs g.
     let p = c.args.program.now in
     let r = c.args.self.now in
     let a = c.in_ok-frame.frame in
-    let same = c.in_full-ask.ensures in
-    let stands = subst (λ (k : Ask). IfSome (child_of k) (λ callee. (p : Source) (inputs : List ℤ) → Behaves p c.args.code.now → CalleeIsFit p callee → Stands c.args.code.now inputs p callee a.cursor [] 0)) same c.in_ok-frame.ensures.stands in
-    let scoped = subst (λ (k : Ask). IfSome (child_of k) (λ callee. (p : Source) (fr : Frame) (parents : List Parent) (m : Memory) (q : Parent) → Seen p r.top r.below fr parents → IsThere p fr (length r.state.cells.items) k → Shows r.state m → q.frame ≡ fr → Scoped p a (next_frame p fr.scope m callee) (q ∷ parents))) same c.in_ok-frame.ensures.scoped in
-    subst (λ (k : Ask). Going c.args.code.now (source p) inputs (record { state = c.begin.new.self; below = c.push.new.self; top = c.replace-parent.new.dest; ask = k; left = r.left })) (sym c.put.ensures)
-    (invokes_as c.args.code.now (source p) inputs r c.begin.new.self a c.replace-parent.new.dest c.push.new.self c.in-Invoke.how c.in-Invoke.callee c.cells_of-cells.result p.well_named g c.requires.allowed (sym same ∙ c.in-Invoke.is)
-    c.in_ok-begin.ensures c.cells_of-cells.ensures stands c.in_ok-frame.ensures.owes scoped c.replace-parent.ensures.after (c.in_ok-push.ensures ∙ ap (λ t. t ∷ r.below) c.replace-parent.ensures.value))
+    let k = picked _ (λ callee. r.ask ≡ Invoke c.how-how.result callee) c.requires.begins c.how-how.ensures in
+    let cells = subst (λ o. IfSome o (λ callee. c.cells_asked-cells.result ≡ cells_of (source p) callee)) k.1 c.cells_asked-cells.ensures in
+    subst (λ (k : Ask). Going c.args.code.now (source p) inputs (record { state = c.begin.new.self; below = c.push.new.self; top = c.replace.new.dest; ask = k; left = r.left })) (sym c.put.ensures)
+    (invokes_as c.args.code.now (source p) inputs r c.begin.new.self a c.replace.new.dest c.push.new.self c.how-how.result k.0 c.cells_asked-cells.result p.well_named g c.requires.allowed k.2
+    c.in_ok-begin.ensures cells c.in_ok-frame.ensures.stands c.in_ok-frame.ensures.owes c.in_ok-frame.ensures.scoped c.replace.ensures.after (c.in_ok-push.ensures ∙ ap (λ t. t ∷ r.below) c.replace.ensures.value))
 
 pub returns-clause-longer : goal.returns-clause-longer
 returns-clause-longer c =
