@@ -21,3 +21,4 @@
 #![tactic(auto)]
 
 pub mod laws;
+pub mod words;
