@@ -10,6 +10,7 @@ pub mod Parts
 pub mod Remembered
 pub mod Retired
 pub mod Rows
+pub mod Settled
 pub mod Shapes
 pub mod Sights
 pub mod Spelled

@@ -21,4 +21,5 @@
 #![tactic(auto)]
 
 pub mod laws;
+pub mod settle;
 pub mod words;
