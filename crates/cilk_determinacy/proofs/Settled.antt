@@ -1,5 +1,6 @@
 -- What a serial run settles, from what its run and its judging promise.
-use Rattle.std.proofs.Common.{◌≤◌, ℕ, ℤ, true, false, List, length, IsTrue, inl, inr}
+use Rattle.std.proofs.Common.{◌≡◌, ◌≤◌, ℕ, ℤ, true, false, List, length, IsTrue, Option, Some, None, MatchOption, inl, inr}
+use Rattle.std.specs.Option.{is_some}
 use Rattle.cilk_types.specs.declared.event.Event.{Event}
 use Rattle.cilk_types.specs.declared.limits.TheConstants.{MAX_EVENTS}
 use Rattle.cilk_types.specs.declared.outcome.Outcome.{Outcome}
@@ -11,7 +12,7 @@ use Rattle.cilk_meaning.proofs.Existence.{serial_run_is_short}
 use Rattle.cilk_serial.specs.Ran.{Ran}
 use Rattle.cilk_tree.specs.Shape.{Shape, Spells}
 use Rattle.cilk_tree.specs.Tree.{tree}
-use Rattle.cilk_tree.specs.Races.{HasNoRace, IsFirstRace}
+use Rattle.cilk_tree.specs.Races.{HasNoRace}
 use Rattle.cilk_peers.specs.ViewRaces.{HasNoViewRace, IsFirstViewRace}
 use Rattle.cilk_cells.specs.Nested.{shape_of}
 use Rattle.cilk_determinacy.specs.Nested.{named}
@@ -23,14 +24,10 @@ use Rattle.cilk_determinacy.proofs.Wordy.{set_words, determinate_in_words}
 
 -- ---- judging a list
 
-pub race_found : (s : Shape) (es : List Event) (p q : ℕ) → Spells s es → IsFirstRace (tree s) es p q → IsJudged false es
-race_found s es p q spells first = record { shape = s; spells = spells; earlier = p; later = q; race = inl first.race }
-
-pub view_race_found : (s : Shape) (es : List Event) (p q : ℕ) → Spells s es → IsFirstViewRace (tree s) es p q → IsJudged false es
-view_race_found s es p q spells first = record { shape = s; spells = spells; earlier = p; later = q; race = inr first.race }
-
-pub none_found : (s : Shape) (es : List Event) → Spells s es → HasNoRace (tree s) es → HasNoViewRace (tree s) es → IsJudged true es
-none_found s es spells races view_races = record { shape = s; spells = spells; races = races; view_races = view_races }
+-- a pair was found, so two positions race
+pub view_race_found : (s : Shape) (es : List Event) (found : Option (ℕ × ℕ)) → is_some found ≡ true → Spells s es → MatchOption found (HasNoViewRace (tree s) es) (λ pair. IsFirstViewRace (tree s) es pair.0 pair.1) → IsJudged false es
+view_race_found s es None q spells h = let z : false ≡ true = q in absurd (cc)
+view_race_found s es (Some (p, q)) is spells h = record { shape = s; spells = spells; earlier = p; later = q; race = inr h.race }
 
 -- ---- a run
 
