@@ -22,4 +22,6 @@
 
 pub mod laws;
 pub mod settle;
+#[cfg(test)]
+mod tests;
 pub mod words;
