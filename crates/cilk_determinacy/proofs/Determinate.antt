@@ -21,6 +21,8 @@ use Rattle.cilk_runs.specs.Monoids.{unit_of}
 use Rattle.cilk_runs.specs.Serial.{value_after}
 use Rattle.cilk_runs.specs.Views.{view_after}
 use Rattle.cilk_runs.specs.Theorem.{HasNoRaces, Agrees}
+use Rattle.cilk_runs.specs.Cuts.{below, IsFull}
+use Rattle.cilk_runs.proofs.Find.{full_deeds}
 use Rattle.cilk_runs.proofs.Kept.{opening_ok}
 use Rattle.cilk_runs.proofs.Theorem.{race_free_kept, race_free_determinate, follows_determined}
 use Rattle.cilk_cells.specs.Nested.{shape_of}
@@ -32,7 +34,7 @@ use Rattle.cilk_determinacy.specs.Machine.{next, costs, opening_values}
 use Rattle.cilk_determinacy.specs.Nested.{named}
 use Rattle.cilk_determinacy.specs.Theorem.{result_in, outcome_in, IsWithin, Next, IsSerial, IsAsSerial, RunsFree, TicksAddUp, SerialRunsByNames, SerialRunsAreNumbered, OpensAsCut, StepsKeepCuts, IsDeterminate}
 use Rattle.cilk_determinacy.proofs.Assembled.{views_lawful, remembers, is_framed, is_serial}
-use Rattle.cilk_determinacy.proofs.Ending.{run_result, same_outcome}
+use Rattle.cilk_determinacy.proofs.Ending.{run_result, run_ends, same_outcome}
 use Rattle.cilk_determinacy.proofs.Numbers.{cell_number, instance_number}
 use Rattle.cilk_determinacy.proofs.Parts.{is_out}
 use Rattle.cilk_determinacy.proofs.Spelled.{spells_one}
@@ -125,8 +127,17 @@ module _ (p : Source) (inputs : List ℤ) (r : serial.Run) (es : List Event) (ou
     not_stopped = let c = agrees.consistent in c.no_stop;
     outcome_is = outcome_is;
     elided = λ ended. subst (λ o. IsElision p inputs (Leaves o)) (sym (outcome_is ended)) (ends_as_elided p inputs free.named MAX_TICKS MAX_EVENTS r es (Leaves outcome) free.runs (λ h. h));
+    totals = agrees.totals;
+    spent = λ ended. agrees.spent (agrees.complete ended);
+    unspent = λ goes_on. agrees.unspent (λ full. goes_on (root_ended full));
   }
     where
+      root_ended : IsFull (named p r) 1 (deeds_at (s.frames [])) (below s.frames) → HasEnd (deeds_at (s.frames []))
+      root_ended full =
+          let h = ran p inputs r es outcome free.runs in
+          let c = agrees.consistent in
+          subst HasEnd (sym (full_deeds (named p r) 1 (deeds_at (s.frames [])) (below s.frames) full c.cut)) (run_ends h.derivation tt (first_world p) 1)
+
       outcome_is : HasEnd (deeds_at (s.frames [])) → outcome_in p s ≡ outcome
       outcome_is ended =
           let h = ran p inputs r es outcome free.runs in

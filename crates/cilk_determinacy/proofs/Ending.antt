@@ -17,7 +17,7 @@ use Rattle.cilk_program.specs.SerialRun.{Memory, answer_to, global_reducer, IsIn
 use Rattle.cilk_types.specs.declared.event.Instance as numbered
 use Rattle.cilk_meaning.proofs.Asked.{same_kind_itself}
 use Rattle.cilk_runs.specs.Runs.{Cell, Global, Instance, Output, Does, Deed}
-use Rattle.cilk_runs.specs.Machine.{State, deeds_at}
+use Rattle.cilk_runs.specs.Machine.{State, deeds_at, HasEnd}
 use Rattle.cilk_runs.specs.Serial.{own_deeds}
 use Rattle.cilk_determinacy.specs.Reducers.{View, value_of, elements_of}
 use Rattle.cilk_determinacy.specs.Worlds.{World, global_named}
@@ -62,6 +62,35 @@ run_result {p = p} (Went {u = u} {r = r} {end = end} how callee left v left' m' 
     result_before end (own_deeds (named_from p w (suc k) r)) (own_deeds (named_from p w k (serial.child how callee u r))) refl (run_result rest w (suc k))
 run_result (serial.Broke how callee left f q ok inner) w k = tt
 run_result (serial.Refused k' left f q bad) w k = tt
+
+-- a run that finishes has its first frame's end
+goes_on : (p : Source) (w : World) (a : language.Ask) (v : ℤ) (ds : List (Deed World)) → IsInner a → HasEnd ds → HasEnd (Does (named_event p w a v) ∷ ds)
+goes_on p w asks.Begin v ds i h = h
+goes_on p w (asks.Read x) v ds i h = h
+goes_on p w (asks.Write x y) v ds i h = h
+goes_on p w (asks.Create c) v ds i h = h
+goes_on p w (asks.Update c y) v ds i h = h
+goes_on p w (asks.Set c y) v ds i h = h
+goes_on p w (asks.Value c) v ds i h = h
+goes_on p w (asks.Print y) v ds i h = h
+goes_on p w (asks.Invoke how callee) v ds i h = absurd i
+goes_on p w asks.Resume v ds i h = h
+goes_on p w asks.Sync v ds i h = h
+goes_on p w (asks.Result y) v ds i h = h
+goes_on p w (asks.End y) v ds i h = absurd i
+goes_on p w (asks.Fault f) v ds i h = absurd i
+
+abbrev Finishes : Ending → Type 0
+Finishes (Finished v left m) = Unit {0}
+Finishes (serial.Stopped f) = ⊥
+
+pub run_ends : {p : Source} {inputs : List ℤ} {fr : _} {start : ℕ} {history : List ℤ} {m : Memory} {r : serial.Run} {es : List Event} {end : Ending} → Serial p inputs fr start history m r es end
+    → Finishes end → (w : World) (k : ℕ) → HasEnd (own_deeds (named_from p w k r))
+run_ends {p = p} (Made {fr = fr} {m = m} {r = r} a left q inner ok rest) h w k = goes_on p w a (answer_to fr m a) (own_deeds (named_from p w k r)) inner (run_ends rest h w k)
+run_ends (Ended v left q ok) h w k = tt
+run_ends (Went how callee left v left' m' q ok inner rest) h w k = run_ends rest h w (suc k)
+run_ends (serial.Broke how callee left f q ok inner) h w k = absurd h
+run_ends (serial.Refused k' left f q bad) h w k = absurd h
 
 same_cells_from : (from n : ℕ) (f g : ℕ → ℤ) → ((i : ℕ) → i < from + n → f i ≡ g i) → cells_from from n f ≡ cells_from from n g
 same_cells_from from zero f g h = refl

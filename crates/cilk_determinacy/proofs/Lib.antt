@@ -9,6 +9,8 @@ pub mod Numbers
 pub mod Parts
 pub mod Remembered
 pub mod Retired
+pub mod Rows
+pub mod Settled
 pub mod Shapes
 pub mod Sights
 pub mod Spelled

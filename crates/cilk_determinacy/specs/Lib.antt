@@ -5,3 +5,4 @@ pub mod Nested
 pub mod Theorem
 pub mod Worked
 pub mod Words
+pub mod Settled

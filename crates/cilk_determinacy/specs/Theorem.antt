@@ -1,5 +1,5 @@
 -- The theorem at the language.
-use Rattle.std.specs.Prelude.{◌≡◌, ◌≤◌, ℕ, suc, ◌+◌, ℤ, pos, List, [], ◌∷◌, ◌++◌, length, IsTrue, None}
+use Rattle.std.specs.Prelude.{◌≡◌, ◌≤◌, ◌<◌, ℕ, suc, ◌+◌, ℤ, pos, List, [], ◌∷◌, ◌++◌, length, IsTrue, None}
 use Rattle.cilk_types.specs.declared.fault.Fault.TheVariants.{TooManyEvents}
 use Rattle.cilk_types.specs.declared.limits.TheConstants.{MAX_EVENTS, MAX_TICKS}
 use Rattle.cilk_types.specs.declared.event.Instance as numbered
@@ -105,14 +105,22 @@ module _ (p : Source) (inputs : List ℤ) where
   abbrev pub Reaches : List Name → State World View → Type 0
   Reaches ns s' = (s : State World View) × IsFirst s × Steps World View monoid_of Next (costs p inputs) ns s s'
 
+  -- what the serial run uses as a whole, as the free machine counts it
+  abbrev pub whole : serial.Run → Total → ℕ
+  whole r total = used p inputs total + weight (costs p inputs) total (first_world p) [] (named p r)
+
   -- What holds of each state that steps lead to. It is a consistent cut of the serial run, which nothing stopped; each frame has made a beginning of
-  -- its serial events with the same values; each child is at most once in the joins. Once the first frame has ended, result, globals, output and
-  -- reducers are the serial elision's, and each spawned child is in the joins exactly once.
+  -- its serial events with the same values; each child is at most once in the joins; no total is more than the serial run's. Once the first frame has
+  -- ended, result, globals, output and reducers are the serial elision's, each spawned child is in the joins exactly once, and the totals are
+  -- the serial run's; until then fewer events are made.
   pub record IsAsSerial (r : serial.Run) (outcome : Outcome) (s : State World View) : Type 0 where
     pub agrees : Agrees World View monoid_of Next (costs p inputs) (first_world p) (named p r) (opening_values p inputs) s
     pub not_stopped : s.stopped ≡ None
     pub outcome_is : HasEnd (deeds_at (s.frames [])) → outcome_in p s ≡ outcome
     pub elided : HasEnd (deeds_at (s.frames [])) → IsElision p inputs (Leaves (outcome_in p s))
+    pub totals : (total : Total) → s.totals total ≤ whole r total
+    pub spent : HasEnd (deeds_at (s.frames [])) → (total : Total) → s.totals total ≡ whole r total
+    pub unspent : ¬ (HasEnd (deeds_at (s.frames []))) → s.totals EventTotal < whole r EventTotal
 
   -- the serial run of these events ends without a fault, and no two positions race
   pub record RunsFree (r : serial.Run) (es : List Event) (outcome : Outcome) : Type 0 where
@@ -142,10 +150,6 @@ module _ (p : Source) (inputs : List ℤ) where
 
   abbrev pub SerialRunsAreNumbered : Type 0
   SerialRunsAreNumbered = (r : serial.Run) (es : List Event) (outcome : Outcome) → IsTrue (is_well_named p) → serial.IsSerialRun p inputs r es (Leaves outcome) → SetWords es → IsNumbered r es
-
-  -- what a whole run uses, as the free machine counts it
-  abbrev pub whole : serial.Run → Total → ℕ
-  whole r total = used p inputs total + weight (costs p inputs) total (first_world p) [] (named p r)
 
   -- what a serial run that ended has used, as the language counts it: all ticks but those that are left, its events, frames and cells
   pub record IsCounted (r : serial.Run) (es : List Event) (left : ℕ) (m : serial.Memory) : Type 0 where

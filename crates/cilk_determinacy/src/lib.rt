@@ -21,3 +21,7 @@
 #![tactic(auto)]
 
 pub mod laws;
+pub mod settle;
+#[cfg(test)]
+mod tests;
+pub mod words;

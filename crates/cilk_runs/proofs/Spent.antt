@@ -5,7 +5,7 @@ use Rattle.cilk_types.specs.declared.fault.Fault.{Fault}
 use Rattle.cilk_runs.specs.Runs.{Name, Cell, Ask, Invoke, Reads, Writes, Syncs, Ends, Passes, Deed, Does, Invokes, Run, stop, act, child, ask_of}
 use Rattle.cilk_runs.specs.Costs.{Costs, Total, TickTotal, EventTotal, FrameTotal, CellTotal, cost, is_over, own_fault, fault_of, weight}
 use Rattle.cilk_runs.specs.Machine.{Frame, Frames, deeds_at, started, begun}
-use Rattle.cilk_runs.specs.Cuts.{below, IsStarted, IsCut, spent}
+use Rattle.cilk_runs.specs.Cuts.{below, IsStarted, IsFull, IsCut, spent}
 use Rattle.cilk_runs.proofs.Front.{Front, here_act, here_child, past_act, past_child, inside, grown}
 use Rattle.cilk_runs.proofs.Find.{ask_by}
 use Rattle.cilk_runs.proofs.Grows.{Grows, unmoved, front_from}
@@ -24,6 +24,15 @@ module _ {W : Type 0} (C : Costs W) (total : Total) where
   spent_le w past (child i v u r) k [] kids = omega arith
   spent_le w past (child i v u r) k (d ∷ ds) kids =
       omega (arith, spent_le v [] u 1 (deeds_at (kids k [])) (below (kids k)), spent_le w (past ++ Invokes i v ∷ []) r (suc k) ds kids)
+
+  -- once all is made they are equal
+  pub spent_full : (w : W) (past : List (Deed W)) (r : Run W) (k : ℕ) (ds : List (Deed W)) (kids : ℕ → Frames W) → IsFull r k ds kids → spent C total w past r k ds kids ≡ weight C total w past r
+  spent_full w past stop k ds kids full = refl
+  spent_full w past (act e r) k [] kids full = absurd full
+  spent_full w past (act e r) k (d ∷ ds) kids full = ap (λ z. cost C total w past (ask_of e) + z) (spent_full w (past ++ Does e ∷ []) r k ds kids full)
+  spent_full w past (child i v u r) k [] kids full = absurd full
+  spent_full w past (child i v u r) k (d ∷ ds) kids full =
+      omega (arith, spent_full v [] u 1 (deeds_at (kids k [])) (below (kids k)) full.0, spent_full w (past ++ Invokes i v ∷ []) r (suc k) ds kids full.1)
 
   -- only the children from an ordinal on count
   spent_ext : (w : W) (past : List (Deed W)) (r : Run W) (k : ℕ) (ds : List (Deed W)) (kids kids' : ℕ → Frames W) → ((j : ℕ) → k ≤ j → kids' j ≡ kids j) → spent C total w past r k ds kids' ≡ spent C total w past r k ds kids
@@ -80,6 +89,20 @@ module _ {W : Type 0} (C : Costs W) (total : Total) where
         rw g.2 (spent_step f cut.2 v [] q (costs_inside w v past (d ∷ ds) k kids m a q cut.1 h) (suc (started (deeds_at (kids k [])))) (below (kids' k)) (omega arith) g.3) in
         let rest = spent_ext w (past ++ Invokes i v ∷ []) r (suc k) ds kids kids' (λ j le. g.0 j (λ z. omega arith)) in
         omega (arith, inner, rest)
+
+-- as each event counts, all is made once as many events are made as there are
+pub all_made : {W : Type 0} (C : Costs W) (w : W) (past : List (Deed W)) (r : Run W) (k : ℕ) (ds : List (Deed W)) (kids : ℕ → Frames W) → IsCut r k ds kids → spent C EventTotal w past r k ds kids ≡ weight C EventTotal w past r → IsFull r k ds kids
+all_made C w past stop k [] kids cut q = tt
+all_made C w past stop k (d ∷ ds) kids cut q = absurd cut
+all_made C w past (act e r) k [] kids cut q = omega (arith, q)
+all_made C w past (act e r) k (d ∷ ds) kids cut q = all_made C w (past ++ Does e ∷ []) r k ds kids cut.1 (omega (arith, q))
+all_made C w past (child i v u r) k [] kids cut q = omega (arith, q)
+all_made C w past (child i v u r) k (d ∷ ds) kids cut q =
+    let a = spent_le C EventTotal v [] u 1 (deeds_at (kids k [])) (below (kids k)) in
+    let b = spent_le C EventTotal w (past ++ Invokes i v ∷ []) r (suc k) ds kids in (
+      all_made C v [] u 1 (deeds_at (kids k [])) (below (kids k)) cut.2 (omega (arith, q, a, b)),
+      all_made C w (past ++ Invokes i v ∷ []) r (suc k) ds kids cut.4 (omega (arith, q, a, b)),
+    )
 
 module _ {W : Type 0} where
   own_none : (e : Deed W) (a : Ask W) (other : Option Fault) → a ≡ ask_by e → own_fault a other ≡ other

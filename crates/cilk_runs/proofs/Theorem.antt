@@ -6,22 +6,34 @@
 --   kept, determinate       the same from the nested forms RaceFree and ViewFree, which no_race (Races) and no_view_race (Peers) give;
 --   room_at, never_stops    (Kept) the totals of one consistent state;
 --   listed, unread          (Listed) HasNoRace from an empty list of pairs, and HasNoViewRace of a reducer that nobody reads.
-use Rattle.std.proofs.Common.{◌≡◌, ℤ, List, Option, Some, sym, ◌∙◌, arith}
+use Rattle.std.proofs.Common.{◌≡◌, ◌<◌, ◌≤◌, ℤ, List, [], Option, Some, sym, ◌∙◌, arith}
 use Rattle.cilk_runs.specs.Runs.{Cell, Instance, Ask, Deed, Run}
 use Rattle.cilk_runs.specs.Serial.{IsDetermined}
-use Rattle.cilk_runs.specs.Costs.{Costs}
+use Rattle.cilk_runs.specs.Costs.{Costs, EventTotal, weight, whole}
+use Rattle.cilk_runs.specs.Cuts.{below, IsFull, IsConsistent, spent}
+use Rattle.cilk_runs.specs.Machine.{State, deeds_at}
 use Rattle.cilk_runs.specs.Monoids.{Monoid, IsLawful, unit_of}
 use Rattle.cilk_runs.specs.Views.{ViewFree}
 use Rattle.cilk_runs.specs.Races.{RaceFree}
 use Rattle.cilk_runs.specs.Theorem.{IsSerialRun, HasNoRaces, IsKept, IsDeterminate, follows}
 use Rattle.cilk_runs.proofs.Races.{no_race}
 use Rattle.cilk_runs.proofs.Peers.{no_view_race}
+use Rattle.cilk_runs.proofs.Spent.{spent_le, spent_full, all_made}
 use Rattle.cilk_runs.proofs.Begins.{begins, joined_le}
 use Rattle.cilk_runs.proofs.Joins.{full_joined}
 use Rattle.cilk_runs.proofs.Kept.{opening_ok, room_at, step_keeps, steps_keep, ended_ok}
 
 pub kept : (W V : Type 0) (M : Instance → Monoid V) (Next : W → List (Deed W) → Ask W → Type 0) (C : Costs W) → ((i : Instance) → IsLawful (M i)) → IsDetermined W Next → (w : W) (t : Run W) (opening : Cell → ℤ) → IsSerialRun W V M Next C w t opening → RaceFree t → ((i : Instance) → ViewFree (M i) i t (unit_of M i)) → IsKept W V M Next C w t opening
 kept W V M Next C law determined w t opening run free apart s s' n ok step = step_keeps W V M Next C w t opening determined run.behaves run.closed run.serial free law run.resumed run.views apart run.within s s' n ok step
+
+unspent_at : {W V : Type 0} {M : Instance → Monoid V} (C : Costs W) (w : W) (t : Run W) (opening : Cell → ℤ) (s : State W V) → IsConsistent M C w t opening s → ¬ (IsFull t 1 (deeds_at (s.frames [])) (below s.frames)) → s.totals EventTotal < whole C w t EventTotal
+unspent_at C w t opening s ok partly =
+    let ds = deeds_at (s.frames []) in
+    let made = spent C EventTotal w [] t 1 ds (below s.frames) in
+    let all = weight C EventTotal w [] t in
+    let differ : ¬ (made ≡ all) = λ q. partly (all_made C w [] t 1 ds (below s.frames) ok.cut q) in
+    let le : made ≤ all = spent_le C EventTotal w [] t 1 ds (below s.frames) in
+    omega (arith, ok.totals EventTotal, le, differ)
 
 pub determinate : (W V : Type 0) (M : Instance → Monoid V) (Next : W → List (Deed W) → Ask W → Type 0) (C : Costs W) → ((i : Instance) → IsLawful (M i)) → IsDetermined W Next → (w : W) (t : Run W) (opening : Cell → ℤ) → IsSerialRun W V M Next C w t opening → RaceFree t → ((i : Instance) → ViewFree (M i) i t (unit_of M i)) → IsDeterminate W V M Next C w t opening
 determinate W V M Next C law determined w t opening run free apart ns s s' o steps =
@@ -31,6 +43,9 @@ determinate W V M Next C law determined w t opening run free apart ns s s' o ste
       strands = λ n. begins n t w s'.frames ok.root ok.cut;
       at_most_once = λ n. omega (arith, ok.joins n, joined_le s'.frames n);
       room = λ total n f a m. room_at W V M Next C w t opening determined run.behaves run.closed run.serial free law run.resumed run.views apart run.within s' n ok total f a m;
+      totals = λ total. omega (arith, ok.totals total, spent_le C total w [] t 1 (deeds_at (s'.frames [])) (below s'.frames));
+      spent = λ full total. omega (arith, ok.totals total, spent_full C total w [] t 1 (deeds_at (s'.frames [])) (below s'.frames) full);
+      unspent = unspent_at C w t opening s' ok;
       deeds = λ h. (ended_ok W V M Next C w t opening determined run.behaves run.closed run.serial free law run.resumed run.views apart run.within s' ok h).3;
       complete = λ h. (ended_ok W V M Next C w t opening determined run.behaves run.closed run.serial free law run.resumed run.views apart run.within s' ok h).0;
       outcome = λ h. (ended_ok W V M Next C w t opening determined run.behaves run.closed run.serial free law run.resumed run.views apart run.within s' ok h).1;

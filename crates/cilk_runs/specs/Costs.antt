@@ -74,3 +74,7 @@ abbrev pub weight : {W : Type 0} → Costs W → Total → W → List (Deed W) �
 weight C total w past stop = 0
 weight C total w past (act e r) = cost C total w past (ask_of e) + weight C total w (past ++ Does e ∷ []) r
 weight C total w past (child k v u r) = cost C total w past (Invoke k v) + (weight C total v [] u + weight C total w (past ++ Invokes k v ∷ []) r)
+
+-- what a run that begins as w uses as a whole
+abbrev pub whole : {W : Type 0} → Costs W → W → Run W → Total → ℕ
+whole C w t total = C.used total + weight C total w [] t

@@ -1,8 +1,8 @@
 -- The theorem: a program whose serial run has no race is determinate.
-use Rattle.std.specs.Prelude.{◌≡◌, ◌+◌, ◌≤◌, ℤ, false, List, [], Option, Some}
+use Rattle.std.specs.Prelude.{◌≡◌, ◌+◌, ◌≤◌, ◌<◌, ℤ, false, List, [], Option, Some}
 use Rattle.cilk_runs.specs.Runs.{Name, Cell, Instance, Ask, Deed, Run}
 use Rattle.cilk_runs.specs.Machine.{Frame, State, deeds_at, HasEnd, IsAsking, Step, Steps, IsOpening}
-use Rattle.cilk_runs.specs.Costs.{Costs, Total, cost, weight}
+use Rattle.cilk_runs.specs.Costs.{Costs, Total, EventTotal, cost, whole}
 use Rattle.cilk_runs.specs.Monoids.{Monoid, unit_of}
 use Rattle.cilk_runs.specs.Views.{view_after, IsSerialViews, IsResumed, IsCreated, IsRetiredAtHome}
 use Rattle.cilk_runs.specs.Trees.{tree, HasChildren, HasNoRace, HasNoViewRace}
@@ -20,7 +20,7 @@ module _ (W V : Type 0) (M : Instance → Monoid V) (Next : W → List (Deed W) 
     pub created : (i : Instance) → IsCreated i t
     pub retired : (i : Instance) → IsRetiredAtHome i t ⊥
     pub inhabited : HasChildren (tree t)
-    pub within : (total : Total) → C.used total + weight C total w [] t ≤ C.limit total
+    pub within : (total : Total) → whole C w t total ≤ C.limit total
 
   -- what holds of a state that steps lead to
   pub record Agrees (w : W) (t : Run W) (opening : Cell → ℤ) (s : State W V) : Type 0 where
@@ -29,7 +29,11 @@ module _ (W V : Type 0) (M : Instance → Monoid V) (Next : W → List (Deed W) 
     pub strands : (n : Name) → BeginsSerially t s.frames n
     pub at_most_once : (n : Name) → times n s.joins ≤ 1
     -- with what any frame that isn't waiting asks for next, no total is more than the whole serial run's
-    pub room : (total : Total) (n : Name) (frame : Frame W) (ask : Ask W) → IsAsking W V M Next C s n frame ask → s.totals total + cost C total frame.what frame.deeds ask ≤ C.used total + weight C total w [] t
+    pub room : (total : Total) (n : Name) (frame : Frame W) (ask : Ask W) → IsAsking W V M Next C s n frame ask → s.totals total + cost C total frame.what frame.deeds ask ≤ whole C w t total
+    -- so no total is more than that; all are as much once the whole run is made, and until then there are fewer events
+    pub totals : (total : Total) → s.totals total ≤ whole C w t total
+    pub spent : IsFull t 1 (deeds_at (s.frames [])) (below s.frames) → (total : Total) → s.totals total ≡ whole C w t total
+    pub unspent : ¬ (IsFull t 1 (deeds_at (s.frames [])) (below s.frames)) → s.totals EventTotal < whole C w t EventTotal
     pub complete : HasEnd (deeds_at (s.frames [])) → IsFull t 1 (deeds_at (s.frames [])) (below s.frames)
     pub deeds : HasEnd (deeds_at (s.frames [])) → deeds_at (s.frames []) ≡ own_deeds t
     pub outcome : HasEnd (deeds_at (s.frames [])) → (c : Cell) → s.memory c ≡ value_after t c (opening c)

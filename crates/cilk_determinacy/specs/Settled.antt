@@ -1,0 +1,54 @@
+-- What one serial run settles.
+use Rattle.std.specs.Prelude.{ℕ, ◌⊎◌, ℤ, Bool, true, false, List}
+use Rattle.cilk_types.specs.declared.event.Event.{Event}
+use Rattle.cilk_types.specs.declared.outcome.Outcome.{Outcome}
+use Rattle.cilk_program.specs.Syntax.{Source}
+use Rattle.cilk_program.specs.Outcomes.{Leaves}
+use Rattle.cilk_program.specs.SerialRun.{Run, IsSerialRun}
+use Rattle.cilk_tree.specs.Shape.{Shape, Spells}
+use Rattle.cilk_tree.specs.Tree.{tree}
+use Rattle.cilk_tree.specs.Races.{IsRace}
+use Rattle.cilk_peers.specs.ViewRaces.{IsViewRace}
+use Rattle.cilk_runs.specs.Runs.{Name}
+use Rattle.cilk_runs.specs.Machine.{State}
+use Rattle.cilk_determinacy.specs.Reducers.{View}
+use Rattle.cilk_determinacy.specs.Worlds.{World}
+use Rattle.cilk_determinacy.specs.Theorem.{IsRaceFree, Reaches, IsAsSerial}
+
+-- two positions have a determinacy race or a view-read race
+pub record IsRacy (es : List Event) : Type 0 where
+  pub shape : Shape
+  pub spells : Spells shape es
+  pub earlier : ℕ
+  pub later : ℕ
+  pub race : IsRace (tree shape) es earlier later ⊎ IsViewRace (tree shape) es earlier later
+
+-- true where no two positions race, false where two do
+abbrev pub IsJudged : Bool → List Event → Type 0
+IsJudged true es = IsRaceFree es
+IsJudged false es = IsRacy es
+
+module _ (p : Source) (inputs : List ℤ) where
+  -- whatever steps are made, in whatever order, the state is as this serial run, which leaves this outcome
+  abbrev pub AlwaysAsSerial : Run → Outcome → Type 0
+  AlwaysAsSerial r outcome = (ns : List Name) (s : State World View) → Reaches p inputs ns s → IsAsSerial p inputs r outcome s
+
+  -- a serial run that ends without a fault, and has no race, settles every parallel one
+  abbrev pub SerialRunsSettle : Type 0
+  SerialRunsSettle = (r : Run) (es : List Event) (outcome : Outcome) → IsSerialRun p inputs r es (Leaves outcome) → IsRaceFree es → AlwaysAsSerial r outcome
+
+  -- the serial run leaves this outcome and has no race, so every parallel run is as it is
+  pub record IsSettled (outcome : Outcome) : Type 0 where
+    pub run : Run
+    pub events : List Event
+    pub serial : IsSerialRun p inputs run events (Leaves outcome)
+    pub free : IsRaceFree events
+    pub parallel : AlwaysAsSerial run outcome
+
+  -- the serial run ends without a fault, and has a race
+  pub record HasRace : Type 0 where
+    pub run : Run
+    pub events : List Event
+    pub outcome : Outcome
+    pub serial : IsSerialRun p inputs run events (Leaves outcome)
+    pub racy : IsRacy events

@@ -1,0 +1,65 @@
+//! One serial run settles every parallel one.
+
+ghost use Rattle.std.specs.Prelude.{◌≤◌, length, MatchOption, IfOk, IfErr};
+ghost use Rattle.cilk_types.specs.declared.limits.TheConstants.{MAX_EVENTS};
+ghost use Rattle.cilk_program.specs.Sources.{source};
+ghost use Rattle.cilk_serial.specs.Ran.{IsRunFault};
+ghost use Rattle.cilk_tree.specs.Shape.{Shape, Spells};
+ghost use Rattle.cilk_determinacy.specs.Settled.{IsJudged, SerialRunsSettle, IsSettled, HasRace};
+
+use crate::words::{inputs_are_words, programs_are_of_words};
+use cilk_cells::race::first_race;
+use cilk_cells::view_race::first_view_read;
+use cilk_labels::label;
+use cilk_peers::walk::classes;
+use cilk_program::program::Program;
+use cilk_serial::fault::RunFault;
+use cilk_serial::run::run;
+use cilk_serial::trace::Trace;
+use cilk_tree::building::tree_of;
+use cilk_types::input::Input;
+use cilk_types::outcome::Outcome;
+use std::alloc::{AllocError, Global};
+
+/// The outcome of the program on this input, where its serial run ends without a fault and has neither a determinacy race nor
+/// a view-read race: then every parallel run is as the serial one, and has this outcome once it has ended. None where the serial
+/// run has a race.
+pub fn settle(alloc: Global, program: &Program, input: &Input) -> Result<Option<Outcome>, RunFault>
+    ensures settled { IfOk result (λ found. MatchOption found (HasRace (source program.now) input.now) (λ outcome. IsSettled (source program.now) input.now outcome)) }
+    ensures fault { IfErr result (λ e. IsRunFault (source program.now) input.now e) }
+{
+    programs_are_of_words(program);
+    inputs_are_words(input);
+    let (outcome, trace) = run(alloc, program, input)?;
+    if is_race_free(alloc, &trace)? {
+        Ok(Some(outcome))
+    } else {
+        Ok(None)
+    }
+}
+
+/// The theorem at a program and an input of the code, whose numbers are words and whose names are resolved: nothing is left to ask
+/// but that the serial run ends without a fault, and that no two positions of it race.
+pub fn serial_runs_settle(program: &Program, input: &Input)
+    ensures { SerialRunsSettle (source program.now) input.now }
+{
+    programs_are_of_words(program);
+    inputs_are_words(input);
+}
+
+// Whether no two positions race.
+fn is_race_free(alloc: Global, trace: &Trace) -> Result<bool, AllocError>
+    requires { length trace.now ≤ MAX_EVENTS }
+    ensures { IfOk result (λ free. (s : Shape) → Spells s trace.now → IsJudged free trace.now) }
+{
+    let tree = tree_of(alloc, trace)?;
+    let labels = label(alloc, &tree)?;
+    if first_race(alloc, trace, &labels)?.is_some() {
+        return Ok(false);
+    }
+    let classes = classes(alloc, &tree)?;
+    if first_view_read(alloc, trace, &classes)?.is_some() {
+        return Ok(false);
+    }
+    Ok(true)
+}
