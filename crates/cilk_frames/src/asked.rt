@@ -4,10 +4,12 @@ ghost use Rattle.std.specs.Prelude.{◌≡◌, MatchOption, IfSome, IsSome, None
 ghost use Rattle.cilk_program.specs.declared.ask.Ask.TheVariants.{Begin, Invoke};
 ghost use Rattle.cilk_program.specs.declared.ask.Callee.TheVariants as callees;
 ghost use Rattle.cilk_program.specs.declared.syntax.Invocation.{Invocation};
-ghost use Rattle.cilk_frames.specs.Asked.{IsFunctionCall, ask_of, in_full};
+ghost use Rattle.cilk_lower.specs.Machine.{invoked};
+ghost use Rattle.cilk_frames.specs.Asked.{IsFunctionCall, in_full};
 ghost use Rattle.cilk_frames.specs.Following.{child_of};
 
 use crate::brief::Brief;
+use cilk_lower::code::Site;
 use cilk_program::ask::{Ask, Callee, FunctionCall};
 use cilk_program::given::{References, Words};
 use cilk_program::syntax::Invocation;
@@ -105,13 +107,16 @@ impl Asked {
         self.brief = Some(brief);
     }
 
-    // The invocation of a function.
-    pub(crate) fn invoke(&mut self, how: Invocation, call: FunctionCall)
-        ensures { self.new ≡ ask_of None how call }
+    // The invocation of a call site's function with these words.
+    pub(crate) fn invoke(&mut self, site: &Site, words: Words)
+        ensures { self.new ≡ invoked site.now words }
     {
         self.brief = None;
-        self.how = how;
-        self.call = call;
+        self.how = site.how;
+        self.call.function = site.function;
+        self.call.words = words;
+        self.call.reducers = site.reducers.copied();
+        self.call.result = site.result;
     }
 }
 

@@ -18,7 +18,7 @@ use crate::cursor::{Answer, Cursor};
 use crate::halves::{first_half, has_one, second_half};
 use crate::operators::{apply, change, element, negation, truth};
 use cilk_lower::code::{Code, Instr, Owed};
-use cilk_program::ask::{Ask, Callee, FunctionCall, LoopPart};
+use cilk_program::ask::{Ask, LoopPart};
 use cilk_program::syntax::{Array, Invocation, Place};
 use cilk_types::fault::Fault;
 use cilk_types::input::Input;
@@ -434,15 +434,7 @@ fn invoke(code: &Code, cursor: &mut Cursor, number: usize, asked: &mut Asked)
     };
     let words = cursor.gather(site.words);
     cursor.no_operand_waits();
-    asked.invoke(
-        site.how,
-        FunctionCall {
-            function: site.function,
-            words,
-            reducers: site.reducers,
-            result: site.result,
-        },
-    );
+    asked.invoke(site, words);
 }
 
 // One tick less, if one is left.

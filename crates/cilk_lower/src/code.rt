@@ -1,6 +1,6 @@
 //! The instructions of all bodies.
 
-ghost use Rattle.std.specs.Prelude.{◌≡◌, ◌<◌, ◌≤◌, ◌^◌, slice_get, unwrap_or, length, IfSome};
+ghost use Rattle.std.specs.Prelude.{◌≡◌, ◌<◌, ◌≤◌, ◌^◌, slice_get, unwrap_or, length, IfSome, MatchOption, None, Some};
 ghost use Rattle.cilk_lower.specs.Code.{ArraysFit, JumpsLand, Lands, ArrayFits, SitesFit, entry_of};
 
 use cilk_program::ask::Callee;
@@ -112,21 +112,6 @@ pub struct Site {
     pub result: Option<Place>,
 }
 
-impl Site {
-    // The same call site.
-    fn copied(&self) -> Site
-        ensures { result ≡ self.now }
-    {
-        Site {
-            how: self.how,
-            function: self.function,
-            words: self.words,
-            reducers: self.reducers.copied(),
-            result: self.result,
-        }
-    }
-}
-
 /// The instructions of all bodies, the call sites, and where bodies begin.
 #[derive(Drop)]
 pub struct Code {
@@ -194,9 +179,9 @@ impl Code {
     }
 
     /// The call site with a number.
-    pub fn site(&self, number: usize) -> Option<Site>
-        ensures value { result ≡ slice_get self.now.sites number }
-        ensures few { IfSome result (λ s. s.words ≤ 16) }
+    pub fn site(&self, number: usize) -> Option<&Site>
+        ensures value { MatchOption result (slice_get self.now.sites number ≡ None) (λ s. slice_get self.now.sites number ≡ Some s.now) }
+        ensures few { IfSome result (λ s. s.now.words ≤ 16) }
     {
         site_at(&self.sites, number)
     }
@@ -218,11 +203,8 @@ fn get(instrs: &[Instr], place: usize) -> Option<Instr>
     instrs.get(place).copied()
 }
 
-fn site_at(sites: &[Site], number: usize) -> Option<Site>
-    ensures { result ≡ slice_get sites.now number }
+fn site_at(sites: &[Site], number: usize) -> Option<&Site>
+    ensures { MatchOption result (slice_get sites.now number ≡ None) (λ s. slice_get sites.now number ≡ Some s.now) }
 {
-    match sites.get(number) {
-        Some(site) => Some(site.copied()),
-        None => None,
-    }
+    sites.get(number)
 }

@@ -116,7 +116,7 @@ fn spawns_a_function(rt: HostRuntime) -> Result<(), AllocError> {
     assert!(rt; ends_at(&code, 16));
     assert!(rt; matches!(code.at(19), None));
     let site = code.site(0);
-    assert!(rt; matches!(&site, Some(site) if site.words == 1 && site.function == 0));
+    assert!(rt; matches!(site, Some(site) if site.words == 1 && site.function == 0));
     Ok(())
 }
 

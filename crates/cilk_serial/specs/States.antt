@@ -12,6 +12,8 @@ use Rattle.cilk_monoid.specs.Ranges.{same_instance}
 use Rattle.cilk_program.specs.declared.ask.Ask.{Ask}
 use Rattle.cilk_program.specs.SerialRun.{Memory, Frame, answer_to, event_of, invocation, stored, with_store}
 use Rattle.cilk_program.specs.declared.syntax.Invocation.{Invocation}
+use Rattle.cilk_frames.specs.declared.brief.Brief.{Brief}
+use Rattle.cilk_frames.specs.declared.brief.Brief.TheVariants as briefs
 use Rattle.cilk_frames.specs.declared.cursor.Answer.{Answer}
 use Rattle.cilk_frames.specs.Following.{Fits, owed_for, word_in}
 use Rattle.cilk_serial.specs.declared.state.State.{State}
@@ -38,6 +40,14 @@ Makes s s' word told event store = (m : Memory) → Shows s m → (told ≡ word
 pub record Answers (p : Source) (fr : Frame) (s s' : State) (k : Ask) (a : Answer) : Type 0 where
   pub fits : Fits (owed_for k) a
   pub makes : Makes s s' (λ m. answer_to fr m k) (word_in a) (λ m. event_of fr m k) (λ m. stored p fr m k)
+
+-- an ask of a reducer
+abbrev pub IsOfReducer : Brief → Type 0
+IsOfReducer (briefs.Create r) = Unit {0}
+IsOfReducer (briefs.Update r v) = Unit {0}
+IsOfReducer (briefs.Set r v) = Unit {0}
+IsOfReducer (briefs.Value r) = Unit {0}
+IsOfReducer k = ⊥
 
 -- a reducer is retired, and no event is made
 abbrev pub Retires : State → State → Instance → MonoidKind → Type 0

@@ -6,7 +6,7 @@ ghost use Rattle.cilk_program.specs.Syntax.{Source};
 ghost use Rattle.cilk_program.specs.SerialRun.{Frame, IsInner};
 ghost use Rattle.cilk_frames.specs.Asked.{in_full};
 ghost use Rattle.cilk_serial.specs.Scoped.{IsThere, Parent, Seen};
-ghost use Rattle.cilk_serial.specs.States.{Answers};
+ghost use Rattle.cilk_serial.specs.States.{Answers, IsOfReducer};
 
 use crate::activation::Activation;
 use crate::places::{cell, instance};
@@ -34,6 +34,38 @@ pub fn answer(
         Brief::Begin => state.make(Event::Begin { frame: top.number }),
         Brief::Read(place) => state.read(cell(top, below, place)),
         Brief::Write(place, word) => state.write(cell(top, below, place), word),
+        Brief::Create(_) => reduce(alloc, state, top, below, ask),
+        Brief::Update(_, _) => reduce(alloc, state, top, below, ask),
+        Brief::Set(_, _) => reduce(alloc, state, top, below, ask),
+        Brief::Value(_) => reduce(alloc, state, top, below, ask),
+        Brief::Print(word) => state.print(word),
+        Brief::Resume => state.make(Event::Resume { parent: top.number }),
+        Brief::Sync => state.make(Event::Sync),
+        Brief::Result(word) => {
+            let Some(cell) = top.result else {
+                unreachable!()
+            };
+            state.write(cell, word)
+        }
+        Brief::Turns(_, _) => unreachable!(),
+        Brief::End(_) => unreachable!(),
+        Brief::Fault(_) => unreachable!(),
+    }
+}
+
+// Makes the event of an ask of a reducer.
+fn reduce(
+    alloc: Global,
+    state: &mut State,
+    top: &Activation,
+    below: &Stack,
+    ask: Brief,
+) -> Result<Answer, AllocError>
+    requires reduces { IsOfReducer ask }
+    requires there { (p : Source) × (fr : Frame) × (parents : List Parent) × Seen p top.now below.now fr parents × IsThere p fr (length state.old.cells.items) (in_full ask) }
+    ensures { (p : Source) (fr : Frame) (parents : List Parent) → Seen p top.now below.now fr parents → IfOk result (λ a. Answers p fr state.old state.new (in_full ask) a) }
+{
+    match ask {
         Brief::Create(reducer) => {
             let instance = instance(top, below, reducer.place);
             state.create(alloc, instance, reducer.kind)
@@ -50,17 +82,6 @@ pub fn answer(
             let instance = instance(top, below, reducer.place);
             state.value(alloc, instance, reducer.kind)
         }
-        Brief::Print(word) => state.print(word),
-        Brief::Resume => state.make(Event::Resume { parent: top.number }),
-        Brief::Sync => state.make(Event::Sync),
-        Brief::Result(word) => {
-            let Some(cell) = top.result else {
-                unreachable!()
-            };
-            state.write(cell, word)
-        }
-        Brief::Turns(_, _) => unreachable!(),
-        Brief::End(_) => unreachable!(),
-        Brief::Fault(_) => unreachable!(),
+        _ => unreachable!(),
     }
 }
