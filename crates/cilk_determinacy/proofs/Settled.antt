@@ -1,5 +1,5 @@
 -- What a serial run settles, from what its run and its judging promise.
-use Rattle.std.proofs.Common.{◌≡◌, ◌≤◌, ℕ, ℤ, true, false, List, length, IsTrue, Option, Some, None, MatchOption, inl, inr}
+use Rattle.std.proofs.Common.{◌≡◌, ◌≤◌, ℕ, ℤ, true, false, List, length, IsTrue, Option, Some, None, MatchOption, inr}
 use Rattle.std.specs.Option.{is_some}
 use Rattle.cilk_types.specs.declared.event.Event.{Event}
 use Rattle.cilk_types.specs.declared.limits.TheConstants.{MAX_EVENTS}
@@ -7,16 +7,14 @@ use Rattle.cilk_types.specs.declared.outcome.Outcome.{Outcome}
 use Rattle.cilk_program.specs.Outcomes.{Leaves}
 use Rattle.cilk_program.specs.Syntax.{Source}
 use Rattle.cilk_program.specs.WellNamed.{is_well_named}
-use Rattle.cilk_program.specs.SerialRun.{Run, IsSerialRun}
 use Rattle.cilk_meaning.proofs.Existence.{serial_run_is_short}
 use Rattle.cilk_serial.specs.Ran.{Ran}
 use Rattle.cilk_tree.specs.Shape.{Shape, Spells}
 use Rattle.cilk_tree.specs.Tree.{tree}
-use Rattle.cilk_tree.specs.Races.{HasNoRace}
 use Rattle.cilk_peers.specs.ViewRaces.{HasNoViewRace, IsFirstViewRace}
 use Rattle.cilk_cells.specs.Nested.{shape_of}
 use Rattle.cilk_determinacy.specs.Nested.{named}
-use Rattle.cilk_determinacy.specs.Settled.{IsRacy, IsJudged, SerialRunsSettle, IsSettled, HasRace}
+use Rattle.cilk_determinacy.specs.Settled.{IsJudged, SerialRunsSettle, IsSettled, HasRace}
 use Rattle.cilk_determinacy.specs.Theorem.{IsRaceFree}
 use Rattle.cilk_determinacy.specs.Words.{HasWords, InputsAreWords}
 use Rattle.cilk_determinacy.proofs.Determinate.{serial_numbered}
@@ -46,7 +44,7 @@ module _ (p : Source) (inputs : List ℤ) (well : IsTrue (is_well_named p)) (has
     pub settled_by : ((s : Shape) → Spells s es → IsJudged true es) → IsSettled p inputs o
     settled_by judged =
         let free : IsRaceFree es = judged (shape_of (named p ran.run)) spelled in
-        record { run = ran.run; events = es; serial = ran.serial; free = free; parallel = serial_settles ran.run es o ran.serial free }
+        record { run = ran.run; events = es; elision = ran.elision; serial = ran.serial; free = free; parallel = serial_settles ran.run es o ran.serial free }
 
     pub racy_by : ((s : Shape) → Spells s es → IsJudged false es) → HasRace p inputs
     racy_by judged = record { run = ran.run; events = es; outcome = o; serial = ran.serial; racy = judged (shape_of (named p ran.run)) spelled }

@@ -3,6 +3,7 @@ use Rattle.std.specs.Prelude.{ℕ, ◌⊎◌, ℤ, Bool, true, false, List}
 use Rattle.cilk_types.specs.declared.event.Event.{Event}
 use Rattle.cilk_types.specs.declared.outcome.Outcome.{Outcome}
 use Rattle.cilk_program.specs.Syntax.{Source}
+use Rattle.cilk_program.specs.Elision.{IsElision}
 use Rattle.cilk_program.specs.Outcomes.{Leaves}
 use Rattle.cilk_program.specs.SerialRun.{Run, IsSerialRun}
 use Rattle.cilk_tree.specs.Shape.{Shape, Spells}
@@ -37,10 +38,11 @@ module _ (p : Source) (inputs : List ℤ) where
   abbrev pub SerialRunsSettle : Type 0
   SerialRunsSettle = (r : Run) (es : List Event) (outcome : Outcome) → IsSerialRun p inputs r es (Leaves outcome) → IsRaceFree es → AlwaysAsSerial r outcome
 
-  -- the serial run leaves this outcome and has no race, so every parallel run is as it is
+  -- the serial run leaves this outcome, which is the serial elision's, and has no race, so every parallel run is as it is
   pub record IsSettled (outcome : Outcome) : Type 0 where
     pub run : Run
     pub events : List Event
+    pub elision : IsElision p inputs (Leaves outcome)
     pub serial : IsSerialRun p inputs run events (Leaves outcome)
     pub free : IsRaceFree events
     pub parallel : AlwaysAsSerial run outcome

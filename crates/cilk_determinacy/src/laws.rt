@@ -47,8 +47,9 @@ pub fn step_keeps_cuts()
 
 /// A well-named program whose serial run ends without a fault, and has no determinacy race and no view-read race over all pairs of its
 /// positions, is determinate: whatever steps the free machine makes, in whatever order, nothing stops it, each frame makes
-/// the events of the serial run with the same values, and the state is a consistent cut. Once the first frame has ended, its
-/// result, the global cells, the output and the global reducers are those of the serial elision, and each spawned child was joined once.
+/// the events of the serial run with the same values, the state is a consistent cut, and no total is more than the serial run's.
+/// Once the first frame has ended, its result, the global cells, the output and the global reducers are those of the serial
+/// elision, each spawned child was joined once, and the totals are the serial run's; until then fewer events are made.
 ///
 /// After Feng and Leiserson (1997) for races and Lee and Schardl (2015) for the reads of reducers.
 pub fn race_free_programs_are_determinate()
@@ -56,7 +57,7 @@ pub fn race_free_programs_are_determinate()
 {}
 
 /// The same from the program, its inputs and its serial run alone: where each number that the program writes and each input is a word, as in
-/// every text of a program and every list of inputs.
+/// every text of a program and every list of inputs. `settle` has it for the programs and the inputs of the code, with neither asked.
 pub fn programs_of_words_are_determinate()
     ensures { (p : Source) (inputs : List ℤ) → IsDeterminateInWords p inputs }
 {}

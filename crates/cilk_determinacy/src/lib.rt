@@ -15,9 +15,11 @@
 //!   fault, and no two positions of its list of events have a determinacy race or a view-read race, every state that steps of the
 //!   machine lead to is a consistent cut of the serial run, which nothing stopped; and once the first frame has ended, the result,
 //!   globals, output and reducers are those of the serial elision.
+//! * **Settling** ([`settle::settle`]): one serial run of a program of the code, judged for races, settles every parallel run.
 //!
 //! Numbers that reducers are set to have to be words, as every number of a program is: arithmetic brings results back into
-//! words, so a view that is no word would change as it is multiplied by an empty one.
+//! words, so a view that is no word would change as it is multiplied by an empty one. The programs and inputs of the code have no
+//! other numbers (`words`).
 #![tactic(auto)]
 
 pub mod laws;

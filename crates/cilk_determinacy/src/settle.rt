@@ -21,9 +21,9 @@ use cilk_types::input::Input;
 use cilk_types::outcome::Outcome;
 use std::alloc::{AllocError, Global};
 
-/// The outcome of the program on this input, where its serial run ends without a fault and has neither a determinacy race nor
-/// a view-read race: then every parallel run is as the serial one, and has this outcome once it has ended. None where the serial
-/// run has a race.
+/// The outcome of the program's serial elision on this input, where its serial run ends without a fault and has neither a determinacy
+/// race nor a view-read race: then every parallel run is as the serial one, and has this outcome once it has ended. None where the
+/// serial run has a race. Cost: that of the serial run; memory linear in its events.
 pub fn settle(alloc: Global, program: &Program, input: &Input) -> Result<Option<Outcome>, RunFault>
     ensures settled { IfOk result (λ found. MatchOption found (HasRace (source program.now) input.now) (λ outcome. IsSettled (source program.now) input.now outcome)) }
     ensures fault { IfErr result (λ e. IsRunFault (source program.now) input.now e) }

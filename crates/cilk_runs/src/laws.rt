@@ -29,7 +29,8 @@ pub fn step_is_consistent<W, V>()
 
 /// Where the serial run of a program has no determinacy race and no view-read race, each state that steps of the free machine lead to
 /// is a consistent cut of it, which nothing stopped, and no total is more than the serial run's. Once the root has ended it has
-/// done what it does serially, memory and reducers are the serial run's, and each spawned child was joined once.
+/// done what it does serially, memory, reducers and totals are the serial run's, and each spawned child was joined once. As long as
+/// something is left to make, fewer events are made.
 ///
 /// After Feng and Leiserson (1997), whose tree of strands this is, and Lee and Schardl (2015) for the reads of reducers.
 pub fn determinate<W, V>()

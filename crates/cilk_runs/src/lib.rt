@@ -19,7 +19,8 @@
 //! the free machine the state is a consistent cut of that serial run (`specs/Cuts`). Each frame has made a beginning of
 //! its serial events, with the same values. What is before anything made is made ([`laws::cuts_are_closed`] says so by
 //! positions). Memory and views are those of the events made, in serial order, and the totals are theirs, so nothing stops
-//! the run. Once the root has ended its result, memory and reducers are the serial run's, and each spawned child was joined once.
+//! the run. Once the root has ended its result, memory, reducers and totals are the serial run's, and each spawned child was joined
+//! once.
 //!
 //! A scheduler needs the single step, [`laws::step_is_consistent`], which leads from a consistent cut to a consistent cut.
 //!
