@@ -52,10 +52,10 @@ impl Asked {
     }
 
     /// The ask but for the invocation of a function.
-    pub fn brief(&self) -> Option<Brief>
-        ensures { MatchOption result (IsFunctionCall self.now) (λ b. self.now ≡ in_full b) }
+    pub fn brief(&self) -> Option<&Brief>
+        ensures { MatchOption result (IsFunctionCall self.now) (λ b. self.now ≡ in_full b.now) }
     {
-        self.brief
+        self.brief.as_ref()
     }
 
     /// Whether the child that begins is called or spawned.

@@ -23,29 +23,29 @@ pub fn answer(
     state: &mut State,
     top: &Activation,
     below: &Stack,
-    ask: Brief,
+    ask: &Brief,
 ) -> Result<Answer, AllocError>
-    requires inner { IsInner (in_full ask) }
+    requires inner { IsInner (in_full ask.now) }
     requires few { length state.old.cells.items ≤ MAX_CELLS }
-    requires there { (p : Source) × (fr : Frame) × (parents : List Parent) × Seen p top.now below.now fr parents × IsThere p fr (length state.old.cells.items) (in_full ask) }
-    ensures { (p : Source) (fr : Frame) (parents : List Parent) → Seen p top.now below.now fr parents → IfOk result (λ a. Answers p fr state.old state.new (in_full ask) a) }
+    requires there { (p : Source) × (fr : Frame) × (parents : List Parent) × Seen p top.now below.now fr parents × IsThere p fr (length state.old.cells.items) (in_full ask.now) }
+    ensures { (p : Source) (fr : Frame) (parents : List Parent) → Seen p top.now below.now fr parents → IfOk result (λ a. Answers p fr state.old state.new (in_full ask.now) a) }
 {
     match ask {
         Brief::Begin => state.make(Event::Begin { frame: top.number }),
-        Brief::Read(place) => state.read(cell(top, below, place)),
-        Brief::Write(place, word) => state.write(cell(top, below, place), word),
+        Brief::Read(place) => state.read(cell(top, below, *place)),
+        Brief::Write(place, word) => state.write(cell(top, below, *place), *word),
         Brief::Create(_) => reduce(alloc, state, top, below, ask),
         Brief::Update(_, _) => reduce(alloc, state, top, below, ask),
         Brief::Set(_, _) => reduce(alloc, state, top, below, ask),
         Brief::Value(_) => reduce(alloc, state, top, below, ask),
-        Brief::Print(word) => state.print(word),
+        Brief::Print(word) => state.print(*word),
         Brief::Resume => state.make(Event::Resume { parent: top.number }),
         Brief::Sync => state.make(Event::Sync),
         Brief::Result(word) => {
             let Some(cell) = top.result else {
                 unreachable!()
             };
-            state.write(cell, word)
+            state.write(cell, *word)
         }
         Brief::Turns(_, _) => unreachable!(),
         Brief::End(_) => unreachable!(),
@@ -59,11 +59,11 @@ fn reduce(
     state: &mut State,
     top: &Activation,
     below: &Stack,
-    ask: Brief,
+    ask: &Brief,
 ) -> Result<Answer, AllocError>
-    requires reduces { IsOfReducer ask }
-    requires there { (p : Source) × (fr : Frame) × (parents : List Parent) × Seen p top.now below.now fr parents × IsThere p fr (length state.old.cells.items) (in_full ask) }
-    ensures { (p : Source) (fr : Frame) (parents : List Parent) → Seen p top.now below.now fr parents → IfOk result (λ a. Answers p fr state.old state.new (in_full ask) a) }
+    requires reduces { IsOfReducer ask.now }
+    requires there { (p : Source) × (fr : Frame) × (parents : List Parent) × Seen p top.now below.now fr parents × IsThere p fr (length state.old.cells.items) (in_full ask.now) }
+    ensures { (p : Source) (fr : Frame) (parents : List Parent) → Seen p top.now below.now fr parents → IfOk result (λ a. Answers p fr state.old state.new (in_full ask.now) a) }
 {
     match ask {
         Brief::Create(reducer) => {
@@ -72,11 +72,11 @@ fn reduce(
         }
         Brief::Update(reducer, word) => {
             let instance = instance(top, below, reducer.place);
-            state.update(alloc, instance, reducer.kind, word)
+            state.update(alloc, instance, reducer.kind, *word)
         }
         Brief::Set(reducer, word) => {
             let instance = instance(top, below, reducer.place);
-            state.set(alloc, instance, reducer.kind, word)
+            state.set(alloc, instance, reducer.kind, *word)
         }
         Brief::Value(reducer) => {
             let instance = instance(top, below, reducer.place);

@@ -35,7 +35,7 @@ pub fn cells_asked(program: &Program, ask: &Asked) -> u32
 {
     match ask.brief() {
         None => function_cells(program, ask.call().function),
-        Some(Brief::Turns(_, part)) => turn_cells(program, &part),
+        Some(Brief::Turns(_, part)) => turn_cells(program, part),
         Some(_) => unreachable!(),
     }
 }

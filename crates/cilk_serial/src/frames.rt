@@ -75,7 +75,7 @@ pub fn child(
     let base = state.cells.len() as Cell;
     match ask.brief() {
         None => function(alloc, cursor, number, base, top, below, ask.call()),
-        Some(Brief::Turns(_, part)) => Ok(turns(alloc, cursor, number, base, top, below, &part)),
+        Some(Brief::Turns(_, part)) => Ok(turns(alloc, cursor, number, base, top, below, part)),
         Some(_) => unreachable!(),
     }
 }

@@ -23,7 +23,7 @@ pub fn refused(program: &Program, state: &State, ask: &Asked) -> Option<Fault>
     ensures { (m : Memory) → Shows state.now m → result ≡ refused (source program.now) m ask.now }
 {
     match ask.brief() {
-        Some(Brief::Fault(fault)) => Some(fault),
+        Some(Brief::Fault(fault)) => Some(*fault),
         Some(Brief::Turns(_, _)) => without_room(program, state, ask),
         Some(_) => full(state),
         None => without_room(program, state, ask),

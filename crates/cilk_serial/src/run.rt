@@ -54,11 +54,12 @@ fn drive(
         match ask {
             Brief::Turns(_, _) => running.invoke(alloc, program, code)?,
             Brief::End(result) => {
+                let result = *result;
                 if running.end(program, code, input)? {
                     return Ok(result);
                 }
             }
-            _ => running.answer(alloc, program, code, input, ask)?,
+            _ => running.answer(alloc, program, code, input)?,
         }
     }
 }

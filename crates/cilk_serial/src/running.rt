@@ -96,15 +96,16 @@ impl Running {
         program: &Program,
         code: &Code,
         input: &Input,
-        ask: Brief,
     ) -> Result<(), AllocError>
-        requires brief { self.old.ask ≡ in_full ask }
         requires going { Going code.now (source program.now) input.now self.old }
         requires allowed { IsAllowed (source program.now) self.old.state self.old.ask }
         requires inner { IsInner self.old.ask }
         ensures going { OnOk result (Going code.now (source program.now) input.now self.new) }
         ensures longer { OnOk result (length self.new.state.events.items ≡ length self.old.state.events.items + 1) }
     {
+        let Some(ask) = self.ask.brief() else {
+            unreachable!()
+        };
         let told = answer(alloc, &mut self.state, &self.top, &self.below, ask)?;
         go_on(
             code,

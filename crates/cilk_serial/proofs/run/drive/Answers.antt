@@ -26,8 +26,7 @@ answer-requires c =
     let same = c.in-Some-brief.ensures in
     let allowed = sym (c.in_default.ensures g.memory g.shows) in
     record {
-      brief = same;
       going = g;
       allowed = λ m h. sym (c.in_default.ensures m h);
-      inner = subst IsInner (sym same) (inner (source p) g.memory c.in-Some-brief.ask c.in_default-ask.not-Turns c.in_default-ask.not-End (sym (ap (λ k. refused (source p) g.memory k) same) ∙ allowed));
+      inner = subst IsInner (sym same) (inner (source p) g.memory c.in-Some-brief.ask.now c.in_default-ask.not-Turns c.in_default-ask.not-End (sym (ap (λ k. refused (source p) g.memory k) same) ∙ allowed));
     }
