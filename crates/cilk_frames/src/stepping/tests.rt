@@ -12,6 +12,7 @@ ghost use Rattle.cilk_frames.specs.Following.{Fits, HasAnswer, Stands, owed_for,
 
 use super::*;
 use cilk_lower::code::{Entry, Site};
+use cilk_program::ask::{Callee, FunctionCall};
 use cilk_program::given::{References, Words};
 use std::alloc::{AllocError, Global};
 use std::test::*;
