@@ -213,7 +213,7 @@ struct Texts {
     failures: u64,
 }
 
-fn texts(program: &'static str, input: &'static str) -> Texts
+fn holding(program: &'static str, input: &'static str) -> Texts
     ensures { result.failures ≡ 0 }
 {
     Texts {
@@ -255,7 +255,7 @@ fn all_show(alloc: Global, cases: &[Case]) -> bool {
         let ended = serve(
             alloc,
             &words,
-            &mut texts(program, input),
+            &mut holding(program, input),
             &mut nothing,
             &mut out,
             &mut err,
