@@ -94,6 +94,3 @@ pub fn resolve(alloc: Global, tree: &Tree) -> Result<Program, NameFault>
         main: number_of(main)?,
     })
 }
-
-#[cfg(test)]
-mod tests;

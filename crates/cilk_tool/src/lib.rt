@@ -18,6 +18,10 @@ pub mod words;
 pub use serving::serve;
 
 #[cfg(test)]
+mod naming;
+#[cfg(test)]
+mod parsing;
+#[cfg(test)]
 mod tests;
 #[cfg(test)]
 mod worked;

@@ -1,8 +1,8 @@
 //! Small texts: the faults of their names, and what they resolve to.
 
-use crate::fault::NameFault;
-use crate::resolve::resolve;
 use cilk_monoid::kind::MonoidKind;
+use cilk_names::fault::NameFault;
+use cilk_names::resolve::resolve;
 use cilk_parser::parse::parse;
 use cilk_program::program::{Body, Program};
 use cilk_program::syntax::{Expr, Place, ReducerPlace, Stmt, Target};
