@@ -1,6 +1,4 @@
-use Rattle.std.proofs.Common.{sym, ap, ◌∙◌, subst}
-use Rattle.cilk_program.specs.declared.ask.Ask.{Ask}
-use Rattle.cilk_lower.specs.Machine.{Waits, Stops}
+use Rattle.std.proofs.Common.{sym, ◌∙◌, subst}
 use Rattle.cilk_frames.specs.Cursor.{CursorView}
 use Rattle.cilk_frames.proofs.Following.{Loop, has_room, loop_begins, goes_on, loop_goes, loop_waits, loop_stops, stands_on}
 use Rattle.cilk_frames.proofs.stepping.go_on.Goals as goal

@@ -2,10 +2,9 @@ use Rattle.std.proofs.Common.{pos, length, IfOk, refl, sym, ap, ◌∙◌, subst
 use Rattle.std.proofs.lemmas.Int.{to_z-of_z}
 use Rattle.cilk_types.specs.declared.event.Event.TheVariants as events
 use Rattle.cilk_program.specs.declared.ask.Ask.TheVariants as asks
-use Rattle.cilk_monoid.specs.Ranges.{same_instance}
-use Rattle.cilk_program.specs.SerialRun.{cell_at, reducer_at}
+use Rattle.cilk_program.specs.SerialRun.{cell_at}
 use Rattle.cilk_frames.specs.Asked.{in_full}
-use Rattle.cilk_program.specs.Store.{clear, number_at, put, set, update}
+use Rattle.cilk_program.specs.Store.{put}
 use Rattle.cilk_serial.specs.Scoped.{IsThere}
 use Rattle.cilk_serial.specs.States.{Answers}
 use Rattle.cilk_serial.proofs.Answering.{tells_nothing, tells_word}
