@@ -8,8 +8,8 @@ use Rattle.cilk_lower.specs.Code.{CodeView, ticks}
 use Rattle.cilk_lower.specs.Machine.{Move, Goes, Waits, Stops, move, on_some, on_words, on_none, invoked}
 use Rattle.cilk_frames.specs.declared.cursor.Answer.{Answer}
 use Rattle.cilk_frames.specs.declared.cursor.Answer.TheVariants.{Done, Value}
-use Rattle.cilk_frames.specs.declared.stepping.Moved.{Moved}
-use Rattle.cilk_frames.specs.declared.stepping.Moved.TheVariants as did
+use Rattle.cilk_frames.specs.declared.moves.Moved.{Moved}
+use Rattle.cilk_frames.specs.declared.moves.Moved.TheVariants as did
 use Rattle.cilk_frames.specs.Cursor.{CursorView}
 use Rattle.cilk_frames.specs.Following.{setting_at}
 

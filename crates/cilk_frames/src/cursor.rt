@@ -1,6 +1,6 @@
 //! Where a frame stands in its code.
 
-ghost use Rattle.std.specs.Prelude.{◌≡◌, ◌≢◌, ◌+◌, ◌-◌, ◌<◌, ◌≤◌, ◌^◌, ◌∷◌, length, slice_get, ℤ, List, [], IfOk, IfSome, IsSome};
+ghost use Rattle.std.specs.Prelude.{◌≡◌, ◌≢◌, ◌+◌, ◌-◌, ◌<◌, ◌≤◌, ◌^◌, ◌∷◌, length, slice_get, ℤ, List, [], IfOk, IfSome, IsSome, None, Some};
 ghost use Rattle.cilk_program.specs.Syntax.{Source};
 ghost use Rattle.cilk_program.specs.Inside.{CalleeIsFit};
 ghost use Rattle.cilk_program.specs.declared.ask.Ask.TheVariants.{Begin};
@@ -108,22 +108,24 @@ impl Cursor {
     }
 
     // A word that the frame was given.
-    pub(crate) fn given(&self, number: usize) -> Option<i64>
-        ensures { result ≡ slice_get (words_of self.now.callee) number }
+    pub(crate) fn given(&self, number: usize) -> i64
+        requires { slice_get (words_of self.now.callee) number ≢ None }
+        ensures { slice_get (words_of self.now.callee) number ≡ Some result }
     {
         match &self.callee {
-            Callee::Function(call) => call.words.as_slice().get(number).copied(),
-            _ => None,
+            Callee::Function(call) => call.words.as_slice()[number],
+            _ => unreachable!(),
         }
     }
 
     // The turns of a loop that the frame runs.
-    pub(crate) fn part(&self) -> Option<LoopPart>
-        ensures { result ≡ part_of self.now.callee }
+    pub(crate) fn part(&self) -> LoopPart
+        requires { part_of self.now.callee ≢ None }
+        ensures { part_of self.now.callee ≡ Some result }
     {
         match &self.callee {
-            Callee::Loop(part) => Some(*part),
-            _ => None,
+            Callee::Loop(part) => *part,
+            _ => unreachable!(),
         }
     }
 

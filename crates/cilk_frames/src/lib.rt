@@ -17,6 +17,7 @@ pub mod asked;
 pub mod brief;
 pub mod cursor;
 mod halves;
+mod moves;
 mod operands;
 mod operators;
 pub mod stepping;

@@ -1,41 +1,30 @@
 //! From one ask of a frame to the next.
 
-ghost use Rattle.std.specs.Prelude.{◌≡◌, ◌≢◌, ◌+◌, ◌<◌, ◌≤◌, ◌^◌, ◌∷◌, [], length, suc, ℕ, ℤ, List};
-ghost use Rattle.cilk_program.specs.Syntax.{Source, element};
-ghost use Rattle.cilk_program.specs.declared.ask.Ask.TheVariants.{Read};
+ghost use Rattle.std.specs.Prelude.{◌≡◌, ◌≢◌, ◌<◌, ℕ, ℤ, List};
+ghost use Rattle.cilk_program.specs.Syntax.{Source};
 ghost use Rattle.cilk_program.specs.declared.ask.Callee.{Callee};
-ghost use Rattle.cilk_lower.specs.Code.{CodeView};
-ghost use Rattle.cilk_lower.specs.declared.code.Owed.TheVariants.{Word};
-ghost use Rattle.cilk_lower.specs.Machine.{Goes, Waits, Stuck, on_top, or_stops, ticked};
-ghost use Rattle.cilk_types.specs.declared.fault.Fault.TheVariants.{IndexOutside};
+ghost use Rattle.cilk_lower.specs.Machine.{Stuck, Waits};
 ghost use Rattle.cilk_frames.specs.Following.{Fits, GoesOn, Runs, Stands, Steps};
-ghost use Rattle.cilk_frames.specs.Asked.{in_full};
-ghost use Rattle.cilk_frames.specs.Moving.{IsGoing, TakesTick, effort, invoking, move_at, moved};
+ghost use Rattle.cilk_frames.specs.Moving.{IsGoing, effort, invoking, move_at, moved};
 
 use crate::asked::Asked;
 use crate::brief::Brief;
 use crate::cursor::{Answer, Cursor};
 use crate::halves::{first_half, has_one, second_half};
-use crate::operators::{apply, change, element, negation, truth};
+use crate::moves::{
+    Moved, call_loop, fetch_element, give, give_checked, give_result, invoke_turns, load,
+    load_element, put, skip_if, stop, store, store_element, tick, wait,
+};
+use crate::operators::{apply, change, negation, truth};
 use cilk_lower::code::{Code, Instr, Owed};
-use cilk_program::ask::{Ask, LoopPart};
-use cilk_program::syntax::{Array, Invocation, Place};
+use cilk_program::ask::Ask;
+use cilk_program::syntax::{Invocation, Place};
 use cilk_types::fault::Fault;
 use cilk_types::input::Input;
 use cilk_types::word;
 
 #[cfg(test)]
 mod tests;
-
-// What an instruction did: it went on, it asked and waits for the answer, it asked for the last time, or it invokes the
-// function of a call site, whose words still stand on the stack.
-#[derive(Clone, Copy)]
-enum Moved {
-    Goes,
-    Waits,
-    Stops,
-    Invokes(usize),
-}
 
 /// Goes on from the answer to the next thing that the frame asks for. `left` is the ticks that the run has left: the
 /// step takes those that the frame's statements and expressions take meanwhile. It takes no memory and always ends.
@@ -99,34 +88,13 @@ fn advance(
         Instr::Load(place) => load(cursor, Brief::Read(place), left, asked),
         Instr::LoadElement(array) => load_element(cursor, array, left, asked),
         Instr::Fetch(place) => wait(cursor, Brief::Read(place), Owed::Word, asked),
-        Instr::FetchElement(array) => {
-            let index = cursor.pop();
-            cursor.push(index);
-            match element(array, index) {
-                Some(place) => wait(cursor, Brief::Read(place), Owed::Word, asked),
-                None => stop(Brief::Fault(Fault::IndexOutside), asked),
-            }
-        }
+        Instr::FetchElement(array) => fetch_element(cursor, array, asked),
         Instr::Store(place) => {
             let word = cursor.pop();
-            wait(cursor, Brief::Write(place, word), Owed::Nothing, asked)
+            store(cursor, place, word, asked)
         }
-        Instr::StoreElement(array) => {
-            let word = cursor.pop();
-            let index = cursor.pop();
-            match element(array, index) {
-                Some(place) => wait(cursor, Brief::Write(place, word), Owed::Nothing, asked),
-                None => stop(Brief::Fault(Fault::IndexOutside), asked),
-            }
-        }
-        Instr::Zero(number) => {
-            wait(
-                cursor,
-                Brief::Write(Place::Local(0, number), 0),
-                Owed::Nothing,
-                asked,
-            )
-        }
+        Instr::StoreElement(array) => store_element(cursor, array, asked),
+        Instr::Zero(number) => store(cursor, Place::Local(0, number), 0, asked),
         Instr::Combine(operator) => {
             let y = cursor.pop();
             let x = cursor.pop();
@@ -147,13 +115,8 @@ fn advance(
         Instr::Apply(operator) => {
             let y = cursor.pop();
             let x = cursor.pop();
-            give_checked(
-                cursor,
-                apply(operator, x, y),
-                Fault::DivisionByZero,
-                left,
-                asked,
-            )
+            let word = apply(operator, x, y);
+            give_checked(cursor, word, Fault::DivisionByZero, left, asked)
         }
         Instr::Truth => {
             let x = cursor.pop();
@@ -179,106 +142,38 @@ fn advance(
             wait(cursor, Brief::Set(reducer, word), Owed::Nothing, asked)
         }
         Instr::Word(number) => {
-            let Some(word) = cursor.given(number as usize) else {
-                unreachable!()
-            };
-            wait(
-                cursor,
-                Brief::Write(Place::Local(0, number), word),
-                Owed::Nothing,
-                asked,
-            )
+            let word = cursor.given(number as usize);
+            store(cursor, Place::Local(0, number), word, asked)
         }
         Instr::Turn => {
-            let Some(part) = cursor.part() else {
-                unreachable!()
-            };
-            wait(
-                cursor,
-                Brief::Write(Place::Local(0, 0), part.low),
-                Owed::Nothing,
-                asked,
-            )
+            let turn = cursor.part().low;
+            store(cursor, Place::Local(0, 0), turn, asked)
         }
         Instr::Invoke(number) => {
             cursor.wait(Owed::Nothing);
             Moved::Invokes(number)
         }
-        Instr::CallLoop(number) => {
-            let high = cursor.pop();
-            let low = cursor.pop();
-            cursor.no_operand_waits();
-            if low < high {
-                let up = 0;
-                wait(
-                    cursor,
-                    Brief::Turns(
-                        Invocation::Call,
-                        LoopPart {
-                            number,
-                            up,
-                            low,
-                            high,
-                        },
-                    ),
-                    Owed::Nothing,
-                    asked,
-                )
-            } else {
-                cursor.pass_next();
-                Moved::Goes
-            }
-        }
+        Instr::CallLoop(number) => call_loop(cursor, number, asked),
         Instr::SpawnHalf => {
-            let Some(part) = cursor.part() else {
-                unreachable!()
-            };
             cursor.no_operand_waits();
-            let half = first_half(part);
-            wait(
-                cursor,
-                Brief::Turns(Invocation::Spawn, half),
-                Owed::Nothing,
-                asked,
-            )
+            let half = first_half(cursor.part());
+            invoke_turns(cursor, Invocation::Spawn, half, asked)
         }
         Instr::CallHalf => {
-            let Some(part) = cursor.part() else {
-                unreachable!()
-            };
             cursor.no_operand_waits();
-            let half = second_half(part);
-            wait(
-                cursor,
-                Brief::Turns(Invocation::Call, half),
-                Owed::Nothing,
-                asked,
-            )
+            let half = second_half(cursor.part());
+            invoke_turns(cursor, Invocation::Call, half, asked)
         }
         Instr::Resume => wait(cursor, Brief::Resume, Owed::Nothing, asked),
         Instr::SkipIfZero(count) => {
-            if cursor.pop() == 0 {
-                cursor.skip(count);
-            } else {
-                cursor.next();
-            }
-            Moved::Goes
+            let word = cursor.pop();
+            skip_if(cursor, word == 0, count)
         }
         Instr::SkipUnlessOne(count) => {
-            let Some(part) = cursor.part() else {
-                unreachable!()
-            };
-            if has_one(part) {
-                cursor.next();
-            } else {
-                cursor.skip(count);
-            }
-            Moved::Goes
+            let one = has_one(cursor.part());
+            skip_if(cursor, !one, count)
         }
-        Instr::GoOn(count) => {
-            cursor.skip(count);
-            Moved::Goes
-        }
+        Instr::GoOn(count) => skip_if(cursor, true, count),
         Instr::GoBack(count) => {
             cursor.go_back(count);
             Moved::Goes
@@ -293,131 +188,8 @@ fn advance(
             cursor.no_operand_waits();
             wait(cursor, Brief::Sync, Owed::Nothing, asked)
         }
-        Instr::GiveResult => {
-            if cursor.gives_result() {
-                let word = cursor.held();
-                wait(cursor, Brief::Result(word), Owed::Nothing, asked)
-            } else {
-                cursor.next();
-                Moved::Goes
-            }
-        }
+        Instr::GiveResult => give_result(cursor, asked),
         Instr::End => stop(Brief::End(cursor.held()), asked),
-    }
-}
-
-// On to the next instruction, which waits for the answer to an ask.
-fn wait(cursor: &mut Cursor, ask: Brief, owed: Owed, asked: &mut Asked) -> Moved
-    requires { cursor.old.place < 2 ^ 63 }
-    ensures moved { result ≡ Moved.Waits }
-    ensures asked { asked.new ≡ in_full ask }
-    ensures cursor { cursor.new ≡ record cursor.old { place = cursor.old.place + 1; owed = owed } }
-{
-    cursor.wait(owed);
-    asked.put(ask);
-    Moved::Waits
-}
-
-// The last ask.
-fn stop(ask: Brief, asked: &mut Asked) -> Moved
-    ensures moved { result ≡ Moved.Stops }
-    ensures asked { asked.new ≡ in_full ask }
-{
-    asked.put(ask);
-    Moved::Stops
-}
-
-// A value that takes no tick goes onto the stack.
-fn put(cursor: &mut Cursor, word: i64) -> Moved
-    requires room { length cursor.old.stack < cursor.old.room }
-    requires small { cursor.old.place < 2 ^ 63 }
-    ensures moved { result ≡ Moved.Goes }
-    ensures cursor { cursor.new ≡ record cursor.old { place = cursor.old.place + 1; stack = word ∷ cursor.old.stack } }
-{
-    cursor.push(word);
-    cursor.next();
-    Moved::Goes
-}
-
-// A statement begins.
-fn tick(cursor: &mut Cursor, left: &mut u32, asked: &mut Asked) -> Moved
-    requires { cursor.old.place < 2 ^ 63 }
-    ensures moves { (code : CodeView) → ticked left.old (Goes (cursor.old.place + 1) cursor.old.stack cursor.old.held) ≡ moved code result asked.new cursor.new left.new }
-    ensures room { cursor.new.room ≡ cursor.old.room }
-    ensures callee { cursor.new.callee ≡ cursor.old.callee }
-    ensures falls { IsGoing result → left.old ≡ suc left.new }
-{
-    if !take_tick(left) {
-        return stop(Brief::Fault(Fault::TooManyEvents), asked);
-    }
-    cursor.next();
-    Moved::Goes
-}
-
-// A value is asked for, which takes its tick first.
-fn load(cursor: &mut Cursor, ask: Brief, left: &mut u32, asked: &mut Asked) -> Moved
-    requires { cursor.old.place < 2 ^ 63 }
-    ensures moves { (code : CodeView) → ticked left.old (Waits (in_full ask) Word (cursor.old.place + 1) cursor.old.stack cursor.old.held) ≡ moved code result asked.new cursor.new left.new }
-    ensures room { cursor.new.room ≡ cursor.old.room }
-    ensures callee { cursor.new.callee ≡ cursor.old.callee }
-    ensures asks { IsGoing result → ⊥ }
-{
-    if !take_tick(left) {
-        return stop(Brief::Fault(Fault::TooManyEvents), asked);
-    }
-    wait(cursor, ask, Owed::Word, asked)
-}
-
-// An array's element is asked for, once its index is checked.
-fn load_element(cursor: &mut Cursor, array: Array, left: &mut u32, asked: &mut Asked) -> Moved
-    requires index { cursor.old.stack ≢ [] }
-    requires array { array.first + array.length ≤ 2 ^ 32 }
-    requires small { cursor.old.place < 2 ^ 63 }
-    ensures moves { (code : CodeView) → on_top cursor.old.stack (λ i rest. or_stops IndexOutside (element array i) left.old (λ x. ticked left.old (Waits (Read x) Word (cursor.old.place + 1) rest cursor.old.held))) ≡ moved code result asked.new cursor.new left.new }
-    ensures room { cursor.new.room ≡ cursor.old.room }
-    ensures callee { cursor.new.callee ≡ cursor.old.callee }
-    ensures asks { IsGoing result → ⊥ }
-{
-    let index = cursor.pop();
-    match element(array, index) {
-        Some(place) => load(cursor, Brief::Read(place), left, asked),
-        None => stop(Brief::Fault(Fault::IndexOutside), asked),
-    }
-}
-
-// A value takes its tick and goes onto the stack.
-fn give(cursor: &mut Cursor, word: i64, left: &mut u32, asked: &mut Asked) -> Moved
-    requires room { length cursor.old.stack < cursor.old.room }
-    requires small { cursor.old.place < 2 ^ 63 }
-    ensures moves { (code : CodeView) → ticked left.old (Goes (cursor.old.place + 1) (word ∷ cursor.old.stack) cursor.old.held) ≡ moved code result asked.new cursor.new left.new }
-    ensures room { cursor.new.room ≡ cursor.old.room }
-    ensures callee { cursor.new.callee ≡ cursor.old.callee }
-    ensures falls { IsGoing result → left.old ≡ suc left.new }
-{
-    if !take_tick(left) {
-        return stop(Brief::Fault(Fault::TooManyEvents), asked);
-    }
-    put(cursor, word)
-}
-
-// A value that passed its check takes its tick and goes onto the stack.
-fn give_checked(
-    cursor: &mut Cursor,
-    word: Option<i64>,
-    fault: Fault,
-    left: &mut u32,
-    asked: &mut Asked,
-) -> Moved
-    requires room { length cursor.old.stack < cursor.old.room }
-    requires small { cursor.old.place < 2 ^ 63 }
-    ensures moves { (code : CodeView) → or_stops fault word left.old (λ v. ticked left.old (Goes (cursor.old.place + 1) (v ∷ cursor.old.stack) cursor.old.held)) ≡ moved code result asked.new cursor.new left.new }
-    ensures room { cursor.new.room ≡ cursor.old.room }
-    ensures callee { cursor.new.callee ≡ cursor.old.callee }
-    ensures falls { IsGoing result → left.old ≡ suc left.new }
-{
-    match word {
-        Some(word) => give(cursor, word, left, asked),
-        None => stop(Brief::Fault(fault), asked),
     }
 }
 
@@ -435,15 +207,4 @@ fn invoke(code: &Code, cursor: &mut Cursor, number: usize, asked: &mut Asked)
     let words = cursor.gather(site.words);
     cursor.no_operand_waits();
     asked.invoke(site, words);
-}
-
-// One tick less, if one is left.
-fn take_tick(left: &mut u32) -> bool
-    ensures { TakesTick left.old result left.new }
-{
-    if *left == 0 {
-        return false;
-    }
-    *left -= 1;
-    true
 }

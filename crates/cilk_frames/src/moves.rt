@@ -1,0 +1,273 @@
+//! What single instructions do to a frame's cursor.
+
+ghost use Rattle.std.specs.Prelude.{◌≡◌, ◌≢◌, ◌+◌, ◌<◌, ◌≤◌, ◌^◌, ◌∷◌, [], if◌then◌else◌, int_lt, length, suc, ℕ};
+ghost use Rattle.cilk_types.specs.declared.fault.Fault.TheVariants.{IndexOutside};
+ghost use Rattle.cilk_program.specs.Syntax.{element};
+ghost use Rattle.cilk_program.specs.declared.ask.Callee.TheVariants as callees;
+ghost use Rattle.cilk_program.specs.declared.ask.Ask.TheVariants as asks;
+ghost use Rattle.cilk_lower.specs.Code.{CodeView};
+ghost use Rattle.cilk_lower.specs.declared.code.Owed.TheVariants.{Nothing, Word};
+ghost use Rattle.cilk_lower.specs.Machine.{Goes, Stuck, Waits, loop_called, on_none, on_top, on_two, or_stops, takes_result, ticked};
+ghost use Rattle.cilk_frames.specs.Asked.{in_full};
+ghost use Rattle.cilk_frames.specs.Moving.{IsGoing, TakesTick, moved};
+
+use crate::asked::Asked;
+use crate::brief::Brief;
+use crate::cursor::Cursor;
+use crate::operators::element;
+use cilk_lower::code::Owed;
+use cilk_program::ask::LoopPart;
+use cilk_program::syntax::{Array, Invocation, Place};
+use cilk_types::fault::Fault;
+
+/// What an instruction did: it went on, it asked and waits for the answer, it asked for the last time, or it invokes the
+/// function of a call site, whose words still stand on the stack.
+#[derive(Clone, Copy)]
+pub enum Moved {
+    Goes,
+    Waits,
+    Stops,
+    Invokes(usize),
+}
+
+/// On to the next instruction, which waits for the answer to an ask.
+pub fn wait(cursor: &mut Cursor, ask: Brief, owed: Owed, asked: &mut Asked) -> Moved
+    requires { cursor.old.place < 2 ^ 63 }
+    ensures moved { result ≡ Moved.Waits }
+    ensures asked { asked.new ≡ in_full ask }
+    ensures cursor { cursor.new ≡ record cursor.old { place = cursor.old.place + 1; owed = owed } }
+{
+    cursor.wait(owed);
+    asked.put(ask);
+    Moved::Waits
+}
+
+/// The last ask.
+pub fn stop(ask: Brief, asked: &mut Asked) -> Moved
+    ensures moved { result ≡ Moved.Stops }
+    ensures asked { asked.new ≡ in_full ask }
+{
+    asked.put(ask);
+    Moved::Stops
+}
+
+/// A value that takes no tick goes onto the stack.
+pub fn put(cursor: &mut Cursor, word: i64) -> Moved
+    requires room { length cursor.old.stack < cursor.old.room }
+    requires small { cursor.old.place < 2 ^ 63 }
+    ensures moved { result ≡ Moved.Goes }
+    ensures cursor { cursor.new ≡ record cursor.old { place = cursor.old.place + 1; stack = word ∷ cursor.old.stack } }
+{
+    cursor.push(word);
+    cursor.next();
+    Moved::Goes
+}
+
+/// A statement begins.
+pub fn tick(cursor: &mut Cursor, left: &mut u32, asked: &mut Asked) -> Moved
+    requires { cursor.old.place < 2 ^ 63 }
+    ensures moves { (code : CodeView) → ticked left.old (Goes (cursor.old.place + 1) cursor.old.stack cursor.old.held) ≡ moved code result asked.new cursor.new left.new }
+    ensures room { cursor.new.room ≡ cursor.old.room }
+    ensures callee { cursor.new.callee ≡ cursor.old.callee }
+    ensures falls { IsGoing result → left.old ≡ suc left.new }
+{
+    if !take_tick(left) {
+        return stop(Brief::Fault(Fault::TooManyEvents), asked);
+    }
+    cursor.next();
+    Moved::Goes
+}
+
+/// A value is asked for, which takes its tick first.
+pub fn load(cursor: &mut Cursor, ask: Brief, left: &mut u32, asked: &mut Asked) -> Moved
+    requires { cursor.old.place < 2 ^ 63 }
+    ensures moves { (code : CodeView) → ticked left.old (Waits (in_full ask) Word (cursor.old.place + 1) cursor.old.stack cursor.old.held) ≡ moved code result asked.new cursor.new left.new }
+    ensures room { cursor.new.room ≡ cursor.old.room }
+    ensures callee { cursor.new.callee ≡ cursor.old.callee }
+    ensures asks { IsGoing result → ⊥ }
+{
+    if !take_tick(left) {
+        return stop(Brief::Fault(Fault::TooManyEvents), asked);
+    }
+    wait(cursor, ask, Owed::Word, asked)
+}
+
+/// An array's element is asked for, once its index is checked.
+pub fn load_element(cursor: &mut Cursor, array: Array, left: &mut u32, asked: &mut Asked) -> Moved
+    requires index { cursor.old.stack ≢ [] }
+    requires array { array.first + array.length ≤ 2 ^ 32 }
+    requires small { cursor.old.place < 2 ^ 63 }
+    ensures moves { (code : CodeView) → on_top cursor.old.stack (λ i rest. or_stops IndexOutside (element array i) left.old (λ x. ticked left.old (Waits (asks.Read x) Word (cursor.old.place + 1) rest cursor.old.held))) ≡ moved code result asked.new cursor.new left.new }
+    ensures room { cursor.new.room ≡ cursor.old.room }
+    ensures callee { cursor.new.callee ≡ cursor.old.callee }
+    ensures asks { IsGoing result → ⊥ }
+{
+    let index = cursor.pop();
+    match element(array, index) {
+        Some(place) => load(cursor, Brief::Read(place), left, asked),
+        None => stop(Brief::Fault(Fault::IndexOutside), asked),
+    }
+}
+
+/// An array's element is asked for by an index that stays on the stack.
+pub fn fetch_element(cursor: &mut Cursor, array: Array, asked: &mut Asked) -> Moved
+    requires index { cursor.old.stack ≢ [] }
+    requires array { array.first + array.length ≤ 2 ^ 32 }
+    requires small { cursor.old.place < 2 ^ 63 }
+    ensures moves { (code : CodeView) (left : ℕ) → on_top cursor.old.stack (λ i rest. or_stops IndexOutside (element array i) left (λ x. Waits (asks.Read x) Word (cursor.old.place + 1) (i ∷ rest) cursor.old.held left)) ≡ moved code result asked.new cursor.new left }
+    ensures room { cursor.new.room ≡ cursor.old.room }
+    ensures callee { cursor.new.callee ≡ cursor.old.callee }
+    ensures asks { IsGoing result → ⊥ }
+{
+    let index = cursor.pop();
+    cursor.push(index);
+    match element(array, index) {
+        Some(place) => wait(cursor, Brief::Read(place), Owed::Word, asked),
+        None => stop(Brief::Fault(Fault::IndexOutside), asked),
+    }
+}
+
+/// A word goes into a cell.
+pub fn store(cursor: &mut Cursor, place: Place, word: i64, asked: &mut Asked) -> Moved
+    requires { cursor.old.place < 2 ^ 63 }
+    ensures moved { result ≡ Moved.Waits }
+    ensures asked { asked.new ≡ asks.Write place word }
+    ensures cursor { cursor.new ≡ record cursor.old { place = cursor.old.place + 1; owed = Nothing } }
+{
+    wait(cursor, Brief::Write(place, word), Owed::Nothing, asked)
+}
+
+/// A word goes into an array's element, once its index is checked.
+pub fn store_element(cursor: &mut Cursor, array: Array, asked: &mut Asked) -> Moved
+    requires operands { on_two cursor.old.stack (λ i v rest. Goes 0 rest v 0) ≢ Stuck }
+    requires array { array.first + array.length ≤ 2 ^ 32 }
+    requires small { cursor.old.place < 2 ^ 63 }
+    ensures moves { (code : CodeView) (left : ℕ) → on_two cursor.old.stack (λ i v rest. or_stops IndexOutside (element array i) left (λ x. Waits (asks.Write x v) Nothing (cursor.old.place + 1) rest cursor.old.held left)) ≡ moved code result asked.new cursor.new left }
+    ensures room { cursor.new.room ≡ cursor.old.room }
+    ensures callee { cursor.new.callee ≡ cursor.old.callee }
+    ensures asks { IsGoing result → ⊥ }
+{
+    let word = cursor.pop();
+    let index = cursor.pop();
+    match element(array, index) {
+        Some(place) => store(cursor, place, word, asked),
+        None => stop(Brief::Fault(Fault::IndexOutside), asked),
+    }
+}
+
+/// A parallel loop's frame is called where the loop has turns; else the `resume` behind the call is passed.
+pub fn call_loop(cursor: &mut Cursor, number: u32, asked: &mut Asked) -> Moved
+    requires operands { on_two cursor.old.stack (λ low high rest. on_none rest (Goes 0 [] low 0)) ≢ Stuck }
+    requires small { cursor.old.place < 2 ^ 63 }
+    ensures moves { (code : CodeView) (left : ℕ) → on_two cursor.old.stack (λ low high rest. on_none rest (if int_lt low high then Waits (loop_called number low high) Nothing (cursor.old.place + 1) [] cursor.old.held left else Goes (cursor.old.place + 2) [] cursor.old.held left)) ≡ moved code result asked.new cursor.new left }
+    ensures room { cursor.new.room ≡ cursor.old.room }
+    ensures callee { cursor.new.callee ≡ cursor.old.callee }
+    ensures onward { cursor.old.place < cursor.new.place }
+{
+    let high = cursor.pop();
+    let low = cursor.pop();
+    cursor.no_operand_waits();
+    if low < high {
+        let turns = LoopPart {
+            number,
+            up: 0,
+            low,
+            high,
+        };
+        return invoke_turns(cursor, Invocation::Call, turns, asked);
+    }
+    cursor.pass_next();
+    Moved::Goes
+}
+
+/// The frame of some turns of a loop is invoked.
+pub fn invoke_turns(
+    cursor: &mut Cursor,
+    how: Invocation,
+    turns: LoopPart,
+    asked: &mut Asked,
+) -> Moved
+    requires { cursor.old.place < 2 ^ 63 }
+    ensures moved { result ≡ Moved.Waits }
+    ensures asked { asked.new ≡ asks.Invoke how (callees.Loop turns) }
+    ensures cursor { cursor.new ≡ record cursor.old { place = cursor.old.place + 1; owed = Nothing } }
+{
+    wait(cursor, Brief::Turns(how, turns), Owed::Nothing, asked)
+}
+
+/// On behind so many instructions where it says so, else to the next one.
+pub fn skip_if(cursor: &mut Cursor, skips: bool, count: usize) -> Moved
+    requires { cursor.old.place + 1 + count < 2 ^ 64 }
+    ensures moved { result ≡ Moved.Goes }
+    ensures cursor { cursor.new ≡ record cursor.old { place = if skips then cursor.old.place + 1 + count else cursor.old.place + 1 } }
+{
+    if skips {
+        cursor.skip(count);
+    } else {
+        cursor.next();
+    }
+    Moved::Goes
+}
+
+/// The result that is held goes to the caller, if it takes one.
+pub fn give_result(cursor: &mut Cursor, asked: &mut Asked) -> Moved
+    requires { cursor.old.place < 2 ^ 63 }
+    ensures moves { (code : CodeView) (left : ℕ) → (if takes_result cursor.old.callee then Waits (asks.Result cursor.old.held) Nothing (cursor.old.place + 1) cursor.old.stack cursor.old.held left else Goes (cursor.old.place + 1) cursor.old.stack cursor.old.held left) ≡ moved code result asked.new cursor.new left }
+    ensures room { cursor.new.room ≡ cursor.old.room }
+    ensures callee { cursor.new.callee ≡ cursor.old.callee }
+    ensures onward { cursor.new.place ≡ cursor.old.place + 1 }
+{
+    if cursor.gives_result() {
+        let word = cursor.held();
+        return wait(cursor, Brief::Result(word), Owed::Nothing, asked);
+    }
+    cursor.next();
+    Moved::Goes
+}
+
+/// A value takes its tick and goes onto the stack.
+pub fn give(cursor: &mut Cursor, word: i64, left: &mut u32, asked: &mut Asked) -> Moved
+    requires room { length cursor.old.stack < cursor.old.room }
+    requires small { cursor.old.place < 2 ^ 63 }
+    ensures moves { (code : CodeView) → ticked left.old (Goes (cursor.old.place + 1) (word ∷ cursor.old.stack) cursor.old.held) ≡ moved code result asked.new cursor.new left.new }
+    ensures room { cursor.new.room ≡ cursor.old.room }
+    ensures callee { cursor.new.callee ≡ cursor.old.callee }
+    ensures falls { IsGoing result → left.old ≡ suc left.new }
+{
+    if !take_tick(left) {
+        return stop(Brief::Fault(Fault::TooManyEvents), asked);
+    }
+    put(cursor, word)
+}
+
+/// A value that passed its check takes its tick and goes onto the stack.
+pub fn give_checked(
+    cursor: &mut Cursor,
+    word: Option<i64>,
+    fault: Fault,
+    left: &mut u32,
+    asked: &mut Asked,
+) -> Moved
+    requires room { length cursor.old.stack < cursor.old.room }
+    requires small { cursor.old.place < 2 ^ 63 }
+    ensures moves { (code : CodeView) → or_stops fault word left.old (λ v. ticked left.old (Goes (cursor.old.place + 1) (v ∷ cursor.old.stack) cursor.old.held)) ≡ moved code result asked.new cursor.new left.new }
+    ensures room { cursor.new.room ≡ cursor.old.room }
+    ensures callee { cursor.new.callee ≡ cursor.old.callee }
+    ensures falls { IsGoing result → left.old ≡ suc left.new }
+{
+    match word {
+        Some(word) => give(cursor, word, left, asked),
+        None => stop(Brief::Fault(fault), asked),
+    }
+}
+
+// One tick less, if one is left.
+fn take_tick(left: &mut u32) -> bool
+    ensures { TakesTick left.old result left.new }
+{
+    if *left == 0 {
+        return false;
+    }
+    *left -= 1;
+    true
+}
