@@ -22,10 +22,10 @@ pub filled_by_one : FilledByOne
 filled_by_one = within MAX_TICKS MAX_EVENTS filled (pos 1 ∷ []) _ _ refl refl
 
 pub filled_by_all : FilledByAll
-filled_by_all = counted 99 MAX_TICKS MAX_EVENTS filled (pos 7 ∷ []) _ refl refl
+filled_by_all = counted 99 14 MAX_TICKS MAX_EVENTS filled (pos 7 ∷ []) _ refl refl refl
 
 pub filled_too_far : FilledTooFar
-filled_too_far = counted 97 MAX_TICKS MAX_EVENTS filled (pos 8 ∷ []) _ refl refl
+filled_too_far = counted 97 16 MAX_TICKS MAX_EVENTS filled (pos 8 ∷ []) _ refl refl refl
 
 pub filled_without_input : FilledWithoutInput
 filled_without_input = within MAX_TICKS MAX_EVENTS filled [] _ _ refl refl
@@ -36,7 +36,7 @@ total_runs = within MAX_TICKS MAX_EVENTS total [] _ _ refl refl
 
 pub nested_runs : NestedRuns
 unfolding int_wrap
-nested_runs = counted 75 MAX_TICKS MAX_EVENTS nested [] _ refl refl
+nested_runs = counted 75 10 MAX_TICKS MAX_EVENTS nested [] _ refl refl refl
 
 pub divided_stops : DividedStops
 unfolding int_wrap
@@ -47,7 +47,7 @@ prints_run = within MAX_TICKS MAX_EVENTS prints [] _ _ refl refl
 
 pub fib_runs : FibRuns
 unfolding int_wrap
-fib_runs = counted 2126 MAX_TICKS MAX_EVENTS fib [] _ refl refl
+fib_runs = counted 2126 178 MAX_TICKS MAX_EVENTS fib [] _ refl refl refl
 
 pub linked_runs : LinkedRuns
 linked_runs = within MAX_TICKS MAX_EVENTS linked [] _ _ refl refl

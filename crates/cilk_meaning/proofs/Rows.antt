@@ -1,5 +1,5 @@
 -- The worked programs of one frame do what is said of them.
-use Rattle.std.proofs.Common.{◌≡◌, ℕ, zero, suc, ◌-◌, ℤ, pos, List, [], ◌∷◌, length, Some, false, refl, ap, subst₂}
+use Rattle.std.proofs.Common.{◌≡◌, ℕ, zero, suc, ◌-◌, ℤ, pos, List, [], ◌∷◌, length, Some, false, refl, ap, subst, subst₂}
 use Rattle.std.specs.Int.{int_wrap}
 use Rattle.cilk_types.specs.declared.fault.Fault.TheVariants.{TooManyEvents}
 use Rattle.cilk_types.specs.declared.limits.TheConstants.{MAX_EVENTS, MAX_TICKS}
@@ -10,7 +10,8 @@ use Rattle.cilk_program.specs.declared.ask.Callee.TheVariants as callees
 use Rattle.cilk_program.specs.Syntax.{Source, Number, Empty, Return, Nothing, Then}
 use Rattle.cilk_program.specs.Behaviour.{Asks, ◌>>=◌, asks_for, condition, turns, does, all_do, unless_returned, finishes, ended, frame_asks}
 use Rattle.cilk_program.specs.Outcomes.{Conclusion, Leaves, StopsBy}
-use Rattle.cilk_program.specs.SerialRun.{act, stop, Stopped, Made, Refused, begun, with_store, stored, before_root, root_frame, conclusion_of, IsSerialRunWithin}
+use Rattle.cilk_program.specs.SerialRun.{Run, act, stop, Stopped, Made, Refused, begun, with_store, stored, before_root, root_frame, conclusion_of, IsSerialRunWithin}
+use Rattle.cilk_meaning.specs.Numbering.{counts_after, entered, unbegun}
 use Rattle.cilk_meaning.specs.Worked.{MakesWithin, Takes, nothing, NothingRuns, countdown, CountdownRuns, edges, EdgesRun, local_edges, LocalEdgesRun, division_by_zero, DivisionByZeroStops, skipped_division, SkippedDivisionRuns, short_input, ShortInputStops, operators, OperatorsRun, branches, BranchesRun, no_return, NoReturnRuns, sums, SumsRun, index_outside, IndexOutsideStops, change_outside, ChangeOutsideStops, read_outside, ReadOutsideStops, redeclared, RedeclaredRuns, endless, EndlessStops, TicksCount, FaultsInOrder}
 use Rattle.cilk_meaning.proofs.Computed.{ran_within}
 use Rattle.cilk_meaning.proofs.Uniqueness.{run_within}
@@ -32,14 +33,18 @@ pub edges_run : EdgesRun
 unfolding int_wrap
 edges_run = within MAX_TICKS MAX_EVENTS edges [] _ _ refl refl
 
--- the events that a program makes, counted
-pub counted : (n ticks room : ℕ) (p : Source) (inputs : List ℤ) (c : Conclusion) → length (ran_within p inputs ticks room).events ≡ n → conclusion_of p inputs (ran_within p inputs ticks room).ending ≡ c
-    → (es : List Event) × (length es ≡ n) × MakesWithin ticks room p inputs es c
-counted n ticks room p inputs c many ending = ((ran_within p inputs ticks room).events, many, within ticks room p inputs (ran_within p inputs ticks room).events c refl ending)
+-- the events that a program makes and their frames, counted
+pub counted : (n frames ticks room : ℕ) (p : Source) (inputs : List ℤ) (c : Conclusion) → length (ran_within p inputs ticks room).events ≡ n
+    → (counts_after p (ran_within p inputs ticks room).run (entered p callees.Root (unbegun p))).frames ≡ frames
+    → conclusion_of p inputs (ran_within p inputs ticks room).ending ≡ c
+    → (r : Run) × (es : List Event) × (length es ≡ n) × ((counts_after p r (entered p callees.Root (unbegun p))).frames ≡ frames) × IsSerialRunWithin p inputs ticks room r es c
+counted n frames ticks room p inputs c many begun ending =
+    let w = ran_within p inputs ticks room in
+    (w.run, w.events, many, begun, subst (λ c. IsSerialRunWithin p inputs ticks room w.run w.events c) ending (run_within p inputs ticks room))
 
 pub local_edges_run : LocalEdgesRun
 unfolding int_wrap
-local_edges_run = counted 11 MAX_TICKS MAX_EVENTS local_edges [] _ refl refl
+local_edges_run = counted 11 1 MAX_TICKS MAX_EVENTS local_edges [] _ refl refl refl
 
 pub division_by_zero_stops : DivisionByZeroStops
 unfolding int_wrap

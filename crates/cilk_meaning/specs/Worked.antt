@@ -4,6 +4,7 @@ use Rattle.cilk_types.specs.declared.fault.Fault.TheVariants.{DivisionByZero, In
 use Rattle.cilk_types.specs.declared.event.Event.{Event}
 use Rattle.cilk_types.specs.declared.event.Event.TheVariants as event
 use Rattle.cilk_types.specs.declared.outcome.Outcome.{Outcome}
+use Rattle.cilk_program.specs.declared.ask.Callee.TheVariants as callees
 use Rattle.cilk_program.specs.declared.syntax.Array.{Array}
 use Rattle.cilk_program.specs.declared.syntax.Operator.{Operator}
 use Rattle.cilk_program.specs.declared.syntax.Operator.TheVariants.{Add, Subtract, Multiply, Divide, Remainder, Less, LessEqual, Greater, GreaterEqual, Equal, NotEqual}
@@ -13,6 +14,7 @@ use Rattle.cilk_program.specs.declared.syntax.Place.TheVariants as place
 use Rattle.cilk_program.specs.Syntax.{Source, Function, Expression, Number, Variable, Element, Negate, Not, Binary, And, Or, Input, InputCount, ToVariable, ToElement, Zero, Opening, Statement, Empty, Block, Declare, Assign, Change, Step, If, IfElse, For, Print, Return, Statements, Nothing, Then}
 use Rattle.cilk_program.specs.Outcomes.{Conclusion, Leaves, StopsBy}
 use Rattle.cilk_program.specs.SerialRun.{Run, IsSerialRun, IsSerialRunWithin}
+use Rattle.cilk_meaning.specs.Numbering.{counts_after, entered, unbegun}
 
 -- the program's serial run makes these events, and ends so
 abbrev pub Makes : Source → List ℤ → List Event → Conclusion → Type 0
@@ -22,9 +24,10 @@ Makes p inputs es c = (r : Run) × IsSerialRun p inputs r es c
 abbrev pub MakesWithin : ℕ → ℕ → Source → List ℤ → List Event → Conclusion → Type 0
 MakesWithin ticks room p inputs es c = (r : Run) × IsSerialRunWithin p inputs ticks room r es c
 
--- it makes so many events, and ends so
-abbrev pub EndsAfter : ℕ → Source → List ℤ → Conclusion → Type 0
-EndsAfter n p inputs c = (es : List Event) × (length es ≡ n) × Makes p inputs es c
+-- it makes so many events in so many frames, and ends so
+abbrev pub EndsAfter : ℕ → ℕ → Source → List ℤ → Conclusion → Type 0
+EndsAfter n frames p inputs c =
+    (r : Run) × (es : List Event) × (length es ≡ n) × ((counts_after p r (entered p callees.Root (unbegun p))).frames ≡ frames) × IsSerialRun p inputs r es c
 
 -- one statement after the other
 abbrev pub row : List Statement → Statements
@@ -135,7 +138,7 @@ local_edges =
     ∷ returns (Binary Multiply (local 0) (num 2)) ∷ [])
 
 abbrev pub LocalEdgesRun : Type 0
-LocalEdgesRun = EndsAfter 11 local_edges [] (leaving (pos 0) [] (least ∷ pos 0 ∷ negsuc 2 ∷ negsuc 0 ∷ []))
+LocalEdgesRun = EndsAfter 11 1 local_edges [] (leaving (pos 0) [] (least ∷ pos 0 ∷ negsuc 2 ∷ negsuc 0 ∷ []))
 
 -- int main() { return 1 / 0; }
 abbrev pub division_by_zero : Source

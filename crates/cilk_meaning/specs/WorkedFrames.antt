@@ -118,11 +118,11 @@ FilledByOne =
 
 -- seven turns: 99 events
 abbrev pub FilledByAll : Type 0
-FilledByAll = EndsAfter 99 filled (pos 7 ∷ []) (leaving (pos 6) (pos 0 ∷ pos 1 ∷ pos 2 ∷ pos 3 ∷ pos 4 ∷ pos 5 ∷ pos 6 ∷ []) [])
+FilledByAll = EndsAfter 99 14 filled (pos 7 ∷ []) (leaving (pos 6) (pos 0 ∷ pos 1 ∷ pos 2 ∷ pos 3 ∷ pos 4 ∷ pos 5 ∷ pos 6 ∷ []) [])
 
 -- an eighth turn is outside the array: the fault stands at 98
 abbrev pub FilledTooFar : Type 0
-FilledTooFar = EndsAfter 97 filled (pos 8 ∷ []) (StopsBy IndexOutside)
+FilledTooFar = EndsAfter 97 16 filled (pos 8 ∷ []) (StopsBy IndexOutside)
 
 abbrev pub FilledWithoutInput : Type 0
 FilledWithoutInput = Makes filled [] (event.Begin 1 ∷ []) (StopsBy InputOutside)
@@ -157,7 +157,7 @@ nested =
     } ∷ []) 0
 
 abbrev pub NestedRuns : Type 0
-NestedRuns = EndsAfter 75 nested [] (leaving (pos 11) (pos 0 ∷ pos 1 ∷ pos 10 ∷ pos 11 ∷ []) [])
+NestedRuns = EndsAfter 75 10 nested [] (leaving (pos 11) (pos 0 ∷ pos 1 ∷ pos 10 ∷ pos 11 ∷ []) [])
 
 -- int d(int k) { return 6 / k; } int main() { int x; int y; x = cilk_spawn d(2); y = cilk_spawn d(0); cilk_sync; return x + y; }
 abbrev pub divided : Source
@@ -218,7 +218,7 @@ fib =
 
 -- 89 of the 177 calls of fib return at once
 abbrev pub FibRuns : Type 0
-FibRuns = EndsAfter 2126 fib [] (leaving (pos 55) [] [])
+FibRuns = EndsAfter 2126 178 fib [] (leaving (pos 55) [] [])
 
 -- int f() { return 5; } int main() { int x; cilk_for (int i = 0; i < 2; i++) { x = f(); } return x; }: the result goes through a static link
 abbrev pub linked : Source

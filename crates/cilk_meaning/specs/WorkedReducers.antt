@@ -58,7 +58,7 @@ hundred =
 
 -- 99 halvings of 7 events, 100 turns of 6, and 7 of main
 abbrev pub HundredRuns : Type 0
-HundredRuns = EndsAfter 1300 hundred [] (leaving_all (pos 5050) [] [] (final.Number (pos 5050) ∷ []))
+HundredRuns = EndsAfter 1300 200 hundred [] (leaving_all (pos 5050) [] [] (final.Number (pos 5050) ∷ []))
 
 -- int cilk_reducer(append) l; int main() { cilk_for (int i = 0; i < 5; i++) { update(l, i); } return value(l); }
 abbrev pub ordered : Source
@@ -68,7 +68,7 @@ ordered =
 
 -- 4 halvings of 7 events, 5 turns of 6, and 7 of main
 abbrev pub OrderedRuns : Type 0
-OrderedRuns = EndsAfter 65 ordered [] (leaving_all (pos 5) [] [] (final.List (pos 0 ∷ pos 1 ∷ pos 2 ∷ pos 3 ∷ pos 4 ∷ []) ∷ []))
+OrderedRuns = EndsAfter 65 10 ordered [] (leaving_all (pos 5) [] [] (final.List (pos 0 ∷ pos 1 ∷ pos 2 ∷ pos 3 ∷ pos 4 ∷ []) ∷ []))
 
 -- int cilk_reducer(add) r; void f() { update(r, 1); } int main() { int x; cilk_spawn f(); x = value(r); cilk_sync; return x; }
 abbrev pub read_early : Source
@@ -106,7 +106,7 @@ apart =
 
 -- 3 and 4 halvings of 7 events, 4 and 5 turns of 6, twice 10 of f, and 12 of main
 abbrev pub ApartRuns : Type 0
-ApartRuns = EndsAfter 135 apart [] (leaving (pos 16) [] [])
+ApartRuns = EndsAfter 135 19 apart [] (leaving (pos 16) [] [])
 
 -- int cilk_reducer(add) s; void u(int k) { update(s, k); } int main() { cilk_spawn u(9223372036854775807); cilk_spawn u(1); cilk_spawn u(1); cilk_sync; return value(s); }
 abbrev pub wrapped : Source
@@ -119,7 +119,7 @@ wrapped =
     [] 1
 
 abbrev pub WrappedRuns : Type 0
-WrappedRuns = EndsAfter 30 wrapped [] (leaving_all (negsuc 9223372036854775806) [] [] (final.Number (negsuc 9223372036854775806) ∷ []))
+WrappedRuns = EndsAfter 30 4 wrapped [] (leaving_all (negsuc 9223372036854775806) [] [] (final.Number (negsuc 9223372036854775806) ∷ []))
 
 -- int cilk_reducer(min) m; int main() { return value(m); }
 abbrev pub untouched : Source
@@ -175,7 +175,7 @@ digits =
 
 -- 3 halvings of 7 events, 4 turns of 6, and 7 of main
 abbrev pub DigitsRun : Type 0
-DigitsRun = EndsAfter 52 digits [] (leaving_all (pos 1234) [] [] (final.Number (pos 1234) ∷ []))
+DigitsRun = EndsAfter 52 8 digits [] (leaving_all (pos 1234) [] [] (final.Number (pos 1234) ∷ []))
 
 -- the same with the head `int i = 0; i < 20; i++` and `update(d, 9)`
 abbrev pub nines : Source
@@ -185,7 +185,7 @@ nines =
 
 -- 19 halvings of 7 events, 20 turns of 5, and 7 of main
 abbrev pub NinesRun : Type 0
-NinesRun = EndsAfter 240 nines [] (leaving_all (pos 7766279631452241919) [] [] (final.Number (pos 7766279631452241919) ∷ []))
+NinesRun = EndsAfter 240 40 nines [] (leaving_all (pos 7766279631452241919) [] [] (final.Number (pos 7766279631452241919) ∷ []))
 
 -- int cilk_reducer(max) s; int g; int main() { int cilk_reducer(add) t; int x; if (g) { return 0; } g = 1; update(t, 3); x = main(); return value(t) + x; }:
 -- the first frame creates the global reducers before its own, and another frame of main only its own

@@ -203,6 +203,13 @@ const FAULTS: &[Case] = &[
         "",
         "fault 205 at 131072\n",
     ),
+    (
+        "int a[1000000]; void f(int x) { int y; f(x); } int main() { f(1); return 0; }",
+        "",
+        3,
+        "",
+        "fault 206 at 121442\n",
+    ),
 ];
 
 /// A program text and an input text.
