@@ -8,6 +8,13 @@
 //! Two reducer-reads of one instance (its creation, a set, a value) have a view-read race where their strands have different
 //! peers: then a thief may find an empty view where the serial run finds a full one. A second pass keeps for each
 //! instance its first reducer-read, and compares peer classes (Lee and Schardl 2015).
+//!
+//! ```text
+//! match first_race(alloc, &trace, &labels)? {
+//!     Some((earlier, later)) => ..,          // two positions of the trace, from 1
+//!     None => ..,                            // no two positions race
+//! }
+//! ```
 #![tactic(auto)]
 
 pub mod first_reads;

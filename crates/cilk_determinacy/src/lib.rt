@@ -20,6 +20,13 @@
 //! Numbers that reducers are set to have to be words, as every number of a program is: arithmetic brings results back into
 //! words, so a view that is no word would change as it is multiplied by an empty one. The programs and inputs of the code have no
 //! other numbers (`words`).
+//!
+//! ```text
+//! match settle(alloc, &program, &input)? {
+//!     Some(outcome) => ..,                   // what every parallel run that ends leaves
+//!     None => ..,                            // two positions of the serial run race
+//! }
+//! ```
 #![tactic(auto)]
 
 pub mod laws;

@@ -1,5 +1,5 @@
-//! A frame's cursor over the code of its program, and the one operation on it: [`stepping::step`], which goes on to the
-//! next thing that the frame asks for.
+//! A frame's cursor over the code of its program, and the operation on it: [`stepping::step`], which goes on to the next
+//! thing that the frame asks for.
 //!
 //! A frame never touches memory, views or output. It asks, and whoever runs it answers: the value for a read or for the
 //! value of a reducer, nothing for any other event. So a run of many frames is a matter of whom to step next, and the
@@ -8,15 +8,30 @@
 //! [`cursor::Cursor::new`] before the frame that an invocation asks for. A step takes no memory, since the room for the
 //! operands is made with the cursor, and it ends, since a loop takes a tick each turn.
 //!
+//! An ask has room for all that a function is given. Who runs many frames keeps one in its place, an [`asked::Asked`]:
+//! [`stepping::go_on`] is the same step and leaves what is asked there, and [`cursor::Cursor::asked`] is the frame that it
+//! begins.
+//!
 //! The contracts say whom a cursor follows: a behaviour (`specs/Following.antt`), which says what a frame asks for after
 //! any answers and with any ticks. `Follows` is the law of a cursor, `Steps` what a step does to it, and `Stands` and
 //! `GoesOn` are the two for a frame of a program with a history of answers.
+//!
+//! ```text
+//! let mut cursor = Cursor::root(alloc, &code)?;
+//! let mut asked = Asked::new();              // the frame begins
+//! go_on(&code, &input, &mut cursor, Answer::Done, &mut left, &mut asked);
+//! match asked.brief() {
+//!     Some(Brief::Read(place)) => ..,        // it waits for the value
+//!     Some(Brief::End(result)) => ..,        // it has ended
+//!     ..
+//! }
+//! ```
 #![tactic(auto)]
 
 pub mod asked;
 pub mod brief;
 pub mod cursor;
-mod halves;
+pub mod halves;
 mod moves;
 mod operands;
 mod operators;

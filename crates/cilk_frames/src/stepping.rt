@@ -27,7 +27,8 @@ use cilk_types::word;
 mod tests;
 
 /// Goes on from the answer to the next thing that the frame asks for. `left` is the ticks that the run has left: the
-/// step takes those that the frame's statements and expressions take meanwhile. It takes no memory and always ends.
+/// step takes those that the frame's statements and expressions take meanwhile. It takes no memory and always ends. Who runs
+/// many frames keeps one ask and uses [`go_on`].
 pub fn step(code: &Code, input: &Input, cursor: &mut Cursor, answer: Answer, left: &mut u32) -> Ask
     requires runs { Runs code.now input.now cursor.old }
     requires fits { Fits cursor.old.owed answer }

@@ -6,6 +6,11 @@
 //! series-parallel relationships in fork-join multithreaded programs", section 2).
 //!
 //! [`label`] numbers all strands in one pass over the tree's nodes. A [`Labels`] answers without memory.
+//!
+//! ```text
+//! let labels = label(alloc, &tree)?;
+//! labels.parallel(2, 4)                      // may strands 2 and 4 run at one time?
+//! ```
 #![tactic(auto)]
 
 ghost use Rattle.std.specs.Prelude.{◌≡◌, ◌↔◌, ◌+◌, ◌≤◌, ◌-◌, ◌<◌, ◌^◌, ◌∷◌, ◌++◌, List, IsTrue, IfOk, length, slice_index, vec_len};

@@ -1,4 +1,4 @@
--- What the machine does with a program's instructions.
+-- What the machine does with a program's instructions (a machine with a stack of operands: McCarthy and Painter 1967).
 use Rattle.std.specs.Prelude.{ℕ, zero, suc, ◌+◌, ◌-◌, ℤ, pos, ◌+ℤ◌, ◌-ℤ◌, neg_ℤ, int_lt, Bool, false, if◌then◌else◌, List, [], ◌∷◌, Option, Some, None, slice_get, length, nat_lt}
 use Rattle.std.specs.Option.{is_some}
 use Rattle.std.specs.Ordering.{int_eq}

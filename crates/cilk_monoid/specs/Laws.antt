@@ -1,4 +1,4 @@
--- Monoids of views, and their laws on a set of members.
+-- Monoids of views, and their laws on a set of members (reducers: Frigo, Halpern, Leiserson and Lewin-Berlin 2009).
 use Rattle.std.specs.Prelude.{◌≡◌, ℕ, ℤ}
 use Rattle.cilk_monoid.specs.Values.{IsWord}
 

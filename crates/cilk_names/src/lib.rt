@@ -3,6 +3,11 @@
 //! Names are replaced by what they mean, by the rules of scopes: a function is known in the whole text, another name from
 //! its declaration on, and an inner name hides an outer one. The relation between a tree and its program is defined in
 //! this crate's `specs/` (`Resolution`), and so is all that can be wrong with the names of a tree (`Misnamings`).
+//!
+//! ```text
+//! let tree = parse(alloc, b"int main(){return x;}")?;
+//! resolve(alloc, &tree)                      // Err(NameFault::At(NameNumber::Unknown, 18))
+//! ```
 #![tactic(auto)]
 
 mod calls;

@@ -44,6 +44,11 @@
 //! groups and indexes too; an argument and the index of an element that is written are expressions of their own.
 //!
 //! [`parse::parse`] gives a [`tree::Tree`] or a [`fault::TextFault`], and [`input::parse_input`] an [`Input`](cilk_types::input::Input).
+//!
+//! ```text
+//! parse(alloc, b"int main(){return 0;}")?    // one item: a function
+//! parse(alloc, b"int main(){return 0}")      // Err(TextFault::At(TextNumber::Unexpected, 19))
+//! ```
 #![tactic(auto)]
 
 mod assignments;

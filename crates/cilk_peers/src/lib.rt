@@ -6,6 +6,11 @@
 //! of a P node that holds it, and 0 where none does. Two strands have the same peers exactly where they are of one class.
 //!
 //! [`walk::classes`] finds all classes in one pass over the tree's nodes. A [`class::Classes`] answers without memory.
+//!
+//! ```text
+//! let classes = classes(alloc, &tree)?;
+//! classes.same_peers(1, 5)                   // are the same strands parallel to strand 1 and to strand 5?
+//! ```
 #![tactic(auto)]
 
 pub mod class;

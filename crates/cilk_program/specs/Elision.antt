@@ -1,5 +1,5 @@
--- The serial elision of a program: its meaning with the parallel words deleted, statement by statement over one store,
--- as a natural semantics (Kahn 1987). A spawn is a call, a sync does nothing, a parallel loop is an ascending one, and each
+-- The serial elision of a program (Frigo, Leiserson and Randall 1998): its meaning with the parallel words deleted, statement by
+-- statement over one store, as a natural semantics (Kahn 1987). A spawn is a call, a sync does nothing, a parallel loop is an ascending one, and each
 -- reducer has one value. It knows no ticks, frames, events or limits of a run.
 use Rattle.std.specs.Prelude.{◌≡◌, ℕ, zero, suc, ◌+◌, nat_eq, ℤ, pos, negsuc, ◌+ℤ◌, ◌-ℤ◌, neg_ℤ, true, false, if◌then◌else◌, List, [], ◌∷◌, length, Option, Some, None}
 use Rattle.cilk_types.specs.Input.{input_at, input_count}

@@ -1,4 +1,4 @@
--- A state that is a consistent cut of a serial run.
+-- A state that is a consistent cut of a serial run (consistent cuts: Chandy and Lamport 1985).
 use Rattle.std.specs.Prelude.{◌+◌, cond, nat_eq, ◌≡◌, ℕ, suc, ℤ, ◌≤◌, Bool, true, false, List, [], ◌∷◌, ◌++◌, Option, Some, None}
 use Rattle.cilk_runs.specs.Runs.{Name, same_name, Cell, Instance, Kind, Calls, Spawns, Event, Reads, Writes, Syncs, Ends, Passes, Deed, Does, Invokes, Run, stop, act, child, Invoke, ask_of}
 use Rattle.cilk_runs.specs.Costs.{Costs, Total, cost}

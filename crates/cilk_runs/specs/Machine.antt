@@ -1,4 +1,5 @@
--- The free machine: any frame that isn't waiting may make its next event at any moment.
+-- The free machine: any frame that isn't waiting may make its next event at any moment (steals after Frigo, Leiserson and Randall
+-- 1998, views after Frigo, Halpern, Leiserson and Lewin-Berlin 2009).
 use Rattle.std.specs.Prelude.{◌≡◌, ℕ, suc, ◌+◌, nat_eq, ℤ, Bool, true, false, cond, List, [], ◌∷◌, ◌++◌, Option, Some, None, ◌⊎◌}
 use Rattle.cilk_runs.specs.Runs.{Name, same_name, Cell, same_cell, Instance, Calls, Spawns, Ask, Read, Write, Invoke, Sync, End, Pass, Fail, Wish, Begin, Resume, Create, Update, Set, Value, Print, Mark, Begins, Resumes, Creates, Updates, Sets, Values, Prints, Event, Reads, Writes, Syncs, Ends, Passes, Deed, Does, Invokes}
 use Rattle.cilk_types.specs.declared.fault.Fault.{Fault}

@@ -1,4 +1,4 @@
--- Determinacy races of a run.
+-- Determinacy races of a run (Feng and Leiserson 1997).
 use Rattle.std.specs.Prelude.{◌≡◌, ◌⊎◌}
 use Rattle.cilk_runs.specs.Runs.{Cell, Kind, Calls, Spawns, Event, Reads, Writes, Syncs, Ends, Passes, Run, stop, act, child}
 

@@ -1,4 +1,4 @@
--- View-read races of a run, and the serial run's views.
+-- View-read races of a run (Lee and Schardl 2015), and the serial run's views.
 use Rattle.std.specs.Prelude.{◌≡◌, Bool, true, false, ◌⊎◌}
 use Rattle.cilk_runs.specs.Runs.{Instance, Output, has_instance, Kind, Calls, Spawns, Event, Reads, Writes, Syncs, Ends, Passes, Mark, Begins, Resumes, Creates, Updates, Sets, Values, Prints, Run, stop, act, child}
 use Rattle.cilk_runs.specs.Monoids.{Monoid, numbers_of, on_view}

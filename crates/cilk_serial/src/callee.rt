@@ -1,7 +1,6 @@
 // What the frame of a callee has, by its program.
 
-ghost use Rattle.std.specs.Prelude.{◌≡◌, ◌<◌, ◌-ℤ◌, pos, length, IfSome, IsSome};
-ghost use Rattle.std.specs.Ordering.{int_eq};
+ghost use Rattle.std.specs.Prelude.{◌≡◌, ◌<◌, length, IfSome, IsSome};
 ghost use Rattle.cilk_program.specs.Syntax.{function_at, loop_at};
 ghost use Rattle.cilk_program.specs.Sources.{source};
 ghost use Rattle.cilk_program.specs.Inside.{CalleeIsFit};
@@ -12,6 +11,7 @@ ghost use Rattle.cilk_serial.specs.Scoped.{IsBegunRightly};
 
 use cilk_frames::asked::Asked;
 use cilk_frames::brief::Brief;
+use cilk_frames::halves::has_one;
 use cilk_program::ask::{Callee, LoopPart};
 use cilk_program::program::Program;
 
@@ -53,7 +53,7 @@ fn turn_cells(program: &Program, part: &LoopPart) -> u32
     requires { part.now.number < length program.now.loops.items }
     ensures { result ≡ cells_of (source program.now) (Loop part.now) }
 {
-    if has_one(part) {
+    if has_one(*part) {
         loop_cells(program, part.number)
     } else {
         0
@@ -66,11 +66,4 @@ fn loop_cells(program: &Program, number: u32) -> u32
     ensures { let l = loop_at (source program.now) number in result ≡ l.cells }
 {
     program.loops[number as usize].cells
-}
-
-// Whether there is one turn. The bounds may be so far apart that their distance is no word.
-fn has_one(part: &LoopPart) -> bool
-    ensures { result ≡ int_eq (part.now.high -ℤ part.now.low) (pos 1) }
-{
-    i128::from(part.high) - i128::from(part.low) == 1
 }

@@ -3,6 +3,10 @@
 //! [`serve`] reads the words of a command line, reads the texts that they name, judges them, and shows one reply: a
 //! text on standard output or a line on standard error, and a status. It runs over any [`files::Files`], any reader
 //! and any writers, so what it shows is a stated function of what these give (`specs/Serving.antt`).
+//!
+//! ```text
+//! serve(alloc, &["run", "examples/first.c"], &mut files, &mut input, &mut out, &mut err)    // the status
+//! ```
 #![tactic(auto)]
 
 pub mod disk;

@@ -10,6 +10,11 @@
 //! [`building::tree_of`] makes the tree in one pass over the events from the last to the first, and
 //! [`span::span`] is the length of the longest chain of events in it. [`laws::before_is_reachability`] says what a scheduler needs:
 //! an event is before another exactly where it is reached from it by immediate predecessors.
+//!
+//! ```text
+//! let tree = tree_of(alloc, &trace)?;
+//! let longest = span(alloc, &trace, &tree)?;
+//! ```
 #![tactic(auto)]
 
 pub mod building;

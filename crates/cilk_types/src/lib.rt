@@ -3,6 +3,12 @@
 //!
 //! A program's numbers are words: whole numbers of 64 bits in two's complement ([`word`]). A serial run makes a list
 //! of [`event::Event`]s. It ends with an [`outcome::Outcome`], or it stops by a [`fault::Fault`].
+//!
+//! ```text
+//! word::add(i64::MAX, 1)             // i64::MIN: it wraps
+//! word::div(1, 0)                    // None
+//! Fault::DivisionByZero.number()     // 201
+//! ```
 #![tactic(auto)]
 
 pub mod event;

@@ -1,4 +1,4 @@
-//! The limits of programs, runs, certificates and scripts. Those of a run count totals, never depth or live frames.
+//! The limits of texts, inputs and runs. Those of a run count totals, never depth or live frames.
 
 use crate::event::{Cell, Pos};
 
