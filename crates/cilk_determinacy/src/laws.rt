@@ -74,3 +74,12 @@ pub fn worked_programs()
     ensures again { AgainIsFree }
     ensures again_leaves { AgainLeaves }
 {}
+
+ghost use Rattle.cilk_determinacy.specs.Views.{AreMultiplied};
+
+/// The free machine's views are functions, and this ties them to the language's: its empty view is the unit of the monoid, two views that
+/// follow one another are their product by `combine`, and creation, update, set, print and retirement leave the views that they
+/// leave in the monoid. The number that is read is the monoid's. So a sum's view 5 is the function that adds 5.
+pub fn views_are_multiplied()
+    ensures { AreMultiplied }
+{}
