@@ -132,17 +132,17 @@ module _ {W : Type 0} (cell : Cell → ℕ) (instance : Instance → numbered.In
   spells : (due : Due) (r : Run W) (es : List numbers.Event) → IsFramed due r → AreWritten cell instance (nested.trace r) es → map mark_of es ≡ ahead due ++ shapes.marks (shape_of r)
   spells begin_due (act (Passes Begins) r) es h w = one_event (Does (Passes Begins)) (nested.trace r) es mark.Begin _ (λ e x. ap mark_of x.1) (λ xs g. spells neither_due r xs h g) w
   spells resume_due (act (Passes Resumes) r) es h w = one_event (Does (Passes Resumes)) (nested.trace r) es mark.Resume _ (λ e x. ap mark_of x.1) (λ xs g. spells neither_due r xs h g) w
-  spells neither_due (act (Reads c v) r) es h w = one_event (Does (Reads c v)) (nested.trace r) es mark.Plain _ (λ e x. ap mark_of x.1) (λ xs g. spells neither_due r xs h g) w
-  spells neither_due (act (Writes c v) r) es h w = one_event (Does (Writes c v)) (nested.trace r) es mark.Plain _ (λ e x. ap mark_of x.1) (λ xs g. spells neither_due r xs h g) w
+  spells neither_due (act (Reads c v) r) es h w = one_event (Does (Reads c v)) (nested.trace r) es mark.Plain _ (λ e x. ap mark_of x) (λ xs g. spells neither_due r xs h g) w
+  spells neither_due (act (Writes c v) r) es h w = one_event (Does (Writes c v)) (nested.trace r) es mark.Plain _ (λ e x. ap mark_of x) (λ xs g. spells neither_due r xs h g) w
   spells neither_due (act Syncs r) es h w = one_event (Does Syncs) (nested.trace r) es mark.Sync _ (λ e x. ap mark_of x) (λ xs g. spells neither_due r xs h g) w
   spells neither_due (act (Ends v gone) r) es h w =
       one_event (Does (Ends v gone)) (nested.trace r) es mark.End [] (λ e x. ap mark_of x)
       (λ xs g. ap (map mark_of) (nothing_written cell instance xs (nested.trace r) (ap nested.trace h) g)) w
   spells neither_due (act (Passes (Creates i)) r) es h w = one_event (Does (Passes (Creates i))) (nested.trace r) es mark.Plain _ (λ e x. ap mark_of x) (λ xs g. spells neither_due r xs h g) w
-  spells neither_due (act (Passes (Updates i y)) r) es h w = one_event (Does (Passes (Updates i y))) (nested.trace r) es mark.Plain _ (λ e x. ap mark_of x.1) (λ xs g. spells neither_due r xs h g) w
-  spells neither_due (act (Passes (Sets i y)) r) es h w = one_event (Does (Passes (Sets i y))) (nested.trace r) es mark.Plain _ (λ e x. ap mark_of x.1) (λ xs g. spells neither_due r xs h g) w
-  spells neither_due (act (Passes (Values i y)) r) es h w = one_event (Does (Passes (Values i y))) (nested.trace r) es mark.Plain _ (λ e x. ap mark_of x.1) (λ xs g. spells neither_due r xs h g) w
-  spells neither_due (act (Passes (Prints y)) r) es h w = one_event (Does (Passes (Prints y))) (nested.trace r) es mark.Plain _ (λ e x. ap mark_of x.1) (λ xs g. spells neither_due r xs h g) w
+  spells neither_due (act (Passes (Updates i y)) r) es h w = one_event (Does (Passes (Updates i y))) (nested.trace r) es mark.Plain _ (λ e x. ap mark_of x) (λ xs g. spells neither_due r xs h g) w
+  spells neither_due (act (Passes (Sets i y)) r) es h w = one_event (Does (Passes (Sets i y))) (nested.trace r) es mark.Plain _ (λ e x. ap mark_of x) (λ xs g. spells neither_due r xs h g) w
+  spells neither_due (act (Passes (Values i y)) r) es h w = one_event (Does (Passes (Values i y))) (nested.trace r) es mark.Plain _ (λ e x. ap mark_of x) (λ xs g. spells neither_due r xs h g) w
+  spells neither_due (act (Passes (Prints y)) r) es h w = one_event (Does (Passes (Prints y))) (nested.trace r) es mark.Plain _ (λ e x. ap mark_of x) (λ xs g. spells neither_due r xs h g) w
   spells neither_due (child k v u r) es h w =
       one_event (Invokes k v) (nested.trace u ++ nested.trace r) es (shapes.start_of (kind_of k)) _ (λ e x. written_kind cell instance k v e x)
       (λ xs g.

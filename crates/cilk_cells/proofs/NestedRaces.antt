@@ -92,11 +92,11 @@ module _ {W : Type 0} where
 
 -- ---- events
 module _ (cell : Cell → ℕ) (instance : Instance → numbered.Instance) where
-  reads_cell : (c : Cell) (e : numbers.Event) → ((y : ℤ) × (e ≡ events.Read (cell c) y)) → races.Accesses (Some e) (cell c)
-  reads_cell c e h = subst (λ (x : numbers.Event). races.Accesses (Some x) (cell c)) (sym h.1) refl
+  reads_cell : (c : Cell) (v : ℤ) (e : numbers.Event) → e ≡ events.Read (cell c) v → races.Accesses (Some e) (cell c)
+  reads_cell c v e h = subst (λ (x : numbers.Event). races.Accesses (Some x) (cell c)) (sym h) refl
 
-  writes_cell : (c : Cell) (e : numbers.Event) → ((y : ℤ) × (e ≡ events.Write (cell c) y)) → races.Writes (Some e) (cell c) × races.Accesses (Some e) (cell c)
-  writes_cell c e h = subst (λ (x : numbers.Event). races.Writes (Some x) (cell c) × races.Accesses (Some x) (cell c)) (sym h.1) (refl, refl)
+  writes_cell : (c : Cell) (v : ℤ) (e : numbers.Event) → e ≡ events.Write (cell c) v → races.Writes (Some e) (cell c) × races.Accesses (Some e) (cell c)
+  writes_cell c v e h = subst (λ (x : numbers.Event). races.Writes (Some x) (cell c) × races.Accesses (Some x) (cell c)) (sym h) (refl, refl)
 
   abbrev ClashAt : numbers.Event → numbers.Event → Type 0
   ClashAt e e' = (c : ℕ) × ((races.Writes (Some e) c × races.Accesses (Some e') c) ⊎ (races.Accesses (Some e) c × races.Writes (Some e') c))
@@ -104,19 +104,19 @@ module _ (cell : Cell → ℕ) (instance : Instance → numbered.Instance) where
   clash_written : (a b : Event) (e e' : numbers.Event) → IsWrittenEvent cell instance a e → IsWrittenEvent cell instance b e' → nested.event_clash a b ≡ true → ClashAt e e'
   clash_written (Reads c v) (Writes d x) e e' w w' h =
       let q = same_cell-eq c d h in
-      (cell c, inr (reads_cell c e w, subst (λ (k : Cell). races.Writes (Some e') (cell k)) (sym q) (writes_cell d e' w').0))
+      (cell c, inr (reads_cell c v e w, subst (λ (k : Cell). races.Writes (Some e') (cell k)) (sym q) (writes_cell d x e' w').0))
   clash_written (Writes c v) (Writes d x) e e' w w' h =
       let q = same_cell-eq c d h in
-      (cell c, inl ((writes_cell c e w).0, subst (λ (k : Cell). races.Accesses (Some e') (cell k)) (sym q) (writes_cell d e' w').1))
+      (cell c, inl ((writes_cell c v e w).0, subst (λ (k : Cell). races.Accesses (Some e') (cell k)) (sym q) (writes_cell d x e' w').1))
   clash_written (Writes c v) (Reads d x) e e' w w' h =
       let q = same_cell-eq c d h in
-      (cell c, inl ((writes_cell c e w).0, subst (λ (k : Cell). races.Accesses (Some e') (cell k)) (sym q) (reads_cell d e' w')))
+      (cell c, inl ((writes_cell c v e w).0, subst (λ (k : Cell). races.Accesses (Some e') (cell k)) (sym q) (reads_cell d x e' w')))
   clash_written _ _ e e' w w' h = absurd (true≢false (sym h))
 
   read_written : (i : Instance) (a : Event) (e : numbers.Event) → IsReducerRead i a → IsWrittenEvent cell instance a e → views.ReadsReducer (Some e) (instance i)
   read_written i (Passes (Creates j)) e h w = subst (λ (x : numbers.Event). views.ReadsReducer (Some x) (instance i)) (sym w) (ap instance h)
-  read_written i (Passes (Sets j x)) e h w = subst (λ (x : numbers.Event). views.ReadsReducer (Some x) (instance i)) (sym w.1) (ap instance h)
-  read_written i (Passes (Values j n)) e h w = subst (λ (x : numbers.Event). views.ReadsReducer (Some x) (instance i)) (sym w.1) (ap instance h)
+  read_written i (Passes (Sets j x)) e h w = subst (λ (x : numbers.Event). views.ReadsReducer (Some x) (instance i)) (sym w) (ap instance h)
+  read_written i (Passes (Values j n)) e h w = subst (λ (x : numbers.Event). views.ReadsReducer (Some x) (instance i)) (sym w) (ap instance h)
   read_written i _ e h w = absurd h
 
   module _ {W : Type 0} where

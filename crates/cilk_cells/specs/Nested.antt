@@ -1,5 +1,5 @@
 -- Nested runs and the lists of their events: the shape of a nested run, and what freedom of races of the list says of it.
-use Rattle.std.specs.Prelude.{◌≡◌, ℕ, ℤ, List, [], ◌∷◌, length}
+use Rattle.std.specs.Prelude.{◌≡◌, ℕ, List, [], ◌∷◌, length}
 use Rattle.cilk_types.specs.declared.event.Event as numbers
 use Rattle.cilk_types.specs.declared.event.Event.TheVariants as events
 use Rattle.cilk_types.specs.declared.event.Instance as numbered
@@ -60,19 +60,19 @@ counted (nested.Series a b) = series (counted a) (counted b)
 counted (nested.Beside a b) = parallel (counted a) (counted b)
 
 module _ (cell : Cell → ℕ) (instance : Instance → numbered.Instance) where
-  -- the event by numbers, whatever its values and frames
+  -- the event by numbers, with the same values, whatever its frames
   abbrev pub IsWrittenMark : Mark → numbers.Event → Type 0
   IsWrittenMark Begins e = (f : ℕ) × (e ≡ events.Begin f)
   IsWrittenMark Resumes e = (f : ℕ) × (e ≡ events.Resume f)
   IsWrittenMark (Creates i) e = e ≡ events.Create (instance i)
-  IsWrittenMark (Updates i x) e = (y : ℤ) × (e ≡ events.Update (instance i) y)
-  IsWrittenMark (Sets i x) e = (y : ℤ) × (e ≡ events.Set (instance i) y)
-  IsWrittenMark (Values i n) e = (y : ℤ) × (e ≡ events.Value (instance i) y)
-  IsWrittenMark (Prints x) e = (y : ℤ) × (e ≡ events.Print y)
+  IsWrittenMark (Updates i x) e = e ≡ events.Update (instance i) x
+  IsWrittenMark (Sets i x) e = e ≡ events.Set (instance i) x
+  IsWrittenMark (Values i n) e = e ≡ events.Value (instance i) n
+  IsWrittenMark (Prints x) e = e ≡ events.Print x
 
   abbrev pub IsWrittenEvent : Event → numbers.Event → Type 0
-  IsWrittenEvent (Reads c v) e = (y : ℤ) × (e ≡ events.Read (cell c) y)
-  IsWrittenEvent (Writes c v) e = (y : ℤ) × (e ≡ events.Write (cell c) y)
+  IsWrittenEvent (Reads c v) e = e ≡ events.Read (cell c) v
+  IsWrittenEvent (Writes c v) e = e ≡ events.Write (cell c) v
   IsWrittenEvent Syncs e = e ≡ events.Sync
   IsWrittenEvent (Ends v gone) e = e ≡ events.End
   IsWrittenEvent (Passes m) e = IsWrittenMark m e
@@ -82,7 +82,7 @@ module _ (cell : Cell → ℕ) (instance : Instance → numbered.Instance) where
   IsWritten (Invokes Calls w) e = (f : ℕ) × (e ≡ events.Call f)
   IsWritten (Invokes Spawns w) e = (f : ℕ) × (e ≡ events.Spawn f)
 
-  -- the list of events is the nested run's by numbers
+  -- the list of events is the nested run's by numbers, with its values
   abbrev pub AreWritten : {W : Type 0} → List (Deed W) → List numbers.Event → Type 0
   AreWritten [] [] = Unit {0}
   AreWritten (d ∷ ds) (e ∷ es) = IsWritten d e × AreWritten ds es

@@ -18,6 +18,7 @@ pub mod Standing
 pub mod Stores
 pub mod Ticking
 pub mod Used
+pub mod Views
 pub mod Weights
 pub mod Worded
 pub mod Wordy

@@ -112,14 +112,14 @@ module _ (p : Source) (whole : serial.Run) where
       right = ap m.store.cells (sym (cell_is x)) ∙ sym (same.cells (cell_seen w x) ((h.own there.0).cells x there.1));
       view_right = tt;
       same = same;
-      written = (m.store.cells (cell_at fr x), ap (λ c. events.Read c (m.store.cells (cell_at fr x))) (sym (cell_is x)));
+      written = ap (λ c. events.Read c (m.store.cells (cell_at fr x))) (sym (cell_is x));
       has = tt;
     }
     act_follows (asks.Write x v) there inner word = record {
       right = tt;
       view_right = tt;
       same = same_put p whole memory views m.store (cell_seen w x) (cell_at fr x) v ((h.own there.0).cells x there.1) (cell_is x) same;
-      written = (v, ap (λ c. events.Write c v) (sym (cell_is x)));
+      written = ap (λ c. events.Write c v) (sym (cell_is x));
       has = tt;
     }
     act_follows (asks.Create x) there inner word =
@@ -143,7 +143,7 @@ module _ (p : Source) (whole : serial.Run) where
               (ap (λ k. (structure_of k).combine (value_of x.kind (views (i x.kind))) ((structure_of k).single v)) (n x.kind).1
               ∙ ap (λ u. (structure_of x.kind).combine u ((structure_of x.kind).single v)) (view_at memory views m.store i x.kind (reducer_at fr x) has n same))
               same;
-          written = (v, ap (λ j. events.Update j v) (sym (n x.kind).0));
+          written = ap (λ j. events.Update j v) (sym (n x.kind).0);
           has = has;
         }
     act_follows (asks.Set x v) there inner word =
@@ -156,7 +156,7 @@ module _ (p : Source) (whole : serial.Run) where
           same = same_put_view p whole memory views (λ d u. (structure_of (kind_of d)).combine u ((structure_of (kind_of d)).single v)) m.store i x.kind (reducer_at fr x) ((structure_of x.kind).single v) has n
               (ap (λ k. (structure_of k).combine ((structure_of x.kind).unit) ((structure_of k).single v)) (n x.kind).1 ∙ set_alone x.kind v word)
               same;
-          written = (v, ap (λ j. events.Set j v) (sym (n x.kind).0));
+          written = ap (λ j. events.Set j v) (sym (n x.kind).0);
           has = has;
         }
     act_follows (asks.Value x) there inner word =
@@ -169,10 +169,10 @@ module _ (p : Source) (whole : serial.Run) where
               ap (structure_of x.kind).number (sym (view_at memory views m.store i x.kind (reducer_at fr x) has n same))
               ∙ ap (λ k. (structure_of k).number (value_of k (views (i x.kind)))) (sym (n x.kind).1);
           same = same;
-          written = (number_at x.kind (reducer_at fr x) m.store, ap (λ j. events.Value j (number_at x.kind (reducer_at fr x) m.store)) (sym (n x.kind).0));
+          written = ap (λ j. events.Value j (number_at x.kind (reducer_at fr x) m.store)) (sym (n x.kind).0);
           has = has;
         }
-    act_follows (asks.Print v) there inner word = record { right = tt; view_right = tt; same = same_print p whole memory views m.store v same; written = (v, refl); has = tt }
+    act_follows (asks.Print v) there inner word = record { right = tt; view_right = tt; same = same_print p whole memory views m.store v same; written = refl; has = tt }
     act_follows (asks.Invoke how callee) there inner word = absurd inner
     act_follows asks.Resume there inner word = record { right = tt; view_right = tt; same = same; written = (fr.number, refl); has = tt }
     act_follows asks.Sync there inner word = record { right = tt; view_right = tt; same = same; written = refl; has = tt }
@@ -182,7 +182,7 @@ module _ (p : Source) (whole : serial.Run) where
           right = tt;
           view_right = tt;
           same = result_put result.0 v result.1 result.2;
-          written = (v, result_event result.0 v result.1);
+          written = result_event result.0 v result.1;
           has = tt;
         }
     act_follows (asks.End v) there inner word = absurd inner

@@ -55,8 +55,8 @@ module _ (p : Source) (whole : serial.Run) (i : Instance) where
 
   -- what an event adds to what was created
   event_adds : (e : Event) (n : numbers.Event) (made : List numbered.Instance) → IsWrittenEvent (cell_number p whole) N e n → EventHas p whole e → HasInstance p whole i → AmongThen made n → Among (N i) made ⊎ IsReducerRead i e
-  event_adds (Reads c v) n made (y, e) has here a = inl (subst (AmongThen made) e a)
-  event_adds (Writes c v) n made (y, e) has here a = inl (subst (AmongThen made) e a)
+  event_adds (Reads c v) n made e has here a = inl (subst (AmongThen made) e a)
+  event_adds (Writes c v) n made e has here a = inl (subst (AmongThen made) e a)
   event_adds Syncs n made e has here a = inl (subst (AmongThen made) e a)
   event_adds (Ends v gone) n made e has here a = inl (subst (AmongThen made) e a)
   event_adds (Passes Begins) n made (f, e) has here a = inl (subst (AmongThen made) e a)
@@ -66,10 +66,10 @@ module _ (p : Source) (whole : serial.Run) (i : Instance) where
       by : (N j ≡ N i) ⊎ Among (N i) made → Among (N i) made ⊎ (j ≡ i)
       by (inl same) = inr (one_instance i j here has same)
       by (inr a) = inl a
-  event_adds (Passes (Updates j x)) n made (y, e) has here a = inl (subst (AmongThen made) e a)
-  event_adds (Passes (Sets j x)) n made (y, e) has here a = inl (subst (AmongThen made) e a)
-  event_adds (Passes (Values j x)) n made (y, e) has here a = inl (subst (AmongThen made) e a)
-  event_adds (Passes (Prints x)) n made (y, e) has here a = inl (subst (AmongThen made) e a)
+  event_adds (Passes (Updates j x)) n made e has here a = inl (subst (AmongThen made) e a)
+  event_adds (Passes (Sets j x)) n made e has here a = inl (subst (AmongThen made) e a)
+  event_adds (Passes (Values j x)) n made e has here a = inl (subst (AmongThen made) e a)
+  event_adds (Passes (Prints x)) n made e has here a = inl (subst (AmongThen made) e a)
 
   -- an update is of an instance that was created
   update_made : (name : _) (place : _) (kind : _) → i ≡ Reducer name place kind → (e : Event) (n : numbers.Event) (made : List numbered.Instance) → IsWrittenEvent (cell_number p whole) N e n → EventHas p whole e → IsCreated (deed_of n) made → IsUpdate i e → HasInstance p whole i × Among (N i) made
@@ -80,7 +80,7 @@ module _ (p : Source) (whole : serial.Run) (i : Instance) where
   update_made name place kind is (Passes Begins) n made w has h u = absurd u
   update_made name place kind is (Passes Resumes) n made w has h u = absurd u
   update_made name place kind is (Passes (Creates j)) n made w has h u = absurd u
-  update_made name place kind is (Passes (Updates j x)) n made (y, e) has h u =
+  update_made name place kind is (Passes (Updates j x)) n made e has h u =
       (subst (HasInstance p whole) u has, subst (λ j. Among (N j) made) u (subst (λ n. IsCreated (deed_of n) made) e h))
   update_made name place kind is (Passes (Sets j x)) n made w has h u = absurd u
   update_made name place kind is (Passes (Values j x)) n made w has h u = absurd u

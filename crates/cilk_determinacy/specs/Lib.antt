@@ -6,3 +6,4 @@ pub mod Theorem
 pub mod Worked
 pub mod Words
 pub mod Settled
+pub mod Views

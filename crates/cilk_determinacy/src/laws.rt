@@ -5,6 +5,7 @@ ghost use Rattle.cilk_program.specs.Syntax.{Source};
 ghost use Rattle.cilk_determinacy.specs.Theorem.{TicksAddUp, SerialRunsByNames, SerialRunsAreNumbered, CountsAsSerial, OpensAsCut, StepsKeepCuts, IsDeterminate};
 ghost use Rattle.cilk_determinacy.specs.Words.{SetsWords, IsDeterminateInWords};
 ghost use Rattle.cilk_determinacy.specs.Worked.{GetIsFree, GetLeaves, LentIsFree, LentLeaves, ChangedIsFree, ChangedLeaves, AgainIsFree, AgainLeaves};
+ghost use Rattle.cilk_determinacy.specs.Views.{AreMultiplied};
 
 /// With more ticks a frame asks the same, unless they had run out, with as many more left. After one more answer it has no more ticks
 /// left. So each frame's ticks can be counted by themselves, as the free machine counts them.
@@ -73,4 +74,11 @@ pub fn worked_programs()
     ensures changed_leaves { ChangedLeaves }
     ensures again { AgainIsFree }
     ensures again_leaves { AgainLeaves }
+{}
+
+/// The free machine's views are functions, and this ties them to the language's: its empty view is the unit of the monoid, two views that
+/// follow one another are their product by `combine`, and creation, update, set, print and retirement leave the views that they
+/// leave in the monoid. The number that is read is the monoid's. So a sum's view 5 is the function that adds 5.
+pub fn views_are_multiplied()
+    ensures { AreMultiplied }
 {}
