@@ -14,8 +14,18 @@ ghost use Rattle.cilk_runs.specs.Views.{IsReducerRead};
 ghost use Rattle.cilk_runs.specs.Machine.{Frames};
 ghost use Rattle.cilk_runs.specs.Cuts.{IsCut};
 ghost use Rattle.cilk_runs.specs.Positions.{made_at, IsClosedBefore};
+ghost use Rattle.cilk_runs.specs.Progress.{HasProgress};
 ghost use Rattle.cilk_runs.specs.Theorem.{IsSerialRun, HasNoRaces, IsOpened, IsKept, IsDeterminate, follows};
 ghost use Rattle.cilk_runs.specs.Worked.{EarlyReadRaces, TwoReadsDoNotRace, TwoWritesRace, BothReadRuns, BothReadIsDeterminate, EarlyValueRaces};
+
+/// The free machine makes the steps that it is to make, in each state that nothing has stopped. A frame that asks for something makes
+/// it as its next event where it stands at its beginning, after an event, after a child that has ended, or after a spawn beside
+/// which the continuation was stolen, and at a sync once each child spawned in that block has ended; it waits in no other case. A
+/// fault or a total over its limit stops the run. A continuation that is neither resumed nor stolen can be stolen, whether
+/// the child has ended or not. And there is a state to begin with.
+pub fn machine_has_progress<W, V>()
+    ensures { (M : Instance → Monoid V) (next : W → List (Deed W) → Option (Ask W)) (C : Costs W) → HasProgress W V M (follows next) C }
+{}
 
 /// The opening state of the free machine is a consistent cut of any run.
 pub fn opening_is_consistent<W, V>()
