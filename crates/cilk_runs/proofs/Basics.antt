@@ -1,5 +1,5 @@
 -- Names, cells and lists of deeds.
-use Rattle.std.proofs.Common.{◌≡◌, true, List, [], ◌∷◌, ◌++◌, refl, ap, arith, ◌⊎◌, inl, inr, eq-eqb, eqb-true}
+use Rattle.std.proofs.Common.{◌≡◌, true, List, [], ◌∷◌, ◌++◌, refl, ap, ap₂, arith, ◌⊎◌, inl, inr, eq-eqb, eqb-true}
 use Rattle.std.specs.Prelude.{◌&&◌, nat_eq}
 use Rattle.std.proofs.lemmas.Bool.{and_parts, and_from, false≢true}
 use Rattle.cilk_monoid.specs.declared.kind.MonoidKind.{MonoidKind}
@@ -126,3 +126,17 @@ more_sync (Does Syncs ∷ ds) d h = tt
 more_sync (Does (Ends val gone) ∷ ds) d h = more_sync ds d h
 more_sync (Does (Passes m) ∷ ds) d h = more_sync ds d h
 more_sync (Invokes k w ∷ ds) d h = more_sync ds d h
+
+pub nil_snoc : {W : Type 0} (before : List (Deed W)) (d : Deed W) {X : Type 0} → [] ≡ before ++ d ∷ [] → X
+nil_snoc [] d q = absurd (cc)
+nil_snoc (e ∷ before) d q = absurd (cc)
+
+pub snoc_one : {W : Type 0} (xs ys : List (Deed W)) (x y : Deed W) → xs ++ x ∷ [] ≡ ys ++ y ∷ [] → (xs ≡ ys) × (x ≡ y)
+snoc_one [] [] x y q = (refl, cc)
+snoc_one [] (b ∷ ys) x y q = let z : [] ≡ ys ++ y ∷ [] = cc in nil_snoc ys y z
+snoc_one (a ∷ xs) [] x y q = let z : [] ≡ xs ++ x ∷ [] = cc in nil_snoc xs x z
+snoc_one (a ∷ xs) (b ∷ ys) x y q =
+    let h : a ≡ b = cc in
+    let z : xs ++ x ∷ [] ≡ ys ++ y ∷ [] = cc in
+    let ih = snoc_one xs ys x y z in
+    (ap₂ (λ c l. c ∷ l) h ih.0, ih.1)

@@ -8,7 +8,7 @@ use Rattle.cilk_runs.specs.Views.{IsResumed}
 use Rattle.cilk_runs.specs.Machine.{Frame, Frames, deeds_at, started, put}
 use Rattle.cilk_runs.specs.Serial.{value_after}
 use Rattle.cilk_runs.specs.Cuts.{below, IsFull, IsPast, NoneFrom, IsCut, NoneStolen, WhenResumed, block_after, own_after, Lies}
-use Rattle.cilk_runs.proofs.Basics.{last_sync}
+use Rattle.cilk_runs.proofs.Basics.{last_sync, nil_snoc}
 use Rattle.cilk_runs.proofs.Front.{Front, here_act, here_child, past_act, past_child, inside, full_stuck}
 use Rattle.cilk_runs.proofs.Find.{counts_from}
 use Rattle.cilk_runs.proofs.Grows.{From, front_from}
@@ -19,10 +19,6 @@ module _ {W : Type 0} where
   abbrev pub At : ℕ → ℕ → List (Deed W) → (ℕ → Frames W) → Name → Type 0
   At K k ds kids [] = (bef : List (Deed W)) × (v : W) × (ds ≡ bef ++ Invokes Spawns v ∷ []) × (K ≡ k + started bef)
   At K k ds kids (j ∷ m) = (k ≤ j) × (f : Frame W) × (bef : List (Deed W)) × (v : W) × (kids j m ≡ Some f) × (f.deeds ≡ bef ++ Invokes Spawns v ∷ []) × (K ≡ suc (started bef))
-
-  nil_snoc : (bef : List (Deed W)) (d : Deed W) {X : Type 0} → [] ≡ bef ++ d ∷ [] → X
-  nil_snoc [] d q = absurd (cc)
-  nil_snoc (e ∷ bef) d q = absurd (cc)
 
   at_none : (K k : ℕ) (kids : ℕ → Frames W) (n : Name) {X : Type 0} → NoneFrom k kids → At K k [] kids n → X
   at_none K k kids [] none (bef, v, q, e) = nil_snoc bef _ q

@@ -2,8 +2,9 @@
 --   IsDetermined            shown of its Next (follows_determined does it for a function of the history);
 --   opening_ok              (Kept) the opening state is consistent, whatever the run;
 --   race_free_kept          one step, from races over all pairs of positions: for machines and schedulers;
+--   race_free_agrees        what holds of each consistent state, likewise;
 --   race_free_determinate   all lists of steps, likewise;
---   kept, determinate       the same from the nested forms RaceFree and ViewFree, which no_race (Races) and no_view_race (Peers) give;
+--   kept, agrees, determinate   the same from the nested forms RaceFree and ViewFree, which no_race (Races) and no_view_race (Peers) give;
 --   room_at, never_stops    (Kept) the totals of one consistent state;
 --   listed, unread          (Listed) HasNoRace from an empty list of pairs, and HasNoViewRace of a reducer that nobody reads.
 use Rattle.std.proofs.Common.{◌≡◌, ◌<◌, ◌≤◌, ℤ, List, [], Option, Some, sym, ◌∙◌, arith}
@@ -15,7 +16,7 @@ use Rattle.cilk_runs.specs.Machine.{State, deeds_at}
 use Rattle.cilk_runs.specs.Monoids.{Monoid, IsLawful, unit_of}
 use Rattle.cilk_runs.specs.Views.{ViewFree}
 use Rattle.cilk_runs.specs.Races.{RaceFree}
-use Rattle.cilk_runs.specs.Theorem.{IsSerialRun, HasNoRaces, IsKept, IsDeterminate, follows}
+use Rattle.cilk_runs.specs.Theorem.{IsSerialRun, HasNoRaces, IsKept, CutsAgree, IsDeterminate, follows}
 use Rattle.cilk_runs.proofs.Races.{no_race}
 use Rattle.cilk_runs.proofs.Peers.{no_view_race}
 use Rattle.cilk_runs.proofs.Spent.{spent_le, spent_full, all_made}
@@ -35,23 +36,27 @@ unspent_at C w t opening s ok partly =
     let le : made ≤ all = spent_le C EventTotal w [] t 1 ds (below s.frames) in
     omega (arith, ok.totals EventTotal, le, differ)
 
+-- what holds of each consistent cut
+pub agrees : (W V : Type 0) (M : Instance → Monoid V) (Next : W → List (Deed W) → Ask W → Type 0) (C : Costs W) → ((i : Instance) → IsLawful (M i)) → IsDetermined W Next → (w : W) (t : Run W) (opening : Cell → ℤ) → IsSerialRun W V M Next C w t opening → RaceFree t → ((i : Instance) → ViewFree (M i) i t (unit_of M i)) → CutsAgree W V M Next C w t opening
+agrees W V M Next C law determined w t opening run free apart s ok = record {
+  consistent = ok;
+  strands = λ n. begins n t w s.frames ok.root ok.cut;
+  at_most_once = λ n. omega (arith, ok.joins n, joined_le s.frames n);
+  room = λ total n f a m. room_at W V M Next C w t opening determined run.behaves run.closed run.serial free law run.resumed run.views apart run.within s n ok total f a m;
+  totals = λ total. omega (arith, ok.totals total, spent_le C total w [] t 1 (deeds_at (s.frames [])) (below s.frames));
+  spent = λ full total. omega (arith, ok.totals total, spent_full C total w [] t 1 (deeds_at (s.frames [])) (below s.frames) full);
+  unspent = unspent_at C w t opening s ok;
+  deeds = λ h. (ended_ok W V M Next C w t opening determined run.behaves run.closed run.serial free law run.resumed run.views apart run.within s ok h).3;
+  complete = λ h. (ended_ok W V M Next C w t opening determined run.behaves run.closed run.serial free law run.resumed run.views apart run.within s ok h).0;
+  outcome = λ h. (ended_ok W V M Next C w t opening determined run.behaves run.closed run.serial free law run.resumed run.views apart run.within s ok h).1;
+  once = λ h n. ok.joins n ∙ full_joined n t w s.frames ok.root (ended_ok W V M Next C w t opening determined run.behaves run.closed run.serial free law run.resumed run.views apart run.within s ok h).0 ok.cut run.closed;
+  reducers = λ h. (ended_ok W V M Next C w t opening determined run.behaves run.closed run.serial free law run.resumed run.views apart run.within s ok h).2;
+}
+
 pub determinate : (W V : Type 0) (M : Instance → Monoid V) (Next : W → List (Deed W) → Ask W → Type 0) (C : Costs W) → ((i : Instance) → IsLawful (M i)) → IsDetermined W Next → (w : W) (t : Run W) (opening : Cell → ℤ) → IsSerialRun W V M Next C w t opening → RaceFree t → ((i : Instance) → ViewFree (M i) i t (unit_of M i)) → IsDeterminate W V M Next C w t opening
 determinate W V M Next C law determined w t opening run free apart ns s s' o steps =
-    let ok = steps_keep W V M Next C w t opening determined run.behaves run.closed run.serial free law run.resumed run.views apart run.within ns s s' (opening_ok W V M Next C w t opening s o) steps in
-    record {
-      consistent = ok;
-      strands = λ n. begins n t w s'.frames ok.root ok.cut;
-      at_most_once = λ n. omega (arith, ok.joins n, joined_le s'.frames n);
-      room = λ total n f a m. room_at W V M Next C w t opening determined run.behaves run.closed run.serial free law run.resumed run.views apart run.within s' n ok total f a m;
-      totals = λ total. omega (arith, ok.totals total, spent_le C total w [] t 1 (deeds_at (s'.frames [])) (below s'.frames));
-      spent = λ full total. omega (arith, ok.totals total, spent_full C total w [] t 1 (deeds_at (s'.frames [])) (below s'.frames) full);
-      unspent = unspent_at C w t opening s' ok;
-      deeds = λ h. (ended_ok W V M Next C w t opening determined run.behaves run.closed run.serial free law run.resumed run.views apart run.within s' ok h).3;
-      complete = λ h. (ended_ok W V M Next C w t opening determined run.behaves run.closed run.serial free law run.resumed run.views apart run.within s' ok h).0;
-      outcome = λ h. (ended_ok W V M Next C w t opening determined run.behaves run.closed run.serial free law run.resumed run.views apart run.within s' ok h).1;
-      once = λ h n. ok.joins n ∙ full_joined n t w s'.frames ok.root (ended_ok W V M Next C w t opening determined run.behaves run.closed run.serial free law run.resumed run.views apart run.within s' ok h).0 ok.cut run.closed;
-      reducers = λ h. (ended_ok W V M Next C w t opening determined run.behaves run.closed run.serial free law run.resumed run.views apart run.within s' ok h).2;
-    }
+    agrees W V M Next C law determined w t opening run free apart s'
+    (steps_keep W V M Next C w t opening determined run.behaves run.closed run.serial free law run.resumed run.views apart run.within ns s s' (opening_ok W V M Next C w t opening s o) steps)
 
 module _ (W V : Type 0) (M : Instance → Monoid V) (Next : W → List (Deed W) → Ask W → Type 0) (C : Costs W) (law : (i : Instance) → IsLawful (M i)) (determined : IsDetermined W Next) (w : W) (t : Run W) (opening : Cell → ℤ) (run : IsSerialRun W V M Next C w t opening) (free : HasNoRaces t) where
   apart_views : (i : Instance) → ViewFree (M i) i t (unit_of M i)
@@ -59,6 +64,9 @@ module _ (W V : Type 0) (M : Instance → Monoid V) (Next : W → List (Deed W) 
 
   pub race_free_kept : IsKept W V M Next C w t opening
   race_free_kept = kept W V M Next C law determined w t opening run (no_race t free.0) apart_views
+
+  pub race_free_agrees : CutsAgree W V M Next C w t opening
+  race_free_agrees = agrees W V M Next C law determined w t opening run (no_race t free.0) apart_views
 
   pub race_free_determinate : IsDeterminate W V M Next C w t opening
   race_free_determinate = determinate W V M Next C law determined w t opening run (no_race t free.0) apart_views

@@ -22,7 +22,7 @@ module _ (W V : Type 0) (M : Instance → Monoid V) (Next : W → List (Deed W) 
     pub inhabited : HasChildren (tree t)
     pub within : (total : Total) → whole C w t total ≤ C.limit total
 
-  -- what holds of a state that steps lead to
+  -- what holds of a consistent cut, and so of each state that steps lead to
   pub record Agrees (w : W) (t : Run W) (opening : Cell → ℤ) (s : State W V) : Type 0 where
     pub consistent : IsConsistent M C w t opening s
     -- each frame is one of the serial run's, and what it has done, with the answers, begins what it does there
@@ -47,6 +47,10 @@ module _ (W V : Type 0) (M : Instance → Monoid V) (Next : W → List (Deed W) 
   -- each single step leads from a consistent cut to a consistent cut
   abbrev pub IsKept : W → Run W → (Cell → ℤ) → Type 0
   IsKept w t opening = (s s' : State W V) (n : Name) → IsConsistent M C w t opening s → Step W V M Next C s n s' → IsConsistent M C w t opening s'
+
+  -- this holds of each consistent cut, however it came about
+  abbrev pub CutsAgree : W → Run W → (Cell → ℤ) → Type 0
+  CutsAgree w t opening = (s : State W V) → IsConsistent M C w t opening s → Agrees w t opening s
 
   -- whatever steps are made from the opening state, this holds then
   abbrev pub IsDeterminate : W → Run W → (Cell → ℤ) → Type 0

@@ -14,8 +14,18 @@ ghost use Rattle.cilk_runs.specs.Views.{IsReducerRead};
 ghost use Rattle.cilk_runs.specs.Machine.{Frames};
 ghost use Rattle.cilk_runs.specs.Cuts.{IsCut};
 ghost use Rattle.cilk_runs.specs.Positions.{made_at, IsClosedBefore};
-ghost use Rattle.cilk_runs.specs.Theorem.{IsSerialRun, HasNoRaces, IsOpened, IsKept, IsDeterminate, follows};
+ghost use Rattle.cilk_runs.specs.Progress.{HasProgress};
+ghost use Rattle.cilk_runs.specs.Theorem.{IsSerialRun, HasNoRaces, IsOpened, IsKept, CutsAgree, IsDeterminate, follows};
 ghost use Rattle.cilk_runs.specs.Worked.{EarlyReadRaces, TwoReadsDoNotRace, TwoWritesRace, BothReadRuns, BothReadIsDeterminate, EarlyValueRaces};
+
+/// The free machine makes the steps that it is to make, in each state that nothing has stopped. A frame that asks for something makes
+/// it as its next event where it stands at its beginning, after an event, after a child that has ended, or after a spawn beside
+/// which the continuation was stolen, and at a sync once each child spawned in that block has ended; it waits in no other case. A
+/// fault or a total over its limit stops the run. A continuation that is neither resumed nor stolen can be stolen, whether
+/// the child has ended or not. And there is a state to begin with.
+pub fn machine_has_progress<W, V>()
+    ensures { (M : Instance → Monoid V) (next : W → List (Deed W) → Option (Ask W)) (C : Costs W) → HasProgress W V M (follows next) C }
+{}
 
 /// The opening state of the free machine is a consistent cut of any run.
 pub fn opening_is_consistent<W, V>()
@@ -25,6 +35,12 @@ pub fn opening_is_consistent<W, V>()
 /// Where the serial run has no race, each single step of the free machine leads from a consistent cut of it to a consistent cut.
 pub fn step_is_consistent<W, V>()
     ensures { (M : Instance → Monoid V) (next : W → List (Deed W) → Option (Ask W)) (C : Costs W) (w : W) (t : Run W) (opening : Cell → ℤ) → ((i : Instance) → IsLawful (M i)) → IsSerialRun W V M (follows next) C w t opening → HasNoRaces t → IsKept W V M (follows next) C w t opening }
+{}
+
+/// Where the serial run has no race, each consistent cut of it is as that run, as `determinate` says of the states that steps
+/// lead to: a scheduler that goes step by step ends here.
+pub fn cuts_agree<W, V>()
+    ensures { (M : Instance → Monoid V) (next : W → List (Deed W) → Option (Ask W)) (C : Costs W) (w : W) (t : Run W) (opening : Cell → ℤ) → ((i : Instance) → IsLawful (M i)) → IsSerialRun W V M (follows next) C w t opening → HasNoRaces t → CutsAgree W V M (follows next) C w t opening }
 {}
 
 /// Where the serial run of a program has no determinacy race and no view-read race, each state that steps of the free machine lead to
