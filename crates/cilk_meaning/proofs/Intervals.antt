@@ -1,9 +1,6 @@
 -- How many turns lie between two bounds.
-use Rattle.std.proofs.Common.{◌≡◌, ℕ, zero, suc, ◌+◌, ◌-◌, ◌/◌, ◌<◌, ◌≤◌, ◌+ℤ◌, int_div, int_eq, ℤ, pos, negsuc, ◌-ℤ◌, ◌<ℤ◌, ◌≤ℤ◌, int_lt, true, false, refl, sym, ap, ◌∙◌, arith, eqb-true, true≢false}
+use Rattle.std.proofs.Common.{◌≡◌, ℕ, zero, suc, ◌+◌, ◌-◌, ◌/◌, ◌<◌, ◌≤◌, ◌+ℤ◌, int_div, int_eq, ℤ, pos, negsuc, ◌-ℤ◌, ◌<ℤ◌, ◌≤ℤ◌, int_lt, true, false, refl, sym, ap, ◌∙◌, arith, true≢false}
 use Rattle.std.proofs.lemmas.Int.{ints}
-use Rattle.cilk_program.specs.declared.program.Body.{Body}
-use Rattle.cilk_program.specs.declared.program.Body.TheVariants as bodies
-use Rattle.cilk_program.specs.WellNamed.{same_body}
 use Rattle.std.proofs.lemmas.Bool.Decides.{Decides-int_eq}
 use Rattle.cilk_program.specs.Behaviour.{middle}
 use Rattle.cilk_program.specs.Elision.{turns_between}
@@ -69,9 +66,3 @@ several low high (negsuc n) e h k = absurd (omega (arith, ints))
 
 pub halves : (low high : ℤ) → low <ℤ high → int_eq (high -ℤ low) (pos 1) ≡ false → Halves low high
 halves low high h k = several low high (high -ℤ low) refl h k
-
-pub within_is : (a b : Body) → same_body a b ≡ true → a ≡ b
-within_is (bodies.Function n) (bodies.Function k) h = ap bodies.Function (eqb-true n k h)
-within_is (bodies.Function n) (bodies.Loop k) h = absurd (true≢false (sym h))
-within_is (bodies.Loop n) (bodies.Function k) h = absurd (true≢false (sym h))
-within_is (bodies.Loop n) (bodies.Loop k) h = ap bodies.Loop (eqb-true n k h)

@@ -22,11 +22,12 @@ use Rattle.cilk_program.specs.SerialRun.{Run, Memory, next_frame, begun, counted
 use Rattle.cilk_meaning.proofs.Ties.{since_itself, same_begun}
 use Rattle.cilk_meaning.proofs.Sights.{Sees, sees_since}
 use Rattle.cilk_meaning.proofs.Moments.{Site, SameMemory, write_fits, sees_now}
+use Rattle.cilk_meaning.proofs.Asked.{same_body_is}
 use Rattle.cilk_meaning.proofs.Calls.{loop_body_named}
 use Rattle.cilk_meaning.proofs.Turns as turns
 use Rattle.cilk_meaning.proofs.Roots.{all_elided}
 use Rattle.cilk_meaning.proofs.Elisions.{one_turns}
-use Rattle.cilk_meaning.proofs.Intervals.{turns_none, turns_some, turns_one, halves, below_from, within_is}
+use Rattle.cilk_meaning.proofs.Intervals.{turns_none, turns_some, turns_one, halves, below_from}
 use Rattle.cilk_meaning.proofs.Budgets.{Rich, less, rich_as, Quiet, asked_rich, nodes}
 use Rattle.cilk_meaning.proofs.Costs.{After, value_at, fails_at, FrameAfter, frame_quiet, child_rich, starts_rich, plainly_closes}
 use Rattle.cilk_meaning.proofs.Spending.{Standing, site, Takes, rich_begun, valued_rich}
@@ -100,8 +101,8 @@ module _ (p : Source) (wn : IsTrue (is_well_named p)) (inputs : List ℤ) where
         let k1 : ℕ = t.body.cost + (2 + x) in
         let n = starts_rich frame m1 (begun p (callees.Loop l) (counted m')) left (suc k1) u es (omega arith) (omega arith) (all_elided p wn inputs u) d
         (record { store = same_begun same.store; cells = ap₂ (λ c b. c + (if b then body.cells else 0)) same.cells (sym one) }) (since_itself tied m.reducers) in
-        let n' : Rich frame m1 (suc k1) (turns.Turn p wn inputs tied m m' s scope left l same sees below end one) =
-        rich_as (λ a t. ap (λ b. if b then turns.Turn p wn inputs tied m m' s scope left l same sees below end one a t else turns.Parts p wn inputs tied m m' s scope left l same sees below end one a t) one) n in
+        let n' : Rich frame m1 (suc k1) (turns.Turn p wn inputs tied m m' s scope left l same sees below end) =
+        rich_as (λ a t. ap (λ b. if b then turns.Turn p wn inputs tied m m' s scope left l same sees below end a t else turns.Parts p wn inputs tied m m' s scope left l same sees below end a t) one) n in
         let n'' = asked_rich (asks.Write (places.Local 0 0) l.low) (put (m.cells + 0) l.low m.store) (pos 0) (λ _ a t. all_do inputs body.body a t >>= finishes false) n' (write_fits n'.now (places.Local 0 0) l.low) in
         let n3 = subst (λ c. Rich frame (record m1 { store = put c l.low m.store }) k1 (λ a t. all_do inputs body.body a t >>= finishes false)) (add-zero m.cells) n'' in
         plainly_closes frame r x (t.body.run standing (loop_body_named p wn l.number) (2 + x) (finishes false) n3)
@@ -164,7 +165,7 @@ module _ (p : Source) (wn : IsTrue (is_well_named p)) (inputs : List ℤ) where
         let body = loop_at p l.number in
         let n = starts_rich whole m (begun p (callees.Loop l) (counted m')) left k u es b b' (all_elided p wn inputs u) d
         (record { store = same_begun same.store; cells = sym (add-zero m.cells) ∙ ap₂ (λ c b. c + (if b then body.cells else 0)) same.cells (sym many) }) (since_itself tied m.reducers) in
-        rich_as (λ a t. ap (λ b. if b then turns.Turn' p wn inputs tied m m' s scope left l same sees below end many a t else turns.Parts' p wn inputs tied m m' s scope left l same sees below end many a t) many) n
+        rich_as (λ a t. ap (λ b. if b then turns.Turn p wn inputs tied m m' s scope left l same sees below end a t else turns.Parts p wn inputs tied m m' s scope left l same sees below end a t) many) n
 
     many_enough : (r : Came) (c : ℕ) → Split s l.number l.low (turns_between l.low mid) (turns_between mid l.high) m r c → (x : ℕ) (u : Run) (es : List Event) → c + x ≤ 7 + left → c + x ≤ 7 + (m'.room - 1)
         → Serial p inputs (next_frame p scope m' (callees.Loop l)) left [] (begun p (callees.Loop l) (counted m')) u es end → FrameAfter x end
@@ -206,7 +207,7 @@ module _ (p : Source) (wn : IsTrue (is_well_named p)) (inputs : List ℤ) where
   loop_there e e' number b h =
       let t = and_parts (expression_is_named p b e && expression_is_named p b e') (nat_lt number (length p.loops) && same_body (loop_at p number).within b) h in
       let t' = and_parts (expression_is_named p b e) (expression_is_named p b e') t.0 in
-      (t'.0, t'.1, within_is (loop_at p number).within b (and_parts (nat_lt number (length p.loops)) (same_body (loop_at p number).within b) t.1).1)
+      (t'.0, t'.1, same_body_is (loop_at p number).within b (and_parts (nat_lt number (length p.loops)) (same_body (loop_at p number).within b) t.1).1)
 
   module _ {s : Sight} {m : elision.Memory} (e e' : Expression) (number : ℕ) where
     pub low_fails_takes : (f : Fault) → evaluate inputs s m.store e ≡ Fails f → Takes p inputs s m (Faults f) (λ b. IsTrue (statement_is_named p b (ParallelFor e e' number))) (does inputs (ParallelFor e e' number))

@@ -220,7 +220,18 @@ settle : {X : Type 0} (r : ReducerPlace) → X ⊎ AmongDue r [] → X
 settle r (inl a) = a
 settle r (inr a) = absurd a
 
-absurd_step : {X : Type 0} (n : ℕ) → n ≡ 0 → n ≡ 1 → X
+-- the number of a loop's body
+abbrev pub body_loop : Body → ℕ
+body_loop (bodies.Function k) = 0
+body_loop (bodies.Loop k) = k
+
+-- whether a body is a loop's
+abbrev pub is_loop : Body → Type 0
+is_loop (bodies.Function k) = ⊥
+is_loop (bodies.Loop k) = Unit {0}
+
+-- no number is both 0 and 1
+pub absurd_step : {X : Type 0} (n : ℕ) → n ≡ 0 → n ≡ 1 → X
 absurd_step n zero_is one_is = absurd (omega (arith, zero_is, one_is))
 
 -- what a loop's frame sees by its static links
@@ -233,14 +244,6 @@ loop_sees p parent scope n made l own outer (fit, inl (up, same)) (inr one) = ab
 loop_sees p parent scope n made l own outer (fit, inr (up, same)) may =
     subst (λ u. Sees p (loop_at p l.number).within (drop u scope) n made []) (sym up) (of_loop parent outer same)
   where
-    body_loop : Body → ℕ
-    body_loop (bodies.Function k) = 0
-    body_loop (bodies.Loop k) = k
-
-    is_loop : Body → Type 0
-    is_loop (bodies.Function k) = ⊥
-    is_loop (bodies.Loop k) = Unit {0}
-
     of_loop : (parent : Callee) → SeesOuter p parent scope n made → body_of p parent ≡ bodies.Loop l.number → Sees p (loop_at p l.number).within (drop 1 scope) n made []
     of_loop callees.Root outer same = absurd (subst is_loop (sym same) tt)
     of_loop (callees.Function c) outer same = absurd (subst is_loop (sym same) tt)
@@ -290,7 +293,8 @@ child_stands p well fr n made h (callees.Loop l) there may =
       result = λ taken. absurd taken;
     }
 
-none_given : (ks : List MonoidKind) (i : ℕ) (k : MonoidKind) {X : Type 0} → length ks ≡ 0 → IsTrue (is_kind (slice_get ks i) k) → X
+-- among no kinds there is none at a place
+pub none_given : (ks : List MonoidKind) (i : ℕ) (k : MonoidKind) {X : Type 0} → length ks ≡ 0 → IsTrue (is_kind (slice_get ks i) k) → X
 none_given [] i k e h = absurd (false≢true h)
 none_given (j ∷ ks) i k e h = absurd (omega (arith, e))
 

@@ -21,10 +21,11 @@ use Rattle.cilk_program.specs.Behaviour.{Got, Gives, ◌>>=◌, tick, ask, or_fa
 use Rattle.cilk_program.specs.Elision.{Memory, cell_at, reducer_at, Valued, Gives as Worth, Fails, then_value, or_fails, evaluate, evaluate_all, evaluate_index, Came, GoesOn, Returns, Faults, on_value, goes_on, turns_between, Elides, Assigns, Changes, Steps, Prints, Updates, Sets, Ends, EndsPlainly, Syncs, Holds, Skips, IfFails, First, Second, IfElseFails, Ascends, LowFails, HighFails, ElidesEach, NoneLeft, Next, LastOne, ElidesOne, Zeroes, Opens, OpensByCall, ElidesTurns, NoTurns, ElidesCall, ArgumentFails}
 use Rattle.cilk_program.specs.SerialRun.{Ending, Finished, Stopped}
 use Rattle.cilk_types.specs.declared.event.Instance.{Instance}
+use Rattle.cilk_meaning.proofs.Asked.{same_body_is}
 use Rattle.cilk_meaning.proofs.Sights.{Sees}
 use Rattle.cilk_meaning.proofs.Moments.{Site, Now, regroup, called, ChildEnds, Ticked, Tick, NoTick, ticked, AskGoes, Answer, NoRoom, read, write, prints, syncs, updates, sets, sees_now, Comes, On, Back, Broken', Limited, child_goes}
 use Rattle.cilk_meaning.proofs.Values.{ValueGoes, Has, Lacks, Late, or_fault_value, value_goes, values_go, index_goes}
-use Rattle.cilk_meaning.proofs.Intervals.{turns_none, below_from, within_is}
+use Rattle.cilk_meaning.proofs.Intervals.{turns_none, below_from}
 
 pub comes_as : {z : Site} {E E' : Came → Type 0} {bound bound' : ℕ} {g : Flow → List ℤ → ℕ → Got ℤ} → bound ≤ bound' → ((r : Came) → E r → E' r) → Comes z E bound g → Comes z E' bound' g
 comes_as h f (On m e left l n) = On m (f (GoesOn m) e) left (omega arith) n
@@ -205,7 +206,7 @@ module _ (z : Site) where
       let body = loop_at z.p k in
       let t = and_parts (expression_is_named z.p z.body e && expression_is_named z.p z.body e') (nat_lt k (length z.p.loops) && same_body body.within z.body) h in
       let t' = and_parts (expression_is_named z.p z.body e) (expression_is_named z.p z.body e') t.0 in
-      let stands : body.within ≡ z.body = within_is body.within z.body (and_parts (nat_lt k (length z.p.loops)) (same_body body.within z.body) t.1).1 in
+      let stands : body.within ≡ z.body = same_body_is body.within z.body (and_parts (nat_lt k (length z.p.loops)) (same_body body.within z.body) t.1).1 in
       tick_comes E _ left g n (λ left1 h1 n.
       with_value E e t'.0 _ g left h1 n (λ low el left2 h2 n.
       with_value E e' t'.1 _ g left h2 n (λ high eh left3 h3 n.

@@ -82,6 +82,14 @@ module _ (p : Source) (wn : IsTrue (is_well_named p)) (inputs : List ℤ) (tied 
   ended m2 e v left' h (Closes m3 tied' since same' q) = subst (ChildEnds E tied m.reducers left) (sym q) (m2, e, h, (tied', since, record { store = same'.store; cells = same'.cells }))
   ended m2 e v left' h (CutOff q) = subst (ChildEnds E tied m.reducers left) (sym q) (inr tt)
 
+  -- what the frame of one turn does
+  abbrev pub Turn : List ℤ → ℕ → Got ℤ
+  Turn a t = ask (asks.Write (places.Local 0 0) l.low) a t >>= λ _ a t. all_do inputs body.body a t >>= finishes false
+
+  -- what the frame of several turns does
+  abbrev pub Parts : List ℤ → ℕ → Got ℤ
+  Parts a t = invokes Spawn (part l l.low (middle l.low l.high)) a t >>= λ _ a t. invokes Call (part l (middle l.low l.high) l.high) a t >>= finishes false
+
   -- one turn
   module _ (one : int_eq (l.high -ℤ l.low) (pos 1) ≡ true) where
     single : {r : Came} → ElidesTurns p inputs s l.number l.low 1 m r → E r
@@ -95,12 +103,6 @@ module _ (p : Source) (wn : IsTrue (is_well_named p)) (inputs : List ℤ) (tied 
     turn_ends (Back v m2 el left' h n) = ended m2 (single (Turned (Returns v m2) v m2 (OneTurn body refl el) refl NoTurns)) v left' (omega arith) (finish site m2 (Some v) left' n)
     turn_ends (Broken' f el q) = subst (ChildEnds E tied m.reducers left) (sym q) (inl (single (TurnFails f (OneTurn body refl el))))
     turn_ends (Limited f lim q) = subst (ChildEnds E tied m.reducers left) (sym q) (inr lim)
-
-    abbrev pub Turn : List ℤ → ℕ → Got ℤ
-    Turn a t = ask (asks.Write (places.Local 0 0) l.low) a t >>= λ _ a t. all_do inputs body.body a t >>= finishes false
-
-    abbrev pub Parts : List ℤ → ℕ → Got ℤ
-    Parts a t = invokes Spawn (part l l.low (middle l.low l.high)) a t >>= λ _ a t. invokes Call (part l (middle l.low l.high) l.high) a t >>= finishes false
 
     turn_starts : AskGoes site m1 left (frame_gives p inputs (callees.Loop l)) → AskGoes site (turned body l.low m) left (λ a t. all_do inputs body.body a t >>= finishes false)
     turn_starts x = ask_then x (λ n.
@@ -157,13 +159,7 @@ module _ (p : Source) (wn : IsTrue (is_well_named p)) (inputs : List ℤ) (tied 
         subst (ChildEnds E tied m.reducers left) (sym q) (inl (subst (λ k. ElidesTurns p inputs s l.number l.low k m (Faults f)) k.sum (turns_fail (turns_between mid l.high) f e.1 refl)))
     first_ends (Limited f lim q) = subst (ChildEnds E tied m.reducers left) (sym q) (inr lim)
 
-    abbrev pub Turn' : List ℤ → ℕ → Got ℤ
-    Turn' a t = ask (asks.Write (places.Local 0 0) l.low) a t >>= λ _ a t. all_do inputs body.body a t >>= finishes false
-
-    abbrev pub Parts' : List ℤ → ℕ → Got ℤ
-    Parts' a t = invokes Spawn (callees.Loop first) a t >>= λ _ a t. invokes Call (callees.Loop second) a t >>= finishes false
-
-    halves_go : Now site m left Parts' → ChildEnds E tied m.reducers left end
+    halves_go : Now site m left Parts → ChildEnds E tied m.reducers left end
     halves_go n =
         let k = halves l.low l.high below many in
         first_ends (child_goes (λ r. Stays r × First r) Spawn (callees.Loop first) (λ _ a t. invokes Call (callees.Loop second) a t >>= finishes false) n
@@ -175,7 +171,7 @@ module _ (p : Source) (wn : IsTrue (is_well_named p)) (inputs : List ℤ) (tied 
         (record { store = same_begun same.store; cells = sym (add-zero m.cells) ∙ ap₂ (λ c b. c + (if b then body.cells else 0)) same.cells (sym many) }) (since_itself tied m.reducers))
       where
         after : AskGoes site m left (frame_gives p inputs (callees.Loop l)) → ChildEnds E tied m.reducers left end
-        after (Answer n) = halves_go (now_as (λ a t. ap (λ b. if b then Turn' a t else Parts' a t) many) n)
+        after (Answer n) = halves_go (now_as (λ a t. ap (λ b. if b then Turn a t else Parts a t) many) n)
         after (NoRoom q) = subst (ChildEnds E tied m.reducers left) (sym q) (inr tt)
 
   pub loop_ends : (u : Run) (es : List Event) → Children (IsElided p inputs) u → Serial p inputs (next_frame p scope m' (callees.Loop l)) left [] (begun p (callees.Loop l) (counted m')) u es end → ChildEnds E tied m.reducers left end
