@@ -1,6 +1,6 @@
 -- The pass from the last event to the first gives the tree's nodes in preorder.
 use Rattle.std.proofs.Common.{◌≡◌, ◌≢◌, ℕ, suc, ◌+◌, ◌-◌, ◌<◌, ◌≤◌, ◌*◌, Bool, true, false, cond, nat_eq, List, [], ◌∷◌, ◌++◌, length, map, drop, get_or, Option, Some, None, refl, sym, ◌∙◌, ap, subst, arith}
-use Rattle.std.proofs.lemmas.List.{append_assoc, append-nil, length-map, length-drop}
+use Rattle.std.proofs.lemmas.List.{append_assoc, append-nil, length-append, length-map, length-drop}
 use Rattle.std.proofs.Math.Seq.{drop-cons, drop-length}
 use Rattle.std.proofs.lemmas.Bool.{eq-eqb, ne_eqb}
 use Rattle.cilk_tree.specs.declared.tree.Node.{Node}
@@ -24,6 +24,11 @@ pub has_leaf : (t : Tree) → 0 < leaves t
 has_leaf (strand n) = omega arith
 has_leaf (series a b) = let h = has_leaf a in omega arith
 has_leaf (parallel a b) = let h = has_leaf a in omega arith
+
+pub few_leaves : (t : Tree) → leaves t ≤ length (preorder t)
+few_leaves (strand n) = omega arith
+few_leaves (series a b) = let p = few_leaves a in let q = few_leaves b in let l = length-append (preorder a) (preorder b) in omega (arith, p, q, l)
+few_leaves (parallel a b) = let p = few_leaves a in let q = few_leaves b in let l = length-append (preorder a) (preorder b) in omega (arith, p, q, l)
 
 abbrev listed : Option Tree → List Node
 listed None = []
