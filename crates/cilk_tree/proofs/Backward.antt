@@ -14,6 +14,7 @@ use Rattle.cilk_tree.specs.Shape.{Kind, called, spawned, Shape, finish, act, syn
 use Rattle.cilk_tree.specs.Tree.{Tree, strand, series, parallel, then_later, beside, Rest, block, blocks, rest_of, tree, leaves, preorder}
 use Rattle.cilk_tree.specs.Built.{Built}
 use Rattle.cilk_tree.specs.Building.{opening, strand_closed, block_closed, frame_closed, inner_place, outer_places, counted, step}
+use Rattle.cilk_tree.proofs.Strands.{number, leaves-then_later}
 
 -- after the pass over these events, last one first
 abbrev pub after : List Mark → Built
@@ -33,14 +34,6 @@ few_leaves (parallel a b) = let p = few_leaves a in let q = few_leaves b in let 
 abbrev listed : Option Tree → List Node
 listed None = []
 listed (Some t) = preorder t
-
-abbrev number : Option Tree → ℕ
-number None = 0
-number (Some t) = leaves t
-
-leaves-then_later : (t : Tree) (o : Option Tree) → leaves (then_later t o) ≡ leaves t + number o
-leaves-then_later t None = omega arith
-leaves-then_later t (Some l) = refl
 
 -- a tree and what comes later, as a test of numbers puts their node
 joined : (t : Tree) (o : Option Tree) (x y : ℕ) (ns : List Node) → x ≡ y + number o

@@ -25,7 +25,7 @@ abbrev pub number : Option Tree → ℕ
 number None = 0
 number (Some t) = leaves t
 
-leaves-then_later : (t : Tree) (o : Option Tree) → leaves (then_later t o) ≡ leaves t + number o
+pub leaves-then_later : (t : Tree) (o : Option Tree) → leaves (then_later t o) ≡ leaves t + number o
 leaves-then_later t None = omega arith
 leaves-then_later t (Some l) = refl
 
