@@ -233,7 +233,7 @@ strand_leaf s es sp p (l, k) =
     let d = ap (strand_at es) z in
     omega (arith, a, c, d)
 
-lies_position : (s : Shape) (es : List Event) → Spells s es → (p : ℕ) → IsPosition es p → Lies 1 (size (tree s)) p
+pub lies_position : (s : Shape) (es : List Event) → Spells s es → (p : ℕ) → IsPosition es p → Lies 1 (size (tree s)) p
 lies_position s es sp p (l, k) = let n = size-spelled s es sp in (l, omega (arith, k, n))
 
 -- two positions in serial order are parallel where they lie beside each other
