@@ -1,12 +1,12 @@
 -- The walk gives each tree's Hebrew numbers.
 use Rattle.std.proofs.Common.{◌≡◌, ℕ, suc, ◌+◌, ◌-◌, ◌^◌, ◌<◌, ◌≤◌, min, List, [], ◌∷◌, ◌++◌, length, get_or, drop, refl, sym, ◌∙◌, ap, subst, arith, inl, inr, ◌↔◌, Bool, true, false, IsTrue}
-use Rattle.std.proofs.lemmas.List.{append_assoc, append-nil, length-append, drop_all}
+use Rattle.std.proofs.lemmas.List.{append_assoc, append-nil, drop_all}
 use Rattle.std.proofs.Math.Seq.{drop-cons}
 use Rattle.cilk_tree.specs.Tree.{Tree, strand, series, parallel, leaves, preorder}
 use Rattle.cilk_tree.specs.Hebrew.{hebrews, hebrew}
 use Rattle.cilk_tree.specs.Parallel.{Holds, Parallel}
 use Rattle.cilk_tree.specs.declared.tree.Node.{Node}
-use Rattle.cilk_tree.proofs.Backward.{has_leaf}
+use Rattle.cilk_tree.proofs.Backward.{has_leaf, few_leaves}
 use Rattle.cilk_tree.proofs.Order.{length-hebrews, tells, parallel_sym, not_to_itself}
 use Rattle.std.proofs.Math.Dec.{ltb}
 use Rattle.std.proofs.lemmas.Bool.{cases_order, lt-ltb, le-ltb}
@@ -35,11 +35,6 @@ walk (parallel a b) h ns hs fits =
     let w = min (h + leaves b) (2 ^ 32 - 1) in
     ap (λ (l : List Node). numbers_from l (w ∷ h ∷ hs)) (append_assoc (preorder a) (preorder b) ns)
     ∙ (ap (λ (x : ℕ). numbers_from (preorder a ++ (preorder b ++ ns)) (x ∷ h ∷ hs)) e ∙ (f ∙ sym (append_assoc (hebrews a (h + leaves b)) (hebrews b h) (numbers_from ns hs))))
-
-few_leaves : (t : Tree) → leaves t ≤ length (preorder t)
-few_leaves (strand n) = omega arith
-few_leaves (series a b) = let p = few_leaves a in let q = few_leaves b in let l = length-append (preorder a) (preorder b) in omega (arith, p, q, l)
-few_leaves (parallel a b) = let p = few_leaves a in let q = few_leaves b in let l = length-append (preorder a) (preorder b) in omega (arith, p, q, l)
 
 pub walk_all : (t : Tree) (ns : List Node) → ns ≡ preorder t → length ns < 2 ^ 32 → numbers_from ns (1 ∷ []) ≡ hebrews t 1
 walk_all t ns e few =

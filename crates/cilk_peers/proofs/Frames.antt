@@ -9,6 +9,7 @@ use Rattle.cilk_tree.proofs.Backward.{has_leaf}
 use Rattle.cilk_tree.proofs.Order.{holds_both, series_left, series_right}
 use Rattle.cilk_tree.proofs.Lines.{long_marks}
 use Rattle.cilk_tree.proofs.Places.{size, Lies, leaf, leaf_left, leaf_right, leaf_held, strand_leaf, size-spelled}
+use Rattle.cilk_tree.proofs.Strands.{number, leaves-block, leaves-beside}
 use Rattle.cilk_tree.proofs.Tied.{sizes, size-block, size-blocks, size-beside, measures}
 use Rattle.cilk_peers.specs.Frames.{IsInner, IsFrame, FramesKeepPeers}
 use Rattle.cilk_peers.proofs.Same.{SameIn, wide_left, wide_right, back}
@@ -164,21 +165,6 @@ later_alike t (Some l) o o' f f' p q x y h = series_alike_right t l o f p q (mov
 first_alike : (t : Tree) (l : Option Tree) (o f p q : ℕ) → Alike t o f p q → Alike (then_later t l) o f p q
 first_alike t None o f p q h = h
 first_alike t (Some l) o f p q h = series_alike_left t l o f p q h
-
-abbrev number : Option Tree → ℕ
-number None = 0
-number (Some t) = leaves t
-
-leaves-block : (x : Rest) → leaves (block x) ≡ 1 + number x.after
-leaves-block x = by x.after
-  where
-    by : (l : Option Tree) → leaves (then_later (strand (suc x.events)) l) ≡ 1 + number l
-    by None = refl
-    by (Some l) = refl
-
-leaves-beside : (k : Kind) (a b : Tree) → leaves (beside k a b) ≡ leaves a + leaves b
-leaves-beside called a b = refl
-leaves-beside spawned a b = refl
 
 -- a block, and blocks, of which the first strand is leaf o and begins at position f
 block_alike : (x : Rest) (o o' f f' p q : ℕ) → o' ≡ suc o → f' ≡ f + suc x.events → AlikeIf x.after o' f' p q → Alike (block x) o f p q

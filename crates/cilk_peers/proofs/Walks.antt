@@ -1,10 +1,10 @@
 -- The walk gives each tree's classes.
 use Rattle.std.proofs.Common.{◌≡◌, ℕ, suc, ◌+◌, ◌-◌, ◌^◌, ◌<◌, ◌≤◌, min, List, [], ◌∷◌, ◌++◌, length, get_or, drop, refl, sym, ◌∙◌, ap, subst, arith}
-use Rattle.std.proofs.lemmas.List.{append_assoc, append-nil, length-append, drop_all}
+use Rattle.std.proofs.lemmas.List.{append_assoc, append-nil, drop_all}
 use Rattle.std.proofs.Math.Seq.{drop-cons}
 use Rattle.cilk_tree.specs.Tree.{Tree, strand, series, parallel, leaves, preorder}
 use Rattle.cilk_tree.specs.declared.tree.Node.{Node}
-use Rattle.cilk_tree.proofs.Backward.{has_leaf}
+use Rattle.cilk_tree.proofs.Backward.{has_leaf, few_leaves}
 use Rattle.cilk_peers.specs.Peers.{class_numbers}
 use Rattle.cilk_peers.specs.Walk.{classes_from}
 
@@ -32,11 +32,6 @@ walk (parallel a b) c o ns cs fits =
     ap (λ (l : List Node). classes_from l o (o ∷ w ∷ cs)) (append_assoc (preorder a) (preorder b) ns)
     ∙ (ap (λ (x : ℕ). classes_from (preorder a ++ (preorder b ++ ns)) o (o ∷ x ∷ cs)) e
     ∙ (f ∙ sym (append_assoc (class_numbers a o o) (class_numbers b (o + leaves a) (o + leaves a)) (classes_from ns (o + (leaves a + leaves b)) cs))))
-
-few_leaves : (t : Tree) → leaves t ≤ length (preorder t)
-few_leaves (strand n) = omega arith
-few_leaves (series a b) = let p = few_leaves a in let q = few_leaves b in let l = length-append (preorder a) (preorder b) in omega (arith, p, q, l)
-few_leaves (parallel a b) = let p = few_leaves a in let q = few_leaves b in let l = length-append (preorder a) (preorder b) in omega (arith, p, q, l)
 
 walk_all : (t : Tree) (ns : List Node) → ns ≡ preorder t → length ns < 2 ^ 32 → classes_from ns 1 (0 ∷ []) ≡ class_numbers t 0 1
 walk_all t ns e few =

@@ -1,6 +1,6 @@
 -- The pass from the last event to the first gives the tree's nodes in preorder.
 use Rattle.std.proofs.Common.{◌≡◌, ◌≢◌, ℕ, suc, ◌+◌, ◌-◌, ◌<◌, ◌≤◌, ◌*◌, Bool, true, false, cond, nat_eq, List, [], ◌∷◌, ◌++◌, length, map, drop, get_or, Option, Some, None, refl, sym, ◌∙◌, ap, subst, arith}
-use Rattle.std.proofs.lemmas.List.{append_assoc, append-nil, length-map, length-drop}
+use Rattle.std.proofs.lemmas.List.{append_assoc, append-nil, length-append, length-map, length-drop}
 use Rattle.std.proofs.Math.Seq.{drop-cons, drop-length}
 use Rattle.std.proofs.lemmas.Bool.{eq-eqb, ne_eqb}
 use Rattle.cilk_tree.specs.declared.tree.Node.{Node}
@@ -14,6 +14,7 @@ use Rattle.cilk_tree.specs.Shape.{Kind, called, spawned, Shape, finish, act, syn
 use Rattle.cilk_tree.specs.Tree.{Tree, strand, series, parallel, then_later, beside, Rest, block, blocks, rest_of, tree, leaves, preorder}
 use Rattle.cilk_tree.specs.Built.{Built}
 use Rattle.cilk_tree.specs.Building.{opening, strand_closed, block_closed, frame_closed, inner_place, outer_places, counted, step}
+use Rattle.cilk_tree.proofs.Strands.{number, leaves-then_later}
 
 -- after the pass over these events, last one first
 abbrev pub after : List Mark → Built
@@ -25,17 +26,14 @@ has_leaf (strand n) = omega arith
 has_leaf (series a b) = let h = has_leaf a in omega arith
 has_leaf (parallel a b) = let h = has_leaf a in omega arith
 
+pub few_leaves : (t : Tree) → leaves t ≤ length (preorder t)
+few_leaves (strand n) = omega arith
+few_leaves (series a b) = let p = few_leaves a in let q = few_leaves b in let l = length-append (preorder a) (preorder b) in omega (arith, p, q, l)
+few_leaves (parallel a b) = let p = few_leaves a in let q = few_leaves b in let l = length-append (preorder a) (preorder b) in omega (arith, p, q, l)
+
 abbrev listed : Option Tree → List Node
 listed None = []
 listed (Some t) = preorder t
-
-abbrev number : Option Tree → ℕ
-number None = 0
-number (Some t) = leaves t
-
-leaves-then_later : (t : Tree) (o : Option Tree) → leaves (then_later t o) ≡ leaves t + number o
-leaves-then_later t None = omega arith
-leaves-then_later t (Some l) = refl
 
 -- a tree and what comes later, as a test of numbers puts their node
 joined : (t : Tree) (o : Option Tree) (x y : ℕ) (ns : List Node) → x ≡ y + number o

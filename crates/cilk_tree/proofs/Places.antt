@@ -12,7 +12,7 @@ use Rattle.cilk_tree.specs.Parallel.{Holds, Parallel}
 use Rattle.cilk_tree.specs.Races.{strand_at}
 use Rattle.cilk_tree.specs.Before.{IsPosition, IsBefore}
 use Rattle.cilk_tree.proofs.Order.{at, at_left, at_right, not_to_itself, series_left, series_right, series_across, parallel_left, parallel_right}
-use Rattle.cilk_tree.proofs.Strands.{count, number, leaves-beside, begun-start_of, count-marks, leaves-blocks, strand_zero, strand_grows, strand_held}
+use Rattle.cilk_tree.proofs.Strands.{count, number, leaves-beside, begun-start_of, count-marks, leaves-block, leaves-blocks, strand_zero, strand_grows, strand_held}
 use Rattle.cilk_tree.proofs.Before.{ordered, not_both, before_or_parallel}
 
 -- how many events a tree has
@@ -164,13 +164,6 @@ strands-then_later t (Some l) o = refl
 strands-block : (x : Rest) (o : ℕ) → strands (block x) o ≡ replicate (suc x.events) o ++ listed x.after (o + 1)
 strands-block x o = strands-then_later (strand (suc x.events)) x.after o
 
-leaves-block : (x : Rest) → leaves (block x) ≡ 1 + number x.after
-leaves-block x = by x.after
-  where
-    by : (l : Option Tree) → leaves (then_later (strand (suc x.events)) l) ≡ 1 + number l
-    by None = refl
-    by (Some l) = refl
-
 -- what the events after a point are of, whose own strand is n
 abbrev following : Rest → ℕ → List ℕ
 following x n = replicate x.events n ++ (listed x.after (n + 1) ++ listed x.later (n + 1 + number x.after))
@@ -240,7 +233,7 @@ strand_leaf s es sp p (l, k) =
     let d = ap (strand_at es) z in
     omega (arith, a, c, d)
 
-lies_position : (s : Shape) (es : List Event) → Spells s es → (p : ℕ) → IsPosition es p → Lies 1 (size (tree s)) p
+pub lies_position : (s : Shape) (es : List Event) → Spells s es → (p : ℕ) → IsPosition es p → Lies 1 (size (tree s)) p
 lies_position s es sp p (l, k) = let n = size-spelled s es sp in (l, omega (arith, k, n))
 
 -- two positions in serial order are parallel where they lie beside each other

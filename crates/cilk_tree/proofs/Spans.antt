@@ -11,7 +11,7 @@ use Rattle.cilk_tree.specs.Span.{IsChain, IsSpan}
 use Rattle.cilk_tree.specs.Spans.{top, joined, spans_from}
 use Rattle.cilk_tree.specs.declared.tree.Node.{Node}
 use Rattle.cilk_tree.specs.declared.tree.Node.TheVariants as nodes
-use Rattle.cilk_tree.proofs.Places.{size, Lies, lies_in, Beside, bounded, before_earlier, earlier_before, size-spelled}
+use Rattle.cilk_tree.proofs.Places.{size, Lies, lies_in, Beside, bounded, before_earlier, earlier_before, size-spelled, lies_position}
 
 abbrev pub span_of : Tree → ℕ
 span_of (strand n) = n
@@ -82,27 +82,24 @@ rises (parallel a b) e p q i j l apart =
           ])
     ]
 
-lies : (s : Shape) (es : List Event) → Spells s es → (p : ℕ) → IsPosition es p → Lies 1 (size (tree s)) p
-lies s es sp p (l, k) = let n = size-spelled s es sp in (l, omega (arith, k, n))
-
 -- no chain is longer
 first_position : (t : Tree) (es : List Event) (p : ℕ) (ps : List ℕ) → IsChain t es (p ∷ ps) → IsPosition es p
 first_position t es p [] h = h
 first_position t es p (q ∷ ps) h = h.0
 
 from_first : (s : Shape) (es : List Event) → Spells s es → (p : ℕ) (ps : List ℕ) → IsChain (tree s) es (p ∷ ps) → rank (tree s) 1 p + length ps ≤ span_of (tree s)
-from_first s es sp p [] h = let r = (ranged (tree s) 1 p (lies s es sp p h)).1 in omega (arith, r)
+from_first s es sp p [] h = let r = (ranged (tree s) 1 p (lies_position s es sp p h)).1 in omega (arith, r)
 from_first s es sp p (q ∷ ps) (i, b, h) =
     let j = first_position (tree s) es q ps h in
     let k = before_earlier s es sp p q i j b in
-    let r = rises (tree s) 1 p q (lies s es sp p i) (lies s es sp q j) k.less k.apart in
+    let r = rises (tree s) 1 p q (lies_position s es sp p i) (lies_position s es sp q j) k.less k.apart in
     let g = from_first s es sp q ps h in
     omega (arith, r, g)
 
 none_longer : (s : Shape) (es : List Event) → Spells s es → (ps : List ℕ) → IsChain (tree s) es ps → length ps ≤ span_of (tree s)
 none_longer s es sp [] h = omega arith
 none_longer s es sp (p ∷ ps) h =
-    let r = (ranged (tree s) 1 p (lies s es sp p (first_position (tree s) es p ps h))).0 in
+    let r = (ranged (tree s) 1 p (lies_position s es sp p (first_position (tree s) es p ps h))).0 in
     let g = from_first s es sp p ps h in
     omega (arith, r, g)
 

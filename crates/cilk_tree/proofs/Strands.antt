@@ -25,12 +25,15 @@ abbrev pub number : Option Tree → ℕ
 number None = 0
 number (Some t) = leaves t
 
-leaves-then_later : (t : Tree) (o : Option Tree) → leaves (then_later t o) ≡ leaves t + number o
+pub leaves-then_later : (t : Tree) (o : Option Tree) → leaves (then_later t o) ≡ leaves t + number o
 leaves-then_later t None = omega arith
 leaves-then_later t (Some l) = refl
 
+pub leaves-block : (x : Rest) → leaves (block x) ≡ 1 + number x.after
+leaves-block x = leaves-then_later (strand (suc x.events)) x.after
+
 pub leaves-blocks : (x : Rest) → leaves (blocks x) ≡ 1 + number x.after + number x.later
-leaves-blocks x = let p = leaves-then_later (block x) x.later in let q = leaves-then_later (strand (suc x.events)) x.after in omega (arith, p, q)
+leaves-blocks x = let p = leaves-then_later (block x) x.later in let q = leaves-block x in omega (arith, p, q)
 
 pub leaves-beside : (k : Kind) (a b : Tree) → leaves (beside k a b) ≡ leaves a + leaves b
 leaves-beside called a b = refl
@@ -51,7 +54,7 @@ count-marks (child k u r) =
     let b = begun-start_of k in
     let p = leaves-beside k (blocks (rest_of u)) (block (rest_of r)) in
     let q = leaves-blocks (rest_of u) in
-    let s = leaves-then_later (strand (suc (rest_of r).events)) (rest_of r).after in
+    let s = leaves-block (rest_of r) in
     omega (arith, h, i, a, b, p, q, s)
 
 pub count-shape : (s : Shape) → count (Begin ∷ marks s) ≡ leaves (tree s)
