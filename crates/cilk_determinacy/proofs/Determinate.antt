@@ -24,7 +24,7 @@ use Rattle.cilk_runs.specs.Theorem.{HasNoRaces, Agrees}
 use Rattle.cilk_runs.specs.Cuts.{below, IsFull}
 use Rattle.cilk_runs.proofs.Find.{full_deeds}
 use Rattle.cilk_runs.proofs.Kept.{opening_ok}
-use Rattle.cilk_runs.proofs.Theorem.{race_free_kept, race_free_determinate, follows_determined}
+use Rattle.cilk_runs.proofs.Theorem.{race_free_kept, race_free_agrees, race_free_determinate, follows_determined}
 use Rattle.cilk_cells.specs.Nested.{shape_of}
 use Rattle.cilk_cells.proofs.Nested.{events_spell}
 use Rattle.cilk_cells.proofs.NestedRaces.{freedom_nests}
@@ -32,7 +32,7 @@ use Rattle.cilk_determinacy.specs.Reducers.{View, monoid_of}
 use Rattle.cilk_determinacy.specs.Worlds.{World, first_world}
 use Rattle.cilk_determinacy.specs.Machine.{next, costs, opening_values}
 use Rattle.cilk_determinacy.specs.Nested.{named}
-use Rattle.cilk_determinacy.specs.Theorem.{result_in, outcome_in, IsWithin, Next, IsSerial, IsAsSerial, RunsFree, TicksAddUp, SerialRunsByNames, SerialRunsAreNumbered, OpensAsCut, StepsKeepCuts, IsDeterminate}
+use Rattle.cilk_determinacy.specs.Theorem.{result_in, outcome_in, IsWithin, Next, IsSerial, IsAsSerial, RunsFree, TicksAddUp, SerialRunsByNames, SerialRunsAreNumbered, OpensAsCut, StepsKeepCuts, CutsAreAsSerial, IsDeterminate}
 use Rattle.cilk_determinacy.proofs.Assembled.{views_lawful, remembers, is_framed, is_serial}
 use Rattle.cilk_determinacy.proofs.Ending.{run_result, run_ends, same_outcome}
 use Rattle.cilk_determinacy.proofs.Numbers.{cell_number, instance_number}
@@ -153,7 +153,12 @@ pub steps_keep_cuts : (p : Source) (inputs : List ℤ) → StepsKeepCuts p input
 steps_keep_cuts p inputs r es outcome free s s' n cut step =
     race_free_kept World View monoid_of (Next p inputs) (costs p inputs) views_lawful (follows_determined (next p inputs)) (first_world p) (named p r) (opening_values p inputs) (known p inputs r es outcome free) (no_races p inputs r es outcome free) s s' n cut step
 
+pub cuts_as_serial : (p : Source) (inputs : List ℤ) → CutsAreAsSerial p inputs
+cuts_as_serial p inputs r es outcome free s cut =
+    as_serial p inputs r es outcome free s
+    (race_free_agrees World View monoid_of (Next p inputs) (costs p inputs) views_lawful (follows_determined (next p inputs)) (first_world p) (named p r) (opening_values p inputs) (known p inputs r es outcome free) (no_races p inputs r es outcome free) s cut)
+
 pub is_determinate : (p : Source) (inputs : List ℤ) → IsDeterminate p inputs
 is_determinate p inputs r es outcome free ns s' (s, first, steps) =
-    as_serial p inputs r es outcome free s'
-    (race_free_determinate World View monoid_of (Next p inputs) (costs p inputs) views_lawful (follows_determined (next p inputs)) (first_world p) (named p r) (opening_values p inputs) (known p inputs r es outcome free) (no_races p inputs r es outcome free) ns s s' first steps)
+    let agrees = race_free_determinate World View monoid_of (Next p inputs) (costs p inputs) views_lawful (follows_determined (next p inputs)) (first_world p) (named p r) (opening_values p inputs) (known p inputs r es outcome free) (no_races p inputs r es outcome free) ns s s' first steps in
+    cuts_as_serial p inputs r es outcome free s' agrees.consistent

@@ -109,7 +109,7 @@ module _ (p : Source) (inputs : List ℤ) where
   abbrev pub whole : serial.Run → Total → ℕ
   whole r total = used p inputs total + weight (costs p inputs) total (first_world p) [] (named p r)
 
-  -- What holds of each state that steps lead to. It is a consistent cut of the serial run, which nothing stopped; each frame has made a beginning of
+  -- What holds of each consistent cut, and so of each state that steps lead to. It is a consistent cut of the serial run, which nothing stopped; each frame has made a beginning of
   -- its serial events with the same values; each child is at most once in the joins; no total is more than the serial run's. Once the first frame has
   -- ended, result, globals, output and reducers are the serial elision's, each spawned child is in the joins exactly once, and the totals are
   -- the serial run's; until then fewer events are made.
@@ -168,6 +168,10 @@ module _ (p : Source) (inputs : List ℤ) where
 
   abbrev pub StepsKeepCuts : Type 0
   StepsKeepCuts = (r : serial.Run) (es : List Event) (outcome : Outcome) → RunsFree r es outcome → (s s' : State World View) (n : Name) → IsCut r s → OneStep s n s' → IsCut r s'
+
+  -- each consistent cut of a serial run that ended and has no race is as that run, however it came about
+  abbrev pub CutsAreAsSerial : Type 0
+  CutsAreAsSerial = (r : serial.Run) (es : List Event) (outcome : Outcome) → RunsFree r es outcome → (s : State World View) → IsCut r s → IsAsSerial r outcome s
 
   abbrev pub IsDeterminate : Type 0
   IsDeterminate = (r : serial.Run) (es : List Event) (outcome : Outcome) → RunsFree r es outcome → (ns : List Name) (s : State World View) → Reaches ns s → IsAsSerial r outcome s

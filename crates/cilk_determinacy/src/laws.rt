@@ -2,7 +2,7 @@
 
 ghost use Rattle.std.specs.Prelude.{ℤ, List};
 ghost use Rattle.cilk_program.specs.Syntax.{Source};
-ghost use Rattle.cilk_determinacy.specs.Theorem.{TicksAddUp, SerialRunsByNames, SerialRunsAreNumbered, CountsAsSerial, OpensAsCut, StepsKeepCuts, IsDeterminate};
+ghost use Rattle.cilk_determinacy.specs.Theorem.{TicksAddUp, SerialRunsByNames, SerialRunsAreNumbered, CountsAsSerial, OpensAsCut, StepsKeepCuts, CutsAreAsSerial, IsDeterminate};
 ghost use Rattle.cilk_determinacy.specs.Words.{SetsWords, IsDeterminateInWords};
 ghost use Rattle.cilk_determinacy.specs.Worked.{GetIsFree, GetLeaves, LentIsFree, LentLeaves, ChangedIsFree, ChangedLeaves, AgainIsFree, AgainLeaves};
 ghost use Rattle.cilk_determinacy.specs.Views.{AreMultiplied};
@@ -44,6 +44,14 @@ pub fn opening_is_a_cut()
 /// consistent cut. A scheduler needs this.
 pub fn step_keeps_cuts()
     ensures { (p : Source) (inputs : List ℤ) → StepsKeepCuts p inputs }
+{}
+
+/// Where the serial run of a well-named program ends without a fault and no two of its positions race, each consistent cut of it is
+/// as that run: nothing has stopped it, each frame's deeds begin the serial ones, each child was joined at most once, no total is
+/// more than the serial run's, and once the first frame has ended the outcome is the serial elision's. So a scheduler that goes
+/// step by step, from `opening_is_a_cut` by `step_keeps_cuts`, ends with the outcome.
+pub fn cuts_are_as_serial()
+    ensures { (p : Source) (inputs : List ℤ) → CutsAreAsSerial p inputs }
 {}
 
 /// A well-named program whose serial run ends without a fault, and has no determinacy race and no view-read race over all pairs of its
