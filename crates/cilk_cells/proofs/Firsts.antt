@@ -1,10 +1,12 @@
 -- The pass that keeps the first reducer-read of each instance.
-use Rattle.std.proofs.Common.{◌≡◌, ◌≢◌, ℕ, ◌+◌, ◌-◌, ◌<◌, ◌≤◌, Bool, true, false, true≢false, cond, eqb, List, length, get_or, Option, Some, None, unwrap_or, slice_get, refl, sym, ◌∙◌, ap, subst, arith, ◌⊎◌, inl, inr, ◌↔◌}
-use Rattle.std.proofs.lemmas.Bool.{cases_lt, and_parts, and_from, eqb-true, eq-eqb, cond-true, cond-false}
+use Rattle.std.proofs.Common.{◌≡◌, ◌≢◌, ℕ, ◌+◌, ◌-◌, ◌<◌, ◌≤◌, Bool, true, false, cond, List, length, get_or, Option, Some, None, unwrap_or, slice_get, refl, sym, ◌∙◌, ap, subst, arith, ◌⊎◌, inl, inr, ◌↔◌}
+use Rattle.std.proofs.lemmas.Bool.{cases_lt, cond-true, cond-false}
 use Rattle.std.proofs.lemmas.Option.{slice_get_past}
 use Rattle.cilk_types.specs.declared.event.Event.{Event}
 use Rattle.cilk_types.specs.declared.event.Event.TheVariants as events
 use Rattle.cilk_types.specs.declared.event.Instance.{Instance}
+use Rattle.cilk_monoid.specs.Ranges.{same_instance}
+use Rattle.cilk_monoid.proofs.RangeLaws.{same_from_true, different_from_false}
 use Rattle.cilk_tree.specs.declared.mark.Mark.{Mark}
 use Rattle.cilk_tree.specs.Marks.{mark_of, begun_by}
 use Rattle.cilk_tree.specs.Shape.{Shape, Spells}
@@ -17,20 +19,7 @@ use Rattle.cilk_peers.proofs.Same.{one_class, length-class_numbers}
 use Rattle.cilk_cells.specs.declared.first_reads.FirstReads.{FirstReads}
 use Rattle.cilk_cells.specs.declared.first_reads.Read.{Read}
 use Rattle.cilk_cells.proofs.Pass.{begun_once, here_event, here_strand}
-use Rattle.cilk_cells.specs.Reads.{same_instance, instance_read, read_at, first_of_all, KeepsAt}
-
-same_from_true : (a b : Instance) → same_instance a b ≡ true → a ≡ b
-same_from_true a b h =
-    let p = and_parts (eqb a.frame b.frame) (eqb a.place b.place) h in
-    let f : a.frame ≡ b.frame = eqb-true a.frame b.frame p.0 in
-    let q : a.place ≡ b.place = eqb-true a.place b.place p.1 in
-    λ i. record { frame = f i; place = q i }
-
-same_self : (a : Instance) → same_instance a a ≡ true
-same_self a = and_from (eqb a.frame a.frame) (eqb a.place a.place) (eq-eqb a.frame a.frame refl) (eq-eqb a.place a.place refl)
-
-apart_instances : (a b : Instance) → same_instance a b ≡ false → a ≡ b → ⊥
-apart_instances a b f q = true≢false (sym (subst (λ (x : Instance). same_instance a x ≡ true) q (same_self a)) ∙ f)
+use Rattle.cilk_cells.specs.Reads.{instance_read, read_at, first_of_all, KeepsAt}
 
 -- nothing is kept anew where the instance has a first reducer-read
 pub kept_present : (m : FirstReads) (i : Instance) (here f : Read) → read_at m i ≡ Some f → KeepsAt m m i (first_of_all m i here)
@@ -185,7 +174,7 @@ passed_read t es n e i here m m' h g some at num same keeps j = by (same_instanc
     by false p =
         let k : read_at m' j ≡ read_at m j = keeps j ∙ cond-false (same_instance i j) (Some (first_of_all m i here)) (read_at m j) p in
         subst (λ (o : Option Read). IsFirst (ReadsAt es j) (number t es) (n + 1) o) (sym k)
-        (skipped (ReadsAt es j) (number t es) n (read_at m j) (g j) (λ r. apart_instances i j p (reads_other e i j some (rw h at r))))
+        (skipped (ReadsAt es j) (number t es) n (read_at m j) (g j) (λ r. different_from_false i j p (reads_other e i j some (rw h at r))))
 
 passed_found : (s : Shape) (es : List Event) → Spells s es → (n : ℕ) (e : Event) (i : Instance) (here : Read) (m : FirstReads) → At es n e → Passed (tree s) es n m → instance_read e ≡ Some i
     → here.class ≡ number (tree s) es n → (first_of_all m i here).class ≢ here.class → IsFirstViewRace (tree s) es (first_of_all m i here).at (n + 1)

@@ -1,6 +1,6 @@
 -- The tree and the events of a nested run are those of its shape.
 use Rattle.std.proofs.Common.{◌≡◌, ℕ, suc, ◌+◌, ℤ, List, [], ◌∷◌, ◌++◌, length, map, Option, Some, None, refl, sym, ◌∙◌, ap, subst, arith}
-use Rattle.std.proofs.lemmas.List.{length-append}
+use Rattle.std.proofs.lemmas.List.{length-append, map-append}
 use Rattle.cilk_types.specs.declared.event.Event as numbers
 use Rattle.cilk_types.specs.declared.event.Instance as numbered
 use Rattle.cilk_runs.specs.Runs.{Cell, Instance, Kind, Calls, Spawns, Reads, Writes, Syncs, Ends, Passes, Begins, Resumes, Creates, Updates, Sets, Values, Prints, Deed, Does, Invokes, Run, stop, act, child}
@@ -106,10 +106,6 @@ ahead begin_due = mark.Begin ∷ []
 ahead resume_due = mark.Resume ∷ []
 ahead neither_due = []
 
-map_append : (xs ys : List numbers.Event) → map mark_of (xs ++ ys) ≡ map mark_of xs ++ map mark_of ys
-map_append [] ys = refl
-map_append (x ∷ xs) ys = ap (λ (l : List marks.Mark). mark_of x ∷ l) (map_append xs ys)
-
 nothing_written : {W : Type 0} (cell : Cell → ℕ) (instance : Instance → numbered.Instance) (es : List numbers.Event) (ds : List (Deed W)) → ds ≡ [] → AreWritten cell instance ds es → es ≡ []
 nothing_written {W} cell instance [] ds e h = refl
 nothing_written {W} cell instance (e ∷ es) ds z h = absurd (subst (λ (l : List (Deed W)). AreWritten cell instance l (e ∷ es)) z h)
@@ -147,7 +143,7 @@ module _ {W : Type 0} (cell : Cell → ℕ) (instance : Instance → numbered.In
       one_event (Invokes k v) (nested.trace u ++ nested.trace r) es (shapes.start_of (kind_of k)) _ (λ e x. written_kind cell instance k v e x)
       (λ xs g.
       let p = written_append (nested.trace u) (nested.trace r) xs g in
-      ap (map mark_of) p.2 ∙ (map_append p.0 p.1
+      ap (map mark_of) p.2 ∙ (map-append mark_of p.0 p.1
       ∙ (ap (λ (l : List marks.Mark). l ++ map mark_of p.1) (spells begin_due u p.0 h.0 p.3)
       ∙ ap (λ (l : List marks.Mark). mark.Begin ∷ (shapes.marks (shape_of u) ++ l)) (spells resume_due r p.1 h.1 p.4))))
       w

@@ -1,15 +1,12 @@
 -- What a pass over a run's events keeps of each reducer.
-use Rattle.std.specs.Prelude.{◌≡◌, Bool, ◌==◌, ◌&&◌, cond, Option, Some, None, unwrap_or}
+use Rattle.std.specs.Prelude.{◌≡◌, cond, Option, Some, None, unwrap_or}
 use Rattle.std.specs.HashMap.{get}
 use Rattle.cilk_types.specs.declared.event.Event.{Event}
 use Rattle.cilk_types.specs.declared.event.Event.TheVariants.{Create, Set, Value}
 use Rattle.cilk_types.specs.declared.event.Instance.{Instance}
+use Rattle.cilk_monoid.specs.Ranges.{same_instance}
 use Rattle.cilk_cells.specs.declared.first_reads.FirstReads.{FirstReads}
 use Rattle.cilk_cells.specs.declared.first_reads.Read.{Read}
-
--- whether two instances are one
-abbrev pub same_instance : Instance → Instance → Bool
-same_instance a b = (a.frame == b.frame) && (a.place == b.place)
 
 -- the instance of a reducer-read
 abbrev pub instance_read : Event → Option Instance
