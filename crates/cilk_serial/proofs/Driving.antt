@@ -1,5 +1,5 @@
 -- A run that goes on, from one event to the next.
-use Rattle.std.proofs.Common.{◌≡◌, ◌⊎◌, inl, inr, ⊎_elim, ℕ, zero, suc, ◌+◌, ◌-◌, ◌<◌, ◌≤◌, nat_eq, nat_lt, ℤ, pos, false, true≢false, if◌then◌else◌, List, [], ◌∷◌, ◌++◌, length, get_or, Option, Some, None, IfSome, IsSome, refl, sym, ap, ◌∙◌, subst, arith, length-append, append_assoc, append-nil}
+use Rattle.std.proofs.Common.{◌≡◌, ◌⊎◌, inl, inr, ⊎_elim, ℕ, suc, ◌+◌, ◌-◌, ◌<◌, ◌≤◌, nat_eq, nat_lt, ℤ, pos, if◌then◌else◌, List, [], ◌∷◌, ◌++◌, length, get_or, Option, Some, None, IfSome, IsSome, refl, sym, ap, ◌∙◌, subst, arith, length-append, append_assoc, append-nil}
 use Rattle.std.proofs.lemmas.Bool.{cases_Bool, ltb-true, ltb-false}
 use Rattle.std.proofs.lemmas.Option.{unwrap_or-slice_get}
 use Rattle.std.specs.Prelude.{IsTrue}
@@ -21,12 +21,13 @@ use Rattle.cilk_program.specs.Behaviour.{asks_for, frame_asks}
 use Rattle.cilk_program.specs.Inside.{CalleeIsFit}
 use Rattle.cilk_program.specs.Store.{Store, clear, clear_all}
 use Rattle.cilk_program.specs.WellNamed.{is_well_named}
-use Rattle.cilk_program.specs.SerialRun.{Run, act, child, stop, Frame, Memory, Ending, Finished, Stopped, Serial, Made, Ended, Went, Broke, Refused, IsInner, answer_to, begun, before_root, cells_of, counted, crowded, event_of, first_place, full, invocation, next_frame, own_from, refused, root_frame, stored, with_store, IsSerialRun}
+use Rattle.cilk_program.specs.SerialRun.{Run, act, child, stop, Frame, Memory, Ending, Finished, Stopped, Serial, Made, Ended, Went, Broke, Refused, IsInner, answer_to, begun, before_root, cells_of, counted, crowded, event_of, first_place, invocation, next_frame, own_from, refused, root_frame, stored, with_store, IsSerialRun}
 use Rattle.cilk_lower.specs.Behaves.{Behaves}
 use Rattle.cilk_lower.specs.Code.{CodeView}
 use Rattle.cilk_lower.specs.declared.code.Owed.TheVariants.{Nothing}
 use Rattle.cilk_program.specs.Outcomes.{StopsBy}
 use Rattle.cilk_meaning.specs.Agreement.{IsLimit}
+use Rattle.cilk_meaning.proofs.Existence.{room_for}
 use Rattle.cilk_meaning.proofs.Roots.{ends_as_elided}
 use Rattle.cilk_serial.specs.Ran.{Stops}
 use Rattle.cilk_frames.specs.declared.cursor.Answer.{Answer}
@@ -46,7 +47,7 @@ use Rattle.cilk_meaning.proofs.Naming.{well_named_parts}
 use Rattle.cilk_monoid.specs.Kinds.{structure_of}
 use Rattle.cilk_hypermap.specs.Hypermap.{EachKind, value_in, view_in}
 use Rattle.cilk_hypermap.specs.Views.{or_unit}
-use Rattle.cilk_serial.proofs.Shows.{each_kind}
+use Rattle.cilk_hypermap.proofs.Merges.{each_kind}
 use Rattle.cilk_serial.proofs.Sights.{asked, asked_there, asked_rightly, begins, child_sees, root_sees, sees_more}
 use Rattle.cilk_serial.specs.Scoped.{Parent, Scoped, AreScoped, Seen, IsThere, IsBegunRightly, kinds_of, own_of}
 use Rattle.cilk_serial.specs.States.{Shows, Answers, Begins, Extends}
@@ -77,14 +78,7 @@ going_there code p inputs r well g =
 
 -- ---- what is allowed
 
-full_not : (m : Memory) → full m ≡ None → 0 < m.room
-full_not m e = has_room m.room e
-  where
-    has_room : (n : ℕ) → (if nat_eq n 0 then Some TooManyEvents else None) ≡ None → 0 < n
-    has_room zero e = cc
-    has_room (suc n) e = omega arith
-
-crowded_not : (p : Source) (callee : Callee) (m : Memory) → crowded p callee m ≡ None → (0 < m.room) × (m.frames < MAX_FRAMES) × (m.cells + cells_of p callee ≤ MAX_CELLS)
+crowded_not : (p : Source) (callee : Callee) (m : Memory) → crowded p callee m ≡ None → (m.frames < MAX_FRAMES) × (m.cells + cells_of p callee ≤ MAX_CELLS)
 crowded_not p callee m e = elim (cases_Bool (nat_eq m.room 0)) [
   | inl past ↦ (let f : Some TooManyEvents ≡ None = sym (ap (λ b. if b then Some TooManyEvents else (if nat_lt m.frames MAX_FRAMES then (if nat_lt MAX_CELLS (m.cells + cells_of p callee) then Some TooManyCells else None) else Some TooManyFrames)) past) ∙ e in cc)
   | inr room ↦ (
@@ -95,30 +89,10 @@ crowded_not p callee m e = elim (cases_Bool (nat_eq m.room 0)) [
             let e2 = sym (ap (λ b. if b then (if nat_lt MAX_CELLS (m.cells + cells_of p callee) then Some TooManyCells else None) else Some TooManyFrames) frames) ∙ e1 in
             elim (cases_Bool (nat_lt MAX_CELLS (m.cells + cells_of p callee))) [
               | inl past ↦ (let f : Some TooManyCells ≡ None = sym (ap (λ b. if b then Some TooManyCells else None) past) ∙ e2 in cc)
-              | inr cells ↦ (room_left m.room room, ltb-true m.frames MAX_FRAMES frames, ltb-false MAX_CELLS (m.cells + cells_of p callee) cells)
+              | inr cells ↦ (ltb-true m.frames MAX_FRAMES frames, ltb-false MAX_CELLS (m.cells + cells_of p callee) cells)
             ])
       ])
 ]
-  where
-    room_left : (n : ℕ) → nat_eq n 0 ≡ false → 0 < n
-    room_left zero e = absurd (true≢false e)
-    room_left (suc n) e = omega arith
-
-pub room_left : (p : Source) (m : Memory) (k : Ask) → refused p m k ≡ None → 0 < m.room
-room_left p m asks.Begin e = full_not m e
-room_left p m (asks.Read x) e = full_not m e
-room_left p m (asks.Write x v) e = full_not m e
-room_left p m (asks.Create r) e = full_not m e
-room_left p m (asks.Update r v) e = full_not m e
-room_left p m (asks.Set r v) e = full_not m e
-room_left p m (asks.Value r) e = full_not m e
-room_left p m (asks.Print v) e = full_not m e
-room_left p m (asks.Invoke how callee) e = (crowded_not p callee m e).0
-room_left p m asks.Resume e = full_not m e
-room_left p m asks.Sync e = full_not m e
-room_left p m (asks.Result v) e = full_not m e
-room_left p m (asks.End v) e = full_not m e
-room_left p m (asks.Fault f) e = cc
 
 pub inner_has : (k : Ask) → IsInner k → HasAnswer k
 inner_has asks.Begin h = tt
@@ -195,7 +169,7 @@ answers code p inputs r s' a c' k' left' g allowed inner told on =
       sees = g.sees;
       wait = g.wait;
       opened = g.opened;
-      counted = one_more r.state s' m (event_of fr m k) g.shows (room_left p m k ok) made.events;
+      counted = one_more r.state s' m (event_of fr m k) g.shows (room_for p m k ok) made.events;
       small = g.small;
       behaves = g.behaves;
     }
@@ -251,8 +225,8 @@ invokes code p inputs r s' a how callee well g allowed is made stands owes scope
       sees = sees;
       wait = (record { stands = asking.stands tt; owes = asking.owes tt; scoped = g.scoped; sees = sees_more p fr m.cells (m.cells + cells_of p callee) low g.sees }, wait_more code p inputs m.cells (m.cells + cells_of p callee) r.below g.parents low g.wait);
       opened = omega (arith, op, low);
-      counted = one_more r.state s' m (invocation how (suc m.frames)) g.shows (room_left p m k ok) did.events;
-      small = (crowded_not p callee m ok).2;
+      counted = one_more r.state s' m (invocation how (suc m.frames)) g.shows (room_for p m k ok) did.events;
+      small = (crowded_not p callee m ok).1;
       behaves = g.behaves;
     }
 
@@ -290,7 +264,7 @@ closes code p inputs r s' v g allowed is made cleared =
       completes = subst (λ l. Completes p inputs g.parents l (Finished v r.left (with_store m (stored p fr m k)))) (sym made) (g.completes (act k (pos 0) stop) (events.End ∷ []) _ (Ended v r.left asks ok));
       wait = g.wait;
       opened = g.opened;
-      counted = one_more r.state s' m events.End g.shows (room_left p m k ok) made;
+      counted = one_more r.state s' m events.End g.shows (room_for p m k ok) made;
       small = g.small;
       behaves = g.behaves;
     }
@@ -395,7 +369,7 @@ pub not_crowded : (code : CodeView) (p : Source) (inputs : List ℤ) (r : Runnin
 not_crowded code p inputs r how callee g allowed is =
     let s = g.shows in
     let h = crowded_not p callee g.memory (subst (λ k. refused p g.memory k ≡ None) is (allowed g.memory s)) in
-    (subst (λ n. n < MAX_FRAMES) s.frames h.1, subst (λ n. n ≤ MAX_CELLS) s.cells g.small)
+    (subst (λ n. n < MAX_FRAMES) s.frames h.0, subst (λ n. n ≤ MAX_CELLS) s.cells g.small)
 
 pub few_cells : (code : CodeView) (p : Source) (inputs : List ℤ) (r : Running) → Going code p inputs r → length r.state.cells.items ≤ MAX_CELLS
 few_cells code p inputs r g = let s = g.shows in subst (λ n. n ≤ MAX_CELLS) s.cells g.small
@@ -483,7 +457,7 @@ inner p m (briefs.Fault f) i e ok = cc
 pub falls : (code : CodeView) (p : Source) (inputs : List ℤ) (r : Running) (s' : State) → (g : Going code p inputs r) → IsAllowed p r.state r.ask → length s'.events.items ≡ length r.state.events.items + 1 → MAX_EVENTS - length s'.events.items < MAX_EVENTS - length r.state.events.items
 falls code p inputs r s' g allowed more =
     let s = g.shows in
-    let some = room_left p g.memory r.ask (allowed g.memory s) in
+    let some = room_for p g.memory r.ask (allowed g.memory s) in
     let room = s.room in
     omega (arith, more, some, room)
 

@@ -14,19 +14,13 @@ use Rattle.cilk_monoid.specs.Ranges.{same_instance}
 use Rattle.cilk_monoid.specs.Values.{ViewValue}
 use Rattle.cilk_monoid.proofs.RangeLaws.{same_from_true}
 use Rattle.cilk_hypermap.specs.declared.hypermap.Hypermap.{Hypermap}
-use Rattle.cilk_hypermap.specs.Hypermap.{EachKind, ChangesIn, view_in, value_in}
+use Rattle.cilk_hypermap.specs.Hypermap.{ChangesIn, view_in, value_in}
 use Rattle.cilk_hypermap.specs.Views.{or_unit}
+use Rattle.cilk_hypermap.proofs.Merges.{each_kind}
 use Rattle.cilk_program.specs.Store.{Store, put_view, clear, clear_all, update, set, number_at}
 use Rattle.cilk_program.specs.SerialRun.{Memory, with_store}
 use Rattle.cilk_serial.specs.declared.state.State.{State}
 use Rattle.cilk_serial.specs.States.{Shows, EventMade}
-
-pub each_kind : (P : MonoidKind → Type 0) → EachKind P → (k : MonoidKind) → P k
-each_kind P h Add = h.0
-each_kind P h Least = h.1
-each_kind P h Greatest = h.2
-each_kind P h Append = h.3
-each_kind P h Affine = h.4
 
 chosen_view : (b : Bool) (S : MonoidStructure ViewValue) (w : ViewValue) (o : Option ViewValue) → or_unit S (cond b (Some w) o) ≡ (if b then w else or_unit S o)
 chosen_view true S w o = refl

@@ -26,6 +26,7 @@ use Rattle.cilk_program.specs.SerialRun.{Frame, Memory, itself, cells_of, home_o
 use Rattle.cilk_meaning.proofs.Naming.{SourceIsNamed, loop_levels, well_named_parts}
 use Rattle.cilk_meaning.proofs.Asked.{IsPart, parts_asked, asks_there}
 use Rattle.cilk_meaning.proofs.Sights.{kind_within}
+use Rattle.cilk_meaning.proofs.Sounds.{body_loop, is_loop}
 use Rattle.cilk_serial.specs.Scoped.{Sees, SeesCells, SeesOuter, AreSmall, ResultFits, MayBegin, IsThere, IsBegunRightly, number_in}
 use Rattle.cilk_serial.proofs.Beginnings.{creates}
 
@@ -75,14 +76,6 @@ begins p inputs callees.Root history start left how callee e = inl refl
 begins p inputs (callees.Function c) history start left how callee e = inl refl
 begins p inputs (callees.Loop l) history start left how callee e =
     ⊎_elim (λ one. inl one) (λ several. inr (part_only how callee (subst (λ (q : Asked). IsPart q.ask) e (parts_asked p l several inputs history start)))) (cases_Bool (int_eq (l.high -ℤ l.low) (pos 1)))
-
-abbrev body_loop : Body → ℕ
-body_loop (bodies.Function k) = 0
-body_loop (bodies.Loop k) = k
-
-abbrev is_loop : Body → Type 0
-is_loop (bodies.Function k) = ⊥
-is_loop (bodies.Loop k) = Unit {0}
 
 of_loop : (p : Source) (parent : Callee) (scope : Scope ℕ Instance) (n k : ℕ) → SeesOuter p parent scope n → body_of p parent ≡ bodies.Loop k → SeesCells p (loop_at p k).within (drop 1 scope) n
 of_loop p callees.Root scope n k outer same = absurd (subst is_loop (sym same) tt)
