@@ -101,7 +101,7 @@ written_kind cell instance Calls w e h = ap mark_of h.1
 written_kind cell instance Spawns w e h = ap mark_of h.1
 
 -- what a frame's events are that has this before its shape
-abbrev ahead : Due → List marks.Mark
+abbrev pub ahead : Due → List marks.Mark
 ahead begin_due = mark.Begin ∷ []
 ahead resume_due = mark.Resume ∷ []
 ahead neither_due = []

@@ -20,13 +20,5 @@
 pub mod first_reads;
 pub mod histories;
 pub mod laws;
-#[cfg(test)]
-mod made;
 pub mod race;
-#[cfg(test)]
-mod slow;
-#[cfg(test)]
-mod tests;
 pub mod view_race;
-#[cfg(test)]
-mod worked;

@@ -42,7 +42,5 @@ mod parse;
 mod place;
 pub mod read;
 pub mod reader;
-#[cfg(test)]
-mod tests;
 mod word;
 pub mod write;

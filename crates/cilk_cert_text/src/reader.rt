@@ -49,6 +49,13 @@ fn append(bytes: &mut [u8; LONGEST], length: usize, more: &[u8])
 }
 
 impl Default for LineReader {
+    ghost use Rattle.std.specs.Prelude.{ℕ, List};
+    ghost use Rattle.cilk_cert_text.specs.Reading.{reading_of};
+    ghost use Rattle.cilk_cert_text.specs.Readers.{ahead, fault_of};
+
+    // It stands at the beginning of a text.
+    ghost is_default = { λ r. ((text : List ℕ) → ahead r text ≡ reading_of text) × (fault_of r ≡ None) };
+
     fn default() -> Self {
         LineReader::new()
     }

@@ -4,7 +4,7 @@ use Rattle.std.proofs.lemmas.Option.{slice_get_past}
 use Rattle.cilk_types.specs.declared.event.Event.{Event}
 use Rattle.cilk_types.specs.declared.limits.TheConstants.{MAX_EVENTS, MAX_TICKS}
 use Rattle.cilk_program.specs.declared.ask.Callee.TheVariants as callees
-use Rattle.cilk_program.specs.Outcomes.{Leaves, outcome_of}
+use Rattle.cilk_program.specs.Outcomes.{Conclusion, Leaves, outcome_of}
 use Rattle.cilk_program.specs.Store.{opening}
 use Rattle.cilk_program.specs.Syntax.{Source}
 use Rattle.cilk_program.specs.WellNamed.{is_well_named}
@@ -23,16 +23,17 @@ use Rattle.cilk_runs.specs.Costs.{Total, TickTotal, EventTotal, FrameTotal, Cell
 use Rattle.cilk_runs.specs.Monoids.{IsLawful, unit_of}
 use Rattle.cilk_runs.specs.Trees.{trace}
 use Rattle.cilk_cells.specs.Nested.{begin_due, IsFramed}
-use Rattle.cilk_determinacy.specs.Reducers.{monoid_of}
-use Rattle.cilk_determinacy.specs.Worlds.{World, first_world}
-use Rattle.cilk_determinacy.specs.Machine.{used, limit, costs, opening_values}
+use Rattle.cilk_worlds.specs.Reducers.{monoid_of}
+use Rattle.cilk_worlds.specs.Worlds.{World, first_world}
+use Rattle.cilk_worlds.specs.Machine.{used, limit, costs, opening_values}
 use Rattle.cilk_determinacy.specs.Nested.{named}
 use Rattle.cilk_determinacy.specs.Theorem.{SetWords, IsSerial, IsCounted, CountsAsSerial}
 use Rattle.cilk_determinacy.proofs.Behaving.{run_holds}
-use Rattle.cilk_determinacy.proofs.Numbers.{cell_number, instance_number, HasCell, cell_is}
+use Rattle.cilk_determinacy.specs.Numbers.{cell_number, instance_number, HasCell}
+use Rattle.cilk_determinacy.proofs.Numbers.{cell_is}
 use Rattle.cilk_determinacy.proofs.Remembered.{Remembers, run_remembers}
 use Rattle.cilk_determinacy.proofs.Retired.{root_retires}
-use Rattle.cilk_determinacy.proofs.Shapes.{serial_proper, framed, resumed, synced, closed, inhabited}
+use Rattle.cilk_determinacy.proofs.Shapes.{IsProper, serial_proper, framed, resumed, synced, closed, inhabited}
 use Rattle.cilk_determinacy.proofs.Standing.{standing_root}
 use Rattle.cilk_determinacy.proofs.Stores.{Same}
 use Rattle.cilk_determinacy.proofs.Used.{run_created}
@@ -43,6 +44,10 @@ views_lawful i = record { left = λ v. refl; right = λ v. refl; assoc = λ a b 
 
 opened : (xs : List ℤ) (n : ℕ) → length xs ≤ n → pos 0 ≡ unwrap_or (slice_get xs n) (pos 0)
 opened xs n h = ap (λ o. unwrap_or o (pos 0)) (sym (slice_get_past xs n h))
+
+-- frames begin, resume and end where they must
+pub is_framed : (p : Source) (inputs : List ℤ) (r : serial.Run) (es : List Event) (c : Conclusion) → IsProper r → serial.IsSerialRun p inputs r es c → IsFramed begin_due (named p r)
+is_framed p inputs r es c proper run = framed p begin_due (first_world p) 1 r proper (runs_begin p inputs r es c run, runs_resume p inputs r es c run)
 
 module _ (p : Source) (inputs : List ℤ) (well : IsTrue (is_well_named p)) (r : serial.Run) (es : List Event) (v : ℤ) (left : ℕ) (m : Memory) (d : Serial p inputs (root_frame p inputs) MAX_TICKS [] (begun p callees.Root (before_root p inputs MAX_EVENTS)) r es (Finished v left m)) (words : SetWords es) where
   run : serial.IsSerialRun p inputs r es (Leaves (outcome_of global_reducer p v m.store))
@@ -67,10 +72,8 @@ module _ (p : Source) (inputs : List ℤ) (well : IsTrue (is_well_named p)) (r :
   orderly : IsOrderly p (Fresh (opening_asks p callees.Root)) r
   orderly = runs_orderly p inputs r es (Leaves (outcome_of global_reducer p v m.store)) run
 
-  pub is_framed : IsFramed begin_due t
-  is_framed =
-      framed p begin_due (first_world p) 1 r (serial_proper d)
-      (runs_begin p inputs r es (Leaves (outcome_of global_reducer p v m.store)) run, runs_resume p inputs r es (Leaves (outcome_of global_reducer p v m.store)) run)
+  framed_run : IsFramed begin_due t
+  framed_run = is_framed p inputs r es (Leaves (outcome_of global_reducer p v m.store)) (serial_proper d) run
 
   is_within : (total : Total) → used p inputs total + weight (costs p inputs) total (first_world p) [] t ≤ limit p inputs total
   is_within TickTotal =
@@ -103,13 +106,13 @@ module _ (p : Source) (inputs : List ℤ) (well : IsTrue (is_well_named p)) (r :
   pub is_serial : IsSerial p inputs r
   is_serial = record {
     behaves = (run_holds p inputs d (first_world p) [] 1 (record { callee = refl; answers = refl; going = refl; ordinal = refl }) (omega arith)).0;
-    closed = closed begin_due t is_framed (synced p (first_world p) 1 r (runs_end p inputs r es (Leaves (outcome_of global_reducer p v m.store)) run));
-    resumed = resumed begin_due t is_framed;
+    closed = closed begin_due t framed_run (synced p (first_world p) 1 r (runs_end p inputs r es (Leaves (outcome_of global_reducer p v m.store)) run));
+    resumed = resumed begin_due t framed_run;
     serial = let h = remembers in h.serial;
     views = let h = remembers in h.serial_views;
     created = λ i. run_created p r i t es remembers.written remembers.has (runs_create p well inputs r es (Leaves (outcome_of global_reducer p v m.store)) run);
     retired = λ i. root_retires p i r orderly;
-    inhabited = inhabited t is_framed;
+    inhabited = inhabited t framed_run;
     within = is_within;
   }
 

@@ -15,8 +15,8 @@ use Rattle.cilk_runs.specs.Machine.{started}
 use Rattle.cilk_runs.specs.Costs.{TickTotal, weight}
 use Rattle.cilk_runs.specs.Serial.{Behaves}
 use Rattle.cilk_runs.specs.Theorem.{follows}
-use Rattle.cilk_determinacy.specs.Worlds.{World, child_world}
-use Rattle.cilk_determinacy.specs.Machine.{kind_of_child, retired_by, named_ask, answer_of, answers_of, is_end, has_ended, but_last, asked_after, next, taken, costs}
+use Rattle.cilk_worlds.specs.Worlds.{World, child_world}
+use Rattle.cilk_worlds.specs.Machine.{kind_of_child, retired_by, named_ask, answer_of, answers_of, is_end, has_ended, but_last, asked_after, next, taken, costs}
 use Rattle.cilk_determinacy.specs.Nested.{named_event, named_from}
 use Rattle.cilk_determinacy.proofs.Parts.{is_out}
 use Rattle.cilk_determinacy.proofs.Ticking.{at_full, frame_further}

@@ -15,8 +15,9 @@ use Rattle.cilk_meaning.specs.Numbering.{Counts, counts_of, counts_after, unbegu
 use Rattle.cilk_meaning.proofs.Naming.{well_named_parts}
 use Rattle.cilk_meaning.proofs.Sounds.{MayBegin}
 use Rattle.cilk_runs.specs.Runs.{Cell, Global}
-use Rattle.cilk_determinacy.specs.Worlds.{Sight, given_named, World, first_world, child_world}
-use Rattle.cilk_determinacy.proofs.Numbers.{up_more, child_runs, frame_runs, IsHere, HasCell}
+use Rattle.cilk_worlds.specs.Worlds.{Sight, given_named, World, first_world, child_world}
+use Rattle.cilk_determinacy.specs.Numbers.{child_runs, frame_runs, IsHere, HasCell}
+use Rattle.cilk_determinacy.proofs.Numbers.{up_more}
 use Rattle.cilk_determinacy.proofs.Sights.{Sees, Stands, Ahead, root_here, tied_home, tied_outer, tied_to, tied_result, function_sees, turn_sees, loop_sees, given_here}
 
 module _ (p : Source) (r : Run) where

@@ -20,24 +20,29 @@ use Rattle.cilk_runs.specs.Machine.{State, deeds_at, HasEnd}
 use Rattle.cilk_runs.specs.Monoids.{unit_of}
 use Rattle.cilk_runs.specs.Serial.{value_after}
 use Rattle.cilk_runs.specs.Views.{view_after}
+use Rattle.cilk_runs.specs.Trees.{trace}
 use Rattle.cilk_runs.specs.Theorem.{HasNoRaces, Agrees}
 use Rattle.cilk_runs.specs.Cuts.{below, IsFull}
 use Rattle.cilk_runs.proofs.Find.{full_deeds}
 use Rattle.cilk_runs.proofs.Kept.{opening_ok}
+use Rattle.cilk_runs.proofs.Positions.{cut_closed}
 use Rattle.cilk_runs.proofs.Theorem.{race_free_kept, race_free_agrees, race_free_determinate, follows_determined}
-use Rattle.cilk_cells.specs.Nested.{shape_of}
+use Rattle.cilk_cells.specs.Nested.{shape_of, AreWritten}
 use Rattle.cilk_cells.proofs.Nested.{events_spell}
 use Rattle.cilk_cells.proofs.NestedRaces.{freedom_nests}
-use Rattle.cilk_determinacy.specs.Reducers.{View, monoid_of}
-use Rattle.cilk_determinacy.specs.Worlds.{World, first_world}
-use Rattle.cilk_determinacy.specs.Machine.{next, costs, opening_values}
+use Rattle.cilk_worlds.specs.Reducers.{View, monoid_of}
+use Rattle.cilk_worlds.specs.Worlds.{World, first_world}
+use Rattle.cilk_worlds.specs.Machine.{next, costs, opening_values}
 use Rattle.cilk_determinacy.specs.Nested.{named}
-use Rattle.cilk_determinacy.specs.Theorem.{result_in, outcome_in, IsWithin, Next, IsSerial, IsAsSerial, RunsFree, TicksAddUp, SerialRunsByNames, SerialRunsAreNumbered, OpensAsCut, StepsKeepCuts, CutsAreAsSerial, IsDeterminate}
+use Rattle.cilk_determinacy.specs.Theorem.{IsWithin, IsSerial, IsAsSerial, RunsFree, TicksAddUp, SerialRunsByNames, SerialRunsAreNumbered, OpensAsCut, CutsAreClosed, StepsKeepCuts, CutsAreAsSerial, IsDeterminate}
+use Rattle.cilk_worlds.specs.Steps.{result_in, outcome_in, Next}
 use Rattle.cilk_determinacy.proofs.Assembled.{views_lawful, remembers, is_framed, is_serial}
 use Rattle.cilk_determinacy.proofs.Ending.{run_result, run_ends, same_outcome}
-use Rattle.cilk_determinacy.proofs.Numbers.{cell_number, instance_number}
+use Rattle.cilk_determinacy.specs.Numbers.{cell_number, instance_number}
+use Rattle.cilk_determinacy.proofs.Numbered.{are_written, events_numbered}
 use Rattle.cilk_determinacy.proofs.Parts.{is_out}
-use Rattle.cilk_determinacy.proofs.Spelled.{spells_one}
+use Rattle.cilk_determinacy.proofs.Shapes.{serial_proper}
+use Rattle.cilk_tree.proofs.Spelled.{spells_one}
 use Rattle.cilk_determinacy.proofs.Ticking.{frame_more, frame_further}
 
 -- ---- ticks
@@ -72,12 +77,12 @@ ticks_add_up p inputs = record {
 -- ---- a run that ends
 
 -- a serial run that leaves an outcome finishes
-record Ran (p : Source) (inputs : List ℤ) (r : serial.Run) (es : List Event) (outcome : Outcome) : Type 0 where
-  value : ℤ
-  left : ℕ
-  memory : Memory
-  derivation : Serial p inputs (root_frame p inputs) MAX_TICKS [] (begun p callees.Root (before_root p inputs MAX_EVENTS)) r es (Finished value left memory)
-  leaves : outcome ≡ outcome_of global_reducer p value memory.store
+pub record Ran (p : Source) (inputs : List ℤ) (r : serial.Run) (es : List Event) (outcome : Outcome) : Type 0 where
+  pub value : ℤ
+  pub left : ℕ
+  pub memory : Memory
+  pub derivation : Serial p inputs (root_frame p inputs) MAX_TICKS [] (begun p callees.Root (before_root p inputs MAX_EVENTS)) r es (Finished value left memory)
+  pub leaves : outcome ≡ outcome_of global_reducer p value memory.store
 
 abbrev IsLeft : Conclusion → Type 0
 IsLeft (Leaves o) = Unit {0}
@@ -87,7 +92,7 @@ abbrev left_or : Outcome → Conclusion → Outcome
 left_or o (Leaves o') = o'
 left_or o (StopsBy f) = o
 
-ran : (p : Source) (inputs : List ℤ) (r : serial.Run) (es : List Event) (outcome : Outcome) → serial.IsSerialRun p inputs r es (Leaves outcome) → Ran p inputs r es outcome
+pub ran : (p : Source) (inputs : List ℤ) (r : serial.Run) (es : List Event) (outcome : Outcome) → serial.IsSerialRun p inputs r es (Leaves outcome) → Ran p inputs r es outcome
 ran p inputs r es outcome (end, d, e) = by end d e
   where
     by : (end : Ending) → Serial p inputs (root_frame p inputs) MAX_TICKS [] (begun p callees.Root (before_root p inputs MAX_EVENTS)) r es end → Leaves outcome ≡ conclusion_of p inputs end → Ran p inputs r es outcome
@@ -98,16 +103,14 @@ pub serial_by_names : (p : Source) (inputs : List ℤ) → SerialRunsByNames p i
 serial_by_names p inputs r es outcome well runs words = let h = ran p inputs r es outcome runs in is_serial p inputs well r es h.value h.left h.memory h.derivation words
 
 pub serial_numbered : (p : Source) (inputs : List ℤ) → SerialRunsAreNumbered p inputs
-serial_numbered p inputs r es outcome well runs words =
-    let h = ran p inputs r es outcome runs in
-    let framed = is_framed p inputs well r es h.value h.left h.memory h.derivation words in
-    let known = remembers p inputs well r es h.value h.left h.memory h.derivation words in
+serial_numbered p inputs r es outcome well runs =
+    let framed = is_framed p inputs r es (Leaves outcome) (serial_proper (ran p inputs r es outcome runs).derivation) runs in
+    let n = events_numbered p inputs r es (Leaves outcome) well runs in
+    let written = subst (AreWritten (cell_number p r) (instance_number p r) (trace (named p r))) (sym n.events) (are_written p r [] (named p r)) in
     record {
-      cell = cell_number p r;
-      instance = instance_number p r;
       framed = framed;
-      written = known.written;
-      spells = events_spell World (cell_number p r) (instance_number p r) (named p r) es framed known.written;
+      written = written;
+      spells = events_spell World (cell_number p r) (instance_number p r) (named p r) es framed written;
     }
 
 module _ (p : Source) (inputs : List ℤ) (r : serial.Run) (es : List Event) (outcome : Outcome) (free : RunsFree p inputs r es outcome) where
@@ -116,10 +119,10 @@ module _ (p : Source) (inputs : List ℤ) (r : serial.Run) (es : List Event) (ou
 
   no_races : HasNoRaces (named p r)
   no_races =
-      let n = serial_numbered p inputs r es outcome free.named free.runs free.sets in
+      let n = serial_numbered p inputs r es outcome free.named free.runs in
       let f = free.free in
       let same : f.shape ≡ shape_of (named p r) = spells_one f.shape (shape_of (named p r)) es f.spells n.spells in
-      freedom_nests World n.cell n.instance (named p r) es n.framed n.written (subst (λ s. HasNoRace (tree s) es) same f.races) (subst (λ s. HasNoViewRace (tree s) es) same f.view_races)
+      freedom_nests World (cell_number p r) (instance_number p r) (named p r) es n.framed n.written (subst (λ s. HasNoRace (tree s) es) same f.races) (subst (λ s. HasNoViewRace (tree s) es) same f.view_races)
 
   as_serial : (s : State World View) → Agrees World View monoid_of (Next p inputs) (costs p inputs) (first_world p) (named p r) (opening_values p inputs) s → IsAsSerial p inputs r outcome s
   as_serial s agrees = record {
@@ -148,6 +151,9 @@ module _ (p : Source) (inputs : List ℤ) (r : serial.Run) (es : List Event) (ou
 
 pub opens_as_cut : (p : Source) (inputs : List ℤ) → OpensAsCut p inputs
 opens_as_cut p inputs r s first = opening_ok World View monoid_of (Next p inputs) (costs p inputs) (first_world p) (named p r) (opening_values p inputs) s first
+
+pub cuts_closed : (p : Source) (inputs : List ℤ) → CutsAreClosed p inputs
+cuts_closed p inputs r s cut = cut_closed (named p r) (deeds_at (s.frames [])) (below s.frames) cut.cut
 
 pub steps_keep_cuts : (p : Source) (inputs : List ℤ) → StepsKeepCuts p inputs
 steps_keep_cuts p inputs r es outcome free s s' n cut step =

@@ -19,11 +19,11 @@ use Rattle.cilk_meaning.proofs.Asked.{same_kind_itself}
 use Rattle.cilk_runs.specs.Runs.{Cell, Global, Instance, Output, Does, Deed}
 use Rattle.cilk_runs.specs.Machine.{State, deeds_at, HasEnd}
 use Rattle.cilk_runs.specs.Serial.{own_deeds}
-use Rattle.cilk_determinacy.specs.Reducers.{View, value_of, elements_of}
-use Rattle.cilk_determinacy.specs.Worlds.{World, global_named}
+use Rattle.cilk_worlds.specs.Reducers.{View, value_of, elements_of}
+use Rattle.cilk_worlds.specs.Worlds.{World, global_named}
 use Rattle.cilk_determinacy.specs.Nested.{named_event, named_from}
-use Rattle.cilk_determinacy.specs.Theorem.{result_in, finals_in, outcome_in}
-use Rattle.cilk_determinacy.proofs.Numbers.{HasInstance}
+use Rattle.cilk_worlds.specs.Steps.{result_in, finals_in, outcome_in}
+use Rattle.cilk_determinacy.specs.Numbers.{HasInstance}
 use Rattle.cilk_determinacy.proofs.Remembered.{view_at}
 use Rattle.cilk_determinacy.proofs.Sights.{global_tied, global_here}
 use Rattle.cilk_determinacy.proofs.Stores.{Same}

@@ -1,5 +1,9 @@
 -- The numbers of names in a run. Names that the run has are numbered one to one.
-use Rattle.std.proofs.Common.{◌≡◌, ◌⊎◌, inl, inr, ℕ, zero, suc, ◌+◌, ◌<◌, ◌≤◌, nat_eq, Bool, true, false, ◌&&◌, IsTrue, List, [], ◌∷◌, ◌++◌, length, slice_get, Option, Some, None, refl, sym, ap, ap₂, ◌∙◌, subst, arith, eq-eqb, eqb-true}
+--
+-- - `frame_is`, `cell_is`, `number_is`: numbers by the frame's block;
+-- - `one_frame`, `cells_one`, `instances_one`, `declared_one`: names with one number are one, `same_cells` and `same_instances` by comparison;
+-- - `one_to_one`: the law.
+use Rattle.std.proofs.Common.{◌≡◌, ◌⊎◌, inl, inr, ℕ, suc, ◌+◌, ◌≤◌, nat_eq, Bool, true, false, ◌&&◌, IsTrue, List, [], ◌∷◌, ◌++◌, slice_get, Option, Some, None, refl, sym, ap, ap₂, ◌∙◌, subst, arith, eq-eqb, eqb-true}
 use Rattle.std.proofs.lemmas.Bool.{and_parts, and_from, false≢true, cases_Bool}
 use Rattle.cilk_types.specs.declared.event.Instance as numbered
 use Rattle.cilk_monoid.specs.declared.kind.MonoidKind.{MonoidKind}
@@ -8,28 +12,16 @@ use Rattle.cilk_monoid.specs.Ranges as ranges
 use Rattle.cilk_monoid.proofs.RangeLaws.{same_from_true, same_self}
 use Rattle.cilk_program.specs.declared.ask.Callee.{Callee}
 use Rattle.cilk_program.specs.declared.ask.Callee.TheVariants as callees
-use Rattle.cilk_program.specs.Syntax.{Source, main_of, function_at}
+use Rattle.cilk_program.specs.Syntax.{Source}
 use Rattle.cilk_program.specs.WellNamed.{is_kind}
-use Rattle.cilk_program.specs.SerialRun.{Run, stop, act, child}
+use Rattle.cilk_program.specs.SerialRun.{Run}
 use Rattle.cilk_meaning.specs.Numbering.{Block, Apart, frame_at}
 use Rattle.cilk_meaning.proofs.Asked.{same_kind_itself}
 use Rattle.cilk_meaning.proofs.Numbers.{one_name, past_globals}
 use Rattle.cilk_runs.specs.Runs.{Name, Cell, Global, Own, same_cell, Instance, Output, Reducer, same_instance}
 use Rattle.cilk_runs.proofs.Basics.{same_cell-refl, same_cell-eq, same_kind-eq, same_instance-refl, same_instance-eq}
-use Rattle.cilk_determinacy.specs.Reducers.{kind_of}
-
--- names count children from 1, paths from 0
-abbrev pub up : List ℕ → Name
-up [] = []
-up (k ∷ path) = suc k ∷ up path
-
-abbrev pub below_one : ℕ → ℕ
-below_one zero = 0
-below_one (suc k) = k
-
-abbrev pub down : Name → List ℕ
-down [] = []
-down (k ∷ name) = below_one k ∷ down name
+use Rattle.cilk_determinacy.specs.Numbers.{up, down, frame_runs, all_reducers, first_cell, number_of, frame_number, cell_number, instance_number, IsHere, HasCell, HasReducer, HasInstance, AreOneToOne}
+use Rattle.cilk_worlds.specs.Reducers.{kind_of}
 
 pub down_up : (path : List ℕ) → down (up path) ≡ path
 down_up [] = refl
@@ -39,92 +31,38 @@ pub up_more : (path : List ℕ) (k : ℕ) → up (path ++ k ∷ []) ≡ up path 
 up_more [] k = refl
 up_more (j ∷ path) k = ap (λ l. suc j ∷ l) (up_more path k)
 
--- what the frame to which a path leads runs: first so many children are passed over, then the next child's path follows
-abbrev pub child_runs : Run → ℕ → List ℕ → Option Callee
-child_runs stop k path = None
-child_runs (act a v r) k path = child_runs r k path
-child_runs (child how callee u r) zero [] = Some callee
-child_runs (child how callee u r) zero (j ∷ path) = child_runs u j path
-child_runs (child how callee u r) (suc k) path = child_runs r k path
-
-abbrev pub frame_runs : Run → List ℕ → Option Callee
-frame_runs r [] = Some callees.Root
-frame_runs r (k ∷ path) = child_runs r k path
-
--- the monoids of all the reducers that a frame creates
-abbrev pub all_reducers : Source → Callee → List MonoidKind
-all_reducers p callees.Root = let f = main_of p in p.reducers ++ f.reducers
-all_reducers p (callees.Function c) = let f = function_at p c.function in f.reducers
-all_reducers p (callees.Loop l) = []
-
 pub one_reducer : {name name' : Name} {n n' : ℕ} {k k' : MonoidKind} → name ≡ name' → n ≡ n' → k ≡ k' → Reducer name n k ≡ Reducer name' n' k'
 one_reducer a b c = cc
-
-abbrev pub first_cell : Option Block → ℕ
-first_cell None = 0
-first_cell (Some b) = b.first
-
-abbrev pub number_of : Option Block → ℕ
-number_of None = 0
-number_of (Some b) = b.number
 
 abbrev block_is : Option Block → Block → Block
 block_is None b = b
 block_is (Some c) b = c
 
 module _ (p : Source) (r : Run) where
-  abbrev pub cell_number : Cell → ℕ
-  cell_number (Global n) = n
-  cell_number (Own name n) = first_cell (frame_at p r (down name)) + n
-
-  abbrev pub instance_number : Instance → numbered.Instance
-  instance_number Output = record { frame = 0; place = 0 }
-  instance_number (Reducer name n k) = record { frame = number_of (frame_at p r (down name)); place = suc n }
-
-  -- the run has the frame of a name
-  pub record IsHere (name : Name) : Type 0 where
-    pub path : List ℕ
-    pub named : name ≡ up path
-    pub block : Block
-    pub found : frame_at p r path ≡ Some block
-
-  -- the run has the cell
-  abbrev pub HasCell : Cell → Type 0
-  HasCell (Global n) = n < length p.openings
-  HasCell (Own name n) = (here : IsHere name) × (n < here.block.cells)
-
-  -- the run has the frame of the reducer, which creates it
-  pub record HasReducer (name : Name) (n : ℕ) (k : MonoidKind) : Type 0 where
-    pub here : IsHere name
-    pub callee : Callee
-    pub runs : frame_runs r here.path ≡ Some callee
-    pub declared : IsTrue (is_kind (slice_get (all_reducers p callee) n) k)
-
-  abbrev pub HasInstance : Instance → Type 0
-  HasInstance Output = ⊥
-  HasInstance (Reducer name n k) = HasReducer name n k
-
-  found_at : (name : Name) (here : IsHere name) → frame_at p r (down name) ≡ Some here.block
+  found_at : (name : Name) (here : IsHere p r name) → frame_at p r (down name) ≡ Some here.block
   found_at name here = ap (frame_at p r) (ap down here.named ∙ down_up here.path) ∙ here.found
 
-  pub cell_is : (name : Name) (n : ℕ) (here : IsHere name) → cell_number (Own name n) ≡ here.block.first + n
+  pub frame_is : (name : Name) (here : IsHere p r name) → frame_number p r name ≡ here.block.number
+  frame_is name here = ap number_of (found_at name here)
+
+  pub cell_is : (name : Name) (n : ℕ) (here : IsHere p r name) → cell_number p r (Own name n) ≡ here.block.first + n
   cell_is name n here = ap (λ o. first_cell o + n) (found_at name here)
 
-  pub number_is : (name : Name) (n : ℕ) (k : MonoidKind) (here : IsHere name) → instance_number (Reducer name n k) ≡ record { frame = here.block.number; place = suc n }
+  pub number_is : (name : Name) (n : ℕ) (k : MonoidKind) (here : IsHere p r name) → instance_number p r (Reducer name n k) ≡ record { frame = here.block.number; place = suc n }
   number_is name n k here = ap (λ o. record { frame = number_of o; place = suc n }) (found_at name here)
 
   some_block : (b c : Block) → Some b ≡ Some c → b ≡ c
   some_block b c e = ap (λ o. block_is o b) e
 
   -- two frames that are there are one, or lie apart
-  one_frame : (name name' : Name) (here : IsHere name) (here' : IsHere name') → ((name ≡ name') × (here.block ≡ here'.block)) ⊎ Apart here.block here'.block
+  one_frame : (name name' : Name) (here : IsHere p r name) (here' : IsHere p r name') → ((name ≡ name') × (here.block ≡ here'.block)) ⊎ Apart here.block here'.block
   one_frame name name' here here' = by (one_name p r here.path here'.path here.block here'.block here.found here'.found)
     where
       by : (here.path ≡ here'.path) ⊎ Apart here.block here'.block → ((name ≡ name') × (here.block ≡ here'.block)) ⊎ Apart here.block here'.block
       by (inl e) = inl (here.named ∙ ap up e ∙ sym here'.named, some_block here.block here'.block (sym here.found ∙ ap (frame_at p r) e ∙ here'.found))
       by (inr apart) = inr apart
 
-  pub cells_one : (c d : Cell) → HasCell c → HasCell d → cell_number c ≡ cell_number d → c ≡ d
+  pub cells_one : (c d : Cell) → HasCell p r c → HasCell p r d → cell_number p r c ≡ cell_number p r d → c ≡ d
   cells_one (Global a) (Global b) h g e = ap Global e
   cells_one (Global a) (Own name n) h (here, less) e =
       let low = past_globals p r here.path here.block here.found in
@@ -136,10 +74,10 @@ module _ (p : Source) (r : Run) where
       absurd (omega (arith, g, low, is, e))
   cells_one (Own name n) (Own name' n') (here, less) (here', less') e = by (one_frame name name' here here')
     where
-      is : cell_number (Own name n) ≡ here.block.first + n
+      is : cell_number p r (Own name n) ≡ here.block.first + n
       is = cell_is name n here
 
-      is' : cell_number (Own name' n') ≡ here'.block.first + n'
+      is' : cell_number p r (Own name' n') ≡ here'.block.first + n'
       is' = cell_is name' n' here'
 
       disjoint : {X : Type 0} → (here.block.first + here.block.cells ≤ here'.block.first) ⊎ (here'.block.first + here'.block.cells ≤ here.block.first) → X
@@ -155,24 +93,24 @@ module _ (p : Source) (r : Run) where
       by (inr apart) = disjoint apart.cells
 
   -- the same by comparison
-  pub same_cells : (c d : Cell) → HasCell c → HasCell d → same_cell c d ≡ nat_eq (cell_number c) (cell_number d)
-  same_cells c d h g = by (cases_Bool (nat_eq (cell_number c) (cell_number d)))
+  pub same_cells : (c d : Cell) → HasCell p r c → HasCell p r d → same_cell c d ≡ nat_eq (cell_number p r c) (cell_number p r d)
+  same_cells c d h g = by (cases_Bool (nat_eq (cell_number p r c) (cell_number p r d)))
     where
-      other : (t : Bool) → same_cell c d ≡ t → t ≡ nat_eq (cell_number c) (cell_number d) → same_cell c d ≡ nat_eq (cell_number c) (cell_number d)
+      other : (t : Bool) → same_cell c d ≡ t → t ≡ nat_eq (cell_number p r c) (cell_number p r d) → same_cell c d ≡ nat_eq (cell_number p r c) (cell_number p r d)
       other t e f = e ∙ f
 
-      differ : nat_eq (cell_number c) (cell_number d) ≡ false → same_cell c d ≡ false
+      differ : nat_eq (cell_number p r c) (cell_number p r d) ≡ false → same_cell c d ≡ false
       differ fails = not_same (cases_Bool (same_cell c d))
         where
           not_same : (same_cell c d ≡ true) ⊎ (same_cell c d ≡ false) → same_cell c d ≡ false
-          not_same (inl holds) = absurd (false≢true (sym fails ∙ eq-eqb (cell_number c) (cell_number d) (ap cell_number (same_cell-eq c d holds))))
+          not_same (inl holds) = absurd (false≢true (sym fails ∙ eq-eqb (cell_number p r c) (cell_number p r d) (ap (cell_number p r) (same_cell-eq c d holds))))
           not_same (inr fails) = fails
 
-      by : (nat_eq (cell_number c) (cell_number d) ≡ true) ⊎ (nat_eq (cell_number c) (cell_number d) ≡ false) → same_cell c d ≡ nat_eq (cell_number c) (cell_number d)
-      by (inl holds) = subst (λ d. same_cell c d ≡ true) (cells_one c d h g (eqb-true (cell_number c) (cell_number d) holds)) (same_cell-refl c) ∙ sym holds
+      by : (nat_eq (cell_number p r c) (cell_number p r d) ≡ true) ⊎ (nat_eq (cell_number p r c) (cell_number p r d) ≡ false) → same_cell c d ≡ nat_eq (cell_number p r c) (cell_number p r d)
+      by (inl holds) = subst (λ d. same_cell c d ≡ true) (cells_one c d h g (eqb-true (cell_number p r c) (cell_number p r d) holds)) (same_cell-refl c) ∙ sym holds
       by (inr fails) = differ fails ∙ sym fails
 
-  pub instances_one : (i j : Instance) → HasInstance i → HasInstance j → instance_number i ≡ instance_number j → kind_of i ≡ kind_of j → i ≡ j
+  pub instances_one : (i j : Instance) → HasInstance p r i → HasInstance p r j → instance_number p r i ≡ instance_number p r j → kind_of i ≡ kind_of j → i ≡ j
   instances_one Output j h g e f = absurd h
   instances_one (Reducer name n k) Output h g e f = absurd g
   instances_one (Reducer name n k) (Reducer name' n' k') h g e f = by (one_frame name name' h.here g.here)
@@ -187,28 +125,28 @@ module _ (p : Source) (r : Run) where
       by (inl (same, block)) = one_reducer same places f
       by (inr apart) = absurd (apart.numbers numbers)
 
-  pub same_instances : (i j : Instance) → HasInstance i → HasInstance j → same_instance i j ≡ (same_kind (kind_of i) (kind_of j) && ranges.same_instance (instance_number i) (instance_number j))
-  same_instances i j h g = by (cases_Bool (same_kind (kind_of i) (kind_of j) && ranges.same_instance (instance_number i) (instance_number j)))
+  pub same_instances : (i j : Instance) → HasInstance p r i → HasInstance p r j → same_instance i j ≡ (same_kind (kind_of i) (kind_of j) && ranges.same_instance (instance_number p r i) (instance_number p r j))
+  same_instances i j h g = by (cases_Bool (same_kind (kind_of i) (kind_of j) && ranges.same_instance (instance_number p r i) (instance_number p r j)))
     where
-      differ : (same_kind (kind_of i) (kind_of j) && ranges.same_instance (instance_number i) (instance_number j)) ≡ false → same_instance i j ≡ false
+      differ : (same_kind (kind_of i) (kind_of j) && ranges.same_instance (instance_number p r i) (instance_number p r j)) ≡ false → same_instance i j ≡ false
       differ fails = not_same (cases_Bool (same_instance i j))
         where
           not_same : (same_instance i j ≡ true) ⊎ (same_instance i j ≡ false) → same_instance i j ≡ false
           not_same (inl holds) =
               let e : i ≡ j = same_instance-eq i j holds in
-              let both = and_from (same_kind (kind_of i) (kind_of i)) (ranges.same_instance (instance_number i) (instance_number i)) (same_kind_itself (kind_of i)) (same_self (instance_number i)) in
-              absurd (false≢true (sym fails ∙ subst (λ j. (same_kind (kind_of i) (kind_of j) && ranges.same_instance (instance_number i) (instance_number j)) ≡ true) e both))
+              let both = and_from (same_kind (kind_of i) (kind_of i)) (ranges.same_instance (instance_number p r i) (instance_number p r i)) (same_kind_itself (kind_of i)) (same_self (instance_number p r i)) in
+              absurd (false≢true (sym fails ∙ subst (λ j. (same_kind (kind_of i) (kind_of j) && ranges.same_instance (instance_number p r i) (instance_number p r j)) ≡ true) e both))
           not_same (inr fails) = fails
 
-      by : ((same_kind (kind_of i) (kind_of j) && ranges.same_instance (instance_number i) (instance_number j)) ≡ true) ⊎ ((same_kind (kind_of i) (kind_of j) && ranges.same_instance (instance_number i) (instance_number j)) ≡ false)
-          → same_instance i j ≡ (same_kind (kind_of i) (kind_of j) && ranges.same_instance (instance_number i) (instance_number j))
+      by : ((same_kind (kind_of i) (kind_of j) && ranges.same_instance (instance_number p r i) (instance_number p r j)) ≡ true) ⊎ ((same_kind (kind_of i) (kind_of j) && ranges.same_instance (instance_number p r i) (instance_number p r j)) ≡ false)
+          → same_instance i j ≡ (same_kind (kind_of i) (kind_of j) && ranges.same_instance (instance_number p r i) (instance_number p r j))
       by (inl holds) =
-          let both = and_parts (same_kind (kind_of i) (kind_of j)) (ranges.same_instance (instance_number i) (instance_number j)) holds in
-          subst (λ j. same_instance i j ≡ true) (instances_one i j h g (same_from_true (instance_number i) (instance_number j) both.1) (same_kind-eq (kind_of i) (kind_of j) both.0)) (same_instance-refl i) ∙ sym holds
+          let both = and_parts (same_kind (kind_of i) (kind_of j)) (ranges.same_instance (instance_number p r i) (instance_number p r j)) holds in
+          subst (λ j. same_instance i j ≡ true) (instances_one i j h g (same_from_true (instance_number p r i) (instance_number p r j) both.1) (same_kind-eq (kind_of i) (kind_of j) both.0)) (same_instance-refl i) ∙ sym holds
       by (inr fails) = differ fails ∙ sym fails
 
   -- a number and its declaration tell the monoid
-  pub declared_one : (name name' : Name) (n n' : ℕ) (k k' : MonoidKind) → HasReducer name n k → HasReducer name' n' k' → instance_number (Reducer name n k) ≡ instance_number (Reducer name' n' k') → Reducer name n k ≡ Reducer name' n' k'
+  pub declared_one : (name name' : Name) (n n' : ℕ) (k k' : MonoidKind) → HasReducer p r name n k → HasReducer p r name' n' k' → instance_number p r (Reducer name n k) ≡ instance_number p r (Reducer name' n' k') → Reducer name n k ≡ Reducer name' n' k'
   declared_one name name' n n' k k' h g e = by (one_name p r h.here.path g.here.path h.here.block g.here.block h.here.found g.here.found)
     where
       numbers : h.here.block.number ≡ g.here.block.number
@@ -232,3 +170,18 @@ module _ (p : Source) (r : Run) where
           let here = subst (λ n. IsTrue (is_kind (slice_get (all_reducers p h.callee) n) k)) places h.declared in
           one_reducer (h.here.named ∙ ap up same ∙ sym g.here.named) places (one_kind (slice_get (all_reducers p h.callee) n') k k' here there)
       by (inr apart) = absurd (apart.numbers numbers)
+
+  frames_one : (name name' : Name) → IsHere p r name → IsHere p r name' → frame_number p r name ≡ frame_number p r name' → name ≡ name'
+  frames_one name name' here here' e = by (one_frame name name' here here')
+    where
+      by : ((name ≡ name') × (here.block ≡ here'.block)) ⊎ Apart here.block here'.block → name ≡ name'
+      by (inl (same, block)) = same
+      by (inr apart) = absurd (apart.numbers (sym (frame_is name here) ∙ e ∙ frame_is name' here'))
+
+  reducers_one : (i j : Instance) → HasInstance p r i → HasInstance p r j → instance_number p r i ≡ instance_number p r j → i ≡ j
+  reducers_one Output j h g e = absurd h
+  reducers_one (Reducer name n k) Output h g e = absurd g
+  reducers_one (Reducer name n k) (Reducer name' n' k') h g e = declared_one name name' n n' k k' h g e
+
+  pub one_to_one : AreOneToOne p r
+  one_to_one = record { frames = frames_one; cells = cells_one; reducers = reducers_one }

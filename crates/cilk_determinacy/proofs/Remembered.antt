@@ -28,17 +28,17 @@ use Rattle.cilk_runs.specs.Serial.{value_after, IsRight, IsSerial}
 use Rattle.cilk_runs.specs.Trees.{trace}
 use Rattle.cilk_runs.specs.Views.{view_after, IsViewRight, IsSerialViews}
 use Rattle.cilk_cells.specs.Nested.{IsWrittenEvent, IsWritten, AreWritten}
-use Rattle.cilk_determinacy.specs.Reducers.{View, value_of, kind_of, monoid_of}
-use Rattle.cilk_determinacy.specs.Worlds.{Reducers, own_named, global_named, World, child_world, cell_seen, result_cell}
-use Rattle.cilk_determinacy.specs.Machine.{kind_of_child, retired_by}
+use Rattle.cilk_worlds.specs.Reducers.{View, value_of, kind_of, monoid_of}
+use Rattle.cilk_worlds.specs.Worlds.{Reducers, own_named, global_named, World, child_world, cell_seen, result_cell}
+use Rattle.cilk_worlds.specs.Machine.{kind_of_child, retired_by}
 use Rattle.cilk_determinacy.specs.Nested.{named_event, named_from}
 use Rattle.cilk_determinacy.specs.Theorem.{SetsWord, SetWords}
-use Rattle.cilk_determinacy.proofs.Numbers.{cell_number, instance_number, HasCell, HasInstance}
+use Rattle.cilk_determinacy.specs.Numbers.{cell_number, instance_number, HasCell, HasInstance}
 use Rattle.cilk_determinacy.proofs.Sights.{IsNumbered, tied_cell, tied_reducer, own_tied, own_here, Stands}
 use Rattle.cilk_determinacy.proofs.Standing.{Standing, asked_there, standing_act, standing_child, standing_past}
 use Rattle.cilk_determinacy.proofs.Stores.{Same, same_put, same_put_view, same_print, same_retired}
 
-written_both : {W : Type 0} (cell : Cell → ℕ) (instance : Instance → numbered.Instance) (ds ds' : List (Deed W)) (es es' : List numbers.Event) → AreWritten cell instance ds es → AreWritten cell instance ds' es' → AreWritten cell instance (ds ++ ds') (es ++ es')
+pub written_both : {W : Type 0} (cell : Cell → ℕ) (instance : Instance → numbered.Instance) (ds ds' : List (Deed W)) (es es' : List numbers.Event) → AreWritten cell instance ds es → AreWritten cell instance ds' es' → AreWritten cell instance (ds ++ ds') (es ++ es')
 written_both cell instance [] ds' [] es' h g = g
 written_both cell instance [] ds' (e ∷ es) es' h g = absurd h
 written_both cell instance (d ∷ ds) ds' [] es' h g = absurd h

@@ -17,8 +17,8 @@ use Rattle.cilk_meaning.proofs.Closings.{IsOpening, IsSound, AreOpening, opening
 use Rattle.cilk_runs.specs.Runs.{Instance, has_instance, same_instance}
 use Rattle.cilk_runs.specs.Views.{IsCreate, IsRetire, IsRetiredAtHome}
 use Rattle.cilk_runs.proofs.Basics.{same_instance-eq}
-use Rattle.cilk_determinacy.specs.Worlds.{Reducers, own_named, World, world_of, first_world, child_world, reducer_seen}
-use Rattle.cilk_determinacy.specs.Machine.{retired_from, retired_by}
+use Rattle.cilk_worlds.specs.Worlds.{Reducers, own_named, World, world_of, first_world, child_world, reducer_seen}
+use Rattle.cilk_worlds.specs.Machine.{retired_from, retired_by}
 use Rattle.cilk_determinacy.specs.Nested.{named_event, named_from, named}
 
 -- ---- ends retire what was created

@@ -18,7 +18,7 @@ use Rattle.cilk_determinacy.specs.Settled.{IsJudged, SerialRunsSettle, IsSettled
 use Rattle.cilk_determinacy.specs.Theorem.{IsRaceFree}
 use Rattle.cilk_determinacy.specs.Words.{HasWords, InputsAreWords}
 use Rattle.cilk_determinacy.proofs.Determinate.{serial_numbered}
-use Rattle.cilk_determinacy.proofs.Wordy.{set_words, determinate_in_words}
+use Rattle.cilk_determinacy.proofs.Wordy.{determinate_in_words}
 
 -- ---- judging a list
 
@@ -39,7 +39,7 @@ module _ (p : Source) (inputs : List ℤ) (well : IsTrue (is_well_named p)) (has
   module _ (o : Outcome) (es : List Event) (ran : Ran p inputs o es) where
     -- the list of the serial run spells a shape, so that it can be judged
     spelled : Spells (shape_of (named p ran.run)) es
-    spelled = let n = serial_numbered p inputs ran.run es o well ran.serial (set_words p has inputs words ran.run es (Leaves o) ran.serial) in n.spells
+    spelled = let n = serial_numbered p inputs ran.run es o well ran.serial in n.spells
 
     pub settled_by : ((s : Shape) → Spells s es → IsJudged true es) → IsSettled p inputs o
     settled_by judged =

@@ -13,7 +13,7 @@ use Rattle.cilk_runs.specs.Trees.{trace, Tree, in_series, child_tree, blocks, tr
 use Rattle.cilk_runs.specs.Views.{IsResumed}
 use Rattle.cilk_runs.proofs.Races.{tree_events, tree_size}
 use Rattle.cilk_cells.specs.Nested.{Due, begin_due, resume_due, neither_due, IsFramed}
-use Rattle.cilk_determinacy.specs.Worlds.{World, child_world}
+use Rattle.cilk_worlds.specs.Worlds.{World, child_world}
 use Rattle.cilk_determinacy.specs.Nested.{named_from}
 
 -- ---- from the language's run
@@ -66,7 +66,7 @@ serial_proper (serial.Broke how callee left f q ok inner) = tt
 serial_proper (serial.Refused k left f q bad) = tt
 
 -- what a frame makes next is due as its events say
-abbrev Stage : Due → serial.Run → Type 0
+abbrev pub Stage : Due → serial.Run → Type 0
 Stage begin_due r = language.BeginsOnce false r × language.IsResumed false r
 Stage resume_due r = language.BeginsOnce true r × language.IsResumed true r
 Stage neither_due r = language.BeginsOnce true r × language.IsResumed false r

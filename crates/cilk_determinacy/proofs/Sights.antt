@@ -23,9 +23,10 @@ use Rattle.cilk_meaning.proofs.Naming.{loop_levels}
 use Rattle.cilk_meaning.proofs.Sounds.{MayBegin}
 use Rattle.cilk_runs.specs.Runs.{Name, Cell, Global}
 use Rattle.cilk_runs.proofs.Basics.{same_kind-eq}
-use Rattle.cilk_determinacy.specs.Reducers.{kind_of}
-use Rattle.cilk_determinacy.specs.Worlds.{Reducers, Sight, global_named, before_own, own_named, home_named, outer_named, given_named, result_named, World}
-use Rattle.cilk_determinacy.proofs.Numbers.{up, child_runs, frame_runs, all_reducers, cell_number, instance_number, IsHere, HasCell, HasReducer, HasInstance, cell_is, number_is}
+use Rattle.cilk_worlds.specs.Reducers.{kind_of}
+use Rattle.cilk_worlds.specs.Worlds.{Reducers, Sight, global_named, before_own, own_named, home_named, outer_named, given_named, result_named, World}
+use Rattle.cilk_determinacy.specs.Numbers.{up, child_runs, frame_runs, all_reducers, cell_number, instance_number, IsHere, HasCell, HasReducer, HasInstance}
+use Rattle.cilk_determinacy.proofs.Numbers.{cell_is, number_is}
 
 -- ---- lists of monoids
 

@@ -15,7 +15,7 @@ use Rattle.cilk_program.specs.SerialRun.{Run, act, child, Memory, Frame, root_fr
 use Rattle.cilk_meaning.specs.Numbering.{Counts, counts_of, counts_after, unbegun, entered}
 use Rattle.cilk_meaning.proofs.Asked.{IsPart, parts_asked, asks_there}
 use Rattle.cilk_meaning.proofs.Sounds.{MayBegin}
-use Rattle.cilk_determinacy.specs.Worlds.{World, first_world, child_world}
+use Rattle.cilk_worlds.specs.Worlds.{World, first_world, child_world}
 use Rattle.cilk_determinacy.proofs.Sights.{Stands, Ahead}
 use Rattle.cilk_determinacy.proofs.Children.{root_ahead, child_ahead, past_ahead, root_stands, root_path, child_stands, child_path}
 

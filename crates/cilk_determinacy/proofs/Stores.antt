@@ -13,10 +13,11 @@ use Rattle.cilk_program.specs.SerialRun.{Run}
 use Rattle.cilk_meaning.proofs.Asked.{same_kind_itself}
 use Rattle.cilk_runs.specs.Runs.{Cell, same_cell, Instance, Output, Reducer, same_instance, has_instance}
 use Rattle.cilk_runs.proofs.Basics.{same_instance-eq}
-use Rattle.cilk_determinacy.specs.Reducers.{View, value_of, kind_of}
-use Rattle.cilk_determinacy.specs.Worlds.{Reducers}
-use Rattle.cilk_determinacy.specs.Machine.{retired_from}
-use Rattle.cilk_determinacy.proofs.Numbers.{cell_number, instance_number, HasCell, HasInstance, same_cells, same_instances}
+use Rattle.cilk_worlds.specs.Reducers.{View, value_of, kind_of}
+use Rattle.cilk_worlds.specs.Worlds.{Reducers}
+use Rattle.cilk_worlds.specs.Machine.{retired_from}
+use Rattle.cilk_determinacy.specs.Numbers.{cell_number, instance_number, HasCell, HasInstance}
+use Rattle.cilk_determinacy.proofs.Numbers.{same_cells, same_instances}
 use Rattle.cilk_determinacy.proofs.Sights.{IsNumbered}
 
 -- one comparison chooses on both sides

@@ -10,8 +10,9 @@ use Rattle.cilk_runs.specs.Races.{HasEventWith}
 use Rattle.cilk_runs.specs.Trees.{trace}
 use Rattle.cilk_runs.specs.Views.{IsReducerRead, IsUpdate, IsCreatedFirst, IsCreated as IsCreatedOrUnread}
 use Rattle.cilk_cells.specs.Nested.{IsWrittenEvent, IsWritten, AreWritten}
-use Rattle.cilk_determinacy.specs.Worlds.{World}
-use Rattle.cilk_determinacy.proofs.Numbers.{cell_number, instance_number, HasInstance, declared_one}
+use Rattle.cilk_worlds.specs.Worlds.{World}
+use Rattle.cilk_determinacy.specs.Numbers.{cell_number, instance_number, HasInstance}
+use Rattle.cilk_determinacy.proofs.Numbers.{declared_one}
 use Rattle.cilk_determinacy.proofs.Remembered.{EventHas, RunHas}
 
 abbrev created : List numbers.Event → List numbered.Instance → List numbered.Instance

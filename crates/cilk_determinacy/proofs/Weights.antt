@@ -9,8 +9,8 @@ use Rattle.cilk_runs.specs.Runs.{Event, Reads, Writes, Syncs, Ends, Passes, Deed
 use Rattle.cilk_runs.specs.Costs.{EventTotal, FrameTotal, CellTotal, frames_of, cells_of as cells_begun, weight}
 use Rattle.cilk_runs.specs.Trees.{trace}
 use Rattle.cilk_cells.specs.Nested.{AreWritten}
-use Rattle.cilk_determinacy.specs.Worlds.{World, child_world}
-use Rattle.cilk_determinacy.specs.Machine.{kind_of_child, costs}
+use Rattle.cilk_worlds.specs.Worlds.{World, child_world}
+use Rattle.cilk_worlds.specs.Machine.{kind_of_child, costs}
 use Rattle.cilk_determinacy.specs.Nested.{named_event, named_from}
 
 no_frames : (W : Type 0) (e : Event) → frames_of {W = W} (ask_of e) ≡ 0

@@ -1,9 +1,9 @@
-pub mod Reducers
-pub mod Worlds
-pub mod Machine
+pub mod ReducerEvents
 pub mod Nested
+pub mod Numbers
 pub mod Theorem
 pub mod Worked
 pub mod Words
 pub mod Settled
-pub mod Views
+pub mod Strands
+pub mod Events

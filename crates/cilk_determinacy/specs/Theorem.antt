@@ -1,15 +1,10 @@
 -- The theorem at the language.
-use Rattle.std.specs.Prelude.{◌≡◌, ◌≤◌, ◌<◌, ℕ, suc, ◌+◌, ℤ, pos, List, [], ◌∷◌, ◌++◌, length, IsTrue, None}
+use Rattle.std.specs.Prelude.{◌≡◌, ◌≤◌, ◌<◌, ℕ, ◌+◌, ℤ, List, [], ◌∷◌, ◌++◌, length, IsTrue, None}
 use Rattle.cilk_types.specs.declared.fault.Fault.TheVariants.{TooManyEvents}
 use Rattle.cilk_types.specs.declared.limits.TheConstants.{MAX_EVENTS, MAX_TICKS}
-use Rattle.cilk_types.specs.declared.event.Instance as numbered
 use Rattle.cilk_types.specs.declared.event.Event.{Event}
 use Rattle.cilk_types.specs.declared.event.Event.TheVariants as events
-use Rattle.cilk_types.specs.declared.outcome.Final.{Final}
 use Rattle.cilk_types.specs.declared.outcome.Outcome.{Outcome}
-use Rattle.cilk_monoid.specs.declared.kind.MonoidKind.{MonoidKind}
-use Rattle.cilk_monoid.specs.declared.kind.MonoidKind.TheVariants.{Append}
-use Rattle.cilk_monoid.specs.Kinds.{final_of}
 use Rattle.cilk_monoid.specs.Values.{IsWord}
 use Rattle.cilk_program.specs.declared.ask.Ask as language
 use Rattle.cilk_program.specs.declared.ask.Ask.TheVariants as asks
@@ -18,48 +13,27 @@ use Rattle.cilk_program.specs.declared.ask.Callee.TheVariants as callees
 use Rattle.cilk_program.specs.Behaviour.{asks_for, frame_asks}
 use Rattle.cilk_program.specs.Syntax.{Source}
 use Rattle.cilk_program.specs.WellNamed.{is_well_named}
-use Rattle.cilk_program.specs.Outcomes.{Leaves, cells_from}
+use Rattle.cilk_program.specs.Outcomes.{Leaves}
 use Rattle.cilk_program.specs.Elision.{IsElision}
 use Rattle.cilk_program.specs.SerialRun as serial
 use Rattle.cilk_tree.specs.Shape.{Shape, Spells}
 use Rattle.cilk_tree.specs.Tree.{tree}
 use Rattle.cilk_tree.specs.Races.{HasNoRace}
 use Rattle.cilk_peers.specs.ViewRaces.{HasNoViewRace}
-use Rattle.cilk_runs.specs.Runs.{Name, Ask, Cell, Global, Instance, Output, Reads, Writes, Syncs, Ends, Passes, Deed, Does, Invokes}
+use Rattle.cilk_runs.specs.Runs.{Name}
 use Rattle.cilk_runs.specs.Costs.{Total, TickTotal, EventTotal, FrameTotal, CellTotal, weight}
-use Rattle.cilk_runs.specs.Machine.{State, deeds_at, HasEnd, Step, Steps, IsOpening}
-use Rattle.cilk_runs.specs.Cuts.{IsConsistent}
-use Rattle.cilk_runs.specs.Theorem.{IsSerialRun, Agrees, follows}
+use Rattle.cilk_runs.specs.Machine.{State, deeds_at, HasEnd}
+use Rattle.cilk_runs.specs.Cuts.{IsConsistent, below}
+use Rattle.cilk_runs.specs.Positions.{made_at, IsClosedBefore}
+use Rattle.cilk_runs.specs.Theorem.{IsSerialRun, Agrees}
 use Rattle.cilk_runs.specs.Trees.{trace}
 use Rattle.cilk_cells.specs.Nested.{begin_due, IsFramed, shape_of, AreWritten}
-use Rattle.cilk_determinacy.specs.Reducers.{View, value_of, monoid_of, elements_of}
-use Rattle.cilk_determinacy.specs.Worlds.{World, first_world, global_named}
-use Rattle.cilk_determinacy.specs.Machine.{next, used, costs, opening_values}
+use Rattle.cilk_worlds.specs.Reducers.{View, monoid_of}
+use Rattle.cilk_worlds.specs.Worlds.{World, first_world}
+use Rattle.cilk_worlds.specs.Machine.{used, costs, opening_values}
+use Rattle.cilk_worlds.specs.Steps.{Next, IsFirst, OneStep, Reaches, outcome_in}
 use Rattle.cilk_determinacy.specs.Nested.{named}
-
--- what a frame's end gave
-abbrev pub result_in : List (Deed World) → ℤ
-result_in [] = pos 0
-result_in (Does (Reads c v) ∷ ds) = result_in ds
-result_in (Does (Writes c v) ∷ ds) = result_in ds
-result_in (Does Syncs ∷ ds) = result_in ds
-result_in (Does (Ends v gone) ∷ ds) = v
-result_in (Does (Passes m) ∷ ds) = result_in ds
-result_in (Invokes k w ∷ ds) = result_in ds
-
--- the last values of the global reducers with these monoids, from one on
-abbrev pub finals_in : (Instance → View) → ℕ → List MonoidKind → List Final
-finals_in views n [] = []
-finals_in views n (k ∷ ks) = final_of (value_of k (views (global_named n k))) ∷ finals_in views (suc n) ks
-
--- what a state of the free machine has made of a program whose first frame has ended
-abbrev pub outcome_in : Source → State World View → Outcome
-outcome_in p s = record {
-  result = result_in (deeds_at (s.frames []));
-  globals = cells_from 0 (length p.openings) (λ n. s.memory (Global n));
-  output = elements_of (value_of Append (s.piece [] Output));
-  reducers = finals_in (s.piece []) 0 p.reducers;
-}
+use Rattle.cilk_determinacy.specs.Numbers.{cell_number, instance_number}
 
 -- a reducer is set to a word, as each number of a program is one
 abbrev pub SetsWord : Event → Type 0
@@ -83,27 +57,13 @@ pub record IsRaceFree (es : List Event) : Type 0 where
   pub view_races : HasNoViewRace (tree shape) es
 
 module _ (p : Source) (inputs : List ℤ) where
-  -- what a frame asks for next
-  abbrev pub Next : World → List (Deed World) → Ask World → Type 0
-  Next = follows (next p inputs)
-
   -- the serial run, by names, is one in the sense of the theorem on free machines
   abbrev pub IsSerial : serial.Run → Type 0
-  IsSerial r = IsSerialRun World View monoid_of Next (costs p inputs) (first_world p) (named p r) (opening_values p inputs)
+  IsSerial r = IsSerialRun World View monoid_of (Next p inputs) (costs p inputs) (first_world p) (named p r) (opening_values p inputs)
 
   -- the state is a consistent cut of the serial run by names
   abbrev pub IsCut : serial.Run → State World View → Type 0
   IsCut r s = IsConsistent monoid_of (costs p inputs) (first_world p) (named p r) (opening_values p inputs) s
-
-  abbrev pub IsFirst : State World View → Type 0
-  IsFirst s = IsOpening World View monoid_of Next (costs p inputs) (first_world p) (opening_values p inputs) s
-
-  abbrev pub OneStep : State World View → Name → State World View → Type 0
-  OneStep s n s' = Step World View monoid_of Next (costs p inputs) s n s'
-
-  -- lists of steps lead there from the opening state
-  abbrev pub Reaches : List Name → State World View → Type 0
-  Reaches ns s' = (s : State World View) × IsFirst s × Steps World View monoid_of Next (costs p inputs) ns s s'
 
   -- what the serial run uses as a whole, as the free machine counts it
   abbrev pub whole : serial.Run → Total → ℕ
@@ -114,7 +74,7 @@ module _ (p : Source) (inputs : List ℤ) where
   -- ended, result, globals, output and reducers are the serial elision's, each spawned child is in the joins exactly once, and the totals are
   -- the serial run's; until then fewer events are made.
   pub record IsAsSerial (r : serial.Run) (outcome : Outcome) (s : State World View) : Type 0 where
-    pub agrees : Agrees World View monoid_of Next (costs p inputs) (first_world p) (named p r) (opening_values p inputs) s
+    pub agrees : Agrees World View monoid_of (Next p inputs) (costs p inputs) (first_world p) (named p r) (opening_values p inputs) s
     pub not_stopped : s.stopped ≡ None
     pub outcome_is : HasEnd (deeds_at (s.frames [])) → outcome_in p s ≡ outcome
     pub elided : HasEnd (deeds_at (s.frames [])) → IsElision p inputs (Leaves (outcome_in p s))
@@ -140,16 +100,14 @@ module _ (p : Source) (inputs : List ℤ) where
   abbrev pub SerialRunsByNames : Type 0
   SerialRunsByNames = (r : serial.Run) (es : List Event) (outcome : Outcome) → IsTrue (is_well_named p) → serial.IsSerialRun p inputs r es (Leaves outcome) → SetWords es → IsSerial r
 
-  -- by some numbers the events of the serial run by names are the list, which spells its shape
+  -- the events of the serial run by names are the list, by the numbers of its frames, cells and reducers, and the list spells its shape
   pub record IsNumbered (r : serial.Run) (es : List Event) : Type 0 where
-    pub cell : Cell → ℕ
-    pub instance : Instance → numbered.Instance
     pub framed : IsFramed begin_due (named p r)
-    pub written : AreWritten cell instance (trace (named p r)) es
+    pub written : AreWritten (cell_number p r) (instance_number p r) (trace (named p r)) es
     pub spells : Spells (shape_of (named p r)) es
 
   abbrev pub SerialRunsAreNumbered : Type 0
-  SerialRunsAreNumbered = (r : serial.Run) (es : List Event) (outcome : Outcome) → IsTrue (is_well_named p) → serial.IsSerialRun p inputs r es (Leaves outcome) → SetWords es → IsNumbered r es
+  SerialRunsAreNumbered = (r : serial.Run) (es : List Event) (outcome : Outcome) → IsTrue (is_well_named p) → serial.IsSerialRun p inputs r es (Leaves outcome) → IsNumbered r es
 
   -- what a serial run that ended has used, as the language counts it: all ticks but those that are left, its events, frames and cells
   pub record IsCounted (r : serial.Run) (es : List Event) (left : ℕ) (m : serial.Memory) : Type 0 where
@@ -164,14 +122,19 @@ module _ (p : Source) (inputs : List ℤ) where
       → serial.Serial p inputs (serial.root_frame p inputs) MAX_TICKS [] (serial.begun p callees.Root (serial.before_root p inputs MAX_EVENTS)) r es (serial.Finished value left m) → SetWords es → IsCounted r es left m
 
   abbrev pub OpensAsCut : Type 0
-  OpensAsCut = (r : serial.Run) (s : State World View) → IsFirst s → IsCut r s
+  OpensAsCut = (r : serial.Run) (s : State World View) → IsFirst p inputs s → IsCut r s
+
+  -- in a consistent cut of a serial run, each event that is before one that is made is made
+  abbrev pub CutsAreClosed : Type 0
+  CutsAreClosed =
+      (r : serial.Run) (s : State World View) → IsCut r s → IsClosedBefore (named p r) (made_at (named p r) 1 (deeds_at (s.frames [])) (below s.frames))
 
   abbrev pub StepsKeepCuts : Type 0
-  StepsKeepCuts = (r : serial.Run) (es : List Event) (outcome : Outcome) → RunsFree r es outcome → (s s' : State World View) (n : Name) → IsCut r s → OneStep s n s' → IsCut r s'
+  StepsKeepCuts = (r : serial.Run) (es : List Event) (outcome : Outcome) → RunsFree r es outcome → (s s' : State World View) (n : Name) → IsCut r s → OneStep p inputs s n s' → IsCut r s'
 
   -- each consistent cut of a serial run that ended and has no race is as that run, however it came about
   abbrev pub CutsAreAsSerial : Type 0
   CutsAreAsSerial = (r : serial.Run) (es : List Event) (outcome : Outcome) → RunsFree r es outcome → (s : State World View) → IsCut r s → IsAsSerial r outcome s
 
   abbrev pub IsDeterminate : Type 0
-  IsDeterminate = (r : serial.Run) (es : List Event) (outcome : Outcome) → RunsFree r es outcome → (ns : List Name) (s : State World View) → Reaches ns s → IsAsSerial r outcome s
+  IsDeterminate = (r : serial.Run) (es : List Event) (outcome : Outcome) → RunsFree r es outcome → (ns : List Name) (s : State World View) → Reaches p inputs ns s → IsAsSerial r outcome s

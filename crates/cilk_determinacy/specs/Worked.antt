@@ -9,9 +9,10 @@ use Rattle.cilk_meaning.specs.WorkedFrames.{get}
 use Rattle.cilk_meaning.specs.WorkedReducers.{changed, lent, again}
 use Rattle.cilk_runs.specs.Runs.{Name}
 use Rattle.cilk_runs.specs.Machine.{State, deeds_at, HasEnd}
-use Rattle.cilk_determinacy.specs.Reducers.{View}
-use Rattle.cilk_determinacy.specs.Worlds.{World}
-use Rattle.cilk_determinacy.specs.Theorem.{RunsFree, Reaches, outcome_in}
+use Rattle.cilk_worlds.specs.Reducers.{View}
+use Rattle.cilk_worlds.specs.Worlds.{World}
+use Rattle.cilk_determinacy.specs.Theorem.{RunsFree}
+use Rattle.cilk_worlds.specs.Steps.{Reaches, outcome_in}
 
 -- the program's serial run has no race and leaves this
 abbrev pub IsFree : Source → List ℤ → Outcome → Type 0

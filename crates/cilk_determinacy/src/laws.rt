@@ -2,10 +2,9 @@
 
 ghost use Rattle.std.specs.Prelude.{ℤ, List};
 ghost use Rattle.cilk_program.specs.Syntax.{Source};
-ghost use Rattle.cilk_determinacy.specs.Theorem.{TicksAddUp, SerialRunsByNames, SerialRunsAreNumbered, CountsAsSerial, OpensAsCut, StepsKeepCuts, CutsAreAsSerial, IsDeterminate};
+ghost use Rattle.cilk_determinacy.specs.Theorem.{TicksAddUp, SerialRunsByNames, SerialRunsAreNumbered, CountsAsSerial, OpensAsCut, CutsAreClosed, StepsKeepCuts, CutsAreAsSerial, IsDeterminate};
 ghost use Rattle.cilk_determinacy.specs.Words.{SetsWords, IsDeterminateInWords};
 ghost use Rattle.cilk_determinacy.specs.Worked.{GetIsFree, GetLeaves, LentIsFree, LentLeaves, ChangedIsFree, ChangedLeaves, AgainIsFree, AgainLeaves};
-ghost use Rattle.cilk_determinacy.specs.Views.{AreMultiplied};
 
 /// With more ticks a frame asks the same, unless they had run out, with as many more left. After one more answer it has no more ticks
 /// left. So each frame's ticks can be counted by themselves, as the free machine counts them.
@@ -25,7 +24,8 @@ pub fn serial_run_by_names()
     ensures { (p : Source) (inputs : List ℤ) → SerialRunsByNames p inputs }
 {}
 
-/// Its events by numbers are the list of the serial run, and spell the shape of the nested run.
+/// Where a serial run of a well-named program ends without a fault, its list of events is that of the run by names, each cell and
+/// reducer by the number that [`events::events_have_numbers`](crate::events::events_have_numbers) says, and spells the shape of the nested run.
 pub fn serial_run_is_numbered()
     ensures { (p : Source) (inputs : List ℤ) → SerialRunsAreNumbered p inputs }
 {}
@@ -33,6 +33,11 @@ pub fn serial_run_is_numbered()
 /// Over a whole run the free machine counts what the serial run counts: the same ticks, events, frames and cells.
 pub fn totals_are_serial()
     ensures { (p : Source) (inputs : List ℤ) → CountsAsSerial p inputs }
+{}
+
+/// A consistent cut by positions of the serial run: with an event made, each event before it is made.
+pub fn cuts_are_closed()
+    ensures { (p : Source) (inputs : List ℤ) → CutsAreClosed p inputs }
 {}
 
 /// The opening state of the free machine is a consistent cut.
@@ -82,11 +87,4 @@ pub fn worked_programs()
     ensures changed_leaves { ChangedLeaves }
     ensures again { AgainIsFree }
     ensures again_leaves { AgainLeaves }
-{}
-
-/// The free machine's views are functions, and this ties them to the language's: its empty view is the unit of the monoid, two views that
-/// follow one another are their product by `combine`, and creation, update, set, print and retirement leave the views that they
-/// leave in the monoid. The number that is read is the monoid's. So a sum's view 5 is the function that adds 5.
-pub fn views_are_multiplied()
-    ensures { AreMultiplied }
 {}

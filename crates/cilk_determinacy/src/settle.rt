@@ -1,7 +1,6 @@
 //! One serial run settles every parallel one.
 
-ghost use Rattle.std.specs.Prelude.{◌≤◌, length, MatchOption, IfOk, IfErr};
-ghost use Rattle.cilk_types.specs.declared.limits.TheConstants.{MAX_EVENTS};
+ghost use Rattle.std.specs.Prelude.{MatchOption, IfOk, IfErr};
 ghost use Rattle.cilk_program.specs.Sources.{source};
 ghost use Rattle.cilk_serial.specs.Ran.{IsRunFault};
 ghost use Rattle.cilk_tree.specs.Shape.{Shape, Spells};
@@ -15,10 +14,10 @@ use cilk_peers::walk::classes;
 use cilk_program::program::Program;
 use cilk_serial::fault::RunFault;
 use cilk_serial::run::run;
-use cilk_serial::trace::Trace;
 use cilk_tree::building::tree_of;
 use cilk_types::input::Input;
 use cilk_types::outcome::Outcome;
+use cilk_types::trace::Trace;
 use std::alloc::{AllocError, Global};
 
 /// The outcome of the program's serial elision on this input, where its serial run ends without a fault and has neither a determinacy
@@ -49,7 +48,6 @@ pub fn serial_runs_settle(program: &Program, input: &Input)
 
 // Whether no two positions race.
 fn is_race_free(alloc: Global, trace: &Trace) -> Result<bool, AllocError>
-    requires { length trace.now ≤ MAX_EVENTS }
     ensures { IfOk result (λ free. (s : Shape) → Spells s trace.now → IsJudged free trace.now) }
 {
     let tree = tree_of(alloc, trace)?;

@@ -11,7 +11,7 @@ use Rattle.cilk_program.specs.Behaviour.{Behaviour, Asked, asks_for, ended, fram
 use Rattle.cilk_lower.specs.declared.code.Owed.{Owed}
 use Rattle.cilk_lower.specs.declared.code.Owed.TheVariants.{Nothing, Word}
 use Rattle.cilk_lower.specs.Code.{CodeView}
-use Rattle.cilk_lower.specs.Machine.{Setting, Move, Goes, Waits, Stops, Stuck, Run, Next, Reaches, Fails, going, move, exec, received}
+use Rattle.cilk_lower.specs.Machine.{Given, Setting, Move, Goes, Waits, Stops, Stuck, Run, Next, Reaches, Fails, going, move, exec, received}
 use Rattle.cilk_lower.specs.Behaves.{Behaves}
 use Rattle.cilk_frames.specs.declared.cursor.Answer.{Answer}
 use Rattle.cilk_frames.specs.declared.cursor.Answer.TheVariants.{Done, Value}
@@ -70,9 +70,9 @@ moves m (suc n) place stack held answers left k h = (n, h)
 not_stuck : (room : ℕ) (m : Move) (answers : List ℤ) (go : Next) (k : Asked) → going room m answers go ≡ Reaches k → m ≢ Stuck
 not_stuck room m answers go k h is = let e = ap (λ m. going room m answers go) is in cc
 
-same_setting : (code : CodeView) (inputs : List ℤ) (c c' : CursorView) → c'.room ≡ c.room → c'.callee ≡ c.callee → setting_at inputs code c' ≡ setting_at inputs code c
-same_setting code inputs c c' room callee =
-    ap {A = Callee} {B = Setting} (λ k. setting_of inputs code k c'.room) callee ∙ ap {A = ℕ} {B = Setting} (λ r. setting_of inputs code c.callee r) room
+same_setting : (code : CodeView) (inputs : List ℤ) (c c' : CursorView) → c'.room ≡ c.room → c'.given ≡ c.given → setting_at inputs code c' ≡ setting_at inputs code c
+same_setting code inputs c c' room given =
+    ap {A = Given} {B = Setting} (λ k. setting_of inputs code k c'.room) given ∙ ap {A = ℕ} {B = Setting} (λ r. setting_of inputs code c.given r) room
 
 module _ (code : CodeView) (inputs : List ℤ) (c0 : CursorView) (answer : Answer) (left0 : ℕ) (c : CursorView) (left : ℕ) where
   abbrev here : ℕ → Move
@@ -116,9 +116,9 @@ module _ (code : CodeView) (inputs : List ℤ) (c0 : CursorView) (answer : Answe
       ap (λ l. Reaches (b (word_in answer ∷ []) l)) (sym e) ∙ sym n.1 ∙ ap (λ x. going c.room x [] (then_on n.0)) is ∙ reaches (then_on n.0) in
       cc
 
-  module _ (c' : CursorView) (left' : ℕ) (loop : Loop code inputs c0 answer left0 c left) (room : c'.room ≡ c.room) (callee : c'.callee ≡ c.callee) where
+  module _ (c' : CursorView) (left' : ℕ) (loop : Loop code inputs c0 answer left0 c left) (room : c'.room ≡ c.room) (given : c'.given ≡ c.given) where
     same : setting_at inputs code c' ≡ m
-    same = same_setting code inputs c c' room callee
+    same = same_setting code inputs c c' room given
 
     pub loop_goes : here left ≡ Goes c'.place c'.stack c'.held left' → Loop code inputs c0 answer left0 c' left'
     loop_goes is = record {
@@ -175,6 +175,10 @@ stands_first p code inputs callee h fit = record {
       let same : left ≡ 0 + left = omega arith in
       (n.0, n.1 ∙ ap (λ l. Reaches (ended (frame_gives p inputs callee answers l))) same);
 }
+
+-- a frame that begins as a callee's does
+pub stands_as : (p : Source) (code : CodeView) (inputs : List ℤ) (callee : Callee) (c x : CursorView) → c ≡ x → x ≡ first_of code callee → Behaves p code → CalleeIsFit p callee → Stands code inputs p callee c [] 0
+stands_as p code inputs callee c x e same h fit = subst (λ (c : CursorView). Stands code inputs p callee c [] 0) (sym (e ∙ same)) (stands_first p code inputs callee h fit)
 
 -- the root's frame is always fit
 pub root_stands : (p : Source) (code : CodeView) (inputs : List ℤ) → Behaves p code → Stands code inputs p Root (first_of code Root) [] 0

@@ -1,5 +1,4 @@
 pub mod Asking
-pub mod Calling
 pub mod Effort
 pub mod Following
 pub mod Given

@@ -16,7 +16,7 @@ use Rattle.cilk_lower.specs.declared.code.Instr.TheVariants as instrs
 use Rattle.cilk_lower.specs.declared.code.Owed.{Owed}
 use Rattle.cilk_lower.specs.declared.code.Owed.TheVariants.{Nothing, Word}
 use Rattle.cilk_lower.specs.declared.code.Site.{Site}
-use Rattle.cilk_lower.specs.Machine.{Setting, Move, Goes, Waits, Stops, Stuck, move, ticked, on_top, on_two, on_none, on_words, on_some, or_stops, words_of, part_of, takes_result, has_one, invoked, loop_called, first_half, second_half}
+use Rattle.cilk_lower.specs.Machine.{Setting, Move, Goes, Waits, Stops, Stuck, move, ticked, on_top, on_two, on_none, on_words, on_some, or_stops, has_one, invoked, loop_called, first_half, second_half}
 use Rattle.cilk_frames.specs.Following.{HasAnswer, owed_for}
 
 -- the machine goes on or waits, so that other instructions follow
@@ -150,9 +150,9 @@ module _ (m : Setting) (place : ℕ) (stack : List ℤ) (held : ℤ) where
   straight_send k e = straight_top stack (λ v rest. Waits (k v) Nothing (place + 1) rest held) (λ v rest. straight_waits (k v) Nothing (place + 1) rest held (e v))
 
   -- a loop's frame asks for a child of its own
-  straight_half : (k : LoopPart → Ask) → ((l : LoopPart) → Nothing ≡ owed_for (k l)) → Straight (λ n. on_some (part_of m.callee) (λ l. on_none stack (Waits (k l) Nothing (place + 1) [] held n)))
+  straight_half : (k : LoopPart → Ask) → ((l : LoopPart) → Nothing ≡ owed_for (k l)) → Straight (λ n. on_some m.given.part (λ l. on_none stack (Waits (k l) Nothing (place + 1) [] held n)))
   straight_half k e =
-      straight_some (part_of m.callee) (λ l n. on_none stack (Waits (k l) Nothing (place + 1) [] held n))
+      straight_some m.given.part (λ l n. on_none stack (Waits (k l) Nothing (place + 1) [] held n))
       (λ l. straight_none stack (Waits (k l) Nothing (place + 1) [] held) (straight_waits (k l) Nothing (place + 1) [] held (e l)))
 
   straight_load_element : (a : _) → Straight (move m (Some (instrs.LoadElement a)) place stack held)
@@ -201,7 +201,7 @@ module _ (m : Setting) (place : ℕ) (stack : List ℤ) (held : ℤ) where
 
   straight_skip_unless_one : (n : ℕ) → Straight (move m (Some (instrs.SkipUnlessOne n)) place stack held)
   straight_skip_unless_one n =
-      straight_some (part_of m.callee) (λ p l. if has_one p then Goes (place + 1) stack held l else Goes (place + 1 + n) stack held l)
+      straight_some m.given.part (λ p l. if has_one p then Goes (place + 1) stack held l else Goes (place + 1 + n) stack held l)
       (λ p. straight_if (has_one p) (Goes (place + 1) stack held) (Goes (place + 1 + n) stack held) (straight_goes (place + 1) stack held) (straight_goes (place + 1 + n) stack held))
 
   pub straight : (i : Option Instr) → Straight (move m i place stack held)
@@ -231,10 +231,10 @@ module _ (m : Setting) (place : ℕ) (stack : List ℤ) (held : ℤ) where
   straight (Some (instrs.Update r)) = straight_send (λ v. asks.Update r v) (λ v. refl)
   straight (Some (instrs.Set r)) = straight_send (λ v. asks.Set r v) (λ v. refl)
   straight (Some (instrs.Word n)) =
-      straight_some (slice_get (words_of m.callee) n) (λ v. Waits (asks.Write (places.Local 0 n) v) Nothing (place + 1) stack held)
+      straight_some (slice_get m.given.words n) (λ v. Waits (asks.Write (places.Local 0 n) v) Nothing (place + 1) stack held)
       (λ v. straight_waits (asks.Write (places.Local 0 n) v) Nothing (place + 1) stack held refl)
   straight (Some instrs.Turn) =
-      straight_some (part_of m.callee) (λ (p : LoopPart). Waits (asks.Write (places.Local 0 0) p.low) Nothing (place + 1) stack held)
+      straight_some m.given.part (λ (p : LoopPart). Waits (asks.Write (places.Local 0 0) p.low) Nothing (place + 1) stack held)
       (λ p. straight_waits (asks.Write (places.Local 0 0) p.low) Nothing (place + 1) stack held refl)
   straight (Some (instrs.Invoke k)) = straight_invoke k
   straight (Some (instrs.CallLoop n)) = straight_call_loop n
@@ -248,6 +248,6 @@ module _ (m : Setting) (place : ℕ) (stack : List ℤ) (held : ℤ) where
   straight (Some instrs.Hold) = straight_top stack (λ v rest. Goes (place + 1) rest v) (λ v rest. straight_goes (place + 1) rest v)
   straight (Some instrs.Sync) = straight_none stack (Waits asks.Sync Nothing (place + 1) [] held) (straight_waits asks.Sync Nothing (place + 1) [] held refl)
   straight (Some instrs.GiveResult) =
-      straight_if (takes_result m.callee) (Waits (asks.Result held) Nothing (place + 1) stack held) (Goes (place + 1) stack held)
+      straight_if m.given.takes (Waits (asks.Result held) Nothing (place + 1) stack held) (Goes (place + 1) stack held)
       (straight_waits (asks.Result held) Nothing (place + 1) stack held refl) (straight_goes (place + 1) stack held)
   straight (Some instrs.End) = straight_stops (asks.End held) (λ h. h)

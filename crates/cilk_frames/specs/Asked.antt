@@ -1,5 +1,5 @@
 -- What a frame asks for, where the invocation of a function is kept apart.
-use Rattle.std.specs.Prelude.{Option, Some, None}
+use Rattle.std.specs.Prelude.{ℤ, List, [], Option, Some, None}
 use Rattle.cilk_program.specs.declared.ask.Ask.{Ask}
 use Rattle.cilk_program.specs.declared.ask.Ask.TheVariants as asks
 use Rattle.cilk_program.specs.declared.ask.Callee.TheVariants as callees
@@ -34,3 +34,8 @@ ask_of None how call = asks.Invoke how (callees.Function call)
 abbrev pub IsFunctionCall : Ask → Type 0
 IsFunctionCall (asks.Invoke how (callees.Function call)) = Unit {0}
 IsFunctionCall k = ⊥
+
+-- the words that an invoked function is given
+abbrev pub words_in : Ask → List ℤ
+words_in (asks.Invoke how (callees.Function call)) = call.words
+words_in k = []

@@ -8,7 +8,7 @@ use Rattle.cilk_program.specs.Behaviour.{Behaviour, asks_for, frame_asks}
 use Rattle.cilk_lower.specs.declared.code.Owed.{Owed}
 use Rattle.cilk_lower.specs.declared.code.Owed.TheVariants.{Nothing, Word}
 use Rattle.cilk_lower.specs.Code.{CodeView}
-use Rattle.cilk_lower.specs.Machine.{Setting, Run, Reaches, exec, received}
+use Rattle.cilk_lower.specs.Machine.{Given, Setting, Run, Reaches, exec, received}
 use Rattle.cilk_frames.specs.declared.cursor.Answer.{Answer}
 use Rattle.cilk_frames.specs.declared.cursor.Answer.TheVariants.{Done, Value}
 use Rattle.cilk_frames.specs.Cursor.{CursorView}
@@ -77,11 +77,11 @@ child_of (asks.End v) = None
 child_of (asks.Fault f) = None
 
 -- what stays the same while the frame runs
-abbrev pub setting_of : List ℤ → CodeView → Callee → ℕ → Setting
-setting_of inputs code callee room = record { inputs = inputs; code = code; callee = callee; room = room }
+abbrev pub setting_of : List ℤ → CodeView → Given → ℕ → Setting
+setting_of inputs code given room = record { inputs = inputs; code = code; given = given; room = room }
 
 abbrev pub setting_at : List ℤ → CodeView → CursorView → Setting
-setting_at inputs code c = setting_of inputs code c.callee c.room
+setting_at inputs code c = setting_of inputs code c.given c.room
 
 -- the machine from where the cursor stands, once the answer came
 abbrev pub resumes : CodeView → List ℤ → CursorView → ℕ → ℤ → List ℤ → ℕ → Run

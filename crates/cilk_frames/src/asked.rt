@@ -1,14 +1,15 @@
 //! What a frame asked for last, kept in its place.
 
-ghost use Rattle.std.specs.Prelude.{◌≡◌, MatchOption, IfSome, IsSome, None, Some};
+ghost use Rattle.std.specs.Prelude.{◌≡◌, ◌≤◌, [], length, ℤ, List, MatchOption, IfSome, IsSome, None, Some};
 ghost use Rattle.cilk_program.specs.declared.ask.Ask.TheVariants.{Begin, Invoke};
 ghost use Rattle.cilk_program.specs.declared.ask.Callee.TheVariants as callees;
 ghost use Rattle.cilk_program.specs.declared.syntax.Invocation.{Invocation};
-ghost use Rattle.cilk_lower.specs.Machine.{invoked};
-ghost use Rattle.cilk_frames.specs.Asked.{IsFunctionCall, in_full};
+ghost use Rattle.cilk_lower.specs.Machine.{Move, invoked, on_words};
+ghost use Rattle.cilk_frames.specs.Asked.{IsFunctionCall, in_full, words_in};
 ghost use Rattle.cilk_frames.specs.Following.{child_of};
 
 use crate::brief::Brief;
+use crate::cursor::Cursor;
 use cilk_lower::code::Site;
 use cilk_program::ask::{Ask, Callee, FunctionCall};
 use cilk_program::given::{References, Words};
@@ -78,18 +79,6 @@ impl Asked {
         &self.call
     }
 
-    /// What the child that begins runs.
-    pub fn callee(&self) -> Callee
-        requires { IsSome (child_of self.now) }
-        ensures { child_of self.now ≡ Some result }
-    {
-        match self.brief {
-            Some(Brief::Turns(_, part)) => Callee::Loop(part),
-            Some(_) => unreachable!(),
-            None => function(&self.call),
-        }
-    }
-
     /// The ask.
     pub fn in_full(&self) -> Ask
         ensures { result ≡ self.now }
@@ -107,15 +96,23 @@ impl Asked {
         self.brief = Some(brief);
     }
 
-    // The invocation of a call site's function with these words.
-    pub(crate) fn invoke(&mut self, site: &Site, words: Words)
-        ensures { self.new ≡ invoked site.now words }
+    // The invocation of a call site's function with the words on top of a frame's operands.
+    pub(crate) fn invoke(&mut self, site: &Site, cursor: &mut Cursor)
+        requires few { site.now.words ≤ 16 }
+        requires there { site.now.words ≤ length cursor.old.stack }
+        ensures asks { self.new ≡ invoked site.now (words_in self.new) }
+        ensures words { (go : List ℤ → List ℤ → Move) → on_words site.now.words [] cursor.old.stack go ≡ go (words_in self.new) cursor.new.stack }
+        ensures place { cursor.new.place ≡ cursor.old.place }
+        ensures owed { cursor.new.owed ≡ cursor.old.owed }
+        ensures room { cursor.new.room ≡ cursor.old.room }
+        ensures given { cursor.new.given ≡ cursor.old.given }
+        ensures held { cursor.new.held ≡ cursor.old.held }
     {
         self.brief = None;
         self.how = site.how;
         self.call.function = site.function;
-        self.call.words = words;
-        self.call.reducers = site.reducers.copied();
+        cursor.gather(site.words, &mut self.call.words);
+        self.call.reducers.take_from(&site.reducers);
         self.call.result = site.result;
     }
 }

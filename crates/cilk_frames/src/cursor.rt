@@ -5,15 +5,14 @@ ghost use Rattle.cilk_program.specs.Syntax.{Source};
 ghost use Rattle.cilk_program.specs.Inside.{CalleeIsFit};
 ghost use Rattle.cilk_program.specs.declared.ask.Ask.TheVariants.{Begin};
 ghost use Rattle.cilk_lower.specs.Behaves.{Behaves};
-ghost use Rattle.cilk_lower.specs.Machine.{Move, on_words, part_of, takes_result, words_of};
-ghost use Rattle.cilk_frames.specs.Cursor.{first_of};
+ghost use Rattle.cilk_lower.specs.Machine.{Move, on_words};
+ghost use Rattle.cilk_frames.specs.Cursor.{begins_at};
 ghost use Rattle.cilk_frames.specs.Following.{Fits, Stands, child_of, owed_for};
 ghost use Rattle.cilk_frames.specs.Moving.{HasRoom, told};
 
-use crate::asked::Asked;
 use crate::operands::Operands;
-use cilk_lower::code::{Code, Owed};
-use cilk_program::ask::{Ask, Callee, LoopPart};
+use cilk_lower::code::{Code, Entry, Owed};
+use cilk_program::ask::{Ask, Callee, FunctionCall, LoopPart};
 use cilk_program::given::Words;
 use std::alloc::{AllocError, Global};
 use std::marker::Model;
@@ -27,10 +26,12 @@ pub enum Answer {
     Value(i64),
 }
 
-/// Where a frame stands: what it runs, the next instruction, the operands, what it is owed, and the result that it holds.
+/// Where a frame stands: what it was given, the next instruction, the operands, what it is owed, and the result that it
+/// holds.
 #[derive(Drop)]
 pub struct Cursor {
-    callee: Callee,
+    part: Option<LoopPart>,
+    takes: bool,
     place: usize,
     owed: Owed,
     operands: Operands,
@@ -42,7 +43,7 @@ impl Model for Cursor {
 
     ghost Value = { CursorView };
 
-    ghost view = { λ c. record { callee = c.callee; place = c.place; owed = c.owed; stack = c.operands.stack; room = c.operands.room; held = c.held } };
+    ghost view = { λ c. record { given = record { words = c.operands.words; part = c.part; takes = c.takes }; place = c.place; owed = c.owed; stack = c.operands.stack; room = c.operands.room; held = c.held } };
 }
 
 impl Cursor {
@@ -52,40 +53,60 @@ impl Cursor {
         ensures stands { IfOk result (λ c. (p : Source) (inputs : List ℤ) → Behaves p code.now → Stands code.now inputs p Callee.Root c [] 0) }
         ensures owes { IfOk result (λ c. c.owed ≡ owed_for Begin) }
     {
-        Cursor::first(alloc, code, Callee::Root)
+        Cursor::first(alloc, code.entry(&Callee::Root), &[], None, false)
     }
 
     /// The frame that an invocation asks for, before it begins. It takes the memory that the frame's operands need.
-    #[tactic(auto, using(crate::proofs::Following::stands_first))]
     pub fn new(alloc: Global, code: &Code, ask: &Ask) -> Result<Cursor, AllocError>
         requires { IsSome (child_of ask.now) }
         ensures stands { IfOk result (λ c. IfSome (child_of ask.now) (λ callee. (p : Source) (inputs : List ℤ) → Behaves p code.now → CalleeIsFit p callee → Stands code.now inputs p callee c [] 0)) }
         ensures owes { IfOk result (λ c. c.owed ≡ owed_for Begin) }
     {
         match ask {
-            Ask::Invoke(_, callee) => Cursor::first(alloc, code, callee.copied()),
+            Ask::Invoke(_, Callee::Root) => Cursor::root(alloc, code),
+            Ask::Invoke(_, Callee::Function(call)) => Cursor::function(alloc, code, call),
+            Ask::Invoke(_, Callee::Loop(part)) => Cursor::turns(alloc, code, part),
             _ => unreachable!(),
         }
     }
 
-    /// The frame that a kept ask begins, as [`Cursor::new`] has it of an ask.
-    #[tactic(auto, using(crate::proofs::Following::stands_first))]
-    pub fn asked(alloc: Global, code: &Code, asked: &Asked) -> Result<Cursor, AllocError>
-        requires { IsSome (child_of asked.now) }
-        ensures stands { IfOk result (λ c. IfSome (child_of asked.now) (λ callee. (p : Source) (inputs : List ℤ) → Behaves p code.now → CalleeIsFit p callee → Stands code.now inputs p callee c [] 0)) }
+    /// The frame of a function that is called with these words, before it begins.
+    pub fn function(alloc: Global, code: &Code, call: &FunctionCall) -> Result<Cursor, AllocError>
+        ensures stands { IfOk result (λ c. (p : Source) (inputs : List ℤ) → Behaves p code.now → CalleeIsFit p (Callee.Function call.now) → Stands code.now inputs p (Callee.Function call.now) c [] 0) }
         ensures owes { IfOk result (λ c. c.owed ≡ owed_for Begin) }
     {
-        Cursor::first(alloc, code, asked.callee())
+        let entry = code.function_entry(call.function);
+        Cursor::first(
+            alloc,
+            entry,
+            call.words.as_slice(),
+            None,
+            call.result.is_some(),
+        )
+    }
+
+    /// The frame of these turns of a loop, before it begins.
+    pub fn turns(alloc: Global, code: &Code, part: &LoopPart) -> Result<Cursor, AllocError>
+        ensures stands { IfOk result (λ c. (p : Source) (inputs : List ℤ) → Behaves p code.now → CalleeIsFit p (Callee.Loop part.now) → Stands code.now inputs p (Callee.Loop part.now) c [] 0) }
+        ensures owes { IfOk result (λ c. c.owed ≡ owed_for Begin) }
+    {
+        Cursor::first(alloc, code.loop_entry(part.number), &[], Some(*part), false)
     }
 
     // A frame before it begins.
-    fn first(alloc: Global, code: &Code, callee: Callee) -> Result<Cursor, AllocError>
-        ensures { IfOk result (λ c. c ≡ first_of code.now callee) }
+    fn first(
+        alloc: Global,
+        entry: Entry,
+        words: &[i64],
+        part: Option<LoopPart>,
+        takes: bool,
+    ) -> Result<Cursor, AllocError>
+        ensures { IfOk result (λ c. c ≡ begins_at entry (record { words = words.now; part = part; takes = takes })) }
     {
-        let entry = code.entry(&callee);
-        let operands = Operands::new(alloc, entry.room)?;
+        let operands = Operands::new(alloc, entry.room, words)?;
         Ok(Cursor {
-            callee,
+            part,
+            takes,
             place: entry.place,
             owed: Owed::Nothing,
             operands,
@@ -108,35 +129,26 @@ impl Cursor {
     }
 
     // A word that the frame was given.
-    pub(crate) fn given(&self, number: usize) -> i64
-        requires { slice_get (words_of self.now.callee) number ≢ None }
-        ensures { slice_get (words_of self.now.callee) number ≡ Some result }
+    pub(crate) fn word(&self, number: usize) -> i64
+        requires { slice_get self.now.given.words number ≢ None }
+        ensures { slice_get self.now.given.words number ≡ Some result }
     {
-        match &self.callee {
-            Callee::Function(call) => call.words.as_slice()[number],
-            _ => unreachable!(),
-        }
+        self.operands.word(number)
     }
 
     // The turns of a loop that the frame runs.
     pub(crate) fn part(&self) -> LoopPart
-        requires { part_of self.now.callee ≢ None }
-        ensures { part_of self.now.callee ≡ Some result }
+        requires { self.now.given.part ≢ None }
+        ensures { self.now.given.part ≡ Some result }
     {
-        match &self.callee {
-            Callee::Loop(part) => *part,
-            _ => unreachable!(),
-        }
+        self.part.unwrap()
     }
 
     // Whether the caller takes the frame's result.
     pub(crate) fn gives_result(&self) -> bool
-        ensures { result ≡ takes_result self.now.callee }
+        ensures { result ≡ self.now.given.takes }
     {
-        match &self.callee {
-            Callee::Function(call) => call.result.is_some(),
-            _ => false,
-        }
+        self.takes
     }
 
     // The answer comes.
@@ -165,28 +177,25 @@ impl Cursor {
         ensures stack { self.old.stack ≡ result ∷ self.new.stack }
         ensures place { self.new.place ≡ self.old.place }
         ensures room { self.new.room ≡ self.old.room }
-        ensures callee { self.new.callee ≡ self.old.callee }
+        ensures given { self.new.given ≡ self.old.given }
         ensures held { self.new.held ≡ self.old.held }
         ensures bound { length self.new.stack < self.new.room }
     {
-        let Some(word) = self.operands.pop() else {
-            unreachable!()
-        };
-        word
+        self.operands.pop()
     }
 
-    // So many words leave, the uppermost as the last.
-    pub(crate) fn gather(&mut self, count: usize) -> Words
+    // So many words leave, the uppermost as the last, and replace those of a list.
+    pub(crate) fn gather(&mut self, count: usize, words: &mut Words)
         requires few { count ≤ 16 }
         requires there { count ≤ length self.old.stack }
-        ensures words { (go : List ℤ → List ℤ → Move) → on_words count [] self.old.stack go ≡ go result self.new.stack }
+        ensures words { (go : List ℤ → List ℤ → Move) → on_words count [] self.old.stack go ≡ go words.new self.new.stack }
         ensures place { self.new.place ≡ self.old.place }
         ensures owed { self.new.owed ≡ self.old.owed }
         ensures room { self.new.room ≡ self.old.room }
-        ensures callee { self.new.callee ≡ self.old.callee }
+        ensures given { self.new.given ≡ self.old.given }
         ensures held { self.new.held ≡ self.old.held }
     {
-        self.operands.gather(count)
+        self.operands.gather(count, words);
     }
 
     // No operand waits where one would leave the machine stuck.
@@ -229,9 +238,10 @@ impl Cursor {
 
     // Back by so many instructions.
     pub(crate) fn go_back(&mut self, count: usize)
+        requires { count ≤ self.old.place }
         ensures { self.new ≡ record self.old { place = self.old.place - count } }
     {
-        self.place = self.place.saturating_sub(count);
+        self.place -= count;
     }
 
     // On to the next instruction, which waits for an answer.

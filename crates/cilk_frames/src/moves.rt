@@ -7,7 +7,7 @@ ghost use Rattle.cilk_program.specs.declared.ask.Callee.TheVariants as callees;
 ghost use Rattle.cilk_program.specs.declared.ask.Ask.TheVariants as asks;
 ghost use Rattle.cilk_lower.specs.Code.{CodeView};
 ghost use Rattle.cilk_lower.specs.declared.code.Owed.TheVariants.{Nothing, Word};
-ghost use Rattle.cilk_lower.specs.Machine.{Goes, Stuck, Waits, loop_called, on_none, on_top, on_two, or_stops, takes_result, ticked};
+ghost use Rattle.cilk_lower.specs.Machine.{Goes, Stuck, Waits, loop_called, on_none, on_top, on_two, or_stops, ticked};
 ghost use Rattle.cilk_frames.specs.Asked.{in_full};
 ghost use Rattle.cilk_frames.specs.Moving.{IsGoing, TakesTick, moved};
 
@@ -68,7 +68,7 @@ pub fn tick(cursor: &mut Cursor, left: &mut u32, asked: &mut Asked) -> Moved
     requires { cursor.old.place < 2 ^ 63 }
     ensures moves { (code : CodeView) → ticked left.old (Goes (cursor.old.place + 1) cursor.old.stack cursor.old.held) ≡ moved code result asked.new cursor.new left.new }
     ensures room { cursor.new.room ≡ cursor.old.room }
-    ensures callee { cursor.new.callee ≡ cursor.old.callee }
+    ensures given { cursor.new.given ≡ cursor.old.given }
     ensures falls { IsGoing result → left.old ≡ suc left.new }
 {
     if !take_tick(left) {
@@ -83,7 +83,7 @@ pub fn load(cursor: &mut Cursor, ask: Brief, left: &mut u32, asked: &mut Asked) 
     requires { cursor.old.place < 2 ^ 63 }
     ensures moves { (code : CodeView) → ticked left.old (Waits (in_full ask) Word (cursor.old.place + 1) cursor.old.stack cursor.old.held) ≡ moved code result asked.new cursor.new left.new }
     ensures room { cursor.new.room ≡ cursor.old.room }
-    ensures callee { cursor.new.callee ≡ cursor.old.callee }
+    ensures given { cursor.new.given ≡ cursor.old.given }
     ensures asks { IsGoing result → ⊥ }
 {
     if !take_tick(left) {
@@ -99,7 +99,7 @@ pub fn load_element(cursor: &mut Cursor, array: Array, left: &mut u32, asked: &m
     requires small { cursor.old.place < 2 ^ 63 }
     ensures moves { (code : CodeView) → on_top cursor.old.stack (λ i rest. or_stops IndexOutside (element array i) left.old (λ x. ticked left.old (Waits (asks.Read x) Word (cursor.old.place + 1) rest cursor.old.held))) ≡ moved code result asked.new cursor.new left.new }
     ensures room { cursor.new.room ≡ cursor.old.room }
-    ensures callee { cursor.new.callee ≡ cursor.old.callee }
+    ensures given { cursor.new.given ≡ cursor.old.given }
     ensures asks { IsGoing result → ⊥ }
 {
     let index = cursor.pop();
@@ -116,7 +116,7 @@ pub fn fetch_element(cursor: &mut Cursor, array: Array, asked: &mut Asked) -> Mo
     requires small { cursor.old.place < 2 ^ 63 }
     ensures moves { (code : CodeView) (left : ℕ) → on_top cursor.old.stack (λ i rest. or_stops IndexOutside (element array i) left (λ x. Waits (asks.Read x) Word (cursor.old.place + 1) (i ∷ rest) cursor.old.held left)) ≡ moved code result asked.new cursor.new left }
     ensures room { cursor.new.room ≡ cursor.old.room }
-    ensures callee { cursor.new.callee ≡ cursor.old.callee }
+    ensures given { cursor.new.given ≡ cursor.old.given }
     ensures asks { IsGoing result → ⊥ }
 {
     let index = cursor.pop();
@@ -144,7 +144,7 @@ pub fn store_element(cursor: &mut Cursor, array: Array, asked: &mut Asked) -> Mo
     requires small { cursor.old.place < 2 ^ 63 }
     ensures moves { (code : CodeView) (left : ℕ) → on_two cursor.old.stack (λ i v rest. or_stops IndexOutside (element array i) left (λ x. Waits (asks.Write x v) Nothing (cursor.old.place + 1) rest cursor.old.held left)) ≡ moved code result asked.new cursor.new left }
     ensures room { cursor.new.room ≡ cursor.old.room }
-    ensures callee { cursor.new.callee ≡ cursor.old.callee }
+    ensures given { cursor.new.given ≡ cursor.old.given }
     ensures asks { IsGoing result → ⊥ }
 {
     let word = cursor.pop();
@@ -161,7 +161,7 @@ pub fn call_loop(cursor: &mut Cursor, number: u32, asked: &mut Asked) -> Moved
     requires small { cursor.old.place < 2 ^ 63 }
     ensures moves { (code : CodeView) (left : ℕ) → on_two cursor.old.stack (λ low high rest. on_none rest (if int_lt low high then Waits (loop_called number low high) Nothing (cursor.old.place + 1) [] cursor.old.held left else Goes (cursor.old.place + 2) [] cursor.old.held left)) ≡ moved code result asked.new cursor.new left }
     ensures room { cursor.new.room ≡ cursor.old.room }
-    ensures callee { cursor.new.callee ≡ cursor.old.callee }
+    ensures given { cursor.new.given ≡ cursor.old.given }
     ensures onward { cursor.old.place < cursor.new.place }
 {
     let high = cursor.pop();
@@ -212,9 +212,9 @@ pub fn skip_if(cursor: &mut Cursor, skips: bool, count: usize) -> Moved
 /// The result that is held goes to the caller, if it takes one.
 pub fn give_result(cursor: &mut Cursor, asked: &mut Asked) -> Moved
     requires { cursor.old.place < 2 ^ 63 }
-    ensures moves { (code : CodeView) (left : ℕ) → (if takes_result cursor.old.callee then Waits (asks.Result cursor.old.held) Nothing (cursor.old.place + 1) cursor.old.stack cursor.old.held left else Goes (cursor.old.place + 1) cursor.old.stack cursor.old.held left) ≡ moved code result asked.new cursor.new left }
+    ensures moves { (code : CodeView) (left : ℕ) → (if cursor.old.given.takes then Waits (asks.Result cursor.old.held) Nothing (cursor.old.place + 1) cursor.old.stack cursor.old.held left else Goes (cursor.old.place + 1) cursor.old.stack cursor.old.held left) ≡ moved code result asked.new cursor.new left }
     ensures room { cursor.new.room ≡ cursor.old.room }
-    ensures callee { cursor.new.callee ≡ cursor.old.callee }
+    ensures given { cursor.new.given ≡ cursor.old.given }
     ensures onward { cursor.new.place ≡ cursor.old.place + 1 }
 {
     if cursor.gives_result() {
@@ -226,12 +226,13 @@ pub fn give_result(cursor: &mut Cursor, asked: &mut Asked) -> Moved
 }
 
 /// A value takes its tick and goes onto the stack.
+#[inline(always)]
 pub fn give(cursor: &mut Cursor, word: i64, left: &mut u32, asked: &mut Asked) -> Moved
     requires room { length cursor.old.stack < cursor.old.room }
     requires small { cursor.old.place < 2 ^ 63 }
     ensures moves { (code : CodeView) → ticked left.old (Goes (cursor.old.place + 1) (word ∷ cursor.old.stack) cursor.old.held) ≡ moved code result asked.new cursor.new left.new }
     ensures room { cursor.new.room ≡ cursor.old.room }
-    ensures callee { cursor.new.callee ≡ cursor.old.callee }
+    ensures given { cursor.new.given ≡ cursor.old.given }
     ensures falls { IsGoing result → left.old ≡ suc left.new }
 {
     if !take_tick(left) {
@@ -252,7 +253,7 @@ pub fn give_checked(
     requires small { cursor.old.place < 2 ^ 63 }
     ensures moves { (code : CodeView) → or_stops fault word left.old (λ v. ticked left.old (Goes (cursor.old.place + 1) (v ∷ cursor.old.stack) cursor.old.held)) ≡ moved code result asked.new cursor.new left.new }
     ensures room { cursor.new.room ≡ cursor.old.room }
-    ensures callee { cursor.new.callee ≡ cursor.old.callee }
+    ensures given { cursor.new.given ≡ cursor.old.given }
     ensures falls { IsGoing result → left.old ≡ suc left.new }
 {
     match word {

@@ -1,78 +1,95 @@
-//! A stack of words with room for so many, which takes no memory.
+//! The words of a frame, which take memory once.
 
-ghost use Rattle.std.specs.Prelude.{◌≡◌, ◌<◌, ◌≤◌, ◌∷◌, [], length, List, ℤ, IfOk, IfSome, MatchOption};
+ghost use Rattle.std.specs.Prelude.{◌≡◌, ◌≢◌, ◌<◌, ◌≤◌, ◌∷◌, [], length, slice_get, List, ℤ, IfOk, None, Some};
 ghost use Rattle.cilk_lower.specs.Machine.{Move, on_words};
 
 use cilk_program::given::Words;
 use std::alloc::{AllocError, Global};
 use std::marker::Model;
 
-/// The operands of a frame: at most `room` words.
+/// The words that a frame was given, and its operands: a stack of at most `room` words.
 #[derive(Drop)]
 pub struct Operands {
+    // First the words that were given, then the room for the stack, which is filled from its end.
     items: Vec<i64>,
-    room: usize,
+    given: usize,
+    start: usize,
 }
 
 impl Model for Operands {
     ghost use Rattle.cilk_frames.specs.Operands.{OperandsView};
-    ghost use Rattle.std.specs.Prelude.{◌≤◌, reverse, vec_len, vec_capacity};
+    ghost use Rattle.std.specs.Prelude.{◌≤◌, ◌-◌, drop, take, length};
 
     ghost Value = { OperandsView };
 
-    ghost view = { λ o. record { stack = reverse o.items.items; room = o.room } };
+    ghost view = { λ o. record { words = take o.given o.items.items; stack = drop o.start o.items.items; room = length o.items.items - o.given } };
 
-    ghost invariant = { λ o. (vec_len o.items ≤ o.room) × (o.room ≤ vec_capacity o.items) };
+    ghost invariant = { λ o. (o.given ≤ o.start) × (o.start ≤ length o.items.items) };
 }
 
 impl Operands {
-    /// No words yet, with room for so many.
-    pub fn new(alloc: Global, room: usize) -> Result<Operands, AllocError>
-        ensures { IfOk result (λ o. o ≡ record { stack = []; room = room }) }
+    /// These words are given, and no others are there yet, with room for so many.
+    pub fn new(alloc: Global, room: usize, words: &[i64]) -> Result<Operands, AllocError>
+        ensures { IfOk result (λ o. o ≡ record { words = words.now; stack = []; room = room }) }
     {
+        let total = room.saturating_add(words.len());
+        let mut items = vec![in alloc; 0; total]?;
+        'each: for number in 0..words.len() {
+            items[number] = words[number];
+        }
         Ok(Operands {
-            items: Vec::with_capacity(alloc, room)?,
-            room,
+            items,
+            given: words.len(),
+            start: total,
         })
+    }
+
+    /// A word that was given.
+    pub fn word(&self, number: usize) -> i64
+        requires { slice_get self.now.words number ≢ None }
+        ensures { slice_get self.now.words number ≡ Some result }
+    {
+        let words = &self.items[..self.given];
+        words[number]
     }
 
     /// A word onto the top.
     pub fn push(&mut self, word: i64)
         requires { length self.old.stack < self.old.room }
-        ensures { self.new ≡ record { stack = word ∷ self.old.stack; room = self.old.room } }
+        ensures { self.new ≡ record self.old { stack = word ∷ self.old.stack } }
     {
-        match self.items.push(word) {
-            Ok(()) => {}
-            Err(_) => unreachable!(),
-        }
+        self.start -= 1;
+        self.items[self.start] = word;
     }
 
-    /// The word on top leaves, if there is one.
-    pub fn pop(&mut self) -> Option<i64>
-        ensures stack { MatchOption result (self.old.stack ≡ []) (λ word. self.old.stack ≡ word ∷ self.new.stack) }
-        ensures bound { IfSome result (λ _. length self.new.stack < self.new.room) }
+    /// The word on top leaves.
+    pub fn pop(&mut self) -> i64
+        requires { self.old.stack ≢ [] }
+        ensures stack { self.old.stack ≡ result ∷ self.new.stack }
+        ensures bound { length self.new.stack < self.new.room }
         ensures room { self.new.room ≡ self.old.room }
+        ensures words { self.new.words ≡ self.old.words }
     {
-        self.items.pop()
+        let word = self.items[self.start];
+        self.start += 1;
+        word
     }
 
-    /// So many words leave, the uppermost as the last.
+    /// So many words leave, the uppermost as the last, and replace those of a list.
     #[tactic(auto, using(crate::proofs::Given::words_more))]
-    pub fn gather(&mut self, count: usize) -> Words
+    pub fn gather(&mut self, count: usize, words: &mut Words)
         requires few { count ≤ 16 }
         requires there { count ≤ length self.old.stack }
-        ensures words { (go : List ℤ → List ℤ → Move) → on_words count [] self.old.stack go ≡ go result self.new.stack }
+        ensures gathered { (go : List ℤ → List ℤ → Move) → on_words count [] self.old.stack go ≡ go words.new self.new.stack }
         ensures room { self.new.room ≡ self.old.room }
+        ensures words { self.new.words ≡ self.old.words }
     {
-        let mut words = Words::new();
+        words.clear();
         let mut more = count;
         'each: while more > 0 {
-            let Some(word) = self.pop() else {
-                unreachable!()
-            };
+            let word = self.pop();
             words.put(word);
             more -= 1;
         }
-        words
     }
 }

@@ -23,12 +23,9 @@ use cilk_types::fault::Fault;
 use cilk_types::input::Input;
 use cilk_types::word;
 
-#[cfg(test)]
-mod tests;
-
 /// Goes on from the answer to the next thing that the frame asks for. `left` is the ticks that the run has left: the
-/// step takes those that the frame's statements and expressions take meanwhile. It takes no memory and always ends. Who runs
-/// many frames keeps one ask and uses [`go_on`].
+/// step takes those that the frame's statements and expressions take meanwhile. It takes no memory and always ends.
+/// This is the plain form; who runs many frames keeps one ask and uses [`step_into`].
 pub fn step(code: &Code, input: &Input, cursor: &mut Cursor, answer: Answer, left: &mut u32) -> Ask
     requires runs { Runs code.now input.now cursor.old }
     requires fits { Fits cursor.old.owed answer }
@@ -36,12 +33,12 @@ pub fn step(code: &Code, input: &Input, cursor: &mut Cursor, answer: Answer, lef
     ensures stands { (p : Source) (callee : Callee) (history : List ℤ) (took : ℕ) → Stands code.now input.now p callee cursor.old history took → GoesOn code.now input.now cursor.old answer left.old result cursor.new left.new p callee history took }
 {
     let mut asked = Asked::new();
-    go_on(code, input, cursor, answer, left, &mut asked);
+    step_into(code, input, cursor, answer, left, &mut asked);
     asked.in_full()
 }
 
 /// The step of [`step`], which leaves what the frame asks for in a place of the caller's.
-pub fn go_on(
+pub fn step_into(
     code: &Code,
     input: &Input,
     cursor: &mut Cursor,
@@ -66,6 +63,7 @@ pub fn go_on(
 }
 
 // One instruction.
+#[inline(always)]
 #[tactic(auto, using(crate::proofs::Effort::effort_back))]
 fn advance(
     code: &Code,
@@ -77,33 +75,30 @@ fn advance(
     requires { move_at code.now input.now cursor.old left.old ≢ Stuck }
     ensures moves { move_at code.now input.now cursor.old left.old ≡ moved code.now result asked.new cursor.new left.new }
     ensures room { cursor.new.room ≡ cursor.old.room }
-    ensures callee { cursor.new.callee ≡ cursor.old.callee }
+    ensures given { cursor.new.given ≡ cursor.old.given }
     ensures falls { IsGoing result → effort code.now.instrs cursor.new.place left.new < effort code.now.instrs cursor.old.place left.old }
 {
-    let Some(instr) = code.at(cursor.place()) else {
-        unreachable!()
-    };
-    match instr {
+    match code.at(cursor.place()) {
         Instr::Tick => tick(cursor, left, asked),
-        Instr::Push(word) => give(cursor, word, left, asked),
-        Instr::Load(place) => load(cursor, Brief::Read(place), left, asked),
-        Instr::LoadElement(array) => load_element(cursor, array, left, asked),
-        Instr::Fetch(place) => wait(cursor, Brief::Read(place), Owed::Word, asked),
-        Instr::FetchElement(array) => fetch_element(cursor, array, asked),
+        Instr::Push(word) => give(cursor, *word, left, asked),
+        Instr::Load(place) => load(cursor, Brief::Read(*place), left, asked),
+        Instr::LoadElement(array) => load_element(cursor, *array, left, asked),
+        Instr::Fetch(place) => wait(cursor, Brief::Read(*place), Owed::Word, asked),
+        Instr::FetchElement(array) => fetch_element(cursor, *array, asked),
         Instr::Store(place) => {
             let word = cursor.pop();
-            store(cursor, place, word, asked)
+            store(cursor, *place, word, asked)
         }
-        Instr::StoreElement(array) => store_element(cursor, array, asked),
-        Instr::Zero(number) => store(cursor, Place::Local(0, number), 0, asked),
+        Instr::StoreElement(array) => store_element(cursor, *array, asked),
+        Instr::Zero(number) => store(cursor, Place::Local(0, *number), 0, asked),
         Instr::Combine(operator) => {
             let y = cursor.pop();
             let x = cursor.pop();
-            put(cursor, change(operator, x, y))
+            put(cursor, change(*operator, x, y))
         }
         Instr::AddNumber(number) => {
             let x = cursor.pop();
-            put(cursor, word::add(x, number))
+            put(cursor, word::add(x, *number))
         }
         Instr::Negate => {
             let x = cursor.pop();
@@ -116,14 +111,14 @@ fn advance(
         Instr::Apply(operator) => {
             let y = cursor.pop();
             let x = cursor.pop();
-            let word = apply(operator, x, y);
+            let word = apply(*operator, x, y);
             give_checked(cursor, word, Fault::DivisionByZero, left, asked)
         }
         Instr::Truth => {
             let x = cursor.pop();
             give(cursor, truth(x), left, asked)
         }
-        Instr::Value(reducer) => load(cursor, Brief::Value(reducer), left, asked),
+        Instr::Value(reducer) => load(cursor, Brief::Value(*reducer), left, asked),
         Instr::Input => {
             let x = cursor.pop();
             give_checked(cursor, input.at(x), Fault::InputOutside, left, asked)
@@ -133,18 +128,18 @@ fn advance(
             let word = cursor.pop();
             wait(cursor, Brief::Print(word), Owed::Nothing, asked)
         }
-        Instr::Create(reducer) => wait(cursor, Brief::Create(reducer), Owed::Nothing, asked),
+        Instr::Create(reducer) => wait(cursor, Brief::Create(*reducer), Owed::Nothing, asked),
         Instr::Update(reducer) => {
             let word = cursor.pop();
-            wait(cursor, Brief::Update(reducer, word), Owed::Nothing, asked)
+            wait(cursor, Brief::Update(*reducer, word), Owed::Nothing, asked)
         }
         Instr::Set(reducer) => {
             let word = cursor.pop();
-            wait(cursor, Brief::Set(reducer, word), Owed::Nothing, asked)
+            wait(cursor, Brief::Set(*reducer, word), Owed::Nothing, asked)
         }
         Instr::Word(number) => {
-            let word = cursor.given(number as usize);
-            store(cursor, Place::Local(0, number), word, asked)
+            let word = cursor.word(*number as usize);
+            store(cursor, Place::Local(0, *number), word, asked)
         }
         Instr::Turn => {
             let turn = cursor.part().low;
@@ -152,9 +147,9 @@ fn advance(
         }
         Instr::Invoke(number) => {
             cursor.wait(Owed::Nothing);
-            Moved::Invokes(number)
+            Moved::Invokes(*number)
         }
-        Instr::CallLoop(number) => call_loop(cursor, number, asked),
+        Instr::CallLoop(number) => call_loop(cursor, *number, asked),
         Instr::SpawnHalf => {
             cursor.no_operand_waits();
             let half = first_half(cursor.part());
@@ -168,15 +163,15 @@ fn advance(
         Instr::Resume => wait(cursor, Brief::Resume, Owed::Nothing, asked),
         Instr::SkipIfZero(count) => {
             let word = cursor.pop();
-            skip_if(cursor, word == 0, count)
+            skip_if(cursor, word == 0, *count)
         }
         Instr::SkipUnlessOne(count) => {
             let one = has_one(cursor.part());
-            skip_if(cursor, !one, count)
+            skip_if(cursor, !one, *count)
         }
-        Instr::GoOn(count) => skip_if(cursor, true, count),
+        Instr::GoOn(count) => skip_if(cursor, true, *count),
         Instr::GoBack(count) => {
-            cursor.go_back(count);
+            cursor.go_back(*count);
             Moved::Goes
         }
         Instr::Hold => {
@@ -200,12 +195,11 @@ fn invoke(code: &Code, cursor: &mut Cursor, number: usize, asked: &mut Asked)
     requires { (left : ℕ) × (invoking code.now number cursor.old left ≢ Stuck) }
     ensures moves { (left : ℕ) → invoking code.now number cursor.old left ≡ Waits asked.new cursor.new.owed cursor.new.place cursor.new.stack cursor.new.held left }
     ensures room { cursor.new.room ≡ cursor.old.room }
-    ensures callee { cursor.new.callee ≡ cursor.old.callee }
+    ensures given { cursor.new.given ≡ cursor.old.given }
 {
     let Some(site) = code.site(number) else {
         unreachable!()
     };
-    let words = cursor.gather(site.words);
+    asked.invoke(site, cursor);
     cursor.no_operand_waits();
-    asked.invoke(site, words);
 }

@@ -232,7 +232,7 @@ impl Hypermap {
         ensures values { IfOk result (λ h. EachKind (λ k. (j : Instance) → value_in h k j ≡ (structure_of k).combine (value_in left k j) (value_in right k j))) }
         ensures err { IfErr result (λ p. KeepsAllValues left p.0 × KeepsAllValues right p.1) }
 
-        // Pieces of a run may be merged wherever it was cut.
+        // Pieces of a run may be merged where the right one resets nothing that the left one mentions.
         ensures ranges { IfOk result (JoinsRanges left right) }
     {
         let none = Hypermap::new(alloc);
@@ -275,6 +275,3 @@ fn number(view: Option<NumberView>) -> Option<Final>
 {
     view.map(|view| Final::Number(view.number))
 }
-
-#[cfg(test)]
-mod tests;

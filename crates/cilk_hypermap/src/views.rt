@@ -249,6 +249,3 @@ impl<M: Monoid> Views<M> {
         }
     }
 }
-
-#[cfg(test)]
-mod tests;

@@ -20,9 +20,9 @@ ghost use Rattle.cilk_tree.specs.Tree.{Tree, preorder};
 ghost use Rattle.cilk_tree.specs.declared.tree.Node.{Node};
 ghost use Rattle.cilk_labels.specs.Walk.{numbers_from};
 
-use cilk_tree::stack::Stack;
 use cilk_tree::tree::{Node, SpTree};
 use cilk_types::event::StrandNo;
+use cilk_types::stack::Stack;
 use std::alloc::{AllocError, Global};
 use std::marker::Model;
 
@@ -106,48 +106,4 @@ fn visit(node: &Node, starts: &mut Stack<u32>, numbers: &mut Vec<u32>) -> Result
         }
     }
     Ok(())
-}
-
-#[cfg(test)]
-mod tests {
-    use super::*;
-    use cilk_serial::trace::Trace;
-    use cilk_tree::building::tree_of;
-    use cilk_types::event::Event;
-    use std::test::Fail;
-
-    #[test]
-    fn a_spawned_write_and_the_read_after_it(rt: HostRuntime) -> Result<(), Fail> {
-        let events = [
-            Event::Begin { frame: 1 },
-            Event::Write { cell: 0, value: 0 },
-            Event::Write { cell: 1, value: 0 },
-            Event::Spawn { child: 2 },
-            Event::Begin { frame: 2 },
-            Event::Sync,
-            Event::Write { cell: 0, value: 1 },
-            Event::End,
-            Event::Resume { parent: 1 },
-            Event::Read { cell: 0, value: 1 },
-            Event::Write { cell: 1, value: 1 },
-            Event::Sync,
-            Event::Read { cell: 1, value: 1 },
-            Event::Sync,
-            Event::End,
-        ];
-        let trace = Trace::new(events.to_vec(rt.alloc())?);
-        let tree = tree_of(rt.alloc(), &trace)?;
-        let labels = label(rt.alloc(), &tree)?;
-        assert_eq!(rt; labels.count(), 6);
-        let hebrews = [1, 3, 4, 2, 5, 6];
-        for one in 1..7 {
-            assert_eq!(rt; labels.hebrew(one), hebrews[one as usize - 1]);
-            for other in 1..7 {
-                let is_peer = (one == 4 && (other == 2 || other == 3))
-                    || (other == 4 && (one == 2 || one == 3));
-                assert_eq!(rt; labels.parallel(one, other), is_peer);
-            }
-        }
-        Ok(())
-    }
 }

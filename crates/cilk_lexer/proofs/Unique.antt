@@ -20,7 +20,7 @@ both : (a b : Bool) → (a && b) ≡ true → (a ≡ true) × (b ≡ true)
 both true b h = (refl, h)
 both false b h = cc
 
-same_byte : (b c : ℕ) → (b == c) ≡ true → b ≡ c
+pub same_byte : (b c : ℕ) → (b == c) ≡ true → b ≡ c
 same_byte b c h = grind (arith, nat_tests)
 
 same_are : (bs cs : List ℕ) → same_bytes bs cs ≡ true → bs ≡ cs
@@ -33,14 +33,14 @@ same_are (b ∷ bs) (c ∷ cs) h =
     ap (λ x. x ∷ bs) (same_byte b c p.0) ∙ ap (λ x. c ∷ x) (same_are bs cs p.1)
 
 -- the reserved word, or a name
-named : List Kind → List ℕ → Kind
+pub named : List Kind → List ℕ → Kind
 named [] w = kinds.Name
 named (k ∷ ks) w = cond (same_bytes w (spelling k)) k (named ks w)
 
-words : List Kind
+pub words : List Kind
 words = kinds.Int ∷ kinds.Void ∷ kinds.If ∷ kinds.Else ∷ kinds.While ∷ kinds.For ∷ kinds.Return ∷ kinds.CilkSpawn ∷ kinds.CilkSync ∷ kinds.CilkFor ∷ kinds.CilkReducer ∷ kinds.Print ∷ kinds.Update ∷ kinds.Set ∷ kinds.Value ∷ kinds.Input ∷ kinds.InputCount ∷ []
 
-data Front : Type 0 where
+pub data Front : Type 0 where
   Skips : (fresh : Bool) (rest : List ℕ) → Front
   Cuts : (kind : Kind) (rest : List ℕ) → Front
   Stops : Front
@@ -87,7 +87,7 @@ abbrev blank_or_sign : Bool → ℕ → List ℕ → Front
 blank_or_sign fresh b bs = cond (is_blank b) (Skips (fresh || b == 10) bs) (sign b bs)
 
 -- what stands first
-abbrev front : Bool → List ℕ → Front
+abbrev pub front : Bool → List ℕ → Front
 front fresh [] = Stops
 front fresh (b ∷ bs) = cond (is_letter b) (cut_word b bs) (cond (is_digit b) (cut_number b bs) (blank_or_sign fresh b bs))
 
@@ -104,13 +104,13 @@ below_96 b h = grind (arith, nat_tests)
 not_95 : (b : ℕ) → b < 58 → (b == 95) ≡ false
 not_95 b h = grind (arith, nat_tests)
 
-low_no_letter : (b : ℕ) → b < 58 → is_letter b ≡ false
+pub low_no_letter : (b : ℕ) → b < 58 → is_letter b ≡ false
 low_no_letter b h = no_letter b (below_64 b h) (below_96 b h) (not_95 b h)
 
 below_58 : (b : ℕ) → nat_lt b 58 ≡ true → b < 58
 below_58 b h = grind (arith, nat_tests)
 
-digit_no_letter : (b : ℕ) → is_digit b ≡ true → is_letter b ≡ false
+pub digit_no_letter : (b : ℕ) → is_digit b ≡ true → is_letter b ≡ false
 digit_no_letter b h = low_no_letter b (below_58 b (both (nat_lt 47 b) (nat_lt b 58) h).1)
 
 is_32 : (b : ℕ) → (b == 32) ≡ true → b < 33
@@ -123,14 +123,14 @@ either : (a c : Bool) → (a || c) ≡ true → (a ≡ true) ⊎ (c ≡ true)
 either true c h = inl refl
 either false c h = inr h
 
-blank_low : (b : ℕ) → is_blank b ≡ true → b < 33
+pub blank_low : (b : ℕ) → is_blank b ≡ true → b < 33
 blank_low b h = choose (either (b == 32) (nat_lt 8 b && nat_lt b 14) h)
   where
     choose : ((b == 32) ≡ true) ⊎ ((nat_lt 8 b && nat_lt b 14) ≡ true) → b < 33
     choose (inl e) = is_32 b e
     choose (inr e) = below_14 b (both (nat_lt 8 b) (nat_lt b 14) e).1
 
-below_47 : (b : ℕ) → b < 33 → nat_lt 47 b ≡ false
+pub below_47 : (b : ℕ) → b < 33 → nat_lt 47 b ≡ false
 below_47 b h = grind (arith, nat_tests)
 
 word_front : (fresh : Bool) (bytes : List ℕ) → starts_letter bytes ≡ true → front fresh bytes ≡ Cuts (named words (front_of classes.Word bytes)) (behind classes.Word bytes)
@@ -154,7 +154,7 @@ first_byte : (t : Bool) (b c : ℕ) (x cs : List ℕ) → cond t (b ∷ x) [] �
 first_byte true b c x cs h = cc
 first_byte false b c x cs h = cc
 
-letter_of : (bytes w : List ℕ) → front_of classes.Word bytes ≡ w → starts_letter w ≡ true → starts_letter bytes ≡ true
+pub letter_of : (bytes w : List ℕ) → front_of classes.Word bytes ≡ w → starts_letter w ≡ true → starts_letter bytes ≡ true
 letter_of [] w e h = subst (λ x. starts_letter x ≡ true) (sym e) h
 letter_of (b ∷ bs) [] e h = cc
 letter_of (b ∷ bs) (c ∷ cs) e h = ap is_letter (first_byte (belongs classes.Word b) b c (front_of classes.Word bs) cs e) ∙ h
@@ -201,7 +201,7 @@ word_starts kinds.InputCount h = refl
 word_starts _ h = cc
 
 -- a word that is no reserved one is a name
-not_same : (t : Bool) → (t ≡ true → ⊥) → t ≡ false
+pub not_same : (t : Bool) → (t ≡ true → ⊥) → t ≡ false
 not_same true h = absurd (h refl)
 not_same false h = refl
 
@@ -225,7 +225,7 @@ reserved_front k fresh bytes rest r h =
     ∙ (ap (λ w. Cuts (named words w) (behind classes.Word bytes)) h.0
     ∙ (ap (λ x. Cuts x (behind classes.Word bytes)) (word_named k r) ∙ ap (λ x. Cuts k x) (sym h.1)))
 
-spells_front : (k : Kind) (fresh : Bool) (bytes rest : List ℕ) → Spells k bytes rest → front fresh bytes ≡ Cuts k rest
+pub spells_front : (k : Kind) (fresh : Bool) (bytes rest : List ℕ) → Spells k bytes rest → front fresh bytes ≡ Cuts k rest
 spells_front (kinds.Number n) fresh bytes rest h =
     number_front fresh bytes h.0 ∙ (ap (λ x. Cuts (kinds.Number x) (behind classes.Word bytes)) (sym h.4) ∙ ap (λ x. Cuts (kinds.Number n) x) (sym h.1))
 spells_front kinds.Name fresh bytes rest h =
@@ -284,7 +284,7 @@ spells_front kinds.Slash fresh bytes rest h =
     ∙ (ap (λ t. cond t (Skips false (behind classes.Line (drop 1 rest))) (cond (begins_with 42 rest) (closed (after_close (drop 1 rest))) (Cuts kinds.Slash rest))) h.1.0
     ∙ ap (λ t. cond t (closed (after_close (drop 1 rest))) (Cuts kinds.Slash rest)) h.1.1)
 
-passes_front : (gap : Gap) (fresh : Bool) (bytes : List ℕ) (fresh' : Bool) (rest : List ℕ) → Passes gap fresh bytes fresh' rest → front fresh bytes ≡ Skips fresh' rest
+pub passes_front : (gap : Gap) (fresh : Bool) (bytes : List ℕ) (fresh' : Bool) (rest : List ℕ) → Passes gap fresh bytes fresh' rest → front fresh bytes ≡ Skips fresh' rest
 passes_front gaps.Blank fresh bytes fresh' rest h =
     ap (front fresh) h.1 ∙ (blank_front fresh h.0 rest h.2 ∙ ap (λ x. Skips x rest) (sym h.3))
 passes_front gaps.LineComment fresh bytes fresh' rest h =

@@ -1,5 +1,5 @@
 -- The arrays that the code of a well named body names have numbers for all their cells.
-use Rattle.std.proofs.Common.{◌≡◌, ℕ, zero, suc, ◌+◌, ◌^◌, ◌≤◌, Bool, true, false, ◌&&◌, IsTrue, List, [], ◌∷◌, ◌++◌, length, Option, Some, None, refl, sym, subst, arith, IfSome}
+use Rattle.std.proofs.Common.{◌≡◌, ℕ, zero, suc, ◌+◌, ◌^◌, ◌≤◌, Bool, true, false, ◌&&◌, IsTrue, List, [], ◌∷◌, ◌++◌, length, Some, None, refl, subst, arith}
 use Rattle.std.specs.Prelude.{slice_get, nat_lt, not}
 use Rattle.cilk_monoid.specs.declared.kind.MonoidKind.{MonoidKind}
 use Rattle.cilk_program.specs.declared.program.Body.{Body}
@@ -12,14 +12,10 @@ use Rattle.cilk_lower.specs.declared.code.Instr.{Instr}
 use Rattle.cilk_lower.specs.Code.{ArrayFits, ArraysFit, expr_code, exprs_code, index_code, fetch, store, invoke_code, declaration_code, declaration_sites, declarations_code, stmt_code, stmt_sites, all_code, all_sites, words_code, creates_code, function_code, loop_code}
 
 -- at a place
-fits_at : (code : List Instr) (place : ℕ) (i : Instr) → ArraysFit code → slice_get code place ≡ Some i → ArrayFits i
-fits_at [] place i h e = cc
-fits_at (j ∷ code) zero i h e = let same : j ≡ i = cc in subst ArrayFits same h.0
-fits_at (j ∷ code) (suc place) i h e = fits_at code place i h.1 e
-
-pub at_fits : (code : List Instr) (place : ℕ) (o : Option Instr) → ArraysFit code → o ≡ slice_get code place → IfSome o ArrayFits
-at_fits code place None h e = tt
-at_fits code place (Some i) h e = fits_at code place i h (sym e)
+pub fits_there : (code : List Instr) (place : ℕ) (i : Instr) → ArraysFit code → slice_get code place ≡ Some i → ArrayFits i
+fits_there [] place i h e = cc
+fits_there (j ∷ code) zero i h e = let same : j ≡ i = cc in subst ArrayFits same h.0
+fits_there (j ∷ code) (suc place) i h e = fits_there code place i h.1 e
 
 -- one code behind another
 pub both_fit : (a b : List Instr) → ArraysFit a → ArraysFit b → ArraysFit (a ++ b)

@@ -12,7 +12,7 @@ use Rattle.cilk_lower.specs.declared.code.Instr.TheVariants as instrs
 use Rattle.cilk_lower.specs.declared.code.Owed.TheVariants.{Nothing}
 use Rattle.cilk_lower.specs.Bodies.{HasAt}
 use Rattle.cilk_lower.specs.Code.{expr_code, ends}
-use Rattle.cilk_lower.specs.Machine.{Setting, Move, Goes, Waits, Reaches, going, move, exec, or_stops, takes_result}
+use Rattle.cilk_lower.specs.Machine.{Setting, Move, Goes, Waits, Reaches, going, move, exec, or_stops}
 use Rattle.cilk_lower.specs.Rooms.{depth}
 use Rattle.cilk_lower.proofs.Leads.{moves, Stands, Comes, Acts, comes_one, comes_ask, leads_done, comes_on, then_acts, value_acts}
 use Rattle.cilk_lower.proofs.Places.{has_front, has_back}
@@ -89,7 +89,7 @@ module _ (m : Setting) where
   end_comes : (pc : ℕ) (held : ℤ) (answers : List ℤ) (left : ℕ) → Stands m pc instrs.End → ComesHolding pc held answers left (ended (Gives held answers left))
   end_comes pc held answers left at = (1, step_on pc held answers left instrs.End at 0)
 
-  given_comes : (t : Bool) (pc : ℕ) (held : ℤ) (answers : List ℤ) (left : ℕ) → takes_result m.callee ≡ t → Stands m pc instrs.GiveResult → Stands m (pc + 1) instrs.End → ComesHolding pc held answers left (ended (gives_result t held answers left))
+  given_comes : (t : Bool) (pc : ℕ) (held : ℤ) (answers : List ℤ) (left : ℕ) → m.given.takes ≡ t → Stands m pc instrs.GiveResult → Stands m (pc + 1) instrs.End → ComesHolding pc held answers left (ended (gives_result t held answers left))
   given_comes false pc held answers left e at next =
       let r = end_comes (pc + 1) held answers left next in
       (suc r.0, step_on pc held answers left instrs.GiveResult at r.0 ∙ ap (λ t. going m.room (if t then Waits (asks.Result held) Nothing (pc + 1) [] held left else Goes (pc + 1) [] held left) answers (exec m r.0)) e ∙ r.1)
@@ -99,20 +99,20 @@ module _ (m : Setting) where
       let r = end_comes (pc + 1) held answers left next in
       (suc r.0, step_on pc held (a ∷ answers) left instrs.GiveResult at r.0 ∙ ap (λ t. going m.room (if t then Waits (asks.Result held) Nothing (pc + 1) [] held left else Goes (pc + 1) [] held left) (a ∷ answers) (exec m r.0)) e ∙ r.1)
 
-  pub ends_comes : (held : ℤ) (pc : ℕ) (answers : List ℤ) (left : ℕ) → HasAt m.code.instrs pc ends → ComesHolding pc held answers left (ended (finishes (takes_result m.callee) (Some held) answers left))
+  pub ends_comes : (held : ℤ) (pc : ℕ) (answers : List ℤ) (left : ℕ) → HasAt m.code.instrs pc ends → ComesHolding pc held answers left (ended (finishes m.given.takes (Some held) answers left))
   ends_comes held pc [] left has = (1, step_on pc held [] left instrs.Sync has.0 0)
   ends_comes held pc (a ∷ answers) left has =
-      let r = given_comes (takes_result m.callee) (pc + 1) held answers left refl has.1.0 has.1.1.0 in
+      let r = given_comes m.given.takes (pc + 1) held answers left refl has.1.0 has.1.1.0 in
       (suc r.0, step_on pc held (a ∷ answers) left instrs.Sync has.0 r.0 ∙ r.1)
 
   -- a result is held, and then the frame ends
-  pub hold_comes : (pc : ℕ) (v : ℤ) (answers : List ℤ) (left : ℕ) → Stands m pc instrs.Hold → HasAt m.code.instrs (pc + 1) ends → Comes m pc (v ∷ []) answers left (ended (finishes (takes_result m.callee) (Some v) answers left))
+  pub hold_comes : (pc : ℕ) (v : ℤ) (answers : List ℤ) (left : ℕ) → Stands m pc instrs.Hold → HasAt m.code.instrs (pc + 1) ends → Comes m pc (v ∷ []) answers left (ended (finishes m.given.takes (Some v) answers left))
   hold_comes pc v answers left at has =
       let r = ends_comes v (pc + 1) answers left has in
       (suc r.0, ap (λ o. going m.room (move m o pc (v ∷ []) (pos 0) left) answers (exec m r.0)) at ∙ r.1)
 
   -- a body, and then the frame ends
-  pub body_comes : (pc pc' : ℕ) (answers : List ℤ) (left : ℕ) (g : Got Flow) → HasAt m.code.instrs pc' ends → Acts m pc [] [] answers left pc' g → Comes m pc [] answers left (ended (g >>= finishes (takes_result m.callee)))
+  pub body_comes : (pc pc' : ℕ) (answers : List ℤ) (left : ℕ) (g : Got Flow) → HasAt m.code.instrs pc' ends → Acts m pc [] [] answers left pc' g → Comes m pc [] answers left (ended (g >>= finishes m.given.takes))
   body_comes pc pc' answers left (Asks k) has r = r
   body_comes pc pc' answers left (Gives (Some v) a l) has r = r
   body_comes pc pc' answers left (Gives None a l) has r = comes_on m pc pc' [] [] answers a left l _ r (ends_comes (pos 0) pc' a l has)

@@ -16,7 +16,7 @@ use Rattle.cilk_lower.specs.declared.code.Instr.{Instr}
 use Rattle.cilk_lower.specs.declared.code.Instr.TheVariants as instrs
 use Rattle.cilk_lower.specs.declared.code.Owed.TheVariants.{Nothing}
 use Rattle.cilk_lower.specs.Code.{CodeView, all_code, all_sites, ends, words_code, creates_code, function_code, halves_code, loop_code}
-use Rattle.cilk_lower.specs.Machine.{Setting, Goes, Waits, on_some, words_of, takes_result, has_one}
+use Rattle.cilk_lower.specs.Machine.{Setting, Goes, Waits, on_some, has_one, given_of}
 use Rattle.cilk_lower.specs.Rooms.{deepest_of_all}
 use Rattle.cilk_lower.proofs.Acts.{all_act}
 use Rattle.cilk_lower.proofs.Flows.{invokes_plain, plain_comes, invokes_acts, body_comes}
@@ -31,7 +31,7 @@ module _ (m : Setting) where
   done_comes pc from stack (a ∷ answers) left i k h at e r = comes_on m pc (pc + 1) from stack (a ∷ answers) answers left left _ (leads_done m pc from a answers left i k (pc + 1) stack left at e) (r a answers left)
 
   -- the words that a function is given, from one of them on
-  words_come : (vs front : List ℤ) (n pc : ℕ) (answers : List ℤ) (left : ℕ) (h : List ℤ → ℕ → Got ℤ) → words_of m.callee ≡ front ++ vs → n ≡ length front → HasAt m.code.instrs pc (words_code n (length vs)) →
+  words_come : (vs front : List ℤ) (n pc : ℕ) (answers : List ℤ) (left : ℕ) (h : List ℤ → ℕ → Got ℤ) → m.given.words ≡ front ++ vs → n ≡ length front → HasAt m.code.instrs pc (words_code n (length vs)) →
       ((a : List ℤ) (l : ℕ) → Comes m (pc + length (words_code n (length vs))) [] a l (ended (h a l))) → Comes m pc [] answers left (ended (writes_words n vs answers left >>= λ _. h))
   words_come [] front n pc answers left h e at has r = let same : pc + 0 ≡ pc = omega arith in subst (λ p. Comes m p [] answers left (ended (h answers left))) same (r answers left)
   words_come (v ∷ vs) front n pc [] left h e at has r =
@@ -39,7 +39,7 @@ module _ (m : Setting) where
       (ap (λ o. on_some o (λ v. Waits (asks.Write (places.Local 0 n) v) Nothing (pc + 1) [] (pos 0) left)) (ap (λ ws. slice_get ws n) e ∙ ap (λ k. slice_get (front ++ v ∷ vs) k) at ∙ get_seam front v vs))
   words_come (v ∷ vs) front n pc (a ∷ answers) left h e at has r =
       let code = words_code (suc n) (length vs) in
-      let whole : words_of m.callee ≡ (front ++ v ∷ []) ++ vs = e ∙ sym (append_assoc front (v ∷ []) vs) in
+      let whole : m.given.words ≡ (front ++ v ∷ []) ++ vs = e ∙ sym (append_assoc front (v ∷ []) vs) in
       let count : suc n ≡ length (front ++ v ∷ []) = omega (arith, at, length-append front (v ∷ [])) in
       let len : pc + length (instrs.Word n ∷ code) ≡ pc + 1 + length code = omega arith in
       comes_on m pc (pc + 1) [] [] (a ∷ answers) answers left left _
@@ -60,10 +60,10 @@ module _ (m : Setting) where
       (creates_come place ks (suc n) (pc + 1) answers left h has.1 (λ a l. subst (λ p. Comes m p [] a l (ended (h a l))) len (r a l)))
 
   -- a function's frame
-  pub function_comes : (f : Function) (k pc : ℕ) (answers : List ℤ) (left : ℕ) → length (words_of m.callee) ≡ f.words → deepest_of_all f.body ≤ m.room → HasAt m.code.instrs pc (function_code k f) → HasAt m.code.sites k (all_sites f.body) →
-      Comes m pc [] answers left (ended (function_gives m.inputs f (words_of m.callee) (takes_result m.callee) answers left))
+  pub function_comes : (f : Function) (k pc : ℕ) (answers : List ℤ) (left : ℕ) → length m.given.words ≡ f.words → deepest_of_all f.body ≤ m.room → HasAt m.code.instrs pc (function_code k f) → HasAt m.code.sites k (all_sites f.body) →
+      Comes m pc [] answers left (ended (function_gives m.inputs f m.given.words m.given.takes answers left))
   function_comes f k pc answers left count fits has called =
-      let words = words_of m.callee in
+      let words = m.given.words in
       let cw = words_code 0 (length words) in
       let cc1 = creates_code (reducers.Own 0) 0 f.reducers in
       let cb = all_code k f.body in
@@ -72,23 +72,23 @@ module _ (m : Setting) where
       let begins : HasAt m.code.instrs pc (cw ++ (cc1 ++ (cb ++ ends))) = subst (λ n. HasAt m.code.instrs pc (words_code 0 n ++ (cc1 ++ (cb ++ ends)))) (sym count) has in
       let after = has_back m.code.instrs pc cw _ begins in
       let behind = has_back m.code.instrs p1 cc1 _ after in
-      words_come words [] 0 pc answers left (λ a l. creates (reducers.Own 0) 0 f.reducers a l >>= λ _ a l. all_do m.inputs f.body a l >>= finishes (takes_result m.callee)) refl refl (has_front m.code.instrs pc cw _ begins)
-      (λ a l. creates_come (reducers.Own 0) f.reducers 0 p1 a l (λ a l. all_do m.inputs f.body a l >>= finishes (takes_result m.callee)) (has_front m.code.instrs p1 cc1 _ after)
+      words_come words [] 0 pc answers left (λ a l. creates (reducers.Own 0) 0 f.reducers a l >>= λ _ a l. all_do m.inputs f.body a l >>= finishes m.given.takes) refl refl (has_front m.code.instrs pc cw _ begins)
+      (λ a l. creates_come (reducers.Own 0) f.reducers 0 p1 a l (λ a l. all_do m.inputs f.body a l >>= finishes m.given.takes) (has_front m.code.instrs p1 cc1 _ after)
       (λ a l. body_comes m p2 (p2 + length cb) a l (all_do m.inputs f.body a l) (has_back m.code.instrs p2 cb ends behind)
       (all_act m f.body k p2 a l fits (has_front m.code.instrs p2 cb ends behind) called)))
 
   -- the root's frame
-  pub root_comes : (globals : List MonoidKind) (f : Function) (k pc : ℕ) (answers : List ℤ) (left : ℕ) → length (words_of m.callee) ≡ f.words → deepest_of_all f.body ≤ m.room → HasAt m.code.instrs pc (creates_code reducers.Global 0 globals ++ function_code k f) → HasAt m.code.sites k (all_sites f.body) →
-      Comes m pc [] answers left (ended (creates reducers.Global 0 globals answers left >>= λ _. function_gives m.inputs f (words_of m.callee) (takes_result m.callee)))
+  pub root_comes : (globals : List MonoidKind) (f : Function) (k pc : ℕ) (answers : List ℤ) (left : ℕ) → length m.given.words ≡ f.words → deepest_of_all f.body ≤ m.room → HasAt m.code.instrs pc (creates_code reducers.Global 0 globals ++ function_code k f) → HasAt m.code.sites k (all_sites f.body) →
+      Comes m pc [] answers left (ended (creates reducers.Global 0 globals answers left >>= λ _. function_gives m.inputs f m.given.words m.given.takes))
   root_comes globals f k pc answers left count fits has called =
       let cg = creates_code reducers.Global 0 globals in
-      creates_come reducers.Global globals 0 pc answers left (function_gives m.inputs f (words_of m.callee) (takes_result m.callee)) (has_front m.code.instrs pc cg _ has)
+      creates_come reducers.Global globals 0 pc answers left (function_gives m.inputs f m.given.words m.given.takes) (has_front m.code.instrs pc cg _ has)
       (λ a l. function_comes f k (pc + length cg) a l count fits (has_back m.code.instrs pc cg _ has) called)
 
 -- a frame of a loop's turns
 module _ (inputs : List ℤ) (c : CodeView) (room : ℕ) (l : LoopPart) where
   abbrev looping : Setting
-  looping = record { inputs = inputs; code = c; callee = callees.Loop l; room = room }
+  looping = record { inputs = inputs; code = c; given = given_of (callees.Loop l); room = room }
 
   turn_comes : (body : Loop) (k pc : ℕ) (answers : List ℤ) (left : ℕ) → deepest_of_all body.body ≤ room → HasAt c.instrs pc (instrs.Turn ∷ (all_code k body.body ++ ends)) → HasAt c.sites k (all_sites body.body) →
       Comes looping pc [] answers left (ended (ask (asks.Write (places.Local 0 0) l.low) answers left >>= λ _ answers left. all_do inputs body.body answers left >>= finishes false))

@@ -140,7 +140,8 @@ module _ (code : List Instr) where
       let l = length-append turn (instrs.GoBack (length turn) ∷ []) in
       let front = has_front code pc turn _ has in
       let there : pc ≡ pc + length turn - length turn = omega arith in
-      both_land pc turn _ (lands pc front (omega arith)) (subst (λ n. ticks (slice_get code n) ≡ true) there (first pc front), tt)
+      let back : length turn ≤ pc + length turn = omega arith in
+      both_land pc turn _ (lands pc front (omega arith)) ((back, subst (λ n. ticks (slice_get code n) ≡ true) there (first pc front)), tt)
   turns_land (Some e) turn pc has fits first lands =
       let ce = expr_code e in
       let p1 = pc + length ce in
@@ -150,11 +151,12 @@ module _ (code : List Instr) where
       let l1 = length-append ce rest in
       let l2 = length-append turn (instrs.GoBack d ∷ []) in
       let there : pc ≡ p1 + 1 + length turn - d = omega arith in
+      let back : d ≤ p1 + 1 + length turn = omega arith in
       let jump : p1 + 1 + (length turn + 1) ≤ length code = omega arith in
       value_lands e pc rest fits (
         jump,
         both_land (p1 + 1) turn _ (lands (p1 + 1) (has_front code (p1 + 1) turn _ behind.1) (omega arith))
-            (subst (λ n. ticks (slice_get code n) ≡ true) there (first_ticks code e pc (has_front code pc ce _ has)), tt),
+            ((back, subst (λ n. ticks (slice_get code n) ≡ true) there (first_ticks code e pc (has_front code pc ce _ has))), tt),
       )
 
   mutual
@@ -258,7 +260,7 @@ lands_more code more place (instrs.CallLoop n) h = omega (arith, h, length-appen
 lands_more code more place (instrs.SkipIfZero n) h = omega (arith, h, length-append code more)
 lands_more code more place (instrs.SkipUnlessOne n) h = omega (arith, h, length-append code more)
 lands_more code more place (instrs.GoOn n) h = omega (arith, h, length-append code more)
-lands_more code more place (instrs.GoBack n) h = ticks_more (slice_get code (place - n)) refl h
+lands_more code more place (instrs.GoBack n) h = (h.0, ticks_more (slice_get code (place - n)) refl h.1)
   where
     ticks_more : (o : Option Instr) → slice_get code (place - n) ≡ o → ticks o ≡ true → ticks (slice_get (code ++ more) (place - n)) ≡ true
     ticks_more None e h = cc

@@ -10,7 +10,7 @@ use Rattle.cilk_lower.specs.declared.code.Instr.{Instr}
 use Rattle.cilk_lower.specs.declared.code.Instr.TheVariants as instrs
 use Rattle.cilk_lower.specs.declared.code.Owed.{Owed}
 use Rattle.cilk_lower.specs.declared.code.Owed.TheVariants.{Nothing, Word}
-use Rattle.cilk_lower.specs.Machine.{Setting, Move, Goes, Waits, Stops, Run, Reaches, going, move, exec, ticked, or_stops, takes_result}
+use Rattle.cilk_lower.specs.Machine.{Setting, Move, Goes, Waits, Stops, Run, Reaches, going, move, exec, ticked, or_stops}
 
 abbrev pub runs : Setting → ℕ → ℕ → List ℤ → List ℤ → ℕ → Run
 runs m k pc stack answers left = exec m k pc stack (pos 0) answers left
@@ -37,7 +37,7 @@ Does m pc from stack answers left pc' (Asks k) = Comes m pc from answers left k
 -- the same of a statement: it goes on, or ends the frame with a value
 abbrev pub Acts : Setting → ℕ → List ℤ → List ℤ → List ℤ → ℕ → ℕ → Got Flow → Type 0
 Acts m pc from stack answers left pc' (Gives None answers' left') = Leads m pc from answers left pc' stack answers' left'
-Acts m pc from stack answers left pc' (Gives (Some v) answers' left') = Comes m pc from answers left (ended (finishes (takes_result m.callee) (Some v) answers' left'))
+Acts m pc from stack answers left pc' (Gives (Some v) answers' left') = Comes m pc from answers left (ended (finishes m.given.takes (Some v) answers' left'))
 Acts m pc from stack answers left pc' (Asks k) = Comes m pc from answers left k
 
 pub within : {A : Type 0} (n room : ℕ) (x y : A) → n < room → (if nat_lt n room then x else y) ≡ x

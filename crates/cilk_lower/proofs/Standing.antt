@@ -20,7 +20,7 @@ use Rattle.cilk_lower.specs.declared.code.Site.{Site}
 use Rattle.cilk_lower.specs.Behaves.{Behaves}
 use Rattle.cilk_lower.specs.Bodies.{BodyAt, FunctionAt, LoopAt, EachAt}
 use Rattle.cilk_lower.specs.Code.{CodeView, entry_of, all_sites, creates_code, function_code}
-use Rattle.cilk_lower.specs.Machine.{Setting, exec, Reaches}
+use Rattle.cilk_lower.specs.Machine.{Setting, exec, Reaches, given_of}
 use Rattle.cilk_lower.specs.Rooms.{deepest_of_all, RoomsFit}
 use Rattle.cilk_lower.proofs.Frames.{function_comes, root_comes, loop_comes}
 use Rattle.cilk_lower.proofs.Places.{has_more}
@@ -73,7 +73,7 @@ map_map f g (x ∷ xs) = ap (λ ys. f (g x) ∷ ys) (map_map f g xs)
 -- the frame of a callee that begins at this entry
 abbrev BeginsAt : Source → CodeView → Callee → Entry → Type 0
 BeginsAt p c callee e = (inputs answers : List ℤ) (left : ℕ) →
-    (n : ℕ) × (exec (record { inputs = inputs; code = c; callee = callee; room = e.room }) n e.place [] (pos 0) answers left ≡ Reaches (ended (frame_gives p inputs callee answers left)))
+    (n : ℕ) × (exec (record { inputs = inputs; code = c; given = given_of callee; room = e.room }) n e.place [] (pos 0) answers left ≡ Reaches (ended (frame_gives p inputs callee answers left)))
 
 module _ (globals : List ℤ) (kinds : List MonoidKind) (fs : List declared_functions.Function) (ls : List declared_loops.Loop) (main : ℕ) (c : CodeView) where
   abbrev meant : Source
@@ -82,7 +82,7 @@ module _ (globals : List ℤ) (kinds : List MonoidKind) (fs : List declared_func
   root_begins : (f : Function) → main_of meant ≡ f → f.words ≡ 0 → BodyAt c.instrs c.sites c.root (λ k. creates_code reducers.Global 0 kinds ++ function_code k f) f.body → BeginsAt meant c callees.Root c.root
   root_begins f same none h inputs answers left =
       let fits : deepest_of_all f.body ≤ c.root.room = omega (arith, h.room) in
-      let m : Setting = record { inputs = inputs; code = c; callee = callees.Root; room = c.root.room } in
+      let m : Setting = record { inputs = inputs; code = c; given = given_of callees.Root; room = c.root.room } in
       let r = root_comes m kinds f h.count c.root.place answers left (sym none) fits h.at h.called in
       subst (λ f. (n : ℕ) × (exec m n c.root.place [] (pos 0) answers left ≡ Reaches (ended (creates reducers.Global 0 kinds answers left >>= λ _. function_gives inputs f [] false)))) (sym same) r
 
@@ -90,7 +90,7 @@ module _ (globals : List ℤ) (kinds : List MonoidKind) (fs : List declared_func
   function_begins call e f same count h inputs answers left =
       let g = function f in
       let fits : deepest_of_all g.body ≤ e.room = omega (arith, h.room) in
-      let m : Setting = record { inputs = inputs; code = c; callee = callees.Function call; room = e.room } in
+      let m : Setting = record { inputs = inputs; code = c; given = given_of (callees.Function call); room = e.room } in
       let r = function_comes m g h.count e.place answers left count fits h.at h.called in
       subst (λ f. (n : ℕ) × (exec m n e.place [] (pos 0) answers left ≡ Reaches (ended (function_gives inputs f call.words (is_some call.result) answers left)))) (sym same) r
 
@@ -98,7 +98,7 @@ module _ (globals : List ℤ) (kinds : List MonoidKind) (fs : List declared_func
   loop_begins part e l same h inputs answers left =
       let body = loop l in
       let fits : deepest_of_all body.body ≤ e.room = omega (arith, h.room) in
-      let m : Setting = record { inputs = inputs; code = c; callee = callees.Loop part; room = e.room } in
+      let m : Setting = record { inputs = inputs; code = c; given = given_of (callees.Loop part); room = e.room } in
       let r = loop_comes inputs c e.room part body h.count e.place answers left fits h.at h.called in
       subst (λ (b : Loop). (n : ℕ) × (exec m n e.place [] (pos 0) answers left ≡ Reaches (ended (loop_gives inputs b.body part answers left)))) (sym same) r
 

@@ -230,13 +230,13 @@ ticks (Some instrs.Sync) = false
 ticks (Some instrs.GiveResult) = false
 ticks (Some instrs.End) = false
 
--- A jump forward stays within the code, and a jump back leads to an instruction that takes a tick.
+-- A jump stays within the code, and a jump back leads to an instruction that takes a tick.
 abbrev pub Lands : List Instr → ℕ → Instr → Type 0
 Lands code place (instrs.CallLoop n) = place + 2 ≤ length code
 Lands code place (instrs.SkipIfZero n) = place + 1 + n ≤ length code
 Lands code place (instrs.SkipUnlessOne n) = place + 1 + n ≤ length code
 Lands code place (instrs.GoOn n) = place + 1 + n ≤ length code
-Lands code place (instrs.GoBack n) = IsTrue (ticks (slice_get code (place - n)))
+Lands code place (instrs.GoBack n) = (n ≤ place) × IsTrue (ticks (slice_get code (place - n)))
 Lands code place _ = Unit {0}
 
 abbrev pub JumpsLand : List Instr → Type 0

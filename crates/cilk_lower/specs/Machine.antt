@@ -23,11 +23,23 @@ use Rattle.cilk_lower.specs.declared.code.Owed.TheVariants.{Nothing, Word}
 use Rattle.cilk_lower.specs.declared.code.Site.{Site}
 use Rattle.cilk_lower.specs.Code.{CodeView, entry_of}
 
--- what stays the same while a frame runs: the input, the program's code, what the frame runs, and the room for its operands
+-- what a frame uses of what it runs: the words that it is given, its turns if it runs a loop, and whether its caller takes
+-- the result
+pub record Given : Type 0 where
+  pub words : List ℤ
+  pub part : Option LoopPart
+  pub takes : Bool
+
+abbrev pub given_of : Callee → Given
+given_of callees.Root = record { words = []; part = None; takes = false }
+given_of (callees.Function c) = record { words = c.words; part = None; takes = is_some c.result }
+given_of (callees.Loop l) = record { words = []; part = Some l; takes = false }
+
+-- what stays the same while a frame runs: the input, the program's code, what the frame is given, and the room for its operands
 pub record Setting : Type 0 where
   pub inputs : List ℤ
   pub code : CodeView
-  pub callee : Callee
+  pub given : Given
   pub room : ℕ
 
 -- What one instruction does: the machine goes on, waits for an answer to an ask, asks for the last time, or is stuck. Its
@@ -70,24 +82,6 @@ on_some (Some x) go = go x
 abbrev pub or_stops : {A : Type 0} → Fault → Option A → ℕ → (A → Move) → Move
 or_stops f None left go = Stops (asks.Fault f) left
 or_stops f (Some x) left go = go x
-
--- what a function's frame was given
-abbrev pub words_of : Callee → List ℤ
-words_of callees.Root = []
-words_of (callees.Function c) = c.words
-words_of (callees.Loop l) = []
-
--- the turns of a loop's frame
-abbrev pub part_of : Callee → Option LoopPart
-part_of callees.Root = None
-part_of (callees.Function c) = None
-part_of (callees.Loop l) = Some l
-
--- whether the caller takes the result
-abbrev pub takes_result : Callee → Bool
-takes_result callees.Root = false
-takes_result (callees.Function c) = is_some c.result
-takes_result (callees.Loop l) = false
 
 -- a call site with its words
 abbrev pub invoked : Site → List ℤ → Ask
@@ -138,9 +132,9 @@ module _ (m : Setting) where
   move (Some (instrs.Update r)) place stack held left = on_top stack (λ v rest. Waits (asks.Update r v) Nothing (place + 1) rest held left)
   move (Some (instrs.Set r)) place stack held left = on_top stack (λ v rest. Waits (asks.Set r v) Nothing (place + 1) rest held left)
   move (Some (instrs.Word n)) place stack held left =
-      on_some (slice_get (words_of m.callee) n) (λ v. Waits (asks.Write (places.Local 0 n) v) Nothing (place + 1) stack held left)
+      on_some (slice_get m.given.words n) (λ v. Waits (asks.Write (places.Local 0 n) v) Nothing (place + 1) stack held left)
   move (Some instrs.Turn) place stack held left =
-      on_some (part_of m.callee) (λ l. Waits (asks.Write (places.Local 0 0) l.low) Nothing (place + 1) stack held left)
+      on_some m.given.part (λ l. Waits (asks.Write (places.Local 0 0) l.low) Nothing (place + 1) stack held left)
   move (Some (instrs.Invoke k)) place stack held left =
       on_some (slice_get m.code.sites k) (λ s. on_words s.words [] stack (λ words rest. on_none rest (Waits (invoked s words) Nothing (place + 1) [] held left)))
   move (Some (instrs.CallLoop n)) place stack held left =
@@ -148,20 +142,20 @@ module _ (m : Setting) where
       if int_lt low high then Waits (loop_called n low high) Nothing (place + 1) [] held left else Goes (place + 2) [] held left
       ))
   move (Some instrs.SpawnHalf) place stack held left =
-      on_some (part_of m.callee) (λ l. on_none stack (Waits (first_half l) Nothing (place + 1) [] held left))
+      on_some m.given.part (λ l. on_none stack (Waits (first_half l) Nothing (place + 1) [] held left))
   move (Some instrs.CallHalf) place stack held left =
-      on_some (part_of m.callee) (λ l. on_none stack (Waits (second_half l) Nothing (place + 1) [] held left))
+      on_some m.given.part (λ l. on_none stack (Waits (second_half l) Nothing (place + 1) [] held left))
   move (Some instrs.Resume) place stack held left = Waits asks.Resume Nothing (place + 1) stack held left
   move (Some (instrs.SkipIfZero n)) place stack held left =
       on_top stack (λ v rest. if is_zero v then Goes (place + 1 + n) rest held left else Goes (place + 1) rest held left)
   move (Some (instrs.SkipUnlessOne n)) place stack held left =
-      on_some (part_of m.callee) (λ l. if has_one l then Goes (place + 1) stack held left else Goes (place + 1 + n) stack held left)
+      on_some m.given.part (λ l. if has_one l then Goes (place + 1) stack held left else Goes (place + 1 + n) stack held left)
   move (Some (instrs.GoOn n)) place stack held left = Goes (place + 1 + n) stack held left
   move (Some (instrs.GoBack n)) place stack held left = Goes (place - n) stack held left
   move (Some instrs.Hold) place stack held left = on_top stack (λ v rest. Goes (place + 1) rest v left)
   move (Some instrs.Sync) place stack held left = on_none stack (Waits asks.Sync Nothing (place + 1) [] held left)
   move (Some instrs.GiveResult) place stack held left =
-      if takes_result m.callee then Waits (asks.Result held) Nothing (place + 1) stack held left else Goes (place + 1) stack held left
+      if m.given.takes then Waits (asks.Result held) Nothing (place + 1) stack held left else Goes (place + 1) stack held left
   move (Some instrs.End) place stack held left = Stops (asks.End held) left
 
 -- what a run of the machine comes to: an ask without an answer, no more steps allowed, or stuck
@@ -196,7 +190,7 @@ exec m (suc n) place stack held answers left = going m.room (move m (slice_get m
 
 -- a frame of a callee
 abbrev pub setting : List ℤ → CodeView → Callee → Setting
-setting inputs c callee = record { inputs = inputs; code = c; callee = callee; room = (entry_of c callee).room }
+setting inputs c callee = record { inputs = inputs; code = c; given = given_of callee; room = (entry_of c callee).room }
 
 -- it begins with no operand, and with 0 for its result
 abbrev pub exec_frame : List ℤ → CodeView → Callee → ℕ → List ℤ → ℕ → Run

@@ -1,6 +1,6 @@
 //! The instructions of all bodies.
 
-ghost use Rattle.std.specs.Prelude.{◌≡◌, ◌<◌, ◌≤◌, ◌^◌, slice_get, unwrap_or, length, IfSome, MatchOption, None, Some};
+ghost use Rattle.std.specs.Prelude.{◌≡◌, ◌≢◌, ◌<◌, ◌≤◌, ◌^◌, slice_get, unwrap_or, length, IfSome, MatchOption, None, Some};
 ghost use Rattle.cilk_lower.specs.Code.{ArraysFit, JumpsLand, Lands, ArrayFits, SitesFit, entry_of};
 
 use cilk_program::ask::Callee;
@@ -161,21 +161,43 @@ impl Code {
     {
         match callee {
             Callee::Root => self.root,
-            Callee::Function(call) => entry_at(&self.functions, call.function, self.root),
-            Callee::Loop(part) => entry_at(&self.loops, part.number, self.root),
+            Callee::Function(call) => self.function_entry(call.function),
+            Callee::Loop(part) => self.loop_entry(part.number),
         }
     }
 
+    /// Where the frame of a function begins.
+    pub fn function_entry(&self, number: u32) -> Entry
+        ensures { result ≡ unwrap_or (slice_get self.now.functions number) self.now.root }
+    {
+        entry_at(&self.functions, number, self.root)
+    }
+
+    /// Where the frame of a loop's turns begins.
+    pub fn loop_entry(&self, number: u32) -> Entry
+        ensures { result ≡ unwrap_or (slice_get self.now.loops number) self.now.root }
+    {
+        entry_at(&self.loops, number, self.root)
+    }
+
+    /// How many instructions there are.
+    pub fn len(&self) -> usize
+        ensures { result ≡ length self.now.instrs }
+    {
+        self.instrs.len()
+    }
+
     /// The instruction at a place.
-    #[tactic(auto, using(crate::proofs::Lands::at_lands, crate::proofs::Arrays::at_fits))]
-    pub fn at(&self, place: usize) -> Option<Instr>
-        ensures value { result ≡ slice_get self.now.instrs place }
-        ensures lands { IfSome result (λ i. Lands self.now.instrs place i) }
-        ensures arrays { IfSome result (λ i. ArrayFits i) }
-        ensures small { IfSome result (λ _. place < 2 ^ 63) }
+    #[tactic(auto, using(crate::proofs::Lands::lands_there, crate::proofs::Arrays::fits_there))]
+    pub fn at(&self, place: usize) -> &Instr
+        requires { slice_get self.now.instrs place ≢ None }
+        ensures value { slice_get self.now.instrs place ≡ Some result.now }
+        ensures lands { Lands self.now.instrs place result.now }
+        ensures arrays { ArrayFits result.now }
+        ensures small { place < 2 ^ 63 }
         ensures fits { length self.now.instrs < 2 ^ 63 }
     {
-        get(&self.instrs, place)
+        there(&self.instrs, place)
     }
 
     /// The call site with a number.
@@ -196,11 +218,12 @@ fn entry_at(entries: &[Entry], number: u32, root: Entry) -> Entry
     }
 }
 
-fn get(instrs: &[Instr], place: usize) -> Option<Instr>
-    ensures value { result ≡ slice_get instrs.now place }
-    ensures small { IfSome result (λ _. place < 2 ^ 63) }
+fn there(instrs: &[Instr], place: usize) -> &Instr
+    requires { slice_get instrs.now place ≢ None }
+    ensures value { slice_get instrs.now place ≡ Some result.now }
+    ensures small { place < 2 ^ 63 }
 {
-    instrs.get(place).copied()
+    &instrs[place]
 }
 
 fn site_at(sites: &[Site], number: usize) -> Option<&Site>

@@ -30,5 +30,3 @@ pub mod laws;
 pub mod lower;
 mod put;
 mod simple;
-#[cfg(test)]
-mod tests;

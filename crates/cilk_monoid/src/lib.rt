@@ -7,7 +7,7 @@
 //!
 //! A [`monoid::Monoid`] proves its laws once, and code that is generic in it may rest on them. Programs name five:
 //! [`number::Add`], [`number::Least`] and [`number::Greatest`] of words, [`list::Append`] of lists and
-//! [`affine::Affine`] of maps ([`kind::MonoidKind`]). What the view of a range of a run's events is, and that adjoining
+//! [`affine::Affine`] of maps ([`kind::MonoidKind`]). What the view of a range of a run's events is, and when adjoining
 //! ranges' views multiply to that of the joined range, are the laws of [`range`].
 //!
 //! ```text
@@ -25,6 +25,4 @@ pub mod list;
 pub mod monoid;
 pub mod number;
 pub mod range;
-#[cfg(test)]
-mod tests;
 pub mod view;

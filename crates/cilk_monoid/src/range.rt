@@ -5,8 +5,9 @@ ghost use Rattle.cilk_monoid.specs.Ranges.{RangesMultiply, BeginsAtLastReset};
 use crate::monoid::Monoid;
 
 /// The views of two adjoining ranges multiply to the view of both together, for each instance that isn't reset in the right
-/// range after an event in the left one. So a run may be cut anywhere, and its pieces be multiplied in serial order (Frigo,
-/// Halpern, Leiserson and Lewin-Berlin 2009).
+/// range after an event in the left one. So pieces of
+/// a run may be multiplied in serial order, where none of them resets what an earlier one mentions (Frigo, Halpern, Leiserson
+/// and Lewin-Berlin 2009).
 pub fn ranges_multiply<M: Monoid>()
     ensures { RangesMultiply M.structure }
 {}

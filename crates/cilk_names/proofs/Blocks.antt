@@ -1,9 +1,9 @@
 -- Lists of statements, as loops make them and as they stand in a block.
 use Rattle.std.proofs.Common.{◌≡◌, List, [], ◌∷◌, ◌++◌, Option, refl, ap, ◌∙◌, rules, Vec, Box}
 use Rattle.std.specs.declared.alloc.Global.{Global}
-use Rattle.cilk_parser.specs.declared.tree.Stmt as code
-use Rattle.cilk_parser.specs.declared.tree.Stmt.TheBlock as coded
-use Rattle.cilk_parser.specs.Trees as trees
+use Rattle.cilk_syntax.specs.declared.tree.Stmt as code
+use Rattle.cilk_syntax.specs.declared.tree.Stmt.TheBlock as coded
+use Rattle.cilk_syntax.specs.Trees as trees
 use Rattle.cilk_program.specs.declared.syntax.Expr.{Expr}
 use Rattle.cilk_program.specs.declared.syntax.Stmt as resolved
 use Rattle.cilk_program.specs.declared.syntax.Stmt.TheBlock as given

@@ -2,24 +2,27 @@
 use Rattle.std.proofs.Common.{◌≡◌, ℕ, zero, suc, ◌+◌, ◌-◌, ◌<◌, ◌≤◌, nat_lt, Bool, true, false, ◌&&◌, not, IsTrue, List, [], ◌∷◌, ◌++◌, length, drop, slice_get, Option, Some, None, unwrap_or, refl, sym, ap, ◌∙◌, subst, append_assoc, length-append, add-one, arith}
 use Rattle.std.proofs.lemmas.Bool.{ltb-true, lt-ltb, le-ltb, eq-eqb, and_from}
 use Rattle.cilk_monoid.specs.declared.kind.MonoidKind.{MonoidKind}
-use Rattle.cilk_parser.specs.declared.tree.Name.{Name}
-use Rattle.cilk_parser.specs.declared.tree.Reducer as parsed
-use Rattle.cilk_parser.specs.Trees as trees
+use Rattle.cilk_syntax.specs.declared.tree.Name.{Name}
+use Rattle.cilk_syntax.specs.declared.tree.Reducer as parsed
+use Rattle.cilk_syntax.specs.Trees as trees
 use Rattle.cilk_program.specs.declared.program.Body.{Body}
 use Rattle.cilk_program.specs.declared.program.Body.TheVariants as bodies
 use Rattle.cilk_program.specs.declared.syntax.Place.TheVariants as places
 use Rattle.cilk_program.specs.Syntax.{Declaration, Statement, Declare, Invokes, If, For, Print, Update, Set, Return, Statements, Nothing, Then, Loop, Source, idle_loop, loop_at}
 use Rattle.cilk_program.specs.WellNamed.{Level, loop_level, levels, levels_of, at_most, has_cell, is_kind, has_own, same_body, place_is_there, reducer_is_there, expression_is_named, option_is_named, declaration_is_named, declarations_are_named, loop_is_there, statement_is_named, row_is_named, stands_in, loop_is_named, loops_are_named}
 use Rattle.cilk_names.specs.declared.limits.TheConstants.{MAX_CELLS}
-use Rattle.cilk_names.specs.declared.table.Meaning.TheVariants as meanings
-use Rattle.cilk_names.specs.declared.table.Home.TheVariants as homes
-use Rattle.cilk_names.specs.Names.{Names, Context, inside, behind_scope, ahead, monoid_at, kind_or_sum, with_variable, with_reducer, behind_locals, behind_beginning, in_loop, in_body, behind, behind_row}
-use Rattle.cilk_names.specs.Misnamings.{again_faults, limit_faults, declared_faults, expression_faults, initializer_faults, local_faults, locals_faults, beginning_faults, head_faults, statement_faults, row_faults, own_faults}
+use Rattle.cilk_scopes.specs.declared.table.Meaning.TheVariants as meanings
+use Rattle.cilk_scopes.specs.declared.table.Home.TheVariants as homes
+use Rattle.cilk_scopes.specs.Names.{Names, monoid_at, kind_or_sum}
+use Rattle.cilk_names.specs.Contexts.{Context, inside, behind_scope, ahead, with_variable, with_reducer, behind_locals, behind_beginning, in_loop, in_body, behind, behind_row}
+use Rattle.cilk_scopes.specs.Faults.{again_faults}
+use Rattle.cilk_names.specs.Misnamings.{limit_faults, declared_faults, expression_faults, initializer_faults, local_faults, locals_faults, beginning_faults, head_faults, statement_faults, row_faults, own_faults}
 use Rattle.cilk_names.specs.Resolution.{ResolvesInitializer, ResolvesLocals, ResolvesBeginning, ResolvesStatement, ResolvesRow}
 use Rattle.cilk_names.proofs.Behinds.{Keeps, same, keeps, keeps_variable}
 use Rattle.cilk_names.proofs.Rights.{both_nil, for_right}
 use Rattle.cilk_names.proofs.Grows.{Grows, counted_more, limit_right, grows_variable, grows_locals, grows_beginning, grows_inside, grows, grows_row}
-use Rattle.cilk_names.proofs.Fits.{kind_itself, NamesFit, SignaturesFit, names_declare, names_opened, names_deeper, variable_there, reducer_there, expression_named, optional_named, assignment_named, step_named, call_named}
+use Rattle.cilk_scopes.proofs.SameKinds.{kind_itself}
+use Rattle.cilk_names.proofs.Fits.{NamesFit, SignaturesFit, names_declare, names_opened, names_deeper, variable_there, reducer_there, expression_named, optional_named, assignment_named, step_named, call_named}
 
 -- lists in parts
 pub get_drop : {A : Type 0} (xs ys : List A) (n : ℕ) (x : A) → drop n xs ≡ x ∷ ys → (slice_get xs n ≡ Some x) × (n < length xs) × (drop (n + 1) xs ≡ ys)

@@ -2,12 +2,13 @@
 use Rattle.std.proofs.Common.{◌≡◌, ℕ, Bool, true, false, ◌||◌, ◌&&◌, if◌then◌else◌, List, [], ◌∷◌, length, Contains, Option, Some, None, refl, sym, ap, ◌∙◌, subst, inl, inr, arith, nat_lt, nat_eq}
 use Rattle.std.proofs.lemmas.List.Elements.{All-cons, All-head, All-tail, Contains-append_right, Contains-append_left, Contains-append_cases, Contains-push}
 use Rattle.std.proofs.lemmas.Bool.Decides.{nat_tests}
-use Rattle.cilk_parser.specs.declared.tree.Tree.{Tree}
-use Rattle.cilk_parser.specs.Trees.{program}
-use Rattle.cilk_names.specs.declared.fault.NameNumber.TheVariants.{NoMain}
-use Rattle.cilk_names.specs.declared.fault.Misnaming.{Misnaming}
+use Rattle.cilk_syntax.specs.declared.tree.Tree.{Tree}
+use Rattle.cilk_syntax.specs.Trees.{program}
+use Rattle.cilk_scopes.specs.declared.fault.NameNumber.TheVariants.{NoMain}
+use Rattle.cilk_scopes.specs.declared.fault.Misnaming.{Misnaming}
 use Rattle.cilk_names.specs.Globals.{start, main_of}
-use Rattle.cilk_names.specs.Misnamings.{number_of, is_before, IsFirst, earliest, items_faults, or_no_main, faults_of}
+use Rattle.cilk_scopes.specs.Faults.{number_of, is_before, earliest}
+use Rattle.cilk_names.specs.Misnamings.{IsFirst, items_faults, or_no_main, faults_of}
 
 -- by place, then number: an order of its own on numbers
 abbrev lower : ℕ → ℕ → ℕ → ℕ → Bool

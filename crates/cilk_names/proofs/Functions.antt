@@ -5,15 +5,16 @@ use Rattle.std.proofs.Math.Path.{fun_ext}
 use Rattle.std.proofs.lemmas.List.{append-nil, drop_all}
 use Rattle.std.proofs.lemmas.Slice.Eq.{bytes_eq-Decides}
 use Rattle.std.proofs.Math.Seq.{drop-cons}
-use Rattle.cilk_parser.specs.declared.tree.Item as code
-use Rattle.cilk_parser.specs.declared.tree.Parameter.{Parameter}
-use Rattle.cilk_parser.specs.Trees as trees
-use Rattle.cilk_parser.specs.Trees.{Item, items_of, bytes_of}
-use Rattle.cilk_names.specs.declared.signature.ParameterKind.{ParameterKind}
-use Rattle.cilk_names.specs.declared.signature.Signature.{Signature}
-use Rattle.cilk_names.specs.declared.table.Entry.{Entry}
-use Rattle.cilk_names.specs.declared.table.Meaning.TheVariants as meanings
-use Rattle.cilk_names.specs.Names.{Names, Scope, kind_of, kinds_of, signatures_of, functions_known, functions_behind, with_entry, with_item}
+use Rattle.cilk_syntax.specs.declared.tree.Item as code
+use Rattle.cilk_syntax.specs.declared.tree.Parameter.{Parameter}
+use Rattle.cilk_syntax.specs.Trees as trees
+use Rattle.cilk_syntax.specs.Trees.{Item, items_of, bytes_of}
+use Rattle.cilk_scopes.specs.declared.signature.ParameterKind.{ParameterKind}
+use Rattle.cilk_scopes.specs.declared.signature.Signature.{Signature}
+use Rattle.cilk_scopes.specs.declared.table.Entry.{Entry}
+use Rattle.cilk_scopes.specs.declared.table.Meaning.TheVariants as meanings
+use Rattle.cilk_scopes.specs.Names.{Names, Scope, with_entry}
+use Rattle.cilk_names.specs.Contexts.{kind_of, kinds_of, signatures_of, functions_known, functions_behind, with_item}
 use Rattle.cilk_names.specs.Globals.{is_main_item, main_of}
 
 pub same_bytes : (a b : List ℕ) → bytes_eq a b ≡ true → a ≡ b

@@ -3,13 +3,14 @@ use Rattle.std.proofs.Common.{◌≡◌, ℕ, ◌+◌, ◌<◌, ◌≤◌, nat_l
 use Rattle.std.proofs.lemmas.List.{append-nil}
 use Rattle.std.proofs.lemmas.Bool.{ltb-true, lt-ltb}
 use Rattle.cilk_monoid.specs.declared.kind.MonoidKind.{MonoidKind}
-use Rattle.cilk_parser.specs.declared.tree.Name.{Name}
-use Rattle.cilk_parser.specs.declared.tree.Reducer as parsed
-use Rattle.cilk_parser.specs.Trees as trees
+use Rattle.cilk_syntax.specs.declared.tree.Name.{Name}
+use Rattle.cilk_syntax.specs.declared.tree.Reducer as parsed
+use Rattle.cilk_syntax.specs.Trees as trees
 use Rattle.cilk_names.specs.declared.limits.TheConstants.{MAX_CELLS, MAX_REDUCERS}
-use Rattle.cilk_names.specs.declared.fault.NameNumber.TheVariants.{OverLimit, ReducerNotFirst}
-use Rattle.cilk_names.specs.Names.{Context, inside, behind_scope, ahead, counted, with_variable, with_reducer, behind_locals, behind_beginning, in_body, behind_loop, behind, behind_row}
-use Rattle.cilk_names.specs.Misnamings.{unless, again_faults, limit_faults, monoid_faults, own_faults, expression_faults, head_faults, statement_faults, row_faults}
+use Rattle.cilk_scopes.specs.declared.fault.NameNumber.TheVariants.{OverLimit, ReducerNotFirst}
+use Rattle.cilk_names.specs.Contexts.{Context, inside, behind_scope, ahead, counted, with_variable, with_reducer, behind_locals, behind_beginning, in_body, behind_loop, behind, behind_row}
+use Rattle.cilk_scopes.specs.Faults.{unless, again_faults, monoid_faults}
+use Rattle.cilk_names.specs.Misnamings.{limit_faults, own_faults, expression_faults, head_faults, statement_faults, row_faults}
 use Rattle.cilk_names.proofs.Rights.{both_nil, unless_right, for_right}
 
 -- one more is counted where there is room

@@ -3,7 +3,6 @@ pub mod Arguments
 pub mod Behinds
 pub mod Blocks
 pub mod Bodies
-pub mod Earliest
 pub mod Firsts
 pub mod Fits
 pub mod Functions
@@ -12,9 +11,9 @@ pub mod Lists
 pub mod Locals
 pub mod Loops
 pub mod Made
+pub mod OneFault
 pub mod Onlys
 pub mod Rights
 pub mod Rows
-pub mod Tables
 pub mod Verdicts
 pub mod WellNamed

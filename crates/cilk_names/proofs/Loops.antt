@@ -1,13 +1,13 @@
 -- The list of loops, in which a loop's place is taken ahead of those in its body.
 use Rattle.std.proofs.Common.{◌≡◌, ℕ, zero, suc, ◌+◌, ◌<◌, List, [], ◌∷◌, ◌++◌, length, map, slice_set, refl, sym, ap, ◌∙◌, length-append, arith}
-use Rattle.cilk_parser.specs.declared.tree.Name.{Name}
-use Rattle.cilk_parser.specs.Trees as trees
+use Rattle.cilk_syntax.specs.declared.tree.Name.{Name}
+use Rattle.cilk_syntax.specs.Trees as trees
 use Rattle.cilk_program.specs.declared.program.Body.{Body}
 use Rattle.cilk_program.specs.declared.program.Loop as coded
 use Rattle.cilk_program.specs.declared.syntax.Stmt.{Stmt}
 use Rattle.cilk_program.specs.Programs as programs
 use Rattle.cilk_program.specs.Syntax.{Loop, Statement, Nothing, Then}
-use Rattle.cilk_names.specs.Names.{Context, inside, behind_scope, in_body, behind}
+use Rattle.cilk_names.specs.Contexts.{Context, inside, behind_scope, in_body, behind}
 use Rattle.cilk_names.specs.Pass.{loop_of, loops_of, statement_of}
 
 length_map : {A B : Type 0} (f : A → B) (xs : List A) → length (map f xs) ≡ length xs

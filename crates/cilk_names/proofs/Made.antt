@@ -1,8 +1,8 @@
 -- The program that the code makes is the tree's.
 use Rattle.std.proofs.Common.{◌≡◌, ℕ, ℤ, List, map, ap, ◌∙◌, subst}
-use Rattle.cilk_parser.specs.declared.tree.Item as code
-use Rattle.cilk_parser.specs.declared.tree.Tree.{Tree}
-use Rattle.cilk_parser.specs.Trees.{items_of, program}
+use Rattle.cilk_syntax.specs.declared.tree.Item as code
+use Rattle.cilk_syntax.specs.declared.tree.Tree.{Tree}
+use Rattle.cilk_syntax.specs.Trees.{items_of, program}
 use Rattle.cilk_monoid.specs.declared.kind.MonoidKind.{MonoidKind}
 use Rattle.cilk_program.specs.declared.program.GlobalReducer.{GlobalReducer}
 use Rattle.cilk_program.specs.Programs.{function, loop, source_of}

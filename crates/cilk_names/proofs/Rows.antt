@@ -2,16 +2,17 @@
 use Rattle.std.proofs.Common.{◌≡◌, ℕ, suc, ◌+◌, ◌<◌, ◌≤◌, List, [], ◌∷◌, ◌++◌, length, drop, get_or, Option, sym, ap, ◌∙◌, append_assoc, add-one}
 use Rattle.std.proofs.lemmas.List.{append-nil, drop_all}
 use Rattle.std.proofs.Math.Seq.{drop-cons}
-use Rattle.cilk_parser.specs.declared.tree.Stmt as code
-use Rattle.cilk_parser.specs.Trees as trees
+use Rattle.cilk_syntax.specs.declared.tree.Stmt as code
+use Rattle.cilk_syntax.specs.Trees as trees
 use Rattle.cilk_program.specs.declared.syntax.Stmt as resolved
 use Rattle.cilk_program.specs.Programs as programs
 use Rattle.cilk_program.specs.Syntax.{Loop, Then}
-use Rattle.cilk_names.specs.declared.fault.Misnaming.{Misnaming}
-use Rattle.cilk_names.specs.Names.{Context, ahead, behind, behind_row}
-use Rattle.cilk_names.specs.Misnamings.{earliest, statement_faults, row_faults}
+use Rattle.cilk_scopes.specs.declared.fault.Misnaming.{Misnaming}
+use Rattle.cilk_names.specs.Contexts.{Context, ahead, behind, behind_row}
+use Rattle.cilk_scopes.specs.Faults.{earliest}
+use Rattle.cilk_names.specs.Misnamings.{statement_faults, row_faults}
 use Rattle.cilk_names.specs.Pass.{statement_of, row_of, loops_of, row_loops}
-use Rattle.cilk_names.proofs.Earliest.{earliest_append}
+use Rattle.cilk_scopes.proofs.Earliest.{earliest_append}
 use Rattle.cilk_names.proofs.Blocks.{followed, followed_push, followed_nothing}
 
 -- what is left, at one of them

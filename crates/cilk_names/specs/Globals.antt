@@ -1,18 +1,19 @@
 -- What a text's items declare: global variables, global reducers and functions.
 use Rattle.std.specs.Prelude.{ℕ, zero, suc, ◌+◌, nat_lt, ℤ, pos, negsuc, Bool, true, false, not, if◌then◌else◌, List, [], ◌∷◌, ◌++◌, length, Option, Some, None, bytes_eq, codes}
-use Rattle.cilk_parser.specs.declared.tree.Name.{Name}
-use Rattle.cilk_parser.specs.declared.tree.GlobalVariable.{GlobalVariable}
-use Rattle.cilk_parser.specs.declared.tree.GlobalVariable.TheVariants as globals
-use Rattle.cilk_parser.specs.declared.tree.Parameter.{Parameter}
-use Rattle.cilk_parser.specs.declared.tree.ReturnType.{ReturnType}
-use Rattle.cilk_parser.specs.declared.tree.ReturnType.TheVariants.{Int, Void}
-use Rattle.cilk_parser.specs.Trees.{Item, Globals, Function, bytes_of, opening_value}
+use Rattle.cilk_syntax.specs.declared.tree.Name.{Name}
+use Rattle.cilk_syntax.specs.declared.tree.GlobalVariable.{GlobalVariable}
+use Rattle.cilk_syntax.specs.declared.tree.GlobalVariable.TheVariants as globals
+use Rattle.cilk_syntax.specs.declared.tree.Parameter.{Parameter}
+use Rattle.cilk_syntax.specs.declared.tree.ReturnType.{ReturnType}
+use Rattle.cilk_syntax.specs.declared.tree.ReturnType.TheVariants.{Int, Void}
+use Rattle.cilk_syntax.specs.Trees.{Item, Globals, Function, bytes_of, opening_value}
 use Rattle.cilk_program.specs.declared.program.Body.TheVariants as bodies
 use Rattle.cilk_program.specs.declared.program.GlobalReducer.{GlobalReducer}
 use Rattle.cilk_names.specs.declared.limits.TheConstants.{MAX_GLOBALS, MAX_REDUCERS}
-use Rattle.cilk_names.specs.declared.table.Meaning.TheVariants as meanings
-use Rattle.cilk_names.specs.declared.table.Home.TheVariants as homes
-use Rattle.cilk_names.specs.Names.{Names, Context, opened, declare, counted, monoid_at, kind_or_sum, behind_row, with_parameters, signatures_of, functions_known, functions_behind}
+use Rattle.cilk_scopes.specs.declared.table.Meaning.TheVariants as meanings
+use Rattle.cilk_scopes.specs.declared.table.Home.TheVariants as homes
+use Rattle.cilk_scopes.specs.Names.{Names, opened, declare, monoid_at, kind_or_sum}
+use Rattle.cilk_names.specs.Contexts.{Context, counted, behind_row, with_parameters, signatures_of, functions_known, functions_behind}
 
 -- What is known at a place between items: names, the opening values of the global cells and the global reducers so far, and how many
 -- functions, declarations of reducers and loops stand ahead.

@@ -1,72 +1,31 @@
 -- Where names go wrong, along the tree.
-use Rattle.std.specs.Prelude.{◌≡◌, ℕ, ◌+◌, nat_lt, nat_eq, Bool, true, false, not, ◌&&◌, ◌||◌, if◌then◌else◌, List, [], ◌∷◌, ◌++◌, Option, Some, None, length, All, Contains, bytes_eq}
-use Rattle.std.specs.Option.{is_some}
+use Rattle.std.specs.Prelude.{◌≡◌, ℕ, ◌+◌, nat_lt, nat_eq, Bool, true, false, not, ◌||◌, List, [], ◌∷◌, ◌++◌, Option, Some, None, length, All, Contains, bytes_eq}
 use Rattle.cilk_monoid.specs.declared.kind.MonoidKind.{MonoidKind}
-use Rattle.cilk_parser.specs.declared.tree.Name.{Name}
-use Rattle.cilk_parser.specs.declared.tree.GlobalVariable.{GlobalVariable}
-use Rattle.cilk_parser.specs.declared.tree.GlobalVariable.TheVariants as globals
-use Rattle.cilk_parser.specs.declared.tree.Parameter.{Parameter}
-use Rattle.cilk_parser.specs.declared.tree.Parameter.TheVariants as parameters
-use Rattle.cilk_parser.specs.declared.tree.ReturnType.{ReturnType}
-use Rattle.cilk_parser.specs.declared.tree.ReturnType.TheVariants.{Int, Void}
-use Rattle.cilk_parser.specs.declared.tree.Reducer.{Reducer}
-use Rattle.cilk_parser.specs.declared.tree.Tree.{Tree}
-use Rattle.cilk_parser.specs.Trees as trees
-use Rattle.cilk_parser.specs.Trees.{Expression, Item, Globals, Function, bytes_of, program}
+use Rattle.cilk_syntax.specs.declared.tree.Name.{Name}
+use Rattle.cilk_syntax.specs.declared.tree.GlobalVariable.{GlobalVariable}
+use Rattle.cilk_syntax.specs.declared.tree.GlobalVariable.TheVariants as globals
+use Rattle.cilk_syntax.specs.declared.tree.Parameter.{Parameter}
+use Rattle.cilk_syntax.specs.declared.tree.Parameter.TheVariants as parameters
+use Rattle.cilk_syntax.specs.declared.tree.ReturnType.{ReturnType}
+use Rattle.cilk_syntax.specs.declared.tree.ReturnType.TheVariants.{Int, Void}
+use Rattle.cilk_syntax.specs.declared.tree.Reducer.{Reducer}
+use Rattle.cilk_syntax.specs.declared.tree.Tree.{Tree}
+use Rattle.cilk_syntax.specs.Trees as trees
+use Rattle.cilk_syntax.specs.Trees.{Expression, Item, Globals, Function, bytes_of, program}
+use Rattle.cilk_scopes.specs.Faults.{at, unless, name_faults, variable_faults, array_faults, reducer_faults, function_faults, written_faults, again_faults, monoid_faults, is_before}
 use Rattle.cilk_names.specs.declared.limits.TheConstants.{MAX_CELLS, MAX_FUNCTIONS, MAX_PARAMETERS, MAX_REDUCERS}
-use Rattle.cilk_names.specs.declared.table.Meaning.{Meaning}
-use Rattle.cilk_names.specs.declared.signature.ParameterKind.{ParameterKind}
-use Rattle.cilk_names.specs.declared.signature.ParameterKind.TheVariants as kinds
-use Rattle.cilk_names.specs.declared.signature.Signature.{Signature}
-use Rattle.cilk_names.specs.declared.fault.NameNumber.{NameNumber}
-use Rattle.cilk_names.specs.declared.fault.NameNumber.TheVariants.{Unknown, DeclaredTwice, WrongCount, WrongKind, NoMain, ReturnInLoop, LoopVariable, ReducerNotFirst, OverLimit}
-use Rattle.cilk_names.specs.declared.fault.Misnaming.{Misnaming}
+use Rattle.cilk_scopes.specs.declared.signature.ParameterKind.{ParameterKind}
+use Rattle.cilk_scopes.specs.declared.signature.ParameterKind.TheVariants as kinds
+use Rattle.cilk_scopes.specs.declared.signature.Signature.{Signature}
+use Rattle.cilk_scopes.specs.declared.fault.NameNumber.TheVariants.{WrongCount, WrongKind, NoMain, ReturnInLoop, ReducerNotFirst, OverLimit}
+use Rattle.cilk_scopes.specs.declared.fault.Misnaming.{Misnaming}
 use Rattle.cilk_names.specs.declared.fault.NameFault.{NameFault}
 use Rattle.cilk_names.specs.declared.fault.NameFault.TheVariants as faults
-use Rattle.cilk_names.specs.Names.{Names, Context, meaning, is_declared, monoid_at, inside, behind_scope, ahead, with_variable, behind_beginning, in_body, behind, with_parameter, with_parameters}
-use Rattle.cilk_names.specs.Sights.{place_of, is_turn, array_of, reducer_of, is_reducer_of, function_of, called, signature_of, first_of, rest_of, bare_name}
+use Rattle.cilk_scopes.specs.Names.{Names, meaning}
+use Rattle.cilk_names.specs.Contexts.{Context, inside, behind_scope, ahead, with_variable, behind_beginning, in_body, behind, with_parameter, with_parameters}
+use Rattle.cilk_scopes.specs.Sights.{is_reducer_of, called, signature_of}
+use Rattle.cilk_names.specs.Calls.{first_of, rest_of, bare_name}
 use Rattle.cilk_names.specs.Globals.{Known, start, array_cells, globals_full, in_function, behind_global, behind_item, main_of}
-
--- the number that a fault is reported by
-abbrev pub number_of : NameNumber → ℕ
-number_of Unknown = 111
-number_of DeclaredTwice = 112
-number_of WrongCount = 113
-number_of WrongKind = 114
-number_of NoMain = 115
-number_of ReturnInLoop = 116
-number_of LoopVariable = 117
-number_of ReducerNotFirst = 118
-number_of OverLimit = 119
-
--- one fault at a place
-abbrev pub at : NameNumber → ℕ → List Misnaming
-at number place = record { number = number; place = place } ∷ []
-
-abbrev pub unless : Bool → NameNumber → ℕ → List Misnaming
-unless right number place = if right then [] else at number place
-
--- a name has to be known, and of the right kind
-abbrev pub name_faults : (Meaning → Bool) → Option Meaning → ℕ → List Misnaming
-name_faults right None place = at Unknown place
-name_faults right (Some m) place = unless (right m) WrongKind place
-
-abbrev pub variable_faults : Names → Name → List Misnaming
-variable_faults names x = name_faults (λ m. is_some (place_of names.level m)) (meaning names x) x.at
-
-abbrev pub array_faults : Names → Name → List Misnaming
-array_faults names x = name_faults (λ m. is_some (array_of m)) (meaning names x) x.at
-
-abbrev pub reducer_faults : Names → Name → List Misnaming
-reducer_faults names x = name_faults (λ m. is_some (reducer_of names.level m)) (meaning names x) x.at
-
-abbrev pub turn_faults : Option Meaning → ℕ → List Misnaming
-turn_faults None place = []
-turn_faults (Some m) place = unless (not (is_turn m)) LoopVariable place
-
--- a variable that is written isn't that of a parallel loop
-abbrev pub written_faults : Names → Name → List Misnaming
-written_faults names x = variable_faults names x ++ turn_faults (meaning names x) x.at
 
 abbrev pub expression_faults : Names → Expression → List Misnaming
 expression_faults names (trees.Number n) = []
@@ -122,11 +81,7 @@ fit_faults (Some n) s taken c = let f = s in unless (nat_eq (length c.arguments)
 abbrev pub call_faults : Names → Bool → trees.Call → List Misnaming
 call_faults names taken c =
     let s = signature_of names (called names c.name) in
-    name_faults (λ m. is_some (function_of m)) (meaning names c.name) c.name.at ++ fit_faults (called names c.name) s taken c ++ arguments_faults names s.parameters c.arguments
-
--- a name is declared once in a scope
-abbrev pub again_faults : Names → Name → List Misnaming
-again_faults names x = unless (not (is_declared names.inner (bytes_of names.text x))) DeclaredTwice x.at
+    function_faults names c.name ++ fit_faults (called names c.name) s taken c ++ arguments_faults names s.parameters c.arguments
 
 abbrev pub limit_faults : ℕ → ℕ → Name → List Misnaming
 limit_faults limit n x = unless (nat_lt n limit) OverLimit x.at
@@ -134,9 +89,6 @@ limit_faults limit n x = unless (nat_lt n limit) OverLimit x.at
 -- a variable that is declared in a body
 abbrev pub declared_faults : Context → Name → List Misnaming
 declared_faults c x = again_faults c.names x ++ limit_faults MAX_CELLS c.frame.cells x
-
-abbrev pub monoid_faults : Names → Reducer → List Misnaming
-monoid_faults names r = unless (is_some (monoid_at names r)) Unknown r.monoid.at
 
 -- a reducer that is declared in a body
 abbrev pub own_faults : Context → Reducer → List Misnaming
@@ -245,10 +197,6 @@ or_no_main main place (f ∷ fs) = f ∷ fs
 abbrev pub faults_of : Tree → List Misnaming
 faults_of t = or_no_main (main_of t.text.items 0 (program t)) (length t.text.items) (items_faults (start t.text.items (program t)) (program t))
 
--- by place, and at one place by number
-abbrev pub is_before : Misnaming → Misnaming → Bool
-is_before f g = nat_lt f.place g.place || (nat_eq f.place g.place && nat_lt (number_of f.number) (number_of g.number))
-
 -- among these, and none is before it
 abbrev pub IsFirst : Misnaming → List Misnaming → Type 0
 IsFirst f fs = Contains fs f × All (λ g. is_before g f ≡ false) fs
@@ -257,13 +205,3 @@ IsFirst f fs = Contains fs f × All (λ g. is_before g f ≡ false) fs
 abbrev pub IsNameFault : NameFault → Tree → Type 0
 IsNameFault faults.Memory t = Unit {0}
 IsNameFault (faults.At number place) t = IsFirst (record { number = number; place = place }) (faults_of t)
-
--- the earlier of two
-abbrev pub earlier : Option Misnaming → Misnaming → Option Misnaming
-earlier None f = Some f
-earlier (Some g) f = if is_before f g then Some f else Some g
-
--- the earliest of these and of one found before
-abbrev pub earliest : Option Misnaming → List Misnaming → Option Misnaming
-earliest first [] = first
-earliest first (f ∷ fs) = earliest (earlier first f) fs

@@ -2,23 +2,25 @@
 -- nothing. Where no name is wrong, that is the resolved program.
 use Rattle.std.specs.Prelude.{ℕ, pos, negsuc, List, [], ◌∷◌, ◌++◌, map, Option, Some, None, option_map}
 use Rattle.std.specs.Option.{option_to_list}
-use Rattle.cilk_parser.specs.declared.tree.Name.{Name}
-use Rattle.cilk_parser.specs.declared.tree.Invocation as invoked
-use Rattle.cilk_parser.specs.declared.tree.Tree.{Tree}
-use Rattle.cilk_parser.specs.Trees as trees
-use Rattle.cilk_parser.specs.Trees.{Item, Globals, Function, program}
+use Rattle.cilk_syntax.specs.declared.tree.Name.{Name}
+use Rattle.cilk_syntax.specs.declared.tree.Invocation as invoked
+use Rattle.cilk_syntax.specs.declared.tree.Tree.{Tree}
+use Rattle.cilk_syntax.specs.Trees as trees
+use Rattle.cilk_syntax.specs.Trees.{Item, Globals, Function, program}
 use Rattle.cilk_program.specs.declared.syntax.Array.{Array}
 use Rattle.cilk_program.specs.declared.syntax.Place.{Place}
 use Rattle.cilk_program.specs.declared.syntax.Place.TheVariants.{Local}
 use Rattle.cilk_program.specs.declared.syntax.Reducer.{Reducer}
 use Rattle.cilk_program.specs.Syntax as syntax
 use Rattle.cilk_program.specs.Syntax.{Expression, Number, Variable, Element, Value, Input, InputCount, Target, ToVariable, ToElement, Invoke, Declaration, Zero, Opening, Invoking, Statement, Empty, Block, Declare, Assign, Change, Step, Invokes, Sync, If, IfElse, For, ParallelFor, Print, Update, Set, Return, Statements, Nothing, Then, Loop, Source}
-use Rattle.cilk_names.specs.declared.signature.ParameterKind.{ParameterKind}
-use Rattle.cilk_names.specs.declared.signature.ParameterKind.TheVariants as kinds
-use Rattle.cilk_names.specs.Names.{Names, Context, inside, behind_scope, ahead, with_variable, behind_beginning, in_body, behind, behind_row, with_parameters}
-use Rattle.cilk_names.specs.Sights.{variable, array, reducer, called, signature_of, first_of, rest_of, bare_name}
+use Rattle.cilk_scopes.specs.declared.signature.ParameterKind.{ParameterKind}
+use Rattle.cilk_scopes.specs.declared.signature.ParameterKind.TheVariants as kinds
+use Rattle.cilk_scopes.specs.Names.{Names}
+use Rattle.cilk_names.specs.Contexts.{Context, inside, behind_scope, ahead, with_variable, behind_beginning, in_body, behind, behind_row, with_parameters}
+use Rattle.cilk_scopes.specs.Sights.{variable, array, reducer, called, signature_of}
+use Rattle.cilk_names.specs.Calls.{first_of, rest_of, bare_name}
 use Rattle.cilk_names.specs.Globals.{Known, start, in_function, behind_item, behind_items}
-use Rattle.cilk_names.specs.Operators.{prefixed, joined, compound, invocation}
+use Rattle.cilk_scopes.specs.Operators.{prefixed, joined, compound, invocation}
 
 abbrev pub read_of : Option Place → Expression
 read_of None = Number (pos 0)

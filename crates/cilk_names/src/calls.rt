@@ -1,26 +1,26 @@
 //! Calls with their names resolved.
 
 ghost use Rattle.std.specs.Prelude.{◌≡◌, ◌||◌, not, OnOk, IfOk, map, ◌++◌, Some, option_map, slice_get, unwrap_or};
-ghost use Rattle.std.specs.Option.{is_some};
-ghost use Rattle.cilk_parser.specs.Trees as trees;
+ghost use Rattle.cilk_syntax.specs.Trees as trees;
 ghost use Rattle.cilk_program.specs.Programs.{expression, invoke};
-ghost use Rattle.cilk_names.specs.Names.{meaning};
-ghost use Rattle.cilk_names.specs.Sights.{bare_name, called, function_of, signature_of};
-ghost use Rattle.cilk_names.specs.Misnamings.{earliest, argument_faults, arguments_faults, bare_faults, call_faults, fit_faults, name_faults, returns_word};
+ghost use Rattle.cilk_scopes.specs.Sights.{signature_of};
+ghost use Rattle.cilk_names.specs.Calls.{bare_name};
+ghost use Rattle.cilk_scopes.specs.Faults.{earliest};
+ghost use Rattle.cilk_names.specs.Misnamings.{argument_faults, arguments_faults, bare_faults, call_faults, fit_faults, returns_word};
 ghost use Rattle.cilk_names.specs.Pass.{bare_reducer, invoke_of, reducer_of_argument, reducers_of, word_of_argument, words_of};
-ghost use Rattle.cilk_names.specs.States.{names_of};
-ghost use Rattle.cilk_names.specs.declared.signature.ParameterKind.TheVariants.{Word};
+ghost use Rattle.cilk_scopes.specs.Tables.{names_of};
+ghost use Rattle.cilk_scopes.specs.declared.signature.ParameterKind.TheVariants.{Word};
 
 use crate::expressions::expression;
-use crate::fault::{Misnaming, NameNumber};
-use crate::operators::invocation;
-use crate::sights::note_unless;
-use crate::signature::ParameterKind;
-use crate::table::Table;
 use cilk_monoid::kind::MonoidKind;
-use cilk_parser::tree;
-use cilk_parser::tree::{Argument, Name, ReturnType};
 use cilk_program::syntax::{Expr, Invoke, Place, Reducer};
+use cilk_scopes::fault::{Misnaming, NameNumber};
+use cilk_scopes::operators::invocation;
+use cilk_scopes::sights::{function, given, note_unless};
+use cilk_scopes::signature::ParameterKind;
+use cilk_scopes::table::{Table, signature};
+use cilk_syntax::tree;
+use cilk_syntax::tree::{Argument, Name, ReturnType};
 use std::alloc::{AllocError, Global};
 
 /// The arguments of a call: its words and its reducers, each in order.
@@ -48,7 +48,7 @@ fn bare_name(tree: &tree::Expr) -> Option<Name>
 }
 
 /// An argument for a reducer of a monoid. What is wrong is noted.
-#[tactic(auto, using(crate::proofs::Earliest::earliest_append))]
+#[tactic(auto, using(cilk_scopes::proofs::Earliest::earliest_append))]
 fn bare(
     alloc: Global,
     table: &Table,
@@ -59,22 +59,14 @@ fn bare(
     ensures faults { OnOk result (first.new ≡ earliest first.old (bare_faults (names_of table.now) kind (trees.argument argument.now).at (trees.argument argument.now).value (bare_name (trees.argument argument.now).value))) }
     ensures value { IfOk result (λ r. r ≡ bare_reducer (names_of table.now) (bare_name (trees.argument argument.now).value)) }
 {
-    let Some(name) = bare_name(&argument.value) else {
-        note_unless(false, NameNumber::WrongKind, argument.at, first);
-        let _value = expression(alloc, table, &argument.value, first)?;
-        return Ok(None);
-    };
-    let Some(meaning) = table.meaning(name) else {
-        note_unless(false, NameNumber::Unknown, argument.at, first);
-        return Ok(None);
-    };
-    note_unless(
-        meaning.is_reducer_of(kind),
-        NameNumber::WrongKind,
-        argument.at,
-        first,
-    );
-    Ok(meaning.reducer(table.level))
+    match bare_name(&argument.value) {
+        Some(name) => Ok(given(table, name, kind, argument.at, first)),
+        None => {
+            note_unless(false, NameNumber::WrongKind, argument.at, first);
+            let _value = expression(alloc, table, &argument.value, first)?;
+            Ok(None)
+        }
+    }
 }
 
 impl Passed {
@@ -139,20 +131,6 @@ fn arguments(
     Ok(found)
 }
 
-/// The function that a call names, or none with a fault noted.
-fn function(table: &Table, name: Name, first: &mut Option<Misnaming>) -> Option<u32>
-    ensures function { result ≡ called (names_of table.now) name }
-    ensures faults { first.new ≡ earliest first.old (name_faults (λ m. is_some (function_of m)) (meaning (names_of table.now) name) name.at) }
-{
-    let Some(meaning) = table.meaning(name) else {
-        note_unless(false, NameNumber::Unknown, name.at, first);
-        return None;
-    };
-    let function = meaning.function();
-    note_unless(function.is_some(), NameNumber::WrongKind, name.at, first);
-    function
-}
-
 /// Whether a function gives a value, or none is taken.
 fn gives(returns: ReturnType, is_taken: bool) -> bool
     ensures { result ≡ (returns_word returns || not is_taken) }
@@ -165,7 +143,7 @@ fn gives(returns: ReturnType, is_taken: bool) -> bool
 
 /// A call with its names resolved, or none where its function isn't one. What is wrong is noted: also a wrong count of
 /// arguments, and a result that is taken of a function without one.
-#[tactic(auto, using(crate::proofs::Earliest::earliest_append))]
+#[tactic(auto, using(cilk_scopes::proofs::Earliest::earliest_append))]
 pub(crate) fn call(
     alloc: Global,
     table: &Table,
@@ -195,7 +173,7 @@ pub(crate) fn call(
 
 /// The parameters of a call's function. A wrong count of arguments, and a result that is taken of a function without one, are
 /// noted.
-#[tactic(auto, using(crate::proofs::Earliest::earliest_append, crate::proofs::Arguments::length_arguments))]
+#[tactic(auto, using(cilk_scopes::proofs::Earliest::earliest_append, crate::proofs::Arguments::length_arguments))]
 fn fit<'a>(
     table: &'a Table,
     function: u32,
@@ -212,15 +190,4 @@ fn fit<'a>(
     let gives = gives(returns, is_taken);
     note_unless(gives, NameNumber::WrongKind, call.name.at, first);
     kinds
-}
-
-/// What a function returns, and what it takes.
-fn signature<'a>(table: &'a Table, function: u32) -> (ReturnType, &'a [ParameterKind])
-    ensures returns { result.0 ≡ (let s = signature_of (names_of table.now) (Some function) in s.returns) }
-    ensures kinds { result.1.now ≡ (let s = signature_of (names_of table.now) (Some function) in s.parameters) }
-{
-    match table.signatures.get(function as usize) {
-        Some(signature) => (signature.returns, signature.parameters.as_slice()),
-        None => (ReturnType::Int, &[]),
-    }
 }

@@ -1,22 +1,71 @@
 //! Expressions and assignments with their names resolved.
 
 ghost use Rattle.std.specs.Prelude.{◌≡◌, OnOk, IfOk, option_map};
-ghost use Rattle.cilk_parser.specs.Trees as trees;
+ghost use Rattle.cilk_syntax.specs.Trees as trees;
 ghost use Rattle.cilk_program.specs.Programs.{expression, optional, statement, target};
-ghost use Rattle.cilk_names.specs.Misnamings.{earliest, expression_faults, optional_faults, place_faults, assignment_faults};
-ghost use Rattle.cilk_names.specs.Pass.{expression_of, optional_of, target_of, assignment_of};
-ghost use Rattle.cilk_names.specs.States.{names_of};
+ghost use Rattle.cilk_program.specs.Syntax.{Assign, Change, Step};
+ghost use Rattle.cilk_scopes.specs.Faults.{earliest};
+ghost use Rattle.cilk_names.specs.Misnamings.{expression_faults, optional_faults, place_faults, assignment_faults};
+ghost use Rattle.cilk_names.specs.Pass.{assignment_of, element_of, expression_of, optional_of, or_empty, read_of, target_of, value_of};
+ghost use Rattle.cilk_scopes.specs.Operators.{compound};
+ghost use Rattle.cilk_scopes.specs.Tables.{names_of};
 
-use crate::fault::Misnaming;
-use crate::operators::{between, compound, in_front};
-use crate::sights::{array, reducer, variable, written};
-use crate::table::Table;
-use cilk_parser::tree;
-use cilk_program::syntax::{Expr, Stmt, Target};
+use cilk_program::syntax::{Array, Expr, Place, Reducer, Stmt, Target};
+use cilk_scopes::fault::Misnaming;
+use cilk_scopes::operators::{between, compound, in_front};
+use cilk_scopes::sights::{array, reducer, variable, written};
+use cilk_scopes::table::Table;
+use cilk_syntax::tree;
 use std::alloc::{AllocError, Global};
 
+/// A variable as an expression; where there is none, 0.
+fn read(place: Option<Place>) -> Expr
+    ensures { expression result ≡ read_of place }
+{
+    match place {
+        Some(place) => Expr::Variable(place),
+        None => Expr::Number(0),
+    }
+}
+
+/// An element of an array; where there is no array, 0.
+fn element(array: Option<Array>, index: Box<Expr>) -> Expr
+    ensures { expression result ≡ element_of array (expression index.value) }
+{
+    match array {
+        Some(array) => Expr::Element(array, index),
+        None => Expr::Number(0),
+    }
+}
+
+/// The value of a reducer; where there is none, 0.
+fn value(reducer: Option<Reducer>) -> Expr
+    ensures { expression result ≡ value_of reducer }
+{
+    match reducer {
+        Some(reducer) => Expr::Value(reducer),
+        None => Expr::Number(0),
+    }
+}
+
+/// An expression as a part of another.
+#[cycle(expressions)]
+fn part(
+    alloc: Global,
+    table: &Table,
+    tree: &tree::Expr,
+    first: &mut Option<Misnaming>,
+) -> Result<Box<Expr>, AllocError>
+    ensures faults { OnOk result (first.new ≡ earliest first.old (expression_faults (names_of table.now) (trees.expression tree.now))) }
+    ensures value { IfOk result (λ r. expression r.value ≡ expression_of (names_of table.now) (trees.expression tree.now)) }
+{
+    let resolved = expression(alloc, table, tree, first)?;
+    Ok(Box::new(alloc, resolved)?)
+}
+
 /// An expression with its names resolved. What is wrong is noted, and a wrong name reads as 0.
-#[tactic(auto, using(crate::proofs::Earliest::earliest_append))]
+#[cycle(expressions)]
+#[tactic(auto, using(cilk_scopes::proofs::Earliest::earliest_append))]
 pub(crate) fn expression(
     alloc: Global,
     table: &Table,
@@ -28,36 +77,24 @@ pub(crate) fn expression(
 {
     match tree {
         tree::Expr::Number(value) => Ok(Expr::Number(*value)),
-        tree::Expr::Variable(name) => match variable(table, *name, first) {
-            Some(place) => Ok(Expr::Variable(place)),
-            None => Ok(Expr::Number(0)),
-        },
+        tree::Expr::Variable(name) => Ok(read(variable(table, *name, first))),
         tree::Expr::Element(name, index) => {
             let array = array(table, *name, first);
-            let index = expression(alloc, table, index, first)?;
-            match array {
-                Some(array) => Ok(Expr::Element(array, Box::new(alloc, index)?)),
-                None => Ok(Expr::Number(0)),
-            }
+            let index = part(alloc, table, index, first)?;
+            Ok(element(array, index))
         }
         tree::Expr::Group(inner) => expression(alloc, table, inner, first),
         tree::Expr::Unary(operator, operand) => {
-            let operand = expression(alloc, table, operand, first)?;
-            in_front(alloc, *operator, operand)
+            let operand = part(alloc, table, operand, first)?;
+            Ok(in_front(*operator, operand))
         }
         tree::Expr::Binary(operator, left, right) => {
-            let left = expression(alloc, table, left, first)?;
-            let right = expression(alloc, table, right, first)?;
-            between(alloc, *operator, left, right)
+            let left = part(alloc, table, left, first)?;
+            let right = part(alloc, table, right, first)?;
+            Ok(between(*operator, left, right))
         }
-        tree::Expr::Value(name) => match reducer(table, *name, first) {
-            Some(reducer) => Ok(Expr::Value(reducer)),
-            None => Ok(Expr::Number(0)),
-        },
-        tree::Expr::Input(place) => {
-            let place = expression(alloc, table, place, first)?;
-            Ok(Expr::Input(Box::new(alloc, place)?))
-        }
+        tree::Expr::Value(name) => Ok(value(reducer(table, *name, first))),
+        tree::Expr::Input(place) => Ok(Expr::Input(part(alloc, table, place, first)?)),
         tree::Expr::InputCount => Ok(Expr::InputCount),
     }
 }
@@ -66,7 +103,7 @@ pub(crate) fn expression(
 pub(crate) fn optional(
     alloc: Global,
     table: &Table,
-    tree: &Option<tree::Expr>,
+    tree: &Option<Box<tree::Expr>>,
     first: &mut Option<Misnaming>,
 ) -> Result<Option<Expr>, AllocError>
     ensures faults { OnOk result (first.new ≡ earliest first.old (optional_faults (names_of table.now) (trees.optional tree.now))) }
@@ -79,7 +116,7 @@ pub(crate) fn optional(
 }
 
 /// What is written to, or none with a fault noted.
-#[tactic(auto, using(crate::proofs::Earliest::earliest_append))]
+#[tactic(auto, using(cilk_scopes::proofs::Earliest::earliest_append))]
 fn target(
     alloc: Global,
     table: &Table,
@@ -105,8 +142,38 @@ fn target(
     }
 }
 
+/// An assignment of a value; where there is no place, nothing.
+fn assign(place: Option<Target>, value: Expr) -> Stmt
+    ensures { statement result ≡ or_empty (option_map target place) (λ t. Assign t (expression value)) }
+{
+    match place {
+        Some(place) => Stmt::Assign(place, value),
+        None => Stmt::Empty,
+    }
+}
+
+/// A compound assignment of a value; where there is no place, nothing.
+fn change(place: Option<Target>, operator: tree::Compound, value: Expr) -> Stmt
+    ensures { statement result ≡ or_empty (option_map target place) (λ t. Change t (compound operator) (expression value)) }
+{
+    match place {
+        Some(place) => Stmt::Change(place, compound(operator), value),
+        None => Stmt::Empty,
+    }
+}
+
+/// An increment or a decrement; where there is no place, nothing.
+fn step(place: Option<Target>, by: i64) -> Stmt
+    ensures { statement result ≡ or_empty (option_map target place) (λ t. Step t by) }
+{
+    match place {
+        Some(place) => Stmt::Step(place, by),
+        None => Stmt::Empty,
+    }
+}
+
 /// An assignment with its names resolved. What is wrong is noted, and then nothing may be assigned.
-#[tactic(auto, using(crate::proofs::Earliest::earliest_append))]
+#[tactic(auto, using(cilk_scopes::proofs::Earliest::earliest_append))]
 pub(crate) fn assignment(
     alloc: Global,
     table: &Table,
@@ -120,26 +187,14 @@ pub(crate) fn assignment(
         tree::Assignment::Set(place, value) => {
             let place = target(alloc, table, place, first)?;
             let value = expression(alloc, table, value, first)?;
-            match place {
-                Some(place) => Ok(Stmt::Assign(place, value)),
-                None => Ok(Stmt::Empty),
-            }
+            Ok(assign(place, value))
         }
         tree::Assignment::Compound(operator, place, value) => {
             let place = target(alloc, table, place, first)?;
             let value = expression(alloc, table, value, first)?;
-            match place {
-                Some(place) => Ok(Stmt::Change(place, compound(*operator), value)),
-                None => Ok(Stmt::Empty),
-            }
+            Ok(change(place, *operator, value))
         }
-        tree::Assignment::Increment(place) => match target(alloc, table, place, first)? {
-            Some(place) => Ok(Stmt::Step(place, 1)),
-            None => Ok(Stmt::Empty),
-        },
-        tree::Assignment::Decrement(place) => match target(alloc, table, place, first)? {
-            Some(place) => Ok(Stmt::Step(place, -1)),
-            None => Ok(Stmt::Empty),
-        },
+        tree::Assignment::Increment(place) => Ok(step(target(alloc, table, place, first)?, 1)),
+        tree::Assignment::Decrement(place) => Ok(step(target(alloc, table, place, first)?, -1)),
     }
 }

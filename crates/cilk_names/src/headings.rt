@@ -1,19 +1,18 @@
 //! What is known of a text's functions ahead of its first item.
 
 ghost use Rattle.std.specs.Prelude.{◌≡◌, ◌<◌, ◌-◌, ◌^◌, [], ◌∷◌, ◌++◌, IfOk, OnOk};
-ghost use Rattle.cilk_parser.specs.Trees as trees;
-ghost use Rattle.cilk_parser.specs.Trees.{bytes_of};
-ghost use Rattle.cilk_names.specs.Names.{functions_behind, functions_known, kind_of, kinds_of, signatures_of, with_function, with_item};
+ghost use Rattle.cilk_syntax.specs.Trees as trees;
+ghost use Rattle.cilk_names.specs.Contexts.{functions_behind, functions_known, kind_of, kinds_of, signatures_of, with_item};
 ghost use Rattle.cilk_names.specs.Globals.{is_main, is_main_item, main_of};
-ghost use Rattle.cilk_names.specs.States.{names_of};
+ghost use Rattle.cilk_scopes.specs.Tables.{names_of};
 
-use crate::scene::{monoid_of, number_of};
-use crate::signature::{ParameterKind, Signature};
-use crate::table::{Entry, Meaning, Table, bytes_of};
-use cilk_parser::tree::{Item, Name, Parameter, ReturnType};
+use crate::scene::number_of;
+use cilk_scopes::sights::monoid_of;
+use cilk_scopes::signature::{ParameterKind, Signature};
+use cilk_scopes::table::{Table, bytes_of};
+use cilk_syntax::tree::{Item, Name, Parameter, ReturnType};
 use cilk_types::sequence::Sequence;
 use std::alloc::{AllocError, Global};
-use std::collections::HashMap;
 
 /// What a parameter takes.
 fn kind_of(text: &[u8], parameter: Parameter) -> ParameterKind
@@ -100,51 +99,24 @@ pub(crate) fn known<'a>(
 ) -> Result<Table<'a>, AllocError>
     ensures { IfOk result (λ t. names_of t ≡ record { text = text.now; signatures = signatures.now; inner = functions_known text.now 0 (trees.items_of items.now); outer = []; level = 0 }) }
 {
-    let mut table = Table {
-        text,
-        signatures,
-        inner: HashMap::new(alloc),
-        outer: Vec::new(alloc),
-        level: 0,
-    };
+    let mut table = Table::new(alloc, text, signatures);
     let mut count = 0;
     'each: for item in items {
-        table.know(item, count)?;
+        know(&mut table, item, count)?;
         count = functions_behind(count, item);
     }
     Ok(table)
 }
 
-impl Table<'_> {
-    /// Knows a function by its number, unless its name is known already.
-    fn know_function(&mut self, name: Name, number: usize) -> Result<(), AllocError>
-        ensures names { OnOk result (names_of self.new ≡ (let n = names_of self.old in record n { inner = with_function n.inner (bytes_of n.text name) number })) }
-    {
-        let number = number_of(number)?;
-        if self.inner.get(bytes_of(self.text, name)).is_some() {
-            return Ok(());
-        }
-        let meaning = Meaning::Function(number);
-        self.put(
-            name,
-            Entry {
-                meaning,
-                declared: false,
-            },
-        )?;
-        Ok(())
-    }
-
-    /// Knows the function of an item, if it is one.
-    fn know(&mut self, item: &Item, number: usize) -> Result<(), AllocError>
-        ensures names { OnOk result (names_of self.new ≡ (let n = names_of self.old in record n { inner = with_item n.text n.inner number (trees.item item.now) })) }
-    {
-        match item {
-            Item::Globals(_) | Item::Reducer(_) => Ok(()),
-            Item::Function(_, name, _, _) => {
-                self.know_function(*name, number)?;
-                Ok(())
-            }
+/// Knows the function of an item by its number, if it is one.
+fn know(table: &mut Table, item: &Item, number: usize) -> Result<(), AllocError>
+    ensures names { OnOk result (names_of table.new ≡ (let n = names_of table.old in record n { inner = with_item n.text n.inner number (trees.item item.now) })) }
+{
+    match item {
+        Item::Globals(_) | Item::Reducer(_) => Ok(()),
+        Item::Function(_, name, _, _) => {
+            table.know(*name, number_of(number)?)?;
+            Ok(())
         }
     }
 }

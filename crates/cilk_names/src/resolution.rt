@@ -1,11 +1,14 @@
-//! Laws of what a tree resolves to.
+//! Laws of what a tree resolves to, and the limits by number.
 
-ghost use Rattle.std.specs.Prelude.{◌≡◌, ◌↔◌, [], IsTrue};
-ghost use Rattle.cilk_parser.specs.declared.tree.Tree.{Tree};
+ghost use Rattle.std.specs.Prelude.{◌≡◌, ◌↔◌, ℕ, [], IsTrue};
+ghost use Rattle.cilk_syntax.specs.declared.tree.Tree.{Tree};
 ghost use Rattle.cilk_program.specs.Syntax.{Source};
 ghost use Rattle.cilk_program.specs.WellNamed.{is_well_named};
-ghost use Rattle.cilk_names.specs.Misnamings.{faults_of};
+ghost use Rattle.cilk_names.specs.Misnamings.{IsNameFault, faults_of};
 ghost use Rattle.cilk_names.specs.Resolution.{Resolves};
+ghost use Rattle.cilk_names.specs.declared.fault.NameFault.TheVariants as faults;
+ghost use Rattle.cilk_names.specs.declared.limits.TheConstants.{MAX_CELLS, MAX_FUNCTIONS, MAX_GLOBALS, MAX_PARAMETERS, MAX_REDUCERS};
+ghost use Rattle.cilk_scopes.specs.declared.fault.NameNumber.{NameNumber};
 
 /// A tree resolves to at most one program.
 pub fn one_program()
@@ -20,4 +23,22 @@ pub fn resolves_where_right()
 /// What a tree resolves to is well named: each name means something that is there, within the limits of a program.
 pub fn resolves_well_named()
     ensures { (t : Tree) (s : Source) → Resolves t s → IsTrue (is_well_named s) }
+{}
+
+/// A tree has at most one first fault of its names, and none where it resolves.
+#[tactic(auto, using(crate::proofs::OneFault::one_fault, crate::proofs::OneFault::none_where_resolved))]
+pub fn one_fault()
+    ensures one { (t : Tree) (n m : NameNumber) (p q : ℕ) → IsNameFault (faults.At n p) t → IsNameFault (faults.At m q) t
+        → (n ≡ m) × (p ≡ q) }
+    ensures apart { (t : Tree) (s : Source) (n : NameNumber) (p : ℕ) → Resolves t s
+        → IsNameFault (faults.At n p) t → ⊥ }
+{}
+
+/// The limits of a program, by number: contracts elsewhere name the constants.
+pub fn limits_are()
+    ensures functions { MAX_FUNCTIONS ≡ 1024 }
+    ensures parameters { MAX_PARAMETERS ≡ 16 }
+    ensures cells { MAX_CELLS ≡ 256 }
+    ensures reducers { MAX_REDUCERS ≡ 64 }
+    ensures globals { MAX_GLOBALS ≡ 1000000 }
 {}

@@ -1,10 +1,10 @@
 //! From the tree of a text to the program that it resolves to, or to the first fault of its names.
 
 ghost use Rattle.std.specs.Prelude.{◌≡◌, IfOk, IfErr, IsTrue};
-ghost use Rattle.cilk_parser.specs.Trees as trees;
+ghost use Rattle.cilk_syntax.specs.Trees as trees;
 ghost use Rattle.cilk_program.specs.Sources.{source};
 ghost use Rattle.cilk_program.specs.WellNamed.{is_well_named};
-ghost use Rattle.cilk_names.specs.Names.{signatures_of};
+ghost use Rattle.cilk_names.specs.Contexts.{signatures_of};
 ghost use Rattle.cilk_names.specs.Misnamings.{IsNameFault};
 ghost use Rattle.cilk_names.specs.Resolution.{Resolves, shared_of};
 ghost use Rattle.cilk_names.specs.States.{Comes};
@@ -12,11 +12,10 @@ ghost use Rattle.cilk_names.specs.States.{Comes};
 use crate::fault::{NameFault, NameNumber};
 use crate::headings::{known, main_of, signatures_of};
 use crate::items::Pass;
-use crate::scene::{Scene, number_of};
-use crate::signature::Signature;
-use crate::table::Frame;
-use cilk_parser::tree::{Item, ReturnType, Tree};
+use crate::scene::{Frame, Scene, number_of};
 use cilk_program::program::{Body, Program};
+use cilk_scopes::signature::Signature;
+use cilk_syntax::tree::{Item, ReturnType, Tree};
 use cilk_types::sequence::Sequence;
 use std::alloc::{AllocError, Global};
 

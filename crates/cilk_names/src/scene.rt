@@ -1,25 +1,38 @@
 //! What is known at a place of a body, and what declarations change.
 
-ghost use Rattle.std.specs.Prelude.{◌≡◌, ◌+◌, nat_lt, [], ◌∷◌, OnOk, IfOk, length, map};
-ghost use Rattle.cilk_parser.specs.Trees as trees;
-ghost use Rattle.cilk_program.specs.Programs.{declaration, statements};
-ghost use Rattle.cilk_names.specs.Names.{behind_beginning, behind_locals, counted, monoid_at, monoid_of, with_parameter, with_parameters, with_reducer, with_variable};
-ghost use Rattle.cilk_names.specs.Misnamings.{earliest, beginning_faults, declared_faults, initializer_faults, local_faults, locals_faults, monoid_faults, own_faults, parameter_faults, parameters_faults};
+ghost use Rattle.std.specs.Prelude.{◌≡◌, ◌+◌, nat_lt, [], ◌∷◌, OnOk, IfOk, Some, length, map};
+ghost use Rattle.cilk_syntax.specs.Trees as trees;
+ghost use Rattle.cilk_program.specs.Programs.{declaration, statement, statements};
+ghost use Rattle.cilk_program.specs.Syntax.{Nothing, Then};
+ghost use Rattle.cilk_names.specs.Contexts.{behind_beginning, behind_locals, counted, with_parameter, with_parameters, with_reducer, with_variable};
+ghost use Rattle.cilk_scopes.specs.Faults.{earliest};
+ghost use Rattle.cilk_names.specs.Misnamings.{beginning_faults, declared_faults, initializer_faults, local_faults, locals_faults, own_faults, parameter_faults, parameters_faults};
 ghost use Rattle.cilk_names.specs.Pass.{beginning_of, declaration_of, declarations_of};
-ghost use Rattle.cilk_names.specs.States.{context_of, names_of};
+ghost use Rattle.cilk_scopes.specs.Tables.{names_of};
+ghost use Rattle.cilk_names.specs.States.{context_of};
 
 use crate::calls::call;
 use crate::expressions::{assignment, expression};
-use crate::fault::{Misnaming, NameNumber};
 use crate::limits::{MAX_CELLS, MAX_PARAMETERS, MAX_REDUCERS};
-use crate::sights::note_unless;
-use crate::table::{Frame, Home, Meaning, Table, bytes_of};
 use cilk_monoid::kind::MonoidKind;
-use cilk_parser::tree;
-use cilk_parser::tree::{Beginning, Local, LocalInitializer, Name, Parameter};
-use cilk_program::program::Loop;
+use cilk_program::program::{Body, Loop};
 use cilk_program::syntax::{Declaration, Place, Stmt};
+use cilk_scopes::fault::{Misnaming, NameNumber};
+use cilk_scopes::sights::{monoid, note_unless};
+use cilk_scopes::table::{Home, Meaning, Table};
+use cilk_syntax::tree;
+use cilk_syntax::tree::{Beginning, Local, LocalInitializer, Name, Parameter, ReturnType};
 use std::alloc::{AllocError, Global};
+
+/// The frame of a body: which body, what its function returns, how many cells it has so far, and whether only declarations
+/// of reducers stand ahead in the function's own block.
+#[derive(Clone, Copy)]
+pub(crate) struct Frame {
+    pub body: Body,
+    pub returns: ReturnType,
+    pub cells: u32,
+    pub heading: bool,
+}
 
 /// What is known at a place of a body: what names mean, the frame of the body, the monoids of the reducers that the function
 /// was given and of its own so far, how many reducers stand declared ahead in the text, the loops so far, and the first
@@ -52,47 +65,18 @@ pub(crate) fn number_of(count: usize) -> Result<u32, AllocError>
     }
 }
 
-/// The monoid of a name.
-pub(crate) fn monoid_of(name: &[u8]) -> Option<MonoidKind>
-    ensures { result ≡ monoid_of name.now }
+/// A row of one statement.
+pub(crate) fn row_of_one(alloc: Global, statement: Stmt) -> Result<Vec<Stmt>, AllocError>
+    ensures { IfOk result (λ r. r.items ≡ statement ∷ []) }
 {
-    if name == b"add".as_slice() {
-        Some(MonoidKind::Add)
-    } else if name == b"min".as_slice() {
-        Some(MonoidKind::Least)
-    } else if name == b"max".as_slice() {
-        Some(MonoidKind::Greatest)
-    } else if name == b"append".as_slice() {
-        Some(MonoidKind::Append)
-    } else if name == b"affine".as_slice() {
-        Some(MonoidKind::Affine)
-    } else {
-        None
-    }
-}
-
-/// The monoid of a declared reducer, or none with a fault noted.
-pub(crate) fn monoid(
-    table: &Table,
-    reducer: tree::Reducer,
-    first: &mut Option<Misnaming>,
-) -> Option<MonoidKind>
-    ensures monoid { result ≡ monoid_at (names_of table.now) reducer }
-    ensures faults { first.new ≡ earliest first.old (monoid_faults (names_of table.now) reducer) }
-{
-    let kind = monoid_of(bytes_of(table.text, reducer.monoid));
-    note_unless(
-        kind.is_some(),
-        NameNumber::Unknown,
-        reducer.monoid.at,
-        first,
-    );
-    kind
+    let mut row = Vec::new(alloc);
+    row.push(statement)?;
+    Ok(row)
 }
 
 impl Scene<'_> {
     /// Declares a variable, which takes the frame's next cell.
-    #[tactic(auto, using(crate::proofs::Earliest::earliest_append))]
+    #[tactic(auto, using(cilk_scopes::proofs::Earliest::earliest_append))]
     pub fn variable(&mut self, name: Name) -> Result<(), AllocError>
         ensures context { OnOk result (context_of self.new ≡ with_variable (context_of self.old) name) }
         ensures faults { OnOk result (self.new.first ≡ earliest self.old.first (declared_faults (context_of self.old) name)) }
@@ -109,7 +93,7 @@ impl Scene<'_> {
     }
 
     /// Declares a reducer of the function's own.
-    #[tactic(auto, using(crate::proofs::Earliest::earliest_append))]
+    #[tactic(auto, using(cilk_scopes::proofs::Earliest::earliest_append))]
     pub fn reducer(&mut self, reducer: tree::Reducer) -> Result<(), AllocError>
         ensures context { OnOk result (context_of self.new ≡ with_reducer (context_of self.old) reducer) }
         ensures faults { OnOk result (self.new.first ≡ earliest self.old.first (own_faults (context_of self.old) reducer)) }
@@ -163,7 +147,7 @@ impl Scene<'_> {
     }
 
     /// A declared variable, which is known in its own initializer.
-    #[tactic(auto, using(crate::proofs::Earliest::earliest_append))]
+    #[tactic(auto, using(cilk_scopes::proofs::Earliest::earliest_append))]
     fn local(&mut self, alloc: Global, local: &Local) -> Result<Declaration, AllocError>
         ensures context { OnOk result (context_of self.new ≡ (let l = trees.local local.now in with_variable (context_of self.old) l.name)) }
         ensures faults { OnOk result (self.new.first ≡ earliest self.old.first (local_faults (context_of self.old) (trees.local local.now))) }
@@ -193,8 +177,23 @@ impl Scene<'_> {
         Ok(declarations)
     }
 
+    /// A variable that the head of a `for` declares.
+    #[tactic(auto, using(cilk_scopes::proofs::Earliest::earliest_append))]
+    fn counter(&mut self, alloc: Global, name: Name, value: &tree::Expr) -> Result<Stmt, AllocError>
+        ensures context { OnOk result (context_of self.new ≡ with_variable (context_of self.old) name) }
+        ensures faults { OnOk result (self.new.first ≡ earliest self.old.first (beginning_faults (context_of self.old) (Some (trees.Declares name (trees.expression value.now))))) }
+        ensures loops { self.new.loops ≡ self.old.loops }
+        ensures value { IfOk result (λ r. Then (statement r) Nothing ≡ beginning_of (context_of self.old) (Some (trees.Declares name (trees.expression value.now)))) }
+    {
+        let number = self.frame.cells;
+        self.variable(name)?;
+        let value = expression(alloc, &self.table, value, &mut self.first)?;
+        let mut declarations = Vec::new(alloc);
+        declarations.push(Declaration::Value(number, value))?;
+        Ok(Stmt::Declare(declarations))
+    }
+
     /// What the head of a `for` begins with: a row of one statement or of none.
-    #[tactic(auto, using(crate::proofs::Earliest::earliest_append))]
     pub fn beginning(
         &mut self,
         alloc: Global,
@@ -205,26 +204,22 @@ impl Scene<'_> {
         ensures loops { self.new.loops ≡ self.old.loops }
         ensures value { IfOk result (λ r. statements r.items ≡ beginning_of (context_of self.old) (trees.optional_beginning beginning.now)) }
     {
-        let mut row = Vec::new(alloc);
         match beginning {
             Some(Beginning::Declares(name, value)) => {
-                let number = self.frame.cells;
-                self.variable(*name)?;
-                let value = expression(alloc, &self.table, value, &mut self.first)?;
-                let mut declarations = Vec::new(alloc);
-                declarations.push(Declaration::Value(number, value))?;
-                row.push(Stmt::Declare(declarations))?;
+                row_of_one(alloc, self.counter(alloc, *name, value)?)
             }
             Some(Beginning::Assigns(tree)) => {
-                row.push(assignment(alloc, &self.table, tree, &mut self.first)?)?;
+                row_of_one(
+                    alloc,
+                    assignment(alloc, &self.table, tree, &mut self.first)?,
+                )
             }
-            None => {}
+            None => Ok(Vec::new(alloc)),
         }
-        Ok(row)
     }
 
     /// Declares a parameter: a word takes the frame's next cell.
-    #[tactic(auto, using(crate::proofs::Earliest::earliest_append))]
+    #[tactic(auto, using(cilk_scopes::proofs::Earliest::earliest_append))]
     fn parameter(&mut self, parameter: Parameter) -> Result<(), AllocError>
         ensures context { OnOk result (context_of self.new ≡ with_parameter (context_of self.old) parameter) }
         ensures faults { OnOk result (self.new.first ≡ earliest self.old.first (parameter_faults (context_of self.old) parameter)) }

@@ -1,26 +1,29 @@
 //! Statements with their names resolved.
 
-ghost use Rattle.std.specs.Prelude.{◌≡◌, ◌<◌, List, [], ◌∷◌, ◌++◌, OnOk, IfOk, true, false, Some, None, length, map, slice_set};
-ghost use Rattle.cilk_parser.specs.Trees as trees;
-ghost use Rattle.cilk_program.specs.Programs.{expression, loop, optional, statement, statements};
+ghost use Rattle.std.specs.Prelude.{◌≡◌, ◌<◌, List, [], ◌∷◌, ◌++◌, OnOk, IfOk, true, false, Some, None, length, map, option_map, slice_set};
+ghost use Rattle.cilk_syntax.specs.Trees as trees;
+ghost use Rattle.cilk_program.specs.Programs.{expression, invoke as invoked, loop, optional, statement, statements};
 ghost use Rattle.cilk_program.specs.Syntax as syntax;
 ghost use Rattle.cilk_program.specs.Syntax.{For, Invokes, Nothing, Return, Set, Then, Update};
-ghost use Rattle.cilk_names.specs.Names.{Scope, ahead, behind, behind_row, behind_scope, in_body, inside, keeps_heading};
-ghost use Rattle.cilk_names.specs.Misnamings.{earliest, call_faults, expression_faults, gives_what_it_returns, head_faults, optional_assignment_faults, reducer_faults, return_faults, row_faults, same_faults, statement_faults, written_faults};
+ghost use Rattle.cilk_scopes.specs.Names.{Scope};
+ghost use Rattle.cilk_names.specs.Contexts.{ahead, behind, behind_row, behind_scope, in_body, inside, keeps_heading};
+ghost use Rattle.cilk_scopes.specs.Faults.{earliest, reducer_faults, written_faults};
+ghost use Rattle.cilk_names.specs.Misnamings.{call_faults, expression_faults, gives_what_it_returns, head_faults, optional_assignment_faults, return_faults, row_faults, same_faults, statement_faults};
 ghost use Rattle.cilk_names.specs.Pass.{expression_of, invoke_of, loops_of, optional_of, optional_row, or_empty, row_loops, row_of, statement_of};
-ghost use Rattle.cilk_names.specs.Sights.{reducer, variable};
-ghost use Rattle.cilk_names.specs.States.{context_of, names_of};
+ghost use Rattle.cilk_scopes.specs.Sights.{reducer, variable};
+ghost use Rattle.cilk_scopes.specs.Tables.{names_of};
+ghost use Rattle.cilk_names.specs.States.{context_of};
 
 use crate::calls::call;
 use crate::expressions::{assignment, expression, optional};
-use crate::fault::{Misnaming, NameNumber};
-use crate::scene::{Scene, number_of};
-use crate::sights::{note_unless, reducer, written};
-use crate::table::{Frame, Meaning, Table, bytes_of};
-use cilk_parser::tree;
-use cilk_parser::tree::{Beginning, Bounds, Name, ReturnType};
+use crate::scene::{Frame, Scene, number_of, row_of_one};
 use cilk_program::program::{Body, Loop};
-use cilk_program::syntax::{Expr, Stmt};
+use cilk_program::syntax::{Expr, Invoke, Stmt};
+use cilk_scopes::fault::{Misnaming, NameNumber};
+use cilk_scopes::sights::{note_unless, reducer, written};
+use cilk_scopes::table::{Meaning, Table, bytes_of};
+use cilk_syntax::tree;
+use cilk_syntax::tree::{Beginning, Bounds, Name, ReturnType};
 use std::alloc::{AllocError, Global};
 
 /// Whether a function's reducers may go on behind a statement.
@@ -34,7 +37,7 @@ fn keeps_heading(tree: &tree::Stmt, heading: bool) -> bool
 }
 
 /// Whether a `return` gives what its function returns.
-fn gives_what_it_returns(returns: ReturnType, value: &Option<tree::Expr>) -> bool
+fn gives_what_it_returns(returns: ReturnType, value: &Option<Box<tree::Expr>>) -> bool
     ensures { result ≡ gives_what_it_returns returns (trees.optional value.now) }
 {
     match (returns, value) {
@@ -44,13 +47,13 @@ fn gives_what_it_returns(returns: ReturnType, value: &Option<tree::Expr>) -> boo
 }
 
 /// A `return` at a place of the text.
-#[tactic(auto, using(crate::proofs::Earliest::earliest_append))]
+#[tactic(auto, using(cilk_scopes::proofs::Earliest::earliest_append))]
 fn returned(
     alloc: Global,
     table: &Table,
     returns: ReturnType,
     place: usize,
-    value: &Option<tree::Expr>,
+    value: &Option<Box<tree::Expr>>,
     first: &mut Option<Misnaming>,
 ) -> Result<Stmt, AllocError>
     ensures faults { OnOk result (first.new ≡ earliest first.old (return_faults (names_of table.now) returns place (trees.optional value.now))) }
@@ -73,11 +76,20 @@ fn step(
     ensures faults { OnOk result (first.new ≡ earliest first.old (optional_assignment_faults (names_of table.now) (trees.optional_assignment tree.now))) }
     ensures value { IfOk result (λ r. statements r.items ≡ optional_row (names_of table.now) (trees.optional_assignment tree.now)) }
 {
-    let mut row = Vec::new(alloc);
-    if let Some(tree) = tree {
-        row.push(assignment(alloc, table, tree, first)?)?;
+    match tree {
+        Some(tree) => row_of_one(alloc, assignment(alloc, table, tree, first)?),
+        None => Ok(Vec::new(alloc)),
     }
-    Ok(row)
+}
+
+/// A call as a statement; where there is none, nothing.
+fn invoke(invoke: Option<Invoke>) -> Stmt
+    ensures { statement result ≡ or_empty (option_map invoked invoke) Invokes }
+{
+    match invoke {
+        Some(invoke) => Stmt::Invoke(invoke),
+        None => Stmt::Empty,
+    }
 }
 
 /// A call that is a statement, and the variable that takes its result.
@@ -91,14 +103,12 @@ fn invoked(
     ensures faults { OnOk result (first.new ≡ earliest first.old (call_faults (names_of table.now) false (trees.call tree.now))) }
     ensures value { IfOk result (λ r. statement r ≡ or_empty (invoke_of (names_of table.now) how (trees.call tree.now) None) Invokes) }
 {
-    match call(alloc, table, how, tree, false, None, first)? {
-        Some(invoke) => Ok(Stmt::Invoke(invoke)),
-        None => Ok(Stmt::Empty),
-    }
+    let call = call(alloc, table, how, tree, false, None, first)?;
+    Ok(invoke(call))
 }
 
 /// A call whose result a variable takes.
-#[tactic(auto, using(crate::proofs::Earliest::earliest_append))]
+#[tactic(auto, using(cilk_scopes::proofs::Earliest::earliest_append))]
 fn assigned(
     alloc: Global,
     table: &Table,
@@ -111,14 +121,12 @@ fn assigned(
     ensures value { IfOk result (λ r. statement r ≡ or_empty (invoke_of (names_of table.now) how (trees.call tree.now) (variable (names_of table.now) name)) Invokes) }
 {
     let place = written(table, name, first);
-    match call(alloc, table, how, tree, true, place, first)? {
-        Some(invoke) => Ok(Stmt::Invoke(invoke)),
-        None => Ok(Stmt::Empty),
-    }
+    let call = call(alloc, table, how, tree, true, place, first)?;
+    Ok(invoke(call))
 }
 
 /// An `update` of a reducer.
-#[tactic(auto, using(crate::proofs::Earliest::earliest_append))]
+#[tactic(auto, using(cilk_scopes::proofs::Earliest::earliest_append))]
 fn update(
     alloc: Global,
     table: &Table,
@@ -138,7 +146,7 @@ fn update(
 }
 
 /// A `set` of a reducer.
-#[tactic(auto, using(crate::proofs::Earliest::earliest_append))]
+#[tactic(auto, using(cilk_scopes::proofs::Earliest::earliest_append))]
 fn set(
     alloc: Global,
     table: &Table,
@@ -158,24 +166,17 @@ fn set(
 }
 
 /// A `for` of these parts.
-fn for_of(
-    alloc: Global,
-    beginning: Vec<Stmt>,
-    test: Option<Expr>,
-    step: Vec<Stmt>,
-    body: Stmt,
-) -> Result<Stmt, AllocError>
-    ensures { IfOk result (λ r. statement r ≡ For (statements beginning.items) (optional test) (statements step.items) (statement body)) }
+fn for_of(beginning: Vec<Stmt>, test: Option<Expr>, step: Vec<Stmt>, body: Box<Stmt>) -> Stmt
+    ensures { statement result ≡ For (statements beginning.items) (optional test) (statements step.items) (statement body.value) }
 {
-    Ok(Stmt::For(beginning, test, step, Box::new(alloc, body)?))
+    Stmt::For(beginning, test, step, body)
 }
 
 /// A `while`, which is a `for` with a condition alone.
-fn while_of(alloc: Global, test: Expr, body: Stmt) -> Result<Stmt, AllocError>
-    ensures { IfOk result (λ r. statement r ≡ For Nothing (Some (expression test)) Nothing (statement body)) }
+fn while_of(alloc: Global, test: Expr, body: Box<Stmt>) -> Stmt
+    ensures { statement result ≡ For Nothing (Some (expression test)) Nothing (statement body.value) }
 {
-    let (beginning, step) = (Vec::new(alloc), Vec::new(alloc));
-    for_of(alloc, beginning, Some(test), step, body)
+    for_of(Vec::new(alloc), Some(test), Vec::new(alloc), body)
 }
 
 /// Two names of a head that have to be one.
@@ -187,7 +188,7 @@ fn same(table: &Table, name: Name, other: Name, first: &mut Option<Misnaming>)
 }
 
 /// The bounds of a `cilk_for`, which don't know its variable.
-#[tactic(auto, using(crate::proofs::Earliest::earliest_append))]
+#[tactic(auto, using(cilk_scopes::proofs::Earliest::earliest_append))]
 fn bounds(
     alloc: Global,
     table: &Table,
@@ -263,21 +264,23 @@ impl Scene<'_> {
             cells: 0,
             body: Vec::new(alloc),
         })?;
-        self.frame.body = Body::Loop(outside.number);
-        self.frame.cells = 1;
-        self.frame.heading = false;
+        self.frame = Frame {
+            body: Body::Loop(outside.number),
+            returns: outside.frame.returns,
+            cells: 1,
+            heading: false,
+        };
         Ok(outside)
     }
 
     /// Leaves the body of a parallel loop, which takes its place among the loops.
-    fn leave(&mut self, alloc: Global, outside: Outside, body: Stmt) -> Result<(), AllocError>
+    fn leave(&mut self, alloc: Global, outside: Outside, body: Box<Stmt>) -> Result<(), AllocError>
         requires { outside.number < length self.old.loops.items }
         ensures context { OnOk result ((outer : List Scope) (inner : Scope) → (let n = names_of self.old.table in n.outer) ≡ outer ++ inner ∷ [] → context_of self.new ≡ record (context_of self.old) { names = record (names_of self.old.table) { inner = inner; outer = outer; level = outside.level }; frame = outside.frame }) }
         ensures first { self.new.first ≡ self.old.first }
-        ensures loops { OnOk result (map loop self.new.loops.items ≡ slice_set (map loop self.old.loops.items) outside.number (record { within = outside.frame.body; cells = self.old.frame.cells; body = Then (statement body) Nothing })) }
+        ensures loops { OnOk result (map loop self.new.loops.items ≡ slice_set (map loop self.old.loops.items) outside.number (record { within = outside.frame.body; cells = self.old.frame.cells; body = Then (statement body.value) Nothing })) }
     {
-        let mut row = Vec::new(alloc);
-        row.push(body)?;
+        let row = row_of_one(alloc, Box::into_inner(body))?;
         let index = outside.number as usize;
         self.loops[index] = Loop {
             within: outside.frame.body,
@@ -292,7 +295,7 @@ impl Scene<'_> {
 
     /// A `cilk_for`: its bounds, and then its body, which is a loop of the program.
     #[cycle(statements)]
-    #[tactic(auto, using(crate::proofs::Earliest::earliest_append))]
+    #[tactic(auto, using(cilk_scopes::proofs::Earliest::earliest_append))]
     fn parallel(
         &mut self,
         alloc: Global,
@@ -313,12 +316,12 @@ impl Scene<'_> {
 
     /// A `for`, whose head is a scope.
     #[cycle(statements)]
-    #[tactic(auto, using(crate::proofs::Earliest::earliest_append))]
+    #[tactic(auto, using(cilk_scopes::proofs::Earliest::earliest_append))]
     fn repeated(
         &mut self,
         alloc: Global,
         beginning: &Option<Beginning>,
-        test: &Option<tree::Expr>,
+        test: &Option<Box<tree::Expr>>,
         tree: &Option<tree::Assignment>,
         body: &tree::Stmt,
     ) -> Result<Stmt, AllocError>
@@ -333,26 +336,46 @@ impl Scene<'_> {
         let step = step(alloc, &self.table, tree, &mut self.first)?;
         let body = self.scoped(alloc, body)?;
         self.close();
-        Ok(for_of(alloc, row, test, step, body)?)
+        Ok(for_of(row, test, step, body))
     }
 
     /// A statement in a scope of its own.
     #[cycle(statements)]
-    fn scoped(&mut self, alloc: Global, tree: &tree::Stmt) -> Result<Stmt, AllocError>
+    fn scoped(&mut self, alloc: Global, tree: &tree::Stmt) -> Result<Box<Stmt>, AllocError>
         ensures context { OnOk result (context_of self.new ≡ behind_scope (context_of self.old) (behind (inside (context_of self.old)) (trees.statement tree.now))) }
         ensures faults { OnOk result (self.new.first ≡ earliest self.old.first (statement_faults (inside (context_of self.old)) (trees.statement tree.now))) }
         ensures loops { OnOk result (map loop self.new.loops.items ≡ map loop self.old.loops.items ++ loops_of (inside (context_of self.old)) (trees.statement tree.now)) }
-        ensures value { IfOk result (λ r. statement r ≡ statement_of (inside (context_of self.old)) (trees.statement tree.now)) }
+        ensures value { IfOk result (λ r. statement r.value ≡ statement_of (inside (context_of self.old)) (trees.statement tree.now)) }
     {
         self.open(alloc)?;
-        let statement = self.statement(alloc, tree)?;
+        let boxed = Box::new(alloc, self.statement(alloc, tree)?)?;
         self.close();
-        Ok(statement)
+        Ok(boxed)
+    }
+
+    /// A condition, and the statement under it in a scope of its own.
+    #[cycle(statements)]
+    #[tactic(auto, using(cilk_scopes::proofs::Earliest::earliest_append))]
+    fn guarded(
+        &mut self,
+        alloc: Global,
+        body: &tree::Stmt,
+        test: &tree::Expr,
+    ) -> Result<(Expr, Box<Stmt>), AllocError>
+        ensures context { OnOk result (context_of self.new ≡ behind_scope (context_of self.old) (behind (inside (context_of self.old)) (trees.statement body.now))) }
+        ensures faults { OnOk result (self.new.first ≡ earliest self.old.first (expression_faults (names_of self.old.table) (trees.expression test.now) ++ statement_faults (inside (context_of self.old)) (trees.statement body.now))) }
+        ensures loops { OnOk result (map loop self.new.loops.items ≡ map loop self.old.loops.items ++ loops_of (inside (context_of self.old)) (trees.statement body.now)) }
+        ensures test { IfOk result (λ r. expression r.0 ≡ expression_of (names_of self.old.table) (trees.expression test.now)) }
+        ensures body { IfOk result (λ r. statement r.1.value ≡ statement_of (inside (context_of self.old)) (trees.statement body.now)) }
+    {
+        let test = expression(alloc, &self.table, test, &mut self.first)?;
+        let body = self.scoped(alloc, body)?;
+        Ok((test, body))
     }
 
     /// A statement with its names resolved. What is wrong is noted.
     #[cycle(statements)]
-    #[tactic(auto, using(crate::proofs::Earliest::earliest_append, crate::proofs::Blocks::tree_block, crate::proofs::Blocks::block))]
+    #[tactic(auto, using(cilk_scopes::proofs::Earliest::earliest_append, crate::proofs::Blocks::tree_block, crate::proofs::Blocks::block))]
     fn statement(&mut self, alloc: Global, tree: &tree::Stmt) -> Result<Stmt, AllocError>
         ensures context { OnOk result (context_of self.new ≡ behind (context_of self.old) (trees.statement tree.now)) }
         ensures faults { OnOk result (self.new.first ≡ earliest self.old.first (statement_faults (context_of self.old) (trees.statement tree.now))) }
@@ -376,20 +399,17 @@ impl Scene<'_> {
             }
             tree::Stmt::Sync => Ok(Stmt::Sync),
             tree::Stmt::If(test, body) => {
-                let test = expression(alloc, &self.table, test, &mut self.first)?;
-                let body = self.scoped(alloc, body)?;
-                Ok(Stmt::If(test, Box::new(alloc, body)?))
+                let (test, body) = self.guarded(alloc, body, test)?;
+                Ok(Stmt::If(test, body))
             }
             tree::Stmt::IfElse(test, body, other) => {
-                let test = expression(alloc, &self.table, test, &mut self.first)?;
-                let body = self.scoped(alloc, body)?;
+                let (test, body) = self.guarded(alloc, body, test)?;
                 let other = self.scoped(alloc, other)?;
-                Ok(Stmt::IfElse(test, Box::new(alloc, body)?, Box::new(alloc, other)?))
+                Ok(Stmt::IfElse(test, body, other))
             }
             tree::Stmt::While(test, body) => {
-                let test = expression(alloc, &self.table, test, &mut self.first)?;
-                let body = self.scoped(alloc, body)?;
-                while_of(alloc, test, body)
+                let (test, body) = self.guarded(alloc, body, test)?;
+                Ok(while_of(alloc, test, body))
             }
             tree::Stmt::For(beginning, test, step, body) => {
                 self.repeated(alloc, beginning, test, step, body)

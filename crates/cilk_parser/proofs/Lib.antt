@@ -2,9 +2,5 @@ pub mod Accepted
 pub mod Completes
 pub mod InputLaws
 pub mod Laws
-pub mod Lists
-pub mod MarkLaws
-pub mod Runs
 pub mod Spelled
-pub mod Stopping
 pub mod Traces

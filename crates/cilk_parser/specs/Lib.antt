@@ -1,9 +1,1 @@
-pub mod Expected
-pub mod Grammar
-pub mod Inputs
-pub mod Limits
-pub mod Refused
-pub mod Sources
-pub mod Stops
-pub mod Texts
-pub mod Trees
+pub mod Fronts

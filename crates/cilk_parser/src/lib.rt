@@ -1,49 +1,12 @@
 //! From the bytes of a program text to its tree, and from those of an input text to its numbers.
 //!
-//! A text is cut into tokens, and the tokens are read once, from left to right, with one token ahead. What a tree spells
-//! is a relation between it and tokens, by the cases of the grammar. A text that isn't in the language is refused at the
-//! first token that no text of the grammar has there, or that goes past a limit on nesting and on operators.
+//! A text is cut into tokens, and the tokens are read once, from left to right, with one token ahead. What a tree
+//! spells is a relation between it and tokens, by the cases of the grammar, which stands in `cilk_grammar`. A text
+//! that isn't in the language is refused at the first token that no text of the grammar has there, or that goes past
+//! a limit on nesting and on operators.
 //!
-//! ```text
-//! program = { item }
-//! item    = "int" glob {"," glob} ";" | reducer
-//!         | ("int"|"void") NAME "(" params ")" block
-//! glob    = NAME [ "=" ["-"] NUMBER ] | NAME "[" NUMBER "]"
-//! reducer = "int" "cilk_reducer" "(" NAME ")" NAME ";"
-//! params  = [ "void" | param {"," param} ]
-//! param   = "int" NAME | "int" "cilk_reducer" "(" NAME ")" NAME
-//! block   = "{" {stmt} "}"
-//! stmt    = block | ";" | "int" loc {"," loc} ";" | reducer
-//!         | assign ";" | ["cilk_spawn"] call ";"
-//!         | NAME "=" ["cilk_spawn"] call ";" | "cilk_sync" ";"
-//!         | "if" "(" expr ")" stmt [ "else" stmt ]
-//!         | "while" "(" expr ")" stmt
-//!         | "for" "(" [ "int" NAME "=" expr | assign ] ";"
-//!           [expr] ";" [assign] ")" stmt
-//!         | "cilk_for" "(" "int" NAME "=" expr ";" NAME "<" expr ";"
-//!           ( NAME "++" | "++" NAME | NAME "+=" "1" ) ")" stmt
-//!         | "return" [expr] ";" | "print" "(" expr ")" ";"
-//!         | ("update"|"set") "(" NAME "," expr ")" ";"
-//! loc     = NAME [ "=" ( expr | ["cilk_spawn"] call ) ]
-//! assign  = place ("="|"+="|"-="|"*=") expr | place ("++"|"--")
-//!         | ("++"|"--") place
-//! place   = NAME [ "[" expr "]" ]
-//! call    = NAME "(" [ expr {"," expr} ] ")"
-//! expr    = levels, weakest first, left to right: || ; && ; == != ;
-//!           < <= > >= ; + - ; * / % ; unary - ! ; primary
-//! primary = NUMBER | place | "(" expr ")" | "value" "(" NAME ")"
-//!         | "input" "(" expr ")" | "input_count" "(" ")"
-//! ```
-//!
-//! An `else` belongs to the nearest `if`. Right behind the `=` of the statement `NAME = ..` or of a `loc`, a name and a
-//! parenthesis begin a call; no other expression has that parenthesis.
-//!
-//! Statements and parts of expressions stand at most 64 deep in one another: each statement round them counts, and in an
-//! expression each pair of parentheses or brackets, each `input(` and each unary operator, but not the parentheses of
-//! calls, `if`, `while`, `for`, `print`, `update`, `set` and `value`. An expression has at most 256 operators, those of its
-//! groups and indexes too; an argument and the index of an element that is written are expressions of their own.
-//!
-//! [`parse::parse`] gives a [`tree::Tree`] or a [`fault::TextFault`], and [`input::parse_input`] an [`Input`](cilk_types::input::Input).
+//! [`parse::parse`] gives a [`Tree`](cilk_syntax::tree::Tree) or a [`fault::TextFault`], and [`input::parse_input`]
+//! an [`Input`](cilk_types::input::Input).
 //!
 //! ```text
 //! parse(alloc, b"int main(){return 0;}")?    // one item: a function
@@ -51,17 +14,9 @@
 //! ```
 #![tactic(auto)]
 
-mod assignments;
-mod calls;
-mod declarations;
-mod expressions;
-pub mod fault;
 pub mod input;
 mod items;
-mod loops;
-mod marks;
 mod parameters;
 pub mod parse;
-mod statements;
-mod stop;
-pub mod tree;
+
+pub use cilk_texts::fault;

@@ -1,16 +1,16 @@
 //! From tokens to the parameters of a function.
 
 ghost use Rattle.std.specs.Prelude.{◌≡◌, ◌<◌, ◌≤◌, List, ◌∷◌, IfOk, IfErr, length};
-ghost use Rattle.cilk_parser.specs.Expected as expected;
-ghost use Rattle.cilk_parser.specs.Expected.{Symbol, MoreParameters, run};
-ghost use Rattle.cilk_parser.specs.Grammar.{SpellsListed, SpellsParameter, SpellsParameters};
-ghost use Rattle.cilk_parser.specs.Stops.{IsStop, NotFirst};
+ghost use Rattle.cilk_grammar.specs.Expected as expected;
+ghost use Rattle.cilk_grammar.specs.Expected.{Symbol, MoreParameters, run};
+ghost use Rattle.cilk_grammar.specs.Grammar.{SpellsListed, SpellsParameter, SpellsParameters};
+ghost use Rattle.cilk_grammar.specs.Stops.{IsStop, NotFirst};
 ghost use Rattle.cilk_token.specs.declared.token.Kind.TheVariants as kinds;
 
-use crate::declarations::reducer;
-use crate::marks::{Mark, behind, one};
-use crate::stop::Stop;
-use crate::tree::{Name, Parameter};
+use cilk_grammar::marks::{Mark, behind, one};
+use cilk_grammar::stop::Stop;
+use cilk_statements::declarations::reducer;
+use cilk_syntax::tree::{Name, Parameter};
 use cilk_token::token::{Kind, Token};
 use std::alloc::Global;
 
@@ -69,7 +69,7 @@ fn listed<'a>(alloc: Global, tokens: &'a [Token]) -> Result<(Vec<Parameter>, &'a
 }
 
 /// The parameters of a function, and the parenthesis behind them.
-#[tactic(auto, using(crate::proofs::Lists::spells_parameters))]
+#[tactic(auto, using(cilk_grammar::proofs::Lists::spells_parameters))]
 pub fn parameters<'a>(
     alloc: Global,
     tokens: &'a [Token],

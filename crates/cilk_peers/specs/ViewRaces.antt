@@ -41,8 +41,8 @@ UsesReducer (Some (Set j v)) i = j ≡ i
 UsesReducer (Some (Value j v)) i = j ≡ i
 UsesReducer _ i = ⊥
 
--- each reducer is created once, ahead of its other reducer-reads, as in a serial run
-pub record AreCreated (events : List Event) : Type 0 where
+-- each reducer is created once, before its sets and values, as in a serial run
+pub record AreCreatedBeforeUse (events : List Event) : Type 0 where
   pub ahead : (q : ℕ) (i : Instance) → 1 ≤ q → UsesReducer (event_at events q) i → (p : ℕ) × (1 ≤ p) × (p < q) × (event_at events p ≡ Some (Create i))
   pub once : (p q : ℕ) (i : Instance) → 1 ≤ p → p < q → event_at events p ≡ Some (Create i) → event_at events q ≡ Some (Create i) → ⊥
 
@@ -57,4 +57,4 @@ pub record IsCreationAndUse (t : Tree) (events : List Event) (p q : ℕ) : Type 
 
 -- where reducers are created the first view-read race is that pair
 abbrev pub FirstIsCreationAndUse : Type 0
-FirstIsCreationAndUse = (t : Tree) (events : List Event) → AreCreated events → (p q : ℕ) → IsFirstViewRace t events p q → IsCreationAndUse t events p q
+FirstIsCreationAndUse = (t : Tree) (events : List Event) → AreCreatedBeforeUse events → (p q : ℕ) → IsFirstViewRace t events p q → IsCreationAndUse t events p q

@@ -7,8 +7,8 @@ ghost use Rattle.cilk_peers.specs.Peers.{class_numbers};
 ghost use Rattle.cilk_peers.specs.Walk.{classes_from};
 
 use crate::class::Classes;
-use cilk_tree::stack::Stack;
 use cilk_tree::tree::{Node, SpTree};
+use cilk_types::stack::Stack;
 use std::alloc::{AllocError, Global};
 
 /// The classes of a tree's strands. Cost and memory: linear in the strands.
@@ -46,45 +46,4 @@ fn visit(node: &Node, waiting: &mut Stack<u32>, numbers: &mut Vec<u32>) -> Resul
         }
     }
     Ok(())
-}
-
-#[cfg(test)]
-mod tests {
-    use super::*;
-    use cilk_serial::trace::Trace;
-    use cilk_tree::building::tree_of;
-    use cilk_types::event::Event;
-    use std::test::Fail;
-
-    #[test]
-    fn a_child_and_the_rest_of_its_block_are_two_classes(rt: HostRuntime) -> Result<(), Fail> {
-        let events = [
-            Event::Begin { frame: 1 },
-            Event::Write { cell: 0, value: 0 },
-            Event::Write { cell: 1, value: 0 },
-            Event::Spawn { child: 2 },
-            Event::Begin { frame: 2 },
-            Event::Sync,
-            Event::Write { cell: 0, value: 1 },
-            Event::End,
-            Event::Resume { parent: 1 },
-            Event::Read { cell: 0, value: 1 },
-            Event::Write { cell: 1, value: 1 },
-            Event::Sync,
-            Event::Read { cell: 1, value: 1 },
-            Event::Sync,
-            Event::End,
-        ];
-        let trace = Trace::new(events.to_vec(rt.alloc())?);
-        let tree = tree_of(rt.alloc(), &trace)?;
-        let found = classes(rt.alloc(), &tree)?;
-        assert_eq!(rt; found.count(), 6);
-        let numbers = [0, 2, 2, 4, 0, 0];
-        for one in 1..7 {
-            assert_eq!(rt; found.class(one), numbers[one as usize - 1]);
-        }
-        assert!(rt; found.same_peers(2, 3));
-        assert!(rt; !found.same_peers(1, 4));
-        Ok(())
-    }
 }

@@ -35,6 +35,13 @@ impl Words {
         }
     }
 
+    /// All words go.
+    pub fn clear(&mut self)
+        ensures { self.new ≡ [] }
+    {
+        self.start = 16;
+    }
+
     /// Puts one more word ahead of the others.
     pub fn put(&mut self, word: i64)
         requires { length self.old < 16 }
@@ -71,14 +78,14 @@ pub struct References {
 }
 
 impl Model for References {
-    ghost use Rattle.std.specs.Prelude.{◌≤◌, List, drop};
+    ghost use Rattle.std.specs.Prelude.{◌≡◌, ◌≤◌, List, drop, length};
     ghost use Rattle.cilk_program.specs.declared.syntax.Reducer.{Reducer};
 
     ghost Value = { List Reducer };
 
     ghost view = { λ a. drop a.start a.items };
 
-    ghost invariant = { λ a. a.start ≤ 16 };
+    ghost invariant = { λ a. (a.start ≤ 16) × (length a.items ≡ 16) };
 }
 
 impl References {
@@ -103,6 +110,17 @@ impl References {
     {
         self.start -= 1;
         self.items[self.start] = reducer;
+    }
+
+    /// Becomes the same reducers as others, of which it copies those that there are.
+    pub fn take_from(&mut self, other: &References)
+        ensures { self.new ≡ other.now }
+    {
+        self.start = 16;
+        'each: while self.start > other.start {
+            self.start -= 1;
+            self.items[self.start] = other.items[self.start];
+        }
     }
 
     /// The same reducers.

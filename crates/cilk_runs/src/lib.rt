@@ -10,7 +10,8 @@
 //!   continuation beside a spawned child may be stolen at any moment, and then goes on with empty reducer views, which the
 //!   sync multiplies back in serial order (Frigo, Halpern, Leiserson, Lewin-Berlin 2009). A fault, or a total of ticks,
 //!   events, frames or cells over its limit, stops the run (`specs/Machine`, `specs/Costs`). It has no workers, deques or
-//!   locks, so a runtime that steals at random (Frigo, Leiserson, Randall 1998) makes some of its steps, and none other.
+//!   locks. Of a runtime that steals at random (Frigo, Leiserson, Randall 1998) it is to be shown that its steps are steps of
+//!   this machine.
 //! * A **determinacy race** is two accesses of one cell, one of them a write, in strands that are parallel in the tree of
 //!   the serial run (Feng, Leiserson 1997). A **view-read race** is two reads of one reducer (its creation, a set, a value)
 //!   in strands with different peers (Lee, Schardl 2015). Both are stated over all pairs of positions (`specs/Trees`).
@@ -26,9 +27,9 @@
 //!
 //! # To use it for a language
 //!
-//! These contracts are for behaviours given as functions of a frame's history. A crate with a behaviour of its own, also one
-//! given as a relation, cites the lemmas listed at the head of `proofs/Theorem`, which hold for any types and any
-//! relation. It shows that its serial run is one (`IsSerialRun` in `specs/Theorem`):
+//! These contracts are for behaviours given as functions of a frame's history. A crate with a behaviour of its own cites the
+//! lemmas listed at the head of `proofs/Theorem`, which hold for any types, and for a relation by which one history leads to
+//! one ask at most. It shows that its serial run is one (`IsSerialRun` in `specs/Theorem`):
 //!
 //! | Field | Where it comes from |
 //! |---|---|

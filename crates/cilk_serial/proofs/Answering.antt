@@ -1,16 +1,20 @@
 -- What a frame is told, from what the store did.
-use Rattle.std.proofs.Common.{◌≡◌, ℤ, pos, Result, Ok, Err, IfOk, OnOk, sym, ap, ◌∙◌, subst}
+use Rattle.std.proofs.Common.{◌≡◌, ℤ, pos, Result, Ok, Err, IfOk, MatchResult, OnOk, sym, ap, ◌∙◌, subst}
 use Rattle.cilk_types.specs.declared.event.Event.{Event}
 use Rattle.cilk_types.specs.declared.event.Instance.{Instance}
 use Rattle.cilk_program.specs.declared.ask.Ask.{Ask}
 use Rattle.cilk_program.specs.Store.{Store}
 use Rattle.cilk_program.specs.Syntax.{Source}
-use Rattle.cilk_program.specs.SerialRun.{Frame, Memory, answer_to, event_of, stored, with_store}
+use Rattle.cilk_program.specs.SerialRun.{Frame, IsInner, Memory, answer_to, event_of, stored, with_store}
+use Rattle.cilk_frames.specs.declared.brief.Brief.{Brief}
 use Rattle.cilk_frames.specs.declared.cursor.Answer.{Answer}
 use Rattle.cilk_frames.specs.declared.cursor.Answer.TheVariants.{Done, Value}
+use Rattle.cilk_frames.specs.Asked.{in_full}
 use Rattle.cilk_frames.specs.Following.{Fits, owed_for, word_in}
+use Rattle.cilk_serial.specs.declared.answer.Told.{Told}
+use Rattle.cilk_serial.specs.declared.answer.Told.TheVariants.{Goes}
 use Rattle.cilk_serial.specs.declared.state.State.{State}
-use Rattle.cilk_serial.specs.States.{EventMade, Makes, Answers}
+use Rattle.cilk_serial.specs.States.{EventMade, Makes, Answers, Tells}
 
 module _ (p : Source) (fr : Frame) (s s' : State) (k : Ask) (word : Memory → ℤ) (event : Memory → Event) (store : Memory → Store Instance)
     (words : (m : Memory) → word m ≡ answer_to fr m k) (events : (m : Memory) → event m ≡ event_of fr m k) (stores : (m : Memory) → store m ≡ stored p fr m k) where
@@ -34,3 +38,9 @@ module _ (p : Source) (fr : Frame) (s s' : State) (k : Ask) (word : Memory → �
     makes = makes_so (word_in a) makes;
   }
   tells_word (Err e) fits value makes = tt
+
+-- the frame goes on with what its store answered
+pub told : {E : Type 0} (p : Source) (fr : Frame) (s s' : State) (b : Brief) (k : Ask) (r : Result Answer E) (r' : Result Told E) → k ≡ in_full b → IsInner k → MatchResult r (λ a. r' ≡ Ok (Goes a)) (λ e. r' ≡ Err e) → IfOk r (λ a. Answers p fr s s' k a)
+    → IfOk r' (λ t. Tells p fr s s' (in_full b) t)
+told {E} p fr s s' b k (Ok a) r' same inner is h = subst (λ (k : Ask). IfOk r' (λ t. Tells p fr s s' k t)) same (subst (λ (x : Result Told E). IfOk x (λ t. Tells p fr s s' k t)) (sym is) (inner, h))
+told {E} p fr s s' b k (Err e) r' same inner is h = subst (λ (x : Result Told E). IfOk x (λ t. Tells p fr s s' (in_full b) t)) (sym is) tt

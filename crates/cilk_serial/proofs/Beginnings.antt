@@ -9,10 +9,10 @@ use Rattle.cilk_program.specs.WellNamed.{is_well_named}
 use Rattle.cilk_program.specs.SerialRun.{Frame, Memory, global_reducer, home_of, itself, next_frame, root_frame}
 use Rattle.cilk_meaning.proofs.Naming.{well_named_parts}
 use Rattle.cilk_serial.specs.declared.activation.Activation.{Activation}
-use Rattle.cilk_serial.specs.Stacks.{from_bottom}
+use Rattle.cilk_types.specs.Stacks.{from_bottom}
 use Rattle.cilk_serial.specs.Scoped.{Parent, Scoped, Seen, Leads, IsCreator, kinds_of}
 use Rattle.cilk_serial.proofs.Homes.{leads_more, scoped_length}
-use Rattle.cilk_serial.proofs.Stacks.{below_top, on_top}
+use Rattle.cilk_types.proofs.Stacks.{below_top, on_top}
 
 -- a function of a well-named program
 pub creates : (p : Source) → IsTrue (is_well_named p) → (k : ℕ) → k < length p.functions → IsCreator p (Some k)

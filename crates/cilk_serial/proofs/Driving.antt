@@ -21,7 +21,7 @@ use Rattle.cilk_program.specs.Behaviour.{asks_for, frame_asks}
 use Rattle.cilk_program.specs.Inside.{CalleeIsFit}
 use Rattle.cilk_program.specs.Store.{Store, clear, clear_all}
 use Rattle.cilk_program.specs.WellNamed.{is_well_named}
-use Rattle.cilk_program.specs.SerialRun.{Run, act, child, stop, Frame, Memory, Ending, Finished, Stopped, Serial, Made, Ended, Went, Broke, Refused, IsInner, answer_to, begun, before_root, cells_of, counted, crowded, event_of, first_place, invocation, next_frame, own_from, refused, root_frame, stored, with_store, IsSerialRun}
+use Rattle.cilk_program.specs.SerialRun.{Run, act, child, stop, Frame, Memory, Ending, Finished, Stopped, Serial, Made, Ended, Went, Broke, Refused, IsInner, answer_to, begun, before_root, cells_of, counted, crowded, event_of, first_place, full, invocation, next_frame, own_from, refused, root_frame, stored, with_store, IsSerialRun}
 use Rattle.cilk_lower.specs.Behaves.{Behaves}
 use Rattle.cilk_lower.specs.Code.{CodeView}
 use Rattle.cilk_lower.specs.declared.code.Owed.TheVariants.{Nothing}
@@ -29,18 +29,15 @@ use Rattle.cilk_program.specs.Outcomes.{StopsBy}
 use Rattle.cilk_meaning.specs.Agreement.{IsLimit}
 use Rattle.cilk_meaning.proofs.Existence.{room_for}
 use Rattle.cilk_meaning.proofs.Roots.{ends_as_elided}
-use Rattle.cilk_serial.specs.Ran.{Stops}
+use Rattle.cilk_serial.specs.Ran.{StopsAfter}
 use Rattle.cilk_frames.specs.declared.cursor.Answer.{Answer}
 use Rattle.cilk_frames.specs.declared.cursor.Answer.TheVariants.{Done}
-use Rattle.cilk_program.specs.declared.ask.LoopPart.{LoopPart}
-use Rattle.cilk_frames.specs.declared.brief.Brief.{Brief}
-use Rattle.cilk_frames.specs.declared.brief.Brief.TheVariants as briefs
-use Rattle.cilk_frames.specs.Asked.{in_full}
 use Rattle.cilk_frames.specs.Cursor.{CursorView}
 use Rattle.cilk_frames.specs.Following.{Asking, GoesOn, HasAnswer, Runs, Stands, child_of, owed_for, word_in}
 use Rattle.cilk_frames.proofs.Asking.{asking_first, asking_next}
 use Rattle.cilk_serial.specs.declared.activation.Activation.{Activation}
 use Rattle.cilk_serial.specs.declared.running.Running.{Running}
+use Rattle.cilk_serial.specs.declared.answer.Told.{Told}
 use Rattle.cilk_serial.specs.declared.state.State.{State}
 use Rattle.cilk_serial.specs.Going.{Whole, Completes, Wait, Going, HasEnded, IsAllowed}
 use Rattle.cilk_meaning.proofs.Naming.{well_named_parts}
@@ -50,7 +47,8 @@ use Rattle.cilk_hypermap.specs.Views.{or_unit}
 use Rattle.cilk_hypermap.proofs.Merges.{each_kind}
 use Rattle.cilk_serial.proofs.Sights.{asked, asked_there, asked_rightly, begins, child_sees, root_sees, sees_more}
 use Rattle.cilk_serial.specs.Scoped.{Parent, Scoped, AreScoped, Seen, IsThere, IsBegunRightly, kinds_of, own_of}
-use Rattle.cilk_serial.specs.States.{Shows, Answers, Begins, Extends}
+use Rattle.cilk_serial.specs.SoFar.{begun_in}
+use Rattle.cilk_serial.specs.States.{Shows, Answers, Begins, Extends, Tells}
 
 -- ---- the frames that wait
 
@@ -130,9 +128,6 @@ one_more s s' m e h some events =
     let r = h.room in
     omega (arith, l, r, some)
 
-pub longer : (s s' : State) (e : Event) → s'.events.items ≡ s.events.items ++ e ∷ [] → length s'.events.items ≡ length s.events.items + 1
-longer s s' e events = ap length events ∙ length-append s.events.items (e ∷ [])
-
 behind : (es es' : List Event) (e : Event) (more : List Event) → es' ≡ es ++ e ∷ [] → es' ++ more ≡ es ++ e ∷ more
 behind es es' e more is = ap (λ l. l ++ more) is ∙ append_assoc es (e ∷ []) more
 
@@ -159,12 +154,14 @@ answers code p inputs r s' a c' k' left' g allowed inner told on =
       took = g.took + (r.left - left');
       memory = m';
       parents = g.parents;
+      callees = g.callees;
       shows = made.shows;
       asking = asking_next code inputs p fr.callee r.top.cursor g.history g.took k r.left a r.left k' c' left' g.asking has (λ stands. on fr.callee g.history g.took stands);
       completes = λ u es end s.
           let s1 : Serial p inputs fr (g.took + r.left) (g.history ++ answer_to fr m k ∷ []) m' u es end = subst (λ w. Serial p inputs fr (g.took + r.left) (g.history ++ w ∷ []) m' u es end) did.0 (subst (λ n. Serial p inputs fr n (g.history ++ word_in a ∷ []) m' u es end) same s) in
-          subst (λ l. Completes p inputs g.parents l end) (sym (behind r.state.events.items s'.events.items (event_of fr m k) es made.events))
+          subst (λ l. Completes p inputs g.parents l (g.callees ++ begun_in u) end) (sym (behind r.state.events.items s'.events.items (event_of fr m k) es made.events))
           (g.completes (act k (answer_to fr m k) u) (event_of fr m k ∷ es) end (Made k r.left g.asking.asks inner ok s1));
+      numbered = g.numbered;
       scoped = cursor_moves p r.top c' fr g.parents g.scoped;
       sees = g.sees;
       wait = g.wait;
@@ -176,21 +173,25 @@ answers code p inputs r s' a c' k' left' g allowed inner told on =
 
 -- ---- a child begins
 
-child_completes : (p : Source) (inputs : List ℤ) (fr : Frame) (history : List ℤ) (took left : ℕ) (m : Memory) (parents : List Parent) (es0 es1 : List Event) (how : Invocation) (callee : Callee)
+child_completes : (p : Source) (inputs : List ℤ) (fr : Frame) (history : List ℤ) (took left : ℕ) (m : Memory) (parents : List Parent) (es0 es1 : List Event) (cs : List Callee) (how : Invocation) (callee : Callee)
     → frame_asks p inputs fr.callee history (took + left) ≡ asks_for (asks.Invoke how callee) left → refused p m (asks.Invoke how callee) ≡ None
     → es1 ≡ es0 ++ invocation how (suc m.frames) ∷ []
-    → ((u : Run) (es : List Event) (end : Ending) → Serial p inputs fr (took + left) history m u es end → Completes p inputs parents (es0 ++ es) end)
+    → ((u : Run) (es : List Event) (end : Ending) → Serial p inputs fr (took + left) history m u es end → Completes p inputs parents (es0 ++ es) (cs ++ begun_in u) end)
     → (u : Run) (es : List Event) (end : Ending) → Serial p inputs (next_frame p fr.scope m callee) left [] (begun p callee (counted m)) u es end
-    → Completes p inputs (record { frame = fr; history = history; took = took } ∷ parents) (es1 ++ es) end
-child_completes p inputs fr history took left m parents es0 es1 how callee asked ok is completes u es (Finished v left' m') s = λ u' es' end' s'.
+    → Completes p inputs (record { frame = fr; history = history; took = took } ∷ parents) (es1 ++ es) ((cs ++ callee ∷ []) ++ begun_in u) end
+child_completes p inputs fr history took left m parents es0 es1 cs how callee asked ok is completes u es (Finished v left' m') s = λ u' es' end' s'.
     let same : left' + took ≡ left' + (took + left - left) = omega arith in
     let s1 = subst (λ n. Serial p inputs fr n (history ++ pos 0 ∷ []) m' u' es' end') same s' in
     let list : (es1 ++ es) ++ es' ≡ es0 ++ invocation how (suc m.frames) ∷ (es ++ es') = append_assoc es1 es es' ∙ behind es0 es1 (invocation how (suc m.frames)) (es ++ es') is in
-    subst (λ l. Completes p inputs parents l end') (sym list)
-    (completes (child how callee u u') (invocation how (suc m.frames) ∷ (es ++ es')) end' (Went how callee left v left' m' asked ok s s1))
-child_completes p inputs fr history took left m parents es0 es1 how callee asked ok is completes u es (Stopped f) s =
-    subst (λ l. Completes p inputs parents l (Stopped f)) (sym (behind es0 es1 (invocation how (suc m.frames)) es is))
-    (completes (child how callee u stop) (invocation how (suc m.frames) ∷ es) (Stopped f) (Broke how callee left f asked ok s))
+    let more : ((cs ++ callee ∷ []) ++ begun_in u) ++ begun_in u' ≡ cs ++ callee ∷ (begun_in u ++ begun_in u') = simp append_assoc in
+    subst (λ (l : List Event). Completes p inputs parents l (((cs ++ callee ∷ []) ++ begun_in u) ++ begun_in u') end') (sym list)
+    (subst (λ (c : List Callee). Completes p inputs parents (es0 ++ invocation how (suc m.frames) ∷ (es ++ es')) c end') (sym more)
+    (completes (child how callee u u') (invocation how (suc m.frames) ∷ (es ++ es')) end' (Went how callee left v left' m' asked ok s s1)))
+child_completes p inputs fr history took left m parents es0 es1 cs how callee asked ok is completes u es (Stopped f) s =
+    let more : (cs ++ callee ∷ []) ++ begun_in u ≡ cs ++ callee ∷ (begun_in u ++ []) = append_assoc cs (callee ∷ []) (begun_in u) ∙ ap (λ l. cs ++ callee ∷ l) (sym (append-nil (begun_in u))) in
+    subst (λ (l : List Event). Completes p inputs parents l ((cs ++ callee ∷ []) ++ begun_in u) (Stopped f)) (sym (behind es0 es1 (invocation how (suc m.frames)) es is))
+    (subst (λ (c : List Callee). Completes p inputs parents (es0 ++ invocation how (suc m.frames) ∷ es) c (Stopped f)) (sym more)
+    (completes (child how callee u stop) (invocation how (suc m.frames) ∷ es) (Stopped f) (Broke how callee left f asked ok s)))
 
 pub invokes : (code : CodeView) (p : Source) (inputs : List ℤ) (r : Running) (s' : State) (a : Activation) (how : Invocation) (callee : Callee) → IsTrue (is_well_named p) → (g : Going code p inputs r) → IsAllowed p r.state r.ask
     → r.ask ≡ asks.Invoke how callee → Begins r.state s' how (cells_of p callee)
@@ -216,11 +217,13 @@ invokes code p inputs r s' a how callee well g allowed is made stands owes scope
       took = 0;
       memory = begun p callee (counted m);
       parents = q ∷ g.parents;
+      callees = g.callees ++ callee ∷ [];
       shows = did.shows;
       asking = asking_first code inputs p callee a.cursor r.left (stands sees.fit) owes;
       completes = λ u es end s.
-          child_completes p inputs fr g.history g.took r.left m g.parents r.state.events.items s'.events.items how callee asking.asks ok did.events g.completes u es end
+          child_completes p inputs fr g.history g.took r.left m g.parents r.state.events.items s'.events.items g.callees how callee asking.asks ok did.events g.completes u es end
           (subst (λ n. Serial p inputs (next_frame p fr.scope m callee) n [] (begun p callee (counted m)) u es end) none s);
+      numbered = omega (arith, length-append g.callees (callee ∷ []), g.numbered);
       scoped = scoped q refl;
       sees = sees;
       wait = (record { stands = asking.stands tt; owes = asking.owes tt; scoped = g.scoped; sees = sees_more p fr m.cells (m.cells + cells_of p callee) low g.sees }, wait_more code p inputs m.cells (m.cells + cells_of p callee) r.below g.parents low g.wait);
@@ -236,8 +239,10 @@ invokes code p inputs r s' a how callee well g allowed is made stands owes scope
 pub record Closes (code : CodeView) (p : Source) (inputs : List ℤ) (s' : State) (v : ℤ) (left : ℕ) (below : List Activation) : Type 0 where
   pub memory : Memory
   pub parents : List Parent
+  pub callees : List Callee
   pub shows : Shows s' memory
-  pub completes : Completes p inputs parents s'.events.items (Finished v left memory)
+  pub completes : Completes p inputs parents s'.events.items callees (Finished v left memory)
+  pub numbered : suc (length callees) ≡ memory.frames
   pub wait : Wait code p inputs memory.cells below parents
   pub opened : length p.openings ≤ memory.cells
   pub counted : length s'.events.items ≤ MAX_EVENTS
@@ -260,8 +265,12 @@ closes code p inputs r s' v g allowed is made cleared =
     record {
       memory = with_store m (stored p fr m k);
       parents = g.parents;
+      callees = g.callees;
       shows = subst (λ (x : Store Instance). Shows s' (with_store m x)) store (cleared m g.shows);
-      completes = subst (λ l. Completes p inputs g.parents l (Finished v r.left (with_store m (stored p fr m k)))) (sym made) (g.completes (act k (pos 0) stop) (events.End ∷ []) _ (Ended v r.left asks ok));
+      completes = subst (λ l. Completes p inputs g.parents l g.callees (Finished v r.left (with_store m (stored p fr m k)))) (sym made)
+          (subst (λ (c : List Callee). Completes p inputs g.parents (r.state.events.items ++ events.End ∷ []) c (Finished v r.left (with_store m (stored p fr m k)))) (append-nil g.callees)
+          (g.completes (act k (pos 0) stop) (events.End ∷ []) _ (Ended v r.left asks ok)));
+      numbered = g.numbered;
       wait = g.wait;
       opened = g.opened;
       counted = one_more r.state s' m events.End g.shows (room_for p m k ok) made;
@@ -277,8 +286,8 @@ closes code p inputs r s' v g allowed is made cleared =
 pub last_ends : (code : CodeView) (p : Source) (inputs : List ℤ) (s' : State) (v : ℤ) (left : ℕ) (below : List Activation) → Closes code p inputs s' v left below → below ≡ [] → HasEnded p inputs s' v
 last_ends code p inputs s' v left below c none = all_end c.parents c.completes (subst (λ (b : List Activation). Wait code p inputs c.memory.cells b c.parents) none c.wait)
   where
-    all_end : (parents : List Parent) → Completes p inputs parents s'.events.items (Finished v left c.memory) → Wait code p inputs c.memory.cells [] parents → HasEnded p inputs s' v
-    all_end [] whole wait = record { left = left; memory = c.memory; shows = c.shows; opened = c.opened; whole = whole }
+    all_end : (parents : List Parent) → Completes p inputs parents s'.events.items c.callees (Finished v left c.memory) → Wait code p inputs c.memory.cells [] parents → HasEnded p inputs s' v
+    all_end [] whole wait = record { left = left; memory = c.memory; callees = c.callees; shows = c.shows; opened = c.opened; counted = c.counted; whole = whole }
     all_end (q ∷ qs) whole wait = absurd wait
 
 -- the one that waits goes on
@@ -287,7 +296,7 @@ pub resumes : (code : CodeView) (p : Source) (inputs : List ℤ) (s' : State) (v
     → Going code p inputs (record { state = s'; below = rest; top = record a { cursor = c' }; ask = k'; left = left' })
 resumes code p inputs s' v left below a rest c' k' left' c is on = one_goes c.parents c.completes (subst (λ (b : List Activation). Wait code p inputs c.memory.cells b c.parents) is c.wait)
   where
-    one_goes : (parents : List Parent) → Completes p inputs parents s'.events.items (Finished v left c.memory) → Wait code p inputs c.memory.cells (a ∷ rest) parents
+    one_goes : (parents : List Parent) → Completes p inputs parents s'.events.items c.callees (Finished v left c.memory) → Wait code p inputs c.memory.cells (a ∷ rest) parents
         → Going code p inputs (record { state = s'; below = rest; top = record a { cursor = c' }; ask = k'; left = left' })
     one_goes [] done wait = absurd wait
     one_goes (q ∷ qs) done wait =
@@ -301,9 +310,11 @@ resumes code p inputs s' v left below a rest c' k' left' c is on = one_goes c.pa
           took = q.took + (left - left');
           memory = c.memory;
           parents = qs;
+          callees = c.callees;
           shows = c.shows;
           asking = record { asks = ap (frame_asks p inputs q.frame.callee (q.history ++ pos 0 ∷ [])) same ∙ step.asks; stands = step.stands; owes = step.owes };
           completes = λ u es end s. done u es end (subst (λ n. Serial p inputs q.frame n (q.history ++ pos 0 ∷ []) c.memory u es end) turned s);
+          numbered = c.numbered;
           scoped = cursor_moves p a c' q.frame qs w.scoped;
           sees = w.sees;
           wait = wait.1;
@@ -324,9 +335,9 @@ resumes_runs code p inputs s' v left below a rest c is = one_runs c.parents (sub
 
 -- ---- a fault
 
-stopped_whole : (p : Source) (inputs : List ℤ) (parents : List Parent) (es : List Event) (f : Fault) → Completes p inputs parents es (Stopped f) → Whole p inputs es (Stopped f)
-stopped_whole p inputs [] es f h = h
-stopped_whole p inputs (q ∷ qs) es f h = stopped_whole p inputs qs es f h
+stopped_whole : (p : Source) (inputs : List ℤ) (parents : List Parent) (es : List Event) (cs : List Callee) (f : Fault) → Completes p inputs parents es cs (Stopped f) → Whole p inputs es cs (Stopped f)
+stopped_whole p inputs [] es cs f h = h
+stopped_whole p inputs (q ∷ qs) es cs f h = stopped_whole p inputs qs es cs f h
 
 limit_or_not : (f : Fault) → IsLimit f ⊎ (IsLimit f → ⊥)
 limit_or_not DivisionByZero = inr (λ h. h)
@@ -336,20 +347,24 @@ limit_or_not TooManyEvents = inl tt
 limit_or_not TooManyFrames = inl tt
 limit_or_not TooManyCells = inl tt
 
-pub stops : (code : CodeView) (p : Source) (inputs : List ℤ) (r : Running) (f : Fault) (at : ℕ) → IsTrue (is_well_named p) → (g : Going code p inputs r) → ((m : Memory) → Shows r.state m → Some f ≡ refused p m r.ask)
-    → at ≡ length r.state.events.items + 1 → Stops p inputs f at
-stops code p inputs r f at well g fault is =
+-- the whole run is what was made so far, where a fault stands in place of the next event
+pub stopped_here : (code : CodeView) (p : Source) (inputs : List ℤ) (r : Running) (f : Fault) → (g : Going code p inputs r) → Some f ≡ refused p g.memory r.ask → Whole p inputs r.state.events.items (g.callees ++ []) (Stopped f)
+stopped_here code p inputs r f g fault =
     let es = r.state.events.items in
-    let s : Serial p inputs g.frame (g.took + r.left) g.history g.memory stop [] (Stopped f) = Refused r.ask r.left f g.asking.asks (sym (fault g.memory g.shows)) in
-    let whole = stopped_whole p inputs g.parents (es ++ []) f (g.completes stop [] (Stopped f) s) in
-    let w : Whole p inputs es (Stopped f) = subst (λ l. Whole p inputs l (Stopped f)) (append-nil es) whole in
+    let s : Serial p inputs g.frame (g.took + r.left) g.history g.memory stop [] (Stopped f) = Refused r.ask r.left f g.asking.asks (sym fault) in
+    let whole = stopped_whole p inputs g.parents (es ++ []) (g.callees ++ []) f (g.completes stop [] (Stopped f) s) in
+    subst (λ l. Whole p inputs l (g.callees ++ []) (Stopped f)) (append-nil es) whole
+
+pub stops : (code : CodeView) (p : Source) (inputs : List ℤ) (r : Running) (f : Fault) → IsTrue (is_well_named p) → (g : Going code p inputs r) → ((m : Memory) → Shows r.state m → Some f ≡ refused p m r.ask)
+    → StopsAfter p inputs r.state.events.items f
+stops code p inputs r f well g fault =
+    let es = r.state.events.items in
+    let w = stopped_here code p inputs r f g (fault g.memory g.shows) in
     let run : IsSerialRun p inputs w.run es (StopsBy f) = (Stopped f, w.serial, refl) in
     record {
       run = w.run;
-      events = es;
       serial = run;
       elision = ⊎_elim (λ h. inr h) (λ h. inl (ends_as_elided p inputs well MAX_TICKS MAX_EVENTS w.run es (StopsBy f) run h)) (limit_or_not f);
-      place = is;
     }
 
 -- ---- what a step and an invocation need
@@ -424,9 +439,11 @@ goes_first code p inputs s a below well behaves shows events stands owes scoped 
       took = 0;
       memory = begun p callees.Root (before_root p inputs MAX_EVENTS);
       parents = [];
+      callees = [];
       shows = shows;
       asking = asking_first code inputs p callees.Root a.cursor MAX_TICKS stands owes;
-      completes = λ u es end r. record { run = u; serial = subst (λ n. Serial p inputs (root_frame p inputs) n [] (begun p callees.Root (before_root p inputs MAX_EVENTS)) u (s.events.items ++ es) end) start (subst (λ (l : List Event). Serial p inputs (root_frame p inputs) (0 + MAX_TICKS) [] (begun p callees.Root (before_root p inputs MAX_EVENTS)) u (l ++ es) end) (sym events) r) };
+      completes = λ u es end r. record { run = u; begins = refl; serial = subst (λ n. Serial p inputs (root_frame p inputs) n [] (begun p callees.Root (before_root p inputs MAX_EVENTS)) u (s.events.items ++ es) end) start (subst (λ (l : List Event). Serial p inputs (root_frame p inputs) (0 + MAX_TICKS) [] (begun p callees.Root (before_root p inputs MAX_EVENTS)) u (l ++ es) end) (sym events) r) };
+      numbered = refl;
       scoped = scoped;
       sees = root_sees p inputs;
       wait = subst (λ (b : List Activation). Wait code p inputs (begun p callees.Root (before_root p inputs MAX_EVENTS)).cells b []) (sym none) tt;
@@ -436,30 +453,33 @@ goes_first code p inputs s a below well behaves shows events stands owes scoped 
       behaves = behaves;
     }
 
--- what is neither an invocation nor an end, and is no fault, lets the frame go on at once
-pub inner : (p : Source) (m : Memory) (k : Brief) → ((how : Invocation) (part : LoopPart) → k ≡ briefs.Turns how part → ⊥) → ((v : ℤ) → k ≡ briefs.End v → ⊥) → refused p m (in_full k) ≡ None → IsInner (in_full k)
-inner p m briefs.Begin i e ok = tt
-inner p m (briefs.Read x) i e ok = tt
-inner p m (briefs.Write x v) i e ok = tt
-inner p m (briefs.Create r) i e ok = tt
-inner p m (briefs.Update r v) i e ok = tt
-inner p m (briefs.Set r v) i e ok = tt
-inner p m (briefs.Value r) i e ok = tt
-inner p m (briefs.Print v) i e ok = tt
-inner p m (briefs.Turns how part) i e ok = i how part refl
-inner p m briefs.Resume i e ok = tt
-inner p m briefs.Sync i e ok = tt
-inner p m (briefs.Result v) i e ok = tt
-inner p m (briefs.End v) i e ok = e v refl
-inner p m (briefs.Fault f) i e ok = cc
+-- what came of an ask, by another name of each
+pub told_as : (p : Source) (fr : Frame) (s s' : State) (k k' : Ask) (t t' : Told) → k ≡ k' → t ≡ t' → Tells p fr s s' k' t → Tells p fr s s' k t'
+told_as p fr s s' k k' t t' ask told h = subst (λ (t : Told). Tells p fr s s' k t) told (subst (λ (k : Ask). Tells p fr s s' k t) (sym ask) h)
 
--- each event leaves room for fewer
-pub falls : (code : CodeView) (p : Source) (inputs : List ℤ) (r : Running) (s' : State) → (g : Going code p inputs r) → IsAllowed p r.state r.ask → length s'.events.items ≡ length r.state.events.items + 1 → MAX_EVENTS - length s'.events.items < MAX_EVENTS - length r.state.events.items
-falls code p inputs r s' g allowed more =
-    let s = g.shows in
-    let some = room_for p g.memory r.ask (allowed g.memory s) in
-    let room = s.room in
-    omega (arith, more, some, room)
+-- ---- what an ask needs
+
+-- what stands in place of a child's beginning
+pub crowd_refuses : (p : Source) (m : Memory) (k : Ask) (n : ℕ) (o : Option Fault) → IsSome (child_of k) → IfSome (child_of k) (λ callee. n ≡ cells_of p callee) → ((callee : Callee) → n ≡ cells_of p callee → o ≡ crowded p callee m) → o ≡ refused p m k
+crowd_refuses p m (asks.Invoke how callee) n o is cells h = h callee cells
+crowd_refuses p m k n o is cells h = cc
+
+-- what lets the frame go on at once needs but room for an event
+pub allowed_inner : (p : Source) (m : Memory) (k : Ask) → IsInner k → full m ≡ None → refused p m k ≡ None
+allowed_inner p m asks.Begin h room = room
+allowed_inner p m (asks.Read x) h room = room
+allowed_inner p m (asks.Write x v) h room = room
+allowed_inner p m (asks.Create r) h room = room
+allowed_inner p m (asks.Update r v) h room = room
+allowed_inner p m (asks.Set r v) h room = room
+allowed_inner p m (asks.Value r) h room = room
+allowed_inner p m (asks.Print v) h room = room
+allowed_inner p m (asks.Invoke how callee) h room = absurd h
+allowed_inner p m asks.Resume h room = room
+allowed_inner p m asks.Sync h room = room
+allowed_inner p m (asks.Result v) h room = room
+allowed_inner p m (asks.End v) h room = absurd h
+allowed_inner p m (asks.Fault f) h room = absurd h
 
 -- the same state by another name
 pub ended_as : (p : Source) (inputs : List ℤ) (s s' : State) (v w : ℤ) → s' ≡ s → w ≡ v → HasEnded p inputs s v → HasEnded p inputs s' w

@@ -10,10 +10,10 @@ use Rattle.cilk_program.specs.declared.syntax.ReducerPlace.TheVariants as reduce
 use Rattle.cilk_program.specs.Scopes.{Scope, cell_in, instance_in, instances_in, at_home}
 use Rattle.cilk_program.specs.Syntax.{Source}
 use Rattle.cilk_program.specs.SerialRun.{Frame, global_reducer, home_of, itself}
-use Rattle.cilk_serial.specs.Stacks.{from_bottom}
+use Rattle.cilk_types.specs.Stacks.{from_bottom}
 use Rattle.cilk_serial.specs.declared.activation.Activation.{Activation}
 use Rattle.cilk_serial.specs.Scoped.{Parent, Scoped, AreScoped, AreSmall, IsOuter, Leads, Seen, number_in}
-use Rattle.cilk_serial.proofs.Stacks.{below_top, within}
+use Rattle.cilk_types.proofs.Stacks.{below_top, within}
 
 pub scoped_length : (p : Source) (below : List Activation) (parents : List Parent) → AreScoped p below parents → length below ≡ length parents
 scoped_length p [] [] h = refl

@@ -6,4 +6,4 @@ pub mod Finals
 pub mod Homes
 pub mod Shows
 pub mod Sights
-pub mod Stacks
+pub mod SoFar

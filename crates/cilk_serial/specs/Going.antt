@@ -1,8 +1,9 @@
 -- A serial run that goes on: whatever completes the rest completes the whole.
-use Rattle.std.specs.Prelude.{◌≡◌, ◌+◌, ◌≤◌, ℕ, ℤ, pos, List, [], ◌∷◌, ◌++◌, length, None}
+use Rattle.std.specs.Prelude.{◌≡◌, ◌+◌, ◌≤◌, ℕ, suc, ℤ, pos, List, [], ◌∷◌, ◌++◌, length, None}
 use Rattle.cilk_types.specs.declared.event.Event.{Event}
 use Rattle.cilk_types.specs.declared.limits.TheConstants.{MAX_CELLS, MAX_EVENTS, MAX_TICKS}
 use Rattle.cilk_program.specs.declared.ask.Ask.{Ask}
+use Rattle.cilk_program.specs.declared.ask.Callee.{Callee}
 use Rattle.cilk_program.specs.declared.ask.Callee.TheVariants.{Root}
 use Rattle.cilk_program.specs.Syntax.{Source}
 use Rattle.cilk_program.specs.SerialRun.{Run, Frame, Memory, Ending, Finished, Stopped, Serial, root_frame, before_root, begun, refused}
@@ -12,22 +13,29 @@ use Rattle.cilk_lower.specs.declared.code.Owed.TheVariants.{Nothing}
 use Rattle.cilk_frames.specs.Following.{Asking, Stands}
 use Rattle.cilk_serial.specs.declared.activation.Activation.{Activation}
 use Rattle.cilk_serial.specs.declared.running.Running.{Running}
+use Rattle.cilk_serial.specs.declared.running.Step.{Step}
+use Rattle.cilk_serial.specs.declared.running.Step.TheVariants as steps
+use Rattle.cilk_serial.specs.declared.serial_run.Stage.{Stage}
+use Rattle.cilk_serial.specs.declared.serial_run.Stage.TheVariants as stages
 use Rattle.cilk_serial.specs.declared.state.State.{State}
+use Rattle.cilk_serial.specs.Ran.{StopsAfter}
 use Rattle.cilk_serial.specs.Scoped.{Parent, Scoped, Sees}
+use Rattle.cilk_serial.specs.SoFar.{begun_in}
 use Rattle.cilk_serial.specs.States.{Shows}
 
--- the root's frame did this, made these events and ended so
-pub record Whole (p : Source) (inputs : List ℤ) (events : List Event) (end : Ending) : Type 0 where
+-- the root's frame did this, made these events, began frames that run these and ended so
+pub record Whole (p : Source) (inputs : List ℤ) (events : List Event) (callees : List Callee) (end : Ending) : Type 0 where
   pub run : Run
+  pub begins : begun_in run ≡ callees
   pub serial : Serial p inputs (root_frame p inputs) MAX_TICKS [] (begun p Root (before_root p inputs MAX_EVENTS)) run events end
 
--- Once the frame at hand has ended so, behind these events: the whole run has, where no frame waits; else the uppermost
--- goes on, and a fault stops them all.
-abbrev pub Completes : Source → List ℤ → List Parent → List Event → Ending → Type 0
-Completes p inputs [] events end = Whole p inputs events end
-Completes p inputs (q ∷ qs) events (Finished v left m) =
-    (r : Run) (es : List Event) (end : Ending) → Serial p inputs q.frame (left + q.took) (q.history ++ pos 0 ∷ []) m r es end → Completes p inputs qs (events ++ es) end
-Completes p inputs (q ∷ qs) events (Stopped f) = Completes p inputs qs events (Stopped f)
+-- Once the frame at hand has ended so, after these events and the beginnings of frames that run these: the whole run has,
+-- where no frame waits; else the uppermost goes on, and a fault stops them all.
+abbrev pub Completes : Source → List ℤ → List Parent → List Event → List Callee → Ending → Type 0
+Completes p inputs [] events callees end = Whole p inputs events callees end
+Completes p inputs (q ∷ qs) events callees (Finished v left m) =
+    (r : Run) (es : List Event) (end : Ending) → Serial p inputs q.frame (left + q.took) (q.history ++ pos 0 ∷ []) m r es end → Completes p inputs qs (events ++ es) (callees ++ begun_in r) end
+Completes p inputs (q ∷ qs) events callees (Stopped f) = Completes p inputs qs events callees (Stopped f)
 
 -- an activation that waits for a child
 pub record Waiting (code : CodeView) (p : Source) (inputs : List ℤ) (cells : ℕ) (a : Activation) (q : Parent) (parents : List Parent) : Type 0 where
@@ -49,10 +57,12 @@ pub record Going (code : CodeView) (p : Source) (inputs : List ℤ) (running : R
   pub took : ℕ
   pub memory : Memory
   pub parents : List Parent
+  pub callees : List Callee
   pub shows : Shows running.state memory
   pub asking : Asking code inputs p frame.callee running.top.cursor history took running.ask running.left
   pub completes : (r : Run) (es : List Event) (end : Ending) → Serial p inputs frame (took + running.left) history memory r es end
-      → Completes p inputs parents (running.state.events.items ++ es) end
+      → Completes p inputs parents (running.state.events.items ++ es) (callees ++ begun_in r) end
+  pub numbered : suc (length callees) ≡ memory.frames
   pub scoped : Scoped p running.top frame parents
   pub sees : Sees p frame memory.cells
   pub wait : Wait code p inputs memory.cells running.below parents
@@ -65,10 +75,28 @@ pub record Going (code : CodeView) (p : Source) (inputs : List ℤ) (running : R
 pub record HasEnded (p : Source) (inputs : List ℤ) (s : State) (v : ℤ) : Type 0 where
   pub left : ℕ
   pub memory : Memory
+  pub callees : List Callee
   pub shows : Shows s memory
   pub opened : length p.openings ≤ memory.cells
-  pub whole : Whole p inputs s.events.items (Finished v left memory)
+  pub counted : length s.events.items ≤ MAX_EVENTS
+  pub whole : Whole p inputs s.events.items callees (Finished v left memory)
 
 -- no fault stands in place of the next event
 abbrev pub IsAllowed : Source → State → Ask → Type 0
 IsAllowed p s k = (m : Memory) → Shows s m → refused p m k ≡ None
+
+-- one event more
+abbrev pub IsLonger : State → State → Type 0
+IsLonger s s' = (e : Event) × (s'.events.items ≡ s.events.items ++ e ∷ [])
+
+-- what a step comes to
+abbrev pub Progresses : CodeView → Source → List ℤ → Running → Step → Running → Type 0
+Progresses code p inputs r steps.Made r' = Going code p inputs r' × IsLonger r.state r'.state
+Progresses code p inputs r (steps.Last v) r' = HasEnded p inputs r'.state v × IsLonger r.state r'.state
+Progresses code p inputs r (steps.Stops f) r' = (r' ≡ r) × StopsAfter p inputs r.state.events.items f
+
+-- what a run keeps true, as far as it has come
+abbrev pub Keeps : CodeView → Source → List ℤ → Running → Stage → Type 0
+Keeps code p inputs r stages.Going = Going code p inputs r
+Keeps code p inputs r (stages.Ended v) = HasEnded p inputs r.state v
+Keeps code p inputs r stages.Failed = Unit {0}

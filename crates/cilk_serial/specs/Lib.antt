@@ -1,5 +1,5 @@
 pub mod Going
 pub mod Ran
 pub mod Scoped
+pub mod SoFar
 pub mod States
-pub mod Stacks

@@ -17,12 +17,16 @@ pub record Ran (p : Source) (inputs : List ℤ) (o : Outcome) (events : List Eve
   pub serial : IsSerialRun p inputs run events (Leaves o)
   pub elision : IsElision p inputs (Leaves o)
 
--- the serial run stops by this fault, in place of the event at this position; a fault but for a limit is the elision's too
-pub record Stops (p : Source) (inputs : List ℤ) (fault : Fault) (at : ℕ) : Type 0 where
+-- the serial run makes these events, and is then stopped by this fault; one but for a limit is the elision's too
+pub record StopsAfter (p : Source) (inputs : List ℤ) (events : List Event) (fault : Fault) : Type 0 where
   pub run : Run
-  pub events : List Event
   pub serial : IsSerialRun p inputs run events (StopsBy fault)
   pub elision : IsElision p inputs (StopsBy fault) ⊎ IsLimit fault
+
+-- it stops in place of the event at this position
+pub record Stops (p : Source) (inputs : List ℤ) (fault : Fault) (at : ℕ) : Type 0 where
+  pub events : List Event
+  pub stops : StopsAfter p inputs events fault
   pub place : at ≡ length events + 1
 
 -- a want of memory says nothing of the program

@@ -17,7 +17,7 @@ use Rattle.cilk_program.specs.Syntax.{loop_at}
 use Rattle.cilk_program.specs.WellNamed.{place_is_there}
 use Rattle.cilk_program.specs.Inside.{CalleeIsFit, IsTaken, body_of, is_whole}
 use Rattle.cilk_program.specs.SerialRun.{Frame, cell_at, first_place, home_of, itself, own_reducers}
-use Rattle.cilk_serial.specs.Stacks.{from_bottom}
+use Rattle.cilk_types.specs.Stacks.{from_bottom}
 use Rattle.cilk_serial.specs.declared.activation.Activation.{Activation}
 
 -- a frame that waits for a child: the answers that it had, and the ticks that it took

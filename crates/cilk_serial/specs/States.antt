@@ -1,5 +1,5 @@
 -- What the code's store, counters and events stand for.
-use Rattle.std.specs.Prelude.{◌≡◌, ℕ, suc, ◌+◌, ◌-◌, false, ℤ, pos, [], ◌∷◌, ◌++◌, length, slice_index_or}
+use Rattle.std.specs.Prelude.{◌≡◌, ℕ, suc, ◌+◌, ◌-◌, false, ℤ, pos, [], ◌∷◌, ◌++◌, length, slice_index_or, IsSome}
 use Rattle.cilk_types.specs.declared.event.Event.{Event}
 use Rattle.cilk_types.specs.declared.event.Instance.{Instance}
 use Rattle.cilk_types.specs.declared.limits.TheConstants.{MAX_EVENTS}
@@ -10,12 +10,13 @@ use Rattle.cilk_program.specs.Syntax.{Source}
 use Rattle.cilk_program.specs.Store.{Store, clear}
 use Rattle.cilk_monoid.specs.Ranges.{same_instance}
 use Rattle.cilk_program.specs.declared.ask.Ask.{Ask}
-use Rattle.cilk_program.specs.SerialRun.{Memory, Frame, answer_to, event_of, invocation, stored, with_store}
+use Rattle.cilk_program.specs.declared.ask.Ask.TheVariants.{End, Fault}
+use Rattle.cilk_program.specs.SerialRun.{Memory, Frame, IsInner, answer_to, event_of, invocation, stored, with_store}
 use Rattle.cilk_program.specs.declared.syntax.Invocation.{Invocation}
-use Rattle.cilk_frames.specs.declared.brief.Brief.{Brief}
-use Rattle.cilk_frames.specs.declared.brief.Brief.TheVariants as briefs
 use Rattle.cilk_frames.specs.declared.cursor.Answer.{Answer}
-use Rattle.cilk_frames.specs.Following.{Fits, owed_for, word_in}
+use Rattle.cilk_frames.specs.Following.{Fits, child_of, owed_for, word_in}
+use Rattle.cilk_serial.specs.declared.answer.Told.{Told}
+use Rattle.cilk_serial.specs.declared.answer.Told.TheVariants.{Goes, Invokes, Ends, Stops}
 use Rattle.cilk_serial.specs.declared.state.State.{State}
 
 -- Cells that no frame has yet are 0, and an absent view counts as the unit.
@@ -41,13 +42,12 @@ pub record Answers (p : Source) (fr : Frame) (s s' : State) (k : Ask) (a : Answe
   pub fits : Fits (owed_for k) a
   pub makes : Makes s s' (λ m. answer_to fr m k) (word_in a) (λ m. event_of fr m k) (λ m. stored p fr m k)
 
--- an ask of a reducer
-abbrev pub IsOfReducer : Brief → Type 0
-IsOfReducer (briefs.Create r) = Unit {0}
-IsOfReducer (briefs.Update r v) = Unit {0}
-IsOfReducer (briefs.Set r v) = Unit {0}
-IsOfReducer (briefs.Value r) = Unit {0}
-IsOfReducer k = ⊥
+-- what comes of an ask: only where the frame goes on at once is anything changed
+abbrev pub Tells : Source → Frame → State → State → Ask → Told → Type 0
+Tells p fr s s' k (Goes a) = IsInner k × Answers p fr s s' k a
+Tells p fr s s' k Invokes = (s' ≡ s) × IsSome (child_of k)
+Tells p fr s s' k (Ends v) = (s' ≡ s) × (k ≡ End v)
+Tells p fr s s' k (Stops f) = (s' ≡ s) × (k ≡ Fault f)
 
 -- a reducer is retired, and no event is made
 abbrev pub Retires : State → State → Instance → MonoidKind → Type 0

@@ -1,87 +1,92 @@
-// The events after which a frame goes on at once.
+// What comes of what a frame asks for.
 
-ghost use Rattle.std.specs.Prelude.{◌≤◌, length, List, IfOk};
+ghost use Rattle.std.specs.Prelude.{◌≡◌, ◌≤◌, length, List, Ok, Err, IfOk, MatchResult};
 ghost use Rattle.cilk_types.specs.declared.limits.TheConstants.{MAX_CELLS};
 ghost use Rattle.cilk_program.specs.Syntax.{Source};
-ghost use Rattle.cilk_program.specs.SerialRun.{Frame, IsInner};
+ghost use Rattle.cilk_program.specs.SerialRun.{Frame};
 ghost use Rattle.cilk_frames.specs.Asked.{in_full};
 ghost use Rattle.cilk_serial.specs.Scoped.{IsThere, Parent, Seen};
-ghost use Rattle.cilk_serial.specs.States.{Answers, IsOfReducer};
+ghost use Rattle.cilk_serial.specs.States.{Tells};
+ghost use Rattle.cilk_serial.specs.declared.answer.Told.TheVariants.{Goes};
 
 use crate::activation::Activation;
 use crate::places::{cell, instance};
-use crate::stack::Stack;
 use crate::state::State;
 use cilk_frames::brief::Brief;
 use cilk_frames::cursor::Answer;
 use cilk_types::event::Event;
+use cilk_types::fault::Fault;
+use cilk_types::stack::Stack;
 use std::alloc::{AllocError, Global};
 
-/// Makes the event of an ask of the frame on top, and says what the frame is told.
+/// What comes of an ask, where there is room for one more event.
+#[derive(Clone, Copy)]
+pub enum Told {
+    /// Its event is made, and the frame goes on with this answer.
+    Goes(Answer),
+    /// A child begins.
+    Invokes,
+    /// The frame ends with this result.
+    Ends(i64),
+    /// The frame can't go on.
+    Stops(Fault),
+}
+
+/// Makes the event of an ask of the frame on top, if it goes on at once.
+#[inline(always)]
 pub fn answer(
     alloc: Global,
     state: &mut State,
     top: &Activation,
-    below: &Stack,
+    below: &Stack<Activation>,
     ask: &Brief,
-) -> Result<Answer, AllocError>
-    requires inner { IsInner (in_full ask.now) }
+) -> Result<Told, AllocError>
     requires few { length state.old.cells.items ≤ MAX_CELLS }
     requires there { (p : Source) × (fr : Frame) × (parents : List Parent) × Seen p top.now below.now fr parents × IsThere p fr (length state.old.cells.items) (in_full ask.now) }
-    ensures { (p : Source) (fr : Frame) (parents : List Parent) → Seen p top.now below.now fr parents → IfOk result (λ a. Answers p fr state.old state.new (in_full ask.now) a) }
+    ensures { (p : Source) (fr : Frame) (parents : List Parent) → Seen p top.now below.now fr parents → IfOk result (λ told. Tells p fr state.old state.new (in_full ask.now) told) }
 {
     match ask {
-        Brief::Begin => state.make(Event::Begin { frame: top.number }),
-        Brief::Read(place) => state.read(cell(top, below, *place)),
-        Brief::Write(place, word) => state.write(cell(top, below, *place), *word),
-        Brief::Create(_) => reduce(alloc, state, top, below, ask),
-        Brief::Update(_, _) => reduce(alloc, state, top, below, ask),
-        Brief::Set(_, _) => reduce(alloc, state, top, below, ask),
-        Brief::Value(_) => reduce(alloc, state, top, below, ask),
-        Brief::Print(word) => state.print(*word),
-        Brief::Resume => state.make(Event::Resume { parent: top.number }),
-        Brief::Sync => state.make(Event::Sync),
+        Brief::Begin => goes(state.make(Event::Begin { frame: top.number })),
+        Brief::Read(place) => goes(state.read(cell(top, below, *place))),
+        Brief::Write(place, word) => goes(state.write(cell(top, below, *place), *word)),
+        Brief::Create(reducer) => {
+            let instance = instance(top, below, reducer.place);
+            goes(state.create(alloc, instance, reducer.kind))
+        }
+        Brief::Update(reducer, word) => {
+            let instance = instance(top, below, reducer.place);
+            goes(state.update(alloc, instance, reducer.kind, *word))
+        }
+        Brief::Set(reducer, word) => {
+            let instance = instance(top, below, reducer.place);
+            goes(state.set(alloc, instance, reducer.kind, *word))
+        }
+        Brief::Value(reducer) => {
+            let instance = instance(top, below, reducer.place);
+            goes(state.value(alloc, instance, reducer.kind))
+        }
+        Brief::Print(word) => goes(state.print(*word)),
+        Brief::Turns(_, _) => Ok(Told::Invokes),
+        Brief::Resume => goes(state.make(Event::Resume { parent: top.number })),
+        Brief::Sync => goes(state.make(Event::Sync)),
         Brief::Result(word) => {
             let Some(cell) = top.result else {
                 unreachable!()
             };
-            state.write(cell, *word)
+            goes(state.write(cell, *word))
         }
-        Brief::Turns(_, _) => unreachable!(),
-        Brief::End(_) => unreachable!(),
-        Brief::Fault(_) => unreachable!(),
+        Brief::End(result) => Ok(Told::Ends(*result)),
+        Brief::Fault(fault) => Ok(Told::Stops(*fault)),
     }
 }
 
-// Makes the event of an ask of a reducer.
-fn reduce(
-    alloc: Global,
-    state: &mut State,
-    top: &Activation,
-    below: &Stack,
-    ask: &Brief,
-) -> Result<Answer, AllocError>
-    requires reduces { IsOfReducer ask.now }
-    requires there { (p : Source) × (fr : Frame) × (parents : List Parent) × Seen p top.now below.now fr parents × IsThere p fr (length state.old.cells.items) (in_full ask.now) }
-    ensures { (p : Source) (fr : Frame) (parents : List Parent) → Seen p top.now below.now fr parents → IfOk result (λ a. Answers p fr state.old state.new (in_full ask.now) a) }
+// The frame goes on with this answer.
+#[inline(always)]
+fn goes(answer: Result<Answer, AllocError>) -> Result<Told, AllocError>
+    ensures { MatchResult answer (λ a. result ≡ Ok (Goes a)) (λ e. result ≡ Err e) }
 {
-    match ask {
-        Brief::Create(reducer) => {
-            let instance = instance(top, below, reducer.place);
-            state.create(alloc, instance, reducer.kind)
-        }
-        Brief::Update(reducer, word) => {
-            let instance = instance(top, below, reducer.place);
-            state.update(alloc, instance, reducer.kind, *word)
-        }
-        Brief::Set(reducer, word) => {
-            let instance = instance(top, below, reducer.place);
-            state.set(alloc, instance, reducer.kind, *word)
-        }
-        Brief::Value(reducer) => {
-            let instance = instance(top, below, reducer.place);
-            state.value(alloc, instance, reducer.kind)
-        }
-        _ => unreachable!(),
+    match answer {
+        Ok(answer) => Ok(Told::Goes(answer)),
+        Err(error) => Err(error),
     }
 }

@@ -12,7 +12,7 @@ ghost use Rattle.cilk_serial.specs.Scoped.{IsBegunRightly};
 use cilk_frames::asked::Asked;
 use cilk_frames::brief::Brief;
 use cilk_frames::halves::has_one;
-use cilk_program::ask::{Callee, LoopPart};
+use cilk_program::ask::{Ask, Callee, LoopPart};
 use cilk_program::program::Program;
 
 /// How many cells the frame has.
@@ -24,6 +24,16 @@ pub fn cells_of(program: &Program, callee: &Callee) -> u32
         Callee::Root => function_cells(program, program.main),
         Callee::Function(call) => function_cells(program, call.function),
         Callee::Loop(part) => turn_cells(program, part),
+    }
+}
+
+/// What the frame runs that an ask begins, if it begins one.
+pub fn callee_asked(ask: &Asked) -> Option<Callee>
+    ensures { result ≡ child_of ask.now }
+{
+    match ask.in_full() {
+        Ask::Invoke(_, callee) => Some(callee),
+        _ => None,
     }
 }
 

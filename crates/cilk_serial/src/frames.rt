@@ -19,7 +19,6 @@ ghost use Rattle.cilk_serial.specs.States.{Shows};
 
 use crate::activation::Activation;
 use crate::places::{cell, instances};
-use crate::stack::Stack;
 use crate::state::State;
 use cilk_frames::asked::Asked;
 use cilk_frames::brief::Brief;
@@ -30,6 +29,7 @@ use cilk_program::ask::{FunctionCall, LoopPart};
 use cilk_program::program::Program;
 use cilk_program::syntax::Place;
 use cilk_types::event::{Cell, FrameNo, Instance};
+use cilk_types::stack::Stack;
 use std::alloc::{AllocError, Global};
 
 /// The root's frame.
@@ -59,7 +59,7 @@ pub fn child(
     code: &Code,
     state: &State,
     top: &Activation,
-    below: &Stack,
+    below: &Stack<Activation>,
     ask: &Asked,
 ) -> Result<Activation, AllocError>
     requires begins { IsSome (child_of ask.now) }
@@ -70,12 +70,18 @@ pub fn child(
     ensures owes { IfOk result (λ a. a.cursor.owed ≡ owed_for Begin) }
     ensures scoped { IfOk result (λ a. IfSome (child_of ask.now) (λ callee. (p : Source) (fr : Frame) (parents : List Parent) (m : Memory) (q : Parent) → Seen p top.now below.now fr parents → IsThere p fr (length state.now.cells.items) ask.now → Shows state.now m → q.frame ≡ fr → Scoped p a (next_frame p fr.scope m callee) (q ∷ parents))) }
 {
-    let cursor = Cursor::asked(alloc, code, ask)?;
     let number = state.frames + 1;
     let base = state.cells.len() as Cell;
     match ask.brief() {
-        None => function(alloc, cursor, number, base, top, below, ask.call()),
-        Some(Brief::Turns(_, part)) => Ok(turns(alloc, cursor, number, base, top, below, part)),
+        None => {
+            let call = ask.call();
+            let cursor = Cursor::function(alloc, code, call)?;
+            function(alloc, cursor, number, base, top, below, call)
+        }
+        Some(Brief::Turns(_, part)) => {
+            let cursor = Cursor::turns(alloc, code, part)?;
+            Ok(turns(alloc, cursor, number, base, top, below, part))
+        }
         Some(_) => unreachable!(),
     }
 }
@@ -87,7 +93,7 @@ fn function(
     number: FrameNo,
     base: Cell,
     top: &Activation,
-    below: &Stack,
+    below: &Stack<Activation>,
     call: &FunctionCall,
 ) -> Result<Activation, AllocError>
     requires { (p : Source) × (fr : Frame) × (parents : List Parent) × (n : ℕ) × Seen p top.now below.now fr parents × AreSmall call.now.reducers × ResultFits fr n call.now.result × (n ≤ MAX_CELLS) }
@@ -107,7 +113,7 @@ fn function(
 }
 
 // The cell that a result goes to.
-fn result_cell(top: &Activation, below: &Stack, place: Option<Place>) -> Option<Cell>
+fn result_cell(top: &Activation, below: &Stack<Activation>, place: Option<Place>) -> Option<Cell>
     requires { (p : Source) × (fr : Frame) × (parents : List Parent) × (n : ℕ) × Seen p top.now below.now fr parents × ResultFits fr n place × (n ≤ MAX_CELLS) }
     ensures { (p : Source) (fr : Frame) (parents : List Parent) → Seen p top.now below.now fr parents → result ≡ option_map (cell_in itself fr.scope) place }
 {
@@ -124,7 +130,7 @@ fn turns(
     number: FrameNo,
     base: Cell,
     top: &Activation,
-    below: &Stack,
+    below: &Stack<Activation>,
     part: &LoopPart,
 ) -> Activation
     requires { part.now.up ≤ 1 }

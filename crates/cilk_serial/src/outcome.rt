@@ -13,13 +13,13 @@ ghost use Rattle.cilk_serial.specs.Ran.{Ran};
 ghost use Rattle.cilk_serial.specs.States.{KeepsOthers, ShowsViews};
 
 use crate::state::State;
-use crate::trace::Trace;
 use cilk_hypermap::hypermap::Hypermap;
 use cilk_monoid::kind::MonoidKind;
 use cilk_program::program::{GlobalReducer, Program};
 use cilk_types::event::Instance;
 use cilk_types::outcome::{Final, Outcome};
 use cilk_types::sequence::Sequence;
+use cilk_types::trace::Trace;
 use std::alloc::{AllocError, Global};
 
 /// The outcome and the trace.
@@ -30,7 +30,8 @@ pub fn outcome(
     value: i64,
 ) -> Result<(Outcome, Trace), AllocError>
     requires { (inputs : List ℤ) × HasEnded (source program.now) inputs state value }
-    ensures { (inputs : List ℤ) → HasEnded (source program.now) inputs state value → IfOk result (λ r. Ran (source program.now) inputs r.0 r.1) }
+    ensures ran { (inputs : List ℤ) → HasEnded (source program.now) inputs state value → IfOk result (λ r. Ran (source program.now) inputs r.0 r.1) }
+    ensures events { IfOk result (λ r. r.1 ≡ state.events.items) }
 {
     let State {
         mut cells,

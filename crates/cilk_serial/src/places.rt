@@ -7,13 +7,14 @@ ghost use Rattle.cilk_program.specs.SerialRun.{Frame, cell_at, global_reducer};
 ghost use Rattle.cilk_serial.specs.Scoped.{AreSmall, IsOuter, Leads, Parent, Seen, number_in};
 
 use crate::activation::Activation;
-use crate::stack::Stack;
 use cilk_program::syntax::{Place, Reducer, ReducerPlace};
 use cilk_types::event::{Cell, Instance};
+use cilk_types::stack::Stack;
 use std::alloc::{AllocError, Global};
 
 /// The cell that a place means.
-pub fn cell(top: &Activation, below: &Stack, place: Place) -> Cell
+#[inline(always)]
+pub fn cell(top: &Activation, below: &Stack<Activation>, place: Place) -> Cell
     requires { (p : Source) × (fr : Frame) × (parents : List Parent) × Seen p top.now below.now fr parents × (cell_at fr place < 2 ^ 32) }
     ensures { (p : Source) (fr : Frame) (parents : List Parent) → Seen p top.now below.now fr parents → result ≡ cell_at fr place }
 {
@@ -28,7 +29,8 @@ pub fn cell(top: &Activation, below: &Stack, place: Place) -> Cell
 }
 
 /// The reducer that a place means.
-pub fn instance(top: &Activation, below: &Stack, place: ReducerPlace) -> Instance
+#[inline(always)]
+pub fn instance(top: &Activation, below: &Stack<Activation>, place: ReducerPlace) -> Instance
     requires seen { (p : Source) × (fr : Frame) × (parents : List Parent) × Seen p top.now below.now fr parents }
     requires small { number_in place < 65536 }
     ensures { (p : Source) (fr : Frame) (parents : List Parent) → Seen p top.now below.now fr parents → result ≡ instance_in global_reducer fr.scope place }
@@ -52,7 +54,7 @@ pub fn instance(top: &Activation, below: &Stack, place: ReducerPlace) -> Instanc
 pub fn instances(
     alloc: Global,
     top: &Activation,
-    below: &Stack,
+    below: &Stack<Activation>,
     reducers: &[Reducer],
 ) -> Result<Vec<Instance>, AllocError>
     requires seen { (p : Source) × (fr : Frame) × (parents : List Parent) × Seen p top.now below.now fr parents }
@@ -101,7 +103,7 @@ fn given(frame: &Activation, number: u32) -> Instance
 }
 
 // The frame so many static links up, if there is one.
-fn outer<'a>(top: &'a Activation, below: &'a Stack, up: u32) -> Option<&'a Activation>
+fn outer<'a>(top: &'a Activation, below: &'a Stack<Activation>, up: u32) -> Option<&'a Activation>
     requires { 0 < up }
     ensures { (p : Source) (fr : Frame) (parents : List Parent) → Seen p top.now below.now fr parents → MatchOption result (drop up fr.scope ≡ []) (λ frame. IsOuter p (drop up fr.scope) frame.now) }
 {
@@ -110,7 +112,7 @@ fn outer<'a>(top: &'a Activation, below: &'a Stack, up: u32) -> Option<&'a Activ
 }
 
 // Its place in the stack.
-fn outer_place(top: &Activation, below: &Stack, up: u32) -> Option<usize>
+fn outer_place(top: &Activation, below: &Stack<Activation>, up: u32) -> Option<usize>
     requires { 0 < up }
     ensures { (p : Source) (fr : Frame) (parents : List Parent) → Seen p top.now below.now fr parents → Leads parents result (drop up fr.scope) }
 {

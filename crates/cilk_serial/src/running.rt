@@ -1,27 +1,23 @@
 // A run that goes on.
 
-ghost use Rattle.std.specs.Prelude.{◌≡◌, ◌+◌, ℤ, List, IsTrue, true, false, length, IfOk, OnOk, IsSome};
+ghost use Rattle.std.specs.Prelude.{◌≡◌, ℤ, List, [], IfOk, IfSome, OnOk, IsSome};
 ghost use Rattle.cilk_program.specs.Sources.{source};
-ghost use Rattle.cilk_program.specs.SerialRun.{IsInner, Memory, refused};
+ghost use Rattle.cilk_program.specs.SerialRun.{cells_of};
 ghost use Rattle.cilk_program.specs.declared.ask.Ask.TheVariants.{End};
 ghost use Rattle.cilk_lower.specs.Behaves.{Behaves};
-ghost use Rattle.cilk_frames.specs.Asked.{in_full};
 ghost use Rattle.cilk_frames.specs.Following.{child_of};
-ghost use Rattle.cilk_lower.specs.Code.{CodeView};
-ghost use Rattle.cilk_serial.specs.States.{Shows};
-ghost use Rattle.cilk_serial.specs.Going.{HasEnded, Going, IsAllowed};
+ghost use Rattle.cilk_serial.specs.Going.{Going, IsAllowed, IsLonger, Progresses};
 
 use crate::activation::Activation;
-use crate::answer::answer;
+use crate::answer::{Told, answer};
 use crate::callee::{cells_asked, cells_of};
 use crate::frames::{child, retire, root};
-use crate::refusal::refused;
-use crate::stack::Stack;
+use crate::refusal::{crowded, fault_when_full, is_full};
 use crate::state::State;
 use cilk_frames::asked::Asked;
 use cilk_frames::brief::Brief;
 use cilk_frames::cursor::Answer;
-use cilk_frames::stepping::go_on;
+use cilk_frames::stepping::step_into;
 use cilk_hypermap::hypermap::Hypermap;
 use cilk_lower::code::Code;
 use cilk_program::ask::Callee;
@@ -30,6 +26,7 @@ use cilk_types::event::Event;
 use cilk_types::fault::Fault;
 use cilk_types::input::Input;
 use cilk_types::limits::MAX_TICKS;
+use cilk_types::stack::Stack;
 use std::alloc::{AllocError, Global};
 use std::mem;
 
@@ -37,17 +34,29 @@ use std::mem;
 #[derive(Drop)]
 pub struct Running {
     pub state: State,
-    pub below: Stack,
+    pub below: Stack<Activation>,
     pub top: Activation,
     pub ask: Asked,
     pub left: u32,
+}
+
+/// What a step of a run comes to.
+#[derive(Clone, Copy)]
+pub enum Step {
+    /// An event, and the run goes on.
+    Made,
+    /// The last event: the main function has ended with this result.
+    Last(i64),
+    /// A fault in place of the next event.
+    Stops(Fault),
 }
 
 impl Running {
     /// The root's frame, before it begins.
     pub fn new(alloc: Global, program: &Program, code: &Code) -> Result<Running, AllocError>
         requires { Behaves (source program.now) code.now }
-        ensures { (inputs : List ℤ) → IfOk result (λ running. Going code.now (source program.now) inputs running) }
+        ensures going { (inputs : List ℤ) → IfOk result (λ running. Going code.now (source program.now) inputs running) }
+        ensures unbegun { IfOk result (λ running. running.state.events.items ≡ []) }
     {
         let mut state = State {
             cells: Vec::from_slice(alloc, program.globals.as_slice())?,
@@ -67,12 +76,40 @@ impl Running {
         })
     }
 
-    /// The fault that stands in place of the next event, if any.
-    pub fn refused(&self, program: &Program) -> Option<Fault>
-        requires { (code : CodeView) × (inputs : List ℤ) × Going code (source program.now) inputs self.now }
-        ensures { (m : Memory) → Shows self.now.state m → result ≡ refused (source program.now) m self.now.ask }
+    /// Makes the next event, if no fault stands in its place.
+    #[inline(always)]
+    pub fn step(
+        &mut self,
+        alloc: Global,
+        program: &Program,
+        code: &Code,
+        input: &Input,
+    ) -> Result<Step, AllocError>
+        requires { Going code.now (source program.now) input.now self.old }
+        ensures { IfOk result (λ step. Progresses code.now (source program.now) input.now self.old step self.new) }
     {
-        refused(program, &self.state, &self.ask)
+        if is_full(&self.state) {
+            return Ok(Step::Stops(fault_when_full(&self.ask)));
+        }
+        let Some(ask) = self.ask.brief() else {
+            return self.invoke(alloc, program, code);
+        };
+        match answer(alloc, &mut self.state, &self.top, &self.below, ask)? {
+            Told::Goes(told) => {
+                step_into(
+                    code,
+                    input,
+                    &mut self.top.cursor,
+                    told,
+                    &mut self.left,
+                    &mut self.ask,
+                );
+                Ok(Step::Made)
+            }
+            Told::Invokes => self.invoke(alloc, program, code),
+            Told::Ends(result) => self.end(program, code, input, result),
+            Told::Stops(fault) => Ok(Step::Stops(fault)),
+        }
     }
 
     /// The state alone.
@@ -89,50 +126,42 @@ impl Running {
         state
     }
 
-    /// Makes the event of an ask after which the frame goes on at once, and goes on to its next one.
-    pub fn answer(
-        &mut self,
-        alloc: Global,
-        program: &Program,
-        code: &Code,
-        input: &Input,
-    ) -> Result<(), AllocError>
-        requires going { Going code.now (source program.now) input.now self.old }
-        requires allowed { IsAllowed (source program.now) self.old.state self.old.ask }
-        requires inner { IsInner self.old.ask }
-        ensures going { OnOk result (Going code.now (source program.now) input.now self.new) }
-        ensures longer { OnOk result (length self.new.state.events.items ≡ length self.old.state.events.items + 1) }
-    {
-        let Some(ask) = self.ask.brief() else {
-            unreachable!()
-        };
-        let told = answer(alloc, &mut self.state, &self.top, &self.below, ask)?;
-        go_on(
-            code,
-            input,
-            &mut self.top.cursor,
-            told,
-            &mut self.left,
-            &mut self.ask,
-        );
-        Ok(())
-    }
-
-    /// A child begins, and the frame that asked for it waits.
+    /// A child begins, if there may be one more frame with its cells.
+    #[inline(never)]
     pub fn invoke(
         &mut self,
         alloc: Global,
         program: &Program,
         code: &Code,
+    ) -> Result<Step, AllocError>
+        requires going { (inputs : List ℤ) × Going code.now (source program.now) inputs self.old }
+        requires begins { IsSome (child_of self.old.ask) }
+        ensures { (inputs : List ℤ) → Going code.now (source program.now) inputs self.old → IfOk result (λ step. Progresses code.now (source program.now) inputs self.old step self.new) }
+    {
+        let cells = cells_asked(program, &self.ask);
+        if let Some(fault) = crowded(&self.state, cells) {
+            return Ok(Step::Stops(fault));
+        }
+        self.begin_child(alloc, program, code, cells)?;
+        Ok(Step::Made)
+    }
+
+    // A child with so many cells begins, and the frame that asked for it waits.
+    fn begin_child(
+        &mut self,
+        alloc: Global,
+        program: &Program,
+        code: &Code,
+        cells: u32,
     ) -> Result<(), AllocError>
         requires going { (inputs : List ℤ) × Going code.now (source program.now) inputs self.old }
         requires allowed { IsAllowed (source program.now) self.old.state self.old.ask }
         requires begins { IsSome (child_of self.old.ask) }
+        requires cells { IfSome (child_of self.old.ask) (λ callee. cells ≡ cells_of (source program.now) callee) }
         ensures going { (inputs : List ℤ) → Going code.now (source program.now) inputs self.old → OnOk result (Going code.now (source program.now) inputs self.new) }
-        ensures longer { OnOk result (length self.new.state.events.items ≡ length self.old.state.events.items + 1) }
+        ensures longer { OnOk result (IsLonger self.old.state self.new.state) }
     {
         let how = self.ask.how();
-        let cells = cells_asked(program, &self.ask);
         let frame = child(alloc, code, &self.state, &self.top, &self.below, &self.ask)?;
         self.state.begin(how, cells)?;
         self.below.push(mem::replace(&mut self.top, frame))?;
@@ -140,22 +169,27 @@ impl Running {
         Ok(())
     }
 
-    /// The frame ends, and the one that waits for it goes on. Answers whether there was none.
-    pub fn end(&mut self, program: &Program, code: &Code, input: &Input) -> Result<bool, AllocError>
+    /// The frame ends with a value, and the one that waits for it goes on, if there is one.
+    #[inline(never)]
+    pub fn end(
+        &mut self,
+        program: &Program,
+        code: &Code,
+        input: &Input,
+        value: i64,
+    ) -> Result<Step, AllocError>
         requires going { Going code.now (source program.now) input.now self.old }
         requires allowed { IsAllowed (source program.now) self.old.state self.old.ask }
-        requires ends { (v : ℤ) × (self.old.ask ≡ End v) }
-        ensures going { IfOk result (λ last. last ≡ false → Going code.now (source program.now) input.now self.new) }
-        ensures ended { IfOk result (λ last. last ≡ true → (v : ℤ) → self.old.ask ≡ End v → HasEnded (source program.now) input.now self.new.state v) }
-        ensures longer { OnOk result (length self.new.state.events.items ≡ length self.old.state.events.items + 1) }
+        requires ends { self.old.ask ≡ End value }
+        ensures { IfOk result (λ step. Progresses code.now (source program.now) input.now self.old step self.new) }
     {
         self.state.make(Event::End)?;
         retire(program, &mut self.state, &self.top);
         match self.below.pop() {
-            None => Ok(true),
+            None => Ok(Step::Last(value)),
             Some(parent) => {
                 self.top = parent;
-                go_on(
+                step_into(
                     code,
                     input,
                     &mut self.top.cursor,
@@ -163,7 +197,7 @@ impl Running {
                     &mut self.left,
                     &mut self.ask,
                 );
-                Ok(false)
+                Ok(Step::Made)
             }
         }
     }

@@ -1,8 +1,9 @@
 // The store, the counters and the events of a run that goes on.
 
-ghost use Rattle.std.specs.Prelude.{◌≡◌, ◌+◌, ◌<◌, ◌≤◌, ◌^◌, ◌-◌, ℤ, pos, [], ◌∷◌, ◌++◌, length, slice_index_or, IfOk, OnOk};
+ghost use Rattle.std.specs.Prelude.{◌≡◌, ◌<◌, ℤ, List, pos, [], ◌∷◌, ◌++◌, length, slice_index_or, IfOk, OnOk};
+ghost use Rattle.cilk_types.specs.declared.event.Event.{Event};
 ghost use Rattle.cilk_types.specs.declared.event.Event.TheVariants as events;
-ghost use Rattle.cilk_types.specs.declared.limits.TheConstants.{MAX_EVENTS, MAX_FRAMES};
+ghost use Rattle.cilk_types.specs.declared.limits.TheConstants.{MAX_FRAMES};
 ghost use Rattle.cilk_monoid.specs.Ranges.{same_instance};
 ghost use Rattle.cilk_program.specs.Store.{clear, number_at, print, put, set, update};
 ghost use Rattle.cilk_program.specs.SerialRun.{Memory};
@@ -14,7 +15,7 @@ use cilk_frames::cursor::Answer;
 use cilk_hypermap::hypermap::Hypermap;
 use cilk_monoid::kind::MonoidKind;
 use cilk_program::syntax::Invocation;
-use cilk_types::event::{Cell, Event, FrameNo, Instance, Pos};
+use cilk_types::event::{Cell, Event, FrameNo, Instance};
 use std::alloc::{AllocError, Global};
 
 /// The cells of all frames, the reducers' views, the printed numbers and the events so far, and how many frames have begun.
@@ -28,15 +29,16 @@ pub struct State {
 }
 
 impl State {
-    /// The position of the next event.
-    pub fn next_position(&self) -> Pos
-        requires { length self.now.events.items ≤ MAX_EVENTS }
-        ensures { result ≡ length self.now.events.items + 1 }
+    /// The event that was made last.
+    pub fn last_event(&self) -> Event
+        requires { 0 < length self.now.events.items }
+        ensures { (es : List Event) (e : Event) → self.now.events.items ≡ es ++ e ∷ [] → result ≡ e }
     {
-        self.events.len() as Pos + 1
+        last(self.events.as_slice())
     }
 
     /// Makes an event that changes nothing, and tells nothing.
+    #[inline(always)]
     pub fn make(&mut self, event: Event) -> Result<Answer, AllocError>
         ensures done { IfOk result (λ a. a ≡ answers.Done) }
         ensures makes { OnOk result (Makes self.old self.new (λ m. pos 0) (pos 0) (λ m. event) (λ m. m.store)) }
@@ -46,6 +48,7 @@ impl State {
     }
 
     /// Reads a cell.
+    #[inline(always)]
     pub fn read(&mut self, cell: Cell) -> Result<Answer, AllocError>
         requires { cell < length self.old.cells.items }
         ensures value { IfOk result (λ a. a ≡ answers.Value (word_in a)) }
@@ -58,6 +61,7 @@ impl State {
     }
 
     /// Writes a cell.
+    #[inline(always)]
     pub fn write(&mut self, cell: Cell, value: i64) -> Result<Answer, AllocError>
         requires { cell < length self.old.cells.items }
         ensures done { IfOk result (λ a. a ≡ answers.Done) }
@@ -69,6 +73,7 @@ impl State {
     }
 
     /// A reducer begins with its monoid's unit.
+    #[inline(always)]
     pub fn create(
         &mut self,
         alloc: Global,
@@ -84,6 +89,7 @@ impl State {
     }
 
     /// A reducer's view is multiplied by a number from the right.
+    #[inline(always)]
     pub fn update(
         &mut self,
         alloc: Global,
@@ -100,6 +106,7 @@ impl State {
     }
 
     /// A reducer's view becomes that of a number alone.
+    #[inline(always)]
     pub fn set(
         &mut self,
         alloc: Global,
@@ -116,6 +123,7 @@ impl State {
     }
 
     /// The number of a reducer's view.
+    #[inline(always)]
     pub fn value(
         &mut self,
         alloc: Global,
@@ -131,6 +139,7 @@ impl State {
     }
 
     /// Prints a number.
+    #[inline(always)]
     pub fn print(&mut self, value: i64) -> Result<Answer, AllocError>
         ensures done { IfOk result (λ a. a ≡ answers.Done) }
         ensures makes { OnOk result (Makes self.old self.new (λ m. pos 0) (pos 0) (λ m. events.Print value) (λ m. print value m.store)) }
@@ -179,4 +188,12 @@ fn value_at(cells: &[i64], cell: Cell) -> i64
     ensures { result ≡ slice_index_or cells.now cell result }
 {
     cells[cell as usize]
+}
+
+// The last of some events.
+fn last(events: &[Event]) -> Event
+    requires { 0 < length events.now }
+    ensures { (es : List Event) (e : Event) → events.now ≡ es ++ e ∷ [] → result ≡ e }
+{
+    events[events.len() - 1]
 }

@@ -1,8 +1,8 @@
 -- A text's tree, and then the program of the tree.
 use Rattle.std.proofs.Common.{inr}
 use Rattle.std.specs.Prelude.{Result, Ok, Err, IfOk, IfErr}
-use Rattle.cilk_parser.specs.Texts.{IsText}
-use Rattle.cilk_parser.specs.declared.tree.Tree.{Tree}
+use Rattle.cilk_texts.specs.Texts.{IsText}
+use Rattle.cilk_syntax.specs.declared.tree.Tree.{Tree}
 use Rattle.cilk_program.specs.declared.program.Program.{Program}
 use Rattle.cilk_tool.specs.Judging.{IsProgramText, NamesFail, ProgramFails, ResolvesTo, meant}
 use Rattle.cilk_tool.specs.Replies.{Text, failure_view}

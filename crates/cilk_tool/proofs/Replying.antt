@@ -4,7 +4,7 @@ use Rattle.std.specs.Prelude.{IsTrue, IsFalse, Result, Ok, Err, IfOk, IfErr, IsE
 use Rattle.std.specs.Io.KnownBytes.{Appends}
 use Rattle.std.proofs.lemmas.List.{append-nil, take_all}
 use Rattle.cilk_tool.specs.Replies.{NoMemory, Reply, Text, answer_view, failure_view, out_text, status_of}
-use Rattle.cilk_parser.specs.Inputs.{IsInput}
+use Rattle.cilk_texts.specs.Inputs.{IsInput}
 use Rattle.cilk_tool.specs.Judging.{InputFails, IsProgramText, Meant, ProgramFails, RunShows}
 use Rattle.cilk_tool.specs.Files.{IsHeld}
 use Rattle.cilk_tool.specs.Serving.{Answers, GivesInput, GivesProgram, InputFileFails, InputRefused, InputUnread, IsOrNoMemory, ProgramRefused, ProgramUnread, Ran, RunReply, Serves, Shows, ShowsError, World}

@@ -3,16 +3,17 @@ use Rattle.std.specs.Prelude.{◌≡◌, ◌⊎◌, ℕ, ℤ, List, map}
 use Rattle.cilk_types.specs.Fault as faults
 use Rattle.cilk_types.specs.declared.event.Event.{Event}
 use Rattle.cilk_types.specs.declared.fault.Fault.{Fault}
-use Rattle.cilk_parser.specs.Inputs.{IsInput, IsInputFault}
-use Rattle.cilk_parser.specs.Texts as texts
-use Rattle.cilk_parser.specs.Texts.{IsText, IsTextFault}
-use Rattle.cilk_parser.specs.declared.fault.TextFault.TheVariants as text_faults
-use Rattle.cilk_parser.specs.declared.fault.TextNumber.{TextNumber}
-use Rattle.cilk_parser.specs.declared.tree.Tree.{Tree}
-use Rattle.cilk_names.specs.Misnamings.{IsNameFault, number_of}
+use Rattle.cilk_texts.specs.Inputs.{IsInput, IsInputFault}
+use Rattle.cilk_texts.specs.Texts as texts
+use Rattle.cilk_texts.specs.Texts.{IsText, IsTextFault}
+use Rattle.cilk_texts.specs.declared.fault.TextFault.TheVariants as text_faults
+use Rattle.cilk_texts.specs.declared.fault.TextNumber.{TextNumber}
+use Rattle.cilk_syntax.specs.declared.tree.Tree.{Tree}
+use Rattle.cilk_scopes.specs.Faults.{number_of}
+use Rattle.cilk_scopes.specs.declared.fault.NameNumber.{NameNumber}
+use Rattle.cilk_names.specs.Misnamings.{IsNameFault}
 use Rattle.cilk_names.specs.Resolution.{Resolves, shared_of}
 use Rattle.cilk_names.specs.declared.fault.NameFault.TheVariants as name_faults
-use Rattle.cilk_names.specs.declared.fault.NameNumber.{NameNumber}
 use Rattle.cilk_program.specs.Syntax.{Source}
 use Rattle.cilk_program.specs.Sources.{source}
 use Rattle.cilk_program.specs.declared.program.Program.{Program}

@@ -1,5 +1,6 @@
 pub mod Files
 pub mod Judging
+pub mod OneReply
 pub mod Replies
 pub mod Serving
 pub mod Streams

@@ -3,7 +3,7 @@ use Rattle.std.specs.Prelude.{◌≡◌, ◌⊎◌, ◌<◌, ℕ, ℤ, List, [],
 use Rattle.std.specs.Io.KnownBytes.{Appends}
 use Rattle.cilk_tool.specs.declared.streams.TheConstants.{MAX_READ}
 use Rattle.cilk_tool.specs.Files.{IsHeld}
-use Rattle.cilk_parser.specs.Inputs.{IsInput}
+use Rattle.cilk_texts.specs.Inputs.{IsInput}
 use Rattle.cilk_tool.specs.Judging.{InputFails, IsProgramText, Meant, ProgramFails, RunShows}
 use Rattle.cilk_tool.specs.Replies.{BadWords, IsErrorText, NoMemory, Reply, Text, Unreadable, line, out_text, status_of}
 use Rattle.cilk_tool.specs.Streams.{AppendsFront, AppendsPart}

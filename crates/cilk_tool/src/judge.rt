@@ -2,20 +2,20 @@
 
 ghost use Rattle.std.specs.Prelude.{◌≡◌, IfOk, IfErr, map};
 ghost use Rattle.cilk_tool.specs.Judging.{InputFails, IsProgramText, NamesFail, ProgramFails, ResolvesTo, RunShows, SpellingFails, meant};
-ghost use Rattle.cilk_parser.specs.Inputs.{IsInput};
-ghost use Rattle.cilk_parser.specs.Texts.{IsText};
+ghost use Rattle.cilk_texts.specs.Inputs.{IsInput};
+ghost use Rattle.cilk_texts.specs.Texts.{IsText};
 ghost use Rattle.cilk_tool.specs.Replies.{answer_view, failure_view};
 
 use crate::reply::{Answer, Failure};
 use cilk_names::fault::NameFault;
 use cilk_names::resolve::resolve;
-use cilk_parser::fault::TextFault;
 use cilk_parser::input::parse_input;
 use cilk_parser::parse::parse;
-use cilk_parser::tree::Tree;
 use cilk_program::program::{GlobalReducer, Program};
 use cilk_serial::fault::RunFault;
 use cilk_serial::run::run as run_serially;
+use cilk_syntax::tree::Tree;
+use cilk_texts::fault::TextFault;
 use cilk_types::input::Input;
 use cilk_types::sequence::Sequence;
 use std::alloc::{AllocError, Global};

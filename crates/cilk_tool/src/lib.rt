@@ -12,6 +12,7 @@
 pub mod disk;
 pub mod files;
 mod judge;
+pub mod laws;
 mod render;
 pub mod reply;
 mod running;
@@ -20,12 +21,3 @@ pub mod streams;
 pub mod words;
 
 pub use serving::serve;
-
-#[cfg(test)]
-mod naming;
-#[cfg(test)]
-mod parsing;
-#[cfg(test)]
-mod tests;
-#[cfg(test)]
-mod worked;

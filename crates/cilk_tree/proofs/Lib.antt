@@ -4,6 +4,8 @@ pub mod Order
 pub mod Lines
 pub mod Places
 pub mod Reaches
+pub mod Sources
 pub mod Spans
+pub mod Spelled
 pub mod Strands
 pub mod Tied

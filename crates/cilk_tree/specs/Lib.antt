@@ -7,6 +7,7 @@ pub mod Parallel
 pub mod Races
 pub mod Reach
 pub mod Shape
+pub mod Sources
 pub mod Span
 pub mod Spans
 pub mod Tree

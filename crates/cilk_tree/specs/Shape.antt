@@ -33,3 +33,7 @@ marks (child k u r) = start_of k ∷ Begin ∷ marks u ++ Resume ∷ marks r
 -- the events are those of a run of this shape
 abbrev pub Spells : Shape → List Event → Type 0
 Spells s events = map mark_of events ≡ Begin ∷ marks s
+
+-- a list of events spells one shape at most
+abbrev pub SpellsOneShape : Type 0
+SpellsOneShape = (s t : Shape) (events : List Event) → Spells s events → Spells t events → s ≡ t

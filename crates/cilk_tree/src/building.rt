@@ -3,16 +3,15 @@
 //! Read backwards, a tree's nodes come after the nodes of their parts, right before left. So a stack of the frames
 //! whose `end` was met is all that is needed, and each frame there is three counts of strands.
 
-ghost use Rattle.std.specs.Prelude.{◌≡◌, ◌≤◌, ◌+◌, ◌<◌, ◌^◌, length, IfOk};
-ghost use Rattle.cilk_types.specs.declared.limits.TheConstants.{MAX_EVENTS};
+ghost use Rattle.std.specs.Prelude.{◌≡◌, ◌+◌, ◌<◌, ◌^◌, IfOk};
 ghost use Rattle.cilk_tree.specs.Shape.{Shape, Spells};
 ghost use Rattle.cilk_tree.specs.Tree.{tree, preorder};
 ghost use Rattle.cilk_tree.specs.Building.{opening, step, strand_closed, block_closed, frame_closed};
 
 use crate::mark::Mark;
-use crate::stack::Stack;
 use crate::tree::{Node, SpTree};
-use cilk_serial::trace::Trace;
+use cilk_types::stack::Stack;
+use cilk_types::trace::Trace;
 use std::alloc::{AllocError, Global};
 use std::marker::Model;
 
@@ -149,7 +148,6 @@ impl Building {
 /// The series-parallel tree of a trace. Cost and memory: linear in the events. A list of events that no run makes has
 /// some tree or other.
 pub fn tree_of(alloc: Global, trace: &Trace) -> Result<SpTree, AllocError>
-    requires { length trace.now ≤ MAX_EVENTS }
     ensures { IfOk result (λ t. (s : Shape) → Spells s trace.now → t ≡ preorder (tree s)) }
 {
     let mut building = Building::new(alloc);
@@ -160,25 +158,4 @@ pub fn tree_of(alloc: Global, trace: &Trace) -> Result<SpTree, AllocError>
         building.step(Mark::of(&events[place]))?;
     }
     Ok(SpTree::new(building.nodes.into_vec()))
-}
-
-#[cfg(test)]
-mod tests {
-    use super::*;
-    use cilk_types::event::Event;
-    use std::test::Fail;
-
-    #[test]
-    fn an_empty_root_has_two_strands(rt: HostRuntime) -> Result<(), Fail> {
-        let events = [Event::Begin { frame: 1 }, Event::Sync, Event::End];
-        let trace = Trace::new(events.to_vec(rt.alloc())?);
-        let tree = tree_of(rt.alloc(), &trace)?;
-        let nodes = [
-            Node::Series { left: 1 },
-            Node::Strand { events: 1 },
-            Node::Strand { events: 2 },
-        ];
-        assert_eq!(rt; tree.as_slice(), nodes.as_slice());
-        Ok(())
-    }
 }

@@ -21,5 +21,4 @@ pub mod building;
 pub mod laws;
 pub mod mark;
 pub mod span;
-pub mod stack;
 pub mod tree;

@@ -1,7 +1,8 @@
-//! Laws of words. Each is a function that does nothing: its contract is the law.
+//! Laws of words, and the limits by number. Each is a function that does nothing: its contract is the law.
 
-ghost use Rattle.std.specs.Prelude.{ℤ};
+ghost use Rattle.std.specs.Prelude.{◌≡◌, ℤ};
 ghost use Rattle.cilk_types.specs.Word.{HasOneWord, DividesExactly, DividesWithin};
+ghost use Rattle.cilk_types.specs.declared.limits.TheConstants.{MAX_TEXT, MAX_INPUTS, MAX_EVENTS, MAX_TICKS, MAX_FRAMES, MAX_CELLS};
 
 /// Words are whole numbers modulo 2^64.
 pub fn words_are_modulo()
@@ -16,4 +17,14 @@ pub fn division_is_exact()
 /// A word's quotient is a word and so exact, but for the least word by -1, whose quotient wraps.
 pub fn only_one_quotient_wraps()
     ensures { (a b : ℤ) → DividesWithin a b }
+{}
+
+/// The limits of texts, inputs and runs, by number: contracts elsewhere name the constants.
+pub fn limits_are()
+    ensures text { MAX_TEXT ≡ 262144 }
+    ensures inputs { MAX_INPUTS ≡ 65536 }
+    ensures events { MAX_EVENTS ≡ 1000000 }
+    ensures ticks { MAX_TICKS ≡ 16000000 }
+    ensures frames { MAX_FRAMES ≡ 65536 }
+    ensures cells { MAX_CELLS ≡ 1048576 }
 {}

@@ -1,8 +1,9 @@
 //! What every crate of the runtime speaks of: words with wrapping arithmetic, the numbers by which a run's
-//! frames, strands, cells and positions are known, its events, the faults that end it, and its outcome.
+//! frames, strands, cells and positions are known, its events and its trace, the faults that end it, and its outcome.
 //!
 //! A program's numbers are words: whole numbers of 64 bits in two's complement ([`word`]). A serial run makes a list
-//! of [`event::Event`]s. It ends with an [`outcome::Outcome`], or it stops by a [`fault::Fault`].
+//! of [`event::Event`]s, its [`trace::Trace`]. It ends with an [`outcome::Outcome`], or it stops by a [`fault::Fault`].
+//! A [`stack::Stack`] is what passes over a run keep their frames and parts on.
 //!
 //! ```text
 //! word::add(i64::MAX, 1)             // i64::MIN: it wraps
@@ -18,4 +19,6 @@ pub mod laws;
 pub mod limits;
 pub mod outcome;
 pub mod sequence;
+pub mod stack;
+pub mod trace;
 pub mod word;

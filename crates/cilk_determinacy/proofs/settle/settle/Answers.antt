@@ -2,11 +2,8 @@ use Rattle.std.proofs.Common.{subst}
 use Rattle.cilk_program.specs.Sources.{source}
 use Rattle.cilk_tree.specs.Shape.{Shape, Spells}
 use Rattle.cilk_determinacy.specs.Settled.{IsJudged}
-use Rattle.cilk_determinacy.proofs.Settled.{ran_short, settled_by, racy_by}
+use Rattle.cilk_determinacy.proofs.Settled.{settled_by, racy_by}
 use Rattle.cilk_determinacy.proofs.settle.settle.Goals as goal
-
-pub is_race_free-requires : goal.is_race_free-requires
-is_race_free-requires c = ran_short (source c.args.program.now) c.args.input.now c.in_ok-outcome.outcome c.in_ok-outcome.trace c.in_ok-outcome.ensures.ok
 
 pub returns-then-branch-clause-settled : goal.returns-then-branch-clause-settled
 returns-then-branch-clause-settled c =

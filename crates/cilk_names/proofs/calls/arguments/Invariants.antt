@@ -1,10 +1,11 @@
 -- What the arguments so far come to, and those that are left.
 use Rattle.std.proofs.Common.{◌≡◌, ◌++◌, map, drop}
-use Rattle.cilk_parser.specs.Trees.{arguments_of}
+use Rattle.cilk_syntax.specs.Trees.{arguments_of}
 use Rattle.cilk_program.specs.Programs.{expression}
-use Rattle.cilk_names.specs.Misnamings.{earliest, arguments_faults}
+use Rattle.cilk_scopes.specs.Faults.{earliest}
+use Rattle.cilk_names.specs.Misnamings.{arguments_faults}
 use Rattle.cilk_names.specs.Pass.{words_of, reducers_of}
-use Rattle.cilk_names.specs.States.{names_of}
+use Rattle.cilk_scopes.specs.Tables.{names_of}
 use Rattle.cilk_names.proofs.calls.arguments.Given as goal
 
 abbrev pub invariant-each : goal.invariant-each

@@ -1,9 +1,9 @@
 -- The functions that are known so far, and those that are left.
 use Rattle.std.proofs.Common.{◌≡◌, ℕ, ◌≤◌, List, [], drop}
 use Rattle.std.specs.Option.{option_or}
-use Rattle.cilk_parser.specs.Trees.{items_of}
-use Rattle.cilk_names.specs.Names.{functions_known}
-use Rattle.cilk_names.specs.States.{names_of, scope_of}
+use Rattle.cilk_syntax.specs.Trees.{items_of}
+use Rattle.cilk_names.specs.Contexts.{functions_known}
+use Rattle.cilk_scopes.specs.Tables.{names_of, scope_of}
 use Rattle.cilk_names.proofs.headings.known.Given as goal
 
 abbrev pub invariant-each : goal.invariant-each

@@ -1,6 +1,6 @@
 -- The items that are left decide.
 use Rattle.std.proofs.Common.{◌≡◌, ◌≤◌, drop}
-use Rattle.cilk_parser.specs.Trees.{items_of}
+use Rattle.cilk_syntax.specs.Trees.{items_of}
 use Rattle.cilk_names.specs.Globals.{main_of}
 use Rattle.cilk_names.proofs.headings.main_of.Given as goal
 

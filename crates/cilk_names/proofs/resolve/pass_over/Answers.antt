@@ -1,13 +1,14 @@
 -- All items, from the first on.
 use Rattle.std.proofs.Common.{◌≡◌, ◌++◌, length, map, None, refl, ap, ◌∙◌}
-use Rattle.cilk_parser.specs.declared.tree.ReturnType.TheVariants.{Int}
-use Rattle.cilk_parser.specs.Trees.{items_of}
+use Rattle.cilk_syntax.specs.declared.tree.ReturnType.TheVariants.{Int}
+use Rattle.cilk_syntax.specs.Trees.{items_of}
 use Rattle.cilk_program.specs.declared.program.Body.TheVariants.{Function}
 use Rattle.cilk_program.specs.Programs.{function, loop}
 use Rattle.std.proofs.Common.{false}
 use Rattle.cilk_names.specs.declared.items.Pass.{Pass}
 use Rattle.cilk_names.specs.Globals.{start, behind_items}
-use Rattle.cilk_names.specs.Misnamings.{earliest, items_faults}
+use Rattle.cilk_scopes.specs.Faults.{earliest}
+use Rattle.cilk_names.specs.Misnamings.{items_faults}
 use Rattle.cilk_names.specs.Pass.{items_functions, items_loops}
 use Rattle.cilk_names.specs.States.{known_of}
 use Rattle.cilk_names.proofs.AllItems.{started}

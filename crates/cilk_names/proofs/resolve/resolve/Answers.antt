@@ -1,6 +1,6 @@
 -- What the pass has found decides.
 use Rattle.std.proofs.Common.{◌≡◌, Some, None, IsTrue, length, ap, sym, ◌∙◌, subst}
-use Rattle.cilk_parser.specs.Trees.{items_of, program}
+use Rattle.cilk_syntax.specs.Trees.{items_of, program}
 use Rattle.cilk_program.specs.Syntax.{Source}
 use Rattle.cilk_program.specs.WellNamed.{is_well_named}
 use Rattle.cilk_names.specs.Globals.{main_of}

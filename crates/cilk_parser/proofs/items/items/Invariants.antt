@@ -1,7 +1,7 @@
 use Rattle.std.proofs.Common.{◌≡◌, [], ◌∷◌, length}
-use Rattle.cilk_parser.specs.Expected.{Items, run}
-use Rattle.cilk_parser.specs.Grammar.{SpellsItems}
-use Rattle.cilk_parser.specs.Trees.{items_of}
+use Rattle.cilk_grammar.specs.Expected.{Items, run}
+use Rattle.cilk_grammar.specs.Grammar.{SpellsItems}
+use Rattle.cilk_syntax.specs.Trees.{items_of}
 use Rattle.cilk_parser.proofs.items.items.Given as goal
 
 abbrev pub invariant-each : goal.invariant-each

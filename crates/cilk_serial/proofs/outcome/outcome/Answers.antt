@@ -19,8 +19,11 @@ finals-requires c =
     let same = ap length c.deref.ensures.value in
     omega (arith, few, many, same)
 
-pub returns : goal.returns
-returns c = λ inputs h.
+pub new-requires-4 : goal.new-requires-4
+new-requires-4 c = c.requires.1.counted
+
+pub returns-clause-ran : goal.returns-clause-ran
+returns-clause-ran c = λ inputs h.
     let p = c.args.program.now in
     let s = c.args.state in
     let sh = h.shows in

@@ -1,17 +1,13 @@
-use Rattle.std.proofs.Common.{w64, SFits, rules}
-use Rattle.std.proofs.lemmas.Int.{to_z-of_z}
-use Rattle.cilk_program.specs.Sources.{source}
-use Rattle.cilk_serial.proofs.Driving.{ended_as}
+use Rattle.std.proofs.Common.{◌∷◌, [], length, ap, subst, arith, length-append}
+use Rattle.cilk_serial.specs.SoFar.{Comes}
+use Rattle.cilk_serial.specs.declared.serial_run.Next.{Next}
+use Rattle.cilk_serial.proofs.SoFar.{is_short}
 use Rattle.cilk_serial.proofs.run.run.Goals as goal
 
-pub outcome-requires : goal.outcome-requires
-outcome-requires c =
-    let v = c.in_ok-result.result in
-    let fits : SFits w64 v = search rules in
-    (c.args.input.now, ended_as (source c.args.program.now) c.args.input.now _ _ v _ c.into_state.ensures (to_z-of_z w64 v fits) c.in_ok-result.ensures.ended)
-
-pub returns-clause-ok : goal.returns-clause-ok
-returns-clause-ok c =
-    let v = c.in_ok-result.result in
-    let fits : SFits w64 v = search rules in
-    c.in_ok-outcome.ensures c.args.input.now (ended_as (source c.args.program.now) c.args.input.now _ _ v _ c.into_state.ensures (to_z-of_z w64 v fits) c.in_ok-result.ensures.ended)
+pub each-smaller : goal.each-smaller
+each-smaller c =
+    let made = subst (λ (n : Next). Comes c.each.serial n c.next.new.self) c.in-Made.is c.in_ok-next.ensures.ok in
+    let short = is_short _ _ _ made.so_far in
+    let more = ap length made.events in
+    let sum = length-append c.each.serial.events (c.in-Made.field-0 ∷ []) in
+    omega (arith, short, more, sum)

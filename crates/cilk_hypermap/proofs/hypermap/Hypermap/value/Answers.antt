@@ -1,5 +1,5 @@
 -- Each branch changes the views of its own kind.
-use Rattle.std.proofs.Common.{refl}
+use Rattle.std.proofs.Common.{refl, rules}
 use Rattle.std.proofs.lemmas.Result.{on_ok_weaker}
 use Rattle.cilk_hypermap.proofs.hypermap.Hypermap.value.Goals as goal
 
@@ -17,3 +17,6 @@ returns-in-Append-clause-ok c = rw c.in-Append.is (on_ok_weaker c.value-in-Appen
 
 pub returns-in-Affine-clause-ok : goal.returns-in-Affine-clause-ok
 returns-in-Affine-clause-ok c = rw c.in-Affine.is (on_ok_weaker c.value-in-Affine.result (λ h. ((λ j. refl), (λ j. refl), (λ j. refl), (λ j. refl), h)) c.value-in-Affine.ensures.ok)
+
+pub returns-in-Greatest-clause-number : goal.returns-in-Greatest-clause-number
+returns-in-Greatest-clause-number c = search rules

@@ -1,8 +1,8 @@
 -- One more variable, and the end.
 use Rattle.std.proofs.Common.{get_or, ◌∙◌}
-use Rattle.cilk_parser.specs.declared.tree.GlobalVariable.{GlobalVariable}
-use Rattle.cilk_parser.specs.declared.tree.GlobalVariable.TheVariants.{Variable}
-use Rattle.cilk_parser.specs.declared.tree.Initializer.TheVariants.{Absent}
+use Rattle.cilk_syntax.specs.declared.tree.GlobalVariable.{GlobalVariable}
+use Rattle.cilk_syntax.specs.declared.tree.GlobalVariable.TheVariants.{Variable}
+use Rattle.cilk_syntax.specs.declared.tree.Initializer.TheVariants.{Absent}
 use Rattle.cilk_names.specs.States.{known_of}
 use Rattle.cilk_names.proofs.Locals.{get_any}
 use Rattle.cilk_names.proofs.AllItems.{globals_known, globals_step, globals_known_end, globals_end}

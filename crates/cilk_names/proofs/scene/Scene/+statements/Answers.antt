@@ -1,10 +1,11 @@
 -- Scopes that close, loops that take their place, and one more statement of a row.
 use Rattle.std.proofs.Common.{map, ap, ◌∙◌, ◌++◌}
-use Rattle.cilk_parser.specs.Trees as trees
+use Rattle.cilk_syntax.specs.Trees as trees
 use Rattle.cilk_program.specs.Programs.{loop, statement}
-use Rattle.cilk_names.specs.declared.table.Frame.{Frame}
-use Rattle.cilk_names.specs.Names.{inside}
-use Rattle.cilk_names.specs.Misnamings.{earliest, statement_faults}
+use Rattle.cilk_names.specs.declared.scene.Frame.{Frame}
+use Rattle.cilk_names.specs.Contexts.{inside}
+use Rattle.cilk_scopes.specs.Faults.{earliest}
+use Rattle.cilk_names.specs.Misnamings.{statement_faults}
 use Rattle.cilk_names.specs.Pass.{loops_of}
 use Rattle.cilk_names.specs.States.{context_of}
 use Rattle.cilk_names.proofs.Behinds.{scope_closed, row_closed, head_closed, loop_closed}
@@ -67,7 +68,7 @@ pub parallel-returns-clause-loops : goal.parallel-returns-clause-loops
 parallel-returns-clause-loops t c =
     loop_taken (context_of c.args.self.now) (context_of c.enter.new.self) (context_of c.scoped.new.self) c.args.head.now.variable (trees.statement c.args.body.now)
     c.args.self.now.loops.items c.enter.new.self.loops.items c.scoped.new.self.loops.items c.leave.new.self.loops.items c.in_ok-outside.ensures.loops.0
-    c.in_ok-outside.outside.number c.in_ok-outside.outside.frame.body (statement c.in_ok-body.body)
+    c.in_ok-outside.outside.number c.in_ok-outside.outside.frame.body (statement c.in_ok-body.body.value)
     c.in_ok-outside.ensures.context c.in_ok-body.ensures.context c.in_ok-body.ensures.value (ap (λ (f : Frame). f.body) c.in_ok-outside.ensures.outside.0)
     c.in_ok-outside.ensures.loops.1 c.in_ok-body.ensures.loops c.in_ok-outside.ensures.outside.2 c.in_ok-leave.ensures.loops
 

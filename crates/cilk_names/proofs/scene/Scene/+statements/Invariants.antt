@@ -1,9 +1,10 @@
 -- What the statements so far come to, and those that are left.
 use Rattle.std.proofs.Common.{◌≡◌, ◌++◌, map, drop}
-use Rattle.cilk_parser.specs.Trees as trees
+use Rattle.cilk_syntax.specs.Trees as trees
 use Rattle.cilk_program.specs.Programs.{loop}
-use Rattle.cilk_names.specs.Names.{behind_row}
-use Rattle.cilk_names.specs.Misnamings.{earliest, row_faults}
+use Rattle.cilk_names.specs.Contexts.{behind_row}
+use Rattle.cilk_scopes.specs.Faults.{earliest}
+use Rattle.cilk_names.specs.Misnamings.{row_faults}
 use Rattle.cilk_names.specs.Pass.{row_of, row_loops}
 use Rattle.cilk_names.specs.States.{context_of}
 use Rattle.cilk_names.proofs.Blocks.{followed}

@@ -6,6 +6,6 @@ use Rattle.cilk_names.proofs.scene.Scene.leave.Goals as goal
 
 pub returns-clause-loops : goal.returns-clause-loops
 returns-clause-loops c =
-    let made : Loop = record { within = c.args.outside.frame.body; cells = c.args.self.now.frame.cells; body = c.push.new.self } in
-    let one : c.push.new.self.items ≡ c.args.body ∷ [] = search rules in
-    loop_left c.args.self.now.loops.items c.args.outside.number made c.args.body one
+    let made : Loop = record { within = c.args.outside.frame.body; cells = c.args.self.now.frame.cells; body = c.in_ok-row.row } in
+    let one : c.in_ok-row.row.items ≡ c.args.body.value ∷ [] = search rules in
+    loop_left c.args.self.now.loops.items c.args.outside.number made c.args.body.value one

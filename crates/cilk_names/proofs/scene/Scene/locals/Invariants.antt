@@ -1,9 +1,10 @@
 -- What the declarations so far come to, and those that are left.
 use Rattle.std.proofs.Common.{◌≡◌, ◌++◌, map, drop}
-use Rattle.cilk_parser.specs.Trees.{locals_of}
+use Rattle.cilk_syntax.specs.Trees.{locals_of}
 use Rattle.cilk_program.specs.Programs.{declaration}
-use Rattle.cilk_names.specs.Names.{behind_locals}
-use Rattle.cilk_names.specs.Misnamings.{earliest, locals_faults}
+use Rattle.cilk_names.specs.Contexts.{behind_locals}
+use Rattle.cilk_scopes.specs.Faults.{earliest}
+use Rattle.cilk_names.specs.Misnamings.{locals_faults}
 use Rattle.cilk_names.specs.Pass.{declarations_of}
 use Rattle.cilk_names.specs.States.{context_of}
 use Rattle.cilk_names.proofs.scene.Scene.locals.Given as goal

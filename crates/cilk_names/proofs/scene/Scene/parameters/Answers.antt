@@ -1,7 +1,7 @@
 -- One more parameter, and the end.
 use Rattle.std.proofs.Common.{◌∙◌, get_or}
-use Rattle.cilk_parser.specs.declared.tree.Parameter.{Parameter}
-use Rattle.cilk_parser.specs.declared.tree.Parameter.TheVariants.{Variable}
+use Rattle.cilk_syntax.specs.declared.tree.Parameter.{Parameter}
+use Rattle.cilk_syntax.specs.declared.tree.Parameter.TheVariants.{Variable}
 use Rattle.cilk_names.specs.States.{context_of}
 use Rattle.cilk_names.proofs.Locals.{get_any, parameters_context, parameters_step, parameters_context_end, parameters_end}
 use Rattle.cilk_names.proofs.scene.Scene.parameters.Goals as goal

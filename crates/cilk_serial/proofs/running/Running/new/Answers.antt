@@ -7,8 +7,8 @@ use Rattle.cilk_serial.specs.Going.{Going}
 use Rattle.cilk_serial.proofs.Driving.{first_shows, goes_first}
 use Rattle.cilk_serial.proofs.running.Running.new.Goals as goal
 
-pub returns : goal.returns
-returns c = λ inputs.
+pub returns-clause-going : goal.returns-clause-going
+returns-clause-going c = λ inputs.
     let p = c.args.program.now in
     let s0 : State = record { cells = c.in_ok-from_slice.field-0; views = c.new.result; output = c.new-2.result; events = c.new-3.result; frames = 1 } in
     let more = c.in_ok-extend.ensures in
@@ -17,3 +17,6 @@ returns c = λ inputs.
     subst (λ (k : Ask). Going c.args.code.now (source p) inputs (record { state = c.extend.new.self; below = c.new-4.result; top = c.in_ok-root.field-0; ask = k; left = MAX_TICKS })) (sym c.new-5.ensures)
     (goes_first c.args.code.now (source p) inputs c.extend.new.self c.in_ok-root.field-0 c.new-4.result p.well_named c.requires shows (ap (λ v. v.items) more.events ∙ c.new-3.ensures.items)
     (root.stands inputs c.requires) root.owes (root.scoped inputs) c.new-4.ensures)
+
+pub returns-clause-unbegun : goal.returns-clause-unbegun
+returns-clause-unbegun c = let more = c.in_ok-extend.ensures in ap (λ v. v.items) more.events ∙ c.new-3.ensures.items

@@ -1,0 +1,18 @@
+//! Tests of the crates from the monoids to the frames, and of the text form of certificates.
+//!
+//! What a contract says is proved for all inputs. A test here has what no contract says: that calls succeed where there
+//! is memory, and values that come from outside of the code.
+#![tactic(auto)]
+
+#[cfg(test)]
+mod certificates;
+#[cfg(test)]
+mod frames;
+#[cfg(test)]
+mod hypermaps;
+#[cfg(test)]
+mod monoids;
+#[cfg(test)]
+mod programs;
+#[cfg(test)]
+mod views;

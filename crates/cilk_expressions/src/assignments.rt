@@ -1,0 +1,166 @@
+//! From tokens to assignments.
+
+ghost use Rattle.std.specs.Prelude.{◌≡◌, ◌<◌, ◌≤◌, List, ◌∷◌, IfOk, IfErr, length};
+ghost use Rattle.cilk_grammar.specs.Expected as expected;
+ghost use Rattle.cilk_grammar.specs.Expected.{Symbol, Named, Subscript, Operation, run};
+ghost use Rattle.cilk_grammar.specs.Grammar.{SpellsAssignment, SpellsAssignmentRest, SpellsOperation, SpellsPlace, SpellsPlaceRest};
+ghost use Rattle.cilk_grammar.specs.Stops.{IsStop};
+ghost use Rattle.cilk_syntax.specs.Trees as trees;
+
+use crate::expressions::expr;
+use cilk_grammar::marks::{Mark, name, then_one};
+use cilk_grammar::stop::Stop;
+use cilk_syntax::tree::{Assignment, Compound, Name, Place};
+use cilk_token::token::{Kind, Token};
+use std::alloc::Global;
+
+/// The place that begins with this name, from behind it.
+#[tactic(auto, using(cilk_grammar::proofs::Runs::no_subscript))]
+fn place<'a>(
+    alloc: Global,
+    name: Name,
+    tokens: &'a [Token],
+    depth: u32,
+) -> Result<(Place, &'a [Token]), Stop<'a>>
+    requires { depth ≤ 64 }
+    ensures tree { IfOk result (λ x. SpellsPlaceRest (trees.place x.0) name tokens.now x.1.now) }
+    ensures shorter { IfOk result (λ x. length x.1.now ≤ length tokens.now) }
+    ensures reads { IfOk result (λ x. (stack : List Symbol) →
+        run tokens.now (Subscript depth ∷ stack) 0 ≡ run x.1.now stack 0) }
+    ensures stops { IfErr result (λ e. (stack : List Symbol) →
+        IsStop e (run tokens.now (Subscript depth ∷ stack) 0)) }
+{
+    match tokens {
+        [
+            Token {
+                kind: Kind::OpenBracket,
+                ..
+            },
+            after @ ..,
+        ] => {
+            let (index, rest) = expr(alloc, after, depth + 1)?;
+            then_one(Place::Element(name, index), rest, Mark::CloseBracket)
+        }
+        _ => Ok((Place::Variable(name), tokens)),
+    }
+}
+
+/// What is done to the place, from behind it.
+fn operation<'a>(
+    alloc: Global,
+    target: Place,
+    tokens: &'a [Token],
+    depth: u32,
+) -> Result<(Assignment, &'a [Token]), Stop<'a>>
+    ensures tree { IfOk result (λ x. SpellsOperation (trees.assignment x.0) (trees.place target) tokens.now x.1.now) }
+    ensures shorter { IfOk result (λ x. length x.1.now < length tokens.now) }
+    ensures reads { IfOk result (λ x. (stack : List Symbol) →
+        run tokens.now (Operation depth ∷ stack) 0 ≡ run x.1.now stack 0) }
+    ensures stops { IfErr result (λ e. (stack : List Symbol) →
+        IsStop e (run tokens.now (Operation depth ∷ stack) 0)) }
+{
+    let [first, rest @ ..] = tokens else {
+        return Err(Stop::Unexpected(tokens));
+    };
+    match first.kind {
+        Kind::Increment => Ok((Assignment::Increment(target), rest)),
+        Kind::Decrement => Ok((Assignment::Decrement(target), rest)),
+        Kind::Assign => {
+            let (value, rest) = expr(alloc, rest, depth)?;
+            Ok((Assignment::Set(target, value), rest))
+        }
+        Kind::PlusAssign => {
+            let (value, rest) = expr(alloc, rest, depth)?;
+            Ok((Assignment::Compound(Compound::Add, target, value), rest))
+        }
+        Kind::MinusAssign => {
+            let (value, rest) = expr(alloc, rest, depth)?;
+            Ok((
+                Assignment::Compound(Compound::Subtract, target, value),
+                rest,
+            ))
+        }
+        Kind::StarAssign => {
+            let (value, rest) = expr(alloc, rest, depth)?;
+            Ok((
+                Assignment::Compound(Compound::Multiply, target, value),
+                rest,
+            ))
+        }
+        _ => Err(Stop::Unexpected(tokens)),
+    }
+}
+
+/// The assignment that begins with this name, from behind it.
+pub fn assigned<'a>(
+    alloc: Global,
+    name: Name,
+    tokens: &'a [Token],
+    depth: u32,
+) -> Result<(Assignment, &'a [Token]), Stop<'a>>
+    requires { depth ≤ 64 }
+    ensures tree { IfOk result (λ x. SpellsAssignmentRest (trees.assignment x.0) name tokens.now x.1.now) }
+    ensures shorter { IfOk result (λ x. length x.1.now < length tokens.now) }
+    ensures reads { IfOk result (λ x. (stack : List Symbol) →
+        run tokens.now (Subscript depth ∷ Operation depth ∷ stack) 0 ≡ run x.1.now stack 0) }
+    ensures stops { IfErr result (λ e. (stack : List Symbol) →
+        IsStop e (run tokens.now (Subscript depth ∷ Operation depth ∷ stack) 0)) }
+{
+    let (target, rest) = place(alloc, name, tokens, depth)?;
+    operation(alloc, target, rest, depth)
+}
+
+/// A place.
+pub fn target<'a>(
+    alloc: Global,
+    tokens: &'a [Token],
+    depth: u32,
+) -> Result<(Place, &'a [Token]), Stop<'a>>
+    requires { depth ≤ 64 }
+    ensures tree { IfOk result (λ x. SpellsPlace (trees.place x.0) tokens.now x.1.now) }
+    ensures shorter { IfOk result (λ x. length x.1.now < length tokens.now) }
+    ensures reads { IfOk result (λ x. (stack : List Symbol) →
+        run tokens.now (Named ∷ Subscript depth ∷ stack) 0 ≡ run x.1.now stack 0) }
+    ensures stops { IfErr result (λ e. (stack : List Symbol) →
+        IsStop e (run tokens.now (Named ∷ Subscript depth ∷ stack) 0)) }
+{
+    let (name, rest) = name(tokens)?;
+    place(alloc, name, rest, depth)
+}
+
+/// An assignment.
+pub fn assignment<'a>(
+    alloc: Global,
+    tokens: &'a [Token],
+    depth: u32,
+) -> Result<(Assignment, &'a [Token]), Stop<'a>>
+    requires { depth ≤ 64 }
+    ensures tree { IfOk result (λ x. SpellsAssignment (trees.assignment x.0) tokens.now x.1.now) }
+    ensures shorter { IfOk result (λ x. length x.1.now < length tokens.now) }
+    ensures reads { IfOk result (λ x. (stack : List Symbol) →
+        run tokens.now (expected.Assignment depth ∷ stack) 0 ≡ run x.1.now stack 0) }
+    ensures stops { IfErr result (λ e. (stack : List Symbol) →
+        IsStop e (run tokens.now (expected.Assignment depth ∷ stack) 0)) }
+{
+    let [first, rest @ ..] = tokens else {
+        return Err(Stop::Unexpected(tokens));
+    };
+    match first.kind {
+        Kind::Name => {
+            let name = Name {
+                at: first.at,
+                end: first.end,
+            };
+            assigned(alloc, name, rest, depth)
+        }
+        Kind::Increment => {
+            let (target, rest) = target(alloc, rest, depth)?;
+            Ok((Assignment::Increment(target), rest))
+        }
+        Kind::Decrement => {
+            let (target, rest) = target(alloc, rest, depth)?;
+            Ok((Assignment::Decrement(target), rest))
+        }
+        _ => Err(Stop::Unexpected(tokens)),
+    }
+}

@@ -1,0 +1,4 @@
+pub mod Lists
+pub mod MarkLaws
+pub mod Runs
+pub mod Stopping

@@ -1,0 +1,3 @@
+pub mod Earliest
+pub mod SameKinds
+pub mod Tables

@@ -1,0 +1,5 @@
+pub mod Faults
+pub mod Names
+pub mod Operators
+pub mod Sights
+pub mod Tables

@@ -1,0 +1,113 @@
+-- A serial run while it is made, event by event.
+use Rattle.std.specs.Prelude.{◌≡◌, ◌-◌, ℤ, List, [], ◌∷◌, ◌++◌, length, slice_get, Option, None, Some, refl}
+use Rattle.std.specs.Coded.{Coded, code_by, coded×, coded_list, coded_ℤ}
+use Rattle.cilk_types.specs.contracts.event.Event as event
+use Rattle.cilk_program.specs.contracts.program.Program as program
+use Rattle.cilk_serial.specs.contracts.serial_run.Stage as stage
+use Rattle.cilk_types.specs.declared.event.Event.{Event}
+use Rattle.cilk_types.specs.declared.event.Event.TheVariants as events
+use Rattle.cilk_types.specs.declared.fault.Fault.{Fault}
+use Rattle.cilk_types.specs.declared.outcome.Outcome.{Outcome}
+use Rattle.cilk_program.specs.declared.ask.Callee.{Callee}
+use Rattle.cilk_program.specs.declared.ask.Callee.TheVariants.{Root}
+use Rattle.cilk_program.specs.declared.program.Program.{Program}
+use Rattle.cilk_program.specs.Sources.{source}
+use Rattle.cilk_program.specs.Syntax.{Source}
+use Rattle.cilk_program.specs.Outcomes.{Conclusion}
+use Rattle.cilk_program.specs.SerialRun.{Run, stop, act, child, IsSerialRun}
+use Rattle.cilk_serial.specs.declared.serial_run.Next.{Next}
+use Rattle.cilk_serial.specs.declared.serial_run.Next.TheVariants as next
+use Rattle.cilk_serial.specs.declared.serial_run.Stage.{Stage}
+use Rattle.cilk_serial.specs.declared.serial_run.Stage.TheVariants as stages
+use Rattle.cilk_serial.specs.Ran.{Ran, StopsAfter}
+
+-- The serial run makes these events first: they begin the events of the whole, which ends by itself or by a fault.
+pub record IsSoFar (p : Source) (inputs : List ℤ) (es : List Event) : Type 0 where
+  pub run : Run
+  pub rest : List Event
+  pub conclusion : Conclusion
+  pub serial : IsSerialRun p inputs run (es ++ rest) conclusion
+
+-- what the frames run that a frame and its children begin, in order of their numbers
+abbrev pub begun_in : Run → List Callee
+begun_in stop = []
+begun_in (act k a r) = begun_in r
+begun_in (child how callee u r) = callee ∷ (begun_in u ++ begun_in r)
+
+-- what each frame of a run of the first frame runs, in order of their numbers
+abbrev pub callees_of : Run → List Callee
+callees_of r = Root ∷ begun_in r
+
+-- what the frame runs that an event begins, if it begins one
+abbrev pub callee_at : List Callee → Event → Option Callee
+callee_at callees (events.Begin n) = None
+callee_at callees (events.Spawn n) = slice_get callees (n - 1)
+callee_at callees (events.Call n) = slice_get callees (n - 1)
+callee_at callees (events.Resume n) = None
+callee_at callees events.Sync = None
+callee_at callees events.End = None
+callee_at callees (events.Read c v) = None
+callee_at callees (events.Write c v) = None
+callee_at callees (events.Create i) = None
+callee_at callees (events.Update i v) = None
+callee_at callees (events.Set i v) = None
+callee_at callees (events.Value i v) = None
+callee_at callees (events.Print v) = None
+
+-- in the serial run the event after these begins a frame that runs this, or none
+abbrev pub BeginsNext : Source → List ℤ → List Event → Option Callee → Type 0
+BeginsNext p inputs es callee =
+    (run : Run) (all : List Event) (c : Conclusion) (e : Event)
+    → IsSerialRun p inputs run all c → slice_get all (length es) ≡ Some e → callee_at (callees_of run) e ≡ callee
+
+-- what callers see of a run that is being made: its program and inputs, the events so far, and how far it has come
+pub record RunView : Type 0 where
+  pub program : Program
+  pub inputs : List ℤ
+  pub events : List Event
+  pub stage : Stage
+
+-- such a view is stored as the tuple of its fields
+abbrev pub view_code : Coded RunView
+view_code =
+    code_by (Program × (List ℤ × (List Event × Stage)))
+    (coded× program.the_row.coded (coded× (coded_list coded_ℤ) (coded× (coded_list event.the_row.coded) stage.the_row.coded)))
+    (λ v. (v.program, (v.inputs, (v.events, v.stage))))
+    (λ t. record { program = t.0; inputs = t.1.0; events = t.1.1.0; stage = t.1.1.1 }) (λ v. refl)
+
+-- the run has ended
+abbrev pub IsOver : Stage → Type 0
+IsOver stages.Going = ⊥
+IsOver (stages.Ended v) = Unit {0}
+IsOver stages.Failed = ⊥
+
+-- memory was never refused
+abbrev pub IsIntact : Stage → Type 0
+IsIntact stages.Going = Unit {0}
+IsIntact (stages.Ended v) = Unit {0}
+IsIntact stages.Failed = ⊥
+
+-- one event more is made, and is the serial run's next
+pub record MakesNext (v : RunView) (e : Event) (v' : RunView) : Type 0 where
+  pub program : v'.program ≡ v.program
+  pub inputs : v'.inputs ≡ v.inputs
+  pub events : v'.events ≡ v.events ++ e ∷ []
+  pub so_far : IsSoFar (source v.program) v.inputs v'.events
+
+-- the events so far are all, and the run leaves the elision's outcome
+pub record EndsNext (v v' : RunView) : Type 0 where
+  pub same : v' ≡ v
+  pub over : IsOver v.stage
+  pub outcome : Outcome
+  pub ran : Ran (source v.program) v.inputs outcome v.events
+
+-- the events so far are all, and the run stops by a fault
+pub record StopsNext (v : RunView) (fault : Fault) (v' : RunView) : Type 0 where
+  pub same : v' ≡ v
+  pub stops : StopsAfter (source v.program) v.inputs v.events fault
+
+-- what comes next
+abbrev pub Comes : RunView → Next → RunView → Type 0
+Comes v (next.Made e) v' = MakesNext v e v'
+Comes v next.Ended v' = EndsNext v v'
+Comes v (next.Stops fault) v' = StopsNext v fault v'

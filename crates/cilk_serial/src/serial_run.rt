@@ -1,0 +1,179 @@
+//! The serial run, event by event.
+
+ghost use Rattle.std.specs.Prelude.{◌≡◌, [], IfOk, OnOk, OnErr};
+ghost use Rattle.cilk_program.specs.Sources.{source};
+ghost use Rattle.cilk_lower.specs.Behaves.{Behaves};
+ghost use Rattle.cilk_serial.specs.Ran.{Ran};
+ghost use Rattle.cilk_serial.specs.SoFar.{BeginsNext, Comes, IsIntact, IsOver, IsSoFar};
+ghost use Rattle.cilk_serial.specs.declared.serial_run.Stage.TheVariants.{Going, Failed};
+
+use crate::callee::callee_asked;
+use crate::outcome::outcome;
+use crate::running::{Running, Step};
+use cilk_lower::code::Code;
+use cilk_program::ask::Callee;
+use cilk_program::program::Program;
+use cilk_types::event::Event;
+use cilk_types::fault::Fault;
+use cilk_types::input::Input;
+use cilk_types::outcome::Outcome;
+use cilk_types::trace::Trace;
+use std::alloc::{AllocError, Global};
+use std::marker::Model;
+
+/// What comes next in a run.
+#[derive(Clone, Copy, Debug)]
+pub enum Next {
+    /// This event, which is made now.
+    Made(Event),
+    /// The end: all events are made, and [`SerialRun::finish`] gives the outcome.
+    Ended,
+    /// This fault, in place of another event. No more events come.
+    Stops(Fault),
+}
+
+/// How far a run has come.
+#[derive(Clone, Copy, Debug)]
+pub enum Stage {
+    /// There is another event, or a fault.
+    Going,
+    /// The main function has ended with this result.
+    Ended(i64),
+    /// Memory was refused on the way to an event.
+    Failed,
+}
+
+/// A serial run that is made event by event. It borrows the program, its code and the input, and owns the store, the
+/// frames that wait, and the events so far.
+#[derive(Drop)]
+pub struct SerialRun<'a> {
+    alloc: Global,
+    program: &'a Program,
+    code: &'a Code,
+    input: &'a Input,
+    running: Running,
+    stage: Stage,
+}
+
+impl<'a> Model for SerialRun<'a> {
+    ghost use Rattle.cilk_program.specs.Sources.{source};
+    ghost use Rattle.cilk_serial.specs.SoFar.{RunView, view_code};
+
+    ghost Value = { RunView };
+
+    ghost coded = { view_code };
+
+    ghost use Rattle.cilk_serial.specs.Going.{Keeps};
+
+    ghost view = { λ r. record { program = r.program.now; inputs = r.input.now; events = r.running.state.events.items; stage = r.stage } };
+
+    ghost invariant = { λ r. Keeps r.code.now (source r.program.now) r.input.now r.running r.stage };
+}
+
+impl<'a> SerialRun<'a> {
+    /// The run before its first event.
+    pub fn new(
+        alloc: Global,
+        program: &'a Program,
+        code: &'a Code,
+        input: &'a Input,
+    ) -> Result<SerialRun<'a>, AllocError>
+        requires { Behaves (source program.now) code.now }
+        ensures { IfOk result (λ run. run ≡ record { program = program.now; inputs = input.now; events = []; stage = Going }) }
+    {
+        let running = Running::new(alloc, program, code)?;
+        Ok(SerialRun {
+            alloc,
+            program,
+            code,
+            input,
+            running,
+            stage: Stage::Going,
+        })
+    }
+
+    /// Makes the next event of the serial run, or says how the run ends. Once it has ended, or a fault stands in place
+    /// of the next event, each further call says so again. Where memory is refused, this call and each further one
+    /// fail. Cost: linear in the ticks up to the event.
+    pub fn next(&mut self) -> Result<Next, AllocError>
+        ensures ok { IfOk result (λ next. Comes self.old next self.new) }
+        ensures err { OnErr result (self.new.stage ≡ Failed) }
+        ensures intact { OnOk result (IsIntact self.old.stage) }
+    {
+        match self.stage {
+            Stage::Going => {}
+            Stage::Ended(_) => return Ok(Next::Ended),
+            Stage::Failed => return Err(AllocError),
+        }
+        match self
+            .running
+            .step(self.alloc, self.program, self.code, self.input)
+        {
+            Ok(Step::Made) => Ok(Next::Made(self.running.state.last_event())),
+            Ok(Step::Last(result)) => {
+                self.stage = Stage::Ended(result);
+                Ok(Next::Made(self.running.state.last_event()))
+            }
+            Ok(Step::Stops(fault)) => Ok(Next::Stops(fault)),
+            Err(error) => {
+                self.stage = Stage::Failed;
+                Err(error)
+            }
+        }
+    }
+
+    /// The events so far.
+    pub fn events(&self) -> &[Event]
+        ensures events { result.now ≡ self.now.events }
+        ensures so_far { IsIntact self.now.stage → IsSoFar (source self.now.program) self.now.inputs self.now.events }
+    {
+        self.running.state.events.as_slice()
+    }
+
+    /// What the frame runs that the next event begins, if it begins one: to be asked before the event is made.
+    pub fn callee(&self) -> Option<Callee>
+        ensures { IsIntact self.now.stage → BeginsNext (source self.now.program) self.now.inputs self.now.events result }
+    {
+        match self.stage {
+            Stage::Going => callee_asked(&self.running.ask),
+            Stage::Ended(_) => None,
+            Stage::Failed => None,
+        }
+    }
+
+    /// The outcome and the trace of a run that has ended.
+    pub fn finish(self) -> Result<(Outcome, Trace), AllocError>
+        requires { IsOver self.stage }
+        ensures ran { IfOk result (λ r. Ran (source self.entry.program) self.entry.inputs r.0 r.1) }
+        ensures events { IfOk result (λ r. r.1 ≡ self.entry.events) }
+    {
+        let SerialRun {
+            alloc,
+            program,
+            code: _,
+            input: _,
+            running,
+            stage,
+        } = self;
+        let Stage::Ended(result) = stage else {
+            unreachable!()
+        };
+        outcome(alloc, program, running.into_state(), result)
+    }
+
+    /// The events so far as a trace, as of a run that a fault has stopped.
+    pub fn into_trace(self) -> Trace
+        requires { IsIntact self.stage }
+        ensures { result ≡ self.entry.events }
+    {
+        let SerialRun {
+            alloc: _,
+            program: _,
+            code: _,
+            input: _,
+            running,
+            stage: _,
+        } = self;
+        Trace::new(running.into_state().events)
+    }
+}

@@ -1,0 +1,273 @@
+//! From tokens to the heads of loops.
+
+ghost use Rattle.std.specs.Prelude.{◌≡◌, ◌<◌, ◌≤◌, List, ◌∷◌, IfOk, IfErr, length};
+ghost use Rattle.cilk_grammar.specs.Expected as expected;
+ghost use Rattle.cilk_grammar.specs.Expected.{Symbol, One, Named, Operand, Tail, Anew, Optional, Step, UnitStep, UnitStepRest, kind_of, run};
+ghost use Rattle.cilk_grammar.specs.Grammar.{Is, SpellsAssignment, SpellsBeginning, SpellsBounds, SpellsDefined, SpellsHead, SpellsStep, SpellsTested, SpellsUnit, SpellsUnitStep};
+ghost use Rattle.cilk_grammar.specs.Stops.{IsStop};
+ghost use Rattle.cilk_syntax.specs.Trees as trees;
+
+use cilk_expressions::assignments::assignment;
+use cilk_expressions::expressions::{ended, optional};
+use cilk_grammar::marks::{Mark, name, one, single, then_one};
+use cilk_grammar::stop::Stop;
+use cilk_syntax::tree::{Assignment, Beginning, Bounds, Expr, Name};
+use cilk_token::token::{Kind, Token};
+use std::alloc::Global;
+
+/// The three parts of the head of a `for`.
+#[derive(Drop)]
+pub struct Head {
+    pub beginning: Option<Beginning>,
+    pub test: Option<Box<Expr>>,
+    pub step: Option<Assignment>,
+}
+
+/// A variable with its value, and the semicolon behind it.
+#[tactic(auto, unfolding(cilk_grammar::specs::Grammar::SpellsDefined))]
+fn defined<'a>(
+    alloc: Global,
+    tokens: &'a [Token],
+    depth: u32,
+) -> Result<(Name, Box<Expr>, &'a [Token]), Stop<'a>>
+    ensures tree { IfOk result (λ x. SpellsDefined x.0 (trees.expression x.1.value) tokens.now x.2.now) }
+    ensures shorter { IfOk result (λ x. length x.2.now < length tokens.now) }
+    ensures reads { IfOk result (λ x. (stack : List Symbol) →
+        run tokens.now (Named ∷ One Mark.Assign ∷ Operand depth ∷ Tail depth ∷ Anew ∷ One Mark.Semicolon ∷ stack) 0 ≡ run x.2.now stack 0) }
+    ensures stops { IfErr result (λ e. (stack : List Symbol) →
+        IsStop e (run tokens.now (Named ∷ One Mark.Assign ∷ Operand depth ∷ Tail depth ∷ Anew ∷ One Mark.Semicolon ∷ stack) 0)) }
+{
+    let (variable, rest) = name(tokens)?;
+    let rest = one(rest, Mark::Assign)?;
+    let (value, rest) = ended(alloc, rest, depth)?;
+    Ok((variable, value, rest))
+}
+
+/// A variable with its bound, and the semicolon behind it.
+#[tactic(auto, unfolding(cilk_grammar::specs::Grammar::SpellsTested))]
+fn tested<'a>(
+    alloc: Global,
+    tokens: &'a [Token],
+    depth: u32,
+) -> Result<(Name, Box<Expr>, &'a [Token]), Stop<'a>>
+    ensures tree { IfOk result (λ x. SpellsTested x.0 (trees.expression x.1.value) tokens.now x.2.now) }
+    ensures shorter { IfOk result (λ x. length x.2.now < length tokens.now) }
+    ensures reads { IfOk result (λ x. (stack : List Symbol) →
+        run tokens.now (Named ∷ One Mark.Less ∷ Operand depth ∷ Tail depth ∷ Anew ∷ One Mark.Semicolon ∷ stack) 0 ≡ run x.2.now stack 0) }
+    ensures stops { IfErr result (λ e. (stack : List Symbol) →
+        IsStop e (run tokens.now (Named ∷ One Mark.Less ∷ Operand depth ∷ Tail depth ∷ Anew ∷ One Mark.Semicolon ∷ stack) 0)) }
+{
+    let (variable, rest) = name(tokens)?;
+    let rest = one(rest, Mark::Less)?;
+    let (bound, rest) = ended(alloc, rest, depth)?;
+    Ok((variable, bound, rest))
+}
+
+/// The tokens behind `++` or `+= 1`.
+fn unit<'a>(tokens: &'a [Token]) -> Result<&'a [Token], Stop<'a>>
+    ensures tree { IfOk result (λ rest. SpellsUnit tokens.now rest.now) }
+    ensures shorter { IfOk result (λ rest. length rest.now < length tokens.now) }
+    ensures reads { IfOk result (λ rest. (stack : List Symbol) →
+        run tokens.now (UnitStepRest ∷ stack) 0 ≡ run rest.now stack 0) }
+    ensures stops { IfErr result (λ e. (stack : List Symbol) →
+        IsStop e (run tokens.now (UnitStepRest ∷ stack) 0)) }
+{
+    match tokens {
+        [
+            Token {
+                kind: Kind::Increment,
+                ..
+            },
+            rest @ ..,
+        ] => Ok(rest),
+        [
+            Token {
+                kind: Kind::PlusAssign,
+                ..
+            },
+            after @ ..,
+        ] => single(after),
+        _ => Err(Stop::Unexpected(tokens)),
+    }
+}
+
+/// The name that 1 is added to.
+#[tactic(auto, unfolding(cilk_grammar::specs::Grammar::SpellsUnitStep))]
+fn unit_step<'a>(tokens: &'a [Token]) -> Result<(Name, &'a [Token]), Stop<'a>>
+    ensures tree { IfOk result (λ x. SpellsUnitStep x.0 tokens.now x.1.now) }
+    ensures shorter { IfOk result (λ x. length x.1.now < length tokens.now) }
+    ensures reads { IfOk result (λ x. (stack : List Symbol) →
+        run tokens.now (UnitStep ∷ stack) 0 ≡ run x.1.now stack 0) }
+    ensures stops { IfErr result (λ e. (stack : List Symbol) →
+        IsStop e (run tokens.now (UnitStep ∷ stack) 0)) }
+{
+    match tokens {
+        [
+            Token {
+                kind: Kind::Increment,
+                ..
+            },
+            after @ ..,
+        ] => name(after),
+        [
+            Token {
+                kind: Kind::Name,
+                at,
+                end,
+            },
+            after @ ..,
+        ] => {
+            let rest = unit(after)?;
+            Ok((Name { at: *at, end: *end }, rest))
+        }
+        _ => Err(Stop::Unexpected(tokens)),
+    }
+}
+
+/// The head of a `cilk_for`.
+#[tactic(auto, unfolding(cilk_grammar::specs::Grammar::SpellsBounds))]
+pub fn bounds<'a>(
+    alloc: Global,
+    tokens: &'a [Token],
+    depth: u32,
+) -> Result<(Bounds, &'a [Token]), Stop<'a>>
+    ensures tree { IfOk result (λ x. SpellsBounds (trees.bounds x.0) tokens.now x.1.now) }
+    ensures shorter { IfOk result (λ x. length x.1.now < length tokens.now) }
+    ensures reads { IfOk result (λ x. (stack : List Symbol) →
+        run tokens.now (One Mark.Open ∷ One Mark.Int ∷ Named ∷ One Mark.Assign ∷ Operand depth ∷ Tail depth ∷ Anew ∷ One Mark.Semicolon
+        ∷ Named ∷ One Mark.Less ∷ Operand depth ∷ Tail depth ∷ Anew ∷ One Mark.Semicolon ∷ UnitStep ∷ One Mark.Close ∷ stack) 0 ≡ run x.1.now stack 0) }
+    ensures stops { IfErr result (λ e. (stack : List Symbol) →
+        IsStop e (run tokens.now (One Mark.Open ∷ One Mark.Int ∷ Named ∷ One Mark.Assign ∷ Operand depth ∷ Tail depth ∷ Anew ∷ One Mark.Semicolon
+        ∷ Named ∷ One Mark.Less ∷ Operand depth ∷ Tail depth ∷ Anew ∷ One Mark.Semicolon ∷ UnitStep ∷ One Mark.Close ∷ stack) 0)) }
+{
+    let rest = one(tokens, Mark::Open)?;
+    let rest = one(rest, Mark::Int)?;
+    let (variable, low, rest) = defined(alloc, rest, depth)?;
+    let (tested, high, rest) = tested(alloc, rest, depth)?;
+    let (stepped, rest) = unit_step(rest)?;
+    let rest = one(rest, Mark::Close)?;
+    let bounds = Bounds {
+        variable,
+        low,
+        tested,
+        high,
+        stepped,
+    };
+    Ok((bounds, rest))
+}
+
+/// An assignment, and the mark behind it.
+fn closed<'a>(
+    alloc: Global,
+    tokens: &'a [Token],
+    depth: u32,
+    close: Mark,
+) -> Result<(Assignment, &'a [Token]), Stop<'a>>
+    requires { depth ≤ 64 }
+    ensures tree { IfOk result (λ x. (ts : List Token) × SpellsAssignment (trees.assignment x.0) tokens.now ts × Is (kind_of close) ts x.1.now) }
+    ensures shorter { IfOk result (λ x. length x.1.now < length tokens.now) }
+    ensures reads { IfOk result (λ x. (stack : List Symbol) →
+        run tokens.now (expected.Assignment depth ∷ One close ∷ stack) 0 ≡ run x.1.now stack 0) }
+    ensures stops { IfErr result (λ e. (stack : List Symbol) →
+        IsStop e (run tokens.now (expected.Assignment depth ∷ One close ∷ stack) 0)) }
+{
+    let (assignment, rest) = assignment(alloc, tokens, depth)?;
+    then_one(assignment, rest, close)
+}
+
+/// The first part of the head of a `for`, and the semicolon behind it.
+#[tactic(auto, using(cilk_grammar::proofs::Runs::begins_assigning), unfolding(cilk_grammar::specs::Grammar::SpellsBeginning))]
+fn beginning<'a>(
+    alloc: Global,
+    tokens: &'a [Token],
+    depth: u32,
+) -> Result<(Option<Beginning>, &'a [Token]), Stop<'a>>
+    requires { depth ≤ 64 }
+    ensures tree { IfOk result (λ x. SpellsBeginning (trees.optional_beginning x.0) tokens.now x.1.now) }
+    ensures shorter { IfOk result (λ x. length x.1.now < length tokens.now) }
+    ensures reads { IfOk result (λ x. (stack : List Symbol) →
+        run tokens.now (expected.Beginning depth ∷ stack) 0 ≡ run x.1.now stack 0) }
+    ensures stops { IfErr result (λ e. (stack : List Symbol) →
+        IsStop e (run tokens.now (expected.Beginning depth ∷ stack) 0)) }
+{
+    match tokens {
+        [
+            Token {
+                kind: Kind::Semicolon,
+                ..
+            },
+            rest @ ..,
+        ] => Ok((None, rest)),
+        [
+            Token {
+                kind: Kind::Int,
+                ..
+            },
+            after @ ..,
+        ] => {
+            let (variable, value, rest) = defined(alloc, after, depth)?;
+            Ok((Some(Beginning::Declares(variable, value)), rest))
+        }
+        _ => {
+            let (first, rest) = closed(alloc, tokens, depth, Mark::Semicolon)?;
+            Ok((Some(Beginning::Assigns(first)), rest))
+        }
+    }
+}
+
+/// The last part of the head of a `for`, and the parenthesis behind it.
+#[tactic(auto, using(cilk_grammar::proofs::Runs::steps_assigning), unfolding(cilk_grammar::specs::Grammar::SpellsStep))]
+fn step<'a>(
+    alloc: Global,
+    tokens: &'a [Token],
+    depth: u32,
+) -> Result<(Option<Assignment>, &'a [Token]), Stop<'a>>
+    requires { depth ≤ 64 }
+    ensures tree { IfOk result (λ x. SpellsStep (trees.optional_assignment x.0) tokens.now x.1.now) }
+    ensures shorter { IfOk result (λ x. length x.1.now < length tokens.now) }
+    ensures reads { IfOk result (λ x. (stack : List Symbol) →
+        run tokens.now (Step depth ∷ stack) 0 ≡ run x.1.now stack 0) }
+    ensures stops { IfErr result (λ e. (stack : List Symbol) →
+        IsStop e (run tokens.now (Step depth ∷ stack) 0)) }
+{
+    match tokens {
+        [
+            Token {
+                kind: Kind::Close,
+                ..
+            },
+            rest @ ..,
+        ] => Ok((None, rest)),
+        _ => {
+            let (step, rest) = closed(alloc, tokens, depth, Mark::Close)?;
+            Ok((Some(step), rest))
+        }
+    }
+}
+
+/// The head of a `for`.
+#[tactic(auto, unfolding(cilk_grammar::specs::Grammar::SpellsHead))]
+pub fn loop_head<'a>(
+    alloc: Global,
+    tokens: &'a [Token],
+    depth: u32,
+) -> Result<(Head, &'a [Token]), Stop<'a>>
+    requires { depth ≤ 64 }
+    ensures tree { IfOk result (λ x. SpellsHead (trees.optional_beginning x.0.beginning) (trees.optional x.0.test) (trees.optional_assignment x.0.step) tokens.now x.1.now) }
+    ensures shorter { IfOk result (λ x. length x.1.now < length tokens.now) }
+    ensures reads { IfOk result (λ x. (stack : List Symbol) →
+        run tokens.now (One Mark.Open ∷ expected.Beginning depth ∷ Optional depth ∷ Step depth ∷ stack) 0 ≡ run x.1.now stack 0) }
+    ensures stops { IfErr result (λ e. (stack : List Symbol) →
+        IsStop e (run tokens.now (One Mark.Open ∷ expected.Beginning depth ∷ Optional depth ∷ Step depth ∷ stack) 0)) }
+{
+    let rest = one(tokens, Mark::Open)?;
+    let (beginning, rest) = beginning(alloc, rest, depth)?;
+    let (test, rest) = optional(alloc, rest, depth)?;
+    let (step, rest) = step(alloc, rest, depth)?;
+    let head = Head {
+        beginning,
+        test,
+        step,
+    };
+    Ok((head, rest))
+}

@@ -1,0 +1,21 @@
+//! Tests of serial runs, their strands and races, and of the determinacy theorem.
+//!
+//! [`rows`] has worked programs as texts, each with the pairs that race in its serial run. [`worked`] takes each from its
+//! text to its trace, tree, labels, classes, races and span, and [`settled`] to its settled outcome. [`agreement`]
+//! compares the passes with the definitions, by plain search, on these traces and on random ones.
+#![tactic(auto)]
+
+#[cfg(test)]
+mod agreement;
+#[cfg(test)]
+mod brute_force;
+#[cfg(test)]
+mod programs;
+#[cfg(test)]
+mod random_traces;
+#[cfg(test)]
+mod rows;
+#[cfg(test)]
+mod settled;
+#[cfg(test)]
+mod worked;

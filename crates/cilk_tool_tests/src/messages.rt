@@ -1,0 +1,192 @@
+//! What faults show of themselves, and their numbers.
+
+use cilk_cert_text::fault::CertFault;
+use cilk_lexer::lexer::{Bad, LexFault};
+use cilk_names::fault::{NameFault, NameNumber};
+use cilk_serial::fault::RunFault;
+use cilk_texts::fault::{TextFault, TextNumber};
+use cilk_tool::files::FileFault;
+use cilk_tool::streams::ReadFault;
+use cilk_types::fault::Fault;
+use std::alloc::AllocError;
+
+#[test]
+fn faults_of_tokens(rt: HostRuntime) -> Result<(), AllocError> {
+    let alloc = rt.alloc();
+    let cases = [
+        (Bad::NotAscii, "a byte over 127"),
+        (Bad::Unclosed, "an unclosed comment"),
+        (Bad::Directive, "an unknown `#` line"),
+        (Bad::Numeral, "no number"),
+        (Bad::NoToken, "no token"),
+        (Bad::TooLarge, "a number over 9223372036854775807"),
+    ];
+    for (fault, text) in cases {
+        assert_eq!(rt; format!(in alloc; "{fault}")?.as_str(), text);
+        let placed = LexFault::At(fault, 7);
+        let whole = format!(in alloc; "{text} at byte 7")?;
+        assert_eq!(rt; format!(in alloc; "{placed}")?.as_str(), whole.as_str());
+    }
+    assert_eq!(rt;
+        format!(in alloc; "{}", LexFault::Memory)?.as_str(),
+        "no memory"
+    );
+    Ok(())
+}
+
+#[test]
+fn faults_of_texts(rt: HostRuntime) -> Result<(), AllocError> {
+    let alloc = rt.alloc();
+    let cases = [
+        (TextNumber::NotAscii, 101, "a byte over 127"),
+        (TextNumber::BadToken, 102, "no token"),
+        (
+            TextNumber::Unexpected,
+            103,
+            "an unexpected token, or the end",
+        ),
+        (
+            TextNumber::TooDeep,
+            104,
+            "nested too deep, or too many operators",
+        ),
+        (
+            TextNumber::TooLarge,
+            105,
+            "a number over 9223372036854775807",
+        ),
+        (TextNumber::TooLong, 106, "the text is too long"),
+        (TextNumber::BadNumber, 121, "no number of the input"),
+        (
+            TextNumber::TooManyNumbers,
+            122,
+            "too many numbers in the input",
+        ),
+    ];
+    for (fault, number, text) in cases {
+        assert_eq!(rt; fault.number(), number, "{text}");
+        assert_eq!(rt; format!(in alloc; "{fault}")?.as_str(), text);
+        let placed = TextFault::At(fault, 7);
+        let whole = format!(in alloc; "{text} at byte 7")?;
+        assert_eq!(rt; format!(in alloc; "{placed}")?.as_str(), whole.as_str());
+    }
+    assert_eq!(rt;
+        format!(in alloc; "{}", TextFault::Memory)?.as_str(),
+        "no memory"
+    );
+    Ok(())
+}
+
+#[test]
+fn faults_of_names(rt: HostRuntime) -> Result<(), AllocError> {
+    let alloc = rt.alloc();
+    let cases = [
+        (NameNumber::Unknown, 111, "an unknown name"),
+        (
+            NameNumber::DeclaredTwice,
+            112,
+            "a name that is declared twice in a scope",
+        ),
+        (NameNumber::WrongCount, 113, "a wrong count of arguments"),
+        (NameNumber::WrongKind, 114, "a name of the wrong kind"),
+        (NameNumber::NoMain, 115, "no `int main` without parameters"),
+        (
+            NameNumber::ReturnInLoop,
+            116,
+            "a `return` inside a `cilk_for`",
+        ),
+        (
+            NameNumber::LoopVariable,
+            117,
+            "a `cilk_for`'s variable that is written",
+        ),
+        (
+            NameNumber::ReducerNotFirst,
+            118,
+            "a reducer that isn't first in a function's body",
+        ),
+        (NameNumber::OverLimit, 119, "past a limit of a program"),
+    ];
+    for (fault, number, text) in cases {
+        assert_eq!(rt; fault.number(), number, "{text}");
+        assert_eq!(rt; format!(in alloc; "{fault}")?.as_str(), text);
+        let placed = NameFault::At(fault, 7);
+        let whole = format!(in alloc; "{text} at byte 7")?;
+        assert_eq!(rt; format!(in alloc; "{placed}")?.as_str(), whole.as_str());
+    }
+    assert_eq!(rt;
+        format!(in alloc; "{}", NameFault::Memory)?.as_str(),
+        "no memory"
+    );
+    Ok(())
+}
+
+#[test]
+fn faults_of_runs(rt: HostRuntime) -> Result<(), AllocError> {
+    let alloc = rt.alloc();
+    let cases = [
+        (Fault::DivisionByZero, 201, "division by zero"),
+        (Fault::IndexOutside, 202, "index outside the array"),
+        (Fault::InputOutside, 203, "input place outside"),
+        (Fault::TooManyEvents, 204, "too many events or ticks"),
+        (Fault::TooManyFrames, 205, "too many frames"),
+        (Fault::TooManyCells, 206, "too many cells"),
+    ];
+    for (fault, number, text) in cases {
+        assert_eq!(rt; fault.number(), number, "{text}");
+        assert_eq!(rt; format!(in alloc; "{fault}")?.as_str(), text);
+        let placed = RunFault::At { fault, at: 7 };
+        let whole = format!(in alloc; "{text} at 7")?;
+        assert_eq!(rt; format!(in alloc; "{placed}")?.as_str(), whole.as_str());
+    }
+    assert_eq!(rt;
+        format!(in alloc; "{}", RunFault::Memory)?.as_str(),
+        "no memory"
+    );
+    Ok(())
+}
+
+#[test]
+fn faults_of_certificates(rt: HostRuntime) -> Result<(), AllocError> {
+    let alloc = rt.alloc();
+    let cases = [
+        (
+            CertFault::Malformed { line: 7 },
+            301,
+            "malformed certificate at line 7",
+        ),
+        (
+            CertFault::Truncated { line: 7 },
+            302,
+            "truncated certificate at line 7",
+        ),
+        (CertFault::Memory, 401, "out of memory"),
+    ];
+    for (fault, number, text) in cases {
+        assert_eq!(rt; fault.number(), number, "{text}");
+        assert_eq!(rt; format!(in alloc; "{fault}")?.as_str(), text);
+    }
+    Ok(())
+}
+
+#[test]
+fn faults_of_devices(rt: HostRuntime) -> Result<(), AllocError> {
+    let alloc = rt.alloc();
+    assert_eq!(rt;
+        format!(in alloc; "{}", FileFault::Device)?.as_str(),
+        "cannot read"
+    );
+    assert_eq!(rt;
+        format!(in alloc; "{}", FileFault::Memory)?.as_str(),
+        "no memory"
+    );
+    assert_eq!(rt;
+        format!(in alloc; "{}", ReadFault::Device)?.as_str(),
+        "cannot read"
+    );
+    assert_eq!(rt;
+        format!(in alloc; "{}", ReadFault::Memory)?.as_str(),
+        "no memory"
+    );
+    Ok(())
+}

@@ -1,0 +1,165 @@
+//! Words, files and streams: which are read, and how a fault of a device shows.
+
+use crate::served::{Broken, Ended, Torn, short_writer, shown, status_of};
+use std::alloc::Global;
+
+/// A program text that prints two lines.
+const TWO_LINES: &[u8] = b"int main(){print(7);return 0;}";
+
+/// A call without words, over a text on standard input.
+fn on_standard_input(alloc: Global, text: &str) -> Ended {
+    shown(alloc, &[], b"", b"", &mut text.as_bytes())
+}
+
+#[test]
+fn a_program_on_standard_input(rt: HostRuntime) {
+    let cases: [(&str, u8, &str, &str); 6] = [
+        ("int main(){return 0;}", 0, "result 0\n", ""),
+        ("int main(){print(7);return 0;}", 0, "7\nresult 0\n", ""),
+        (
+            "int main(){return 9223372036854775808;}",
+            2,
+            "",
+            "program 105 at 18\n",
+        ),
+        ("", 2, "", "program 115 at 0\n"),
+        ("int main(){return 1/0;}", 3, "", "fault 201 at 2\n"),
+        ("int main(){return 0;", 2, "", "program 103 at 20\n"),
+    ];
+    for (text, status, out, err) in cases {
+        assert!(rt;
+            on_standard_input(rt.alloc(), text).is(status, out, err),
+            "{text}"
+        );
+    }
+}
+
+#[test]
+fn standard_input_that_fails(rt: HostRuntime) {
+    assert!(rt; shown(rt.alloc(), &[], b"", b"", &mut Broken).is(2, "", "cannot read -\n"));
+    for count in 0..TWO_LINES.len() {
+        let mut torn = Torn {
+            rest: &TWO_LINES[..count],
+        };
+        let answer = shown(rt.alloc(), &[], b"", b"", &mut torn);
+        assert!(rt; answer.is(2, "", "cannot read -\n"), "after {count} bytes");
+    }
+}
+
+#[test]
+fn standard_output_that_fails_at_each_byte(rt: HostRuntime) {
+    let whole = b"7\nresult 0\n".as_slice();
+    for room in 0..11 {
+        for fails in [true, false] {
+            let mut out = short_writer(rt.alloc(), room, fails);
+            let mut err = Vec::new(rt.alloc());
+            let ended = status_of(rt.alloc(), &mut &*TWO_LINES, &mut out, &mut err);
+            assert_eq!(rt; ended, 2, "after {room} bytes");
+            assert!(rt; whole.starts_with(out.taken.as_slice()) && out.taken.len() == room);
+            assert!(rt;
+                err.as_slice() == b"cannot write\n".as_slice(),
+                "after {room} bytes"
+            );
+        }
+    }
+}
+
+#[test]
+fn standard_output_that_takes_one_byte_at_a_time(rt: HostRuntime) {
+    let mut out = short_writer(rt.alloc(), 1000, true);
+    let mut err = Vec::new(rt.alloc());
+    assert_eq!(rt;
+        status_of(rt.alloc(), &mut &*TWO_LINES, &mut out, &mut err),
+        0
+    );
+    assert!(rt; out.taken.as_slice() == b"7\nresult 0\n".as_slice() && err.is_empty());
+}
+
+#[test]
+fn standard_error_that_fails_changes_no_status(rt: HostRuntime) {
+    let cases: [(&str, u8, &str); 3] = [
+        ("int main(){return 1/0;}", 3, "fault 201 at 2\n"),
+        ("int main(){", 2, "program 103 at 11\n"),
+        ("int main(){return 0;}", 0, ""),
+    ];
+    for (text, status, told) in cases {
+        for room in [0, 3, 1000] {
+            let mut err = short_writer(rt.alloc(), room, true);
+            let mut out = Vec::new(rt.alloc());
+            let ended = status_of(rt.alloc(), &mut text.as_bytes(), &mut out, &mut err);
+            assert_eq!(rt; ended, status, "{text}");
+            let taken = room.min(told.len());
+            assert!(rt; err.taken.len() == taken, "{text}");
+            assert!(rt; told.as_bytes().starts_with(err.taken.as_slice()), "{text}");
+        }
+    }
+}
+
+#[test]
+fn files_by_path(rt: HostRuntime) {
+    let sound = "int main(){return input_count();}";
+    let bad = "int main(){return x;}";
+    let cases: [(&str, &[&str], u8, u64, &str, &str); 6] = [
+        (sound, &["run", "program"], 0, 1, "result 0\n", ""),
+        (
+            sound,
+            &["run", "program", "--input", "input"],
+            2,
+            2,
+            "",
+            "input 121 at 2\n",
+        ),
+        (sound, &["run", "nosuch"], 2, 1, "", "cannot read nosuch\n"),
+        (
+            sound,
+            &["run", "--input=no/such", "program"],
+            2,
+            2,
+            "",
+            "cannot read no/such\n",
+        ),
+        (
+            bad,
+            &["run", "program", "--input", "nosuch"],
+            2,
+            1,
+            "",
+            "program 111 at 18\n",
+        ),
+        (sound, &["run", "-"], 2, 1, "", "cannot read -\n"),
+    ];
+    for (program, words, status, reads, out, err) in cases {
+        let answer = shown(rt.alloc(), words, program.as_bytes(), b"4 x", &mut Broken);
+        assert!(rt; answer.is(status, out, err), "{words:?}");
+        assert_eq!(rt; answer.reads, reads, "{words:?}");
+    }
+}
+
+#[test]
+fn words_that_are_no_command(rt: HostRuntime) {
+    let cases: [&[&str]; 8] = [
+        &["walk", "program"],
+        &["run"],
+        &["run", "program", "program"],
+        &["run", "program", "--input"],
+        &["run", "program", "--workers", "2"],
+        &["--help"],
+        &["run", "--help"],
+        &["help"],
+    ];
+    for words in cases {
+        let answer = shown(
+            rt.alloc(),
+            words,
+            b"int main(){return 0;}",
+            b"",
+            &mut Broken,
+        );
+        assert_eq!(rt; answer.status, 2, "{words:?}");
+        assert!(rt;
+            answer.out.is_empty() && !answer.err.is_empty(),
+            "{words:?}"
+        );
+        assert_eq!(rt; answer.reads, 0, "{words:?}");
+    }
+}

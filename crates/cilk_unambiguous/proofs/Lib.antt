@@ -1,0 +1,10 @@
+pub mod Tokens
+pub mod Reading
+pub mod Parts
+pub mod Declarations
+pub mod Statements
+pub mod Items
+pub mod Prefixes
+pub mod Inputs
+pub mod Lexical
+pub mod Texts

@@ -1,0 +1,5 @@
+pub mod Reducers
+pub mod Worlds
+pub mod Machine
+pub mod Views
+pub mod Steps
