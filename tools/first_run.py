@@ -6,10 +6,12 @@ first_run.py unproved WORD ..   runs the program on these words with nothing pro
 """
 
 import os
+import queue
 import re
 import shutil
 import subprocess
 import sys
+import threading
 import time
 
 TOP = os.path.dirname(os.path.dirname(os.path.realpath(__file__)))
@@ -85,6 +87,26 @@ class Progress:
             tell(self.text())
 
 
+def lines_of(stream):
+    """The lines of a stream as they come, and an empty one for each second without a line."""
+    heard = queue.SimpleQueue()
+
+    def listen():
+        for line in stream:
+            heard.put(line)
+        heard.put(None)
+
+    threading.Thread(target=listen, daemon=True).start()
+    while True:
+        try:
+            line = heard.get(timeout=1.0)
+        except queue.Empty:
+            line = ""
+        if line is None:
+            return
+        yield line
+
+
 def build():
     if not has_rt():
         return 1
@@ -96,10 +118,11 @@ def build():
     with open(LOG, "w", encoding="utf-8") as log:
         how = {"cwd": CRATE, "stdin": subprocess.DEVNULL, "stdout": subprocess.PIPE, "stderr": subprocess.STDOUT}
         with subprocess.Popen(["rt", "run"], text=True, errors="replace", **how) as work:
-            for line in work.stdout:
-                log.write(line)
-                log.flush()
-                progress.read(line)
+            for line in lines_of(work.stdout):
+                if line:
+                    log.write(line)
+                    log.flush()
+                    progress.read(line)
                 progress.show()
     if sys.stderr.isatty():
         print(file=sys.stderr)
