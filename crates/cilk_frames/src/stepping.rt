@@ -38,6 +38,7 @@ pub fn step(code: &Code, input: &Input, cursor: &mut Cursor, answer: Answer, lef
 }
 
 /// The step of [`step`], which leaves what the frame asks for in a place of the caller's.
+#[inline(always)]
 pub fn step_into(
     code: &Code,
     input: &Input,

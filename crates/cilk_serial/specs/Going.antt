@@ -12,6 +12,8 @@ use Rattle.cilk_lower.specs.Code.{CodeView}
 use Rattle.cilk_lower.specs.declared.code.Owed.TheVariants.{Nothing}
 use Rattle.cilk_frames.specs.Following.{Asking, Stands}
 use Rattle.cilk_serial.specs.declared.activation.Activation.{Activation}
+use Rattle.cilk_serial.specs.declared.running.Halt.{Halt}
+use Rattle.cilk_serial.specs.declared.running.Halt.TheVariants as halts
 use Rattle.cilk_serial.specs.declared.running.Running.{Running}
 use Rattle.cilk_serial.specs.declared.running.Step.{Step}
 use Rattle.cilk_serial.specs.declared.running.Step.TheVariants as steps
@@ -89,11 +91,20 @@ IsAllowed p s k = (m : Memory) → Shows s m → refused p m k ≡ None
 abbrev pub IsLonger : State → State → Type 0
 IsLonger s s' = (e : Event) × (s'.events.items ≡ s.events.items ++ e ∷ [])
 
+-- further events
+abbrev pub IsLater : State → State → Type 0
+IsLater s s' = (more : List Event) × (s'.events.items ≡ s.events.items ++ more)
+
 -- what a step comes to
 abbrev pub Progresses : CodeView → Source → List ℤ → Running → Step → Running → Type 0
 Progresses code p inputs r steps.Made r' = Going code p inputs r' × IsLonger r.state r'.state
 Progresses code p inputs r (steps.Last v) r' = HasEnded p inputs r'.state v × IsLonger r.state r'.state
 Progresses code p inputs r (steps.Stops f) r' = (r' ≡ r) × StopsAfter p inputs r.state.events.items f
+
+-- how a run halts
+abbrev pub Halts : CodeView → Source → List ℤ → Running → Halt → Type 0
+Halts code p inputs r (halts.Ended v) = HasEnded p inputs r.state v
+Halts code p inputs r (halts.Stopped f) = Going code p inputs r × StopsAfter p inputs r.state.events.items f
 
 -- what a run keeps true, as far as it has come
 abbrev pub Keeps : CodeView → Source → List ℤ → Running → Stage → Type 0

@@ -111,3 +111,15 @@ abbrev pub Comes : RunView → Next → RunView → Type 0
 Comes v (next.Made e) v' = MakesNext v e v'
 Comes v next.Ended v' = EndsNext v v'
 Comes v (next.Stops fault) v' = StopsNext v fault v'
+
+-- a run halts here: it is over, or stops by a fault
+abbrev pub HaltsHere : RunView → Option Fault → Type 0
+HaltsHere v None = EndsNext v v
+HaltsHere v (Some fault) = StopsNext v fault v
+
+-- the events that were left are made, up to the end or a fault
+pub record MakesRest (v : RunView) (fault : Option Fault) (v' : RunView) : Type 0 where
+  pub program : v'.program ≡ v.program
+  pub inputs : v'.inputs ≡ v.inputs
+  pub later : (more : List Event) × (v'.events ≡ v.events ++ more)
+  pub halts : HaltsHere v' fault

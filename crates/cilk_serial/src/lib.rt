@@ -3,8 +3,8 @@
 //! [`serial_run::SerialRun`] makes the run event by event: it drives [`cilk_frames::stepping::step_into`] over one store of
 //! cells, one hypermap and a stack of frames. A child runs where it is called or spawned, and its parent waits below
 //! it. Nothing recurses on the depth of the run, and no list is scanned for an event: a frame knows its first cell, the
-//! reducers that it was given, and by a static link the frame that its body stands in. [`run::run`] is the loop over
-//! it, to the end.
+//! reducers that it was given, and by a static link the frame that its body stands in. [`run::run`] makes it to the
+//! end.
 //!
 //! The answer is the one that the program's definitions say: the outcome is that of the serial elision, the trace is
 //! that of the serial run, and a fault comes with the position in whose place it stands. On the way the events so far

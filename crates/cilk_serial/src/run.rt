@@ -6,7 +6,7 @@ ghost use Rattle.cilk_program.specs.Sources.{source};
 ghost use Rattle.cilk_serial.specs.Ran.{Ran, IsRunFault};
 
 use crate::fault::RunFault;
-use crate::serial_run::{Next, SerialRun};
+use crate::serial_run::SerialRun;
 use cilk_lower::lower::lower;
 use cilk_program::program::Program;
 use cilk_types::event::{Event, Pos};
@@ -23,14 +23,11 @@ pub fn run(alloc: Global, program: &Program, input: &Input) -> Result<(Outcome, 
 {
     let code = lower(alloc, program)?;
     let mut serial = SerialRun::new(alloc, program, &code, input)?;
-    'each: loop {
-        match serial.next()? {
-            Next::Made(_) => {}
-            Next::Ended => return Ok(serial.finish()?),
-            Next::Stops(fault) => {
-                let at = next_position(serial.events());
-                return Err(RunFault::At { fault, at });
-            }
+    match serial.complete()? {
+        None => Ok(serial.finish()?),
+        Some(fault) => {
+            let at = next_position(serial.events());
+            Err(RunFault::At { fault, at })
         }
     }
 }

@@ -6,7 +6,7 @@ ghost use Rattle.cilk_program.specs.SerialRun.{cells_of};
 ghost use Rattle.cilk_program.specs.declared.ask.Ask.TheVariants.{End};
 ghost use Rattle.cilk_lower.specs.Behaves.{Behaves};
 ghost use Rattle.cilk_frames.specs.Following.{child_of};
-ghost use Rattle.cilk_serial.specs.Going.{Going, IsAllowed, IsLonger, Progresses};
+ghost use Rattle.cilk_serial.specs.Going.{Going, Halts, IsAllowed, IsLater, IsLonger, Progresses};
 
 use crate::activation::Activation;
 use crate::answer::{Told, answer};
@@ -51,6 +51,15 @@ pub enum Step {
     Stops(Fault),
 }
 
+/// How a run halts.
+#[derive(Clone, Copy)]
+pub enum Halt {
+    /// The main function has ended with this result.
+    Ended(i64),
+    /// A fault stands in place of the next event.
+    Stopped(Fault),
+}
+
 impl Running {
     /// The root's frame, before it begins.
     pub fn new(alloc: Global, program: &Program, code: &Code) -> Result<Running, AllocError>
@@ -76,7 +85,8 @@ impl Running {
         })
     }
 
-    /// Makes the next event, if no fault stands in its place.
+    /// Makes the next event, if no fault stands in its place. A step that a call gives is taken out of its result, so that
+    /// what all others come to stays in registers.
     #[inline(always)]
     pub fn step(
         &mut self,
@@ -92,7 +102,8 @@ impl Running {
             return Ok(Step::Stops(fault_when_full(&self.ask)));
         }
         let Some(ask) = self.ask.brief() else {
-            return self.invoke(alloc, program, code);
+            let step = self.invoke(alloc, program, code)?;
+            return Ok(step);
         };
         match answer(alloc, &mut self.state, &self.top, &self.below, ask)? {
             Told::Goes(told) => {
@@ -106,9 +117,36 @@ impl Running {
                 );
                 Ok(Step::Made)
             }
-            Told::Invokes => self.invoke(alloc, program, code),
-            Told::Ends(result) => self.end(program, code, input, result),
+            Told::Invokes => {
+                let step = self.invoke(alloc, program, code)?;
+                Ok(step)
+            }
+            Told::Ends(result) => {
+                let step = self.end(program, code, input, result)?;
+                Ok(step)
+            }
             Told::Stops(fault) => Ok(Step::Stops(fault)),
+        }
+    }
+
+    /// Makes the events that are left, up to the end or a fault.
+    pub fn complete(
+        &mut self,
+        alloc: Global,
+        program: &Program,
+        code: &Code,
+        input: &Input,
+    ) -> Result<Halt, AllocError>
+        requires { Going code.now (source program.now) input.now self.old }
+        ensures halts { IfOk result (λ halt. Halts code.now (source program.now) input.now self.new halt) }
+        ensures later { OnOk result (IsLater self.old.state self.new.state) }
+    {
+        'each: loop {
+            match self.step(alloc, program, code, input)? {
+                Step::Made => {}
+                Step::Last(result) => return Ok(Halt::Ended(result)),
+                Step::Stops(fault) => return Ok(Halt::Stopped(fault)),
+            }
         }
     }
 

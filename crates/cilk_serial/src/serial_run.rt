@@ -4,12 +4,12 @@ ghost use Rattle.std.specs.Prelude.{◌≡◌, [], IfOk, OnOk, OnErr};
 ghost use Rattle.cilk_program.specs.Sources.{source};
 ghost use Rattle.cilk_lower.specs.Behaves.{Behaves};
 ghost use Rattle.cilk_serial.specs.Ran.{Ran};
-ghost use Rattle.cilk_serial.specs.SoFar.{BeginsNext, Comes, IsIntact, IsOver, IsSoFar};
+ghost use Rattle.cilk_serial.specs.SoFar.{BeginsNext, Comes, IsIntact, IsOver, IsSoFar, MakesRest};
 ghost use Rattle.cilk_serial.specs.declared.serial_run.Stage.TheVariants.{Going, Failed};
 
 use crate::callee::callee_asked;
 use crate::outcome::outcome;
-use crate::running::{Running, Step};
+use crate::running::{Halt, Running, Step};
 use cilk_lower::code::Code;
 use cilk_program::ask::Callee;
 use cilk_program::program::Program;
@@ -119,6 +119,35 @@ impl<'a> SerialRun<'a> {
                 self.stage = Stage::Failed;
                 Err(error)
             }
+        }
+    }
+
+    /// Makes the events that are left, and gives the fault in place of another event if one stopped the run. Once the run
+    /// has ended, or a fault stands in place of the next event, each further call says so again. Where memory is refused,
+    /// this call and each further one fail. Cost: linear in the ticks.
+    pub fn complete(&mut self) -> Result<Option<Fault>, AllocError>
+        ensures ok { IfOk result (λ fault. MakesRest self.old fault self.new) }
+        ensures err { OnErr result (self.new.stage ≡ Failed) }
+        ensures intact { OnOk result (IsIntact self.old.stage) }
+    {
+        match self.stage {
+            Stage::Going => {}
+            Stage::Ended(_) => return Ok(None),
+            Stage::Failed => return Err(AllocError),
+        }
+        let Ok(halt) = self
+            .running
+            .complete(self.alloc, self.program, self.code, self.input)
+        else {
+            self.stage = Stage::Failed;
+            return Err(AllocError);
+        };
+        match halt {
+            Halt::Ended(result) => {
+                self.stage = Stage::Ended(result);
+                Ok(None)
+            }
+            Halt::Stopped(fault) => Ok(Some(fault)),
         }
     }
 

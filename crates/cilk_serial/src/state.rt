@@ -43,7 +43,7 @@ impl State {
         ensures done { IfOk result (λ a. a ≡ answers.Done) }
         ensures makes { OnOk result (Makes self.old self.new (λ m. pos 0) (pos 0) (λ m. event) (λ m. m.store)) }
     {
-        self.events.push(event)?;
+        add_event(&mut self.events, event)?;
         Ok(Answer::Done)
     }
 
@@ -56,7 +56,7 @@ impl State {
     {
         let cells = self.cells.as_slice();
         let value = value_at(cells, cell);
-        self.events.push(Event::Read { cell, value })?;
+        add_event(&mut self.events, Event::Read { cell, value })?;
         Ok(Answer::Value(value))
     }
 
@@ -67,7 +67,7 @@ impl State {
         ensures done { IfOk result (λ a. a ≡ answers.Done) }
         ensures makes { OnOk result (Makes self.old self.new (λ m. pos 0) (pos 0) (λ m. events.Write cell value) (λ m. put cell value m.store)) }
     {
-        self.events.push(Event::Write { cell, value })?;
+        add_event(&mut self.events, Event::Write { cell, value })?;
         self.cells[cell as usize] = value;
         Ok(Answer::Done)
     }
@@ -83,7 +83,7 @@ impl State {
         ensures done { IfOk result (λ a. a ≡ answers.Done) }
         ensures makes { OnOk result (Makes self.old self.new (λ m. pos 0) (pos 0) (λ m. events.Create instance) (λ m. clear same_instance kind instance m.store)) }
     {
-        self.events.push(Event::Create { instance })?;
+        add_event(&mut self.events, Event::Create { instance })?;
         self.views.create(alloc, instance, kind)?;
         Ok(Answer::Done)
     }
@@ -100,7 +100,7 @@ impl State {
         ensures done { IfOk result (λ a. a ≡ answers.Done) }
         ensures makes { OnOk result (Makes self.old self.new (λ m. pos 0) (pos 0) (λ m. events.Update instance value) (λ m. update same_instance kind instance value m.store)) }
     {
-        self.events.push(Event::Update { instance, value })?;
+        add_event(&mut self.events, Event::Update { instance, value })?;
         self.views.update(alloc, instance, kind, value)?;
         Ok(Answer::Done)
     }
@@ -117,7 +117,7 @@ impl State {
         ensures done { IfOk result (λ a. a ≡ answers.Done) }
         ensures makes { OnOk result (Makes self.old self.new (λ m. pos 0) (pos 0) (λ m. events.Set instance value) (λ m. set same_instance kind instance value m.store)) }
     {
-        self.events.push(Event::Set { instance, value })?;
+        add_event(&mut self.events, Event::Set { instance, value })?;
         self.views.set(alloc, instance, kind, value)?;
         Ok(Answer::Done)
     }
@@ -134,7 +134,7 @@ impl State {
         ensures makes { IfOk result (λ a. Makes self.old self.new (λ m. number_at kind instance m.store) (word_in a) (λ m. events.Value instance (number_at kind instance m.store)) (λ m. m.store)) }
     {
         let value = self.views.value(alloc, instance, kind)?;
-        self.events.push(Event::Value { instance, value })?;
+        add_event(&mut self.events, Event::Value { instance, value })?;
         Ok(Answer::Value(value))
     }
 
@@ -145,7 +145,7 @@ impl State {
         ensures makes { OnOk result (Makes self.old self.new (λ m. pos 0) (pos 0) (λ m. events.Print value) (λ m. print value m.store)) }
     {
         self.output.push(value)?;
-        self.events.push(Event::Print { value })?;
+        add_event(&mut self.events, Event::Print { value })?;
         Ok(Answer::Done)
     }
 
@@ -164,10 +164,11 @@ impl State {
     {
         self.frames += 1;
         let child = self.frames;
-        self.events.push(match how {
+        let event = match how {
             Invocation::Call => Event::Call { child },
             Invocation::Spawn => Event::Spawn { child },
-        })?;
+        };
+        add_event(&mut self.events, event)?;
         self.extend(cells)
     }
 
@@ -180,6 +181,18 @@ impl State {
         }
         Ok(())
     }
+}
+
+// One event more. Most events find room, so this is no call.
+#[inline(always)]
+fn add_event(events: &mut Vec<Event>, event: Event) -> Result<(), AllocError>
+    ensures { OnOk result (events.new.items ≡ events.old.items ++ event ∷ []) }
+{
+    if events.len() >= events.capacity() {
+        events.reserve(1)?;
+    }
+    events.push_reserved(event);
+    Ok(())
 }
 
 // The value of a cell.

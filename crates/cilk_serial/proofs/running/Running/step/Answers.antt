@@ -1,4 +1,4 @@
-use Rattle.std.proofs.Common.{IfOk, length, refl, sym, ap, subst, ◌∙◌, w64, SFits, rules}
+use Rattle.std.proofs.Common.{length, refl, sym, ap, subst, ◌∙◌, w64, SFits, rules}
 use Rattle.std.proofs.lemmas.Int.{to_z-of_z}
 use Rattle.cilk_program.specs.declared.ask.Ask.TheVariants.{End}
 use Rattle.cilk_program.specs.Sources.{source}
@@ -22,7 +22,7 @@ returns-then-is_full c =
     )
 
 pub returns-in_default : goal.returns-in_default
-returns-in_default c = c.invoke.ensures c.args.input.now c.requires
+returns-in_default c = c.in_ok-step.ensures c.args.input.now c.requires
 
 pub answer-requires-clause-there : goal.answer-requires-clause-there
 answer-requires-clause-there c =
@@ -76,14 +76,14 @@ invoke-requires-in-Invokes-clause-begins c =
     let told = told_as p g.frame r.state c.answer.new.state r.ask (in_full c.in-Some.ask.now) c.in_ok-told.field-0 (Invokes) c.in-Some.ensures c.in-Invokes.is (c.in_ok-told.ensures p g.frame g.parents (going_seen _ _ _ _ g)) in
     told.1
 
-pub returns-in-Invokes : goal.returns-in-Invokes
-returns-in-Invokes c =
+pub returns-in_ok-step-in-Invokes : goal.returns-in_ok-step-in-Invokes
+returns-in_ok-step-in-Invokes c =
     let p = source c.args.program.now in
     let r = c.args.self.now in
     let g = c.requires in
     let told = told_as p g.frame r.state c.answer.new.state r.ask (in_full c.in-Some.ask.now) c.in_ok-told.field-0 (Invokes) c.in-Some.ensures c.in-Invokes.is (c.in_ok-told.ensures p g.frame g.parents (going_seen _ _ _ _ g)) in
-    subst (λ (s : State). IfOk c.invoke-in-Invokes.result (λ step. Progresses c.args.code.now p c.args.input.now (record { state = s; below = r.below; top = r.top; ask = r.ask; left = r.left }) step c.invoke-in-Invokes.new.self)) told.0
-    (c.invoke-in-Invokes.ensures c.args.input.now (subst (λ (s : State). Going c.args.code.now p c.args.input.now (record { state = s; below = r.below; top = r.top; ask = r.ask; left = r.left })) (sym told.0) g))
+    subst (λ (s : State). Progresses c.args.code.now p c.args.input.now (record { state = s; below = r.below; top = r.top; ask = r.ask; left = r.left }) c.in_ok-step-in-Invokes.step c.invoke-in-Invokes.new.self) told.0
+    (c.in_ok-step-in-Invokes.ensures c.args.input.now (subst (λ (s : State). Going c.args.code.now p c.args.input.now (record { state = s; below = r.below; top = r.top; ask = r.ask; left = r.left })) (sym told.0) g))
 
 pub end-requires-clause-going : goal.end-requires-clause-going
 end-requires-clause-going c =
@@ -110,13 +110,13 @@ end-requires-clause-ends c =
     let fits : SFits w64 c.in-Ends.result = search rules in
     told.1 ∙ ap End (sym (to_z-of_z w64 c.in-Ends.result fits))
 
-pub returns-in-Ends : goal.returns-in-Ends
-returns-in-Ends c =
+pub returns-in_ok-step-in-Ends : goal.returns-in_ok-step-in-Ends
+returns-in_ok-step-in-Ends c =
     let p = source c.args.program.now in
     let r = c.args.self.now in
     let g = c.requires in
     let told = told_as p g.frame r.state c.answer.new.state r.ask (in_full c.in-Some.ask.now) c.in_ok-told.field-0 (Ends c.in-Ends.result) c.in-Some.ensures c.in-Ends.is (c.in_ok-told.ensures p g.frame g.parents (going_seen _ _ _ _ g)) in
-    subst (λ (s : State). IfOk c.end.result (λ step. Progresses c.args.code.now p c.args.input.now (record { state = s; below = r.below; top = r.top; ask = r.ask; left = r.left }) step c.end.new.self)) told.0 c.end.ensures
+    subst (λ (s : State). Progresses c.args.code.now p c.args.input.now (record { state = s; below = r.below; top = r.top; ask = r.ask; left = r.left }) c.in_ok-step-in-Ends.step c.end.new.self) told.0 c.in_ok-step-in-Ends.ensures
 
 pub returns-in-Stops : goal.returns-in-Stops
 returns-in-Stops c =

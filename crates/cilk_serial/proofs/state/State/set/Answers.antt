@@ -8,10 +8,10 @@ use Rattle.cilk_serial.proofs.state.State.set.Goals as goal
 pub returns-clause-makes : goal.returns-clause-makes
 returns-clause-makes c =
     let old = c.args.self.now in
-    let new : State = record { cells = old.cells; views = c.set.new.self; output = old.output; events = c.push.new.self; frames = old.frames } in
+    let new : State = record { cells = old.cells; views = c.set.new.self; output = old.output; events = c.add_event.new.events; frames = old.frames } in
     let same = to_z-of_z w64 c.args.value c.ranges.value in
     λ m h. (
       refl,
       event_is old new (events.Set c.args.instance (to_z w64 (of_z w64 c.args.value))) (events.Set c.args.instance c.args.value) _ (ap (events.Set c.args.instance) same)
-          (sets old new (events.Set c.args.instance (to_z w64 (of_z w64 c.args.value))) c.args.kind c.args.instance (to_z w64 (of_z w64 c.args.value)) c.args.value m h refl refl refl c.in_ok-push.ensures.items same c.in_ok-set.ensures.ok),
+          (sets old new (events.Set c.args.instance (to_z w64 (of_z w64 c.args.value))) c.args.kind c.args.instance (to_z w64 (of_z w64 c.args.value)) c.args.value m h refl refl refl c.in_ok-add_event.ensures same c.in_ok-set.ensures.ok),
     )

@@ -7,8 +7,8 @@ use Rattle.cilk_serial.proofs.state.State.value.Goals as goal
 pub returns-clause-makes : goal.returns-clause-makes
 returns-clause-makes c =
     let old = c.args.self.now in
-    let new : State = record { cells = old.cells; views = c.value.new.self; output = old.output; events = c.push.new.self; frames = old.frames } in
+    let new : State = record { cells = old.cells; views = c.value.new.self; output = old.output; events = c.add_event.new.events; frames = old.frames } in
     let v = c.in_ok-value.value in
     let fits : SFits w64 v = search rules in
     let same = to_z-of_z w64 v fits in
-    λ m h. view_tells old new c.args.kind c.args.instance v (to_z w64 (of_z w64 v)) m h refl refl refl same c.in_ok-value.ensures.number c.in_ok-push.ensures.items c.in_ok-value.ensures.ok
+    λ m h. view_tells old new c.args.kind c.args.instance v (to_z w64 (of_z w64 v)) m h refl refl refl same c.in_ok-value.ensures.number c.in_ok-add_event.ensures c.in_ok-value.ensures.ok
