@@ -1,0 +1,4 @@
+pub mod Rows
+pub mod Products
+pub mod Joins
+pub mod Waits

@@ -1,0 +1,53 @@
+//! Merging a piece with its neighbours.
+
+ghost use Rattle.std.specs.Prelude.{◌≡◌, IfOk, IfErr};
+ghost use Rattle.cilk_join.specs.Products.{between, product, run_of};
+
+use cilk_hypermap::hypermap::Hypermap;
+use std::alloc::Global;
+
+/// A piece, and the runs beside it, where there are any.
+#[derive(Drop)]
+pub struct Parts {
+    pub left: Option<Hypermap>,
+    pub piece: Hypermap,
+    pub right: Option<Hypermap>,
+}
+
+/// The product of the three, from left to right. A refused merge gives them back with the same values.
+#[tactic(auto, using(crate::proofs::Products::of_left, crate::proofs::Products::of_right, crate::proofs::Products::of_three, crate::proofs::Products::alone, crate::proofs::Products::kept, crate::proofs::Products::kept_run))]
+pub fn merge(alloc: Global, parts: Parts) -> Result<Hypermap, Parts>
+    ensures ok { IfOk result (λ h. product h ≡ between (run_of parts.left) (product parts.piece) (run_of parts.right)) }
+    ensures left { IfErr result (λ p. run_of p.left ≡ run_of parts.left) }
+    ensures piece { IfErr result (λ p. product p.piece ≡ product parts.piece) }
+    ensures right { IfErr result (λ p. run_of p.right ≡ run_of parts.right) }
+{
+    let Parts { left, piece, right } = parts;
+    match (left, right) {
+        (None, None) => Ok(piece),
+        (Some(left), None) => match Hypermap::merge(alloc, left, piece) {
+            Ok(both) => Ok(both),
+            Err((left, piece)) => Err(Parts {
+                left: Some(left),
+                piece,
+                right: None,
+            }),
+        },
+        (None, Some(right)) => match Hypermap::merge(alloc, piece, right) {
+            Ok(both) => Ok(both),
+            Err((piece, right)) => Err(Parts {
+                left: None,
+                piece,
+                right: Some(right),
+            }),
+        },
+        (Some(left), Some(right)) => match Hypermap::merge3(alloc, left, piece, right) {
+            Ok(all) => Ok(all),
+            Err((left, piece, right)) => Err(Parts {
+                left: Some(left),
+                piece,
+                right: Some(right),
+            }),
+        },
+    }
+}
