@@ -179,10 +179,14 @@ fn with_line(
 
 #[test]
 fn other_lines(rt: HostRuntime) -> Result<(), Fail> {
-    let cases: [(usize, &'static [u8], u32); 15] = [
+    let cases: [(usize, &'static [u8], u32); 19] = [
         (0, b"cilkcert 3", 1),
         (1, b"size 1000001 1 2", 2),
         (1, b"size 1000000 1 2", 9),
+        (1, b"size 3 65537 2", 2),
+        (1, b"size 3 65536 2", 4),
+        (1, b"size 3 1 1000001", 2),
+        (1, b"size 3 1 1000000", 6),
         (1, b"size 2 1 2", 8),
         (1, b"size 3 1 3", 6),
         (1, b"size 3 0 2", 3),
