@@ -1,6 +1,7 @@
 pub mod Acts
 pub mod Arrays
 pub mod Calls
+pub mod Clear
 pub mod Emitted
 pub mod Flows
 pub mod Frames

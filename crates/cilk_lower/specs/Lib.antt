@@ -3,4 +3,5 @@ pub mod Bodies
 pub mod Code
 pub mod Machine
 pub mod Rooms
+pub mod Strands
 pub mod Turns
