@@ -6,6 +6,7 @@ pub mod Emitted
 pub mod Flows
 pub mod Frames
 pub mod Jumps
+pub mod Laid
 pub mod Lands
 pub mod Leads
 pub mod Lists
@@ -14,6 +15,7 @@ pub mod Once
 pub mod Patch
 pub mod Places
 pub mod Rows
+pub mod Silent
 pub mod Standing
 pub mod Ticks
 pub mod Turns
