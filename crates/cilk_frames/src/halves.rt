@@ -1,17 +1,10 @@
 //! The turns of a parallel loop, which a frame halves until it has one.
 
-ghost use Rattle.std.specs.Prelude.{◌≡◌, pos, ◌-ℤ◌};
-ghost use Rattle.std.specs.Ordering.{int_eq};
+ghost use Rattle.std.specs.Prelude.{◌≡◌};
 ghost use Rattle.cilk_program.specs.Behaviour.{middle};
 
+pub use cilk_lower::layout::has_one;
 use cilk_program::ask::LoopPart;
-
-/// Whether there is one turn. The bounds may be so far apart that their distance is no word.
-pub fn has_one(part: LoopPart) -> bool
-    ensures { result ≡ int_eq (part.high -ℤ part.low) (pos 1) }
-{
-    i128::from(part.high) - i128::from(part.low) == 1
-}
 
 /// The first half of the turns, for a frame below this one.
 pub fn first_half(part: LoopPart) -> LoopPart

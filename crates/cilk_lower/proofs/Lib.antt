@@ -1,10 +1,12 @@
 pub mod Acts
 pub mod Arrays
 pub mod Calls
+pub mod Clear
 pub mod Emitted
 pub mod Flows
 pub mod Frames
 pub mod Jumps
+pub mod Laid
 pub mod Lands
 pub mod Leads
 pub mod Lists
@@ -13,6 +15,7 @@ pub mod Once
 pub mod Patch
 pub mod Places
 pub mod Rows
+pub mod Silent
 pub mod Standing
 pub mod Ticks
 pub mod Turns

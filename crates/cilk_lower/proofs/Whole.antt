@@ -11,6 +11,7 @@ use Rattle.cilk_program.specs.WellNamed.{is_well_named}
 use Rattle.cilk_lower.specs.declared.code.Entry.{Entry}
 use Rattle.cilk_lower.specs.declared.code.Instr.{Instr}
 use Rattle.cilk_lower.specs.declared.code.Site.{Site}
+use Rattle.cilk_lower.specs.declared.layout.Layout.{Layout}
 use Rattle.cilk_lower.specs.Behaves.{Behaves}
 use Rattle.cilk_lower.specs.Bodies.{BodyAt, FunctionAt, LoopAt, EachAt, EachFits, FunctionFits, Grows}
 use Rattle.cilk_lower.specs.Code.{CodeView, all_sites, creates_code, function_code}
@@ -50,11 +51,11 @@ module _ (globals : List ℤ) (rs : List GlobalReducer) (fs : List declared_func
           let made = main_next in
           subst (λ g. FunctionAt code2 sites2 entry g) same made.at
 
-      module _ (code3 code4 : List Instr) (sites3 sites4 : List Site) (root : Entry) (es els : List Entry) (fs' : List declared_functions.Function) (ls' : List declared_loops.Loop)
+      module _ (code3 code4 : List Instr) (sites3 sites4 : List Site) (root : Entry) (laid : Layout) (es els : List Entry) (fs' : List declared_functions.Function) (ls' : List declared_loops.Loop)
           (here : root.place ≡ 0) (enough : root.room ≡ entry.room) (fs_are : fs' ≡ fs) (ls_are : ls' ≡ ls)
           (grows3 : Grows code2 sites2 code3 sites3) (grows4 : Grows code3 sites3 code4 sites4) (functions : EachAt (FunctionAt code3 sites3) es fs') (loops : EachAt (LoopAt code4 sites4) els ls') where
         abbrev made : CodeView
-        made = record { instrs = code4; sites = sites4; root = root; functions = es; loops = els }
+        made = record { instrs = code4; sites = sites4; root = root; functions = es; loops = els; layout = laid }
 
         root_last : let g = function f in BodyAt code4 sites4 root (λ k. creates_code reducers.Global 0 (map (λ r. r.kind) rs) ++ function_code k g) g.body
         root_last =

@@ -11,14 +11,17 @@ use Rattle.cilk_lower.specs.declared.code.Entry.{Entry}
 use Rattle.cilk_lower.specs.declared.code.Instr.{Instr}
 use Rattle.cilk_lower.specs.declared.code.Instr.TheVariants as instrs
 use Rattle.cilk_lower.specs.declared.code.Site.{Site}
+use Rattle.cilk_lower.specs.declared.layout.Layout.{Layout}
 
--- the instructions of all bodies, the call sites, and where the frames of the root, of the functions and of the loops begin
+-- the instructions of all bodies, the call sites, where the frames of the root, of the functions and of the loops begin, and
+-- what frames have
 pub record CodeView : Type 0 where
   pub instrs : List Instr
   pub sites : List Site
   pub root : Entry
   pub functions : List Entry
   pub loops : List Entry
+  pub layout : Layout
 
 -- where the frame of a callee begins
 abbrev pub entry_of : CodeView → Callee → Entry

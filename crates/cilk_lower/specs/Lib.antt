@@ -1,6 +1,9 @@
 pub mod Behaves
 pub mod Bodies
 pub mod Code
+pub mod Layout
 pub mod Machine
+pub mod Plain
 pub mod Rooms
+pub mod Strands
 pub mod Turns

@@ -3,6 +3,7 @@
 ghost use Rattle.std.specs.Prelude.{◌≡◌, ◌≢◌, ◌<◌, ◌≤◌, ◌^◌, slice_get, unwrap_or, length, IfSome, MatchOption, None, Some};
 ghost use Rattle.cilk_lower.specs.Code.{ArraysFit, JumpsLand, Lands, ArrayFits, SitesFit, entry_of};
 
+use crate::layout::Layout;
 use cilk_program::ask::Callee;
 use cilk_program::given::References;
 use cilk_program::syntax::{Array, Compound, Invocation, Operator, Place, Reducer};
@@ -112,7 +113,7 @@ pub struct Site {
     pub result: Option<Place>,
 }
 
-/// The instructions of all bodies, the call sites, and where bodies begin.
+/// The instructions of all bodies, the call sites, where bodies begin, and what frames have.
 #[derive(Drop)]
 pub struct Code {
     instrs: Vec<Instr>,
@@ -120,6 +121,7 @@ pub struct Code {
     root: Entry,
     functions: Vec<Entry>,
     loops: Vec<Entry>,
+    layout: Layout,
 }
 
 impl Model for Code {
@@ -127,7 +129,7 @@ impl Model for Code {
 
     ghost Value = { CodeView };
 
-    ghost view = { λ c. record { instrs = c.instrs.items; sites = c.sites.items; root = c.root; functions = c.functions.items; loops = c.loops.items } };
+    ghost view = { λ c. record { instrs = c.instrs.items; sites = c.sites.items; root = c.root; functions = c.functions.items; loops = c.loops.items; layout = c.layout } };
 
     ghost invariant = { λ c. (JumpsLand c.instrs.items × ArraysFit c.instrs.items) × SitesFit c.sites.items };
 }
@@ -140,11 +142,12 @@ impl Code {
         root: Entry,
         functions: Vec<Entry>,
         loops: Vec<Entry>,
+        layout: Layout,
     ) -> Code
         requires jumps { JumpsLand instrs.items }
         requires arrays { ArraysFit instrs.items }
         requires sites_fit { SitesFit sites.items }
-        ensures { result ≡ record { instrs = instrs.items; sites = sites.items; root = root; functions = functions.items; loops = loops.items } }
+        ensures { result ≡ record { instrs = instrs.items; sites = sites.items; root = root; functions = functions.items; loops = loops.items; layout = layout } }
     {
         Code {
             instrs,
@@ -152,7 +155,22 @@ impl Code {
             root,
             functions,
             loops,
+            layout,
         }
+    }
+
+    /// How the program opens, and what each frame has.
+    pub fn layout(&self) -> &Layout
+        ensures { result.now ≡ self.now.layout }
+    {
+        &self.layout
+    }
+
+    /// Whether the program has neither a reducer nor a `print`.
+    pub fn plain(&self) -> bool
+        ensures { result ≡ self.now.layout.plain }
+    {
+        self.layout.plain
     }
 
     /// Where the frame of a callee begins.

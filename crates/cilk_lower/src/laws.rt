@@ -1,7 +1,9 @@
 //! Laws of the machine, each on a function that does nothing.
 
-ghost use Rattle.std.specs.Prelude.{◌≡◌, ℕ, ℤ, List};
-ghost use Rattle.cilk_lower.specs.Machine.{exec, Reaches, Setting};
+ghost use Rattle.std.specs.Prelude.{◌≡◌, ℕ, ℤ, List, Option};
+ghost use Rattle.cilk_lower.specs.Machine.{exec, move, Reaches, Setting};
+ghost use Rattle.cilk_lower.specs.Strands.{IsClear};
+ghost use Rattle.cilk_lower.specs.declared.code.Instr.{Instr};
 ghost use Rattle.cilk_program.specs.Behaviour.{Asked};
 
 /// The machine comes to one ask, however many instructions it is allowed: so code behaves as at most one behaviour.
@@ -11,4 +13,12 @@ pub fn machine_asks_once()
         exec m n place stack held answers left ≡ Reaches a →
         exec m k place stack held answers left ≡ Reaches b →
         a ≡ b }
+{}
+
+/// No operand waits where an instruction asks for a spawn, a call or a sync: so a frame that goes on elsewhere takes
+/// none along.
+#[tactic(auto, using(crate::proofs::Clear::is_clear))]
+pub fn no_operand_waits()
+    ensures { (m : Setting) (i : Option Instr) (place : ℕ) (stack : List ℤ) (held : ℤ) (left : ℕ) →
+        IsClear (move m i place stack held left) }
 {}

@@ -27,6 +27,8 @@ pub mod code;
 mod emitter;
 mod expressions;
 pub mod laws;
+pub mod layout;
 pub mod lower;
+mod plain;
 mod put;
 mod simple;

@@ -2,17 +2,19 @@
 
 ghost use Rattle.std.specs.Prelude.{IfOk};
 ghost use Rattle.cilk_lower.specs.Behaves.{Behaves};
+ghost use Rattle.cilk_lower.specs.Layout.{LaysOut};
 ghost use Rattle.cilk_lower.specs.Rooms.{RoomsFit};
 ghost use Rattle.cilk_program.specs.Sources.{source};
 
 use crate::bodies::{emit_functions, emit_loops, put_globals};
 use crate::code::{Code, Entry};
 use crate::emitter::Emitter;
+use crate::layout::lay_out;
 use cilk_program::program::Program;
 use std::alloc::{AllocError, Global};
 
 /// The code of a program: each of its frames asks what the program's frame asks, and has room for what its deepest expression
-/// needs.
+/// needs. Beside it stand the program's opening values, its global reducers, and the cells and reducers of each frame.
 ///
 /// The main function stands once, behind the instructions with which the global reducers begin: the root's frame begins ahead
 /// of them, and a frame that another function calls begins behind them. The only error is a want of memory. The time is
@@ -20,6 +22,7 @@ use std::alloc::{AllocError, Global};
 pub fn lower(alloc: Global, program: &Program) -> Result<Code, AllocError>
     ensures asks { IfOk result (λ code. Behaves (source program.now) code) }
     ensures rooms { IfOk result (λ code. RoomsFit (source program.now) code) }
+    ensures layout { IfOk result (λ code. LaysOut (source program.now) code.layout) }
 {
     let mut out = Emitter {
         instrs: Vec::new(alloc),
@@ -35,5 +38,6 @@ pub fn lower(alloc: Global, program: &Program) -> Result<Code, AllocError>
         place: 0,
         room: entry.room,
     };
-    Ok(Code::new(out.instrs, out.sites, root, functions, loops))
+    let layout = lay_out(alloc, program)?;
+    Ok(Code::new(out.instrs, out.sites, root, functions, loops, layout))
 }

@@ -46,7 +46,7 @@ returns-clause-asks c =
     let made = c.in_ok-entry.ensures in
     let first = begins c.new.result.items c.put_globals.new.code.items p.reducers.items c.deref.result.now c.new.ensures.items c.deref.ensures.value c.in_ok-put_globals.ensures in
     whole_behaves p.globals p.reducers.items p.functions.items p.loops.items p.main p.well_named c.index.result.now c.index.ensures c.put_globals.new.code.items c.emit_function.new.self.instrs.items c.new-2.result.items c.emit_function.new.self.sites.items c.in_ok-entry.entry first c.new-2.ensures.items made.code made.sites made.place made.room
-    c.emit_functions.new.out.instrs.items c.emit_loops.new.out.instrs.items c.emit_functions.new.out.sites.items c.emit_loops.new.out.sites.items _ c.in_ok-functions.functions.items c.in_ok-loops.loops.items c.deref-2.result.now c.deref-3.result.now refl refl c.deref-2.ensures.value c.deref-3.ensures.value
+    c.emit_functions.new.out.instrs.items c.emit_loops.new.out.instrs.items c.emit_functions.new.out.sites.items c.emit_loops.new.out.sites.items _ c.in_ok-layout.layout c.in_ok-functions.functions.items c.in_ok-loops.loops.items c.deref-2.result.now c.deref-3.result.now refl refl c.deref-2.ensures.value c.deref-3.ensures.value
     c.in_ok-functions.ensures.grows c.in_ok-loops.ensures.grows c.in_ok-functions.ensures.entries c.in_ok-loops.ensures.entries c.new-3.result c.new-3.ensures
 
 pub returns-clause-rooms : goal.returns-clause-rooms
@@ -55,5 +55,5 @@ returns-clause-rooms c =
     let made = c.in_ok-entry.ensures in
     let first = begins c.new.result.items c.put_globals.new.code.items p.reducers.items c.deref.result.now c.new.ensures.items c.deref.ensures.value c.in_ok-put_globals.ensures in
     whole_rooms p.globals p.reducers.items p.functions.items p.loops.items p.main p.well_named c.index.result.now c.index.ensures c.put_globals.new.code.items c.emit_function.new.self.instrs.items c.new-2.result.items c.emit_function.new.self.sites.items c.in_ok-entry.entry first c.new-2.ensures.items made.code made.sites made.place made.room
-    c.emit_functions.new.out.instrs.items c.emit_loops.new.out.instrs.items c.emit_functions.new.out.sites.items c.emit_loops.new.out.sites.items _ c.in_ok-functions.functions.items c.in_ok-loops.loops.items c.deref-2.result.now c.deref-3.result.now refl refl c.deref-2.ensures.value c.deref-3.ensures.value
+    c.emit_functions.new.out.instrs.items c.emit_loops.new.out.instrs.items c.emit_functions.new.out.sites.items c.emit_loops.new.out.sites.items _ c.in_ok-layout.layout c.in_ok-functions.functions.items c.in_ok-loops.loops.items c.deref-2.result.now c.deref-3.result.now refl refl c.deref-2.ensures.value c.deref-3.ensures.value
     c.in_ok-functions.ensures.grows c.in_ok-loops.ensures.grows c.in_ok-functions.ensures.entries c.in_ok-loops.ensures.entries c.new-3.result c.new-3.ensures

@@ -1,0 +1,52 @@
+-- The layout of a program: `map_next` for lists that a loop makes item by item; `function_frame_is` and `loop_cells_are`, what the layout's
+-- lists have at a number; `lays_out`, the layout as a whole.
+use Rattle.std.proofs.Common.{◌≡◌, ℕ, zero, suc, ◌+◌, ◌<◌, ℤ, pos, ◌-ℤ◌, int_eq, if◌then◌else◌, map, List, [], ◌∷◌, ◌++◌, length, get_or, take, refl, sym, ap, ◌∙◌}
+use Rattle.std.specs.Prelude.{slice_get, unwrap_or}
+use Rattle.std.proofs.lemmas.List.{take_more, map-append}
+use Rattle.cilk_program.specs.declared.ask.Callee.{Callee}
+use Rattle.cilk_program.specs.declared.ask.Callee.TheVariants as callees
+use Rattle.cilk_program.specs.declared.program.Function as declared_functions
+use Rattle.cilk_program.specs.declared.program.Loop as declared_loops
+use Rattle.cilk_program.specs.declared.program.GlobalReducer.{GlobalReducer}
+use Rattle.cilk_program.specs.Programs.{function, loop, source_of}
+use Rattle.cilk_program.specs.Syntax.{Function, Loop, Source, function_at, loop_at, idle, idle_loop}
+use Rattle.cilk_program.specs.SerialRun.{cells_of, own_reducers}
+use Rattle.cilk_lower.specs.declared.layout.FrameLayout.{FrameLayout}
+use Rattle.cilk_lower.specs.declared.layout.Layout.{Layout}
+use Rattle.cilk_lower.specs.Layout.{LaysOut, bare, cells_in, frame_of, function_frame, reducers_in}
+use Rattle.cilk_lower.specs.Plain.{is_plain}
+
+-- one more item
+pub map_next : {A B : Type 0} (f : A → B) (xs : List A) (i : ℕ) (x : A) (ys ys' : List B) → i < length xs → x ≡ get_or xs i x → ys ≡ map f (take i xs) → ys' ≡ ys ++ f x ∷ [] → ys' ≡ map f (take (i + 1) xs)
+map_next f xs i x ys ys' low is e e' =
+    e' ∙ ap (λ l. l ++ f x ∷ []) e ∙ sym (map-append f (take i xs) (x ∷ [])) ∙ ap (map f) (ap (λ z. take i xs ++ z ∷ []) is ∙ sym (take_more xs i x low))
+
+-- what a list has at a number, if it stands for another
+found : {A B C : Type 0} (f : B → C) (g : A → B) (xs : List A) (k : ℕ) (d : B) → unwrap_or (slice_get (map (λ x. f (g x)) xs) k) (f d) ≡ f (unwrap_or (slice_get (map g xs) k) d)
+found f g [] k d = refl
+found f g (x ∷ xs) zero d = refl
+found f g (x ∷ xs) (suc k) d = found f g xs k d
+
+module _ (globals : List ℤ) (rs : List GlobalReducer) (fs : List declared_functions.Function) (ls : List declared_loops.Loop) (main : ℕ) (l : Layout)
+    (functions : l.functions ≡ map (λ f. frame_of (function f)) fs) (loops : l.loops ≡ map (λ (x : declared_loops.Loop). x.cells) ls) where
+  abbrev p : Source
+  p = source_of globals rs fs ls main
+
+  function_frame_is : (k : ℕ) → function_frame l k ≡ frame_of (function_at p k)
+  function_frame_is k = ap (λ list. unwrap_or (slice_get list k) bare) functions ∙ found frame_of function fs k idle
+
+  loop_cells_are : (k : ℕ) → unwrap_or (slice_get l.loops k) 0 ≡ (loop_at p k).cells
+  loop_cells_are k = ap (λ list. unwrap_or (slice_get list k) 0) loops ∙ found (λ (x : Loop). x.cells) loop ls k idle_loop
+
+  cells_are : l.main ≡ main → (callee : Callee) → cells_in l callee ≡ cells_of p callee
+  cells_are same callees.Root = ap (λ k. (function_frame l k).cells) same ∙ ap (λ (f : FrameLayout). f.cells) (function_frame_is main)
+  cells_are same (callees.Function c) = ap (λ (f : FrameLayout). f.cells) (function_frame_is c.function)
+  cells_are same (callees.Loop part) = ap (λ n. if int_eq (part.high -ℤ part.low) (pos 1) then n else 0) (loop_cells_are part.number)
+
+  own_are : l.main ≡ main → (callee : Callee) → reducers_in l callee ≡ own_reducers p callee
+  own_are same callees.Root = ap (λ k. (function_frame l k).reducers) same ∙ ap (λ (f : FrameLayout). f.reducers) (function_frame_is main)
+  own_are same (callees.Function c) = ap (λ (f : FrameLayout). f.reducers) (function_frame_is c.function)
+  own_are same (callees.Loop part) = refl
+
+  pub lays_out : l.openings ≡ globals → l.reducers ≡ map (λ (r : GlobalReducer). r.kind) rs → l.main ≡ main → l.plain ≡ is_plain p → LaysOut p l
+  lays_out openings reducers same plain = record { openings = openings; reducers = reducers; cells = cells_are same; own = own_are same; plain = plain }

@@ -1,0 +1,42 @@
+-- What a run needs of a program beside its instructions: how it opens, and what each frame has.
+use Rattle.std.specs.Prelude.{◌≡◌, ℕ, pos, ◌-ℤ◌, if◌then◌else◌, List, [], slice_get, unwrap_or}
+use Rattle.std.specs.Ordering.{int_eq}
+use Rattle.cilk_monoid.specs.declared.kind.MonoidKind.{MonoidKind}
+use Rattle.cilk_program.specs.declared.ask.Callee.{Callee}
+use Rattle.cilk_program.specs.declared.ask.Callee.TheVariants as callees
+use Rattle.cilk_program.specs.Syntax.{Source, Function}
+use Rattle.cilk_program.specs.SerialRun.{cells_of, own_reducers}
+use Rattle.cilk_lower.specs.declared.layout.FrameLayout.{FrameLayout}
+use Rattle.cilk_lower.specs.declared.layout.Layout.{Layout}
+use Rattle.cilk_lower.specs.Plain.{is_plain}
+
+-- the frame of a function
+abbrev pub frame_of : Function → FrameLayout
+frame_of f = record { cells = f.cells; reducers = f.reducers }
+
+-- a frame with nothing of its own
+abbrev pub bare : FrameLayout
+bare = record { cells = 0; reducers = [] }
+
+abbrev pub function_frame : Layout → ℕ → FrameLayout
+function_frame l k = unwrap_or (slice_get l.functions k) bare
+
+-- the cells of a callee's frame; one that halves the turns of a loop has none
+abbrev pub cells_in : Layout → Callee → ℕ
+cells_in l callees.Root = let f = function_frame l l.main in f.cells
+cells_in l (callees.Function c) = let f = function_frame l c.function in f.cells
+cells_in l (callees.Loop part) = if int_eq (part.high -ℤ part.low) (pos 1) then unwrap_or (slice_get l.loops part.number) 0 else 0
+
+-- the monoids of the reducers that a callee's frame creates for itself, and retires
+abbrev pub reducers_in : Layout → Callee → List MonoidKind
+reducers_in l callees.Root = let f = function_frame l l.main in f.reducers
+reducers_in l (callees.Function c) = let f = function_frame l c.function in f.reducers
+reducers_in l (callees.Loop part) = []
+
+-- the layout of a program
+pub record LaysOut (p : Source) (l : Layout) : Type 0 where
+  pub openings : l.openings ≡ p.openings
+  pub reducers : l.reducers ≡ p.reducers
+  pub cells : (callee : Callee) → cells_in l callee ≡ cells_of p callee
+  pub own : (callee : Callee) → reducers_in l callee ≡ own_reducers p callee
+  pub plain : l.plain ≡ is_plain p

@@ -1,0 +1,170 @@
+//! What a run needs of a program beside its instructions: how it opens, and what each frame has.
+
+ghost use Rattle.std.specs.Prelude.{◌≡◌, pos, ◌-ℤ◌, map, slice_get, unwrap_or, IfOk};
+ghost use Rattle.std.specs.Ordering.{int_eq};
+ghost use Rattle.cilk_lower.specs.Layout.{LaysOut, cells_in, frame_of, function_frame, reducers_in};
+ghost use Rattle.cilk_program.specs.Programs.{function};
+ghost use Rattle.cilk_program.specs.Sources.{source};
+ghost use Rattle.cilk_program.specs.declared.ask.Callee.TheVariants as callees;
+
+use crate::plain::is_plain;
+use cilk_monoid::kind::MonoidKind;
+use cilk_program::ask::{Callee, LoopPart};
+use cilk_program::program::{Function, GlobalReducer, Loop, Program};
+use cilk_types::sequence::Sequence;
+use std::alloc::{AllocError, Global};
+
+/// What the frame of a function has: how many cells, and the monoids of the reducers that it creates for itself, in
+/// order.
+#[derive(Drop)]
+pub struct FrameLayout {
+    pub cells: u32,
+    pub reducers: Sequence<MonoidKind>,
+}
+
+/// The opening values of the global cells, the monoids of the global reducers, the number of the main function, the
+/// frame of each function, how many cells the frame of one turn of each loop has, and whether there is neither a
+/// reducer nor a `print`.
+#[derive(Drop)]
+pub struct Layout {
+    pub openings: Sequence<i64>,
+    pub reducers: Sequence<MonoidKind>,
+    pub main: u32,
+    pub functions: Sequence<FrameLayout>,
+    pub loops: Sequence<u32>,
+    pub plain: bool,
+}
+
+impl Layout {
+    /// How many cells the frame of a callee has.
+    pub fn cells(&self, callee: &Callee) -> u32
+        ensures { result ≡ cells_in self.now callee.now }
+    {
+        match callee {
+            Callee::Root => self.function_cells(self.main),
+            Callee::Function(call) => self.function_cells(call.function),
+            Callee::Loop(part) => self.part_cells(part),
+        }
+    }
+
+    /// How many cells the frame of a function has.
+    pub fn function_cells(&self, number: u32) -> u32
+        ensures { let f = function_frame self.now number in result ≡ f.cells }
+    {
+        match self.functions.as_slice().get(number as usize) {
+            Some(frame) => frame.cells,
+            None => 0,
+        }
+    }
+
+    /// How many cells the frame of some turns of a loop has: none where there are several.
+    pub fn part_cells(&self, part: &LoopPart) -> u32
+        ensures { result ≡ cells_in self.now (callees.Loop part.now) }
+    {
+        if has_one(*part) {
+            self.turn_cells(part.number)
+        } else {
+            0
+        }
+    }
+
+    // How many cells the frame of one turn has.
+    fn turn_cells(&self, number: u32) -> u32
+        ensures { result ≡ unwrap_or (slice_get self.now.loops number) 0 }
+    {
+        match self.loops.as_slice().get(number as usize) {
+            Some(cells) => *cells,
+            None => 0,
+        }
+    }
+
+    /// The monoids of the reducers that the frame of a callee creates for itself, and retires with its end.
+    pub fn own_reducers(&self, callee: &Callee) -> &[MonoidKind]
+        ensures { result.now ≡ reducers_in self.now callee.now }
+    {
+        match callee {
+            Callee::Root => self.function_reducers(self.main),
+            Callee::Function(call) => self.function_reducers(call.function),
+            Callee::Loop(_) => &[],
+        }
+    }
+
+    /// The monoids of the reducers that the frame of a function creates for itself, and retires with its end.
+    pub fn function_reducers(&self, number: u32) -> &[MonoidKind]
+        ensures { let f = function_frame self.now number in result.now ≡ f.reducers }
+    {
+        match self.functions.as_slice().get(number as usize) {
+            Some(frame) => frame.reducers.as_slice(),
+            None => &[],
+        }
+    }
+}
+
+/// Whether a frame has one turn of its loop. The bounds may be so far apart that their distance is no word.
+pub fn has_one(part: LoopPart) -> bool
+    ensures { result ≡ int_eq (part.high -ℤ part.low) (pos 1) }
+{
+    i128::from(part.high) - i128::from(part.low) == 1
+}
+
+/// The layout of a program. The only error is a want of memory. The time is linear in the program.
+pub fn lay_out(alloc: Global, program: &Program) -> Result<Layout, AllocError>
+    ensures { IfOk result (λ layout. LaysOut (source program.now) layout) }
+{
+    Ok(Layout {
+        openings: Sequence::new(Vec::from_slice(alloc, program.globals.as_slice())?),
+        reducers: global_kinds(alloc, &program.reducers)?,
+        main: program.main,
+        functions: function_frames(alloc, &program.functions)?,
+        loops: loop_cells(alloc, &program.loops)?,
+        plain: is_plain(program),
+    })
+}
+
+// The monoids of the global reducers.
+fn global_kinds(
+    alloc: Global,
+    reducers: &[GlobalReducer],
+) -> Result<Sequence<MonoidKind>, AllocError>
+    ensures { IfOk result (λ list. list ≡ map (λ r. r.kind) reducers.now) }
+{
+    let mut kinds = Vec::new(alloc);
+    'each: for reducer in reducers {
+        kinds.push(reducer.kind)?;
+    }
+    Ok(Sequence::new(kinds))
+}
+
+// The frame of each function.
+fn function_frames(
+    alloc: Global,
+    functions: &[Function],
+) -> Result<Sequence<FrameLayout>, AllocError>
+    ensures { IfOk result (λ list. list ≡ map (λ f. frame_of (function f)) functions.now) }
+{
+    let mut frames = Vec::new(alloc);
+    'each: for f in functions {
+        frames.push(frame_of(alloc, f)?)?;
+    }
+    Ok(Sequence::new(frames))
+}
+
+fn frame_of(alloc: Global, f: &Function) -> Result<FrameLayout, AllocError>
+    ensures { IfOk result (λ frame. frame ≡ frame_of (function f.now)) }
+{
+    Ok(FrameLayout {
+        cells: f.cells,
+        reducers: Sequence::new(Vec::from_slice(alloc, f.reducers.as_slice())?),
+    })
+}
+
+// How many cells the frame of one turn of each loop has.
+fn loop_cells(alloc: Global, loops: &[Loop]) -> Result<Sequence<u32>, AllocError>
+    ensures { IfOk result (λ list. list ≡ map (λ l. l.cells) loops.now) }
+{
+    let mut cells = Vec::new(alloc);
+    'each: for l in loops {
+        cells.push(l.cells)?;
+    }
+    Ok(Sequence::new(cells))
+}
