@@ -18,8 +18,8 @@ use Rattle.cilk_runs.specs.Theorem.{follows}
 use Rattle.cilk_worlds.specs.Worlds.{World, child_world}
 use Rattle.cilk_worlds.specs.Machine.{kind_of_child, retired_by, named_ask, answer_of, answers_of, is_end, has_ended, but_last, asked_after, next, taken, costs}
 use Rattle.cilk_determinacy.specs.Nested.{named_event, named_from}
-use Rattle.cilk_determinacy.proofs.Parts.{is_out}
-use Rattle.cilk_determinacy.proofs.Ticking.{at_full, frame_further}
+use Rattle.cilk_meaning.proofs.Parts.{is_out}
+use Rattle.cilk_meaning.proofs.Ticking.{at_full, frame_further}
 
 -- ---- lists of deeds
 

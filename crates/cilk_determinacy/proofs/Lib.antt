@@ -9,7 +9,6 @@ pub mod Examples
 pub mod Frames
 pub mod Numbered
 pub mod Numbers
-pub mod Parts
 pub mod ReadSources
 pub mod ReducerEvents
 pub mod Remembered
@@ -21,7 +20,6 @@ pub mod Sights
 pub mod Standing
 pub mod Stores
 pub mod Strands
-pub mod Ticking
 pub mod Used
 pub mod Weights
 pub mod Worded
