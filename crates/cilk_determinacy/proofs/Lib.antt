@@ -7,6 +7,7 @@ pub mod Determinate
 pub mod Ending
 pub mod Examples
 pub mod Frames
+pub mod Held
 pub mod Numbered
 pub mod Numbers
 pub mod ReadSources

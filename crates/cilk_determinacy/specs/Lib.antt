@@ -7,3 +7,4 @@ pub mod Words
 pub mod Settled
 pub mod Strands
 pub mod Events
+pub mod Held

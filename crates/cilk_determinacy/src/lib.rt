@@ -27,4 +27,5 @@
 pub mod events;
 pub mod laws;
 pub mod settle;
+pub mod views;
 pub mod words;
