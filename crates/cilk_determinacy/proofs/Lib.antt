@@ -1,6 +1,7 @@
 pub mod Assembled
 pub mod Behaving
 pub mod Children
+pub mod ClosedAt
 pub mod Creations
 pub mod Decided
 pub mod Determinate
@@ -20,6 +21,7 @@ pub mod Shapes
 pub mod Sights
 pub mod Standing
 pub mod Stores
+pub mod StrandNames
 pub mod Strands
 pub mod Used
 pub mod Weights
