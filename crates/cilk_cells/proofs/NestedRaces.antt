@@ -150,7 +150,7 @@ module _ (cell : Cell → ℕ) (instance : Instance → numbered.Instance) where
       same_tree : counted (nested.tree t) ≡ tree (shape_of t)
       same_tree = trees_agree W t framed
 
-      nested_size : nested.size (nested.tree t) ≡ length es
+      pub nested_size : nested.size (nested.tree t) ≡ length es
       nested_size =
           let a = counted_size (nested.tree t) in
           let b = ap size same_tree in
@@ -158,7 +158,7 @@ module _ (cell : Cell → ℕ) (instance : Instance → numbered.Instance) where
           omega (arith, a, b, c)
 
       -- two positions in serial order: parallel by the nested tree is parallel by their strands
-      to_strands : (p q : ℕ) → p < q → q < length es → nested.are_parallel (nested.tree t) p q ≡ true → Parallel (tree (shape_of t)) 1 (races.strand_at es (suc p)) (races.strand_at es (suc q))
+      pub to_strands : (p q : ℕ) → p < q → q < length es → nested.are_parallel (nested.tree t) p q ≡ true → Parallel (tree (shape_of t)) 1 (races.strand_at es (suc p)) (races.strand_at es (suc q))
       to_strands p q l k h =
           let n = nested_size in
           let b = subst (λ (x : Tree). Beside x 1 (1 + p) (1 + q)) same_tree (from_nested (nested.tree t) 1 p q l (omega (arith, k, n)) h) in

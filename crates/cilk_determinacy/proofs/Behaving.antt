@@ -1,6 +1,5 @@
 -- The serial run by names: each frame does what its behaviour asks for, and the ticks of all frames add up.
 use Rattle.std.proofs.Common.{◌≡◌, ◌⊎◌, inl, inr, ℕ, suc, ◌+◌, ◌-◌, ◌≤◌, ℤ, pos, Bool, true, false, true≢false, cond, List, [], ◌∷◌, ◌++◌, Some, None, refl, sym, ap, ap₂, ◌∙◌, subst, arith}
-use Rattle.std.proofs.lemmas.List.{map-append}
 use Rattle.cilk_types.specs.declared.limits.TheConstants.{MAX_TICKS}
 use Rattle.cilk_types.specs.declared.event.Event.{Event}
 use Rattle.cilk_program.specs.declared.ask.Ask as language
@@ -15,43 +14,15 @@ use Rattle.cilk_runs.specs.Machine.{started}
 use Rattle.cilk_runs.specs.Costs.{TickTotal, weight}
 use Rattle.cilk_runs.specs.Serial.{Behaves}
 use Rattle.cilk_runs.specs.Theorem.{follows}
+use Rattle.cilk_runs.proofs.Started.{started_does, started_invokes}
 use Rattle.cilk_worlds.specs.Worlds.{World, child_world}
 use Rattle.cilk_worlds.specs.Machine.{kind_of_child, retired_by, named_ask, answer_of, answers_of, is_end, has_ended, but_last, asked_after, next, taken, costs}
+use Rattle.cilk_worlds.proofs.Kept.{but_last_more, answers_more, ended_more}
 use Rattle.cilk_determinacy.specs.Nested.{named_event, named_from}
-use Rattle.cilk_determinacy.proofs.Parts.{is_out}
-use Rattle.cilk_determinacy.proofs.Ticking.{at_full, frame_further}
+use Rattle.cilk_meaning.proofs.Parts.{is_out}
+use Rattle.cilk_meaning.proofs.Ticking.{at_full, frame_further}
 
 -- ---- lists of deeds
-
-answers_more : (past : List (Deed World)) (d : Deed World) → answers_of (past ++ d ∷ []) ≡ answers_of past ++ answer_of d ∷ []
-answers_more past d = map-append answer_of past (d ∷ [])
-
-ended_more : (past : List (Deed World)) (d : Deed World) → has_ended past ≡ false → has_ended (past ++ d ∷ []) ≡ is_end d
-ended_more [] d h = only (is_end d)
-  where
-    only : (t : Bool) → cond t true false ≡ t
-    only true = refl
-    only false = refl
-ended_more (c ∷ past) d h = head (is_end c) (ended_more past d) h
-  where
-    head : (t : Bool) → (has_ended past ≡ false → has_ended (past ++ d ∷ []) ≡ is_end d) → cond t true (has_ended past) ≡ false → cond t true (has_ended (past ++ d ∷ [])) ≡ is_end d
-    head true g h = absurd (true≢false h)
-    head false g h = g h
-
-started_does : (past : List (Deed World)) (e : Happens) → started (past ++ Does e ∷ []) ≡ started past
-started_does [] e = refl
-started_does (Does c ∷ past) e = started_does past e
-started_does (Invokes k w ∷ past) e = ap suc (started_does past e)
-
-started_invokes : (past : List (Deed World)) (k : _) (w : World) → started (past ++ Invokes k w ∷ []) ≡ suc (started past)
-started_invokes [] k w = refl
-started_invokes (Does c ∷ past) k w = started_invokes past k w
-started_invokes (Invokes j v ∷ past) k w = ap suc (started_invokes past k w)
-
-but_last_more : {A : Type 0} (xs : List A) (x : A) → but_last (xs ++ x ∷ []) ≡ xs
-but_last_more [] x = refl
-but_last_more (y ∷ []) x = refl
-but_last_more (y ∷ z ∷ xs) x = ap (λ l. y ∷ l) (but_last_more (z ∷ xs) x)
 
 -- a history is empty or has a last deed
 last_of : (past : List (Deed World)) → (past ≡ []) ⊎ ((d : Deed World) × (past ≡ but_last past ++ d ∷ []))

@@ -1,11 +1,8 @@
 -- The theorem at the language.
-use Rattle.std.proofs.Common.{◌≡◌, ℕ, ℤ, false, List, [], refl, sym, ap, ◌∙◌, subst}
-use Rattle.cilk_types.specs.declared.fault.Fault.TheVariants.{DivisionByZero, IndexOutside, InputOutside, TooManyEvents, TooManyFrames, TooManyCells}
+use Rattle.std.proofs.Common.{◌≡◌, ℕ, ℤ, List, [], sym, ap, ◌∙◌, subst}
 use Rattle.cilk_types.specs.declared.event.Event.{Event}
 use Rattle.cilk_types.specs.declared.limits.TheConstants.{MAX_EVENTS, MAX_TICKS}
 use Rattle.cilk_types.specs.declared.outcome.Outcome.{Outcome}
-use Rattle.cilk_program.specs.declared.ask.Ask.{Ask}
-use Rattle.cilk_program.specs.declared.ask.Ask.TheVariants as asks
 use Rattle.cilk_program.specs.declared.ask.Callee.TheVariants as callees
 use Rattle.cilk_program.specs.Elision.{IsElision}
 use Rattle.cilk_program.specs.Outcomes.{Conclusion, Leaves, StopsBy, outcome_of}
@@ -34,39 +31,17 @@ use Rattle.cilk_worlds.specs.Reducers.{View, monoid_of}
 use Rattle.cilk_worlds.specs.Worlds.{World, first_world}
 use Rattle.cilk_worlds.specs.Machine.{next, costs, opening_values}
 use Rattle.cilk_determinacy.specs.Nested.{named}
-use Rattle.cilk_determinacy.specs.Theorem.{IsWithin, IsSerial, IsAsSerial, RunsFree, TicksAddUp, SerialRunsByNames, SerialRunsAreNumbered, OpensAsCut, CutsAreClosed, StepsKeepCuts, CutsAreAsSerial, IsDeterminate}
+use Rattle.cilk_determinacy.specs.Theorem.{IsSerial, IsAsSerial, RunsFree, TicksAddUp, SerialRunsByNames, SerialRunsAreNumbered, OpensAsCut, CutsAreClosed, StepsKeepCuts, CutsAreAsSerial, IsDeterminate}
 use Rattle.cilk_worlds.specs.Steps.{result_in, outcome_in, Next}
 use Rattle.cilk_determinacy.proofs.Assembled.{views_lawful, remembers, is_framed, is_serial}
 use Rattle.cilk_determinacy.proofs.Ending.{run_result, run_ends, same_outcome}
 use Rattle.cilk_determinacy.specs.Numbers.{cell_number, instance_number}
 use Rattle.cilk_determinacy.proofs.Numbered.{are_written, events_numbered}
-use Rattle.cilk_determinacy.proofs.Parts.{is_out}
 use Rattle.cilk_determinacy.proofs.Shapes.{serial_proper}
 use Rattle.cilk_tree.proofs.Spelled.{spells_one}
-use Rattle.cilk_determinacy.proofs.Ticking.{frame_more, frame_further}
+use Rattle.cilk_meaning.proofs.Ticking.{frame_more, frame_further, not_out}
 
 -- ---- ticks
-
-not_out : (k : Ask) → IsWithin k → is_out k ≡ false
-not_out asks.Begin h = refl
-not_out (asks.Read x) h = refl
-not_out (asks.Write x v) h = refl
-not_out (asks.Create r) h = refl
-not_out (asks.Update r v) h = refl
-not_out (asks.Set r v) h = refl
-not_out (asks.Value r) h = refl
-not_out (asks.Print v) h = refl
-not_out (asks.Invoke how callee) h = refl
-not_out asks.Resume h = refl
-not_out asks.Sync h = refl
-not_out (asks.Result v) h = refl
-not_out (asks.End v) h = refl
-not_out (asks.Fault DivisionByZero) h = refl
-not_out (asks.Fault IndexOutside) h = refl
-not_out (asks.Fault InputOutside) h = refl
-not_out (asks.Fault TooManyEvents) h = absurd h
-not_out (asks.Fault TooManyFrames) h = refl
-not_out (asks.Fault TooManyCells) h = refl
 
 pub ticks_add_up : (p : Source) (inputs : List ℤ) → TicksAddUp p inputs
 ticks_add_up p inputs = record {

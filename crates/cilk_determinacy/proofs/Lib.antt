@@ -1,15 +1,16 @@
 pub mod Assembled
 pub mod Behaving
 pub mod Children
+pub mod ClosedAt
 pub mod Creations
 pub mod Decided
 pub mod Determinate
 pub mod Ending
 pub mod Examples
 pub mod Frames
+pub mod Held
 pub mod Numbered
 pub mod Numbers
-pub mod Parts
 pub mod ReadSources
 pub mod ReducerEvents
 pub mod Remembered
@@ -20,8 +21,8 @@ pub mod Shapes
 pub mod Sights
 pub mod Standing
 pub mod Stores
+pub mod StrandNames
 pub mod Strands
-pub mod Ticking
 pub mod Used
 pub mod Weights
 pub mod Worded

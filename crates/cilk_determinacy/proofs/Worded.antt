@@ -35,7 +35,7 @@ use Rattle.cilk_determinacy.specs.Words.{AreWords, ExpressionWords, ExpressionsW
 pub word_is : (z : ℤ) → IsWord (word_of z)
 word_is z = SFits-int_wrap w64 z
 
-zero_word : IsWord (pos 0)
+pub zero_word : IsWord (pos 0)
 zero_word = record { sfits = lit< tt }
 
 one_word : IsWord (pos 1)
@@ -81,6 +81,7 @@ abbrev pub AskWords : Ask → Type 0
 AskWords (asks.Write x v) = IsWord v
 AskWords (asks.Update r v) = IsWord v
 AskWords (asks.Set r v) = IsWord v
+AskWords (asks.Print v) = IsWord v
 AskWords (asks.Invoke how callee) = CalleeWords callee
 AskWords (asks.Result v) = IsWord v
 AskWords k = Unit {0}
@@ -274,7 +275,7 @@ module _ (inputs : List ℤ) (inputs_words : InputsAreWords inputs) where
         ticked FlowWord _ (followed FlowWord FlowWord _ _ (all_worded row h.0) (λ f wf. unless f _ wf
         (λ a l. turns_worded (condition inputs test) (does inputs s) (all_do inputs step) (condition_worded inputs inputs_words test h.1) (does_worded s h.3) (all_worded step h.2) (suc l) a l)))
     does_worded (ParallelFor e e' n) h = ticked FlowWord _ (with_value inputs inputs_words FlowWord e h.0 _ (λ low wl. with_value inputs inputs_words FlowWord e' h.1 _ (λ high wh. parallel_worded inputs inputs_words n low high wl wh)))
-    does_worded (Print e) h = ticked FlowWord _ (with_value inputs inputs_words FlowWord e h _ (λ v w. asked_last (asks.Print v) tt))
+    does_worded (Print e) h = ticked FlowWord _ (with_value inputs inputs_words FlowWord e h _ (λ v w. asked_last (asks.Print v) w))
     does_worded (Update r e) h = ticked FlowWord _ (with_value inputs inputs_words FlowWord e h _ (λ v w. asked_last (asks.Update r v) w))
     does_worded (Set r e) h = ticked FlowWord _ (with_value inputs inputs_words FlowWord e h _ (λ v w. asked_last (asks.Set r v) w))
     does_worded (Return e) h = ticked FlowWord _ (return_worded inputs inputs_words e h)

@@ -1,5 +1,5 @@
 -- Where a program and its inputs are words, a serial run sets reducers to words alone.
-use Rattle.std.proofs.Common.{◌≡◌, ℕ, zero, suc, ◌+◌, ◌≤◌, nat_eq, ℤ, pos, Bool, true, false, if◌then◌else◌, ◌&&◌, List, [], ◌∷◌, ◌++◌, length, slice_get, Option, Some, None, unwrap_or, refl, subst, arith, lit<, length-append}
+use Rattle.std.proofs.Common.{◌≡◌, ℕ, zero, suc, ◌+◌, ◌≤◌, nat_eq, ℤ, pos, Bool, true, false, if◌then◌else◌, ◌&&◌, List, [], ◌∷◌, ◌++◌, length, slice_get, Option, Some, None, unwrap_or, refl, subst, arith, length-append}
 use Rattle.std.proofs.lemmas.Bool.{and_parts}
 use Rattle.cilk_types.specs.declared.event.Instance.{Instance}
 use Rattle.cilk_types.specs.declared.event.Event.{Event}
@@ -24,7 +24,7 @@ use Rattle.cilk_runs.proofs.Basics.{same_kind-eq}
 use Rattle.cilk_determinacy.specs.Theorem.{SetsWord, SetWords}
 use Rattle.cilk_determinacy.specs.Words.{AreWords, HasWords, InputsAreWords, IsDeterminateInWords}
 use Rattle.cilk_determinacy.proofs.Determinate.{is_determinate}
-use Rattle.cilk_determinacy.proofs.Worded.{AskWords, CalleeWords, asks_words}
+use Rattle.cilk_determinacy.proofs.Worded.{zero_word, AskWords, CalleeWords, asks_words}
 
 -- the cells and views are of words, and no list is longer than this
 record Wordy (store : Store Instance) (count : ℕ) : Type 0 where
@@ -34,9 +34,6 @@ record Wordy (store : Store Instance) (count : ℕ) : Type 0 where
 
 more : (store : Store Instance) (n k : ℕ) → n ≤ k → Wordy store n → Wordy store k
 more store n k low h = record { cells = h.cells; members = h.members; sizes = λ j i. let s = h.sizes j i in omega (arith, s, low) }
-
-zero_word : IsWord (pos 0)
-zero_word = record { sfits = lit< tt }
 
 length_word : (n : ℕ) → n ≤ 1000000 → IsWord (pos n)
 length_word n h = record { sfits = omega (arith, h) }
@@ -189,7 +186,7 @@ both_words : (es es' : List Event) → SetWords es → SetWords es' → SetWords
 both_words [] es' h g = g
 both_words (e ∷ es) es' h g = (h.0, both_words es es' h.1 g)
 
-more_words : (history : List ℤ) (v : ℤ) → AreWords history → IsWord v → AreWords (history ++ v ∷ [])
+pub more_words : (history : List ℤ) (v : ℤ) → AreWords history → IsWord v → AreWords (history ++ v ∷ [])
 more_words [] v h w = (w, tt)
 more_words (x ∷ history) v h w = (h.0, more_words history v h.1 w)
 
@@ -248,7 +245,7 @@ module _ (p : Source) (has : HasWords p) (inputs : List ℤ) (inputs_words : Inp
       (started_words how (suc m.frames) es one.0, tt)
   runs_words (Refused k left f q bad) callee words count h few = (tt, tt)
 
-  opening_word : (xs : List ℤ) → AreWords xs → (n : ℕ) → IsWord (unwrap_or (slice_get xs n) (pos 0))
+  pub opening_word : (xs : List ℤ) → AreWords xs → (n : ℕ) → IsWord (unwrap_or (slice_get xs n) (pos 0))
   opening_word [] h n = zero_word
   opening_word (x ∷ xs) h zero = h.0
   opening_word (x ∷ xs) h (suc n) = opening_word xs h.1 n

@@ -1,9 +1,12 @@
 pub mod ReducerEvents
 pub mod Nested
 pub mod Numbers
+pub mod Positions
 pub mod Theorem
 pub mod Worked
 pub mod Words
 pub mod Settled
 pub mod Strands
+pub mod StrandNames
 pub mod Events
+pub mod Held

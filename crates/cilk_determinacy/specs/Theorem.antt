@@ -1,13 +1,10 @@
 -- The theorem at the language.
 use Rattle.std.specs.Prelude.{◌≡◌, ◌≤◌, ◌<◌, ℕ, ◌+◌, ℤ, List, [], ◌∷◌, ◌++◌, length, IsTrue, None}
-use Rattle.cilk_types.specs.declared.fault.Fault.TheVariants.{TooManyEvents}
 use Rattle.cilk_types.specs.declared.limits.TheConstants.{MAX_EVENTS, MAX_TICKS}
 use Rattle.cilk_types.specs.declared.event.Event.{Event}
 use Rattle.cilk_types.specs.declared.event.Event.TheVariants as events
 use Rattle.cilk_types.specs.declared.outcome.Outcome.{Outcome}
 use Rattle.cilk_monoid.specs.Values.{IsWord}
-use Rattle.cilk_program.specs.declared.ask.Ask as language
-use Rattle.cilk_program.specs.declared.ask.Ask.TheVariants as asks
 use Rattle.cilk_program.specs.declared.ask.Callee.{Callee}
 use Rattle.cilk_program.specs.declared.ask.Callee.TheVariants as callees
 use Rattle.cilk_program.specs.Behaviour.{asks_for, frame_asks}
@@ -16,6 +13,7 @@ use Rattle.cilk_program.specs.WellNamed.{is_well_named}
 use Rattle.cilk_program.specs.Outcomes.{Leaves}
 use Rattle.cilk_program.specs.Elision.{IsElision}
 use Rattle.cilk_program.specs.SerialRun as serial
+use Rattle.cilk_meaning.specs.Ticks.{IsWithin}
 use Rattle.cilk_tree.specs.Shape.{Shape, Spells}
 use Rattle.cilk_tree.specs.Tree.{tree}
 use Rattle.cilk_tree.specs.Races.{HasNoRace}
@@ -43,11 +41,6 @@ SetsWord e = Unit {0}
 abbrev pub SetWords : List Event → Type 0
 SetWords [] = Unit {0}
 SetWords (e ∷ es) = SetsWord e × SetWords es
-
--- the ticks haven't run out
-abbrev pub IsWithin : language.Ask → Type 0
-IsWithin (asks.Fault TooManyEvents) = ⊥
-IsWithin k = Unit {0}
 
 -- no two positions have a determinacy race or a view-read race
 pub record IsRaceFree (es : List Event) : Type 0 where

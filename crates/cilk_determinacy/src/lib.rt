@@ -26,5 +26,7 @@
 
 pub mod events;
 pub mod laws;
+pub mod positions;
 pub mod settle;
+pub mod views;
 pub mod words;

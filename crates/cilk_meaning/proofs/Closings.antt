@@ -154,7 +154,7 @@ plain_no_begin (asks.Result v) h = tt
 plain_no_begin (asks.End v) h = tt
 plain_no_begin (asks.Fault f) h = tt
 
-plain_no_resume : (k : Ask) → IsPlain k → IsNoResume k
+pub plain_no_resume : (k : Ask) → IsPlain k → IsNoResume k
 plain_no_resume asks.Begin h = tt
 plain_no_resume (asks.Read x) h = tt
 plain_no_resume (asks.Write x v) h = tt
@@ -186,7 +186,7 @@ opening_no_begin (asks.Result v) h = tt
 opening_no_begin (asks.End v) h = tt
 opening_no_begin (asks.Fault f) h = tt
 
-opening_no_resume : (k : Ask) → IsOpening k → IsNoResume k
+pub opening_no_resume : (k : Ask) → IsOpening k → IsNoResume k
 opening_no_resume asks.Begin h = tt
 opening_no_resume (asks.Read x) h = tt
 opening_no_resume (asks.Write x v) h = tt

@@ -19,6 +19,7 @@ pub mod Moments
 pub mod Naming
 pub mod Numbers
 pub mod Orderly
+pub mod Parts
 pub mod Reached
 pub mod ReducerRows
 pub mod Remembered
@@ -31,6 +32,7 @@ pub mod Spelling
 pub mod Spending
 pub mod Statements
 pub mod Steps
+pub mod Ticking
 pub mod Ticks
 pub mod Ties
 pub mod Turns

@@ -3,3 +3,5 @@ pub mod Worlds
 pub mod Machine
 pub mod Views
 pub mod Steps
+pub mod Kept
+pub mod Held

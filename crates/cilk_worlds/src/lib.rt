@@ -16,4 +16,6 @@
 //! `cilk_determinacy` has the theorem on this machine.
 #![tactic(auto)]
 
+pub mod cursors;
 pub mod laws;
+pub mod pieces;

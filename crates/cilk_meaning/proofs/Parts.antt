@@ -1,5 +1,6 @@
--- A part of a frame's behaviour does the same with more ticks, goes on where it is answered once more, and gives no ticks back.
-use Rattle.std.proofs.Common.{◌≡◌, ℕ, zero, suc, ◌+◌, ◌<◌, ◌≤◌, ℤ, pos, ◌+ℤ◌, ◌-ℤ◌, neg_ℤ, Bool, true, false, true≢false, if◌then◌else◌, int_lt, int_eq, List, [], ◌∷◌, ◌++◌, Option, Some, None, is_some, refl, sym, ap, subst, arith}
+-- A part of a frame's behaviour does the same with more ticks, goes on where it is answered once more, gives no ticks back, and where it ran out
+-- of ticks leaves less than what it gets more.
+use Rattle.std.proofs.Common.{◌≡◌, ℕ, zero, suc, ◌+◌, ◌<◌, ◌≤◌, ℤ, pos, ◌+ℤ◌, ◌-ℤ◌, neg_ℤ, Bool, true, false, true≢false, if◌then◌else◌, int_lt, int_eq, List, [], ◌∷◌, ◌++◌, Option, Some, None, is_some, refl, sym, ap, ◌∙◌, subst, arith}
 use Rattle.cilk_types.specs.Input.{input_at, input_count}
 use Rattle.cilk_types.specs.Word.{word_of}
 use Rattle.cilk_types.specs.declared.fault.Fault.{Fault}
@@ -35,6 +36,16 @@ abbrev pub Low : {A : Type 0} → ℕ → Got A → Type 0
 Low n (Gives v a l) = l ≤ n
 Low n (Asks k) = k.left ≤ n
 
+-- fewer ticks than these are left, unless they have run out
+abbrev pub Fewer : {A : Type 0} → ℕ → Got A → Type 0
+Fewer n (Gives v a l) = l < n
+Fewer n (Asks k) = is_out k.ask ≡ false → k.left < n
+
+-- with d more ticks, where they had run out
+abbrev pub Short : {A : Type 0} → ℕ → Got A → Got A → Type 0
+Short d (Gives v a l) y = Unit {0}
+Short d (Asks k) y = is_out k.ask ≡ true → Fewer d y
+
 -- with one more answer
 abbrev pub Further : {A : Type 0} → ℤ → Got A → Got A → Type 0
 Further z (Gives v a l) y = y ≡ Gives v (a ++ z ∷ []) l
@@ -44,6 +55,7 @@ pub record Steady {A : Type 0} (x : List ℤ → ℕ → Got A) : Type 0 where
   pub more : (d : ℕ) (a : List ℤ) (l : ℕ) → More d (x a l) (x a (l + d))
   pub further : (z : ℤ) (a : List ℤ) (l : ℕ) → Further z (x a l) (x (a ++ z ∷ []) l)
   pub low : (a : List ℤ) (l : ℕ) → Low l (x a l)
+  pub short : (d : ℕ) (a : List ℤ) (l : ℕ) → Short d (x a l) (x a (l + d))
 
 lower : {A : Type 0} (n k : ℕ) (x : Got A) → n ≤ k → Low n x → Low k x
 lower n k (Gives v a l) h b = omega (arith, h, b)
@@ -62,15 +74,28 @@ bind_further : {A B : Type 0} (z : ℤ) (x y : Got A) (f : A → List ℤ → �
 bind_further z (Gives v a l) y f h g low = subst (λ y. Further z (f v a l) (y >>= f)) (sym h) (g v a l)
 bind_further z (Asks k) y f h g low = bind_low k.left y f h low
 
+low_fewer : {A : Type 0} (n l : ℕ) (x : Got A) → l < n → Low l x → Fewer n x
+low_fewer n l (Gives v a k) h b = omega (arith, h, b)
+low_fewer n l (Asks q) h b = λ within. omega (arith, h, b)
+
+bind_fewer : {A B : Type 0} (n : ℕ) (x : Got A) (f : A → List ℤ → ℕ → Got B) → Fewer n x → ((v : A) (a : List ℤ) (l : ℕ) → Low l (f v a l)) → Fewer n (x >>= f)
+bind_fewer n (Gives v a l) f h low = low_fewer n l (f v a l) h (low v a l)
+bind_fewer n (Asks k) f h low = h
+
+bind_short : {A B : Type 0} (d : ℕ) (x y : Got A) (f : A → List ℤ → ℕ → Got B) → More d x y → Short d x y → ((v : A) (a : List ℤ) (l : ℕ) → Short d (f v a l) (f v a (l + d))) → ((v : A) (a : List ℤ) (l : ℕ) → Low l (f v a l)) → Short d (x >>= f) (y >>= f)
+bind_short d (Gives v a l) y f h s g low = subst (λ y. Short d (f v a l) (y >>= f)) (sym h) (g v a l)
+bind_short d (Asks k) y f h s g low = λ out. bind_fewer d y f (s out) low
+
 pub followed : {A B : Type 0} (x : List ℤ → ℕ → Got A) (f : A → List ℤ → ℕ → Got B) → Steady x → ((v : A) → Steady (f v)) → Steady (λ a l. x a l >>= f)
 followed x f h g = record {
   more = λ d a l. bind_more d (x a l) (x a (l + d)) f (h.more d a l) (λ v. (g v).more d);
   further = λ z a l. bind_further z (x a l) (x (a ++ z ∷ []) l) f (h.further z a l) (λ v. (g v).further z) (λ v. (g v).low);
   low = λ a l. bind_low l (x a l) f (h.low a l) (λ v. (g v).low);
+  short = λ d a l. bind_short d (x a l) (x a (l + d)) f (h.more d a l) (h.short d a l) (λ v. (g v).short d) (λ v. (g v).low);
 }
 
 pub gives : {A : Type 0} (v : A) → Steady (Gives v)
-gives v = record { more = λ d a l. refl; further = λ z a l. refl; low = λ a l. omega arith }
+gives v = record { more = λ d a l. refl; further = λ z a l. refl; low = λ a l. omega arith; short = λ d a l. tt }
 
 tick_more : (d : ℕ) (a : List ℤ) (l : ℕ) → More d (tick a l) (tick a (l + d))
 tick_more d a zero = λ out. absurd (true≢false out)
@@ -84,8 +109,20 @@ tick_low : (a : List ℤ) (l : ℕ) → Low l (tick a l)
 tick_low a zero = omega arith
 tick_low a (suc l) = omega arith
 
+tick_fewer : (d : ℕ) (a : List ℤ) → Fewer d (tick a d)
+tick_fewer zero a = λ within. absurd (true≢false within)
+tick_fewer (suc d) a = omega arith
+
+tick_short : (d : ℕ) (a : List ℤ) (l : ℕ) → Short d (tick a l) (tick a (l + d))
+tick_short d a zero = λ out. let e : 0 + d ≡ d = omega arith in subst (λ n. Fewer d (tick a n)) (sym e) (tick_fewer d a)
+tick_short d a (suc l) = tt
+
 pub ticks : Steady tick
-ticks = record { more = tick_more; further = tick_further; low = tick_low }
+ticks = record { more = tick_more; further = tick_further; low = tick_low; short = tick_short }
+
+-- an ask is out of ticks or not, whatever is left
+in_and_out : {X : Type 0} (b : Bool) → b ≡ true → b ≡ false → X
+in_and_out b out within = absurd (true≢false (sym out ∙ within))
 
 ask_more : (k : Ask) (d : ℕ) (a : List ℤ) (l : ℕ) → More d (ask k a l) (ask k a (l + d))
 ask_more k d [] l = λ out. refl
@@ -99,11 +136,15 @@ ask_low : (k : Ask) (a : List ℤ) (l : ℕ) → Low l (ask k a l)
 ask_low k [] l = omega arith
 ask_low k (v ∷ a) l = omega arith
 
+ask_short : (k : Ask) (d : ℕ) (a : List ℤ) (l : ℕ) → Short d (ask k a l) (ask k a (l + d))
+ask_short k d [] l = λ out within. in_and_out (is_out k) out within
+ask_short k d (v ∷ a) l = tt
+
 pub asked : (k : Ask) → Steady (ask k)
-asked k = record { more = ask_more k; further = ask_further k; low = ask_low k }
+asked k = record { more = ask_more k; further = ask_further k; low = ask_low k; short = ask_short k }
 
 pub checked : {A : Type 0} (f : Fault) (o : Option A) → Steady (or_fault f o)
-checked f None = record { more = λ d a l out. refl; further = λ z a l. omega arith; low = λ a l. omega arith }
+checked f None = record { more = λ d a l out. refl; further = λ z a l. omega arith; low = λ a l. omega arith; short = λ d a l out within. in_and_out (is_out (asks.Fault f)) out within }
 checked f (Some v) = gives v
 
 pub either : {A : Type 0} (t : Bool) (x y : List ℤ → ℕ → Got A) → Steady x → Steady y → Steady (λ a l. if t then x a l else y a l)
@@ -182,7 +223,12 @@ module _ (inputs : List ℤ) where
 
 module _ (test : List ℤ → ℕ → Got ℤ) (body step : List ℤ → ℕ → Got Flow) (tested : Steady test) (walked : Steady body) (stepped : Steady step) where
   turns_steady : (n : ℕ) → Steady (turns n test body step)
-  turns_steady zero = record { more = λ d a l out. absurd (true≢false out); further = λ z a l. omega arith; low = λ a l. omega arith }
+  turns_steady zero = record {
+    more = λ d a l out. absurd (true≢false out);
+    further = λ z a l. omega arith;
+    low = λ a l. omega arith;
+    short = λ d a l out within. absurd (true≢false within);
+  }
   turns_steady (suc n) =
       followed _ _ tested (λ v. either (is_zero v) _ _ (gives None) (followed _ _ walked (λ f. unless f _ (followed _ _ stepped (λ g. unless g _ (turns_steady n))))))
 
@@ -192,6 +238,7 @@ module _ (test : List ℤ → ℕ → Got ℤ) (body step : List ℤ → ℕ →
     more = λ d a l. subst (λ x. More d x (turns (suc (l + d)) test body step a (l + d))) (enough (suc (l + d)) (suc l) a l (omega arith) (omega arith)) ((turns_steady (suc (l + d))).more d a l);
     further = λ z a l. (turns_steady (suc l)).further z a l;
     low = λ a l. (turns_steady (suc l)).low a l;
+    short = λ d a l. subst (λ x. Short d x (turns (suc (l + d)) test body step a (l + d))) (enough (suc (l + d)) (suc l) a l (omega arith) (omega arith)) ((turns_steady (suc (l + d))).short d a l);
   }
 
 module _ (inputs : List ℤ) where

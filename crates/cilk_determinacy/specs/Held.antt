@@ -1,0 +1,40 @@
+-- Frames hold views of the language in each state that steps of the free machine lead to.
+use Rattle.std.specs.Prelude.{◌≡◌, ℕ, ℤ, List, [], ◌∷◌, Some}
+use Rattle.cilk_monoid.specs.declared.kind.MonoidKind.TheVariants.{Append}
+use Rattle.cilk_monoid.specs.Values.{IsWord}
+use Rattle.cilk_program.specs.Syntax.{Source}
+use Rattle.cilk_runs.specs.Runs.{Name, Reads, Writes, Syncs, Ends, Passes, Begins, Resumes, Creates, Updates, Sets, Values, Prints, Deed, Does, Invokes}
+use Rattle.cilk_runs.specs.Machine.{Frame, State}
+use Rattle.cilk_worlds.specs.Held.{HoldsViews}
+use Rattle.cilk_worlds.specs.Reducers.{View, kind_of}
+use Rattle.cilk_worlds.specs.Steps.{Reaches}
+use Rattle.cilk_worlds.specs.Worlds.{World}
+use Rattle.cilk_determinacy.specs.Words.{HasWords, InputsAreWords}
+
+-- the length of a list, where it is read, is a word
+abbrev pub LengthIsWord : Deed World → Type 0
+LengthIsWord (Does (Reads c v)) = Unit {0}
+LengthIsWord (Does (Writes c v)) = Unit {0}
+LengthIsWord (Does Syncs) = Unit {0}
+LengthIsWord (Does (Ends v gone)) = Unit {0}
+LengthIsWord (Does (Passes Begins)) = Unit {0}
+LengthIsWord (Does (Passes Resumes)) = Unit {0}
+LengthIsWord (Does (Passes (Creates i))) = Unit {0}
+LengthIsWord (Does (Passes (Updates i v))) = Unit {0}
+LengthIsWord (Does (Passes (Sets i v))) = Unit {0}
+LengthIsWord (Does (Passes (Values i v))) = kind_of i ≡ Append → IsWord v
+LengthIsWord (Does (Passes (Prints v))) = Unit {0}
+LengthIsWord (Invokes k w) = Unit {0}
+
+abbrev pub LengthsAreWords : List (Deed World) → Type 0
+LengthsAreWords [] = Unit {0}
+LengthsAreWords (d ∷ ds) = LengthIsWord d × LengthsAreWords ds
+
+module _ (p : Source) (inputs : List ℤ) where
+  -- no frame reads the length of a list that is past a word, whatever steps are made
+  abbrev pub HasWordLengths : Type 0
+  HasWordLengths = (ns : List Name) (s : State World View) → Reaches p inputs ns s → (n : Name) (f : Frame World) → s.frames n ≡ Some f → LengthsAreWords f.deeds
+
+  -- whatever steps are made, each view in the piece of each frame is a view of the language
+  abbrev pub ViewsAreHeld : Type 0
+  ViewsAreHeld = HasWords p → InputsAreWords inputs → HasWordLengths → (ns : List Name) (s : State World View) → Reaches p inputs ns s → HoldsViews s

@@ -1,0 +1,64 @@
+-- The names of strands, which no schedule changes, and the strands of a serial run.
+use Rattle.std.specs.Prelude.{◌≡◌, ◌-◌, ℕ, suc, ℤ, IsTrue, Bool, true, false, cond, List, [], ◌∷◌, ◌++◌, length, Some, slice_get}
+use Rattle.cilk_types.specs.declared.event.Event as numbers
+use Rattle.cilk_types.specs.declared.outcome.Outcome.{Outcome}
+use Rattle.cilk_program.specs.Outcomes.{Leaves}
+use Rattle.cilk_program.specs.SerialRun as serial
+use Rattle.cilk_program.specs.Syntax.{Source}
+use Rattle.cilk_program.specs.WellNamed.{is_well_named}
+use Rattle.cilk_runs.specs.Runs.{Name, Event, Reads, Writes, Syncs, Ends, Passes, Begins, Resumes, Creates, Updates, Sets, Values, Prints, Run, stop, act, child}
+use Rattle.cilk_tree.specs.Before.{IsPosition}
+use Rattle.cilk_tree.specs.Races.{strand_at}
+use Rattle.cilk_worlds.specs.Worlds.{World}
+use Rattle.cilk_determinacy.specs.Nested.{named}
+
+-- a strand by its frame's name, and its place among the frame's strands, from 1
+pub record StrandName : Type 0 where
+  pub frame : Name
+  pub place : ℕ
+
+abbrev pub strand : Name → ℕ → StrandName
+strand n k = record { frame = n; place = k }
+
+-- the event begins a strand of its frame
+abbrev pub begins_strand : Event → Bool
+begins_strand (Reads c v) = false
+begins_strand (Writes c v) = false
+begins_strand Syncs = true
+begins_strand (Ends v gone) = false
+begins_strand (Passes Begins) = true
+begins_strand (Passes Resumes) = true
+begins_strand (Passes (Creates i)) = false
+begins_strand (Passes (Updates i v)) = false
+begins_strand (Passes (Sets i v)) = false
+begins_strand (Passes (Values i v)) = false
+begins_strand (Passes (Prints v)) = false
+
+-- the strands that begin from a point of frame n on, where k of its own have begun, in serial order
+abbrev pub strands_from : Name → ℕ → Run World → List StrandName
+strands_from n k stop = []
+strands_from n k (act e t) =
+    cond (begins_strand e) (strand n (suc k) ∷ []) [] ++ strands_from n (cond (begins_strand e) (suc k) k) t
+strands_from n k (child i w u t) = strands_from w.name 0 u ++ strands_from n k t
+
+-- for each event from that point on, in serial order: its strand
+abbrev pub strand_of_each : Name → ℕ → Run World → List StrandName
+strand_of_each n k stop = []
+strand_of_each n k (act e t) = strand n (cond (begins_strand e) (suc k) k) ∷ strand_of_each n (cond (begins_strand e) (suc k) k) t
+strand_of_each n k (child i w u t) = strand n k ∷ (strand_of_each w.name 0 u ++ strand_of_each n k t)
+
+module _ (p : Source) (r : serial.Run) where
+  -- the names of the run's strands, where the first is strand 1
+  abbrev pub strand_names : List StrandName
+  strand_names = strands_from [] 0 (named p r)
+
+  -- The strands of the list are named one to one, and each event is of the strand with the name that its frame gives it.
+  pub record AreStrandsNamed (es : List numbers.Event) : Type 0 where
+    pub many : strand_at es (length es) ≡ length strand_names
+    pub apart : (j j' : ℕ) (x : StrandName) → slice_get strand_names j ≡ Some x → slice_get strand_names j' ≡ Some x → j ≡ j'
+    pub at : (q : ℕ) → IsPosition es q
+        → (j : ℕ) × (x : StrandName) × (strand_at es q ≡ suc j) × (slice_get strand_names j ≡ Some x) × (slice_get (strand_of_each [] 0 (named p r)) (q - 1) ≡ Some x)
+
+abbrev pub StrandsHaveNames : Source → List ℤ → Type 0
+StrandsHaveNames p inputs =
+    (r : serial.Run) (es : List numbers.Event) (outcome : Outcome) → IsTrue (is_well_named p) → serial.IsSerialRun p inputs r es (Leaves outcome) → AreStrandsNamed p r es

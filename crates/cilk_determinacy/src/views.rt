@@ -1,0 +1,12 @@
+//! What the frames of the free machine hold at the language.
+
+ghost use Rattle.std.specs.Prelude.{ℤ, List};
+ghost use Rattle.cilk_program.specs.Syntax.{Source};
+ghost use Rattle.cilk_determinacy.specs.Held.{ViewsAreHeld};
+
+/// Whatever steps the free machine makes, with a race or without, each view in each frame's piece is a view of the language, of its
+/// reducer's monoid: where the numbers of the program and its inputs are words, and no frame reads the length of a list that is
+/// past a word.
+pub fn frames_hold_views()
+    ensures { (p : Source) (inputs : List ℤ) → ViewsAreHeld p inputs }
+{}
