@@ -9,3 +9,4 @@ pub mod Shown
 pub mod Spellings
 pub mod Wholes
 pub mod Written
+pub mod Rooms

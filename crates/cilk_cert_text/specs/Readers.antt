@@ -1,5 +1,5 @@
 -- What a reader in the middle of a text stands for.
-use Rattle.std.specs.Prelude.{◌≡◌, ℕ, List, ◌++◌, take, Option, Some, None}
+use Rattle.std.specs.Prelude.{◌≡◌, ℕ, ◌*◌, ◌-◌, List, ◌++◌, take, Option, Some, None}
 use Rattle.cilk_cert_text.specs.declared.fault.CertFault.{CertFault}
 use Rattle.cilk_cert_text.specs.declared.line.Line.{Line}
 use Rattle.cilk_cert_text.specs.declared.reader.LineReader.{LineReader}
@@ -29,3 +29,7 @@ with_lines (Some line) reading = with_line line reading
 -- the fault comes, whatever bytes follow
 abbrev pub IsCertain : LineReader → CertFault → Type 0
 IsCertain r fault = (more : List ℕ) → ahead r more ≡ stops fault
+
+-- No more bytes than these can be taken without a fault: a text has at most 2,065,540 lines of at most 97 bytes each, and one line more is allowed for what comes behind.
+abbrev pub room_of : LineReader → ℕ
+room_of r = 97 * (2065542 - number_at r.place) - r.length

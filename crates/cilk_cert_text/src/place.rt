@@ -135,6 +135,7 @@ impl Place {
     pub(crate) fn line(self, bytes: &[u8]) -> Option<(Line, Place)>
         ensures line { option_map (λ r. (r.0, due_of r.1)) result ≡ line_at (due_of self) bytes.now }
         ensures number { IfSome result (λ r. number_at r.1 ≡ number_at self + 1) }
+        ensures few { IfSome result (λ r. number_at r.1 ≤ 2065541) }
     {
         match self {
             Place::Version => {

@@ -67,7 +67,7 @@ impl LineReader {
     ghost use Rattle.cilk_cert_text.specs.declared.fault.CertFault.TheVariants.{Malformed, Truncated};
     ghost use Rattle.cilk_cert_text.specs.Places.{line_at, number_at};
     ghost use Rattle.cilk_cert_text.specs.Reading.{reading_of, stops, whole};
-    ghost use Rattle.cilk_cert_text.specs.Readers.{ahead, fault_of, with_lines, line_number, IsCertain};
+    ghost use Rattle.cilk_cert_text.specs.Readers.{ahead, fault_of, with_lines, line_number, room_of, IsCertain};
 
     /// At the beginning of a text.
     pub fn new() -> Self
@@ -98,6 +98,7 @@ impl LineReader {
         requires { self.now.length + len_of front.now ≤ 96 }
         ensures line { option_map (λ r. (r.0, due_of r.1)) result ≡ line_at (due_of self.now.place) (take self.now.length self.now.bytes ++ front.now) }
         ensures number { IfSome result (λ r. number_at r.1 ≡ number_at self.now.place + 1) }
+        ensures few { IfSome result (λ r. number_at r.1 ≤ 2065541) }
     {
         if self.length == 0 {
             return self.place.line(front);
@@ -118,6 +119,7 @@ impl LineReader {
         ensures malformed { IfErr result (λ fault. fault ≡ Malformed (line_number self.old)) }
         ensures line { IfOk result (λ r. (more : List ℕ) → ahead self.old (piece.now ++ more) ≡ with_lines r.1 (ahead self.new (drop r.0 piece.now ++ more))) }
         ensures taken { IfOk result (λ r. r.0 ≡ at + 1) }
+        ensures room { IfOk result (λ r. room_of self.new + r.0 ≤ room_of self.old) }
         ensures silent { OnOk result (fault_of self.new ≡ None) }
     {
         if at > LONGEST - self.length {
@@ -143,6 +145,7 @@ impl LineReader {
         ensures malformed { IfErr result (λ fault. fault ≡ Malformed (line_number self.old)) }
         ensures line { IfOk result (λ r. (more : List ℕ) → ahead self.old (piece.now ++ more) ≡ with_lines r.1 (ahead self.new (drop r.0 piece.now ++ more))) }
         ensures taken { IfOk result (λ r. r.0 ≡ len_of piece.now) }
+        ensures room { IfOk result (λ r. room_of self.new + r.0 ≤ room_of self.old) }
         ensures silent { OnOk result (fault_of self.new ≡ None) }
     {
         if piece.len() > LONGEST - self.length {
@@ -162,6 +165,7 @@ impl LineReader {
         ensures malformed { IfErr result (λ fault. fault_of self.old ≡ None → fault ≡ Malformed (line_number self.old)) }
         ensures line { IfOk result (λ r. (more : List ℕ) → ahead self.old (piece.now ++ more) ≡ with_lines r.1 (ahead self.new (drop r.0 piece.now ++ more))) }
         ensures taken { IfOk result (λ r. r.0 ≤ len_of piece.now) }
+        ensures room { IfOk result (λ r. room_of self.new + r.0 ≤ room_of self.old) }
         ensures progress { IfOk result (λ r. r.0 ≡ 0 → piece.now ≡ []) }
         ensures silent { OnOk result (fault_of self.new ≡ None) }
         ensures prompt { OnOk result ((fault : CertFault) → IsCertain self.new fault → ⊥) }

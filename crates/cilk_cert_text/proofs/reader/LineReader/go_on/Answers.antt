@@ -1,3 +1,5 @@
+use Rattle.std.proofs.Common.{arith}
+use Rattle.cilk_cert_text.proofs.Rooms.{number_small}
 use Rattle.std.proofs.Common.{take}
 use Rattle.cilk_cert_text.specs.Places.{due_of, number_at}
 use Rattle.cilk_cert_text.proofs.Readings.{line_endless, first_none}
@@ -13,3 +15,6 @@ invariant_of-self-clause-no_lf c = rw c.append.ensures.front (first_none (take c
 
 pub invariant_of-self-clause-at_end : goal.invariant_of-self-clause-at_end
 invariant_of-self-clause-at_end c = λ d. absurd (c.requires.due d)
+
+pub returns-clause-room : goal.returns-clause-room
+returns-clause-room c = let n = number_small c.args.self.now.place in omega (arith, n, c.args.self.now.room, c.if-piece-self.false)
