@@ -2,7 +2,6 @@ pub mod Assembled
 pub mod Behaving
 pub mod Children
 pub mod Creations
-pub mod Decided
 pub mod Determinate
 pub mod Ending
 pub mod Examples
