@@ -8,7 +8,7 @@ use Rattle.cilk_program.specs.declared.ask.Ask.TheVariants as asks
 use Rattle.cilk_program.specs.declared.ask.Callee.{Callee}
 use Rattle.cilk_program.specs.declared.ask.Callee.TheVariants as callees
 use Rattle.cilk_program.specs.declared.program.Body.{Body}
-use Rattle.cilk_program.specs.declared.syntax.Invocation.{Invocation}
+use Rattle.cilk_types.specs.declared.invocation.Invocation.{Invocation}
 use Rattle.cilk_program.specs.Behaviour.{Asked, asks_for, frame_asks}
 use Rattle.cilk_program.specs.Inside.{AskIsThere, CalleeIsFit, CalleeIsThere, body_of}
 use Rattle.cilk_program.specs.Syntax.{Source}

@@ -5,7 +5,8 @@ ghost use Rattle.cilk_program.specs.Programs.{function, source_of, statements};
 ghost use Rattle.cilk_program.specs.WellNamed.{is_well_named};
 
 use cilk_program::program::{Body, Function, Loop, Program};
-use cilk_program::syntax::{Expr, Invocation, Invoke, Place, Stmt};
+use cilk_program::syntax::{Expr, Invoke, Place, Stmt};
+use cilk_types::invocation::Invocation;
 use cilk_types::sequence::Sequence;
 use std::alloc::{AllocError, Global};
 

@@ -19,6 +19,5 @@
 
 pub mod first_reads;
 pub mod histories;
-pub mod laws;
 pub mod race;
 pub mod view_race;

@@ -20,9 +20,9 @@ use Rattle.cilk_meaning.proofs.Orderly.{runs_orderly}
 use Rattle.cilk_meaning.proofs.Remembered.{runs_small}
 use Rattle.cilk_runs.specs.Runs.{Cell, Global, Own, Instance, Run}
 use Rattle.cilk_runs.specs.Costs.{Total, TickTotal, EventTotal, FrameTotal, CellTotal, weight}
-use Rattle.cilk_runs.specs.Monoids.{IsLawful, unit_of}
-use Rattle.cilk_runs.specs.Trees.{trace}
-use Rattle.cilk_cells.specs.Nested.{begin_due, IsFramed}
+use Rattle.cilk_monoid.specs.Laws.{IsLawful}
+use Rattle.cilk_runs.specs.Monoids.{IsValue, unit_of}
+use Rattle.cilk_runs.specs.Traces.{trace, begin_due, IsFramed}
 use Rattle.cilk_worlds.specs.Reducers.{monoid_of}
 use Rattle.cilk_worlds.specs.Worlds.{World, first_world}
 use Rattle.cilk_worlds.specs.Machine.{used, limit, costs, opening_values}
@@ -33,14 +33,14 @@ use Rattle.cilk_determinacy.specs.Numbers.{cell_number, instance_number, HasCell
 use Rattle.cilk_determinacy.proofs.Numbers.{cell_is}
 use Rattle.cilk_determinacy.proofs.Remembered.{Remembers, run_remembers}
 use Rattle.cilk_determinacy.proofs.Retired.{root_retires}
-use Rattle.cilk_determinacy.proofs.Shapes.{IsProper, serial_proper, framed, resumed, synced, closed, inhabited}
+use Rattle.cilk_determinacy.proofs.Shapes.{IsProper, serial_proper, framed, synced, closed}
 use Rattle.cilk_determinacy.proofs.Standing.{standing_root}
 use Rattle.cilk_determinacy.proofs.Stores.{Same}
 use Rattle.cilk_determinacy.proofs.Used.{run_created}
 use Rattle.cilk_determinacy.proofs.Weights.{written_length, events_weigh, frames_weigh, cells_weigh}
 
-pub views_lawful : (i : Instance) → IsLawful (monoid_of i)
-views_lawful i = record { left = λ v. refl; right = λ v. refl; assoc = λ a b c. refl }
+pub views_lawful : (i : Instance) → IsLawful (monoid_of i) IsValue
+views_lawful i = record { unit_member = tt; single_member = λ x w. tt; combine_member = λ a b h g. tt; left_neutral = λ v h. refl; right_neutral = λ v h. refl; associative = λ a b c x y z. refl }
 
 opened : (xs : List ℤ) (n : ℕ) → length xs ≤ n → pos 0 ≡ unwrap_or (slice_get xs n) (pos 0)
 opened xs n h = ap (λ o. unwrap_or o (pos 0)) (sym (slice_get_past xs n h))
@@ -106,13 +106,12 @@ module _ (p : Source) (inputs : List ℤ) (well : IsTrue (is_well_named p)) (r :
   pub is_serial : IsSerial p inputs r
   is_serial = record {
     behaves = (run_holds p inputs d (first_world p) [] 1 (record { callee = refl; answers = refl; going = refl; ordinal = refl }) (omega arith)).0;
+    framed = framed_run;
     closed = closed begin_due t framed_run (synced p (first_world p) 1 r (runs_end p inputs r es (Leaves (outcome_of global_reducer p v m.store)) run));
-    resumed = resumed begin_due t framed_run;
     serial = let h = remembers in h.serial;
     views = let h = remembers in h.serial_views;
     created = λ i. run_created p r i t es remembers.written remembers.has (runs_create p well inputs r es (Leaves (outcome_of global_reducer p v m.store)) run);
     retired = λ i. root_retires p i r orderly;
-    inhabited = inhabited t framed_run;
     within = is_within;
   }
 

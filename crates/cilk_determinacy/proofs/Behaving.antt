@@ -16,7 +16,7 @@ use Rattle.cilk_runs.specs.Serial.{Behaves}
 use Rattle.cilk_runs.specs.Theorem.{follows}
 use Rattle.cilk_runs.proofs.Started.{started_does, started_invokes}
 use Rattle.cilk_worlds.specs.Worlds.{World, child_world}
-use Rattle.cilk_worlds.specs.Machine.{kind_of_child, retired_by, named_ask, answer_of, answers_of, is_end, has_ended, but_last, asked_after, next, taken, costs}
+use Rattle.cilk_worlds.specs.Machine.{retired_by, named_ask, answer_of, answers_of, is_end, has_ended, but_last, asked_after, next, taken, costs}
 use Rattle.cilk_worlds.proofs.Kept.{but_last_more, answers_more, ended_more}
 use Rattle.cilk_determinacy.specs.Nested.{named_event, named_from}
 use Rattle.cilk_meaning.proofs.Parts.{is_out}
@@ -181,14 +181,14 @@ module _ (p : Source) (inputs : List ℤ) where
   act_holds (serial.Stopped f) w past k a e t start left same asked h = tt
 
   child_holds : (end : Ending) (w v : World) (past : List (Deed World)) (k : ℕ) (how : _) (callee : Callee) (u t : Run World) (start left left' : ℕ) (x : ℤ) (m' : Memory) → v ≡ child_world p w k callee → Asking w past k (asks.Invoke how callee) start left → left' ≤ left
-      → Holds (Finished x left' m') v [] u left → Holds end w (past ++ Invokes (kind_of_child how) v ∷ []) t (left' + (start - left)) → Holds end w past (child (kind_of_child how) v u t) start
+      → Holds (Finished x left' m') v [] u left → Holds end w (past ++ Invokes how v ∷ []) t (left' + (start - left)) → Holds end w past (child how v u t) start
   child_holds (Finished y left'' m) w v past k how callee u t start left left' x m' same asked less (behaves, adds) (goes_on, adds') =
-      let last : taken p inputs w (but_last (past ++ Invokes (kind_of_child how) v ∷ [])) ≡ taken p inputs w past = ap (taken p inputs w) (but_last_more past (Invokes (kind_of_child how) v)) in
+      let last : taken p inputs w (but_last (past ++ Invokes how v ∷ [])) ≡ taken p inputs w past = ap (taken p inputs w) (but_last_more past (Invokes how v)) in
       let before = asked.before in
       let took = asked.took in
       let low = asked.low in
       let nothing : taken p inputs v (but_last []) ≡ 0 = omega arith in (
-        (subst (λ v. next p inputs w past ≡ Some (Invoke (kind_of_child how) v)) (sym same) asked.asks, behaves, goes_on),
+        (subst (λ v. next p inputs w past ≡ Some (Invoke how v)) (sym same) asked.asks, behaves, goes_on),
         omega (arith, last, adds, adds', before, took, low, less, nothing),
       )
   child_holds (serial.Stopped f) w v past k how callee u t start left left' x m' same asked less inner rest = tt
@@ -227,6 +227,6 @@ module _ (p : Source) (inputs : List ℤ) where
       let one = run_holds inner c [] 1 (record { callee = refl; answers = refl; going = refl; ordinal = refl }) (omega (arith, less, low)) in
       let left_less = holds_lower v left' m' c [] (named_from p c 1 u) left one in
       child_holds end w c past k how callee (named_from p c 1 u) (named_from p w (suc k) r) start left left' v m' refl asked left_less one
-      (run_holds rest w (past ++ Invokes (kind_of_child how) c ∷ []) (suc k) (at_child w fr past history k (kind_of_child how) c at) (omega (arith, less, low, left_less)))
+      (run_holds rest w (past ++ Invokes how c ∷ []) (suc k) (at_child w fr past history k how c at) (omega (arith, less, low, left_less)))
   run_holds (serial.Broke how callee left f q ok inner) w past k at low = tt
   run_holds (serial.Refused k' left f q bad) w past k at low = tt

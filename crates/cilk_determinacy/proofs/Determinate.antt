@@ -10,23 +10,18 @@ use Rattle.cilk_program.specs.Syntax.{Source}
 use Rattle.cilk_program.specs.SerialRun as serial
 use Rattle.cilk_program.specs.SerialRun.{Memory, global_reducer, before_root, root_frame, begun, conclusion_of, Ending, Finished, Stopped, Serial}
 use Rattle.cilk_meaning.proofs.Roots.{ends_as_elided}
-use Rattle.cilk_tree.specs.Tree.{tree}
-use Rattle.cilk_tree.specs.Races.{HasNoRace}
-use Rattle.cilk_peers.specs.ViewRaces.{HasNoViewRace}
 use Rattle.cilk_runs.specs.Machine.{State, deeds_at, HasEnd}
 use Rattle.cilk_runs.specs.Monoids.{unit_of}
 use Rattle.cilk_runs.specs.Serial.{value_after}
 use Rattle.cilk_runs.specs.Views.{view_after}
-use Rattle.cilk_runs.specs.Trees.{trace}
+use Rattle.cilk_runs.specs.Traces.{trace, AreWritten}
 use Rattle.cilk_runs.specs.Theorem.{HasNoRaces, Agrees}
 use Rattle.cilk_runs.specs.Cuts.{below, IsFull}
 use Rattle.cilk_runs.proofs.Find.{full_deeds}
 use Rattle.cilk_runs.proofs.Kept.{opening_ok}
-use Rattle.cilk_runs.proofs.Positions.{cut_closed}
+use Rattle.cilk_runs.proofs.Positions.{cuts_closed as closed_before}
 use Rattle.cilk_runs.proofs.Theorem.{race_free_kept, race_free_agrees, race_free_determinate, follows_determined}
-use Rattle.cilk_cells.specs.Nested.{shape_of, AreWritten}
-use Rattle.cilk_cells.proofs.Nested.{events_spell}
-use Rattle.cilk_cells.proofs.NestedRaces.{freedom_nests}
+use Rattle.cilk_runs.proofs.Spells.{events_spell}
 use Rattle.cilk_worlds.specs.Reducers.{View, monoid_of}
 use Rattle.cilk_worlds.specs.Worlds.{World, first_world}
 use Rattle.cilk_worlds.specs.Machine.{next, costs, opening_values}
@@ -38,7 +33,6 @@ use Rattle.cilk_determinacy.proofs.Ending.{run_result, run_ends, same_outcome}
 use Rattle.cilk_determinacy.specs.Numbers.{cell_number, instance_number}
 use Rattle.cilk_determinacy.proofs.Numbered.{are_written, events_numbered}
 use Rattle.cilk_determinacy.proofs.Shapes.{serial_proper}
-use Rattle.cilk_tree.proofs.Spelled.{spells_one}
 use Rattle.cilk_meaning.proofs.Ticking.{frame_more, frame_further, not_out}
 
 -- ---- ticks
@@ -95,9 +89,7 @@ module _ (p : Source) (inputs : List ℤ) (r : serial.Run) (es : List Event) (ou
   no_races : HasNoRaces (named p r)
   no_races =
       let n = serial_numbered p inputs r es outcome free.named free.runs in
-      let f = free.free in
-      let same : f.shape ≡ shape_of (named p r) = spells_one f.shape (shape_of (named p r)) es f.spells n.spells in
-      freedom_nests World (cell_number p r) (instance_number p r) (named p r) es n.framed n.written (subst (λ s. HasNoRace (tree s) es) same f.races) (subst (λ s. HasNoViewRace (tree s) es) same f.view_races)
+      record { cell = cell_number p r; instance = instance_number p r; events = es; written = n.written; free = free.free }
 
   as_serial : (s : State World View) → Agrees World View monoid_of (Next p inputs) (costs p inputs) (first_world p) (named p r) (opening_values p inputs) s → IsAsSerial p inputs r outcome s
   as_serial s agrees = record {
@@ -128,7 +120,7 @@ pub opens_as_cut : (p : Source) (inputs : List ℤ) → OpensAsCut p inputs
 opens_as_cut p inputs r s first = opening_ok World View monoid_of (Next p inputs) (costs p inputs) (first_world p) (named p r) (opening_values p inputs) s first
 
 pub cuts_closed : (p : Source) (inputs : List ℤ) → CutsAreClosed p inputs
-cuts_closed p inputs r s cut = cut_closed (named p r) (deeds_at (s.frames [])) (below s.frames) cut.cut
+cuts_closed p inputs r es s n cut = closed_before World (cell_number p r) (instance_number p r) (named p r) es (deeds_at (s.frames [])) (below s.frames) n.framed n.written cut.cut
 
 pub steps_keep_cuts : (p : Source) (inputs : List ℤ) → StepsKeepCuts p inputs
 steps_keep_cuts p inputs r es outcome free s s' n cut step =

@@ -12,11 +12,13 @@ use Rattle.cilk_meaning.specs.WorkedFrames.{get}
 use Rattle.cilk_meaning.specs.WorkedReducers.{changed, lent, again}
 use Rattle.cilk_meaning.proofs.FrameRows.{get_runs}
 use Rattle.cilk_meaning.proofs.ReducerRows.{changed_runs, lent_runs, again_runs}
-use Rattle.cilk_tree.specs.Shape.{called, spawned, Shape, finish, act, sync, child, Spells}
+use Rattle.cilk_types.specs.declared.invocation.Invocation.TheVariants as invocations
+use Rattle.cilk_tree.specs.Shape.{Shape, finish, act, sync, child, Spells}
 use Rattle.cilk_tree.specs.Tree.{tree}
 use Rattle.cilk_determinacy.specs.Theorem.{SetWords}
 use Rattle.cilk_determinacy.specs.Worked.{IsFree, AlwaysLeaves, got, GetIsFree, GetLeaves, lent_out, LentIsFree, LentLeaves, changed_to, ChangedIsFree, ChangedLeaves, called_again, AgainIsFree, AgainLeaves}
-use Rattle.cilk_determinacy.proofs.Decided.{is_free, free, is_view_free, view_free}
+use Rattle.cilk_runs.specs.Tested.{none, is_free_but, is_view_free}
+use Rattle.cilk_runs.proofs.Decided.{tests_tell}
 use Rattle.cilk_determinacy.proofs.Determinate.{is_determinate}
 
 abbrev sets_nothing : List Event → Bool
@@ -41,13 +43,13 @@ no_sets (events.Value i v ∷ es) h = (tt, no_sets es h)
 no_sets (events.Print v ∷ es) h = (tt, no_sets es h)
 
 -- a program whose events are these, and spell this shape
-is_free_row : (p : Source) (inputs : List ℤ) (es : List Event) (outcome : Outcome) (s : Shape) → Makes p inputs es (Leaves outcome) → IsTrue (is_well_named p) → SetWords es → Spells s es → is_free (tree s) es ≡ true → is_view_free (tree s) es ≡ true
+is_free_row : (p : Source) (inputs : List ℤ) (es : List Event) (outcome : Outcome) (s : Shape) → Makes p inputs es (Leaves outcome) → IsTrue (is_well_named p) → SetWords es → Spells s es → is_free_but none (tree s) es ≡ true → is_view_free (tree s) es ≡ true
     → IsFree p inputs outcome
 is_free_row p inputs es outcome s makes well words spells races views =
-    (makes.0, es, record { named = well; runs = makes.1; sets = words; free = record { shape = s; spells = spells; races = free (tree s) es races; view_races = view_free s es spells views } })
+    (makes.0, es, record { named = well; runs = makes.1; sets = words; free = tests_tell.free s es spells races views })
 
 -- the same where no reducer is set
-unset_row : (p : Source) (inputs : List ℤ) (es : List Event) (outcome : Outcome) (s : Shape) → Makes p inputs es (Leaves outcome) → IsTrue (is_well_named p) → sets_nothing es ≡ true → Spells s es → is_free (tree s) es ≡ true → is_view_free (tree s) es ≡ true
+unset_row : (p : Source) (inputs : List ℤ) (es : List Event) (outcome : Outcome) (s : Shape) → Makes p inputs es (Leaves outcome) → IsTrue (is_well_named p) → sets_nothing es ≡ true → Spells s es → is_free_but none (tree s) es ≡ true → is_view_free (tree s) es ≡ true
     → IsFree p inputs outcome
 unset_row p inputs es outcome s makes well unset spells races views = is_free_row p inputs es outcome s makes well (no_sets es unset) spells races views
 
@@ -57,7 +59,7 @@ always p inputs outcome (r, es, f) ns s reached = let h = is_determinate p input
 pub get_is_free : GetIsFree
 get_is_free =
     let inner = act (sync (act finish)) in
-    unset_row get [] _ got (act (act (child spawned inner (child spawned inner (sync (act (act (sync finish)))))))) get_runs refl refl refl refl refl
+    unset_row get [] _ got (act (act (child invocations.Spawn inner (child invocations.Spawn inner (sync (act (act (sync finish)))))))) get_runs refl refl refl refl refl
 
 pub get_leaves : GetLeaves
 get_leaves = always get [] got get_is_free
@@ -65,7 +67,7 @@ get_leaves = always get [] got get_is_free
 pub lent_is_free : LentIsFree
 lent_is_free =
     let inner = act (act (act (sync finish))) in
-    unset_row lent [] _ lent_out (act (child spawned inner (child spawned inner (sync (act (sync finish)))))) lent_runs refl refl refl refl refl
+    unset_row lent [] _ lent_out (act (child invocations.Spawn inner (child invocations.Spawn inner (sync (act (sync finish)))))) lent_runs refl refl refl refl refl
 
 pub lent_leaves : LentLeaves
 lent_leaves = always lent [] lent_out lent_is_free
@@ -82,7 +84,7 @@ pub again_is_free : AgainIsFree
 again_is_free =
     let inner = act (act (act (sync (act finish)))) in
     let rest = act (act (sync finish)) in
-    unset_row again [] _ called_again (act (act (act (act (act (act (child called inner rest))))))) again_runs refl refl refl refl refl
+    unset_row again [] _ called_again (act (act (act (act (act (act (child invocations.Call inner rest))))))) again_runs refl refl refl refl refl
 
 pub again_leaves : AgainLeaves
 again_leaves = always again [] called_again again_is_free

@@ -9,8 +9,8 @@ use Rattle.cilk_types.specs.declared.event.Event.TheVariants as events
 use Rattle.cilk_program.specs.declared.ask.Ask.{Ask}
 use Rattle.cilk_program.specs.declared.ask.Ask.TheVariants as asks
 use Rattle.cilk_program.specs.declared.ask.Callee.TheVariants as callees
-use Rattle.cilk_program.specs.declared.syntax.Invocation.{Invocation}
-use Rattle.cilk_program.specs.declared.syntax.Invocation.TheVariants as ways
+use Rattle.cilk_types.specs.declared.invocation.Invocation.{Invocation}
+use Rattle.cilk_types.specs.declared.invocation.Invocation.TheVariants as ways
 use Rattle.cilk_program.specs.Outcomes.{Leaves}
 use Rattle.cilk_program.specs.Syntax.{Source}
 use Rattle.cilk_program.specs.SerialRun as serial
@@ -19,7 +19,7 @@ use Rattle.cilk_meaning.specs.Numbering.{Counts, unbegun, entered, counts_after,
 use Rattle.cilk_meaning.proofs.Closings.{runs_begin, runs_resume}
 use Rattle.cilk_meaning.proofs.Numbers.{run_events}
 use Rattle.cilk_meaning.proofs.Remembered.{runs_small}
-use Rattle.cilk_cells.specs.Nested.{Due, begin_due, resume_due, neither_due}
+use Rattle.cilk_runs.specs.Traces.{Due, begin_due, resume_due, neither_due}
 use Rattle.cilk_determinacy.specs.Events.{frames_begun, count_from, FramesAreCounted}
 use Rattle.cilk_determinacy.proofs.Determinate.{ran}
 use Rattle.cilk_determinacy.proofs.Shapes.{IsProper, ProperAt, Stage, serial_proper}

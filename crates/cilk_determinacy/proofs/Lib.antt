@@ -3,7 +3,6 @@ pub mod Behaving
 pub mod Children
 pub mod ClosedAt
 pub mod Creations
-pub mod Decided
 pub mod Determinate
 pub mod Ending
 pub mod Examples

@@ -9,8 +9,8 @@ use Rattle.cilk_types.specs.declared.event.Event as numbers
 use Rattle.cilk_types.specs.declared.event.Event.TheVariants as events
 use Rattle.cilk_program.specs.declared.ask.Ask.{Ask}
 use Rattle.cilk_program.specs.declared.ask.Ask.TheVariants as asks
-use Rattle.cilk_program.specs.declared.syntax.Invocation.{Invocation}
-use Rattle.cilk_program.specs.declared.syntax.Invocation.TheVariants.{Call, Spawn}
+use Rattle.cilk_types.specs.declared.invocation.Invocation.{Invocation}
+use Rattle.cilk_types.specs.declared.invocation.Invocation.TheVariants.{Call, Spawn}
 use Rattle.cilk_program.specs.declared.syntax.Reducer as syntax
 use Rattle.cilk_program.specs.Scopes.{instance_in}
 use Rattle.cilk_program.specs.Store.{number_at}
@@ -21,10 +21,8 @@ use Rattle.cilk_program.specs.SerialRun as serial
 use Rattle.cilk_program.specs.SerialRun.{Memory, Frame, cell_at, reducer_at, next_frame, answer_to, result_written, event_of, invocation, IsInner, Ending, Serial, Made, Ended, Went, Broke, Refused}
 use Rattle.cilk_meaning.specs.Numbering.{counts_of, counts_after, entered}
 use Rattle.cilk_meaning.proofs.Numbers.{serial_counts}
-use Rattle.cilk_runs.specs.Runs.{Cell, Global, Kind, Calls, Spawns, Event, Reads, Writes, Syncs, Ends, Passes, Begins, Resumes, Creates, Updates, Sets, Values, Prints, Invokes, Run, stop, act, child}
-use Rattle.cilk_runs.specs.Trees.{trace}
-use Rattle.cilk_cells.specs.Nested.{IsWrittenEvent, IsWritten, AreWritten}
-use Rattle.cilk_worlds.specs.Machine.{kind_of_child}
+use Rattle.cilk_runs.specs.Runs.{Cell, Global, Event, Reads, Writes, Syncs, Ends, Passes, Begins, Resumes, Creates, Updates, Sets, Values, Prints, Invokes, Run, stop, act, child}
+use Rattle.cilk_runs.specs.Traces.{trace, IsWrittenEvent, IsWritten, AreWritten}
 use Rattle.cilk_determinacy.specs.Nested.{named_event, named_from}
 use Rattle.cilk_determinacy.specs.Numbers.{frame_number, cell_number, instance_number, start_event, numbered_event, numbered_events, IsHere, HasCell, EventIsHere, AreHere, EventsHaveNumbers}
 use Rattle.cilk_worlds.specs.Worlds.{World, first_world, child_world, global_named, cell_seen, result_cell}
@@ -80,7 +78,7 @@ module _ (p : Source) (whole : serial.Run) where
     number : es ≡ numbered_events p whole name t
     here : AreHere p whole t
 
-  start_numbered : (how : Invocation) (n m : ℕ) → n ≡ m → invocation how n ≡ start_event (kind_of_child how) m
+  start_numbered : (how : Invocation) (n m : ℕ) → n ≡ m → invocation how n ≡ start_event how m
   start_numbered Call n m e = ap events.Call e
   start_numbered Spawn n m e = ap events.Spawn e
 
@@ -91,10 +89,10 @@ module _ (p : Source) (whole : serial.Run) where
   }
 
   child_events : (name : List ℕ) (how : Invocation) (n : ℕ) (w : World) (u t : Run World) (es es' : List numbers.Event) → IsHere p whole w.name → n ≡ frame_number p whole w.name
-      → AreEvents w.name u es → AreEvents name t es' → AreEvents name (child (kind_of_child how) w u t) (invocation how n ∷ (es ++ es'))
+      → AreEvents w.name u es → AreEvents name t es' → AreEvents name (child how w u t) (invocation how n ∷ (es ++ es'))
   child_events name how n w u t es es' here e h g = record {
     number = ap (λ x. x ∷ (es ++ es')) (start_numbered how n (frame_number p whole w.name) e)
-        ∙ ap (λ l. start_event (kind_of_child how) (frame_number p whole w.name) ∷ l) (ap₂ (λ a b. a ++ b) h.number g.number);
+        ∙ ap (λ l. start_event how (frame_number p whole w.name) ∷ l) (ap₂ (λ a b. a ++ b) h.number g.number);
     here = (here, h.here, g.here);
   }
 
@@ -121,7 +119,7 @@ module _ (p : Source) (whole : serial.Run) where
     run_numbered (Broke {fr = fr} {start = start} {history = history} {m = m} {u = u} {es = es} how callee left f q ok inner) w j standing =
         let c = child_world p w (suc j) callee in
         let below = standing_child p inputs well whole w fr j how callee u serial.stop m history start left standing q in
-        subst (λ es. AreEvents w.name (child (kind_of_child how) c (named_from p c 1 u) stop) (invocation how (suc m.frames) ∷ es)) (append-nil es)
+        subst (λ es. AreEvents w.name (child how c (named_from p c 1 u) stop) (invocation how (suc m.frames) ∷ es)) (append-nil es)
         (child_events w.name how (suc m.frames) c (named_from p c 1 u) stop es [] below.stands.here
         (frame c (next_frame p fr.scope m callee) below.stands m)
         (run_numbered inner c 0 below) (nothing w.name))
@@ -148,9 +146,9 @@ module _ (p : Source) (whole : serial.Run) where
   event_written name (Passes (Values i v)) = refl
   event_written name (Passes (Prints x)) = refl
 
-  start_written : (k : Kind) (w : World) (n : ℕ) → IsWritten (cell_number p whole) (instance_number p whole) (Invokes k w) (start_event k n)
-  start_written Calls w n = (n, refl)
-  start_written Spawns w n = (n, refl)
+  start_written : (k : Invocation) (w : World) (n : ℕ) → IsWritten (cell_number p whole) (instance_number p whole) (Invokes k w) (start_event k n)
+  start_written Call w n = (n, refl)
+  start_written Spawn w n = (n, refl)
 
   pub are_written : (name : List ℕ) (t : Run World) → AreWritten (cell_number p whole) (instance_number p whole) (trace t) (numbered_events p whole name t)
   are_written name stop = tt

@@ -18,8 +18,8 @@ use Rattle.cilk_monoid.proofs.RangeLaws.{view_of-push, same_from_true}
 use Rattle.cilk_program.specs.declared.ask.Ask.{Ask}
 use Rattle.cilk_program.specs.declared.ask.Ask.TheVariants as asks
 use Rattle.cilk_program.specs.declared.ask.Callee.TheVariants as callees
-use Rattle.cilk_program.specs.declared.syntax.Invocation.{Invocation}
-use Rattle.cilk_program.specs.declared.syntax.Invocation.TheVariants.{Call, Spawn}
+use Rattle.cilk_types.specs.declared.invocation.Invocation.{Invocation}
+use Rattle.cilk_types.specs.declared.invocation.Invocation.TheVariants.{Call, Spawn}
 use Rattle.cilk_program.specs.declared.syntax.Reducer as syntax
 use Rattle.cilk_program.specs.Outcomes.{finals_from}
 use Rattle.cilk_program.specs.Inside.{AskIsThere}
@@ -32,9 +32,9 @@ use Rattle.cilk_program.specs.WellNamed.{is_well_named}
 use Rattle.cilk_meaning.specs.Numbering.{counts_of, counts_after, entered}
 use Rattle.cilk_meaning.proofs.Numbers.{serial_counts}
 use Rattle.cilk_runs.specs.Runs.{Instance, Event, Deed, Does, Invokes, Run, stop, act, child}
-use Rattle.cilk_runs.specs.Trees.{trace}
+use Rattle.cilk_runs.specs.Traces.{trace}
 use Rattle.cilk_runs.proofs.Basics.{same_kind-eq}
-use Rattle.cilk_worlds.specs.Machine.{kind_of_child, retired_by, retired_from}
+use Rattle.cilk_worlds.specs.Machine.{retired_by, retired_from}
 use Rattle.cilk_determinacy.specs.Nested.{named_event, named_from, named}
 use Rattle.cilk_determinacy.specs.ReducerEvents.{OfKind, only, view_over, of_instance, retired_all, of_event, reducer_events, finals_over, ValuesAreViewed, FinalsAreViewed}
 use Rattle.cilk_worlds.specs.Reducers.{kind_of}
@@ -233,7 +233,7 @@ module _ (p : Source) (whole : serial.Run) where
   }
 
   child_viewed : (end : Ending) (how : Invocation) (n : ℕ) (w : World) (u t : Run World) (es es' : List numbers.Event) (ts : List OfKind) → AreOver ts (trace u) es
-      → Viewed end t es' (ts ++ reducer_events p whole (trace u)) → Viewed end (child (kind_of_child how) w u t) (invocation how n ∷ (es ++ es')) ts
+      → Viewed end t es' (ts ++ reducer_events p whole (trace u)) → Viewed end (child how w u t) (invocation how n ∷ (es ++ es')) ts
   child_viewed end how n w u t es es' ts h g = record {
     values = (no_value_invoked how n ts, over_both ts (trace u) (trace t) es es' h g.values);
     holds = subst (HoldsAt end) (append_assoc ts (reducer_events p whole (trace u)) (reducer_events p whole (trace t)) ∙ ap (λ l. ts ++ l) (sym (events_both (trace u) (trace t)))) g.holds;
@@ -259,7 +259,7 @@ module _ (p : Source) (whole : serial.Run) where
     run_viewed (Broke {fr = fr} {start = start} {history = history} {m = m} {u = u} {es = es} how callee left f q ok inner) w j standing ts holds =
         let c = child_world p w (suc j) callee in
         let one = run_viewed inner c 0 (standing_child p inputs well whole w fr j how callee u serial.stop m history start left standing q) ts (record { views = holds.views }) in
-        subst (λ es. Viewed (serial.Stopped f) (child (kind_of_child how) c (named_from p c 1 u) stop) (invocation how (suc m.frames) ∷ es) ts) (append-nil es)
+        subst (λ es. Viewed (serial.Stopped f) (child how c (named_from p c 1 u) stop) (invocation how (suc m.frames) ∷ es) ts) (append-nil es)
         (child_viewed (serial.Stopped f) how (suc m.frames) c (named_from p c 1 u) stop es [] ts one.values (record { values = tt; holds = tt }))
     run_viewed (Refused k left f q bad) w j standing ts holds = record { values = tt; holds = tt }
 

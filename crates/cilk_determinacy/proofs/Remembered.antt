@@ -9,8 +9,8 @@ use Rattle.cilk_monoid.specs.Lawful.{lawful}
 use Rattle.cilk_monoid.specs.Values.{IsWord}
 use Rattle.cilk_program.specs.declared.ask.Ask.{Ask}
 use Rattle.cilk_program.specs.declared.ask.Ask.TheVariants as asks
-use Rattle.cilk_program.specs.declared.syntax.Invocation.{Invocation}
-use Rattle.cilk_program.specs.declared.syntax.Invocation.TheVariants.{Call, Spawn}
+use Rattle.cilk_types.specs.declared.invocation.Invocation.{Invocation}
+use Rattle.cilk_types.specs.declared.invocation.Invocation.TheVariants.{Call, Spawn}
 use Rattle.cilk_program.specs.declared.syntax.Reducer as syntax
 use Rattle.cilk_program.specs.Scopes.{instance_in}
 use Rattle.cilk_program.specs.Store.{Store, number_at}
@@ -25,12 +25,11 @@ use Rattle.cilk_runs.specs.Runs.{Cell, Global, Instance, Event, Reads, Writes, S
 use Rattle.cilk_runs.specs.Machine.{put}
 use Rattle.cilk_runs.specs.Monoids.{on_view}
 use Rattle.cilk_runs.specs.Serial.{value_after, IsRight, IsSerial}
-use Rattle.cilk_runs.specs.Trees.{trace}
+use Rattle.cilk_runs.specs.Traces.{trace, IsWrittenEvent, IsWritten, AreWritten}
 use Rattle.cilk_runs.specs.Views.{view_after, IsViewRight, IsSerialViews}
-use Rattle.cilk_cells.specs.Nested.{IsWrittenEvent, IsWritten, AreWritten}
 use Rattle.cilk_worlds.specs.Reducers.{View, value_of, kind_of, monoid_of}
 use Rattle.cilk_worlds.specs.Worlds.{Reducers, own_named, global_named, World, child_world, cell_seen, result_cell}
-use Rattle.cilk_worlds.specs.Machine.{kind_of_child, retired_by}
+use Rattle.cilk_worlds.specs.Machine.{retired_by}
 use Rattle.cilk_determinacy.specs.Nested.{named_event, named_from}
 use Rattle.cilk_determinacy.specs.Theorem.{SetsWord, SetWords}
 use Rattle.cilk_determinacy.specs.Numbers.{cell_number, instance_number, HasCell, HasInstance}
@@ -226,12 +225,12 @@ module _ (p : Source) (whole : serial.Run) where
   }
   act_remembers (serial.Stopped g) t e n es memory views store f h = tt
 
-  child_written : (how : Invocation) (w : World) (n : ℕ) → IsWritten (cell_number p whole) (instance_number p whole) (Invokes (kind_of_child how) w) (invocation how n)
+  child_written : (how : Invocation) (w : World) (n : ℕ) → IsWritten (cell_number p whole) (instance_number p whole) (Invokes how w) (invocation how n)
   child_written Call w n = (n, refl)
   child_written Spawn w n = (n, refl)
 
   child_remembers : (end : Ending) (how : Invocation) (n : ℕ) (w : World) (u t : Run World) (es es' : List numbers.Event) (memory : Cell → ℤ) (views : Instance → View) (v : ℤ) (left : ℕ) (m : Memory) → RemembersAt (Finished v left m) u es memory views
-      → RemembersAt end t es' (λ c. value_after u c (memory c)) (λ i. view_after (monoid_of i) i u (views i)) → RemembersAt end (child (kind_of_child how) w u t) (invocation how n ∷ (es ++ es')) memory views
+      → RemembersAt end t es' (λ c. value_after u c (memory c)) (λ i. view_after (monoid_of i) i u (views i)) → RemembersAt end (child how w u t) (invocation how n ∷ (es ++ es')) memory views
   child_remembers (Finished v' left' m') how n w u t es es' memory views v left m h g = record {
     serial = (h.serial, g.serial);
     serial_views = (h.serial_views, g.serial_views);

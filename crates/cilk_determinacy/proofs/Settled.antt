@@ -12,10 +12,10 @@ use Rattle.cilk_serial.specs.Ran.{Ran}
 use Rattle.cilk_tree.specs.Shape.{Shape, Spells}
 use Rattle.cilk_tree.specs.Tree.{tree}
 use Rattle.cilk_peers.specs.ViewRaces.{HasNoViewRace, IsFirstViewRace}
-use Rattle.cilk_cells.specs.Nested.{shape_of}
+use Rattle.cilk_runs.specs.Traces.{shape_of}
 use Rattle.cilk_determinacy.specs.Nested.{named}
 use Rattle.cilk_determinacy.specs.Settled.{IsJudged, SerialRunsSettle, IsSettled, HasRace}
-use Rattle.cilk_determinacy.specs.Theorem.{IsRaceFree}
+use Rattle.cilk_peers.specs.RaceFree.{IsRaceFree}
 use Rattle.cilk_determinacy.specs.Words.{HasWords, InputsAreWords}
 use Rattle.cilk_determinacy.proofs.Determinate.{serial_numbered}
 use Rattle.cilk_determinacy.proofs.Wordy.{determinate_in_words}

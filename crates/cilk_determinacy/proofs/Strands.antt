@@ -9,8 +9,8 @@ use Rattle.cilk_types.specs.declared.event.Event.{Event}
 use Rattle.cilk_program.specs.declared.ask.Ask.{Ask}
 use Rattle.cilk_program.specs.declared.ask.Ask.TheVariants as asks
 use Rattle.cilk_program.specs.declared.ask.Callee.TheVariants as callees
-use Rattle.cilk_program.specs.declared.syntax.Invocation.{Invocation}
-use Rattle.cilk_program.specs.declared.syntax.Invocation.TheVariants as ways
+use Rattle.cilk_types.specs.declared.invocation.Invocation.{Invocation}
+use Rattle.cilk_types.specs.declared.invocation.Invocation.TheVariants as ways
 use Rattle.cilk_program.specs.Outcomes.{Leaves}
 use Rattle.cilk_program.specs.Syntax.{Source}
 use Rattle.cilk_program.specs.SerialRun as serial
@@ -18,7 +18,7 @@ use Rattle.cilk_program.specs.SerialRun.{Frame, invocation, result_written}
 use Rattle.cilk_meaning.specs.Numbering.{Counts, unbegun, entered, counts_after, frame_of, events_of}
 use Rattle.cilk_meaning.proofs.Closings.{runs_begin, runs_resume, runs_end}
 use Rattle.cilk_meaning.proofs.Numbers.{run_events}
-use Rattle.cilk_runs.specs.Runs.{Kind, Calls, Spawns, Reads, Writes, Syncs, Ends, Passes, Begins, Resumes, Creates, Updates, Sets, Values, Prints, Run, act, child}
+use Rattle.cilk_runs.specs.Runs.{Reads, Writes, Syncs, Ends, Passes, Begins, Resumes, Creates, Updates, Sets, Values, Prints, Run, act, child}
 use Rattle.cilk_runs.specs.Serial.{SyncAhead}
 use Rattle.cilk_tree.specs.declared.mark.Mark.{Mark}
 use Rattle.cilk_tree.specs.declared.mark.Mark.TheVariants as mark
@@ -26,9 +26,8 @@ use Rattle.cilk_tree.specs.Marks.{mark_of}
 use Rattle.cilk_tree.specs.Reach as reach
 use Rattle.cilk_tree.specs.Shape.{Shape, marks, start_of, Spells}
 use Rattle.cilk_tree.proofs.Spelled.{spells_one}
-use Rattle.cilk_cells.specs.Nested.{Due, begin_due, resume_due, neither_due, IsFramed, kind_of, shape_of}
-use Rattle.cilk_cells.proofs.Nested.{ahead}
-use Rattle.cilk_worlds.specs.Machine.{kind_of_child}
+use Rattle.cilk_runs.specs.Traces.{Due, begin_due, resume_due, neither_due, IsFramed, shape_of}
+use Rattle.cilk_runs.proofs.Spells.{ahead}
 use Rattle.cilk_determinacy.specs.Nested.{named_from, named}
 use Rattle.cilk_determinacy.specs.Strands.{SpellOneShape}
 use Rattle.cilk_worlds.specs.Worlds.{World, first_world, child_world}
@@ -38,7 +37,7 @@ use Rattle.cilk_determinacy.proofs.Shapes.{IsProper, ProperAt, Stage, IsSynced, 
 
 -- ---- the events spell the shape
 
-how_starts : (how : Invocation) (n : ℕ) → mark_of (invocation how n) ≡ start_of (kind_of (kind_of_child how))
+how_starts : (how : Invocation) (n : ℕ) → mark_of (invocation how n) ≡ start_of how
 how_starts ways.Call n = refl
 how_starts ways.Spawn n = refl
 
@@ -60,10 +59,10 @@ module _ (p : Source) where
   ended w k fr n y v r e = ap (λ (r : serial.Run). mark.End ∷ map mark_of (events_of p fr n r)) e
 
   children : (how : Invocation) (m : ℕ) (u r : List Event) (a b : List Mark) → map mark_of u ≡ mark.Begin ∷ a → map mark_of r ≡ mark.Resume ∷ b
-      → map mark_of (invocation how m ∷ (u ++ r)) ≡ start_of (kind_of (kind_of_child how)) ∷ mark.Begin ∷ a ++ mark.Resume ∷ b
+      → map mark_of (invocation how m ∷ (u ++ r)) ≡ start_of how ∷ mark.Begin ∷ a ++ mark.Resume ∷ b
   children how m u r a b e f =
       ap (λ (x : Mark). x ∷ map mark_of (u ++ r)) (how_starts how m)
-      ∙ next_mark (start_of (kind_of (kind_of_child how)))
+      ∙ next_mark (start_of how)
       (map-append mark_of u r ∙ (ap (λ l. l ++ map mark_of r) e ∙ ap (λ l. mark.Begin ∷ (a ++ l)) f))
 
   spelled : (d : Due) (w : World) (k : ℕ) (fr : Frame) (n : Counts) (r : serial.Run) → IsProper r → Stage d r → Spelled d w k fr n r
@@ -113,9 +112,9 @@ has_sync neither_due (act (Passes (Prints x)) r) h g = has_sync neither_due r h 
 has_sync neither_due (child k w u r) h g = has_sync resume_due r h.1 g
 has_sync _ _ h g = absurd h
 
-sync_if : (k : Kind) (s : Shape) → reach.HasSync s → reach.HasSyncIf (kind_of k) s
-sync_if Calls s h = tt
-sync_if Spawns s h = h
+sync_if : (k : Invocation) (s : Shape) → reach.HasSync s → reach.HasSyncIf k s
+sync_if ways.Call s h = tt
+sync_if ways.Spawn s h = h
 
 synced_shape : (d : Due) (t : Run World) → IsFramed d t → IsSynced t → reach.IsSynced (shape_of t)
 synced_shape begin_due (act (Passes Begins) r) h g = synced_shape neither_due r h g

@@ -5,11 +5,12 @@ use Rattle.cilk_types.specs.declared.event.Event as numbers
 use Rattle.cilk_program.specs.Syntax.{Source}
 use Rattle.cilk_program.specs.SerialRun as serial
 use Rattle.cilk_meaning.specs.Created.{Among, Passes as Goes, deed_of, IsCreated, made_by, AreCreated}
-use Rattle.cilk_runs.specs.Runs.{Instance, Output, Reducer, Kind, Calls, Spawns, Event, Reads, Writes, Syncs, Ends, Passes, Begins, Resumes, Creates, Updates, Sets, Values, Prints, Deed, Invokes, Run, stop, act, child}
+use Rattle.cilk_types.specs.declared.invocation.Invocation.{Invocation}
+use Rattle.cilk_types.specs.declared.invocation.Invocation.TheVariants.{Call, Spawn}
+use Rattle.cilk_runs.specs.Runs.{Instance, Output, Reducer, Event, Reads, Writes, Syncs, Ends, Passes, Begins, Resumes, Creates, Updates, Sets, Values, Prints, Deed, Invokes, Run, stop, act, child}
 use Rattle.cilk_runs.specs.Races.{HasEventWith}
-use Rattle.cilk_runs.specs.Trees.{trace}
+use Rattle.cilk_runs.specs.Traces.{trace, IsWrittenEvent, IsWritten, AreWritten}
 use Rattle.cilk_runs.specs.Views.{IsReducerRead, IsUpdate, IsCreatedFirst, IsCreated as IsCreatedOrUnread}
-use Rattle.cilk_cells.specs.Nested.{IsWrittenEvent, IsWritten, AreWritten}
 use Rattle.cilk_worlds.specs.Worlds.{World}
 use Rattle.cilk_determinacy.specs.Numbers.{cell_number, instance_number, HasInstance}
 use Rattle.cilk_determinacy.proofs.Numbers.{declared_one}
@@ -35,9 +36,9 @@ module _ {W : Type 0} (cell : _) (instance : Instance → numbered.Instance) whe
   written_split (d ∷ a) b (e ∷ es) h = let g = written_split a b es h.1 in (e ∷ g.0, g.1, ap (λ l. e ∷ l) g.2, (h.0, g.3), g.4)
 
   -- a child's start is no event of a reducer
-  started_deed : (k : Kind) (w : W) (e : numbers.Event) → IsWritten cell instance (Invokes k w) e → deed_of e ≡ Goes
-  started_deed Calls w e (f, h) = ap deed_of h
-  started_deed Spawns w e (f, h) = ap deed_of h
+  started_deed : (k : Invocation) (w : W) (e : numbers.Event) → IsWritten cell instance (Invokes k w) e → deed_of e ≡ Goes
+  started_deed Call w e (f, h) = ap deed_of h
+  started_deed Spawn w e (f, h) = ap deed_of h
 
 module _ (p : Source) (whole : serial.Run) (i : Instance) where
   abbrev N : Instance → numbered.Instance

@@ -7,10 +7,9 @@ use Rattle.cilk_program.specs.SerialRun.{cells_of}
 use Rattle.cilk_meaning.specs.Numbering.{Counts, counts_after, entered}
 use Rattle.cilk_runs.specs.Runs.{Event, Reads, Writes, Syncs, Ends, Passes, Deed, Does, Invokes, Run, stop, act, child, ask_of}
 use Rattle.cilk_runs.specs.Costs.{EventTotal, FrameTotal, CellTotal, frames_of, cells_of as cells_begun, weight}
-use Rattle.cilk_runs.specs.Trees.{trace}
-use Rattle.cilk_cells.specs.Nested.{AreWritten}
+use Rattle.cilk_runs.specs.Traces.{trace, AreWritten}
 use Rattle.cilk_worlds.specs.Worlds.{World, child_world}
-use Rattle.cilk_worlds.specs.Machine.{kind_of_child, costs}
+use Rattle.cilk_worlds.specs.Machine.{costs}
 use Rattle.cilk_determinacy.specs.Nested.{named_event, named_from}
 
 no_frames : (W : Type 0) (e : Event) → frames_of {W = W} (ask_of e) ≡ 0
@@ -52,7 +51,7 @@ module _ (p : Source) (inputs : List ℤ) where
   frames_weigh w past n (serial.child how callee u r) c =
       let v = child_world p w n callee in
       let h = frames_weigh v [] 1 u (entered p callee c) in
-      let g = frames_weigh w (past ++ Invokes (kind_of_child how) v ∷ []) (suc n) r (counts_after p u (entered p callee c)) in
+      let g = frames_weigh w (past ++ Invokes how v ∷ []) (suc n) r (counts_after p u (entered p callee c)) in
       omega (arith, h, g)
 
   pub cells_weigh : (w : World) (past : List (Deed World)) (n : ℕ) (r : serial.Run) (c : Counts) → c.cells + weight (costs p inputs) CellTotal w past (named_from p w n r) ≡ (counts_after p r c).cells
@@ -64,5 +63,5 @@ module _ (p : Source) (inputs : List ℤ) where
   cells_weigh w past n (serial.child how callee u r) c =
       let v = child_world p w n callee in
       let h = cells_weigh v [] 1 u (entered p callee c) in
-      let g = cells_weigh w (past ++ Invokes (kind_of_child how) v ∷ []) (suc n) r (counts_after p u (entered p callee c)) in
+      let g = cells_weigh w (past ++ Invokes how v ∷ []) (suc n) r (counts_after p u (entered p callee c)) in
       omega (arith, h, g)

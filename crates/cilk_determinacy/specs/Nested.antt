@@ -6,7 +6,7 @@ use Rattle.cilk_program.specs.Syntax.{Source}
 use Rattle.cilk_program.specs.SerialRun as serial
 use Rattle.cilk_runs.specs.Runs.{Event, Reads, Writes, Syncs, Ends, Passes, Begins, Resumes, Creates, Updates, Sets, Values, Prints, Run, stop, act, child}
 use Rattle.cilk_worlds.specs.Worlds.{World, first_world, child_world, cell_seen, reducer_seen, result_cell}
-use Rattle.cilk_worlds.specs.Machine.{kind_of_child, retired_by}
+use Rattle.cilk_worlds.specs.Machine.{retired_by}
 
 -- the event of an ask that was answered so; a frame of a run doesn't ask for a child or a fault so
 abbrev pub named_event : Source → World → language.Ask → ℤ → Event
@@ -30,7 +30,7 @@ abbrev pub named_from : Source → World → ℕ → serial.Run → Run World
 named_from p w k serial.stop = stop
 named_from p w k (serial.act a v r) = act (named_event p w a v) (named_from p w k r)
 named_from p w k (serial.child how callee u r) =
-    child (kind_of_child how) (child_world p w k callee) (named_from p (child_world p w k callee) 1 u) (named_from p w (suc k) r)
+    child how (child_world p w k callee) (named_from p (child_world p w k callee) 1 u) (named_from p w (suc k) r)
 
 -- the run of the first frame
 abbrev pub named : Source → serial.Run → Run World

@@ -11,7 +11,9 @@ use Rattle.cilk_program.specs.Syntax.{Source, main_of, function_at}
 use Rattle.cilk_program.specs.SerialRun as serial
 use Rattle.cilk_program.specs.WellNamed.{is_kind, is_well_named}
 use Rattle.cilk_meaning.specs.Numbering.{Block, frame_at}
-use Rattle.cilk_runs.specs.Runs.{Name, Cell, Global, Own, Instance, Output, Reducer, Kind, Calls, Spawns, Event, Reads, Writes, Syncs, Ends, Passes, Mark, Begins, Resumes, Creates, Updates, Sets, Values, Prints, Run, stop, act, child}
+use Rattle.cilk_types.specs.declared.invocation.Invocation.{Invocation}
+use Rattle.cilk_types.specs.declared.invocation.Invocation.TheVariants.{Call, Spawn}
+use Rattle.cilk_runs.specs.Runs.{Name, Cell, Global, Own, Instance, Output, Reducer, Event, Reads, Writes, Syncs, Ends, Passes, Mark, Begins, Resumes, Creates, Updates, Sets, Values, Prints, Run, stop, act, child}
 use Rattle.cilk_determinacy.specs.Nested.{named}
 use Rattle.cilk_worlds.specs.Worlds.{World}
 
@@ -54,9 +56,9 @@ abbrev pub number_of : Option Block → ℕ
 number_of None = 0
 number_of (Some b) = b.number
 
-abbrev pub start_event : Kind → ℕ → numbers.Event
-start_event Calls n = events.Call n
-start_event Spawns n = events.Spawn n
+abbrev pub start_event : Invocation → ℕ → numbers.Event
+start_event Call n = events.Call n
+start_event Spawn n = events.Spawn n
 
 module _ (p : Source) (r : serial.Run) where
   -- frames are numbered from 1 as they begin

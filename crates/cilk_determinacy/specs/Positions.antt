@@ -1,5 +1,5 @@
 -- What a state of the free machine has made of the serial run's list, by positions.
-use Rattle.std.specs.Prelude.{◌≡◌, ℕ, suc, ℤ, IsTrue, Bool, true, List, [], length, Some, slice_get}
+use Rattle.std.specs.Prelude.{◌≡◌, ℕ, ℤ, IsTrue, Bool, List, [], length}
 use Rattle.cilk_types.specs.declared.event.Event.{Event}
 use Rattle.cilk_types.specs.declared.outcome.Outcome.{Outcome}
 use Rattle.cilk_program.specs.Outcomes.{Leaves}
@@ -8,7 +8,7 @@ use Rattle.cilk_program.specs.Syntax.{Source}
 use Rattle.cilk_program.specs.WellNamed.{is_well_named}
 use Rattle.cilk_runs.specs.Cuts.{below}
 use Rattle.cilk_runs.specs.Machine.{State, deeds_at}
-use Rattle.cilk_runs.specs.Positions.{made_at}
+use Rattle.cilk_runs.specs.Positions.{made_at, IsMade}
 use Rattle.cilk_tree.specs.Before.{IsPosition, IsBefore}
 use Rattle.cilk_tree.specs.Shape.{Shape, Spells}
 use Rattle.cilk_tree.specs.Tree.{Tree, tree}
@@ -22,14 +22,10 @@ module _ (p : Source) (r : serial.Run) (s : State World View) where
   abbrev pub made : List Bool
   made = made_at (named p r) 1 (deeds_at (s.frames [])) (below s.frames)
 
-  -- the event at position q is made; positions count from 1
-  abbrev pub IsMadeAt : ℕ → Type 0
-  IsMadeAt q = (k : ℕ) × (q ≡ suc k) × (slice_get made k ≡ Some true)
-
   -- each event of the list is made or not, and with an event made, each event before it in the tree is made
   pub record IsClosedAt (es : List Event) (t : Tree) : Type 0 where
     pub many : length made ≡ length es
-    pub closed : (q q' : ℕ) → IsPosition es q → IsPosition es q' → IsBefore t es q q' → IsMadeAt q' → IsMadeAt q
+    pub closed : (q q' : ℕ) → IsPosition es q → IsPosition es q' → IsBefore t es q q' → IsMade made q' → IsMade made q
 
 -- each consistent cut of the serial run is closed under before, by positions of the run's list
 abbrev pub CutsAreClosedAt : Source → List ℤ → Type 0

@@ -15,7 +15,7 @@ use Rattle.cilk_program.specs.SerialRun as serial
 use Rattle.cilk_program.specs.SerialRun.{global_reducer}
 use Rattle.cilk_program.specs.WellNamed.{is_well_named}
 use Rattle.cilk_runs.specs.Runs.{Instance, Event, Reads, Writes, Syncs, Ends, Passes, Mark, Begins, Resumes, Creates, Updates, Sets, Values, Prints, Deed, Does, Invokes}
-use Rattle.cilk_runs.specs.Trees.{trace}
+use Rattle.cilk_runs.specs.Traces.{trace}
 use Rattle.cilk_tree.specs.Races.{event_at}
 use Rattle.cilk_determinacy.specs.Nested.{named}
 use Rattle.cilk_determinacy.specs.Numbers.{instance_number, HasInstance}

@@ -14,7 +14,8 @@ use Rattle.cilk_runs.specs.Runs.{Name}
 use Rattle.cilk_runs.specs.Machine.{State}
 use Rattle.cilk_worlds.specs.Reducers.{View}
 use Rattle.cilk_worlds.specs.Worlds.{World}
-use Rattle.cilk_determinacy.specs.Theorem.{IsRaceFree, IsAsSerial}
+use Rattle.cilk_peers.specs.RaceFree.{IsRaceFree}
+use Rattle.cilk_determinacy.specs.Theorem.{IsAsSerial}
 use Rattle.cilk_worlds.specs.Steps.{Reaches}
 
 -- two positions have a determinacy race or a view-read race

@@ -14,18 +14,15 @@ use Rattle.cilk_program.specs.Outcomes.{Leaves}
 use Rattle.cilk_program.specs.Elision.{IsElision}
 use Rattle.cilk_program.specs.SerialRun as serial
 use Rattle.cilk_meaning.specs.Ticks.{IsWithin}
-use Rattle.cilk_tree.specs.Shape.{Shape, Spells}
-use Rattle.cilk_tree.specs.Tree.{tree}
-use Rattle.cilk_tree.specs.Races.{HasNoRace}
-use Rattle.cilk_peers.specs.ViewRaces.{HasNoViewRace}
+use Rattle.cilk_tree.specs.Shape.{Spells}
+use Rattle.cilk_peers.specs.RaceFree.{IsRaceFree}
 use Rattle.cilk_runs.specs.Runs.{Name}
 use Rattle.cilk_runs.specs.Costs.{Total, TickTotal, EventTotal, FrameTotal, CellTotal, weight}
 use Rattle.cilk_runs.specs.Machine.{State, deeds_at, HasEnd}
 use Rattle.cilk_runs.specs.Cuts.{IsConsistent, below}
 use Rattle.cilk_runs.specs.Positions.{made_at, IsClosedBefore}
 use Rattle.cilk_runs.specs.Theorem.{IsSerialRun, Agrees}
-use Rattle.cilk_runs.specs.Trees.{trace}
-use Rattle.cilk_cells.specs.Nested.{begin_due, IsFramed, shape_of, AreWritten}
+use Rattle.cilk_runs.specs.Traces.{trace, begin_due, IsFramed, shape_of, AreWritten}
 use Rattle.cilk_worlds.specs.Reducers.{View, monoid_of}
 use Rattle.cilk_worlds.specs.Worlds.{World, first_world}
 use Rattle.cilk_worlds.specs.Machine.{used, costs, opening_values}
@@ -41,13 +38,6 @@ SetsWord e = Unit {0}
 abbrev pub SetWords : List Event → Type 0
 SetWords [] = Unit {0}
 SetWords (e ∷ es) = SetsWord e × SetWords es
-
--- no two positions have a determinacy race or a view-read race
-pub record IsRaceFree (es : List Event) : Type 0 where
-  pub shape : Shape
-  pub spells : Spells shape es
-  pub races : HasNoRace (tree shape) es
-  pub view_races : HasNoViewRace (tree shape) es
 
 module _ (p : Source) (inputs : List ℤ) where
   -- the serial run, by names, is one in the sense of the theorem on free machines
@@ -117,10 +107,11 @@ module _ (p : Source) (inputs : List ℤ) where
   abbrev pub OpensAsCut : Type 0
   OpensAsCut = (r : serial.Run) (s : State World View) → IsFirst p inputs s → IsCut r s
 
-  -- in a consistent cut of a serial run, each event that is before one that is made is made
+  -- in a consistent cut of a serial run with this list of events, each event that is before one that is made is made
   abbrev pub CutsAreClosed : Type 0
   CutsAreClosed =
-      (r : serial.Run) (s : State World View) → IsCut r s → IsClosedBefore (named p r) (made_at (named p r) 1 (deeds_at (s.frames [])) (below s.frames))
+      (r : serial.Run) (es : List Event) (s : State World View) → IsNumbered r es → IsCut r s
+      → IsClosedBefore (named p r) es (made_at (named p r) 1 (deeds_at (s.frames [])) (below s.frames))
 
   abbrev pub StepsKeepCuts : Type 0
   StepsKeepCuts = (r : serial.Run) (es : List Event) (outcome : Outcome) → RunsFree r es outcome → (s s' : State World View) (n : Name) → IsCut r s → OneStep p inputs s n s' → IsCut r s'

@@ -8,10 +8,11 @@ ghost use Rattle.cilk_grammar.specs.Stops.{IsStop};
 ghost use Rattle.cilk_syntax.specs.Trees as trees;
 
 use crate::expressions::expr;
-use cilk_grammar::marks::{Mark, name, then_one};
+use cilk_grammar::marks::{Punct, name, then_one};
 use cilk_grammar::stop::Stop;
-use cilk_syntax::tree::{Assignment, Compound, Name, Place};
+use cilk_syntax::tree::{Assignment, Name, Place};
 use cilk_token::token::{Kind, Token};
+use cilk_types::compound::Compound;
 use std::alloc::Global;
 
 /// The place that begins with this name, from behind it.
@@ -39,7 +40,7 @@ fn place<'a>(
             after @ ..,
         ] => {
             let (index, rest) = expr(alloc, after, depth + 1)?;
-            then_one(Place::Element(name, index), rest, Mark::CloseBracket)
+            then_one(Place::Element(name, index), rest, Punct::CloseBracket)
         }
         _ => Ok((Place::Variable(name), tokens)),
     }

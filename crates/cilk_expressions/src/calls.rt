@@ -11,10 +11,11 @@ ghost use Rattle.cilk_syntax.specs.Trees as trees;
 
 use crate::expressions::expr;
 use cilk_grammar::firsts::begins_call;
-use cilk_grammar::marks::{Mark, behind, name, one};
+use cilk_grammar::marks::{Punct, behind, name, one};
 use cilk_grammar::stop::Stop;
-use cilk_syntax::tree::{Argument, Call, Expr, Invocation};
+use cilk_syntax::tree::{Argument, Call, Expr};
 use cilk_token::token::{Kind, Token};
+use cilk_types::invocation::Invocation;
 use std::alloc::Global;
 
 /// What a variable takes: an expression, or a call.
@@ -65,7 +66,7 @@ fn listed<'a>(
     let mut list = Vec::new(alloc);
     let (first, mut rest) = argument(alloc, tokens, depth)?;
     list.push(first)?;
-    'each: while let Some(after) = behind(rest, Mark::Comma) {
+    'each: while let Some(after) = behind(rest, Punct::Comma) {
         let (next, after) = argument(alloc, after, depth)?;
         list.push(next)?;
         rest = after;
@@ -87,7 +88,7 @@ pub fn arguments<'a>(
     ensures stops { IfErr result (λ e. (stack : List Symbol) →
         IsStop e (run tokens.now (Arguments depth ∷ stack) 0)) }
 {
-    if let Some(rest) = behind(tokens, Mark::Close) {
+    if let Some(rest) = behind(tokens, Punct::Close) {
         return Ok((Vec::new(alloc), rest));
     }
     let (list, rest) = listed(alloc, tokens, depth)?;
@@ -113,12 +114,12 @@ pub fn call<'a>(
     ensures tree { IfOk result (λ x. SpellsCall (trees.call x.0) tokens.now x.1.now) }
     ensures shorter { IfOk result (λ x. length x.1.now < length tokens.now) }
     ensures reads { IfOk result (λ x. (stack : List Symbol) →
-        run tokens.now (Named ∷ One Mark.Open ∷ Arguments depth ∷ stack) 0 ≡ run x.1.now stack 0) }
+        run tokens.now (Named ∷ One Punct.Open ∷ Arguments depth ∷ stack) 0 ≡ run x.1.now stack 0) }
     ensures stops { IfErr result (λ e. (stack : List Symbol) →
-        IsStop e (run tokens.now (Named ∷ One Mark.Open ∷ Arguments depth ∷ stack) 0)) }
+        IsStop e (run tokens.now (Named ∷ One Punct.Open ∷ Arguments depth ∷ stack) 0)) }
 {
     let (name, rest) = name(tokens)?;
-    let rest = one(rest, Mark::Open)?;
+    let rest = one(rest, Punct::Open)?;
     let (arguments, rest) = arguments(alloc, rest, depth)?;
     Ok((Call { name, arguments }, rest))
 }

@@ -11,7 +11,7 @@ ghost use Rattle.cilk_token.specs.declared.token.Kind.TheVariants as kinds;
 ghost use Rattle.cilk_syntax.specs.Trees.{expression, optional};
 
 use cilk_grammar::firsts::begins_part;
-use cilk_grammar::marks::{Mark, name, one, then_one};
+use cilk_grammar::marks::{Punct, name, one, then_one};
 use cilk_grammar::operators::next_operator;
 use cilk_grammar::stop::{DEEPEST, MOST_OPERATORS, Stop};
 use cilk_syntax::tree::{Expr, Name, UnaryOperator};
@@ -29,13 +29,13 @@ fn reducer_value<'a>(
     ensures shorter { IfOk result (λ x. length x.1.now < length tokens.now) }
     ensures few { IfOk result (λ x. x.2 ≡ operators) }
     ensures reads { IfOk result (λ x. (stack : List Symbol) →
-        run tokens.now (One Mark.Open ∷ Named ∷ One Mark.Close ∷ stack) operators ≡ run x.1.now stack x.2) }
+        run tokens.now (One Punct.Open ∷ Named ∷ One Punct.Close ∷ stack) operators ≡ run x.1.now stack x.2) }
     ensures stops { IfErr result (λ e. (stack : List Symbol) →
-        IsStop e (run tokens.now (One Mark.Open ∷ Named ∷ One Mark.Close ∷ stack) operators)) }
+        IsStop e (run tokens.now (One Punct.Open ∷ Named ∷ One Punct.Close ∷ stack) operators)) }
 {
-    let rest = one(tokens, Mark::Open)?;
+    let rest = one(tokens, Punct::Open)?;
     let (reducer, rest) = name(rest)?;
-    let rest = one(rest, Mark::Close)?;
+    let rest = one(rest, Punct::Close)?;
     Ok((Box::new(alloc, Expr::Value(reducer))?, rest, operators))
 }
 
@@ -50,12 +50,12 @@ fn input_count<'a>(
     ensures shorter { IfOk result (λ x. length x.1.now < length tokens.now) }
     ensures few { IfOk result (λ x. x.2 ≡ operators) }
     ensures reads { IfOk result (λ x. (stack : List Symbol) →
-        run tokens.now (One Mark.Open ∷ One Mark.Close ∷ stack) operators ≡ run x.1.now stack x.2) }
+        run tokens.now (One Punct.Open ∷ One Punct.Close ∷ stack) operators ≡ run x.1.now stack x.2) }
     ensures stops { IfErr result (λ e. (stack : List Symbol) →
-        IsStop e (run tokens.now (One Mark.Open ∷ One Mark.Close ∷ stack) operators)) }
+        IsStop e (run tokens.now (One Punct.Open ∷ One Punct.Close ∷ stack) operators)) }
 {
-    let rest = one(tokens, Mark::Open)?;
-    let rest = one(rest, Mark::Close)?;
+    let rest = one(tokens, Punct::Open)?;
+    let rest = one(rest, Punct::Close)?;
     Ok((Box::new(alloc, Expr::InputCount)?, rest, operators))
 }
 
@@ -189,11 +189,11 @@ fn group<'a>(
     ensures shorter { IfOk result (λ x. length x.1.now < length tokens.now) }
     ensures few { IfOk result (λ x. x.2 ≤ 256) }
     ensures reads { IfOk result (λ x. (stack : List Symbol) →
-        run tokens.now (Operand (depth + 1) ∷ Tail (depth + 1) ∷ One Mark.Close ∷ stack) operators ≡ run x.1.now stack x.2) }
+        run tokens.now (Operand (depth + 1) ∷ Tail (depth + 1) ∷ One Punct.Close ∷ stack) operators ≡ run x.1.now stack x.2) }
     ensures stops { IfErr result (λ e. (stack : List Symbol) →
-        IsStop e (run tokens.now (Operand (depth + 1) ∷ Tail (depth + 1) ∷ One Mark.Close ∷ stack) operators)) }
+        IsStop e (run tokens.now (Operand (depth + 1) ∷ Tail (depth + 1) ∷ One Punct.Close ∷ stack) operators)) }
 {
-    let (inner, rest, count) = nested(alloc, tokens, depth + 1, operators, Mark::Close)?;
+    let (inner, rest, count) = nested(alloc, tokens, depth + 1, operators, Punct::Close)?;
     Ok((Box::new(alloc, Expr::Group(inner))?, rest, count))
 }
 
@@ -212,12 +212,12 @@ fn input<'a>(
     ensures shorter { IfOk result (λ x. length x.1.now < length tokens.now) }
     ensures few { IfOk result (λ x. x.2 ≤ 256) }
     ensures reads { IfOk result (λ x. (stack : List Symbol) →
-        run tokens.now (One Mark.Open ∷ Operand (depth + 1) ∷ Tail (depth + 1) ∷ One Mark.Close ∷ stack) operators ≡ run x.1.now stack x.2) }
+        run tokens.now (One Punct.Open ∷ Operand (depth + 1) ∷ Tail (depth + 1) ∷ One Punct.Close ∷ stack) operators ≡ run x.1.now stack x.2) }
     ensures stops { IfErr result (λ e. (stack : List Symbol) →
-        IsStop e (run tokens.now (One Mark.Open ∷ Operand (depth + 1) ∷ Tail (depth + 1) ∷ One Mark.Close ∷ stack) operators)) }
+        IsStop e (run tokens.now (One Punct.Open ∷ Operand (depth + 1) ∷ Tail (depth + 1) ∷ One Punct.Close ∷ stack) operators)) }
 {
-    let rest = one(tokens, Mark::Open)?;
-    let (place, rest, count) = nested(alloc, rest, depth + 1, operators, Mark::Close)?;
+    let rest = one(tokens, Punct::Open)?;
+    let (place, rest, count) = nested(alloc, rest, depth + 1, operators, Punct::Close)?;
     Ok((Box::new(alloc, Expr::Input(place))?, rest, count))
 }
 
@@ -255,7 +255,7 @@ fn behind_name<'a>(
                 after,
                 depth + 1,
                 operators,
-                Mark::CloseBracket,
+                Punct::CloseBracket,
             )?;
             Ok((Box::new(alloc, Expr::Element(name, index))?, rest, count))
         }
@@ -271,7 +271,7 @@ fn nested<'a>(
     tokens: &'a [Token],
     depth: u32,
     operators: u32,
-    close: Mark,
+    close: Punct,
 ) -> Result<(Box<Expr>, &'a [Token], u32), Stop<'a>>
     requires { operators ≤ 256 }
     ensures tree { IfOk result (λ x. SpellsClosed (kind_of close) (expression x.0.value) tokens.now x.1.now) }
@@ -315,13 +315,13 @@ pub fn parenthesized<'a>(
     ensures tree { IfOk result (λ x. SpellsInside (expression x.0.value) tokens.now x.1.now) }
     ensures shorter { IfOk result (λ x. length x.1.now < length tokens.now) }
     ensures reads { IfOk result (λ x. (stack : List Symbol) →
-        run tokens.now (One Mark.Open ∷ Operand depth ∷ Tail depth ∷ Anew ∷ One Mark.Close ∷ stack) 0 ≡ run x.1.now stack 0) }
+        run tokens.now (One Punct.Open ∷ Operand depth ∷ Tail depth ∷ Anew ∷ One Punct.Close ∷ stack) 0 ≡ run x.1.now stack 0) }
     ensures stops { IfErr result (λ e. (stack : List Symbol) →
-        IsStop e (run tokens.now (One Mark.Open ∷ Operand depth ∷ Tail depth ∷ Anew ∷ One Mark.Close ∷ stack) 0)) }
+        IsStop e (run tokens.now (One Punct.Open ∷ Operand depth ∷ Tail depth ∷ Anew ∷ One Punct.Close ∷ stack) 0)) }
 {
-    let rest = one(tokens, Mark::Open)?;
+    let rest = one(tokens, Punct::Open)?;
     let (e, rest) = expr(alloc, rest, depth)?;
-    then_one(e, rest, Mark::Close)
+    then_one(e, rest, Punct::Close)
 }
 
 /// An expression and the semicolon behind it.
@@ -333,12 +333,12 @@ pub fn ended<'a>(
     ensures tree { IfOk result (λ x. SpellsEnded (expression x.0.value) tokens.now x.1.now) }
     ensures shorter { IfOk result (λ x. length x.1.now < length tokens.now) }
     ensures reads { IfOk result (λ x. (stack : List Symbol) →
-        run tokens.now (Operand depth ∷ Tail depth ∷ Anew ∷ One Mark.Semicolon ∷ stack) 0 ≡ run x.1.now stack 0) }
+        run tokens.now (Operand depth ∷ Tail depth ∷ Anew ∷ One Punct.Semicolon ∷ stack) 0 ≡ run x.1.now stack 0) }
     ensures stops { IfErr result (λ e. (stack : List Symbol) →
-        IsStop e (run tokens.now (Operand depth ∷ Tail depth ∷ Anew ∷ One Mark.Semicolon ∷ stack) 0)) }
+        IsStop e (run tokens.now (Operand depth ∷ Tail depth ∷ Anew ∷ One Punct.Semicolon ∷ stack) 0)) }
 {
     let (e, rest) = expr(alloc, tokens, depth)?;
-    then_one(e, rest, Mark::Semicolon)
+    then_one(e, rest, Punct::Semicolon)
 }
 
 /// An expression and the semicolon behind it, or the semicolon alone.

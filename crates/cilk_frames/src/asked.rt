@@ -3,7 +3,7 @@
 ghost use Rattle.std.specs.Prelude.{◌≡◌, ◌≤◌, [], length, ℤ, List, MatchOption, IfSome, IsSome, None, Some};
 ghost use Rattle.cilk_program.specs.declared.ask.Ask.TheVariants.{Begin, Invoke};
 ghost use Rattle.cilk_program.specs.declared.ask.Callee.TheVariants as callees;
-ghost use Rattle.cilk_program.specs.declared.syntax.Invocation.{Invocation};
+ghost use Rattle.cilk_types.specs.declared.invocation.Invocation.{Invocation};
 ghost use Rattle.cilk_lower.specs.Machine.{Move, invoked, on_words};
 ghost use Rattle.cilk_frames.specs.Asked.{IsFunctionCall, in_full, words_in};
 ghost use Rattle.cilk_frames.specs.Following.{child_of};
@@ -13,7 +13,7 @@ use crate::cursor::Cursor;
 use cilk_lower::code::Site;
 use cilk_program::ask::{Ask, Callee, FunctionCall};
 use cilk_program::given::{References, Words};
-use cilk_program::syntax::Invocation;
+use cilk_types::invocation::Invocation;
 use std::marker::Model;
 
 /// What a frame asked for last. Most of an `Ask` is room for what a function is given, which would be moved with each step;

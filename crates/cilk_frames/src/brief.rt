@@ -4,8 +4,9 @@ ghost use Rattle.std.specs.Prelude.{◌≡◌};
 ghost use Rattle.cilk_frames.specs.Asked.{in_full};
 
 use cilk_program::ask::{Ask, Callee, LoopPart};
-use cilk_program::syntax::{Invocation, Place, Reducer};
+use cilk_program::syntax::{Place, Reducer};
 use cilk_types::fault::Fault;
+use cilk_types::invocation::Invocation;
 
 /// What a frame asks for, but for the invocation of a function: see [`Ask`].
 #[derive(Clone, Copy)]

@@ -17,8 +17,9 @@ use crate::cursor::Cursor;
 use crate::operators::element;
 use cilk_lower::code::Owed;
 use cilk_program::ask::LoopPart;
-use cilk_program::syntax::{Array, Invocation, Place};
+use cilk_program::syntax::{Array, Place};
 use cilk_types::fault::Fault;
+use cilk_types::invocation::Invocation;
 
 /// What an instruction did: it went on, it asked and waits for the answer, it asked for the last time, or it invokes the
 /// function of a call site, whose words still stand on the stack.

@@ -4,7 +4,8 @@ ghost use Rattle.std.specs.Prelude.{◌≡◌, ◌+◌, ◌^◌, ◌≤◌};
 ghost use Rattle.cilk_program.specs.Operators.{apply, change, is_zero, truth, truth_of};
 ghost use Rattle.cilk_program.specs.Syntax.{element};
 
-use cilk_program::syntax::{Array, Compound, Operator, Place};
+use cilk_program::syntax::{Array, Operator, Place};
+use cilk_types::compound::Compound;
 use cilk_types::word;
 
 /// The operator's value, or none for a division by 0.

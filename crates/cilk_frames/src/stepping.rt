@@ -18,9 +18,10 @@ use crate::moves::{
 use crate::operators::{apply, change, negation, truth};
 use cilk_lower::code::{Code, Instr, Owed};
 use cilk_program::ask::Ask;
-use cilk_program::syntax::{Invocation, Place};
+use cilk_program::syntax::Place;
 use cilk_types::fault::Fault;
 use cilk_types::input::Input;
+use cilk_types::invocation::Invocation;
 use cilk_types::word;
 
 /// Goes on from the answer to the next thing that the frame asks for. `left` is the ticks that the run has left: the

@@ -2,11 +2,11 @@
 use Rattle.std.proofs.Common.{◌≡◌, ◌≢◌, true, false, refl, ap, ◌∙◌}
 use Rattle.cilk_token.specs.declared.token.Kind.{Kind}
 use Rattle.cilk_token.specs.declared.token.Kind.TheVariants as kinds
-use Rattle.cilk_grammar.specs.declared.marks.Mark.{Mark}
-use Rattle.cilk_grammar.specs.declared.marks.Mark.TheVariants.{Open, Close, OpenBrace, CloseBrace, CloseBracket, Semicolon, Comma, Assign, Less, Int}
+use Rattle.cilk_grammar.specs.declared.marks.Punct.{Punct}
+use Rattle.cilk_grammar.specs.declared.marks.Punct.TheVariants.{Open, Close, OpenBrace, CloseBrace, CloseBracket, Semicolon, Comma, Assign, Less, Int}
 use Rattle.cilk_grammar.specs.Expected.{kind_of, fits}
 
-pub is_mark : (m : Mark) (k : Kind) → fits m k ≡ true → k ≡ kind_of m
+pub is_mark : (m : Punct) (k : Kind) → fits m k ≡ true → k ≡ kind_of m
 is_mark Open kinds.Open h = refl
 is_mark Close kinds.Close h = refl
 is_mark OpenBrace kinds.OpenBrace h = refl
@@ -20,7 +20,7 @@ is_mark Int kinds.Int h = refl
 is_mark _ _ h = cc
 
 -- and the mark's kind fits
-pub fits_own : (m : Mark) → fits m (kind_of m) ≡ true
+pub fits_own : (m : Punct) → fits m (kind_of m) ≡ true
 fits_own Open = refl
 fits_own Close = refl
 fits_own OpenBrace = refl
@@ -33,5 +33,5 @@ fits_own Less = refl
 fits_own Int = refl
 
 -- so one that doesn't fit is another
-pub not_mark : (m : Mark) (k : Kind) → fits m k ≡ false → k ≢ kind_of m
+pub not_mark : (m : Punct) (k : Kind) → fits m k ≡ false → k ≢ kind_of m
 not_mark m k h = λ e. let t : fits m k ≡ true = ap (λ x. fits m x) e ∙ fits_own m in cc

@@ -3,7 +3,7 @@ use Rattle.std.proofs.Common.{◌≡◌, ◌≢◌, ℕ, ◌+◌, ◌<◌, ◌�
 use Rattle.cilk_token.specs.declared.token.Token.{Token}
 use Rattle.cilk_token.specs.declared.token.Kind.{Kind}
 use Rattle.cilk_token.specs.declared.token.Kind.TheVariants as kinds
-use Rattle.cilk_grammar.specs.declared.marks.Mark.TheVariants.{Open, Close, Semicolon}
+use Rattle.cilk_grammar.specs.declared.marks.Punct.TheVariants.{Open, Close, Semicolon}
 use Rattle.cilk_syntax.specs.declared.tree.UnaryOperator.{UnaryOperator}
 use Rattle.cilk_syntax.specs.declared.tree.UnaryOperator.TheVariants.{Negate, Not}
 use Rattle.cilk_grammar.specs.Limits.{is_deep, is_many}

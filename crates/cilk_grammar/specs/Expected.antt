@@ -5,13 +5,13 @@ use Rattle.std.specs.Ordering.{int_eq}
 use Rattle.cilk_token.specs.declared.token.Kind.{Kind}
 use Rattle.cilk_token.specs.declared.token.Kind.TheVariants as kinds
 use Rattle.cilk_token.specs.declared.token.Token.{Token}
-use Rattle.cilk_grammar.specs.declared.marks.Mark.{Mark}
-use Rattle.cilk_grammar.specs.declared.marks.Mark.TheVariants.{Open, Close, OpenBrace, CloseBrace, CloseBracket, Semicolon, Comma, Assign, Less, Int}
+use Rattle.cilk_grammar.specs.declared.marks.Punct.{Punct}
+use Rattle.cilk_grammar.specs.declared.marks.Punct.TheVariants.{Open, Close, OpenBrace, CloseBrace, CloseBracket, Semicolon, Comma, Assign, Less, Int}
 use Rattle.cilk_syntax.specs.declared.tree.ReturnType.{ReturnType}
 use Rattle.cilk_syntax.specs.declared.tree.ReturnType.TheVariants as types
 use Rattle.cilk_grammar.specs.Limits.{is_deep, is_many}
 
-abbrev pub kind_of : Mark → Kind
+abbrev pub kind_of : Punct → Kind
 kind_of Open = kinds.Open
 kind_of Close = kinds.Close
 kind_of OpenBrace = kinds.OpenBrace
@@ -24,7 +24,7 @@ kind_of Less = kinds.Less
 kind_of Int = kinds.Int
 
 -- the kind is that of the mark
-abbrev pub fits : Mark → Kind → Bool
+abbrev pub fits : Punct → Kind → Bool
 fits Open kinds.Open = true
 fits Close kinds.Close = true
 fits OpenBrace kinds.OpenBrace = true
@@ -39,7 +39,7 @@ fits _ _ = false
 
 -- what is expected, with the number of statements and parts that it stands in
 pub data Symbol : Type 0 where
-  One : (mark : Mark) → Symbol
+  One : (mark : Punct) → Symbol
   Named : Symbol
   Numeral : Symbol
   -- the number 1

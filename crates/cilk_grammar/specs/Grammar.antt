@@ -8,10 +8,10 @@ use Rattle.cilk_syntax.specs.declared.tree.UnaryOperator.{UnaryOperator}
 use Rattle.cilk_syntax.specs.declared.tree.UnaryOperator.TheVariants.{Negate, Not}
 use Rattle.cilk_syntax.specs.declared.tree.BinaryOperator.{BinaryOperator}
 use Rattle.cilk_syntax.specs.declared.tree.BinaryOperator.TheVariants.{Or, And, Equal, NotEqual, Less, LessEqual, Greater, GreaterEqual, Add, Subtract, Multiply, Divide, Remainder}
-use Rattle.cilk_syntax.specs.declared.tree.Compound.{Compound}
-use Rattle.cilk_syntax.specs.declared.tree.Compound.TheVariants as compounds
-use Rattle.cilk_syntax.specs.declared.tree.Invocation.{Invocation}
-use Rattle.cilk_syntax.specs.declared.tree.Invocation.TheVariants as invocations
+use Rattle.cilk_types.specs.declared.compound.Compound.{Compound}
+use Rattle.cilk_types.specs.declared.compound.Compound.TheVariants as compounds
+use Rattle.cilk_types.specs.declared.invocation.Invocation.{Invocation}
+use Rattle.cilk_types.specs.declared.invocation.Invocation.TheVariants as invocations
 use Rattle.cilk_syntax.specs.declared.tree.ReturnType.{ReturnType}
 use Rattle.cilk_syntax.specs.declared.tree.ReturnType.TheVariants as types
 use Rattle.cilk_syntax.specs.declared.tree.Reducer.{Reducer}

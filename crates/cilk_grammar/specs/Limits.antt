@@ -5,8 +5,8 @@ use Rattle.std.specs.Prelude.{◌≡◌, ℕ, ◌+◌, Bool, true, false, ◌||�
 use Rattle.cilk_token.specs.declared.token.Kind.{Kind}
 use Rattle.cilk_token.specs.declared.token.Kind.TheVariants as kinds
 use Rattle.cilk_token.specs.declared.token.Token.{Token}
-use Rattle.cilk_syntax.specs.declared.tree.Invocation.{Invocation}
-use Rattle.cilk_syntax.specs.declared.tree.Invocation.TheVariants as invocations
+use Rattle.cilk_types.specs.declared.invocation.Invocation.{Invocation}
+use Rattle.cilk_types.specs.declared.invocation.Invocation.TheVariants as invocations
 use Rattle.cilk_syntax.specs.declared.tree.Initializer.{Initializer}
 use Rattle.cilk_syntax.specs.declared.tree.Initializer.TheVariants as initializers
 use Rattle.cilk_syntax.specs.declared.tree.GlobalVariable.{GlobalVariable}

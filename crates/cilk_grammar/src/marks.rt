@@ -12,7 +12,7 @@ use cilk_token::token::{Kind, Token};
 
 /// A mark or a reserved word that stands at a fixed place of a form.
 #[derive(Clone, Copy, Debug)]
-pub enum Mark {
+pub enum Punct {
     Open,
     Close,
     OpenBrace,
@@ -26,27 +26,27 @@ pub enum Mark {
 }
 
 /// Tells whether a token of this kind is the mark.
-fn fits(mark: Mark, kind: Kind) -> bool
+fn fits(mark: Punct, kind: Kind) -> bool
     ensures { result ≡ fits mark kind }
 {
     matches!(
         (mark, kind),
-        (Mark::Open, Kind::Open)
-            | (Mark::Close, Kind::Close)
-            | (Mark::OpenBrace, Kind::OpenBrace)
-            | (Mark::CloseBrace, Kind::CloseBrace)
-            | (Mark::CloseBracket, Kind::CloseBracket)
-            | (Mark::Semicolon, Kind::Semicolon)
-            | (Mark::Comma, Kind::Comma)
-            | (Mark::Assign, Kind::Assign)
-            | (Mark::Less, Kind::Less)
-            | (Mark::Int, Kind::Int)
+        (Punct::Open, Kind::Open)
+            | (Punct::Close, Kind::Close)
+            | (Punct::OpenBrace, Kind::OpenBrace)
+            | (Punct::CloseBrace, Kind::CloseBrace)
+            | (Punct::CloseBracket, Kind::CloseBracket)
+            | (Punct::Semicolon, Kind::Semicolon)
+            | (Punct::Comma, Kind::Comma)
+            | (Punct::Assign, Kind::Assign)
+            | (Punct::Less, Kind::Less)
+            | (Punct::Int, Kind::Int)
     )
 }
 
 /// The tokens behind this mark.
 #[tactic(auto, using(crate::proofs::MarkLaws::is_mark))]
-pub fn one<'a>(tokens: &'a [Token], mark: Mark) -> Result<&'a [Token], Stop<'a>>
+pub fn one<'a>(tokens: &'a [Token], mark: Punct) -> Result<&'a [Token], Stop<'a>>
     ensures token { IfOk result (λ rest. Is (kind_of mark) tokens.now rest.now) }
     ensures shorter { IfOk result (λ rest. length rest.now < length tokens.now) }
     ensures reads { IfOk result (λ rest. (stack : List Symbol) (n : ℕ) →
@@ -68,7 +68,7 @@ pub fn one<'a>(tokens: &'a [Token], mark: Mark) -> Result<&'a [Token], Stop<'a>>
 pub fn then_one<'a, T: Drop>(
     value: T,
     tokens: &'a [Token],
-    mark: Mark,
+    mark: Punct,
 ) -> Result<(T, &'a [Token]), Stop<'a>>
     ensures value { IfOk result (λ x. x.0 ≡ value) }
     ensures token { IfOk result (λ x. Is (kind_of mark) tokens.now x.1.now) }
@@ -84,7 +84,7 @@ pub fn then_one<'a, T: Drop>(
 
 /// The tokens behind this mark, if they begin with it.
 #[tactic(auto, using(crate::proofs::MarkLaws::is_mark, crate::proofs::MarkLaws::not_mark))]
-pub fn behind<'a>(tokens: &'a [Token], mark: Mark) -> Option<&'a [Token]>
+pub fn behind<'a>(tokens: &'a [Token], mark: Punct) -> Option<&'a [Token]>
     ensures found { IfSome result (λ rest. Is (kind_of mark) tokens.now rest.now) }
     ensures shorter { IfSome result (λ rest. length rest.now < length tokens.now) }
     ensures none { IfNone result (NotFirst (kind_of mark) tokens.now) }

@@ -6,7 +6,7 @@ use Rattle.cilk_types.specs.declared.fault.Fault.TheVariants.{IndexOutside}
 use Rattle.cilk_program.specs.declared.ask.Ask.TheVariants as asks
 use Rattle.cilk_program.specs.declared.ask.Callee.TheVariants as callees
 use Rattle.cilk_program.specs.declared.syntax.Array.{Array}
-use Rattle.cilk_program.specs.declared.syntax.Invocation.TheVariants.{Call}
+use Rattle.cilk_types.specs.declared.invocation.Invocation.TheVariants.{Call}
 use Rattle.cilk_program.specs.declared.syntax.Place.{Place}
 use Rattle.cilk_program.specs.Syntax.{Expression, ToVariable, ToElement, Statement, Empty, Block, Declare, Assign, Change, Step, Invokes, Sync, If, IfElse, For, ParallelFor, Print, Update, Set, Return, Statements, Nothing, Then, element}
 use Rattle.cilk_program.specs.Operators.{is_zero, change}

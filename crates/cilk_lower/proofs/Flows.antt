@@ -4,7 +4,7 @@ use Rattle.cilk_types.specs.declared.fault.Fault.{Fault}
 use Rattle.cilk_program.specs.declared.ask.Ask.{Ask}
 use Rattle.cilk_program.specs.declared.ask.Ask.TheVariants as asks
 use Rattle.cilk_program.specs.declared.ask.Callee.{Callee}
-use Rattle.cilk_program.specs.declared.syntax.Invocation.{Invocation}
+use Rattle.cilk_types.specs.declared.invocation.Invocation.{Invocation}
 use Rattle.cilk_program.specs.Syntax.{Expression}
 use Rattle.cilk_program.specs.Behaviour.{Asked, Got, Gives, Asks, ◌>>=◌, ask, or_fault, value, Flow, unless_returned, invokes, finishes, gives_result, ended}
 use Rattle.cilk_lower.specs.declared.code.Instr.{Instr}

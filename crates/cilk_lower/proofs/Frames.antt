@@ -6,7 +6,7 @@ use Rattle.cilk_program.specs.declared.ask.Ask.{Ask}
 use Rattle.cilk_program.specs.declared.ask.Ask.TheVariants as asks
 use Rattle.cilk_program.specs.declared.ask.Callee.TheVariants as callees
 use Rattle.cilk_program.specs.declared.ask.LoopPart.{LoopPart}
-use Rattle.cilk_program.specs.declared.syntax.Invocation.TheVariants.{Call, Spawn}
+use Rattle.cilk_types.specs.declared.invocation.Invocation.TheVariants.{Call, Spawn}
 use Rattle.cilk_program.specs.declared.syntax.Place.TheVariants as places
 use Rattle.cilk_program.specs.declared.syntax.ReducerPlace.{ReducerPlace}
 use Rattle.cilk_program.specs.declared.syntax.ReducerPlace.TheVariants as reducers

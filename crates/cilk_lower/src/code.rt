@@ -6,7 +6,9 @@ ghost use Rattle.cilk_lower.specs.Code.{ArraysFit, JumpsLand, Lands, ArrayFits, 
 use crate::layout::Layout;
 use cilk_program::ask::Callee;
 use cilk_program::given::References;
-use cilk_program::syntax::{Array, Compound, Invocation, Operator, Place, Reducer};
+use cilk_program::syntax::{Array, Operator, Place, Reducer};
+use cilk_types::compound::Compound;
+use cilk_types::invocation::Invocation;
 use std::marker::Model;
 
 /// One instruction. It makes at most one event and takes at most one tick. A jump says how many instructions it passes.

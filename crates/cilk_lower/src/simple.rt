@@ -10,7 +10,8 @@ ghost use Rattle.cilk_program.specs.Programs.{expression, optional, target};
 use crate::code::Instr;
 use crate::expressions::{emit_above, emit_begun, emit_value};
 use crate::put::{begin, put, put_ends, put_jump};
-use cilk_program::syntax::{Compound, Expr, Target};
+use cilk_program::syntax::{Expr, Target};
+use cilk_types::compound::Compound;
 use std::alloc::AllocError;
 
 /// A statement's tick, then its expression, and then the instruction that takes the value.

@@ -8,7 +8,7 @@ use Rattle.cilk_program.specs.declared.ask.Ask.{Ask}
 use Rattle.cilk_program.specs.declared.ask.Ask.TheVariants as asks
 use Rattle.cilk_program.specs.declared.ask.Callee.{Callee}
 use Rattle.cilk_program.specs.declared.ask.Callee.TheVariants as callees
-use Rattle.cilk_program.specs.declared.syntax.Invocation.{Invocation}
+use Rattle.cilk_types.specs.declared.invocation.Invocation.{Invocation}
 use Rattle.cilk_program.specs.Syntax.{Source}
 use Rattle.cilk_program.specs.Behaviour.{frame_asks}
 use Rattle.cilk_program.specs.SerialRun.{Run, stop, act, child, Memory, Frame, answer_to, stored, event_of, invocation, refused, next_frame, begun, counted, with_store, Ending, Finished, Stopped, before_root, root_frame}

@@ -7,7 +7,7 @@ use Rattle.cilk_types.specs.declared.limits.TheConstants.{MAX_EVENTS, MAX_FRAMES
 use Rattle.cilk_program.specs.declared.ask.Ask.{Ask}
 use Rattle.cilk_program.specs.declared.ask.Ask.TheVariants as asks
 use Rattle.cilk_program.specs.declared.ask.Callee.{Callee}
-use Rattle.cilk_program.specs.declared.syntax.Invocation.{Invocation}
+use Rattle.cilk_types.specs.declared.invocation.Invocation.{Invocation}
 use Rattle.cilk_program.specs.Syntax.{Source}
 use Rattle.cilk_program.specs.Behaviour.{asks_for, frame_asks}
 use Rattle.cilk_program.specs.SerialRun.{Run, Memory, Frame, cells_of, answer_to, stored, event_of, invocation, full, refused, IsInner, next_frame, begun, counted, with_store, Ending, Finished, Stopped, Serial, Made, Ended, Went, Broke, Refused}

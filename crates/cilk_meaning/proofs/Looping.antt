@@ -8,7 +8,7 @@ use Rattle.cilk_types.specs.declared.event.Instance.{Instance}
 use Rattle.cilk_program.specs.declared.ask.Ask.TheVariants as asks
 use Rattle.cilk_program.specs.declared.ask.Callee.TheVariants as callees
 use Rattle.cilk_program.specs.declared.ask.LoopPart.{LoopPart}
-use Rattle.cilk_program.specs.declared.syntax.Invocation.TheVariants.{Call, Spawn}
+use Rattle.cilk_types.specs.declared.invocation.Invocation.TheVariants.{Call, Spawn}
 use Rattle.cilk_program.specs.declared.syntax.Place.TheVariants as places
 use Rattle.cilk_program.specs.declared.program.Body.{Body}
 use Rattle.cilk_program.specs.Syntax.{Source, Expression, Loop, ParallelFor, loop_at}

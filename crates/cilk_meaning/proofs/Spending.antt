@@ -8,7 +8,7 @@ use Rattle.cilk_types.specs.declared.event.Instance.{Instance}
 use Rattle.cilk_program.specs.declared.ask.Ask.{Ask}
 use Rattle.cilk_program.specs.declared.ask.Ask.TheVariants as asks
 use Rattle.cilk_program.specs.declared.program.Body.{Body}
-use Rattle.cilk_program.specs.declared.syntax.Compound.{Compound}
+use Rattle.cilk_types.specs.declared.compound.Compound.{Compound}
 use Rattle.cilk_program.specs.declared.syntax.Place.{Place}
 use Rattle.cilk_program.specs.declared.syntax.Place.TheVariants as places
 use Rattle.cilk_program.specs.declared.syntax.Reducer.{Reducer}

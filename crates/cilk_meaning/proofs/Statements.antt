@@ -7,11 +7,11 @@ use Rattle.cilk_types.specs.declared.fault.Fault.TheVariants.{IndexOutside, TooM
 use Rattle.cilk_program.specs.declared.ask.Ask.TheVariants as asks
 use Rattle.cilk_program.specs.declared.ask.Callee.TheVariants as callees
 use Rattle.cilk_program.specs.declared.ask.LoopPart.{LoopPart}
-use Rattle.cilk_program.specs.declared.syntax.Invocation.TheVariants.{Call}
+use Rattle.cilk_types.specs.declared.invocation.Invocation.TheVariants.{Call}
 use Rattle.cilk_program.specs.declared.syntax.Place.{Place}
 use Rattle.cilk_program.specs.declared.syntax.Place.TheVariants as places
 use Rattle.cilk_program.specs.declared.program.Body.{Body}
-use Rattle.cilk_program.specs.declared.syntax.Compound.{Compound}
+use Rattle.cilk_types.specs.declared.compound.Compound.{Compound}
 use Rattle.cilk_program.specs.Operators.{is_zero, change}
 use Rattle.cilk_program.specs.Syntax.{Source, Expression, Target, Invoke, Declaration, Zero, Opening, Invoking, Statement, Assign, Change, Step, Sync, If, IfElse, ParallelFor, Print, Update, Set, Return, loop_at, place_of}
 use Rattle.cilk_program.specs.declared.syntax.Reducer.{Reducer}

@@ -8,7 +8,7 @@ use Rattle.cilk_program.specs.declared.ask.Callee.TheVariants as callees
 use Rattle.cilk_program.specs.declared.syntax.Array.{Array}
 use Rattle.cilk_program.specs.declared.syntax.Operator.{Operator}
 use Rattle.cilk_program.specs.declared.syntax.Operator.TheVariants.{Add, Subtract, Multiply, Divide, Remainder, Less, LessEqual, Greater, GreaterEqual, Equal, NotEqual}
-use Rattle.cilk_program.specs.declared.syntax.Compound.TheVariants as compound
+use Rattle.cilk_types.specs.declared.compound.Compound.TheVariants as compound
 use Rattle.cilk_program.specs.declared.syntax.Place.{Place}
 use Rattle.cilk_program.specs.declared.syntax.Place.TheVariants as place
 use Rattle.cilk_program.specs.Syntax.{Source, Function, Expression, Number, Variable, Element, Negate, Not, Binary, And, Or, Input, InputCount, ToVariable, ToElement, Zero, Opening, Statement, Empty, Block, Declare, Assign, Change, Step, If, IfElse, For, Print, Return, Statements, Nothing, Then}

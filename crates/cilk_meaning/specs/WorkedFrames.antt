@@ -7,8 +7,8 @@ use Rattle.cilk_program.specs.declared.ask.Callee.{Callee}
 use Rattle.cilk_program.specs.declared.ask.Callee.TheVariants as callees
 use Rattle.cilk_program.specs.declared.program.Body.TheVariants as bodies
 use Rattle.cilk_program.specs.declared.syntax.Operator.TheVariants.{Add, Subtract, Multiply, Divide, Less}
-use Rattle.cilk_program.specs.declared.syntax.Invocation.{Invocation}
-use Rattle.cilk_program.specs.declared.syntax.Invocation.TheVariants.{Call, Spawn}
+use Rattle.cilk_types.specs.declared.invocation.Invocation.{Invocation}
+use Rattle.cilk_types.specs.declared.invocation.Invocation.TheVariants.{Call, Spawn}
 use Rattle.cilk_program.specs.declared.syntax.Place.{Place}
 use Rattle.cilk_program.specs.declared.syntax.Place.TheVariants as place
 use Rattle.cilk_program.specs.declared.syntax.Reducer.{Reducer}

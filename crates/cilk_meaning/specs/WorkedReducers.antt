@@ -7,7 +7,7 @@ use Rattle.cilk_types.specs.declared.outcome.Final.TheVariants as final
 use Rattle.cilk_monoid.specs.declared.kind.MonoidKind.{MonoidKind}
 use Rattle.cilk_monoid.specs.declared.kind.MonoidKind.TheVariants as kinds
 use Rattle.cilk_program.specs.declared.syntax.Operator.TheVariants.{Add}
-use Rattle.cilk_program.specs.declared.syntax.Invocation.TheVariants.{Call, Spawn}
+use Rattle.cilk_types.specs.declared.invocation.Invocation.TheVariants.{Call, Spawn}
 use Rattle.cilk_program.specs.declared.syntax.Reducer.{Reducer}
 use Rattle.cilk_program.specs.declared.syntax.ReducerPlace.TheVariants as reducers
 use Rattle.cilk_program.specs.Syntax.{Source, Function, Binary, Value, Zero, Statement, Empty, Block, Declare, Sync, If, ParallelFor, Print, Update, Set}

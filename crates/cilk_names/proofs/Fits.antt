@@ -5,7 +5,7 @@ use Rattle.std.proofs.lemmas.Bool.{lt-ltb, eq-eqb, and_from}
 use Rattle.cilk_monoid.specs.declared.kind.MonoidKind.{MonoidKind}
 use Rattle.cilk_monoid.specs.Kinds.{same_kind}
 use Rattle.cilk_syntax.specs.declared.tree.Name.{Name}
-use Rattle.cilk_syntax.specs.declared.tree.Invocation as invoked
+use Rattle.cilk_types.specs.declared.invocation.Invocation.{Invocation}
 use Rattle.cilk_syntax.specs.declared.tree.UnaryOperator.{UnaryOperator}
 use Rattle.cilk_syntax.specs.declared.tree.UnaryOperator.TheVariants as unary
 use Rattle.cilk_syntax.specs.declared.tree.BinaryOperator.{BinaryOperator}
@@ -23,7 +23,7 @@ use Rattle.cilk_program.specs.WellNamed.{Level, levels_of, at_most, has_cell, is
 use Rattle.cilk_scopes.specs.declared.table.Meaning.{Meaning}
 use Rattle.cilk_scopes.specs.declared.table.Meaning.TheVariants as meanings
 use Rattle.cilk_scopes.specs.declared.table.Home.TheVariants as homes
-use Rattle.cilk_scopes.specs.declared.table.Entry.{Entry}
+use Rattle.cilk_scopes.specs.declared.table.Binding.{Binding}
 use Rattle.cilk_scopes.specs.declared.signature.ParameterKind.{ParameterKind}
 use Rattle.cilk_scopes.specs.declared.signature.ParameterKind.TheVariants as kinds
 use Rattle.cilk_scopes.specs.declared.signature.Signature.{Signature}
@@ -80,7 +80,7 @@ module _ (p : Source) where
 
   -- so is what each name means
   pub record NamesFit (ls : List Level) (names : Names) : Type 0 where
-    pub fits : (q : List ℕ) (e : Entry) → found names q ≡ Some e → MeaningFits ls names.level e.meaning
+    pub fits : (q : List ℕ) (e : Binding) → found names q ≡ Some e → MeaningFits ls names.level e.meaning
 
   -- the functions take what their signatures say
   pub record SignaturesFit (sigs : List Signature) : Type 0 where
@@ -88,13 +88,13 @@ module _ (p : Source) where
     pub given : (n : ℕ) → n < length p.functions → let f = function_at p n in let s = unwrap_or (slice_get sigs n) plain in f.given ≡ given_in s.parameters
 
   -- one more declaration
-  entry_either : (s : Scope) (name : List ℕ) (new : Entry) (q : List ℕ) (e : Entry) (o : Option Entry) (c : Bool) → option_or (if c then Some new else s q) o ≡ Some e
-      → (P : Meaning → Type 0) → P new.meaning → ((e : Entry) → option_or (s q) o ≡ Some e → P e.meaning) → P e.meaning
-  entry_either s name new q e o true h P here there = let same : new ≡ e = cc in subst (λ (x : Entry). P x.meaning) same here
+  entry_either : (s : Scope) (name : List ℕ) (new : Binding) (q : List ℕ) (e : Binding) (o : Option Binding) (c : Bool) → option_or (if c then Some new else s q) o ≡ Some e
+      → (P : Meaning → Type 0) → P new.meaning → ((e : Binding) → option_or (s q) o ≡ Some e → P e.meaning) → P e.meaning
+  entry_either s name new q e o true h P here there = let same : new ≡ e = cc in subst (λ (x : Binding). P x.meaning) same here
   entry_either s name new q e o false h P here there = there e h
 
-  with_either : (s : Scope) (name : List ℕ) (new : Entry) (q : List ℕ) (e : Entry) (o : Option Entry) (b : Bool) → option_or ((if b then s else with_entry s name new) q) o ≡ Some e
-      → (P : Meaning → Type 0) → P new.meaning → ((e : Entry) → option_or (s q) o ≡ Some e → P e.meaning) → P e.meaning
+  with_either : (s : Scope) (name : List ℕ) (new : Binding) (q : List ℕ) (e : Binding) (o : Option Binding) (b : Bool) → option_or ((if b then s else with_entry s name new) q) o ≡ Some e
+      → (P : Meaning → Type 0) → P new.meaning → ((e : Binding) → option_or (s q) o ≡ Some e → P e.meaning) → P e.meaning
   with_either s name new q e o true h P here there = there e h
   with_either s name new q e o false h P here there = entry_either s name new q e o (bytes_eq name q) h P here there
 
@@ -125,7 +125,7 @@ module _ (p : Source) where
   names_deeper l ls names h = record { fits = λ q e f. deeper l ls names.level e.meaning (h.fits q e (sym (found_last names.outer names.inner q) ∙ f)) }
 
   -- what a name is seen as
-  seen_found : {A : Type 0} (f : Meaning → Option A) (o : Option Entry) (x : A) → seen f (option_map (λ (e : Entry). e.meaning) o) ≡ Some x → (e : Entry) × (o ≡ Some e) × (f e.meaning ≡ Some x)
+  seen_found : {A : Type 0} (f : Meaning → Option A) (o : Option Binding) (x : A) → seen f (option_map (λ (e : Binding). e.meaning) o) ≡ Some x → (e : Binding) × (o ≡ Some e) × (f e.meaning ≡ Some x)
   seen_found f None x h = absurd cc
   seen_found f (Some e) x h = (e, refl, h)
 
@@ -257,7 +257,7 @@ module _ (p : Source) where
           passed = and_from (reducer_is_there p b r.place r.kind) (reducers_are_there p b rs') (reducer_there x r v) f.passed;
         })
 
-    pub call_named : (how : invoked.Invocation) (c : trees.Call) (o : Option Place) (i : Invoke) → IsTrue (result_is_there p b o) → ResolvesCall names how c o i → IsTrue (invoke_is_named p b i)
+    pub call_named : (how : Invocation) (c : trees.Call) (o : Option Place) (i : Invoke) → IsTrue (result_is_there p b o) → ResolvesCall names how c o i → IsTrue (invoke_is_named p b i)
     call_named how c o i place (n, ws, rs, e, args, is) =
         let s = signature_of names (Some n) in
         let f = function_at p n in

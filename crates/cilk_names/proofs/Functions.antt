@@ -11,7 +11,7 @@ use Rattle.cilk_syntax.specs.Trees as trees
 use Rattle.cilk_syntax.specs.Trees.{Item, items_of, bytes_of}
 use Rattle.cilk_scopes.specs.declared.signature.ParameterKind.{ParameterKind}
 use Rattle.cilk_scopes.specs.declared.signature.Signature.{Signature}
-use Rattle.cilk_scopes.specs.declared.table.Entry.{Entry}
+use Rattle.cilk_scopes.specs.declared.table.Binding.{Binding}
 use Rattle.cilk_scopes.specs.declared.table.Meaning.TheVariants as meanings
 use Rattle.cilk_scopes.specs.Names.{Names, Scope, with_entry}
 use Rattle.cilk_names.specs.Contexts.{kind_of, kinds_of, signatures_of, functions_known, functions_behind, with_item}
@@ -64,18 +64,18 @@ pub signatures_end : (text : List ℕ) (list : List code.Item) (i : ℕ) (done :
 signatures_end text list i done le h = sym (append-nil done) ∙ ap (λ x. done ++ signatures_of text x) (sym (none list i le)) ∙ h
 
 -- functions that are known: a name that is known already stays as it is
-known_cases : (s : Scope) (name q : List ℕ) (e : Entry) (later : Option Entry) (b c : Bool) → is_some (s name) ≡ b → bytes_eq name q ≡ c
+known_cases : (s : Scope) (name q : List ℕ) (e : Binding) (later : Option Binding) (b c : Bool) → is_some (s name) ≡ b → bytes_eq name q ≡ c
     → option_or ((if b then s else with_entry s name e) q) later ≡ option_or (s q) (if c then Some e else later)
 known_cases s name q e later true true h k = known_some (s q) (subst (λ (x : List ℕ). is_some (s x) ≡ true) (same_bytes name q k) h)
   where
-    known_some : (o : Option Entry) → is_some o ≡ true → option_or o later ≡ option_or o (Some e)
+    known_some : (o : Option Binding) → is_some o ≡ true → option_or o later ≡ option_or o (Some e)
     known_some None g = cc
     known_some (Some x) g = refl
 known_cases s name q e later true false h k = refl
 known_cases s name q e later false true h k =
     ap (λ (c : Bool). option_or (if c then Some e else s q) later) k ∙ known_none (s q) (subst (λ (x : List ℕ). is_some (s x) ≡ false) (same_bytes name q k) h)
   where
-    known_none : (o : Option Entry) → is_some o ≡ false → Some e ≡ option_or o (Some e)
+    known_none : (o : Option Binding) → is_some o ≡ false → Some e ≡ option_or o (Some e)
     known_none None g = refl
     known_none (Some x) g = cc
 known_cases s name q e later false false h k = ap (λ (c : Bool). option_or (if c then Some e else s q) later) k
@@ -99,7 +99,7 @@ known_step text list i x s t n m lt at h e f q =
     ∙ ap (λ y. option_or (s q) (functions_known text n y q)) (sym (left list i x lt at))
     ∙ h q)
 
-known_nothing : (o : Option Entry) → o ≡ option_or o None
+known_nothing : (o : Option Binding) → o ≡ option_or o None
 known_nothing None = refl
 known_nothing (Some x) = refl
 

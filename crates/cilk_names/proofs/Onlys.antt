@@ -1,7 +1,7 @@
 -- A part of a tree resolves to nothing but what the pass makes of it.
 use Rattle.std.proofs.Common.{◌≡◌, ℕ, List, [], ◌∷◌, ◌++◌, Option, Some, None, pos, negsuc, sym, ap, ◌∙◌}
 use Rattle.std.specs.Option.{option_map, option_to_list}
-use Rattle.cilk_syntax.specs.declared.tree.Invocation as invoked
+use Rattle.cilk_types.specs.declared.invocation.Invocation.{Invocation}
 use Rattle.cilk_syntax.specs.Trees as trees
 use Rattle.cilk_program.specs.declared.syntax.Place.{Place}
 use Rattle.cilk_program.specs.declared.syntax.Place.TheVariants.{Local}
@@ -14,7 +14,7 @@ use Rattle.cilk_scopes.specs.Names.{Names}
 use Rattle.cilk_names.specs.Contexts.{Context, inside, behind_scope, ahead, with_variable, behind_beginning, in_body, behind}
 use Rattle.cilk_scopes.specs.Sights.{signature_of}
 use Rattle.cilk_names.specs.Calls.{bare_name}
-use Rattle.cilk_scopes.specs.Operators.{prefixed, joined, compound, invocation}
+use Rattle.cilk_scopes.specs.Operators.{prefixed, joined}
 use Rattle.cilk_names.specs.Pass.{read_of, element_of, value_of, expression_of, optional_of, to_variable, to_element, target_of, or_empty, assignment_of, optional_row, bare_reducer, words_of, reducers_of, invoke_of, invoking, declaration_of, declarations_of, beginning_of, statement_of, row_of, loop_of, loops_of, row_loops}
 use Rattle.cilk_names.specs.Resolution.{ResolvesExpression, ResolvesOptional, ResolvesPlace, ResolvesAssignment, ResolvesStep, ResolvesBare, ResolvesArguments, ResolvesCall, ResolvesInitializer, ResolvesLocals, ResolvesBeginning, ResolvesStatement, ResolvesRow}
 
@@ -43,7 +43,7 @@ assignment_only : (names : Names) (a : trees.Assignment) (r : Statement) → Res
 assignment_only names (trees.Assignment.Set p e) r (t, e', k, l, is) =
     is ∙ ap (Assign t) (expression_only names e e' l) ∙ sym (ap (λ o. or_empty o (λ x. Assign x (expression_of names e))) (place_only names p t k))
 assignment_only names (trees.Compound op p e) r (t, e', k, l, is) =
-    is ∙ ap (Change t (compound op)) (expression_only names e e' l) ∙ sym (ap (λ o. or_empty o (λ x. Change x (compound op) (expression_of names e))) (place_only names p t k))
+    is ∙ ap (Change t op) (expression_only names e e' l) ∙ sym (ap (λ o. or_empty o (λ x. Change x op (expression_of names e))) (place_only names p t k))
 assignment_only names (trees.Increment p) r (t, k, is) = is ∙ sym (ap (λ o. or_empty o (λ x. Step x (pos 1))) (place_only names p t k))
 assignment_only names (trees.Decrement p) r (t, k, is) = is ∙ sym (ap (λ o. or_empty o (λ x. Step x (negsuc 0))) (place_only names p t k))
 
@@ -66,16 +66,16 @@ arguments_only names (kinds.Reducer k ∷ ks) (a ∷ list) ws rs (r, rs', b, sam
     let p = arguments_only names ks list ws rs' l in
     (p.0, is ∙ ap (λ x. r ∷ x) p.1 ∙ sym (ap (λ o. option_to_list o ++ reducers_of names ks list) (bare_only names a.value r b)))
 
-call_only : (names : Names) (how : invoked.Invocation) (c : trees.Call) (place : Option Place) (i : Invoke) → ResolvesCall names how c place i → invoke_of names how c place ≡ Some i
+call_only : (names : Names) (how : Invocation) (c : trees.Call) (place : Option Place) (i : Invoke) → ResolvesCall names how c place i → invoke_of names how c place ≡ Some i
 call_only names how c place i (n, ws, rs, e, args, is) =
-    let of : Signature → ℕ → Invoke = λ s n. record { how = invocation how; function = n; arguments = words_of names s.parameters c.arguments; reducers = reducers_of names s.parameters c.arguments; result = place } in
+    let of : Signature → ℕ → Invoke = λ s n. record { how = how; function = n; arguments = words_of names s.parameters c.arguments; reducers = reducers_of names s.parameters c.arguments; result = place } in
     let s = signature_of names (Some n) in
     let p = arguments_only names s.parameters c.arguments ws rs args in
     ap (λ (o : Option ℕ). option_map (of (signature_of names o)) o) e
     ∙ ap (λ (j : Invoke). let o : Option Invoke = Some j in o) (sym (
     is
-    ∙ ap (λ x. let j : Invoke = record { how = invocation how; function = n; arguments = x; reducers = rs; result = place } in j) p.0
-    ∙ ap (λ x. let j : Invoke = record { how = invocation how; function = n; arguments = words_of names s.parameters c.arguments; reducers = x; result = place } in j) p.1))
+    ∙ ap (λ x. let j : Invoke = record { how = how; function = n; arguments = x; reducers = rs; result = place } in j) p.0
+    ∙ ap (λ x. let j : Invoke = record { how = how; function = n; arguments = words_of names s.parameters c.arguments; reducers = x; result = place } in j) p.1))
 
 initializer_only : (names : Names) (n : ℕ) (i : trees.LocalInitializer) (d : Declaration) → ResolvesInitializer names n i d → d ≡ declaration_of names n i
 initializer_only names n trees.Absent d h = h

@@ -6,7 +6,7 @@ use Rattle.cilk_monoid.specs.declared.kind.MonoidKind.{MonoidKind}
 use Rattle.cilk_monoid.specs.declared.kind.MonoidKind.TheVariants.{Add, Least, Greatest, Append, Affine}
 use Rattle.cilk_monoid.specs.Kinds.{same_kind}
 use Rattle.cilk_syntax.specs.declared.tree.Name.{Name}
-use Rattle.cilk_syntax.specs.declared.tree.Invocation as invoked
+use Rattle.cilk_types.specs.declared.invocation.Invocation.{Invocation}
 use Rattle.cilk_syntax.specs.Trees as trees
 use Rattle.cilk_program.specs.declared.syntax.Place.{Place}
 use Rattle.cilk_program.specs.declared.syntax.Place.TheVariants.{Local}
@@ -23,7 +23,6 @@ use Rattle.cilk_scopes.specs.Names.{Names, meaning}
 use Rattle.cilk_names.specs.Contexts.{Context, inside, behind_scope, ahead, with_variable, behind_beginning, in_body, behind}
 use Rattle.cilk_scopes.specs.Sights.{place_of, array_of, reducer_of, is_same, is_reducer_of, function_of, seen, variable, array, reducer, called, signature_of}
 use Rattle.cilk_names.specs.Calls.{bare_name}
-use Rattle.cilk_scopes.specs.Operators.{compound, invocation}
 use Rattle.cilk_scopes.specs.Faults.{unless, name_faults, turn_faults, variable_faults, array_faults, reducer_faults, written_faults}
 use Rattle.cilk_names.specs.Misnamings.{expression_faults, optional_faults, place_faults, assignment_faults, optional_assignment_faults, bare_faults, arguments_faults, returns_word, fit_faults, call_faults, declared_faults, initializer_faults, local_faults, locals_faults, beginning_faults, same_faults, head_faults, gives_what_it_returns, return_faults, statement_faults, row_faults}
 use Rattle.cilk_names.specs.Pass.{read_of, element_of, value_of, expression_of, optional_of, to_variable, to_element, target_of, or_empty, assignment_of, optional_row, bare_reducer, words_of, reducers_of, invoke_of, invoking, declaration_of, declarations_of, beginning_of, statement_of, row_of, loops_of, row_loops}
@@ -94,7 +93,7 @@ assignment_right names (trees.Assignment.Set p e) h =
 assignment_right names (trees.Compound op p e) h =
     let q = both_nil (place_faults names p) (expression_faults names e) h in
     let t = place_right names p q.0 in
-    (t.0, expression_of names e, t.2, expression_right names e q.1, ap (λ o. or_empty o (λ x. Change x (compound op) (expression_of names e))) t.1)
+    (t.0, expression_of names e, t.2, expression_right names e q.1, ap (λ o. or_empty o (λ x. Change x op (expression_of names e))) t.1)
 assignment_right names (trees.Increment p) h = let t = place_right names p h in (t.0, t.2, ap (λ o. or_empty o (λ x. Step x (pos 1))) t.1)
 assignment_right names (trees.Decrement p) h = let t = place_right names p h in (t.0, t.2, ap (λ o. or_empty o (λ x. Step x (negsuc 0))) t.1)
 
@@ -158,7 +157,7 @@ fit_right (Some k) n s taken c e h =
     let p = both_nil (unless (nat_eq (length c.arguments) (length s.parameters)) WrongCount c.name.at) (unless (returns_word s.returns || not taken) WrongKind c.name.at) h in
     eqb-true (length c.arguments) (length s.parameters) (unless_right (nat_eq (length c.arguments) (length s.parameters)) WrongCount c.name.at p.0)
 
-pub call_right : (names : Names) (taken : Bool) (how : invoked.Invocation) (c : trees.Call) (place : Option Place) → call_faults names taken c ≡ []
+pub call_right : (names : Names) (taken : Bool) (how : Invocation) (c : trees.Call) (place : Option Place) → call_faults names taken c ≡ []
     → (i : Invoke) × (invoke_of names how c place ≡ Some i) × ResolvesCall names how c place i
 call_right names taken how c place h =
     let s = signature_of names (called names c.name) in
@@ -168,9 +167,9 @@ call_right names taken how c place h =
     let same : s ≡ signature_of names (Some f.0) = ap (signature_of names) f.1 in
     let args : ResolvesArguments names s.parameters c.arguments (words_of names s.parameters c.arguments) (reducers_of names s.parameters c.arguments) =
     arguments_right names s.parameters c.arguments (fit_right (called names c.name) f.0 s taken c f.1 q.1) p.1 in
-    let i : Invoke = record { how = invocation how; function = f.0; arguments = words_of names s.parameters c.arguments; reducers = reducers_of names s.parameters c.arguments; result = place } in (
+    let i : Invoke = record { how = how; function = f.0; arguments = words_of names s.parameters c.arguments; reducers = reducers_of names s.parameters c.arguments; result = place } in (
       i,
-      ap (λ (o : Option ℕ). option_map (λ n. let j : Invoke = record { how = invocation how; function = n; arguments = words_of names s.parameters c.arguments; reducers = reducers_of names s.parameters c.arguments; result = place } in j) o) f.1,
+      ap (λ (o : Option ℕ). option_map (λ n. let j : Invoke = record { how = how; function = n; arguments = words_of names s.parameters c.arguments; reducers = reducers_of names s.parameters c.arguments; result = place } in j) o) f.1,
       (
         f.0,
         words_of names s.parameters c.arguments,

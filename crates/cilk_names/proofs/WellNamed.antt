@@ -22,7 +22,7 @@ use Rattle.cilk_program.specs.Syntax.{Function, Loop, Source, Statements, idle, 
 use Rattle.cilk_program.specs.WellNamed.{Level, function_level, levels, at_most, has_cell, is_kind, has_given, row_is_named, stands_in, function_is_named, functions_are_named, loops_are_named, main_is_plain, is_well_named}
 use Rattle.cilk_names.specs.declared.limits.TheConstants.{MAX_CELLS, MAX_GLOBALS, MAX_PARAMETERS, MAX_REDUCERS}
 use Rattle.cilk_scopes.specs.declared.fault.NameNumber.TheVariants.{OverLimit}
-use Rattle.cilk_scopes.specs.declared.table.Entry.{Entry}
+use Rattle.cilk_scopes.specs.declared.table.Binding.{Binding}
 use Rattle.cilk_scopes.specs.declared.table.Meaning.{Meaning}
 use Rattle.cilk_scopes.specs.declared.table.Meaning.TheVariants as meanings
 use Rattle.cilk_scopes.specs.declared.table.Home.TheVariants as homes
@@ -501,7 +501,7 @@ functions_fit k text (trees.Function returns x ps body ∷ rest) fs made t f (ro
         given_more f fs s sigs g k (suc n) lt = k.given n (omega arith)
 
 -- functions that are known are there
-functions_there : (k : Known) (text : List ℕ) (m : ℕ) (items : List Item) (fs : List Function) (made : List Loop) (q : List ℕ) (e : Entry) → ResolvesItems k items fs made
+functions_there : (k : Known) (text : List ℕ) (m : ℕ) (items : List Item) (fs : List Function) (made : List Loop) (q : List ℕ) (e : Binding) → ResolvesItems k items fs made
     → functions_known text m items q ≡ Some e → (n : ℕ) × (e.meaning ≡ meanings.Function n) × (n < m + length fs)
 functions_there k text m [] fs made q e h is = absurd cc
 functions_there k text m (trees.Globals vs ∷ rest) fs made q e h is = functions_there (behind_item k (trees.Globals vs)) text m rest fs made q e h is
@@ -513,7 +513,7 @@ functions_there k text m (trees.Function returns x ps body ∷ rest) fs made q e
     there_cases : (b : Bool) → (if b then Some (record { meaning = meanings.Function m; declared = false }) else functions_known text (m + 1) rest q) ≡ Some e → length fs ≡ suc (length fs')
         → (functions_known text (m + 1) rest q ≡ Some e → (n : ℕ) × (e.meaning ≡ meanings.Function n) × (n < m + 1 + length fs'))
         → (n : ℕ) × (e.meaning ≡ meanings.Function n) × (n < m + length fs)
-    there_cases true f c next = let known : Entry = record { meaning = meanings.Function m; declared = false } in let same : known ≡ e = cc in (m, sym (ap (λ (y : Entry). y.meaning) same), omega arith)
+    there_cases true f c next = let known : Binding = record { meaning = meanings.Function m; declared = false } in let same : known ≡ e = cc in (m, sym (ap (λ (y : Binding). y.meaning) same), omega arith)
     there_cases false f c next = let r = next f in (r.0, r.1, let lt = r.2 in omega arith)
 
 -- the main function is there, and takes nothing
@@ -638,7 +638,7 @@ start_between t n h m =
       count = omega arith;
     }
   where
-    or_nothing : (o : Option Entry) (e : Entry) → option_or o None ≡ Some e → o ≡ Some e
+    or_nothing : (o : Option Binding) (e : Binding) → option_or o None ≡ Some e → o ≡ Some e
     or_nothing None e h = h
     or_nothing (Some x) e h = h
 

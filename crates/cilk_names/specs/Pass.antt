@@ -3,7 +3,7 @@
 use Rattle.std.specs.Prelude.{ℕ, pos, negsuc, List, [], ◌∷◌, ◌++◌, map, Option, Some, None, option_map}
 use Rattle.std.specs.Option.{option_to_list}
 use Rattle.cilk_syntax.specs.declared.tree.Name.{Name}
-use Rattle.cilk_syntax.specs.declared.tree.Invocation as invoked
+use Rattle.cilk_types.specs.declared.invocation.Invocation.{Invocation}
 use Rattle.cilk_syntax.specs.declared.tree.Tree.{Tree}
 use Rattle.cilk_syntax.specs.Trees as trees
 use Rattle.cilk_syntax.specs.Trees.{Item, Globals, Function, program}
@@ -20,7 +20,7 @@ use Rattle.cilk_names.specs.Contexts.{Context, inside, behind_scope, ahead, with
 use Rattle.cilk_scopes.specs.Sights.{variable, array, reducer, called, signature_of}
 use Rattle.cilk_names.specs.Calls.{first_of, rest_of, bare_name}
 use Rattle.cilk_names.specs.Globals.{Known, start, in_function, behind_item, behind_items}
-use Rattle.cilk_scopes.specs.Operators.{prefixed, joined, compound, invocation}
+use Rattle.cilk_scopes.specs.Operators.{prefixed, joined}
 
 abbrev pub read_of : Option Place → Expression
 read_of None = Number (pos 0)
@@ -68,7 +68,7 @@ or_empty (Some x) f = f x
 
 abbrev pub assignment_of : Names → trees.Assignment → Statement
 assignment_of names (trees.Assignment.Set p e) = or_empty (target_of names p) (λ t. Assign t (expression_of names e))
-assignment_of names (trees.Compound op p e) = or_empty (target_of names p) (λ t. Change t (compound op) (expression_of names e))
+assignment_of names (trees.Compound op p e) = or_empty (target_of names p) (λ t. Change t op (expression_of names e))
 assignment_of names (trees.Increment p) = or_empty (target_of names p) (λ t. Step t (pos 1))
 assignment_of names (trees.Decrement p) = or_empty (target_of names p) (λ t. Step t (negsuc 0))
 
@@ -97,11 +97,11 @@ abbrev pub reducers_of : Names → List ParameterKind → List trees.Argument �
 reducers_of names ks [] = []
 reducers_of names ks (a ∷ list) = reducer_of_argument names (first_of ks) a ++ reducers_of names (rest_of ks) list
 
-abbrev pub invoke_of : Names → invoked.Invocation → trees.Call → Option Place → Option Invoke
+abbrev pub invoke_of : Names → Invocation → trees.Call → Option Place → Option Invoke
 invoke_of names how c result =
     let s = signature_of names (called names c.name) in
     option_map (λ n. record {
-      how = invocation how;
+      how = how;
       function = n;
       arguments = words_of names s.parameters c.arguments;
       reducers = reducers_of names s.parameters c.arguments;

@@ -2,7 +2,7 @@
 use Rattle.std.specs.Prelude.{◌≡◌, ℕ, pos, negsuc, List, [], ◌∷◌, ◌++◌, map, Option, Some, None}
 use Rattle.cilk_syntax.specs.declared.tree.Name.{Name}
 use Rattle.cilk_syntax.specs.declared.tree.Tree.{Tree}
-use Rattle.cilk_syntax.specs.declared.tree.Invocation as invoked
+use Rattle.cilk_types.specs.declared.invocation.Invocation.{Invocation}
 use Rattle.cilk_syntax.specs.Trees as trees
 use Rattle.cilk_syntax.specs.Trees.{Item, Globals, Function, program}
 use Rattle.cilk_program.specs.declared.program.GlobalReducer.{GlobalReducer}
@@ -20,7 +20,7 @@ use Rattle.cilk_scopes.specs.Sights.{variable, array, reducer, called, signature
 use Rattle.cilk_names.specs.Calls.{bare_name}
 use Rattle.cilk_names.specs.Globals.{Known, start, in_function, behind_item, behind_items, main_of}
 use Rattle.cilk_names.specs.Misnamings.{faults_of}
-use Rattle.cilk_scopes.specs.Operators.{prefixed, joined, compound, invocation}
+use Rattle.cilk_scopes.specs.Operators.{prefixed, joined}
 
 -- an expression of the tree resolves to an expression
 abbrev pub ResolvesExpression : Names → trees.Expression → Expression → Type 0
@@ -48,7 +48,7 @@ ResolvesPlace names (trees.Place.Element x e) t = (a : Array) × (e' : Expressio
 abbrev pub ResolvesAssignment : Names → trees.Assignment → Statement → Type 0
 ResolvesAssignment names (trees.Assignment.Set p e) r = (t : Target) × (e' : Expression) × ResolvesPlace names p t × ResolvesExpression names e e' × (r ≡ Assign t e')
 ResolvesAssignment names (trees.Compound op p e) r =
-    (t : Target) × (e' : Expression) × ResolvesPlace names p t × ResolvesExpression names e e' × (r ≡ Change t (compound op) e')
+    (t : Target) × (e' : Expression) × ResolvesPlace names p t × ResolvesExpression names e e' × (r ≡ Change t op e')
 ResolvesAssignment names (trees.Increment p) r = (t : Target) × ResolvesPlace names p t × (r ≡ Step t (pos 1))
 ResolvesAssignment names (trees.Decrement p) r = (t : Target) × ResolvesPlace names p t × (r ≡ Step t (negsuc 0))
 
@@ -71,11 +71,11 @@ ResolvesArguments names (kinds.Reducer k ∷ ks) (a ∷ list) ws rs =
     (r : Reducer) × (rs' : List Reducer) × ResolvesBare names a.value r × (k ≡ Some r.kind) × ResolvesArguments names ks list ws rs' × (rs ≡ r ∷ rs')
 
 -- a call of a function, whose result this variable takes
-abbrev pub ResolvesCall : Names → invoked.Invocation → trees.Call → Option Place → Invoke → Type 0
+abbrev pub ResolvesCall : Names → Invocation → trees.Call → Option Place → Invoke → Type 0
 ResolvesCall names how c place i =
     (n : ℕ) × (ws : List Expression) × (rs : List Reducer) × (called names c.name ≡ Some n)
     × (let s = signature_of names (Some n) in ResolvesArguments names s.parameters c.arguments ws rs)
-    × (i ≡ record { how = invocation how; function = n; arguments = ws; reducers = rs; result = place })
+    × (i ≡ record { how = how; function = n; arguments = ws; reducers = rs; result = place })
 
 -- what a declared variable opens with, in its cell
 abbrev pub ResolvesInitializer : Names → ℕ → trees.LocalInitializer → Declaration → Type 0

@@ -15,12 +15,12 @@ use crate::expressions::expression;
 use cilk_monoid::kind::MonoidKind;
 use cilk_program::syntax::{Expr, Invoke, Place, Reducer};
 use cilk_scopes::fault::{Misnaming, NameNumber};
-use cilk_scopes::operators::invocation;
 use cilk_scopes::sights::{function, given, note_unless};
 use cilk_scopes::signature::ParameterKind;
 use cilk_scopes::table::{Table, signature};
 use cilk_syntax::tree;
 use cilk_syntax::tree::{Argument, Name, ReturnType};
+use cilk_types::invocation::Invocation;
 use std::alloc::{AllocError, Global};
 
 /// The arguments of a call: its words and its reducers, each in order.
@@ -147,7 +147,7 @@ fn gives(returns: ReturnType, is_taken: bool) -> bool
 pub(crate) fn call(
     alloc: Global,
     table: &Table,
-    how: tree::Invocation,
+    how: Invocation,
     call: &tree::Call,
     is_taken: bool,
     result_place: Option<Place>,
@@ -163,7 +163,7 @@ pub(crate) fn call(
     let kinds = fit(table, function, call, is_taken, first);
     let Passed { words, reducers } = arguments(alloc, table, kinds, &call.arguments, first)?;
     Ok(Some(Invoke {
-        how: invocation(how),
+        how,
         function,
         arguments: words,
         reducers,

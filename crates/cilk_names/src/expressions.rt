@@ -7,15 +7,15 @@ ghost use Rattle.cilk_program.specs.Syntax.{Assign, Change, Step};
 ghost use Rattle.cilk_scopes.specs.Faults.{earliest};
 ghost use Rattle.cilk_names.specs.Misnamings.{expression_faults, optional_faults, place_faults, assignment_faults};
 ghost use Rattle.cilk_names.specs.Pass.{assignment_of, element_of, expression_of, optional_of, or_empty, read_of, target_of, value_of};
-ghost use Rattle.cilk_scopes.specs.Operators.{compound};
 ghost use Rattle.cilk_scopes.specs.Tables.{names_of};
 
 use cilk_program::syntax::{Array, Expr, Place, Reducer, Stmt, Target};
 use cilk_scopes::fault::Misnaming;
-use cilk_scopes::operators::{between, compound, in_front};
+use cilk_scopes::operators::{between, in_front};
 use cilk_scopes::sights::{array, reducer, variable, written};
 use cilk_scopes::table::Table;
 use cilk_syntax::tree;
+use cilk_types::compound::Compound;
 use std::alloc::{AllocError, Global};
 
 /// A variable as an expression; where there is none, 0.
@@ -153,11 +153,11 @@ fn assign(place: Option<Target>, value: Expr) -> Stmt
 }
 
 /// A compound assignment of a value; where there is no place, nothing.
-fn change(place: Option<Target>, operator: tree::Compound, value: Expr) -> Stmt
-    ensures { statement result ≡ or_empty (option_map target place) (λ t. Change t (compound operator) (expression value)) }
+fn change(place: Option<Target>, operator: Compound, value: Expr) -> Stmt
+    ensures { statement result ≡ or_empty (option_map target place) (λ t. Change t operator (expression value)) }
 {
     match place {
-        Some(place) => Stmt::Change(place, compound(operator), value),
+        Some(place) => Stmt::Change(place, operator, value),
         None => Stmt::Empty,
     }
 }

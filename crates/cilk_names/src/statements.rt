@@ -24,6 +24,7 @@ use cilk_scopes::sights::{note_unless, reducer, written};
 use cilk_scopes::table::{Meaning, Table, bytes_of};
 use cilk_syntax::tree;
 use cilk_syntax::tree::{Beginning, Bounds, Name, ReturnType};
+use cilk_types::invocation::Invocation;
 use std::alloc::{AllocError, Global};
 
 /// Whether a function's reducers may go on behind a statement.
@@ -96,7 +97,7 @@ fn invoke(invoke: Option<Invoke>) -> Stmt
 fn invoked(
     alloc: Global,
     table: &Table,
-    how: tree::Invocation,
+    how: Invocation,
     tree: &tree::Call,
     first: &mut Option<Misnaming>,
 ) -> Result<Stmt, AllocError>
@@ -113,7 +114,7 @@ fn assigned(
     alloc: Global,
     table: &Table,
     name: Name,
-    how: tree::Invocation,
+    how: Invocation,
     tree: &tree::Call,
     first: &mut Option<Misnaming>,
 ) -> Result<Stmt, AllocError>

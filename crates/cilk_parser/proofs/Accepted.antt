@@ -3,15 +3,15 @@ use Rattle.std.proofs.Common.{◌≡◌, ℕ, pos, ◌+◌, ◌≤◌, Bool, tru
 use Rattle.cilk_token.specs.declared.token.Kind.{Kind}
 use Rattle.cilk_token.specs.declared.token.Kind.TheVariants as kinds
 use Rattle.cilk_token.specs.declared.token.Token.{Token}
-use Rattle.cilk_grammar.specs.declared.marks.Mark.TheVariants as marks
+use Rattle.cilk_grammar.specs.declared.marks.Punct.TheVariants as marks
 use Rattle.cilk_syntax.specs.declared.tree.Name.{Name}
 use Rattle.cilk_syntax.specs.declared.tree.UnaryOperator.TheVariants.{Negate, Not}
 use Rattle.cilk_syntax.specs.declared.tree.BinaryOperator.{BinaryOperator}
 use Rattle.cilk_syntax.specs.declared.tree.BinaryOperator.TheVariants as operators
-use Rattle.cilk_syntax.specs.declared.tree.Compound.{Compound}
-use Rattle.cilk_syntax.specs.declared.tree.Compound.TheVariants as compounds
-use Rattle.cilk_syntax.specs.declared.tree.Invocation.{Invocation}
-use Rattle.cilk_syntax.specs.declared.tree.Invocation.TheVariants as invocations
+use Rattle.cilk_types.specs.declared.compound.Compound.{Compound}
+use Rattle.cilk_types.specs.declared.compound.Compound.TheVariants as compounds
+use Rattle.cilk_types.specs.declared.invocation.Invocation.{Invocation}
+use Rattle.cilk_types.specs.declared.invocation.Invocation.TheVariants as invocations
 use Rattle.cilk_syntax.specs.declared.tree.ReturnType.TheVariants as types
 use Rattle.cilk_syntax.specs.declared.tree.Reducer as reducers
 use Rattle.cilk_syntax.specs.declared.tree.Initializer.{Initializer}

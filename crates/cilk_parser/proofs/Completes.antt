@@ -5,7 +5,7 @@ use Rattle.std.specs.Ordering.{int_eq}
 use Rattle.cilk_token.specs.declared.token.Kind.{Kind}
 use Rattle.cilk_token.specs.declared.token.Kind.TheVariants as kinds
 use Rattle.cilk_token.specs.declared.token.Token.{Token}
-use Rattle.cilk_grammar.specs.declared.marks.Mark.TheVariants as marks
+use Rattle.cilk_grammar.specs.declared.marks.Punct.TheVariants as marks
 use Rattle.cilk_grammar.specs.Expected.{Symbol, One, Named, Numeral, Single, Operand, Index, Tail, Anew, Optional, Statement, Statements, ElsePart, AfterName, Assignment, Subscript, Operation, Source, SourceRest, Arguments, MoreArguments, Declaration, LocalInitial, Locals, Beginning, Step, UnitStep, UnitStepRest, Item, Declared, Literal, Initial, Variables, Parameters, Parameter, MoreParameters, Items, Passes, After, Goes, Fails, move_one, move_named, move_numeral, move_single, move_operand, move_index, move_tail, move_optional, move_statement, move_else, move_after_name, move_assignment, move_subscript, move_operation, move_source, move_source_rest, move_arguments, move_more_arguments, move_declaration, move_local_initial, move_locals, move_beginning, move_step, move_unit_step, move_unit_step_rest, move_item, move_declared, move_literal, move_initial, move_variables, move_parameters, move_parameter, move_more_parameters, move_items, kind_of, fits, level_of, begins_statement, followed, chosen, after}
 use Rattle.cilk_grammar.specs.Limits.{is_deep}
 use Rattle.cilk_grammar.proofs.Lists.{form_repeats}

@@ -7,14 +7,14 @@ use Rattle.std.proofs.lemmas.Bool.Decides.{Decides-int_eq}
 use Rattle.cilk_token.specs.declared.token.Kind.{Kind}
 use Rattle.cilk_token.specs.declared.token.Kind.TheVariants as kinds
 use Rattle.cilk_token.specs.declared.token.Token.{Token}
-use Rattle.cilk_grammar.specs.declared.marks.Mark.{Mark}
-use Rattle.cilk_grammar.specs.declared.marks.Mark.TheVariants as marks
+use Rattle.cilk_grammar.specs.declared.marks.Punct.{Punct}
+use Rattle.cilk_grammar.specs.declared.marks.Punct.TheVariants as marks
 use Rattle.cilk_syntax.specs.declared.tree.Name.{Name}
 use Rattle.cilk_syntax.specs.declared.tree.UnaryOperator.TheVariants.{Negate, Not}
 use Rattle.cilk_syntax.specs.declared.tree.BinaryOperator.{BinaryOperator}
 use Rattle.cilk_syntax.specs.declared.tree.BinaryOperator.TheVariants as operators
-use Rattle.cilk_syntax.specs.declared.tree.Compound.TheVariants as compounds
-use Rattle.cilk_syntax.specs.declared.tree.Invocation.TheVariants as invocations
+use Rattle.cilk_types.specs.declared.compound.Compound.TheVariants as compounds
+use Rattle.cilk_types.specs.declared.invocation.Invocation.TheVariants as invocations
 use Rattle.cilk_syntax.specs.declared.tree.ReturnType.TheVariants as types
 use Rattle.cilk_syntax.specs.declared.tree.Reducer as reducers
 use Rattle.cilk_syntax.specs.declared.tree.Initializer.{Initializer}
@@ -184,7 +184,7 @@ as_argument e ts rest h =
     let f = first_of e ts rest h in
     (record { at = f.0.at; value = e }, (f.0, f.1, f.2, refl, h))
 
-back_one : (t : Token) (ts : List Token) (mark : Mark) (stack : List Symbol) (n : ℕ) (below : After) (b : Bool) → fits mark t.kind ≡ b → RowAfter (chosen (move_one b) stack n below) ts → Row (One mark ∷ stack) (t ∷ ts)
+back_one : (t : Token) (ts : List Token) (mark : Punct) (stack : List Symbol) (n : ℕ) (below : After) (b : Bool) → fits mark t.kind ≡ b → RowAfter (chosen (move_one b) stack n below) ts → Row (One mark ∷ stack) (t ∷ ts)
 back_one t ts mark stack n below true e h = (ts, (t, refl, is_mark mark t.kind e), h)
 back_one t ts mark stack n below false e h = absurd h
 

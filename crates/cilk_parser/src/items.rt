@@ -10,7 +10,7 @@ ghost use Rattle.cilk_syntax.specs.Trees as trees;
 ghost use Rattle.cilk_syntax.specs.declared.tree.ReturnType.TheVariants as types;
 
 use crate::parameters::parameters;
-use cilk_grammar::marks::{Mark, behind, name, numeral, one};
+use cilk_grammar::marks::{Punct, behind, name, numeral, one};
 use cilk_grammar::stop::Stop;
 use cilk_statements::declarations::reducer;
 use cilk_statements::statements::statements;
@@ -78,7 +78,7 @@ fn global<'a>(name: Name, tokens: &'a [Token]) -> Result<(GlobalVariable, &'a [T
             after @ ..,
         ] => {
             let (length, rest) = numeral(after)?;
-            let rest = one(rest, Mark::CloseBracket)?;
+            let rest = one(rest, Punct::CloseBracket)?;
             Ok((GlobalVariable::Array(name, length), rest))
         }
         _ => Ok((GlobalVariable::Variable(name, Initializer::Absent), tokens)),
@@ -102,7 +102,7 @@ fn variables<'a>(
     let mut list = Vec::new(alloc);
     let (variable, mut rest) = global(first, tokens)?;
     list.push(variable)?;
-    'each: while let Some(after) = behind(rest, Mark::Comma) {
+    'each: while let Some(after) = behind(rest, Punct::Comma) {
         let (next, after) = name(after)?;
         let (variable, after) = global(next, after)?;
         list.push(variable)?;
@@ -144,13 +144,13 @@ fn body<'a>(alloc: Global, tokens: &'a [Token]) -> Result<(Vec<Stmt>, &'a [Token
     ensures tree { IfOk result (λ x. SpellsBody (trees.statements x.0.items) tokens.now x.1.now) }
     ensures shorter { IfOk result (λ x. length x.1.now < length tokens.now) }
     ensures reads { IfOk result (λ x. (stack : List Symbol) →
-        run tokens.now (One Mark.OpenBrace ∷ Statements 0 ∷ One Mark.CloseBrace ∷ stack) 0 ≡ run x.1.now stack 0) }
+        run tokens.now (One Punct.OpenBrace ∷ Statements 0 ∷ One Punct.CloseBrace ∷ stack) 0 ≡ run x.1.now stack 0) }
     ensures stops { IfErr result (λ e. (stack : List Symbol) →
-        IsStop e (run tokens.now (One Mark.OpenBrace ∷ Statements 0 ∷ One Mark.CloseBrace ∷ stack) 0)) }
+        IsStop e (run tokens.now (One Punct.OpenBrace ∷ Statements 0 ∷ One Punct.CloseBrace ∷ stack) 0)) }
 {
-    let rest = one(tokens, Mark::OpenBrace)?;
+    let rest = one(tokens, Punct::OpenBrace)?;
     let (list, rest) = statements(alloc, rest, 0)?;
-    let rest = one(rest, Mark::CloseBrace)?;
+    let rest = one(rest, Punct::CloseBrace)?;
     Ok((list, rest))
 }
 
@@ -163,9 +163,9 @@ fn function<'a>(
     ensures tree { IfOk result (λ x. SpellsFunction x.0.items (trees.statements x.1.items) tokens.now x.2.now) }
     ensures shorter { IfOk result (λ x. length x.2.now < length tokens.now) }
     ensures reads { IfOk result (λ x. (stack : List Symbol) →
-        run tokens.now (expected.Parameters ∷ One Mark.OpenBrace ∷ Statements 0 ∷ One Mark.CloseBrace ∷ stack) 0 ≡ run x.2.now stack 0) }
+        run tokens.now (expected.Parameters ∷ One Punct.OpenBrace ∷ Statements 0 ∷ One Punct.CloseBrace ∷ stack) 0 ≡ run x.2.now stack 0) }
     ensures stops { IfErr result (λ e. (stack : List Symbol) →
-        IsStop e (run tokens.now (expected.Parameters ∷ One Mark.OpenBrace ∷ Statements 0 ∷ One Mark.CloseBrace ∷ stack) 0)) }
+        IsStop e (run tokens.now (expected.Parameters ∷ One Punct.OpenBrace ∷ Statements 0 ∷ One Punct.CloseBrace ∷ stack) 0)) }
 {
     let (list, rest) = parameters(alloc, tokens)?;
     let (body, rest) = body(alloc, rest)?;
@@ -223,7 +223,7 @@ fn declaration<'a>(alloc: Global, tokens: &'a [Token]) -> Result<(Item, &'a [Tok
             after @ ..,
         ] => {
             let (declared, rest) = reducer(after)?;
-            let rest = one(rest, Mark::Semicolon)?;
+            let rest = one(rest, Punct::Semicolon)?;
             Ok((Item::Reducer(declared), rest))
         }
         _ => {
@@ -243,7 +243,7 @@ fn procedure<'a>(alloc: Global, tokens: &'a [Token]) -> Result<(Item, &'a [Token
         IsStop e (run tokens.now (behind_type types.Void stack) 0)) }
 {
     let (name, rest) = name(tokens)?;
-    let rest = one(rest, Mark::Open)?;
+    let rest = one(rest, Punct::Open)?;
     let (list, body, rest) = function(alloc, rest)?;
     Ok((Item::Function(ReturnType::Void, name, list, body), rest))
 }

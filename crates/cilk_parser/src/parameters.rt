@@ -7,7 +7,7 @@ ghost use Rattle.cilk_grammar.specs.Grammar.{SpellsListed, SpellsParameter, Spel
 ghost use Rattle.cilk_grammar.specs.Stops.{IsStop, NotFirst};
 ghost use Rattle.cilk_token.specs.declared.token.Kind.TheVariants as kinds;
 
-use cilk_grammar::marks::{Mark, behind, one};
+use cilk_grammar::marks::{Punct, behind, one};
 use cilk_grammar::stop::Stop;
 use cilk_statements::declarations::reducer;
 use cilk_syntax::tree::{Name, Parameter};
@@ -59,8 +59,8 @@ fn listed<'a>(alloc: Global, tokens: &'a [Token]) -> Result<(Vec<Parameter>, &'a
     let mut list = Vec::new(alloc);
     let (first, mut rest) = parameter(tokens)?;
     list.push(first)?;
-    'each: while let Some(after) = behind(rest, Mark::Comma) {
-        let after = one(after, Mark::Int)?;
+    'each: while let Some(after) = behind(rest, Punct::Comma) {
+        let after = one(after, Punct::Int)?;
         let (next, after) = parameter(after)?;
         list.push(next)?;
         rest = after;
@@ -87,7 +87,7 @@ pub fn parameters<'a>(
     match first.kind {
         Kind::Close => Ok((Vec::new(alloc), after)),
         Kind::Void => {
-            let rest = one(after, Mark::Close)?;
+            let rest = one(after, Punct::Close)?;
             Ok((Vec::new(alloc), rest))
         }
         Kind::Int => {

@@ -1,7 +1,9 @@
 -- A frame's first and last strands have the same peers.
 use Rattle.std.proofs.Common.{◌≡◌, ℕ, suc, ◌+◌, ◌-◌, ◌<◌, length, get_or, replicate, Option, Some, None, refl, sym, ◌∙◌, subst, arith, ◌⊎◌, inl, inr}
 use Rattle.std.proofs.lemmas.List.{get_or-replicate}
-use Rattle.cilk_tree.specs.Shape.{Kind, called, spawned, Shape, finish, act, sync, child, marks}
+use Rattle.cilk_types.specs.declared.invocation.Invocation.{Invocation}
+use Rattle.cilk_types.specs.declared.invocation.Invocation.TheVariants as invocations
+use Rattle.cilk_tree.specs.Shape.{Shape, finish, act, sync, child, marks}
 use Rattle.cilk_tree.specs.Tree.{Tree, strand, series, parallel, then_later, beside, Rest, block, blocks, rest_of, tree, leaves}
 use Rattle.cilk_tree.specs.Parallel.{Holds, Parallel}
 use Rattle.cilk_tree.specs.Reach.{HasSync, HasSyncIf, IsSynced}
@@ -146,13 +148,13 @@ parallel_alike_right a b o f p q h =
           (λ w. (wide_right a b o _ _ i j h.same w, wide_right a b o _ _ j i (back b (o + leaves a) _ _ h.same) w));
     }
 
-beside_alike_left : (k : Kind) (a b : Tree) (o f p q : ℕ) → Alike a o f p q → Alike (beside k a b) o f p q
-beside_alike_left called a b o f p q h = series_alike_left a b o f p q h
-beside_alike_left spawned a b o f p q h = parallel_alike_left a b o f p q h
+beside_alike_left : (k : Invocation) (a b : Tree) (o f p q : ℕ) → Alike a o f p q → Alike (beside k a b) o f p q
+beside_alike_left invocations.Call a b o f p q h = series_alike_left a b o f p q h
+beside_alike_left invocations.Spawn a b o f p q h = parallel_alike_left a b o f p q h
 
-beside_alike_right : (k : Kind) (a b : Tree) (o f p q : ℕ) → Alike b (o + leaves a) (f + size a) p q → Alike (beside k a b) o f p q
-beside_alike_right called a b o f p q h = series_alike_right a b o f p q h
-beside_alike_right spawned a b o f p q h = parallel_alike_right a b o f p q h
+beside_alike_right : (k : Invocation) (a b : Tree) (o f p q : ℕ) → Alike b (o + leaves a) (f + size a) p q → Alike (beside k a b) o f p q
+beside_alike_right invocations.Call a b o f p q h = series_alike_right a b o f p q h
+beside_alike_right invocations.Spawn a b o f p q h = parallel_alike_right a b o f p q h
 
 -- where what comes later begins
 moved : (t : Tree) (o o' f f' p q : ℕ) → o ≡ o' → f ≡ f' → Alike t o f p q → Alike t o' f' p q
@@ -214,17 +216,17 @@ later_there (act r) h = later_there r h
 later_there (sync r) h = tt
 later_there (child k u r) h = later_there r h
 
-closes_more : (k : Kind) (a : Tree) (y : Rest) → (k ≡ spawned → IsThere y.later) → ClosesRest y.after y.later → ClosesRest (Some (beside k a (block y))) y.later
+closes_more : (k : Invocation) (a : Tree) (y : Rest) → (k ≡ invocations.Spawn → IsThere y.later) → ClosesRest y.after y.later → ClosesRest (Some (beside k a (block y))) y.later
 closes_more k a y there h = by k y.later there h
   where
-    by : (k : Kind) (l : Option Tree) → (k ≡ spawned → IsThere l) → ClosesRest y.after l → ClosesRest (Some (beside k a (block y))) l
-    by called None there h = closes_block y h
-    by spawned None there h = absurd (there refl)
+    by : (k : Invocation) (l : Option Tree) → (k ≡ invocations.Spawn → IsThere l) → ClosesRest y.after l → ClosesRest (Some (beside k a (block y))) l
+    by invocations.Call None there h = closes_block y h
+    by invocations.Spawn None there h = absurd (there refl)
     by k (Some l) there h = h
 
-there_if : (k : Kind) (r : Shape) → HasSyncIf k r → k ≡ spawned → IsThere (rest_of r).later
-there_if called r h e = absurd (cc e)
-there_if spawned r h e = later_there r h
+there_if : (k : Invocation) (r : Shape) → HasSyncIf k r → k ≡ invocations.Spawn → IsThere (rest_of r).later
+there_if invocations.Call r h e = absurd (cc e)
+there_if invocations.Spawn r h e = later_there r h
 
 closes_rest : (r : Shape) → IsSynced r → ClosesRest (rest_of r).after (rest_of r).later
 closes_rest finish h = tt

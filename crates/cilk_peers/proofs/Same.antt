@@ -1,7 +1,9 @@
 -- Two strands have the same peers exactly where they are of one class.
 use Rattle.std.proofs.Common.{◌≡◌, ◌≢◌, ℕ, suc, ◌+◌, ◌-◌, ◌<◌, ◌≤◌, List, [], ◌∷◌, ◌++◌, length, get_or, Option, Some, None, refl, sym, ◌∙◌, ap, arith, ◌⊎◌, inl, inr, ◌↔◌}
 use Rattle.std.proofs.lemmas.List.{length-append}
-use Rattle.cilk_tree.specs.Shape.{Kind, called, spawned, Shape, finish, act, sync, child}
+use Rattle.cilk_types.specs.declared.invocation.Invocation.{Invocation}
+use Rattle.cilk_types.specs.declared.invocation.Invocation.TheVariants as invocations
+use Rattle.cilk_tree.specs.Shape.{Shape, finish, act, sync, child}
 use Rattle.cilk_tree.specs.Tree.{Tree, strand, series, parallel, then_later, beside, Rest, block, blocks, rest_of, tree, leaves}
 use Rattle.cilk_tree.specs.Parallel.{Holds, Parallel}
 use Rattle.cilk_tree.proofs.Backward.{has_leaf}
@@ -242,9 +244,9 @@ sound-block x a = sound-then_later (strand (suc x.events)) x.after tt a
 sound-blocks : (x : Rest) → SoundIf x.after → SoundIf x.later → Sound (blocks x)
 sound-blocks x a l = sound-then_later (block x) x.later (sound-block x a) l
 
-sound-beside : (k : Kind) (x y : Rest) → Sound (blocks x) → Sound (block y) → Sound (beside k (blocks x) (block y))
-sound-beside called x y s r = (s, r)
-sound-beside spawned x y s r = (leads-blocks x, leads-then_later (strand (suc y.events)) y.after tt, s, r)
+sound-beside : (k : Invocation) (x y : Rest) → Sound (blocks x) → Sound (block y) → Sound (beside k (blocks x) (block y))
+sound-beside invocations.Call x y s r = (s, r)
+sound-beside invocations.Spawn x y s r = (leads-blocks x, leads-then_later (strand (suc y.events)) y.after tt, s, r)
 
 sound_rest : (r : Shape) → SoundIf (rest_of r).after × SoundIf (rest_of r).later
 sound_rest finish = (tt, tt)

@@ -1,5 +1,6 @@
 pub mod Frames
 pub mod Peers
+pub mod RaceFree
 pub mod ViewRaces
 pub mod Walk
 pub mod Worked

@@ -4,8 +4,8 @@ use Rattle.std.specs.Ordering.{int_eq}
 use Rattle.cilk_types.specs.Word.{word_of, quotient, remainder}
 use Rattle.cilk_program.specs.declared.syntax.Operator.{Operator}
 use Rattle.cilk_program.specs.declared.syntax.Operator.TheVariants.{Add, Subtract, Multiply, Divide, Remainder, Less, LessEqual, Greater, GreaterEqual, Equal, NotEqual}
-use Rattle.cilk_program.specs.declared.syntax.Compound.{Compound}
-use Rattle.cilk_program.specs.declared.syntax.Compound.TheVariants as compounds
+use Rattle.cilk_types.specs.declared.compound.Compound.{Compound}
+use Rattle.cilk_types.specs.declared.compound.Compound.TheVariants as compounds
 
 -- a condition holds where it isn't 0
 abbrev pub is_zero : ℤ → Bool

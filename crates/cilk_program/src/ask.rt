@@ -3,8 +3,9 @@
 ghost use Rattle.std.specs.Prelude.{◌≡◌};
 
 use crate::given::{References, Words};
-use crate::syntax::{Invocation, Place, Reducer};
+use crate::syntax::{Place, Reducer};
 use cilk_types::fault::Fault;
+use cilk_types::invocation::Invocation;
 
 /// A call of a function: its number, the words and the reducers that it is given, each in order of its parameters, and the
 /// caller's variable that takes the result.

@@ -1,6 +1,8 @@
 //! Expressions and statements whose names are resolved.
 
 use cilk_monoid::kind::MonoidKind;
+use cilk_types::compound::Compound;
+use cilk_types::invocation::Invocation;
 
 /// An operator on two words, both of which are evaluated.
 #[derive(Clone, Copy, PartialEq, Eq, Debug)]
@@ -16,14 +18,6 @@ pub enum Operator {
     GreaterEqual,
     Equal,
     NotEqual,
-}
-
-/// The operator of `+=`, `-=` or `*=`.
-#[derive(Clone, Copy, PartialEq, Eq, Debug)]
-pub enum Compound {
-    Add,
-    Subtract,
-    Multiply,
 }
 
 /// Where a variable lives, as a frame sees it.
@@ -58,13 +52,6 @@ pub enum ReducerPlace {
 pub struct Reducer {
     pub place: ReducerPlace,
     pub kind: MonoidKind,
-}
-
-/// Whether a child may run in parallel with what follows it.
-#[derive(Clone, Copy, PartialEq, Eq, Debug)]
-pub enum Invocation {
-    Call,
-    Spawn,
 }
 
 /// An expression.

@@ -2,7 +2,9 @@
 use Rattle.std.proofs.Common.{◌≡◌, ℕ, suc, ◌≤◌, List, [], ◌∷◌, Some, None, refl, sym, ap, ap₂, ◌∙◌, subst, arith, ⊎_elim, eq-eqb, ne_eqb}
 use Rattle.std.specs.Prelude.{nat_eq}
 use Rattle.std.proofs.lemmas.Bool.{cases_eq, cond-true, cond-false}
-use Rattle.cilk_runs.specs.Runs.{Name, Kind, Calls, Spawns, Reads, Writes, Syncs, Ends, Passes, Deed, Does, Invokes, Run, stop, act, child}
+use Rattle.cilk_types.specs.declared.invocation.Invocation.{Invocation}
+use Rattle.cilk_types.specs.declared.invocation.Invocation.TheVariants.{Call, Spawn}
+use Rattle.cilk_runs.specs.Runs.{Name, Reads, Writes, Syncs, Ends, Passes, Deed, Does, Invokes, Run, stop, act, child}
 use Rattle.cilk_runs.specs.Machine.{Frame, Frames, deeds_at}
 use Rattle.cilk_runs.specs.Serial.{own_deeds, child_at, run_in}
 use Rattle.cilk_runs.specs.Cuts.{below, IsStarted, NoneFrom, IsCut, Begins, BeginsSerially, sync_bit, spawn_bit, joined_at, joined}
@@ -26,7 +28,7 @@ module _ {W : Type 0} where
   nobody : (k j : ℕ) (m : Name) (kids : ℕ → Frames W) (f : Frame W) {X : Type 0} → NoneFrom k kids → k ≤ j → kids j m ≡ Some f → X
   nobody k j m kids f none le q = let z : None ≡ Some f = sym (none j le m) ∙ q in absurd (cc)
 
-  later_child : (b : Kind) (w : W) (u r : Run W) (k j : ℕ) (kids : ℕ → Frames W) → (k ≡ j → ⊥) → ChildCut r (suc k) j kids → ChildCut (child b w u r) k j kids
+  later_child : (b : Invocation) (w : W) (u r : Run W) (k j : ℕ) (kids : ℕ → Frames W) → (k ≡ j → ⊥) → ChildCut r (suc k) j kids → ChildCut (child b w u r) k j kids
   later_child b w u r k j kids ne (v, x, at, s, c) = (v, x, cond-false (nat_eq k j) (Some u) (child_at r (suc k) j) (ne_eqb k j ne) ∙ at, s, c)
 
   child_cut : (r : Run W) (k : ℕ) (ds : List (Deed W)) (kids : ℕ → Frames W) (j : ℕ) (m : Name) (f : Frame W) → IsCut r k ds kids → k ≤ j → kids j m ≡ Some f → ChildCut r k j kids
@@ -55,9 +57,9 @@ module _ {W : Type 0} where
   sync_bit_le (Does (Passes m) ∷ ds) = sync_bit_le ds
   sync_bit_le (Invokes b w ∷ ds) = sync_bit_le ds
 
-  spawn_le : (b : Kind) (ds : List (Deed W)) → spawn_bit b (sync_bit ds) ≤ 1
-  spawn_le Calls ds = omega arith
-  spawn_le Spawns ds = sync_bit_le ds
+  spawn_le : (b : Invocation) (ds : List (Deed W)) → spawn_bit b (sync_bit ds) ≤ 1
+  spawn_le Call ds = omega arith
+  spawn_le Spawn ds = sync_bit_le ds
 
   joined_at_le : (z k : ℕ) (ds : List (Deed W)) → joined_at z k ds ≤ 1
   joined_at_le z k [] = omega arith

@@ -1,7 +1,9 @@
 -- A frame that isn't waiting stands at its next deed of the serial run.
 use Rattle.std.proofs.Common.{◌≡◌, ℕ, suc, ◌≤◌, Bool, List, [], ◌∷◌, ◌++◌, Option, Some, None, refl, sym, ap, ◌∙◌, subst, arith, ⊎_elim, append_assoc, append-nil, ℤ, zero, ap₂}
 use Rattle.std.proofs.lemmas.Bool.{cases_eq}
-use Rattle.cilk_runs.specs.Runs.{Name, Cell, Kind, Calls, Spawns, Ask, Invoke, Sync, Event, Reads, Writes, Syncs, Ends, Passes, Deed, Does, Invokes, Run, stop, act, child, ask_of}
+use Rattle.cilk_types.specs.declared.invocation.Invocation.{Invocation}
+use Rattle.cilk_types.specs.declared.invocation.Invocation.TheVariants.{Call, Spawn}
+use Rattle.cilk_runs.specs.Runs.{Name, Cell, Ask, Invoke, Sync, Event, Reads, Writes, Syncs, Ends, Passes, Deed, Does, Invokes, Run, stop, act, child, ask_of}
 use Rattle.cilk_runs.specs.Machine.{Frame, Frames, deeds_at, HasEnd, HasSync, Ready, put}
 use Rattle.cilk_runs.specs.Serial.{own_deeds, value_after, IsSerial, SyncAhead, GoesOn, ComesAfter, IsClosed, Behaves, IsDetermined}
 use Rattle.cilk_runs.specs.Cuts.{below, IsStarted, IsFull, IsPast, NoneFrom, IsCut}
@@ -28,16 +30,16 @@ module _ {W : Type 0} where
   full_sync (child i w u r) k [] kids full cut h = absurd full
   full_sync (child i w u r) k (d ∷ ds) kids full cut h = rw cut.0 (full_sync r (suc k) ds kids full.1 cut.4 h)
 
-  pub full_goes : (r : Run W) (k : ℕ) (ds : List (Deed W)) (kids : ℕ → Frames W) → IsFull r k ds kids → GoesOn r → IsPast Calls ds
+  pub full_goes : (r : Run W) (k : ℕ) (ds : List (Deed W)) (kids : ℕ → Frames W) → IsFull r k ds kids → GoesOn r → IsPast Call ds
   full_goes stop k ds kids full h = absurd h
   full_goes (act e r) k [] kids full h = absurd full
   full_goes (act e r) k (d ∷ ds) kids full h = tt
   full_goes (child i w u r) k [] kids full h = absurd full
   full_goes (child i w u r) k (d ∷ ds) kids full h = tt
 
-  all_past : (i : Kind) (r : Run W) (k : ℕ) (ds : List (Deed W)) (kids : ℕ → Frames W) → IsFull r k ds kids → IsCut r k ds kids → ComesAfter i r → IsPast i ds
-  all_past Calls r k ds kids full cut h = full_goes r k ds kids full h
-  all_past Spawns r k ds kids full cut h = full_sync r k ds kids full cut h
+  all_past : (i : Invocation) (r : Run W) (k : ℕ) (ds : List (Deed W)) (kids : ℕ → Frames W) → IsFull r k ds kids → IsCut r k ds kids → ComesAfter i r → IsPast i ds
+  all_past Call r k ds kids full cut h = full_goes r k ds kids full h
+  all_past Spawn r k ds kids full cut h = full_sync r k ds kids full cut h
 
   -- a frame that has made each event has done what it does in the run
   pub full_deeds : (r : Run W) (k : ℕ) (ds : List (Deed W)) (kids : ℕ → Frames W) → IsFull r k ds kids → IsCut r k ds kids → ds ≡ own_deeds r
@@ -78,10 +80,10 @@ module _ {W : Type 0} where
   sync_ask (Invokes i w) a q h = absurd h
 
   -- what must have ended before the next deed has
-  settled : (i : Kind) (w : W) (kid : ℕ → Option (Frame W)) (loose : ℕ → Bool) (a : Ask W) (k : ℕ) (ds : List (Deed W)) (e : Deed W) (Full : Type 0) → Ready kid loose a k (Invokes i w ∷ ds) → (IsPast i ds → Full) → (HasEnd (deeds_at (kid k)) → Full) → a ≡ ask_by e → IsPast i (ds ++ e ∷ []) → Full
-  settled Calls w kid loose a k [] e Full ready past ended q h = ended (ready.0 refl)
-  settled Calls w kid loose a k (d ∷ ds) e Full ready past ended q h = past tt
-  settled Spawns w kid loose a k ds e Full ready past ended q h =
+  settled : (i : Invocation) (w : W) (kid : ℕ → Option (Frame W)) (loose : ℕ → Bool) (a : Ask W) (k : ℕ) (ds : List (Deed W)) (e : Deed W) (Full : Type 0) → Ready kid loose a k (Invokes i w ∷ ds) → (IsPast i ds → Full) → (HasEnd (deeds_at (kid k)) → Full) → a ≡ ask_by e → IsPast i (ds ++ e ∷ []) → Full
+  settled Call w kid loose a k [] e Full ready past ended q h = ended (ready.0 refl)
+  settled Call w kid loose a k (d ∷ ds) e Full ready past ended q h = past tt
+  settled Spawn w kid loose a k ds e Full ready past ended q h =
       ⊎_elim past (λ never. ⊎_elim past (λ s. ended (ready.1 (sync_ask e a q s) never)) (last_sync ds e h)) (has_sync ds)
 
   pub closed_act : (e : Event) (r : Run W) → IsClosed (act e r) → IsClosed r
@@ -91,9 +93,9 @@ module _ {W : Type 0} where
   closed_act (Ends val gone) r h = rw h tt
   closed_act (Passes m) r h = h
 
-  pub ready_child : (i : Kind) (w : W) (kid : ℕ → Option (Frame W)) (loose : ℕ → Bool) (a : Ask W) (k : ℕ) (ds : List (Deed W)) → Ready kid loose a k (Invokes i w ∷ ds) → Ready kid loose a (suc k) ds
-  ready_child Calls w kid loose a k ds h = h.1
-  ready_child Spawns w kid loose a k ds h = h.2
+  pub ready_child : (i : Invocation) (w : W) (kid : ℕ → Option (Frame W)) (loose : ℕ → Bool) (a : Ask W) (k : ℕ) (ds : List (Deed W)) → Ready kid loose a k (Invokes i w ∷ ds) → Ready kid loose a (suc k) ds
+  ready_child Call w kid loose a k ds h = h.1
+  ready_child Spawn w kid loose a k ds h = h.2
 
 -- ordinals count from 1
 pub counts_from : {W : Type 0} (t : Frames W) (i : ℕ) (m : Name) (f : Frame W) → ((n : Name) → t (0 ∷ n) ≡ None) → t (i ∷ m) ≡ Some f → 1 ≤ i

@@ -1,7 +1,9 @@
 -- The place in the serial run at which a frame of a cut stands.
 use Rattle.std.proofs.Common.{◌≡◌, ℕ, suc, List, [], ◌∷◌, ◌++◌, refl, sym, ap, ◌∙◌, inl, inr, ⊎_elim, ℤ}
 use Rattle.std.proofs.lemmas.Bool.{cases_Bool, cond-false}
-use Rattle.cilk_runs.specs.Runs.{Name, Cell, same_cell, Kind, Calls, Spawns, Event, Reads, Writes, Syncs, Ends, Passes, Deed, Does, Invokes, Run, stop, act, child}
+use Rattle.cilk_types.specs.declared.invocation.Invocation.{Invocation}
+use Rattle.cilk_types.specs.declared.invocation.Invocation.TheVariants.{Call, Spawn}
+use Rattle.cilk_runs.specs.Runs.{Name, Cell, same_cell, Event, Reads, Writes, Syncs, Ends, Passes, Deed, Does, Invokes, Run, stop, act, child}
 use Rattle.cilk_runs.specs.Machine.{Frames, deeds_at, HasSync, put}
 use Rattle.cilk_runs.specs.Serial.{value_after}
 use Rattle.cilk_runs.specs.Races.{IsAccess, IsWrite, IsSync, HasEventWith, HasInBlockWith, ApartIf, RaceFree}
@@ -17,10 +19,10 @@ grown (j ∷ m) ds d = ds
 -- It doesn't wait: what must have ended before e has.
 pub data Front (W : Type 0) (c : Cell) : Run W → ℕ → List (Deed W) → (ℕ → Frames W) → Name → Deed W → ℤ → ℤ → Type 0 where
   here_act : {e : Event} {r : Run W} {k : ℕ} {kids : ℕ → Frames W} {x : ℤ} → Front W c (act e r) k [] kids [] (Does e) x x
-  here_child : {i : Kind} {w : W} {u r : Run W} {k : ℕ} {kids : ℕ → Frames W} {x : ℤ} → Front W c (child i w u r) k [] kids [] (Invokes i w) x x
+  here_child : {i : Invocation} {w : W} {u r : Run W} {k : ℕ} {kids : ℕ → Frames W} {x : ℤ} → Front W c (child i w u r) k [] kids [] (Invokes i w) x x
   past_act : {e : Event} {r : Run W} {k : ℕ} {d : Deed W} {ds : List (Deed W)} {kids : ℕ → Frames W} {n : Name} {a : Deed W} {x y : ℤ} → Front W c r k ds kids n a (put e c x) y → Front W c (act e r) k (d ∷ ds) kids n a x y
-  past_child : {i : Kind} {w : W} {u r : Run W} {k : ℕ} {d : Deed W} {ds : List (Deed W)} {kids : ℕ → Frames W} {n : Name} {a : Deed W} {x y : ℤ} → (IsPast i (grown n ds a) → IsFull u 1 (deeds_at (kids k [])) (below (kids k))) → Front W c r (suc k) ds kids n a (value_after u c x) y → Front W c (child i w u r) k (d ∷ ds) kids n a x y
-  inside : {i : Kind} {w : W} {u r : Run W} {k : ℕ} {d : Deed W} {ds : List (Deed W)} {kids : ℕ → Frames W} {m : Name} {a : Deed W} {x y : ℤ} → Front W c u 1 (deeds_at (kids k [])) (below (kids k)) m a x y → Front W c (child i w u r) k (d ∷ ds) kids (k ∷ m) a x y
+  past_child : {i : Invocation} {w : W} {u r : Run W} {k : ℕ} {d : Deed W} {ds : List (Deed W)} {kids : ℕ → Frames W} {n : Name} {a : Deed W} {x y : ℤ} → (IsPast i (grown n ds a) → IsFull u 1 (deeds_at (kids k [])) (below (kids k))) → Front W c r (suc k) ds kids n a (value_after u c x) y → Front W c (child i w u r) k (d ∷ ds) kids n a x y
+  inside : {i : Invocation} {w : W} {u r : Run W} {k : ℕ} {d : Deed W} {ds : List (Deed W)} {kids : ℕ → Frames W} {m : Name} {a : Deed W} {x y : ℤ} → Front W c u 1 (deeds_at (kids k [])) (below (kids k)) m a x y → Front W c (child i w u r) k (d ∷ ds) kids (k ∷ m) a x y
 
 pub no_sync_here : {W : Type 0} (e : Event) (d : Deed W) (ds : List (Deed W)) → d ≡ Does e → ¬ (HasSync (d ∷ ds)) → ¬ (IsSync e) × ¬ (HasSync ds)
 no_sync_here (Reads a v) d ds q h = (λ z. z, rw q at h)
@@ -29,7 +31,7 @@ no_sync_here Syncs d ds q h = absurd ((rw q at h) tt)
 no_sync_here (Ends val gone) d ds q h = (λ z. z, rw q at h)
 no_sync_here (Passes m) d ds q h = (λ z. z, rw q at h)
 
-pub no_sync_child : {W : Type 0} (i : Kind) (w : W) (d : Deed W) (ds : List (Deed W)) → d ≡ Invokes i w → ¬ (HasSync (d ∷ ds)) → ¬ (HasSync ds)
+pub no_sync_child : {W : Type 0} (i : Invocation) (w : W) (d : Deed W) (ds : List (Deed W)) → d ≡ Invokes i w → ¬ (HasSync (d ∷ ds)) → ¬ (HasSync ds)
 no_sync_child i w d ds q h = rw q at h
 
 pub grown_sync : {W : Type 0} (n : Name) (ds : List (Deed W)) (a : Deed W) → HasSync ds → HasSync (grown n ds a)
@@ -110,7 +112,7 @@ module _ {W : Type 0} (c : Cell) where
       made_full r (suc k) ds kids (made u 1 (deeds_at (kids k [])) (below (kids k)) c x) full.1 ∙ ap (value_after r c) (made_full u 1 (deeds_at (kids k [])) (below (kids k)) x full.0)
 
 module _ {W : Type 0} {c : Cell} where
-  pub past_call : {r : Run W} {k : ℕ} {ds : List (Deed W)} {kids : ℕ → Frames W} {n : Name} {a : Deed W} {x y : ℤ} → Front W c r k ds kids n a x y → IsPast Calls (grown n ds a)
+  pub past_call : {r : Run W} {k : ℕ} {ds : List (Deed W)} {kids : ℕ → Frames W} {n : Name} {a : Deed W} {x y : ℤ} → Front W c r k ds kids n a x y → IsPast Call (grown n ds a)
   past_call here_act = tt
   past_call here_child = tt
   past_call (past_act {n = []} f) = tt
@@ -120,19 +122,19 @@ module _ {W : Type 0} {c : Cell} where
   past_call (inside f) = tt
 
   -- What was made of a child on the way to the front is what the whole child leaves in a cell that is accessed there.
-  pub beside : (i : Kind) (u r : Run W) (k : ℕ) (ds : List (Deed W)) (kids : ℕ → Frames W) (v : ℤ) {n : Name} {e : Event} {x y : ℤ} → (IsPast i (grown n ds (Does e)) → IsFull u 1 (deeds_at (kids k [])) (below (kids k))) → Front W c r (suc k) ds kids n (Does e) x y → IsCut r (suc k) ds kids → ApartIf i u r → IsAccess e c → made u 1 (deeds_at (kids k [])) (below (kids k)) c v ≡ value_after u c v
-  beside Calls u r k ds kids v p f cut far acc = made_full c u 1 (deeds_at (kids k [])) (below (kids k)) v (p (past_call f))
-  beside Spawns u r k ds kids v {n} {e} p f cut far acc =
+  pub beside : (i : Invocation) (u r : Run W) (k : ℕ) (ds : List (Deed W)) (kids : ℕ → Frames W) (v : ℤ) {n : Name} {e : Event} {x y : ℤ} → (IsPast i (grown n ds (Does e)) → IsFull u 1 (deeds_at (kids k [])) (below (kids k))) → Front W c r (suc k) ds kids n (Does e) x y → IsCut r (suc k) ds kids → ApartIf i u r → IsAccess e c → made u 1 (deeds_at (kids k [])) (below (kids k)) c v ≡ value_after u c v
+  beside Call u r k ds kids v p f cut far acc = made_full c u 1 (deeds_at (kids k [])) (below (kids k)) v (p (past_call f))
+  beside Spawn u r k ds kids v {n} {e} p f cut far acc =
       ⊎_elim (λ h. made_full c u 1 (deeds_at (kids k [])) (below (kids k)) v (p (grown_sync n ds (Does e) h)))
       (λ never. let quiet : ¬ (HasEventWith (λ z. IsWrite z c) u) = λ h. (far c).1 h (front_in_block (λ z. IsAccess z c) f cut never acc) in
       made_quiet c u 1 (deeds_at (kids k [])) (below (kids k)) v quiet ∙ sym (value_quiet c u v quiet))
       (has_sync ds)
 
   -- What was made after a child that isn't done leaves a cell that the child accesses next.
-  pub after_child : (i : Kind) (u r : Run W) (k : ℕ) (ds : List (Deed W)) (kids : ℕ → Frames W) (v : ℤ) {m : Name} {e : Event} {x y : ℤ} → Front W c u 1 (deeds_at (kids k [])) (below (kids k)) m (Does e) x y → (IsPast i ds → IsFull u 1 (deeds_at (kids k [])) (below (kids k))) → IsCut r (suc k) ds kids → ApartIf i u r → IsAccess e c → made r (suc k) ds kids c v ≡ v
-  after_child Calls u r k [] kids v f p cut far acc = made_nil c r (suc k) kids v
-  after_child Calls u r k (d ∷ ds) kids v f p cut far acc = absurd (full_stuck f (p tt))
-  after_child Spawns u r k ds kids v f p cut far acc =
+  pub after_child : (i : Invocation) (u r : Run W) (k : ℕ) (ds : List (Deed W)) (kids : ℕ → Frames W) (v : ℤ) {m : Name} {e : Event} {x y : ℤ} → Front W c u 1 (deeds_at (kids k [])) (below (kids k)) m (Does e) x y → (IsPast i ds → IsFull u 1 (deeds_at (kids k [])) (below (kids k))) → IsCut r (suc k) ds kids → ApartIf i u r → IsAccess e c → made r (suc k) ds kids c v ≡ v
+  after_child Call u r k [] kids v f p cut far acc = made_nil c r (suc k) kids v
+  after_child Call u r k (d ∷ ds) kids v f p cut far acc = absurd (full_stuck f (p tt))
+  after_child Spawn u r k ds kids v f p cut far acc =
       block_quiet c r (suc k) ds kids v cut (λ h. full_stuck f (p h)) (λ h. (far c).0 (front_event (λ z. IsAccess z c) f acc) h)
 
   -- Without a race, what was made leaves in the cell what the serial run has there.

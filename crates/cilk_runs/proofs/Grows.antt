@@ -2,7 +2,9 @@
 use Rattle.std.proofs.Common.{◌≡◌, ℕ, suc, ◌+◌, ◌≤◌, cond, ◌&&◌, List, [], ◌∷◌, ◌++◌, Some, refl, sym, ap, ◌∙◌, subst, arith, ⊎_elim, eq-eqb, le_refl, ℤ, None}
 use mathlib.Core.Path.{fun_ext}
 use Rattle.std.proofs.lemmas.Bool.{cond-true, cond-false, cases_Bool}
-use Rattle.cilk_runs.specs.Runs.{Name, same_name, Cell, same_cell, Kind, Calls, Spawns, Event, Writes, Deed, Does, Invokes, Run, stop, act, child}
+use Rattle.cilk_types.specs.declared.invocation.Invocation.{Invocation}
+use Rattle.cilk_types.specs.declared.invocation.Invocation.TheVariants.{Call, Spawn}
+use Rattle.cilk_runs.specs.Runs.{Name, same_name, Cell, same_cell, Event, Writes, Deed, Does, Invokes, Run, stop, act, child}
 use Rattle.cilk_runs.specs.Machine.{Frame, Frames, deeds_at, started, put, effect, with_frame, begun, after_deed}
 use Rattle.cilk_runs.specs.Races.{RaceFree}
 use Rattle.cilk_runs.specs.Cuts.{below, IsStarted, IsFull, IsPast, NoneFrom, IsCut, made}
@@ -98,9 +100,9 @@ module _ {W : Type 0} {c : Cell} where
         cut_nil r (suc k) kids' (λ j le m. ap (λ t. t m) (g.0 j (λ q. omega arith)) ∙ cut j (omega arith) m),
       )
     where
-      nothing_past : (i : Kind) → {X : Type 0} → IsPast {W = W} i [] → X
-      nothing_past Calls h = absurd h
-      nothing_past Spawns h = absurd h
+      nothing_past : (i : Invocation) → {X : Type 0} → IsPast {W = W} i [] → X
+      nothing_past Call h = absurd h
+      nothing_past Spawn h = absurd h
   cut_step (past_act {e = e} {n = []} f) cut K kids' at g = (cut.0, cut_step f cut.1 K kids' (rw cut.0 at at) g)
   cut_step (past_act {e = e} {n = j ∷ m} f) cut K kids' at g = (cut.0, cut_step f cut.1 K kids' (rw cut.0 at at) g)
   cut_step (past_child {i = i} {w = w} {u = u} {r = r} {k = k} {d = d} {ds = ds} {kids = kids} {n = []} {a = a} p f) cut K kids' at g =

@@ -2,7 +2,9 @@
 use Rattle.std.proofs.Common.{◌≡◌, ℕ, suc, ◌+◌, ◌<◌, ◌≤◌, false, cond, List, [], ◌∷◌, ◌++◌, Some, None, refl, sym, ap, ◌∙◌, subst, arith, ⊎_elim, eq-eqb, ne_eqb, zero-add, ℤ, zero}
 use Rattle.std.specs.Prelude.{nat_eq}
 use Rattle.std.proofs.lemmas.Bool.{cases_eq, cases_Bool, cond-true, cond-false}
-use Rattle.cilk_runs.specs.Runs.{Name, same_name, Cell, Kind, Calls, Spawns, Event, Reads, Writes, Syncs, Ends, Passes, Deed, Does, Invokes}
+use Rattle.cilk_types.specs.declared.invocation.Invocation.{Invocation}
+use Rattle.cilk_types.specs.declared.invocation.Invocation.TheVariants.{Call, Spawn}
+use Rattle.cilk_runs.specs.Runs.{Name, same_name, Cell, Event, Reads, Writes, Syncs, Ends, Passes, Deed, Does, Invokes}
 use Rattle.cilk_runs.specs.Machine.{Frame, Frames, deeds_at, started, begun, after_deed, open_block, children}
 use Rattle.cilk_runs.specs.Cuts.{below, times, sync_bit, spawn_bit, joined_at, joined}
 use Rattle.cilk_runs.specs.Runs.{Run, stop, act, child}
@@ -22,13 +24,13 @@ count-append : (k : ℕ) (xs ys : List ℕ) → count k (xs ++ ys) ≡ count k x
 count-append k [] ys = omega arith
 count-append k (x ∷ xs) ys = omega (arith, count-append k xs ys)
 
-spawn_sum : (b : Kind) (x y z : ℕ) → x ≡ y + z → spawn_bit b x ≡ spawn_bit b y + spawn_bit b z
-spawn_sum Calls x y z h = refl
-spawn_sum Spawns x y z h = h
+spawn_sum : (b : Invocation) (x y z : ℕ) → x ≡ y + z → spawn_bit b x ≡ spawn_bit b y + spawn_bit b z
+spawn_sum Call x y z h = refl
+spawn_sum Spawn x y z h = h
 
-spawn_zero : (b : Kind) → spawn_bit b 0 ≡ 0
-spawn_zero Calls = refl
-spawn_zero Spawns = refl
+spawn_zero : (b : Invocation) → spawn_bit b 0 ≡ 0
+spawn_zero Call = refl
+spawn_zero Spawn = refl
 
 module _ {W : Type 0} where
   -- n, or 0 where there is a sync
@@ -86,12 +88,12 @@ module _ {W : Type 0} where
   block_count z k block (Does Syncs ∷ ds) = omega (arith, block_count z k [] ds, left_of-zero ds)
   block_count z k block (Does (Ends val gone) ∷ ds) = block_count z k block ds
   block_count z k block (Does (Passes m) ∷ ds) = block_count z k block ds
-  block_count z k block (Invokes Calls w ∷ ds) =
+  block_count z k block (Invokes Call w ∷ ds) =
       ⊎_elim
       (λ e. rw (eq-eqb z k e) (block_count (suc z) k block ds ∙ ap (λ t. left_of ds (count k block) + t) (open_past (suc z) k ds (omega arith))))
       (λ ne. rw (ne_eqb z k ne) (block_count (suc z) k block ds))
       (cases_eq z k)
-  block_count z k block (Invokes Spawns w ∷ ds) =
+  block_count z k block (Invokes Spawn w ∷ ds) =
       let ih = block_count (suc z) k (block ++ z ∷ []) ds in
       let more = ap (left_of ds) (count-append k block (z ∷ [])) ∙ left_of-add ds (count k block) (count k (z ∷ [])) in
       ⊎_elim
@@ -324,9 +326,9 @@ module _ {W : Type 0} where
   sync_bit_has (Does (Passes m) ∷ ds) h = sync_bit_has ds h
   sync_bit_has (Invokes b w ∷ ds) h = sync_bit_has ds h
 
-  spawn_full : (b : Kind) (r : Run W) (k : ℕ) (ds : List (Deed W)) (kids : ℕ → Frames W) → IsFull r k ds kids → IsCut r k ds kids → ComesAfter b r → spawn_bit b (sync_bit ds) ≡ spawn_bit b 1
-  spawn_full Calls r k ds kids full cut h = refl
-  spawn_full Spawns r k ds kids full cut h = sync_bit_has ds (full_sync r k ds kids full cut h)
+  spawn_full : (b : Invocation) (r : Run W) (k : ℕ) (ds : List (Deed W)) (kids : ℕ → Frames W) → IsFull r k ds kids → IsCut r k ds kids → ComesAfter b r → spawn_bit b (sync_bit ds) ≡ spawn_bit b 1
+  spawn_full Call r k ds kids full cut h = refl
+  spawn_full Spawn r k ds kids full cut h = sync_bit_has ds (full_sync r k ds kids full cut h)
 
   act_bits : (z k : ℕ) (d : Deed W) (ds : List (Deed W)) (e : Event) → d ≡ Does e → joined_at z k ds ≡ spawned_at z k ds → joined_at z k (d ∷ ds) ≡ spawned_at z k (d ∷ ds)
   act_bits z k d ds e q h = rw q h

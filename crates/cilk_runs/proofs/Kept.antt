@@ -9,7 +9,8 @@ use Rattle.cilk_runs.specs.Costs.{Costs, Total, cost, fault_of, weight}
 use Rattle.cilk_runs.proofs.Spent.{CostsAt, spent_nil, spent_le, spent_step, no_fault}
 use Rattle.cilk_runs.specs.Races.{RaceFree}
 use Rattle.cilk_runs.specs.Cuts.{times, joined, below, IsStarted, IsFull, NoneFrom, IsCut, made, Lies, IsConsistent}
-use Rattle.cilk_runs.specs.Monoids.{Monoid, IsLawful, number_of, numbers_of, unit_of}
+use Rattle.cilk_monoid.specs.Laws.{MonoidStructure, IsLawful}
+use Rattle.cilk_runs.specs.Monoids.{IsValue, number_of, numbers_of, unit_of}
 use Rattle.cilk_runs.specs.Views.{view_after, IsSerialViews, ViewFree, IsResumed}
 use Rattle.cilk_runs.proofs.Basics.{same_cell-eq, same_name-eq, same_name-refl}
 use Rattle.cilk_runs.proofs.Front.{Front, here_act, here_child, past_act, past_child, inside, grown, front_value, made_nil, made_full}
@@ -92,7 +93,7 @@ view_under : {V : Type 0} (t : Name → V) (j : ℕ) (m : Name) (v : V) → (λ 
 view_under t j m v = fun_ext (λ n. ap (λ b. cond (b && same_name m n) v (t (j ∷ n))) (eq-eqb j j refl))
 
 -- one instance's views by whole names
-module _ {W V : Type 0} (M : Monoid V) (i : Instance) where
+module _ {W V : Type 0} (M : MonoidStructure V) (i : Instance) where
   abbrev MovedTree : Name → Deed W → (Name → Bool) → Frames W → (Name → V) → (Name → V) → Type 0
   MovedTree n d loose t views views' =
       Moved M i n d loose (block_view M (λ h. views (h ∷ [])) (λ h. loose (h ∷ [])) M.unit 1 (deeds_at (t []))) (suc (started (deeds_at (t [])))) (below t) views (views []) views' (views' [])
@@ -118,12 +119,12 @@ module _ {W V : Type 0} (M : Monoid V) (i : Instance) where
   )
 
 -- the frame that makes a step, as the whole tree has it
-module _ (W V : Type 0) (M : Instance → Monoid V) (Next : W → List (Deed W) → Ask W → Type 0) (C : Costs W) (w : W) (t : Run W) (opening : Cell → ℤ) where
+module _ (W V : Type 0) (M : Instance → MonoidStructure V) (Next : W → List (Deed W) → Ask W → Type 0) (C : Costs W) (w : W) (t : Run W) (opening : Cell → ℤ) where
   nonempty_name : (m : Name) (K : ℕ) → m ++ K ∷ [] ≡ [] → ⊥
   nonempty_name [] K q = cc
   nonempty_name (j ∷ m) K q = cc
 
-  taken_top : (m : Monoid V) (n : Name) (K : ℕ) (stolen : Name → Bool) (views : Name → V) → stolen (n ++ K ∷ []) ≡ false → Taken m n K stolen (with_view stolen (n ++ K ∷ []) true) views (views []) (with_view views n m.unit) (with_view views n m.unit [])
+  taken_top : (m : MonoidStructure V) (n : Name) (K : ℕ) (stolen : Name → Bool) (views : Name → V) → stolen (n ++ K ∷ []) ≡ false → Taken m n K stolen (with_view stolen (n ++ K ∷ []) true) views (views []) (with_view views n m.unit) (with_view views n m.unit [])
   taken_top h [] K stolen views off =
       (off, view_same stolen (K ∷ []) true, (λ j m ne. view_other stolen (K ∷ []) (j ∷ m) true (λ e. ne (sym e))), refl, λ j m. refl)
   taken_top o (j ∷ m) K stolen views off = (
@@ -186,7 +187,7 @@ module _ (W V : Type 0) (M : Instance → Monoid V) (Next : W → List (Deed W) 
         no_stop = o.3;
       }
 
-  module _ (determined : IsDetermined W Next) (behaves : Behaves W Next w [] t) (closed : IsClosed t) (serial : IsSerial t opening) (free : RaceFree t) (law : (i : Instance) → IsLawful (M i)) (resumed : IsResumed false t) (views : IsSerialViews M t (unit_of M)) (apart : (i : Instance) → ViewFree (M i) i t (unit_of M i)) (within : (total : Total) → C.used total + weight C total w [] t ≤ C.limit total) where
+  module _ (determined : IsDetermined W Next) (behaves : Behaves W Next w [] t) (closed : IsClosed t) (serial : IsSerial t opening) (free : RaceFree t) (law : (i : Instance) → IsLawful (M i) IsValue) (resumed : IsResumed false t) (views : IsSerialViews M t (unit_of M)) (apart : (i : Instance) → ViewFree (M i) i t (unit_of M i)) (within : (total : Total) → C.used total + weight C total w [] t ≤ C.limit total) where
     answered : (s : State W V) (n : Name) (ok : IsConsistent M C w t opening s) (m : Mark) {c : Cell} {x y : ℤ} → Front W c t 1 (deeds_at (s.frames [])) (below s.frames) n (Does (Passes m)) x y → IsAnswered m (numbers_of M (s.piece n))
     answered s n ok Begins f = tt
     answered s n ok Resumes f = tt

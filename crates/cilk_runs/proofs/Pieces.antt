@@ -2,8 +2,10 @@
 use Rattle.std.proofs.Common.{◌≡◌, ℕ, suc, pred, ◌+◌, ◌≤◌, Bool, true, false, cond, List, [], ◌∷◌, ◌++◌, Some, refl, sym, ap, ◌∙◌, subst, arith, ⊎_elim, le_refl, ℤ}
 use mathlib.Core.Path.{fun_ext}
 use Rattle.std.proofs.lemmas.Bool.{cases_Bool}
-use Rattle.cilk_runs.specs.Runs.{Name, Cell, Kind, Calls, Spawns, Ask, Event, Reads, Writes, Syncs, Ends, Passes, Begins, Resumes, Creates, Updates, Sets, Values, Prints, Deed, Does, Invokes, Run, stop, act, child, Instance}
-use Rattle.cilk_runs.specs.Monoids.{Monoid}
+use Rattle.cilk_types.specs.declared.invocation.Invocation.{Invocation}
+use Rattle.cilk_types.specs.declared.invocation.Invocation.TheVariants.{Call, Spawn}
+use Rattle.cilk_runs.specs.Runs.{Name, Cell, Ask, Event, Reads, Writes, Syncs, Ends, Passes, Begins, Resumes, Creates, Updates, Sets, Values, Prints, Deed, Does, Invokes, Run, stop, act, child, Instance}
+use Rattle.cilk_monoid.specs.Laws.{MonoidStructure}
 use Rattle.cilk_runs.specs.Views.{IsResume, IsResumed}
 use Rattle.cilk_runs.specs.Machine.{Frame, Frames, deeds_at, HasEnd, HasSync, Ready, started, begun, block_view, own_view}
 use Rattle.cilk_runs.specs.Serial.{IsClosed}
@@ -27,7 +29,7 @@ abbrev pub under : {V : Type 0} → (Name → V) → ℕ → Name → V
 under pcs k m = pcs (k ∷ m)
 
 -- an event other than a resume, at a frame that holds its piece
-own_same : {V : Type 0} (M : Monoid V) (i : Instance) (e : Event) (B : V) (l : Bool) (last : V) (v : V) → ¬ (IsResume e) → own_view M i B l last e v ≡ own_after M i e B v
+own_same : {V : Type 0} (M : MonoidStructure V) (i : Instance) (e : Event) (B : V) (l : Bool) (last : V) (v : V) → ¬ (IsResume e) → own_view M i B l last e v ≡ own_after M i e B v
 own_same M i (Reads c n) B l last v no' = refl
 own_same M i (Writes c n) B l last v no' = refl
 own_same M i Syncs B l last v no' = refl
@@ -53,7 +55,7 @@ is_resume (Passes (Sets j x)) h = absurd h
 is_resume (Passes (Values j n)) h = absurd h
 is_resume (Passes (Prints x)) h = absurd h
 
-module _ {W V : Type 0} (M : Monoid V) (i : Instance) where
+module _ {W V : Type 0} (M : MonoidStructure V) (i : Instance) where
   pub lies_nil : (r : Run W) (k : ℕ) (kids : ℕ → Frames W) (loose : Name → Bool) (pcs : Name → V) (acc p root : V) → root ≡ p → NoneStolen k loose → Lies M i r k [] kids loose pcs acc p root
   lies_nil stop k kids loose pcs acc p root q h = (q, h)
   lies_nil (act e r) k kids loose pcs acc p root q h = (q, h)
@@ -75,19 +77,19 @@ module _ {W V : Type 0} (M : Monoid V) (i : Instance) where
   lies_ext (act a r) k [] kids kids' loose pcs pcs' acc p root e q h = h
   lies_ext (act a r) k (d ∷ ds) kids kids' loose pcs pcs' acc p root e q h = lies_ext r k ds kids kids' loose pcs pcs' _ _ root e q h
   lies_ext (child b w u r) k [] kids kids' loose pcs pcs' acc p root e q h = h
-  lies_ext (child Calls w u r) k (d ∷ ds) kids kids' loose pcs pcs' acc p root e q h =
+  lies_ext (child Call w u r) k (d ∷ ds) kids kids' loose pcs pcs' acc p root e q h =
       let t = sym (e k (le_refl k)) in
       let v = sym (fun_ext {A = Name} {B = λ m. V} (λ m. q k (le_refl k) m)) in (
         h.0,
         subst (λ (z : Name → V). Lies M i u 1 (deeds_at (kids' k [])) (below (kids' k)) (λ n. loose (k ∷ n)) z M.unit p (z [])) v (subst (λ (z : Frames W). Lies M i u 1 (deeds_at (z [])) (below z) (λ n. loose (k ∷ n)) (λ n. pcs (k ∷ n)) M.unit p (pcs (k ∷ []))) t h.1),
         when_resumed_map (suc k) loose ds _ _ (λ x. subst (λ (z : Name → V). Lies M i r (suc k) ds kids' loose pcs' acc (z []) root) v (lies_ext r (suc k) ds kids kids' loose pcs pcs' acc (pcs (k ∷ [])) root (λ j le. e j (omega arith)) (λ j le. q j (omega arith)) x)) h.2,
       )
-  lies_ext (child Spawns w u r) k (d ∷ ds) kids kids' loose pcs pcs' acc p root e q h =
+  lies_ext (child Spawn w u r) k (d ∷ ds) kids kids' loose pcs pcs' acc p root e q h =
       let t = sym (e k (le_refl k)) in
       let v = sym (fun_ext {A = Name} {B = λ m. V} (λ m. q k (le_refl k) m)) in (
         subst (λ (z : Name → V). Lies M i u 1 (deeds_at (kids' k [])) (below (kids' k)) (λ n. loose (k ∷ n)) z M.unit p (z [])) v (subst (λ (z : Frames W). Lies M i u 1 (deeds_at (z [])) (below z) (λ n. loose (k ∷ n)) (λ n. pcs (k ∷ n)) M.unit p (pcs (k ∷ []))) t h.0),
         when_stolen_map (loose (k ∷ [])) _ _ _ _
-            (λ x. subst (λ (z : Name → V). Lies M i r (suc k) ds kids' loose pcs' (M.join acc (z [])) M.unit root) v (lies_ext r (suc k) ds kids kids' loose pcs pcs' _ _ root (λ j le. e j (omega arith)) (λ j le. q j (omega arith)) x))
+            (λ x. subst (λ (z : Name → V). Lies M i r (suc k) ds kids' loose pcs' (M.combine acc (z [])) M.unit root) v (lies_ext r (suc k) ds kids kids' loose pcs pcs' _ _ root (λ j le. e j (omega arith)) (λ j le. q j (omega arith)) x))
             (when_resumed_map (suc k) loose ds _ _ (λ x. (subst (λ (z : Frames W). IsFull u 1 (deeds_at (z [])) (below z)) t x.0, subst (λ (z : Name → V). Lies M i r (suc k) ds kids' loose pcs' acc (z []) root) v (lies_ext r (suc k) ds kids kids' loose pcs pcs' acc (pcs (k ∷ [])) root (λ j le. e j (omega arith)) (λ j le. q j (omega arith)) x.1))))
             h.1,
       )
@@ -103,9 +105,9 @@ module _ {W V : Type 0} (M : Monoid V) (i : Instance) where
   lies_acc (act (Ends val gone) r) k (d ∷ ds) kids loose pcs acc acc' p root cut never h = lies_acc r k ds kids loose pcs acc acc' _ root cut.1 (rw cut.0 at never) h
   lies_acc (act (Passes m) r) k (d ∷ ds) kids loose pcs acc acc' p root cut never h = lies_acc r k ds kids loose pcs acc acc' _ root cut.1 (rw cut.0 at never) h
   lies_acc (child b w u r) k [] kids loose pcs acc acc' p root cut never h = h
-  lies_acc (child Calls w u r) k (d ∷ ds) kids loose pcs acc acc' p root cut never h =
+  lies_acc (child Call w u r) k (d ∷ ds) kids loose pcs acc acc' p root cut never h =
       (h.0, h.1, when_resumed_map (suc k) loose ds _ _ (lies_acc r (suc k) ds kids loose pcs acc acc' _ root cut.4 (rw cut.0 at never)) h.2)
-  lies_acc (child Spawns w u r) k (d ∷ ds) kids loose pcs acc acc' p root cut never h = (
+  lies_acc (child Spawn w u r) k (d ∷ ds) kids loose pcs acc acc' p root cut never h = (
     h.0,
     when_stolen_map (loose (k ∷ [])) _ _ _ _
         (lies_acc r (suc k) ds kids loose pcs _ _ _ root cut.4 (rw cut.0 at never))
@@ -145,7 +147,7 @@ module _ {W V : Type 0} (M : Monoid V) (i : Instance) where
   rests_act loose a d ds e k kids [] q h = rw q at h
   rests_act loose a d ds e k kids (j ∷ m) q h = h
 
-  rests_child : (loose : Name → Bool) (a : Ask W) (b : Kind) (w : W) (d : Deed W) (ds : List (Deed W)) (k : ℕ) (kids : ℕ → Frames W) (n : Name) → d ≡ Invokes b w → Rests loose a (d ∷ ds) k kids n → Rests loose a ds (suc k) kids n
+  rests_child : (loose : Name → Bool) (a : Ask W) (b : Invocation) (w : W) (d : Deed W) (ds : List (Deed W)) (k : ℕ) (kids : ℕ → Frames W) (n : Name) → d ≡ Invokes b w → Rests loose a (d ∷ ds) k kids n → Rests loose a ds (suc k) kids n
   rests_child loose a b w d ds k kids [] q h = ready_child b w (λ t. kids t []) (λ t. loose (t ∷ [])) a k ds (rw q at h)
   rests_child loose a b w d ds k kids (j ∷ m) q h = h
 
@@ -158,7 +160,7 @@ module _ {W V : Type 0} (M : Monoid V) (i : Instance) where
   NotFirst true [] = ⊥
   NotFirst true (d ∷ ds) = Unit {0}
 
-  pub resumed_parts : (b : Bool) (h : Kind) (w : W) (u r : Run W) → IsResumed b (child h w u r) → IsResumed false u × IsResumed true r
+  pub resumed_parts : (b : Bool) (h : Invocation) (w : W) (u r : Run W) → IsResumed b (child h w u r) → IsResumed false u × IsResumed true r
   resumed_parts true h w u r res = absurd res
   resumed_parts false h w u r res = res
 
@@ -166,10 +168,10 @@ module _ {W V : Type 0} (M : Monoid V) (i : Instance) where
   grown_cons [] d ds a = refl
   grown_cons (j ∷ m) d ds a = refl
 
-  block_call : (kid : ℕ → V) (loose : ℕ → Bool) (acc : V) (k : ℕ) (d : Deed W) (ds : List (Deed W)) (w : W) → d ≡ Invokes Calls w → block_view M kid loose acc k (d ∷ ds) ≡ block_view M kid loose acc (suc k) ds
+  block_call : (kid : ℕ → V) (loose : ℕ → Bool) (acc : V) (k : ℕ) (d : Deed W) (ds : List (Deed W)) (w : W) → d ≡ Invokes Call w → block_view M kid loose acc k (d ∷ ds) ≡ block_view M kid loose acc (suc k) ds
   block_call kid loose acc k d ds w q = rw q refl
 
-  block_spawn : (kid : ℕ → V) (loose : ℕ → Bool) (acc : V) (k : ℕ) (d : Deed W) (ds : List (Deed W)) (w : W) (b : Bool) → d ≡ Invokes Spawns w → loose k ≡ b → block_view M kid loose acc k (d ∷ ds) ≡ block_view M kid loose (cond b (M.join acc (kid k)) acc) (suc k) ds
+  block_spawn : (kid : ℕ → V) (loose : ℕ → Bool) (acc : V) (k : ℕ) (d : Deed W) (ds : List (Deed W)) (w : W) (b : Bool) → d ≡ Invokes Spawn w → loose k ≡ b → block_view M kid loose acc k (d ∷ ds) ≡ block_view M kid loose (cond b (M.combine acc (kid k)) acc) (suc k) ds
   block_spawn kid loose acc k d ds w b q e = rw (q, e) refl
 
   -- the views below a child that isn't touched
@@ -181,7 +183,7 @@ module _ {W V : Type 0} (M : Monoid V) (i : Instance) where
   resumed_rest true e r h = h.1
   resumed_rest false e r h = h.1
 
-module _ {W V : Type 0} (M : Monoid V) (i : Instance) (loose : Name → Bool) (a : Deed W) (B : V) (K : ℕ) (kids kids' : ℕ → Frames W) (pcs pcs' : Name → V) (root root' : V) where
+module _ {W V : Type 0} (M : MonoidStructure V) (i : Instance) (loose : Name → Bool) (a : Deed W) (B : V) (K : ℕ) (kids kids' : ℕ → Frames W) (pcs pcs' : Name → V) (root root' : V) where
   -- the frame that resumes, by its flag
   resumed_root : (k : ℕ) (b : Bool) (q : V) → a ≡ Does (Passes Resumes) → K ≡ suc k → loose (k ∷ []) ≡ b → cond b root (pcs (k ∷ [])) ≡ q → Moved M i [] a loose B K kids pcs root pcs' root' → root' ≡ q
   resumed_root k b q is at flag e mv =
@@ -189,7 +191,7 @@ module _ {W V : Type 0} (M : Monoid V) (i : Instance) (loose : Name → Bool) (a
       let p : pred K ≡ k = rw at refl in
       m.0 ∙ ap (λ z. cond (loose (z ∷ [])) root (pcs (z ∷ []))) p ∙ ap (λ z. cond z root (pcs (k ∷ []))) flag ∙ e
 
-module _ {W V : Type 0} (M : Monoid V) (i : Instance) {c : Cell} where
+module _ {W V : Type 0} (M : MonoidStructure V) (i : Instance) {c : Cell} where
   pub front_resume : {r : Run W} {k : ℕ} {kids : ℕ → Frames W} {a : Deed W} {x y : ℤ} → Front W c r k [] kids [] a x y → IsResumed true r → a ≡ Does (Passes Resumes)
   front_resume (here_act {e = e}) h = ap Does (is_resume e h.0)
   front_resume here_child h = absurd h
@@ -221,9 +223,9 @@ module _ {W V : Type 0} (M : Monoid V) (i : Instance) {c : Cell} where
     stolen_rest {r = r} {k = k} (j ∷ m) (d ∷ ds) acc acc' f res at mv flag same ih h = subst (λ z. Lies M i r (suc k) (d ∷ ds) kids' loose pcs' z M.unit root') same (ih tt h)
 
   -- a spawned child whose continuation is resumed and was not stolen has ended
-  full_now : {r : Run W} {k : ℕ} {a : Deed W} {kids : ℕ → Frames W} {x y : ℤ} (n : Name) (d : Deed W) (ds : List (Deed W)) (w : W) (u : Run W) (loose : Name → Bool) (ask : Ask W) (Y : Type 0) → Front W c r (suc k) ds kids n a x y → d ≡ Invokes Spawns w → loose (k ∷ []) ≡ false → Rests M i loose ask (d ∷ ds) k kids n → (HasEnd (deeds_at (kids k [])) → IsFull u 1 (deeds_at (kids k [])) (below (kids k))) → WhenResumed (suc k) loose ds (IsFull u 1 (deeds_at (kids k [])) (below (kids k)) × Y) → IsFull u 1 (deeds_at (kids k [])) (below (kids k))
+  full_now : {r : Run W} {k : ℕ} {a : Deed W} {kids : ℕ → Frames W} {x y : ℤ} (n : Name) (d : Deed W) (ds : List (Deed W)) (w : W) (u : Run W) (loose : Name → Bool) (ask : Ask W) (Y : Type 0) → Front W c r (suc k) ds kids n a x y → d ≡ Invokes Spawn w → loose (k ∷ []) ≡ false → Rests M i loose ask (d ∷ ds) k kids n → (HasEnd (deeds_at (kids k [])) → IsFull u 1 (deeds_at (kids k [])) (below (kids k))) → WhenResumed (suc k) loose ds (IsFull u 1 (deeds_at (kids k [])) (below (kids k)) × Y) → IsFull u 1 (deeds_at (kids k [])) (below (kids k))
   full_now {k = k} {kids = kids} [] d [] w u loose ask Y f q flag rests ended h =
-      let ready : Ready (λ t. kids t []) (λ t. loose (t ∷ [])) ask k (Invokes Spawns w ∷ []) = rw q at rests in
+      let ready : Ready (λ t. kids t []) (λ t. loose (t ∷ [])) ask k (Invokes Spawn w ∷ []) = rw q at rests in
       ⊎_elim ended (λ e. let z : true ≡ false = sym e ∙ flag in absurd (cc)) (ready.0 refl)
   full_now (j ∷ m) d [] w u loose ask Y f q flag rests ended h = front_nonempty f refl refl
   full_now n d (e ∷ ds) w u loose ask Y f q flag rests ended h = h.0
@@ -234,7 +236,7 @@ module _ {W V : Type 0} (M : Monoid V) (i : Instance) {c : Cell} where
   lies_step (here_act {e = e} {r = r} {k = k} {kids = kids}) cut closed false not res loose ask rests acc B p pcs root be lies K kids' at g pcs' root' mv =
       lies_nil M i r k kids' loose pcs' _ _ root' (mv.0 ∙ own_same M i e B (loose (pred K ∷ [])) (pcs (pred K ∷ [])) root res.0 ∙ ap (λ z. own_after M i e z root) be ∙ ap (own_after M i e acc) lies.0) lies.1
   lies_step here_child cut closed true not res loose ask rests acc B p pcs root be lies K kids' at g pcs' root' mv = absurd not
-  lies_step (here_child {i = Calls} {w = w} {u = u} {r = r} {k = k} {kids = kids}) cut closed false not res loose ask rests acc B p pcs root be lies K kids' at g pcs' root' mv =
+  lies_step (here_child {i = Call} {w = w} {u = u} {r = r} {k = k} {kids = kids}) cut closed false not res loose ask rests acc B p pcs root be lies K kids' at g pcs' root' mv =
       let here : K ≡ k = omega arith in
       let first : kids' k [] ≡ Some (begun w) = subst (λ t. kids' t [] ≡ Some (begun w)) here g.1 in
       let view : pcs' (k ∷ []) ≡ p = ap (λ t. pcs' (t ∷ [])) (sym here) ∙ mv.1 ∙ lies.0 in (
@@ -242,7 +244,7 @@ module _ {W V : Type 0} (M : Monoid V) (i : Instance) {c : Cell} where
         rw first (lies_nil M i u 1 (below (kids' k)) (λ n. loose (k ∷ n)) (λ n. pcs' (k ∷ n)) M.unit p (pcs' (k ∷ [])) view (λ j le m. lies.1 k (le_refl k) (j ∷ m))),
         λ j le m. lies.1 j (omega arith) m,
       )
-  lies_step (here_child {i = Spawns} {w = w} {u = u} {r = r} {k = k} {kids = kids}) cut closed false not res loose ask rests acc B p pcs root be lies K kids' at g pcs' root' mv =
+  lies_step (here_child {i = Spawn} {w = w} {u = u} {r = r} {k = k} {kids = kids}) cut closed false not res loose ask rests acc B p pcs root be lies K kids' at g pcs' root' mv =
       let here : K ≡ k = omega arith in
       let first : kids' k [] ≡ Some (begun w) = subst (λ t. kids' t [] ≡ Some (begun w)) here g.1 in
       let view : pcs' (k ∷ []) ≡ p = ap (λ t. pcs' (t ∷ [])) (sym here) ∙ mv.1 ∙ lies.0 in
@@ -253,33 +255,33 @@ module _ {W V : Type 0} (M : Monoid V) (i : Instance) {c : Cell} where
   lies_step (past_act {e = e} {r = r} {k = k} {d = d} {ds = ds} {kids = kids} {n = n} {a = a} f) cut closed b not res loose ask rests acc B p pcs root be lies K kids' at g pcs' root' mv =
       rw (grown_cons M i n d ds a)
       (lies_step f cut.1 (closed_act e r closed) false tt (resumed_rest M i b e r res) loose ask (rests_act M i loose ask d ds e k kids n cut.0 rests) (block_after M e acc) B (own_after M i e acc p) pcs root (be ∙ block_act M i (λ h. pcs (h ∷ [])) (λ h. loose (h ∷ [])) acc k d ds e cut.0) lies K kids' (rw cut.0 at at) g pcs' root' mv)
-  lies_step (past_child {i = Calls} {w = w} {u = u} {r = r} {k = k} {d = d} {ds = ds} {kids = kids} {n = n} {a = a} q f) cut closed b not res loose ask rests acc B p pcs root be lies K kids' at g pcs' root' mv =
+  lies_step (past_child {i = Call} {w = w} {u = u} {r = r} {k = k} {d = d} {ds = ds} {kids = kids} {n = n} {a = a} q f) cut closed b not res loose ask rests acc B p pcs root be lies K kids' at g pcs' root' mv =
       let at1 : K ≡ k + suc (started ds) = rw cut.0 at at in
       let at2 : K ≡ suc k + started ds = omega arith in
       let more : suc k ≤ K = omega arith in
       let views = kept_views M i n a loose B K kids pcs pcs' root root' k (front_from f) more mv in
-      let parts = resumed_parts M i b Calls w u r res in
+      let parts = resumed_parts M i b Call w u r res in
       rw (grown_cons M i n d ds a) (
         lies.0,
         lies_moved M i u k kids kids' loose pcs pcs' p (sym (unmoved n a k K kids kids' (front_from f) more g)) views lies.1,
         called_rest loose a B K kids kids' pcs pcs' root root' n ds acc f parts.1 at2 mv lies.0 (ap (λ (z : Name → V). z []) views)
-            (λ nf h. lies_step f cut.4 closed.2 true nf parts.1 loose ask (rests_child M i loose ask Calls w d ds k kids n cut.0 rests) acc B (pcs (k ∷ [])) pcs root (be ∙ block_call M i (λ h. pcs (h ∷ [])) (λ h. loose (h ∷ [])) acc k d ds w cut.0) h K kids' at2 g pcs' root' mv)
+            (λ nf h. lies_step f cut.4 closed.2 true nf parts.1 loose ask (rests_child M i loose ask Call w d ds k kids n cut.0 rests) acc B (pcs (k ∷ [])) pcs root (be ∙ block_call M i (λ h. pcs (h ∷ [])) (λ h. loose (h ∷ [])) acc k d ds w cut.0) h K kids' at2 g pcs' root' mv)
             lies.2,
       )
-  lies_step (past_child {i = Spawns} {w = w} {u = u} {r = r} {k = k} {d = d} {ds = ds} {kids = kids} {n = n} {a = a} q f) cut closed b not res loose ask rests acc B p pcs root be lies K kids' at g pcs' root' mv =
+  lies_step (past_child {i = Spawn} {w = w} {u = u} {r = r} {k = k} {d = d} {ds = ds} {kids = kids} {n = n} {a = a} q f) cut closed b not res loose ask rests acc B p pcs root be lies K kids' at g pcs' root' mv =
       let at1 : K ≡ k + suc (started ds) = rw cut.0 at at in
       let at2 : K ≡ suc k + started ds = omega arith in
       let more : suc k ≤ K = omega arith in
       let views = kept_views M i n a loose B K kids pcs pcs' root root' k (front_from f) more mv in
       let same = sym (unmoved n a k K kids kids' (front_from f) more g) in
-      let parts = resumed_parts M i b Spawns w u r res in
-      let rests' = rests_child M i loose ask Spawns w d ds k kids n cut.0 rests in
+      let parts = resumed_parts M i b Spawn w u r res in
+      let rests' = rests_child M i loose ask Spawn w d ds k kids n cut.0 rests in
       rw (grown_cons M i n d ds a) (
         lies_moved M i u k kids kids' loose pcs pcs' p same views lies.0,
         ⊎_elim
             (λ flag. rw flag
-            (stolen_rest loose a B K kids kids' pcs pcs' root root' n ds (M.join acc (pcs (k ∷ []))) (M.join acc (pcs' (k ∷ []))) f parts.1 at2 mv flag (ap (λ (z : Name → V). M.join acc (z [])) views)
-            (λ nf h. lies_step f cut.4 closed.2 true nf parts.1 loose ask rests' (M.join acc (pcs (k ∷ []))) B M.unit pcs root (be ∙ block_spawn M i (λ h. pcs (h ∷ [])) (λ h. loose (h ∷ [])) acc k d ds w true cut.0 flag) h K kids' at2 g pcs' root' mv)
+            (stolen_rest loose a B K kids kids' pcs pcs' root root' n ds (M.combine acc (pcs (k ∷ []))) (M.combine acc (pcs' (k ∷ []))) f parts.1 at2 mv flag (ap (λ (z : Name → V). M.combine acc (z [])) views)
+            (λ nf h. lies_step f cut.4 closed.2 true nf parts.1 loose ask rests' (M.combine acc (pcs (k ∷ []))) B M.unit pcs root (be ∙ block_spawn M i (λ h. pcs (h ∷ [])) (λ h. loose (h ∷ [])) acc k d ds w true cut.0 flag) h K kids' at2 g pcs' root' mv)
             (rw flag at lies.1)))
             (λ flag. rw flag
             (let old = rw flag at lies.1 in
@@ -290,15 +292,15 @@ module _ {W V : Type 0} (M : Monoid V) (i : Instance) {c : Cell} where
             (when_resumed_map M i (suc k) loose ds _ _ (λ y. y.1) old))))
             (cases_Bool (loose (k ∷ []))),
       )
-  lies_step (inside {i = Calls} {w = w} {u = u} {r = r} {k = k} {d = d} {ds = e ∷ ds} {kids = kids} {m = m} {a = a} f) cut closed b not res loose ask rests acc B p pcs root be lies K kids' at g pcs' root' mv = absurd (full_stuck f (cut.3 tt))
-  lies_step (inside {i = Calls} {w = w} {u = u} {r = r} {k = k} {d = d} {ds = []} {kids = kids} {m = m} {a = a} f) cut closed b not res loose ask rests acc B p pcs root be lies K kids' at g pcs' root' mv =
-      let inner = lies_step f cut.2 closed.1 false tt (resumed_parts M i b Calls w u r res).0 (λ n. loose (k ∷ n)) ask (rests_inside M i loose ask (d ∷ []) k k kids m rests) M.unit _ p (λ n. pcs (k ∷ n)) (pcs (k ∷ [])) refl lies.1 (suc (started (deeds_at (kids k [])))) (below (kids' k)) (omega arith) g.3 (λ n. pcs' (k ∷ n)) (pcs' (k ∷ [])) mv.2 in
+  lies_step (inside {i = Call} {w = w} {u = u} {r = r} {k = k} {d = d} {ds = e ∷ ds} {kids = kids} {m = m} {a = a} f) cut closed b not res loose ask rests acc B p pcs root be lies K kids' at g pcs' root' mv = absurd (full_stuck f (cut.3 tt))
+  lies_step (inside {i = Call} {w = w} {u = u} {r = r} {k = k} {d = d} {ds = []} {kids = kids} {m = m} {a = a} f) cut closed b not res loose ask rests acc B p pcs root be lies K kids' at g pcs' root' mv =
+      let inner = lies_step f cut.2 closed.1 false tt (resumed_parts M i b Call w u r res).0 (λ n. loose (k ∷ n)) ask (rests_inside M i loose ask (d ∷ []) k k kids m rests) M.unit _ p (λ n. pcs (k ∷ n)) (pcs (k ∷ [])) refl lies.1 (suc (started (deeds_at (kids k [])))) (below (kids' k)) (omega arith) g.3 (λ n. pcs' (k ∷ n)) (pcs' (k ∷ [])) mv.2 in
       (lies.0, rw g.2 inner, lies.2)
-  lies_step (inside {i = Spawns} {w = w} {u = u} {r = r} {k = k} {d = d} {ds = ds} {kids = kids} {m = m} {a = a} f) cut closed b not res loose ask rests acc B p pcs root be lies K kids' at g pcs' root' mv =
-      let inner = lies_step f cut.2 closed.1 false tt (resumed_parts M i b Spawns w u r res).0 (λ n. loose (k ∷ n)) ask (rests_inside M i loose ask (d ∷ ds) k k kids m rests) M.unit _ p (λ n. pcs (k ∷ n)) (pcs (k ∷ [])) refl lies.0 (suc (started (deeds_at (kids k [])))) (below (kids' k)) (omega arith) g.3 (λ n. pcs' (k ∷ n)) (pcs' (k ∷ [])) mv.2 in (
+  lies_step (inside {i = Spawn} {w = w} {u = u} {r = r} {k = k} {d = d} {ds = ds} {kids = kids} {m = m} {a = a} f) cut closed b not res loose ask rests acc B p pcs root be lies K kids' at g pcs' root' mv =
+      let inner = lies_step f cut.2 closed.1 false tt (resumed_parts M i b Spawn w u r res).0 (λ n. loose (k ∷ n)) ask (rests_inside M i loose ask (d ∷ ds) k k kids m rests) M.unit _ p (λ n. pcs (k ∷ n)) (pcs (k ∷ [])) refl lies.0 (suc (started (deeds_at (kids k [])))) (below (kids' k)) (omega arith) g.3 (λ n. pcs' (k ∷ n)) (pcs' (k ∷ [])) mv.2 in (
         rw g.2 inner,
         when_stolen_map (loose (k ∷ [])) _ _ _ _
-            (λ h. subst (λ z. Lies M i r (suc k) ds kids' loose pcs' (M.join acc (pcs' (k ∷ []))) M.unit z) (sym mv.0)
+            (λ h. subst (λ z. Lies M i r (suc k) ds kids' loose pcs' (M.combine acc (pcs' (k ∷ []))) M.unit z) (sym mv.0)
             (lies_ext M i r (suc k) ds kids kids' loose pcs pcs' _ M.unit root (λ j le. g.0 j (λ q. omega arith)) (λ j le n. mv.1 j n (λ q. omega arith))
             (lies_acc M i r (suc k) ds kids loose pcs _ _ M.unit root cut.4 (λ s. full_stuck f (cut.3 s)) h)))
             (when_resumed_map M i (suc k) loose ds _ _ (λ h. absurd (full_stuck f h.0)))

@@ -2,13 +2,21 @@
 use Rattle.std.proofs.Common.{◌≡◌, ℕ, zero, suc, ◌+◌, ◌-◌, ◌<◌, Bool, true, false, List, [], ◌∷◌, ◌++◌, length, Option, Some, None, refl, sym, ap, ◌∙◌, subst, arith, ◌⊎◌, inl, inr, ⊎_elim, append_assoc, append-nil, length-append, zero-add, suc-add, lt-ltb, le-ltb}
 use Rattle.std.specs.Prelude.{slice_get, nat_lt}
 use Rattle.std.proofs.lemmas.Bool.{cases_lt, cond-true, cond-false}
-use Rattle.cilk_runs.specs.Runs.{Kind, Calls, Spawns, Reads, Writes, Syncs, Ends, Passes, Deed, Does, Run, stop, act, child}
+use Rattle.cilk_types.specs.declared.invocation.Invocation.{Invocation}
+use Rattle.cilk_types.specs.declared.invocation.Invocation.TheVariants.{Call, Spawn}
+use Rattle.cilk_runs.specs.Runs.{Reads, Writes, Syncs, Ends, Passes, Deed, Does, Run, stop, act, child}
 use Rattle.cilk_runs.specs.Machine.{Frames, deeds_at, HasSync}
 use Rattle.cilk_runs.specs.Cuts.{below, IsFull, IsPast, IsCut}
-use Rattle.cilk_runs.specs.Trees.{Tree, Strand, Series, Beside, in_series, child_tree, blocks, tree, size, are_parallel}
-use Rattle.cilk_runs.specs.Positions.{unmade, made_at, IsClosedBefore}
+use Rattle.cilk_runs.proofs.Layouts.{Layout, Strand, Series, Beside, in_order, child_layout, layouts, layout, size, are_beside}
+use Rattle.cilk_runs.specs.Positions.{unmade, made_at, IsMade, CutsAreClosed}
+use Rattle.cilk_runs.specs.Traces.{shape_of}
+use Rattle.cilk_tree.specs.Before.{IsPosition}
+use Rattle.cilk_tree.specs.Tree as trees
+use Rattle.cilk_tree.proofs.Places as positions
+use Rattle.cilk_tree.proofs.Places.{Earlier, before_earlier}
+use Rattle.cilk_runs.proofs.Spells.{layouts_agree}
+use Rattle.cilk_runs.proofs.Numbered.{from_nested, spelled, layout_length}
 use Rattle.cilk_runs.proofs.Grows.{cut_nil}
-use Rattle.cilk_runs.proofs.Races.{tree_size, tree_events}
 
 abbrev AllTrue : List Bool → Type 0
 AllTrue [] = Unit {0}
@@ -88,27 +96,27 @@ part_right (x ∷ a) b q = ap (slice_get (x ∷ (a ++ b))) (suc-add (length a) q
 part_after : (a b : List Bool) (n q : ℕ) → length a ≡ n → n < suc q → slice_get (a ++ b) q ≡ slice_get b (q - n)
 part_after a b n q len le = ap (slice_get (a ++ b)) (let z : q ≡ length a + (q - n) = omega arith in z) ∙ part_right a b (q - n)
 
-abbrev NeedsFull : Kind → List Bool → List Bool → Type 0
-NeedsFull Calls x y = HasTrue y → AllTrue x
-NeedsFull Spawns x y = Unit {0}
+abbrev NeedsFull : Invocation → List Bool → List Bool → Type 0
+NeedsFull Call x y = HasTrue y → AllTrue x
+NeedsFull Spawn x y = Unit {0}
 
-needs : (b : Kind) (x y : List Bool) → (HasTrue y → AllTrue x) → NeedsFull b x y
-needs Calls x y f = f
-needs Spawns x y f = tt
+needs : (b : Invocation) (x y : List Bool) → (HasTrue y → AllTrue x) → NeedsFull b x y
+needs Call x y f = f
+needs Spawn x y f = tt
 
 module _ {W : Type 0} where
   -- marks along the leaves of a tree that are closed under before
-  abbrev Good : Tree W → List Bool → Type 0
+  abbrev Good : Layout W → List Bool → Type 0
   Good (Strand s) m = (length m ≡ length s) × Down m
   Good (Series a b) m = (x : List Bool) × (y : List Bool) × (m ≡ x ++ y) × Good a x × Good b y × (HasTrue y → AllTrue x)
   Good (Beside a b) m = (x : List Bool) × (y : List Bool) × (m ≡ x ++ y) × Good a x × Good b y
 
-  good_length : (t : Tree W) (m : List Bool) → Good t m → length m ≡ size t
+  good_length : (t : Layout W) (m : List Bool) → Good t m → length m ≡ size t
   good_length (Strand s) m h = h.0
   good_length (Series a b) m (x, y, e, g, k, f) = ap length e ∙ omega (arith, length-append x y, good_length a x g, good_length b y k)
   good_length (Beside a b) m (x, y, e, g, k) = ap length e ∙ omega (arith, length-append x y, good_length a x g, good_length b y k)
 
-  good_closed : (t : Tree W) (m : List Bool) → Good t m → (p q : ℕ) → p < q → are_parallel t p q ≡ false → slice_get m q ≡ Some true → slice_get m p ≡ Some true
+  good_closed : (t : Layout W) (m : List Bool) → Good t m → (p q : ℕ) → p < q → are_beside t p q ≡ false → slice_get m q ≡ Some true → slice_get m p ≡ Some true
   good_closed (Strand s) m h p q lt par at = down_get m p q h.1 lt at
   good_closed (Series a b) m (x, y, e, g, k, f) p q lt par at =
       let n = good_length a x g in
@@ -147,7 +155,7 @@ module _ {W : Type 0} where
   nil_made (act e r) k kids = refl
   nil_made (child b w u r) k kids = refl
 
-  past_made : (r : Run W) (k : ℕ) (ds : List (Deed W)) (kids : ℕ → Frames W) → HasTrue (made_at r k ds kids) → IsPast Calls ds
+  past_made : (r : Run W) (k : ℕ) (ds : List (Deed W)) (kids : ℕ → Frames W) → HasTrue (made_at r k ds kids) → IsPast Call ds
   past_made r k [] kids h = absurd (none_made r (subst HasTrue (nil_made r k kids) h))
   past_made r k (d ∷ ds) kids h = tt
 
@@ -159,52 +167,52 @@ module _ {W : Type 0} where
   full_made (child b w u r) k (d ∷ ds) kids h =
       all_append (made_at u 1 (deeds_at (kids k [])) (below (kids k))) (made_at r (suc k) ds kids) (full_made u 1 (deeds_at (kids k [])) (below (kids k)) h.0) (full_made r (suc k) ds kids h.1)
 
-  past_sync : (i : Kind) (ds : List (Deed W)) → HasSync ds → IsPast i ds
-  past_sync Calls [] h = absurd h
-  past_sync Calls (d ∷ ds) h = tt
-  past_sync Spawns ds h = h
+  past_sync : (i : Invocation) (ds : List (Deed W)) → HasSync ds → IsPast i ds
+  past_sync Call [] h = absurd h
+  past_sync Call (d ∷ ds) h = tt
+  past_sync Spawn ds h = h
 
-  abbrev Later : Option (Tree W) → List Bool → List Bool → List (Deed W) → Type 0
+  abbrev Later : Option (Layout W) → List Bool → List Bool → List (Deed W) → Type 0
   Later None x y ds = y ≡ []
   Later (Some t) x y ds = Good t y × (HasTrue y → AllTrue x) × (HasTrue y → HasSync ds)
 
   -- the marks x of the block that is open and y of those after it
-  abbrev Parts : Tree W → Option (Tree W) → List Bool → List (Deed W) → Type 0
+  abbrev Parts : Layout W → Option (Layout W) → List Bool → List (Deed W) → Type 0
   Parts t o m ds = (x : List Bool) × (y : List Bool) × (m ≡ x ++ y) × Good t x × Later o x y ds
 
-  whole : (t : Tree W) (o : Option (Tree W)) (m : List Bool) (ds : List (Deed W)) → Parts t o m ds → Good (in_series t o) m
+  whole : (t : Layout W) (o : Option (Layout W)) (m : List Bool) (ds : List (Deed W)) → Parts t o m ds → Good (in_order t o) m
   whole t None m ds (x, y, e, g, l) = subst (Good t) (sym (e ∙ ap (λ z. x ++ z) l ∙ append-nil x)) g
   whole t (Some b) m ds (x, y, e, g, l) = (x, y, e, g, l.0, l.1)
 
-  later_more : (o : Option (Tree W)) (x x' y : List Bool) (ds ds' : List (Deed W)) → (HasTrue y → HasSync ds → AllTrue x → AllTrue x') → (HasSync ds → HasSync ds') → Later o x y ds → Later o x' y ds'
+  later_more : (o : Option (Layout W)) (x x' y : List Bool) (ds ds' : List (Deed W)) → (HasTrue y → HasSync ds → AllTrue x → AllTrue x') → (HasSync ds → HasSync ds') → Later o x y ds → Later o x' y ds'
   later_more None x x' y ds ds' f g l = l
   later_more (Some t) x x' y ds ds' f g l = (l.0, (λ z. f z (l.2 z) (l.1 z)), λ z. g (l.2 z))
 
-  recast : (t : Tree W) (o : Option (Tree W)) (m m' : List Bool) (ds ds' : List (Deed W)) → m ≡ m' → (HasSync ds → HasSync ds') → Parts t o m ds → Parts t o m' ds'
+  recast : (t : Layout W) (o : Option (Layout W)) (m m' : List Bool) (ds ds' : List (Deed W)) → m ≡ m' → (HasSync ds → HasSync ds') → Parts t o m ds → Parts t o m' ds'
   recast t o m m' ds ds' q f (x, y, e, g, l) = (x, y, sym q ∙ e, g, later_more o x x y ds ds' (λ z h a. a) f l)
 
-  child_good : (b : Kind) (s t : Tree W) (x y : List Bool) → Good s x → Good t y → NeedsFull b x y → Good (child_tree b s t) (x ++ y)
-  child_good Calls s t x y g h f = (x, y, refl, g, h, f)
-  child_good Spawns s t x y g h f = (x, y, refl, g, h)
+  child_good : (b : Invocation) (s t : Layout W) (x y : List Bool) → Good s x → Good t y → NeedsFull b x y → Good (child_layout b s t) (x ++ y)
+  child_good Call s t x y g h f = (x, y, refl, g, h, f)
+  child_good Spawn s t x y g h f = (x, y, refl, g, h)
 
-  needs_call : (b : Kind) (x y : List Bool) (ds : List (Deed W)) → (IsPast b ds → AllTrue x) → (HasTrue y → IsPast Calls ds) → NeedsFull b x y
-  needs_call Calls x y ds f g = λ z. f (g z)
-  needs_call Spawns x y ds f g = tt
+  needs_call : (b : Invocation) (x y : List Bool) (ds : List (Deed W)) → (IsPast b ds → AllTrue x) → (HasTrue y → IsPast Call ds) → NeedsFull b x y
+  needs_call Call x y ds f g = λ z. f (g z)
+  needs_call Spawn x y ds f g = tt
 
   one_more : (b : Bool) (m : List Bool) (s : List (Deed W)) (d : Deed W) → length m ≡ length s → length (m ++ b ∷ []) ≡ length (s ++ d ∷ [])
   one_more b m s d e = omega (arith, length-append m (b ∷ []), length-append s (d ∷ []), e)
 
   -- a strand goes on with an event
-  strand_off : (t : Tree W) (o : Option (Tree W)) (r : Run W) (m : List Bool) (k : ℕ) (kids : ℕ → Frames W) → Parts t o ((m ++ false ∷ []) ++ made_at r k [] kids) [] → Parts t o (m ++ false ∷ unmade r) []
+  strand_off : (t : Layout W) (o : Option (Layout W)) (r : Run W) (m : List Bool) (k : ℕ) (kids : ℕ → Frames W) → Parts t o ((m ++ false ∷ []) ++ made_at r k [] kids) [] → Parts t o (m ++ false ∷ unmade r) []
   strand_off t o r m k kids h = recast t o _ _ [] [] (append_assoc m (false ∷ []) _ ∙ ap (λ z. m ++ false ∷ z) (nil_made r k kids)) (λ z. z) h
 
-  strand_on : (t : Tree W) (o : Option (Tree W)) (r : Run W) (m : List Bool) (k : ℕ) (d : Deed W) (ds : List (Deed W)) (kids : ℕ → Frames W) → (HasSync ds → HasSync (d ∷ ds)) → Parts t o ((m ++ true ∷ []) ++ made_at r k ds kids) ds → Parts t o (m ++ true ∷ made_at r k ds kids) (d ∷ ds)
+  strand_on : (t : Layout W) (o : Option (Layout W)) (r : Run W) (m : List Bool) (k : ℕ) (d : Deed W) (ds : List (Deed W)) (kids : ℕ → Frames W) → (HasSync ds → HasSync (d ∷ ds)) → Parts t o ((m ++ true ∷ []) ++ made_at r k ds kids) ds → Parts t o (m ++ true ∷ made_at r k ds kids) (d ∷ ds)
   strand_on t o r m k d ds kids f h = recast t o _ _ ds (d ∷ ds) (append_assoc m (true ∷ []) _) f h
 
   nowhere : ℕ → Frames W
   nowhere = λ j n. None
 
-  parts : (r : Run W) (s : List (Deed W)) (m : List Bool) (k : ℕ) (ds : List (Deed W)) (kids : ℕ → Frames W) → IsCut r k ds kids → length m ≡ length s → Down m → (IsPast Calls ds → AllTrue m) → Parts (blocks r s).0 (blocks r s).1 (m ++ made_at r k ds kids) ds
+  parts : (r : Run W) (s : List (Deed W)) (m : List Bool) (k : ℕ) (ds : List (Deed W)) (kids : ℕ → Frames W) → IsCut r k ds kids → length m ≡ length s → Down m → (IsPast Call ds → AllTrue m) → Parts (layouts r s).0 (layouts r s).1 (m ++ made_at r k ds kids) ds
   unfolding nowhere
   parts stop s m k [] kids cut n down all = (m, [], refl, (n, down), refl)
   parts stop s m k (d ∷ ds) kids cut n down all = absurd cut
@@ -271,8 +279,28 @@ module _ {W : Type 0} where
         later_more _ x _ y ds (d ∷ ds) (λ z h a. all_append (m ++ true ∷ []) (mu ++ x) on (all_append mu x (done (past_sync b ds h)) a)) (λ z. rw cut.0 z) l,
       )
 
-  -- with an event made, each one before it is made
-  pub cut_closed : (t : Run W) (ds : List (Deed W)) (kids : ℕ → Frames W) → IsCut t 1 ds kids → IsClosedBefore t (made_at t 1 ds kids)
-  cut_closed t ds kids cut =
-      let good = whole (blocks t []).0 (blocks t []).1 (made_at t 1 ds kids) ds (parts t [] [] 1 ds kids cut refl tt (λ z. tt)) in
-      (good_length (tree t) _ good ∙ tree_size (tree t) ∙ ap length (tree_events t), λ p q lt par at. good_closed (tree t) _ good p q lt par at)
+  -- with an event made, each one is made that comes first and isn't beside it
+  layout_closed : (t : Run W) (ds : List (Deed W)) (kids : ℕ → Frames W) → IsCut t 1 ds kids → (length (made_at t 1 ds kids) ≡ size (layout t))
+      × ((p q : ℕ) → p < q → are_beside (layout t) p q ≡ false → slice_get (made_at t 1 ds kids) q ≡ Some true → slice_get (made_at t 1 ds kids) p ≡ Some true)
+  layout_closed t ds kids cut =
+      let good = whole (layouts t []).0 (layouts t []).1 (made_at t 1 ds kids) ds (parts t [] [] 1 ds kids cut refl tt (λ z. tt)) in
+      (good_length (layout t) _ good, λ p q lt par at. good_closed (layout t) _ good p q lt par at)
+
+pub cuts_closed : (W : Type 0) → CutsAreClosed W
+cuts_closed W cell instance t es ds kids framed written cut = record {
+  whole = (layout_closed t ds kids cut).0 ∙ same_size;
+  closed = λ p q i j before at. by p q i j (before_earlier (shape_of t) es (spelled cell instance t es framed written) p q i j before) at (are_beside (layout t) (p - 1) (q - 1)) refl;
+}
+  where
+    same_size : size (layout t) ≡ length es
+    same_size = layout_length cell instance t es framed written
+
+    by : (p q : ℕ) → IsPosition es p → IsPosition es q → Earlier (trees.tree (shape_of t)) p q → IsMade (made_at t 1 ds kids) q → (b : Bool) → are_beside (layout t) (p - 1) (q - 1) ≡ b → IsMade (made_at t 1 ds kids) p
+    by p q i j e at true c =
+        let l = e.less in let p1 = i.0 in let q1 = j.0 in let q2 = j.1 in
+        let x : 1 + (p - 1) ≡ p = omega (arith, p1) in
+        let y : 1 + (q - 1) ≡ q = omega (arith, q1) in
+        let inside : q - 1 < size (layout t) = (let n = same_size in omega (arith, n, q1, q2)) in
+        let h = subst (λ (k : trees.Tree). positions.Beside k 1 (1 + (p - 1)) (1 + (q - 1))) (layouts_agree W t framed) (from_nested (layout t) 1 (p - 1) (q - 1) (omega (arith, l, p1)) inside c) in
+        absurd (e.apart (subst (λ (k : ℕ). positions.Beside (trees.tree (shape_of t)) 1 k q) x (subst (λ (k : ℕ). positions.Beside (trees.tree (shape_of t)) 1 (1 + (p - 1)) k) y h)))
+    by p q i j e at false c = let l = e.less in let p1 = i.0 in (layout_closed t ds kids cut).1 (p - 1) (q - 1) (omega (arith, l, p1)) c at

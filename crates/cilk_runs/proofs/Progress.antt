@@ -3,9 +3,12 @@ use Rattle.std.proofs.Common.{◌≡◌, ℕ, suc, ◌+◌, ◌≤◌, ◌<◌, 
 use Rattle.std.proofs.lemmas.Bool.{cond-true, cond-false, false≢true}
 use Rattle.cilk_types.specs.declared.fault.Fault.{Fault}
 use Rattle.cilk_types.specs.declared.fault.Fault.TheVariants.{TooManyEvents, TooManyFrames, TooManyCells}
-use Rattle.cilk_runs.specs.Runs.{Name, same_name, Cell, Instance, Kind, Calls, Spawns, Ask, Read, Write, Invoke, Sync, End, Pass, Fail, Begin, Resume, Create, Update, Set, Value, Print, Reads, Writes, Syncs, Ends, Passes, Deed, Does, Invokes}
+use Rattle.cilk_types.specs.declared.invocation.Invocation.{Invocation}
+use Rattle.cilk_types.specs.declared.invocation.Invocation.TheVariants.{Call, Spawn}
+use Rattle.cilk_runs.specs.Runs.{Name, same_name, Cell, Instance, Ask, Read, Write, Invoke, Sync, End, Pass, Fail, Begin, Resume, Create, Update, Set, Value, Print, Reads, Writes, Syncs, Ends, Passes, Deed, Does, Invokes}
 use Rattle.cilk_runs.specs.Costs.{Costs, Total, TickTotal, EventTotal, FrameTotal, CellTotal, cost, is_over, own_fault, fault_of}
-use Rattle.cilk_runs.specs.Monoids.{Monoid, unit_of, numbers_of}
+use Rattle.cilk_monoid.specs.Laws.{MonoidStructure}
+use Rattle.cilk_runs.specs.Monoids.{unit_of, numbers_of}
 use Rattle.cilk_runs.specs.Machine.{Frame, Frames, State, deeds_at, HasEnd, HasSync, started, Ready, strand_of, deed_of, effect, begun, after_deed, joined_by, with_view, after_views, IsAsking, Makes, Steals, Stops, IsOpening}
 use Rattle.cilk_runs.specs.Progress.{child_after, Answers, HasNoSync, HasEnded, GoesOn, AtBegin, AfterEvent, AfterChild, AfterSteal, MayAsk, HasNext, HasStop, HasThief, HasProgress}
 use Rattle.cilk_runs.proofs.Basics.{same_name-refl, nil_snoc, snoc_one}
@@ -112,45 +115,45 @@ module _ {W : Type 0} where
     Ended k before = HasEnd (deeds_at (kid (next_from k before)))
 
     abbrev PastCall : ℕ → List (Deed W) → Type 0
-    PastCall k ds = (before : List (Deed W)) (w : W) → ds ≡ before ++ Invokes Calls w ∷ [] → Ended k before
+    PastCall k ds = (before : List (Deed W)) (w : W) → ds ≡ before ++ Invokes Call w ∷ [] → Ended k before
 
     abbrev PastSpawn : ℕ → List (Deed W) → Type 0
-    PastSpawn k ds = (before : List (Deed W)) (w : W) → ds ≡ before ++ Invokes Spawns w ∷ [] → Ended k before ⊎ (loose (next_from k before) ≡ true)
+    PastSpawn k ds = (before : List (Deed W)) (w : W) → ds ≡ before ++ Invokes Spawn w ∷ [] → Ended k before ⊎ (loose (next_from k before) ≡ true)
 
     abbrev PastBlock : ℕ → List (Deed W) → Type 0
-    PastBlock k ds = a ≡ Sync → (before after : List (Deed W)) (w : W) → ds ≡ before ++ Invokes Spawns w ∷ after → ¬ (HasSync after) → Ended k before
+    PastBlock k ds = a ≡ Sync → (before after : List (Deed W)) (w : W) → ds ≡ before ++ Invokes Spawn w ∷ after → ¬ (HasSync after) → Ended k before
 
     ready : (ds : List (Deed W)) (k : ℕ) → PastCall k ds → PastSpawn k ds → PastBlock k ds → Ready kid loose a k ds
     ready [] k calls spawns block = tt
     ready (Does e ∷ ds) k calls spawns block =
         ready ds k (λ b w q. calls (Does e ∷ b) w (ap (λ z. Does e ∷ z) q)) (λ b w q. spawns (Does e ∷ b) w (ap (λ z. Does e ∷ z) q)) (λ is b t w q. block is (Does e ∷ b) t w (ap (λ z. Does e ∷ z) q))
-    ready (Invokes Calls v ∷ ds) k calls spawns block = (
-      (λ q. calls [] v (ap (λ z. Invokes Calls v ∷ z) q)),
-      ready ds (suc k) (λ b w q. calls (Invokes Calls v ∷ b) w (ap (λ z. Invokes Calls v ∷ z) q)) (λ b w q. spawns (Invokes Calls v ∷ b) w (ap (λ z. Invokes Calls v ∷ z) q)) (λ is b t w q. block is (Invokes Calls v ∷ b) t w (ap (λ z. Invokes Calls v ∷ z) q)),
+    ready (Invokes Call v ∷ ds) k calls spawns block = (
+      (λ q. calls [] v (ap (λ z. Invokes Call v ∷ z) q)),
+      ready ds (suc k) (λ b w q. calls (Invokes Call v ∷ b) w (ap (λ z. Invokes Call v ∷ z) q)) (λ b w q. spawns (Invokes Call v ∷ b) w (ap (λ z. Invokes Call v ∷ z) q)) (λ is b t w q. block is (Invokes Call v ∷ b) t w (ap (λ z. Invokes Call v ∷ z) q)),
     )
-    ready (Invokes Spawns v ∷ ds) k calls spawns block = (
-      (λ q. spawns [] v (ap (λ z. Invokes Spawns v ∷ z) q)),
+    ready (Invokes Spawn v ∷ ds) k calls spawns block = (
+      (λ q. spawns [] v (ap (λ z. Invokes Spawn v ∷ z) q)),
       (λ is never. block is [] ds v refl never),
-      ready ds (suc k) (λ b w q. calls (Invokes Spawns v ∷ b) w (ap (λ z. Invokes Spawns v ∷ z) q)) (λ b w q. spawns (Invokes Spawns v ∷ b) w (ap (λ z. Invokes Spawns v ∷ z) q)) (λ is b t w q. block is (Invokes Spawns v ∷ b) t w (ap (λ z. Invokes Spawns v ∷ z) q)),
+      ready ds (suc k) (λ b w q. calls (Invokes Spawn v ∷ b) w (ap (λ z. Invokes Spawn v ∷ z) q)) (λ b w q. spawns (Invokes Spawn v ∷ b) w (ap (λ z. Invokes Spawn v ∷ z) q)) (λ is b t w q. block is (Invokes Spawn v ∷ b) t w (ap (λ z. Invokes Spawn v ∷ z) q)),
     )
 
-    ready_call : (before : List (Deed W)) (w : W) (k : ℕ) → Ready kid loose a k (before ++ Invokes Calls w ∷ []) → Ended k before
+    ready_call : (before : List (Deed W)) (w : W) (k : ℕ) → Ready kid loose a k (before ++ Invokes Call w ∷ []) → Ended k before
     ready_call [] w k h = h.0 refl
     ready_call (Does e ∷ before) w k h = ready_call before w k h
-    ready_call (Invokes Calls v ∷ before) w k h = ready_call before w (suc k) h.1
-    ready_call (Invokes Spawns v ∷ before) w k h = ready_call before w (suc k) h.2
+    ready_call (Invokes Call v ∷ before) w k h = ready_call before w (suc k) h.1
+    ready_call (Invokes Spawn v ∷ before) w k h = ready_call before w (suc k) h.2
 
-    ready_spawn : (before : List (Deed W)) (w : W) (k : ℕ) → Ready kid loose a k (before ++ Invokes Spawns w ∷ []) → Ended k before ⊎ (loose (next_from k before) ≡ true)
+    ready_spawn : (before : List (Deed W)) (w : W) (k : ℕ) → Ready kid loose a k (before ++ Invokes Spawn w ∷ []) → Ended k before ⊎ (loose (next_from k before) ≡ true)
     ready_spawn [] w k h = h.0 refl
     ready_spawn (Does e ∷ before) w k h = ready_spawn before w k h
-    ready_spawn (Invokes Calls v ∷ before) w k h = ready_spawn before w (suc k) h.1
-    ready_spawn (Invokes Spawns v ∷ before) w k h = ready_spawn before w (suc k) h.2
+    ready_spawn (Invokes Call v ∷ before) w k h = ready_spawn before w (suc k) h.1
+    ready_spawn (Invokes Spawn v ∷ before) w k h = ready_spawn before w (suc k) h.2
 
-    ready_block : a ≡ Sync → (before after : List (Deed W)) (w : W) (k : ℕ) → Ready kid loose a k (before ++ Invokes Spawns w ∷ after) → ¬ (HasSync after) → Ended k before
+    ready_block : a ≡ Sync → (before after : List (Deed W)) (w : W) (k : ℕ) → Ready kid loose a k (before ++ Invokes Spawn w ∷ after) → ¬ (HasSync after) → Ended k before
     ready_block is [] after w k h never = h.1 is never
     ready_block is (Does e ∷ before) after w k h never = ready_block is before after w k h never
-    ready_block is (Invokes Calls v ∷ before) after w k h never = ready_block is before after w (suc k) h.1 never
-    ready_block is (Invokes Spawns v ∷ before) after w k h never = ready_block is before after w (suc k) h.2 never
+    ready_block is (Invokes Call v ∷ before) after w k h never = ready_block is before after w (suc k) h.1 never
+    ready_block is (Invokes Spawn v ∷ before) after w k h never = ready_block is before after w (suc k) h.2 never
 
   -- ---- what answers an ask
 
@@ -180,7 +183,7 @@ module _ {W : Type 0} where
   grown_by frames n f (Invokes k w) =
       cond-false (same_name (n ++ suc (started f.deeds) ∷ []) n) _ _ (not_child n (suc (started f.deeds))) ∙ cond-true (same_name n n) _ _ (same_name-refl n)
 
-  child_begun : (frames : Frames W) (n : Name) (f : Frame W) (k : Kind) (w : W) → after_deed frames n f (Invokes k w) (child_after n f.deeds) ≡ Some (begun w)
+  child_begun : (frames : Frames W) (n : Name) (f : Frame W) (k : Invocation) (w : W) → after_deed frames n f (Invokes k w) (child_after n f.deeds) ≡ Some (begun w)
   child_begun frames n f k w = cond-true (same_name (child_after n f.deeds) (child_after n f.deeds)) _ _ (same_name-refl (child_after n f.deeds))
 
   -- ---- faults
@@ -221,19 +224,19 @@ module _ {W V : Type 0} where
       let (before, v, gone, after, q) = find_end f.deeds h in
       record { frame = f; before = before; result = v; retired = gone; after = after; here = here; ends = q }
 
-  past_call : (s : State W V) (n : Name) (ds : List (Deed W)) → GoesOn W V s n ds → (before : List (Deed W)) (w : W) → ds ≡ before ++ Invokes Calls w ∷ [] → HasEnd (deeds_at (s.frames (child_after n before)))
-  past_call s n ds (AtBegin z) b w q = nil_snoc b (Invokes Calls w) (sym z ∙ q)
-  past_call s n ds (AfterEvent c e z) b w q = let same : Does e ≡ Invokes Calls w = (snoc_one c b (Does e) (Invokes Calls w) (sym z ∙ q)).1 in absurd (cc)
-  past_call s n ds (AfterChild c k v z x) b w q = subst (λ l. HasEnd (deeds_at (s.frames (child_after n l)))) (snoc_one c b (Invokes k v) (Invokes Calls w) (sym z ∙ q)).0 (ended s (child_after n c) x)
-  past_call s n ds (AfterSteal c v z x) b w q = let same : Invokes Spawns v ≡ Invokes Calls w = (snoc_one c b (Invokes Spawns v) (Invokes Calls w) (sym z ∙ q)).1 in absurd (cc)
+  past_call : (s : State W V) (n : Name) (ds : List (Deed W)) → GoesOn W V s n ds → (before : List (Deed W)) (w : W) → ds ≡ before ++ Invokes Call w ∷ [] → HasEnd (deeds_at (s.frames (child_after n before)))
+  past_call s n ds (AtBegin z) b w q = nil_snoc b (Invokes Call w) (sym z ∙ q)
+  past_call s n ds (AfterEvent c e z) b w q = let same : Does e ≡ Invokes Call w = (snoc_one c b (Does e) (Invokes Call w) (sym z ∙ q)).1 in absurd (cc)
+  past_call s n ds (AfterChild c k v z x) b w q = subst (λ l. HasEnd (deeds_at (s.frames (child_after n l)))) (snoc_one c b (Invokes k v) (Invokes Call w) (sym z ∙ q)).0 (ended s (child_after n c) x)
+  past_call s n ds (AfterSteal c v z x) b w q = let same : Invokes Spawn v ≡ Invokes Call w = (snoc_one c b (Invokes Spawn v) (Invokes Call w) (sym z ∙ q)).1 in absurd (cc)
 
-  past_spawn : (s : State W V) (n : Name) (ds : List (Deed W)) → GoesOn W V s n ds → (before : List (Deed W)) (w : W) → ds ≡ before ++ Invokes Spawns w ∷ [] → HasEnd (deeds_at (s.frames (child_after n before))) ⊎ (s.stolen (child_after n before) ≡ true)
-  past_spawn s n ds (AtBegin z) b w q = nil_snoc b (Invokes Spawns w) (sym z ∙ q)
-  past_spawn s n ds (AfterEvent c e z) b w q = let same : Does e ≡ Invokes Spawns w = (snoc_one c b (Does e) (Invokes Spawns w) (sym z ∙ q)).1 in absurd (cc)
-  past_spawn s n ds (AfterChild c k v z x) b w q = inl (subst (λ l. HasEnd (deeds_at (s.frames (child_after n l)))) (snoc_one c b (Invokes k v) (Invokes Spawns w) (sym z ∙ q)).0 (ended s (child_after n c) x))
-  past_spawn s n ds (AfterSteal c v z x) b w q = inr (subst (λ l. s.stolen (child_after n l) ≡ true) (snoc_one c b (Invokes Spawns v) (Invokes Spawns w) (sym z ∙ q)).0 x)
+  past_spawn : (s : State W V) (n : Name) (ds : List (Deed W)) → GoesOn W V s n ds → (before : List (Deed W)) (w : W) → ds ≡ before ++ Invokes Spawn w ∷ [] → HasEnd (deeds_at (s.frames (child_after n before))) ⊎ (s.stolen (child_after n before) ≡ true)
+  past_spawn s n ds (AtBegin z) b w q = nil_snoc b (Invokes Spawn w) (sym z ∙ q)
+  past_spawn s n ds (AfterEvent c e z) b w q = let same : Does e ≡ Invokes Spawn w = (snoc_one c b (Does e) (Invokes Spawn w) (sym z ∙ q)).1 in absurd (cc)
+  past_spawn s n ds (AfterChild c k v z x) b w q = inl (subst (λ l. HasEnd (deeds_at (s.frames (child_after n l)))) (snoc_one c b (Invokes k v) (Invokes Spawn w) (sym z ∙ q)).0 (ended s (child_after n c) x))
+  past_spawn s n ds (AfterSteal c v z x) b w q = inr (subst (λ l. s.stolen (child_after n l) ≡ true) (snoc_one c b (Invokes Spawn v) (Invokes Spawn w) (sym z ∙ q)).0 x)
 
-module _ (W V : Type 0) (M : Instance → Monoid V) (Next : W → List (Deed W) → Ask W → Type 0) (C : Costs W) where
+module _ (W V : Type 0) (M : Instance → MonoidStructure V) (Next : W → List (Deed W) → Ask W → Type 0) (C : Costs W) where
   asking : (s : State W V) (n : Name) (f : Frame W) (a : Ask W) → MayAsk W V M Next C s n f a → IsAsking W V M Next C s n f a
   asking s n f a may =
       let kid : ℕ → Option (Frame W) = λ k. s.frames (n ++ k ∷ []) in
@@ -295,7 +298,7 @@ module _ (W V : Type 0) (M : Instance → Monoid V) (Next : W → List (Deed W) 
       let (x, why) = over_stops C s.totals f.what f.deeds a total (lt-ltb _ _ over) in
       (x, stops_by s n f a x on may why)
 
-  steals : (s : State W V) (n : Name) (f : Frame W) (before : List (Deed W)) (w : W) → s.stopped ≡ None → s.frames n ≡ Some f → f.deeds ≡ before ++ Invokes Spawns w ∷ [] → s.stolen (child_after n before) ≡ false → HasThief W V M Next C s n (child_after n before)
+  steals : (s : State W V) (n : Name) (f : Frame W) (before : List (Deed W)) (w : W) → s.stopped ≡ None → s.frames n ≡ Some f → f.deeds ≡ before ++ Invokes Spawn w ∷ [] → s.stolen (child_after n before) ≡ false → HasThief W V M Next C s n (child_after n before)
   steals s n f before w on here spawned off =
       let next : State W V = record {
         frames = s.frames;
@@ -332,12 +335,12 @@ module _ (W V : Type 0) (M : Instance → Monoid V) (Next : W → List (Deed W) 
   gone_on : (s : State W V) (n : Name) (f : Frame W) (a : Ask W) → Ready (λ k. s.frames (n ++ k ∷ [])) (λ k. s.stolen (n ++ k ∷ [])) a 1 f.deeds → Last f.deeds → GoesOn W V s n f.deeds
   gone_on s n f a h (inl q) = AtBegin q
   gone_on s n f a h (inr (b, Does e, q)) = AfterEvent b e q
-  gone_on s n f a h (inr (b, Invokes Calls w, q)) =
+  gone_on s n f a h (inr (b, Invokes Call w, q)) =
       let end = ready_call (λ k. s.frames (n ++ k ∷ [])) (λ k. s.stolen (n ++ k ∷ [])) a b w 1 (subst (Ready (λ k. s.frames (n ++ k ∷ [])) (λ k. s.stolen (n ++ k ∷ [])) a 1) q h) in
-      AfterChild b Calls w q (has_ended s (child_after n b) _ refl (subst (λ k. HasEnd (deeds_at (s.frames (n ++ k ∷ [])))) (first_next b) end))
-  gone_on s n f a h (inr (b, Invokes Spawns w, q)) =
+      AfterChild b Call w q (has_ended s (child_after n b) _ refl (subst (λ k. HasEnd (deeds_at (s.frames (n ++ k ∷ [])))) (first_next b) end))
+  gone_on s n f a h (inr (b, Invokes Spawn w, q)) =
       ⊎_elim
-      (λ end. AfterChild b Spawns w q (has_ended s (child_after n b) _ refl (subst (λ k. HasEnd (deeds_at (s.frames (n ++ k ∷ [])))) (first_next b) end)))
+      (λ end. AfterChild b Spawn w q (has_ended s (child_after n b) _ refl (subst (λ k. HasEnd (deeds_at (s.frames (n ++ k ∷ [])))) (first_next b) end)))
       (λ free. AfterSteal b w q (subst (λ k. s.stolen (n ++ k ∷ []) ≡ true) (first_next b) free))
       (ready_spawn (λ k. s.frames (n ++ k ∷ [])) (λ k. s.stolen (n ++ k ∷ [])) a b w 1 (subst (Ready (λ k. s.frames (n ++ k ∷ [])) (λ k. s.stolen (n ++ k ∷ [])) a 1) q h))
 

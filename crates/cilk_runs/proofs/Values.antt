@@ -1,8 +1,11 @@
 -- What a piece's views are against the serial run's.
 use Rattle.std.proofs.Common.{◌≡◌, ℕ, suc, Bool, true, false, List, [], ◌∷◌, refl, sym, ap, ◌∙◌, subst, ◌⊎◌, inl, inr, ⊎_elim, ℤ}
 use Rattle.std.proofs.lemmas.Bool.{cases_Bool, cond-true, cond-false}
-use Rattle.cilk_runs.specs.Runs.{Name, Cell, same_instance, Output, has_instance, Kind, Calls, Spawns, Event, Reads, Writes, Syncs, Ends, Passes, Mark, Begins, Resumes, Creates, Updates, Sets, Values, Prints, Deed, Does, Invokes, Run, stop, act, child, Instance}
-use Rattle.cilk_runs.specs.Monoids.{Monoid, IsLawful, mark_view, on_view, number_of}
+use Rattle.cilk_types.specs.declared.invocation.Invocation.{Invocation}
+use Rattle.cilk_types.specs.declared.invocation.Invocation.TheVariants.{Call, Spawn}
+use Rattle.cilk_runs.specs.Runs.{Name, Cell, same_instance, Output, has_instance, Event, Reads, Writes, Syncs, Ends, Passes, Mark, Begins, Resumes, Creates, Updates, Sets, Values, Prints, Deed, Does, Invokes, Run, stop, act, child, Instance}
+use Rattle.cilk_monoid.specs.Laws.{MonoidStructure, IsLawful}
+use Rattle.cilk_runs.specs.Monoids.{IsValue, mark_view, on_view, number_of}
 use Rattle.cilk_runs.specs.Views.{view_after, IsSerialViews, IsTouch, ViewApart, ViewFree, IsResumed}
 use Rattle.cilk_runs.specs.Machine.{Frames, deeds_at, HasSync}
 use Rattle.cilk_runs.specs.Serial.{IsClosed, SyncAhead}
@@ -14,21 +17,21 @@ use Rattle.cilk_runs.proofs.Find.{closed_act}
 use Rattle.cilk_runs.proofs.Pieces.{is_resume, resumed_parts, resumed_rest}
 
 -- the front, with the serial view of an instance in place of a cell's value
-pub data FrontV (W V : Type 0) (M : Monoid V) (i : Instance) : Run W → ℕ → List (Deed W) → (ℕ → Frames W) → Name → Deed W → V → V → Type 0 where
+pub data FrontV (W V : Type 0) (M : MonoidStructure V) (i : Instance) : Run W → ℕ → List (Deed W) → (ℕ → Frames W) → Name → Deed W → V → V → Type 0 where
   at_act : {e : Event} {r : Run W} {k : ℕ} {kids : ℕ → Frames W} {x : V} → FrontV W V M i (act e r) k [] kids [] (Does e) x x
-  at_child : {b : Kind} {w : W} {u r : Run W} {k : ℕ} {kids : ℕ → Frames W} {x : V} → FrontV W V M i (child b w u r) k [] kids [] (Invokes b w) x x
+  at_child : {b : Invocation} {w : W} {u r : Run W} {k : ℕ} {kids : ℕ → Frames W} {x : V} → FrontV W V M i (child b w u r) k [] kids [] (Invokes b w) x x
   after_act : {e : Event} {r : Run W} {k : ℕ} {d : Deed W} {ds : List (Deed W)} {kids : ℕ → Frames W} {n : Name} {a : Deed W} {x y : V} → FrontV W V M i r k ds kids n a (on_view M i e x) y → FrontV W V M i (act e r) k (d ∷ ds) kids n a x y
-  after_child : {b : Kind} {w : W} {u r : Run W} {k : ℕ} {d : Deed W} {ds : List (Deed W)} {kids : ℕ → Frames W} {n : Name} {a : Deed W} {x y : V} → (IsPast b (grown n ds a) → IsFull u 1 (deeds_at (kids k [])) (below (kids k))) → FrontV W V M i r (suc k) ds kids n a (view_after M i u x) y → FrontV W V M i (child b w u r) k (d ∷ ds) kids n a x y
-  within : {b : Kind} {w : W} {u r : Run W} {k : ℕ} {d : Deed W} {ds : List (Deed W)} {kids : ℕ → Frames W} {m : Name} {a : Deed W} {x y : V} → FrontV W V M i u 1 (deeds_at (kids k [])) (below (kids k)) m a x y → FrontV W V M i (child b w u r) k (d ∷ ds) kids (k ∷ m) a x y
+  after_child : {b : Invocation} {w : W} {u r : Run W} {k : ℕ} {d : Deed W} {ds : List (Deed W)} {kids : ℕ → Frames W} {n : Name} {a : Deed W} {x y : V} → (IsPast b (grown n ds a) → IsFull u 1 (deeds_at (kids k [])) (below (kids k))) → FrontV W V M i r (suc k) ds kids n a (view_after M i u x) y → FrontV W V M i (child b w u r) k (d ∷ ds) kids n a x y
+  within : {b : Invocation} {w : W} {u r : Run W} {k : ℕ} {d : Deed W} {ds : List (Deed W)} {kids : ℕ → Frames W} {m : Name} {a : Deed W} {x y : V} → FrontV W V M i u 1 (deeds_at (kids k [])) (below (kids k)) m a x y → FrontV W V M i (child b w u r) k (d ∷ ds) kids (k ∷ m) a x y
 
-pub front_view : {W V : Type 0} (M : Monoid V) (i : Instance) {c : Cell} {r : Run W} {k : ℕ} {ds : List (Deed W)} {kids : ℕ → Frames W} {n : Name} {a : Deed W} {x y : ℤ} → Front W c r k ds kids n a x y → (z : V) → (t : V) × FrontV W V M i r k ds kids n a z t
+pub front_view : {W V : Type 0} (M : MonoidStructure V) (i : Instance) {c : Cell} {r : Run W} {k : ℕ} {ds : List (Deed W)} {kids : ℕ → Frames W} {n : Name} {a : Deed W} {x y : ℤ} → Front W c r k ds kids n a x y → (z : V) → (t : V) × FrontV W V M i r k ds kids n a z t
 front_view M i here_act z = (z, at_act)
 front_view M i here_child z = (z, at_child)
 front_view M i (past_act {e = e} f) z = let g = front_view M i f (on_view M i e z) in (g.0, after_act g.1)
 front_view M i (past_child {u = u} p f) z = let g = front_view M i f (view_after M i u z) in (g.0, after_child p g.1)
 front_view M i (inside f) z = let g = front_view M i f z in (g.0, within g.1)
 
-module _ {W V : Type 0} {M : Monoid V} {i : Instance} where
+module _ {W V : Type 0} {M : MonoidStructure V} {i : Instance} where
   view_event : (P : Event → Type 0) {r : Run W} {k : ℕ} {ds : List (Deed W)} {kids : ℕ → Frames W} {n : Name} {e : Event} {x y : V} → FrontV W V M i r k ds kids n (Does e) x y → P e → HasEventWith P r
   view_event P at_act h = inl h
   view_event P (after_act f) h = inr (view_event P f h)
@@ -39,7 +42,7 @@ module _ {W V : Type 0} {M : Monoid V} {i : Instance} where
   first_resumes (at_act {e = e}) h = ap Does (is_resume e h.0)
   first_resumes at_child h = absurd h
 
-module _ {W V : Type 0} (M : Instance → Monoid V) {i : Instance} where
+module _ {W V : Type 0} (M : Instance → MonoidStructure V) {i : Instance} where
   -- a value at the front answers the number of the serial view there
   pub view_right : {r : Run W} {k : ℕ} {ds : List (Deed W)} {kids : ℕ → Frames W} {n : Name} {e : Event} {x y : V} → FrontV W V (M i) i r k ds kids n (Does e) x y → (v : ℤ) → e ≡ Passes (Values i v) → (views : Instance → V) → views i ≡ x → IsSerialViews M r views → v ≡ number_of (M i) y
   view_right at_act v is views q s = (rw is at s.0) ∙ ap (number_of (M i)) q
@@ -56,46 +59,46 @@ view_of_inner : {V : Type 0} (pcs : Name → V) (k : ℕ) (m : Name) → view_of
 view_of_inner pcs k [] = refl
 view_of_inner pcs k (j ∷ m) = refl
 
-module _ {V : Type 0} (M : Monoid V) (law : IsLawful M) (i : Instance) where
+module _ {V : Type 0} (M : MonoidStructure V) (law : IsLawful M IsValue) (i : Instance) where
   -- an event that doesn't read the reducer multiplies from the right
-  mark_quiet : (m : Mark) (a v : V) → ¬ (IsTouch i (Passes m)) → mark_view M m i (M.join a v) ≡ M.join a (mark_view M m i v)
+  mark_quiet : (m : Mark) (a v : V) → ¬ (IsTouch i (Passes m)) → mark_view M m i (M.combine a v) ≡ M.combine a (mark_view M m i v)
   mark_quiet Begins a v never = refl
   mark_quiet Resumes a v never = refl
   mark_quiet (Updates j x) a v never =
       ⊎_elim
-      (λ e. cond-true (same_instance j i) _ _ e ∙ law.assoc a v (M.single x) ∙ ap (M.join a) (sym (cond-true (same_instance j i) (M.join v (M.single x)) v e)))
-      (λ e. cond-false (same_instance j i) _ _ e ∙ ap (M.join a) (sym (cond-false (same_instance j i) (M.join v (M.single x)) v e)))
+      (λ e. cond-true (same_instance j i) _ _ e ∙ law.associative a v (M.single x) tt tt tt ∙ ap (M.combine a) (sym (cond-true (same_instance j i) (M.combine v (M.single x)) v e)))
+      (λ e. cond-false (same_instance j i) _ _ e ∙ ap (M.combine a) (sym (cond-false (same_instance j i) (M.combine v (M.single x)) v e)))
       (cases_Bool (same_instance j i))
   mark_quiet (Creates j) a v never =
       ⊎_elim
       (λ e. absurd (never (same_instance-eq j i e)))
-      (λ e. cond-false (same_instance j i) _ _ e ∙ ap (M.join a) (sym (cond-false (same_instance j i) M.unit v e)))
+      (λ e. cond-false (same_instance j i) _ _ e ∙ ap (M.combine a) (sym (cond-false (same_instance j i) M.unit v e)))
       (cases_Bool (same_instance j i))
   mark_quiet (Sets j x) a v never =
       ⊎_elim
       (λ e. absurd (never (same_instance-eq j i e)))
-      (λ e. cond-false (same_instance j i) _ _ e ∙ ap (M.join a) (sym (cond-false (same_instance j i) (M.single x) v e)))
+      (λ e. cond-false (same_instance j i) _ _ e ∙ ap (M.combine a) (sym (cond-false (same_instance j i) (M.single x) v e)))
       (cases_Bool (same_instance j i))
   mark_quiet (Prints x) a v never =
       ⊎_elim
-      (λ e. cond-true (same_instance Output i) _ _ e ∙ law.assoc a v (M.single x) ∙ ap (M.join a) (sym (cond-true (same_instance Output i) (M.join v (M.single x)) v e)))
-      (λ e. cond-false (same_instance Output i) _ _ e ∙ ap (M.join a) (sym (cond-false (same_instance Output i) (M.join v (M.single x)) v e)))
+      (λ e. cond-true (same_instance Output i) _ _ e ∙ law.associative a v (M.single x) tt tt tt ∙ ap (M.combine a) (sym (cond-true (same_instance Output i) (M.combine v (M.single x)) v e)))
+      (λ e. cond-false (same_instance Output i) _ _ e ∙ ap (M.combine a) (sym (cond-false (same_instance Output i) (M.combine v (M.single x)) v e)))
       (cases_Bool (same_instance Output i))
   mark_quiet (Values j n) a v never = refl
 
-  on_quiet : (e : Event) (a v : V) → ¬ (IsTouch i e) → on_view M i e (M.join a v) ≡ M.join a (on_view M i e v)
+  on_quiet : (e : Event) (a v : V) → ¬ (IsTouch i e) → on_view M i e (M.combine a v) ≡ M.combine a (on_view M i e v)
   on_quiet (Reads c n) a v never = refl
   on_quiet (Writes c n) a v never = refl
   on_quiet Syncs a v never = refl
   on_quiet (Ends val gone) a v never =
       ⊎_elim
       (λ e. absurd (never e))
-      (λ e. cond-false (has_instance gone i) _ _ e ∙ ap (M.join a) (sym (cond-false (has_instance gone i) M.unit v e)))
+      (λ e. cond-false (has_instance gone i) _ _ e ∙ ap (M.combine a) (sym (cond-false (has_instance gone i) M.unit v e)))
       (cases_Bool (has_instance gone i))
   on_quiet (Passes m) a v never = mark_quiet m a v never
 
   module _ {W : Type 0} where
-    view_quiet : (r : Run W) (a v : V) → ¬ (HasEventWith (IsTouch i) r) → view_after M i r (M.join a v) ≡ M.join a (view_after M i r v)
+    view_quiet : (r : Run W) (a v : V) → ¬ (HasEventWith (IsTouch i) r) → view_after M i r (M.combine a v) ≡ M.combine a (view_after M i r v)
     view_quiet stop a v never = refl
     view_quiet (act e r) a v never = ap (view_after M i r) (on_quiet e a v (λ h. never (inl h))) ∙ view_quiet r a (on_view M i e v) (λ h. never (inr h))
     view_quiet (child b w u r) a v never = ap (view_after M i r) (view_quiet u a v (λ h. never (inl h))) ∙ view_quiet r a (view_after M i u v) (λ h. never (inr h))
@@ -108,9 +111,9 @@ module _ {V : Type 0} (M : Monoid V) (law : IsLawful M) (i : Instance) where
     block_some P (child b w u r) (inr h) = inr (block_some P r h)
 
     -- where the reducer isn't read a thief may begin anywhere
-    quiet_apart : (b : Kind) (v : V) (r : Run W) → ¬ (HasEventWith (IsTouch i) r) → ViewApart M i b v r
-    quiet_apart Calls v r never = tt
-    quiet_apart Spawns v r never = inr (λ h. never (block_some (IsTouch i) r h))
+    quiet_apart : (b : Invocation) (v : V) (r : Run W) → ¬ (HasEventWith (IsTouch i) r) → ViewApart M i b v r
+    quiet_apart Call v r never = tt
+    quiet_apart Spawn v r never = inr (λ h. never (block_some (IsTouch i) r h))
 
     pub quiet_free : (r : Run W) (x : V) → ¬ (HasEventWith (IsTouch i) r) → ViewFree M i r x
     quiet_free stop x never = tt
@@ -120,14 +123,14 @@ module _ {V : Type 0} (M : Monoid V) (law : IsLawful M) (i : Instance) where
     -- A frame's own view p and its block's product acc against the serial view x: the own view is the serial one and nothing lies at the block,
     -- or the two together make it, and the reducer isn't read until the sync that is still to come.
     abbrev Even : Run W → V → V → V → Type 0
-    Even r acc p x = ((p ≡ x) × (acc ≡ M.unit)) ⊎ ((M.join acc p ≡ x) × (¬ (HasInBlockWith (IsTouch i) r)) × SyncAhead r)
+    Even r acc p x = ((p ≡ x) × (acc ≡ M.unit)) ⊎ ((M.combine acc p ≡ x) × (¬ (HasInBlockWith (IsTouch i) r)) × SyncAhead r)
 
     even_act : (e : Event) (r : Run W) (acc p x : V) → Even (act e r) acc p x → Even r (block_after M e acc) (own_after M i e acc p) (on_view M i e x)
     even_act (Reads c n) r acc p x (inl h) = inl h
     even_act (Reads c n) r acc p x (inr h) = inr (h.0, λ z. h.1 (inr ((λ t. t), z)), h.2)
     even_act (Writes c n) r acc p x (inl h) = inl h
     even_act (Writes c n) r acc p x (inr h) = inr (h.0, λ z. h.1 (inr ((λ t. t), z)), h.2)
-    even_act Syncs r acc p x (inl h) = inl (rw h.1 (law.left p ∙ h.0), refl)
+    even_act Syncs r acc p x (inl h) = inl (rw h.1 (law.left_neutral p tt ∙ h.0), refl)
     even_act Syncs r acc p x (inr h) = inl (h.0, refl)
     even_act (Ends val gone) r acc p x (inl h) = inl (ap (on_view M i (Ends val gone)) h.0, h.1)
     even_act (Ends val gone) r acc p x (inr h) =
@@ -136,26 +139,26 @@ module _ {V : Type 0} (M : Monoid V) (law : IsLawful M) (i : Instance) where
     even_act (Passes m) r acc p x (inr h) =
         inr (sym (mark_quiet m acc p (λ z. h.1 (inl z))) ∙ ap (mark_view M m i) h.0, λ z. h.1 (inr ((λ t. t), z)), h.2)
 
-    even_child : (b : Kind) (w : W) (u r : Run W) (acc p x : V) → Even (child b w u r) acc p x → Even r acc (view_after M i u p) (view_after M i u x)
+    even_child : (b : Invocation) (w : W) (u r : Run W) (acc p x : V) → Even (child b w u r) acc p x → Even r acc (view_after M i u p) (view_after M i u x)
     even_child b w u r acc p x (inl h) = inl (ap (view_after M i u) h.0, h.1)
     even_child b w u r acc p x (inr h) =
         inr (sym (view_quiet u acc p (λ z. h.1 (inl z))) ∙ ap (view_after M i u) h.0, λ z. h.1 (inr z), h.2)
 
-    even_stolen : (w : W) (u r : Run W) (acc p x : V) → ViewApart M i Spawns (view_after M i u x) r → SyncAhead r → Even (child Spawns w u r) acc p x → Even r (M.join acc (view_after M i u p)) M.unit (view_after M i u x)
-    even_stolen w u r acc p x (inl z) ahead (inl h) = inl (sym z, rw (h.1, h.0, z) (law.left M.unit))
-    even_stolen w u r acc p x (inr z) ahead (inl h) = inr (law.right _ ∙ rw (h.1, h.0) (law.left (view_after M i u x)), z, ahead)
+    even_stolen : (w : W) (u r : Run W) (acc p x : V) → ViewApart M i Spawn (view_after M i u x) r → SyncAhead r → Even (child Spawn w u r) acc p x → Even r (M.combine acc (view_after M i u p)) M.unit (view_after M i u x)
+    even_stolen w u r acc p x (inl z) ahead (inl h) = inl (sym z, rw (h.1, h.0, z) (law.left_neutral M.unit tt))
+    even_stolen w u r acc p x (inr z) ahead (inl h) = inr (law.right_neutral _ tt ∙ rw (h.1, h.0) (law.left_neutral (view_after M i u x) tt), z, ahead)
     even_stolen w u r acc p x apart ahead (inr h) =
-        inr (law.right _ ∙ sym (view_quiet u acc p (λ z. h.1 (inl z))) ∙ ap (view_after M i u) h.0, λ z. h.1 (inr z), ahead)
+        inr (law.right_neutral _ tt ∙ sym (view_quiet u acc p (λ z. h.1 (inl z))) ∙ ap (view_after M i u) h.0, λ z. h.1 (inr z), ahead)
 
-    free_own : (b : Kind) (w : W) (u r : Run W) (acc p x : V) → Even (child b w u r) acc p x → ViewFree M i u x → ViewFree M i u p
+    free_own : (b : Invocation) (w : W) (u r : Run W) (acc p x : V) → Even (child b w u r) acc p x → ViewFree M i u x → ViewFree M i u p
     free_own b w u r acc p x (inl h) free = rw h.0 free
     free_own b w u r acc p x (inr h) free = quiet_free u p (λ z. h.1 (inl z))
 
-    when_get : (k : ℕ) (loose : Name → Bool) (ds : List (Deed W)) (X : Type 0) → IsPast Calls ds → WhenResumed k loose ds X → X
+    when_get : (k : ℕ) (loose : Name → Bool) (ds : List (Deed W)) (X : Type 0) → IsPast Call ds → WhenResumed k loose ds X → X
     when_get k loose [] X past h = absurd past
     when_get k loose (d ∷ ds) X past h = h
 
-    goes : (b : Kind) (r : Run W) (k : ℕ) (ds : List (Deed W)) (kids : ℕ → Frames W) → IsResumed true r → IsFull r k ds kids → IsPast Calls ds
+    goes : (b : Invocation) (r : Run W) (k : ℕ) (ds : List (Deed W)) (kids : ℕ → Frames W) → IsResumed true r → IsFull r k ds kids → IsPast Call ds
     goes b stop k ds kids res full = absurd res
     goes b (act e r) k [] kids res full = absurd full
     goes b (act e r) k (d ∷ ds) kids res full = tt
@@ -170,18 +173,18 @@ module _ {V : Type 0} (M : Monoid V) (law : IsLawful M) (i : Instance) where
     final_view (act e r) k (d ∷ ds) kids loose pcs acc p root x b res full cut closed lies free even =
         final_view r k ds kids loose pcs _ _ root _ false (resumed_rest M i b e r res) full cut.1 (closed_act e r closed) lies free (even_act e r acc p x even)
     final_view (child h w u r) k [] kids loose pcs acc p root x b res full cut closed lies free even = absurd full
-    final_view (child Calls w u r) k (d ∷ ds) kids loose pcs acc p root x b res full cut closed lies free even =
-        let parts = resumed_parts M i b Calls w u r res in
-        let inner : pcs (k ∷ []) ≡ view_after M i u p = final_view u 1 (deeds_at (kids k [])) (below (kids k)) (λ n. loose (k ∷ n)) (λ n. pcs (k ∷ n)) M.unit p (pcs (k ∷ [])) p false parts.0 full.0 cut.2 closed.1 lies.1 (free_own Calls w u r acc p x even free.1) (inl (refl, refl)) in
-        let rest = when_get (suc k) loose ds _ (goes Calls r (suc k) ds kids parts.1 full.1) lies.2 in
-        final_view r (suc k) ds kids loose pcs acc (pcs (k ∷ [])) root _ true parts.1 full.1 cut.4 closed.2 rest free.2 (subst (λ z. Even r acc z (view_after M i u x)) (sym inner) (even_child Calls w u r acc p x even))
-    final_view (child Spawns w u r) k (d ∷ ds) kids loose pcs acc p root x b res full cut closed lies free even =
-        let parts = resumed_parts M i b Spawns w u r res in
-        let inner : pcs (k ∷ []) ≡ view_after M i u p = final_view u 1 (deeds_at (kids k [])) (below (kids k)) (λ n. loose (k ∷ n)) (λ n. pcs (k ∷ n)) M.unit p (pcs (k ∷ [])) p false parts.0 full.0 cut.2 closed.1 lies.0 (free_own Spawns w u r acc p x even free.1) (inl (refl, refl)) in
+    final_view (child Call w u r) k (d ∷ ds) kids loose pcs acc p root x b res full cut closed lies free even =
+        let parts = resumed_parts M i b Call w u r res in
+        let inner : pcs (k ∷ []) ≡ view_after M i u p = final_view u 1 (deeds_at (kids k [])) (below (kids k)) (λ n. loose (k ∷ n)) (λ n. pcs (k ∷ n)) M.unit p (pcs (k ∷ [])) p false parts.0 full.0 cut.2 closed.1 lies.1 (free_own Call w u r acc p x even free.1) (inl (refl, refl)) in
+        let rest = when_get (suc k) loose ds _ (goes Call r (suc k) ds kids parts.1 full.1) lies.2 in
+        final_view r (suc k) ds kids loose pcs acc (pcs (k ∷ [])) root _ true parts.1 full.1 cut.4 closed.2 rest free.2 (subst (λ z. Even r acc z (view_after M i u x)) (sym inner) (even_child Call w u r acc p x even))
+    final_view (child Spawn w u r) k (d ∷ ds) kids loose pcs acc p root x b res full cut closed lies free even =
+        let parts = resumed_parts M i b Spawn w u r res in
+        let inner : pcs (k ∷ []) ≡ view_after M i u p = final_view u 1 (deeds_at (kids k [])) (below (kids k)) (λ n. loose (k ∷ n)) (λ n. pcs (k ∷ n)) M.unit p (pcs (k ∷ [])) p false parts.0 full.0 cut.2 closed.1 lies.0 (free_own Spawn w u r acc p x even free.1) (inl (refl, refl)) in
         ⊎_elim
-        (λ flag. final_view r (suc k) ds kids loose pcs (M.join acc (pcs (k ∷ []))) M.unit root _ true parts.1 full.1 cut.4 closed.2 (rw flag at lies.1) free.2 (subst (λ z. Even r (M.join acc z) M.unit (view_after M i u x)) (sym inner) (even_stolen w u r acc p x free.0 closed.0 even)))
-        (λ flag. let rest = when_get (suc k) loose ds _ (goes Spawns r (suc k) ds kids parts.1 full.1) (rw flag at lies.1) in
-        final_view r (suc k) ds kids loose pcs acc (pcs (k ∷ [])) root _ true parts.1 full.1 cut.4 closed.2 rest.1 free.2 (subst (λ z. Even r acc z (view_after M i u x)) (sym inner) (even_child Spawns w u r acc p x even)))
+        (λ flag. final_view r (suc k) ds kids loose pcs (M.combine acc (pcs (k ∷ []))) M.unit root _ true parts.1 full.1 cut.4 closed.2 (rw flag at lies.1) free.2 (subst (λ z. Even r (M.combine acc z) M.unit (view_after M i u x)) (sym inner) (even_stolen w u r acc p x free.0 closed.0 even)))
+        (λ flag. let rest = when_get (suc k) loose ds _ (goes Spawn r (suc k) ds kids parts.1 full.1) (rw flag at lies.1) in
+        final_view r (suc k) ds kids loose pcs acc (pcs (k ∷ [])) root _ true parts.1 full.1 cut.4 closed.2 rest.1 free.2 (subst (λ z. Even r acc z (view_after M i u x)) (sym inner) (even_child Spawn w u r acc p x even)))
         (cases_Bool (loose (k ∷ [])))
 
     -- The same before all of the block's children are done: even once there is a sync, and till then the own view is right where it is read.
@@ -204,7 +207,7 @@ module _ {V : Type 0} (M : Monoid V) (law : IsLawful M) (i : Instance) where
     now_grown [] d ds a q = rw q tt
     now_grown (j ∷ l) d ds a q = rw q tt
 
-    child_grown : (n : Name) (d : Deed W) (ds : List (Deed W)) (a : Deed W) (b : Kind) (w : W) → d ≡ Invokes b w → HasSync (grown n ds a) → HasSync (grown n (d ∷ ds) a)
+    child_grown : (n : Name) (d : Deed W) (ds : List (Deed W)) (a : Deed W) (b : Invocation) (w : W) → d ≡ Invokes b w → HasSync (grown n ds a) → HasSync (grown n (d ∷ ds) a)
     child_grown [] d ds a b w q h = rw q h
     child_grown (j ∷ l) d ds a b w q h = rw q h
 
@@ -224,17 +227,17 @@ module _ {V : Type 0} (M : Monoid V) (law : IsLawful M) (i : Instance) where
     fair_act (Passes m) r n d ds a acc p x q h =
         (λ z. even_act (Passes m) r acc p x (h.0 (more_grown n d ds a (Passes m) q z)), later (Passes m) r p (mark_view M m i p) x (mark_view M m i x) (λ t. t) (ap (mark_view M m i)) h.1)
 
-    fair_child : (b : Kind) (w : W) (u r : Run W) (n : Name) (d : Deed W) (ds : List (Deed W)) (a : Deed W) (acc p x q : V) → d ≡ Invokes b w → q ≡ view_after M i u p → Fair (child b w u r) n (d ∷ ds) a acc p x → Fair r n ds a acc q (view_after M i u x)
+    fair_child : (b : Invocation) (w : W) (u r : Run W) (n : Name) (d : Deed W) (ds : List (Deed W)) (a : Deed W) (acc p x q : V) → d ≡ Invokes b w → q ≡ view_after M i u p → Fair (child b w u r) n (d ∷ ds) a acc p x → Fair r n ds a acc q (view_after M i u x)
     fair_child b w u r n d ds a acc p x q is e h = (
       λ z. subst (λ t. Even r acc t (view_after M i u x)) (sym e) (even_child b w u r acc p x (h.0 (child_grown n d ds a b w is z))),
       ⊎_elim (λ t. inl (e ∙ ap (view_after M i u) t)) (λ t. inr (λ z. t (inr z))) h.1,
     )
 
-    apart_now : (v : V) (r : Run W) → ViewApart M i Spawns v r → (M.unit ≡ v) ⊎ (¬ (HasInBlockWith (IsTouch i) r))
+    apart_now : (v : V) (r : Run W) → ViewApart M i Spawn v r → (M.unit ≡ v) ⊎ (¬ (HasInBlockWith (IsTouch i) r))
     apart_now v r (inl h) = inl (sym h)
     apart_now v r (inr h) = inr h
 
-    past_call_view : {r : Run W} {k : ℕ} {ds : List (Deed W)} {kids : ℕ → Frames W} {n : Name} {a : Deed W} {x y : V} → FrontV W V M i r k ds kids n a x y → IsPast Calls (grown n ds a)
+    past_call_view : {r : Run W} {k : ℕ} {ds : List (Deed W)} {kids : ℕ → Frames W} {n : Name} {a : Deed W} {x y : V} → FrontV W V M i r k ds kids n a x y → IsPast Call (grown n ds a)
     past_call_view at_act = tt
     past_call_view at_child = tt
     past_call_view (after_act {n = []} f) = tt
@@ -243,15 +246,15 @@ module _ {V : Type 0} (M : Monoid V) (law : IsLawful M) (i : Instance) where
     past_call_view (after_child {n = j ∷ m} p f) = tt
     past_call_view (within f) = tt
 
-    past_values : {r : Run W} {k : ℕ} {kids : ℕ → Frames W} {n : Name} {a : Deed W} {x y : V} {v : ℤ} (ds : List (Deed W)) → FrontV W V M i r k ds kids n a x y → IsResumed true r → a ≡ Does (Passes (Values i v)) → IsPast Calls ds
+    past_values : {r : Run W} {k : ℕ} {kids : ℕ → Frames W} {n : Name} {a : Deed W} {x y : V} {v : ℤ} (ds : List (Deed W)) → FrontV W V M i r k ds kids n a x y → IsResumed true r → a ≡ Does (Passes (Values i v)) → IsPast Call ds
     past_values {v = v} [] f res is = let z : Does (Passes Resumes) ≡ Does (Passes (Values i v)) = sym (first_resumes f res) ∙ is in absurd (cc)
     past_values (d ∷ ds) f res is = tt
 
-    free_fair : (b : Kind) (w : W) (u r : Run W) (p x : V) → (p ≡ x) ⊎ (¬ (HasInBlockWith (IsTouch i) (child b w u r))) → ViewFree M i u x → ViewFree M i u p
+    free_fair : (b : Invocation) (w : W) (u r : Run W) (p x : V) → (p ≡ x) ⊎ (¬ (HasInBlockWith (IsTouch i) (child b w u r))) → ViewFree M i u x → ViewFree M i u p
     free_fair b w u r p x (inl h) free = rw h free
     free_fair b w u r p x (inr h) free = quiet_free u p (λ z. h (inl z))
 
-    same_within : {k : ℕ} {ds : List (Deed W)} {kids : ℕ → Frames W} {m : Name} {a : Deed W} {z y : V} (b : Kind) (w : W) (u r : Run W) (p x : V) → FrontV W V M i u k ds kids m a z y → (v : ℤ) → a ≡ Does (Passes (Values i v)) → (p ≡ x) ⊎ (¬ (HasInBlockWith (IsTouch i) (child b w u r))) → p ≡ x
+    same_within : {k : ℕ} {ds : List (Deed W)} {kids : ℕ → Frames W} {m : Name} {a : Deed W} {z y : V} (b : Invocation) (w : W) (u r : Run W) (p x : V) → FrontV W V M i u k ds kids m a z y → (v : ℤ) → a ≡ Does (Passes (Values i v)) → (p ≡ x) ⊎ (¬ (HasInBlockWith (IsTouch i) (child b w u r))) → p ≡ x
     same_within b w u r p x f v is (inl h) = h
     same_within {k = k} {ds = ds} {kids = kids} {m = m} {z = z} {y = y} b w u r p x f v is (inr h) =
         absurd (h (inl (view_event (IsTouch i) {e = Passes (Values i v)} (subst (λ t. FrontV W V M i u k ds kids m t z y) is f) refl)))
@@ -264,26 +267,26 @@ module _ {V : Type 0} (M : Monoid V) (law : IsLawful M) (i : Instance) where
     view_front at_child v is loose pcs acc p root b res cut closed lies free fair = absurd (cc)
     view_front (after_act {e = e} {r = r} {d = d} {ds = ds} {n = n} {a = a} {x = x} f) v is loose pcs acc p root b res cut closed lies free fair =
         view_front f v is loose pcs _ _ root false (resumed_rest M i b e r res) cut.1 (closed_act e r closed) lies free (fair_act e r n d ds a acc p x cut.0 fair)
-    view_front (after_child {b = Calls} {w = w} {u = u} {r = r} {k = k} {d = d} {ds = ds} {kids = kids} {n = n} {a = a} {x = x} q f) v is loose pcs acc p root b res cut closed lies free fair =
-        let parts = resumed_parts M i b Calls w u r res in
-        let inner : pcs (k ∷ []) ≡ view_after M i u p = final_view u 1 (deeds_at (kids k [])) (below (kids k)) (λ n. loose (k ∷ n)) (λ n. pcs (k ∷ n)) M.unit p (pcs (k ∷ [])) p false parts.0 (q (past_call_view f)) cut.2 closed.1 lies.1 (free_fair Calls w u r p x fair.1 free.1) (inl (refl, refl)) in
+    view_front (after_child {b = Call} {w = w} {u = u} {r = r} {k = k} {d = d} {ds = ds} {kids = kids} {n = n} {a = a} {x = x} q f) v is loose pcs acc p root b res cut closed lies free fair =
+        let parts = resumed_parts M i b Call w u r res in
+        let inner : pcs (k ∷ []) ≡ view_after M i u p = final_view u 1 (deeds_at (kids k [])) (below (kids k)) (λ n. loose (k ∷ n)) (λ n. pcs (k ∷ n)) M.unit p (pcs (k ∷ [])) p false parts.0 (q (past_call_view f)) cut.2 closed.1 lies.1 (free_fair Call w u r p x fair.1 free.1) (inl (refl, refl)) in
         let rest = when_get (suc k) loose ds _ (past_values ds f parts.1 is) lies.2 in
-        view_front f v is loose pcs acc (pcs (k ∷ [])) root true parts.1 cut.4 closed.2 rest free.2 (fair_child Calls w u r n d ds a acc p x (pcs (k ∷ [])) cut.0 inner fair)
-    view_front (after_child {b = Spawns} {w = w} {u = u} {r = r} {k = k} {d = d} {ds = ds} {kids = kids} {n = n} {a = a} {x = x} q f) v is loose pcs acc p root b res cut closed lies free fair =
-        let parts = resumed_parts M i b Spawns w u r res in
+        view_front f v is loose pcs acc (pcs (k ∷ [])) root true parts.1 cut.4 closed.2 rest free.2 (fair_child Call w u r n d ds a acc p x (pcs (k ∷ [])) cut.0 inner fair)
+    view_front (after_child {b = Spawn} {w = w} {u = u} {r = r} {k = k} {d = d} {ds = ds} {kids = kids} {n = n} {a = a} {x = x} q f) v is loose pcs acc p root b res cut closed lies free fair =
+        let parts = resumed_parts M i b Spawn w u r res in
         let inner : IsFull u 1 (deeds_at (kids k [])) (below (kids k)) → pcs (k ∷ []) ≡ view_after M i u p =
-        λ full. final_view u 1 (deeds_at (kids k [])) (below (kids k)) (λ n. loose (k ∷ n)) (λ n. pcs (k ∷ n)) M.unit p (pcs (k ∷ [])) p false parts.0 full cut.2 closed.1 lies.0 (free_fair Spawns w u r p x fair.1 free.1) (inl (refl, refl)) in
+        λ full. final_view u 1 (deeds_at (kids k [])) (below (kids k)) (λ n. loose (k ∷ n)) (λ n. pcs (k ∷ n)) M.unit p (pcs (k ∷ [])) p false parts.0 full cut.2 closed.1 lies.0 (free_fair Spawn w u r p x fair.1 free.1) (inl (refl, refl)) in
         ⊎_elim
-        (λ flag. view_front f v is loose pcs (M.join acc (pcs (k ∷ []))) M.unit root true parts.1 cut.4 closed.2 (rw flag at lies.1) free.2 (
-          λ z. subst (λ t. Even r (M.join acc t) M.unit (view_after M i u x)) (sym (inner (q z))) (even_stolen w u r acc p x free.0 closed.0 (fair.0 (child_grown n d ds a Spawns w cut.0 z))),
+        (λ flag. view_front f v is loose pcs (M.combine acc (pcs (k ∷ []))) M.unit root true parts.1 cut.4 closed.2 (rw flag at lies.1) free.2 (
+          λ z. subst (λ t. Even r (M.combine acc t) M.unit (view_after M i u x)) (sym (inner (q z))) (even_stolen w u r acc p x free.0 closed.0 (fair.0 (child_grown n d ds a Spawn w cut.0 z))),
           apart_now (view_after M i u x) r free.0,
         ))
         (λ flag. let rest = when_get (suc k) loose ds _ (past_values ds f parts.1 is) (rw flag at lies.1) in
-        view_front f v is loose pcs acc (pcs (k ∷ [])) root true parts.1 cut.4 closed.2 rest.1 free.2 (fair_child Spawns w u r n d ds a acc p x (pcs (k ∷ [])) cut.0 (inner rest.0) fair))
+        view_front f v is loose pcs acc (pcs (k ∷ [])) root true parts.1 cut.4 closed.2 rest.1 free.2 (fair_child Spawn w u r n d ds a acc p x (pcs (k ∷ [])) cut.0 (inner rest.0) fair))
         (cases_Bool (loose (k ∷ [])))
-    view_front (within {b = Calls} {w = w} {u = u} {r = r} {k = k} {d = d} {ds = ds} {kids = kids} {m = m} {a = a} {x = x} {y = y} f) v is loose pcs acc p root b res cut closed lies free fair =
-        let same = same_within Calls w u r p x f v is fair.1 in
-        sym (view_of_inner pcs k m) ∙ view_front f v is (λ n. loose (k ∷ n)) (λ n. pcs (k ∷ n)) M.unit p (pcs (k ∷ [])) false (resumed_parts M i b Calls w u r res).0 cut.2 closed.1 lies.1 free.1 (λ z. inl (same, refl), inl same)
-    view_front (within {b = Spawns} {w = w} {u = u} {r = r} {k = k} {d = d} {ds = ds} {kids = kids} {m = m} {a = a} {x = x} {y = y} f) v is loose pcs acc p root b res cut closed lies free fair =
-        let same = same_within Spawns w u r p x f v is fair.1 in
-        sym (view_of_inner pcs k m) ∙ view_front f v is (λ n. loose (k ∷ n)) (λ n. pcs (k ∷ n)) M.unit p (pcs (k ∷ [])) false (resumed_parts M i b Spawns w u r res).0 cut.2 closed.1 lies.0 free.1 (λ z. inl (same, refl), inl same)
+    view_front (within {b = Call} {w = w} {u = u} {r = r} {k = k} {d = d} {ds = ds} {kids = kids} {m = m} {a = a} {x = x} {y = y} f) v is loose pcs acc p root b res cut closed lies free fair =
+        let same = same_within Call w u r p x f v is fair.1 in
+        sym (view_of_inner pcs k m) ∙ view_front f v is (λ n. loose (k ∷ n)) (λ n. pcs (k ∷ n)) M.unit p (pcs (k ∷ [])) false (resumed_parts M i b Call w u r res).0 cut.2 closed.1 lies.1 free.1 (λ z. inl (same, refl), inl same)
+    view_front (within {b = Spawn} {w = w} {u = u} {r = r} {k = k} {d = d} {ds = ds} {kids = kids} {m = m} {a = a} {x = x} {y = y} f) v is loose pcs acc p root b res cut closed lies free fair =
+        let same = same_within Spawn w u r p x f v is fair.1 in
+        sym (view_of_inner pcs k m) ∙ view_front f v is (λ n. loose (k ∷ n)) (λ n. pcs (k ∷ n)) M.unit p (pcs (k ∷ [])) false (resumed_parts M i b Spawn w u r res).0 cut.2 closed.1 lies.0 free.1 (λ z. inl (same, refl), inl same)

@@ -1,9 +1,12 @@
 -- A state that is a consistent cut of a serial run (consistent cuts: Chandy and Lamport 1985).
 use Rattle.std.specs.Prelude.{◌+◌, cond, nat_eq, ◌≡◌, ℕ, suc, ℤ, ◌≤◌, Bool, true, false, List, [], ◌∷◌, ◌++◌, Option, Some, None}
-use Rattle.cilk_runs.specs.Runs.{Name, same_name, Cell, Instance, Kind, Calls, Spawns, Event, Reads, Writes, Syncs, Ends, Passes, Deed, Does, Invokes, Run, stop, act, child, Invoke, ask_of}
+use Rattle.cilk_types.specs.declared.invocation.Invocation.{Invocation}
+use Rattle.cilk_types.specs.declared.invocation.Invocation.TheVariants.{Call, Spawn}
+use Rattle.cilk_runs.specs.Runs.{Name, same_name, Cell, Instance, Event, Reads, Writes, Syncs, Ends, Passes, Deed, Does, Invokes, Run, stop, act, child, Invoke, ask_of}
 use Rattle.cilk_runs.specs.Costs.{Costs, Total, cost}
 use Rattle.cilk_runs.specs.Serial.{own_deeds, run_in}
-use Rattle.cilk_runs.specs.Monoids.{Monoid, unit_of, on_view}
+use Rattle.cilk_monoid.specs.Laws.{MonoidStructure}
+use Rattle.cilk_runs.specs.Monoids.{unit_of, on_view}
 use Rattle.cilk_runs.specs.Machine.{Frame, Frames, State, deeds_at, HasSync, put}
 
 -- the frames below each child of a frame, by the child's ordinal
@@ -29,10 +32,10 @@ IsFull (child i w u r) k [] kids = ⊥
 IsFull (child i w u r) k (d ∷ ds) kids = IsFull u 1 (deeds_at (kids k [])) (below (kids k)) × IsFull r (suc k) ds kids
 
 -- what must have ended by now: a called child once there is a further deed, a spawned one once there is a sync
-abbrev pub IsPast : {W : Type 0} → Kind → List (Deed W) → Type 0
-IsPast Calls [] = ⊥
-IsPast Calls (d ∷ ds) = Unit {0}
-IsPast Spawns ds = HasSync ds
+abbrev pub IsPast : {W : Type 0} → Invocation → List (Deed W) → Type 0
+IsPast Call [] = ⊥
+IsPast Call (d ∷ ds) = Unit {0}
+IsPast Spawn ds = HasSync ds
 
 -- no child from this ordinal on is there
 abbrev pub NoneFrom : {W : Type 0} → ℕ → (ℕ → Frames W) → Type 0
@@ -93,7 +96,7 @@ WhenStolen true X Y = X
 WhenStolen false X Y = Y
 
 -- the product at the frame's block after an event
-abbrev pub block_after : {V : Type 0} → Monoid V → Event → V → V
+abbrev pub block_after : {V : Type 0} → MonoidStructure V → Event → V → V
 block_after M (Reads c n) acc = acc
 block_after M (Writes c n) acc = acc
 block_after M Syncs acc = M.unit
@@ -101,30 +104,30 @@ block_after M (Ends val gone) acc = acc
 block_after M (Passes m) acc = acc
 
 -- the frame's own view after an event, where its block has this product
-abbrev pub own_after : {V : Type 0} → Monoid V → Instance → Event → V → V → V
+abbrev pub own_after : {V : Type 0} → MonoidStructure V → Instance → Event → V → V → V
 own_after M i (Reads c n) acc p = p
 own_after M i (Writes c n) acc p = p
-own_after M i Syncs acc p = M.join acc p
+own_after M i Syncs acc p = M.combine acc p
 own_after M i (Ends val gone) acc p = on_view M i (Ends val gone) p
 own_after M i (Passes m) acc p = on_view M i (Passes m) p
 
 -- The pieces' views of instance i are those of the ranges that they cover. The frame began with view p, acc is the product at its block, root
 -- is its own view now, pcs those of the frames below it. A child begins with its parent's piece. If its continuation was stolen
 -- that goes on from the unit, and the child's piece goes to the block, else it goes on with the child's piece once that has ended.
-abbrev pub Lies : {W V : Type 0} → Monoid V → Instance → Run W → ℕ → List (Deed W) → (ℕ → Frames W) → (Name → Bool) → (Name → V) → V → V → V → Type 0
+abbrev pub Lies : {W V : Type 0} → MonoidStructure V → Instance → Run W → ℕ → List (Deed W) → (ℕ → Frames W) → (Name → Bool) → (Name → V) → V → V → V → Type 0
 Lies M i stop k [] kids loose pcs acc p root = (root ≡ p) × NoneStolen k loose
 Lies M i stop k (d ∷ ds) kids loose pcs acc p root = ⊥
 Lies M i (act e r) k [] kids loose pcs acc p root = (root ≡ p) × NoneStolen k loose
 Lies M i (act e r) k (d ∷ ds) kids loose pcs acc p root = Lies M i r k ds kids loose pcs (block_after M e acc) (own_after M i e acc p) root
 Lies M i (child b w u r) k [] kids loose pcs acc p root = (root ≡ p) × NoneStolen k loose
-Lies M i (child Calls w u r) k (d ∷ ds) kids loose pcs acc p root =
+Lies M i (child Call w u r) k (d ∷ ds) kids loose pcs acc p root =
     (loose (k ∷ []) ≡ false)
     × Lies M i u 1 (deeds_at (kids k [])) (below (kids k)) (λ n. loose (k ∷ n)) (λ n. pcs (k ∷ n)) M.unit p (pcs (k ∷ []))
     × WhenResumed (suc k) loose ds (Lies M i r (suc k) ds kids loose pcs acc (pcs (k ∷ [])) root)
-Lies M i (child Spawns w u r) k (d ∷ ds) kids loose pcs acc p root =
+Lies M i (child Spawn w u r) k (d ∷ ds) kids loose pcs acc p root =
     Lies M i u 1 (deeds_at (kids k [])) (below (kids k)) (λ n. loose (k ∷ n)) (λ n. pcs (k ∷ n)) M.unit p (pcs (k ∷ []))
     × WhenStolen (loose (k ∷ []))
-    (Lies M i r (suc k) ds kids loose pcs (M.join acc (pcs (k ∷ []))) M.unit root)
+    (Lies M i r (suc k) ds kids loose pcs (M.combine acc (pcs (k ∷ []))) M.unit root)
     (WhenResumed (suc k) loose ds (IsFull u 1 (deeds_at (kids k [])) (below (kids k)) × Lies M i r (suc k) ds kids loose pcs acc (pcs (k ∷ [])) root))
 
 -- how often a name stands in a list
@@ -143,9 +146,9 @@ sync_bit (Does (Passes m) ∷ ds) = sync_bit ds
 sync_bit (Invokes k w ∷ ds) = sync_bit ds
 
 -- the number for a spawn, and 0 for a call
-abbrev pub spawn_bit : Kind → ℕ → ℕ
-spawn_bit Calls n = 0
-spawn_bit Spawns n = n
+abbrev pub spawn_bit : Invocation → ℕ → ℕ
+spawn_bit Call n = 0
+spawn_bit Spawn n = n
 
 -- 1 where child k, counted from z, was spawned and its block's sync is made, and else 0
 abbrev pub joined_at : {W : Type 0} → ℕ → ℕ → List (Deed W) → ℕ
@@ -172,7 +175,7 @@ spawned frames (k ∷ []) = spawned_at 1 k (deeds_at (frames []))
 spawned frames (j ∷ k ∷ n) = spawned (below frames j) (k ∷ n)
 
 -- the whole state
-pub record IsConsistent {W V : Type 0} (M : Instance → Monoid V) (C : Costs W) (w : W) (t : Run W) (opening : Cell → ℤ) (s : State W V) : Type 0 where
+pub record IsConsistent {W V : Type 0} (M : Instance → MonoidStructure V) (C : Costs W) (w : W) (t : Run W) (opening : Cell → ℤ) (s : State W V) : Type 0 where
   pub root : IsStarted w s.frames
   pub cut : IsCut t 1 (deeds_at (s.frames [])) (below s.frames)
   pub memory : (c : Cell) → s.memory c ≡ made t 1 (deeds_at (s.frames [])) (below s.frames) c (opening c)

@@ -1,10 +1,12 @@
 -- The free machine: any frame that isn't waiting may make its next event at any moment (steals after Frigo, Leiserson and Randall
 -- 1998, views after Frigo, Halpern, Leiserson and Lewin-Berlin 2009).
 use Rattle.std.specs.Prelude.{◌≡◌, ℕ, suc, ◌+◌, nat_eq, ℤ, Bool, true, false, cond, List, [], ◌∷◌, ◌++◌, Option, Some, None, ◌⊎◌}
-use Rattle.cilk_runs.specs.Runs.{Name, same_name, Cell, same_cell, Instance, Calls, Spawns, Ask, Read, Write, Invoke, Sync, End, Pass, Fail, Wish, Begin, Resume, Create, Update, Set, Value, Print, Mark, Begins, Resumes, Creates, Updates, Sets, Values, Prints, Event, Reads, Writes, Syncs, Ends, Passes, Deed, Does, Invokes}
+use Rattle.cilk_types.specs.declared.invocation.Invocation.TheVariants.{Call, Spawn}
+use Rattle.cilk_runs.specs.Runs.{Name, same_name, Cell, same_cell, Instance, Ask, Read, Write, Invoke, Sync, End, Pass, Fail, Wish, Begin, Resume, Create, Update, Set, Value, Print, Mark, Begins, Resumes, Creates, Updates, Sets, Values, Prints, Event, Reads, Writes, Syncs, Ends, Passes, Deed, Does, Invokes}
 use Rattle.cilk_types.specs.declared.fault.Fault.{Fault}
 use Rattle.cilk_runs.specs.Costs.{Costs, Total, cost, fault_of}
-use Rattle.cilk_runs.specs.Monoids.{Monoid, unit_of, numbers_of, on_view}
+use Rattle.cilk_monoid.specs.Laws.{MonoidStructure}
+use Rattle.cilk_runs.specs.Monoids.{unit_of, numbers_of, on_view}
 
 -- what a frame was started as, and what it has done
 pub record Frame (W : Type 0) : Type 0 where
@@ -67,8 +69,8 @@ started (Invokes k w ∷ ds) = suc (started ds)
 abbrev pub Ready : {W : Type 0} → (ℕ → Option (Frame W)) → (ℕ → Bool) → Ask W → ℕ → List (Deed W) → Type 0
 Ready kid loose a k [] = Unit {0}
 Ready kid loose a k (Does e ∷ ds) = Ready kid loose a k ds
-Ready kid loose a k (Invokes Calls w ∷ ds) = (ds ≡ [] → HasEnd (deeds_at (kid k))) × Ready kid loose a (suc k) ds
-Ready kid loose a k (Invokes Spawns w ∷ ds) =
+Ready kid loose a k (Invokes Call w ∷ ds) = (ds ≡ [] → HasEnd (deeds_at (kid k))) × Ready kid loose a (suc k) ds
+Ready kid loose a k (Invokes Spawn w ∷ ds) =
     (ds ≡ [] → HasEnd (deeds_at (kid k)) ⊎ (loose k ≡ true)) × (a ≡ Sync → ¬ (HasSync ds) → HasEnd (deeds_at (kid k))) × Ready kid loose a (suc k) ds
 
 -- the strands begun: at the frame's begin, at each resume and at each sync
@@ -146,8 +148,8 @@ open_block k block (Does (Writes c v) ∷ ds) = open_block k block ds
 open_block k block (Does Syncs ∷ ds) = open_block k [] ds
 open_block k block (Does (Ends val gone) ∷ ds) = open_block k block ds
 open_block k block (Does (Passes m) ∷ ds) = open_block k block ds
-open_block k block (Invokes Calls w ∷ ds) = open_block (suc k) block ds
-open_block k block (Invokes Spawns w ∷ ds) = open_block (suc k) (block ++ k ∷ []) ds
+open_block k block (Invokes Call w ∷ ds) = open_block (suc k) block ds
+open_block k block (Invokes Spawn w ∷ ds) = open_block (suc k) (block ++ k ∷ []) ds
 
 -- the children of these ordinals, by name
 abbrev pub children : Name → List ℕ → List Name
@@ -165,22 +167,22 @@ joined_by (Pass m) n ds = []
 joined_by (Fail m) n ds = []
 
 -- The product of the pieces that lie at the block open at the end of the deeds, by ascending ordinal: those of its stolen children.
-abbrev pub block_view : {W V : Type 0} → Monoid V → (ℕ → V) → (ℕ → Bool) → V → ℕ → List (Deed W) → V
+abbrev pub block_view : {W V : Type 0} → MonoidStructure V → (ℕ → V) → (ℕ → Bool) → V → ℕ → List (Deed W) → V
 block_view M kid loose acc k [] = acc
 block_view M kid loose acc k (Does (Reads c v) ∷ ds) = block_view M kid loose acc k ds
 block_view M kid loose acc k (Does (Writes c v) ∷ ds) = block_view M kid loose acc k ds
 block_view M kid loose acc k (Does Syncs ∷ ds) = block_view M kid loose M.unit k ds
 block_view M kid loose acc k (Does (Ends val gone) ∷ ds) = block_view M kid loose acc k ds
 block_view M kid loose acc k (Does (Passes m) ∷ ds) = block_view M kid loose acc k ds
-block_view M kid loose acc k (Invokes Calls w ∷ ds) = block_view M kid loose acc (suc k) ds
-block_view M kid loose acc k (Invokes Spawns w ∷ ds) = block_view M kid loose (cond (loose k) (M.join acc (kid k)) acc) (suc k) ds
+block_view M kid loose acc k (Invokes Call w ∷ ds) = block_view M kid loose acc (suc k) ds
+block_view M kid loose acc k (Invokes Spawn w ∷ ds) = block_view M kid loose (cond (loose k) (M.combine acc (kid k)) acc) (suc k) ds
 
 -- A frame's view of one instance after its event, where the block's product and the last child's view and flag are these.
 -- A resume takes the child's piece, unless a thief has an empty one.
-abbrev pub own_view : {V : Type 0} → Monoid V → Instance → V → Bool → V → Event → V → V
+abbrev pub own_view : {V : Type 0} → MonoidStructure V → Instance → V → Bool → V → Event → V → V
 own_view M i block loose last (Reads c n) v = v
 own_view M i block loose last (Writes c n) v = v
-own_view M i block loose last Syncs v = M.join block v
+own_view M i block loose last Syncs v = M.combine block v
 own_view M i block loose last (Ends val gone) v = on_view M i (Ends val gone) v
 own_view M i block loose last (Passes Begins) v = v
 own_view M i block loose last (Passes Resumes) v = cond loose v last
@@ -195,12 +197,12 @@ abbrev pub with_view : {V : Type 0} → (Name → V) → Name → V → Name →
 with_view views n v m = cond (same_name n m) v (views m)
 
 -- one instance's views by name after one more deed of frame n. A child begins with its parent's piece.
-abbrev pub after_views : {W V : Type 0} → Monoid V → Instance → (Name → Bool) → Name → List (Deed W) → Deed W → (Name → V) → Name → V
+abbrev pub after_views : {W V : Type 0} → MonoidStructure V → Instance → (Name → Bool) → Name → List (Deed W) → Deed W → (Name → V) → Name → V
 after_views M i stolen n ds (Does e) views =
     with_view views n (own_view M i (block_view M (λ k. views (n ++ k ∷ [])) (λ k. stolen (n ++ k ∷ [])) M.unit 1 ds) (stolen (n ++ started ds ∷ [])) (views (n ++ started ds ∷ [])) e (views n))
 after_views M i stolen n ds (Invokes k w) views = with_view views (n ++ suc (started ds) ∷ []) (views n)
 
-module _ (W V : Type 0) (M : Instance → Monoid V) (Next : W → List (Deed W) → Ask W → Type 0) (C : Costs W) where
+module _ (W V : Type 0) (M : Instance → MonoidStructure V) (Next : W → List (Deed W) → Ask W → Type 0) (C : Costs W) where
   -- frame n isn't waiting, and asks this next
   pub record IsAsking (s : State W V) (n : Name) (frame : Frame W) (ask : Ask W) : Type 0 where
     pub here : s.frames n ≡ Some frame
@@ -227,7 +229,7 @@ module _ (W V : Type 0) (M : Instance → Monoid V) (Next : W → List (Deed W) 
     pub before : List (Deed W)
     pub what : W
     pub here : s.frames n ≡ Some frame
-    pub spawned : frame.deeds ≡ before ++ Invokes Spawns what ∷ []
+    pub spawned : frame.deeds ≡ before ++ Invokes Spawn what ∷ []
     pub not_yet : s.stolen (n ++ suc (started before) ∷ []) ≡ false
     pub frames : s'.frames ≡ s.frames
     pub memory : s'.memory ≡ s.memory

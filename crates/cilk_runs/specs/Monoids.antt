@@ -1,44 +1,36 @@
--- Monoids, and what a reducer's view is after an event.
-use Rattle.std.specs.Prelude.{◌≡◌, ℤ, cond}
+-- What a reducer's view is after an event.
+use Rattle.std.specs.Prelude.{ℤ, cond}
+use Rattle.cilk_monoid.specs.Laws.{MonoidStructure}
 use Rattle.cilk_runs.specs.Runs.{Instance, Output, same_instance, has_instance, Event, Reads, Writes, Syncs, Ends, Passes, Mark, Begins, Resumes, Creates, Updates, Sets, Values, Prints}
 
--- An absent view counts as the unit, so views are total here.
-pub record Monoid (V : Type 0) : Type 0 where
-  pub unit : V
-  pub join : V → V → V
-  pub single : ℤ → V
-  pub number : V → ℤ
-
--- the unit is neutral on both sides, and joining is associative
-pub record IsLawful {V : Type 0} (M : Monoid V) : Type 0 where
-  pub left : (v : V) → M.join M.unit v ≡ v
-  pub right : (v : V) → M.join v M.unit ≡ v
-  pub assoc : (a b c : V) → M.join (M.join a b) c ≡ M.join a (M.join b c)
+-- An absent view counts as the unit, so views are total here, and the laws of a monoid are asked of every value of its type.
+abbrev pub IsValue : {V : Type 0} → V → Type 0
+IsValue v = Unit {0}
 
 -- what a view gives as a number
-abbrev pub number_of : {V : Type 0} → Monoid V → V → ℤ
+abbrev pub number_of : {V : Type 0} → MonoidStructure V → V → ℤ
 number_of M v = M.number v
 
 -- the unit of an instance's monoid
-abbrev pub unit_of : {V : Type 0} → (Instance → Monoid V) → Instance → V
+abbrev pub unit_of : {V : Type 0} → (Instance → MonoidStructure V) → Instance → V
 unit_of M i = let m = M i in m.unit
 
 -- what each instance's view gives as a number
-abbrev pub numbers_of : {V : Type 0} → (Instance → Monoid V) → (Instance → V) → Instance → ℤ
+abbrev pub numbers_of : {V : Type 0} → (Instance → MonoidStructure V) → (Instance → V) → Instance → ℤ
 numbers_of M views i = number_of (M i) (views i)
 
 -- instance i's view after a reducer's event, where M is that instance's monoid
-abbrev pub mark_view : {V : Type 0} → Monoid V → Mark → Instance → V → V
+abbrev pub mark_view : {V : Type 0} → MonoidStructure V → Mark → Instance → V → V
 mark_view M Begins i v = v
 mark_view M Resumes i v = v
 mark_view M (Creates j) i v = cond (same_instance j i) M.unit v
-mark_view M (Updates j x) i v = cond (same_instance j i) (M.join v (M.single x)) v
+mark_view M (Updates j x) i v = cond (same_instance j i) (M.combine v (M.single x)) v
 mark_view M (Sets j x) i v = cond (same_instance j i) (M.single x) v
 mark_view M (Values j n) i v = v
-mark_view M (Prints x) i v = cond (same_instance Output i) (M.join v (M.single x)) v
+mark_view M (Prints x) i v = cond (same_instance Output i) (M.combine v (M.single x)) v
 
 -- Instance i's view after an event of the frame that holds the piece, where M is that instance's monoid.
-abbrev pub on_view : {V : Type 0} → Monoid V → Instance → Event → V → V
+abbrev pub on_view : {V : Type 0} → MonoidStructure V → Instance → Event → V → V
 on_view M i (Reads c n) v = v
 on_view M i (Writes c n) v = v
 on_view M i Syncs v = v

@@ -1,9 +1,13 @@
 -- A cut by positions of the serial run: which events are made, and that what is before them is made too.
-use Rattle.std.specs.Prelude.{◌≡◌, ℕ, suc, ◌<◌, Bool, true, false, List, [], ◌∷◌, ◌++◌, length, Some, slice_get}
-use Rattle.cilk_runs.specs.Runs.{Deed, Run, stop, act, child}
+use Rattle.std.specs.Prelude.{◌≡◌, ℕ, suc, ◌-◌, Bool, true, false, List, [], ◌∷◌, ◌++◌, length, Some, slice_get}
+use Rattle.cilk_types.specs.declared.event.Event.{Event}
+use Rattle.cilk_types.specs.declared.event.Instance as numbered
+use Rattle.cilk_tree.specs.Before.{IsPosition, IsBefore}
+use Rattle.cilk_tree.specs.Tree.{tree}
+use Rattle.cilk_runs.specs.Runs.{Cell, Instance, Deed, Run, stop, act, child}
 use Rattle.cilk_runs.specs.Machine.{Frames, deeds_at}
-use Rattle.cilk_runs.specs.Trees.{trace, tree, are_parallel}
-use Rattle.cilk_runs.specs.Cuts.{below}
+use Rattle.cilk_runs.specs.Traces.{trace, shape_of, begin_due, IsFramed, AreWritten}
+use Rattle.cilk_runs.specs.Cuts.{below, IsCut}
 
 -- no event of the run is made
 abbrev pub unmade : {W : Type 0} → Run W → List Bool
@@ -19,8 +23,16 @@ made_at (act e r) k (d ∷ ds) kids = true ∷ made_at r k ds kids
 made_at (child b w u r) k [] kids = false ∷ (unmade u ++ unmade r)
 made_at (child b w u r) k (d ∷ ds) kids = true ∷ (made_at u 1 (deeds_at (kids k [])) (below (kids k)) ++ made_at r (suc k) ds kids)
 
--- One event is before another where it comes first and isn't parallel to it. With an event made, each one before it is made.
-abbrev pub IsClosedBefore : {W : Type 0} → Run W → List Bool → Type 0
-IsClosedBefore t marks =
-    (length marks ≡ length (trace t))
-    × ((p q : ℕ) → p < q → are_parallel (tree t) p q ≡ false → slice_get marks q ≡ Some true → slice_get marks p ≡ Some true)
+-- the event at this position, from 1, is made
+abbrev pub IsMade : List Bool → ℕ → Type 0
+IsMade marks p = slice_get marks (p - 1) ≡ Some true
+
+-- with an event of the list made, each event that is before it is made
+pub record IsClosedBefore {W : Type 0} (t : Run W) (es : List Event) (marks : List Bool) : Type 0 where
+  pub whole : length marks ≡ length es
+  pub closed : (p q : ℕ) → IsPosition es p → IsPosition es q → IsBefore (tree (shape_of t)) es p q → IsMade marks q → IsMade marks p
+
+-- so it is in each cut, with any list of the run's events by numbers
+abbrev pub CutsAreClosed : (W : Type 0) → Type 0
+CutsAreClosed W = (cell : Cell → ℕ) (instance : Instance → numbered.Instance) (t : Run W) (es : List Event) (deeds : List (Deed W)) (kids : ℕ → Frames W)
+    → IsFramed begin_due t → AreWritten cell instance (trace t) es → IsCut t 1 deeds kids → IsClosedBefore t es (made_at t 1 deeds kids)

@@ -1,9 +1,11 @@
 -- The free machine makes its steps: frames that have nothing to wait for, thieves, and the stop at a fault.
 use Rattle.std.specs.Prelude.{◌≡◌, suc, ◌+◌, ◌≤◌, ◌<◌, ℤ, true, false, List, [], ◌∷◌, ◌++◌, Some, None}
 use Rattle.cilk_types.specs.declared.fault.Fault.{Fault}
-use Rattle.cilk_runs.specs.Runs.{Name, Cell, Instance, Kind, Spawns, Ask, Invoke, Sync, Fail, Event, Syncs, Ends, Deed, Does, Invokes, ask_of}
+use Rattle.cilk_types.specs.declared.invocation.Invocation.{Invocation}
+use Rattle.cilk_types.specs.declared.invocation.Invocation.TheVariants.{Spawn}
+use Rattle.cilk_runs.specs.Runs.{Name, Cell, Instance, Ask, Invoke, Sync, Fail, Event, Syncs, Ends, Deed, Does, Invokes, ask_of}
 use Rattle.cilk_runs.specs.Costs.{Costs, Total, TickTotal, cost}
-use Rattle.cilk_runs.specs.Monoids.{Monoid}
+use Rattle.cilk_monoid.specs.Laws.{MonoidStructure}
 use Rattle.cilk_runs.specs.Machine.{Frame, State, started, strand_of, begun, IsAsking, Makes, Steals, Stops, Step, IsOpening}
 
 -- the name of the child that frame n starts after these deeds
@@ -35,14 +37,14 @@ module _ (W V : Type 0) where
   pub data GoesOn (s : State W V) (n : Name) (deeds : List (Deed W)) : Type 0 where
     AtBegin : deeds ≡ [] → GoesOn s n deeds
     AfterEvent : (before : List (Deed W)) → (event : Event) → deeds ≡ before ++ Does event ∷ [] → GoesOn s n deeds
-    AfterChild : (before : List (Deed W)) → (kind : Kind) → (what : W) → deeds ≡ before ++ Invokes kind what ∷ [] → HasEnded s (child_after n before) → GoesOn s n deeds
-    AfterSteal : (before : List (Deed W)) → (what : W) → deeds ≡ before ++ Invokes Spawns what ∷ [] → s.stolen (child_after n before) ≡ true → GoesOn s n deeds
+    AfterChild : (before : List (Deed W)) → (kind : Invocation) → (what : W) → deeds ≡ before ++ Invokes kind what ∷ [] → HasEnded s (child_after n before) → GoesOn s n deeds
+    AfterSteal : (before : List (Deed W)) → (what : W) → deeds ≡ before ++ Invokes Spawn what ∷ [] → s.stolen (child_after n before) ≡ true → GoesOn s n deeds
 
   -- each child that frame n, with these deeds, spawned and has made no sync since, has ended
   abbrev pub BlockHasEnded : State W V → Name → List (Deed W) → Type 0
-  BlockHasEnded s n deeds = (before after : List (Deed W)) (what : W) → deeds ≡ before ++ Invokes Spawns what ∷ after → HasNoSync after → HasEnded s (child_after n before)
+  BlockHasEnded s n deeds = (before after : List (Deed W)) (what : W) → deeds ≡ before ++ Invokes Spawn what ∷ after → HasNoSync after → HasEnded s (child_after n before)
 
-module _ (W V : Type 0) (M : Instance → Monoid V) (Next : W → List (Deed W) → Ask W → Type 0) (C : Costs W) where
+module _ (W V : Type 0) (M : Instance → MonoidStructure V) (Next : W → List (Deed W) → Ask W → Type 0) (C : Costs W) where
   -- frame n is there, asks this next, and has nothing to wait for
   pub record MayAsk (s : State W V) (n : Name) (frame : Frame W) (ask : Ask W) : Type 0 where
     pub here : s.frames n ≡ Some frame
@@ -58,7 +60,7 @@ module _ (W V : Type 0) (M : Instance → Monoid V) (Next : W → List (Deed W) 
     pub deed : Deed W
     pub answers : Answers deed ask
     pub longer : after.frames n ≡ Some (record frame { deeds = frame.deeds ++ deed ∷ [] })
-    pub child : (k : Kind) (w : W) → ask ≡ Invoke k w → after.frames (child_after n frame.deeds) ≡ Some (begun w)
+    pub child : (k : Invocation) (w : W) → ask ≡ Invoke k w → after.frames (child_after n frame.deeds) ≡ Some (begun w)
 
   -- there is a step by which frame n stops the run with this fault
   pub record HasStop (s : State W V) (n : Name) (frame : Frame W) (fault : Fault) : Type 0 where
@@ -84,6 +86,6 @@ module _ (W V : Type 0) (M : Instance → Monoid V) (Next : W → List (Deed W) 
     -- and so does a total over its limit
     pub exceeds : (s : State W V) (n : Name) (frame : Frame W) (ask : Ask W) (total : Total) → s.stopped ≡ None → MayAsk s n frame ask → C.limit total < s.totals total + cost C total frame.what frame.deeds ask → (f : Fault) × HasStop s n frame f
     -- a continuation that was neither resumed nor stolen can be stolen, whether the child has ended or not
-    pub steals : (s : State W V) (n : Name) (frame : Frame W) (before : List (Deed W)) (what : W) → s.stopped ≡ None → s.frames n ≡ Some frame → frame.deeds ≡ before ++ Invokes Spawns what ∷ [] → s.stolen (child_after n before) ≡ false → HasThief s n (child_after n before)
+    pub steals : (s : State W V) (n : Name) (frame : Frame W) (before : List (Deed W)) (what : W) → s.stopped ≡ None → s.frames n ≡ Some frame → frame.deeds ≡ before ++ Invokes Spawn what ∷ [] → s.stolen (child_after n before) ≡ false → HasThief s n (child_after n before)
     -- a frame waits in no other case
     pub exact : (s : State W V) (n : Name) (frame : Frame W) (ask : Ask W) → IsAsking W V M Next C s n frame ask → MayAsk s n frame ask

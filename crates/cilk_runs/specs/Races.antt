@@ -1,6 +1,8 @@
 -- Determinacy races of a run (Feng and Leiserson 1997).
 use Rattle.std.specs.Prelude.{◌≡◌, ◌⊎◌}
-use Rattle.cilk_runs.specs.Runs.{Cell, Kind, Calls, Spawns, Event, Reads, Writes, Syncs, Ends, Passes, Run, stop, act, child}
+use Rattle.cilk_types.specs.declared.invocation.Invocation.{Invocation}
+use Rattle.cilk_types.specs.declared.invocation.Invocation.TheVariants.{Call, Spawn}
+use Rattle.cilk_runs.specs.Runs.{Cell, Event, Reads, Writes, Syncs, Ends, Passes, Run, stop, act, child}
 
 -- a read or a write of the cell
 abbrev pub IsAccess : Event → Cell → Type 0
@@ -47,9 +49,9 @@ Apart u r =
     × (HasEventWith (λ e. IsWrite e c) u → HasInBlockWith (λ e. IsAccess e c) r → ⊥)
 
 -- a called child runs in parallel with nothing of its parent
-abbrev pub ApartIf : {W : Type 0} → Kind → Run W → Run W → Type 0
-ApartIf Calls u r = Unit {0}
-ApartIf Spawns u r = Apart u r
+abbrev pub ApartIf : {W : Type 0} → Invocation → Run W → Run W → Type 0
+ApartIf Call u r = Unit {0}
+ApartIf Spawn u r = Apart u r
 
 -- no two parallel parts of the run race
 abbrev pub RaceFree : {W : Type 0} → Run W → Type 0

@@ -1,6 +1,8 @@
 -- The serial run.
 use Rattle.std.specs.Prelude.{◌≡◌, ℤ, List, [], ◌∷◌, ◌++◌, ℕ, suc, cond, nat_eq, Option, Some, None}
-use Rattle.cilk_runs.specs.Runs.{Cell, Kind, Calls, Spawns, Ask, Invoke, Event, Reads, Writes, Syncs, Ends, Passes, Deed, Does, Invokes, Run, stop, act, child, ask_of, Name}
+use Rattle.cilk_types.specs.declared.invocation.Invocation.{Invocation}
+use Rattle.cilk_types.specs.declared.invocation.Invocation.TheVariants.{Call, Spawn}
+use Rattle.cilk_runs.specs.Runs.{Cell, Ask, Invoke, Event, Reads, Writes, Syncs, Ends, Passes, Deed, Does, Invokes, Run, stop, act, child, ask_of, Name}
 use Rattle.cilk_runs.specs.Machine.{put}
 
 -- what the frame itself does in the run
@@ -58,9 +60,9 @@ GoesOn (act e r) = Unit {0}
 GoesOn (child k w u r) = Unit {0}
 
 -- what must come after a call, and after a spawn
-abbrev pub ComesAfter : {W : Type 0} → Kind → Run W → Type 0
-ComesAfter Calls r = GoesOn r
-ComesAfter Spawns r = SyncAhead r
+abbrev pub ComesAfter : {W : Type 0} → Invocation → Run W → Type 0
+ComesAfter Call r = GoesOn r
+ComesAfter Spawn r = SyncAhead r
 
 -- the end comes last, a call is followed by an event and a spawn by a sync
 abbrev pub IsClosed : {W : Type 0} → Run W → Type 0

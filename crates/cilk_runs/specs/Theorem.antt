@@ -1,25 +1,29 @@
 -- The theorem: a program whose serial run has no race is determinate.
-use Rattle.std.specs.Prelude.{◌≡◌, ◌+◌, ◌≤◌, ◌<◌, ℤ, false, List, [], Option, Some}
+use Rattle.std.specs.Prelude.{◌≡◌, ℕ, ◌+◌, ◌≤◌, ◌<◌, ℤ, List, [], Option, Some}
+use Rattle.cilk_types.specs.declared.event.Event as numbers
+use Rattle.cilk_types.specs.declared.event.Instance as numbered
+use Rattle.cilk_peers.specs.RaceFree.{IsRaceFree}
 use Rattle.cilk_runs.specs.Runs.{Name, Cell, Instance, Ask, Deed, Run}
 use Rattle.cilk_runs.specs.Machine.{Frame, State, deeds_at, HasEnd, IsAsking, Step, Steps, IsOpening}
 use Rattle.cilk_runs.specs.Costs.{Costs, Total, EventTotal, cost, whole}
-use Rattle.cilk_runs.specs.Monoids.{Monoid, unit_of}
-use Rattle.cilk_runs.specs.Views.{view_after, IsSerialViews, IsResumed, IsCreated, IsRetiredAtHome}
-use Rattle.cilk_runs.specs.Trees.{tree, HasChildren, HasNoRace, HasNoViewRace}
+use Rattle.cilk_monoid.specs.Laws.{MonoidStructure}
+use Rattle.cilk_runs.specs.Monoids.{unit_of}
+use Rattle.cilk_runs.specs.Views.{view_after, IsSerialViews, IsCreated, IsRetiredAtHome}
+use Rattle.cilk_runs.specs.Traces.{trace, begin_due, IsFramed, AreWritten}
 use Rattle.cilk_runs.specs.Serial.{own_deeds, value_after, IsSerial, IsClosed, Behaves}
 use Rattle.cilk_runs.specs.Cuts.{BeginsSerially, times, spawned, below, IsFull, IsConsistent}
 
-module _ (W V : Type 0) (M : Instance → Monoid V) (Next : W → List (Deed W) → Ask W → Type 0) (C : Costs W) where
+module _ (W V : Type 0) (M : Instance → MonoidStructure V) (Next : W → List (Deed W) → Ask W → Type 0) (C : Costs W) where
   -- t is the serial run of a program that begins as w, with these opening values
   pub record IsSerialRun (w : W) (t : Run W) (opening : Cell → ℤ) : Type 0 where
     pub behaves : Behaves W Next w [] t
+    -- each frame begins, resumes and ends where it must, and syncs after it spawned
+    pub framed : IsFramed begin_due t
     pub closed : IsClosed t
-    pub resumed : IsResumed false t
     pub serial : IsSerial t opening
     pub views : IsSerialViews M t (unit_of M)
     pub created : (i : Instance) → IsCreated i t
     pub retired : (i : Instance) → IsRetiredAtHome i t ⊥
-    pub inhabited : HasChildren (tree t)
     pub within : (total : Total) → whole C w t total ≤ C.limit total
 
   -- what holds of a consistent cut, and so of each state that steps lead to
@@ -56,9 +60,13 @@ module _ (W V : Type 0) (M : Instance → Monoid V) (Next : W → List (Deed W) 
   abbrev pub IsDeterminate : W → Run W → (Cell → ℤ) → Type 0
   IsDeterminate w t opening = (ns : List Name) (s s' : State W V) → IsOpening W V M Next C w opening s → Steps W V M Next C ns s s' → Agrees w t opening s'
 
--- neither race, over all pairs of positions of the serial run
-abbrev pub HasNoRaces : {W : Type 0} → Run W → Type 0
-HasNoRaces t = HasNoRace t × ((i : Instance) → HasNoViewRace i t)
+-- A list of the run's events has no race, whatever numbers cells and reducers have in it. Where two had one number it would only have more races.
+pub record HasNoRaces {W : Type 0} (t : Run W) : Type 0 where
+  pub cell : Cell → ℕ
+  pub instance : Instance → numbered.Instance
+  pub events : List numbers.Event
+  pub written : AreWritten cell instance (trace t) events
+  pub free : IsRaceFree events
 
 -- a behaviour given as a function of what the frame has done
 abbrev pub follows : {W : Type 0} → (W → List (Deed W) → Option (Ask W)) → W → List (Deed W) → Ask W → Type 0

@@ -1,17 +1,20 @@
 -- View-read races of a run (Lee and Schardl 2015), and the serial run's views.
 use Rattle.std.specs.Prelude.{◌≡◌, Bool, true, false, ◌⊎◌}
-use Rattle.cilk_runs.specs.Runs.{Instance, Output, has_instance, Kind, Calls, Spawns, Event, Reads, Writes, Syncs, Ends, Passes, Mark, Begins, Resumes, Creates, Updates, Sets, Values, Prints, Run, stop, act, child}
-use Rattle.cilk_runs.specs.Monoids.{Monoid, numbers_of, on_view}
+use Rattle.cilk_types.specs.declared.invocation.Invocation.{Invocation}
+use Rattle.cilk_types.specs.declared.invocation.Invocation.TheVariants.{Call, Spawn}
+use Rattle.cilk_runs.specs.Runs.{Instance, Output, has_instance, Event, Reads, Writes, Syncs, Ends, Passes, Mark, Begins, Resumes, Creates, Updates, Sets, Values, Prints, Run, stop, act, child}
+use Rattle.cilk_monoid.specs.Laws.{MonoidStructure}
+use Rattle.cilk_runs.specs.Monoids.{numbers_of, on_view}
 use Rattle.cilk_runs.specs.Races.{HasEventWith, HasInBlockWith}
 
 -- instance i's view after the run, from its view before
-abbrev pub view_after : {W V : Type 0} → Monoid V → Instance → Run W → V → V
+abbrev pub view_after : {W V : Type 0} → MonoidStructure V → Instance → Run W → V → V
 view_after M i stop x = x
 view_after M i (act e r) x = view_after M i r (on_view M i e x)
 view_after M i (child k w u r) x = view_after M i r (view_after M i u x)
 
 -- a value is the number of the view
-abbrev pub IsValueRight : {V : Type 0} → (Instance → Monoid V) → Mark → (Instance → V) → Type 0
+abbrev pub IsValueRight : {V : Type 0} → (Instance → MonoidStructure V) → Mark → (Instance → V) → Type 0
 IsValueRight M Begins views = Unit {0}
 IsValueRight M Resumes views = Unit {0}
 IsValueRight M (Updates i x) views = Unit {0}
@@ -21,7 +24,7 @@ IsValueRight M (Values i n) views = n ≡ numbers_of M views i
 IsValueRight M (Prints x) views = Unit {0}
 
 -- the same for each event
-abbrev pub IsViewRight : {V : Type 0} → (Instance → Monoid V) → Event → (Instance → V) → Type 0
+abbrev pub IsViewRight : {V : Type 0} → (Instance → MonoidStructure V) → Event → (Instance → V) → Type 0
 IsViewRight M (Reads c v) views = Unit {0}
 IsViewRight M (Writes c v) views = Unit {0}
 IsViewRight M Syncs views = Unit {0}
@@ -29,7 +32,7 @@ IsViewRight M (Ends val gone) views = Unit {0}
 IsViewRight M (Passes m) views = IsValueRight M m views
 
 -- each value is the number of the serial view
-abbrev pub IsSerialViews : {W V : Type 0} → (Instance → Monoid V) → Run W → (Instance → V) → Type 0
+abbrev pub IsSerialViews : {W V : Type 0} → (Instance → MonoidStructure V) → Run W → (Instance → V) → Type 0
 IsSerialViews M stop views = Unit {0}
 IsSerialViews M (act e r) views = IsViewRight M e views × IsSerialViews M r (λ i. on_view (M i) i e (views i))
 IsSerialViews M (child k w u r) views = IsSerialViews M u views × IsSerialViews M r (λ i. view_after (M i) i u (views i))
@@ -93,12 +96,12 @@ IsRetiredAtHome i (act e r) mine = (IsRetire i e → mine) × IsRetiredAtHome i 
 IsRetiredAtHome i (child k w u r) mine = IsRetiredAtHome i u ⊥ × IsRetiredAtHome i r mine
 
 -- What a thief finds at a stolen continuation: either the serial view is the unit there, or the rest of the block doesn't read or retire it.
-abbrev pub ViewApart : {W V : Type 0} → Monoid V → Instance → Kind → V → Run W → Type 0
-ViewApart M i Calls v r = Unit {0}
-ViewApart M i Spawns v r = (v ≡ M.unit) ⊎ (¬ (HasInBlockWith (IsTouch i) r))
+abbrev pub ViewApart : {W V : Type 0} → MonoidStructure V → Instance → Invocation → V → Run W → Type 0
+ViewApart M i Call v r = Unit {0}
+ViewApart M i Spawn v r = (v ≡ M.unit) ⊎ (¬ (HasInBlockWith (IsTouch i) r))
 
 -- so it is at each continuation of the run, whose view begins as x
-abbrev pub ViewFree : {W V : Type 0} → Monoid V → Instance → Run W → V → Type 0
+abbrev pub ViewFree : {W V : Type 0} → MonoidStructure V → Instance → Run W → V → Type 0
 ViewFree M i stop x = Unit {0}
 ViewFree M i (act e r) x = ViewFree M i r (on_view M i e x)
 ViewFree M i (child k w u r) x = ViewApart M i k (view_after M i u x) r × ViewFree M i u x × ViewFree M i r (view_after M i u x)
@@ -155,9 +158,9 @@ abbrev pub IsCreated : {W : Type 0} → Instance → Run W → Type 0
 IsCreated i t = IsCreatedFirst i t ⊥ ⊎ (¬ (HasEventWith (IsReducerRead i) t))
 
 -- beside a spawned child nothing is read that was read before
-abbrev pub ReadRule : {W : Type 0} → Instance → Kind → Type 0 → Run W → Type 0
-ReadRule i Calls seen r = Unit {0}
-ReadRule i Spawns seen r = seen → HasInBlockWith (IsReducerRead i) r → ⊥
+abbrev pub ReadRule : {W : Type 0} → Instance → Invocation → Type 0 → Run W → Type 0
+ReadRule i Call seen r = Unit {0}
+ReadRule i Spawn seen r = seen → HasInBlockWith (IsReducerRead i) r → ⊥
 
 -- what was read before a continuation isn't read in it until the sync
 abbrev pub IsReadApart : {W : Type 0} → Instance → Run W → Type 0 → Type 0

@@ -1,10 +1,17 @@
--- Worked programs as nested runs. What a frame is started as is a number here.
+-- Worked programs as nested runs, with the lists of their events. What a frame is started as is a number here.
 use Rattle.std.specs.Prelude.{◌≡◌, ℕ, zero, suc, ℤ, pos, ◌+ℤ◌, cond, List, [], ◌∷◌, length, Option, slice_get}
+use Rattle.cilk_types.specs.declared.event.Event as numbers
+use Rattle.cilk_types.specs.declared.event.Event.TheVariants as events
+use Rattle.cilk_types.specs.declared.event.Instance as numbered
 use Rattle.cilk_monoid.specs.declared.kind.MonoidKind.TheVariants.{Add}
-use Rattle.cilk_runs.specs.Runs.{Cell, Global, Own, same_cell, Instance, Reducer, Spawns, Ask, Read, Write, Invoke, Sync, End, Pass, Begin, Resume, Event, Reads, Writes, Syncs, Ends, Passes, Begins, Resumes, Creates, Updates, Values, Deed, Run, stop, act, child}
+use Rattle.cilk_types.specs.declared.invocation.Invocation.TheVariants.{Spawn}
+use Rattle.cilk_tree.specs.Tree.{tree}
+use Rattle.cilk_tree.specs.Races.{IsRace, HasNoRace}
+use Rattle.cilk_peers.specs.ViewRaces.{IsViewRace}
+use Rattle.cilk_runs.specs.Runs.{Cell, Global, Own, same_cell, Instance, Reducer, Ask, Read, Write, Invoke, Sync, End, Pass, Begin, Resume, Event, Reads, Writes, Syncs, Ends, Passes, Begins, Resumes, Creates, Updates, Values, Deed, Run, stop, act, child}
 use Rattle.cilk_runs.specs.Costs.{Costs, Total, TickTotal, EventTotal, FrameTotal, CellTotal}
-use Rattle.cilk_runs.specs.Monoids.{Monoid}
-use Rattle.cilk_runs.specs.Trees.{trace, races, HasNoViewRace}
+use Rattle.cilk_monoid.specs.Laws.{MonoidStructure}
+use Rattle.cilk_runs.specs.Traces.{trace, shape_of, AreWritten}
 use Rattle.cilk_runs.specs.Theorem.{IsSerialRun, HasNoRaces, IsDeterminate, follows}
 
 -- a frame begins
@@ -19,46 +26,85 @@ resume = Passes Resumes
 abbrev pub end : Event
 end = Ends (pos 0) []
 
+-- the one global is cell 0, and the root's variables follow
+abbrev pub cell_number : Cell → ℕ
+cell_number (Global n) = n
+cell_number (Own frame n) = suc n
+
+-- each program has one reducer at most
+abbrev pub instance_number : Instance → numbered.Instance
+instance_number i = record { frame = 1; place = 1 }
+
+-- the list is the run's by these numbers
+abbrev pub Lists : Run ℕ → List numbers.Event → Type 0
+Lists t es = AreWritten cell_number instance_number (trace t) es
+
 -- x = cilk_spawn one(); y = x;
 abbrev pub early_read : Run ℕ
 early_read =
     act begin (act (Writes (Own [] 0) (pos 0)) (act (Writes (Own [] 1) (pos 0))
-    (child Spawns 1 (act begin (act Syncs (act (Writes (Own [] 0) (pos 1)) (act end stop))))
+    (child Spawn 1 (act begin (act Syncs (act (Writes (Own [] 0) (pos 1)) (act end stop))))
     (act resume (act (Reads (Own [] 0) (pos 1)) (act (Writes (Own [] 1) (pos 1)) (act Syncs (act (Reads (Own [] 1) (pos 1)) (act Syncs (act end stop))))))))))
+
+abbrev pub early_read_events : List numbers.Event
+early_read_events =
+    events.Begin 1 ∷ events.Write 1 (pos 0) ∷ events.Write 2 (pos 0) ∷ events.Spawn 2
+    ∷ events.Begin 2 ∷ events.Sync ∷ events.Write 1 (pos 1) ∷ events.End
+    ∷ events.Resume 1 ∷ events.Read 1 (pos 1) ∷ events.Write 2 (pos 1) ∷ events.Sync ∷ events.Read 2 (pos 1) ∷ events.Sync ∷ events.End ∷ []
+
+-- the positions p and q race, and no others do
+pub record RaceOnlyAt (t : Run ℕ) (es : List numbers.Event) (p q : ℕ) : Type 0 where
+  pub lists : Lists t es
+  pub race : IsRace (tree (shape_of t)) es p q
+  pub only : (p' q' : ℕ) → IsRace (tree (shape_of t)) es p' q' → (p' ≡ p) × (q' ≡ q)
 
 -- the child's result is written while the parent reads it
 abbrev pub EarlyReadRaces : Type 0
-EarlyReadRaces = (length (trace early_read) ≡ 15) × (races early_read ≡ (7, 10) ∷ [])
+EarlyReadRaces = (length early_read_events ≡ 15) × RaceOnlyAt early_read early_read_events 7 10
 
 -- two spawned children that read one global, with their results in two variables
 abbrev pub both_read : Run ℕ
 both_read =
     act begin (act (Writes (Own [] 0) (pos 0)) (act (Writes (Own [] 1) (pos 0))
-    (child Spawns 1 (act begin (act (Reads (Global 0) (pos 7)) (act Syncs (act (Writes (Own [] 0) (pos 7)) (act end stop)))))
+    (child Spawn 1 (act begin (act (Reads (Global 0) (pos 7)) (act Syncs (act (Writes (Own [] 0) (pos 7)) (act end stop)))))
     (act resume
-    (child Spawns 2 (act begin (act (Reads (Global 0) (pos 7)) (act Syncs (act (Writes (Own [] 1) (pos 7)) (act end stop)))))
+    (child Spawn 2 (act begin (act (Reads (Global 0) (pos 7)) (act Syncs (act (Writes (Own [] 1) (pos 7)) (act end stop)))))
     (act resume (act Syncs (act (Reads (Own [] 0) (pos 7)) (act (Reads (Own [] 1) (pos 7)) (act Syncs (act end stop)))))))))))
+
+abbrev pub both_read_events : List numbers.Event
+both_read_events =
+    events.Begin 1 ∷ events.Write 1 (pos 0) ∷ events.Write 2 (pos 0) ∷ events.Spawn 2
+    ∷ events.Begin 2 ∷ events.Read 0 (pos 7) ∷ events.Sync ∷ events.Write 1 (pos 7) ∷ events.End
+    ∷ events.Resume 1 ∷ events.Spawn 3
+    ∷ events.Begin 3 ∷ events.Read 0 (pos 7) ∷ events.Sync ∷ events.Write 2 (pos 7) ∷ events.End
+    ∷ events.Resume 1 ∷ events.Sync ∷ events.Read 1 (pos 7) ∷ events.Read 2 (pos 7) ∷ events.Sync ∷ events.End ∷ []
 
 -- two reads do not race, and each result has a variable of its own
 abbrev pub TwoReadsDoNotRace : Type 0
-TwoReadsDoNotRace = races both_read ≡ []
+TwoReadsDoNotRace = Lists both_read both_read_events × HasNoRace (tree (shape_of both_read)) both_read_events
 
 -- two spawned children that write one global
 abbrev pub two_writes : Run ℕ
 two_writes =
     act begin
-    (child Spawns 1 (act begin (act (Writes (Global 0) (pos 1)) (act Syncs (act end stop))))
+    (child Spawn 1 (act begin (act (Writes (Global 0) (pos 1)) (act Syncs (act end stop))))
     (act resume
-    (child Spawns 1 (act begin (act (Writes (Global 0) (pos 1)) (act Syncs (act end stop))))
+    (child Spawn 1 (act begin (act (Writes (Global 0) (pos 1)) (act Syncs (act end stop))))
     (act resume (act Syncs (act (Reads (Global 0) (pos 1)) (act Syncs (act end stop))))))))
+
+abbrev pub two_writes_events : List numbers.Event
+two_writes_events =
+    events.Begin 1 ∷ events.Spawn 2 ∷ events.Begin 2 ∷ events.Write 0 (pos 1) ∷ events.Sync ∷ events.End
+    ∷ events.Resume 1 ∷ events.Spawn 3 ∷ events.Begin 3 ∷ events.Write 0 (pos 1) ∷ events.Sync ∷ events.End
+    ∷ events.Resume 1 ∷ events.Sync ∷ events.Read 0 (pos 1) ∷ events.Sync ∷ events.End ∷ []
 
 -- the writes, at positions 4 and 10, race
 abbrev pub TwoWritesRace : Type 0
-TwoWritesRace = races two_writes ≡ (4, 10) ∷ []
+TwoWritesRace = RaceOnlyAt two_writes two_writes_events 4 10
 
 -- What the root and its two children ask, one after the other, whatever is answered.
 abbrev pub script : ℕ → List (Ask ℕ)
-script zero = Pass Begin ∷ Write (Own [] 0) (pos 0) ∷ Write (Own [] 1) (pos 0) ∷ Invoke Spawns 1 ∷ Pass Resume ∷ Invoke Spawns 2 ∷ Pass Resume ∷ Sync ∷ Read (Own [] 0) ∷ Read (Own [] 1) ∷ Sync ∷ End (pos 0) [] ∷ []
+script zero = Pass Begin ∷ Write (Own [] 0) (pos 0) ∷ Write (Own [] 1) (pos 0) ∷ Invoke Spawn 1 ∷ Pass Resume ∷ Invoke Spawn 2 ∷ Pass Resume ∷ Sync ∷ Read (Own [] 0) ∷ Read (Own [] 1) ∷ Sync ∷ End (pos 0) [] ∷ []
 script (suc zero) = Pass Begin ∷ Read (Global 0) ∷ Sync ∷ Write (Own [] 0) (pos 7) ∷ End (pos 0) [] ∷ []
 script (suc (suc n)) = Pass Begin ∷ Read (Global 0) ∷ Sync ∷ Write (Own [] 1) (pos 7) ∷ End (pos 0) [] ∷ []
 
@@ -67,8 +113,8 @@ abbrev pub asked : ℕ → List (Deed ℕ) → Option (Ask ℕ)
 asked w past = slice_get (script w) (length past)
 
 -- each reducer is a sum
-abbrev pub sum : Instance → Monoid ℤ
-sum i = record { unit = pos 0; join = λ a b. a +ℤ b; single = λ a. a; number = λ a. a }
+abbrev pub sum : Instance → MonoidStructure ℤ
+sum i = record { unit = pos 0; combine = λ a b. a +ℤ b; single = λ a. a; number = λ a. a; size = λ a. 0 }
 
 -- the global holds 7, the variables 0
 abbrev pub opening : Cell → ℤ
@@ -108,9 +154,16 @@ reducer = Reducer [] 1 Add
 abbrev pub early_value : Run ℕ
 early_value =
     act begin (act (Passes (Creates reducer)) (act (Writes (Own [] 0) (pos 0))
-    (child Spawns 1 (act begin (act (Passes (Updates reducer (pos 1))) (act Syncs (act end stop))))
+    (child Spawn 1 (act begin (act (Passes (Updates reducer (pos 1))) (act Syncs (act end stop))))
     (act resume (act (Passes (Values reducer (pos 1))) (act (Writes (Own [] 0) (pos 1)) (act Syncs (act (Reads (Own [] 0) (pos 1)) (act Syncs (act end stop))))))))))
+
+abbrev pub early_value_events : List numbers.Event
+early_value_events =
+    let r = instance_number reducer in
+    events.Begin 1 ∷ events.Create r ∷ events.Write 1 (pos 0) ∷ events.Spawn 2
+    ∷ events.Begin 2 ∷ events.Update r (pos 1) ∷ events.Sync ∷ events.End
+    ∷ events.Resume 1 ∷ events.Value r (pos 1) ∷ events.Write 1 (pos 1) ∷ events.Sync ∷ events.Read 1 (pos 1) ∷ events.Sync ∷ events.End ∷ []
 
 -- the value, at position 10, runs in parallel with the child, and the creation, at position 2, doesn't
 abbrev pub EarlyValueRaces : Type 0
-EarlyValueRaces = ¬ (HasNoViewRace reducer early_value)
+EarlyValueRaces = Lists early_value early_value_events × IsViewRace (tree (shape_of early_value)) early_value_events 2 10

@@ -14,7 +14,9 @@
 //!   this machine.
 //! * A **determinacy race** is two accesses of one cell, one of them a write, in strands that are parallel in the tree of
 //!   the serial run (Feng, Leiserson 1997). A **view-read race** is two reads of one reducer (its creation, a set, a value)
-//!   in strands with different peers (Lee, Schardl 2015). Both are stated over all pairs of positions (`specs/Trees`).
+//!   in strands with different peers (Lee, Schardl 2015). Both are those of `cilk_tree` and `cilk_peers`, over all pairs of positions
+//!   of a list of the run's events: the races that a detector of such a list finds. In the list each cell and reducer has a number,
+//!   whichever (`specs/Traces`, `HasNoRaces` in `specs/Theorem`).
 //!
 //! The theorem, on [`laws::determinate`]: where the serial run of a program has neither race, then after every list of steps of
 //! the free machine the state is a consistent cut of that serial run (`specs/Cuts`). Each frame has made a beginning of
@@ -34,9 +36,8 @@
 //! | Field | Where it comes from |
 //! |---|---|
 //! | `behaves`, `serial`, `views` | the serial run's own definition: asks, reads and values |
-//! | `closed`, `resumed` | the shape of a frame: its end comes last, a sync after each spawn, a resume after each child |
+//! | `framed`, `closed` | the shape of a frame: its begin comes first, a resume after each child, its end last; a sync after each spawn |
 //! | `created`, `retired` | a frame creates its reducers before it uses them, and its end retires those and no others |
-//! | `inhabited` | each child makes an event |
 //! | `within` | the serial run keeps the limits |
 #![tactic(auto)]
 

@@ -10,7 +10,7 @@ use Rattle.std.proofs.Math.Seq.{take-suc}
 use Rattle.std.proofs.lemmas.Map.Text.{hash_map_updates_str}
 use Rattle.std.specs.HashMap as hash
 use Rattle.std.specs.HashMap.{HashMap}
-use Rattle.cilk_scopes.specs.declared.table.Entry.{Entry}
+use Rattle.cilk_scopes.specs.declared.table.Binding.{Binding}
 use Rattle.cilk_scopes.specs.Names.{Scope, found_in, with_entry}
 use Rattle.cilk_scopes.specs.Tables.{scope_of}
 
@@ -36,7 +36,7 @@ pub take_more : {A : Type 0} (list : List A) (i : ℕ) (x : A) → i < length li
 take_more list i x h e = rw add-one (take-suc list i x h ∙ ap (λ y. take i list ++ y ∷ []) (sym e))
 
 -- one more of a stack of maps
-found_next : {S : Type 0} (ms : List (HashMap (Bor (List ℕ)) Entry S)) (n : ℕ) (m : HashMap (Bor (List ℕ)) Entry S) (q : List ℕ)
+found_next : {S : Type 0} (ms : List (HashMap (Bor (List ℕ)) Binding S)) (n : ℕ) (m : HashMap (Bor (List ℕ)) Binding S) (q : List ℕ)
     → n < length ms → m ≡ get_or ms n m
     → found_in (map scope_of (take (n + 1) ms)) q ≡ option_or (scope_of m q) (found_in (map scope_of (take n ms)) q)
 found_next ms n m q h e =
@@ -45,7 +45,7 @@ found_next ms n m q h e =
     ∙ found_last (map scope_of (take n ms)) (scope_of m) q
 
 -- the last of the first so many
-found_here : {S : Type 0} (ms : List (HashMap (Bor (List ℕ)) Entry S)) (d : ℕ) (m : HashMap (Bor (List ℕ)) Entry S) (q : List ℕ)
+found_here : {S : Type 0} (ms : List (HashMap (Bor (List ℕ)) Binding S)) (d : ℕ) (m : HashMap (Bor (List ℕ)) Binding S) (q : List ℕ)
     → 0 < d → d ≤ length ms → m ≡ get_or ms (d - 1) m
     → found_in (map scope_of (take d ms)) q ≡ option_or (scope_of m q) (found_in (map scope_of (take (d - 1) ms)) q)
 found_here ms d m q p h e =
@@ -54,14 +54,14 @@ found_here ms d m q p h e =
     ap (λ n. found_in (map scope_of (take n ms)) q) same ∙ found_next ms (d - 1) m q lt e
 
 -- it knows the name
-pub found_some : {S : Type 0} (ms : List (HashMap (Bor (List ℕ)) Entry S)) (d : ℕ) (m : HashMap (Bor (List ℕ)) Entry S) (q : List ℕ) (o : Option Entry) (e : Entry)
+pub found_some : {S : Type 0} (ms : List (HashMap (Bor (List ℕ)) Binding S)) (d : ℕ) (m : HashMap (Bor (List ℕ)) Binding S) (q : List ℕ) (o : Option Binding) (e : Binding)
     → 0 < d → d ≤ length ms → m ≡ get_or ms (d - 1) m → o ≡ None → Some e ≡ scope_of m q
     → found_in (map scope_of ms) q ≡ found_in (map scope_of (take d ms)) q → Some e ≡ option_or o (found_in (map scope_of ms) q)
 found_some ms d m q o e p h k n f r =
     sym (ap (λ x. option_or x (found_in (map scope_of ms) q)) n ∙ r ∙ found_here ms d m q p h k ∙ ap (λ x. option_or x (found_in (map scope_of (take (d - 1) ms)) q)) (sym f))
 
 -- it doesn't
-pub found_none : {S : Type 0} (ms : List (HashMap (Bor (List ℕ)) Entry S)) (d : ℕ) (m : HashMap (Bor (List ℕ)) Entry S) (q : List ℕ)
+pub found_none : {S : Type 0} (ms : List (HashMap (Bor (List ℕ)) Binding S)) (d : ℕ) (m : HashMap (Bor (List ℕ)) Binding S) (q : List ℕ)
     → 0 < d → d ≤ length ms → m ≡ get_or ms (d - 1) m → scope_of m q ≡ None
     → found_in (map scope_of ms) q ≡ found_in (map scope_of (take d ms)) q
     → found_in (map scope_of ms) q ≡ found_in (map scope_of (take (d - 1) ms)) q
@@ -69,7 +69,7 @@ found_none ms d m q p h k f r =
     r ∙ found_here ms d m q p h k ∙ ap (λ x. option_or x (found_in (map scope_of (take (d - 1) ms)) q)) f
 
 -- an insertion
-pub put_entry : {S : Type 0} (m n : HashMap (Bor (List ℕ)) Entry S) (bs bs' : List ℕ) (e : Entry) → bs' ≡ bs
+pub put_entry : {S : Type 0} (m n : HashMap (Bor (List ℕ)) Binding S) (bs bs' : List ℕ) (e : Binding) → bs' ≡ bs
     → hash.UpdatesBy (λ x y. bytes_eq x.now y.now) (λ k. bytes_eq bs' k.now) m n (Some e)
     → scope_of n ≡ with_entry (scope_of m) bs e
 put_entry m n bs bs' e same h =

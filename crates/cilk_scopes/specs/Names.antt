@@ -9,7 +9,7 @@ use Rattle.cilk_syntax.specs.declared.tree.Reducer.{Reducer}
 use Rattle.cilk_syntax.specs.Trees.{bytes_of}
 use Rattle.cilk_scopes.specs.declared.table.Meaning.{Meaning}
 use Rattle.cilk_scopes.specs.declared.table.Meaning.TheVariants as meanings
-use Rattle.cilk_scopes.specs.declared.table.Entry.{Entry}
+use Rattle.cilk_scopes.specs.declared.table.Binding.{Binding}
 use Rattle.cilk_scopes.specs.declared.signature.Signature.{Signature}
 
 -- the monoid of a name
@@ -23,7 +23,7 @@ monoid_of name =
 
 -- what a scope says of a name: what it means, and whether its declaration stands ahead
 abbrev pub Scope : Type 0
-Scope = List ℕ → Option Entry
+Scope = List ℕ → Option Binding
 
 -- What names mean at a place of the text: by the scope in which it stands, and by those round it, outermost first. It stands in
 -- so many bodies of parallel loops.
@@ -35,11 +35,11 @@ pub record Names : Type 0 where
   pub level : ℕ
 
 -- an inner scope hides an outer one
-abbrev pub found_in : List Scope → List ℕ → Option Entry
+abbrev pub found_in : List Scope → List ℕ → Option Binding
 found_in [] name = None
 found_in (s ∷ scopes) name = option_or (found_in scopes name) (s name)
 
-abbrev pub found : Names → List ℕ → Option Entry
+abbrev pub found : Names → List ℕ → Option Binding
 found names name = option_or (names.inner name) (found_in names.outer name)
 
 abbrev pub meaning : Names → Name → Option Meaning
@@ -49,7 +49,7 @@ meaning names x = option_map (λ e. e.meaning) (found names (bytes_of names.text
 abbrev pub is_declared : Scope → List ℕ → Bool
 is_declared s name = option_map_or (λ e. e.declared) (s name) false
 
-abbrev pub with_entry : Scope → List ℕ → Entry → Scope
+abbrev pub with_entry : Scope → List ℕ → Binding → Scope
 with_entry s name e q = if bytes_eq name q then Some e else s q
 
 -- with one more declaration; the first of a name says what it means

@@ -3,15 +3,7 @@ use Rattle.cilk_syntax.specs.declared.tree.UnaryOperator.{UnaryOperator}
 use Rattle.cilk_syntax.specs.declared.tree.UnaryOperator.TheVariants as unary
 use Rattle.cilk_syntax.specs.declared.tree.BinaryOperator.{BinaryOperator}
 use Rattle.cilk_syntax.specs.declared.tree.BinaryOperator.TheVariants as binary
-use Rattle.cilk_syntax.specs.declared.tree.Compound as parsed
-use Rattle.cilk_syntax.specs.declared.tree.Compound.TheVariants as compounds
-use Rattle.cilk_syntax.specs.declared.tree.Invocation as invoked
-use Rattle.cilk_syntax.specs.declared.tree.Invocation.TheVariants as invocations
 use Rattle.cilk_program.specs.declared.syntax.Operator.TheVariants as operators
-use Rattle.cilk_program.specs.declared.syntax.Compound.{Compound}
-use Rattle.cilk_program.specs.declared.syntax.Compound.TheVariants.{Add, Subtract, Multiply}
-use Rattle.cilk_program.specs.declared.syntax.Invocation.{Invocation}
-use Rattle.cilk_program.specs.declared.syntax.Invocation.TheVariants.{Call, Spawn}
 use Rattle.cilk_program.specs.Syntax.{Expression, Negate, Not, Binary, And, Or}
 
 -- an operator in front
@@ -34,13 +26,3 @@ joined binary.Subtract a b = Binary operators.Subtract a b
 joined binary.Multiply a b = Binary operators.Multiply a b
 joined binary.Divide a b = Binary operators.Divide a b
 joined binary.Remainder a b = Binary operators.Remainder a b
-
--- the operator of `+=`, `-=` or `*=`
-abbrev pub compound : parsed.Compound → Compound
-compound compounds.Add = Add
-compound compounds.Subtract = Subtract
-compound compounds.Multiply = Multiply
-
-abbrev pub invocation : invoked.Invocation → Invocation
-invocation invocations.Call = Call
-invocation invocations.Spawn = Spawn

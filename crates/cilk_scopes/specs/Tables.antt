@@ -3,12 +3,12 @@ use Rattle.std.specs.Prelude.{ℕ, List, map, bytes_eq}
 use Rattle.std.specs.Borrow.{Bor}
 use Rattle.std.specs.HashMap as hash
 use Rattle.std.specs.HashMap.{HashMap}
-use Rattle.cilk_scopes.specs.declared.table.Entry.{Entry}
+use Rattle.cilk_scopes.specs.declared.table.Binding.{Binding}
 use Rattle.cilk_scopes.specs.declared.table.Table.{Table}
 use Rattle.cilk_scopes.specs.Names.{Names, Scope}
 
 -- what a map says of names
-abbrev pub scope_of : {S : Type 0} → HashMap (Bor (List ℕ)) Entry S → Scope
+abbrev pub scope_of : {S : Type 0} → HashMap (Bor (List ℕ)) Binding S → Scope
 scope_of m q = hash.get_by (λ k. bytes_eq q k.now) m
 
 -- what names mean by a table

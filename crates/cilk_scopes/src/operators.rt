@@ -2,10 +2,9 @@
 
 ghost use Rattle.std.specs.Prelude.{◌≡◌};
 ghost use Rattle.cilk_program.specs.Programs.{expression};
-ghost use Rattle.cilk_scopes.specs.Operators.{prefixed, joined, compound, invocation};
+ghost use Rattle.cilk_scopes.specs.Operators.{prefixed, joined};
 
-use cilk_program::syntax::{Compound, Expr, Invocation, Operator};
-use cilk_syntax::tree;
+use cilk_program::syntax::{Expr, Operator};
 use cilk_syntax::tree::{BinaryOperator, UnaryOperator};
 
 /// An operator in front of its operand.
@@ -36,26 +35,5 @@ pub fn between(operator: BinaryOperator, left: Box<Expr>, right: Box<Expr>) -> E
         BinaryOperator::Multiply => Expr::Binary(Operator::Multiply, left, right),
         BinaryOperator::Divide => Expr::Binary(Operator::Divide, left, right),
         BinaryOperator::Remainder => Expr::Binary(Operator::Remainder, left, right),
-    }
-}
-
-/// The operator of `+=`, `-=` or `*=`.
-pub fn compound(operator: tree::Compound) -> Compound
-    ensures { result ≡ compound operator }
-{
-    match operator {
-        tree::Compound::Add => Compound::Add,
-        tree::Compound::Subtract => Compound::Subtract,
-        tree::Compound::Multiply => Compound::Multiply,
-    }
-}
-
-/// Whether a function is called or spawned.
-pub fn invocation(how: tree::Invocation) -> Invocation
-    ensures { result ≡ invocation how }
-{
-    match how {
-        tree::Invocation::Call => Invocation::Call,
-        tree::Invocation::Spawn => Invocation::Spawn,
     }
 }

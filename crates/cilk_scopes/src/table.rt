@@ -40,7 +40,7 @@ pub enum Meaning {
 
 /// What a scope says of a name: what it means, and whether its declaration has been reached.
 #[derive(Clone, Copy)]
-pub struct Entry {
+pub struct Binding {
     pub meaning: Meaning,
     pub declared: bool,
 }
@@ -51,8 +51,8 @@ pub struct Entry {
 pub struct Table<'a> {
     pub text: &'a [u8],
     pub signatures: &'a [Signature],
-    pub inner: HashMap<&'a [u8], Entry>,
-    pub outer: Vec<HashMap<&'a [u8], Entry>>,
+    pub inner: HashMap<&'a [u8], Binding>,
+    pub outer: Vec<HashMap<&'a [u8], Binding>>,
     pub level: u32,
 }
 
@@ -71,7 +71,7 @@ impl<'a> Table<'a> {
     }
 
     /// What a scope or those round it say of these bytes.
-    fn find(&self, name: &[u8]) -> Option<Entry>
+    fn find(&self, name: &[u8]) -> Option<Binding>
         ensures { result ≡ found (names_of self.now) name.now }
     {
         if let Some(entry) = self.inner.get(name) {
@@ -127,7 +127,7 @@ impl<'a> Table<'a> {
         }
         self.put(
             name,
-            Entry {
+            Binding {
                 meaning,
                 declared: true,
             },
@@ -144,7 +144,7 @@ impl<'a> Table<'a> {
         }
         self.put(
             name,
-            Entry {
+            Binding {
                 meaning: Meaning::Function(number),
                 declared: false,
             },
@@ -153,7 +153,7 @@ impl<'a> Table<'a> {
     }
 
     /// Gives a name another entry in the innermost scope.
-    fn put(&mut self, name: Name, entry: Entry) -> Result<(), AllocError>
+    fn put(&mut self, name: Name, entry: Binding) -> Result<(), AllocError>
         ensures same { (self.new.text ≡ self.old.text) × (self.new.signatures ≡ self.old.signatures) × (self.new.outer ≡ self.old.outer) × (self.new.level ≡ self.old.level) }
         ensures updates { OnOk result (scope_of self.new.inner ≡ with_entry (scope_of self.old.inner) (bytes_of self.old.text.now name) entry) }
     {

@@ -16,8 +16,8 @@ use Rattle.cilk_program.specs.declared.ask.Ask.{Ask}
 use Rattle.cilk_program.specs.declared.ask.Ask.TheVariants as asks
 use Rattle.cilk_program.specs.declared.ask.Callee.{Callee}
 use Rattle.cilk_program.specs.declared.ask.Callee.TheVariants.{Root}
-use Rattle.cilk_program.specs.declared.syntax.Invocation.{Invocation}
-use Rattle.cilk_program.specs.declared.syntax.Invocation.TheVariants.{Call, Spawn}
+use Rattle.cilk_types.specs.declared.invocation.Invocation.{Invocation}
+use Rattle.cilk_types.specs.declared.invocation.Invocation.TheVariants.{Call, Spawn}
 use Rattle.cilk_program.specs.Behaviour.{Asked, asks_for, frame_asks}
 use Rattle.cilk_program.specs.Outcomes.{Conclusion, finals_from}
 use Rattle.cilk_program.specs.Syntax.{Source}

@@ -12,7 +12,7 @@ use Rattle.cilk_monoid.specs.Ranges.{same_instance}
 use Rattle.cilk_program.specs.declared.ask.Ask.{Ask}
 use Rattle.cilk_program.specs.declared.ask.Ask.TheVariants.{End, Fault}
 use Rattle.cilk_program.specs.SerialRun.{Memory, Frame, IsInner, answer_to, event_of, invocation, stored, with_store}
-use Rattle.cilk_program.specs.declared.syntax.Invocation.{Invocation}
+use Rattle.cilk_types.specs.declared.invocation.Invocation.{Invocation}
 use Rattle.cilk_frames.specs.declared.cursor.Answer.{Answer}
 use Rattle.cilk_frames.specs.Following.{Fits, child_of, owed_for, word_in}
 use Rattle.cilk_serial.specs.declared.answer.Told.{Told}

@@ -14,8 +14,8 @@ ghost use Rattle.cilk_serial.specs.States.{Begins, Extends, Makes, Retires};
 use cilk_frames::cursor::Answer;
 use cilk_hypermap::hypermap::Hypermap;
 use cilk_monoid::kind::MonoidKind;
-use cilk_program::syntax::Invocation;
 use cilk_types::event::{Cell, Event, FrameNo, Instance};
+use cilk_types::invocation::Invocation;
 use std::alloc::{AllocError, Global};
 
 /// The cells of all frames, the reducers' views, the printed numbers and the events so far, and how many frames have begun.

@@ -8,7 +8,7 @@ ghost use Rattle.cilk_token.specs.declared.token.Kind.TheVariants as kinds;
 ghost use Rattle.cilk_syntax.specs.Trees as trees;
 
 use cilk_expressions::calls::{Source, right_side};
-use cilk_grammar::marks::{Mark, behind, name, one};
+use cilk_grammar::marks::{Punct, behind, name, one};
 use cilk_grammar::stop::Stop;
 use cilk_syntax::tree::{Local, LocalInitializer, Reducer, Stmt};
 use cilk_token::token::{Kind, Token};
@@ -20,13 +20,13 @@ pub fn reducer<'a>(tokens: &'a [Token]) -> Result<(Reducer, &'a [Token]), Stop<'
     ensures tree { IfOk result (λ x. SpellsReducerRest x.0 tokens.now x.1.now) }
     ensures shorter { IfOk result (λ x. length x.1.now < length tokens.now) }
     ensures reads { IfOk result (λ x. (stack : List Symbol) →
-        run tokens.now (One Mark.Open ∷ Named ∷ One Mark.Close ∷ Named ∷ stack) 0 ≡ run x.1.now stack 0) }
+        run tokens.now (One Punct.Open ∷ Named ∷ One Punct.Close ∷ Named ∷ stack) 0 ≡ run x.1.now stack 0) }
     ensures stops { IfErr result (λ e. (stack : List Symbol) →
-        IsStop e (run tokens.now (One Mark.Open ∷ Named ∷ One Mark.Close ∷ Named ∷ stack) 0)) }
+        IsStop e (run tokens.now (One Punct.Open ∷ Named ∷ One Punct.Close ∷ Named ∷ stack) 0)) }
 {
-    let rest = one(tokens, Mark::Open)?;
+    let rest = one(tokens, Punct::Open)?;
     let (monoid, rest) = name(rest)?;
-    let rest = one(rest, Mark::Close)?;
+    let rest = one(rest, Punct::Close)?;
     let (name, rest) = name(rest)?;
     Ok((Reducer { monoid, name }, rest))
 }
@@ -102,7 +102,7 @@ fn locals<'a>(
     let mut list = Vec::new(alloc);
     let (first, mut rest) = local(alloc, tokens, depth)?;
     list.push(first)?;
-    'each: while let Some(after) = behind(rest, Mark::Comma) {
+    'each: while let Some(after) = behind(rest, Punct::Comma) {
         let (next, after) = local(alloc, after, depth)?;
         list.push(next)?;
         rest = after;
@@ -162,7 +162,7 @@ pub fn declaration<'a>(
             after @ ..,
         ] => {
             let (declared, rest) = reducer(after)?;
-            let rest = one(rest, Mark::Semicolon)?;
+            let rest = one(rest, Punct::Semicolon)?;
             Ok((Stmt::Reducer(declared), rest))
         }
         _ => {

@@ -9,7 +9,7 @@ ghost use Rattle.cilk_syntax.specs.Trees as trees;
 
 use cilk_expressions::assignments::assignment;
 use cilk_expressions::expressions::{ended, optional};
-use cilk_grammar::marks::{Mark, name, one, single, then_one};
+use cilk_grammar::marks::{Punct, name, one, single, then_one};
 use cilk_grammar::stop::Stop;
 use cilk_syntax::tree::{Assignment, Beginning, Bounds, Expr, Name};
 use cilk_token::token::{Kind, Token};
@@ -33,12 +33,12 @@ fn defined<'a>(
     ensures tree { IfOk result (λ x. SpellsDefined x.0 (trees.expression x.1.value) tokens.now x.2.now) }
     ensures shorter { IfOk result (λ x. length x.2.now < length tokens.now) }
     ensures reads { IfOk result (λ x. (stack : List Symbol) →
-        run tokens.now (Named ∷ One Mark.Assign ∷ Operand depth ∷ Tail depth ∷ Anew ∷ One Mark.Semicolon ∷ stack) 0 ≡ run x.2.now stack 0) }
+        run tokens.now (Named ∷ One Punct.Assign ∷ Operand depth ∷ Tail depth ∷ Anew ∷ One Punct.Semicolon ∷ stack) 0 ≡ run x.2.now stack 0) }
     ensures stops { IfErr result (λ e. (stack : List Symbol) →
-        IsStop e (run tokens.now (Named ∷ One Mark.Assign ∷ Operand depth ∷ Tail depth ∷ Anew ∷ One Mark.Semicolon ∷ stack) 0)) }
+        IsStop e (run tokens.now (Named ∷ One Punct.Assign ∷ Operand depth ∷ Tail depth ∷ Anew ∷ One Punct.Semicolon ∷ stack) 0)) }
 {
     let (variable, rest) = name(tokens)?;
-    let rest = one(rest, Mark::Assign)?;
+    let rest = one(rest, Punct::Assign)?;
     let (value, rest) = ended(alloc, rest, depth)?;
     Ok((variable, value, rest))
 }
@@ -53,12 +53,12 @@ fn tested<'a>(
     ensures tree { IfOk result (λ x. SpellsTested x.0 (trees.expression x.1.value) tokens.now x.2.now) }
     ensures shorter { IfOk result (λ x. length x.2.now < length tokens.now) }
     ensures reads { IfOk result (λ x. (stack : List Symbol) →
-        run tokens.now (Named ∷ One Mark.Less ∷ Operand depth ∷ Tail depth ∷ Anew ∷ One Mark.Semicolon ∷ stack) 0 ≡ run x.2.now stack 0) }
+        run tokens.now (Named ∷ One Punct.Less ∷ Operand depth ∷ Tail depth ∷ Anew ∷ One Punct.Semicolon ∷ stack) 0 ≡ run x.2.now stack 0) }
     ensures stops { IfErr result (λ e. (stack : List Symbol) →
-        IsStop e (run tokens.now (Named ∷ One Mark.Less ∷ Operand depth ∷ Tail depth ∷ Anew ∷ One Mark.Semicolon ∷ stack) 0)) }
+        IsStop e (run tokens.now (Named ∷ One Punct.Less ∷ Operand depth ∷ Tail depth ∷ Anew ∷ One Punct.Semicolon ∷ stack) 0)) }
 {
     let (variable, rest) = name(tokens)?;
-    let rest = one(rest, Mark::Less)?;
+    let rest = one(rest, Punct::Less)?;
     let (bound, rest) = ended(alloc, rest, depth)?;
     Ok((variable, bound, rest))
 }
@@ -134,18 +134,18 @@ pub fn bounds<'a>(
     ensures tree { IfOk result (λ x. SpellsBounds (trees.bounds x.0) tokens.now x.1.now) }
     ensures shorter { IfOk result (λ x. length x.1.now < length tokens.now) }
     ensures reads { IfOk result (λ x. (stack : List Symbol) →
-        run tokens.now (One Mark.Open ∷ One Mark.Int ∷ Named ∷ One Mark.Assign ∷ Operand depth ∷ Tail depth ∷ Anew ∷ One Mark.Semicolon
-        ∷ Named ∷ One Mark.Less ∷ Operand depth ∷ Tail depth ∷ Anew ∷ One Mark.Semicolon ∷ UnitStep ∷ One Mark.Close ∷ stack) 0 ≡ run x.1.now stack 0) }
+        run tokens.now (One Punct.Open ∷ One Punct.Int ∷ Named ∷ One Punct.Assign ∷ Operand depth ∷ Tail depth ∷ Anew ∷ One Punct.Semicolon
+        ∷ Named ∷ One Punct.Less ∷ Operand depth ∷ Tail depth ∷ Anew ∷ One Punct.Semicolon ∷ UnitStep ∷ One Punct.Close ∷ stack) 0 ≡ run x.1.now stack 0) }
     ensures stops { IfErr result (λ e. (stack : List Symbol) →
-        IsStop e (run tokens.now (One Mark.Open ∷ One Mark.Int ∷ Named ∷ One Mark.Assign ∷ Operand depth ∷ Tail depth ∷ Anew ∷ One Mark.Semicolon
-        ∷ Named ∷ One Mark.Less ∷ Operand depth ∷ Tail depth ∷ Anew ∷ One Mark.Semicolon ∷ UnitStep ∷ One Mark.Close ∷ stack) 0)) }
+        IsStop e (run tokens.now (One Punct.Open ∷ One Punct.Int ∷ Named ∷ One Punct.Assign ∷ Operand depth ∷ Tail depth ∷ Anew ∷ One Punct.Semicolon
+        ∷ Named ∷ One Punct.Less ∷ Operand depth ∷ Tail depth ∷ Anew ∷ One Punct.Semicolon ∷ UnitStep ∷ One Punct.Close ∷ stack) 0)) }
 {
-    let rest = one(tokens, Mark::Open)?;
-    let rest = one(rest, Mark::Int)?;
+    let rest = one(tokens, Punct::Open)?;
+    let rest = one(rest, Punct::Int)?;
     let (variable, low, rest) = defined(alloc, rest, depth)?;
     let (tested, high, rest) = tested(alloc, rest, depth)?;
     let (stepped, rest) = unit_step(rest)?;
-    let rest = one(rest, Mark::Close)?;
+    let rest = one(rest, Punct::Close)?;
     let bounds = Bounds {
         variable,
         low,
@@ -161,7 +161,7 @@ fn closed<'a>(
     alloc: Global,
     tokens: &'a [Token],
     depth: u32,
-    close: Mark,
+    close: Punct,
 ) -> Result<(Assignment, &'a [Token]), Stop<'a>>
     requires { depth ≤ 64 }
     ensures tree { IfOk result (λ x. (ts : List Token) × SpellsAssignment (trees.assignment x.0) tokens.now ts × Is (kind_of close) ts x.1.now) }
@@ -209,7 +209,7 @@ fn beginning<'a>(
             Ok((Some(Beginning::Declares(variable, value)), rest))
         }
         _ => {
-            let (first, rest) = closed(alloc, tokens, depth, Mark::Semicolon)?;
+            let (first, rest) = closed(alloc, tokens, depth, Punct::Semicolon)?;
             Ok((Some(Beginning::Assigns(first)), rest))
         }
     }
@@ -239,7 +239,7 @@ fn step<'a>(
             rest @ ..,
         ] => Ok((None, rest)),
         _ => {
-            let (step, rest) = closed(alloc, tokens, depth, Mark::Close)?;
+            let (step, rest) = closed(alloc, tokens, depth, Punct::Close)?;
             Ok((Some(step), rest))
         }
     }
@@ -256,11 +256,11 @@ pub fn loop_head<'a>(
     ensures tree { IfOk result (λ x. SpellsHead (trees.optional_beginning x.0.beginning) (trees.optional x.0.test) (trees.optional_assignment x.0.step) tokens.now x.1.now) }
     ensures shorter { IfOk result (λ x. length x.1.now < length tokens.now) }
     ensures reads { IfOk result (λ x. (stack : List Symbol) →
-        run tokens.now (One Mark.Open ∷ expected.Beginning depth ∷ Optional depth ∷ Step depth ∷ stack) 0 ≡ run x.1.now stack 0) }
+        run tokens.now (One Punct.Open ∷ expected.Beginning depth ∷ Optional depth ∷ Step depth ∷ stack) 0 ≡ run x.1.now stack 0) }
     ensures stops { IfErr result (λ e. (stack : List Symbol) →
-        IsStop e (run tokens.now (One Mark.Open ∷ expected.Beginning depth ∷ Optional depth ∷ Step depth ∷ stack) 0)) }
+        IsStop e (run tokens.now (One Punct.Open ∷ expected.Beginning depth ∷ Optional depth ∷ Step depth ∷ stack) 0)) }
 {
-    let rest = one(tokens, Mark::Open)?;
+    let rest = one(tokens, Punct::Open)?;
     let (beginning, rest) = beginning(alloc, rest, depth)?;
     let (test, rest) = optional(alloc, rest, depth)?;
     let (step, rest) = step(alloc, rest, depth)?;

@@ -14,10 +14,11 @@ use cilk_expressions::assignments::{assigned, target};
 use cilk_expressions::calls::{Source, arguments, call, right_side};
 use cilk_expressions::expressions::{expr, optional, parenthesized};
 use cilk_grammar::firsts::{begins_statement, may_begin};
-use cilk_grammar::marks::{Mark, name, one, then_one};
+use cilk_grammar::marks::{Punct, name, one, then_one};
 use cilk_grammar::stop::{DEEPEST, Stop};
-use cilk_syntax::tree::{Assignment, Call, Expr, Invocation, Name, Place, Stmt};
+use cilk_syntax::tree::{Assignment, Call, Expr, Name, Place, Stmt};
 use cilk_token::token::{Kind, Token};
+use cilk_types::invocation::Invocation;
 use std::alloc::Global;
 
 /// A reducer's name and an expression between parentheses, and the semicolon behind them.
@@ -30,16 +31,16 @@ fn update<'a>(
     ensures tree { IfOk result (λ x. SpellsUpdate x.0 (trees.expression x.1.value) tokens.now x.2.now) }
     ensures shorter { IfOk result (λ x. length x.2.now < length tokens.now) }
     ensures reads { IfOk result (λ x. (stack : List Symbol) →
-        run tokens.now (One Mark.Open ∷ Named ∷ One Mark.Comma ∷ Operand depth ∷ Tail depth ∷ Anew ∷ One Mark.Close ∷ One Mark.Semicolon ∷ stack) 0 ≡ run x.2.now stack 0) }
+        run tokens.now (One Punct.Open ∷ Named ∷ One Punct.Comma ∷ Operand depth ∷ Tail depth ∷ Anew ∷ One Punct.Close ∷ One Punct.Semicolon ∷ stack) 0 ≡ run x.2.now stack 0) }
     ensures stops { IfErr result (λ e. (stack : List Symbol) →
-        IsStop e (run tokens.now (One Mark.Open ∷ Named ∷ One Mark.Comma ∷ Operand depth ∷ Tail depth ∷ Anew ∷ One Mark.Close ∷ One Mark.Semicolon ∷ stack) 0)) }
+        IsStop e (run tokens.now (One Punct.Open ∷ Named ∷ One Punct.Comma ∷ Operand depth ∷ Tail depth ∷ Anew ∷ One Punct.Close ∷ One Punct.Semicolon ∷ stack) 0)) }
 {
-    let rest = one(tokens, Mark::Open)?;
+    let rest = one(tokens, Punct::Open)?;
     let (reducer, rest) = name(rest)?;
-    let rest = one(rest, Mark::Comma)?;
+    let rest = one(rest, Punct::Comma)?;
     let (value, rest) = expr(alloc, rest, depth)?;
-    let rest = one(rest, Mark::Close)?;
-    let rest = one(rest, Mark::Semicolon)?;
+    let rest = one(rest, Punct::Close)?;
+    let rest = one(rest, Punct::Semicolon)?;
     Ok((reducer, value, rest))
 }
 
@@ -53,12 +54,12 @@ fn called<'a>(
     ensures tree { IfOk result (λ x. SpellsNamedRest kinds.Open (trees.statement x.0) name tokens.now x.1.now) }
     ensures shorter { IfOk result (λ x. length x.1.now < length tokens.now) }
     ensures reads { IfOk result (λ x. (stack : List Symbol) →
-        run tokens.now (Arguments depth ∷ One Mark.Semicolon ∷ stack) 0 ≡ run x.1.now stack 0) }
+        run tokens.now (Arguments depth ∷ One Punct.Semicolon ∷ stack) 0 ≡ run x.1.now stack 0) }
     ensures stops { IfErr result (λ e. (stack : List Symbol) →
-        IsStop e (run tokens.now (Arguments depth ∷ One Mark.Semicolon ∷ stack) 0)) }
+        IsStop e (run tokens.now (Arguments depth ∷ One Punct.Semicolon ∷ stack) 0)) }
 {
     let (arguments, rest) = arguments(alloc, tokens, depth)?;
-    let rest = one(rest, Mark::Semicolon)?;
+    let rest = one(rest, Punct::Semicolon)?;
     let call = Call { name, arguments };
     Ok((Stmt::Invoke(Invocation::Call, call), rest))
 }
@@ -74,12 +75,12 @@ fn taken<'a>(
     ensures tree { IfOk result (λ x. SpellsNamedRest kinds.Assign (trees.statement x.0) name tokens.now x.1.now) }
     ensures shorter { IfOk result (λ x. length x.1.now < length tokens.now) }
     ensures reads { IfOk result (λ x. (stack : List Symbol) →
-        run tokens.now (Expected.Source depth ∷ One Mark.Semicolon ∷ stack) 0 ≡ run x.1.now stack 0) }
+        run tokens.now (Expected.Source depth ∷ One Punct.Semicolon ∷ stack) 0 ≡ run x.1.now stack 0) }
     ensures stops { IfErr result (λ e. (stack : List Symbol) →
-        IsStop e (run tokens.now (Expected.Source depth ∷ One Mark.Semicolon ∷ stack) 0)) }
+        IsStop e (run tokens.now (Expected.Source depth ∷ One Punct.Semicolon ∷ stack) 0)) }
 {
     let (source, rest) = right_side(alloc, tokens, depth)?;
-    let rest = one(rest, Mark::Semicolon)?;
+    let rest = one(rest, Punct::Semicolon)?;
     match source {
         Source::Value(value) => {
             let assignment = Assignment::Set(Place::Variable(name), value);
@@ -122,7 +123,7 @@ fn named<'a>(
         ] => taken(alloc, name, after, depth),
         _ => {
             let (assignment, rest) = assigned(alloc, name, tokens, depth)?;
-            let rest = one(rest, Mark::Semicolon)?;
+            let rest = one(rest, Punct::Semicolon)?;
             Ok((Stmt::Assign(assignment), rest))
         }
     }
@@ -138,12 +139,12 @@ fn ended_target<'a>(
     ensures tree { IfOk result (λ x. (ts : List Token) × SpellsPlace (trees.place x.0) tokens.now ts × Is kinds.Semicolon ts x.1.now) }
     ensures shorter { IfOk result (λ x. length x.1.now < length tokens.now) }
     ensures reads { IfOk result (λ x. (stack : List Symbol) →
-        run tokens.now (Named ∷ Subscript depth ∷ One Mark.Semicolon ∷ stack) 0 ≡ run x.1.now stack 0) }
+        run tokens.now (Named ∷ Subscript depth ∷ One Punct.Semicolon ∷ stack) 0 ≡ run x.1.now stack 0) }
     ensures stops { IfErr result (λ e. (stack : List Symbol) →
-        IsStop e (run tokens.now (Named ∷ Subscript depth ∷ One Mark.Semicolon ∷ stack) 0)) }
+        IsStop e (run tokens.now (Named ∷ Subscript depth ∷ One Punct.Semicolon ∷ stack) 0)) }
 {
     let (place, rest) = target(alloc, tokens, depth)?;
-    then_one(place, rest, Mark::Semicolon)
+    then_one(place, rest, Punct::Semicolon)
 }
 
 /// A call that is spawned, from behind the `cilk_spawn`.
@@ -155,13 +156,13 @@ fn spawned<'a>(
     ensures tree { IfOk result (λ x. SpellsRest kinds.CilkSpawn (trees.statement x.0) tokens.now x.1.now) }
     ensures shorter { IfOk result (λ x. length x.1.now < length tokens.now) }
     ensures reads { IfOk result (λ x. (stack : List Symbol) →
-        run tokens.now (Named ∷ One Mark.Open ∷ Arguments depth ∷ One Mark.Semicolon ∷ stack) 0 ≡ run x.1.now stack 0) }
+        run tokens.now (Named ∷ One Punct.Open ∷ Arguments depth ∷ One Punct.Semicolon ∷ stack) 0 ≡ run x.1.now stack 0) }
     ensures stops { IfErr result (λ e. (stack : List Symbol) →
-        IsStop e (run tokens.now (Named ∷ One Mark.Open ∷ Arguments depth ∷ One Mark.Semicolon ∷ stack) 0)) }
+        IsStop e (run tokens.now (Named ∷ One Punct.Open ∷ Arguments depth ∷ One Punct.Semicolon ∷ stack) 0)) }
 {
     let (call, rest) = call(alloc, tokens, depth)?;
     let spawned = Stmt::Invoke(Invocation::Spawn, call);
-    then_one(spawned, rest, Mark::Semicolon)
+    then_one(spawned, rest, Punct::Semicolon)
 }
 
 /// What is printed, from behind the `print`.
@@ -173,12 +174,12 @@ fn printed<'a>(
     ensures tree { IfOk result (λ x. SpellsRest kinds.Print (trees.statement x.0) tokens.now x.1.now) }
     ensures shorter { IfOk result (λ x. length x.1.now < length tokens.now) }
     ensures reads { IfOk result (λ x. (stack : List Symbol) →
-        run tokens.now (One Mark.Open ∷ Operand depth ∷ Tail depth ∷ Anew ∷ One Mark.Close ∷ One Mark.Semicolon ∷ stack) 0 ≡ run x.1.now stack 0) }
+        run tokens.now (One Punct.Open ∷ Operand depth ∷ Tail depth ∷ Anew ∷ One Punct.Close ∷ One Punct.Semicolon ∷ stack) 0 ≡ run x.1.now stack 0) }
     ensures stops { IfErr result (λ e. (stack : List Symbol) →
-        IsStop e (run tokens.now (One Mark.Open ∷ Operand depth ∷ Tail depth ∷ Anew ∷ One Mark.Close ∷ One Mark.Semicolon ∷ stack) 0)) }
+        IsStop e (run tokens.now (One Punct.Open ∷ Operand depth ∷ Tail depth ∷ Anew ∷ One Punct.Close ∷ One Punct.Semicolon ∷ stack) 0)) }
 {
     let (value, rest) = parenthesized(alloc, tokens, depth)?;
-    then_one(Stmt::Print(value), rest, Mark::Semicolon)
+    then_one(Stmt::Print(value), rest, Punct::Semicolon)
 }
 
 /// A statement that stands in `depth` others and holds none.
@@ -219,7 +220,7 @@ fn simple<'a>(
         }
         Kind::CilkSpawn => spawned(alloc, rest, depth),
         Kind::CilkSync => {
-            let rest = one(rest, Mark::Semicolon)?;
+            let rest = one(rest, Punct::Semicolon)?;
             Ok((Stmt::Sync, rest))
         }
         Kind::Return => {
@@ -267,7 +268,7 @@ fn statement<'a>(
     match first.kind {
         Kind::OpenBrace => {
             let (list, rest) = statements(alloc, rest, depth + 1)?;
-            let rest = one(rest, Mark::CloseBrace)?;
+            let rest = one(rest, Punct::CloseBrace)?;
             Ok((Stmt::Block(list), rest))
         }
         Kind::If => choice(alloc, rest, depth),
@@ -289,9 +290,9 @@ fn while_loop<'a>(
     ensures tree { IfOk result (λ x. SpellsRest kinds.While (trees.statement x.0) tokens.now x.1.now) }
     ensures shorter { IfOk result (λ x. length x.1.now < length tokens.now) }
     ensures reads { IfOk result (λ x. (stack : List Symbol) →
-        run tokens.now (One Mark.Open ∷ Operand depth ∷ Tail depth ∷ Anew ∷ One Mark.Close ∷ Statement (depth + 1) ∷ stack) 0 ≡ run x.1.now stack 0) }
+        run tokens.now (One Punct.Open ∷ Operand depth ∷ Tail depth ∷ Anew ∷ One Punct.Close ∷ Statement (depth + 1) ∷ stack) 0 ≡ run x.1.now stack 0) }
     ensures stops { IfErr result (λ e. (stack : List Symbol) →
-        IsStop e (run tokens.now (One Mark.Open ∷ Operand depth ∷ Tail depth ∷ Anew ∷ One Mark.Close ∷ Statement (depth + 1) ∷ stack) 0)) }
+        IsStop e (run tokens.now (One Punct.Open ∷ Operand depth ∷ Tail depth ∷ Anew ∷ One Punct.Close ∷ Statement (depth + 1) ∷ stack) 0)) }
 {
     let (test, rest) = parenthesized(alloc, tokens, depth)?;
     let (body, rest) = statement(alloc, rest, depth + 1)?;
@@ -309,11 +310,11 @@ fn parallel_loop<'a>(
     ensures tree { IfOk result (λ x. SpellsRest kinds.CilkFor (trees.statement x.0) tokens.now x.1.now) }
     ensures shorter { IfOk result (λ x. length x.1.now < length tokens.now) }
     ensures reads { IfOk result (λ x. (stack : List Symbol) →
-        run tokens.now (One Mark.Open ∷ One Mark.Int ∷ Named ∷ One Mark.Assign ∷ Operand depth ∷ Tail depth ∷ Anew ∷ One Mark.Semicolon
-        ∷ Named ∷ One Mark.Less ∷ Operand depth ∷ Tail depth ∷ Anew ∷ One Mark.Semicolon ∷ UnitStep ∷ One Mark.Close ∷ Statement (depth + 1) ∷ stack) 0 ≡ run x.1.now stack 0) }
+        run tokens.now (One Punct.Open ∷ One Punct.Int ∷ Named ∷ One Punct.Assign ∷ Operand depth ∷ Tail depth ∷ Anew ∷ One Punct.Semicolon
+        ∷ Named ∷ One Punct.Less ∷ Operand depth ∷ Tail depth ∷ Anew ∷ One Punct.Semicolon ∷ UnitStep ∷ One Punct.Close ∷ Statement (depth + 1) ∷ stack) 0 ≡ run x.1.now stack 0) }
     ensures stops { IfErr result (λ e. (stack : List Symbol) →
-        IsStop e (run tokens.now (One Mark.Open ∷ One Mark.Int ∷ Named ∷ One Mark.Assign ∷ Operand depth ∷ Tail depth ∷ Anew ∷ One Mark.Semicolon
-        ∷ Named ∷ One Mark.Less ∷ Operand depth ∷ Tail depth ∷ Anew ∷ One Mark.Semicolon ∷ UnitStep ∷ One Mark.Close ∷ Statement (depth + 1) ∷ stack) 0)) }
+        IsStop e (run tokens.now (One Punct.Open ∷ One Punct.Int ∷ Named ∷ One Punct.Assign ∷ Operand depth ∷ Tail depth ∷ Anew ∷ One Punct.Semicolon
+        ∷ Named ∷ One Punct.Less ∷ Operand depth ∷ Tail depth ∷ Anew ∷ One Punct.Semicolon ∷ UnitStep ∷ One Punct.Close ∷ Statement (depth + 1) ∷ stack) 0)) }
 {
     let (bounds, rest) = bounds(alloc, tokens, depth)?;
     let (body, rest) = statement(alloc, rest, depth + 1)?;
@@ -331,9 +332,9 @@ fn for_loop<'a>(
     ensures tree { IfOk result (λ x. SpellsRest kinds.For (trees.statement x.0) tokens.now x.1.now) }
     ensures shorter { IfOk result (λ x. length x.1.now < length tokens.now) }
     ensures reads { IfOk result (λ x. (stack : List Symbol) →
-        run tokens.now (One Mark.Open ∷ Expected.Beginning depth ∷ Optional depth ∷ Step depth ∷ Statement (depth + 1) ∷ stack) 0 ≡ run x.1.now stack 0) }
+        run tokens.now (One Punct.Open ∷ Expected.Beginning depth ∷ Optional depth ∷ Step depth ∷ Statement (depth + 1) ∷ stack) 0 ≡ run x.1.now stack 0) }
     ensures stops { IfErr result (λ e. (stack : List Symbol) →
-        IsStop e (run tokens.now (One Mark.Open ∷ Expected.Beginning depth ∷ Optional depth ∷ Step depth ∷ Statement (depth + 1) ∷ stack) 0)) }
+        IsStop e (run tokens.now (One Punct.Open ∷ Expected.Beginning depth ∷ Optional depth ∷ Step depth ∷ Statement (depth + 1) ∷ stack) 0)) }
 {
     let (head, rest) = loop_head(alloc, tokens, depth)?;
     let (body, rest) = statement(alloc, rest, depth + 1)?;
@@ -352,9 +353,9 @@ fn choice<'a>(
     ensures tree { IfOk result (λ x. SpellsRest kinds.If (trees.statement x.0) tokens.now x.1.now) }
     ensures shorter { IfOk result (λ x. length x.1.now < length tokens.now) }
     ensures reads { IfOk result (λ x. (stack : List Symbol) →
-        run tokens.now (One Mark.Open ∷ Operand depth ∷ Tail depth ∷ Anew ∷ One Mark.Close ∷ Statement (depth + 1) ∷ ElsePart (depth + 1) ∷ stack) 0 ≡ run x.1.now stack 0) }
+        run tokens.now (One Punct.Open ∷ Operand depth ∷ Tail depth ∷ Anew ∷ One Punct.Close ∷ Statement (depth + 1) ∷ ElsePart (depth + 1) ∷ stack) 0 ≡ run x.1.now stack 0) }
     ensures stops { IfErr result (λ e. (stack : List Symbol) →
-        IsStop e (run tokens.now (One Mark.Open ∷ Operand depth ∷ Tail depth ∷ Anew ∷ One Mark.Close ∷ Statement (depth + 1) ∷ ElsePart (depth + 1) ∷ stack) 0)) }
+        IsStop e (run tokens.now (One Punct.Open ∷ Operand depth ∷ Tail depth ∷ Anew ∷ One Punct.Close ∷ Statement (depth + 1) ∷ ElsePart (depth + 1) ∷ stack) 0)) }
 {
     let (test, rest) = parenthesized(alloc, tokens, depth)?;
     let (first, rest) = statement(alloc, rest, depth + 1)?;

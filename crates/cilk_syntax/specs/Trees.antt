@@ -5,8 +5,8 @@ use Rattle.cilk_types.specs.Word.{word_of}
 use Rattle.cilk_syntax.specs.declared.tree.Name.{Name}
 use Rattle.cilk_syntax.specs.declared.tree.UnaryOperator.{UnaryOperator}
 use Rattle.cilk_syntax.specs.declared.tree.BinaryOperator.{BinaryOperator}
-use Rattle.cilk_syntax.specs.declared.tree.Compound as compounds
-use Rattle.cilk_syntax.specs.declared.tree.Invocation.{Invocation}
+use Rattle.cilk_types.specs.declared.compound.Compound as compounds
+use Rattle.cilk_types.specs.declared.invocation.Invocation.{Invocation}
 use Rattle.cilk_syntax.specs.declared.tree.ReturnType.{ReturnType}
 use Rattle.cilk_syntax.specs.declared.tree.Reducer as reducers
 use Rattle.cilk_syntax.specs.declared.tree.Initializer.{Initializer}

@@ -7,6 +7,8 @@
 ghost use Rattle.std.specs.Prelude.{◌≡◌};
 ghost use Rattle.cilk_syntax.specs.Trees;
 
+use cilk_types::compound::Compound;
+use cilk_types::invocation::Invocation;
 use cilk_types::word::neg;
 
 /// A name: the places of its first byte and of the byte behind it.
@@ -39,21 +41,6 @@ pub enum BinaryOperator {
     Multiply,
     Divide,
     Remainder,
-}
-
-/// What a compound assignment does: `+=`, `-=` or `*=`.
-#[derive(Clone, Copy, Debug)]
-pub enum Compound {
-    Add,
-    Subtract,
-    Multiply,
-}
-
-/// Whether a function is called or spawned.
-#[derive(Clone, Copy, Debug)]
-pub enum Invocation {
-    Call,
-    Spawn,
 }
 
 /// What a function returns.

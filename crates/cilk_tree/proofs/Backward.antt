@@ -5,12 +5,14 @@ use Rattle.std.proofs.Math.Seq.{drop-cons, drop-length}
 use Rattle.std.proofs.lemmas.Bool.{eq-eqb, ne_eqb}
 use Rattle.cilk_tree.specs.declared.tree.Node.{Node}
 use Rattle.cilk_tree.specs.declared.tree.Node.TheVariants as nodes
-use Rattle.cilk_tree.specs.declared.building.Place.{Place}
+use Rattle.cilk_tree.specs.declared.building.StrandCounts.{StrandCounts}
 use Rattle.cilk_tree.specs.declared.mark.Mark.{Mark}
 use Rattle.cilk_tree.specs.declared.mark.Mark.TheVariants.{Begin, End, Sync, Resume, Spawn, Call, Plain}
 use Rattle.cilk_types.specs.declared.event.Event.{Event}
 use Rattle.cilk_tree.specs.Marks.{mark_of}
-use Rattle.cilk_tree.specs.Shape.{Kind, called, spawned, Shape, finish, act, sync, child, start_of, marks, Spells}
+use Rattle.cilk_types.specs.declared.invocation.Invocation.{Invocation}
+use Rattle.cilk_types.specs.declared.invocation.Invocation.TheVariants as invocations
+use Rattle.cilk_tree.specs.Shape.{Shape, finish, act, sync, child, start_of, marks, Spells}
 use Rattle.cilk_tree.specs.Tree.{Tree, strand, series, parallel, then_later, beside, Rest, block, blocks, rest_of, tree, leaves, preorder}
 use Rattle.cilk_tree.specs.Built.{Built}
 use Rattle.cilk_tree.specs.Building.{opening, strand_closed, block_closed, frame_closed, inner_place, outer_places, counted, step}
@@ -131,33 +133,33 @@ leaves_frame x b0 b w = record {
 }
 
 -- the word that starts a child, between the strand that it ends, and the child and the rest of the block
-starts : (k : Kind) (y x : Rest) (b0 b1 b2 : Built)
+starts : (k : Invocation) (y x : Rest) (b0 b1 b2 : Built)
     → Closed x b0 b1 → Left y (record b1 { place = record b1.place { child = b1.strands } }) b2
     → Stands (record { events = 1; after = Some (beside k (blocks y) (block x)); later = x.later }) b0 (step (start_of k) b2)
-starts called y x b0 b1 b2 c l =
-    let d : b2.strands - b2.place.child ≡ leaves (blocks y) = let p = l.strands in let q = ap (λ (z : Place). z.child) l.place in omega (arith, p, q) in
+starts invocations.Call y x b0 b1 b2 c l =
+    let d : b2.strands - b2.place.child ≡ leaves (blocks y) = let p = l.strands in let q = ap (λ (z : StrandCounts). z.child) l.place in omega (arith, p, q) in
     let e : b2.nodes ≡ (preorder (blocks y) ++ preorder (block x)) ++ (listed x.later ++ b0.nodes) =
     l.list ∙ (ap (λ (z : List Node). preorder (blocks y) ++ z) c.list ∙ sym (append_assoc (preorder (blocks y)) (preorder (block x)) (listed x.later ++ b0.nodes))) in
     record {
       list = rw d (ap (λ (z : List Node). nodes.Series (leaves (blocks y)) ∷ z) e);
       events = let p = l.events in omega (arith, p);
       strands = let p = l.strands in let q = c.strands in omega (arith, p, q);
-      frame = ap (λ (z : Place). z.frame) l.place ∙ c.frame;
-      block = ap (λ (z : Place). z.block) l.place ∙ c.block;
+      frame = ap (λ (z : StrandCounts). z.frame) l.place ∙ c.frame;
+      block = ap (λ (z : StrandCounts). z.block) l.place ∙ c.block;
       outer = l.outer ∙ c.outer;
     }
-starts spawned y x b0 b1 b2 c l =
-    let d : b2.strands - b2.place.child ≡ leaves (blocks y) = let p = l.strands in let q = ap (λ (z : Place). z.child) l.place in omega (arith, p, q) in
+starts invocations.Spawn y x b0 b1 b2 c l =
+    let d : b2.strands - b2.place.child ≡ leaves (blocks y) = let p = l.strands in let q = ap (λ (z : StrandCounts). z.child) l.place in omega (arith, p, q) in
     let f : b2.place.child - b2.place.block ≡ leaves (block x) =
-    let q = ap (λ (z : Place). z.child) l.place in let r = ap (λ (z : Place). z.block) l.place in let s = c.block in let t = c.strands in omega (arith, q, r, s, t) in
+    let q = ap (λ (z : StrandCounts). z.child) l.place in let r = ap (λ (z : StrandCounts). z.block) l.place in let s = c.block in let t = c.strands in omega (arith, q, r, s, t) in
     let e : b2.nodes ≡ (preorder (blocks y) ++ preorder (block x)) ++ (listed x.later ++ b0.nodes) =
     l.list ∙ (ap (λ (z : List Node). preorder (blocks y) ++ z) c.list ∙ sym (append_assoc (preorder (blocks y)) (preorder (block x)) (listed x.later ++ b0.nodes))) in
     record {
       list = rw d (rw f (ap (λ (z : List Node). nodes.Parallel (leaves (blocks y)) (leaves (block x)) ∷ z) e));
       events = let p = l.events in omega (arith, p);
       strands = let p = l.strands in let q = c.strands in omega (arith, p, q);
-      frame = ap (λ (z : Place). z.frame) l.place ∙ c.frame;
-      block = ap (λ (z : Place). z.block) l.place ∙ c.block;
+      frame = ap (λ (z : StrandCounts). z.frame) l.place ∙ c.frame;
+      block = ap (λ (z : StrandCounts). z.block) l.place ∙ c.block;
       outer = l.outer ∙ c.outer;
     }
 

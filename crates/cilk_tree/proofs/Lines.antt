@@ -3,14 +3,16 @@ use Rattle.std.proofs.Common.{◌≡◌, ℕ, suc, ◌+◌, ◌-◌, ◌<◌, �
 use Rattle.std.proofs.lemmas.List.{length-append, get_or-append_right, get_or_past}
 use Rattle.std.proofs.Math.ListN.{get_or-append}
 use Rattle.cilk_tree.specs.declared.mark.Mark.TheVariants.{Resume}
-use Rattle.cilk_tree.specs.Shape.{Kind, called, spawned, Shape, finish, act, sync, child, marks}
+use Rattle.cilk_types.specs.declared.invocation.Invocation.{Invocation}
+use Rattle.cilk_types.specs.declared.invocation.Invocation.TheVariants as invocations
+use Rattle.cilk_tree.specs.Shape.{Shape, finish, act, sync, child, marks}
 use Rattle.cilk_tree.specs.Reach.{resumed_from, awaited, predecessors_from, preceding, HasSync, HasSyncIf, IsSynced}
 
 pub data Line : Type 0 where
   stop : Line
   plain : (rest : Line) → Line
   wait : (rest : Line) → Line
-  inside : (kind : Kind) (inner : Line) (rest : Line) → Line
+  inside : (kind : Invocation) (inner : Line) (rest : Line) → Line
 
 abbrev pub line_of : Shape → Line
 line_of finish = plain stop
@@ -135,9 +137,9 @@ GoesOn (plain r) = Unit {0}
 GoesOn (wait r) = Unit {0}
 GoesOn (inside k u r) = Unit {0}
 
-abbrev pub ComesAfter : Kind → Line → Type 0
-ComesAfter called r = GoesOn r
-ComesAfter spawned r = SyncAhead r
+abbrev pub ComesAfter : Invocation → Line → Type 0
+ComesAfter invocations.Call r = GoesOn r
+ComesAfter invocations.Spawn r = SyncAhead r
 
 abbrev pub IsClosed : Line → Type 0
 IsClosed stop = Unit {0}
@@ -151,9 +153,9 @@ sync_ahead (act r) h = sync_ahead r h
 sync_ahead (sync r) h = tt
 sync_ahead (child k u r) h = sync_ahead r h
 
-comes_after : (k : Kind) (r : Shape) → HasSyncIf k r → ComesAfter k (plain (line_of r))
-comes_after called r h = tt
-comes_after spawned r h = sync_ahead r h
+comes_after : (k : Invocation) (r : Shape) → HasSyncIf k r → ComesAfter k (plain (line_of r))
+comes_after invocations.Call r h = tt
+comes_after invocations.Spawn r h = sync_ahead r h
 
 pub closed_line : (s : Shape) → IsSynced s → IsClosed (line_of s)
 closed_line finish h = tt

@@ -6,7 +6,9 @@ use Rattle.cilk_types.specs.declared.event.Event.{Event}
 use Rattle.cilk_tree.specs.declared.mark.Mark.{Mark}
 use Rattle.cilk_tree.specs.declared.mark.Mark.TheVariants.{Begin, Resume}
 use Rattle.cilk_tree.specs.Marks.{mark_of, begun_by}
-use Rattle.cilk_tree.specs.Shape.{Kind, called, spawned, Shape, finish, act, sync, child, start_of, marks, Spells}
+use Rattle.cilk_types.specs.declared.invocation.Invocation.{Invocation}
+use Rattle.cilk_types.specs.declared.invocation.Invocation.TheVariants as invocations
+use Rattle.cilk_tree.specs.Shape.{Shape, finish, act, sync, child, start_of, marks, Spells}
 use Rattle.cilk_tree.specs.Tree.{Tree, strand, series, parallel, then_later, beside, Rest, block, blocks, rest_of, tree, leaves}
 use Rattle.cilk_tree.specs.Parallel.{Holds, Parallel}
 use Rattle.cilk_tree.specs.Races.{strand_at}
@@ -176,9 +178,9 @@ strands-blocks x o =
     ∙ (ap (λ (l : List ℕ). l ++ listed x.later (o + 1 + number x.after)) (strands-block x o)
     ∙ append_assoc (replicate (suc x.events) o) (listed x.after (o + 1)) (listed x.later (o + 1 + number x.after))))
 
-strands-beside : (k : Kind) (a b : Tree) (o : ℕ) → strands (beside k a b) o ≡ strands a o ++ strands b (o + leaves a)
-strands-beside called a b o = refl
-strands-beside spawned a b o = refl
+strands-beside : (k : Invocation) (a b : Tree) (o : ℕ) → strands (beside k a b) o ≡ strands a o ++ strands b (o + leaves a)
+strands-beside invocations.Call a b o = refl
+strands-beside invocations.Spawn a b o = refl
 
 numbers_rest : (r : Shape) (n : ℕ) → numbers (marks r) n ≡ following (rest_of r) n
 numbers_rest finish n = let z : n + 0 ≡ n = omega arith in ap (λ (k : ℕ). k ∷ []) z

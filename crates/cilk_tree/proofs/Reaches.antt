@@ -2,7 +2,8 @@
 use Rattle.std.proofs.Common.{◌≡◌, ◌≢◌, ℕ, zero, suc, ◌+◌, ◌<◌, ◌≤◌, List, [], ◌∷◌, ◌++◌, Some, None, slice_get, refl, sym, ap, subst, ◌∙◌, arith, ◌⊎◌, inl, inr, ⊎_elim}
 use mathlib.Core.Logic.{dite}
 use native.Mathlib.Decide.{dec_lt, ℕ_discrete}
-use Rattle.cilk_tree.specs.Shape.{Kind, called, spawned}
+use Rattle.cilk_types.specs.declared.invocation.Invocation.{Invocation}
+use Rattle.cilk_types.specs.declared.invocation.Invocation.TheVariants as invocations
 use Rattle.cilk_tree.specs.Reach.{Among, Reaches, direct, through, resumed_from, awaited}
 use Rattle.cilk_tree.proofs.Lines.{Line, stop, plain, wait, inside, long, block, Laid, SyncAhead, GoesOn, ComesAfter, IsClosed}
 use Rattle.cilk_tree.proofs.Places.{Lies}
@@ -55,9 +56,9 @@ comes_then {f} {c = c} (inl e) g = subst (λ z. Reaches f z c) (sym e) g
 comes_then (inr k) g = reach_then k g
 
 -- ---- beside each other, by the line
-abbrev pub Across : Kind → ℕ → ℕ → ℕ → ℕ → ℕ → Type 0
-Across called a n m p q = ⊥
-Across spawned a n m p q = Lies a n p × Lies (a + n) m q
+abbrev pub Across : Invocation → ℕ → ℕ → ℕ → ℕ → ℕ → Type 0
+Across invocations.Call a n m p q = ⊥
+Across invocations.Spawn a n m p q = Lies a n p × Lies (a + n) m q
 
 -- p is in a spawned child, and q in the rest of the block that spawned it
 abbrev pub Par : Line → ℕ → ℕ → ℕ → Type 0
@@ -66,13 +67,13 @@ Par (plain r) o p q = Par r (suc o) p q
 Par (wait r) o p q = Par r (suc o) p q
 Par (inside k u r) o p q = Par u (suc o) p q ⊎ Par r (suc (o + long u)) p q ⊎ Across k (suc o) (long u) (block r) p q
 
-from_resumed : {x : ℕ} (k : Kind) (o z : ℕ) → Among x (resumed_from k o z) → (x ≡ o) ⊎ (x ≡ z)
-from_resumed called o z h = inr (among_one h)
-from_resumed spawned o z h = inl (among_one h)
+from_resumed : {x : ℕ} (k : Invocation) (o z : ℕ) → Among x (resumed_from k o z) → (x ≡ o) ⊎ (x ≡ z)
+from_resumed invocations.Call o z h = inr (among_one h)
+from_resumed invocations.Spawn o z h = inl (among_one h)
 
-from_awaited : {x : ℕ} (k : Kind) (z : ℕ) (ends : List ℕ) → Among x (awaited k z ends) → (x ≡ z) ⊎ Among x ends
-from_awaited called z ends h = inr h
-from_awaited spawned z ends h = among_first z ends h
+from_awaited : {x : ℕ} (k : Invocation) (z : ℕ) (ends : List ℕ) → Among x (awaited k z ends) → (x ≡ z) ⊎ Among x ends
+from_awaited invocations.Call z ends h = inr h
+from_awaited invocations.Spawn z ends h = among_first z ends h
 
 pub block_long : (r : Line) → block r ≤ long r
 block_long stop = omega arith
@@ -80,9 +81,9 @@ block_long (plain r) = let k = block_long r in omega (arith, k)
 block_long (wait r) = omega arith
 block_long (inside k u r) = let h = block_long r in omega (arith, h)
 
-across_bounds : (k : Kind) (a n m p q : ℕ) → Across k a n m p q → Lies a n p × Lies (a + n) m q
-across_bounds called a n m p q h = absurd h
-across_bounds spawned a n m p q h = h
+across_bounds : (k : Invocation) (a n m p q : ℕ) → Across k a n m p q → Lies a n p × Lies (a + n) m q
+across_bounds invocations.Call a n m p q h = absurd h
+across_bounds invocations.Spawn a n m p q h = h
 
 pub par_bounds : (r : Line) (o p q : ℕ) → Par r o p q → (o ≤ p) × (p < q) × (q < o + long r)
 par_bounds stop o p q h = absurd h
@@ -108,10 +109,10 @@ low_one o x h = let e = among_one h in omega (arith, e)
 low_more : (ends : List ℕ) (o : ℕ) → Low ends o → Low ends (suc o)
 low_more ends o low x h = let k = low x h in omega (arith, k)
 
-low_resumed : (k : Kind) (o n : ℕ) → Low (resumed_from k o (o + n)) (suc (o + n))
+low_resumed : (k : Invocation) (o n : ℕ) → Low (resumed_from k o (o + n)) (suc (o + n))
 low_resumed k o n x h = ⊎_elim (λ e. omega arith) (λ e. omega arith) (from_resumed k o (o + n) h)
 
-low_awaited : (k : Kind) (o n : ℕ) (ends : List ℕ) → Low ends o → Low (awaited k (o + n) ends) (suc (o + n))
+low_awaited : (k : Invocation) (o n : ℕ) (ends : List ℕ) → Low ends o → Low (awaited k (o + n) ends) (suc (o + n))
 low_awaited k o n ends low x h = ⊎_elim (λ e. omega arith) (λ a. let i = low x a in omega arith) (from_awaited k (o + n) ends h)
 
 module _ (f : ℕ → List ℕ) where
@@ -171,14 +172,14 @@ module _ (f : ℕ → List ℕ) where
       (λ x. inr (omega arith))
       (in_block r (suc z) (resumed_from c o z) (awaited c z ends) h.2 q e (omega arith) (omega arith) a)))
 
-  across_edge : (c : Kind) (u r : Line) (o : ℕ) (ends : List ℕ) → Laid f r (suc (o + long u)) (resumed_from c o (o + long u)) (awaited c (o + long u) ends) → Low ends o → (p q e : ℕ) → Across c (suc o) (long u) (block r) p q → Among e (f q) → p ≤ e → Across c (suc o) (long u) (block r) p e
-  across_edge called u r o ends h low p q e k a le = absurd k
-  across_edge spawned u r o ends h low p q e k a le =
+  across_edge : (c : Invocation) (u r : Line) (o : ℕ) (ends : List ℕ) → Laid f r (suc (o + long u)) (resumed_from c o (o + long u)) (awaited c (o + long u) ends) → Low ends o → (p q e : ℕ) → Across c (suc o) (long u) (block r) p q → Among e (f q) → p ≤ e → Across c (suc o) (long u) (block r) p e
+  across_edge invocations.Call u r o ends h low p q e k a le = absurd k
+  across_edge invocations.Spawn u r o ends h low p q e k a le =
       let z : ℕ = o + long u in
       let m = block_long r in
       let far : q < suc z + block r = omega (arith, k.1.1) in
       let near : suc z ≤ q = omega (arith, k.1.0) in
-      let under = lower r (suc z) (o ∷ []) (z ∷ ends) h (low_resumed spawned o (long u)) (low_awaited spawned o (long u) ends low) q e near (omega arith) a in
+      let under = lower r (suc z) (o ∷ []) (z ∷ ends) h (low_resumed invocations.Spawn o (long u)) (low_awaited invocations.Spawn o (long u) ends low) q e near (omega arith) a in
       ⊎_elim
       (λ x. let same = among_one x in absurd (omega (arith, k.0.0)))
       (λ x. (k.0, (omega arith, omega arith)))
@@ -217,9 +218,9 @@ module _ (f : ℕ → List ℕ) where
   into (inside c u r) o prev ends h some x a = direct (subst (Among x) (sym h.0) a)
 
   -- what comes right before the rest, and is reached from the invocation
-  resumed_reach : (c : Kind) (o z : ℕ) → Comes f o z → (y : ℕ) × Among y (resumed_from c o z) × Comes f o y
-  resumed_reach called o z h = (z, among_here z [], h)
-  resumed_reach spawned o z h = (o, among_here o [], inl refl)
+  resumed_reach : (c : Invocation) (o z : ℕ) → Comes f o z → (y : ℕ) × Among y (resumed_from c o z) × Comes f o y
+  resumed_reach invocations.Call o z h = (z, among_here z [], h)
+  resumed_reach invocations.Spawn o z h = (o, among_here o [], inl refl)
 
   -- reaches all of it
   pub first : (r : Line) (o : ℕ) (prev ends : List ℕ) → Laid f r o prev ends → (x : ℕ) → Among x prev → (q : ℕ) → o ≤ q → q < o + long r → Reaches f x q
@@ -265,9 +266,9 @@ module _ (f : ℕ → List ℕ) where
       (λ past. let k = resumed_reach c o z (to_end u o h.1) in
       comes_then k.2 (first r (suc z) (resumed_from c o z) (awaited c z ends) h.2 k.0 k.1 q (omega arith) (omega arith)))
 
-  more_awaited : {x : ℕ} (c : Kind) (z : ℕ) (ends : List ℕ) → Among x ends → Among x (awaited c z ends)
-  more_awaited called z ends h = h
-  more_awaited spawned z ends h = among_more z ends h
+  more_awaited : {x : ℕ} (c : Invocation) (z : ℕ) (ends : List ℕ) → Among x ends → Among x (awaited c z ends)
+  more_awaited invocations.Call z ends h = h
+  more_awaited invocations.Spawn z ends h = among_more z ends h
 
   -- an end that the block awaits reaches all from the sync on
   pub rejoin : (r : Line) (o : ℕ) (prev ends : List ℕ) → Laid f r o prev ends → (x : ℕ) → Among x ends → (q : ℕ) → o + block r ≤ q → q < o + long r → Reaches f x q
@@ -282,9 +283,9 @@ module _ (f : ℕ → List ℕ) where
       rejoin r (suc (o + long u)) (resumed_from c o (o + long u)) (awaited c (o + long u) ends) h.2 x (more_awaited c (o + long u) ends a) q (omega arith) (omega arith)
 
   -- the end of a child reaches what doesn't lie across from it
-  pub past_end : (c : Kind) (r : Line) (o z : ℕ) (ends : List ℕ) → Laid f r (suc z) (resumed_from c o z) (awaited c z ends) → (q : ℕ) → suc z ≤ q → q < suc z + long r → (c ≡ spawned → suc z + block r ≤ q) → Reaches f z q
-  past_end called r o z ends h q le lt far = first r (suc z) (z ∷ []) ends h z (among_here z []) q le lt
-  past_end spawned r o z ends h q le lt far = rejoin r (suc z) (o ∷ []) (z ∷ ends) h z (among_here z ends) q (far refl) lt
+  pub past_end : (c : Invocation) (r : Line) (o z : ℕ) (ends : List ℕ) → Laid f r (suc z) (resumed_from c o z) (awaited c z ends) → (q : ℕ) → suc z ≤ q → q < suc z + long r → (c ≡ invocations.Spawn → suc z + block r ≤ q) → Reaches f z q
+  past_end invocations.Call r o z ends h q le lt far = first r (suc z) (z ∷ []) ends h z (among_here z []) q le lt
+  past_end invocations.Spawn r o z ends h q le lt far = rejoin r (suc z) (o ∷ []) (z ∷ ends) h z (among_here z ends) q (far refl) lt
 
 goes_on : (r : Line) → GoesOn r → 0 < long r
 goes_on stop h = absurd h
@@ -298,14 +299,14 @@ sync_ahead (plain r) h = let k = sync_ahead r h in omega (arith, k)
 sync_ahead (wait r) h = omega arith
 sync_ahead (inside c u r) h = let k = sync_ahead r h in omega (arith, k)
 
-comes_after : (c : Kind) (r : Line) (z : ℕ) → ComesAfter c r → (0 < long r) × (c ≡ spawned → suc z + block r ≤ z + long r)
-comes_after called r z h = (goes_on r h, λ e. absurd (cc e))
-comes_after spawned r z h = let k = sync_ahead r h in (omega (arith, k), λ e. omega (arith, k))
+comes_after : (c : Invocation) (r : Line) (z : ℕ) → ComesAfter c r → (0 < long r) × (c ≡ invocations.Spawn → suc z + block r ≤ z + long r)
+comes_after invocations.Call r z h = (goes_on r h, λ e. absurd (cc e))
+comes_after invocations.Spawn r z h = let k = sync_ahead r h in (omega (arith, k), λ e. omega (arith, k))
 
 -- what doesn't lie across from a child
-far_from : (c : Kind) (a n m p q : ℕ) → Lies a n p → a + n ≤ q → (Across c a n m p q → ⊥) → c ≡ spawned → a + n + m ≤ q
-far_from called a n m p q i le never e = absurd (cc e)
-far_from spawned a n m p q i le never e = dite (dec_lt q (a + n + m)) (λ (lt : q < a + n + m). absurd (never (i, (le, lt)))) (λ not. omega arith)
+far_from : (c : Invocation) (a n m p q : ℕ) → Lies a n p → a + n ≤ q → (Across c a n m p q → ⊥) → c ≡ invocations.Spawn → a + n + m ≤ q
+far_from invocations.Call a n m p q i le never e = absurd (cc e)
+far_from invocations.Spawn a n m p q i le never e = dite (dec_lt q (a + n + m)) (λ (lt : q < a + n + m). absurd (never (i, (le, lt)))) (λ not. omega arith)
 
 module _ (f : ℕ → List ℕ) where
   -- all of a closed line reaches its last event, at z

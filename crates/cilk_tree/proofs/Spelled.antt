@@ -2,7 +2,9 @@
 use Rattle.std.proofs.Common.{◌≡◌, List, [], ◌∷◌, ◌++◌, refl, sym, ap, ap₂, ◌∙◌, subst, append_assoc, append-nil}
 use Rattle.cilk_tree.specs.declared.mark.Mark.{Mark}
 use Rattle.cilk_tree.specs.declared.mark.Mark.TheVariants.{Begin, End, Sync, Resume, Spawn, Call, Plain}
-use Rattle.cilk_tree.specs.Shape.{Kind, called, spawned, Shape, finish, act, sync, child, start_of, marks, SpellsOneShape}
+use Rattle.cilk_types.specs.declared.invocation.Invocation.{Invocation}
+use Rattle.cilk_types.specs.declared.invocation.Invocation.TheVariants as invocations
+use Rattle.cilk_tree.specs.Shape.{Shape, finish, act, sync, child, start_of, marks, SpellsOneShape}
 
 abbrev first_or : List Mark → Mark
 first_or [] = Begin
@@ -32,19 +34,19 @@ abbrev IsSpawn : Mark → Type 0
 IsSpawn Spawn = Unit {0}
 IsSpawn m = ⊥
 
-one_kind : (k j : Kind) → start_of k ≡ start_of j → k ≡ j
-one_kind called called e = refl
-one_kind spawned spawned e = refl
-one_kind called spawned e = absurd (subst IsCall e tt)
-one_kind spawned called e = absurd (subst IsSpawn e tt)
+one_kind : (k j : Invocation) → start_of k ≡ start_of j → k ≡ j
+one_kind invocations.Call invocations.Call e = refl
+one_kind invocations.Spawn invocations.Spawn e = refl
+one_kind invocations.Call invocations.Spawn e = absurd (subst IsCall e tt)
+one_kind invocations.Spawn invocations.Call e = absurd (subst IsSpawn e tt)
 
 -- a start is no end, plain event or sync
-start_no : (P : Mark → Type 0) (k : Kind) (m : Mark) → start_of k ≡ m → P m → (P Call → ⊥) → (P Spawn → ⊥) → ⊥
-start_no P called m e h a b = a (subst P (sym e) h)
-start_no P spawned m e h a b = b (subst P (sym e) h)
+start_no : (P : Mark → Type 0) (k : Invocation) (m : Mark) → start_of k ≡ m → P m → (P Call → ⊥) → (P Spawn → ⊥) → ⊥
+start_no P invocations.Call m e h a b = a (subst P (sym e) h)
+start_no P invocations.Spawn m e h a b = b (subst P (sym e) h)
 
 -- the marks of a child, and more
-child_more : (k : Kind) (u r : Shape) (xs : List Mark) → marks (child k u r) ++ xs ≡ start_of k ∷ Begin ∷ (marks u ++ Resume ∷ (marks r ++ xs))
+child_more : (k : Invocation) (u r : Shape) (xs : List Mark) → marks (child k u r) ++ xs ≡ start_of k ∷ Begin ∷ (marks u ++ Resume ∷ (marks r ++ xs))
 child_more k u r xs = ap (λ l. start_of k ∷ Begin ∷ l) (append_assoc (marks u) (Resume ∷ marks r) xs)
 
 pub one_shape : (s t : Shape) (xs ys : List Mark) → marks s ++ xs ≡ marks t ++ ys → (s ≡ t) × (xs ≡ ys)

@@ -5,7 +5,9 @@ use Rattle.cilk_types.specs.declared.event.Event.{Event}
 use Rattle.cilk_tree.specs.declared.mark.Mark.{Mark}
 use Rattle.cilk_tree.specs.declared.mark.Mark.TheVariants.{Begin, Resume}
 use Rattle.cilk_tree.specs.Marks.{mark_of, begun_by}
-use Rattle.cilk_tree.specs.Shape.{Kind, called, spawned, Shape, finish, act, sync, child, start_of, marks, Spells}
+use Rattle.cilk_types.specs.declared.invocation.Invocation.{Invocation}
+use Rattle.cilk_types.specs.declared.invocation.Invocation.TheVariants as invocations
+use Rattle.cilk_tree.specs.Shape.{Shape, finish, act, sync, child, start_of, marks, Spells}
 use Rattle.cilk_tree.specs.Tree.{Tree, strand, then_later, beside, Rest, block, blocks, rest_of, tree, leaves}
 use Rattle.cilk_tree.specs.Parallel.{Holds, Parallel}
 use Rattle.cilk_tree.specs.Hebrew.{hebrew}
@@ -35,13 +37,13 @@ leaves-block x = leaves-then_later (strand (suc x.events)) x.after
 pub leaves-blocks : (x : Rest) → leaves (blocks x) ≡ 1 + number x.after + number x.later
 leaves-blocks x = let p = leaves-then_later (block x) x.later in let q = leaves-block x in omega (arith, p, q)
 
-pub leaves-beside : (k : Kind) (a b : Tree) → leaves (beside k a b) ≡ leaves a + leaves b
-leaves-beside called a b = refl
-leaves-beside spawned a b = refl
+pub leaves-beside : (k : Invocation) (a b : Tree) → leaves (beside k a b) ≡ leaves a + leaves b
+leaves-beside invocations.Call a b = refl
+leaves-beside invocations.Spawn a b = refl
 
-pub begun-start_of : (k : Kind) → begun_by (start_of k) ≡ 0
-begun-start_of called = refl
-begun-start_of spawned = refl
+pub begun-start_of : (k : Invocation) → begun_by (start_of k) ≡ 0
+begun-start_of invocations.Call = refl
+begun-start_of invocations.Spawn = refl
 
 pub count-marks : (r : Shape) → count (marks r) ≡ number (rest_of r).after + number (rest_of r).later
 count-marks finish = refl

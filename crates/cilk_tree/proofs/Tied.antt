@@ -2,7 +2,9 @@
 use Rattle.std.proofs.Common.{◌≡◌, ℕ, suc, ◌+◌, ◌<◌, List, [], length, Option, Some, None, refl, sym, subst, arith, ◌⊎◌, inl, inr}
 use Rattle.std.proofs.lemmas.Bool.{cases_lt}
 use Rattle.cilk_types.specs.declared.event.Event.{Event}
-use Rattle.cilk_tree.specs.Shape.{Kind, called, spawned, Shape, finish, act, sync, child, Spells}
+use Rattle.cilk_types.specs.declared.invocation.Invocation.{Invocation}
+use Rattle.cilk_types.specs.declared.invocation.Invocation.TheVariants as invocations
+use Rattle.cilk_tree.specs.Shape.{Shape, finish, act, sync, child, Spells}
 use Rattle.cilk_tree.specs.Tree.{Tree, strand, then_later, beside, Rest, block as block_of, blocks, rest_of, tree}
 use Rattle.cilk_tree.specs.Reach.{Among, preceding, ReachesOnlyLater, IsReachability}
 use Rattle.cilk_tree.proofs.Places.{size, Beside, before_earlier, earlier_before, size-spelled}
@@ -27,9 +29,9 @@ size-block x = size-then_later (strand (suc x.events)) x.after
 pub size-blocks : (x : Rest) → size (blocks x) ≡ suc x.events + sizes x.after + sizes x.later
 size-blocks x = let h = size-then_later (block_of x) x.later in let g = size-block x in omega (arith, h, g)
 
-pub size-beside : (k : Kind) (a b : Tree) → size (beside k a b) ≡ size a + size b
-size-beside called a b = refl
-size-beside spawned a b = refl
+pub size-beside : (k : Invocation) (a b : Tree) → size (beside k a b) ≡ size a + size b
+size-beside invocations.Call a b = refl
+size-beside invocations.Spawn a b = refl
 
 -- events of the block at hand and of all
 pub measures : (r : Shape) → (block (line_of r) ≡ (rest_of r).events + sizes (rest_of r).after) × (long (line_of r) ≡ (rest_of r).events + sizes (rest_of r).after + sizes (rest_of r).later)
@@ -74,20 +76,20 @@ part_blocks x e j l p q f g h =
       | inr k ↦ inr k
     ]
 
-join_child : (k : Kind) (a b : Tree) (e n m p q : ℕ) → n ≡ size a → m ≡ size b → Beside a e p q ⊎ Beside b (e + n) p q ⊎ Across k e n m p q → Beside (beside k a b) e p q
-join_child called a b e n m p q f g (inl h) = inl h
-join_child called a b e n m p q f g (inr (inl h)) = inr (subst (λ (z : ℕ). Beside b (e + z) p q) f h)
-join_child called a b e n m p q f g (inr (inr h)) = absurd h
-join_child spawned a b e n m p q f g (inl h) = inl h
-join_child spawned a b e n m p q f g (inr (inl h)) = inr (inl (subst (λ (z : ℕ). Beside b (e + z) p q) f h))
-join_child spawned a b e n m p q f g (inr (inr (x, y))) = inr (inr ((omega (arith, x), omega (arith, x, f)), (omega (arith, y, f), omega (arith, y, f, g))))
+join_child : (k : Invocation) (a b : Tree) (e n m p q : ℕ) → n ≡ size a → m ≡ size b → Beside a e p q ⊎ Beside b (e + n) p q ⊎ Across k e n m p q → Beside (beside k a b) e p q
+join_child invocations.Call a b e n m p q f g (inl h) = inl h
+join_child invocations.Call a b e n m p q f g (inr (inl h)) = inr (subst (λ (z : ℕ). Beside b (e + z) p q) f h)
+join_child invocations.Call a b e n m p q f g (inr (inr h)) = absurd h
+join_child invocations.Spawn a b e n m p q f g (inl h) = inl h
+join_child invocations.Spawn a b e n m p q f g (inr (inl h)) = inr (inl (subst (λ (z : ℕ). Beside b (e + z) p q) f h))
+join_child invocations.Spawn a b e n m p q f g (inr (inr (x, y))) = inr (inr ((omega (arith, x), omega (arith, x, f)), (omega (arith, y, f), omega (arith, y, f, g))))
 
-part_child : (k : Kind) (a b : Tree) (e n m p q : ℕ) → n ≡ size a → m ≡ size b → Beside (beside k a b) e p q → Beside a e p q ⊎ Beside b (e + n) p q ⊎ Across k e n m p q
-part_child called a b e n m p q f g (inl h) = inl h
-part_child called a b e n m p q f g (inr h) = inr (inl (subst (λ (z : ℕ). Beside b (e + z) p q) (sym f) h))
-part_child spawned a b e n m p q f g (inl h) = inl h
-part_child spawned a b e n m p q f g (inr (inl h)) = inr (inl (subst (λ (z : ℕ). Beside b (e + z) p q) (sym f) h))
-part_child spawned a b e n m p q f g (inr (inr (x, y))) = inr (inr ((omega (arith, x), omega (arith, x, f)), (omega (arith, y, f), omega (arith, y, f, g))))
+part_child : (k : Invocation) (a b : Tree) (e n m p q : ℕ) → n ≡ size a → m ≡ size b → Beside (beside k a b) e p q → Beside a e p q ⊎ Beside b (e + n) p q ⊎ Across k e n m p q
+part_child invocations.Call a b e n m p q f g (inl h) = inl h
+part_child invocations.Call a b e n m p q f g (inr h) = inr (inl (subst (λ (z : ℕ). Beside b (e + z) p q) (sym f) h))
+part_child invocations.Spawn a b e n m p q f g (inl h) = inl h
+part_child invocations.Spawn a b e n m p q f g (inr (inl h)) = inr (inl (subst (λ (z : ℕ). Beside b (e + z) p q) (sym f) h))
+part_child invocations.Spawn a b e n m p q f g (inr (inr (x, y))) = inr (inr ((omega (arith, x), omega (arith, x, f)), (omega (arith, y, f), omega (arith, y, f, g))))
 
 -- The rest of a frame from position k on: its block from j on, and the later blocks from l on.
 to_tree : (r : Shape) (k j l p q : ℕ) → j ≡ k + (rest_of r).events → l ≡ j + sizes (rest_of r).after → Par (line_of r) k p q → BesideIf (rest_of r).after j p q ⊎ BesideIf (rest_of r).later l p q

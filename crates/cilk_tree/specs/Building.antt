@@ -3,14 +3,14 @@ use Rattle.std.specs.Prelude.{ℕ, ◌+◌, ◌-◌, ◌==◌, cond, List, [], �
 use Rattle.cilk_tree.specs.declared.tree.Node.TheVariants.{Strand, Series, Parallel}
 use Rattle.cilk_tree.specs.declared.mark.Mark.{Mark}
 use Rattle.cilk_tree.specs.declared.mark.Mark.TheVariants.{Begin, End, Sync, Resume, Spawn, Call, Plain}
-use Rattle.cilk_tree.specs.declared.building.Place.{Place}
+use Rattle.cilk_tree.specs.declared.building.StrandCounts.{StrandCounts}
 use Rattle.cilk_tree.specs.Built.{Built}
 
 -- before any event was met
 abbrev pub opening : Built
 opening = record { nodes = []; outer = []; place = record { frame = 0; block = 0; child = 0 }; strands = 0; events = 0 }
 
-abbrev pub place_at : ℕ → Place
+abbrev pub place_at : ℕ → StrandCounts
 place_at n = record { frame = n; block = n; child = n }
 
 -- the strand at hand as a leaf, in series with what its block has after it
@@ -25,11 +25,11 @@ strand_closed b = record b {
 abbrev pub block_closed : Built → Built
 block_closed b = record b { nodes = cond (b.place.block == b.place.frame) [] (Series (b.strands - b.place.block) ∷ []) ++ b.nodes }
 
-abbrev pub inner_place : Place → List Place → Place
+abbrev pub inner_place : StrandCounts → List StrandCounts → StrandCounts
 inner_place p [] = p
 inner_place p (q ∷ qs) = q
 
-abbrev pub outer_places : List Place → List Place
+abbrev pub outer_places : List StrandCounts → List StrandCounts
 outer_places [] = []
 outer_places (q ∷ qs) = qs
 

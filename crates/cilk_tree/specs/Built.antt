@@ -1,12 +1,12 @@
 -- A tree that is being built, as contracts see it.
 use Rattle.std.specs.Prelude.{ℕ, List}
 use Rattle.cilk_tree.specs.declared.tree.Node.{Node}
-use Rattle.cilk_tree.specs.declared.building.Place.{Place}
+use Rattle.cilk_tree.specs.declared.building.StrandCounts.{StrandCounts}
 
 -- the nodes, the last one first; the frames that wait, the innermost first; and the fields of their names
 pub record Built : Type 0 where
   pub nodes : List Node
-  pub outer : List Place
-  pub place : Place
+  pub outer : List StrandCounts
+  pub place : StrandCounts
   pub strands : ℕ
   pub events : ℕ

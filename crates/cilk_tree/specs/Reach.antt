@@ -1,19 +1,21 @@
 -- Before as reachability: each event has its immediate predecessors, and an event is before what it reaches by them.
 use Rattle.std.specs.Prelude.{◌≡◌, ℕ, suc, ◌+◌, ◌-◌, ◌↔◌, List, [], ◌∷◌, ◌++◌, length, Some, slice_get, slice_index_or}
 use Rattle.cilk_types.specs.declared.event.Event.{Event}
-use Rattle.cilk_tree.specs.Shape.{Kind, called, spawned, Shape, finish, act, sync, child, marks, Spells}
+use Rattle.cilk_types.specs.declared.invocation.Invocation.{Invocation}
+use Rattle.cilk_types.specs.declared.invocation.Invocation.TheVariants as invocations
+use Rattle.cilk_tree.specs.Shape.{Shape, finish, act, sync, child, marks, Spells}
 use Rattle.cilk_tree.specs.Tree.{tree}
 use Rattle.cilk_tree.specs.Before.{IsPosition, IsBefore}
 
 -- what comes right before the `resume` after a child: the child's `end` after a call, and the spawn after a spawn
-abbrev pub resumed_from : Kind → ℕ → ℕ → List ℕ
-resumed_from called start end = end ∷ []
-resumed_from spawned start end = start ∷ []
+abbrev pub resumed_from : Invocation → ℕ → ℕ → List ℕ
+resumed_from invocations.Call start end = end ∷ []
+resumed_from invocations.Spawn start end = start ∷ []
 
 -- the ends that the block's `sync` awaits, once such a child has ended
-abbrev pub awaited : Kind → ℕ → List ℕ → List ℕ
-awaited called end ends = ends
-awaited spawned end ends = end ∷ ends
+abbrev pub awaited : Invocation → ℕ → List ℕ → List ℕ
+awaited invocations.Call end ends = ends
+awaited invocations.Spawn end ends = end ∷ ends
 
 -- The immediate predecessors of a shape's events, from position p on: those of its first event are `ahead`, and `ends` are the
 -- `end`s of the children that were spawned in the block so far. A `sync` has the event ahead of it and those ends, the `resume` after
@@ -51,9 +53,9 @@ HasSync (act r) = HasSync r
 HasSync (sync r) = Unit {0}
 HasSync (child k u r) = HasSync r
 
-abbrev pub HasSyncIf : Kind → Shape → Type 0
-HasSyncIf called r = Unit {0}
-HasSyncIf spawned r = HasSync r
+abbrev pub HasSyncIf : Invocation → Shape → Type 0
+HasSyncIf invocations.Call r = Unit {0}
+HasSyncIf invocations.Spawn r = HasSync r
 
 -- each frame syncs after it spawned, as a frame does before it ends
 abbrev pub IsSynced : Shape → Type 0

@@ -1,14 +1,11 @@
 -- The shape of a run: its frames and their parallel words, without values.
 use Rattle.std.specs.Prelude.{◌≡◌, List, [], ◌∷◌, ◌++◌, map}
 use Rattle.cilk_types.specs.declared.event.Event.{Event}
+use Rattle.cilk_types.specs.declared.invocation.Invocation.{Invocation}
+use Rattle.cilk_types.specs.declared.invocation.Invocation.TheVariants as invocations
 use Rattle.cilk_tree.specs.declared.mark.Mark.{Mark}
 use Rattle.cilk_tree.specs.declared.mark.Mark.TheVariants.{Begin, End, Sync, Resume, Spawn, Call, Plain}
 use Rattle.cilk_tree.specs.Marks.{mark_of}
-
--- how a frame starts a child
-pub data Kind : Type 0 where
-  called : Kind
-  spawned : Kind
 
 -- A frame's events from some point on, with the frames that it starts inside: its end; an event that begins no strand;
 -- a sync; or a child's start, that child's events after its `begin`, and the events after the `resume` that follows the child.
@@ -17,11 +14,12 @@ pub data Shape : Type 0 where
   finish : Shape
   act : (rest : Shape) → Shape
   sync : (rest : Shape) → Shape
-  child : (kind : Kind) (inner : Shape) (rest : Shape) → Shape
+  child : (how : Invocation) (inner : Shape) (rest : Shape) → Shape
 
-abbrev pub start_of : Kind → Mark
-start_of called = Call
-start_of spawned = Spawn
+-- the event that starts a child
+abbrev pub start_of : Invocation → Mark
+start_of invocations.Call = Call
+start_of invocations.Spawn = Spawn
 
 -- the events of a shape in serial order
 abbrev pub marks : Shape → List Mark

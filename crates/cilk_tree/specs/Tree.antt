@@ -1,6 +1,8 @@
 -- The series-parallel tree of a run (Feng and Leiserson 1997, section 2), whose leaves are strands.
 use Rattle.std.specs.Prelude.{ℕ, suc, ◌+◌, List, [], ◌∷◌, ◌++◌, Option, Some, None}
-use Rattle.cilk_tree.specs.Shape.{Kind, called, spawned, Shape, finish, act, sync, child}
+use Rattle.cilk_types.specs.declared.invocation.Invocation.{Invocation}
+use Rattle.cilk_types.specs.declared.invocation.Invocation.TheVariants as invocations
+use Rattle.cilk_tree.specs.Shape.{Shape, finish, act, sync, child}
 use Rattle.cilk_tree.specs.declared.tree.Node.{Node}
 use Rattle.cilk_tree.specs.declared.tree.Node.TheVariants as nodes
 
@@ -16,9 +18,9 @@ then_later t None = t
 then_later t (Some later) = series t later
 
 -- a child and the rest of its parent's block
-abbrev pub beside : Kind → Tree → Tree → Tree
-beside called inner rest = series inner rest
-beside spawned inner rest = parallel inner rest
+abbrev pub beside : Invocation → Tree → Tree → Tree
+beside invocations.Call inner rest = series inner rest
+beside invocations.Spawn inner rest = parallel inner rest
 
 -- what comes after a point in a frame: so many events of the strand there, what the block has after that strand, and the later blocks
 pub record Rest : Type 0 where

@@ -2,7 +2,8 @@
 use Rattle.std.specs.Prelude.{◌≡◌, List, [], ◌∷◌, pos}
 use Rattle.cilk_types.specs.declared.event.Event.{Event}
 use Rattle.cilk_types.specs.declared.event.Event.TheVariants.{Begin, Spawn, Resume, Sync, End, Read, Write}
-use Rattle.cilk_tree.specs.Shape.{spawned, Shape, finish, act, sync, child, Spells}
+use Rattle.cilk_types.specs.declared.invocation.Invocation.TheVariants as invocations
+use Rattle.cilk_tree.specs.Shape.{Shape, finish, act, sync, child, Spells}
 use Rattle.cilk_tree.specs.Tree.{tree}
 use Rattle.cilk_tree.specs.Hebrew.{hebrews}
 use Rattle.cilk_tree.specs.Span.{IsSpan}
@@ -20,7 +21,7 @@ EmptyIsChain = Spells empty empty_events × IsSpan (tree empty) empty_events 3
 
 -- A spawned function writes a variable, which its parent reads before it syncs.
 abbrev pub spawn_race : Shape
-spawn_race = act (act (child spawned (sync (act finish)) (act (act (sync (act (sync finish)))))))
+spawn_race = act (act (child invocations.Spawn (sync (act finish)) (act (act (sync (act (sync finish)))))))
 
 abbrev pub spawn_race_events : List Event
 spawn_race_events =

@@ -18,7 +18,7 @@ use std::marker::Model;
 /// Where the pass stands in a frame, by the number of strands met before: behind the frame, behind its block at hand,
 /// and behind the child at hand.
 #[derive(Clone, Copy, Debug)]
-pub struct Place {
+pub struct StrandCounts {
     pub frame: u32,
     pub block: u32,
     pub child: u32,
@@ -29,8 +29,8 @@ pub struct Place {
 #[derive(Drop)]
 pub struct Building {
     nodes: Stack<Node>,
-    outer: Stack<Place>,
-    place: Place,
+    outer: Stack<StrandCounts>,
+    place: StrandCounts,
     strands: u32,
     events: u32,
 }
@@ -50,7 +50,7 @@ impl Building {
         Building {
             nodes: Stack::new(alloc),
             outer: Stack::new(alloc),
-            place: Place {
+            place: StrandCounts {
                 frame: 0,
                 block: 0,
                 child: 0,
@@ -100,7 +100,7 @@ impl Building {
             Mark::Plain => {}
             Mark::End => {
                 self.outer.push(self.place)?;
-                self.place = Place {
+                self.place = StrandCounts {
                     frame: self.strands,
                     block: self.strands,
                     child: self.strands,

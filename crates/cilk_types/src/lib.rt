@@ -12,9 +12,11 @@
 //! ```
 #![tactic(auto)]
 
+pub mod compound;
 pub mod event;
 pub mod fault;
 pub mod input;
+pub mod invocation;
 pub mod laws;
 pub mod limits;
 pub mod outcome;

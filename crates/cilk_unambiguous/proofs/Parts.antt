@@ -8,9 +8,9 @@ use Rattle.cilk_token.specs.declared.token.Kind.{Kind}
 use Rattle.cilk_token.specs.declared.token.Kind.TheVariants as kinds
 use Rattle.cilk_token.specs.declared.token.Token.{Token}
 use Rattle.cilk_syntax.specs.declared.tree.Name.{Name}
-use Rattle.cilk_syntax.specs.declared.tree.Compound.TheVariants as compounds
-use Rattle.cilk_syntax.specs.declared.tree.Invocation.{Invocation}
-use Rattle.cilk_syntax.specs.declared.tree.Invocation.TheVariants as invocations
+use Rattle.cilk_types.specs.declared.compound.Compound.TheVariants as compounds
+use Rattle.cilk_types.specs.declared.invocation.Invocation.{Invocation}
+use Rattle.cilk_types.specs.declared.invocation.Invocation.TheVariants as invocations
 use Rattle.cilk_syntax.specs.Trees as trees
 use Rattle.cilk_syntax.specs.Trees.{Expression, Argument, Call, Assignment, Local, LocalInitializer, Beginning, Bounds}
 use Rattle.cilk_grammar.specs.Grammar.{Is, IsName, SpellsExpr, SpellsInside, SpellsEnded, SpellsOptional, SpellsArgument, SpellsMoreArguments, SpellsArguments, SpellsCall, SpellsInvoked, SpellsPlace, SpellsAssignment}

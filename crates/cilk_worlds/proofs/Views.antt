@@ -21,7 +21,7 @@ module _ (k : MonoidKind) where
   single_is : (n : ℤ) → IsWord n → IsViewOf k ((views_of k).single n) ((structure_of k).single n)
   single_is n word = let law = lawful k in record { member = law.single_member n word; multiplies = λ u h. refl }
 
-  join_is : (v w : View) (x y : ViewValue) → IsViewOf k v x → IsViewOf k w y → IsViewOf k ((views_of k).join v w) ((structure_of k).combine x y)
+  join_is : (v w : View) (x y : ViewValue) → IsViewOf k v x → IsViewOf k w y → IsViewOf k ((views_of k).combine v w) ((structure_of k).combine x y)
   join_is v w x y h g =
       let law = lawful k in
       record {
@@ -33,7 +33,7 @@ module _ (k : MonoidKind) where
   value_is : (v : View) (x : ViewValue) → IsViewOf k v x → value_of k v ≡ x
   value_is v x h = let law = lawful k in h.multiplies ((structure_of k).unit) law.unit_member ∙ law.left_neutral x h.member
 
-  updated_is : (v : View) (x : ViewValue) (n : ℤ) → IsWord n → IsViewOf k v x → IsViewOf k ((views_of k).join v ((views_of k).single n)) ((structure_of k).combine x ((structure_of k).single n))
+  updated_is : (v : View) (x : ViewValue) (n : ℤ) → IsWord n → IsViewOf k v x → IsViewOf k ((views_of k).combine v ((views_of k).single n)) ((structure_of k).combine x ((structure_of k).single n))
   updated_is v x n word h = join_is v ((views_of k).single n) x ((structure_of k).single n) h (single_is n word)
 
   -- where the event is of the reducer, its view is the one that the event makes
@@ -48,7 +48,7 @@ module _ (i : Instance) (j : numbered.Instance) where
 
   update_is : (n : ℤ) → IsWord n → LeavesSame i (Passes (Updates i n)) j (Updated j n)
   update_is n word v x h =
-      chosen (kind_of i) (same_instance i i) (ranges.same_instance j j) ((views_of (kind_of i)).join v ((views_of (kind_of i)).single n)) v ((structure_of (kind_of i)).combine x ((structure_of (kind_of i)).single n)) x
+      chosen (kind_of i) (same_instance i i) (ranges.same_instance j j) ((views_of (kind_of i)).combine v ((views_of (kind_of i)).single n)) v ((structure_of (kind_of i)).combine x ((structure_of (kind_of i)).single n)) x
       (same_instance-refl i) (same_self j) (updated_is (kind_of i) v x n word h)
 
   set_is : (n : ℤ) → IsWord n → LeavesSame i (Passes (Sets i n)) j (SetTo j n)
@@ -61,7 +61,7 @@ module _ (i : Instance) (j : numbered.Instance) where
 
 printed_is : (j : numbered.Instance) (n : ℤ) → IsWord n → LeavesSame Output (Passes (Prints n)) j (Updated j n)
 printed_is j n word v x h =
-    chosen Append true (ranges.same_instance j j) ((views_of Append).join v ((views_of Append).single n)) v ((structure_of Append).combine x ((structure_of Append).single n)) x
+    chosen Append true (ranges.same_instance j j) ((views_of Append).combine v ((views_of Append).single n)) v ((structure_of Append).combine x ((structure_of Append).single n)) x
     refl (same_self j) (updated_is Append v x n word h)
 
 pub are_multiplied : AreMultiplied

@@ -25,7 +25,7 @@ pub record AreMultiplied : Type 0 where
   -- the view of one word
   pub single : (k : MonoidKind) (n : ℤ) → IsWord n → IsViewOf k ((views_of k).single n) ((structure_of k).single n)
   -- two views in serial order are their product
-  pub join : (k : MonoidKind) (v w : View) (x y : ViewValue) → IsViewOf k v x → IsViewOf k w y → IsViewOf k ((views_of k).join v w) ((structure_of k).combine x y)
+  pub join : (k : MonoidKind) (v w : View) (x y : ViewValue) → IsViewOf k v x → IsViewOf k w y → IsViewOf k ((views_of k).combine v w) ((structure_of k).combine x y)
   -- the value of a view, and the number that a program reads
   pub value : (k : MonoidKind) (v : View) (x : ViewValue) → IsViewOf k v x → value_of k v ≡ x
   pub number : (k : MonoidKind) (v : View) (x : ViewValue) → IsViewOf k v x → (views_of k).number v ≡ (structure_of k).number x

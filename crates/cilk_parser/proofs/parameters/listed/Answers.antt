@@ -1,7 +1,7 @@
 use Rattle.std.proofs.Common.{◌∷◌, ◌∙◌, refl, arith}
 use Rattle.std.proofs.lemmas.Grind.{common_steps}
 use Rattle.cilk_token.specs.declared.token.Kind.TheVariants as kinds
-use Rattle.cilk_grammar.specs.declared.marks.Mark.TheVariants as marks
+use Rattle.cilk_grammar.specs.declared.marks.Punct.TheVariants as marks
 use Rattle.cilk_grammar.specs.Expected.{One, Parameter, MoreParameters}
 use Rattle.cilk_grammar.proofs.Lists.{parameters_push}
 use Rattle.cilk_grammar.proofs.Runs.{takes}

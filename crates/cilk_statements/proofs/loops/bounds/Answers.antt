@@ -1,5 +1,5 @@
 use Rattle.std.proofs.Common.{ℕ, List, ◌∷◌, ◌∙◌}
-use Rattle.cilk_grammar.specs.declared.marks.Mark.TheVariants as marks
+use Rattle.cilk_grammar.specs.declared.marks.Punct.TheVariants as marks
 use Rattle.cilk_grammar.specs.Expected.{Symbol, One, Named, Operand, Tail, Anew, UnitStep}
 use Rattle.cilk_grammar.proofs.Stopping.{handed, along}
 use Rattle.cilk_statements.proofs.loops.bounds.Goals as goal

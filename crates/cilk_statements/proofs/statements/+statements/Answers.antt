@@ -2,7 +2,7 @@ use Rattle.std.proofs.Common.{◌≡◌, ◌+◌, ◌≤◌, ℕ, pos, List, ◌
 use Rattle.std.proofs.lemmas.Grind.{common_steps}
 use Rattle.cilk_token.specs.declared.token.Kind.TheVariants as kinds
 use Rattle.cilk_token.specs.declared.token.Token.{Token}
-use Rattle.cilk_grammar.specs.declared.marks.Mark.TheVariants as marks
+use Rattle.cilk_grammar.specs.declared.marks.Punct.TheVariants as marks
 use Rattle.cilk_grammar.specs.Expected.{Symbol, One, Named, Operand, Tail, Anew, UnitStep, Statement, Goes, run}
 use Rattle.cilk_grammar.specs.Grammar.{Is}
 use Rattle.cilk_grammar.proofs.Lists.{spells_block}

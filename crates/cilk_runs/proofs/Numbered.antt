@@ -1,26 +1,31 @@
--- Where the list of a nested run's events has no race, neither has the run.
+-- Where the list of a nested run's events has no race, neither has the run by names.
+--   from_nested, to_nested   positions beside each other in a layout are so in its tree
+--   spelled, layout_length   the list spells the shape, and is as long as the layout
+--   free_by_names            no race of the list: no race by names
 use Rattle.std.proofs.Common.{◌≡◌, ℕ, zero, suc, ◌+◌, ◌-◌, ◌<◌, ◌≤◌, ℤ, Bool, true, false, true≢false, cond, nat_lt, List, [], ◌∷◌, length, Option, Some, slice_get, refl, sym, ◌∙◌, ap, subst, arith, ◌⊎◌, inl, inr, ◌↔◌}
 use Rattle.std.proofs.lemmas.Bool.{cases_lt, cases_order, lt-ltb, le-ltb}
 use Rattle.cilk_types.specs.declared.event.Event as numbers
 use Rattle.cilk_types.specs.declared.event.Event.TheVariants as events
 use Rattle.cilk_types.specs.declared.event.Instance as numbered
 use Rattle.cilk_runs.specs.Runs.{Cell, Instance, Event, Reads, Writes, Passes, Creates, Sets, Values, Deed, Does, Run}
-use Rattle.cilk_runs.specs.Trees as nested
+use Rattle.cilk_runs.proofs.Layouts as nested
+use Rattle.cilk_runs.specs.Theorem.{HasNoRaces}
 use Rattle.cilk_runs.specs.Views.{IsReducerRead}
 use Rattle.cilk_runs.proofs.Basics.{same_cell-eq}
 use Rattle.cilk_tree.specs.Shape as shapes
 use Rattle.cilk_tree.specs.Tree.{Tree, tree}
 use Rattle.cilk_tree.specs.Parallel.{Parallel}
 use Rattle.cilk_tree.specs.Races as races
+use Rattle.cilk_tree.proofs.Spelled.{spells_one}
 use Rattle.cilk_tree.proofs.Order.{parallel_sym, not_to_itself}
 use Rattle.cilk_tree.proofs.Places.{size, Beside, bounded, beside_positions, size-spelled}
 use Rattle.cilk_peers.specs.Peers.{SamePeers}
 use Rattle.cilk_peers.specs.ViewRaces as views
-use Rattle.cilk_cells.specs.Nested.{shape_of, begin_due, IsFramed, counted, IsWrittenEvent, IsWritten, AreWritten, FreedomNests}
-use Rattle.cilk_cells.proofs.Nested.{trees_agree, events_spell}
+use Rattle.cilk_runs.specs.Traces.{trace, shape_of, begin_due, IsFramed, IsWrittenEvent, IsWritten, AreWritten}
+use Rattle.cilk_runs.proofs.Spells.{counted, layouts_agree, events_spell}
 
 -- ---- positions of a nested tree
-counted_size : {W : Type 0} (t : nested.Tree W) → size (counted t) ≡ nested.size t
+counted_size : {W : Type 0} (t : nested.Layout W) → size (counted t) ≡ nested.size t
 counted_size (nested.Strand s) = refl
 counted_size (nested.Series a b) = let x = counted_size a in let y = counted_size b in omega (arith, x, y)
 counted_size (nested.Beside a b) = let x = counted_size a in let y = counted_size b in omega (arith, x, y)
@@ -41,14 +46,14 @@ shifted t o n m p q same x y h =
     subst (λ (k : ℕ). Beside t (o + n) (o + p) k) f (subst (λ (k : ℕ). Beside t (o + n) k (o + n + (q - m))) e h)
 
 module _ {W : Type 0} where
-  along_right : (b : nested.Tree W) (o n m p q : ℕ) → n ≡ m → nested.are_parallel b (p - (o + n)) (q - (o + n)) ≡ true → nested.are_parallel b (p - o - m) (q - o - m) ≡ true
+  along_right : (b : nested.Layout W) (o n m p q : ℕ) → n ≡ m → nested.are_beside b (p - (o + n)) (q - (o + n)) ≡ true → nested.are_beside b (p - o - m) (q - o - m) ≡ true
   along_right b o n m p q same h =
       let e : p - o - m ≡ p - (o + n) = omega (arith, same) in
       let f : q - o - m ≡ q - (o + n) = omega (arith, same) in
-      ap (λ (k : ℕ). nested.are_parallel b k (q - o - m)) e ∙ (ap (λ (k : ℕ). nested.are_parallel b (p - (o + n)) k) f ∙ h)
+      ap (λ (k : ℕ). nested.are_beside b k (q - o - m)) e ∙ (ap (λ (k : ℕ). nested.are_beside b (p - (o + n)) k) f ∙ h)
 
   -- beside each other by numbers of events is parallel by the nested tree
-  to_nested : (t : nested.Tree W) (o p q : ℕ) → Beside (counted t) o p q → nested.are_parallel t (p - o) (q - o) ≡ true
+  to_nested : (t : nested.Layout W) (o p q : ℕ) → Beside (counted t) o p q → nested.are_beside t (p - o) (q - o) ≡ true
   to_nested (nested.Strand s) o p q h = absurd h
   to_nested (nested.Series a b) o p q (inl h) =
       let k = bounded (counted a) o p q h in let n = counted_size a in let x = k.low in let y = k.less in let z = k.high in
@@ -68,7 +73,7 @@ module _ {W : Type 0} where
       let n = counted_size a in
       pick_across (nested.size a) (p - o) (q - o) _ _ _ (omega (arith, n, x)) (omega (arith, n, y))
 
-  from_nested : (t : nested.Tree W) (o p q : ℕ) → p < q → q < nested.size t → nested.are_parallel t p q ≡ true → Beside (counted t) o (o + p) (o + q)
+  pub from_nested : (t : nested.Layout W) (o p q : ℕ) → p < q → q < nested.size t → nested.are_beside t p q ≡ true → Beside (counted t) o (o + p) (o + q)
   from_nested (nested.Strand s) o p q l k h = absurd (cc h)
   from_nested (nested.Series a b) o p q l k h =
       let n = counted_size a in
@@ -143,47 +148,47 @@ module _ (cell : Cell → ℕ) (instance : Instance → numbered.Instance) where
     clash_found (Some (Does a)) (Some (Does b)) h = (a, b, refl, refl, h)
     clash_found _ _ h = absurd (true≢false (sym h))
 
-    module _ (t : Run W) (es : List numbers.Event) (framed : IsFramed begin_due t) (written : AreWritten cell instance (nested.trace t) es) where
-      spelled : shapes.Spells (shape_of t) es
+    module _ (t : Run W) (es : List numbers.Event) (framed : IsFramed begin_due t) (written : AreWritten cell instance (trace t) es) where
+      pub spelled : shapes.Spells (shape_of t) es
       spelled = events_spell W cell instance t es framed written
 
-      same_tree : counted (nested.tree t) ≡ tree (shape_of t)
-      same_tree = trees_agree W t framed
+      same_tree : counted (nested.layout t) ≡ tree (shape_of t)
+      same_tree = layouts_agree W t framed
 
-      pub nested_size : nested.size (nested.tree t) ≡ length es
-      nested_size =
-          let a = counted_size (nested.tree t) in
+      pub layout_length : nested.size (nested.layout t) ≡ length es
+      layout_length =
+          let a = counted_size (nested.layout t) in
           let b = ap size same_tree in
           let c = size-spelled (shape_of t) es spelled in
           omega (arith, a, b, c)
 
       -- two positions in serial order: parallel by the nested tree is parallel by their strands
-      pub to_strands : (p q : ℕ) → p < q → q < length es → nested.are_parallel (nested.tree t) p q ≡ true → Parallel (tree (shape_of t)) 1 (races.strand_at es (suc p)) (races.strand_at es (suc q))
+      pub to_strands : (p q : ℕ) → p < q → q < length es → nested.are_beside (nested.layout t) p q ≡ true → Parallel (tree (shape_of t)) 1 (races.strand_at es (suc p)) (races.strand_at es (suc q))
       to_strands p q l k h =
-          let n = nested_size in
-          let b = subst (λ (x : Tree). Beside x 1 (1 + p) (1 + q)) same_tree (from_nested (nested.tree t) 1 p q l (omega (arith, k, n)) h) in
+          let n = layout_length in
+          let b = subst (λ (x : Tree). Beside x 1 (1 + p) (1 + q)) same_tree (from_nested (nested.layout t) 1 p q l (omega (arith, k, n)) h) in
           let x : 1 + p ≡ suc p = omega arith in
           let y : 1 + q ≡ suc q = omega arith in
           let b' = subst (λ (m : ℕ). Beside (tree (shape_of t)) 1 (suc p) m) y (subst (λ (m : ℕ). Beside (tree (shape_of t)) 1 m (1 + q)) x b) in
           (beside_positions (shape_of t) es spelled (suc p) (suc q) (omega arith, omega (arith, l, k)) (omega arith, omega (arith, k)) (omega (arith, l))).1 b'
 
-      to_positions : (p q : ℕ) → p < q → q < length es → Parallel (tree (shape_of t)) 1 (races.strand_at es (suc p)) (races.strand_at es (suc q)) → nested.are_parallel (nested.tree t) p q ≡ true
+      to_positions : (p q : ℕ) → p < q → q < length es → Parallel (tree (shape_of t)) 1 (races.strand_at es (suc p)) (races.strand_at es (suc q)) → nested.are_beside (nested.layout t) p q ≡ true
       to_positions p q l k h =
           let b = (beside_positions (shape_of t) es spelled (suc p) (suc q) (omega arith, omega (arith, l, k)) (omega arith, omega (arith, k)) (omega (arith, l))).0 h in
-          let c = to_nested (nested.tree t) 1 (suc p) (suc q) (subst (λ (x : Tree). Beside x 1 (suc p) (suc q)) (sym same_tree) b) in
+          let c = to_nested (nested.layout t) 1 (suc p) (suc q) (subst (λ (x : Tree). Beside x 1 (suc p) (suc q)) (sym same_tree) b) in
           let x : suc p - 1 ≡ p = omega arith in
           let y : suc q - 1 ≡ q = omega arith in
-          subst (λ (m : ℕ). nested.are_parallel (nested.tree t) p m ≡ true) y (subst (λ (m : ℕ). nested.are_parallel (nested.tree t) m (suc q - 1) ≡ true) x c)
+          subst (λ (m : ℕ). nested.are_beside (nested.layout t) p m ≡ true) y (subst (λ (m : ℕ). nested.are_beside (nested.layout t) m (suc q - 1) ≡ true) x c)
 
       at_suc : (p : ℕ) (e : numbers.Event) → slice_get es p ≡ Some e → races.event_at es (suc p) ≡ Some e
       at_suc p e h = let z : suc p - 1 ≡ p = omega arith in ap (λ (k : ℕ). slice_get es k) z ∙ h
 
-      race_of : races.HasNoRace (tree (shape_of t)) es → (p q : ℕ) → p < q → nested.are_parallel (nested.tree t) p q ≡ true
-          → nested.clash (slice_get (nested.trace t) p) (slice_get (nested.trace t) q) ≡ true → ⊥
+      race_of : races.HasNoRace (tree (shape_of t)) es → (p q : ℕ) → p < q → nested.are_beside (nested.layout t) p q ≡ true
+          → nested.clash (slice_get (trace t) p) (slice_get (trace t) q) ≡ true → ⊥
       race_of free p q l h c =
           let k = clash_found _ _ c in
-          let f = found (nested.trace t) es p (Does k.0) written k.2 in
-          let g = found (nested.trace t) es q (Does k.1) written k.3 in
+          let f = found (trace t) es p (Does k.0) written k.2 in
+          let g = found (trace t) es q (Does k.1) written k.3 in
           let w = clash_written k.0 k.1 f.event g.event f.written g.written k.4 in
           let x = sym (at_suc p f.event f.there) in
           let y = sym (at_suc q g.event g.there) in
@@ -196,36 +201,36 @@ module _ (cell : Cell → ℕ) (instance : Instance → numbered.Instance) where
             parallel = to_strands p q l g.inside h;
           })
 
-      no_race : races.HasNoRace (tree (shape_of t)) es → nested.HasNoRace t
-      no_race free p q l h = by (nested.clash (slice_get (nested.trace t) p) (slice_get (nested.trace t) q)) refl
+      no_race : races.HasNoRace (tree (shape_of t)) es → nested.NoneClash t
+      no_race free p q l h = by (nested.clash (slice_get (trace t) p) (slice_get (trace t) q)) refl
         where
-          by : (b : Bool) → nested.clash (slice_get (nested.trace t) p) (slice_get (nested.trace t) q) ≡ b → nested.clash (slice_get (nested.trace t) p) (slice_get (nested.trace t) q) ≡ false
+          by : (b : Bool) → nested.clash (slice_get (trace t) p) (slice_get (trace t) q) ≡ b → nested.clash (slice_get (trace t) p) (slice_get (trace t) q) ≡ false
           by true c = absurd (race_of free p q l h c)
           by false c = c
 
       -- peers by the nested tree are parallel strands
-      peers_strands : (p z : ℕ) → p < length es → z < length es → (nested.peers (nested.tree t) p z ≡ true) ↔ Parallel (tree (shape_of t)) 1 (races.strand_at es (suc p)) (races.strand_at es (suc z))
+      peers_strands : (p z : ℕ) → p < length es → z < length es → (nested.peer_at (nested.layout t) p z ≡ true) ↔ Parallel (tree (shape_of t)) 1 (races.strand_at es (suc p)) (races.strand_at es (suc z))
       peers_strands p z lp lz =
           elim (cases_order p z) [
             | inl same ↦ (let a = le-ltb p z (omega (arith, same)) in let b = le-ltb z p (omega (arith, same)) in
-                let c : nested.peers (nested.tree t) p z ≡ false = rw (a, b) refl in (
+                let c : nested.peer_at (nested.layout t) p z ≡ false = rw (a, b) refl in (
                   (λ h. absurd (true≢false (sym h ∙ c))),
                   λ h. absurd (not_to_itself (tree (shape_of t)) 1 (races.strand_at es (suc z)) (subst (λ (x : ℕ). Parallel (tree (shape_of t)) 1 (races.strand_at es (suc x)) (races.strand_at es (suc z))) same h)),
                 ))
             | inr (inl l) ↦ (let a = lt-ltb p z l in
-                let c : nested.peers (nested.tree t) p z ≡ nested.are_parallel (nested.tree t) p z = rw a refl in
+                let c : nested.peer_at (nested.layout t) p z ≡ nested.are_beside (nested.layout t) p z = rw a refl in
                 ((λ h. to_strands p z l lz (sym c ∙ h)), λ h. c ∙ to_positions p z l lz h))
             | inr (inr l) ↦ (let a = le-ltb p z (omega (arith, l)) in let b = lt-ltb z p l in
-                let c : nested.peers (nested.tree t) p z ≡ nested.are_parallel (nested.tree t) z p = rw (a, b) refl in
+                let c : nested.peer_at (nested.layout t) p z ≡ nested.are_beside (nested.layout t) z p = rw (a, b) refl in
                 ((λ h. parallel_sym (tree (shape_of t)) 1 _ _ (to_strands z p l lp (sym c ∙ h))), λ h. c ∙ to_positions z p l lp (parallel_sym (tree (shape_of t)) 1 _ _ h)))
           ]
 
       -- two reducer-reads in serial order have the same peers, or else they race
-      apart : views.HasNoViewRace (tree (shape_of t)) es → (i : Instance) (p q : ℕ) (d e : Event) → p < q → slice_get (nested.trace t) p ≡ Some (Does d) → slice_get (nested.trace t) q ≡ Some (Does e)
+      apart : views.HasNoViewRace (tree (shape_of t)) es → (i : Instance) (p q : ℕ) (d e : Event) → p < q → slice_get (trace t) p ≡ Some (Does d) → slice_get (trace t) q ≡ Some (Does e)
           → IsReducerRead i d → IsReducerRead i e → (SamePeers (tree (shape_of t)) (races.strand_at es (suc p)) (races.strand_at es (suc q)) → ⊥) → ⊥
       apart free i p q d e l hp hq rd re differ =
-          let f = found (nested.trace t) es p (Does d) written hp in
-          let g = found (nested.trace t) es q (Does e) written hq in
+          let f = found (trace t) es p (Does d) written hp in
+          let g = found (trace t) es q (Does e) written hq in
           free (suc p) (suc q) (record {
             first = omega arith;
             earlier = omega (arith, l);
@@ -235,17 +240,17 @@ module _ (cell : Cell → ℕ) (instance : Instance → numbered.Instance) where
             differ = differ;
           })
 
-      same_test : views.HasNoViewRace (tree (shape_of t)) es → (i : Instance) (p q : ℕ) (d e : Event) → p < q → slice_get (nested.trace t) p ≡ Some (Does d) → slice_get (nested.trace t) q ≡ Some (Does e)
-          → IsReducerRead i d → IsReducerRead i e → (z : ℕ) → z < length es → nested.peers (nested.tree t) p z ≡ nested.peers (nested.tree t) q z
-      same_test free i p q d e l hp hq rd re z k = by (nested.peers (nested.tree t) p z) (nested.peers (nested.tree t) q z) refl refl
+      same_test : views.HasNoViewRace (tree (shape_of t)) es → (i : Instance) (p q : ℕ) (d e : Event) → p < q → slice_get (trace t) p ≡ Some (Does d) → slice_get (trace t) q ≡ Some (Does e)
+          → IsReducerRead i d → IsReducerRead i e → (z : ℕ) → z < length es → nested.peer_at (nested.layout t) p z ≡ nested.peer_at (nested.layout t) q z
+      same_test free i p q d e l hp hq rd re z k = by (nested.peer_at (nested.layout t) p z) (nested.peer_at (nested.layout t) q z) refl refl
         where
           at_p : p < length es
-          at_p = (found (nested.trace t) es p (Does d) written hp).inside
+          at_p = (found (trace t) es p (Does d) written hp).inside
 
           at_q : q < length es
-          at_q = (found (nested.trace t) es q (Does e) written hq).inside
+          at_q = (found (trace t) es q (Does e) written hq).inside
 
-          by : (a b : Bool) → nested.peers (nested.tree t) p z ≡ a → nested.peers (nested.tree t) q z ≡ b → nested.peers (nested.tree t) p z ≡ nested.peers (nested.tree t) q z
+          by : (a b : Bool) → nested.peer_at (nested.layout t) p z ≡ a → nested.peer_at (nested.layout t) q z ≡ b → nested.peer_at (nested.layout t) p z ≡ nested.peer_at (nested.layout t) q z
           by true true x y = x ∙ sym y
           by false false x y = x ∙ sym y
           by true false x y = absurd (apart free i p q d e l hp hq rd re (λ same.
@@ -253,14 +258,19 @@ module _ (cell : Cell → ℕ) (instance : Instance → numbered.Instance) where
           by false true x y = absurd (apart free i p q d e l hp hq rd re (λ same.
               true≢false (sym ((peers_strands p z at_p k).1 ((same (races.strand_at es (suc z))).1 ((peers_strands q z at_q k).0 y))) ∙ x)))
 
-      no_view_race : views.HasNoViewRace (tree (shape_of t)) es → (i : Instance) → nested.HasNoViewRace i t
+      no_view_race : views.HasNoViewRace (tree (shape_of t)) es → (i : Instance) → nested.ReadsHavePeers i t
       no_view_race free i p q d e hp hq rd re z f hz =
-          let k = (found (nested.trace t) es z f written hz).inside in
+          let k = (found (trace t) es z f written hz).inside in
           elim (cases_order p q) [
-            | inl same ↦ ap (λ (x : ℕ). nested.peers (nested.tree t) x z) same
+            | inl same ↦ ap (λ (x : ℕ). nested.peer_at (nested.layout t) x z) same
             | inr (inl l) ↦ same_test free i p q d e l hp hq rd re z k
             | inr (inr l) ↦ sym (same_test free i q p e d l hq hp re rd z k)
           ]
 
-pub freedom_nests : (W : Type 0) → FreedomNests W
-freedom_nests W cell instance t es framed written free apart = (no_race cell instance t es framed written free, no_view_race cell instance t es framed written apart)
+pub free_by_names : {W : Type 0} (t : Run W) → IsFramed begin_due t → HasNoRaces t → nested.NoneClash t × ((i : Instance) → nested.ReadsHavePeers i t)
+free_by_names {W} t framed h =
+    let f = h.free in
+    let same : f.shape ≡ shape_of t = spells_one f.shape (shape_of t) h.events f.spells (spelled h.cell h.instance t h.events framed h.written) in (
+      no_race h.cell h.instance t h.events framed h.written (subst (λ (s : shapes.Shape). races.HasNoRace (tree s) h.events) same f.races),
+      no_view_race h.cell h.instance t h.events framed h.written (subst (λ (s : shapes.Shape). views.HasNoViewRace (tree s) h.events) same f.view_races),
+    )
