@@ -41,3 +41,4 @@
 #![tactic(auto)]
 
 pub mod laws;
+pub mod stretches;
