@@ -42,3 +42,4 @@
 #![tactic(auto)]
 
 pub mod laws;
+pub mod stretches;

@@ -1,0 +1,67 @@
+-- Which events each piece covers: the serial run as stretches, one after the other.
+use Rattle.std.specs.Prelude.{◌≡◌, ℕ, suc, ◌+◌, Bool, true, false, List, [], ◌∷◌, ◌++◌, replicate, Some, slice_get}
+use Rattle.cilk_runs.specs.Runs.{Name, Kind, Calls, Spawns, Reads, Writes, Syncs, Ends, Passes, Deed, Does, Invokes, Run, stop, act, child}
+use Rattle.cilk_runs.specs.Machine.{Frames, State, deeds_at}
+use Rattle.cilk_runs.specs.Cuts.{below}
+use Rattle.cilk_runs.specs.Positions.{made_at}
+
+-- so many events that follow one another: the piece of a frame covers them, or they aren't made
+pub data Stretch : Type 0 where
+  Held : (holder : List ℕ) → (events : ℕ) → Stretch
+  Ahead : (events : ℕ) → Stretch
+
+-- for each event of these stretches: whether it is made
+abbrev pub marks : List Stretch → List Bool
+marks [] = []
+marks (Held n e ∷ ss) = replicate e true ++ marks ss
+marks (Ahead e ∷ ss) = replicate e false ++ marks ss
+
+-- how many events a run has
+abbrev pub many : {W : Type 0} → Run W → ℕ
+many stop = 0
+many (act e r) = suc (many r)
+many (child b w u r) = suc (many u + many r)
+
+abbrev pub has_sync : {W : Type 0} → List (Deed W) → Bool
+has_sync [] = false
+has_sync (Does (Reads c v) ∷ ds) = has_sync ds
+has_sync (Does (Writes c v) ∷ ds) = has_sync ds
+has_sync (Does Syncs ∷ ds) = true
+has_sync (Does (Ends v gone) ∷ ds) = has_sync ds
+has_sync (Does (Passes m) ∷ ds) = has_sync ds
+has_sync (Invokes k w ∷ ds) = has_sync ds
+
+-- The frame has the child's piece back: it went on with it, or where a thief took the continuation, a sync has multiplied it.
+abbrev pub is_back : {W : Type 0} → Kind → (stolen : Bool) → List (Deed W) → Bool
+is_back Calls stolen [] = false
+is_back Calls stolen (d ∷ ds) = true
+is_back Spawns true ds = has_sync ds
+is_back Spawns false [] = false
+is_back Spawns false (d ∷ ds) = true
+
+-- what follows a child's start: the frame's stretch goes on; or the child's stretches come, and then the thief's; or nothing more is made
+abbrev pub past : (back stolen : Bool) (on inner thief : List Stretch) (left : ℕ) → List Stretch
+past true stolen on inner thief left = on
+past false true on inner thief left = inner ++ thief
+past false false on inner thief left = inner ++ Ahead left ∷ []
+
+-- The stretches of a frame's run from a point on, where the frame n, with these deeds ahead, holds a piece that covers so many events up to there. A child
+-- goes on with its parent's stretch, and a thief begins an empty one.
+abbrev pub stretches : {W : Type 0} → Run W → ℕ → List (Deed W) → (ℕ → Frames W) → (Name → Bool) → Name → ℕ → List Stretch
+stretches stop k [] kids loose n own = Held n own ∷ Ahead 0 ∷ []
+stretches stop k (d ∷ ds) kids loose n own = []
+stretches (act e r) k [] kids loose n own = Held n own ∷ Ahead (suc (many r)) ∷ []
+stretches (act e r) k (d ∷ ds) kids loose n own = stretches r k ds kids loose n (suc own)
+stretches (child b w u r) k [] kids loose n own = Held n own ∷ Ahead (suc (many u + many r)) ∷ []
+stretches (child b w u r) k (d ∷ ds) kids loose n own =
+    past (is_back b (loose (k ∷ [])) ds) (loose (k ∷ [])) (stretches r (suc k) ds kids loose n (suc own + many u))
+    (stretches u 1 (deeds_at (kids k [])) (below (kids k)) (λ m. loose (k ∷ m)) (n ++ k ∷ []) (suc own)) (stretches r (suc k) ds kids loose n 0) (many r)
+
+-- the stretches of a state
+abbrev pub covered : {W V : Type 0} → Run W → State W V → List Stretch
+covered t s = stretches t 1 (deeds_at (s.frames [])) (below s.frames) s.stolen [] 0
+
+-- Each piece covers one stretch of the serial run without gaps, the stretches lie apart, and together they are the cut.
+pub record AreStretches {W V : Type 0} (t : Run W) (s : State W V) : Type 0 where
+  pub whole : marks (covered t s) ≡ made_at t 1 (deeds_at (s.frames [])) (below s.frames)
+  pub one : (a b : ℕ) (n : Name) (x y : ℕ) → slice_get (covered t s) a ≡ Some (Held n x) → slice_get (covered t s) b ≡ Some (Held n y) → a ≡ b

@@ -1,0 +1,18 @@
+//! What pieces cover. Each is a function that does nothing: its contract is the law.
+//!
+//! In each, `W` is what a frame can be started as, `V` a reducer's view, `M` the monoid of each reducer, and `t` a nested run.
+
+ghost use Rattle.std.specs.Prelude.{ℤ};
+ghost use Rattle.cilk_runs.specs.Runs.{Cell, Instance, Run};
+ghost use Rattle.cilk_runs.specs.Costs.{Costs};
+ghost use Rattle.cilk_runs.specs.Monoids.{Monoid};
+ghost use Rattle.cilk_runs.specs.Machine.{State};
+ghost use Rattle.cilk_runs.specs.Cuts.{IsConsistent};
+ghost use Rattle.cilk_runs.specs.Stretches.{AreStretches};
+
+/// In each consistent cut of a serial run, and so in each state that steps lead to where the run has no race, a piece covers one
+/// stretch of the run without gaps, the pieces' stretches lie apart, and together they are the cut. A child's piece covers
+/// what its parent's covered before, a thief's begins where the thief does, and a sync's covers its whole block.
+pub fn pieces_cover_stretches<W, V>()
+    ensures { (M : Instance → Monoid V) (C : Costs W) (w : W) (t : Run W) (opening : Cell → ℤ) (s : State W V) → IsConsistent M C w t opening s → AreStretches t s }
+{}
