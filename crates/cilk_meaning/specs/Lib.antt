@@ -7,6 +7,7 @@ pub mod Numbering
 pub mod Order
 pub mod Runs
 pub mod Spelled
+pub mod Visible
 pub mod Worked
 pub mod WorkedFrames
 pub mod WorkedReducers
