@@ -8,7 +8,7 @@ use Rattle.cilk_program.specs.declared.ask.Callee.{Callee}
 use Rattle.cilk_program.specs.Syntax.{Source}
 use Rattle.cilk_program.specs.Behaviour.{Asked, asks_for, frame_asks}
 use Rattle.cilk_program.specs.SerialRun as serial
-use Rattle.cilk_program.specs.SerialRun.{Memory, Frame, next_frame, begun, counted, answer_to, IsInner, Ending, Finished, Serial, Made, Ended, Went}
+use Rattle.cilk_program.specs.SerialRun.{Memory, Frame, answer_to, IsInner, Ending, Finished, Serial, Made, Ended, Went}
 use Rattle.cilk_runs.specs.Runs.{Ask, Invoke, Event as Happens, Ends, Deed, Does, Invokes, Run, stop, act, child, ask_of}
 use Rattle.cilk_runs.specs.Machine.{started}
 use Rattle.cilk_runs.specs.Costs.{TickTotal, weight}
@@ -204,11 +204,6 @@ module _ (p : Source) (inputs : List ℤ) where
       let before = asked.before in
       let took = asked.took in
       let low = asked.low in ((asked.asks, end_asks_nothing w past v at.going), omega (arith, before, took, low))
-
-  -- a run leaves no more ticks than it had
-  abbrev IsLower : Ending → ℕ → Type 0
-  IsLower (Finished v left m) start = left ≤ start
-  IsLower (serial.Stopped f) start = Unit {0}
 
   holds_lower : (v : ℤ) (left : ℕ) (m : Memory) (w : World) (past : List (Deed World)) (t : Run World) (start : ℕ) → Holds (Finished v left m) w past t start → left ≤ start
   holds_lower v left m w past t start (behaves, adds) = omega (arith, adds)

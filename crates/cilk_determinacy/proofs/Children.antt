@@ -1,24 +1,20 @@
 -- Where frames by names stand, from the first frame on to each child.
-use Rattle.std.proofs.Common.{◌≡◌, inl, inr, ℕ, suc, ◌+◌, Bool, IsTrue, if◌then◌else◌, List, [], ◌∷◌, ◌++◌, length, drop, slice_get, Option, Some, option_map, refl, sym, ap, ◌∙◌, subst, append_assoc, arith}
-use Rattle.std.proofs.lemmas.Bool.{false≢true}
-use Rattle.cilk_monoid.specs.declared.kind.MonoidKind.{MonoidKind}
+use Rattle.std.proofs.Common.{◌≡◌, ℕ, suc, ◌+◌, ◌<◌, Bool, IsTrue, if◌then◌else◌, List, [], ◌∷◌, ◌++◌, length, Some, refl, sym, ap, ◌∙◌, subst, append_assoc, arith}
 use Rattle.cilk_program.specs.declared.ask.Callee.{Callee}
 use Rattle.cilk_program.specs.declared.ask.Callee.TheVariants as callees
-use Rattle.cilk_program.specs.declared.program.Body.{Body}
-use Rattle.cilk_program.specs.declared.syntax.Place.{Place}
-use Rattle.cilk_program.specs.Syntax.{Source, function_at, main_of, loop_at}
-use Rattle.cilk_program.specs.Scopes.{cell_in}
-use Rattle.cilk_program.specs.WellNamed.{is_kind, result_is_there, is_well_named}
+use Rattle.cilk_program.specs.Syntax.{Source, main_of, loop_at}
+use Rattle.cilk_program.specs.WellNamed.{is_well_named}
 use Rattle.cilk_program.specs.Inside.{body_of, CalleeIsThere}
 use Rattle.cilk_program.specs.SerialRun.{Run, child, Memory, Frame, root_frame, next_frame}
 use Rattle.cilk_meaning.specs.Numbering.{Counts, counts_of, counts_after, unbegun, entered, block_of, child_at, frame_at}
 use Rattle.cilk_meaning.proofs.Naming.{well_named_parts}
-use Rattle.cilk_meaning.proofs.Sounds.{MayBegin}
-use Rattle.cilk_runs.specs.Runs.{Cell, Global}
-use Rattle.cilk_worlds.specs.Worlds.{Sight, given_named, World, first_world, child_world}
+use Rattle.cilk_meaning.specs.Visible.{CanInvoke}
+use Rattle.cilk_meaning.proofs.Visible.{none_given, root_sees, called_sees, part_sees}
+use Rattle.cilk_runs.specs.Runs.{Global, Own}
+use Rattle.cilk_worlds.specs.Worlds.{global_named, own_named, home_named, given_named, World, first_world, child_world}
 use Rattle.cilk_determinacy.specs.Numbers.{child_runs, frame_runs, IsHere, HasCell}
 use Rattle.cilk_determinacy.proofs.Numbers.{up_more}
-use Rattle.cilk_determinacy.proofs.Sights.{Sees, Stands, Ahead, root_here, tied_home, tied_outer, tied_to, tied_result, function_sees, turn_sees, loop_sees, given_here}
+use Rattle.cilk_determinacy.proofs.Sights.{HasOne, Stands, Ahead, root_here, globals_here, own_here, tied_home, tied_outer, tied_to, tied_result}
 
 module _ (p : Source) (r : Run) where
   pub root_ahead : Ahead p r [] 0 r (entered p callees.Root (unbegun p))
@@ -48,10 +44,6 @@ module _ (p : Source) (r : Run) where
 
   -- ---- the first frame
 
-  none_given : (ks : List MonoidKind) (i : ℕ) (k : MonoidKind) {X : Type 0} → length ks ≡ 0 → IsTrue (is_kind (slice_get ks i) k) → X
-  none_given [] i k e h = absurd (false≢true h)
-  none_given (j ∷ ks) i k e h = absurd (omega (arith, e))
-
   pub root_stands : (inputs : List _) → IsTrue (is_well_named p) → Stands p r (first_world p) (root_frame p inputs)
   root_stands inputs well =
       let parts = well_named_parts p well in
@@ -61,12 +53,10 @@ module _ (p : Source) (r : Run) where
         number = refl;
         runs = refl;
         callee = refl;
-        fit = tt;
         tied = (tied_home p r callees.Root [] (root_here p r) 1 (length p.openings) refl refl [] [] tt, tt);
         result_tied = refl;
-        own = λ whole. function_sees p r p.main callees.Root [] (root_here p r) refl refl refl [] (λ n k is. none_given f.given n k parts.takes_no_reducers is);
-        outer = tt;
-        result = λ taken. absurd taken;
+        sees = root_sees p Global global_named (HasCell p r) (HasOne p r) (home_named p callees.Root [] []) (globals_here p r) (λ n less. (root_here p r, less))
+            (λ n k is. own_here p r callees.Root [] (root_here p r) refl n k is) (λ n k is. none_given f.given n k parts.takes_no_reducers is);
       }
 
   pub root_path : (inputs : List _) (well : IsTrue (is_well_named p)) → let h = root_stands inputs well in let here = h.here in here.path ≡ []
@@ -86,16 +76,10 @@ module _ (p : Source) (r : Run) where
   child_run : (path : List ℕ) (j : ℕ) (how : _) (callee : Callee) (u rest : Run) (n : Counts) → Ahead p r path j (child how callee u rest) n → frame_runs r (path ++ j ∷ []) ≡ Some callee
   child_run path j how callee u rest n a = let e : j + 0 ≡ j = omega arith in subst (λ j. frame_runs r (path ++ j ∷ []) ≡ Some callee) e (a.runs 0 [])
 
-  result_there : (b : Body) (s : Sight) → Sees p r b s → (o : Option Place) → IsTrue (result_is_there p b o) → (x : Place) → o ≡ Some x → (c : Cell) × (option_map (cell_in Global s) o ≡ Some c) × HasCell p r c
-  result_there b s sees o there x e = (cell_in Global s x, ap (option_map (cell_in Global s)) e, sees.cells x (subst (λ o. IsTrue (result_is_there p b o)) e there))
-
   pub child_stands : IsTrue (is_well_named p) → (w : World) (fr : Frame) (h : Stands p r w fr) (j : ℕ) (how : _) (callee : Callee) (u rest : Run) (m : Memory) → (let here = h.here in Ahead p r here.path j (child how callee u rest) (counts_of m))
-      → CalleeIsThere p (body_of p w.callee) callee → MayBegin w.callee callee → Stands p r (child_world p w (suc j) callee) (next_frame p fr.scope m callee)
-  child_stands well w fr h j how callees.Root u rest m a there may = absurd there
-  child_stands well w fr h j how (callees.Function c) u rest m a there (inr part) = absurd part
-  child_stands well w fr h j how (callees.Function c) u rest m a there (inl whole) =
-      let f = function_at p c.function in
-      let sees = h.own whole in
+      → CalleeIsThere p (body_of p w.callee) callee → CanInvoke w.callee callee → Stands p r (child_world p w (suc j) callee) (next_frame p fr.scope m callee)
+  child_stands well w fr h j how callees.Root u rest m a there can = absurd there
+  child_stands well w fr h j how (callees.Function c) u rest m a there can =
       let here = child_here w h.here j how (callees.Function c) u rest (counts_of m) a in
       let runs = child_run h.here.path j how (callees.Function c) u rest (counts_of m) a in
       let given = given_named (callees.Function c) w.sight in
@@ -104,35 +88,32 @@ module _ (p : Source) (r : Run) where
         number = refl;
         runs = runs;
         callee = refl;
-        fit = there.0;
         tied = (tied_home p r (callees.Function c) (w.name ++ suc j ∷ []) here (suc m.frames) m.cells refl refl given _ (tied_to p r (callees.Function c) w.sight fr.scope h.tied), tt);
         result_tied = tied_result p r (callees.Function c) w.sight fr.scope h.tied;
-        own = λ _. function_sees p r c.function (callees.Function c) (w.name ++ suc j ∷ []) here runs refl refl given
-            (λ n k is. given_here p r (body_of p w.callee) w.sight sees c.reducers there.1 f.given there.0.1 n k is _);
-        outer = tt;
-        result = λ taken. result_there (body_of p w.callee) w.sight sees c.result there.2 taken.0 taken.1;
+        sees = called_sees p Global global_named (HasCell p r) (HasOne p r) w.callee w.sight w.result c
+            (Own (w.name ++ suc j ∷ [])) (own_named p (callees.Function c) (w.name ++ suc j ∷ [])) (globals_here p r) h.sees there can (λ n less. (here, less))
+            (λ n k is. own_here p r (callees.Function c) (w.name ++ suc j ∷ []) here runs n k is);
       }
-  child_stands well w fr h j how (callees.Loop l) u rest m a there may =
+  child_stands well w fr h j how (callees.Loop l) u rest m a there can =
       let body = loop_at p l.number in
       let here = child_here w h.here j how (callees.Loop l) u rest (counts_of m) a in
-      let outer = loop_sees p r w.callee w.sight l h.own h.outer there may in
       record {
         here = here;
         number = refl;
         runs = child_run h.here.path j how (callees.Loop l) u rest (counts_of m) a;
         callee = refl;
-        fit = there.0;
         tied = (tied_home p r (callees.Loop l) (w.name ++ suc j ∷ []) here (suc m.frames) m.cells refl refl [] [] tt, tied_outer p r (callees.Loop l) w.sight fr.scope h.tied);
         result_tied = refl;
-        own = λ whole. turn_sees p r well l.number there.0.0 (callees.Loop l) (w.name ++ suc j ∷ []) here (ap (λ (b : Bool). if b then body.cells else 0) whole) (drop l.up w.sight) outer;
-        outer = outer;
-        result = λ taken. absurd taken;
+        sees = part_sees p Global global_named (HasCell p r) (HasOne p r) well w.callee w.sight w.result l (home_named p (callees.Loop l) (w.name ++ suc j ∷ []) []) h.sees there can
+            (λ whole n less.
+            let own : n < body.cells = less in
+            let many : here.block.cells ≡ body.cells = ap (λ (b : Bool). if b then body.cells else 0) whole in
+            (here, omega (arith, own, many)));
       }
 
   pub child_path : (well : IsTrue (is_well_named p)) (w : World) (fr : Frame) (h : Stands p r w fr) (j : ℕ) (how : _) (callee : Callee) (u rest : Run) (m : Memory) (a : let here = h.here in Ahead p r here.path j (child how callee u rest) (counts_of m))
-      (there : CalleeIsThere p (body_of p w.callee) callee) (may : MayBegin w.callee callee) → let g = child_stands well w fr h j how callee u rest m a there may in let here = g.here in let above = h.here in here.path ≡ above.path ++ j ∷ []
+      (there : CalleeIsThere p (body_of p w.callee) callee) (can : CanInvoke w.callee callee) → let g = child_stands well w fr h j how callee u rest m a there can in let here = g.here in let above = h.here in here.path ≡ above.path ++ j ∷ []
   unfolding child_stands
-  child_path well w fr h j how callees.Root u rest m a there may = absurd there
-  child_path well w fr h j how (callees.Function c) u rest m a there (inr part) = absurd part
-  child_path well w fr h j how (callees.Function c) u rest m a there (inl whole) = refl
-  child_path well w fr h j how (callees.Loop l) u rest m a there may = refl
+  child_path well w fr h j how callees.Root u rest m a there can = absurd there
+  child_path well w fr h j how (callees.Function c) u rest m a there can = refl
+  child_path well w fr h j how (callees.Loop l) u rest m a there can = refl

@@ -54,21 +54,21 @@ module _ (p : Source) (whole : serial.Run) where
 
     act_numbered : (a : Ask) → AskIsThere p w.callee a → IsInner a → IsEvent w.name (named_event p w a (answer_to fr m a)) (event_of fr m a)
     act_numbered asks.Begin there inner = record { number = ap events.Begin frame; here = tt }
-    act_numbered (asks.Read x) there inner = record { number = ap (λ c. events.Read c (m.store.cells (cell_at fr x))) (cell x); here = (h.own there.0).cells x there.1 }
-    act_numbered (asks.Write x v) there inner = record { number = ap (λ c. events.Write c v) (cell x); here = (h.own there.0).cells x there.1 }
-    act_numbered (asks.Create x) there inner = record { number = ap events.Create (sym (reducer x x.kind).0); here = (h.own there.0).reducers x.place x.kind there.1 }
-    act_numbered (asks.Update x v) there inner = record { number = ap (λ j. events.Update j v) (sym (reducer x x.kind).0); here = (h.own there.0).reducers x.place x.kind there.1 }
-    act_numbered (asks.Set x v) there inner = record { number = ap (λ j. events.Set j v) (sym (reducer x x.kind).0); here = (h.own there.0).reducers x.place x.kind there.1 }
+    act_numbered (asks.Read x) there inner = record { number = ap (λ c. events.Read c (m.store.cells (cell_at fr x))) (cell x); here = (h.sees.own there.0).cells x there.1 }
+    act_numbered (asks.Write x v) there inner = record { number = ap (λ c. events.Write c v) (cell x); here = (h.sees.own there.0).cells x there.1 }
+    act_numbered (asks.Create x) there inner = record { number = ap events.Create (sym (reducer x x.kind).0); here = (h.sees.own there.0).reducers x.place x.kind there.1 }
+    act_numbered (asks.Update x v) there inner = record { number = ap (λ j. events.Update j v) (sym (reducer x x.kind).0); here = (h.sees.own there.0).reducers x.place x.kind there.1 }
+    act_numbered (asks.Set x v) there inner = record { number = ap (λ j. events.Set j v) (sym (reducer x x.kind).0); here = (h.sees.own there.0).reducers x.place x.kind there.1 }
     act_numbered (asks.Value x) there inner = record {
       number = ap (λ j. events.Value j (number_at x.kind (reducer_at fr x) m.store)) (sym (reducer x x.kind).0);
-      here = (h.own there.0).reducers x.place x.kind there.1;
+      here = (h.sees.own there.0).reducers x.place x.kind there.1;
     }
     act_numbered (asks.Print v) there inner = record { number = refl; here = tt }
     act_numbered (asks.Invoke how callee) there inner = absurd inner
     act_numbered asks.Resume there inner = record { number = ap events.Resume frame; here = tt }
     act_numbered asks.Sync there inner = record { number = refl; here = tt }
     act_numbered (asks.Result v) there inner =
-        let result = h.result there in
+        let result = h.sees.result there in
         record { number = result_number result.0 v result.1; here = subst (HasCell p whole) (ap (λ o. unwrap_or o (Global 0)) (sym result.1)) result.2 }
     act_numbered (asks.End v) there inner = absurd inner
     act_numbered (asks.Fault f) there inner = absurd inner

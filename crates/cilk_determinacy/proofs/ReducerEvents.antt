@@ -164,7 +164,7 @@ module _ (p : Source) (whole : serial.Run) where
         let n = number x x.kind in
         record {
           name = instance_in global_named w.sight x.place x.kind;
-          here = (h.own there.0).reducers x.place x.kind there.1;
+          here = (h.sees.own there.0).reducers x.place x.kind there.1;
           number = n.0;
           value = ap (structure_of x.kind).number (holds.views x.kind (reducer_at fr x))
               ∙ ap (λ k. (structure_of k).number (view_over k (reducer_at fr x) ts)) (sym n.1);

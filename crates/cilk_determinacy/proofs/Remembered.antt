@@ -108,7 +108,7 @@ module _ (p : Source) (whole : serial.Run) where
     pub act_follows : (a : Ask) → AskIsThere p w.callee a → IsInner a → SetsWord (event_of fr m a) → Follows memory views (stored p fr m a) (named_event p w a (answer_to fr m a)) (event_of fr m a)
     act_follows asks.Begin there inner word = record { right = tt; view_right = tt; same = same; written = (fr.number, refl); has = tt }
     act_follows (asks.Read x) there inner word = record {
-      right = ap m.store.cells (sym (cell_is x)) ∙ sym (same.cells (cell_seen w x) ((h.own there.0).cells x there.1));
+      right = ap m.store.cells (sym (cell_is x)) ∙ sym (same.cells (cell_seen w x) ((h.sees.own there.0).cells x there.1));
       view_right = tt;
       same = same;
       written = ap (λ c. events.Read c (m.store.cells (cell_at fr x))) (sym (cell_is x));
@@ -117,12 +117,12 @@ module _ (p : Source) (whole : serial.Run) where
     act_follows (asks.Write x v) there inner word = record {
       right = tt;
       view_right = tt;
-      same = same_put p whole memory views m.store (cell_seen w x) (cell_at fr x) v ((h.own there.0).cells x there.1) (cell_is x) same;
+      same = same_put p whole memory views m.store (cell_seen w x) (cell_at fr x) v ((h.sees.own there.0).cells x there.1) (cell_is x) same;
       written = ap (λ c. events.Write c v) (sym (cell_is x));
       has = tt;
     }
     act_follows (asks.Create x) there inner word =
-        let has = (h.own there.0).reducers x.place x.kind there.1 in
+        let has = (h.sees.own there.0).reducers x.place x.kind there.1 in
         record {
           right = tt;
           view_right = tt;
@@ -131,7 +131,7 @@ module _ (p : Source) (whole : serial.Run) where
           has = has;
         }
     act_follows (asks.Update x v) there inner word =
-        let has = (h.own there.0).reducers x.place x.kind there.1 in
+        let has = (h.sees.own there.0).reducers x.place x.kind there.1 in
         let n = numbers_of x in
         let i : Reducers = instance_in global_named w.sight x.place in
         record {
@@ -146,7 +146,7 @@ module _ (p : Source) (whole : serial.Run) where
           has = has;
         }
     act_follows (asks.Set x v) there inner word =
-        let has = (h.own there.0).reducers x.place x.kind there.1 in
+        let has = (h.sees.own there.0).reducers x.place x.kind there.1 in
         let n = numbers_of x in
         let i : Reducers = instance_in global_named w.sight x.place in
         record {
@@ -159,7 +159,7 @@ module _ (p : Source) (whole : serial.Run) where
           has = has;
         }
     act_follows (asks.Value x) there inner word =
-        let has = (h.own there.0).reducers x.place x.kind there.1 in
+        let has = (h.sees.own there.0).reducers x.place x.kind there.1 in
         let n = numbers_of x in
         let i : Reducers = instance_in global_named w.sight x.place in
         record {
@@ -176,7 +176,7 @@ module _ (p : Source) (whole : serial.Run) where
     act_follows asks.Resume there inner word = record { right = tt; view_right = tt; same = same; written = (fr.number, refl); has = tt }
     act_follows asks.Sync there inner word = record { right = tt; view_right = tt; same = same; written = refl; has = tt }
     act_follows (asks.Result v) there inner word =
-        let result = h.result there in
+        let result = h.sees.result there in
         record {
           right = tt;
           view_right = tt;

@@ -1,13 +1,10 @@
 -- What a serial run settles, from what its run and its judging promise.
-use Rattle.std.proofs.Common.{◌≡◌, ◌≤◌, ℕ, ℤ, true, false, List, length, IsTrue, Option, Some, None, MatchOption, inr}
+use Rattle.std.proofs.Common.{◌≡◌, ℕ, ℤ, true, false, List, IsTrue, Option, Some, None, MatchOption, inr}
 use Rattle.std.specs.Option.{is_some}
 use Rattle.cilk_types.specs.declared.event.Event.{Event}
-use Rattle.cilk_types.specs.declared.limits.TheConstants.{MAX_EVENTS}
 use Rattle.cilk_types.specs.declared.outcome.Outcome.{Outcome}
-use Rattle.cilk_program.specs.Outcomes.{Leaves}
 use Rattle.cilk_program.specs.Syntax.{Source}
 use Rattle.cilk_program.specs.WellNamed.{is_well_named}
-use Rattle.cilk_meaning.proofs.Existence.{serial_run_is_short}
 use Rattle.cilk_serial.specs.Ran.{Ran}
 use Rattle.cilk_tree.specs.Shape.{Shape, Spells}
 use Rattle.cilk_tree.specs.Tree.{tree}
@@ -28,9 +25,6 @@ view_race_found s es None q spells h = let z : false ≡ true = q in absurd (cc)
 view_race_found s es (Some (p, q)) is spells h = record { shape = s; spells = spells; earlier = p; later = q; race = inr h.race }
 
 -- ---- a run
-
-pub ran_short : (p : Source) (inputs : List ℤ) (o : Outcome) (es : List Event) → Ran p inputs o es → length es ≤ MAX_EVENTS
-ran_short p inputs o es ran = serial_run_is_short p inputs ran.run es (Leaves o) ran.serial
 
 module _ (p : Source) (inputs : List ℤ) (well : IsTrue (is_well_named p)) (has : HasWords p) (words : InputsAreWords inputs) where
   pub serial_settles : SerialRunsSettle p inputs

@@ -1,28 +1,22 @@
 -- What frames see by names: it is there, and its numbers are what the serial run's frames see.
-use Rattle.std.proofs.Common.{◌≡◌, inl, inr, ℕ, zero, suc, ◌+◌, ◌<◌, IsTrue, List, [], ◌∷◌, ◌++◌, length, drop, slice_get, unwrap_or, Option, Some, None, option_map, refl, sym, ap, ◌∙◌, subst, arith}
-use Rattle.std.proofs.lemmas.Bool.{ltb-true, and_parts, false≢true}
+use Rattle.std.proofs.Common.{◌≡◌, ℕ, zero, suc, ◌+◌, IsTrue, List, [], ◌∷◌, ◌++◌, length, drop, slice_get, unwrap_or, Option, Some, None, option_map, refl, ap, ◌∙◌, subst, arith}
+use Rattle.std.proofs.lemmas.Bool.{false≢true}
 use Rattle.cilk_types.specs.declared.event.Instance as numbered
 use Rattle.cilk_monoid.specs.declared.kind.MonoidKind.{MonoidKind}
 use Rattle.cilk_program.specs.declared.ask.Callee.{Callee}
 use Rattle.cilk_program.specs.declared.ask.Callee.TheVariants as callees
-use Rattle.cilk_program.specs.declared.ask.LoopPart.{LoopPart}
-use Rattle.cilk_program.specs.declared.program.Body.{Body}
-use Rattle.cilk_program.specs.declared.program.Body.TheVariants as bodies
 use Rattle.cilk_program.specs.declared.syntax.Place.{Place}
 use Rattle.cilk_program.specs.declared.syntax.Place.TheVariants as places
 use Rattle.cilk_program.specs.declared.syntax.Reducer as syntax
 use Rattle.cilk_program.specs.declared.syntax.ReducerPlace.{ReducerPlace}
 use Rattle.cilk_program.specs.declared.syntax.ReducerPlace.TheVariants as reducers
-use Rattle.cilk_program.specs.Syntax.{Source, function_at, main_of, loop_at}
+use Rattle.cilk_program.specs.Syntax.{Source, function_at, main_of}
 use Rattle.cilk_program.specs.Scopes.{Home, Scope, cell_in, instance_in, instances_in}
-use Rattle.cilk_program.specs.WellNamed.{loop_level, levels_of, has_cell, is_kind, has_own, has_given, have_kinds, place_is_there, reducer_is_there, reducers_are_there, is_well_named}
-use Rattle.cilk_program.specs.Inside.{body_of, is_whole, CalleeIsFit, CalleeIsThere, IsTaken}
+use Rattle.cilk_program.specs.WellNamed.{is_kind}
 use Rattle.cilk_program.specs.SerialRun.{Run, Frame, itself, global_reducer, own_reducers, first_place, home_of, outer_of, given_to, result_of}
 use Rattle.cilk_meaning.specs.Numbering.{Counts, unbegun, block_of, child_at, frame_at}
-use Rattle.cilk_meaning.proofs.Naming.{loop_levels}
-use Rattle.cilk_meaning.proofs.Sounds.{MayBegin}
+use Rattle.cilk_meaning.specs.Visible.{GlobalsAreThere, FrameSees}
 use Rattle.cilk_runs.specs.Runs.{Name, Cell, Global}
-use Rattle.cilk_runs.proofs.Basics.{same_kind-eq}
 use Rattle.cilk_worlds.specs.Reducers.{kind_of}
 use Rattle.cilk_worlds.specs.Worlds.{Reducers, Sight, global_named, before_own, own_named, home_named, outer_named, given_named, result_named, World}
 use Rattle.cilk_determinacy.specs.Numbers.{up, child_runs, frame_runs, all_reducers, cell_number, instance_number, IsHere, HasCell, HasReducer, HasInstance}
@@ -156,16 +150,9 @@ module _ (p : Source) (r : Run) where
 
   -- ---- what is there
 
-  -- what body b names is there
-  pub record Sees (b : Body) (s : Sight) : Type 0 where
-    pub cells : (x : Place) → IsTrue (place_is_there p b x) → HasCell p r (cell_in Global s x)
-    pub reducers : (x : ReducerPlace) (k : MonoidKind) → IsTrue (reducer_is_there p b x k) → HasInstance p r (instance_in global_named s x k)
-
-  -- a loop's frame sees what its loop stands in
-  abbrev pub SeesOuter : Callee → Sight → Type 0
-  SeesOuter callees.Root s = Unit {0}
-  SeesOuter (callees.Function c) s = Unit {0}
-  SeesOuter (callees.Loop l) s = let body = loop_at p l.number in Sees body.within (drop 1 s)
+  -- of the reducers at a place, the one of this monoid is there
+  abbrev pub HasOne : Reducers → MonoidKind → Type 0
+  HasOne i k = HasInstance p r (i k)
 
   has_reducer : (name : Name) (here : IsHere p r name) (callee : Callee) → frame_runs r here.path ≡ Some callee → (n : ℕ) (k : MonoidKind) → IsTrue (is_kind (slice_get (all_reducers p callee) n) k) → HasReducer p r name n k
   has_reducer name here callee runs n k declared = record { here = here; callee = callee; runs = runs; declared = declared }
@@ -179,77 +166,8 @@ module _ (p : Source) (r : Run) where
   pub own_here : (callee : Callee) (name : Name) (here : IsHere p r name) → frame_runs r here.path ≡ Some callee → (n : ℕ) (k : MonoidKind) → IsTrue (is_kind (slice_get (own_reducers p callee) n) k) → HasInstance p r (own_named p callee name n k)
   own_here callee name here runs n k h = has_reducer name here callee runs (before_own p callee + n) k (own_declared p callee n k h)
 
-  pub given_here : (b : Body) (s : Sight) → Sees b s → (rs : List syntax.Reducer) → IsTrue (reducers_are_there p b rs) → (kinds : List MonoidKind) → IsTrue (have_kinds rs kinds) → (n : ℕ) (k : MonoidKind) → IsTrue (is_kind (slice_get kinds n) k)
-      → (other : Reducers) → HasInstance p r (unwrap_or (slice_get (instances_in global_named s rs) n) other k)
-  given_here b s sees [] there [] have n k h other = absurd (false≢true h)
-  given_here b s sees [] there (j ∷ kinds) have n k h other = absurd (false≢true have)
-  given_here b s sees (x ∷ rs) there [] have n k h other = absurd (false≢true have)
-  given_here b s sees (x ∷ rs) there (j ∷ kinds) have zero k h other =
-      let e = same_kind-eq x.kind j (and_parts _ (have_kinds rs kinds) have).0 ∙ same_kind-eq j k h in
-      subst (λ k. HasInstance p r (instance_in global_named s x.place k)) e (sees.reducers x.place x.kind (and_parts (reducer_is_there p b x.place x.kind) (reducers_are_there p b rs) there).0)
-  given_here b s sees (x ∷ rs) there (j ∷ kinds) have (suc n) k h other =
-      given_here b s sees rs (and_parts (reducer_is_there p b x.place x.kind) (reducers_are_there p b rs) there).1 kinds (and_parts _ (have_kinds rs kinds) have).1 n k h other
-
-  -- a function's frame sees its own cells, its own reducers and those that it is given
-  pub function_sees : (f : ℕ) (callee : Callee) (name : Name) (here : IsHere p r name) → frame_runs r here.path ≡ Some callee → (let g = function_at p f in here.block.cells ≡ g.cells) → (let g = function_at p f in own_reducers p callee ≡ g.reducers) → (is : List Reducers)
-      → ((n : ℕ) (k : MonoidKind) → (let g = function_at p f in IsTrue (is_kind (slice_get g.given n) k)) → HasInstance p r (unwrap_or (slice_get is n) (global_named n) k))
-      → Sees (bodies.Function f) (home_named p callee name is ∷ [])
-  function_sees f callee name here runs many own is given = record { cells = cells; reducers = see_reducers }
-    where
-      cells : (x : Place) → IsTrue (place_is_there p (bodies.Function f) x) → HasCell p r (cell_in Global (home_named p callee name is ∷ []) x)
-      cells (places.Global n) h = ltb-true n (length p.openings) h
-      cells (places.Local zero n) h = let g = function_at p f in (here, let less = ltb-true n g.cells h in omega (arith, less, many))
-      cells (places.Local (suc up) n) h = absurd (false≢true h)
-
-      see_reducers : (x : ReducerPlace) (k : MonoidKind) → IsTrue (reducer_is_there p (bodies.Function f) x k) → HasInstance p r (instance_in global_named (home_named p callee name is ∷ []) x k)
-      see_reducers (reducers.Global n) k h = global_here n k h
-      see_reducers (reducers.Own zero n) k h = own_here callee name here runs n k (subst (λ ks. IsTrue (is_kind (slice_get ks n) k)) (sym own) h)
-      see_reducers (reducers.Own (suc up) n) k h = absurd (false≢true h)
-      see_reducers (reducers.Given zero n) k h = given n k h
-      see_reducers (reducers.Given (suc up) n) k h = absurd (false≢true h)
-
-  -- a turn's frame sees its own cells, and what its loop stands in
-  pub turn_sees : IsTrue (is_well_named p) → (l : ℕ) → l < length p.loops → (callee : Callee) (name : Name) (here : IsHere p r name) → (let body = loop_at p l in here.block.cells ≡ body.cells) → (outer : Sight) → (let body = loop_at p l in Sees body.within outer)
-      → Sees (bodies.Loop l) (home_named p callee name [] ∷ outer)
-  turn_sees well l low callee name here many outer sees = record { cells = cells; reducers = see_reducers }
-    where
-      levels : levels_of p (bodies.Loop l) ≡ loop_level (loop_at p l) ∷ levels_of p (loop_at p l).within
-      levels = loop_levels p well l low
-
-      cells : (x : Place) → IsTrue (place_is_there p (bodies.Loop l) x) → HasCell p r (cell_in Global (home_named p callee name [] ∷ outer) x)
-      cells (places.Global n) h = sees.cells (places.Global n) h
-      cells (places.Local zero n) h = (here, let less = ltb-true n (loop_at p l).cells h in omega (arith, less, many))
-      cells (places.Local (suc up) n) h = sees.cells (places.Local up n) (subst (λ ls. IsTrue (has_cell (slice_get ls (suc up)) n)) levels h)
-
-      see_reducers : (x : ReducerPlace) (k : MonoidKind) → IsTrue (reducer_is_there p (bodies.Loop l) x k) → HasInstance p r (instance_in global_named (home_named p callee name [] ∷ outer) x k)
-      see_reducers (reducers.Global n) k h = sees.reducers (reducers.Global n) k h
-      see_reducers (reducers.Own zero n) k h = absurd (false≢true h)
-      see_reducers (reducers.Own (suc up) n) k h = sees.reducers (reducers.Own up n) k (subst (λ ls. IsTrue (has_own (slice_get ls (suc up)) n k)) levels h)
-      see_reducers (reducers.Given zero n) k h = absurd (false≢true h)
-      see_reducers (reducers.Given (suc up) n) k h = sees.reducers (reducers.Given up n) k (subst (λ ls. IsTrue (has_given (slice_get ls (suc up)) n k)) levels h)
-
-  absurd_step : {X : Type 0} (n : ℕ) → n ≡ 0 → n ≡ 1 → X
-  absurd_step n zero_is one_is = absurd (omega (arith, zero_is, one_is))
-
-  -- what a loop's frame sees by its static links
-  pub loop_sees : (parent : Callee) (s : Sight) (l : LoopPart) → (IsTrue (is_whole parent) → Sees (body_of p parent) s) → SeesOuter parent s → CalleeIsThere p (body_of p parent) (callees.Loop l) → MayBegin parent (callees.Loop l)
-      → (let body = loop_at p l.number in Sees body.within (drop l.up s))
-  loop_sees parent s l own outer (fit, inl (up, same)) (inl whole) = subst (λ u. Sees (loop_at p l.number).within (drop u s)) (sym up) (subst (λ b. Sees b s) (sym same) (own whole))
-  loop_sees parent s l own outer (fit, inl (up, same)) (inr one) = absurd_step l.up up one
-  loop_sees parent s l own outer (fit, inr (up, same)) may = subst (λ u. Sees (loop_at p l.number).within (drop u s)) (sym up) (of_loop parent outer same)
-    where
-      body_loop : Body → ℕ
-      body_loop (bodies.Function k) = 0
-      body_loop (bodies.Loop k) = k
-
-      is_loop : Body → Type 0
-      is_loop (bodies.Function k) = ⊥
-      is_loop (bodies.Loop k) = Unit {0}
-
-      of_loop : (parent : Callee) → SeesOuter parent s → body_of p parent ≡ bodies.Loop l.number → Sees (loop_at p l.number).within (drop 1 s)
-      of_loop callees.Root outer same = absurd (subst is_loop (sym same) tt)
-      of_loop (callees.Function c) outer same = absurd (subst is_loop (sym same) tt)
-      of_loop (callees.Loop parent_part) outer same = subst (λ k. Sees (loop_at p k).within (drop 1 s)) (ap body_loop same) outer
+  pub globals_here : GlobalsAreThere p Global global_named (HasCell p r) HasOne
+  globals_here = record { cells = λ n less. less; reducers = global_here }
 
   -- ---- frames
 
@@ -259,12 +177,9 @@ module _ (p : Source) (r : Run) where
     pub number : here.block.number ≡ fr.number
     pub runs : frame_runs r here.path ≡ Some w.callee
     pub callee : w.callee ≡ fr.callee
-    pub fit : CalleeIsFit p w.callee
     pub tied : Tied w.sight fr.scope
     pub result_tied : option_map (cell_number p r) w.result ≡ fr.result
-    pub own : IsTrue (is_whole w.callee) → Sees (body_of p w.callee) w.sight
-    pub outer : SeesOuter w.callee w.sight
-    pub result : IsTaken w.callee → (c : Cell) × (w.result ≡ Some c) × HasCell p r c
+    pub sees : FrameSees p Global global_named (HasCell p r) HasOne w.callee w.sight w.result
 
   -- what is ahead of a frame at a path, where so many of its children have begun
   pub record Ahead (path : List ℕ) (j : ℕ) (rest : Run) (n : Counts) : Type 0 where

@@ -1,35 +1,21 @@
 -- A point of the serial run, by names: a frame that stands there, and what is ahead of it.
-use Rattle.std.proofs.Common.{◌≡◌, inl, inr, ⊎_elim, ℕ, suc, ℤ, pos, ◌-ℤ◌, int_eq, IsTrue, List, refl, sym, ap, ◌∙◌, subst}
-use Rattle.std.proofs.lemmas.Bool.{cases_Bool}
+use Rattle.std.proofs.Common.{◌≡◌, ℕ, suc, ℤ, IsTrue, List, sym, ap, ◌∙◌, subst}
 use Rattle.cilk_program.specs.declared.ask.Ask.{Ask}
 use Rattle.cilk_program.specs.declared.ask.Ask.TheVariants as asks
 use Rattle.cilk_program.specs.declared.ask.Callee.{Callee}
 use Rattle.cilk_program.specs.declared.ask.Callee.TheVariants as callees
 use Rattle.cilk_types.specs.declared.invocation.Invocation.{Invocation}
-use Rattle.cilk_types.specs.declared.invocation.Invocation.TheVariants.{Call}
 use Rattle.cilk_program.specs.Syntax.{Source}
 use Rattle.cilk_program.specs.Behaviour.{Asked, asks_for, frame_asks}
 use Rattle.cilk_program.specs.WellNamed.{is_well_named}
 use Rattle.cilk_program.specs.Inside.{AskIsThere}
 use Rattle.cilk_program.specs.SerialRun.{Run, act, child, Memory, Frame, root_frame, next_frame}
 use Rattle.cilk_meaning.specs.Numbering.{Counts, counts_of, counts_after, unbegun, entered}
-use Rattle.cilk_meaning.proofs.Asked.{IsPart, parts_asked, asks_there}
-use Rattle.cilk_meaning.proofs.Sounds.{MayBegin}
+use Rattle.cilk_meaning.proofs.Asked.{asks_there}
+use Rattle.cilk_meaning.proofs.Visible.{can_invoke}
 use Rattle.cilk_worlds.specs.Worlds.{World, first_world, child_world}
 use Rattle.cilk_determinacy.proofs.Sights.{Stands, Ahead}
 use Rattle.cilk_determinacy.proofs.Children.{root_ahead, child_ahead, past_ahead, root_stands, root_path, child_stands, child_path}
-
--- a frame is asked rightly for a child
-pub may_begin : (p : Source) (inputs : List ℤ) (parent : Callee) (history : List ℤ) (start left : ℕ) (how : Invocation) (callee : Callee) → frame_asks p inputs parent history start ≡ asks_for (asks.Invoke how callee) left → MayBegin parent callee
-may_begin p inputs callees.Root history start left how callee q = inl refl
-may_begin p inputs (callees.Function c) history start left how callee q = inl refl
-may_begin p inputs (callees.Loop l) history start left how callee q =
-    ⊎_elim (λ one. inl one) (λ several. inr (part how callee (subst (λ (q : Asked). IsPart q.ask) q (parts_asked p l several inputs history start)))) (cases_Bool (int_eq (l.high -ℤ l.low) (pos 1)))
-  where
-    part : (how : Invocation) (callee : Callee) → IsPart (asks.Invoke how callee) → IsPart (asks.Invoke Call callee)
-    part how callees.Root h = h
-    part how (callees.Function c) h = h
-    part how (callees.Loop l) h = h
 
 module _ (p : Source) (inputs : List ℤ) (well : IsTrue (is_well_named p)) (r : Run) where
   pub record Standing (w : World) (fr : Frame) (j : ℕ) (rest : Run) (n : Counts) : Type 0 where
@@ -39,7 +25,7 @@ module _ (p : Source) (inputs : List ℤ) (well : IsTrue (is_well_named p)) (r :
   -- what a frame asks for is there
   pub asked_there : (w : World) (fr : Frame) (history : List ℤ) (start left : ℕ) (a : Ask) → Stands p r w fr → frame_asks p inputs fr.callee history start ≡ asks_for a left → AskIsThere p w.callee a
   asked_there w fr history start left a h q =
-      subst (λ (q : Asked). AskIsThere p w.callee q.ask) (ap (λ callee. frame_asks p inputs callee history start) h.callee ∙ q) (asks_there p well w.callee h.fit inputs history start)
+      subst (λ (q : Asked). AskIsThere p w.callee q.ask) (ap (λ callee. frame_asks p inputs callee history start) h.callee ∙ q) (asks_there p well w.callee h.sees.fit inputs history start)
 
   pub standing_act : (w : World) (fr : Frame) (j : ℕ) (a : Ask) (v : ℤ) (rest : Run) (n : Counts) → Standing w fr j (act a v rest) n → Standing w fr j rest n
   standing_act w fr j a v rest n h = record { stands = h.stands; ahead = let ahead = h.ahead in record { blocks = ahead.blocks; runs = ahead.runs } }
@@ -51,10 +37,10 @@ module _ (p : Source) (inputs : List ℤ) (well : IsTrue (is_well_named p)) (r :
       let there = asked_there w fr history start left (asks.Invoke how callee) h.stands q in
       let stands = h.stands in
       let here = stands.here in
-      let may = may_begin p inputs w.callee history start left how callee (ap (λ callee. frame_asks p inputs callee history start) stands.callee ∙ q) in
+      let can = can_invoke p inputs w.callee history start left how callee (ap (λ callee. frame_asks p inputs callee history start) stands.callee ∙ q) in
       record {
-        stands = child_stands p r well w fr h.stands j how callee u rest m h.ahead there may;
-        ahead = subst (λ path. Ahead p r path 0 u (entered p callee (counts_of m))) (sym (child_path p r well w fr h.stands j how callee u rest m h.ahead there may)) (child_ahead p r here.path j how callee u rest (counts_of m) h.ahead);
+        stands = child_stands p r well w fr h.stands j how callee u rest m h.ahead there can;
+        ahead = subst (λ path. Ahead p r path 0 u (entered p callee (counts_of m))) (sym (child_path p r well w fr h.stands j how callee u rest m h.ahead there can)) (child_ahead p r here.path j how callee u rest (counts_of m) h.ahead);
       }
 
   pub standing_past : (w : World) (fr : Frame) (j : ℕ) (how : Invocation) (callee : Callee) (u rest : Run) (n n' : Counts) → n' ≡ counts_after p u (entered p callee n) → Standing w fr j (child how callee u rest) n → Standing w fr (suc j) rest n'

@@ -14,7 +14,7 @@ use Rattle.cilk_program.specs.Elision as elision
 use Rattle.cilk_program.specs.Elision.{Sight, itself, Gives as Worth, Fails, evaluate_all, Came, Faults, home_in, entered, left_with, on_ended, result_cell, ElidesAll, ElidesCall, Called}
 use Rattle.cilk_program.specs.SerialRun.{Run, Memory, next_frame, begun, counted, Ending, Serial}
 use Rattle.cilk_meaning.proofs.Ties.{since_itself, same_grown, grown_own}
-use Rattle.cilk_meaning.proofs.Sights.{Sees}
+use Rattle.cilk_meaning.proofs.Sights.{SeesAlike}
 use Rattle.cilk_meaning.proofs.Moments.{Site, SameMemory, called, sees_now}
 use Rattle.cilk_meaning.proofs.Statements.{arguments_named}
 use Rattle.cilk_meaning.proofs.Calls as calls
@@ -31,7 +31,7 @@ module _ (p : Source) (wn : IsTrue (is_well_named p)) (inputs : List ℤ) where
 
   -- a function's frame, with ticks and events enough
   module _ (tied : ℕ → Instance) (m : elision.Memory) (m' : Memory) (b : Body) (s : Sight) (scope : Scope ℕ Instance) (left : ℕ) (i : Invoke) (words : List ℤ)
-      (same : SameMemory tied m m') (sees : Sees p tied m.reducers b s scope) (named : IsTrue (invoke_is_named p b i)) (end : Ending) where
+      (same : SameMemory tied m m') (sees : SeesAlike p tied m.reducers b s scope) (named : IsTrue (invoke_is_named p b i)) (end : Ending) where
     abbrev f : Function
     f = function_at p i.function
 

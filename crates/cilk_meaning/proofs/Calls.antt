@@ -16,7 +16,7 @@ use Rattle.cilk_program.specs.Elision as elision
 use Rattle.cilk_program.specs.Elision.{Sight, itself, cell_at, Gives as Worth, evaluate_all, Came, GoesOn, Returns, Faults, home_in, entered, left_with, goes_on, on_ended, result_cell, ElidesAll, ElidesCall, Called}
 use Rattle.cilk_program.specs.SerialRun.{Run, Memory, next_frame, begun, counted, Ending, Serial}
 use Rattle.cilk_meaning.proofs.Ties.{Since, since_itself, since_then, same_clear_all, same_grown, grown, grown_own, since_grown}
-use Rattle.cilk_meaning.proofs.Sights.{Sees, sees_called}
+use Rattle.cilk_meaning.proofs.Sights.{SeesAlike, sees_called}
 use Rattle.cilk_meaning.proofs.Steps.{Children}
 use Rattle.cilk_meaning.proofs.Moments.{Site, Now, SameMemory, ChildEnds, called, IsElided, AskGoes, Answer, NoRoom, Comes, On, Back, Broken', Limited}
 use Rattle.cilk_meaning.proofs.Bodies.{all_goes}
@@ -72,7 +72,7 @@ finish_call : (z : Site) (s : Sight) (o : Option Place) → z.fr.result ≡ opti
 finish_call z s None e m f left n = finish z m f left n
 finish_call z s (Some x) e m f left n = finish_with z (cell_at s x) e m f left n
 
-pub result_same : {p : Source} {tied : ℕ → Instance} {count : ℕ} {b : Body} (s : Sight) (scope : Scope ℕ Instance) → Sees p tied count b s scope → (o : Option Place) → option_map (cell_in itself scope) o ≡ option_map (cell_at s) o
+pub result_same : {p : Source} {tied : ℕ → Instance} {count : ℕ} {b : Body} (s : Sight) (scope : Scope ℕ Instance) → SeesAlike p tied count b s scope → (o : Option Place) → option_map (cell_in itself scope) o ≡ option_map (cell_at s) o
 result_same s scope sees None = refl
 result_same s scope sees (Some x) = ap Some (sym (sees.cells x))
 
@@ -85,7 +85,7 @@ call_parts p b i h =
     (e.1, c.1)
 
 module _ (p : Source) (wn : IsTrue (is_well_named p)) (inputs : List ℤ) (tied : ℕ → Instance) (m : elision.Memory) (m' : Memory) (b : Body) (s : Sight) (scope : Scope ℕ Instance) (left : ℕ) (i : Invoke) (words : List ℤ)
-    (same : SameMemory tied m m') (sees : Sees p tied m.reducers b s scope) (named : IsTrue (invoke_is_named p b i)) (end : Ending) where
+    (same : SameMemory tied m m') (sees : SeesAlike p tied m.reducers b s scope) (named : IsTrue (invoke_is_named p b i)) (end : Ending) where
   abbrev pub f : Function
   f = function_at p i.function
 

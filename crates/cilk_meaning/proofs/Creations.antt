@@ -1,6 +1,5 @@
 -- In a serial run of a well-named program cells are there, and reducers are created before they are used.
-use Rattle.std.proofs.Common.{◌≡◌, ◌⊎◌, inl, inr, ⊎_elim, ℕ, suc, ◌+◌, ◌<◌, ◌≤◌, ℤ, pos, ◌-ℤ◌, int_eq, Bool, true, false, IsTrue, if◌then◌else◌, List, [], ◌∷◌, ◌++◌, length, Option, Some, None, refl, sym, ap, ◌∙◌, subst, append-nil, arith}
-use Rattle.std.proofs.lemmas.Bool.{cases_Bool}
+use Rattle.std.proofs.Common.{◌≡◌, ◌⊎◌, inl, inr, ℕ, suc, ◌+◌, ◌<◌, ◌≤◌, ℤ, pos, ◌-ℤ◌, int_eq, Bool, true, false, IsTrue, if◌then◌else◌, List, [], ◌∷◌, ◌++◌, length, Option, Some, None, refl, sym, ap, ◌∙◌, subst, append-nil, arith}
 use Rattle.cilk_types.specs.declared.event.Instance.{Instance}
 use Rattle.cilk_types.specs.declared.event.Event.{Event}
 use Rattle.cilk_types.specs.declared.event.Event.TheVariants as events
@@ -17,7 +16,7 @@ use Rattle.cilk_program.specs.declared.syntax.Reducer.{Reducer}
 use Rattle.cilk_program.specs.declared.syntax.ReducerPlace.{ReducerPlace}
 use Rattle.cilk_program.specs.declared.syntax.ReducerPlace.TheVariants as reducers
 use Rattle.cilk_program.specs.Syntax.{Source, function_at, main_of}
-use Rattle.cilk_program.specs.Behaviour.{Asked, asks_for, frame_asks}
+use Rattle.cilk_program.specs.Behaviour.{Asked}
 use Rattle.cilk_program.specs.Outcomes.{Conclusion}
 use Rattle.cilk_program.specs.WellNamed.{is_well_named}
 use Rattle.cilk_program.specs.Inside.{body_of, CalleeIsThere, AskIsThere}
@@ -25,12 +24,14 @@ use Rattle.cilk_program.specs.SerialRun.{Run, stop, Memory, Frame, reducer_at, e
 use Rattle.cilk_meaning.specs.Order.{writings, creations, opening_asks, Stage, Fresh, Due, Going, Resuming, Synced, Closing, opened, IsOrderly}
 use Rattle.cilk_meaning.specs.Created.{Among, Deed, Creates, Uses, Passes, deed_of, IsCreated, made_by, AreCreated, CellIsBelow, CellsAreBelow}
 use Rattle.cilk_meaning.specs.Numbering.{Counts, counts_of, unbegun, entered, counts_after, frame_of}
+use Rattle.cilk_meaning.specs.Visible.{CanInvoke}
+use Rattle.cilk_meaning.proofs.Visible.{can_invoke}
 use Rattle.cilk_meaning.proofs.Legal.{IsPlain}
 use Rattle.cilk_meaning.proofs.Orderly.{runs_orderly}
 use Rattle.cilk_meaning.proofs.Closings.{IsOpening, AreOpening, opening_asks_open, IsSound, opened_sound, View, Begins, Opens, Goes, Calls, Spawns, Syncs, Resumes, Again, Gives, Ends, EndsThen, view}
-use Rattle.cilk_meaning.proofs.Asked.{IsPart, parts_asked, asks_there}
+use Rattle.cilk_meaning.proofs.Asked.{asks_there}
 use Rattle.cilk_meaning.proofs.Numbers.{serial_counts, frames_grow, cells_grow}
-use Rattle.cilk_meaning.proofs.Sounds.{Stands, Covers, MayBegin, stands_more, stands_write, stands_create, child_stands, root_stands}
+use Rattle.cilk_meaning.proofs.Sounds.{Stands, Covers, stands_more, stands_write, stands_create, child_stands, root_stands}
 
 -- ---- lists of created reducers
 
@@ -231,7 +232,7 @@ module _ (p : Source) (fr : Frame) (m : Memory) (made : List Instance) (G : Stag
 
   opens : (k : Ask) (due : List Ask) → IsOpening k → AreOpening due → AskIsThere p fr.callee k → G (opened due) → Here p fr (counts_of m) made (k ∷ due) → Steps p fr (counts_of m) made (event_of fr m k) G
   opens (asks.Write x v) due opening sound there goes h =
-      passes due (opened due) (event_of fr m (asks.Write x v)) refl ((h.stands.own there.0).cells x there.1) (due_opened due) (opened_sound due sound) goes (write_here p fr (counts_of m) made x v due h)
+      passes due (opened due) (event_of fr m (asks.Write x v)) refl ((h.stands.sees.own there.0).cells x there.1) (due_opened due) (opened_sound due sound) goes (write_here p fr (counts_of m) made x v due h)
   opens (asks.Create c) due opening sound there goes h = record {
     to = opened due;
     sound = opened_sound due sound;
@@ -265,11 +266,11 @@ module _ (p : Source) (fr : Frame) (m : Memory) (made : List Instance) (G : Stag
   }
 
   plainly : (k : Ask) (w : Bool) → IsPlain k → AskIsThere p fr.callee k → G (Going w) → Here p fr (counts_of m) made [] → Steps p fr (counts_of m) made (event_of fr m k) G
-  plainly (asks.Read x) w plain there goes h = passes [] (Going w) (event_of fr m (asks.Read x)) refl ((h.stands.own there.0).cells x there.1) refl tt goes h
-  plainly (asks.Write x v) w plain there goes h = passes [] (Going w) (event_of fr m (asks.Write x v)) refl ((h.stands.own there.0).cells x there.1) refl tt goes h
-  plainly (asks.Update c v) w plain there goes h = uses c w (event_of fr m (asks.Update c v)) refl tt (settled ((h.stands.own there.0).reducers c.place c.kind there.1)) goes h
-  plainly (asks.Set c v) w plain there goes h = uses c w (event_of fr m (asks.Set c v)) refl tt (settled ((h.stands.own there.0).reducers c.place c.kind there.1)) goes h
-  plainly (asks.Value c) w plain there goes h = uses c w (event_of fr m (asks.Value c)) refl tt (settled ((h.stands.own there.0).reducers c.place c.kind there.1)) goes h
+  plainly (asks.Read x) w plain there goes h = passes [] (Going w) (event_of fr m (asks.Read x)) refl ((h.stands.sees.own there.0).cells x there.1) refl tt goes h
+  plainly (asks.Write x v) w plain there goes h = passes [] (Going w) (event_of fr m (asks.Write x v)) refl ((h.stands.sees.own there.0).cells x there.1) refl tt goes h
+  plainly (asks.Update c v) w plain there goes h = uses c w (event_of fr m (asks.Update c v)) refl tt (settled ((h.stands.sees.own there.0).reducers c.place c.kind there.1)) goes h
+  plainly (asks.Set c v) w plain there goes h = uses c w (event_of fr m (asks.Set c v)) refl tt (settled ((h.stands.sees.own there.0).reducers c.place c.kind there.1)) goes h
+  plainly (asks.Value c) w plain there goes h = uses c w (event_of fr m (asks.Value c)) refl tt (settled ((h.stands.sees.own there.0).reducers c.place c.kind there.1)) goes h
   plainly (asks.Print v) w plain there goes h = passes [] (Going w) (event_of fr m (asks.Print v)) refl tt refl tt goes h
   plainly asks.Begin w plain there goes h = absurd plain
   plainly (asks.Create c) w plain there goes h = absurd plain
@@ -296,7 +297,7 @@ module _ (p : Source) (fr : Frame) (m : Memory) (made : List Instance) (G : Stag
   steps (Going w) k sound inner there (Syncs goes) h = passes [] Synced (event_of fr m asks.Sync) refl tt refl tt goes h
   steps (Resuming w) k sound inner there (Resumes goes) h = passes [] (Going w) (event_of fr m asks.Resume) refl tt refl tt goes h
   steps Synced k sound inner there (Again goes) h = steps (Going false) k tt inner there goes h
-  steps Synced k sound inner there (Gives {v = v} goes) h = passes [] Closing (event_of fr m (asks.Result v)) (result_passes fr.result v) (result_below fr.result v m.cells (h.stands.result there)) refl tt goes h
+  steps Synced k sound inner there (Gives {v = v} goes) h = passes [] Closing (event_of fr m (asks.Result v)) (result_passes fr.result v) (result_below fr.result v m.cells (h.stands.sees.result there)) refl tt goes h
   steps Synced k sound inner there Ends h = absurd inner
   steps Closing k sound inner there EndsThen h = absurd inner
 
@@ -354,23 +355,11 @@ broken_leaves p top made how number es n h = record {
   bounded = subst (Bounded n.frames) (sym (starts_made how number es made)) h.bounded;
 }
 
--- a frame is asked rightly for a child
-may_begin : (p : Source) (inputs : List ℤ) (parent : Callee) (history : List ℤ) (start left : ℕ) (how : Invocation) (callee : Callee) → frame_asks p inputs parent history start ≡ asks_for (asks.Invoke how callee) left → MayBegin parent callee
-may_begin p inputs callees.Root history start left how callee q = inl refl
-may_begin p inputs (callees.Function c) history start left how callee q = inl refl
-may_begin p inputs (callees.Loop l) history start left how callee q =
-    ⊎_elim (λ one. inl one) (λ several. inr (part how callee (subst (λ (q : Asked). IsPart q.ask) q (parts_asked p l several inputs history start)))) (cases_Bool (int_eq (l.high -ℤ l.low) (pos 1)))
-  where
-    part : (how : Invocation) (callee : Callee) → IsPart (asks.Invoke how callee) → IsPart (asks.Invoke Call callee)
-    part how callees.Root h = h
-    part how (callees.Function c) h = h
-    part how (callees.Loop l) h = h
-
 -- a child begins here
-child_here : (p : Source) → IsTrue (is_well_named p) → (fr : Frame) (n : Counts) (made : List Instance) (callee : Callee) → CalleeIsThere p (body_of p fr.callee) callee → MayBegin fr.callee callee → Here p fr n made []
+child_here : (p : Source) → IsTrue (is_well_named p) → (fr : Frame) (n : Counts) (made : List Instance) (callee : Callee) → CalleeIsThere p (body_of p fr.callee) callee → CanInvoke fr.callee callee → Here p fr n made []
     → Here p (frame_of p fr.scope n callee) (entered p callee n) made (opening_asks p callee)
-child_here p well fr n made callee there may h = record {
-  stands = child_stands p well fr n made h.stands callee there may;
+child_here p well fr n made callee there can h = record {
+  stands = child_stands p well fr n made h.stands callee there can;
   opening = opening_unless (frame_of p fr.scope n callee) made (opening_asks p callee) (1, child_due p fr.scope n callee (no_root callee there), λ i a same. let b = h.bounded i a in absurd (omega (arith, b, same)));
   bounded = λ i a. let b = h.bounded i a in omega (arith, b);
   begun = omega arith;
@@ -394,21 +383,21 @@ serial_leaves : {p : Source} {inputs : List ℤ} {fr : Frame} {start : ℕ} {his
     → IsTrue (is_well_named p) → (top : ℕ) → (counts_after p r (counts_of m)).cells ≤ top → (s : Stage) → IsSound s → IsOrderly p s r → (made : List Instance) → Here p fr (counts_of m) made (due_of s)
     → Leaves p top made es (counts_after p r (counts_of m))
 serial_leaves {p = p} {inputs = inputs} (Made {fr = fr} {start = start} {history = history} {m = m} {r = r} {es = es} k left q inner ok rest) well top low s sound orderly made h =
-    let there = subst (λ (q : Asked). AskIsThere p fr.callee q.ask) q (asks_there p well fr.callee h.stands.fit inputs history start) in
+    let there = subst (λ (q : Asked). AskIsThere p fr.callee q.ask) q (asks_there p well fr.callee h.stands.sees.fit inputs history start) in
     let step = steps p fr m made (λ s'. IsOrderly p s' r) s k sound inner there (view s k (λ s'. IsOrderly p s' r) orderly.0) h in
     let grows = cells_grow p r (counts_of m) in
     act_leaves p top made (event_of fr m k) es (counts_after p r (counts_of m)) step.is_created (cell_higher m.cells top (event_of fr m k) (omega (arith, grows, low)) step.is_below)
     (serial_leaves rest well top low step.to step.sound step.goes (made_by (deed_of (event_of fr m k)) made) step.here)
 serial_leaves {p = p} (Ended {fr = fr} {m = m} v left q ok) well top low s sound orderly made h = record { are_created = (tt, tt); are_below = (tt, tt); bounded = h.bounded }
 serial_leaves {p = p} {inputs = inputs} (Went {fr = fr} {start = start} {history = history} {m = m} {u = u} {r = r} {es = es} {es' = es'} how callee left v left' m' q ok inner rest) well top low s sound orderly made h =
-    let there = subst (λ (q : Asked). AskIsThere p fr.callee q.ask) q (asks_there p well fr.callee h.stands.fit inputs history start) in
+    let there = subst (λ (q : Asked). AskIsThere p fr.callee q.ask) q (asks_there p well fr.callee h.stands.sees.fit inputs history start) in
     let next = child_next p r s how callee sound (view s (asks.Invoke how callee) (λ s'. IsOrderly p s' r) orderly.1) in
     let here = subst (λ due. Here p fr (counts_of m) made due) next.0 h in
     let n = entered p callee (counts_of m) in
     let after : counts_of m' ≡ counts_after p u n = serial_counts inner in
     let grows = cells_grow p r (counts_after p u n) in
     let one = serial_leaves inner well top (omega (arith, grows, low)) (Fresh (opening_asks p callee)) (opening_asks_open p callee) orderly.0 made
-    (child_here p well fr (counts_of m) made callee there (may_begin p inputs fr.callee history start left how callee q) here) in
+    (child_here p well fr (counts_of m) made callee there (can_invoke p inputs fr.callee history start left how callee q) here) in
     let frames = frames_grow p u n in
     let cells = cells_grow p u n in
     let past = past_here p fr (counts_of m) (counts_after p u n) made (created es made) (omega (arith, frames)) (omega (arith, cells)) (created_covers es made) one.bounded here in
@@ -416,12 +405,12 @@ serial_leaves {p = p} {inputs = inputs} (Went {fr = fr} {start = start} {history
     (subst (λ n. Leaves p top (created es made) es' (counts_after p r n)) after
     (serial_leaves rest well top (subst (λ n. (counts_after p r n).cells ≤ top) (sym after) low) (Resuming next.1.0) tt next.1.1 (created es made) (subst (λ n. Here p fr n (created es made) []) (sym after) past)))
 serial_leaves {p = p} {inputs = inputs} (Broke {fr = fr} {start = start} {history = history} {m = m} {u = u} {es = es} how callee left f q ok inner) well top low s sound orderly made h =
-    let there = subst (λ (q : Asked). AskIsThere p fr.callee q.ask) q (asks_there p well fr.callee h.stands.fit inputs history start) in
+    let there = subst (λ (q : Asked). AskIsThere p fr.callee q.ask) q (asks_there p well fr.callee h.stands.sees.fit inputs history start) in
     let next = child_next p stop s how callee sound (view s (asks.Invoke how callee) (λ s'. IsOrderly p s' stop) orderly.1) in
     let here = subst (λ due. Here p fr (counts_of m) made due) next.0 h in
     broken_leaves p top made how (suc m.frames) es (counts_after p u (entered p callee (counts_of m)))
     (serial_leaves inner well top low (Fresh (opening_asks p callee)) (opening_asks_open p callee) orderly.0 made
-    (child_here p well fr (counts_of m) made callee there (may_begin p inputs fr.callee history start left how callee q) here))
+    (child_here p well fr (counts_of m) made callee there (can_invoke p inputs fr.callee history start left how callee q) here))
 serial_leaves {p = p} (Refused {m = m} k left f q bad) well top low s sound orderly made h = record { are_created = tt; are_below = tt; bounded = h.bounded }
 
 root_here : (p : Source) → IsTrue (is_well_named p) → Here p (frame_of p [] (unbegun p) callees.Root) (entered p callees.Root (unbegun p)) [] (opening_asks p callees.Root)

@@ -38,3 +38,4 @@ pub mod Ties
 pub mod Turns
 pub mod Uniqueness
 pub mod Values
+pub mod Visible

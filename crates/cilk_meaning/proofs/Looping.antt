@@ -20,7 +20,7 @@ use Rattle.cilk_program.specs.Elision as elision
 use Rattle.cilk_program.specs.Elision.{Sight, Gives as Worth, Fails, evaluate, Came, GoesOn, Returns, Faults, home_in, turned, on_ended, turns_between, ElidesAll, ElidesTurns, NoTurns, Turned, TurnFails, ElidesTurn, OneTurn}
 use Rattle.cilk_program.specs.SerialRun.{Run, Memory, next_frame, begun, counted, Ending, Serial}
 use Rattle.cilk_meaning.proofs.Ties.{since_itself, same_begun}
-use Rattle.cilk_meaning.proofs.Sights.{Sees, sees_since}
+use Rattle.cilk_meaning.proofs.Sights.{SeesAlike, sees_since}
 use Rattle.cilk_meaning.proofs.Moments.{Site, SameMemory, write_fits, sees_now}
 use Rattle.cilk_meaning.proofs.Asked.{same_body_is}
 use Rattle.cilk_meaning.proofs.Calls.{loop_body_named}
@@ -84,7 +84,7 @@ module _ (p : Source) (wn : IsTrue (is_well_named p)) (inputs : List ℤ) where
   single (Fails' {f = f} t) e = Turn (Faults f) t (omega arith)
 
   module _ (tied : ℕ → Instance) (m : elision.Memory) (m' : Memory) (s : Sight) (scope : Scope ℕ Instance) (left : ℕ) (l : LoopPart)
-      (same : SameMemory tied m m') (sees : let body = loop_at p l.number in Sees p tied m.reducers body.within s (drop l.up scope)) (below : l.low <ℤ l.high) (end : Ending) where
+      (same : SameMemory tied m m') (sees : let body = loop_at p l.number in SeesAlike p tied m.reducers body.within s (drop l.up scope)) (below : l.low <ℤ l.high) (end : Ending) where
     abbrev frame : Site
     frame = turns.site p wn inputs tied m m' s scope left l same sees below end
 
@@ -111,12 +111,12 @@ module _ (p : Source) (wn : IsTrue (is_well_named p)) (inputs : List ℤ) where
   abbrev pub Enough : ℕ → Type 0
   Enough fuel =
       (tied : ℕ → Instance) (m : elision.Memory) (m' : Memory) (s : Sight) (scope : Scope ℕ Instance) (left : ℕ) (l : LoopPart) (same : SameMemory tied m m')
-      → (let body = loop_at p l.number in Sees p tied m.reducers body.within s (drop l.up scope)) → l.low <ℤ l.high → (end : Ending)
+      → (let body = loop_at p l.number in SeesAlike p tied m.reducers body.within s (drop l.up scope)) → l.low <ℤ l.high → (end : Ending)
       → turns_between l.low l.high ≤ fuel → (r : Came) (c : ℕ) → Costed s l.number l.low (turns_between l.low l.high) m r c → (x : ℕ) (u : Run) (es : List Event) → c + x ≤ 7 + left → c + x ≤ 7 + (m'.room - 1)
       → Serial p inputs (next_frame p scope m' (callees.Loop l)) left [] (begun p (callees.Loop l) (counted m')) u es end → FrameAfter x end
 
   module _ (fuel : ℕ) (smaller : Enough fuel) (tied : ℕ → Instance) (m : elision.Memory) (m' : Memory) (s : Sight) (scope : Scope ℕ Instance) (left : ℕ) (l : LoopPart)
-      (same : SameMemory tied m m') (sees : let body = loop_at p l.number in Sees p tied m.reducers body.within s (drop l.up scope)) (below : l.low <ℤ l.high) (end : Ending)
+      (same : SameMemory tied m m') (sees : let body = loop_at p l.number in SeesAlike p tied m.reducers body.within s (drop l.up scope)) (below : l.low <ℤ l.high) (end : Ending)
       (few : turns_between l.low l.high ≤ suc fuel) (many : int_eq (l.high -ℤ l.low) (pos 1) ≡ false) where
     abbrev whole : Site
     whole = frame tied m m' s scope left l same sees below end
@@ -235,8 +235,8 @@ module _ (p : Source) (wn : IsTrue (is_well_named p)) (inputs : List ℤ) where
           → After (site p inputs y) r k g
       child_after y within below k g n =
           child_rich (c + suc k) k (ElidesTurns p inputs s number low (turns_between low high) m) (λ r r' t t'. one_turns p inputs t t') r (turns_of costed) Call (callees.Loop l) g n
-          (λ u es end ok d. ok.loop n.now.tied m n.now.m' s y.fr.scope n.left es end l n.now.same (subst (λ b. Sees p n.now.tied m.reducers b s y.fr.scope) (sym within) (sees_now n.now)) below d)
-          (λ u es end b b' d. enough (turns_between low high) n.now.tied m n.now.m' s y.fr.scope n.left l n.now.same (subst (λ b. Sees p n.now.tied m.reducers b s y.fr.scope) (sym within) (sees_now n.now)) below end
+          (λ u es end ok d. ok.loop n.now.tied m n.now.m' s y.fr.scope n.left es end l n.now.same (subst (λ b. SeesAlike p n.now.tied m.reducers b s y.fr.scope) (sym within) (sees_now n.now)) below d)
+          (λ u es end b b' d. enough (turns_between low high) n.now.tied m n.now.m' s y.fr.scope n.left l n.now.same (subst (λ b. SeesAlike p n.now.tied m.reducers b s y.fr.scope) (sym within) (sees_now n.now)) below end
           (le_refl (turns_between low high)) r c costed (suc k) u es (omega arith) (omega arith) d)
 
       loop_after : (y : Standing p inputs s) → (loop_at p number).within ≡ y.body → (k : ℕ) (g : Flow → List ℤ → ℕ → Got ℤ) → Rich (site p inputs y) m (suc (c + suc k)) (λ a t. parallel_turns number low high a t >>= g)

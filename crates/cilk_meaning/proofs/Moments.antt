@@ -19,11 +19,11 @@ use Rattle.cilk_program.specs.Scopes.{Scope}
 use Rattle.cilk_program.specs.Store.{Store, put, print, update, set, number_at}
 use Rattle.cilk_program.specs.Behaviour.{Got, Gives, Asks, ◌>>=◌, tick, ask, Flow, invokes, ended, frame_asks}
 use Rattle.cilk_program.specs.Elision as elision
-use Rattle.cilk_program.specs.Elision.{Sight, itself, cell_at, reducer_at, Valued, Gives as Worth, Came, GoesOn, Returns, Faults, ElidesCall, ElidesTurns, evaluate_all, turns_between}
+use Rattle.cilk_program.specs.Elision.{Sight, cell_at, reducer_at, Gives as Worth, Came, GoesOn, Returns, Faults, ElidesCall, ElidesTurns, evaluate_all, turns_between}
 use Rattle.cilk_program.specs.SerialRun.{Run, Memory, Frame, next_frame, begun, counted, with_store, answer_to, stored, IsInner, Ending, Finished, Stopped, Serial}
 use Rattle.cilk_meaning.specs.Agreement.{IsLimit}
 use Rattle.cilk_meaning.proofs.Ties.{Same, Since, since_then, same_put, same_print, same_update, same_set, same_number}
-use Rattle.cilk_meaning.proofs.Sights.{Sees, sees_since}
+use Rattle.cilk_meaning.proofs.Sights.{SeesAlike, sees_since}
 use Rattle.cilk_meaning.proofs.Steps.{Children, Answered, Goes, Full, answered, Invoked, Ran, Broken, Crowded, invoked, faulted}
 
 -- the two memories are the same
@@ -42,10 +42,10 @@ called i words = callees.Function (record { function = i.function; words = words
 -- what a frame does is as its elision, whatever it runs
 pub record IsElided (p : Source) (inputs : List ℤ) (u : Run) : Type 0 where
   pub function : (tied : ℕ → Instance) (m : elision.Memory) (m' : Memory) (b : Body) (s : Sight) (scope : Scope ℕ Instance) (left : ℕ) (es : List Event) (end : Ending) (i : Invoke) (words : List ℤ)
-      → SameMemory tied m m' → Sees p tied m.reducers b s scope → IsTrue (invoke_is_named p b i) → evaluate_all inputs s m.store i.arguments ≡ Worth words
+      → SameMemory tied m m' → SeesAlike p tied m.reducers b s scope → IsTrue (invoke_is_named p b i) → evaluate_all inputs s m.store i.arguments ≡ Worth words
       → Serial p inputs (next_frame p scope m' (called i words)) left [] (begun p (called i words) (counted m')) u es end → ChildEnds (ElidesCall p inputs s i m) tied m.reducers left end
   pub loop : (tied : ℕ → Instance) (m : elision.Memory) (m' : Memory) (s : Sight) (scope : Scope ℕ Instance) (left : ℕ) (es : List Event) (end : Ending) (l : LoopPart)
-      → SameMemory tied m m' → (let body = loop_at p l.number in Sees p tied m.reducers body.within s (drop l.up scope)) → l.low <ℤ l.high
+      → SameMemory tied m m' → (let body = loop_at p l.number in SeesAlike p tied m.reducers body.within s (drop l.up scope)) → l.low <ℤ l.high
       → Serial p inputs (next_frame p scope m' (callees.Loop l)) left [] (begun p (callees.Loop l) (counted m')) u es end
       → ChildEnds (ElidesTurns p inputs s l.number l.low (turns_between l.low l.high) m) tied m.reducers left end
 
@@ -59,7 +59,7 @@ pub record Site : Type 0 where
   pub count : ℕ
   pub sight : Sight
   pub body : Body
-  pub sees : Sees p tied count body sight fr.scope
+  pub sees : SeesAlike p tied count body sight fr.scope
 
 -- A moment: the elision has come to a memory, and with these ticks left the frame is to do x. `took` counts the frame's own ticks until now.
 pub record Now (z : Site) (m : elision.Memory) (left : ℕ) (x : List ℤ → ℕ → Got ℤ) : Type 0 where
@@ -149,7 +149,7 @@ asked {z} {m} {left} k store v g n fits = go (answered z.p z.inputs (IsElided z.
     go (Full e q) = NoRoom q
 
 -- what the frame sees now
-pub sees_now : {z : Site} {m : elision.Memory} {left : ℕ} {x : List ℤ → ℕ → Got ℤ} (n : Now z m left x) → Sees z.p n.tied m.reducers z.body z.sight z.fr.scope
+pub sees_now : {z : Site} {m : elision.Memory} {left : ℕ} {x : List ℤ → ℕ → Got ℤ} (n : Now z m left x) → SeesAlike z.p n.tied m.reducers z.body z.sight z.fr.scope
 sees_now {z} n = sees_since z.sees n.since
 
 module _ {z : Site} {m : elision.Memory} {left : ℕ} {y : List ℤ → ℕ → Got ℤ} (n : Now z m left y) where
@@ -215,9 +215,6 @@ pub data Comes (z : Site) (E : Came → Type 0) (bound : ℕ) (g : Flow → List
   Back : (v : ℤ) (m : elision.Memory) → E (Returns v m) → (left : ℕ) → left < bound → Now z m left (g (Some v)) → Comes z E bound g
   Broken' : (f : Fault) → E (Faults f) → z.end ≡ Stopped f → Comes z E bound g
   Limited : (f : Fault) → IsLimit f → z.end ≡ Stopped f → Comes z E bound g
-
-finished_stopped : {G : Type 0} (v : ℤ) (left : ℕ) (m : Memory) (f : Fault) → Finished v left m ≡ Stopped f → G
-finished_stopped v left m f e = absurd (cc)
 
 -- what is left of a frame once a child has ended
 abbrev pub after_child : {z : Site} {m m1 : elision.Memory} {left : ℕ} (how : Invocation) (callee : Callee) (g : Flow → List ℤ → ℕ → Got ℤ) (n : Now z m left (λ a t. invokes how callee a t >>= g)) (left' : ℕ) (m' : Memory) (r : Run) (es : List Event)

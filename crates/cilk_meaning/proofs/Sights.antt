@@ -1,4 +1,8 @@
--- What a frame of the elision and one of the serial run see.
+-- A frame of the elision and one of the serial run that run one body see the same cells, and reducers that are tied.
+--   sees_since   they still do when more frames have begun
+--   kind_within  what has a kind is in the list
+--   sees_called  the frames of a function that is called do
+--   sees_turn    so do those of turns of a loop
 use Rattle.std.proofs.Common.{◌≡◌, ℕ, zero, suc, ◌+◌, ◌<◌, Bool, true, false, true≢false, IsTrue, List, [], ◌∷◌, length, Option, None, unwrap_or, slice_get, refl, sym, ap, ◌∙◌, arith}
 use Rattle.std.proofs.lemmas.Bool.{and_parts}
 use Rattle.cilk_types.specs.declared.event.Instance.{Instance}
@@ -18,11 +22,11 @@ use Rattle.cilk_program.specs.SerialRun.{global_reducer}
 use Rattle.cilk_meaning.proofs.Ties.{Since, grown, grown_old, grown_own}
 
 -- A frame that runs this body sees the same cells in both, and each reducer that is there is tied to the serial run's.
-pub record Sees (p : Source) (tied : ℕ → Instance) (count : ℕ) (b : Body) (s : Sight) (s' : Scope ℕ Instance) : Type 0 where
+pub record SeesAlike (p : Source) (tied : ℕ → Instance) (count : ℕ) (b : Body) (s : Sight) (s' : Scope ℕ Instance) : Type 0 where
   pub cells : (x : Place) → cell_in itself s x ≡ cell_in itself s' x
   pub reducers : (r : ReducerPlace) (k : MonoidKind) → IsTrue (reducer_is_there p b r k) → (instance_in itself s r < count) × (instance_in global_reducer s' r ≡ tied (instance_in itself s r))
 
-pub sees_since : {p : Source} {tied tied' : ℕ → Instance} {count count' : ℕ} {b : Body} {s : Sight} {s' : Scope ℕ Instance} → Sees p tied count b s s' → Since tied count tied' count' → Sees p tied' count' b s s'
+pub sees_since : {p : Source} {tied tied' : ℕ → Instance} {count count' : ℕ} {b : Body} {s : Sight} {s' : Scope ℕ Instance} → SeesAlike p tied count b s s' → Since tied count tied' count' → SeesAlike p tied' count' b s s'
 sees_since {s = s} e since = record {
   cells = e.cells;
   reducers = λ r k h. let q = e.reducers r k h in let n = q.0 in let more = since.more in (omega arith, q.1 ∙ sym (since.kept (instance_in itself s r) q.0));
@@ -34,7 +38,7 @@ kind_within (j ∷ ks) zero k h = omega arith
 kind_within (j ∷ ks) (suc n) k h = let q = kind_within ks n k h in omega arith
 
 -- the reducers that a caller gives
-given_tied : (p : Source) (tied : ℕ → Instance) (count : ℕ) (b : Body) (s : Sight) (s' : Scope ℕ Instance) → Sees p tied count b s s' → (rs : List Reducer) (ks : List MonoidKind) (n : ℕ) (k : MonoidKind) (d : ℕ) (d' : Instance)
+given_tied : (p : Source) (tied : ℕ → Instance) (count : ℕ) (b : Body) (s : Sight) (s' : Scope ℕ Instance) → SeesAlike p tied count b s s' → (rs : List Reducer) (ks : List MonoidKind) (n : ℕ) (k : MonoidKind) (d : ℕ) (d' : Instance)
     → have_kinds rs ks ≡ true → reducers_are_there p b rs ≡ true → is_kind (slice_get ks n) k ≡ true
     → (unwrap_or (slice_get (instances_in itself s rs) n) d < count) × (unwrap_or (slice_get (instances_in global_reducer s' rs) n) d' ≡ tied (unwrap_or (slice_get (instances_in itself s rs) n) d))
 given_tied p tied count b s s' e [] [] n k d d' h t q = absurd (true≢false (sym q))
@@ -44,7 +48,7 @@ given_tied p tied count b s s' e (r ∷ rs) (j ∷ ks) zero k d d' h t q = e.red
 given_tied p tied count b s s' e (r ∷ rs) (j ∷ ks) (suc n) k d d' h t q = given_tied p tied count b s s' e rs ks n k d d' (and_parts _ _ h).1 (and_parts _ _ t).1 q
 
 -- the frame of a function that is called
-module _ (p : Source) (tied : ℕ → Instance) (count : ℕ) (b : Body) (s : Sight) (s' : Scope ℕ Instance) (e : Sees p tied count b s s') where
+module _ (p : Source) (tied : ℕ → Instance) (count : ℕ) (b : Body) (s : Sight) (s' : Scope ℕ Instance) (e : SeesAlike p tied count b s s') where
   module _ (f : ℕ) (rs : List Reducer) (frame : ℕ) (own : ℕ) (base base' : ℕ) (same : base ≡ base') (fit : let g = function_at p f in have_kinds rs g.given ≡ true) (there : reducers_are_there p b rs ≡ true) where
     abbrev home : Home ℕ ℕ
     home = record { cells = λ n. base + n; own = λ n. count + n; given = instances_in itself s rs }
@@ -65,7 +69,7 @@ module _ (p : Source) (tied : ℕ → Instance) (count : ℕ) (b : Body) (s : Si
     called_cells (places.Local zero n) = ap (λ c. c + n) same
     called_cells (places.Local (suc up) n) = refl
 
-    pub sees_called : let g = function_at p f in Sees p (grown tied count frame 1) (count + length g.reducers) (bodies.Function f) (home ∷ []) (home' ∷ [])
+    pub sees_called : let g = function_at p f in SeesAlike p (grown tied count frame 1) (count + length g.reducers) (bodies.Function f) (home ∷ []) (home' ∷ [])
     sees_called = record { cells = called_cells; reducers = called_reducers }
 
 -- with more fuel there are no fewer levels
@@ -77,7 +81,7 @@ wider p test none (suc n) (bodies.Loop k) (suc up) h = let l = loop_at p k in wi
 
 -- the frame of a loop's turn, or of several, which stands in the frame of what the loop stands in
 module _ (p : Source) (tied : ℕ → Instance) (count : ℕ) (s : Sight) (s' : Scope ℕ Instance) (n : ℕ) (h : Home ℕ ℕ) (h' : Home ℕ Instance) (same : h.cells ≡ h'.cells)
-    (e : let l = loop_at p n in Sees p tied count l.within s s') where
+    (e : let l = loop_at p n in SeesAlike p tied count l.within s s') where
   turn_cells : (x : Place) → cell_in itself (h ∷ s) x ≡ cell_in itself (h' ∷ s') x
   turn_cells (places.Global c) = refl
   turn_cells (places.Local zero c) = ap (λ f. f c) same
@@ -91,5 +95,5 @@ module _ (p : Source) (tied : ℕ → Instance) (count : ℕ) (s : Sight) (s' : 
   turn_reducers (reducers.Given zero i) k t = absurd (true≢false (sym t))
   turn_reducers (reducers.Given (suc up) i) k t = let l = loop_at p n in e.reducers (reducers.Given up i) k (wider p (λ o. has_given o i k) refl (length p.loops) l.within up t)
 
-  pub sees_turn : Sees p tied count (bodies.Loop n) (h ∷ s) (h' ∷ s')
+  pub sees_turn : SeesAlike p tied count (bodies.Loop n) (h ∷ s) (h' ∷ s')
   sees_turn = record { cells = turn_cells; reducers = turn_reducers }

@@ -19,7 +19,7 @@ use Rattle.cilk_program.specs.Store.{Store, put, print, update, set}
 use Rattle.cilk_program.specs.Behaviour.{Got, Gives, ◌>>=◌, tick, ask, or_fault, chosen, value, index_of, Flow, unless_returned, declares, all_declare, does, all_do}
 use Rattle.cilk_program.specs.Elision.{Memory, Sight, cell_at, reducer_at, Valued, Gives as Worth, Fails, then_value, or_fails, evaluate, evaluate_index, Came, GoesOn, Returns, Faults, on_value, goes_on, IsLast, assigned, changed}
 use Rattle.cilk_program.specs.SerialRun.{Frame, Ending}
-use Rattle.cilk_meaning.proofs.Sights.{Sees}
+use Rattle.cilk_meaning.proofs.Sights.{SeesAlike}
 use Rattle.cilk_meaning.proofs.Moments.{Site, Fits, read_fits, write_fits, print_fits, sync_fits, update_fits, set_fits}
 use Rattle.cilk_meaning.proofs.Budgets.{Rich, less, rich_as, rich_turn, Quiet, tick_rich, asked_rich, ValueAfter, value_after, nodes, index_nodes, or_fault_rich, value_rich, index_rich}
 use Rattle.cilk_meaning.proofs.Costs.{After, quiet, on_value_after, value_at, fails_at, after_on, after_last}
@@ -32,7 +32,7 @@ module _ (p : Source) (inputs : List ℤ) where
     pub tied : ℕ → Instance
     pub count : ℕ
     pub body : Body
-    pub sees : Sees p tied count body s fr.scope
+    pub sees : SeesAlike p tied count body s fr.scope
 
   abbrev pub site : {s : Sight} → Standing s → Site
   site {s} y = record { p = p; inputs = inputs; fr = y.fr; end = y.end; tied = y.tied; count = y.count; sight = s; body = y.body; sees = y.sees }

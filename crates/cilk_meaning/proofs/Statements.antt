@@ -22,7 +22,7 @@ use Rattle.cilk_program.specs.Elision.{Memory, cell_at, reducer_at, Valued, Give
 use Rattle.cilk_program.specs.SerialRun.{Ending, Finished, Stopped}
 use Rattle.cilk_types.specs.declared.event.Instance.{Instance}
 use Rattle.cilk_meaning.proofs.Asked.{same_body_is}
-use Rattle.cilk_meaning.proofs.Sights.{Sees}
+use Rattle.cilk_meaning.proofs.Sights.{SeesAlike}
 use Rattle.cilk_meaning.proofs.Moments.{Site, Now, regroup, called, ChildEnds, Ticked, Tick, NoTick, ticked, AskGoes, Answer, NoRoom, read, write, prints, syncs, updates, sets, sees_now, Comes, On, Back, Broken', Limited, child_goes}
 use Rattle.cilk_meaning.proofs.Values.{ValueGoes, Has, Lacks, Late, or_fault_value, value_goes, values_go, index_goes}
 use Rattle.cilk_meaning.proofs.Intervals.{turns_none, below_from}
@@ -215,7 +215,7 @@ module _ (z : Site) where
       (λ q n. On m (Ascends low high el eh (subst (λ c. ElidesTurns z.p z.inputs z.sight k low c m (GoesOn m)) (sym (turns_none low high q)) NoTurns)) left3 h3 n)
       (λ q n. comes_as (omega arith) (λ r x. Ascends low high el eh x)
       (child_goes (ElidesTurns z.p z.inputs z.sight k low (turns_between low high) m) Call (callees.Loop l) g n
-      (λ u es end ok d. ok.loop n.tied m n.m' z.sight z.fr.scope left3 es end l n.same (subst (λ b. Sees z.p n.tied m.reducers b z.sight z.fr.scope) (sym stands) (sees_now n)) (below_from low high q) d))))
+      (λ u es end ok d. ok.loop n.tied m n.m' z.sight z.fr.scope left3 es end l n.same (subst (λ b. SeesAlike z.p n.tied m.reducers b z.sight z.fr.scope) (sym stands) (sees_now n)) (below_from low high q) d))))
       (λ f eh. HighFails low f el eh))
       (λ f el. LowFails f el))
 

@@ -19,7 +19,7 @@ use Rattle.cilk_program.specs.Elision as elision
 use Rattle.cilk_program.specs.Elision.{Sight, Came, GoesOn, Returns, Faults, home_in, turned, on_ended, turns_between, ElidesAll, ElidesTurns, NoTurns, Turned, TurnFails, ElidesTurn, OneTurn}
 use Rattle.cilk_program.specs.SerialRun.{Run, Memory, next_frame, home_of, begun, counted, Ending, Serial}
 use Rattle.cilk_meaning.proofs.Ties.{since_itself, same_begun}
-use Rattle.cilk_meaning.proofs.Sights.{Sees, sees_since, sees_turn}
+use Rattle.cilk_meaning.proofs.Sights.{SeesAlike, sees_since, sees_turn}
 use Rattle.cilk_meaning.proofs.Steps.{Children}
 use Rattle.cilk_meaning.proofs.Moments.{Site, Now, now_as, write, SameMemory, ChildEnds, IsElided, AskGoes, Answer, NoRoom, Comes, On, Back, Broken', Limited, child_goes}
 use Rattle.cilk_meaning.proofs.Statements.{Stays, child_stays}
@@ -58,7 +58,7 @@ module _ {p : Source} {inputs : List ℤ} {s : Sight} {n : ℕ} where
       subst (λ k. ElidesTurns p inputs s n v k m (Faults f)) count (TurnFails f (subst (λ g. ElidesTurn p inputs s n v m (Faults g)) same turn))
 
 module _ (p : Source) (wn : IsTrue (is_well_named p)) (inputs : List ℤ) (tied : ℕ → Instance) (m : elision.Memory) (m' : Memory) (s : Sight) (scope : Scope ℕ Instance) (left : ℕ) (l : LoopPart)
-    (same : SameMemory tied m m') (sees : let body = loop_at p l.number in Sees p tied m.reducers body.within s (drop l.up scope)) (below : l.low <ℤ l.high) (end : Ending) where
+    (same : SameMemory tied m m') (sees : let body = loop_at p l.number in SeesAlike p tied m.reducers body.within s (drop l.up scope)) (below : l.low <ℤ l.high) (end : Ending) where
   abbrev pub body : Loop
   body = loop_at p l.number
 

@@ -8,6 +8,7 @@ pub mod Order
 pub mod Runs
 pub mod Spelled
 pub mod Ticks
+pub mod Visible
 pub mod Worked
 pub mod WorkedFrames
 pub mod WorkedReducers

@@ -1,16 +1,26 @@
 //! What serial runs are like.
 
-ghost use Rattle.std.specs.Prelude.{ℤ, List, IsTrue};
+ghost use Rattle.std.specs.Prelude.{ℕ, ℤ, Bool, List, IsTrue};
+ghost use Rattle.cilk_monoid.specs.declared.kind.MonoidKind.{MonoidKind};
 ghost use Rattle.cilk_program.specs.Syntax.{Source};
 ghost use Rattle.cilk_program.specs.SerialRun.{Run};
 ghost use Rattle.cilk_program.specs.WellNamed.{is_well_named};
 ghost use Rattle.cilk_meaning.specs.Runs.{AsksAreThere, HasSerialRun, HasOneSerialRun, IsShort, IsInOrder, IsFramed, FramesBehave, EventsAreNumbered, IsSpelled, IsSound};
 ghost use Rattle.cilk_meaning.specs.Numbering.{HasOneName, LiesPastGlobals};
+ghost use Rattle.cilk_meaning.specs.Visible.{FramesSee};
 
 /// Whatever its answers, a frame of a well-named program asks for nothing but what is there: places, reducers, functions
 /// and loops that it sees, with what they take.
 pub fn asks_are_there()
     ensures { (p : Source) → IsTrue (is_well_named p) → AsksAreThere p }
+{}
+
+/// A frame of a well-named program sees what is there: the cells and reducers that its body names, those by its static links,
+/// and the cell that takes its result. It holds of the first frame, and of each child of a frame of which it holds, where the
+/// global cells and reducers and the frame's own are there. The law speaks of any numbers that stand for cells and reducers and
+/// of any tests for which are there; its lemmas, in `proofs/Visible.antt`, of any names, so that each run can say which it has.
+pub fn frames_see_what_is_there()
+    ensures { (p : Source) → IsTrue (is_well_named p) → (global_cell global_instance : ℕ → ℕ) (has_cell : ℕ → Bool) (has_reducer : ℕ → MonoidKind → Bool) → FramesSee p global_cell global_instance has_cell has_reducer }
 {}
 
 /// Each program has a serial run on each input, within each limit of ticks and events.

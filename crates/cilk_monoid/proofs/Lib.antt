@@ -1,2 +1,3 @@
 pub mod ProductLaws
 pub mod RangeLaws
+pub mod SameKinds

@@ -78,9 +78,6 @@ leads_on p top below fr parents n c a seen h e =
     let scope : drop (c + 1) fr.scope ≡ s.outer = ap (λ k. drop k fr.scope) one ∙ drop_more fr.scope c ∙ ap (drop 1) (h.2 ∙ s.scope) in
     subst (λ x. Leads parents a.outer x) (sym scope) (leads_more found.below parents a.outer s.outer found.part s.leads)
 
-pub leads_first : (p : Source) (top : Activation) (below : List Activation) (fr : Frame) (parents : List Parent) → Seen p top below fr parents → Leads parents top.outer (drop 1 fr.scope)
-leads_first p top below fr parents seen = let s = seen.scoped in subst (λ x. Leads parents top.outer x) (sym (ap (drop 1) s.scope)) s.leads
-
 pub leads_nowhere : (parents : List Parent) (scope : Scope ℕ Instance) (c up : ℕ) → c ≤ up → Leads parents None (drop c scope) → Leads parents None (drop up scope)
 leads_nowhere parents scope c up low h =
     let e : up - c + c ≡ up = omega (arith, low) in

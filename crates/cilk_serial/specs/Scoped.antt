@@ -1,22 +1,20 @@
 -- What the code's activations stand for: the frame at hand, and the frames that wait for their children.
-use Rattle.std.specs.Prelude.{◌≡◌, ◌+◌, ◌<◌, ◌≤◌, ℕ, ℤ, IsTrue, List, [], ◌∷◌, length, drop, Option, Some, None}
+use Rattle.std.specs.Prelude.{◌≡◌, ◌+◌, ◌<◌, ◌≤◌, ℕ, ℤ, List, [], ◌∷◌, length, Option, Some, None}
 use Rattle.cilk_types.specs.declared.event.Instance.{Instance}
 use Rattle.cilk_monoid.specs.declared.kind.MonoidKind.{MonoidKind}
 use Rattle.cilk_program.specs.Syntax.{Source, function_at}
-use Rattle.cilk_program.specs.Scopes.{Scope, cell_in}
+use Rattle.cilk_program.specs.Scopes.{Scope}
 use Rattle.cilk_program.specs.declared.ask.Ask.{Ask}
 use Rattle.cilk_program.specs.declared.ask.Ask.TheVariants as asks
 use Rattle.cilk_program.specs.declared.ask.Callee.{Callee}
 use Rattle.cilk_program.specs.declared.ask.Callee.TheVariants as callees
-use Rattle.cilk_program.specs.declared.program.Body.{Body}
 use Rattle.cilk_program.specs.declared.syntax.Place.{Place}
 use Rattle.cilk_program.specs.declared.syntax.Reducer.{Reducer}
 use Rattle.cilk_program.specs.declared.syntax.ReducerPlace.{ReducerPlace}
 use Rattle.cilk_program.specs.declared.syntax.ReducerPlace.TheVariants as reducers
-use Rattle.cilk_program.specs.Syntax.{loop_at}
-use Rattle.cilk_program.specs.WellNamed.{place_is_there}
-use Rattle.cilk_program.specs.Inside.{CalleeIsFit, IsTaken, body_of, is_whole}
-use Rattle.cilk_program.specs.SerialRun.{Frame, cell_at, first_place, home_of, itself, own_reducers}
+use Rattle.cilk_program.specs.Inside.{CalleeIsFit}
+use Rattle.cilk_program.specs.SerialRun.{Frame, cell_at, first_place, global_reducer, home_of, itself, own_reducers}
+use Rattle.cilk_meaning.specs.Visible.{FrameSees}
 use Rattle.cilk_types.specs.Stacks.{from_bottom}
 use Rattle.cilk_serial.specs.declared.activation.Activation.{Activation}
 
@@ -65,22 +63,17 @@ pub record Seen (p : Source) (top : Activation) (below : List Activation) (fr : 
   pub scoped : Scoped p top fr parents
   pub waits : AreScoped p below parents
 
--- each cell that a body names is among the first so many
-abbrev pub SeesCells : Source → Body → Scope ℕ Instance → ℕ → Type 0
-SeesCells p b scope n = (x : Place) → IsTrue (place_is_there p b x) → cell_in itself scope x < n
+-- a cell is among the first so many
+abbrev pub Below : ℕ → ℕ → Type 0
+Below n c = c < n
 
--- a loop's frame sees what its loop stands in
-abbrev pub SeesOuter : Source → Callee → Scope ℕ Instance → ℕ → Type 0
-SeesOuter p callees.Root scope n = Unit {0}
-SeesOuter p (callees.Function c) scope n = Unit {0}
-SeesOuter p (callees.Loop l) scope n = let body = loop_at p l.number in SeesCells p body.within (drop 1 scope) n
+-- of reducers nothing is said here
+abbrev pub Any : Instance → MonoidKind → Type 0
+Any i k = Unit {0}
 
 -- what a frame names is there, once there are so many cells
-pub record Sees (p : Source) (fr : Frame) (n : ℕ) : Type 0 where
-  pub fit : CalleeIsFit p fr.callee
-  pub own : IsTrue (is_whole fr.callee) → SeesCells p (body_of p fr.callee) fr.scope n
-  pub outer : SeesOuter p fr.callee fr.scope n
-  pub result : IsTaken fr.callee → (c : ℕ) × (fr.result ≡ Some c) × (c < n)
+abbrev pub Sees : Source → Frame → ℕ → Type 0
+Sees p fr n = FrameSees p itself global_reducer (Below n) Any fr.callee fr.scope fr.result
 
 -- the number in a reducer's place
 abbrev pub number_in : ReducerPlace → ℕ

@@ -1,0 +1,93 @@
+-- What a frame sees is there. What cells and reducers are known by, and what it takes for one of them to be there, is for each
+-- use to say: numbers below a count, or names of frames that have begun.
+use Rattle.std.specs.Prelude.{◌≡◌, ◌<◌, ◌⊎◌, ℕ, Bool, IsTrue, [], ◌∷◌, length, drop, slice_get, Option, Some, None}
+use Rattle.std.specs.Prelude.{unwrap_or}
+use Rattle.std.specs.Option.{option_map}
+use Rattle.cilk_monoid.specs.declared.kind.MonoidKind.{MonoidKind}
+use Rattle.cilk_program.specs.declared.ask.Callee.{Callee}
+use Rattle.cilk_program.specs.declared.ask.Callee.TheVariants as callees
+use Rattle.cilk_program.specs.declared.ask.FunctionCall.{FunctionCall}
+use Rattle.cilk_program.specs.declared.ask.LoopPart.{LoopPart}
+use Rattle.cilk_program.specs.declared.program.Body.{Body}
+use Rattle.cilk_program.specs.declared.syntax.Place.{Place}
+use Rattle.cilk_program.specs.declared.syntax.ReducerPlace.{ReducerPlace}
+use Rattle.cilk_program.specs.Syntax.{Source, function_at, main_of, loop_at}
+use Rattle.cilk_program.specs.Scopes.{Home, Scope, cell_in, instance_in, instances_in}
+use Rattle.cilk_program.specs.WellNamed.{is_kind, place_is_there, reducer_is_there}
+use Rattle.cilk_program.specs.Inside.{body_of, is_whole, CalleeIsFit, CalleeIsThere, IsTaken}
+
+-- a part of the turns that the parent halves: its frame stands in what the parent's stands in
+abbrev pub IsHalf : Callee → Type 0
+IsHalf callees.Root = ⊥
+IsHalf (callees.Function c) = ⊥
+IsHalf (callees.Loop l) = l.up ≡ 1
+
+-- a frame that halves turns begins halves alone
+abbrev pub CanInvoke : Callee → Callee → Type 0
+CanInvoke parent callee = IsTrue (is_whole parent) ⊎ IsHalf callee
+
+module _ {C I : Type 0} (p : Source) (global_cell : ℕ → C) (global_instance : ℕ → I)
+    (HasCell : C → Type 0) (HasReducer : I → MonoidKind → Type 0) where
+  pub record GlobalsAreThere : Type 0 where
+    pub cells : (n : ℕ) → n < length p.openings → HasCell (global_cell n)
+    pub reducers : (n : ℕ) (k : MonoidKind) → IsTrue (is_kind (slice_get p.reducers n) k)
+        → HasReducer (global_instance n) k
+
+  -- what body b names means cells and reducers that are there
+  pub record Sees (b : Body) (scope : Scope C I) : Type 0 where
+    pub cells : (x : Place) → IsTrue (place_is_there p b x) → HasCell (cell_in global_cell scope x)
+    pub reducers : (r : ReducerPlace) (k : MonoidKind) → IsTrue (reducer_is_there p b r k)
+        → HasReducer (instance_in global_instance scope r) k
+
+  -- a loop's frame sees by its static link what the loop stands in
+  abbrev pub SeesOuter : Callee → Scope C I → Type 0
+  SeesOuter callees.Root scope = Unit {0}
+  SeesOuter (callees.Function c) scope = Unit {0}
+  SeesOuter (callees.Loop l) scope = let body = loop_at p l.number in Sees body.within (drop 1 scope)
+
+  -- what a frame sees that runs this in this scope, and the cell that takes its result
+  pub record FrameSees (callee : Callee) (scope : Scope C I) (target : Option C) : Type 0 where
+    pub fit : CalleeIsFit p callee
+    pub own : IsTrue (is_whole callee) → Sees (body_of p callee) scope
+    pub outer : SeesOuter callee scope
+    pub result : IsTaken callee → (c : C) × (target ≡ Some c) × HasCell c
+
+  -- the first frame does, where its own cells and reducers are there, and those that it is given
+  abbrev pub RootSees : Type 0
+  RootSees =
+      (home : Home C I) → let f = main_of p in GlobalsAreThere → ((n : ℕ) → n < f.cells → HasCell (home.cells n))
+      → ((n : ℕ) (k : MonoidKind) → IsTrue (is_kind (slice_get f.reducers n) k) → HasReducer (home.own n) k)
+      → ((n : ℕ) (k : MonoidKind) → IsTrue (is_kind (slice_get f.given n) k)
+          → HasReducer (unwrap_or (slice_get home.given n) (global_instance n)) k)
+      → FrameSees callees.Root (home ∷ []) None
+
+  -- so does the frame of a function that is called, where its own cells and reducers are there
+  abbrev pub CalledSees : Type 0
+  CalledSees =
+      (parent : Callee) (scope : Scope C I) (target : Option C) (c : FunctionCall) (cells : ℕ → C) (own : ℕ → I)
+      → let f = function_at p c.function in
+      let home : Home C I = record { cells = cells; own = own; given = instances_in global_instance scope c.reducers } in
+      GlobalsAreThere → FrameSees parent scope target → CalleeIsThere p (body_of p parent) (callees.Function c)
+      → CanInvoke parent (callees.Function c)
+      → ((n : ℕ) → n < f.cells → HasCell (cells n))
+      → ((n : ℕ) (k : MonoidKind) → IsTrue (is_kind (slice_get f.reducers n) k) → HasReducer (own n) k)
+      → FrameSees (callees.Function c) (home ∷ []) (option_map (cell_in global_cell scope) c.result)
+
+  -- and so does a frame that runs turns of a loop, where its own cells are there, if it runs one turn
+  abbrev pub PartSees : Type 0
+  PartSees =
+      (parent : Callee) (scope : Scope C I) (target : Option C) (l : LoopPart) (home : Home C I)
+      → let body = loop_at p l.number in
+      FrameSees parent scope target → CalleeIsThere p (body_of p parent) (callees.Loop l)
+      → CanInvoke parent (callees.Loop l)
+      → (IsTrue (is_whole (callees.Loop l)) → (n : ℕ) → n < body.cells → HasCell (home.cells n))
+      → FrameSees (callees.Loop l) (home ∷ drop l.up scope) None
+
+-- A well-named program's frames see what is there, whatever numbers cells and reducers are known by, and whichever of them
+-- are there. The lemmas say it of any names in place of numbers.
+module _ (p : Source) (global_cell global_instance : ℕ → ℕ)
+    (has_cell : ℕ → Bool) (has_reducer : ℕ → MonoidKind → Bool) where
+  pub record FramesSee : Type 0 where
+    pub root : RootSees p global_cell global_instance (λ c. IsTrue (has_cell c)) (λ i k. IsTrue (has_reducer i k))
+    pub called : CalledSees p global_cell global_instance (λ c. IsTrue (has_cell c)) (λ i k. IsTrue (has_reducer i k))
+    pub parts : PartSees p global_cell global_instance (λ c. IsTrue (has_cell c)) (λ i k. IsTrue (has_reducer i k))
