@@ -1,0 +1,5 @@
+pub mod Fitting
+pub mod Lengths
+pub mod Passing
+pub mod Placed
+pub mod Spelling

@@ -1,0 +1,6 @@
+pub mod Frames
+pub mod Laws
+pub mod Listed
+pub mod Right
+pub mod Sources
+pub mod Walk
