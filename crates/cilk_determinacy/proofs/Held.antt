@@ -16,8 +16,8 @@ use Rattle.cilk_monoid.specs.Values.{ViewValue, Number, Elements, Map, IsWord}
 use Rattle.cilk_program.specs.declared.ask.Ask as language
 use Rattle.cilk_program.specs.declared.ask.Ask.TheVariants as asks
 use Rattle.cilk_program.specs.declared.ask.Callee.{Callee}
-use Rattle.cilk_program.specs.declared.syntax.Invocation.{Invocation}
-use Rattle.cilk_program.specs.declared.syntax.Invocation.TheVariants.{Call, Spawn}
+use Rattle.cilk_types.specs.declared.invocation.Invocation.{Invocation}
+use Rattle.cilk_types.specs.declared.invocation.Invocation.TheVariants.{Call, Spawn}
 use Rattle.cilk_program.specs.Behaviour.{Asked, frame_asks}
 use Rattle.cilk_program.specs.Syntax.{Source}
 use Rattle.cilk_meaning.specs.Closed.{IsNoResume}
@@ -25,14 +25,14 @@ use Rattle.cilk_meaning.specs.Order.{opening_asks, Stage, Fresh, Due, Going, Res
 use Rattle.cilk_meaning.proofs.Closings.{View as Comes, Begins, Opens, Goes, Calls, Spawns, Syncs, Resumes, Again, Gives, Ends, EndsThen, view, IsSound, opened_sound, opening_asks_open, plain_no_resume, opening_no_resume}
 use Rattle.cilk_meaning.proofs.Legal.{Rest, after, unless_fault, IsLegal, fresh_fine}
 use Rattle.cilk_runs.specs.Runs as runs
-use Rattle.cilk_runs.specs.Runs.{Name, same_name, Cell, same_cell, Instance, Kind, Ask, Deed, Does, Invokes}
+use Rattle.cilk_runs.specs.Runs.{Name, same_name, Cell, same_cell, Instance, Ask, Deed, Does, Invokes}
 use Rattle.cilk_runs.specs.Costs.{Total, TickTotal, is_over, fault_of}
 use Rattle.cilk_runs.specs.Machine.{Frame, Frames, State, started, deed_of, effect, begun, after_deed, IsAsking, Makes, Steals, Stops, Step, Steps}
 use Rattle.cilk_runs.specs.Monoids.{numbers_of}
 use Rattle.cilk_runs.proofs.Basics.{same_name-refl}
 use Rattle.cilk_runs.proofs.Started.{started_does, started_invokes}
 use Rattle.cilk_worlds.specs.Held.{HoldsViews, AskIsSound}
-use Rattle.cilk_worlds.specs.Machine.{kind_of_child, named_ask, answer_of, answers_of, is_end, has_ended, asked_after, next, costs, opening_values}
+use Rattle.cilk_worlds.specs.Machine.{named_ask, answer_of, answers_of, is_end, has_ended, asked_after, next, costs, opening_values}
 use Rattle.cilk_worlds.specs.Reducers.{View, kind_of, monoid_of}
 use Rattle.cilk_worlds.specs.Steps.{Next, IsFirst, OneStep, Reaches}
 use Rattle.cilk_worlds.specs.Worlds.{World, first_world, child_world, cell_seen, reducer_seen, result_cell}
@@ -150,10 +150,10 @@ last_length : (past : List (Deed World)) (d : Deed World) → LengthsAreWords (p
 last_length [] d h = h.0
 last_length (e ∷ past) d h = last_length past d h.1
 
-not_child : (e : runs.Event) (i : Kind) (v : World) → Does e ≡ Invokes i v → ⊥
+not_child : (e : runs.Event) (i : Invocation) (v : World) → Does e ≡ Invokes i v → ⊥
 not_child e i v q = cc
 
-same_child : (i i' : Kind) (w v : World) → Invokes i w ≡ Invokes i' v → w ≡ v
+same_child : (i i' : Invocation) (w v : World) → Invokes i w ≡ Invokes i' v → w ≡ v
 same_child i i' w v q = cc
 
 module _ (p : Source) (w : World) (j : ℕ) (memory : Cell → ℤ) (number : Instance → ℤ) (words : (c : Cell) → IsWord (memory c)) where
@@ -210,11 +210,11 @@ module _ (p : Source) (w : World) (j : ℕ) (memory : Cell → ℤ) (number : In
   ask_sound (asks.Fault f) past h r = tt
 
   -- the child that an ask starts
-  abbrev ChildIs : language.Ask → Kind → World → Type 0
+  abbrev ChildIs : language.Ask → Invocation → World → Type 0
   ChildIs (asks.Invoke how callee) i v = v ≡ child_world p w j callee
   ChildIs k i v = ⊥
 
-  child_is : (k : language.Ask) (i : Kind) (v : World) → deed_of memory number (named_ask p w j k) ≡ Invokes i v → ChildIs k i v
+  child_is : (k : language.Ask) (i : Invocation) (v : World) → deed_of memory number (named_ask p w j k) ≡ Invokes i v → ChildIs k i v
   child_is asks.Begin i v q = absurd (not_child _ i v q)
   child_is (asks.Read x) i v q = absurd (not_child _ i v q)
   child_is (asks.Write x y) i v q = absurd (not_child _ i v q)
@@ -223,7 +223,7 @@ module _ (p : Source) (w : World) (j : ℕ) (memory : Cell → ℤ) (number : In
   child_is (asks.Set r y) i v q = absurd (not_child _ i v q)
   child_is (asks.Value r) i v q = absurd (not_child _ i v q)
   child_is (asks.Print y) i v q = absurd (not_child _ i v q)
-  child_is (asks.Invoke how callee) i v q = sym (same_child (kind_of_child how) i (child_world p w j callee) v q)
+  child_is (asks.Invoke how callee) i v q = sym (same_child how i (child_world p w j callee) v q)
   child_is asks.Resume i v q = absurd (not_child _ i v q)
   child_is asks.Sync i v q = absurd (not_child _ i v q)
   child_is (asks.Result y) i v q = absurd (not_child _ i v q)
@@ -256,7 +256,7 @@ module _ (p : Source) (w : World) (j : ℕ) (memory : Cell → ℤ) (number : In
   more_started (asks.Set r y) past h = absurd h
   more_started (asks.Value r) past h = absurd h
   more_started (asks.Print y) past h = absurd h
-  more_started (asks.Invoke how callee) past h = let e = started_invokes past (kind_of_child how) (child_world p w j callee) in omega (arith, e)
+  more_started (asks.Invoke how callee) past h = let e = started_invokes past how (child_world p w j callee) in omega (arith, e)
   more_started asks.Resume past h = absurd h
   more_started asks.Sync past h = absurd h
   more_started (asks.Result y) past h = absurd h
@@ -270,7 +270,7 @@ long_deed frames n f (Invokes i v) h = tt
 
 -- the frames after a deed are those before, the one with one more deed, and a child that it starts
 all_after : (P : Frame World → Type 0) (frames : Frames World) (n : Name) (f : Frame World) (d : Deed World) → ((m : Name) (g : Frame World) → frames m ≡ Some g → P g)
-    → P (record f { deeds = f.deeds ++ d ∷ [] }) → ((i : Kind) (v : World) → d ≡ Invokes i v → P (begun v)) → (m : Name) (g : Frame World) → after_deed frames n f d m ≡ Some g → P g
+    → P (record f { deeds = f.deeds ++ d ∷ [] }) → ((i : Invocation) (v : World) → d ≡ Invokes i v → P (begun v)) → (m : Name) (g : Frame World) → after_deed frames n f d m ≡ Some g → P g
 all_after P frames n f (Does e) old mine child m g q = by (same_name n m) q
   where
     by : (b : Bool) → cond b (Some (record f { deeds = f.deeds ++ Does e ∷ [] })) (frames m) ≡ Some g → P g
@@ -416,7 +416,7 @@ module _ (p : Source) (inputs : List ℤ) where
               step.next_stage;
         }
 
-    child_fits : (r : ℕ) (w : World) (j : ℕ) (k : language.Ask) (memory : Cell → ℤ) (number : Instance → ℤ) (cells : (c : Cell) → IsWord (memory c)) → AskWords k → (i : Kind) (v : World) → ChildIs p w j memory number cells k i v → FrameFits r (begun v)
+    child_fits : (r : ℕ) (w : World) (j : ℕ) (k : language.Ask) (memory : Cell → ℤ) (number : Instance → ℤ) (cells : (c : Cell) → IsWord (memory c)) → AskWords k → (i : Invocation) (v : World) → ChildIs p w j memory number cells k i v → FrameFits r (begun v)
     child_fits r w j asks.Begin memory number cells words i v h = absurd h
     child_fits r w j (asks.Read x) memory number cells words i v h = absurd h
     child_fits r w j (asks.Write x y) memory number cells words i v h = absurd h

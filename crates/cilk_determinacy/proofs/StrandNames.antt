@@ -6,18 +6,20 @@
 -- - `Within`, `all_within`, `all_apart`: names are different;
 -- - `strands_have_names`: the law.
 use Rattle.std.proofs.Common.{◌≡◌, ◌≤◌, ◌<◌, ◌+◌, ◌-◌, ℕ, zero, suc, ℤ, Bool, true, false, cond, List, [], ◌∷◌, ◌++◌, length, Option, Some, None, slice_get, ◌⊎◌, inl, inr, ⊎_elim, refl, sym, ap, ap₂, ◌∙◌, subst, arith, append_assoc, length-append, zero-add, suc-add}
+use Rattle.cilk_types.specs.declared.invocation.Invocation.TheVariants.{Call, Spawn}
+use Rattle.cilk_types.specs.declared.invocation.Invocation.{Invocation}
 use Rattle.std.proofs.lemmas.Bool.{cases_lt}
 use Rattle.cilk_types.specs.declared.event.Event as numbers
 use Rattle.cilk_types.specs.declared.event.Event.TheVariants as events
 use Rattle.cilk_types.specs.declared.event.Instance as numbered
 use Rattle.cilk_program.specs.SerialRun as serial
 use Rattle.cilk_program.specs.Syntax.{Source}
-use Rattle.cilk_runs.specs.Runs.{Name, Cell, Instance, Kind, Calls, Spawns, Event, Reads, Writes, Syncs, Ends, Passes, Begins, Resumes, Creates, Updates, Sets, Values, Prints, Deed, Does, Invokes, Run, stop, act, child}
-use Rattle.cilk_runs.specs.Trees.{trace}
+use Rattle.cilk_runs.specs.Runs.{Name, Cell, Instance, Event, Reads, Writes, Syncs, Ends, Passes, Begins, Resumes, Creates, Updates, Sets, Values, Prints, Deed, Does, Invokes, Run, stop, act, child}
+use Rattle.cilk_runs.specs.Traces.{trace}
 use Rattle.cilk_tree.specs.Before.{IsPosition}
 use Rattle.cilk_tree.specs.Marks.{mark_of, begun_by}
 use Rattle.cilk_tree.specs.Races.{strand_at}
-use Rattle.cilk_cells.specs.Nested.{Due, begin_due, resume_due, neither_due, IsFramed, IsWrittenEvent, IsWritten, AreWritten}
+use Rattle.cilk_runs.specs.Traces.{Due, begin_due, resume_due, neither_due, IsFramed, IsWrittenEvent, IsWritten, AreWritten}
 use Rattle.cilk_worlds.specs.Worlds.{World, first_world, child_world}
 use Rattle.cilk_determinacy.specs.Nested.{named, named_from, named_event}
 use Rattle.cilk_determinacy.specs.Numbers.{cell_number, instance_number}
@@ -86,9 +88,9 @@ module _ (cell : Cell → ℕ) (instance : Instance → numbered.Instance) where
   event_begins (Passes (Values i v)) e' w = ap (λ x. begun_by (mark_of x)) w
   event_begins (Passes (Prints v)) e' w = ap (λ x. begun_by (mark_of x)) w
 
-  start_begins : (i : Kind) (w : World) (e' : numbers.Event) → IsWritten cell instance (Invokes i w) e' → begun_by (mark_of e') ≡ 0
-  start_begins Calls w e' (f, q) = ap (λ x. begun_by (mark_of x)) q
-  start_begins Spawns w e' (f, q) = ap (λ x. begun_by (mark_of x)) q
+  start_begins : (i : Invocation) (w : World) (e' : numbers.Event) → IsWritten cell instance (Invokes i w) e' → begun_by (mark_of e') ≡ 0
+  start_begins Call w e' (f, q) = ap (λ x. begun_by (mark_of x)) q
+  start_begins Spawn w e' (f, q) = ap (λ x. begun_by (mark_of x)) q
 
   -- a strand has begun with the first event
   some_begun : (e : Event) (t : Run World) (es : List numbers.Event) (m : ℕ) → bit e ≡ 1 → AreWritten cell instance (trace (act e t)) es → m < length es → 1 ≤ strand_at es (suc m)
@@ -119,7 +121,7 @@ module _ (cell : Cell → ℕ) (instance : Instance → numbered.Instance) where
   after_act _ _ t h = absurd h
 
   -- the children of a framed run, and what follows them
-  after_child : (d : Due) (i : Kind) (w : World) (u t : Run World) → IsFramed d (child i w u t) → IsFramed begin_due u × IsFramed resume_due t
+  after_child : (d : Due) (i : Invocation) (w : World) (u t : Run World) → IsFramed d (child i w u t) → IsFramed begin_due u × IsFramed resume_due t
   after_child neither_due i w u t h = h
   after_child begin_due i w u t h = absurd h
   after_child resume_due i w u t h = absurd h

@@ -9,7 +9,7 @@ use Rattle.cilk_types.specs.declared.event.Event.{Event}
 use Rattle.cilk_tree.specs.declared.mark.Mark.{Mark}
 use Rattle.cilk_tree.specs.declared.mark.Mark.TheVariants.{Resume}
 use Rattle.cilk_tree.specs.Marks.{mark_of}
-use Rattle.cilk_tree.specs.Shape.{Kind, called, spawned, Shape, finish, act, sync, child, marks, Spells}
+use Rattle.cilk_tree.specs.Shape.{Shape, finish, act, sync, child, marks, Spells}
 use Rattle.cilk_tree.specs.Tree.{blocks, block, rest_of}
 use Rattle.cilk_tree.proofs.Strands.{number, leaves-block, leaves-blocks, leaves-beside}
 use Rattle.cilk_cert_text.specs.declared.line.Frame.{Frame}

@@ -4,9 +4,11 @@
 -- - `frame_walked`: the pass over the marks of a frame, from some point on, and over what follows;
 -- - `run_walked`: the whole pass.
 use Rattle.std.proofs.Common.{◌≡◌, ℕ, suc, ◌+◌, List, [], ◌∷◌, ◌++◌, length, refl, sym, ap, ◌∙◌, arith, append-nil, append_assoc, length-append}
+use Rattle.cilk_types.specs.declared.invocation.Invocation.TheVariants.{Call, Spawn}
+use Rattle.cilk_types.specs.declared.invocation.Invocation.{Invocation}
 use Rattle.cilk_tree.specs.declared.mark.Mark.{Mark}
 use Rattle.cilk_tree.specs.declared.mark.Mark.TheVariants.{Begin, Resume}
-use Rattle.cilk_tree.specs.Shape.{Kind, called, spawned, Shape, finish, act, sync, child, start_of, marks}
+use Rattle.cilk_tree.specs.Shape.{Shape, finish, act, sync, child, start_of, marks}
 use Rattle.cilk_cert_text.specs.declared.line.Frame.{Frame}
 use Rattle.cilk_listing.specs.declared.walk.Open.{Open}
 use Rattle.cilk_listing.specs.Frames.{frames_in, frames_from, frames_of, owners_from, owners_of}
@@ -27,9 +29,9 @@ count_frames (child kind u r) me made begun =
     let b = count_frames r me (made + 1) (begun + 1 + frames_in u) in
     ap suc (length-append (frames_from u (begun + 1) 0 (begun + 1)) (frames_from r me (made + 1) (begun + 1 + frames_in u)) ∙ omega (arith, a, b))
 
-start : (kind : Kind) (rest : List Mark) (w : Walked) → walked (start_of kind ∷ rest) w ≡ walked rest (entered w)
-start called rest w = refl
-start spawned rest w = refl
+start : (kind : Invocation) (rest : List Mark) (w : Walked) → walked (start_of kind ∷ rest) w ≡ walked rest (entered w)
+start Call rest w = refl
+start Spawn rest w = refl
 
 -- the strands and frames of what follows a child that ended, put in their places
 frames_join : (fs gs hs : List Frame) (f : Frame) → ((fs ++ f ∷ []) ++ gs) ++ hs ≡ fs ++ (f ∷ (gs ++ hs))

@@ -23,7 +23,7 @@ use Rattle.cilk_program.specs.declared.ask.Callee.TheVariants as callees
 use Rattle.cilk_program.specs.declared.ask.LoopPart.{LoopPart}
 use Rattle.cilk_program.specs.declared.program.Body.{Body}
 use Rattle.cilk_program.specs.declared.program.Body.TheVariants as bodies
-use Rattle.cilk_program.specs.declared.syntax.Invocation.{Invocation}
+use Rattle.cilk_types.specs.declared.invocation.Invocation.{Invocation}
 use Rattle.cilk_program.specs.declared.syntax.Place.{Place}
 use Rattle.cilk_program.specs.declared.syntax.Place.TheVariants as places
 use Rattle.cilk_program.specs.declared.syntax.Reducer.{Reducer}

@@ -2,7 +2,8 @@
 --
 -- - `started_does`, `started_invokes`: with one more deed.
 use Rattle.std.proofs.Common.{◌≡◌, suc, List, [], ◌∷◌, ◌++◌, refl, ap}
-use Rattle.cilk_runs.specs.Runs.{Kind, Event, Deed, Does, Invokes}
+use Rattle.cilk_types.specs.declared.invocation.Invocation.{Invocation}
+use Rattle.cilk_runs.specs.Runs.{Event, Deed, Does, Invokes}
 use Rattle.cilk_runs.specs.Machine.{started}
 
 module _ {W : Type 0} where
@@ -11,7 +12,7 @@ module _ {W : Type 0} where
   started_does (Does c ∷ past) e = started_does past e
   started_does (Invokes k w ∷ past) e = ap suc (started_does past e)
 
-  pub started_invokes : (past : List (Deed W)) (k : Kind) (w : W) → started (past ++ Invokes k w ∷ []) ≡ suc (started past)
+  pub started_invokes : (past : List (Deed W)) (k : Invocation) (w : W) → started (past ++ Invokes k w ∷ []) ≡ suc (started past)
   started_invokes [] k w = refl
   started_invokes (Does c ∷ past) k w = started_invokes past k w
   started_invokes (Invokes j v ∷ past) k w = ap suc (started_invokes past k w)

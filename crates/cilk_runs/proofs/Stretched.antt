@@ -5,12 +5,15 @@
 -- - `Within`, `all_within`, `all_apart`: each frame holds one of them;
 -- - `are_stretches`: the law.
 use Rattle.std.proofs.Common.{◌≡◌, ◌≤◌, ℕ, zero, suc, ◌+◌, Bool, true, false, true≢false, List, [], ◌∷◌, ◌++◌, length, Option, Some, None, ◌⊎◌, inl, inr, ⊎_elim, refl, sym, ap, ap₂, ◌∙◌, subst, arith, append_assoc, append-nil, length-append, zero-add, suc-add, ℤ}
+use Rattle.cilk_types.specs.declared.invocation.Invocation.TheVariants.{Call, Spawn}
+use Rattle.cilk_types.specs.declared.invocation.Invocation.{Invocation}
 use Rattle.std.specs.Prelude.{replicate, slice_get}
-use Rattle.cilk_runs.specs.Runs.{Name, Cell, Instance, Kind, Calls, Spawns, Reads, Writes, Syncs, Ends, Passes, Deed, Does, Invokes, Run, stop, act, child}
+use Rattle.cilk_runs.specs.Runs.{Name, Cell, Instance, Reads, Writes, Syncs, Ends, Passes, Deed, Does, Invokes, Run, stop, act, child}
 use Rattle.cilk_runs.specs.Costs.{Costs}
 use Rattle.cilk_runs.specs.Cuts.{below, IsFull, IsCut, WhenResumed, WhenStolen, block_after, own_after, Lies, IsConsistent}
 use Rattle.cilk_runs.specs.Machine.{Frames, State, deeds_at, HasSync}
-use Rattle.cilk_runs.specs.Monoids.{Monoid, unit_of}
+use Rattle.cilk_monoid.specs.Laws.{MonoidStructure}
+use Rattle.cilk_runs.specs.Monoids.{unit_of}
 use Rattle.cilk_runs.specs.Positions.{unmade, made_at}
 use Rattle.cilk_runs.specs.Stretches.{Stretch, Held, Ahead, marks, many, has_sync, is_back, past, stretches, covered, AreStretches}
 
@@ -75,20 +78,20 @@ thief_goes : (stolen : Bool) (T X : Type 0) → WhenStolen stolen T X → stolen
 thief_goes true T X h e = h
 thief_goes false T X h e = absurd (true≢false (sym e))
 
-module _ {W V : Type 0} (M : Monoid V) (i : Instance) where
+module _ {W V : Type 0} (M : MonoidStructure V) (i : Instance) where
   -- a spawned child whose piece is back has ended, and the frame goes on as a thief or with it
-  goes_on : (stolen : Bool) (k : ℕ) (loose : Name → Bool) (ds : List (Deed W)) (F T R : Type 0) → (HasSync ds → F) → WhenStolen stolen T (WhenResumed k loose ds (F × R)) → is_back Spawns stolen ds ≡ true → F × (T ⊎ R)
+  goes_on : (stolen : Bool) (k : ℕ) (loose : Name → Bool) (ds : List (Deed W)) (F T R : Type 0) → (HasSync ds → F) → WhenStolen stolen T (WhenResumed k loose ds (F × R)) → is_back Spawn stolen ds ≡ true → F × (T ⊎ R)
   goes_on true k loose ds F T R synced h e = (synced (sync_of ds e), inl h)
   goes_on false k loose [] F T R synced h e = absurd (true≢false (sym e))
   goes_on false k loose (d ∷ ds) F T R synced h e = (h.0, inr h.1)
 
   -- a frame that doesn't have its child's piece back, and whose continuation nobody took, has made nothing more
-  waits : (b : Kind) (stolen : Bool) (ds : List (Deed W)) → is_back b stolen ds ≡ false → stolen ≡ false → ds ≡ []
-  waits Calls stolen [] e f = refl
-  waits Calls stolen (d ∷ ds) e f = absurd (true≢false e)
-  waits Spawns true ds e f = absurd (true≢false f)
-  waits Spawns false [] e f = refl
-  waits Spawns false (d ∷ ds) e f = absurd (true≢false e)
+  waits : (b : Invocation) (stolen : Bool) (ds : List (Deed W)) → is_back b stolen ds ≡ false → stolen ≡ false → ds ≡ []
+  waits Call stolen [] e f = refl
+  waits Call stolen (d ∷ ds) e f = absurd (true≢false e)
+  waits Spawn true ds e f = absurd (true≢false f)
+  waits Spawn false [] e f = refl
+  waits Spawn false (d ∷ ds) e f = absurd (true≢false e)
 
   left_unmade : (r : Run W) (k : ℕ) (ds : List (Deed W)) (kids : ℕ → Frames W) → ds ≡ [] → made_at r k ds kids ≡ replicate (many r) false
   left_unmade r k ds kids e = ap (λ l. made_at r k l kids) e ∙ nothing_made r k kids
@@ -102,33 +105,33 @@ module _ {W V : Type 0} (M : Monoid V) (i : Instance) where
       cover r k ds kids loose n (suc own) pcs (block_after M e acc) (own_after M i e acc p) root cut.1 h ∙ one_more own (made_at r k ds kids)
   cover (child b w u r) k [] kids loose n own pcs acc p root cut h =
       ap (λ l. replicate own true ++ l) (append-nil (replicate (suc (many u + many r)) false) ∙ sym (none_made (child b w u r)))
-  cover (child Calls w u r) k (d ∷ []) kids loose n own pcs acc p root cut h =
+  cover (child Call w u r) k (d ∷ []) kids loose n own pcs acc p root cut h =
       past_marks false (loose (k ∷ [])) (stretches r (suc k) [] kids loose n (suc own + many u)) (stretches u 1 (deeds_at (kids k [])) (below (kids k)) (λ m. loose (k ∷ m)) (n ++ k ∷ []) (suc own)) (stretches r (suc k) [] kids loose n 0) (many r) own (many u)
       (made_at u 1 (deeds_at (kids k [])) (below (kids k))) (made_at r (suc k) [] kids)
       (λ e. absurd (true≢false (sym e)))
       (cover u 1 (deeds_at (kids k [])) (below (kids k)) (λ m. loose (k ∷ m)) (n ++ k ∷ []) (suc own) (λ m. pcs (k ∷ m)) M.unit p (pcs (k ∷ [])) cut.2 h.1)
       (λ e f. absurd (true≢false (sym f ∙ h.0)))
       (λ e f. nothing_made r (suc k) kids)
-  cover (child Calls w u r) k (d ∷ c ∷ ds) kids loose n own pcs acc p root cut h =
+  cover (child Call w u r) k (d ∷ c ∷ ds) kids loose n own pcs acc p root cut h =
       past_marks true (loose (k ∷ [])) (stretches r (suc k) (c ∷ ds) kids loose n (suc own + many u)) (stretches u 1 (deeds_at (kids k [])) (below (kids k)) (λ m. loose (k ∷ m)) (n ++ k ∷ []) (suc own)) (stretches r (suc k) (c ∷ ds) kids loose n 0) (many r) own (many u)
       (made_at u 1 (deeds_at (kids k [])) (below (kids k))) (made_at r (suc k) (c ∷ ds) kids)
       (λ e. (cover r (suc k) (c ∷ ds) kids loose n (suc own + many u) pcs acc (pcs (k ∷ [])) root cut.4 h.2, all_made u 1 (deeds_at (kids k [])) (below (kids k)) (cut.3 tt)))
       (cover u 1 (deeds_at (kids k [])) (below (kids k)) (λ m. loose (k ∷ m)) (n ++ k ∷ []) (suc own) (λ m. pcs (k ∷ m)) M.unit p (pcs (k ∷ [])) cut.2 h.1)
       (λ e f. absurd (true≢false e))
       (λ e f. absurd (true≢false e))
-  cover (child Spawns w u r) k (d ∷ ds) kids loose n own pcs acc p root cut h =
+  cover (child Spawn w u r) k (d ∷ ds) kids loose n own pcs acc p root cut h =
       let F = IsFull u 1 (deeds_at (kids k [])) (below (kids k)) in
-      let T = Lies M i r (suc k) ds kids loose pcs (M.join acc (pcs (k ∷ []))) M.unit root in
+      let T = Lies M i r (suc k) ds kids loose pcs (M.combine acc (pcs (k ∷ []))) M.unit root in
       let R = Lies M i r (suc k) ds kids loose pcs acc (pcs (k ∷ [])) root in
-      past_marks (is_back Spawns (loose (k ∷ [])) ds) (loose (k ∷ [])) (stretches r (suc k) ds kids loose n (suc own + many u)) (stretches u 1 (deeds_at (kids k [])) (below (kids k)) (λ m. loose (k ∷ m)) (n ++ k ∷ []) (suc own)) (stretches r (suc k) ds kids loose n 0) (many r) own (many u)
+      past_marks (is_back Spawn (loose (k ∷ [])) ds) (loose (k ∷ [])) (stretches r (suc k) ds kids loose n (suc own + many u)) (stretches u 1 (deeds_at (kids k [])) (below (kids k)) (λ m. loose (k ∷ m)) (n ++ k ∷ []) (suc own)) (stretches r (suc k) ds kids loose n 0) (many r) own (many u)
       (made_at u 1 (deeds_at (kids k [])) (below (kids k))) (made_at r (suc k) ds kids)
       (λ e. let g = goes_on (loose (k ∷ [])) (suc k) loose ds F T R cut.3 h.1 e in (
-        ⊎_elim (λ l. cover r (suc k) ds kids loose n (suc own + many u) pcs (M.join acc (pcs (k ∷ []))) M.unit root cut.4 l) (λ l. cover r (suc k) ds kids loose n (suc own + many u) pcs acc (pcs (k ∷ [])) root cut.4 l) g.1,
+        ⊎_elim (λ l. cover r (suc k) ds kids loose n (suc own + many u) pcs (M.combine acc (pcs (k ∷ []))) M.unit root cut.4 l) (λ l. cover r (suc k) ds kids loose n (suc own + many u) pcs acc (pcs (k ∷ [])) root cut.4 l) g.1,
         all_made u 1 (deeds_at (kids k [])) (below (kids k)) g.0,
       ))
       (cover u 1 (deeds_at (kids k [])) (below (kids k)) (λ m. loose (k ∷ m)) (n ++ k ∷ []) (suc own) (λ m. pcs (k ∷ m)) M.unit p (pcs (k ∷ [])) cut.2 h.0)
-      (λ e f. cover r (suc k) ds kids loose n 0 pcs (M.join acc (pcs (k ∷ []))) M.unit root cut.4 (thief_goes (loose (k ∷ [])) T (WhenResumed (suc k) loose ds (F × R)) h.1 f))
-      (λ e f. left_unmade r (suc k) ds kids (waits Spawns (loose (k ∷ [])) ds e f))
+      (λ e f. cover r (suc k) ds kids loose n 0 pcs (M.combine acc (pcs (k ∷ []))) M.unit root cut.4 (thief_goes (loose (k ∷ [])) T (WhenResumed (suc k) loose ds (F × R)) h.1 f))
+      (λ e f. left_unmade r (suc k) ds kids (waits Spawn (loose (k ∷ [])) ds e f))
 
 -- ---- each frame holds one stretch
 
@@ -259,7 +262,7 @@ apart_get (Ahead e ∷ ss) h (suc a) zero n x y q g = let s : Some (Ahead e) ≡
 apart_get (Held m e ∷ ss) h (suc a) (suc b) n x y q g = ap suc (apart_get ss h.1 a b n x y q g)
 apart_get (Ahead e ∷ ss) h (suc a) (suc b) n x y q g = ap suc (apart_get ss h a b n x y q g)
 
-pub are_stretches : {W V : Type 0} (M : Instance → Monoid V) (C : Costs W) (w : W) (t : Run W) (opening : Cell → ℤ) (s : State W V) (i : Instance) → IsConsistent M C w t opening s → AreStretches t s
+pub are_stretches : {W V : Type 0} (M : Instance → MonoidStructure V) (C : Costs W) (w : W) (t : Run W) (opening : Cell → ℤ) (s : State W V) (i : Instance) → IsConsistent M C w t opening s → AreStretches t s
 are_stretches M C w t opening s i ok = record {
   whole = cover (M i) i t 1 (deeds_at (s.frames [])) (below s.frames) s.stolen [] 0 (λ n. s.piece n i) (unit_of M i) (unit_of M i) (s.piece [] i) ok.cut (ok.pieces i);
   one = apart_get (covered t s) (all_apart t 1 (deeds_at (s.frames [])) (below s.frames) s.stolen [] 0);

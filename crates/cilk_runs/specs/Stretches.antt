@@ -1,6 +1,8 @@
 -- Which events each piece covers: the serial run as stretches, one after the other.
 use Rattle.std.specs.Prelude.{◌≡◌, ℕ, suc, ◌+◌, Bool, true, false, List, [], ◌∷◌, ◌++◌, replicate, Some, slice_get}
-use Rattle.cilk_runs.specs.Runs.{Name, Kind, Calls, Spawns, Reads, Writes, Syncs, Ends, Passes, Deed, Does, Invokes, Run, stop, act, child}
+use Rattle.cilk_types.specs.declared.invocation.Invocation.TheVariants.{Call, Spawn}
+use Rattle.cilk_types.specs.declared.invocation.Invocation.{Invocation}
+use Rattle.cilk_runs.specs.Runs.{Name, Reads, Writes, Syncs, Ends, Passes, Deed, Does, Invokes, Run, stop, act, child}
 use Rattle.cilk_runs.specs.Machine.{Frames, State, deeds_at}
 use Rattle.cilk_runs.specs.Cuts.{below}
 use Rattle.cilk_runs.specs.Positions.{made_at}
@@ -32,12 +34,12 @@ has_sync (Does (Passes m) ∷ ds) = has_sync ds
 has_sync (Invokes k w ∷ ds) = has_sync ds
 
 -- The frame has the child's piece back: it went on with it, or where a thief took the continuation, a sync has multiplied it.
-abbrev pub is_back : {W : Type 0} → Kind → (stolen : Bool) → List (Deed W) → Bool
-is_back Calls stolen [] = false
-is_back Calls stolen (d ∷ ds) = true
-is_back Spawns true ds = has_sync ds
-is_back Spawns false [] = false
-is_back Spawns false (d ∷ ds) = true
+abbrev pub is_back : {W : Type 0} → Invocation → (stolen : Bool) → List (Deed W) → Bool
+is_back Call stolen [] = false
+is_back Call stolen (d ∷ ds) = true
+is_back Spawn true ds = has_sync ds
+is_back Spawn false [] = false
+is_back Spawn false (d ∷ ds) = true
 
 -- what follows a child's start: the frame's stretch goes on; or the child's stretches come, and then the thief's; or nothing more is made
 abbrev pub past : (back stolen : Bool) (on inner thief : List Stretch) (left : ℕ) → List Stretch

@@ -5,7 +5,7 @@
 ghost use Rattle.std.specs.Prelude.{ℤ};
 ghost use Rattle.cilk_runs.specs.Runs.{Cell, Instance, Run};
 ghost use Rattle.cilk_runs.specs.Costs.{Costs};
-ghost use Rattle.cilk_runs.specs.Monoids.{Monoid};
+ghost use Rattle.cilk_monoid.specs.Laws.{MonoidStructure};
 ghost use Rattle.cilk_runs.specs.Machine.{State};
 ghost use Rattle.cilk_runs.specs.Cuts.{IsConsistent};
 ghost use Rattle.cilk_runs.specs.Stretches.{AreStretches};
@@ -14,5 +14,5 @@ ghost use Rattle.cilk_runs.specs.Stretches.{AreStretches};
 /// stretch of the run without gaps, the pieces' stretches lie apart, and together they are the cut. A child's piece covers
 /// what its parent's covered before, a thief's begins where the thief does, and a sync's covers its whole block.
 pub fn pieces_cover_stretches<W, V>()
-    ensures { (M : Instance → Monoid V) (C : Costs W) (w : W) (t : Run W) (opening : Cell → ℤ) (s : State W V) → IsConsistent M C w t opening s → AreStretches t s }
+    ensures { (M : Instance → MonoidStructure V) (C : Costs W) (w : W) (t : Run W) (opening : Cell → ℤ) (s : State W V) → IsConsistent M C w t opening s → AreStretches t s }
 {}

@@ -6,12 +6,14 @@
 -- - `children_after`: the children after one more deed;
 -- - `views_kept`: the law.
 use Rattle.std.proofs.Common.{◌≡◌, ◌≤◌, ◌<◌, ◌+◌, ℕ, suc, ℤ, Bool, true, false, cond, List, [], ◌∷◌, ◌++◌, Option, Some, None, ◌⊎◌, inl, inr, ⊎_elim, refl, sym, ap, ◌∙◌, subst, arith}
+use Rattle.cilk_types.specs.declared.invocation.Invocation.TheVariants.{Call, Spawn}
+use Rattle.cilk_types.specs.declared.invocation.Invocation.{Invocation}
 use Rattle.std.proofs.lemmas.Bool.{cases_lt, cond-true}
 use Rattle.cilk_monoid.specs.declared.kind.MonoidKind.{MonoidKind}
 use Rattle.cilk_monoid.specs.Kinds.{structure_of}
 use Rattle.cilk_monoid.specs.Values.{ViewValue, IsWord}
 use Rattle.cilk_program.specs.Syntax.{Source}
-use Rattle.cilk_runs.specs.Runs.{Name, same_name, Cell, Instance, Output, same_instance, has_instance, Kind, Calls, Spawns, Wish, Begin, Resume, Create, Update, Set, Value, Print, Ask, Read, Write, Invoke, Sync, End, Pass, Fail, Event, Reads, Writes, Syncs, Ends, Passes, Begins, Deed, Does, Invokes}
+use Rattle.cilk_runs.specs.Runs.{Name, same_name, Cell, Instance, Output, same_instance, has_instance, Wish, Begin, Resume, Create, Update, Set, Value, Print, Ask, Read, Write, Invoke, Sync, End, Pass, Fail, Event, Reads, Writes, Syncs, Ends, Passes, Begins, Deed, Does, Invokes}
 use Rattle.cilk_runs.specs.Machine.{Frame, Frames, State, deeds_at, started, mark_of, deed_of, begun, after_deed, block_view, own_view, with_view, after_views, IsAsking, Makes, Steals, Stops}
 use Rattle.cilk_runs.specs.Monoids.{numbers_of}
 use Rattle.cilk_runs.proofs.Basics.{same_name-refl, same_name-eq}
@@ -36,7 +38,7 @@ module _ (k : MonoidKind) where
   has_single : (n : ℤ) → IsWord n → HasView k ((views_of k).single n)
   has_single n word = let m = are_multiplied in ((structure_of k).single n, m.single k n word)
 
-  has_join : (v w : View) → HasView k v → HasView k w → HasView k ((views_of k).join v w)
+  has_join : (v w : View) → HasView k v → HasView k w → HasView k ((views_of k).combine v w)
   has_join v w h g = let m = are_multiplied in ((structure_of k).combine h.0 g.0, m.join k v w h.0 g.0 h.1 g.1)
 
   has_cond : (b : Bool) (v w : View) → HasView k v → HasView k w → HasView k (cond b v w)
@@ -56,10 +58,10 @@ module _ (k : MonoidKind) where
     block_has acc j (Does Syncs ∷ ds) a g = block_has ((views_of k).unit) j ds has_unit g
     block_has acc j (Does (Ends v gone) ∷ ds) a g = block_has acc j ds a g
     block_has acc j (Does (Passes m) ∷ ds) a g = block_has acc j ds a g
-    block_has acc j (Invokes Calls w ∷ ds) a g = block_has acc (suc j) ds a (λ h low high. g h (omega arith) (omega arith))
-    block_has acc j (Invokes Spawns w ∷ ds) a g =
-        block_has (cond (loose j) ((views_of k).join acc (kid j)) acc) (suc j) ds
-        (has_cond (loose j) ((views_of k).join acc (kid j)) acc (has_join acc (kid j) a (g j (omega arith) (omega arith))) a)
+    block_has acc j (Invokes Call w ∷ ds) a g = block_has acc (suc j) ds a (λ h low high. g h (omega arith) (omega arith))
+    block_has acc j (Invokes Spawn w ∷ ds) a g =
+        block_has (cond (loose j) ((views_of k).combine acc (kid j)) acc) (suc j) ds
+        (has_cond (loose j) ((views_of k).combine acc (kid j)) acc (has_join acc (kid j) a (g j (omega arith) (omega arith))) a)
         (λ h low high. g h (omega arith) (omega arith))
 
 -- a frame's own view after an event that touches no cell and starts, awaits and ends no frame
@@ -68,11 +70,11 @@ wish_has i number block last v loose Begin k s h g = h
 wish_has i number block last v loose Resume k s h g = has_cond (kind_of i) loose v last h (g s)
 wish_has i number block last v loose (Create j) k s h g = has_cond (kind_of i) (same_instance j i) ((views_of (kind_of i)).unit) v (has_unit (kind_of i)) h
 wish_has i number block last v loose (Update j x) k s h g =
-    has_cond (kind_of i) (same_instance j i) ((views_of (kind_of i)).join v ((views_of (kind_of i)).single x)) v (has_join (kind_of i) v ((views_of (kind_of i)).single x) h (has_single (kind_of i) x s)) h
+    has_cond (kind_of i) (same_instance j i) ((views_of (kind_of i)).combine v ((views_of (kind_of i)).single x)) v (has_join (kind_of i) v ((views_of (kind_of i)).single x) h (has_single (kind_of i) x s)) h
 wish_has i number block last v loose (Set j x) k s h g = has_cond (kind_of i) (same_instance j i) ((views_of (kind_of i)).single x) v (has_single (kind_of i) x s) h
 wish_has i number block last v loose (Value j) k s h g = h
 wish_has i number block last v loose (Print x) k s h g =
-    has_cond (kind_of i) (same_instance Output i) ((views_of (kind_of i)).join v ((views_of (kind_of i)).single x)) v (has_join (kind_of i) v ((views_of (kind_of i)).single x) h (has_single (kind_of i) x s)) h
+    has_cond (kind_of i) (same_instance Output i) ((views_of (kind_of i)).combine v ((views_of (kind_of i)).single x)) v (has_join (kind_of i) v ((views_of (kind_of i)).single x) h (has_single (kind_of i) x s)) h
 
 -- ---- one more deed of frame n
 
@@ -107,7 +109,7 @@ module _ (frames : Frames World) (piece : Name → Instance → View) (stolen : 
   does_leaves e mine m g i q =
       picked (kind_of i) (same_name n m) (Some (record f { deeds = f.deeds ++ Does e ∷ [] })) (frames m) (own i e) (piece m i) g q (mine i) (views m g i)
 
-  invokes_leaves : (k : Kind) (w : World) → Leaves (Invokes k w)
+  invokes_leaves : (k : Invocation) (w : World) → Leaves (Invokes k w)
   invokes_leaves k w m g i q =
       picked (kind_of i) (same_name (n ++ suc (started f.deeds) ∷ []) m) (Some (begun w)) (cond (same_name n m) (Some (record f { deeds = f.deeds ++ Invokes k w ∷ [] })) (frames m)) (piece n i) (piece m i) g q
       (views n f i here) (old (same_name n m) refl)
@@ -136,7 +138,7 @@ module _ (frames : Frames World) (piece : Name → Instance → View) (stolen : 
   old_child : (d : Deed World) (m : Name) (g : Frame World) (k : ℕ) → frames m ≡ Some g → 1 ≤ k → k ≤ started g.deeds → (h : Frame World) × (after_deed frames n f d (m ++ k ∷ []) ≡ Some h)
   old_child d m g k q low high = let c = children m g k q low high in stays d (m ++ k ∷ []) c.0 c.1
 
-  new_child : (k : Kind) (w : World) → (h : Frame World) × (after_deed frames n f (Invokes k w) (n ++ suc (started f.deeds) ∷ []) ≡ Some h)
+  new_child : (k : Invocation) (w : World) → (h : Frame World) × (after_deed frames n f (Invokes k w) (n ++ suc (started f.deeds) ∷ []) ≡ Some h)
   new_child k w = let c = n ++ suc (started f.deeds) ∷ [] in (begun w, cond-true (same_name c c) (Some (begun w)) _ (same_name-refl c))
 
   children_after : (d : Deed World) (m : Name) (g : Frame World) (k : ℕ) → after_deed frames n f d m ≡ Some g → 1 ≤ k → k ≤ started g.deeds → (h : Frame World) × (after_deed frames n f d (m ++ k ∷ []) ≡ Some h)
