@@ -58,7 +58,7 @@ module _ {C I : Type 0} (p : Source) (global_cell : ℕ → C) (global_instance 
       (home : Home C I) → let f = main_of p in GlobalsAreThere → ((n : ℕ) → n < f.cells → HasCell (home.cells n))
       → ((n : ℕ) (k : MonoidKind) → IsTrue (is_kind (slice_get f.reducers n) k) → HasReducer (home.own n) k)
       → ((n : ℕ) (k : MonoidKind) → IsTrue (is_kind (slice_get f.given n) k)
-          → HasReducer (unwrap_or (slice_get home.given n) (global_instance n)) k)
+      → HasReducer (unwrap_or (slice_get home.given n) (global_instance n)) k)
       → FrameSees callees.Root (home ∷ []) None
 
   -- so does the frame of a function that is called, where its own cells and reducers are there

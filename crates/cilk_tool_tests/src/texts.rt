@@ -3,7 +3,9 @@
 use crate::repeats::repeated;
 use cilk_parser::input::parse_input;
 use cilk_parser::parse::parse;
-use cilk_syntax::tree::{Assignment, BinaryOperator, Expr, Item, LocalInitializer, Parameter, ReturnType, Stmt};
+use cilk_syntax::tree::{
+    Assignment, BinaryOperator, Expr, Item, LocalInitializer, Parameter, ReturnType, Stmt,
+};
 use cilk_texts::fault::TextFault;
 use cilk_types::compound::Compound;
 use cilk_types::invocation::Invocation;
