@@ -1,0 +1,5 @@
+use Rattle.cilk_cert_maker.proofs.Listing.{Lists}
+use Rattle.cilk_cert_maker.proofs.entries.entries.Given as goal
+
+abbrev pub invariant-loop-index : goal.invariant-loop-index
+invariant-loop-index l = Lists l.events l.index l.entries.items l.writes.positions.items
