@@ -1,7 +1,5 @@
 pub mod Entered
-pub mod Judged
 pub mod Lines
-pub mod OneMeaning
 pub mod OneReply
 pub mod Reading
 pub mod Replying
