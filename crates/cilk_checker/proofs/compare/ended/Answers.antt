@@ -1,0 +1,17 @@
+use Rattle.std.proofs.lemmas.Result.{err_from_is_err_and}
+use Rattle.cilk_checker.proofs.Checked.{refused_at_end, told_true, with_holds}
+use Rattle.cilk_checker.proofs.compare.ended.Goals as goal
+
+pub returns-clause-clean : goal.returns-clause-clean
+returns-clause-clean g c = λ s columns created.
+    with_holds (g.S.Source.remaining c.args.source.now) (λ d h. rw c.in_default.is at (c.in_ok-refusal.ensures s d columns created h)) c.in_ok-tally.ensures.heard
+
+pub returns-in-Some-clause-refused : goal.returns-in-Some-clause-refused
+returns-in-Some-clause-refused g c = λ p inputs s columns e created.
+    refused_at_end p inputs (g.S.Source.remaining c.args.source.now) s c.args.right.now.trace c.args.outcome.now c.in-Some.refusal e
+    (with_holds (g.S.Source.remaining c.args.source.now) (λ d h. rw c.in-Some.is at (c.in_ok-refusal.ensures s d columns created h)) c.in_ok-tally.ensures.heard)
+
+pub returns-in_err-tally-clause-refused : goal.returns-in_err-tally-clause-refused
+returns-in_err-tally-clause-refused g c =
+    let q = err_from_is_err_and c.from_residual.result c.from_residual.ensures.1 in
+    rw (q.1, q.2) (λ p inputs s columns e created. told_true p inputs (g.S.Source.remaining c.args.source.now) (g.S.Source.failed c.args.source.now) (g.S.Source.failed c.heard.new.source) c.in_err-tally.field-0.0 c.in_err-tally.ensures.stop)

@@ -1,0 +1,10 @@
+pub mod Answers
+pub mod Columns
+pub mod Determinate
+pub mod Firsts
+pub mod Numbers
+pub mod Refusals
+pub mod Runs
+pub mod Stops
+pub mod Tallies
+pub mod Told

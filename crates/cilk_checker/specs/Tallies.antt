@@ -1,0 +1,47 @@
+-- What was found in the lines that came.
+use Rattle.std.specs.Prelude.{◌≡◌, ℕ, ◌<◌, ◌^◌, false, List, ◌++◌, take, length}
+use Rattle.cilk_cert_text.specs.declared.line.Frame.{Frame}
+use Rattle.cilk_cert_text.specs.declared.line.Strand.{Strand}
+use Rattle.cilk_cert_text.specs.declared.line.Line.{Line}
+use Rattle.cilk_cert_text.specs.declared.reader.LineReader.{LineReader}
+use Rattle.cilk_cert_text.specs.Certificates.{Contents}
+use Rattle.cilk_cert_text.specs.Reading.{Reading, reading_of}
+use Rattle.cilk_cert_text.specs.Readers.{ahead}
+use Rattle.cilk_cert_text.specs.Gathering.{nothing, gathered}
+use Rattle.cilk_listing.specs.Sources.{AllFit, AreLast}
+use Rattle.cilk_listing.specs.Listed.{creations, ListsEvent, HasSource}
+use Rattle.cilk_listing.specs.Right.{IsAt}
+use Rattle.cilk_checker.specs.declared.right.Right.{Right}
+use Rattle.cilk_checker.specs.declared.tally.Tally.{Tally}
+use Rattle.cilk_checker.specs.Firsts.{Agrees}
+
+-- the columns are short enough to be counted
+pub record AreFew (r : Right) : Type 0 where
+  pub frames : length r.frames.items < 2 ^ 32
+  pub owners : length r.owners.items < 2 ^ 32
+  pub hebrews : length r.labels < 2 ^ 32
+  pub classes : length r.classes < 2 ^ 32
+  pub events : length r.trace < 2 ^ 32
+
+-- what was said so far is right up to these places; and while all events are the run's, what is known of cells and reducers ahead of the next one
+pub record Tallied (r : Right) (c : Contents) (t : Tally) : Type 0 where
+  pub frames : Agrees (IsAt r.frames.items) c.frames t.frames
+  pub owners : Agrees (λ k x. IsAt r.owners.items k x.frame) c.strands t.owners
+  pub hebrews : Agrees (λ k x. IsAt r.labels k x.hebrew) c.strands t.hebrews
+  pub classes : Agrees (λ k x. IsAt r.classes k x.class) c.strands t.classes
+  pub events : Agrees (ListsEvent r.trace) c.events t.events
+  pub sources : t.events.differs ≡ false → Agrees (HasSource r.trace) c.events t.sources
+  pub result : t.result ≡ c.result
+  pub fit : AllFit (length t.writes.positions.items) r.trace
+  pub last : t.events.differs ≡ false → AreLast r.trace t.events.agreed t.writes.positions.items
+  pub made : t.events.differs ≡ false → t.made.made.items ≡ creations (take t.events.agreed r.trace)
+
+-- a reading behind these lines
+abbrev pub behind_lines : List Line → Reading → Reading
+behind_lines lines r = record { lines = lines ++ r.lines; fault = r.fault }
+
+-- The text so far was read as lines, which were tallied, but for the bytes at its end that the reader hasn't been given.
+pub record Heard (r : Right) (text rest : List ℕ) (reader : LineReader) (t : Tally) : Type 0 where
+  pub lines : List Line
+  pub ahead_is : (more : List ℕ) → reading_of (text ++ more) ≡ behind_lines lines (ahead reader (rest ++ more))
+  pub tallied : Tallied r (gathered nothing lines) t

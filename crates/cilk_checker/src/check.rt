@@ -1,0 +1,48 @@
+//! The check of a certificate against a program and an input.
+
+ghost use Rattle.std.specs.Prelude.{◌≡◌, ◌<◌, IfOk, IfErr};
+ghost use Rattle.cilk_program.specs.Sources.{source as source_of};
+ghost use Rattle.cilk_checker.specs.Answers.{IsCertified, IsUnaccepted};
+
+use crate::accepted::Accepted;
+use crate::compare::{ended, stopped};
+use crate::ending::{End, run_to_end};
+use crate::passes::{events_of, right_of};
+use crate::refusal::Unaccepted;
+use crate::source::Source;
+use cilk_determinacy::settle::serial_runs_settle;
+use cilk_program::program::Program;
+use cilk_types::input::Input;
+use std::alloc::Global;
+
+/// Checks the certificate that a source gives, against the serial run of a program on an input. It is accepted only where it is right,
+/// the run ends without a fault, and no two positions of it race; the program is determinate on its input then. Else the first pass
+/// that finds something says why. Nothing is pulled any more once a fault of the text is certain. Cost: that of the run, and linear in
+/// the text; memory: linear in the run, however long the text is.
+pub fn check_run<S: Source>(
+    alloc: Global,
+    program: Program,
+    input: Input,
+    source: &mut S,
+) -> Result<Accepted, Unaccepted>
+    requires { S.failed source.old < 18446744073709551615 }
+    ensures program { IfOk result (λ a. a.program ≡ program) }
+    ensures input { IfOk result (λ a. a.input ≡ input) }
+    ensures accepted { IfOk result (λ a. IsCertified (source_of program) input (S.remaining source.old) a.trace a.outcome) }
+    ensures unaccepted { IfErr result (λ e. IsUnaccepted (source_of program) input (S.remaining source.old) (S.failed source.old) (S.failed source.new) e) }
+{
+    let (end, trace) = run_to_end(alloc, &program, &input)?;
+    match end {
+        End::Stopped(_) => {
+            let right = events_of(alloc, trace)?;
+            let refusal = stopped(alloc, &right, source)?;
+            Err(Unaccepted::Refusal(refusal))
+        }
+        End::Left(outcome) => {
+            let right = right_of(alloc, trace)?;
+            ended(alloc, &right, &outcome, source)?;
+            serial_runs_settle(&program, &input);
+            Ok(Accepted::new(program, input, right.into_trace(), outcome))
+        }
+    }
+}

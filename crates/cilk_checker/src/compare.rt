@@ -1,0 +1,114 @@
+//! A certificate is compared with what is right of a run, as its text comes.
+
+ghost use Rattle.std.specs.Prelude.{◌<◌, ℤ, List, MatchOption, IfOk, IfErr, OnOk};
+ghost use Rattle.cilk_program.specs.Syntax.{Source as Meaning};
+ghost use Rattle.cilk_tree.specs.Shape.{Shape};
+ghost use Rattle.cilk_tree.specs.Tree.{tree};
+ghost use Rattle.cilk_tree.specs.Races.{HasNoRace};
+ghost use Rattle.cilk_cert_text.specs.Certificates.{Contents};
+ghost use Rattle.cilk_listing.specs.Right.{IsRight};
+ghost use Rattle.cilk_determinacy.specs.Events.{HasCreations};
+ghost use Rattle.cilk_checker.specs.Answers.{IsUnaccepted};
+ghost use Rattle.cilk_checker.specs.Columns.{HasColumns};
+ghost use Rattle.cilk_checker.specs.Refusals.{Ended, IsClean, IsFound, IsFoundBefore};
+ghost use Rattle.cilk_checker.specs.Stops.{GivesCertificate};
+ghost use Rattle.cilk_checker.specs.Tallies.{AreFew, Tallied};
+
+use crate::hearing::heard;
+use crate::refusal::{Refusal, Unaccepted};
+use crate::right::Right;
+use crate::source::Source;
+use crate::tally::Tally;
+use crate::verdict::{first_difference, wrong_event};
+use cilk_cells::race::first_race;
+use cilk_cells::view_race::first_view_read;
+use cilk_types::outcome::Outcome;
+use std::alloc::{AllocError, Global};
+
+/// What is found first in the certificate of a run that a fault stopped, of which `right` has the events.
+pub fn stopped<S: Source>(
+    alloc: Global,
+    right: &Right,
+    source: &mut S,
+) -> Result<Refusal, Unaccepted>
+    requires few { AreFew right.now }
+    requires counted { S.failed source.old < 18446744073709551615 }
+    ensures refused { IfOk result (λ r. GivesCertificate (S.remaining source.old) (λ c. IsFoundBefore right.now.trace c r)) }
+    ensures unaccepted { IfErr result (λ e. (p : Meaning) (inputs : List ℤ) → IsUnaccepted p inputs (S.remaining source.old) (S.failed source.old) (S.failed source.new) e) }
+{
+    let tally = heard(alloc, right, source)?;
+    Ok(found_before(&tally, right))
+}
+
+// What is found in the lines that were tallied of such a run.
+fn found_before(tally: &Tally, right: &Right) -> Refusal
+    ensures { (c : Contents) → Tallied right.now c tally.now → IsFoundBefore right.now.trace c result }
+{
+    let count = right.trace.len() as u64;
+    let stops = Refusal::Stops { at: count + 1 };
+    match wrong_event(tally, right) {
+        None => stops,
+        Some(at) => {
+            if at <= count {
+                Refusal::Event { at }
+            } else {
+                stops
+            }
+        }
+    }
+}
+
+/// Compares the certificate of a run that has ended and leaves this, of which `right` has the columns. Ok where it is right and nothing
+/// races; else what the first pass finds that finds something.
+pub fn ended<S: Source>(
+    alloc: Global,
+    right: &Right,
+    outcome: &Outcome,
+    source: &mut S,
+) -> Result<(), Unaccepted>
+    requires few { AreFew right.now }
+    requires counted { S.failed source.old < 18446744073709551615 }
+    ensures clean { OnOk result ((s : Shape) → HasColumns s right.now → HasCreations right.now.trace → GivesCertificate (S.remaining source.old) (IsClean s right.now.trace outcome.now.result)) }
+    ensures refused { IfErr result (λ e. (p : Meaning) (inputs : List ℤ) (s : Shape) → HasColumns s right.now → Ended p inputs s right.now.trace outcome.now → HasCreations right.now.trace → IsUnaccepted p inputs (S.remaining source.old) (S.failed source.old) (S.failed source.new) e) }
+{
+    let tally = heard(alloc, right, source)?;
+    if let Some(refusal) = first_found(alloc, &tally, right, outcome)? {
+        return Err(Unaccepted::Refusal(refusal));
+    }
+    Ok(())
+}
+
+// What is found first in the certificate of a run that has ended: a difference, a race, a view-read race.
+fn first_found(
+    alloc: Global,
+    tally: &Tally,
+    right: &Right,
+    outcome: &Outcome,
+) -> Result<Option<Refusal>, AllocError>
+    ensures { IfOk result (λ found. (s : Shape) (c : Contents) → HasColumns s right.now → HasCreations right.now.trace → Tallied right.now c tally.now → MatchOption found (IsClean s right.now.trace outcome.now.result c) (λ r. IsFound s right.now.trace outcome.now.result c r)) }
+{
+    if let Some(refusal) = first_difference(tally, right, outcome) {
+        return Ok(Some(refusal));
+    }
+    first_race_of(alloc, right)
+}
+
+// What is found first where nothing differs: a race, a view-read race.
+fn first_race_of(alloc: Global, right: &Right) -> Result<Option<Refusal>, AllocError>
+    ensures { IfOk result (λ found. (s : Shape) (value : ℤ) (c : Contents) → HasColumns s right.now → HasCreations right.now.trace → IsRight s right.now.trace value c → MatchOption found (IsClean s right.now.trace value c) (λ r. IsFound s right.now.trace value c r)) }
+{
+    match first_race(alloc, &right.trace, &right.labels)? {
+        Some((earlier, later)) => Ok(Some(Refusal::Race { earlier, later })),
+        None => first_view_race(alloc, right),
+    }
+}
+
+// The first view-read race, where there is no other race.
+fn first_view_race(alloc: Global, right: &Right) -> Result<Option<Refusal>, AllocError>
+    ensures { IfOk result (λ found. (s : Shape) (value : ℤ) (c : Contents) → HasColumns s right.now → HasCreations right.now.trace → IsRight s right.now.trace value c → HasNoRace (tree s) right.now.trace → MatchOption found (IsClean s right.now.trace value c) (λ r. IsFound s right.now.trace value c r)) }
+{
+    match first_view_read(alloc, &right.trace, &right.classes)? {
+        Some((created, used)) => Ok(Some(Refusal::ViewRace { created, used })),
+        None => Ok(None),
+    }
+}

@@ -1,0 +1,122 @@
+//! Pieces of a certificate's text are read as lines, and the lines are compared.
+
+ghost use Rattle.std.specs.Prelude.{◌≡◌, ◌≢◌, ◌≤◌, ◌<◌, ◌+◌, ℕ, List, [], ◌++◌, Some, IfErr, IfOk, OnOk, length, drop};
+ghost use Rattle.cilk_cert_text.specs.declared.fault.CertFault.TheVariants.{Memory};
+ghost use Rattle.cilk_cert_text.specs.Reading.{reading_of};
+ghost use Rattle.cilk_cert_text.specs.Gathering.{nothing};
+ghost use Rattle.cilk_cert_text.specs.Readers.{room_of};
+ghost use Rattle.cilk_checker.specs.Tallies.{AreFew, Heard, Tallied};
+ghost use Rattle.cilk_checker.specs.Stops.{IsHeard, IsStop};
+
+use crate::right::Right;
+use crate::source::{PullFault, Source};
+use crate::tally::Tally;
+use cilk_cert_text::fault::CertFault;
+use cilk_cert_text::reader::LineReader;
+use std::alloc::{AllocError, Global};
+
+// Hears a line, or as much of one as there is.
+fn hear_line(
+    reader: &mut LineReader,
+    tally: &mut Tally,
+    right: &Right,
+    piece: &[u8],
+) -> Result<usize, CertFault>
+    requires few { AreFew right.now }
+    requires heard { (text : List ℕ) × Heard right.now text piece.now reader.old tally.old }
+    ensures line { (text : List ℕ) → Heard right.now text piece.now reader.old tally.old → IfOk result (λ n. Heard right.now text (drop n piece.now) reader.new tally.new) }
+    ensures within { IfOk result (λ n. n ≤ length piece.now) }
+    ensures room { IfOk result (λ n. room_of reader.new + n ≤ room_of reader.old) }
+    ensures progress { IfOk result (λ n. n ≡ 0 → piece.now ≡ []) }
+    ensures fault { (text : List ℕ) → Heard right.now text piece.now reader.old tally.old → IfErr result (λ fault. fault ≢ Memory → (more : List ℕ) → (reading_of (text ++ more)).fault ≡ Some fault) }
+{
+    let (taken, line) = reader.next(piece)?;
+    if let Some(line) = line {
+        tally.meet(right, line)?;
+    }
+    Ok(taken)
+}
+
+// Hears a piece of the text.
+fn hear(
+    reader: &mut LineReader,
+    tally: &mut Tally,
+    right: &Right,
+    piece: &[u8],
+) -> Result<(), CertFault>
+    requires few { AreFew right.now }
+    requires heard { (text : List ℕ) × Heard right.now text [] reader.old tally.old }
+    ensures lines { (text : List ℕ) → Heard right.now text [] reader.old tally.old → OnOk result (Heard right.now (text ++ piece.now) [] reader.new tally.new) }
+    ensures room { OnOk result (room_of reader.new + length piece.now ≤ room_of reader.old) }
+    ensures fault { (text : List ℕ) → Heard right.now text [] reader.old tally.old → IfErr result (λ fault. fault ≢ Memory → (more : List ℕ) → (reading_of ((text ++ piece.now) ++ more)).fault ≡ Some fault) }
+{
+    let mut rest = piece;
+    'lines: while !rest.is_empty() {
+        let taken = hear_line(reader, tally, right, rest)?;
+        rest = &rest[taken..];
+    }
+    Ok(())
+}
+
+/// Why the text wasn't heard to its end.
+#[derive(Clone, Copy, PartialEq, Eq, Debug)]
+pub enum Stop {
+    /// It isn't a certificate's, or memory ran out.
+    Fault(CertFault),
+    /// The source's device failed.
+    Unread,
+}
+
+impl From<AllocError> for Stop {
+    ghost use Rattle.cilk_checker.specs.declared.hearing.Stop.TheVariants as stops;
+    ghost use Rattle.cilk_cert_text.specs.declared.fault.CertFault.TheVariants as cert_faults;
+
+    ghost from_gives = { λ _ e. e ≡ stops.Fault cert_faults.Memory };
+
+    fn from(_error: AllocError) -> Self {
+        Stop::Fault(CertFault::Memory)
+    }
+}
+
+const PIECE: usize = 4096;
+
+// Hears the whole text of a source, and pulls no more once a fault of the text is certain.
+fn hear_all<S: Source>(tally: &mut Tally, right: &Right, source: &mut S) -> Result<(), Stop>
+    requires few { AreFew right.now }
+    requires new { Tallied right.now nothing tally.old }
+    requires counted { S.failed source.old < 18446744073709551615 }
+    ensures heard { OnOk result (IsHeard right.now (S.remaining source.old) tally.new) }
+    ensures stop { IfErr result (λ e. IsStop (S.remaining source.old) (S.failed source.old) (S.failed source.new) e) }
+{
+    let mut reader = LineReader::new();
+    let mut buffer = [0u8; PIECE];
+    'pieces: loop {
+        match source.pull(&mut buffer) {
+            Err(PullFault::Device) => return Err(Stop::Unread),
+            Err(PullFault::Memory) => return Err(Stop::Fault(CertFault::Memory)),
+            Ok(0) => {
+                return match reader.end() {
+                    Ok(()) => Ok(()),
+                    Err(fault) => Err(Stop::Fault(fault)),
+                };
+            }
+            Ok(count) => {
+                if let Err(fault) = hear(&mut reader, tally, right, &buffer[..count]) {
+                    return Err(Stop::Fault(fault));
+                }
+            }
+        }
+    }
+}
+
+/// What was found in the whole text of a source.
+pub fn heard<S: Source>(alloc: Global, right: &Right, source: &mut S) -> Result<Tally, Stop>
+    requires few { AreFew right.now }
+    requires counted { S.failed source.old < 18446744073709551615 }
+    ensures heard { IfOk result (λ t. IsHeard right.now (S.remaining source.old) t) }
+    ensures stop { IfErr result (λ e. IsStop (S.remaining source.old) (S.failed source.old) (S.failed source.new) e) }
+{
+    let mut tally = Tally::new(alloc, right)?;
+    hear_all(&mut tally, right, source)?;
+    Ok(tally)
+}

@@ -1,0 +1,131 @@
+//! Lines of a certificate are compared with the run as they come.
+
+ghost use Rattle.std.specs.Prelude.{◌≡◌, ◌↔◌, ℕ, List, IsTrue, Some, IfOk, OnOk};
+ghost use Rattle.cilk_types.specs.declared.event.Event.{Event};
+ghost use Rattle.cilk_cert_text.specs.Certificates.{Contents};
+ghost use Rattle.cilk_listing.specs.Sources.{AreLast};
+ghost use Rattle.cilk_listing.specs.Listed.{event_in, source_at, source_in};
+
+use crate::first::First;
+use crate::right::{Right, event_behind, has, has_class, has_frame, has_hebrew};
+use cilk_cert_text::line::{Entry, Frame, Line, Strand};
+use cilk_listing::entries::{Creations, source_due, source_of};
+use cilk_listing::sources::{LastWrites, cells_written};
+use cilk_types::event::{Event, FrameNo, StrandNo};
+use std::alloc::{AllocError, Global};
+
+/// What was found so far.
+#[derive(Drop, Debug)]
+pub struct Tally {
+    pub frames: First,
+    pub owners: First,
+    pub hebrews: First,
+    pub classes: First,
+    pub events: First,
+    pub sources: First,
+    pub result: i64,
+    pub writes: LastWrites,
+    pub made: Creations,
+}
+
+// Whether the entry lists the event, where these reducers were created up to it.
+fn lists(made: &Creations, entry: Entry, event: &Event) -> bool
+    ensures { IsTrue result ↔ (event_in made.now.made.items entry ≡ Some event.now) }
+{
+    match made.event(entry) {
+        Some(listed) => listed == *event,
+        None => false,
+    }
+}
+
+// Whether the entry gives the source of its event, where it is a read.
+fn has_source(writes: &LastWrites, entry: Entry, event: &Event) -> bool
+    ensures { (es : List Event) (n : ℕ) → AreLast es n writes.now.positions.items → IsTrue result ↔ (source_in entry ≡ source_at es n event.now) }
+{
+    source_of(entry) == source_due(writes, event)
+}
+
+impl Tally {
+    ghost use Rattle.cilk_cert_text.specs.Gathering.{nothing, with_said};
+    ghost use Rattle.cilk_cert_text.specs.declared.line.Line.TheVariants as lines;
+    ghost use Rattle.cilk_checker.specs.Tallies.{AreFew, Tallied};
+
+    /// Before the first line.
+    pub fn new(alloc: Global, right: &Right) -> Result<Tally, AllocError>
+        ensures { IfOk result (λ t. Tallied right.now nothing t) }
+    {
+        Ok(Tally {
+            frames: First::NONE,
+            owners: First::NONE,
+            hebrews: First::NONE,
+            classes: First::NONE,
+            events: First::NONE,
+            sources: First::NONE,
+            result: 0,
+            writes: LastWrites::new(alloc, cells_written(right.trace.as_slice()))?,
+            made: Creations::new(alloc),
+        })
+    }
+
+    fn meet_frame(&mut self, right: &Right, number: FrameNo, frame: Frame)
+        requires few { AreFew right.now }
+        ensures { (c : Contents) → Tallied right.now c self.old → Tallied right.now (with_said c (lines.Frame number frame)) self.new }
+    {
+        let is_right = has_frame(right.frames.as_slice(), self.frames.agreed, frame);
+        self.frames.meet(is_right);
+    }
+
+    fn meet_strand(&mut self, right: &Right, number: StrandNo, strand: Strand)
+        requires few { AreFew right.now }
+        ensures { (c : Contents) → Tallied right.now c self.old → Tallied right.now (with_said c (lines.Strand number strand)) self.new }
+    {
+        let is_owner = has(right.owners.as_slice(), self.owners.agreed, strand.frame);
+        self.owners.meet(is_owner);
+        let is_hebrew = has_hebrew(&right.labels, self.hebrews.agreed, strand.hebrew);
+        self.hebrews.meet(is_hebrew);
+        let is_class = has_class(&right.classes, self.classes.agreed, strand.class);
+        self.classes.meet(is_class);
+    }
+
+    fn meet_event(&mut self, right: &Right, entry: Entry) -> Result<(), AllocError>
+        requires few { AreFew right.now }
+        requires heard { (c : Contents) × Tallied right.now c self.old }
+        ensures { (c : Contents) → Tallied right.now c self.old → OnOk result (Tallied right.now (with_said c (lines.Event entry)) self.new) }
+    {
+        if self.events.differs {
+            return Ok(());
+        }
+        let Some(event) = event_behind(right.trace.as_slice(), self.events.agreed) else {
+            self.events.meet(false);
+            return Ok(());
+        };
+        self.made.meet(&event)?;
+        let is_listed = lists(&self.made, entry, &event);
+        if !is_listed {
+            self.events.meet(false);
+            return Ok(());
+        }
+        let is_right = has_source(&self.writes, entry, &event);
+        self.sources.meet(is_right);
+        let at = self.events.agreed + 1;
+        self.writes.meet(&event, at);
+        self.events.meet(true);
+        Ok(())
+    }
+
+    /// One line more.
+    pub fn meet(&mut self, right: &Right, line: Line) -> Result<(), AllocError>
+        requires few { AreFew right.now }
+        requires heard { (c : Contents) × Tallied right.now c self.old }
+        ensures { (c : Contents) → Tallied right.now c self.old → OnOk result (Tallied right.now (with_said c line) self.new) }
+    {
+        match line {
+            Line::Version(_) | Line::Size(_) | Line::End => {}
+            Line::Frame { number, frame } => self.meet_frame(right, number, frame),
+            Line::Strand { number, strand } => self.meet_strand(right, number, strand),
+            Line::Event(entry) => self.meet_event(right, entry)?,
+            Line::Result(value) => self.result = value,
+        }
+        Ok(())
+    }
+}

@@ -1,0 +1,100 @@
+//! The first difference between a certificate and a run.
+
+ghost use Rattle.std.specs.Prelude.{◌≡◌, ◌↔◌, IsTrue, MatchOption};
+ghost use Rattle.cilk_tree.specs.Shape.{Shape};
+ghost use Rattle.cilk_cert_text.specs.Certificates.{Contents};
+ghost use Rattle.cilk_listing.specs.Right.{EventIsWrong, FrameIsWrong, OwnerIsWrong, HebrewIsWrong, ClassIsWrong, SourceIsWrong, IsNowhere, IsLeast, IsRight};
+ghost use Rattle.cilk_checker.specs.Columns.{HasColumns, place_of};
+ghost use Rattle.cilk_checker.specs.Refusals.{IsFound};
+ghost use Rattle.cilk_checker.specs.Tallies.{Tallied};
+
+use crate::first::First;
+use crate::refusal::Refusal;
+use crate::right::Right;
+use crate::tally::Tally;
+use cilk_types::outcome::Outcome;
+
+// The place of the first wrong item, where so many are right.
+fn place(first: First, count: usize) -> Option<u64>
+    ensures { result ≡ place_of first count }
+{
+    if first.differs || (first.agreed as usize) < count {
+        Some(first.agreed as u64 + 1)
+    } else {
+        None
+    }
+}
+
+// Whether two values are one.
+fn is_same(one: &i64, other: &i64) -> bool
+    ensures { IsTrue result ↔ (one.now ≡ other.now) }
+{
+    *one == *other
+}
+
+/// The first event that isn't the run's.
+pub(crate) fn wrong_event(tally: &Tally, right: &Right) -> Option<u64>
+    ensures { (c : Contents) → Tallied right.now c tally.now → MatchOption result (IsNowhere (EventIsWrong right.now.trace c)) (λ k. IsLeast (EventIsWrong right.now.trace c) k) }
+{
+    place(tally.events, right.trace.len())
+}
+
+fn wrong_frame(tally: &Tally, right: &Right) -> Option<u64>
+    ensures { (s : Shape) (c : Contents) → HasColumns s right.now → Tallied right.now c tally.now → MatchOption result (IsNowhere (FrameIsWrong s c)) (λ k. IsLeast (FrameIsWrong s c) k) }
+{
+    place(tally.frames, right.frame_count())
+}
+
+fn wrong_owner(tally: &Tally, right: &Right) -> Option<u64>
+    ensures { (s : Shape) (c : Contents) → HasColumns s right.now → Tallied right.now c tally.now → MatchOption result (IsNowhere (OwnerIsWrong s c)) (λ k. IsLeast (OwnerIsWrong s c) k) }
+{
+    place(tally.owners, right.owner_count())
+}
+
+fn wrong_hebrew(tally: &Tally, right: &Right) -> Option<u64>
+    ensures { (s : Shape) (c : Contents) → HasColumns s right.now → Tallied right.now c tally.now → MatchOption result (IsNowhere (HebrewIsWrong s c)) (λ k. IsLeast (HebrewIsWrong s c) k) }
+{
+    place(tally.hebrews, right.labels.count() as usize)
+}
+
+fn wrong_class(tally: &Tally, right: &Right) -> Option<u64>
+    ensures { (s : Shape) (c : Contents) → HasColumns s right.now → Tallied right.now c tally.now → MatchOption result (IsNowhere (ClassIsWrong s c)) (λ k. IsLeast (ClassIsWrong s c) k) }
+{
+    place(tally.classes, right.classes.count() as usize)
+}
+
+// Where all events are the run's.
+fn wrong_source(tally: &Tally, right: &Right) -> Option<u64>
+    ensures { (c : Contents) → IsNowhere (EventIsWrong right.now.trace c) → Tallied right.now c tally.now → MatchOption result (IsNowhere (SourceIsWrong right.now.trace c)) (λ k. IsLeast (SourceIsWrong right.now.trace c) k) }
+{
+    place(tally.sources, right.trace.len())
+}
+
+/// The first difference of a certificate whose lines were tallied, in the order of the passes.
+pub(crate) fn first_difference(tally: &Tally, right: &Right, outcome: &Outcome) -> Option<Refusal>
+    ensures { (s : Shape) (c : Contents) → HasColumns s right.now → Tallied right.now c tally.now → MatchOption result (IsRight s right.now.trace outcome.now.result c) (λ r. IsFound s right.now.trace outcome.now.result c r) }
+{
+    if let Some(at) = wrong_event(tally, right) {
+        return Some(Refusal::Event { at });
+    }
+    if let Some(frame) = wrong_frame(tally, right) {
+        return Some(Refusal::Frame { frame });
+    }
+    if let Some(strand) = wrong_owner(tally, right) {
+        return Some(Refusal::Strand { strand });
+    }
+    if let Some(strand) = wrong_hebrew(tally, right) {
+        return Some(Refusal::Hebrew { strand });
+    }
+    if let Some(strand) = wrong_class(tally, right) {
+        return Some(Refusal::Class { strand });
+    }
+    if let Some(at) = wrong_source(tally, right) {
+        return Some(Refusal::ReadSource { at });
+    }
+    let is_result = is_same(&tally.result, &outcome.result);
+    if !is_result {
+        return Some(Refusal::Result);
+    }
+    None
+}
