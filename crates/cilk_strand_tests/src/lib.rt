@@ -1,15 +1,17 @@
 //! Tests of serial runs, their strands and races, and of the determinacy theorem.
 //!
 //! [`rows`] has worked programs as texts, each with the pairs that race in its serial run. [`worked`] takes each from its
-//! text to its trace, tree, labels, classes, races and span, and [`settled`] to its settled outcome. [`agreement`]
-//! compares the passes with the definitions, by plain search, on these traces and on random ones. [`listed`] has what a
-//! certificate lists of a run.
+//! text to its trace, tree, labels, classes, races and span, [`settled`] to its settled outcome, and [`certified`] to
+//! its certificate. [`agreement`] compares the passes with the definitions, by plain search, on these traces and on
+//! random ones. [`listed`] has what a certificate lists of a run.
 #![tactic(auto)]
 
 #[cfg(test)]
 mod agreement;
 #[cfg(test)]
 mod brute_force;
+#[cfg(test)]
+mod certified;
 #[cfg(test)]
 mod listed;
 #[cfg(test)]
