@@ -13,6 +13,8 @@ mod brute_force;
 #[cfg(test)]
 mod certified;
 #[cfg(test)]
+mod checked;
+#[cfg(test)]
 mod listed;
 #[cfg(test)]
 mod programs;
