@@ -2,7 +2,6 @@
 #![tactic(auto)]
 
 use cilk_tool::disk::Disk;
-use cilk_tool::files::Files;
 use cilk_tool::serve;
 use std::io;
 use std::process::ExitCode;
@@ -20,25 +19,6 @@ fn show(rt: &HostRuntime, words: &[&str]) -> io::Result<()> {
     println!(rt; "status {status}")
 }
 
-/// Prints the parts of a file, each with its place, up to the end or to a fault.
-fn show_parts(rt: &HostRuntime, path: &str) -> io::Result<()> {
-    let mut at = 0;
-    for _part in 0..8 {
-        let mut piece = [0; 4];
-        match Disk::new(rt).part(path, at, &mut piece) {
-            Ok(count) => {
-                println!(rt; "{path} at {at}: {:?}", &piece[..count])?;
-                at += count as u64;
-                if count == 0 {
-                    return Ok(());
-                }
-            }
-            Err(fault) => return println!(rt; "{path}: {fault}"),
-        }
-    }
-    Ok(())
-}
-
 fn show_all(rt: &HostRuntime) -> io::Result<()> {
     show(rt, &["run", "program.c", "--input", "numbers"])?;
     show(rt, &["run", "program.c"])?;
@@ -48,10 +28,7 @@ fn show_all(rt: &HostRuntime) -> io::Result<()> {
     show(rt, &["run", "program.c", "--input", "program.c"])?;
     // A text on standard input that is one byte too long; nothing is left of it for the next call.
     show(rt, &[])?;
-    show(rt, &[])?;
-    show_parts(rt, "numbers")?;
-    show_parts(rt, "missing")?;
-    show_parts(rt, ".")
+    show(rt, &[])
 }
 
 fn main(rt: HostRuntime) -> ExitCode {

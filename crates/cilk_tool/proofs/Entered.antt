@@ -1,8 +1,8 @@
 -- From clap's matches to what is asked for.
-use Rattle.std.proofs.Common.{◌≡◌, List, [], ◌∷◌, Option, Some, None, option_map, refl, sym, ap, ◌∙◌, subst, codes, true, false, length, inl, inr, arith, rules}
-use Rattle.std.specs.Prelude.{if◌then◌else◌}
+use Rattle.std.proofs.Common.{◌≡◌, ◌<◌, ◌⊎◌, ℕ, List, [], ◌∷◌, Option, Some, None, option_map, refl, sym, ap, ap₂, ◌∙◌, subst, codes, true, false, length, map, inl, inr, arith, rules}
+use Rattle.std.specs.Prelude.{if◌then◌else◌, Result, Ok, Err}
 use Rattle.std.specs.Borrow.{Bor}
-use Rattle.clap.specs.Words.{App, HasMatchesOf, Text, app_of, fault_of, first_of, first_value, is_simple, is_simple_and_free, kind_of, rows_of, subcommand_of, subcommand_rows_of}
+use Rattle.clap.specs.Words.{App, FailsBy, HasMatchesOf, Row, Text, app_of, fault_of, first_of, first_value, found_of, is_simple, is_simple_and_free, kind_of, rows_of, subcommand_of, subcommand_rows_of}
 use Rattle.clap.specs.Kinds.{HasKind, IsAmong, Kinds}
 use Rattle.clap.specs.Walk.{is_empty}
 use Rattle.clap.specs.declared.builder.command.Command.{Command}
@@ -13,7 +13,7 @@ use Rattle.clap.specs.declared.parser.matches.Found.{Found}
 use Rattle.clap.proofs.OnLiterals.{clap_on_literals}
 use Rattle.clap.proofs.WalkLemmas.{first_value-rows}
 use Rattle.cilk_tool.specs.declared.words.Order.{Order}
-use Rattle.cilk_tool.specs.Words.{order_view, File, IsRefusal, IsWordsFault, Run, Standard, cilk_app, order_by, order_in, run_with, texts}
+use Rattle.cilk_tool.specs.Words.{order_view, Asked, File, IsRefusal, IsWordsFault, Run, Standard, cilk_app, order_by, order_in, run_with, texts}
 use Rattle.cilk_tool.specs.declared.words.WordsFault.{WordsFault}
 use Rattle.cilk_tool.specs.declared.words.WordsFault.TheVariants.{Usage, Memory}
 

@@ -1,5 +1,7 @@
 pub mod Entered
+pub mod Judged
 pub mod Lines
+pub mod OneMeaning
 pub mod OneReply
 pub mod Reading
 pub mod Replying

@@ -1,19 +1,13 @@
 -- How a reply comes about.
---
--- `front_of`: what was sent is a beginning of a text. `keeps`: nothing went out. `no_memory`: a want of memory answers
--- anything. `fails`, `ends`: a failure, or an answer, is served. `handed`: an error that was handed on.
--- `program_refused`, `input_unread`, `input_refused`: no program and input are given. `both_given`: both are.
--- `judged_ok`, `judged_err`: the answer to a command over both, and its failure.
-use Rattle.std.proofs.Common.{◌≡◌, ℕ, List, [], Bool, true, false, Option, Some, None, length, refl, sym, ap, subst, inl, inr, ◌∙◌, arith}
+use Rattle.std.proofs.Common.{◌≡◌, ◌⊎◌, ◌+◌, ℕ, List, [], ◌++◌, Bool, true, false, Option, Some, None, length, take, refl, sym, ap, subst, inl, inr, ◌∙◌, rules, arith}
 use Rattle.std.specs.Prelude.{IsTrue, IsFalse, Result, Ok, Err, IfOk, IfErr, IsErrAnd, ℤ}
 use Rattle.std.specs.Io.KnownBytes.{Appends}
 use Rattle.std.proofs.lemmas.List.{append-nil, take_all}
 use Rattle.cilk_tool.specs.Replies.{NoMemory, Reply, Text, answer_view, failure_view, out_text, status_of}
 use Rattle.cilk_texts.specs.Inputs.{IsInput}
-use Rattle.cilk_judge.specs.Judging.{IsProgramText, Meant}
+use Rattle.cilk_tool.specs.Judging.{InputFails, IsProgramText, Meant, ProgramFails, RunShows}
 use Rattle.cilk_tool.specs.Files.{IsHeld}
-use Rattle.cilk_tool.specs.Serving.{Answers, AreGiven, GivesInput, GivesProgram, InputFileFails, InputRefused, InputUnread, IsOrNoMemory, Judged, JudgedReply, NoneGiven, ProgramRefused, ProgramUnread, Serves, Shows, ShowsError, Unjudged, World}
-use Rattle.cilk_tool.specs.Shown.{InputFails, ProgramFails}
+use Rattle.cilk_tool.specs.Serving.{Answers, GivesInput, GivesProgram, InputFileFails, InputRefused, InputUnread, IsOrNoMemory, ProgramRefused, ProgramUnread, Ran, RunReply, Serves, Shows, ShowsError, World}
 use Rattle.cilk_tool.specs.Streams.{AppendsFront, AppendsPart}
 use Rattle.cilk_tool.specs.Words.{Asked, File, Run, Origin, Standard, order_in}
 use Rattle.cilk_tool.specs.declared.reply.Answer.{Answer}
@@ -32,8 +26,8 @@ keeps (Some bytes) = sym (append-nil bytes)
 -- a want of memory answers anything
 pub no_memory : (w : World) (asked : Option Asked) → Answers w asked NoMemory
 no_memory w None = tt
-no_memory w (Some (Run Standard input)) = Unjudged (ProgramUnread tt)
-no_memory w (Some (Run (File path) input)) = Unjudged (ProgramUnread tt)
+no_memory w (Some (Run Standard input)) = ProgramUnread tt
+no_memory w (Some (Run (File path) input)) = ProgramUnread tt
 
 or_no_memory : (w : World) (asked : Option Asked) (wanted r : Reply) → Answers w asked wanted → IsOrNoMemory wanted r → Answers w asked r
 or_no_memory w asked wanted r h (inl e) = subst (λ (x : Reply). Answers w asked x) (sym e) h
@@ -74,45 +68,35 @@ same_input files files' None text same h = h
 same_input files files' (Some path) text same h = subst (λ (known : Option Text). IsHeld known text) (same path) h
 
 pub program_refused : (w : World) (p : Origin) (i : Option Text) (r : Reply) (text slice : Text) → GivesProgram w.files w.input p text → slice ≡ text
-    → ProgramFails slice r → NoneGiven w p i r
+    → ProgramFails slice r → RunReply w p i r
 program_refused w p i r text slice given e h = ProgramRefused text given (subst (λ (t : Text). ProgramFails t r) e h)
 
 pub input_unread : (w : World) (p : Origin) (i : Option Text) (r : Reply) (text slice : Text) (q : Meant) (failed : ℕ) → GivesProgram w.files w.input p text → slice ≡ text
-    → IsProgramText slice q → failed ≡ w.failed → InputFileFails failed w.failed' i r → NoneGiven w p i r
+    → IsProgramText slice q → failed ≡ w.failed → InputFileFails failed w.failed' i r → RunReply w p i r
 input_unread w p i r text slice q failed given e h same unread =
     InputUnread text q given (subst (λ (t : Text). IsProgramText t q) e h) (subst (λ (n : ℕ). InputFileFails n w.failed' i r) same unread)
 
 pub input_refused : (w : World) (p : Origin) (i : Option Text) (r : Reply) (text slice : Text) (q : Meant) (files : Text → Option Text) (numbers slice' : Text)
     → GivesProgram w.files w.input p text → slice ≡ text → IsProgramText slice q → ((path : Text) → files path ≡ w.files path) → GivesInput files i numbers → slice' ≡ numbers
-    → InputFails slice' r → NoneGiven w p i r
+    → InputFails slice' r → RunReply w p i r
 input_refused w p i r text slice q files numbers slice' given e h same input e' fault =
     InputRefused text q numbers given (subst (λ (t : Text). IsProgramText t q) e h) (same_input files w.files i numbers same input) (subst (λ (t : Text). InputFails t r) e' fault)
 
-pub both_given : (w : World) (p : Origin) (i : Option Text) (text slice : Text) (q : Meant)
-    (files : Text → Option Text) (numbers slice' : Text) (inputs : List ℤ)
+pub ran : (w : World) (p : Origin) (i : Option Text) (r : Reply) (text slice : Text) (q : Meant) (files : Text → Option Text) (numbers slice' : Text) (inputs : List ℤ)
     → GivesProgram w.files w.input p text → slice ≡ text → IsProgramText slice q → ((path : Text) → files path ≡ w.files path) → GivesInput files i numbers → slice' ≡ numbers
-    → IsInput slice' inputs → AreGiven w p i q inputs
-both_given w p i text slice q files numbers slice' inputs given e h same input e' spelled = record {
-  text = text;
-  text_is = given;
-  program_is = subst (λ (t : Text). IsProgramText t q) e h;
-  numbers = numbers;
-  numbers_are = same_input files w.files i numbers same input;
-  input_is = subst (λ (t : Text). IsInput t inputs) e' spelled;
-}
+    → IsInput slice' inputs → RunShows q inputs r → RunReply w p i r
+ran w p i r text slice q files numbers slice' inputs given e h same input e' spelled shown =
+    Ran text q numbers inputs given (subst (λ (t : Text). IsProgramText t q) e h) (same_input files w.files i numbers same input)
+    (subst (λ (t : Text). IsInput t inputs) e' spelled) shown
 
--- the answer to a command over a program and its input
-pub judged_ok : {T : Type 0} (IsShown : Meant → List ℤ → Reply → Type 0) (x : Result Answer T) (w : World) (p : Origin)
-    (i : Option Text) (q : Meant) (inputs : List ℤ)
-    → AreGiven w p i q inputs → IfOk x (λ a. IsShown q inputs (answer_view a))
-    → IfOk x (λ a. JudgedReply IsShown w p i (answer_view a))
-judged_ok IsShown (Ok a) w p i q inputs given h = Judged q inputs given h
-judged_ok IsShown (Err e) w p i q inputs given h = tt
+-- a run's answer
+pub ran_ok : {T : Type 0} (x : Result Answer T) (w : World) (p : Origin) (i : Option Text) (q : Meant) (inputs : List ℤ)
+    → ((r : Reply) → RunShows q inputs r → RunReply w p i r) → IfOk x (λ a. RunShows q inputs (answer_view a)) → IfOk x (λ a. RunReply w p i (answer_view a))
+ran_ok (Ok a) w p i q inputs all h = all (answer_view a) h
+ran_ok (Err e) w p i q inputs all h = tt
 
--- its failure
-pub judged_err : {T : Type 0} (IsShown : Meant → List ℤ → Reply → Type 0) (x : Result T Failure) (w : World) (p : Origin)
-    (i : Option Text) (q : Meant) (inputs : List ℤ)
-    → AreGiven w p i q inputs → IfErr x (λ e. IsShown q inputs (failure_view e))
-    → IfErr x (λ e. JudgedReply IsShown w p i (failure_view e))
-judged_err IsShown (Ok a) w p i q inputs given h = tt
-judged_err IsShown (Err e) w p i q inputs given h = Judged q inputs given h
+-- a run's failure
+pub ran_err : {T : Type 0} (x : Result T Failure) (w : World) (p : Origin) (i : Option Text) (q : Meant) (inputs : List ℤ)
+    → ((r : Reply) → RunShows q inputs r → RunReply w p i r) → IfErr x (λ e. RunShows q inputs (failure_view e)) → IfErr x (λ e. RunReply w p i (failure_view e))
+ran_err (Ok a) w p i q inputs all h = tt
+ran_err (Err e) w p i q inputs all h = all (failure_view e) h

@@ -1,8 +1,16 @@
--- One command, one reply.
-use Rattle.std.specs.Prelude.{◌≡◌, Option, Some, None, IsSome}
-use Rattle.cilk_tool.specs.Replies.{NoMemory, Reply, Unreadable}
+-- One program text, one meaning or first fault; one command, one reply.
+use Rattle.std.specs.Prelude.{◌≡◌, ℕ, Option, Some, None, IsSome}
+use Rattle.cilk_tool.specs.Judging.{IsProgramText, Meant, ProgramFails}
+use Rattle.cilk_tool.specs.Replies.{BadProgram, NoMemory, Reply, Text, Unreadable}
 use Rattle.cilk_tool.specs.Serving.{Answers, World}
 use Rattle.cilk_tool.specs.Words.{Asked, File, Origin, Run, Standard}
+
+-- from its bytes on, a program text means one program, or has one first fault, or neither
+pub record HasOneMeaning (text : Text) : Type 0 where
+  pub meanings : (m m' : Meant) → IsProgramText text m → IsProgramText text m' → m ≡ m'
+  pub faults : (n n' p p' : ℕ) → ProgramFails text (BadProgram n p) → ProgramFails text (BadProgram n' p')
+      → (n ≡ n') × (p ≡ p')
+  pub apart : (m : Meant) (n p : ℕ) → IsProgramText text m → ProgramFails text (BadProgram n p) → ⊥
 
 -- it is known what standard input gives, or the file
 abbrev pub IsKnown : World → Origin → Type 0

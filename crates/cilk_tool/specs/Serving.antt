@@ -4,9 +4,8 @@ use Rattle.std.specs.Io.KnownBytes.{Appends}
 use Rattle.cilk_tool.specs.declared.streams.TheConstants.{MAX_READ}
 use Rattle.cilk_tool.specs.Files.{IsHeld}
 use Rattle.cilk_texts.specs.Inputs.{IsInput}
-use Rattle.cilk_judge.specs.Judging.{IsProgramText, Meant}
+use Rattle.cilk_tool.specs.Judging.{InputFails, IsProgramText, Meant, ProgramFails, RunShows}
 use Rattle.cilk_tool.specs.Replies.{BadWords, IsErrorText, NoMemory, Reply, Text, Unreadable, line, out_text, status_of}
-use Rattle.cilk_tool.specs.Shown.{InputFails, ProgramFails, RunShows}
 use Rattle.cilk_tool.specs.Streams.{AppendsFront, AppendsPart}
 use Rattle.cilk_tool.specs.Words.{Asked, File, Run, Origin, Standard, order_in}
 
@@ -56,35 +55,17 @@ pub record World : Type 0 where
 abbrev pub world : (Text → Option Text) → Option Text → ℕ → ℕ → World
 world files input failed failed' = record { files = files; input = input; failed = failed; failed' = failed' }
 
--- a program and the numbers of its input, as the texts mean them that files and standard input give
-pub record AreGiven (w : World) (program : Origin) (input : Option Text) (p : Meant) (inputs : List ℤ) : Type 0 where
-  pub text : Text
-  pub text_is : GivesProgram w.files w.input program text
-  pub program_is : IsProgramText text p
-  pub numbers : Text
-  pub numbers_are : GivesInput w.files input numbers
-  pub input_is : IsInput numbers inputs
-
--- the program text is read and judged, then the input text; the first of these that fails is shown
-pub data NoneGiven (w : World) (program : Origin) (input : Option Text) (r : Reply) : Type 0 where
-  ProgramUnread : OriginFails w.failed w.failed' program r → NoneGiven w program input r
-  ProgramRefused : (text : Text) → GivesProgram w.files w.input program text → ProgramFails text r
-      → NoneGiven w program input r
+-- what a run is answered: the program text is read and judged, then the input text is read and judged, then the
+-- program runs; the first that fails is shown
+pub data RunReply (w : World) (program : Origin) (input : Option Text) (r : Reply) : Type 0 where
+  ProgramUnread : OriginFails w.failed w.failed' program r → RunReply w program input r
+  ProgramRefused : (text : Text) → GivesProgram w.files w.input program text → ProgramFails text r → RunReply w program input r
   InputUnread : (text : Text) (p : Meant) → GivesProgram w.files w.input program text → IsProgramText text p
-      → InputFileFails w.failed w.failed' input r → NoneGiven w program input r
+      → InputFileFails w.failed w.failed' input r → RunReply w program input r
   InputRefused : (text : Text) (p : Meant) (numbers : Text) → GivesProgram w.files w.input program text → IsProgramText text p
-      → GivesInput w.files input numbers → InputFails numbers r → NoneGiven w program input r
-
--- what is answered to a command over a program and its input: both texts are judged, and then this is shown of them
-pub data JudgedReply (IsShown : Meant → List ℤ → Reply → Type 0) (w : World) (program : Origin) (input : Option Text)
-    (r : Reply) : Type 0 where
-  Unjudged : NoneGiven w program input r → JudgedReply IsShown w program input r
-  Judged : (p : Meant) (inputs : List ℤ) → AreGiven w program input p inputs → IsShown p inputs r
-      → JudgedReply IsShown w program input r
-
--- what a run is answered
-abbrev pub RunReply : World → Origin → Option Text → Reply → Type 0
-RunReply w program input r = JudgedReply RunShows w program input r
+      → GivesInput w.files input numbers → InputFails numbers r → RunReply w program input r
+  Ran : (text : Text) (p : Meant) (numbers : Text) (inputs : List ℤ) → GivesProgram w.files w.input program text → IsProgramText text p
+      → GivesInput w.files input numbers → IsInput numbers inputs → RunShows p inputs r → RunReply w program input r
 
 -- words that ask for nothing
 abbrev pub WordsFail : Reply → Type 0

@@ -9,18 +9,6 @@ use cilk_types::outcome::Outcome;
 use cilk_types::sequence::Sequence;
 use std::alloc::{AllocError, Global};
 
-/// The status where the words, a file or a text is wrong, or a write fails.
-pub const WRONG: u8 = 2;
-
-/// The status where the program's run faults.
-pub const FAULTED: u8 = 3;
-
-/// The status for a want of memory.
-pub const NO_MEMORY: u8 = 5;
-
-/// What is said of a want of memory.
-pub const NO_MEMORY_LINE: &str = "no memory\n";
-
 /// What a command shows on standard output.
 #[derive(Drop, Debug)]
 pub enum Answer {
@@ -83,9 +71,9 @@ impl Failure<'_> {
             Failure::Words(_)
             | Failure::Unreadable(_)
             | Failure::Program { .. }
-            | Failure::Input { .. } => WRONG,
-            Failure::Run { .. } => FAULTED,
-            Failure::Memory => NO_MEMORY,
+            | Failure::Input { .. } => 2,
+            Failure::Run { .. } => 3,
+            Failure::Memory => 5,
         }
     }
 
@@ -99,7 +87,7 @@ impl Failure<'_> {
             Failure::Program { number, place } => render::place(alloc, b"program", *number, *place),
             Failure::Input { number, place } => render::place(alloc, b"input", *number, *place),
             Failure::Run { number, at } => render::place(alloc, b"fault", *number, *at as usize),
-            Failure::Memory => NO_MEMORY_LINE.as_bytes().to_vec(alloc),
+            Failure::Memory => b"no memory\n".to_vec(alloc),
         }
     }
 }

@@ -1,19 +1,16 @@
 //! The command `run`: texts are read and judged in order, and the first that fails is shown.
 
 ghost use Rattle.std.specs.Prelude.{◌≡◌, ◌<◌, ℕ, List, IfOk, IfErr, OnOk, option_map, codes};
-ghost use Rattle.cilk_judge.specs.Judging.{meant};
 ghost use Rattle.cilk_tool.specs.Files.{IsHeld};
 ghost use Rattle.cilk_tool.specs.Replies.{answer_view, failure_view};
-ghost use Rattle.cilk_tool.specs.Serving.{AreGiven, FileFails, GivesInput, GivesProgram, InputFileFails, IsReceived, NoneGiven, OriginFails, RunReply, StandardFails, world};
+ghost use Rattle.cilk_tool.specs.Serving.{FileFails, GivesInput, GivesProgram, InputFileFails, IsReceived, RunReply, OriginFails, StandardFails, world};
 ghost use Rattle.cilk_tool.specs.Words.{origin_view};
 
 use crate::files::{FileFault, Files};
 use crate::judge;
 use crate::reply::{Answer, Failure};
-use crate::streams::receive;
+use crate::streams::{ReadFault, receive};
 use crate::words::Origin;
-use cilk_program::program::Program;
-use cilk_types::input::Input;
 use std::alloc::Global;
 use std::io::Read;
 
@@ -43,8 +40,8 @@ fn read_standard<'a, R: Read>(alloc: Global, reader: &mut R) -> Result<Vec<u8>, 
 {
     match receive(alloc, reader) {
         Ok(text) => Ok(text),
-        Err(FileFault::Device) => Err(Failure::Unreadable("-")),
-        Err(FileFault::Memory) => Err(Failure::Memory),
+        Err(ReadFault::Device) => Err(Failure::Unreadable("-")),
+        Err(ReadFault::Memory) => Err(Failure::Memory),
     }
 }
 
@@ -76,7 +73,6 @@ fn read_input<'a, F: Files>(
     requires { F.failed files.old < 18446744073709551615 }
     ensures given { IfOk result (λ text. GivesInput (F.holds files.old) (option_map (λ p. p.now) path.entry) text.items) }
     ensures fault { IfErr result (λ e. InputFileFails (F.failed files.old) (F.failed files.new) (option_map (λ p. p.now) path.entry) (failure_view e)) }
-    ensures uncounted { OnOk result (F.failed files.new ≡ F.failed files.old) }
     ensures same { (p : List ℕ) → F.holds files.new p ≡ F.holds files.old p }
 {
     match path {
@@ -85,32 +81,7 @@ fn read_input<'a, F: Files>(
     }
 }
 
-/// A program and its input. Each text is read and judged before the next is read.
-fn given<'a, F: Files, R: Read>(
-    alloc: Global,
-    program: Origin<'a>,
-    input: Option<&'a str>,
-    files: &mut F,
-    reader: &mut R,
-) -> Result<(Program, Input), Failure<'a>>
-    requires { F.failed files.old < 18446744073709551615 }
-    ensures given { IfOk result (λ r. AreGiven (world (F.holds files.old) (R.remaining reader.old)
-        (F.failed files.old) (F.failed files.new))
-        (origin_view program.entry) (option_map (λ p. p.now) input.entry) (meant r.0) r.1) }
-    ensures failure { IfErr result (λ e. NoneGiven (world (F.holds files.old) (R.remaining reader.old)
-        (F.failed files.old) (F.failed files.new))
-        (origin_view program.entry) (option_map (λ p. p.now) input.entry) (failure_view e)) }
-    ensures uncounted { OnOk result (F.failed files.new ≡ F.failed files.old) }
-    ensures same { (p : List ℕ) → F.holds files.new p ≡ F.holds files.old p }
-{
-    let text = read_program(alloc, program, files, reader)?;
-    let program = judge::program(alloc, text.as_slice())?;
-    let text = read_input(alloc, input, files)?;
-    let input = judge::input(alloc, text.as_slice())?;
-    Ok((program, input))
-}
-
-/// Runs a program on an input.
+/// Runs a program on an input. The input isn't read where the program text has a fault.
 pub fn run<'a, F: Files, R: Read>(
     alloc: Global,
     program: Origin<'a>,
@@ -124,6 +95,9 @@ pub fn run<'a, F: Files, R: Read>(
     ensures failure { IfErr result (λ e. RunReply (world (F.holds files.old) (R.remaining reader.old) (F.failed files.old) (F.failed files.new))
         (origin_view program.entry) (option_map (λ p. p.now) input.entry) (failure_view e)) }
 {
-    let (program, input) = given(alloc, program, input, files, reader)?;
+    let text = read_program(alloc, program, files, reader)?;
+    let program = judge::program(alloc, text.as_slice())?;
+    let text = read_input(alloc, input, files)?;
+    let input = judge::input(alloc, text.as_slice())?;
     judge::run(alloc, &program, &input)
 }

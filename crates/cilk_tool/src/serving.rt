@@ -1,14 +1,13 @@
 //! From words to a reply that is shown.
 
 ghost use Rattle.std.specs.Prelude.{◌≡◌, ◌<◌, IfOk, IfErr};
-ghost use Rattle.cilk_tool.specs.OneReply.{HasOneReply};
 ghost use Rattle.cilk_tool.specs.Replies.{Reply, answer_view, failure_view, status_of};
 ghost use Rattle.cilk_tool.specs.Serving.{Answers, IsOrNoMemory, Serves, Shows, ShowsError, world};
 ghost use Rattle.cilk_tool.specs.Streams.{AppendsFront};
 ghost use Rattle.cilk_tool.specs.Words.{order_in, texts};
 
 use crate::files::Files;
-use crate::reply::{Answer, Failure, NO_MEMORY, NO_MEMORY_LINE, WRONG};
+use crate::reply::{Answer, Failure};
 use crate::running::run;
 use crate::streams::send;
 use crate::words::{Order, WordsFault, read};
@@ -57,8 +56,8 @@ fn complain<E: Write>(alloc: Global, failure: &Failure<'_>, err: &mut E) -> u8
             failure.status()
         }
         Err(_) => {
-            tell(err, NO_MEMORY_LINE.as_bytes());
-            NO_MEMORY
+            tell(err, b"no memory\n");
+            Failure::Memory.status()
         }
     }
 }
@@ -73,7 +72,7 @@ fn show<O: Write, E: Write>(alloc: Global, answer: &Answer, out: &mut O, err: &m
     };
     if !send(out, text.as_slice()) {
         tell(err, b"cannot write\n");
-        return WRONG;
+        return 2;
     }
     answer.status()
 }
@@ -90,11 +89,8 @@ pub fn serve<F: Files, R: Read, O: Write, E: Write>(
     err: &mut E,
 ) -> u8
     requires { F.failed files.old < 18446744073709551615 }
-    ensures served { Serves (texts words.now)
-        (world (F.holds files.old) (R.remaining input.old) (F.failed files.old) (F.failed files.new)) result
+    ensures { Serves (texts words.now) (world (F.holds files.old) (R.remaining input.old) (F.failed files.old) (F.failed files.new)) result
         (O.contents out.old) (O.contents out.new) (E.contents err.old) (E.contents err.new) }
-    ensures one { HasOneReply (world (F.holds files.old) (R.remaining input.old) (F.failed files.old) (F.failed files.new))
-        (order_in (texts words.now)) }
 {
     match answer(alloc, words, files, input) {
         Ok(answer) => show(alloc, &answer, out, err),

@@ -4,28 +4,57 @@ ghost use Rattle.std.specs.Prelude.{◌≡◌, ℕ, ◌+◌, ◌≤◌, ◌<◌,
 ghost use Rattle.std.specs.Io.KnownBytes.{Appends, Consumes};
 ghost use Rattle.cilk_tool.specs.Streams.{AppendsPart, ReadsOn};
 
-use crate::files::FileFault;
 use cilk_types::limits::MAX_TEXT;
-use std::alloc::Global;
+use std::alloc::{AllocError, AllocFailed, Global};
 use std::io::{Read, Write};
+use thiserror::Error;
 
 /// The bytes after which a program text on standard input is read no further: one more than it may have.
 pub const MAX_READ: usize = MAX_TEXT + 1;
 
 const PIECE: usize = 4096;
 
+/// Why a reader gave no text.
+#[derive(Clone, Copy, PartialEq, Eq, Debug, Error)]
+pub enum ReadFault {
+    #[error("cannot read")]
+    Device,
+    #[error("no memory")]
+    Memory,
+}
+
+impl From<AllocError> for ReadFault {
+    ghost use Rattle.cilk_tool.specs.declared.streams.ReadFault.TheVariants.{Memory};
+
+    ghost from_gives = { λ _ e. e ≡ Memory };
+
+    fn from(_: AllocError) -> ReadFault {
+        ReadFault::Memory
+    }
+}
+
+impl<T: Drop> From<AllocFailed<T>> for ReadFault {
+    ghost use Rattle.cilk_tool.specs.declared.streams.ReadFault.TheVariants.{Memory};
+
+    ghost from_gives = { λ _ e. e ≡ Memory };
+
+    fn from(_: AllocFailed<T>) -> ReadFault {
+        ReadFault::Memory
+    }
+}
+
 /// Reads once, and puts what came at the end of the text. No byte came only at the input's end.
 fn receive_some<R: Read>(
     input: &mut R,
     text: &mut Vec<u8>,
     piece: &mut [u8],
-) -> Result<usize, FileFault>
+) -> Result<usize, ReadFault>
     requires { 0 < length piece.old }
     ensures grows { IfOk result (λ n. ReadsOn (R.remaining input.old) (R.remaining input.new) text.old.items text.new.items n) }
     ensures within { IfOk result (λ n. n ≤ length piece.old) }
 {
     let Ok(count) = input.read(piece) else {
-        return Err(FileFault::Device);
+        return Err(ReadFault::Device);
     };
     text.extend_from_slice(&piece[..count])?;
     Ok(count)
@@ -33,7 +62,7 @@ fn receive_some<R: Read>(
 
 /// Reads a text of at most [`MAX_READ`] bytes, in at most as many reads. What stands after them stays unread. Any read
 /// that fails ends the reading.
-pub fn receive<R: Read>(alloc: Global, input: &mut R) -> Result<Vec<u8>, FileFault>
+pub fn receive<R: Read>(alloc: Global, input: &mut R) -> Result<Vec<u8>, ReadFault>
     ensures whole { IfOk result (λ text. IfSome (R.remaining input.old) (λ all. text.items ≡ take MAX_READ all)) }
     ensures taken { IfOk result (λ text. Consumes (R.remaining input.old) (R.remaining input.new) text.items) }
 {

@@ -1,8 +1,7 @@
 //! The tool over files, readers and writers of the tests.
 
-ghost use Rattle.std.specs.Prelude.{◌≡◌, ◌<◌, IfErr, OnOk};
+ghost use Rattle.std.specs.Prelude.{◌≡◌, ◌<◌};
 
-use cilk_tool::disk::MAX_FILE;
 use cilk_tool::files::{FileFault, Files};
 use cilk_tool::serve;
 use std::alloc::Global;
@@ -18,37 +17,6 @@ pub struct Folder<'a> {
     failures: u64,
 }
 
-impl<'a> Folder<'a> {
-    /// A folder with these two texts, of which nothing was read yet.
-    fn new(program: &'a [u8], input: &'a [u8]) -> Folder<'a>
-        ensures { result.failures ≡ 0 }
-    {
-        Folder {
-            program,
-            input,
-            reads: 0,
-            failures: 0,
-        }
-    }
-
-    /// The text of a path. A path without one counts as a failure.
-    fn text(&mut self, path: &str) -> Result<&'a [u8], FileFault>
-        requires { self.old.failures < 18446744073709551615 }
-        ensures counted { IfErr result (λ _. self.old.failures < self.new.failures) }
-        ensures uncounted { OnOk result (self.new.failures ≡ self.old.failures) }
-    {
-        self.reads = self.reads.saturating_add(1);
-        match path {
-            "program" => Ok(self.program),
-            "input" => Ok(self.input),
-            _ => {
-                self.failures += 1;
-                Err(FileFault::Device)
-            }
-        }
-    }
-}
-
 impl Files for Folder<'_> {
     ghost use Rattle.std.specs.Prelude.{None};
 
@@ -57,20 +25,15 @@ impl Files for Folder<'_> {
     ghost holds = { λ _ _. None };
 
     fn read(&mut self, alloc: Global, path: &str) -> Result<Vec<u8>, FileFault> {
-        Ok(self.text(path)?.to_vec(alloc)?)
-    }
-
-    fn part(&mut self, path: &str, at: u64, into: &mut [u8]) -> Result<usize, FileFault> {
-        let whole = self.text(path)?;
-        if at > MAX_FILE {
-            self.failures += 1;
-            return Err(FileFault::Device);
+        self.reads = self.reads.saturating_add(1);
+        match path {
+            "program" => Ok(self.program.to_vec(alloc)?),
+            "input" => Ok(self.input.to_vec(alloc)?),
+            _ => {
+                self.failures += 1;
+                Err(FileFault::Device)
+            }
         }
-        let rest = &whole[whole.len().min(at as usize)..];
-        let room = (MAX_FILE - at) as usize;
-        let count = rest.len().min(into.len()).min(room);
-        into[..count].copy_from_slice(&rest[..count]);
-        Ok(count)
     }
 
     fn failures(&self) -> u64 {
@@ -164,7 +127,12 @@ pub fn shown<R: Read>(
     standard: &mut R,
 ) -> Ended {
     let (mut out, mut err) = (Vec::new(alloc), Vec::new(alloc));
-    let mut files = Folder::new(program, input);
+    let mut files = Folder {
+        program,
+        input,
+        reads: 0,
+        failures: 0,
+    };
     let status = serve(alloc, words, &mut files, standard, &mut out, &mut err);
     Ended {
         status,
@@ -181,6 +149,11 @@ pub fn status_of<O: Write, E: Write>(
     out: &mut O,
     err: &mut E,
 ) -> u8 {
-    let mut files = Folder::new(b"", b"");
+    let mut files = Folder {
+        program: b"",
+        input: b"",
+        reads: 0,
+        failures: 0,
+    };
     serve(alloc, &[], &mut files, standard, out, err)
 }
