@@ -42,6 +42,7 @@ fn frames_have_parent_and_ordinal(rt: HostRuntime) -> Result<(), Fail> {
         frame(4, 1),
     ];
     assert_eq!(rt; listed.frames.as_slice(), frames.as_slice());
+    assert!(rt; matches!(listed.owners.as_slice(), [1, 2, 3, 3, 2, 2, ..]));
     Ok(())
 }
 
