@@ -7,7 +7,7 @@ use Rattle.cilk_types.specs.declared.fault.Fault.{Fault}
 use Rattle.cilk_types.specs.declared.fault.Fault.TheVariants.{DivisionByZero, IndexOutside, InputOutside}
 use Rattle.cilk_monoid.specs.declared.kind.MonoidKind.{MonoidKind}
 use Rattle.cilk_monoid.specs.declared.kind.MonoidKind.TheVariants as kinds
-use Rattle.cilk_monoid.specs.Kinds.{same_kind}
+use Rattle.cilk_monoid.proofs.SameKinds.{kind_itself}
 use Rattle.cilk_program.specs.declared.ask.Ask.{Ask}
 use Rattle.cilk_program.specs.declared.ask.Ask.TheVariants as asks
 use Rattle.cilk_program.specs.declared.ask.Callee.{Callee}
@@ -45,13 +45,6 @@ then_comes P Q R (Asks k) f h next = h
 if_comes : {A : Type 0} (P : Ask → Type 0) (Q : A → Type 0) (t : Bool) (x y : Got A) → (t ≡ true → Comes P Q x) → (t ≡ false → Comes P Q y) → Comes P Q (if t then x else y)
 if_comes P Q true x y h k = h refl
 if_comes P Q false x y h k = k refl
-
-pub same_kind_itself : (k : MonoidKind) → same_kind k k ≡ true
-same_kind_itself kinds.Add = refl
-same_kind_itself kinds.Least = refl
-same_kind_itself kinds.Greatest = refl
-same_kind_itself kinds.Append = refl
-same_kind_itself kinds.Affine = refl
 
 pub same_body_is : (b c : Body) → same_body b c ≡ true → b ≡ c
 same_body_is (bodies.Function n) (bodies.Function k) h = ap bodies.Function (eqb-true n k h)
@@ -305,7 +298,7 @@ function_gives_there p inputs callee whole k here f same named words many gives 
     subst (λ ls. IsTrue (has_cell (slice_get ls 0) (0 + i))) (sym levels) (lt-ltb (0 + i) f.cells (omega (arith, lt, many, named.words)))) a l) (λ _ a l.
     after p inputs callee whole (creates (reducers.Own 0) 0 f.reducers a l) _ (creates_there p inputs callee whole (reducers.Own 0) 0 f.reducers (λ i k e.
     let same : i ≡ 0 + i = omega arith in
-    subst (λ ls. IsTrue (has_own (slice_get ls 0) (0 + i) k)) (sym levels) (subst (λ m. IsTrue (is_kind (slice_get f.reducers m) k)) same (subst (λ o. IsTrue (is_kind o k)) (sym e) (same_kind_itself k)))) a l) (λ _ a l.
+    subst (λ ls. IsTrue (has_own (slice_get ls 0) (0 + i) k)) (sym levels) (subst (λ m. IsTrue (is_kind (slice_get f.reducers m) k)) same (subst (λ o. IsTrue (is_kind o k)) (sym e) (kind_itself k)))) a l) (λ _ a l.
     after p inputs callee whole (all_do inputs f.body a l) _ (all_there p inputs callee whole f.body (subst (λ b. IsTrue (row_is_named p b f.body)) (sym here) named.body) a l) (λ flow a l.
     finishes_there p inputs callee whole gives taken flow a l)))
 
@@ -344,7 +337,7 @@ frame_there : (p : Source) → SourceIsNamed p → (callee : Callee) → CalleeI
 frame_there p named callees.Root fit inputs a l =
     after p inputs callees.Root refl (creates reducers.Global 0 p.reducers a l) _ (creates_there p inputs callees.Root refl reducers.Global 0 p.reducers (λ i k e.
     let same : i ≡ 0 + i = omega arith in
-    subst (λ m. IsTrue (is_kind (slice_get p.reducers m) k)) same (subst (λ o. IsTrue (is_kind o k)) (sym e) (same_kind_itself k))) a l) (λ _ a l.
+    subst (λ m. IsTrue (is_kind (slice_get p.reducers m) k)) same (subst (λ o. IsTrue (is_kind o k)) (sym e) (kind_itself k))) a l) (λ _ a l.
     function_gives_there p inputs callees.Root refl p.main refl (main_of p) refl (named.functions p.main named.main) [] (sym named.takes_no_words) false (λ e. absurd (false≢true e)) a l)
 frame_there p named (callees.Function c) fit inputs a l =
     function_gives_there p inputs (callees.Function c) refl c.function refl (function_at p c.function) refl (named.functions c.function fit.0.here) c.words fit.0.takes (is_some c.result) (λ e v. some_is c.result e) a l

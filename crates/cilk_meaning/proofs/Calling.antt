@@ -12,7 +12,7 @@ use Rattle.cilk_program.specs.Store.{put_all, clear_all}
 use Rattle.cilk_program.specs.Behaviour.{Got, ◌>>=◌, Flow, values, invokes, invokes_function, finishes, creates, all_do}
 use Rattle.cilk_program.specs.Elision as elision
 use Rattle.cilk_program.specs.Elision.{Sight, itself, Gives as Worth, Fails, evaluate_all, Came, Faults, home_in, entered, left_with, on_ended, result_cell, ElidesAll, ElidesCall, Called}
-use Rattle.cilk_program.specs.SerialRun.{Run, Memory, next_frame, begun, counted, Ending, Serial}
+use Rattle.cilk_program.specs.SerialRun.{Transcript, Memory, next_frame, begun, counted, Ending, Serial}
 use Rattle.cilk_meaning.proofs.Ties.{since_itself, same_grown, grown_own}
 use Rattle.cilk_meaning.proofs.Sights.{SeesAlike}
 use Rattle.cilk_meaning.proofs.Moments.{Site, SameMemory, called, sees_now}
@@ -47,7 +47,7 @@ module _ (p : Source) (wn : IsTrue (is_well_named p)) (inputs : List ℤ) where
     abbrev g : Flow → List ℤ → ℕ → Got ℤ
     g = finishes (is_some i.result)
 
-    call_enough : (r : Came) (t : BodyTakes s i words m r f) (k : ℕ) (u : Run) (es : List Event) → 4 + (length words + (length f.reducers + (t.cost + k))) ≤ left → 4 + (length words + (length f.reducers + (t.cost + k))) ≤ m'.room - 1
+    call_enough : (r : Came) (t : BodyTakes s i words m r f) (k : ℕ) (u : Transcript) (es : List Event) → 4 + (length words + (length f.reducers + (t.cost + k))) ≤ left → 4 + (length words + (length f.reducers + (t.cost + k))) ≤ m'.room - 1
         → Serial p inputs (next_frame p scope m' (called i words)) left [] (begun p (called i words) (counted m')) u es end → FrameAfter k end
     call_enough r t k u es h h' d =
         let k3 : ℕ = 3 + k in

@@ -14,7 +14,7 @@ use Rattle.cilk_program.specs.Store.{Store, put, put_all, clear_all}
 use Rattle.cilk_program.specs.Behaviour.{Got, ◌>>=◌, Flow, returned, finishes, writes_words, creates, all_do}
 use Rattle.cilk_program.specs.Elision as elision
 use Rattle.cilk_program.specs.Elision.{Sight, itself, cell_at, Gives as Worth, evaluate_all, Came, GoesOn, Returns, Faults, home_in, entered, left_with, goes_on, on_ended, result_cell, ElidesAll, ElidesCall, Called}
-use Rattle.cilk_program.specs.SerialRun.{Run, Memory, next_frame, begun, counted, Ending, Serial}
+use Rattle.cilk_program.specs.SerialRun.{Transcript, Memory, next_frame, begun, counted, Ending, Serial}
 use Rattle.cilk_meaning.proofs.Ties.{Since, since_itself, since_then, same_clear_all, same_grown, grown, grown_own, since_grown}
 use Rattle.cilk_meaning.proofs.Sights.{SeesAlike, sees_called}
 use Rattle.cilk_meaning.proofs.Steps.{Children}
@@ -157,7 +157,7 @@ module _ (p : Source) (wn : IsTrue (is_well_named p)) (inputs : List ℤ) (tied 
   body_ends ev (Broken' fault el q) = subst (ChildEnds (ElidesCall p inputs s i m) tied m.reducers left) (sym q) (inl (Called words f (Faults fault) ev refl el refl))
   body_ends ev (Limited fault l q) = subst (ChildEnds (ElidesCall p inputs s i m) tied m.reducers left) (sym q) (inr l)
 
-  pub call_ends : evaluate_all inputs s m.store i.arguments ≡ Worth words → (u : Run) (es : List Event) → Children (IsElided p inputs) u
+  pub call_ends : evaluate_all inputs s m.store i.arguments ≡ Worth words → (u : Transcript) (es : List Event) → Children (IsElided p inputs) u
       → Serial p inputs (next_frame p scope m' (called i words)) left [] (begun p (called i words) (counted m')) u es end → ChildEnds (ElidesCall p inputs s i m) tied m.reducers left end
   call_ends ev u es inner d =
       after (entered_now (starts site m1 (begun p (called i words) (counted m')) left u es inner d

@@ -13,7 +13,7 @@ use Rattle.cilk_program.specs.declared.syntax.ReducerPlace.{ReducerPlace}
 use Rattle.cilk_program.specs.declared.syntax.ReducerPlace.TheVariants as reducers
 use Rattle.cilk_program.specs.Syntax.{Source, function_at, main_of}
 use Rattle.cilk_program.specs.Outcomes.{Conclusion}
-use Rattle.cilk_program.specs.SerialRun.{Run, stop, act, child, Memory, Frame, answer_to, IsInner, Ending, Finished, Stopped, Serial, Made, Ended, Went, Broke, Refused, conclusion_of, IsSerialRun}
+use Rattle.cilk_program.specs.SerialRun.{Transcript, stop, act, child, Memory, Frame, answer_to, IsInner, Ending, Finished, Stopped, Serial, Made, Ended, Went, Broke, Refused, conclusion_of, IsSerialRun}
 use Rattle.cilk_meaning.specs.Order.{writings, creations, opening_asks, Stage, Fresh, Due, Going, Resuming, Synced, Closing, opened, goes_on, closes, follows, IsOwnAt, IsOrderly}
 use Rattle.cilk_meaning.specs.Closed.{IsNoBegin, IsNoResume, BeginsOnce, IsResumed, at_sync, at_end, HasSync, IsClosed, IsCutShort, EndsSo}
 use Rattle.cilk_meaning.proofs.Legal.{IsPlain}
@@ -134,7 +134,7 @@ has_begun (Resuming w) = true
 has_begun Synced = true
 has_begun Closing = true
 
-opened_begun : (due : List Ask) (r : Run) → BeginsOnce (has_begun (opened due)) r → BeginsOnce true r
+opened_begun : (due : List Ask) (r : Transcript) → BeginsOnce (has_begun (opened due)) r → BeginsOnce true r
 opened_begun [] r h = h
 opened_begun (k ∷ due) r h = h
 
@@ -203,11 +203,11 @@ opening_no_resume (asks.End v) h = tt
 opening_no_resume (asks.Fault f) h = tt
 
 -- the last event of a frame is followed by nothing
-last_begins : (b : Bool) (r : Run) → r ≡ stop → BeginsOnce b r
+last_begins : (b : Bool) (r : Transcript) → r ≡ stop → BeginsOnce b r
 last_begins b r e = subst (λ r. BeginsOnce b r) (sym e) tt
 
 module _ (p : Source) where
-  begins_step : (r : Run) → ((s : Stage) → IsSound s → IsOrderly p s r → BeginsOnce (has_begun s) r) → (s : Stage) (k : Ask) (a : ℤ) → IsSound s → View (λ s'. IsOrderly p s' r) s k → IsOwnAt k r
+  begins_step : (r : Transcript) → ((s : Stage) → IsSound s → IsOrderly p s r → BeginsOnce (has_begun s) r) → (s : Stage) (k : Ask) (a : ℤ) → IsSound s → View (λ s'. IsOrderly p s' r) s k → IsOwnAt k r
       → BeginsOnce (has_begun s) (act k a r)
   begins_step r ih (Fresh due) k a sound (Begins h) last = (refl, opened_begun due r (ih (opened due) (opened_sound due sound) h))
   begins_step r ih (Due k due) k' a sound (Opens h) last = (opening_no_begin k sound.0, opened_begun due r (ih (opened due) (opened_sound due sound.1) h))
@@ -222,7 +222,7 @@ module _ (p : Source) where
   begins_step r ih Closing k a sound EndsThen last = (tt, last_begins true r last)
 
   -- a child, and then
-  begins_past : (r : Run) → ((s : Stage) → IsSound s → IsOrderly p s r → BeginsOnce (has_begun s) r) → (s : Stage) (how : Invocation) (callee : Callee) (u : Run) → BeginsOnce false u → View (λ s'. IsOrderly p s' r) s (asks.Invoke how callee)
+  begins_past : (r : Transcript) → ((s : Stage) → IsSound s → IsOrderly p s r → BeginsOnce (has_begun s) r) → (s : Stage) (how : Invocation) (callee : Callee) (u : Transcript) → BeginsOnce false u → View (λ s'. IsOrderly p s' r) s (asks.Invoke how callee)
       → IsSound s → BeginsOnce (has_begun s) (child how callee u r)
   begins_past r ih (Fresh due) how callee u inner h sound = elim h [ ]
   begins_past r ih (Resuming w) how callee u inner h sound = elim h [ ]
@@ -233,7 +233,7 @@ module _ (p : Source) where
   begins_past r ih (Going w) how callee u inner (Spawns h) sound = (inner, ih (Resuming true) tt h)
   begins_past r ih Synced how callee u inner (Again h) sound = begins_past r ih (Going false) how callee u inner h tt
 
-  begins : (r : Run) (s : Stage) → IsSound s → IsOrderly p s r → BeginsOnce (has_begun s) r
+  begins : (r : Transcript) (s : Stage) → IsSound s → IsOrderly p s r → BeginsOnce (has_begun s) r
   begins stop s sound h = tt
   begins (act k a r) s sound h = begins_step r (begins r) s k a sound (view s k (λ s'. IsOrderly p s' r) h.0) h.1
   begins (child how callee u r) s sound h =
@@ -250,14 +250,14 @@ module _ (p : Source) where
   resume_due Synced = false
   resume_due Closing = false
 
-  opened_resumed : (due : List Ask) (r : Run) → IsResumed (resume_due (opened due)) r → IsResumed false r
+  opened_resumed : (due : List Ask) (r : Transcript) → IsResumed (resume_due (opened due)) r → IsResumed false r
   opened_resumed [] r h = h
   opened_resumed (k ∷ due) r h = h
 
-  last_resumed : (r : Run) → r ≡ stop → IsResumed false r
+  last_resumed : (r : Transcript) → r ≡ stop → IsResumed false r
   last_resumed r e = subst (λ r. IsResumed false r) (sym e) tt
 
-  resumed_step : (r : Run) → ((s : Stage) → IsSound s → IsOrderly p s r → IsResumed (resume_due s) r) → (s : Stage) (k : Ask) (a : ℤ) → IsSound s → View (λ s'. IsOrderly p s' r) s k → IsOwnAt k r
+  resumed_step : (r : Transcript) → ((s : Stage) → IsSound s → IsOrderly p s r → IsResumed (resume_due s) r) → (s : Stage) (k : Ask) (a : ℤ) → IsSound s → View (λ s'. IsOrderly p s' r) s k → IsOwnAt k r
       → IsResumed (resume_due s) (act k a r)
   resumed_step r ih (Fresh due) k a sound (Begins h) last = (tt, opened_resumed due r (ih (opened due) (opened_sound due sound) h))
   resumed_step r ih (Due k due) k' a sound (Opens h) last = (opening_no_resume k sound.0, opened_resumed due r (ih (opened due) (opened_sound due sound.1) h))
@@ -271,7 +271,7 @@ module _ (p : Source) where
   resumed_step r ih Synced k a sound Ends last = (tt, last_resumed r last)
   resumed_step r ih Closing k a sound EndsThen last = (tt, last_resumed r last)
 
-  resumed_past : (r : Run) → ((s : Stage) → IsSound s → IsOrderly p s r → IsResumed (resume_due s) r) → (s : Stage) (how : Invocation) (callee : Callee) (u : Run) → IsResumed false u → View (λ s'. IsOrderly p s' r) s (asks.Invoke how callee)
+  resumed_past : (r : Transcript) → ((s : Stage) → IsSound s → IsOrderly p s r → IsResumed (resume_due s) r) → (s : Stage) (how : Invocation) (callee : Callee) (u : Transcript) → IsResumed false u → View (λ s'. IsOrderly p s' r) s (asks.Invoke how callee)
       → IsSound s → IsResumed (resume_due s) (child how callee u r)
   resumed_past r ih (Fresh due) how callee u inner h sound = elim h [ ]
   resumed_past r ih (Resuming w) how callee u inner h sound = elim h [ ]
@@ -282,7 +282,7 @@ module _ (p : Source) where
   resumed_past r ih (Going w) how callee u inner (Spawns h) sound = (inner, ih (Resuming true) tt h)
   resumed_past r ih Synced how callee u inner (Again h) sound = resumed_past r ih (Going false) how callee u inner h tt
 
-  resumed : (r : Run) (s : Stage) → IsSound s → IsOrderly p s r → IsResumed (resume_due s) r
+  resumed : (r : Transcript) (s : Stage) → IsSound s → IsOrderly p s r → IsResumed (resume_due s) r
   resumed stop s sound h = tt
   resumed (act k a r) s sound h = resumed_step r (resumed r) s k a sound (view s k (λ s'. IsOrderly p s' r) h.0) h.1
   resumed (child how callee u r) s sound h =
@@ -291,12 +291,12 @@ module _ (p : Source) where
   -- ---- closings
 
   -- a frame that ends has a sync before it, unless it has just waited
-  abbrev Awaits : Stage → Run → Type 0
+  abbrev Awaits : Stage → Transcript → Type 0
   Awaits Synced r = Unit {0}
   Awaits Closing r = Unit {0}
   Awaits s r = HasSync r
 
-  opened_awaits : (due : List Ask) (r : Run) → Awaits (opened due) r → HasSync r
+  opened_awaits : (due : List Ask) (r : Transcript) → Awaits (opened due) r → HasSync r
   opened_awaits [] r h = h
   opened_awaits (k ∷ due) r h = h
 
@@ -316,7 +316,7 @@ module _ (p : Source) where
   passes_sync (asks.End v) P h = h
   passes_sync (asks.Fault f) P h = h
 
-  awaits_step : (r : Run) → ((s : Stage) → IsSound s → IsOrderly p s r → Awaits s r) → (s : Stage) (k : Ask) (a : ℤ) → IsSound s → View (λ s'. IsOrderly p s' r) s k → Awaits s (act k a r)
+  awaits_step : (r : Transcript) → ((s : Stage) → IsSound s → IsOrderly p s r → Awaits s r) → (s : Stage) (k : Ask) (a : ℤ) → IsSound s → View (λ s'. IsOrderly p s' r) s k → Awaits s (act k a r)
   awaits_step r ih (Fresh due) k a sound (Begins h) = opened_awaits due r (ih (opened due) (opened_sound due sound) h)
   awaits_step r ih (Due k due) k' a sound (Opens h) = passes_sync k (HasSync r) (opened_awaits due r (ih (opened due) (opened_sound due sound.1) h))
   awaits_step r ih (Going w) k a sound (Goes plain h) = passes_sync k (HasSync r) (ih (Going w) tt h)
@@ -328,7 +328,7 @@ module _ (p : Source) where
   awaits_step r ih Closing k a sound h = tt
 
   -- after a child there is a sync
-  awaits_past : (r : Run) → ((s : Stage) → IsSound s → IsOrderly p s r → Awaits s r) → (s : Stage) (how : Invocation) (callee : Callee) → IsSound s → View (λ s'. IsOrderly p s' r) s (asks.Invoke how callee) → HasSync r
+  awaits_past : (r : Transcript) → ((s : Stage) → IsSound s → IsOrderly p s r → Awaits s r) → (s : Stage) (how : Invocation) (callee : Callee) → IsSound s → View (λ s'. IsOrderly p s' r) s (asks.Invoke how callee) → HasSync r
   awaits_past r ih (Fresh due) how callee sound h = elim h [ ]
   awaits_past r ih (Resuming w) how callee sound h = elim h [ ]
   awaits_past r ih Closing how callee sound h = elim h [ ]
@@ -338,7 +338,7 @@ module _ (p : Source) where
   awaits_past r ih (Going w) how callee sound (Spawns h) = ih (Resuming true) tt h
   awaits_past r ih Synced how callee sound (Again h) = awaits_past r ih (Going false) how callee tt h
 
-  awaits_after_child : (s : Stage) (how : Invocation) (callee : Callee) (u r : Run) → HasSync r → Awaits s (child how callee u r)
+  awaits_after_child : (s : Stage) (how : Invocation) (callee : Callee) (u r : Transcript) → HasSync r → Awaits s (child how callee u r)
   awaits_after_child (Fresh due) how callee u r h = h
   awaits_after_child (Due k due) how callee u r h = h
   awaits_after_child (Going w) how callee u r h = h
@@ -356,7 +356,7 @@ module _ (p : Source) where
   ends_awaits Closing v a sound h = tt
 
   -- where a frame stands after an event that isn't its end, or a child
-  next_stage : (r : Run) (s : Stage) (k : Ask) → IsSound s → (at_end k ⊥ (Unit {0})) → View (λ s'. IsOrderly p s' r) s k → (s' : Stage) × IsSound s' × IsOrderly p s' r
+  next_stage : (r : Transcript) (s : Stage) (k : Ask) → IsSound s → (at_end k ⊥ (Unit {0})) → View (λ s'. IsOrderly p s' r) s k → (s' : Stage) × IsSound s' × IsOrderly p s' r
   next_stage r (Fresh due) k sound more (Begins h) = (opened due, opened_sound due sound, h)
   next_stage r (Due k due) k' sound more (Opens h) = (opened due, opened_sound due sound.1, h)
   next_stage r (Going w) k sound more (Goes plain h) = (Going w, tt, h)
@@ -370,11 +370,11 @@ module _ (p : Source) where
   next_stage r Closing k sound more EndsThen = absurd more
 
   -- how a run ends, by its ending
-  abbrev EndsAs : Run → Ending → Type 0
+  abbrev EndsAs : Transcript → Ending → Type 0
   EndsAs r (Finished v left m) = IsClosed r
   EndsAs r (Stopped f) = IsCutShort r
 
-  abbrev AwaitsAs : Stage → Run → Ending → Type 0
+  abbrev AwaitsAs : Stage → Transcript → Ending → Type 0
   AwaitsAs s r (Finished v left m) = Awaits s r
   AwaitsAs s r (Stopped f) = Unit {0}
 
@@ -394,22 +394,22 @@ module _ (p : Source) where
   inner_more (asks.End v) P Q inner h = absurd inner
   inner_more (asks.Fault f) P Q inner h = h
 
-  act_ends : (k : Ask) (a : ℤ) (r : Run) (end : Ending) → IsInner k → EndsAs r end → EndsAs (act k a r) end
+  act_ends : (k : Ask) (a : ℤ) (r : Transcript) (end : Ending) → IsInner k → EndsAs r end → EndsAs (act k a r) end
   act_ends k a r (Finished v left m) inner h = inner_more k (r ≡ stop) (IsClosed r) inner h
   act_ends k a r (Stopped f) inner h = inner_more k ⊥ (IsCutShort r) inner h
 
-  act_awaits : (s : Stage) (k : Ask) (a : ℤ) (r : Run) (end : Ending) → IsSound s → ((s : Stage) → IsSound s → IsOrderly p s r → AwaitsAs s r end) → View (λ s'. IsOrderly p s' r) s k → AwaitsAs s (act k a r) end
+  act_awaits : (s : Stage) (k : Ask) (a : ℤ) (r : Transcript) (end : Ending) → IsSound s → ((s : Stage) → IsSound s → IsOrderly p s r → AwaitsAs s r end) → View (λ s'. IsOrderly p s' r) s k → AwaitsAs s (act k a r) end
   act_awaits s k a r (Finished v left m) sound ih h = awaits_step r ih s k a sound h
   act_awaits s k a r (Stopped f) sound ih h = tt
 
-  child_ends : (s : Stage) (how : Invocation) (callee : Callee) (u r : Run) (end : Ending) → IsSound s → ((s : Stage) → IsSound s → IsOrderly p s r → AwaitsAs s r end) → View (λ s'. IsOrderly p s' r) s (asks.Invoke how callee)
+  child_ends : (s : Stage) (how : Invocation) (callee : Callee) (u r : Transcript) (end : Ending) → IsSound s → ((s : Stage) → IsSound s → IsOrderly p s r → AwaitsAs s r end) → View (λ s'. IsOrderly p s' r) s (asks.Invoke how callee)
       → IsClosed u → EndsAs r end → EndsAs (child how callee u r) end × AwaitsAs s (child how callee u r) end
   child_ends s how callee u r (Finished v left m) sound ih h closed ends =
       let waits = awaits_past r ih s how callee sound h in
       ((closed, waits, ends), awaits_after_child s how callee u r waits)
   child_ends s how callee u r (Stopped f) sound ih h closed ends = (inl (closed, ends), tt)
 
-serial_ends : {p : Source} {inputs : List ℤ} {fr : Frame} {start : ℕ} {history : List ℤ} {m : Memory} {r : Run} {es : List Event} {end : Ending} → Serial p inputs fr start history m r es end
+serial_ends : {p : Source} {inputs : List ℤ} {fr : Frame} {start : ℕ} {history : List ℤ} {m : Memory} {r : Transcript} {es : List Event} {end : Ending} → Serial p inputs fr start history m r es end
     → (s : Stage) → IsSound s → IsOrderly p s r → EndsAs p r end × AwaitsAs p s r end
 serial_ends {p = p} (Made {fr = fr} {m = m} {r = r} {end = end} k left q inner ok rest) s sound h =
     let seen = view s k (λ s'. IsOrderly p s' r) h.0 in
@@ -424,17 +424,17 @@ serial_ends {p = p} (Broke how callee left f q ok inner) s sound h =
     (inr ((serial_ends inner (Fresh (opening_asks p callee)) (opening_asks_open p callee) h.0).0, refl), tt)
 serial_ends (Refused k left f q bad) s sound h = (tt, tt)
 
-concludes : (p : Source) (inputs : List ℤ) (r : Run) (end : Ending) → EndsAs p r end → EndsSo r (conclusion_of p inputs end)
+concludes : (p : Source) (inputs : List ℤ) (r : Transcript) (end : Ending) → EndsAs p r end → EndsSo r (conclusion_of p inputs end)
 concludes p inputs r (Finished v left m) h = h
 concludes p inputs r (Stopped f) h = h
 
-pub runs_begin : (p : Source) (inputs : List ℤ) (r : Run) (es : List Event) (c : Conclusion) → IsSerialRun p inputs r es c → BeginsOnce false r
+pub runs_begin : (p : Source) (inputs : List ℤ) (r : Transcript) (es : List Event) (c : Conclusion) → IsSerialRun p inputs r es c → BeginsOnce false r
 runs_begin p inputs r es c d = begins p r (Fresh (opening_asks p callees.Root)) (opening_asks_open p callees.Root) (runs_orderly p inputs r es c d)
 
-pub runs_resume : (p : Source) (inputs : List ℤ) (r : Run) (es : List Event) (c : Conclusion) → IsSerialRun p inputs r es c → IsResumed false r
+pub runs_resume : (p : Source) (inputs : List ℤ) (r : Transcript) (es : List Event) (c : Conclusion) → IsSerialRun p inputs r es c → IsResumed false r
 runs_resume p inputs r es c d = resumed p r (Fresh (opening_asks p callees.Root)) (opening_asks_open p callees.Root) (runs_orderly p inputs r es c d)
 
-pub runs_end : (p : Source) (inputs : List ℤ) (r : Run) (es : List Event) (c : Conclusion) → IsSerialRun p inputs r es c → EndsSo r c
+pub runs_end : (p : Source) (inputs : List ℤ) (r : Transcript) (es : List Event) (c : Conclusion) → IsSerialRun p inputs r es c → EndsSo r c
 runs_end p inputs r es c (end, d, e) =
     let orderly = runs_orderly p inputs r es c (end, d, e) in
     subst (EndsSo r) (sym e) (concludes p inputs r end (serial_ends d (Fresh (opening_asks p callees.Root)) (opening_asks_open p callees.Root) orderly).0)

@@ -11,11 +11,11 @@ use Rattle.cilk_program.specs.declared.ask.Callee.TheVariants as callees
 use Rattle.cilk_types.specs.declared.invocation.Invocation.{Invocation}
 use Rattle.cilk_program.specs.Syntax.{Source}
 use Rattle.cilk_program.specs.Behaviour.{frame_asks}
-use Rattle.cilk_program.specs.SerialRun.{Run, stop, act, child, Memory, Frame, answer_to, stored, event_of, invocation, refused, next_frame, begun, counted, with_store, Ending, Finished, Stopped, before_root, root_frame}
+use Rattle.cilk_program.specs.SerialRun.{Transcript, stop, act, child, Memory, Frame, answer_to, stored, event_of, invocation, refused, next_frame, begun, counted, with_store, Ending, Finished, Stopped, before_root, root_frame}
 
 -- what a frame does, the events of that, and how it ends
 pub record Ran : Type 0 where
-  pub run : Run
+  pub run : Transcript
   pub events : List Event
   pub ending : Ending
 
@@ -34,7 +34,7 @@ module _ (p : Source) where
       record { run = act k (answer_to fr m k) rest.run; events = event_of fr m k ∷ rest.events; ending = rest.ending }
 
   -- once a child has ended so, its parent goes on
-  abbrev pub joined : Ending → Run → List Event → Invocation → Callee → ℕ → Frame → ℕ → List ℤ → Memory → Going → Ran
+  abbrev pub joined : Ending → Transcript → List Event → Invocation → Callee → ℕ → Frame → ℕ → List ℤ → Memory → Going → Ran
   joined (Finished v left' m') u es how callee left fr start history m go =
       let rest = go fr (left' + (start - left)) (history ++ pos 0 ∷ []) m' in
       record { run = child how callee u rest.run; events = invocation how (suc m.frames) ∷ (es ++ rest.events); ending = rest.ending }

@@ -17,7 +17,7 @@ use Rattle.cilk_program.specs.Store.{Store, put, put_all, clear, clear_all}
 use Rattle.cilk_program.specs.Behaviour.{Got, Gives, ◌>>=◌, tick, ask, Flow, unless_returned, invokes, returned, gives_result, finishes, writes_words, creates, frame_asks, frame_gives}
 use Rattle.cilk_program.specs.Elision as elision
 use Rattle.cilk_program.specs.Elision.{Sight, cell_at, Valued, Gives as Worth, Fails, Came, GoesOn, Returns, Faults, on_value, IsLast}
-use Rattle.cilk_program.specs.SerialRun.{Run, Memory, next_frame, begun, counted, with_store, stored, global_reducer, Ending, Finished, Stopped, Serial}
+use Rattle.cilk_program.specs.SerialRun.{Transcript, Memory, next_frame, begun, counted, with_store, stored, global_reducer, Ending, Finished, Stopped, Serial}
 use Rattle.cilk_meaning.specs.Agreement.{IsCrowd}
 use Rattle.cilk_meaning.proofs.Ties.{Since}
 use Rattle.cilk_meaning.proofs.Steps.{Children, Answered, Goes, Full, answered, Invoked, Ran, Broken, Crowded, invoked, ends}
@@ -77,8 +77,8 @@ crowd_quiet TooManyCells c = tt
 -- a child, and then the frame goes on
 pub child_rich : {z : Site} {m : elision.Memory} (c k : ℕ) (E : Came → Type 0) → ((r r' : Came) → E r → E r' → r ≡ r') → (r : Came) → E r → (how : Invocation) (callee : Callee) (g : Flow → List ℤ → ℕ → Got ℤ)
     (n : Rich z m (suc c) (λ a t. invokes how callee a t >>= g))
-    → ((u : Run) (es : List Event) (end : Ending) → IsElided z.p z.inputs u → Serial z.p z.inputs (next_frame z.p z.fr.scope n.now.m' callee) n.left [] (begun z.p callee (counted n.now.m')) u es end → ChildEnds E n.now.tied m.reducers n.left end)
-    → ((u : Run) (es : List Event) (end : Ending) → c ≤ n.left → c ≤ n.now.m'.room - 1 → Serial z.p z.inputs (next_frame z.p z.fr.scope n.now.m' callee) n.left [] (begun z.p callee (counted n.now.m')) u es end → FrameAfter (suc k) end)
+    → ((u : Transcript) (es : List Event) (end : Ending) → IsElided z.p z.inputs u → Serial z.p z.inputs (next_frame z.p z.fr.scope n.now.m' callee) n.left [] (begun z.p callee (counted n.now.m')) u es end → ChildEnds E n.now.tied m.reducers n.left end)
+    → ((u : Transcript) (es : List Event) (end : Ending) → c ≤ n.left → c ≤ n.now.m'.room - 1 → Serial z.p z.inputs (next_frame z.p z.fr.scope n.now.m' callee) n.left [] (begun z.p callee (counted n.now.m')) u es end → FrameAfter (suc k) end)
     → After z r k g
 child_rich {z} {m} c k E unique r el how callee g n ok cost = go (invoked z.p z.inputs (IsElided z.p z.inputs) how callee n.left (asks_now n.now) n.now.inner n.now.run)
   where
@@ -95,7 +95,7 @@ child_rich {z} {m} c k E unique r el how callee g n ok cost = go (invoked z.p z.
     go (Crowded f l (inr e) q) = let s = n.room in absurd (omega arith)
 
 -- a frame begins
-pub starts_rich : (z : Site) (m : elision.Memory) (m' : Memory) (left k : ℕ) (u : Run) (es : List Event) → k ≤ left → suc k ≤ m'.room → Children (IsElided z.p z.inputs) u → Serial z.p z.inputs z.fr left [] m' u es z.end → SameMemory z.tied m m'
+pub starts_rich : (z : Site) (m : elision.Memory) (m' : Memory) (left k : ℕ) (u : Transcript) (es : List Event) → k ≤ left → suc k ≤ m'.room → Children (IsElided z.p z.inputs) u → Serial z.p z.inputs z.fr left [] m' u es z.end → SameMemory z.tied m m'
     → Since z.tied z.count z.tied m.reducers → Rich z m k (frame_gives z.p z.inputs z.fr.callee)
 starts_rich z m m' left k u es t s inner d same since = go (answered z.p z.inputs (IsElided z.p z.inputs) asks.Begin left tt refl inner d)
   where

@@ -20,7 +20,7 @@ use Rattle.cilk_program.specs.Behaviour.{Asked}
 use Rattle.cilk_program.specs.Outcomes.{Conclusion}
 use Rattle.cilk_program.specs.WellNamed.{is_well_named}
 use Rattle.cilk_program.specs.Inside.{body_of, CalleeIsThere, AskIsThere}
-use Rattle.cilk_program.specs.SerialRun.{Run, stop, Memory, Frame, reducer_at, event_of, invocation, result_written, IsInner, Ending, Serial, Made, Ended, Went, Broke, Refused, IsSerialRun}
+use Rattle.cilk_program.specs.SerialRun.{Transcript, stop, Memory, Frame, reducer_at, event_of, invocation, result_written, IsInner, Ending, Serial, Made, Ended, Went, Broke, Refused, IsSerialRun}
 use Rattle.cilk_meaning.specs.Order.{writings, creations, opening_asks, Stage, Fresh, Due, Going, Resuming, Synced, Closing, opened, IsOrderly}
 use Rattle.cilk_meaning.specs.Created.{Among, Deed, Creates, Uses, Passes, deed_of, IsCreated, made_by, AreCreated, CellIsBelow, CellsAreBelow}
 use Rattle.cilk_meaning.specs.Numbering.{Counts, counts_of, unbegun, entered, counts_after, frame_of}
@@ -302,7 +302,7 @@ module _ (p : Source) (fr : Frame) (m : Memory) (made : List Instance) (G : Stag
   steps Closing k sound inner there EndsThen h = absurd inner
 
 -- at a child nothing is due, and the frame goes on to resume
-child_next : (p : Source) (r : Run) (s : Stage) (how : Invocation) (callee : Callee) → IsSound s → View (λ s'. IsOrderly p s' r) s (asks.Invoke how callee) → (due_of s ≡ []) × ((w : Bool) × IsOrderly p (Resuming w) r)
+child_next : (p : Source) (r : Transcript) (s : Stage) (how : Invocation) (callee : Callee) → IsSound s → View (λ s'. IsOrderly p s' r) s (asks.Invoke how callee) → (due_of s ≡ []) × ((w : Bool) × IsOrderly p (Resuming w) r)
 child_next p r (Fresh due) how callee sound h = elim h [ ]
 child_next p r (Due k due) how callee sound (Opens goes) = absurd sound.0
 child_next p r (Going w) how callee sound (Goes plain goes) = absurd plain
@@ -379,7 +379,7 @@ past_here p fr n n' made made' frames cells covers bounded h = record {
   begun = let b = h.begun in omega (arith, b, frames);
 }
 
-serial_leaves : {p : Source} {inputs : List ℤ} {fr : Frame} {start : ℕ} {history : List ℤ} {m : Memory} {r : Run} {es : List Event} {end : Ending} → Serial p inputs fr start history m r es end
+serial_leaves : {p : Source} {inputs : List ℤ} {fr : Frame} {start : ℕ} {history : List ℤ} {m : Memory} {r : Transcript} {es : List Event} {end : Ending} → Serial p inputs fr start history m r es end
     → IsTrue (is_well_named p) → (top : ℕ) → (counts_after p r (counts_of m)).cells ≤ top → (s : Stage) → IsSound s → IsOrderly p s r → (made : List Instance) → Here p fr (counts_of m) made (due_of s)
     → Leaves p top made es (counts_after p r (counts_of m))
 serial_leaves {p = p} {inputs = inputs} (Made {fr = fr} {start = start} {history = history} {m = m} {r = r} {es = es} k left q inner ok rest) well top low s sound orderly made h =
@@ -421,13 +421,13 @@ root_here p well = record {
   begun = omega arith;
 }
 
-run_leaves : (p : Source) → IsTrue (is_well_named p) → (inputs : List ℤ) (r : Run) (es : List Event) (c : Conclusion) → IsSerialRun p inputs r es c
+run_leaves : (p : Source) → IsTrue (is_well_named p) → (inputs : List ℤ) (r : Transcript) (es : List Event) (c : Conclusion) → IsSerialRun p inputs r es c
     → Leaves p (counts_after p r (entered p callees.Root (unbegun p))).cells [] es (counts_after p r (entered p callees.Root (unbegun p)))
 run_leaves p well inputs r es c (end, d, e) =
     serial_leaves d well (counts_after p r (entered p callees.Root (unbegun p))).cells (omega arith) (Fresh (opening_asks p callees.Root)) (opening_asks_open p callees.Root) (runs_orderly p inputs r es c (end, d, e)) [] (root_here p well)
 
-pub runs_create : (p : Source) → IsTrue (is_well_named p) → (inputs : List ℤ) (r : Run) (es : List Event) (c : Conclusion) → IsSerialRun p inputs r es c → AreCreated [] es
+pub runs_create : (p : Source) → IsTrue (is_well_named p) → (inputs : List ℤ) (r : Transcript) (es : List Event) (c : Conclusion) → IsSerialRun p inputs r es c → AreCreated [] es
 runs_create p well inputs r es c d = (run_leaves p well inputs r es c d).are_created
 
-pub runs_inside : (p : Source) → IsTrue (is_well_named p) → (inputs : List ℤ) (r : Run) (es : List Event) (c : Conclusion) → IsSerialRun p inputs r es c → CellsAreBelow (counts_after p r (entered p callees.Root (unbegun p))).cells es
+pub runs_inside : (p : Source) → IsTrue (is_well_named p) → (inputs : List ℤ) (r : Transcript) (es : List Event) (c : Conclusion) → IsSerialRun p inputs r es c → CellsAreBelow (counts_after p r (entered p callees.Root (unbegun p))).cells es
 runs_inside p well inputs r es c d = (run_leaves p well inputs r es c d).are_below

@@ -10,7 +10,7 @@ use Rattle.cilk_program.specs.declared.ask.Callee.{Callee}
 use Rattle.cilk_types.specs.declared.invocation.Invocation.{Invocation}
 use Rattle.cilk_program.specs.Syntax.{Source}
 use Rattle.cilk_program.specs.Behaviour.{asks_for, frame_asks}
-use Rattle.cilk_program.specs.SerialRun.{Run, Memory, Frame, cells_of, answer_to, stored, event_of, invocation, full, refused, IsInner, next_frame, begun, counted, with_store, Ending, Finished, Stopped, Serial, Made, Ended, Went, Broke, Refused}
+use Rattle.cilk_program.specs.SerialRun.{Transcript, Memory, Frame, cells_of, answer_to, stored, event_of, invocation, full, refused, IsInner, next_frame, begun, counted, with_store, Ending, Finished, Stopped, Serial, Made, Ended, Went, Broke, Refused}
 use Rattle.cilk_meaning.specs.Runs.{IsShort}
 use Rattle.cilk_meaning.proofs.Computed.{Ran, Going, made, joined, settled, ran}
 
@@ -55,7 +55,7 @@ then_more : (room between : ℕ) (es es' : List Event) (end : Ending) → length
 then_more room between es es' (Finished v left m) h s = let l : length (es ++ es') ≡ length es + length es' = length-append es es' in omega (arith, h, s, l)
 then_more room between es es' (Stopped f) h s = let l : length (es ++ es') ≡ length es + length es' = length-append es es' in omega (arith, h, s, l)
 
-pub serial_spends : {p : Source} {inputs : List ℤ} {fr : Frame} {start : ℕ} {history : List ℤ} {m : Memory} {r : Run} {es : List Event} {end : Ending} → Serial p inputs fr start history m r es end → Spends m.room es end
+pub serial_spends : {p : Source} {inputs : List ℤ} {fr : Frame} {start : ℕ} {history : List ℤ} {m : Memory} {r : Transcript} {es : List Event} {end : Ending} → Serial p inputs fr start history m r es end → Spends m.room es end
 serial_spends {p = p} (Made {fr = fr} {m = m} {es = es} {end = end} k left q inner ok rest) = one_more m.room (event_of fr m k) es end (room_for p m k ok) (serial_spends rest)
 serial_spends {p = p} (Ended {m = m} v left q ok) = let h = room_for p m (asks.End v) ok in omega (arith, h)
 serial_spends {p = p} (Went {m = m} {es = es} {es' = es'} {end = end} how callee left v left' m' q ok inner rest) =
@@ -78,7 +78,7 @@ module _ (p : Source) (inputs : List ℤ) where
       let some = room_for p m k ok in
       Made k left q inner ok (h fr start (history ++ answer_to fr m k ∷ []) (with_store m (stored p fr m k)) (omega (arith, some)))
 
-  joined_run : (end : Ending) (u : Run) (es : List Event) (how : Invocation) (callee : Callee) (left : ℕ) (fr : Frame) (start : ℕ) (history : List ℤ) (m : Memory) (go : Going)
+  joined_run : (end : Ending) (u : Transcript) (es : List Event) (how : Invocation) (callee : Callee) (left : ℕ) (fr : Frame) (start : ℕ) (history : List ℤ) (m : Memory) (go : Going)
       → frame_asks p inputs fr.callee history start ≡ asks_for (asks.Invoke how callee) left → refused p m (asks.Invoke how callee) ≡ None → Goes m.room go
       → Serial p inputs (next_frame p fr.scope m callee) left [] (begun p callee (counted m)) u es end
       → IsRun fr start history m (joined p end u es how callee left fr start history m go)

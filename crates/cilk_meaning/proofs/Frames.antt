@@ -12,13 +12,13 @@ use Rattle.cilk_program.specs.Store.{put, put_all, clear, clear_all}
 use Rattle.cilk_program.specs.Behaviour.{Got, Gives, ◌>>=◌, ask, Flow, returned, gives_result, finishes, writes_words, creates, frame_asks, frame_gives}
 use Rattle.cilk_program.specs.Elision as elision
 use Rattle.cilk_program.specs.Elision.{cell_at}
-use Rattle.cilk_program.specs.SerialRun.{Run, Memory, with_store, stored, put_result, global_reducer, Finished, Stopped, Serial}
+use Rattle.cilk_program.specs.SerialRun.{Transcript, Memory, with_store, stored, put_result, global_reducer, Finished, Stopped, Serial}
 use Rattle.cilk_meaning.proofs.Ties.{Same, Since, same_put, same_clear}
 use Rattle.cilk_meaning.proofs.Steps.{Children, Answered, Goes, Full, answered, ends}
 use Rattle.cilk_meaning.proofs.Moments.{Site, Now, regroup, asks_now, SameMemory, IsElided, AskGoes, Answer, NoRoom, Fits, asked, write, syncs}
 
 -- a frame begins
-pub starts : (z : Site) (m : elision.Memory) (m' : Memory) (left : ℕ) (u : Run) (es : List Event) → Children (IsElided z.p z.inputs) u → Serial z.p z.inputs z.fr left [] m' u es z.end → SameMemory z.tied m m' → Since z.tied z.count z.tied m.reducers
+pub starts : (z : Site) (m : elision.Memory) (m' : Memory) (left : ℕ) (u : Transcript) (es : List Event) → Children (IsElided z.p z.inputs) u → Serial z.p z.inputs z.fr left [] m' u es z.end → SameMemory z.tied m m' → Since z.tied z.count z.tied m.reducers
     → AskGoes z m left (frame_gives z.p z.inputs z.fr.callee)
 starts z m m' left u es inner d same since = go (answered z.p z.inputs (IsElided z.p z.inputs) asks.Begin left tt refl inner d)
   where

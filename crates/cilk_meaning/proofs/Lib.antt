@@ -1,4 +1,5 @@
 pub mod Asked
+pub mod Behaving
 pub mod Bodies
 pub mod Budgets
 pub mod Calling
@@ -28,7 +29,6 @@ pub mod Roots
 pub mod Rows
 pub mod Sights
 pub mod Sounds
-pub mod Spelling
 pub mod Spending
 pub mod Statements
 pub mod Steps

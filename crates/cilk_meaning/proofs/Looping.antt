@@ -18,7 +18,7 @@ use Rattle.cilk_program.specs.Store.{put}
 use Rattle.cilk_program.specs.Behaviour.{Got, Gives, ◌>>=◌, Flow, invokes, finishes, parallel_turns, does, all_do, middle}
 use Rattle.cilk_program.specs.Elision as elision
 use Rattle.cilk_program.specs.Elision.{Sight, Gives as Worth, Fails, evaluate, Came, GoesOn, Returns, Faults, home_in, turned, on_ended, turns_between, ElidesAll, ElidesTurns, NoTurns, Turned, TurnFails, ElidesTurn, OneTurn}
-use Rattle.cilk_program.specs.SerialRun.{Run, Memory, next_frame, begun, counted, Ending, Serial}
+use Rattle.cilk_program.specs.SerialRun.{Transcript, Memory, next_frame, begun, counted, Ending, Serial}
 use Rattle.cilk_meaning.proofs.Ties.{since_itself, same_begun}
 use Rattle.cilk_meaning.proofs.Sights.{SeesAlike, sees_since}
 use Rattle.cilk_meaning.proofs.Moments.{Site, SameMemory, write_fits, sees_now}
@@ -94,7 +94,7 @@ module _ (p : Source) (wn : IsTrue (is_well_named p)) (inputs : List ℤ) where
     abbrev standing : Standing p inputs (home_in m [] ∷ s)
     standing = record { fr = frame.fr; end = end; tied = frame.tied; count = frame.count; body = frame.body; sees = frame.sees }
 
-    one_enough : int_eq (l.high -ℤ l.low) (pos 1) ≡ true → (c : ℕ) → Single s l.number l.low m c → (x : ℕ) (u : Run) (es : List Event) → c + x ≤ 7 + left → c + x ≤ 7 + (m'.room - 1)
+    one_enough : int_eq (l.high -ℤ l.low) (pos 1) ≡ true → (c : ℕ) → Single s l.number l.low m c → (x : ℕ) (u : Transcript) (es : List Event) → c + x ≤ 7 + left → c + x ≤ 7 + (m'.room - 1)
         → Serial p inputs (next_frame p scope m' (callees.Loop l)) left [] (begun p (callees.Loop l) (counted m')) u es end → FrameAfter x end
     one_enough one c (Turn r t h) x u es b b' d =
         let m1 : elision.Memory = record { store = m.store; cells = m.cells + body.cells; reducers = m.reducers } in
@@ -112,7 +112,7 @@ module _ (p : Source) (wn : IsTrue (is_well_named p)) (inputs : List ℤ) where
   Enough fuel =
       (tied : ℕ → Instance) (m : elision.Memory) (m' : Memory) (s : Sight) (scope : Scope ℕ Instance) (left : ℕ) (l : LoopPart) (same : SameMemory tied m m')
       → (let body = loop_at p l.number in SeesAlike p tied m.reducers body.within s (drop l.up scope)) → l.low <ℤ l.high → (end : Ending)
-      → turns_between l.low l.high ≤ fuel → (r : Came) (c : ℕ) → Costed s l.number l.low (turns_between l.low l.high) m r c → (x : ℕ) (u : Run) (es : List Event) → c + x ≤ 7 + left → c + x ≤ 7 + (m'.room - 1)
+      → turns_between l.low l.high ≤ fuel → (r : Came) (c : ℕ) → Costed s l.number l.low (turns_between l.low l.high) m r c → (x : ℕ) (u : Transcript) (es : List Event) → c + x ≤ 7 + left → c + x ≤ 7 + (m'.room - 1)
       → Serial p inputs (next_frame p scope m' (callees.Loop l)) left [] (begun p (callees.Loop l) (counted m')) u es end → FrameAfter x end
 
   module _ (fuel : ℕ) (smaller : Enough fuel) (tied : ℕ → Instance) (m : elision.Memory) (m' : Memory) (s : Sight) (scope : Scope ℕ Instance) (left : ℕ) (l : LoopPart)
@@ -159,7 +159,7 @@ module _ (p : Source) (wn : IsTrue (is_well_named p)) (inputs : List ℤ) where
         (λ u es end' ok d. ok.loop n.now.tied m n.now.m' s whole.fr.scope n.left es end' first n.now.same (sees_since sees n.now.since) h.below d)
         (λ u es end' b b' d. smaller n.now.tied m n.now.m' s whole.fr.scope n.left first n.now.same (sees_since sees n.now.since) h.below end' fits r1 c1 d1 (suc k) u es (omega arith) (omega arith) d)
 
-    begins_rich : (k : ℕ) (u : Run) (es : List Event) → k ≤ left → suc k ≤ m'.room - 1 → Serial p inputs (next_frame p scope m' (callees.Loop l)) left [] (begun p (callees.Loop l) (counted m')) u es end
+    begins_rich : (k : ℕ) (u : Transcript) (es : List Event) → k ≤ left → suc k ≤ m'.room - 1 → Serial p inputs (next_frame p scope m' (callees.Loop l)) left [] (begun p (callees.Loop l) (counted m')) u es end
         → Rich whole m k (λ a t. invokes Spawn (callees.Loop first) a t >>= λ _ a t. invokes Call (callees.Loop second) a t >>= finishes false)
     begins_rich k u es b b' d =
         let body = loop_at p l.number in
@@ -167,7 +167,7 @@ module _ (p : Source) (wn : IsTrue (is_well_named p)) (inputs : List ℤ) where
         (record { store = same_begun same.store; cells = sym (add-zero m.cells) ∙ ap₂ (λ c b. c + (if b then body.cells else 0)) same.cells (sym many) }) (since_itself tied m.reducers) in
         rich_as (λ a t. ap (λ b. if b then turns.Turn p wn inputs tied m m' s scope left l same sees below end a t else turns.Parts p wn inputs tied m m' s scope left l same sees below end a t) many) n
 
-    many_enough : (r : Came) (c : ℕ) → Split s l.number l.low (turns_between l.low mid) (turns_between mid l.high) m r c → (x : ℕ) (u : Run) (es : List Event) → c + x ≤ 7 + left → c + x ≤ 7 + (m'.room - 1)
+    many_enough : (r : Came) (c : ℕ) → Split s l.number l.low (turns_between l.low mid) (turns_between mid l.high) m r c → (x : ℕ) (u : Transcript) (es : List Event) → c + x ≤ 7 + left → c + x ≤ 7 + (m'.room - 1)
         → Serial p inputs (next_frame p scope m' (callees.Loop l)) left [] (begun p (callees.Loop l) (counted m')) u es end → FrameAfter x end
     many_enough r c (Both m1 c1 c2 d1 d2 le) x u es b b' d =
         let h = halves l.low l.high below many in

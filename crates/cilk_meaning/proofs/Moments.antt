@@ -20,7 +20,7 @@ use Rattle.cilk_program.specs.Store.{Store, put, print, update, set, number_at}
 use Rattle.cilk_program.specs.Behaviour.{Got, Gives, Asks, ◌>>=◌, tick, ask, Flow, invokes, ended, frame_asks}
 use Rattle.cilk_program.specs.Elision as elision
 use Rattle.cilk_program.specs.Elision.{Sight, cell_at, reducer_at, Gives as Worth, Came, GoesOn, Returns, Faults, ElidesCall, ElidesTurns, evaluate_all, turns_between}
-use Rattle.cilk_program.specs.SerialRun.{Run, Memory, Frame, next_frame, begun, counted, with_store, answer_to, stored, IsInner, Ending, Finished, Stopped, Serial}
+use Rattle.cilk_program.specs.SerialRun.{Transcript, Memory, Frame, next_frame, begun, counted, with_store, answer_to, stored, IsInner, Ending, Finished, Stopped, Serial}
 use Rattle.cilk_meaning.specs.Agreement.{IsLimit}
 use Rattle.cilk_meaning.proofs.Ties.{Same, Since, since_then, same_put, same_print, same_update, same_set, same_number}
 use Rattle.cilk_meaning.proofs.Sights.{SeesAlike, sees_since}
@@ -40,7 +40,7 @@ abbrev pub called : Invoke → List ℤ → Callee
 called i words = callees.Function (record { function = i.function; words = words; reducers = i.reducers; result = i.result })
 
 -- what a frame does is as its elision, whatever it runs
-pub record IsElided (p : Source) (inputs : List ℤ) (u : Run) : Type 0 where
+pub record IsElided (p : Source) (inputs : List ℤ) (u : Transcript) : Type 0 where
   pub function : (tied : ℕ → Instance) (m : elision.Memory) (m' : Memory) (b : Body) (s : Sight) (scope : Scope ℕ Instance) (left : ℕ) (es : List Event) (end : Ending) (i : Invoke) (words : List ℤ)
       → SameMemory tied m m' → SeesAlike p tied m.reducers b s scope → IsTrue (invoke_is_named p b i) → evaluate_all inputs s m.store i.arguments ≡ Worth words
       → Serial p inputs (next_frame p scope m' (called i words)) left [] (begun p (called i words) (counted m')) u es end → ChildEnds (ElidesCall p inputs s i m) tied m.reducers left end
@@ -67,7 +67,7 @@ pub record Now (z : Site) (m : elision.Memory) (left : ℕ) (x : List ℤ → �
   pub tied : ℕ → Instance
   pub took : ℕ
   pub history : List ℤ
-  pub r : Run
+  pub r : Transcript
   pub es : List Event
   pub run : Serial z.p z.inputs z.fr (took + left) history m' r es z.end
   pub rest : (answers : List ℤ) (t : ℕ) → frame_asks z.p z.inputs z.fr.callee (history ++ answers) (took + t) ≡ ended (x answers t)
@@ -125,7 +125,7 @@ pub record Fits {z : Site} {m : elision.Memory} {left : ℕ} {x : List ℤ → �
   pub same : Same n.tied m.reducers n.m'.frames store (stored z.p z.fr n.m' k)
   pub answer : answer_to z.fr n.m' k ≡ v
 
-abbrev pub after_answer : {z : Site} {m : elision.Memory} {left : ℕ} (k : Ask) (store : Store ℕ) (v : ℤ) (g : ℤ → List ℤ → ℕ → Got ℤ) (n : Now z m left (λ a t. ask k a t >>= g)) → Fits n k store v → (r : Run) (es : List Event)
+abbrev pub after_answer : {z : Site} {m : elision.Memory} {left : ℕ} (k : Ask) (store : Store ℕ) (v : ℤ) (g : ℤ → List ℤ → ℕ → Got ℤ) (n : Now z m left (λ a t. ask k a t >>= g)) → Fits n k store v → (r : Transcript) (es : List Event)
     → Serial z.p z.inputs z.fr (n.took + left) (n.history ++ answer_to z.fr n.m' k ∷ []) (with_store n.m' (stored z.p z.fr n.m' k)) r es z.end → Children (IsElided z.p z.inputs) r → Now z (record m { store = store }) left (g v)
 after_answer {z} k store v g n fits r es d inner = record {
   m' = with_store n.m' (stored z.p z.fr n.m' k);
@@ -217,7 +217,7 @@ pub data Comes (z : Site) (E : Came → Type 0) (bound : ℕ) (g : Flow → List
   Limited : (f : Fault) → IsLimit f → z.end ≡ Stopped f → Comes z E bound g
 
 -- what is left of a frame once a child has ended
-abbrev pub after_child : {z : Site} {m m1 : elision.Memory} {left : ℕ} (how : Invocation) (callee : Callee) (g : Flow → List ℤ → ℕ → Got ℤ) (n : Now z m left (λ a t. invokes how callee a t >>= g)) (left' : ℕ) (m' : Memory) (r : Run) (es : List Event)
+abbrev pub after_child : {z : Site} {m m1 : elision.Memory} {left : ℕ} (how : Invocation) (callee : Callee) (g : Flow → List ℤ → ℕ → Got ℤ) (n : Now z m left (λ a t. invokes how callee a t >>= g)) (left' : ℕ) (m' : Memory) (r : Transcript) (es : List Event)
     (tied : ℕ → Instance) → Since n.tied m.reducers tied m1.reducers → SameMemory tied m1 m' → Serial z.p z.inputs z.fr (left' + (n.took + left - left)) (n.history ++ pos 0 ∷ []) m' r es z.end → Children (IsElided z.p z.inputs) r
     → Now z m1 left' (λ a t. ask asks.Resume a t >>= λ v a l. g None a l)
 after_child {z} {left = left} how callee g n left' m' r es tied since same d inner = record {
@@ -237,7 +237,7 @@ after_child {z} {left = left} how callee g n left' m' r es tied since same d inn
 -- a child, and then the frame goes on
 pub child_goes : {z : Site} {m : elision.Memory} {left : ℕ} (E : Came → Type 0) (how : Invocation) (callee : Callee) (g : Flow → List ℤ → ℕ → Got ℤ)
     (n : Now z m left (λ a t. invokes how callee a t >>= g))
-    → ((u : Run) (es : List Event) (end : Ending) → IsElided z.p z.inputs u → Serial z.p z.inputs (next_frame z.p z.fr.scope n.m' callee) left [] (begun z.p callee (counted n.m')) u es end → ChildEnds E n.tied m.reducers left end)
+    → ((u : Transcript) (es : List Event) (end : Ending) → IsElided z.p z.inputs u → Serial z.p z.inputs (next_frame z.p z.fr.scope n.m' callee) left [] (begun z.p callee (counted n.m')) u es end → ChildEnds E n.tied m.reducers left end)
     → Comes z E (suc left) g
 child_goes {z} {m} {left} E how callee g n ok = go (invoked z.p z.inputs (IsElided z.p z.inputs) how callee left (asks_now n) n.inner n.run)
   where

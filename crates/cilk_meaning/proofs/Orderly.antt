@@ -9,7 +9,7 @@ use Rattle.cilk_types.specs.declared.invocation.Invocation.TheVariants.{Call, Sp
 use Rattle.cilk_program.specs.Syntax.{Source}
 use Rattle.cilk_program.specs.Behaviour.{Asked, asks_for, frame_asks}
 use Rattle.cilk_program.specs.Outcomes.{Conclusion}
-use Rattle.cilk_program.specs.SerialRun.{Run, stop, act, child, Memory, Frame, answer_to, IsInner, Ending, Serial, Made, Ended, Went, Broke, Refused, IsSerialRun}
+use Rattle.cilk_program.specs.SerialRun.{Transcript, stop, act, child, Memory, Frame, answer_to, IsInner, Ending, Serial, Made, Ended, Went, Broke, Refused, IsSerialRun}
 use Rattle.cilk_meaning.specs.Order.{opening_asks, Stage, Fresh, Due, Going, Resuming, Synced, Closing, goes_on, closes, follows, IsOwnAt, IsOrderly}
 use Rattle.cilk_meaning.proofs.Legal.{Rest, after, unless_fault, IsLegal, fresh_fine}
 
@@ -72,7 +72,7 @@ inner_follows (asks.Result v) P inner h = h
 inner_follows (asks.End v) P inner h = h
 inner_follows (asks.Fault f) P inner h = absurd inner
 
-inner_own : (k : Ask) (r : Run) → IsInner k → IsOwnAt k r
+inner_own : (k : Ask) (r : Transcript) → IsInner k → IsOwnAt k r
 inner_own asks.Begin r inner = tt
 inner_own (asks.Read x) r inner = tt
 inner_own (asks.Write x v) r inner = tt
@@ -89,13 +89,13 @@ inner_own (asks.End v) r inner = absurd inner
 inner_own (asks.Fault f) r inner = absurd inner
 
 -- how many events and children a frame has of its own
-abbrev long : Run → ℕ
+abbrev long : Transcript → ℕ
 long stop = zero
 long (act k a r) = suc (long r)
 long (child how callee u r) = suc (long r)
 
 -- the most ticks that a frame had, counted from its beginning
-pub most : {p : Source} {inputs : List ℤ} {fr : Frame} {start : ℕ} {history : List ℤ} {m : Memory} {r : Run} {es : List Event} {end : Ending} → Serial p inputs fr start history m r es end → ℕ
+pub most : {p : Source} {inputs : List ℤ} {fr : Frame} {start : ℕ} {history : List ℤ} {m : Memory} {r : Transcript} {es : List Event} {end : Ending} → Serial p inputs fr start history m r es end → ℕ
 most (Made {start = start} k left q inner ok rest) = max start (most rest)
 most (Ended {start = start} v left q ok) = start
 most (Went {start = start} how callee left v left' m' q ok inner rest) = max start (most rest)
@@ -112,7 +112,7 @@ rest_after p inputs callee history c a h = λ answers start. ap (λ l. frame_ask
 now_asks : (p : Source) (inputs : List ℤ) (callee : Callee) (history : List ℤ) (c : Rest) (start left : ℕ) (k : Ask) → IsRest p inputs callee history c → frame_asks p inputs callee history start ≡ asks_for k left → (c [] start).ask ≡ k
 now_asks p inputs callee history c start left k h q = ap (λ (q : Asked). q.ask) (sym (h [] start) ∙ ap (λ l. frame_asks p inputs callee l start) (append-nil history) ∙ q)
 
-pub serial_orderly : {p : Source} {inputs : List ℤ} {fr : Frame} {start : ℕ} {history : List ℤ} {m : Memory} {r : Run} {es : List Event} {end : Ending} → (d : Serial p inputs fr start history m r es end)
+pub serial_orderly : {p : Source} {inputs : List ℤ} {fr : Frame} {start : ℕ} {history : List ℤ} {m : Memory} {r : Transcript} {es : List Event} {end : Ending} → (d : Serial p inputs fr start history m r es end)
     → (top : ℕ) → most d ≤ top → (s : Stage) (c : Rest) → IsRest p inputs fr.callee history c → IsLegal top s c (long r) → IsOrderly p s r
 unfolding most
 serial_orderly {p = p} {inputs = inputs} (Made {fr = fr} {start = start} {history = history} {m = m} {r = r} k left q inner ok rest) top low s c same legal =
@@ -141,5 +141,5 @@ serial_orderly {p = p} {inputs = inputs} (Broke {fr = fr} {start = start} {histo
     )
 serial_orderly (Refused k left f q bad) top low s c same legal = tt
 
-pub runs_orderly : (p : Source) (inputs : List ℤ) (r : Run) (es : List Event) (c : Conclusion) → IsSerialRun p inputs r es c → IsOrderly p (Fresh (opening_asks p callees.Root)) r
+pub runs_orderly : (p : Source) (inputs : List ℤ) (r : Transcript) (es : List Event) (c : Conclusion) → IsSerialRun p inputs r es c → IsOrderly p (Fresh (opening_asks p callees.Root)) r
 runs_orderly p inputs r es c (end, d, e) = serial_orderly d (most d) (omega arith) (Fresh (opening_asks p callees.Root)) (frame_asks p inputs callees.Root) (λ answers start. refl) (fresh_fine (most d) p inputs callees.Root (long r))

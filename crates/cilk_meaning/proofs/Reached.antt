@@ -13,7 +13,7 @@ use Rattle.cilk_program.specs.Behaviour.{Got, ◌>>=◌, Flow, invokes_function,
 use Rattle.cilk_program.specs.Outcomes.{Conclusion, Leaves, StopsBy}
 use Rattle.cilk_program.specs.Elision as elision
 use Rattle.cilk_program.specs.Elision.{Sight, itself, Came, GoesOn, Returns, Faults, home_in, entered, turned, begins, Elides, Empties, Blocks, Declares, Assigns, Changes, Steps, Prints, Updates, Sets, Ends, EndsPlainly, Syncs, Calls, Holds, Skips, IfFails, First, Second, IfElseFails, Fors, ForStops, Ascends, LowFails, HighFails, ElidesAll, NoMore, Follows, Stops, ElidesEach, NoneLeft, Next, LastOne, ElidesOne, Zeroes, Opens, OpensByCall, ElidesLoop, Done, TestFails, Turns, BodyLeaves, StepLeaves, ElidesTurns, NoTurns, Turned, TurnFails, ElidesTurn, OneTurn, ElidesCall, ArgumentFails, Called, IsElision}
-use Rattle.cilk_program.specs.SerialRun.{Run, root_frame, before_root, begun, Ending, Finished, Stopped, Serial, conclusion_of, IsSerialRunWithin}
+use Rattle.cilk_program.specs.SerialRun.{Transcript, root_frame, before_root, begun, Ending, Finished, Stopped, Serial, conclusion_of, IsSerialRunWithin}
 use Rattle.cilk_meaning.specs.Agreement.{IsLimit, IsCrowd, IsCutOff, IsCrowded, IsReached}
 use Rattle.cilk_meaning.proofs.Ties.{since_itself}
 use Rattle.cilk_meaning.proofs.Moments.{Site}
@@ -109,7 +109,7 @@ module _ (p : Source) (wn : IsTrue (is_well_named p)) (inputs : List ℤ) where
     abbrev enough : ℕ
     enough = 4 + (length p.reducers + (length (main_of p).reducers + t.cost))
 
-    root_enough : (ticks room : ℕ) → enough ≤ ticks → enough ≤ room → (u : Run) (es : List Event) (end : Ending) → Serial p inputs (root_frame p inputs) ticks [] (begun p callees.Root (before_root p inputs room)) u es end → FrameAfter 0 end
+    root_enough : (ticks room : ℕ) → enough ≤ ticks → enough ≤ room → (u : Transcript) (es : List Event) (end : Ending) → Serial p inputs (root_frame p inputs) ticks [] (begun p callees.Root (before_root p inputs room)) u es end → FrameAfter 0 end
     root_enough ticks room h h' u es end d =
         let z = roots.site p wn inputs end in
         let y : Standing p inputs (home_in (begins p inputs) [] ∷ []) = record { fr = z.fr; end = end; tied = z.tied; count = z.count; body = z.body; sees = z.sees } in
@@ -143,7 +143,7 @@ module _ (p : Source) (wn : IsTrue (is_well_named p)) (inputs : List ℤ) where
 
   -- with as much as the elision costs
   reached_from : (c : Conclusion) → IsElision p inputs c → (r : Came) (t : Takes p inputs (home_in (begins p inputs) [] ∷ []) (entered (main_of p) [] (begins p inputs)) r (λ b. IsTrue (row_is_named p b (main_of p).body)) (all_do inputs (main_of p).body))
-      → (ticks room : ℕ) → enough r t ≤ ticks → enough r t ≤ room → (u : Run) (es : List Event) (c' : Conclusion) → IsSerialRunWithin p inputs ticks room u es c' → (c' ≡ c) ⊎ IsCrowded c'
+      → (ticks room : ℕ) → enough r t ≤ ticks → enough r t ≤ room → (u : Transcript) (es : List Event) (c' : Conclusion) → IsSerialRunWithin p inputs ticks room u es c' → (c' ≡ c) ⊎ IsCrowded c'
   reached_from c h r t ticks room le le' u es c' run =
       elim (run_ends p wn inputs run.0 ticks room u es run.1) [
         | inl e ↦ inl (run.2 ∙ one_elision p inputs (conclusion_of p inputs run.0) c e h)

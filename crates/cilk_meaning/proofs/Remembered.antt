@@ -17,14 +17,14 @@ use Rattle.cilk_program.specs.Behaviour.{Asked}
 use Rattle.cilk_program.specs.Outcomes.{Conclusion, Leaves, StopsBy, cells_from}
 use Rattle.cilk_program.specs.WellNamed.{is_well_named}
 use Rattle.cilk_program.specs.Inside.{body_of, CalleeIsFit, CalleeIsThere, AskIsThere, IsTaken}
-use Rattle.cilk_program.specs.SerialRun.{Run, Memory, Frame, itself, cells_of, own_from, own_reducers, stored, event_of, invocation, put_result, result_written, refused, IsInner, next_frame, counted, Ending, Finished, Stopped, Serial, Made, Ended, Went, Broke, Refused, conclusion_of, IsSerialRun}
+use Rattle.cilk_program.specs.SerialRun.{Transcript, Memory, Frame, itself, cells_of, own_from, own_reducers, stored, event_of, invocation, put_result, result_written, refused, IsInner, next_frame, counted, Ending, Finished, Stopped, Serial, Made, Ended, Went, Broke, Refused, conclusion_of, IsSerialRun}
 use Rattle.cilk_program.specs.Scopes.{cell_in}
 use Rattle.cilk_program.specs.Store.{Store, clear_all}
 use Rattle.cilk_monoid.specs.Ranges.{same_instance}
 use Rattle.cilk_monoid.specs.declared.kind.MonoidKind.{MonoidKind}
 use Rattle.cilk_types.specs.declared.event.Instance.{Instance}
 use Rattle.cilk_meaning.specs.Numbering.{Counts, counts_of, entered, counts_after}
-use Rattle.cilk_meaning.specs.Answered.{written, IsRight, AreRight, cells_after, printed_by, prints, opening_cells, IsLeft, IsSmall}
+use Rattle.cilk_meaning.specs.Answered.{written, IsRightRead, AreRight, cells_after, printed_by, prints, opening_cells, IsLeft, IsSmall}
 use Rattle.cilk_meaning.proofs.Naming.{well_named_parts}
 use Rattle.cilk_meaning.proofs.Asked.{asks_there}
 use Rattle.cilk_meaning.proofs.Existence.{none_some}
@@ -56,7 +56,7 @@ starts_prints Spawn n es = refl
 
 -- one event over the store
 record Does (cells : ℕ → ℤ) (output : List ℤ) (e : Event) (cells' : ℕ → ℤ) (output' : List ℤ) : Type 0 where
-  right : IsRight e cells
+  right : IsRightRead e cells
   written_is : cells' ≡ written e cells
   printed_is : output' ≡ output ++ printed_by e
 
@@ -122,7 +122,7 @@ child_kept p fr m callees.Root taken = absurd taken
 child_kept p fr m (callees.Function c) (x, e) = (cell_in itself fr.scope x, ap (option_map (cell_in itself fr.scope)) e)
 child_kept p fr m (callees.Loop l) taken = absurd taken
 
-pub serial_right : {p : Source} {inputs : List ℤ} {fr : Frame} {start : ℕ} {history : List ℤ} {m : Memory} {r : Run} {es : List Event} {end : Ending} → Serial p inputs fr start history m r es end
+pub serial_right : {p : Source} {inputs : List ℤ} {fr : Frame} {start : ℕ} {history : List ℤ} {m : Memory} {r : Transcript} {es : List Event} {end : Ending} → Serial p inputs fr start history m r es end
     → IsTrue (is_well_named p) → CalleeIsFit p fr.callee → IsKept fr → AreRight m.store.cells es × DoAll m.store.cells m.store.output es end
 serial_right {p = p} {inputs = inputs} (Made {fr = fr} {start = start} {history = history} {m = m} {es = es} {end = end} k left q inner ok rest) well fit kept =
     let there = subst (λ (q : Asked). AskIsThere p fr.callee q.ask) q (asks_there p well fr.callee fit inputs history start) in
@@ -143,7 +143,7 @@ serial_right {p = p} {inputs = inputs} (Broke {fr = fr} {start = start} {history
     (starts_right how (suc m.frames) es m.store.cells one.0, tt)
 serial_right (Refused k left f q bad) well fit kept = (tt, tt)
 
-pub runs_right : (p : Source) → IsTrue (is_well_named p) → (inputs : List ℤ) (r : Run) (es : List Event) (c : Conclusion) → IsSerialRun p inputs r es c → AreRight (opening_cells p inputs) es
+pub runs_right : (p : Source) → IsTrue (is_well_named p) → (inputs : List ℤ) (r : Transcript) (es : List Event) (c : Conclusion) → IsSerialRun p inputs r es c → AreRight (opening_cells p inputs) es
 runs_right p well inputs r es c (end, d, e) = (serial_right d well tt (λ taken. absurd taken)).0
 
 left_by : (p : Source) (inputs : List ℤ) (es : List Event) (outcome : Outcome) (end : Ending) → DoAll (opening_cells p inputs) [] es end → Leaves outcome ≡ conclusion_of p inputs end → IsLeft p inputs es outcome
@@ -163,7 +163,7 @@ left_by p inputs es outcome (Stopped f) h e = absurd (subst ends e tt)
     ends (Leaves o) = Unit {0}
     ends (StopsBy f) = ⊥
 
-pub runs_leave : (p : Source) → IsTrue (is_well_named p) → (inputs : List ℤ) (r : Run) (es : List Event) (outcome : Outcome) → IsSerialRun p inputs r es (Leaves outcome) → IsLeft p inputs es outcome
+pub runs_leave : (p : Source) → IsTrue (is_well_named p) → (inputs : List ℤ) (r : Transcript) (es : List Event) (outcome : Outcome) → IsSerialRun p inputs r es (Leaves outcome) → IsLeft p inputs es outcome
 runs_leave p well inputs r es outcome (end, d, e) = left_by p inputs es outcome end (serial_right d well tt (λ taken. absurd taken)).1 e
 
 -- ---- limits
@@ -188,7 +188,7 @@ child_fits p m how callee ok =
     let less = ltb-true m.frames MAX_FRAMES both.0 in
     record { frames = omega (arith, less); cells = ltb-false MAX_CELLS (m.cells + cells_of p callee) both.1 }
 
-serial_fits : {p : Source} {inputs : List ℤ} {fr : Frame} {start : ℕ} {history : List ℤ} {m : Memory} {r : Run} {es : List Event} {end : Ending} → Serial p inputs fr start history m r es end → Fits (counts_of m) → Fits (counts_after p r (counts_of m))
+serial_fits : {p : Source} {inputs : List ℤ} {fr : Frame} {start : ℕ} {history : List ℤ} {m : Memory} {r : Transcript} {es : List Event} {end : Ending} → Serial p inputs fr start history m r es end → Fits (counts_of m) → Fits (counts_after p r (counts_of m))
 serial_fits (Made k left q inner ok rest) h = serial_fits rest h
 serial_fits (Ended v left q ok) h = h
 serial_fits {p = p} (Went {m = m} {u = u} {r = r} how callee left v left' m' q ok inner rest) h =
@@ -199,7 +199,7 @@ serial_fits {p = p} (Went {m = m} {u = u} {r = r} how callee left v left' m' q o
 serial_fits {p = p} (Broke {m = m} how callee left f q ok inner) h = serial_fits inner (child_fits p m how callee ok)
 serial_fits (Refused k left f q bad) h = h
 
-pub runs_small : (p : Source) → IsTrue (is_well_named p) → (inputs : List ℤ) (r : Run) (es : List Event) (c : Conclusion) → IsSerialRun p inputs r es c → IsSmall p r
+pub runs_small : (p : Source) → IsTrue (is_well_named p) → (inputs : List ℤ) (r : Transcript) (es : List Event) (c : Conclusion) → IsSerialRun p inputs r es c → IsSmall p r
 runs_small p well inputs r es c (end, d, e) =
     let parts = well_named_parts p well in
     let f = parts.functions p.main parts.main in

@@ -23,7 +23,7 @@ use Rattle.cilk_program.specs.Outcomes.{Leaves, cells_from, finals_from, outcome
 use Rattle.cilk_program.specs.Behaviour.{◌>>=◌, function_gives, finishes, all_do, frame_gives}
 use Rattle.cilk_program.specs.Elision as elision
 use Rattle.cilk_program.specs.Elision.{itself, Came, GoesOn, Returns, Faults, home_in, entered, begins, ElidesAll, IsElision}
-use Rattle.cilk_program.specs.SerialRun.{Run, Memory, stop, act, child, global_reducer, root_frame, before_root, begun, Ending, Serial, conclusion_of}
+use Rattle.cilk_program.specs.SerialRun.{Transcript, Memory, stop, act, child, global_reducer, root_frame, before_root, begun, Ending, Serial, conclusion_of}
 use Rattle.cilk_meaning.specs.Agreement.{IsCutOff, EndsAsElided}
 use Rattle.cilk_meaning.proofs.Ties.{Same, Since, since_itself, same_clear_all, as_equal, parts, same_itself, not_chosen}
 use Rattle.cilk_meaning.proofs.Sights.{kind_within}
@@ -35,14 +35,14 @@ use Rattle.cilk_meaning.proofs.Calls.{call_ends, function_body_named, main_plain
 use Rattle.cilk_meaning.proofs.Turns.{loop_ends}
 
 module _ (p : Source) (wn : IsTrue (is_well_named p)) (inputs : List ℤ) where
-  elided : (u : Run) → Children (IsElided p inputs) u → IsElided p inputs u
+  elided : (u : Transcript) → Children (IsElided p inputs) u → IsElided p inputs u
   elided u inner = record {
     function = λ tied m m' b s scope left es end i words same sees named ev d. call_ends p wn inputs tied m m' b s scope left i words same sees named end ev u es inner d;
     loop = λ tied m m' s scope left es end l same sees below d. loop_ends p wn inputs tied m m' s scope left l same sees below end u es inner d;
   }
 
   -- each child of a run is as its elision, and so are its own
-  pub all_elided : (r : Run) → Children (IsElided p inputs) r
+  pub all_elided : (r : Transcript) → Children (IsElided p inputs) r
   all_elided stop = tt
   all_elided (act k v r) = all_elided r
   all_elided (child how c u r) = (elided u (all_elided u), all_elided r)
@@ -197,7 +197,7 @@ module _ (p : Source) (wn : IsTrue (is_well_named p)) (inputs : List ℤ) (end :
   body_ends left (Broken' fault el q) = inl (Faults fault, f, refl, el, ap (conclusion_of p inputs) q)
   body_ends left (Limited fault l q) = inr (subst (λ c. IsCutOff (conclusion_of p inputs c)) (sym q) l)
 
-  pub run_ends : (ticks room : ℕ) (r : Run) (es : List Event) → Serial p inputs (root_frame p inputs) ticks [] (begun p callees.Root (before_root p inputs room)) r es end → Goal
+  pub run_ends : (ticks room : ℕ) (r : Transcript) (es : List Event) → Serial p inputs (root_frame p inputs) ticks [] (begun p callees.Root (before_root p inputs room)) r es end → Goal
   run_ends ticks room r es d =
       after (entered_now ticks (starts site m1 (begun p callees.Root (before_root p inputs room)) ticks r es (all_elided p wn inputs r) d (record { store = root_same; cells = refl }) (since_itself global_reducer count)))
     where

@@ -10,7 +10,7 @@ use Rattle.cilk_program.specs.declared.ask.Callee.TheVariants as callees
 use Rattle.cilk_program.specs.Syntax.{Source, Number, Empty, Return, Nothing, Then}
 use Rattle.cilk_program.specs.Behaviour.{Asks, ◌>>=◌, asks_for, condition, turns, does, all_do, unless_returned, finishes, ended, frame_asks}
 use Rattle.cilk_program.specs.Outcomes.{Conclusion, Leaves, StopsBy}
-use Rattle.cilk_program.specs.SerialRun.{Run, act, stop, Stopped, Made, Refused, begun, with_store, stored, before_root, root_frame, conclusion_of, IsSerialRunWithin}
+use Rattle.cilk_program.specs.SerialRun.{Transcript, act, stop, Stopped, Made, Refused, begun, with_store, stored, before_root, root_frame, conclusion_of, IsSerialRunWithin}
 use Rattle.cilk_meaning.specs.Numbering.{counts_after, entered, unbegun}
 use Rattle.cilk_meaning.specs.Worked.{MakesWithin, Takes, nothing, NothingRuns, countdown, CountdownRuns, edges, EdgesRun, local_edges, LocalEdgesRun, division_by_zero, DivisionByZeroStops, skipped_division, SkippedDivisionRuns, short_input, ShortInputStops, operators, OperatorsRun, branches, BranchesRun, no_return, NoReturnRuns, sums, SumsRun, index_outside, IndexOutsideStops, change_outside, ChangeOutsideStops, read_outside, ReadOutsideStops, redeclared, RedeclaredRuns, endless, EndlessStops, TicksCount, FaultsInOrder}
 use Rattle.cilk_meaning.proofs.Computed.{ran_within}
@@ -37,7 +37,7 @@ edges_run = within MAX_TICKS MAX_EVENTS edges [] _ _ refl refl
 pub counted : (n frames ticks room : ℕ) (p : Source) (inputs : List ℤ) (c : Conclusion) → length (ran_within p inputs ticks room).events ≡ n
     → (counts_after p (ran_within p inputs ticks room).run (entered p callees.Root (unbegun p))).frames ≡ frames
     → conclusion_of p inputs (ran_within p inputs ticks room).ending ≡ c
-    → (r : Run) × (es : List Event) × (length es ≡ n) × ((counts_after p r (entered p callees.Root (unbegun p))).frames ≡ frames) × IsSerialRunWithin p inputs ticks room r es c
+    → (r : Transcript) × (es : List Event) × (length es ≡ n) × ((counts_after p r (entered p callees.Root (unbegun p))).frames ≡ frames) × IsSerialRunWithin p inputs ticks room r es c
 counted n frames ticks room p inputs c many begun ending =
     let w = ran_within p inputs ticks room in
     (w.run, w.events, many, begun, subst (λ c. IsSerialRunWithin p inputs ticks room w.run w.events c) ending (run_within p inputs ticks room))

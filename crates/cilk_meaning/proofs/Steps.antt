@@ -12,11 +12,11 @@ use Rattle.cilk_program.specs.declared.ask.Callee.TheVariants as callees
 use Rattle.cilk_types.specs.declared.invocation.Invocation.{Invocation}
 use Rattle.cilk_program.specs.Syntax.{Source}
 use Rattle.cilk_program.specs.Behaviour.{asks_for, frame_asks}
-use Rattle.cilk_program.specs.SerialRun.{Run, stop, act, child, Memory, Frame, next_frame, begun, counted, with_store, answer_to, stored, full, cells_of, refused, IsInner, Ending, Finished, Stopped, Serial, Made, Ended, Went, Broke, Refused}
+use Rattle.cilk_program.specs.SerialRun.{Transcript, stop, act, child, Memory, Frame, next_frame, begun, counted, with_store, answer_to, stored, full, cells_of, refused, IsInner, Ending, Finished, Stopped, Serial, Made, Ended, Went, Broke, Refused}
 use Rattle.cilk_meaning.specs.Agreement.{IsLimit, IsCrowd}
 
 -- each child of what a frame does
-abbrev pub Children : (Run → Type 0) → Run → Type 0
+abbrev pub Children : (Transcript → Type 0) → Transcript → Type 0
 Children P stop = Unit {0}
 Children P (act k v r) = Children P r
 Children P (child how c u r) = P u × Children P r
@@ -144,13 +144,13 @@ fault_of (asks.Result v) = TooManyEvents
 fault_of (asks.End v) = TooManyEvents
 fault_of (asks.Fault f) = f
 
-module _ (p : Source) (inputs : List ℤ) (P : Run → Type 0) where
+module _ (p : Source) (inputs : List ℤ) (P : Transcript → Type 0) where
   -- an ask that is answered at once
   pub data Answered (fr : Frame) (start : ℕ) (history : List ℤ) (m : Memory) (k : Ask) (end : Ending) : Type 0 where
-    Goes : (r : Run) (es : List Event) → Serial p inputs fr start (history ++ answer_to fr m k ∷ []) (with_store m (stored p fr m k)) r es end → Children P r → Answered fr start history m k end
+    Goes : (r : Transcript) (es : List Event) → Serial p inputs fr start (history ++ answer_to fr m k ∷ []) (with_store m (stored p fr m k)) r es end → Children P r → Answered fr start history m k end
     Full : m.room ≡ 0 → end ≡ Stopped TooManyEvents → Answered fr start history m k end
 
-  pub answered : {fr : Frame} {start : ℕ} {history : List ℤ} {m : Memory} {r : Run} {es : List Event} {end : Ending} (k : Ask) (left : ℕ) → IsInner k → frame_asks p inputs fr.callee history start ≡ asks_for k left → Children P r
+  pub answered : {fr : Frame} {start : ℕ} {history : List ℤ} {m : Memory} {r : Transcript} {es : List Event} {end : Ending} (k : Ask) (left : ℕ) → IsInner k → frame_asks p inputs fr.callee history start ≡ asks_for k left → Children P r
       → Serial p inputs fr start history m r es end → Answered fr start history m k end
   answered {end = end} k left i e inner (Made {fr} {start} {history} {m} {r} {es} k' left' e' i' ref d) =
       let same : k' ≡ k = ap (λ a. a.ask) (sym e' ∙ e) in
@@ -165,12 +165,12 @@ module _ (p : Source) (inputs : List ℤ) (P : Run → Type 0) where
 
   -- a child
   pub data Invoked (fr : Frame) (start : ℕ) (history : List ℤ) (m : Memory) (callee : Callee) (left : ℕ) (end : Ending) : Type 0 where
-    Ran : (u r : Run) (es es' : List Event) (v : ℤ) (left' : ℕ) (m' : Memory) → Serial p inputs (next_frame p fr.scope m callee) left [] (begun p callee (counted m)) u es (Finished v left' m')
+    Ran : (u r : Transcript) (es es' : List Event) (v : ℤ) (left' : ℕ) (m' : Memory) → Serial p inputs (next_frame p fr.scope m callee) left [] (begun p callee (counted m)) u es (Finished v left' m')
         → Serial p inputs fr (left' + (start - left)) (history ++ pos 0 ∷ []) m' r es' end → P u → Children P r → Invoked fr start history m callee left end
-    Broken : (u : Run) (es : List Event) (f : Fault) → Serial p inputs (next_frame p fr.scope m callee) left [] (begun p callee (counted m)) u es (Stopped f) → P u → end ≡ Stopped f → Invoked fr start history m callee left end
+    Broken : (u : Transcript) (es : List Event) (f : Fault) → Serial p inputs (next_frame p fr.scope m callee) left [] (begun p callee (counted m)) u es (Stopped f) → P u → end ≡ Stopped f → Invoked fr start history m callee left end
     Crowded : (f : Fault) → IsLimit f → (IsCrowd f ⊎ (m.room ≡ 0)) → end ≡ Stopped f → Invoked fr start history m callee left end
 
-  pub invoked : {fr : Frame} {start : ℕ} {history : List ℤ} {m : Memory} {r : Run} {es : List Event} {end : Ending} (how : Invocation) (callee : Callee) (left : ℕ)
+  pub invoked : {fr : Frame} {start : ℕ} {history : List ℤ} {m : Memory} {r : Transcript} {es : List Event} {end : Ending} (how : Invocation) (callee : Callee) (left : ℕ)
       → frame_asks p inputs fr.callee history start ≡ asks_for (asks.Invoke how callee) left → Children P r → Serial p inputs fr start history m r es end → Invoked fr start history m callee left end
   invoked how callee left e inner (Made k' left' e' i' ref d) = absurd (subst IsInner (ap (λ a. a.ask) (sym e' ∙ e)) i')
   invoked how callee left e inner (Ended v left' e' ref) = absurd (subst IsEnd (ap (λ a. a.ask) (sym e' ∙ e)) tt)
@@ -191,7 +191,7 @@ module _ (p : Source) (inputs : List ℤ) (P : Run → Type 0) where
       Crowded f q.0 (elim q.1 [ inl c ↦ inl c | inr e ↦ inr (eqb-true m.room 0 e) ]) refl
 
   -- a frame's end
-  pub ends : {fr : Frame} {start : ℕ} {history : List ℤ} {m : Memory} {r : Run} {es : List Event} {end : Ending} (v : ℤ) (left : ℕ) → frame_asks p inputs fr.callee history start ≡ asks_for (asks.End v) left
+  pub ends : {fr : Frame} {start : ℕ} {history : List ℤ} {m : Memory} {r : Transcript} {es : List Event} {end : Ending} (v : ℤ) (left : ℕ) → frame_asks p inputs fr.callee history start ≡ asks_for (asks.End v) left
       → Serial p inputs fr start history m r es end → (end ≡ Finished v left (with_store m (stored p fr m (asks.End v)))) ⊎ ((m.room ≡ 0) × (end ≡ Stopped TooManyEvents))
   ends v left e (Made k' left' e' i' ref d) = absurd (subst IsInner (ap (λ a. a.ask) (sym e' ∙ e)) i')
   ends v left e (Ended {fr} {start} {history} {m} v' left' e' ref) =
@@ -204,7 +204,7 @@ module _ (p : Source) (inputs : List ℤ) (P : Run → Type 0) where
       inr (full_room m f q, ap Stopped (full_fault m f q))
 
   -- a fault
-  pub faulted : {fr : Frame} {start : ℕ} {history : List ℤ} {m : Memory} {r : Run} {es : List Event} {end : Ending} (f : Fault) (left : ℕ) → frame_asks p inputs fr.callee history start ≡ asks_for (asks.Fault f) left
+  pub faulted : {fr : Frame} {start : ℕ} {history : List ℤ} {m : Memory} {r : Transcript} {es : List Event} {end : Ending} (f : Fault) (left : ℕ) → frame_asks p inputs fr.callee history start ≡ asks_for (asks.Fault f) left
       → Serial p inputs fr start history m r es end → end ≡ Stopped f
   faulted f left e (Made k' left' e' i' ref d) = absurd (subst IsInner (ap (λ a. a.ask) (sym e' ∙ e)) i')
   faulted f left e (Ended v left' e' ref) = absurd (subst IsEnd (ap (λ a. a.ask) (sym e' ∙ e)) tt)

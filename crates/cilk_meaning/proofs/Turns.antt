@@ -17,7 +17,7 @@ use Rattle.cilk_program.specs.Store.{put}
 use Rattle.cilk_program.specs.Behaviour.{Got, ◌>>=◌, ask, invokes, finishes, all_do, middle, part, frame_gives}
 use Rattle.cilk_program.specs.Elision as elision
 use Rattle.cilk_program.specs.Elision.{Sight, Came, GoesOn, Returns, Faults, home_in, turned, on_ended, turns_between, ElidesAll, ElidesTurns, NoTurns, Turned, TurnFails, ElidesTurn, OneTurn}
-use Rattle.cilk_program.specs.SerialRun.{Run, Memory, next_frame, home_of, begun, counted, Ending, Serial}
+use Rattle.cilk_program.specs.SerialRun.{Transcript, Memory, next_frame, home_of, begun, counted, Ending, Serial}
 use Rattle.cilk_meaning.proofs.Ties.{since_itself, same_begun}
 use Rattle.cilk_meaning.proofs.Sights.{SeesAlike, sees_since, sees_turn}
 use Rattle.cilk_meaning.proofs.Steps.{Children}
@@ -109,7 +109,7 @@ module _ (p : Source) (wn : IsTrue (is_well_named p)) (inputs : List ℤ) (tied 
         subst (λ c. AskGoes site (record m1 { store = put c l.low m.store }) left (λ a t. all_do inputs body.body a t >>= finishes false)) (add-zero m.cells)
         (write (λ _ a t. all_do inputs body.body a t >>= finishes false) (places.Local 0 0) l.low (now_as (λ a t. ap (λ b. if b then Turn a t else Parts a t) one) n)))
 
-    one_turn : (u : Run) (es : List Event) → Children (IsElided p inputs) u → Serial p inputs (next_frame p scope m' (callees.Loop l)) left [] (begun p (callees.Loop l) (counted m')) u es end → ChildEnds E tied m.reducers left end
+    one_turn : (u : Transcript) (es : List Event) → Children (IsElided p inputs) u → Serial p inputs (next_frame p scope m' (callees.Loop l)) left [] (begun p (callees.Loop l) (counted m')) u es end → ChildEnds E tied m.reducers left end
     one_turn u es inner d =
         after (turn_starts (starts site m1 (begun p (callees.Loop l) (counted m')) left u es inner d
         (record { store = same_begun same.store; cells = ap₂ (λ c b. c + (if b then body.cells else 0)) same.cells (sym one) }) (since_itself tied m.reducers)))
@@ -165,7 +165,7 @@ module _ (p : Source) (wn : IsTrue (is_well_named p)) (inputs : List ℤ) (tied 
         first_ends (child_goes (λ r. Stays r × First r) Spawn (callees.Loop first) (λ _ a t. invokes Call (callees.Loop second) a t >>= finishes false) n
         (λ u es end' ok d. child_stays First n.tied m.reducers left end' (ok.loop n.tied m n.m' s site.fr.scope left es end' first n.same (sees_since sees n.since) k.below d)))
 
-    halved : (u : Run) (es : List Event) → Children (IsElided p inputs) u → Serial p inputs (next_frame p scope m' (callees.Loop l)) left [] (begun p (callees.Loop l) (counted m')) u es end → ChildEnds E tied m.reducers left end
+    halved : (u : Transcript) (es : List Event) → Children (IsElided p inputs) u → Serial p inputs (next_frame p scope m' (callees.Loop l)) left [] (begun p (callees.Loop l) (counted m')) u es end → ChildEnds E tied m.reducers left end
     halved u es inner d =
         after (starts site m (begun p (callees.Loop l) (counted m')) left u es inner d
         (record { store = same_begun same.store; cells = sym (add-zero m.cells) ∙ ap₂ (λ c b. c + (if b then body.cells else 0)) same.cells (sym many) }) (since_itself tied m.reducers))
@@ -174,7 +174,7 @@ module _ (p : Source) (wn : IsTrue (is_well_named p)) (inputs : List ℤ) (tied 
         after (Answer n) = halves_go (now_as (λ a t. ap (λ b. if b then Turn a t else Parts a t) many) n)
         after (NoRoom q) = subst (ChildEnds E tied m.reducers left) (sym q) (inr tt)
 
-  pub loop_ends : (u : Run) (es : List Event) → Children (IsElided p inputs) u → Serial p inputs (next_frame p scope m' (callees.Loop l)) left [] (begun p (callees.Loop l) (counted m')) u es end → ChildEnds E tied m.reducers left end
+  pub loop_ends : (u : Transcript) (es : List Event) → Children (IsElided p inputs) u → Serial p inputs (next_frame p scope m' (callees.Loop l)) left [] (begun p (callees.Loop l) (counted m')) u es end → ChildEnds E tied m.reducers left end
   loop_ends u es inner d = by_test (int_eq (l.high -ℤ l.low) (pos 1)) refl
     where
       by_test : (t : Bool) → int_eq (l.high -ℤ l.low) (pos 1) ≡ t → ChildEnds E tied m.reducers left end

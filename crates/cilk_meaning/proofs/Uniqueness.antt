@@ -11,13 +11,13 @@ use Rattle.cilk_types.specs.declared.invocation.Invocation.{Invocation}
 use Rattle.cilk_program.specs.Syntax.{Source}
 use Rattle.cilk_program.specs.Outcomes.{Conclusion}
 use Rattle.cilk_program.specs.Behaviour.{Asked, asks_for, frame_asks}
-use Rattle.cilk_program.specs.SerialRun.{Run, stop, act, child, Memory, Frame, answer_to, stored, event_of, invocation, refused, IsInner, next_frame, begun, counted, with_store, Ending, Finished, Stopped, Serial, Made, Ended, Went, Broke, Refused, before_root, root_frame, conclusion_of, IsSerialRunWithin}
+use Rattle.cilk_program.specs.SerialRun.{Transcript, stop, act, child, Memory, Frame, answer_to, stored, event_of, invocation, refused, IsInner, next_frame, begun, counted, with_store, Ending, Finished, Stopped, Serial, Made, Ended, Went, Broke, Refused, before_root, root_frame, conclusion_of, IsSerialRunWithin}
 use Rattle.cilk_meaning.specs.Runs.{HasSerialRun, HasOneSerialRun}
 use Rattle.cilk_meaning.proofs.Computed.{Ran, Going, broken, made, joined, settled, ran, ran_within}
 use Rattle.cilk_meaning.proofs.Existence.{room_for, serial_spends, ran_run}
 
 -- a serial run is what was computed
-pub record Is (r : Run) (es : List Event) (end : Ending) (w : Ran) : Type 0 where
+pub record Is (r : Transcript) (es : List Event) (end : Ending) (w : Ran) : Type 0 where
   pub run_is : r ≡ w.run
   pub events_are : es ≡ w.events
   pub ending_is : end ≡ w.ending
@@ -26,12 +26,12 @@ itself : (w : Ran) → Is w.run w.events w.ending w
 itself w = record { run_is = refl; events_are = refl; ending_is = refl }
 
 module _ (p : Source) where
-  made_is : (k : Ask) (fr : Frame) (start : ℕ) (history : List ℤ) (m : Memory) (go : Going) (r : Run) (es : List Event) (end : Ending)
+  made_is : (k : Ask) (fr : Frame) (start : ℕ) (history : List ℤ) (m : Memory) (go : Going) (r : Transcript) (es : List Event) (end : Ending)
       → Is r es end (go fr start (history ++ answer_to fr m k ∷ []) (with_store m (stored p fr m k))) → Is (act k (answer_to fr m k) r) (event_of fr m k ∷ es) end (made p k fr start history m go)
   made_is k fr start history m go r es end h = record { run_is = ap (act k (answer_to fr m k)) h.run_is; events_are = ap (λ es. event_of fr m k ∷ es) h.events_are; ending_is = h.ending_is }
 
   -- an event after which its frame goes on
-  inner_is : (k : Ask) (left : ℕ) (fr : Frame) (start : ℕ) (history : List ℤ) (m : Memory) (go : Going) (r : Run) (es : List Event) (end : Ending) → IsInner k
+  inner_is : (k : Ask) (left : ℕ) (fr : Frame) (start : ℕ) (history : List ℤ) (m : Memory) (go : Going) (r : Transcript) (es : List Event) (end : Ending) → IsInner k
       → Is r es end (go fr start (history ++ answer_to fr m k ∷ []) (with_store m (stored p fr m k))) → Is (act k (answer_to fr m k) r) (event_of fr m k ∷ es) end (settled p None k left fr start history m go)
   inner_is asks.Begin left fr start history m go r es end inner h = made_is asks.Begin fr start history m go r es end h
   inner_is (asks.Read x) left fr start history m go r es end inner h = made_is (asks.Read x) fr start history m go r es end h
@@ -49,7 +49,7 @@ module _ (p : Source) where
   inner_is (asks.Fault f) left fr start history m go r es end inner h = absurd inner
 
   -- once a child is what was computed, so is what its parent does
-  joined_is : (w : Ran) (u : Run) (es : List Event) (v : ℤ) (left' : ℕ) (m' : Memory) (how : Invocation) (callee : Callee) (left : ℕ) (fr : Frame) (start : ℕ) (history : List ℤ) (m : Memory) (go : Going) (r : Run) (es' : List Event) (end : Ending)
+  joined_is : (w : Ran) (u : Transcript) (es : List Event) (v : ℤ) (left' : ℕ) (m' : Memory) (how : Invocation) (callee : Callee) (left : ℕ) (fr : Frame) (start : ℕ) (history : List ℤ) (m : Memory) (go : Going) (r : Transcript) (es' : List Event) (end : Ending)
       → Is u es (Finished v left' m') w → Is r es' end (go fr (left' + (start - left)) (history ++ pos 0 ∷ []) m')
       → Is (child how callee u r) (invocation how (suc m.frames) ∷ (es ++ es')) end (joined p w.ending w.run w.events how callee left fr start history m go)
   joined_is w u es v left' m' how callee left fr start history m go r es' end inner rest =
@@ -59,7 +59,7 @@ module _ (p : Source) where
       (subst (λ b. Is (child how callee w.run r) (head ∷ (b ++ es')) end (joined p (Finished v left' m') w.run w.events how callee left fr start history m go)) (sym inner.events_are)
       (record { run_is = ap (child how callee w.run) rest.run_is; events_are = ap (λ b. head ∷ (w.events ++ b)) rest.events_are; ending_is = rest.ending_is })))
 
-  broke_is : (w : Ran) (u : Run) (es : List Event) (f : Fault) (how : Invocation) (callee : Callee) (left : ℕ) (fr : Frame) (start : ℕ) (history : List ℤ) (m : Memory) (go : Going)
+  broke_is : (w : Ran) (u : Transcript) (es : List Event) (f : Fault) (how : Invocation) (callee : Callee) (left : ℕ) (fr : Frame) (start : ℕ) (history : List ℤ) (m : Memory) (go : Going)
       → Is u es (Stopped f) w → Is (child how callee u stop) (invocation how (suc m.frames) ∷ es) (Stopped f) (joined p w.ending w.run w.events how callee left fr start history m go)
   broke_is w u es f how callee left fr start history m go inner =
       let head = invocation how (suc m.frames) in
@@ -67,14 +67,14 @@ module _ (p : Source) where
       (record { run_is = ap (λ b. child how callee b stop) inner.run_is; events_are = ap (λ b. head ∷ b) inner.events_are; ending_is = refl })
 
   -- an ask that is known, and whether it is refused
-  at_ask : (inputs : List ℤ) (n : ℕ) (fr : Frame) (start : ℕ) (history : List ℤ) (m : Memory) (k : Ask) (left : ℕ) (o : Option Fault) (r : Run) (es : List Event) (end : Ending)
+  at_ask : (inputs : List ℤ) (n : ℕ) (fr : Frame) (start : ℕ) (history : List ℤ) (m : Memory) (k : Ask) (left : ℕ) (o : Option Fault) (r : Transcript) (es : List Event) (end : Ending)
       → frame_asks p inputs fr.callee history start ≡ asks_for k left → refused p m k ≡ o
       → Is r es end (settled p o k left fr start history m (ran p inputs n)) → Is r es end (ran p inputs (suc n) fr start history m)
   at_ask inputs n fr start history m k left o r es end q known h =
       subst (λ (q : Asked). Is r es end (settled p (refused p m q.ask) q.ask q.left fr start history m (ran p inputs n))) (sym q)
       (subst (λ o. Is r es end (settled p o k left fr start history m (ran p inputs n))) (sym known) h)
 
-pub serial_is : (n : ℕ) {p : Source} {inputs : List ℤ} {fr : Frame} {start : ℕ} {history : List ℤ} {m : Memory} {r : Run} {es : List Event} {end : Ending} → m.room < n → Serial p inputs fr start history m r es end → Is r es end (ran p inputs n fr start history m)
+pub serial_is : (n : ℕ) {p : Source} {inputs : List ℤ} {fr : Frame} {start : ℕ} {history : List ℤ} {m : Memory} {r : Transcript} {es : List Event} {end : Ending} → m.room < n → Serial p inputs fr start history m r es end → Is r es end (ran p inputs n fr start history m)
 serial_is zero {m = m} h s = absurd (omega (arith, h))
 serial_is (suc n) {p = p} {inputs = inputs} h (Made {fr = fr} {start = start} {history = history} {m = m} {r = r} {es = es} {end = end} k left q inner ok rest) =
     let some = room_for p m k ok in
@@ -102,12 +102,12 @@ run_within p inputs ticks room =
     (w.ending, ran_run p inputs (suc room) (root_frame p inputs) ticks [] (begun p callees.Root (before_root p inputs room)) (omega arith), refl)
 
 -- a serial run is the one that is computed
-pub record IsComputed (p : Source) (inputs : List ℤ) (ticks room : ℕ) (r : Run) (es : List Event) (c : Conclusion) : Type 0 where
+pub record IsComputed (p : Source) (inputs : List ℤ) (ticks room : ℕ) (r : Transcript) (es : List Event) (c : Conclusion) : Type 0 where
   pub run_is : r ≡ (ran_within p inputs ticks room).run
   pub events_are : es ≡ (ran_within p inputs ticks room).events
   pub conclusion_is : c ≡ conclusion_of p inputs (ran_within p inputs ticks room).ending
 
-pub is_computed : (p : Source) (inputs : List ℤ) (ticks room : ℕ) (r : Run) (es : List Event) (c : Conclusion) → IsSerialRunWithin p inputs ticks room r es c → IsComputed p inputs ticks room r es c
+pub is_computed : (p : Source) (inputs : List ℤ) (ticks room : ℕ) (r : Transcript) (es : List Event) (c : Conclusion) → IsSerialRunWithin p inputs ticks room r es c → IsComputed p inputs ticks room r es c
 is_computed p inputs ticks room r es c (end, s, e) =
     let is = serial_is (suc room) (omega arith) s in
     record { run_is = is.run_is; events_are = is.events_are; conclusion_is = e ∙ ap (conclusion_of p inputs) is.ending_is }

@@ -7,7 +7,7 @@ use Rattle.cilk_program.specs.Syntax.{Source}
 use Rattle.cilk_program.specs.WellNamed.{is_well_named}
 use Rattle.cilk_program.specs.Outcomes.{Conclusion, Leaves, StopsBy}
 use Rattle.cilk_program.specs.Elision.{IsElision}
-use Rattle.cilk_program.specs.SerialRun.{Run, IsSerialRunWithin}
+use Rattle.cilk_program.specs.SerialRun.{Transcript, IsSerialRunWithin}
 
 -- a limit of runs, and no fault of the program's own
 abbrev pub IsLimit : Fault → Type 0
@@ -40,7 +40,7 @@ IsCrowded (StopsBy f) = IsCrowd f
 -- within any ticks and events, a program ends as its elision does, with the same result, globals, output and reducers or by the same fault; only the limits of a run are the run's own
 abbrev pub EndsAsElided : Source → List ℤ → Type 0
 EndsAsElided p inputs =
-    IsTrue (is_well_named p) → (ticks room : ℕ) (r : Run) (es : List Event) (c : Conclusion) → IsSerialRunWithin p inputs ticks room r es c → ¬ (IsCutOff c) → IsElision p inputs c
+    IsTrue (is_well_named p) → (ticks room : ℕ) (r : Transcript) (es : List Event) (c : Conclusion) → IsSerialRunWithin p inputs ticks room r es c → ¬ (IsCutOff c) → IsElision p inputs c
 
 -- the elision ends in one way
 abbrev pub HasOneElision : Source → List ℤ → Type 0
@@ -51,4 +51,4 @@ HasOneElision p inputs = (c c' : Conclusion) → IsElision p inputs c → IsElis
 abbrev pub IsReached : Source → List ℤ → Type 0
 IsReached p inputs =
     IsTrue (is_well_named p) → (c : Conclusion) → IsElision p inputs c
-    → (enough : ℕ) × ((ticks room : ℕ) → enough ≤ ticks → enough ≤ room → (r : Run) (es : List Event) (c' : Conclusion) → IsSerialRunWithin p inputs ticks room r es c' → (c' ≡ c) ⊎ IsCrowded c')
+    → (enough : ℕ) × ((ticks room : ℕ) → enough ≤ ticks → enough ≤ room → (r : Transcript) (es : List Event) (c' : Conclusion) → IsSerialRunWithin p inputs ticks room r es c' → (c' ≡ c) ⊎ IsCrowded c')

@@ -7,7 +7,7 @@ use Rattle.cilk_types.specs.declared.outcome.Outcome.{Outcome}
 use Rattle.cilk_program.specs.declared.ask.Callee.TheVariants as callees
 use Rattle.cilk_program.specs.Syntax.{Source}
 use Rattle.cilk_program.specs.Outcomes.{cells_from}
-use Rattle.cilk_program.specs.SerialRun.{Run, before_root}
+use Rattle.cilk_program.specs.SerialRun.{Transcript, before_root}
 use Rattle.cilk_meaning.specs.Numbering.{unbegun, entered, counts_after}
 
 -- the cells after an event
@@ -16,14 +16,14 @@ written (events.Write c v) cells = λ n. if nat_eq c n then v else cells n
 written e cells = cells
 
 -- a read gives what its cell has
-abbrev pub IsRight : Event → (ℕ → ℤ) → Type 0
-IsRight (events.Read c v) cells = v ≡ cells c
-IsRight e cells = Unit {0}
+abbrev pub IsRightRead : Event → (ℕ → ℤ) → Type 0
+IsRightRead (events.Read c v) cells = v ≡ cells c
+IsRightRead e cells = Unit {0}
 
 -- each read gives what the last write of its cell ahead of it wrote, or the cell's value at the beginning
 abbrev pub AreRight : (ℕ → ℤ) → List Event → Type 0
 AreRight cells [] = Unit {0}
-AreRight cells (e ∷ es) = IsRight e cells × AreRight (written e cells) es
+AreRight cells (e ∷ es) = IsRightRead e cells × AreRight (written e cells) es
 
 abbrev pub cells_after : List Event → (ℕ → ℤ) → ℕ → ℤ
 cells_after [] cells = cells
@@ -48,6 +48,6 @@ pub record IsLeft (p : Source) (inputs : List ℤ) (es : List Event) (outcome : 
   pub output : outcome.output ≡ prints es
 
 -- a run has no more frames and cells than it may
-pub record IsSmall (p : Source) (r : Run) : Type 0 where
+pub record IsSmall (p : Source) (r : Transcript) : Type 0 where
   pub frames : (counts_after p r (entered p callees.Root (unbegun p))).frames ≤ MAX_FRAMES
   pub cells : (counts_after p r (entered p callees.Root (unbegun p))).cells ≤ MAX_CELLS

@@ -5,7 +5,7 @@ use Rattle.cilk_program.specs.declared.ask.Ask.TheVariants as asks
 use Rattle.cilk_program.specs.declared.ask.Callee.{Callee}
 use Rattle.cilk_program.specs.Syntax.{Source}
 use Rattle.cilk_program.specs.Behaviour.{asks_for, frame_asks}
-use Rattle.cilk_program.specs.SerialRun.{Run, stop, act, child}
+use Rattle.cilk_program.specs.SerialRun.{Transcript, stop, act, child}
 
 module _ (p : Source) (inputs : List ℤ) where
   -- after these answers, with some ticks, the frame asks for this
@@ -13,7 +13,7 @@ module _ (p : Source) (inputs : List ℤ) where
   Asks callee history k = (start left : ℕ) × (frame_asks p inputs callee history start ≡ asks_for k left)
 
   -- from this history on each event is the frame's next ask, with its answer, and so with its children from their beginning on
-  abbrev pub Behaves : Callee → List ℤ → Run → Type 0
+  abbrev pub Behaves : Callee → List ℤ → Transcript → Type 0
   Behaves callee history stop = Unit {0}
   Behaves callee history (act k a r) = Asks callee history k × Behaves callee (history ++ a ∷ []) r
   Behaves callee history (child how c u r) = Asks callee history (asks.Invoke how c) × Behaves c [] u × Behaves callee (history ++ pos 0 ∷ []) r

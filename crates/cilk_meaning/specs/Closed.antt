@@ -3,7 +3,7 @@ use Rattle.std.specs.Prelude.{◌≡◌, ◌⊎◌, Bool, true, false}
 use Rattle.cilk_program.specs.declared.ask.Ask.{Ask}
 use Rattle.cilk_program.specs.declared.ask.Ask.TheVariants as asks
 use Rattle.cilk_program.specs.Outcomes.{Conclusion, Leaves, StopsBy}
-use Rattle.cilk_program.specs.SerialRun.{Run, stop, act, child}
+use Rattle.cilk_program.specs.SerialRun.{Transcript, stop, act, child}
 
 abbrev pub IsNoBegin : Ask → Type 0
 IsNoBegin asks.Begin = ⊥
@@ -14,7 +14,7 @@ IsNoResume asks.Resume = ⊥
 IsNoResume k = Unit {0}
 
 -- Where `begun` is false a frame begins first of all, unless it is stopped before, and never again; its children do so too.
-abbrev pub BeginsOnce : (begun : Bool) → Run → Type 0
+abbrev pub BeginsOnce : (begun : Bool) → Transcript → Type 0
 BeginsOnce begun stop = Unit {0}
 BeginsOnce false (act k a r) = (k ≡ asks.Begin) × BeginsOnce true r
 BeginsOnce false (child how callee u r) = ⊥
@@ -22,7 +22,7 @@ BeginsOnce true (act k a r) = IsNoBegin k × BeginsOnce true r
 BeginsOnce true (child how callee u r) = BeginsOnce false u × BeginsOnce true r
 
 -- Right after each child, unless the run is stopped there, the frame goes on by a resume, and nowhere else. `due` says that a child has just ended.
-abbrev pub IsResumed : (due : Bool) → Run → Type 0
+abbrev pub IsResumed : (due : Bool) → Transcript → Type 0
 IsResumed due stop = Unit {0}
 IsResumed true (act k a r) = (k ≡ asks.Resume) × IsResumed false r
 IsResumed true (child how callee u r) = ⊥
@@ -40,23 +40,23 @@ at_end (asks.End v) P Q = P
 at_end k P Q = Q
 
 -- the frame waits for its children once more
-abbrev pub HasSync : Run → Type 0
+abbrev pub HasSync : Transcript → Type 0
 HasSync stop = ⊥
 HasSync (act k a r) = at_sync k (Unit {0}) (HasSync r)
 HasSync (child how callee u r) = HasSync r
 
 -- the frame ends: its end comes last and nowhere else, after each of its children there is a sync, and its children end
-abbrev pub IsClosed : Run → Type 0
+abbrev pub IsClosed : Transcript → Type 0
 IsClosed stop = ⊥
 IsClosed (act k a r) = at_end k (r ≡ stop) (IsClosed r)
 IsClosed (child how callee u r) = IsClosed u × HasSync r × IsClosed r
 
 -- the frame is stopped on its way, or the last of its children is
-abbrev pub IsCutShort : Run → Type 0
+abbrev pub IsCutShort : Transcript → Type 0
 IsCutShort stop = Unit {0}
 IsCutShort (act k a r) = at_end k ⊥ (IsCutShort r)
 IsCutShort (child how callee u r) = (IsClosed u × IsCutShort r) ⊎ (IsCutShort u × (r ≡ stop))
 
-abbrev pub EndsSo : Run → Conclusion → Type 0
+abbrev pub EndsSo : Transcript → Conclusion → Type 0
 EndsSo r (Leaves outcome) = IsClosed r
 EndsSo r (StopsBy f) = IsCutShort r

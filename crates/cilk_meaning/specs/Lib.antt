@@ -6,7 +6,6 @@ pub mod Created
 pub mod Numbering
 pub mod Order
 pub mod Runs
-pub mod Spelled
 pub mod Ticks
 pub mod Visible
 pub mod Worked

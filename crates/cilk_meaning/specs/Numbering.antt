@@ -9,7 +9,7 @@ use Rattle.cilk_program.specs.declared.ask.Callee.{Callee}
 use Rattle.cilk_program.specs.declared.ask.Callee.TheVariants as callees
 use Rattle.cilk_program.specs.Syntax.{Source}
 use Rattle.cilk_program.specs.Scopes.{Scope}
-use Rattle.cilk_program.specs.SerialRun.{Run, stop, act, child, Memory, Frame, cell_at, reducer_at, cells_of, home_of, outer_of, given_to, result_of, invocation, result_written}
+use Rattle.cilk_program.specs.SerialRun.{Transcript, stop, act, child, Memory, Frame, cell_at, reducer_at, cells_of, home_of, outer_of, given_to, result_of, invocation, result_written}
 
 -- how many frames have begun, and how many cells there are, the globals first
 pub record Counts : Type 0 where
@@ -28,7 +28,7 @@ abbrev pub entered : Source → Callee → Counts → Counts
 entered p callee n = record { frames = suc n.frames; cells = n.cells + cells_of p callee }
 
 -- after what a frame and its children do
-abbrev pub counts_after : Source → Run → Counts → Counts
+abbrev pub counts_after : Source → Transcript → Counts → Counts
 counts_after p stop n = n
 counts_after p (act k a r) n = counts_after p r n
 counts_after p (child how callee u r) n = counts_after p r (counts_after p u (entered p callee n))
@@ -60,14 +60,14 @@ numbered fr n (asks.End v) a = events.End
 numbered fr n (asks.Fault f) a = events.End
 
 -- the events of a frame and its children in serial order
-abbrev pub events_of : Source → Frame → Counts → Run → List Event
+abbrev pub events_of : Source → Frame → Counts → Transcript → List Event
 events_of p fr n stop = []
 events_of p fr n (act k a r) = numbered fr n.frames k a ∷ events_of p fr n r
 events_of p fr n (child how callee u r) =
     invocation how (suc n.frames) ∷ (events_of p (frame_of p fr.scope n callee) (entered p callee n) u ++ events_of p fr (counts_after p u (entered p callee n)) r)
 
 -- the events of a run of the first frame
-abbrev pub events_of_root : Source → Run → List Event
+abbrev pub events_of_root : Source → Transcript → List Event
 events_of_root p r = events_of p (frame_of p [] (unbegun p) callees.Root) (entered p callees.Root (unbegun p)) r
 
 -- a frame's number, its first cell, and how many it has
@@ -80,7 +80,7 @@ abbrev pub block_of : Source → Callee → Counts → Block
 block_of p callee n = record { number = suc n.frames; first = n.cells; cells = cells_of p callee }
 
 -- From a point in a frame on, the frame to which a path leads: first so many children are passed over, then the next child's path follows.
-abbrev pub child_at : Source → Run → Counts → ℕ → List ℕ → Option Block
+abbrev pub child_at : Source → Transcript → Counts → ℕ → List ℕ → Option Block
 child_at p stop n k path = None
 child_at p (act a v r) n k path = child_at p r n k path
 child_at p (child how callee u r) n zero [] = Some (block_of p callee n)
@@ -88,7 +88,7 @@ child_at p (child how callee u r) n zero (j ∷ path) = child_at p u (entered p 
 child_at p (child how callee u r) n (suc k) path = child_at p r (counts_after p u (entered p callee n)) k path
 
 -- the frame with this name: ordinals of invocations from 0, from the first frame down
-abbrev pub frame_at : Source → Run → List ℕ → Option Block
+abbrev pub frame_at : Source → Transcript → List ℕ → Option Block
 frame_at p r [] = Some (block_of p callees.Root (unbegun p))
 frame_at p r (k ∷ path) = child_at p r (entered p callees.Root (unbegun p)) k path
 
@@ -98,8 +98,8 @@ pub record Apart (f g : Block) : Type 0 where
   pub cells : (f.first + f.cells ≤ g.first) ⊎ (g.first + g.cells ≤ f.first)
 
 -- names and numbers are tied one to one: two names of frames mean one frame, or frames that lie apart; and a frame's cells lie past the globals
-abbrev pub HasOneName : Source → Run → Type 0
+abbrev pub HasOneName : Source → Transcript → Type 0
 HasOneName p r = (path path' : List ℕ) (f g : Block) → frame_at p r path ≡ Some f → frame_at p r path' ≡ Some g → (path ≡ path') ⊎ Apart f g
 
-abbrev pub LiesPastGlobals : Source → Run → Type 0
+abbrev pub LiesPastGlobals : Source → Transcript → Type 0
 LiesPastGlobals p r = (path : List ℕ) (f : Block) → frame_at p r path ≡ Some f → length p.openings ≤ f.first

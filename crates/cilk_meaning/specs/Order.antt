@@ -11,7 +11,7 @@ use Rattle.cilk_program.specs.declared.syntax.Place.TheVariants as places
 use Rattle.cilk_program.specs.declared.syntax.ReducerPlace.{ReducerPlace}
 use Rattle.cilk_program.specs.declared.syntax.ReducerPlace.TheVariants as reducers
 use Rattle.cilk_program.specs.Syntax.{Source, function_at, main_of}
-use Rattle.cilk_program.specs.SerialRun.{Run, stop, act, child}
+use Rattle.cilk_program.specs.SerialRun.{Transcript, stop, act, child}
 
 -- a frame's first cells get the words that it is given
 abbrev pub writings : ℕ → List ℤ → List Ask
@@ -78,13 +78,13 @@ follows Synced k go = closes k go
 follows Closing k go = (v : ℤ) × (k ≡ asks.End v)
 
 -- an event of the frame itself starts no child, and nothing comes after its end
-abbrev pub IsOwnAt : Ask → Run → Type 0
+abbrev pub IsOwnAt : Ask → Transcript → Type 0
 IsOwnAt (asks.Invoke how callee) r = ⊥
 IsOwnAt (asks.End v) r = r ≡ stop
 IsOwnAt k r = Unit {0}
 
 -- what a frame does from this stage on comes in order, and so does what its children do
-abbrev pub IsOrderly : Source → Stage → Run → Type 0
+abbrev pub IsOrderly : Source → Stage → Transcript → Type 0
 IsOrderly p s stop = Unit {0}
 IsOrderly p s (act k a r) = follows s k (λ s'. IsOrderly p s' r) × IsOwnAt k r
 IsOrderly p s (child how callee u r) = IsOrderly p (Fresh (opening_asks p callee)) u × follows s (asks.Invoke how callee) (λ s'. IsOrderly p s' r)

@@ -13,21 +13,21 @@ use Rattle.cilk_program.specs.declared.syntax.Place.{Place}
 use Rattle.cilk_program.specs.declared.syntax.Place.TheVariants as place
 use Rattle.cilk_program.specs.Syntax.{Source, Function, Expression, Number, Variable, Element, Negate, Not, Binary, And, Or, Input, InputCount, ToVariable, ToElement, Zero, Opening, Statement, Empty, Block, Declare, Assign, Change, Step, If, IfElse, For, Print, Return, Statements, Nothing, Then}
 use Rattle.cilk_program.specs.Outcomes.{Conclusion, Leaves, StopsBy}
-use Rattle.cilk_program.specs.SerialRun.{Run, IsSerialRun, IsSerialRunWithin}
+use Rattle.cilk_program.specs.SerialRun.{Transcript, IsSerialRun, IsSerialRunWithin}
 use Rattle.cilk_meaning.specs.Numbering.{counts_after, entered, unbegun}
 
 -- the program's serial run makes these events, and ends so
 abbrev pub Makes : Source → List ℤ → List Event → Conclusion → Type 0
-Makes p inputs es c = (r : Run) × IsSerialRun p inputs r es c
+Makes p inputs es c = (r : Transcript) × IsSerialRun p inputs r es c
 
 -- within so many ticks and events
 abbrev pub MakesWithin : ℕ → ℕ → Source → List ℤ → List Event → Conclusion → Type 0
-MakesWithin ticks room p inputs es c = (r : Run) × IsSerialRunWithin p inputs ticks room r es c
+MakesWithin ticks room p inputs es c = (r : Transcript) × IsSerialRunWithin p inputs ticks room r es c
 
 -- it makes so many events in so many frames, and ends so
 abbrev pub EndsAfter : ℕ → ℕ → Source → List ℤ → Conclusion → Type 0
 EndsAfter n frames p inputs c =
-    (r : Run) × (es : List Event) × (length es ≡ n) × ((counts_after p r (entered p callees.Root (unbegun p))).frames ≡ frames) × IsSerialRun p inputs r es c
+    (r : Transcript) × (es : List Event) × (length es ≡ n) × ((counts_after p r (entered p callees.Root (unbegun p))).frames ≡ frames) × IsSerialRun p inputs r es c
 
 -- one statement after the other
 abbrev pub row : List Statement → Statements

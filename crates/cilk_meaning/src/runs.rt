@@ -3,9 +3,9 @@
 ghost use Rattle.std.specs.Prelude.{ℕ, ℤ, Bool, List, IsTrue};
 ghost use Rattle.cilk_monoid.specs.declared.kind.MonoidKind.{MonoidKind};
 ghost use Rattle.cilk_program.specs.Syntax.{Source};
-ghost use Rattle.cilk_program.specs.SerialRun.{Run};
+ghost use Rattle.cilk_program.specs.SerialRun.{Transcript};
 ghost use Rattle.cilk_program.specs.WellNamed.{is_well_named};
-ghost use Rattle.cilk_meaning.specs.Runs.{AsksAreThere, HasSerialRun, HasOneSerialRun, IsShort, IsInOrder, IsFramed, FramesBehave, EventsAreNumbered, IsSpelled, IsSound};
+ghost use Rattle.cilk_meaning.specs.Runs.{AsksAreThere, HasSerialRun, HasOneSerialRun, IsShort, IsInOrder, IsFramed, FramesBehave, EventsAreNumbered, IsSound};
 ghost use Rattle.cilk_meaning.specs.Numbering.{HasOneName, LiesPastGlobals};
 ghost use Rattle.cilk_meaning.specs.Visible.{FramesSee};
 
@@ -66,14 +66,8 @@ pub fn events_are_numbered()
 /// Numbers tell frames apart: two frames have different numbers, so that their reducers are different instances, and their
 /// cells lie in blocks apart from one another and from the globals.
 pub fn numbering_is_injective()
-    ensures frames { (p : Source) (r : Run) → HasOneName p r }
-    ensures globals { (p : Source) (r : Run) → LiesPastGlobals p r }
-{}
-
-/// The events of a run that ends are spelled frame by frame: a frame's begin, its events and syncs, each child from its
-/// start to its end with the frame's resume after it, and the frame's end.
-pub fn finished_runs_are_spelled()
-    ensures { (p : Source) (inputs : List ℤ) → IsSpelled p inputs }
+    ensures frames { (p : Source) (r : Transcript) → HasOneName p r }
+    ensures globals { (p : Source) (r : Transcript) → LiesPastGlobals p r }
 {}
 
 /// In a serial run of a well-named program: frames and cells are within the limits; each cell that is read or written is one

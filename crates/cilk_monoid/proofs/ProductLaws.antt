@@ -19,9 +19,6 @@ module _ {V : Type 0} (M : MonoidStructure V) (IsMember : V → Type 0) (laws : 
   pub product-combine : (a b : V) (vs : List V) → IsMember a → IsMember b → AllByRecursion IsMember vs → product M (M.combine a b ∷ vs) ≡ product M (a ∷ b ∷ vs)
   product-combine a b vs h k l = laws.associative a b (product M vs) h k (product_member vs l)
 
-  pub product-one : (v : V) → IsMember v → product M (v ∷ []) ≡ v
-  product-one v h = laws.right_neutral v h
-
   all_left : (vs ws : List V) → AllByRecursion IsMember (vs ++ ws) → AllByRecursion IsMember vs
   all_left [] ws h = tt
   all_left (v ∷ vs) ws h = (h.0, all_left vs ws h.1)

@@ -21,7 +21,7 @@ use Rattle.cilk_names.specs.Resolution.{ResolvesInitializer, ResolvesLocals, Res
 use Rattle.cilk_names.proofs.Behinds.{Keeps, same, keeps, keeps_variable}
 use Rattle.cilk_names.proofs.Rights.{both_nil, for_right}
 use Rattle.cilk_names.proofs.Grows.{Grows, counted_more, limit_right, grows_variable, grows_locals, grows_beginning, grows_inside, grows, grows_row}
-use Rattle.cilk_scopes.proofs.SameKinds.{kind_itself}
+use Rattle.cilk_monoid.proofs.SameKinds.{kind_itself}
 use Rattle.cilk_names.proofs.Fits.{NamesFit, SignaturesFit, names_declare, names_opened, names_deeper, variable_there, reducer_there, expression_named, optional_named, assignment_named, step_named, call_named}
 
 -- lists in parts

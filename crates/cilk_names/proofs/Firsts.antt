@@ -35,9 +35,6 @@ contains_third x y z xs h = elim (Contains-append_cases (x ∷ []) xs z h) [
   | inr k ↦ Contains-append_right (x ∷ y ∷ []) xs z k
 ]
 
-NotBefore : Misnaming → Misnaming → Type 0
-NotBefore f g = is_before g f ≡ false
-
 first_of_two : (h f g : Misnaming) (fs : List Misnaming) (b : Bool) → is_before g h ≡ b
     → ((h : Misnaming) → earliest (Some h) fs ≡ Some f → IsFirst f (h ∷ fs))
     → earliest (if b then Some g else Some h) fs ≡ Some f → IsFirst f (h ∷ g ∷ fs)

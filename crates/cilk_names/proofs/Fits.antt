@@ -32,7 +32,7 @@ use Rattle.cilk_scopes.specs.Operators.{prefixed, joined}
 use Rattle.cilk_scopes.specs.Sights.{place_of, array_of, reducer_of, function_of, seen, variable, array, reducer, called, plain, signature_of}
 use Rattle.cilk_names.specs.Resolution.{ResolvesExpression, ResolvesOptional, ResolvesPlace, ResolvesAssignment, ResolvesStep, ResolvesArguments, ResolvesCall}
 use Rattle.cilk_scopes.proofs.Tables.{found_last}
-use Rattle.cilk_scopes.proofs.SameKinds.{kind_itself}
+use Rattle.cilk_monoid.proofs.SameKinds.{kind_itself}
 
 -- operators name nothing by themselves
 module _ (p : Source) (b : Body) where

@@ -1,20 +1,18 @@
 -- What is known of a text's functions, one item after the other.
-use Rattle.std.proofs.Common.{◌≡◌, ℕ, suc, ◌+◌, ◌<◌, ◌≤◌, Bool, true, false, if◌then◌else◌, List, [], ◌∷◌, ◌++◌, length, drop, get_or, Option, Some, None, refl, sym, ap, ◌∙◌, subst, append_assoc, add-one, bytes_eq, arith}
+use Rattle.std.proofs.Common.{◌≡◌, ℕ, suc, ◌+◌, ◌<◌, ◌≤◌, Bool, true, false, if◌then◌else◌, List, [], ◌∷◌, length, drop, get_or, Option, Some, None, refl, sym, ap, ◌∙◌, subst, add-one, bytes_eq, arith}
 use Rattle.std.specs.Option.{is_some, option_or}
 use Rattle.std.proofs.Math.Path.{fun_ext}
-use Rattle.std.proofs.lemmas.List.{append-nil, drop_all}
+use Rattle.std.proofs.lemmas.List.{drop_all}
 use Rattle.std.proofs.lemmas.Slice.Eq.{bytes_eq-Decides}
 use Rattle.std.proofs.Math.Seq.{drop-cons}
 use Rattle.cilk_syntax.specs.declared.tree.Item as code
-use Rattle.cilk_syntax.specs.declared.tree.Parameter.{Parameter}
 use Rattle.cilk_syntax.specs.Trees as trees
 use Rattle.cilk_syntax.specs.Trees.{Item, items_of, bytes_of}
-use Rattle.cilk_scopes.specs.declared.signature.ParameterKind.{ParameterKind}
 use Rattle.cilk_scopes.specs.declared.signature.Signature.{Signature}
 use Rattle.cilk_scopes.specs.declared.table.Binding.{Binding}
 use Rattle.cilk_scopes.specs.declared.table.Meaning.TheVariants as meanings
 use Rattle.cilk_scopes.specs.Names.{Names, Scope, with_entry}
-use Rattle.cilk_names.specs.Contexts.{kind_of, kinds_of, signatures_of, functions_known, functions_behind, with_item}
+use Rattle.cilk_names.specs.Contexts.{functions_known, functions_behind, with_item}
 use Rattle.cilk_names.specs.Globals.{is_main_item, main_of}
 
 pub same_bytes : (a b : List ℕ) → bytes_eq a b ≡ true → a ≡ b
@@ -25,43 +23,6 @@ left list i x h e = ap items_of (drop-cons list i x h ∙ ap (λ y. y ∷ drop (
 
 none : (list : List code.Item) (i : ℕ) → length list ≤ i → items_of (drop i list) ≡ []
 none list i h = ap items_of (drop_all i list h)
-
--- parameters
-pub kinds_step : (text : List ℕ) (list : List Parameter) (i : ℕ) (p : Parameter) (done more : List ParameterKind) (k : ParameterKind) → i < length list → p ≡ get_or list i p
-    → done ++ kinds_of text (drop i list) ≡ kinds_of text list → k ≡ kind_of text p → more ≡ done ++ k ∷ []
-    → more ++ kinds_of text (drop (i + 1) list) ≡ kinds_of text list
-kinds_step text list i p done more k lt at h n e =
-    rw add-one (
-    ap (λ x. x ++ kinds_of text (drop (suc i) list)) e
-    ∙ append_assoc done (k ∷ []) (kinds_of text (drop (suc i) list))
-    ∙ ap (λ x. done ++ (x ∷ kinds_of text (drop (suc i) list))) n
-    ∙ ap (λ x. done ++ kinds_of text x) (sym (drop-cons list i p lt ∙ ap (λ y. y ∷ drop (suc i) list) (sym at)))
-    ∙ h)
-
-pub kinds_end : (text : List ℕ) (list : List Parameter) (i : ℕ) (done : List ParameterKind) → length list ≤ i
-    → done ++ kinds_of text (drop i list) ≡ kinds_of text list → done ≡ kinds_of text list
-kinds_end text list i done le h = sym (append-nil done) ∙ ap (λ x. done ++ kinds_of text x) (sym (drop_all i list le)) ∙ h
-
--- signatures
-signatures_cons : (text : List ℕ) (x : Item) (rest : List Item) → signatures_of text (x ∷ []) ++ signatures_of text rest ≡ signatures_of text (x ∷ rest)
-signatures_cons text (trees.Globals vs) rest = refl
-signatures_cons text (trees.Item.Reducer r) rest = refl
-signatures_cons text (trees.Function returns x ps body) rest = refl
-
-pub signatures_step : (text : List ℕ) (list : List code.Item) (i : ℕ) (x : code.Item) (done more : List Signature) → i < length list → x ≡ get_or list i x
-    → done ++ signatures_of text (items_of (drop i list)) ≡ signatures_of text (items_of list) → more ≡ done ++ signatures_of text (trees.item x ∷ [])
-    → more ++ signatures_of text (items_of (drop (i + 1) list)) ≡ signatures_of text (items_of list)
-signatures_step text list i x done more lt at h e =
-    rw add-one (
-    ap (λ y. y ++ signatures_of text (items_of (drop (suc i) list))) e
-    ∙ append_assoc done (signatures_of text (trees.item x ∷ [])) (signatures_of text (items_of (drop (suc i) list)))
-    ∙ ap (λ y. done ++ y) (signatures_cons text (trees.item x) (items_of (drop (suc i) list)))
-    ∙ ap (λ y. done ++ signatures_of text y) (sym (left list i x lt at))
-    ∙ h)
-
-pub signatures_end : (text : List ℕ) (list : List code.Item) (i : ℕ) (done : List Signature) → length list ≤ i
-    → done ++ signatures_of text (items_of (drop i list)) ≡ signatures_of text (items_of list) → done ≡ signatures_of text (items_of list)
-signatures_end text list i done le h = sym (append-nil done) ∙ ap (λ x. done ++ signatures_of text x) (sym (none list i le)) ∙ h
 
 -- functions that are known: a name that is known already stays as it is
 known_cases : (s : Scope) (name q : List ℕ) (e : Binding) (later : Option Binding) (b c : Bool) → is_some (s name) ≡ b → bytes_eq name q ≡ c
@@ -122,17 +83,6 @@ module _ (text : List ℕ) (list : List code.Item) (i : ℕ) (x : code.Item) (n 
 
   pub main_here : (b : Bool) → b ≡ is_main_item text (trees.item x) → b ≡ true → Some n ≡ main_of text 0 (items_of list)
   main_here b e f = ap (λ (c : Bool). if c then Some n else main_of text (functions_behind n (trees.item x)) (items_of (drop (suc i) list))) (sym f ∙ e) ∙ main_item
-
-  pub main_step : (b : Bool) (m : ℕ) → b ≡ is_main_item text (trees.item x) → b ≡ false → m ≡ functions_behind n (trees.item x)
-      → main_of text m (items_of (drop (i + 1) list)) ≡ main_of text 0 (items_of list)
-  main_step b m e f g =
-      rw add-one (
-      ap (λ (k : ℕ). main_of text k (items_of (drop (suc i) list))) g
-      ∙ ap (λ (c : Bool). if c then Some n else main_of text (functions_behind n (trees.item x)) (items_of (drop (suc i) list))) (sym f ∙ e)
-      ∙ main_item)
-
-pub main_end : (text : List ℕ) (list : List code.Item) (i n : ℕ) → length list ≤ i → main_of text n (items_of (drop i list)) ≡ main_of text 0 (items_of list) → None ≡ main_of text 0 (items_of list)
-main_end text list i n le h = ap (main_of text n) (sym (none list i le)) ∙ h
 
 -- a table that knows one more function
 pub known_names : (n m : Names) (x i : Scope) (text : List ℕ) (sigs : List Signature) → m ≡ record n { inner = x }

@@ -3,8 +3,7 @@ use Rattle.std.proofs.Common.{◌≡◌, ℕ, nat_eq, Bool, true, false, not, �
 use Rattle.std.specs.Option.{is_some, option_map, option_to_list}
 use Rattle.std.proofs.lemmas.Bool.{eqb-true}
 use Rattle.cilk_monoid.specs.declared.kind.MonoidKind.{MonoidKind}
-use Rattle.cilk_monoid.specs.declared.kind.MonoidKind.TheVariants.{Add, Least, Greatest, Append, Affine}
-use Rattle.cilk_monoid.specs.Kinds.{same_kind}
+use Rattle.cilk_monoid.proofs.SameKinds.{same_kind-eq}
 use Rattle.cilk_syntax.specs.declared.tree.Name.{Name}
 use Rattle.cilk_types.specs.declared.invocation.Invocation.{Invocation}
 use Rattle.cilk_syntax.specs.Trees as trees
@@ -101,19 +100,10 @@ pub step_right : (names : Names) (a : Option trees.Assignment) → optional_assi
 step_right names None h = refl
 step_right names (Some a) h = (assignment_of names a, assignment_right names a h, refl)
 
--- the same monoid
-same_is : (j k : MonoidKind) → same_kind j k ≡ true → j ≡ k
-same_is Add Add h = refl
-same_is Least Least h = refl
-same_is Greatest Greatest h = refl
-same_is Append Append h = refl
-same_is Affine Affine h = refl
-same_is j k h = absurd cc
-
 both_same : (j k : Option MonoidKind) → is_same j k ≡ true → (i : MonoidKind) × (j ≡ Some i) × (k ≡ Some i)
 both_same None k h = absurd cc
 both_same (Some j) None h = absurd cc
-both_same (Some j) (Some k) h = (k, ap Some (same_is j k h), refl)
+both_same (Some j) (Some k) h = (k, ap Some (same_kind-eq j k h), refl)
 
 kind_right : (level : ℕ) (k : Option MonoidKind) (m : Meaning) → is_reducer_of k m ≡ true → (r : Reducer) × (reducer_of level m ≡ Some r) × (k ≡ Some r.kind)
 kind_right level k (meanings.Global n) h = absurd cc

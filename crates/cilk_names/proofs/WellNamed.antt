@@ -37,7 +37,7 @@ use Rattle.cilk_names.specs.Pass.{loops_of, row_loops, items_loops, program_of}
 use Rattle.cilk_names.specs.Resolution.{ResolvesRow, ResolvesItems, Resolves}
 use Rattle.cilk_names.proofs.Rights.{both_nil, unless_right}
 use Rattle.cilk_names.proofs.Grows.{Grows, counted_more, limit_right, grows_row}
-use Rattle.cilk_scopes.proofs.SameKinds.{kind_itself}
+use Rattle.cilk_monoid.proofs.SameKinds.{kind_itself}
 use Rattle.cilk_names.proofs.Fits.{words_in, given_in, MeaningFits, NamesFit, SignaturesFit, names_declare, names_opened}
 use Rattle.cilk_names.proofs.Bodies.{get_drop, drop_more, get_last, at_most_from, loops_named_append, Stands, Ends, RowNamed, row_named}
 use Rattle.cilk_scopes.proofs.Tables.{map_append}

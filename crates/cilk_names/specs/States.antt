@@ -1,7 +1,7 @@
 -- What the tables of the code stand for.
 use Rattle.std.specs.Prelude.{◌≡◌, ℕ, List, length, map, None}
 use Rattle.cilk_scopes.specs.Tables.{names_of}
-use Rattle.cilk_names.specs.declared.scene.Scene.{Scene}
+use Rattle.cilk_names.specs.declared.scene.Resolver.{Resolver}
 use Rattle.cilk_names.specs.declared.items.Pass.{Pass}
 use Rattle.cilk_names.specs.Contexts.{Context}
 use Rattle.cilk_names.specs.Globals.{Known, start, behind_items}
@@ -12,7 +12,7 @@ use Rattle.cilk_syntax.specs.Trees.{Item}
 use Rattle.cilk_program.specs.Programs.{function, loop}
 
 -- what is known at a place of a body
-abbrev pub context_of : Scene → Context
+abbrev pub context_of : Resolver → Context
 context_of s = record { names = names_of s.table; frame = s.frame; given = s.given.items; own = s.own.items; reducers = s.reducers; loops = length s.loops.items }
 
 -- what is known at a place between items

@@ -9,7 +9,7 @@ ghost use Rattle.cilk_names.specs.Misnamings.{expression_faults, optional_faults
 ghost use Rattle.cilk_names.specs.Pass.{assignment_of, element_of, expression_of, optional_of, or_empty, read_of, target_of, value_of};
 ghost use Rattle.cilk_scopes.specs.Tables.{names_of};
 
-use cilk_program::syntax::{Array, Expr, Place, Reducer, Stmt, Target};
+use cilk_program::syntax::{Array, Expr, Literal, Place, Reducer, Stmt, Target};
 use cilk_scopes::fault::Misnaming;
 use cilk_scopes::operators::{between, in_front};
 use cilk_scopes::sights::{array, reducer, variable, written};
@@ -24,7 +24,7 @@ fn read(place: Option<Place>) -> Expr
 {
     match place {
         Some(place) => Expr::Variable(place),
-        None => Expr::Number(0),
+        None => Expr::Number(Literal { value: 0 }),
     }
 }
 
@@ -34,7 +34,7 @@ fn element(array: Option<Array>, index: Box<Expr>) -> Expr
 {
     match array {
         Some(array) => Expr::Element(array, index),
-        None => Expr::Number(0),
+        None => Expr::Number(Literal { value: 0 }),
     }
 }
 
@@ -44,7 +44,7 @@ fn value(reducer: Option<Reducer>) -> Expr
 {
     match reducer {
         Some(reducer) => Expr::Value(reducer),
-        None => Expr::Number(0),
+        None => Expr::Number(Literal { value: 0 }),
     }
 }
 
@@ -76,7 +76,7 @@ pub(crate) fn expression(
     ensures value { IfOk result (λ r. expression r ≡ expression_of (names_of table.now) (trees.expression tree.now)) }
 {
     match tree {
-        tree::Expr::Number(value) => Ok(Expr::Number(*value)),
+        tree::Expr::Number(value) => Ok(Expr::Number(Literal { value: *value })),
         tree::Expr::Variable(name) => Ok(read(variable(table, *name, first))),
         tree::Expr::Element(name, index) => {
             let array = array(table, *name, first);

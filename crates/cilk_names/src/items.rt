@@ -13,7 +13,7 @@ ghost use Rattle.cilk_names.specs.States.{context_of, known_of};
 ghost use Rattle.cilk_scopes.specs.declared.fault.NameNumber.TheVariants.{OverLimit};
 
 use crate::limits::{MAX_FUNCTIONS, MAX_GLOBALS, MAX_REDUCERS};
-use crate::scene::{Frame, Scene, counted, number_of};
+use crate::scene::{Frame, Resolver, counted, number_of};
 use cilk_monoid::kind::MonoidKind;
 use cilk_program::program::{Body, Function, GlobalReducer};
 use cilk_program::syntax::{Array, Stmt};
@@ -30,7 +30,7 @@ use std::mem;
 /// the opening values of the global cells, the global reducers and the functions.
 #[derive(Drop)]
 pub(crate) struct Pass<'a> {
-    pub scene: Scene<'a>,
+    pub scene: Resolver<'a>,
     pub openings: Vec<i64>,
     pub shared: Vec<GlobalReducer>,
     pub functions: Vec<Function>,
@@ -60,7 +60,7 @@ fn push_zeros(openings: &mut Vec<i64>, count: usize) -> Result<(), AllocError>
     Ok(())
 }
 
-impl Scene<'_> {
+impl Resolver<'_> {
     /// Declares a name between items.
     fn declare(&mut self, name: Name, meaning: Meaning) -> Result<(), AllocError>
         ensures names { OnOk result (names_of self.new.table ≡ declare (names_of self.old.table) name meaning) }

@@ -12,7 +12,7 @@ ghost use Rattle.cilk_names.specs.States.{Comes};
 use crate::fault::{NameFault, NameNumber};
 use crate::headings::{known, main_of, signatures_of};
 use crate::items::Pass;
-use crate::scene::{Frame, Scene, number_of};
+use crate::scene::{Frame, Resolver, number_of};
 use cilk_program::program::{Body, Program};
 use cilk_scopes::signature::Signature;
 use cilk_syntax::tree::{Item, ReturnType, Tree};
@@ -30,7 +30,7 @@ fn pass_over<'a>(
     ensures { IfOk result (λ p. Comes p text.now (trees.items_of items.now)) }
 {
     let mut pass = Pass {
-        scene: Scene {
+        scene: Resolver {
             table: known(alloc, text, signatures, items)?,
             frame: Frame {
                 body: Body::Function(0),
@@ -70,7 +70,7 @@ pub fn resolve(alloc: Global, tree: &Tree) -> Result<Program, NameFault>
         shared,
         functions,
     } = pass_over(alloc, text, signatures.as_slice(), items)?;
-    let Scene {
+    let Resolver {
         table: _,
         frame: _,
         given: _,

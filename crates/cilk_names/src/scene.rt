@@ -38,7 +38,7 @@ pub(crate) struct Frame {
 /// was given and of its own so far, how many reducers stand declared ahead in the text, the loops so far, and the first
 /// fault so far.
 #[derive(Drop)]
-pub(crate) struct Scene<'a> {
+pub(crate) struct Resolver<'a> {
     pub table: Table<'a>,
     pub frame: Frame,
     pub given: Vec<MonoidKind>,
@@ -74,7 +74,7 @@ pub(crate) fn row_of_one(alloc: Global, statement: Stmt) -> Result<Vec<Stmt>, Al
     Ok(row)
 }
 
-impl Scene<'_> {
+impl Resolver<'_> {
     /// Declares a variable, which takes the frame's next cell.
     #[tactic(auto, using(cilk_scopes::proofs::Earliest::earliest_append))]
     pub fn variable(&mut self, name: Name) -> Result<(), AllocError>

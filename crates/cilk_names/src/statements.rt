@@ -16,7 +16,7 @@ ghost use Rattle.cilk_names.specs.States.{context_of};
 
 use crate::calls::call;
 use crate::expressions::{assignment, expression, optional};
-use crate::scene::{Frame, Scene, number_of, row_of_one};
+use crate::scene::{Frame, Resolver, number_of, row_of_one};
 use cilk_program::program::{Body, Loop};
 use cilk_program::syntax::{Expr, Invoke, Stmt};
 use cilk_scopes::fault::{Misnaming, NameNumber};
@@ -215,7 +215,7 @@ struct Outside {
     number: u32,
 }
 
-impl Scene<'_> {
+impl Resolver<'_> {
     /// Opens a scope in which no reducer is declared.
     fn open(&mut self, alloc: Global) -> Result<(), AllocError>
         ensures context { OnOk result (context_of self.new ≡ inside (context_of self.old)) }

@@ -14,7 +14,7 @@ use Rattle.cilk_program.specs.declared.program.GlobalReducer.{GlobalReducer}
 use Rattle.cilk_program.specs.Syntax.{Expression, Number, Variable, Element, Negate, Not, Binary, And, Or, Value, Input, InputCount, Target, ToVariable, ToElement, Invoke, Declaration, Zero, Opening, Invoking, Statement, Empty, Block, Declare, Assign, Change, Step, Invokes, Sync, If, IfElse, For, ParallelFor, Print, Update, Set, Return, Statements, Nothing, Then, Function, Loop, Source}
 
 abbrev pub expression : exprs.Expr → Expression
-expression (exprs.Number n) = Number n
+expression (exprs.Number n) = Number n.value
 expression (exprs.Variable x) = Variable x
 expression (exprs.Element' a p e) = Element a (expression e)
 expression (exprs.Negate' p e) = Negate (expression e)

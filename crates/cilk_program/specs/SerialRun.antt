@@ -28,10 +28,10 @@ use Rattle.cilk_program.specs.Outcomes.{Conclusion, Leaves, StopsBy, outcome_of}
 
 -- What a frame does, from its beginning or from some event on: an ask with its answer, or a child with what that does.
 -- Places are those that the frame names.
-pub data Run : Type 0 where
-  stop : Run
-  act : (ask : Ask) (answer : ℤ) (rest : Run) → Run
-  child : (how : Invocation) (callee : Callee) (inner : Run) (rest : Run) → Run
+pub data Transcript : Type 0 where
+  stop : Transcript
+  act : (ask : Ask) (answer : ℤ) (rest : Transcript) → Transcript
+  child : (how : Invocation) (callee : Callee) (inner : Transcript) (rest : Transcript) → Transcript
 
 -- The store; how many frames have begun and how many cells there are, the globals first; and the events still allowed.
 pub record Memory : Type 0 where
@@ -238,21 +238,21 @@ pub data Ending : Type 0 where
 module _ (p : Source) (inputs : List ℤ) where
   -- A frame, after this history of answers, over this memory: what it does, the events that it and its children make, and
   -- how that ends. `start` is the ticks that were left as the frame began, less those that other frames took since.
-  pub data Serial : (frame : Frame) (start : ℕ) (history : List ℤ) → Memory → Run → List Event → Ending → Type 0 where
-    Made : {fr : Frame} {start : ℕ} {history : List ℤ} {m : Memory} {r : Run} {es : List Event} {end : Ending} (k : Ask) (left : ℕ)
+  pub data Serial : (frame : Frame) (start : ℕ) (history : List ℤ) → Memory → Transcript → List Event → Ending → Type 0 where
+    Made : {fr : Frame} {start : ℕ} {history : List ℤ} {m : Memory} {r : Transcript} {es : List Event} {end : Ending} (k : Ask) (left : ℕ)
         → frame_asks p inputs fr.callee history start ≡ asks_for k left → IsInner k → refused p m k ≡ None
         → Serial fr start (history ++ answer_to fr m k ∷ []) (with_store m (stored p fr m k)) r es end
         → Serial fr start history m (act k (answer_to fr m k) r) (event_of fr m k ∷ es) end
     Ended : {fr : Frame} {start : ℕ} {history : List ℤ} {m : Memory} (v : ℤ) (left : ℕ)
         → frame_asks p inputs fr.callee history start ≡ asks_for (asks.End v) left → refused p m (asks.End v) ≡ None
         → Serial fr start history m (act (asks.End v) (pos 0) stop) (events.End ∷ []) (Finished v left (with_store m (stored p fr m (asks.End v))))
-    Went : {fr : Frame} {start : ℕ} {history : List ℤ} {m : Memory} {u r : Run} {es es' : List Event} {end : Ending}
+    Went : {fr : Frame} {start : ℕ} {history : List ℤ} {m : Memory} {u r : Transcript} {es es' : List Event} {end : Ending}
         (how : Invocation) (callee : Callee) (left : ℕ) (v : ℤ) (left' : ℕ) (m' : Memory)
         → frame_asks p inputs fr.callee history start ≡ asks_for (asks.Invoke how callee) left → refused p m (asks.Invoke how callee) ≡ None
         → Serial (next_frame p fr.scope m callee) left [] (begun p callee (counted m)) u es (Finished v left' m')
         → Serial fr (left' + (start - left)) (history ++ pos 0 ∷ []) m' r es' end
         → Serial fr start history m (child how callee u r) (invocation how (suc m.frames) ∷ (es ++ es')) end
-    Broke : {fr : Frame} {start : ℕ} {history : List ℤ} {m : Memory} {u : Run} {es : List Event} (how : Invocation) (callee : Callee) (left : ℕ) (f : Fault)
+    Broke : {fr : Frame} {start : ℕ} {history : List ℤ} {m : Memory} {u : Transcript} {es : List Event} (how : Invocation) (callee : Callee) (left : ℕ) (f : Fault)
         → frame_asks p inputs fr.callee history start ≡ asks_for (asks.Invoke how callee) left → refused p m (asks.Invoke how callee) ≡ None
         → Serial (next_frame p fr.scope m callee) left [] (begun p callee (counted m)) u es (Stopped f)
         → Serial fr start history m (child how callee u stop) (invocation how (suc m.frames) ∷ es) (Stopped f)
@@ -272,9 +272,9 @@ module _ (p : Source) (inputs : List ℤ) where
   conclusion_of (Stopped f) = StopsBy f
 
   -- the serial run of a program on these inputs, within so many ticks and events
-  abbrev pub IsSerialRunWithin : ℕ → ℕ → Run → List Event → Conclusion → Type 0
+  abbrev pub IsSerialRunWithin : ℕ → ℕ → Transcript → List Event → Conclusion → Type 0
   IsSerialRunWithin ticks room r es c =
       (end : Ending) × Serial root_frame ticks [] (begun p callees.Root (before_root room)) r es end × (c ≡ conclusion_of end)
 
-  abbrev pub IsSerialRun : Run → List Event → Conclusion → Type 0
+  abbrev pub IsSerialRun : Transcript → List Event → Conclusion → Type 0
   IsSerialRun = IsSerialRunWithin MAX_TICKS MAX_EVENTS

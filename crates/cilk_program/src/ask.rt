@@ -1,7 +1,5 @@
 //! What a frame asks for as it goes on.
 
-ghost use Rattle.std.specs.Prelude.{◌≡◌};
-
 use crate::given::{References, Words};
 use crate::syntax::{Place, Reducer};
 use cilk_types::fault::Fault;
@@ -34,24 +32,6 @@ pub enum Callee {
     Root,
     Function(FunctionCall),
     Loop(LoopPart),
-}
-
-impl Callee {
-    /// The same callee.
-    pub fn copied(&self) -> Callee
-        ensures { result ≡ self.now }
-    {
-        match self {
-            Callee::Root => Callee::Root,
-            Callee::Function(call) => Callee::Function(FunctionCall {
-                function: call.function,
-                words: call.words.copied(),
-                reducers: call.reducers.copied(),
-                result: call.result,
-            }),
-            Callee::Loop(part) => Callee::Loop(*part),
-        }
-    }
 }
 
 /// What a frame asks for next. Each is an event of the run but `Fault`, after which the run ends.

@@ -1,5 +1,7 @@
 //! Expressions and statements whose names are resolved.
 
+ghost use Rattle.cilk_monoid.specs.Values.{IsWord};
+
 use cilk_monoid::kind::MonoidKind;
 use cilk_types::compound::Compound;
 use cilk_types::invocation::Invocation;
@@ -54,10 +56,17 @@ pub struct Reducer {
     pub kind: MonoidKind,
 }
 
+/// A number that a text writes. Its type keeps that it is a word.
+#[derive(Clone, Copy, PartialEq, Eq, Debug)]
+pub struct Literal {
+    pub value: i64,
+    ghost word: { IsWord value },
+}
+
 /// An expression.
 #[derive(Drop)]
 pub enum Expr {
-    Number(i64),
+    Number(Literal),
     Variable(Place),
     /// The element at an index, which is checked.
     Element(Array, Box<Expr>),

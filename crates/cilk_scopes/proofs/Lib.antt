@@ -1,3 +1,2 @@
 pub mod Earliest
-pub mod SameKinds
 pub mod Tables

@@ -116,7 +116,7 @@ impl Meaning {
 }
 
 /// Whether two monoids are known, and one.
-#[tactic(auto, using(crate::proofs::SameKinds::kind_itself))]
+#[tactic(auto, using(cilk_monoid::proofs::SameKinds::kind_itself))]
 fn is_same(first: Option<MonoidKind>, second: Option<MonoidKind>) -> bool
     ensures { result ≡ is_same first second }
 {

@@ -46,11 +46,4 @@ impl<T> Sequence<T> {
     {
         self.items.is_empty()
     }
-
-    /// The `Vec` back, without taking memory.
-    pub fn into_vec(self) -> Vec<T>
-        ensures { result.items ≡ self }
-    {
-        self.items
-    }
 }

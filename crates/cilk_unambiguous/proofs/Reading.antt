@@ -344,9 +344,6 @@ all_read e [] h = absurd h
 all_read e (t ∷ ts) h =
     ap (λ o. onward (meets o t.kind (reduce o e [])) (reading ts) (t ∷ ts)) (ends_stays t.kind h).1
 
-fits_none : (l : ℕ) → Fits [] l
-fits_none l = tt
-
 stays_ended : (l : ℕ) (ts : List Token) → Ends ts → Stays l ts
 stays_ended l [] h = tt
 stays_ended l (t ∷ ts) h =

@@ -1,4 +1,4 @@
-use Rattle.cilk_meaning.proofs.Spelling.{runs_behave}
+use Rattle.cilk_meaning.proofs.Behaving.{runs_behave}
 use Rattle.cilk_meaning.proofs.runs.frames_behave.Goals as goal
 
 pub returns : goal.returns

@@ -4,7 +4,7 @@ use Rattle.cilk_names.specs.Contexts.{with_parameters}
 use Rattle.cilk_scopes.specs.Faults.{earliest}
 use Rattle.cilk_names.specs.Misnamings.{parameters_faults}
 use Rattle.cilk_names.specs.States.{context_of}
-use Rattle.cilk_names.proofs.scene.Scene.parameters.Given as goal
+use Rattle.cilk_names.proofs.scene.Resolver.parameters.Given as goal
 
 abbrev pub invariant-each : goal.invariant-each
 invariant-each l = record {

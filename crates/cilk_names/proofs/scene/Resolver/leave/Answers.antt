@@ -2,7 +2,7 @@
 use Rattle.std.proofs.Common.{◌≡◌, [], ◌∷◌, rules}
 use Rattle.cilk_program.specs.declared.program.Loop.{Loop}
 use Rattle.cilk_names.proofs.Loops.{loop_left}
-use Rattle.cilk_names.proofs.scene.Scene.leave.Goals as goal
+use Rattle.cilk_names.proofs.scene.Resolver.leave.Goals as goal
 
 pub returns-clause-loops : goal.returns-clause-loops
 returns-clause-loops c =

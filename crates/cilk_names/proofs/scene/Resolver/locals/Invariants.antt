@@ -7,7 +7,7 @@ use Rattle.cilk_scopes.specs.Faults.{earliest}
 use Rattle.cilk_names.specs.Misnamings.{locals_faults}
 use Rattle.cilk_names.specs.Pass.{declarations_of}
 use Rattle.cilk_names.specs.States.{context_of}
-use Rattle.cilk_names.proofs.scene.Scene.locals.Given as goal
+use Rattle.cilk_names.proofs.scene.Resolver.locals.Given as goal
 
 abbrev pub invariant-each : goal.invariant-each
 invariant-each l = record {

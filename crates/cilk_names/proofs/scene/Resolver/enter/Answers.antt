@@ -7,7 +7,7 @@ use Rattle.cilk_scopes.specs.Tables.{names_of}
 use Rattle.cilk_names.specs.States.{context_of}
 use Rattle.cilk_names.proofs.Behinds.{entered, not_again}
 use Rattle.cilk_scopes.proofs.Tables.{map_append}
-use Rattle.cilk_names.proofs.scene.Scene.enter.Goals as goal
+use Rattle.cilk_names.proofs.scene.Resolver.enter.Goals as goal
 
 pub returns-clause-context : goal.returns-clause-context
 returns-clause-context c =

@@ -11,7 +11,7 @@ use Rattle.cilk_names.specs.States.{context_of}
 use Rattle.cilk_names.proofs.Behinds.{scope_closed, row_closed, head_closed, loop_closed}
 use Rattle.cilk_names.proofs.Loops.{place_taken, loop_taken}
 use Rattle.cilk_names.proofs.Rows.{row_context, row_step, row_loops_step, row_value_step, row_context_end, row_end, row_loops_end, row_value_end}
-use Rattle.cilk_names.proofs.scene.Scene.+statements.Goals as goal
+use Rattle.cilk_names.proofs.scene.Resolver.+statements.Goals as goal
 
 pub block-returns-clause-context : goal.block-returns-clause-context
 block-returns-clause-context t c =

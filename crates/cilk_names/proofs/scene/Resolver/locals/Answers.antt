@@ -2,7 +2,7 @@
 use Rattle.std.proofs.Common.{◌∙◌}
 use Rattle.cilk_names.specs.States.{context_of}
 use Rattle.cilk_names.proofs.Locals.{locals_context, locals_step, declarations_step, locals_context_end, locals_end, declarations_end}
-use Rattle.cilk_names.proofs.scene.Scene.locals.Goals as goal
+use Rattle.cilk_names.proofs.scene.Resolver.locals.Goals as goal
 
 pub each-preserved : goal.each-preserved
 each-preserved c = record {

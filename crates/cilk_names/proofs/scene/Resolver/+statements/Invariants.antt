@@ -8,7 +8,7 @@ use Rattle.cilk_names.specs.Misnamings.{row_faults}
 use Rattle.cilk_names.specs.Pass.{row_of, row_loops}
 use Rattle.cilk_names.specs.States.{context_of}
 use Rattle.cilk_names.proofs.Blocks.{followed}
-use Rattle.cilk_names.proofs.scene.Scene.+statements.Given as goal
+use Rattle.cilk_names.proofs.scene.Resolver.+statements.Given as goal
 
 abbrev pub invariant-row-each : goal.invariant-row-each
 invariant-row-each l = record {

@@ -4,7 +4,7 @@ use Rattle.cilk_syntax.specs.declared.tree.Parameter.{Parameter}
 use Rattle.cilk_syntax.specs.declared.tree.Parameter.TheVariants.{Variable}
 use Rattle.cilk_names.specs.States.{context_of}
 use Rattle.cilk_names.proofs.Locals.{get_any, parameters_context, parameters_step, parameters_context_end, parameters_end}
-use Rattle.cilk_names.proofs.scene.Scene.parameters.Goals as goal
+use Rattle.cilk_names.proofs.scene.Resolver.parameters.Goals as goal
 
 pub each-preserved : goal.each-preserved
 each-preserved c =
