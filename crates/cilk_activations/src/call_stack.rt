@@ -1,6 +1,6 @@
 //! The frames of a run in which each frame waits for the one that it called or spawned.
 
-ghost use Rattle.std.specs.Prelude.{◌≡◌, ◌<◌, ◌^◌, ◌∷◌, ◌++◌, [], ℕ, true, false, length, OnOk};
+ghost use Rattle.std.specs.Prelude.{◌≡◌, ◌<◌, ◌^◌, ◌∷◌, ◌++◌, [], ℕ, true, false, length, OnErr, OnOk};
 ghost use Rattle.cilk_types.specs.declared.event.Instance.{Instance};
 ghost use Rattle.cilk_program.specs.Scopes.{Scope, cell_in, instance_in};
 ghost use Rattle.cilk_program.specs.SerialRun.{global_reducer, itself};
@@ -58,14 +58,17 @@ impl<C> CallStack<C> {
         instance(self.below.as_slice(), &self.top, place)
     }
 
-    /// Another frame runs, and the one that ran waits for it. Where memory is refused, the one that ran is lost.
+    /// Another frame runs, and the one that ran waits for it. Where memory is refused, the frames are as they were, and
+    /// the new one is dropped.
     pub fn push(&mut self, frame: Activation<C>) -> Result<(), AllocError>
     where
         C: Drop,
         ensures top { OnOk result (self.new.top ≡ frame) }
         ensures below { OnOk result (self.new.below.items ≡ self.old.below.items ++ self.old.top ∷ []) }
+        ensures err { OnErr result ((self.new.top ≡ self.old.top) × (self.new.below.items ≡ self.old.below.items)) }
     {
-        self.below.push(mem::replace(&mut self.top, frame))?;
+        self.below.reserve(1)?;
+        self.below.push_reserved(mem::replace(&mut self.top, frame));
         Ok(())
     }
 

@@ -68,6 +68,7 @@ pub fn instances<C>(
 }
 
 // A global reducer, which the root created.
+#[inline]
 fn global(number: u32) -> Instance
     requires { number < 65536 }
     ensures { result ≡ global_reducer number }

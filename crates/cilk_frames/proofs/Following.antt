@@ -11,7 +11,7 @@ use Rattle.cilk_program.specs.Behaviour.{Behaviour, Asked, asks_for, ended, fram
 use Rattle.cilk_lower.specs.declared.code.Owed.{Owed}
 use Rattle.cilk_lower.specs.declared.code.Owed.TheVariants.{Nothing, Word}
 use Rattle.cilk_lower.specs.Code.{CodeView}
-use Rattle.cilk_lower.specs.Machine.{Given, Setting, Move, Goes, Waits, Stops, Stuck, Run, Next, Reaches, Fails, going, move, exec, received}
+use Rattle.cilk_lower.specs.Machine.{Given, Setting, Move, Goes, Waits, Stops, Stuck, MachineRun, Next, Reaches, Fails, going, move, exec, received}
 use Rattle.cilk_lower.specs.Behaves.{Behaves}
 use Rattle.cilk_frames.specs.declared.cursor.Answer.{Answer}
 use Rattle.cilk_frames.specs.declared.cursor.Answer.TheVariants.{Done, Value}
@@ -21,15 +21,15 @@ use Rattle.cilk_frames.specs.Moving.{RoomFor, HasRoom, told, move_at}
 use Rattle.cilk_frames.proofs.Straight.{IsOnward, left_of, with_left, OwesAnswer, straight}
 
 -- a test that a run passed
-passed : (t : Bool) (x : Run) (k : Asked) → (if t then x else Fails) ≡ Reaches k → t ≡ true
+passed : (t : Bool) (x : MachineRun) (k : Asked) → (if t then x else Fails) ≡ Reaches k → t ≡ true
 passed true x k h = refl
 passed false x k h = cc
 
-passed_on : (t : Bool) (x : Run) (k : Asked) → (if t then x else Fails) ≡ Reaches k → x ≡ Reaches k
+passed_on : (t : Bool) (x : MachineRun) (k : Asked) → (if t then x else Fails) ≡ Reaches k → x ≡ Reaches k
 passed_on true x k h = h
 passed_on false x k h = cc
 
-room_for : (owed : Owed) (stack : List ℤ) (room : ℕ) (a : ℤ) (go : List ℤ → Run) (k : Asked) → received room owed a stack go ≡ Reaches k → RoomFor owed stack room
+room_for : (owed : Owed) (stack : List ℤ) (room : ℕ) (a : ℤ) (go : List ℤ → MachineRun) (k : Asked) → received room owed a stack go ≡ Reaches k → RoomFor owed stack room
 room_for Nothing stack room a go k h = tt
 room_for Word stack room a go k h = ltb-true (length stack) room (passed (nat_lt (length stack) room) (go (a ∷ stack)) k h)
 
@@ -38,7 +38,7 @@ pub has_room : (code : CodeView) (inputs : List ℤ) (c : CursorView) → Runs c
 has_room code inputs c r = let f = r.1.by (pos 0) [] 0 in room_for c.owed c.stack c.room (pos 0) _ _ f.1
 
 -- the machine at a cursor
-abbrev runs_at : CodeView → List ℤ → CursorView → ℕ → List ℤ → ℕ → Run
+abbrev runs_at : CodeView → List ℤ → CursorView → ℕ → List ℤ → ℕ → MachineRun
 runs_at code inputs c n answers l = exec (setting_at inputs code c) n c.place c.stack c.held answers l
 
 heard : (owed : Owed) (answer : Answer) (code : CodeView) (inputs : List ℤ) (c : CursorView) (n : ℕ) (answers : List ℤ) (l : ℕ) (k : Asked) → Fits owed answer → received c.room owed (word_in answer) c.stack (λ stack. exec (setting_at inputs code c) n c.place stack c.held answers l) ≡ Reaches k → runs_at code inputs (told c answer) n answers l ≡ Reaches k

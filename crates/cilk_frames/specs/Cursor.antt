@@ -1,7 +1,7 @@
 -- Where a frame stands in its code.
 use Rattle.std.specs.Prelude.{ℕ, ℤ, pos, List, []}
 use Rattle.cilk_program.specs.declared.ask.Callee.{Callee}
-use Rattle.cilk_lower.specs.declared.code.Entry.{Entry}
+use Rattle.cilk_lower.specs.declared.code.EntryPoint.{EntryPoint}
 use Rattle.cilk_lower.specs.declared.code.Owed.{Owed}
 use Rattle.cilk_lower.specs.declared.code.Owed.TheVariants.{Nothing}
 use Rattle.cilk_lower.specs.Code.{CodeView, entry_of}
@@ -18,7 +18,7 @@ pub record CursorView : Type 0 where
   pub held : ℤ
 
 -- a frame that is given this, before it begins at an entry
-abbrev pub begins_at : Entry → Given → CursorView
+abbrev pub begins_at : EntryPoint → Given → CursorView
 begins_at e given = record { given = given; place = e.place; owed = Nothing; stack = []; room = e.room; held = pos 0 }
 
 -- the frame of a callee

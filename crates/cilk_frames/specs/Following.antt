@@ -8,7 +8,7 @@ use Rattle.cilk_program.specs.Behaviour.{Behaviour, asks_for, frame_asks}
 use Rattle.cilk_lower.specs.declared.code.Owed.{Owed}
 use Rattle.cilk_lower.specs.declared.code.Owed.TheVariants.{Nothing, Word}
 use Rattle.cilk_lower.specs.Code.{CodeView}
-use Rattle.cilk_lower.specs.Machine.{Given, Setting, Run, Reaches, exec, received}
+use Rattle.cilk_lower.specs.Machine.{Given, Setting, MachineRun, Reaches, exec, received}
 use Rattle.cilk_frames.specs.declared.cursor.Answer.{Answer}
 use Rattle.cilk_frames.specs.declared.cursor.Answer.TheVariants.{Done, Value}
 use Rattle.cilk_frames.specs.Cursor.{CursorView}
@@ -84,7 +84,7 @@ abbrev pub setting_at : List ℤ → CodeView → CursorView → Setting
 setting_at inputs code c = setting_of inputs code c.given c.room
 
 -- the machine from where the cursor stands, once the answer came
-abbrev pub resumes : CodeView → List ℤ → CursorView → ℕ → ℤ → List ℤ → ℕ → Run
+abbrev pub resumes : CodeView → List ℤ → CursorView → ℕ → ℤ → List ℤ → ℕ → MachineRun
 resumes code inputs c n a answers left = received c.room c.owed a c.stack (λ stack. exec (setting_at inputs code c) n c.place stack c.held answers left)
 
 -- whatever the answers and the ticks, the machine asks what the behaviour says

@@ -1,4 +1,4 @@
-pub mod Asked
+pub mod AskSlot
 pub mod Cursor
 pub mod Following
 pub mod Moving

@@ -1,12 +1,10 @@
 //! What a frame asked for last, kept in its place.
 
-ghost use Rattle.std.specs.Prelude.{◌≡◌, ◌≤◌, [], length, ℤ, List, MatchOption, IfSome, IsSome, None, Some};
+ghost use Rattle.std.specs.Prelude.{◌≡◌, ◌≤◌, [], length, ℤ, List, MatchOption, None, Some};
 ghost use Rattle.cilk_program.specs.declared.ask.Ask.TheVariants.{Begin, Invoke};
 ghost use Rattle.cilk_program.specs.declared.ask.Callee.TheVariants as callees;
-ghost use Rattle.cilk_types.specs.declared.invocation.Invocation.{Invocation};
 ghost use Rattle.cilk_lower.specs.Machine.{Move, invoked, on_words};
-ghost use Rattle.cilk_frames.specs.Asked.{IsFunctionCall, in_full, words_in};
-ghost use Rattle.cilk_frames.specs.Following.{child_of};
+ghost use Rattle.cilk_frames.specs.AskSlot.{IsFunctionCall, in_full, words_in};
 
 use crate::brief::Brief;
 use crate::cursor::Cursor;
@@ -19,28 +17,28 @@ use std::marker::Model;
 /// What a frame asked for last. Most of an `Ask` is room for what a function is given, which would be moved with each step;
 /// here it stays where it is, and is written where a function is invoked.
 #[derive(Drop)]
-pub struct Asked {
+pub struct AskSlot {
     // None where a function is invoked.
     brief: Option<Brief>,
     how: Invocation,
     call: FunctionCall,
 }
 
-impl Model for Asked {
+impl Model for AskSlot {
     ghost use Rattle.cilk_program.specs.declared.ask.Ask.{Ask};
-    ghost use Rattle.cilk_frames.specs.Asked.{ask_of};
+    ghost use Rattle.cilk_frames.specs.AskSlot.{ask_of};
 
     ghost Value = { Ask };
 
     ghost view = { λ a. ask_of a.brief a.how a.call };
 }
 
-impl Asked {
+impl AskSlot {
     /// That a frame begins.
-    pub fn new() -> Asked
+    pub fn new() -> AskSlot
         ensures { result ≡ Begin }
     {
-        Asked {
+        AskSlot {
             brief: Some(Brief::Begin),
             how: Invocation::Call,
             call: FunctionCall {
@@ -59,24 +57,12 @@ impl Asked {
         self.brief.as_ref()
     }
 
-    /// Whether the child that begins is called or spawned.
-    pub fn how(&self) -> Invocation
-        requires { IsSome (child_of self.now) }
-        ensures { IfSome (child_of self.now) (λ callee. self.now ≡ Invoke result callee) }
-    {
-        match self.brief {
-            Some(Brief::Turns(how, _)) => how,
-            Some(_) => unreachable!(),
-            None => self.how,
-        }
-    }
-
-    /// The function that is invoked, with what it is given.
-    pub fn call(&self) -> &FunctionCall
+    /// Whether a function is called or spawned, and which, with what it is given.
+    pub fn invocation(&self) -> (Invocation, &FunctionCall)
         requires { IsFunctionCall self.now }
-        ensures { (how : Invocation) × (self.now ≡ Invoke how (callees.Function result.now)) }
+        ensures { self.now ≡ Invoke result.0 (callees.Function result.1.now) }
     {
-        &self.call
+        (self.how, &self.call)
     }
 
     /// The ask.

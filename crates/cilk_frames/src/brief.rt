@@ -1,7 +1,7 @@
 //! Asks that are small.
 
 ghost use Rattle.std.specs.Prelude.{◌≡◌};
-ghost use Rattle.cilk_frames.specs.Asked.{in_full};
+ghost use Rattle.cilk_frames.specs.AskSlot.{in_full};
 
 use cilk_program::ask::{Ask, Callee, LoopPart};
 use cilk_program::syntax::{Place, Reducer};

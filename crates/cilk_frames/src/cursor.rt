@@ -1,6 +1,6 @@
 //! Where a frame stands in its code.
 
-ghost use Rattle.std.specs.Prelude.{◌≡◌, ◌≢◌, ◌+◌, ◌-◌, ◌<◌, ◌≤◌, ◌^◌, ◌∷◌, length, slice_get, ℤ, List, [], IfOk, IfSome, IsSome, None, Some};
+ghost use Rattle.std.specs.Prelude.{◌≡◌, ◌≢◌, ◌+◌, ◌-◌, ◌<◌, ◌≤◌, ◌^◌, ◌∷◌, length, slice_get, ℤ, List, [], IfOk, IfSome, IsSome, MatchOption, None, Some};
 ghost use Rattle.cilk_program.specs.Syntax.{Source};
 ghost use Rattle.cilk_program.specs.Inside.{CalleeIsFit};
 ghost use Rattle.cilk_program.specs.declared.ask.Ask.TheVariants.{Begin};
@@ -11,7 +11,7 @@ ghost use Rattle.cilk_frames.specs.Following.{Fits, Stands, child_of, owed_for};
 ghost use Rattle.cilk_frames.specs.Moving.{HasRoom, told};
 
 use crate::operands::Operands;
-use cilk_lower::code::{Code, Entry, Owed};
+use cilk_lower::code::{Code, EntryPoint, Owed};
 use cilk_program::ask::{Ask, Callee, FunctionCall, LoopPart};
 use cilk_program::given::Words;
 use std::alloc::{AllocError, Global};
@@ -62,11 +62,10 @@ impl Cursor {
         ensures stands { IfOk result (λ c. IfSome (child_of ask.now) (λ callee. (p : Source) (inputs : List ℤ) → Behaves p code.now → CalleeIsFit p callee → Stands code.now inputs p callee c [] 0)) }
         ensures owes { IfOk result (λ c. c.owed ≡ owed_for Begin) }
     {
-        match ask {
-            Ask::Invoke(_, Callee::Root) => Cursor::root(alloc, code),
-            Ask::Invoke(_, Callee::Function(call)) => Cursor::function(alloc, code, call),
-            Ask::Invoke(_, Callee::Loop(part)) => Cursor::turns(alloc, code, part),
-            _ => unreachable!(),
+        match invoked(ask).unwrap() {
+            Callee::Root => Cursor::root(alloc, code),
+            Callee::Function(call) => Cursor::function(alloc, code, call),
+            Callee::Loop(part) => Cursor::turns(alloc, code, part),
         }
     }
 
@@ -96,7 +95,7 @@ impl Cursor {
     // A frame before it begins.
     fn first(
         alloc: Global,
-        entry: Entry,
+        entry: EntryPoint,
         words: &[i64],
         part: Option<LoopPart>,
         takes: bool,
@@ -251,5 +250,15 @@ impl Cursor {
     {
         self.owed = owed;
         self.place += 1;
+    }
+}
+
+// What the frame runs that an ask begins, if it begins one.
+fn invoked(ask: &Ask) -> Option<&Callee>
+    ensures { MatchOption result (child_of ask.now ≡ None) (λ callee. child_of ask.now ≡ Some callee.now) }
+{
+    match ask {
+        Ask::Invoke(_, callee) => Some(callee),
+        _ => None,
     }
 }

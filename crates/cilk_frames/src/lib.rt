@@ -10,7 +10,7 @@
 //!
 //! [`stepping::step`] is the plain form of a step, and [`cursor::Cursor::new`] that of a frame that begins: an ask comes
 //! and goes by value, with room for all that a function is given. Who runs many frames keeps one ask in its place, an
-//! [`asked::Asked`]: [`stepping::step_into`] is the same step and leaves what is asked there. The frame that it begins is
+//! [`asked::AskSlot`]: [`stepping::step_into`] is the same step and leaves what is asked there. The frame that it begins is
 //! [`cursor::Cursor::function`] or [`cursor::Cursor::turns`]. A cursor holds no more of its callee than the machine
 //! uses: its words, the turns of a loop, and whether its result is taken.
 //!
@@ -20,7 +20,7 @@
 //!
 //! ```text
 //! let mut cursor = Cursor::root(alloc, &code)?;
-//! let mut asked = Asked::new();              // the frame begins
+//! let mut asked = AskSlot::new();              // the frame begins
 //! step_into(&code, &input, &mut cursor, Answer::Done, &mut left, &mut asked);
 //! match asked.brief() {
 //!     Some(Brief::Read(place)) => ..,        // it waits for the value

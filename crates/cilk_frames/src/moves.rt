@@ -8,10 +8,10 @@ ghost use Rattle.cilk_program.specs.declared.ask.Ask.TheVariants as asks;
 ghost use Rattle.cilk_lower.specs.Code.{CodeView};
 ghost use Rattle.cilk_lower.specs.declared.code.Owed.TheVariants.{Nothing, Word};
 ghost use Rattle.cilk_lower.specs.Machine.{Goes, Stuck, Waits, loop_called, on_none, on_top, on_two, or_stops, ticked};
-ghost use Rattle.cilk_frames.specs.Asked.{in_full};
+ghost use Rattle.cilk_frames.specs.AskSlot.{in_full};
 ghost use Rattle.cilk_frames.specs.Moving.{IsGoing, TakesTick, moved};
 
-use crate::asked::Asked;
+use crate::asked::AskSlot;
 use crate::brief::Brief;
 use crate::cursor::Cursor;
 use crate::operators::element;
@@ -32,7 +32,7 @@ pub enum Moved {
 }
 
 /// On to the next instruction, which waits for the answer to an ask.
-pub fn wait(cursor: &mut Cursor, ask: Brief, owed: Owed, asked: &mut Asked) -> Moved
+pub fn wait(cursor: &mut Cursor, ask: Brief, owed: Owed, asked: &mut AskSlot) -> Moved
     requires { cursor.old.place < 2 ^ 63 }
     ensures moved { result ≡ Moved.Waits }
     ensures asked { asked.new ≡ in_full ask }
@@ -44,7 +44,7 @@ pub fn wait(cursor: &mut Cursor, ask: Brief, owed: Owed, asked: &mut Asked) -> M
 }
 
 /// The last ask.
-pub fn stop(ask: Brief, asked: &mut Asked) -> Moved
+pub fn stop(ask: Brief, asked: &mut AskSlot) -> Moved
     ensures moved { result ≡ Moved.Stops }
     ensures asked { asked.new ≡ in_full ask }
 {
@@ -65,7 +65,7 @@ pub fn put(cursor: &mut Cursor, word: i64) -> Moved
 }
 
 /// A statement begins.
-pub fn tick(cursor: &mut Cursor, left: &mut u32, asked: &mut Asked) -> Moved
+pub fn tick(cursor: &mut Cursor, left: &mut u32, asked: &mut AskSlot) -> Moved
     requires { cursor.old.place < 2 ^ 63 }
     ensures moves { (code : CodeView) → ticked left.old (Goes (cursor.old.place + 1) cursor.old.stack cursor.old.held) ≡ moved code result asked.new cursor.new left.new }
     ensures room { cursor.new.room ≡ cursor.old.room }
@@ -80,7 +80,7 @@ pub fn tick(cursor: &mut Cursor, left: &mut u32, asked: &mut Asked) -> Moved
 }
 
 /// A value is asked for, which takes its tick first.
-pub fn load(cursor: &mut Cursor, ask: Brief, left: &mut u32, asked: &mut Asked) -> Moved
+pub fn load(cursor: &mut Cursor, ask: Brief, left: &mut u32, asked: &mut AskSlot) -> Moved
     requires { cursor.old.place < 2 ^ 63 }
     ensures moves { (code : CodeView) → ticked left.old (Waits (in_full ask) Word (cursor.old.place + 1) cursor.old.stack cursor.old.held) ≡ moved code result asked.new cursor.new left.new }
     ensures room { cursor.new.room ≡ cursor.old.room }
@@ -94,7 +94,7 @@ pub fn load(cursor: &mut Cursor, ask: Brief, left: &mut u32, asked: &mut Asked) 
 }
 
 /// An array's element is asked for, once its index is checked.
-pub fn load_element(cursor: &mut Cursor, array: Array, left: &mut u32, asked: &mut Asked) -> Moved
+pub fn load_element(cursor: &mut Cursor, array: Array, left: &mut u32, asked: &mut AskSlot) -> Moved
     requires index { cursor.old.stack ≢ [] }
     requires array { array.first + array.length ≤ 2 ^ 32 }
     requires small { cursor.old.place < 2 ^ 63 }
@@ -111,7 +111,7 @@ pub fn load_element(cursor: &mut Cursor, array: Array, left: &mut u32, asked: &m
 }
 
 /// An array's element is asked for by an index that stays on the stack.
-pub fn fetch_element(cursor: &mut Cursor, array: Array, asked: &mut Asked) -> Moved
+pub fn fetch_element(cursor: &mut Cursor, array: Array, asked: &mut AskSlot) -> Moved
     requires index { cursor.old.stack ≢ [] }
     requires array { array.first + array.length ≤ 2 ^ 32 }
     requires small { cursor.old.place < 2 ^ 63 }
@@ -129,7 +129,7 @@ pub fn fetch_element(cursor: &mut Cursor, array: Array, asked: &mut Asked) -> Mo
 }
 
 /// A word goes into a cell.
-pub fn store(cursor: &mut Cursor, place: Place, word: i64, asked: &mut Asked) -> Moved
+pub fn store(cursor: &mut Cursor, place: Place, word: i64, asked: &mut AskSlot) -> Moved
     requires { cursor.old.place < 2 ^ 63 }
     ensures moved { result ≡ Moved.Waits }
     ensures asked { asked.new ≡ asks.Write place word }
@@ -139,7 +139,7 @@ pub fn store(cursor: &mut Cursor, place: Place, word: i64, asked: &mut Asked) ->
 }
 
 /// A word goes into an array's element, once its index is checked.
-pub fn store_element(cursor: &mut Cursor, array: Array, asked: &mut Asked) -> Moved
+pub fn store_element(cursor: &mut Cursor, array: Array, asked: &mut AskSlot) -> Moved
     requires operands { on_two cursor.old.stack (λ i v rest. Goes 0 rest v 0) ≢ Stuck }
     requires array { array.first + array.length ≤ 2 ^ 32 }
     requires small { cursor.old.place < 2 ^ 63 }
@@ -157,7 +157,7 @@ pub fn store_element(cursor: &mut Cursor, array: Array, asked: &mut Asked) -> Mo
 }
 
 /// A parallel loop's frame is called where the loop has turns; else the `resume` behind the call is passed.
-pub fn call_loop(cursor: &mut Cursor, number: u32, asked: &mut Asked) -> Moved
+pub fn call_loop(cursor: &mut Cursor, number: u32, asked: &mut AskSlot) -> Moved
     requires operands { on_two cursor.old.stack (λ low high rest. on_none rest (Goes 0 [] low 0)) ≢ Stuck }
     requires small { cursor.old.place < 2 ^ 63 }
     ensures moves { (code : CodeView) (left : ℕ) → on_two cursor.old.stack (λ low high rest. on_none rest (if int_lt low high then Waits (loop_called number low high) Nothing (cursor.old.place + 1) [] cursor.old.held left else Goes (cursor.old.place + 2) [] cursor.old.held left)) ≡ moved code result asked.new cursor.new left }
@@ -186,7 +186,7 @@ pub fn invoke_turns(
     cursor: &mut Cursor,
     how: Invocation,
     turns: LoopPart,
-    asked: &mut Asked,
+    asked: &mut AskSlot,
 ) -> Moved
     requires { cursor.old.place < 2 ^ 63 }
     ensures moved { result ≡ Moved.Waits }
@@ -211,7 +211,7 @@ pub fn skip_if(cursor: &mut Cursor, skips: bool, count: usize) -> Moved
 }
 
 /// The result that is held goes to the caller, if it takes one.
-pub fn give_result(cursor: &mut Cursor, asked: &mut Asked) -> Moved
+pub fn give_result(cursor: &mut Cursor, asked: &mut AskSlot) -> Moved
     requires { cursor.old.place < 2 ^ 63 }
     ensures moves { (code : CodeView) (left : ℕ) → (if cursor.old.given.takes then Waits (asks.Result cursor.old.held) Nothing (cursor.old.place + 1) cursor.old.stack cursor.old.held left else Goes (cursor.old.place + 1) cursor.old.stack cursor.old.held left) ≡ moved code result asked.new cursor.new left }
     ensures room { cursor.new.room ≡ cursor.old.room }
@@ -228,7 +228,7 @@ pub fn give_result(cursor: &mut Cursor, asked: &mut Asked) -> Moved
 
 /// A value takes its tick and goes onto the stack.
 #[inline(always)]
-pub fn give(cursor: &mut Cursor, word: i64, left: &mut u32, asked: &mut Asked) -> Moved
+pub fn give(cursor: &mut Cursor, word: i64, left: &mut u32, asked: &mut AskSlot) -> Moved
     requires room { length cursor.old.stack < cursor.old.room }
     requires small { cursor.old.place < 2 ^ 63 }
     ensures moves { (code : CodeView) → ticked left.old (Goes (cursor.old.place + 1) (word ∷ cursor.old.stack) cursor.old.held) ≡ moved code result asked.new cursor.new left.new }
@@ -248,7 +248,7 @@ pub fn give_checked(
     word: Option<i64>,
     fault: Fault,
     left: &mut u32,
-    asked: &mut Asked,
+    asked: &mut AskSlot,
 ) -> Moved
     requires room { length cursor.old.stack < cursor.old.room }
     requires small { cursor.old.place < 2 ^ 63 }

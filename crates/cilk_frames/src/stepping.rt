@@ -7,7 +7,7 @@ ghost use Rattle.cilk_lower.specs.Machine.{Stuck, Waits};
 ghost use Rattle.cilk_frames.specs.Following.{Fits, GoesOn, Runs, Stands, Steps};
 ghost use Rattle.cilk_frames.specs.Moving.{IsGoing, effort, invoking, move_at, moved};
 
-use crate::asked::Asked;
+use crate::asked::AskSlot;
 use crate::brief::Brief;
 use crate::cursor::{Answer, Cursor};
 use crate::halves::{first_half, has_one, second_half};
@@ -33,7 +33,7 @@ pub fn step(code: &Code, input: &Input, cursor: &mut Cursor, answer: Answer, lef
     ensures follows { Steps code.now input.now cursor.old answer left.old result cursor.new left.new }
     ensures stands { (p : Source) (callee : Callee) (history : List ℤ) (took : ℕ) → Stands code.now input.now p callee cursor.old history took → GoesOn code.now input.now cursor.old answer left.old result cursor.new left.new p callee history took }
 {
-    let mut asked = Asked::new();
+    let mut asked = AskSlot::new();
     step_into(code, input, cursor, answer, left, &mut asked);
     asked.in_full()
 }
@@ -46,7 +46,7 @@ pub fn step_into(
     cursor: &mut Cursor,
     answer: Answer,
     left: &mut u32,
-    asked: &mut Asked,
+    asked: &mut AskSlot,
 )
     requires runs { Runs code.now input.now cursor.old }
     requires fits { Fits cursor.old.owed answer }
@@ -72,7 +72,7 @@ fn advance(
     input: &Input,
     cursor: &mut Cursor,
     left: &mut u32,
-    asked: &mut Asked,
+    asked: &mut AskSlot,
 ) -> Moved
     requires { move_at code.now input.now cursor.old left.old ≢ Stuck }
     ensures moves { move_at code.now input.now cursor.old left.old ≡ moved code.now result asked.new cursor.new left.new }
@@ -193,15 +193,12 @@ fn advance(
 
 // The invocation of a call site's function, with the words that stand on the stack.
 #[tactic(auto, using(crate::proofs::Given::words_there))]
-fn invoke(code: &Code, cursor: &mut Cursor, number: usize, asked: &mut Asked)
+fn invoke(code: &Code, cursor: &mut Cursor, number: usize, asked: &mut AskSlot)
     requires { (left : ℕ) × (invoking code.now number cursor.old left ≢ Stuck) }
     ensures moves { (left : ℕ) → invoking code.now number cursor.old left ≡ Waits asked.new cursor.new.owed cursor.new.place cursor.new.stack cursor.new.held left }
     ensures room { cursor.new.room ≡ cursor.old.room }
     ensures given { cursor.new.given ≡ cursor.old.given }
 {
-    let Some(site) = code.site(number) else {
-        unreachable!()
-    };
-    asked.invoke(site, cursor);
+    asked.invoke(code.site(number), cursor);
     cursor.no_operand_waits();
 }

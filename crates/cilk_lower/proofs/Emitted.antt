@@ -8,7 +8,7 @@ use Rattle.cilk_program.specs.declared.program.Loop as declared_loops
 use Rattle.cilk_program.specs.declared.syntax.ReducerPlace.TheVariants as reducers
 use Rattle.cilk_program.specs.Programs.{function, loop}
 use Rattle.cilk_program.specs.Syntax.{Statements, Function, Loop}
-use Rattle.cilk_lower.specs.declared.code.Entry.{Entry}
+use Rattle.cilk_lower.specs.declared.code.EntryPoint.{EntryPoint}
 use Rattle.cilk_lower.specs.declared.code.Instr.{Instr}
 use Rattle.cilk_lower.specs.declared.code.Site.{Site}
 use Rattle.cilk_lower.specs.Bodies.{HasAt, BodyAt, FunctionAt, LoopAt, EachAt, IsSound, Grows}
@@ -39,24 +39,24 @@ grows_on is is1 is2 ss ss1 ss2 f g =
       sites_are = g.sites_are ∙ ap (λ l. l ++ g.calls) f.sites_are ∙ append_assoc ss f.calls g.calls;
     }
 
-pub body_grows : (is is' : List Instr) (ss ss' : List Site) (e : Entry) (code : ℕ → List Instr) (body : Statements) → Grows is ss is' ss' → BodyAt is ss e code body → BodyAt is' ss' e code body
+pub body_grows : (is is' : List Instr) (ss ss' : List Site) (e : EntryPoint) (code : ℕ → List Instr) (body : Statements) → Grows is ss is' ss' → BodyAt is ss e code body → BodyAt is' ss' e code body
 body_grows is is' ss ss' e code body g h =
     let more = body_more is g.code ss g.calls e code body h in
     subst (λ l. BodyAt l ss' e code body) (sym g.instrs_are) (subst (λ l. BodyAt (is ++ g.code) l e code body) (sym g.sites_are) more)
 
-pub functions_grow : (is is' : List Instr) (ss ss' : List Site) (es : List Entry) (fs : List declared_functions.Function) → Grows is ss is' ss' → EachAt (FunctionAt is ss) es fs → EachAt (FunctionAt is' ss') es fs
+pub functions_grow : (is is' : List Instr) (ss ss' : List Site) (es : List EntryPoint) (fs : List declared_functions.Function) → Grows is ss is' ss' → EachAt (FunctionAt is ss) es fs → EachAt (FunctionAt is' ss') es fs
 functions_grow is is' ss ss' es fs g = each_weaker (FunctionAt is ss) (FunctionAt is' ss') (λ e f. let f = function f in body_grows is is' ss ss' e (λ k. function_code k f) f.body g) es fs
 
-pub loops_grow : (is is' : List Instr) (ss ss' : List Site) (es : List Entry) (ls : List declared_loops.Loop) → Grows is ss is' ss' → EachAt (LoopAt is ss) es ls → EachAt (LoopAt is' ss') es ls
+pub loops_grow : (is is' : List Instr) (ss ss' : List Site) (es : List EntryPoint) (ls : List declared_loops.Loop) → Grows is ss is' ss' → EachAt (LoopAt is ss) es ls → EachAt (LoopAt is' ss') es ls
 loops_grow is is' ss ss' es ls g = each_weaker (LoopAt is ss) (LoopAt is' ss') (λ e l. let l = loop l in body_grows is is' ss ss' e (λ k. loop_code k l) l.body g) es ls
 
 -- what one more body brings
-pub record Next (is : List Instr) (ss : List Site) (is' : List Instr) (ss' : List Site) (e : Entry) (code : ℕ → List Instr) (body : Statements) : Type 0 where
+pub record Next (is : List Instr) (ss : List Site) (is' : List Instr) (ss' : List Site) (e : EntryPoint) (code : ℕ → List Instr) (body : Statements) : Type 0 where
   pub sound : IsSound is' ss'
   pub grows : Grows is ss is' ss'
   pub at : BodyAt is' ss' e code body
 
-next : (is is' : List Instr) (ss ss' : List Site) (e : Entry) (code : ℕ → List Instr) (body : Statements) → JumpsLand (is ++ code (length ss)) → ArraysFit is → ArraysFit (code (length ss)) → SitesFit ss → SitesFit (all_sites body) →
+next : (is is' : List Instr) (ss ss' : List Site) (e : EntryPoint) (code : ℕ → List Instr) (body : Statements) → JumpsLand (is ++ code (length ss)) → ArraysFit is → ArraysFit (code (length ss)) → SitesFit ss → SitesFit (all_sites body) →
     is' ≡ is ++ code (length ss) → ss' ≡ ss ++ all_sites body → e.place ≡ length is → e.room ≡ deepest_of_all body → Next is ss is' ss' e code body
 next is is' ss ss' e code body jumps arrays_old arrays_new old new ei es place room =
     let calls = all_sites body in
@@ -76,10 +76,10 @@ next is is' ss ss' e code body jumps arrays_old arrays_new old new ei es place r
       };
     }
 
-pub function_next : (is is' : List Instr) (ss ss' : List Site) (e : Entry) (f : Function) → IsSound is ss → ((k : ℕ) → ArraysFit (function_code k f)) → SitesFit (all_sites f.body) → is' ≡ is ++ function_code (length ss) f → ss' ≡ ss ++ all_sites f.body → e.place ≡ length is → e.room ≡ deepest_of_all f.body → Next is ss is' ss' e (λ k. function_code k f) f.body
+pub function_next : (is is' : List Instr) (ss ss' : List Site) (e : EntryPoint) (f : Function) → IsSound is ss → ((k : ℕ) → ArraysFit (function_code k f)) → SitesFit (all_sites f.body) → is' ≡ is ++ function_code (length ss) f → ss' ≡ ss ++ all_sites f.body → e.place ≡ length is → e.room ≡ deepest_of_all f.body → Next is ss is' ss' e (λ k. function_code k f) f.body
 function_next is is' ss ss' e f old named fits ei es place room = next is is' ss ss' e (λ k. function_code k f) f.body (function_jumps is (length ss) f old.jumps) old.arrays (named (length ss)) old.sites_fit fits ei es place room
 
-pub loop_next : (is is' : List Instr) (ss ss' : List Site) (e : Entry) (l : Loop) → IsSound is ss → ((k : ℕ) → ArraysFit (loop_code k l)) → SitesFit (all_sites l.body) → is' ≡ is ++ loop_code (length ss) l → ss' ≡ ss ++ all_sites l.body → e.place ≡ length is → e.room ≡ deepest_of_all l.body → Next is ss is' ss' e (λ k. loop_code k l) l.body
+pub loop_next : (is is' : List Instr) (ss ss' : List Site) (e : EntryPoint) (l : Loop) → IsSound is ss → ((k : ℕ) → ArraysFit (loop_code k l)) → SitesFit (all_sites l.body) → is' ≡ is ++ loop_code (length ss) l → ss' ≡ ss ++ all_sites l.body → e.place ≡ length is → e.room ≡ deepest_of_all l.body → Next is ss is' ss' e (λ k. loop_code k l) l.body
 loop_next is is' ss ss' e l old named fits ei es place room = next is is' ss ss' e (λ k. loop_code k l) l.body (loop_jumps is (length ss) l old.jumps) old.arrays (named (length ss)) old.sites_fit fits ei es place room
 
 -- the global reducers stand ahead of the main function
@@ -92,7 +92,7 @@ globals_sound is ss kinds e none =
       sites_fit = subst SitesFit (sym none) none_fit;
     }
 
-pub root_at : (is is' : List Instr) (ss ss' : List Site) (e root : Entry) (kinds : List MonoidKind) (f : Function) → is ≡ creates_code reducers.Global 0 kinds → is' ≡ is ++ function_code (length ss) f → BodyAt is' ss' e (λ k. function_code k f) f.body → ss' ≡ ss ++ all_sites f.body → root.place ≡ 0 → root.room ≡ e.room →
+pub root_at : (is is' : List Instr) (ss ss' : List Site) (e root : EntryPoint) (kinds : List MonoidKind) (f : Function) → is ≡ creates_code reducers.Global 0 kinds → is' ≡ is ++ function_code (length ss) f → BodyAt is' ss' e (λ k. function_code k f) f.body → ss' ≡ ss ++ all_sites f.body → root.place ≡ 0 → root.room ≡ e.room →
     BodyAt is' ss' root (λ k. creates_code reducers.Global 0 kinds ++ function_code k f) f.body
 root_at is is' ss ss' e root kinds f e1 e2 main es place room =
     let code = creates_code reducers.Global 0 kinds ++ function_code (length ss) f in
@@ -105,7 +105,7 @@ root_at is is' ss ss' e root kinds f e1 e2 main es place room =
     }
 
 -- one more of a list that a loop goes over
-pub each_more : {A : Type 0} (P : Entry → A → Type 0) (es es' : List Entry) (xs : List A) (i : ℕ) (e : Entry) (x : A) → i < length xs → x ≡ get_or xs i x → es' ≡ es ++ e ∷ [] → EachAt P es (take i xs) → P e x → EachAt P es' (take (i + 1) xs)
+pub each_more : {A : Type 0} (P : EntryPoint → A → Type 0) (es es' : List EntryPoint) (xs : List A) (i : ℕ) (e : EntryPoint) (x : A) → i < length xs → x ≡ get_or xs i x → es' ≡ es ++ e ∷ [] → EachAt P es (take i xs) → P e x → EachAt P es' (take (i + 1) xs)
 each_more P es es' xs i e x low is pushed h last =
     let more : take (i + 1) xs ≡ take i xs ++ x ∷ [] = take_more xs i x low ∙ ap (λ y. take i xs ++ y ∷ []) (sym is) in
     subst (λ l. EachAt P l (take (i + 1) xs)) (sym pushed) (subst (λ l. EachAt P (es ++ e ∷ []) l) (sym more) (each_push P es (take i xs) e x h last))

@@ -9,7 +9,7 @@ use Rattle.cilk_program.specs.declared.program.Function as declared_functions
 use Rattle.cilk_program.specs.declared.program.Loop as declared_loops
 use Rattle.cilk_program.specs.declared.program.GlobalReducer.{GlobalReducer}
 use Rattle.cilk_program.specs.Programs.{function, loop, source_of}
-use Rattle.cilk_program.specs.Syntax.{Function, Loop, Source, function_at, loop_at, idle, idle_loop}
+use Rattle.cilk_program.specs.Syntax.{Loop, Source, function_at, loop_at, idle, idle_loop}
 use Rattle.cilk_program.specs.SerialRun.{cells_of, own_reducers}
 use Rattle.cilk_lower.specs.declared.layout.FrameLayout.{FrameLayout}
 use Rattle.cilk_lower.specs.declared.layout.Layout.{Layout}

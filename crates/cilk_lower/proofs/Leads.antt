@@ -10,9 +10,9 @@ use Rattle.cilk_lower.specs.declared.code.Instr.{Instr}
 use Rattle.cilk_lower.specs.declared.code.Instr.TheVariants as instrs
 use Rattle.cilk_lower.specs.declared.code.Owed.{Owed}
 use Rattle.cilk_lower.specs.declared.code.Owed.TheVariants.{Nothing, Word}
-use Rattle.cilk_lower.specs.Machine.{Setting, Move, Goes, Waits, Stops, Run, Reaches, going, move, exec, ticked, or_stops}
+use Rattle.cilk_lower.specs.Machine.{Setting, Move, Goes, Waits, Stops, MachineRun, Reaches, going, move, exec, ticked, or_stops}
 
-abbrev pub runs : Setting → ℕ → ℕ → List ℤ → List ℤ → ℕ → Run
+abbrev pub runs : Setting → ℕ → ℕ → List ℤ → List ℤ → ℕ → MachineRun
 runs m k pc stack answers left = exec m k pc stack (pos 0) answers left
 
 abbrev pub moves : Setting → Instr → ℕ → List ℤ → ℕ → Move

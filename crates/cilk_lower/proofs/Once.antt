@@ -3,13 +3,13 @@ use Rattle.std.proofs.Common.{◌≡◌, ℕ, zero, suc, ◌+◌, ℤ, Bool, tru
 use Rattle.std.specs.Prelude.{slice_get, nat_lt}
 use Rattle.cilk_program.specs.Behaviour.{Asked}
 use Rattle.cilk_lower.specs.declared.code.Owed.TheVariants.{Nothing, Word}
-use Rattle.cilk_lower.specs.Machine.{Setting, Move, Goes, Waits, Stops, Stuck, move, Run, Reaches, Fails, Next, going, exec}
+use Rattle.cilk_lower.specs.Machine.{Setting, Move, Goes, Waits, Stops, Stuck, move, MachineRun, Reaches, Fails, Next, going, exec}
 
 -- what reaches an ask in one way reaches it in the other too
 abbrev Carries : Next → Next → Asked → Type 0
 Carries f g k = (place : ℕ) (stack : List ℤ) (held : ℤ) (answers : List ℤ) (left : ℕ) → f place stack held answers left ≡ Reaches k → g place stack held answers left ≡ Reaches k
 
-word_carries : (t : Bool) (x y : Run) (k : Asked) → (x ≡ Reaches k → y ≡ Reaches k) → (if t then x else Fails) ≡ Reaches k → (if t then y else Fails) ≡ Reaches k
+word_carries : (t : Bool) (x y : MachineRun) (k : Asked) → (x ≡ Reaches k → y ≡ Reaches k) → (if t then x else Fails) ≡ Reaches k → (if t then y else Fails) ≡ Reaches k
 word_carries true x y k h e = h e
 word_carries false x y k h e = e
 

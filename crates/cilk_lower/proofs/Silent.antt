@@ -7,7 +7,6 @@ use Rattle.std.specs.declared.alloc.Global.{Global}
 use Rattle.cilk_program.specs.declared.syntax.Stmt.{Stmt}
 use Rattle.cilk_program.specs.declared.syntax.Stmt as stmts
 use Rattle.cilk_program.specs.Programs.{statement, statements}
-use Rattle.cilk_program.specs.Syntax.{Block}
 use Rattle.cilk_lower.specs.Plain.{is_silent, row_is_silent}
 use Rattle.cilk_lower.proofs.Rows.{block_is, for_is}
 

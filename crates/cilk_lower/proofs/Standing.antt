@@ -14,7 +14,7 @@ use Rattle.cilk_program.specs.Behaviour.{ended, frame_gives, function_gives, loo
 use Rattle.cilk_program.specs.Inside.{CalleeIsFit}
 use Rattle.cilk_program.specs.Programs.{function, loop}
 use Rattle.cilk_program.specs.Syntax.{Statements, Function, Loop, Source, function_at, loop_at, main_of, idle, idle_loop}
-use Rattle.cilk_lower.specs.declared.code.Entry.{Entry}
+use Rattle.cilk_lower.specs.declared.code.EntryPoint.{EntryPoint}
 use Rattle.cilk_lower.specs.declared.code.Instr.{Instr}
 use Rattle.cilk_lower.specs.declared.code.Site.{Site}
 use Rattle.cilk_lower.specs.Behaves.{Behaves}
@@ -26,25 +26,25 @@ use Rattle.cilk_lower.proofs.Frames.{function_comes, root_comes, loop_comes}
 use Rattle.cilk_lower.proofs.Places.{has_more}
 
 -- a body stays where it is as the code grows
-pub body_more : (instrs more : List Instr) (sites calls : List Site) (e : Entry) (code : ℕ → List Instr) (body : Statements) → BodyAt instrs sites e code body → BodyAt (instrs ++ more) (sites ++ calls) e code body
+pub body_more : (instrs more : List Instr) (sites calls : List Site) (e : EntryPoint) (code : ℕ → List Instr) (body : Statements) → BodyAt instrs sites e code body → BodyAt (instrs ++ more) (sites ++ calls) e code body
 body_more instrs more sites calls e code body h =
     record { count = h.count; at = has_more instrs more e.place (code h.count) h.at; called = has_more sites calls h.count (all_sites body) h.called; room = h.room }
 
-pub each_weaker : {A : Type 0} (P Q : Entry → A → Type 0) → ((e : Entry) (x : A) → P e x → Q e x) → (es : List Entry) (xs : List A) → EachAt P es xs → EachAt Q es xs
+pub each_weaker : {A : Type 0} (P Q : EntryPoint → A → Type 0) → ((e : EntryPoint) (x : A) → P e x → Q e x) → (es : List EntryPoint) (xs : List A) → EachAt P es xs → EachAt Q es xs
 each_weaker P Q f [] [] h = tt
 each_weaker P Q f [] (x ∷ xs) h = absurd h
 each_weaker P Q f (e ∷ es) [] h = absurd h
 each_weaker P Q f (e ∷ es) (x ∷ xs) h = (f e x h.0, each_weaker P Q f es xs h.1)
 
 -- one more at the end
-pub each_push : {A : Type 0} (P : Entry → A → Type 0) (es : List Entry) (xs : List A) (e : Entry) (x : A) → EachAt P es xs → P e x → EachAt P (es ++ e ∷ []) (xs ++ x ∷ [])
+pub each_push : {A : Type 0} (P : EntryPoint → A → Type 0) (es : List EntryPoint) (xs : List A) (e : EntryPoint) (x : A) → EachAt P es xs → P e x → EachAt P (es ++ e ∷ []) (xs ++ x ∷ [])
 each_push P [] [] e x h last = (last, tt)
 each_push P [] (y ∷ ys) e x h last = absurd h
 each_push P (d ∷ es) [] e x h last = absurd h
 each_push P (d ∷ es) (y ∷ ys) e x h last = (h.0, each_push P es ys e x h.1 last)
 
 -- the entry of one of them
-each_get : {A : Type 0} (P : Entry → A → Type 0) (es : List Entry) (xs : List A) (k : ℕ) → EachAt P es xs → k < length xs → (e : Entry) × (x : A) × (slice_get es k ≡ Some e) × (slice_get xs k ≡ Some x) × P e x
+each_get : {A : Type 0} (P : EntryPoint → A → Type 0) (es : List EntryPoint) (xs : List A) (k : ℕ) → EachAt P es xs → k < length xs → (e : EntryPoint) × (x : A) × (slice_get es k ≡ Some e) × (slice_get xs k ≡ Some x) × P e x
 each_get P [] [] k h low = absurd (omega arith)
 each_get P [] (x ∷ xs) k h low = absurd h
 each_get P (e ∷ es) [] k h low = absurd h
@@ -60,7 +60,7 @@ pub long_map : {A B : Type 0} (f : A → B) (xs : List A) → length (map f xs) 
 long_map f [] = refl
 long_map f (x ∷ xs) = omega (arith, long_map f xs)
 
-rooms_of : {A : Type 0} (P : Entry → A → Type 0) (room : A → ℕ) → ((e : Entry) (x : A) → P e x → e.room ≡ room x) → (es : List Entry) (xs : List A) → EachAt P es xs → map (λ e. e.room) es ≡ map room xs
+rooms_of : {A : Type 0} (P : EntryPoint → A → Type 0) (room : A → ℕ) → ((e : EntryPoint) (x : A) → P e x → e.room ≡ room x) → (es : List EntryPoint) (xs : List A) → EachAt P es xs → map (λ e. e.room) es ≡ map room xs
 rooms_of P room f [] [] h = refl
 rooms_of P room f [] (x ∷ xs) h = absurd h
 rooms_of P room f (e ∷ es) [] h = absurd h
@@ -71,7 +71,7 @@ map_map f g [] = refl
 map_map f g (x ∷ xs) = ap (λ ys. f (g x) ∷ ys) (map_map f g xs)
 
 -- the frame of a callee that begins at this entry
-abbrev BeginsAt : Source → CodeView → Callee → Entry → Type 0
+abbrev BeginsAt : Source → CodeView → Callee → EntryPoint → Type 0
 BeginsAt p c callee e = (inputs answers : List ℤ) (left : ℕ) →
     (n : ℕ) × (exec (record { inputs = inputs; code = c; given = given_of callee; room = e.room }) n e.place [] (pos 0) answers left ≡ Reaches (ended (frame_gives p inputs callee answers left)))
 
@@ -86,7 +86,7 @@ module _ (globals : List ℤ) (kinds : List MonoidKind) (fs : List declared_func
       let r = root_comes m kinds f h.count c.root.place answers left (sym none) fits h.at h.called in
       subst (λ f. (n : ℕ) × (exec m n c.root.place [] (pos 0) answers left ≡ Reaches (ended (creates reducers.Global 0 kinds answers left >>= λ _. function_gives inputs f [] false)))) (sym same) r
 
-  function_begins : (call : FunctionCall) (e : Entry) (f : declared_functions.Function) → function_at meant call.function ≡ function f → (let f = function f in length call.words ≡ f.words) → FunctionAt c.instrs c.sites e f → BeginsAt meant c (callees.Function call) e
+  function_begins : (call : FunctionCall) (e : EntryPoint) (f : declared_functions.Function) → function_at meant call.function ≡ function f → (let f = function f in length call.words ≡ f.words) → FunctionAt c.instrs c.sites e f → BeginsAt meant c (callees.Function call) e
   function_begins call e f same count h inputs answers left =
       let g = function f in
       let fits : deepest_of_all g.body ≤ e.room = omega (arith, h.room) in
@@ -94,7 +94,7 @@ module _ (globals : List ℤ) (kinds : List MonoidKind) (fs : List declared_func
       let r = function_comes m g h.count e.place answers left count fits h.at h.called in
       subst (λ f. (n : ℕ) × (exec m n e.place [] (pos 0) answers left ≡ Reaches (ended (function_gives inputs f call.words (is_some call.result) answers left)))) (sym same) r
 
-  loop_begins : (part : LoopPart) (e : Entry) (l : declared_loops.Loop) → loop_at meant part.number ≡ loop l → LoopAt c.instrs c.sites e l → BeginsAt meant c (callees.Loop part) e
+  loop_begins : (part : LoopPart) (e : EntryPoint) (l : declared_loops.Loop) → loop_at meant part.number ≡ loop l → LoopAt c.instrs c.sites e l → BeginsAt meant c (callees.Loop part) e
   loop_begins part e l same h inputs answers left =
       let body = loop l in
       let fits : deepest_of_all body.body ≤ e.room = omega (arith, h.room) in

@@ -8,7 +8,7 @@ use Rattle.cilk_program.specs.declared.syntax.ReducerPlace.TheVariants as reduce
 use Rattle.cilk_program.specs.Programs.{function, source_of}
 use Rattle.cilk_program.specs.Syntax.{idle, main_of}
 use Rattle.cilk_program.specs.WellNamed.{is_well_named}
-use Rattle.cilk_lower.specs.declared.code.Entry.{Entry}
+use Rattle.cilk_lower.specs.declared.code.EntryPoint.{EntryPoint}
 use Rattle.cilk_lower.specs.declared.code.Instr.{Instr}
 use Rattle.cilk_lower.specs.declared.code.Site.{Site}
 use Rattle.cilk_lower.specs.declared.layout.Layout.{Layout}
@@ -34,7 +34,7 @@ module _ (globals : List ℤ) (rs : List GlobalReducer) (fs : List declared_func
     main_is : main_of (source_of globals rs fs ls main) ≡ function f
     main_is = ap (λ o. unwrap_or o idle) (get_map function fs main f main_there)
 
-    module _ (code1 code2 : List Instr) (sites1 sites2 : List Site) (entry : Entry)
+    module _ (code1 code2 : List Instr) (sites1 sites2 : List Site) (entry : EntryPoint)
         (begins : code1 ≡ creates_code reducers.Global 0 (map (λ r. r.kind) rs)) (none : sites1 ≡ [])
         (code : code2 ≡ code1 ++ function_code (length sites1) (function f)) (sites : let g = function f in sites2 ≡ sites1 ++ all_sites g.body)
         (place : entry.place ≡ length code1) (room : let g = function f in entry.room ≡ deepest_of_all g.body) where
@@ -51,7 +51,7 @@ module _ (globals : List ℤ) (rs : List GlobalReducer) (fs : List declared_func
           let made = main_next in
           subst (λ g. FunctionAt code2 sites2 entry g) same made.at
 
-      module _ (code3 code4 : List Instr) (sites3 sites4 : List Site) (root : Entry) (laid : Layout) (es els : List Entry) (fs' : List declared_functions.Function) (ls' : List declared_loops.Loop)
+      module _ (code3 code4 : List Instr) (sites3 sites4 : List Site) (root : EntryPoint) (laid : Layout) (es els : List EntryPoint) (fs' : List declared_functions.Function) (ls' : List declared_loops.Loop)
           (here : root.place ≡ 0) (enough : root.room ≡ entry.room) (fs_are : fs' ≡ fs) (ls_are : ls' ≡ ls)
           (grows3 : Grows code2 sites2 code3 sites3) (grows4 : Grows code3 sites3 code4 sites4) (functions : EachAt (FunctionAt code3 sites3) es fs') (loops : EachAt (LoopAt code4 sites4) els ls') where
         abbrev made : CodeView

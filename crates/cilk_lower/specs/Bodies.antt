@@ -4,7 +4,7 @@ use Rattle.cilk_program.specs.declared.program.Function as declared_functions
 use Rattle.cilk_program.specs.declared.program.Loop as declared_loops
 use Rattle.cilk_program.specs.Programs.{function, loop}
 use Rattle.cilk_program.specs.Syntax.{Statements}
-use Rattle.cilk_lower.specs.declared.code.Entry.{Entry}
+use Rattle.cilk_lower.specs.declared.code.EntryPoint.{EntryPoint}
 use Rattle.cilk_lower.specs.declared.code.Instr.{Instr}
 use Rattle.cilk_lower.specs.declared.code.Site.{Site}
 use Rattle.cilk_lower.specs.Code.{function_code, loop_code, all_sites, ArraysFit, JumpsLand, SitesFit}
@@ -16,20 +16,20 @@ HasAt list place [] = Unit {0}
 HasAt list place (i ∷ is) = (slice_get list place ≡ Some i) × HasAt list (place + 1) is
 
 -- a body's instructions stand at an entry's place, its call sites in the table, and it needs the entry's room
-pub record BodyAt (instrs : List Instr) (sites : List Site) (e : Entry) (code : ℕ → List Instr) (body : Statements) : Type 0 where
+pub record BodyAt (instrs : List Instr) (sites : List Site) (e : EntryPoint) (code : ℕ → List Instr) (body : Statements) : Type 0 where
   pub count : ℕ
   pub at : HasAt instrs e.place (code count)
   pub called : HasAt sites count (all_sites body)
   pub room : e.room ≡ deepest_of_all body
 
-abbrev pub FunctionAt : List Instr → List Site → Entry → declared_functions.Function → Type 0
+abbrev pub FunctionAt : List Instr → List Site → EntryPoint → declared_functions.Function → Type 0
 FunctionAt instrs sites e f = let f = function f in BodyAt instrs sites e (λ k. function_code k f) f.body
 
-abbrev pub LoopAt : List Instr → List Site → Entry → declared_loops.Loop → Type 0
+abbrev pub LoopAt : List Instr → List Site → EntryPoint → declared_loops.Loop → Type 0
 LoopAt instrs sites e l = let l = loop l in BodyAt instrs sites e (λ k. loop_code k l) l.body
 
 -- each at an entry of its own, in order
-abbrev pub EachAt : {A : Type 0} → (Entry → A → Type 0) → List Entry → List A → Type 0
+abbrev pub EachAt : {A : Type 0} → (EntryPoint → A → Type 0) → List EntryPoint → List A → Type 0
 EachAt P [] [] = Unit {0}
 EachAt P [] (x ∷ xs) = ⊥
 EachAt P (e ∷ es) [] = ⊥

@@ -7,7 +7,7 @@ use Rattle.cilk_program.specs.declared.syntax.Place.TheVariants as places
 use Rattle.cilk_program.specs.declared.syntax.ReducerPlace.{ReducerPlace}
 use Rattle.cilk_program.specs.declared.syntax.ReducerPlace.TheVariants as reducers
 use Rattle.cilk_program.specs.Syntax.{Expression, Number, Variable, Element, Negate, Not, Binary, And, Or, Value, Input, InputCount, Target, ToVariable, ToElement, Invoke, Declaration, Zero, Opening, Invoking, Statement, Empty, Block, Declare, Assign, Change, Step, Invokes, Sync, If, IfElse, For, ParallelFor, Print, Update, Set, Return, Statements, Nothing, Then, Function, Loop}
-use Rattle.cilk_lower.specs.declared.code.Entry.{Entry}
+use Rattle.cilk_lower.specs.declared.code.EntryPoint.{EntryPoint}
 use Rattle.cilk_lower.specs.declared.code.Instr.{Instr}
 use Rattle.cilk_lower.specs.declared.code.Instr.TheVariants as instrs
 use Rattle.cilk_lower.specs.declared.code.Site.{Site}
@@ -18,13 +18,13 @@ use Rattle.cilk_lower.specs.declared.layout.Layout.{Layout}
 pub record CodeView : Type 0 where
   pub instrs : List Instr
   pub sites : List Site
-  pub root : Entry
-  pub functions : List Entry
-  pub loops : List Entry
+  pub root : EntryPoint
+  pub functions : List EntryPoint
+  pub loops : List EntryPoint
   pub layout : Layout
 
 -- where the frame of a callee begins
-abbrev pub entry_of : CodeView → Callee → Entry
+abbrev pub entry_of : CodeView → Callee → EntryPoint
 entry_of c callees.Root = c.root
 entry_of c (callees.Function call) = unwrap_or (slice_get c.functions call.function) c.root
 entry_of c (callees.Loop part) = unwrap_or (slice_get c.loops part.number) c.root

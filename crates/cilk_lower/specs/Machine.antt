@@ -159,25 +159,25 @@ module _ (m : Setting) where
   move (Some instrs.End) place stack held left = Stops (asks.End held) left
 
 -- what a run of the machine comes to: an ask without an answer, no more steps allowed, or stuck
-pub data Run : Type 0 where
-  Reaches : (asked : Asked) → Run
-  Unfinished : Run
-  Fails : Run
+pub data MachineRun : Type 0 where
+  Reaches : (asked : Asked) → MachineRun
+  Unfinished : MachineRun
+  Fails : MachineRun
 
 -- a place, a stack, the result that is held, the answers to come and the ticks left
 abbrev pub Next : Type 0
-Next = ℕ → List ℤ → ℤ → List ℤ → ℕ → Run
+Next = ℕ → List ℤ → ℤ → List ℤ → ℕ → MachineRun
 
 -- goes on once the answer came
-abbrev pub received : ℕ → Owed → ℤ → List ℤ → (List ℤ → Run) → Run
+abbrev pub received : ℕ → Owed → ℤ → List ℤ → (List ℤ → MachineRun) → MachineRun
 received room Nothing a stack go = go stack
 received room Word a stack go = if nat_lt (length stack) room then go (a ∷ stack) else Fails
 
-abbrev pub waiting : ℕ → Ask → Owed → ℕ → List ℤ → ℤ → List ℤ → ℕ → Next → Run
+abbrev pub waiting : ℕ → Ask → Owed → ℕ → List ℤ → ℤ → List ℤ → ℕ → Next → MachineRun
 waiting room k owed place stack held [] left next = Reaches (asks_for k left)
 waiting room k owed place stack held (a ∷ answers) left next = received room owed a stack (λ stack. next place stack held answers left)
 
-abbrev pub going : ℕ → Move → List ℤ → Next → Run
+abbrev pub going : ℕ → Move → List ℤ → Next → MachineRun
 going room (Goes place stack held left) answers next = next place stack held answers left
 going room (Waits k owed place stack held left) answers next = waiting room k owed place stack held answers left next
 going room (Stops k left) answers next = Reaches (asks_for k left)
@@ -193,5 +193,5 @@ abbrev pub setting : List ℤ → CodeView → Callee → Setting
 setting inputs c callee = record { inputs = inputs; code = c; given = given_of callee; room = (entry_of c callee).room }
 
 -- it begins with no operand, and with 0 for its result
-abbrev pub exec_frame : List ℤ → CodeView → Callee → ℕ → List ℤ → ℕ → Run
+abbrev pub exec_frame : List ℤ → CodeView → Callee → ℕ → List ℤ → ℕ → MachineRun
 exec_frame inputs c callee n answers left = exec (setting inputs c callee) n (entry_of c callee).place [] (pos 0) answers left

@@ -4,7 +4,7 @@ use Rattle.std.specs.List.{list_all}
 use Rattle.cilk_program.specs.Syntax.{Statement, Empty, Block, Declare, Assign, Change, Step, Invokes, Sync, If, IfElse, For, ParallelFor, Print, Update, Set, Return, Statements, Nothing, Then, Function, Loop, Source}
 
 abbrev mutual
-  -- a statement without a `print`
+  -- A statement without a `print`. It may change a reducer: a program that has none has no such statement, since its names are there.
   pub is_silent : Statement → Bool
   is_silent Empty = true
   is_silent (Block row) = row_is_silent row

@@ -6,7 +6,7 @@ ghost use Rattle.cilk_lower.specs.Code.{creates_code, words_code};
 ghost use Rattle.cilk_program.specs.declared.program.Function.{Function};
 ghost use Rattle.cilk_program.specs.declared.syntax.ReducerPlace.{ReducerPlace};
 
-use crate::code::{Entry, Instr};
+use crate::code::{EntryPoint, Instr};
 use crate::emitter::Emitter;
 use crate::put::{put, put_create};
 use cilk_monoid::kind::MonoidKind;
@@ -20,8 +20,8 @@ pub fn emit_functions(
     out: &mut Emitter,
     functions: &[Function],
     main: usize,
-    entry: Entry,
-) -> Result<Vec<Entry>, AllocError>
+    entry: EntryPoint,
+) -> Result<Vec<EntryPoint>, AllocError>
     requires sound { IsSound out.old.instrs.items out.old.sites.items }
     requires fit { EachFits FunctionFits functions.now }
     requires main { (f : Function) → slice_get functions.now main ≡ Some f → FunctionAt out.old.instrs.items out.old.sites.items entry f }
@@ -47,7 +47,7 @@ pub fn emit_loops(
     alloc: Global,
     out: &mut Emitter,
     loops: &[Loop],
-) -> Result<Vec<Entry>, AllocError>
+) -> Result<Vec<EntryPoint>, AllocError>
     requires sound { IsSound out.old.instrs.items out.old.sites.items }
     requires fit { EachFits LoopFits loops.now }
     ensures sound { OnOk result (IsSound out.new.instrs.items out.new.sites.items) }

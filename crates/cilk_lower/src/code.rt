@@ -1,6 +1,6 @@
 //! The instructions of all bodies.
 
-ghost use Rattle.std.specs.Prelude.{◌≡◌, ◌≢◌, ◌<◌, ◌≤◌, ◌^◌, slice_get, unwrap_or, length, IfSome, MatchOption, None, Some};
+ghost use Rattle.std.specs.Prelude.{◌≡◌, ◌≢◌, ◌<◌, ◌≤◌, ◌^◌, slice_get, unwrap_or, length, None, Some};
 ghost use Rattle.cilk_lower.specs.Code.{ArraysFit, JumpsLand, Lands, ArrayFits, SitesFit, entry_of};
 
 use crate::layout::Layout;
@@ -99,7 +99,7 @@ pub enum Owed {
 
 /// Where the frame of a body begins, and the room that it needs for operands.
 #[derive(Clone, Copy)]
-pub struct Entry {
+pub struct EntryPoint {
     pub place: usize,
     pub room: usize,
 }
@@ -120,9 +120,9 @@ pub struct Site {
 pub struct Code {
     instrs: Vec<Instr>,
     sites: Vec<Site>,
-    root: Entry,
-    functions: Vec<Entry>,
-    loops: Vec<Entry>,
+    root: EntryPoint,
+    functions: Vec<EntryPoint>,
+    loops: Vec<EntryPoint>,
     layout: Layout,
 }
 
@@ -141,9 +141,9 @@ impl Code {
     pub fn new(
         instrs: Vec<Instr>,
         sites: Vec<Site>,
-        root: Entry,
-        functions: Vec<Entry>,
-        loops: Vec<Entry>,
+        root: EntryPoint,
+        functions: Vec<EntryPoint>,
+        loops: Vec<EntryPoint>,
         layout: Layout,
     ) -> Code
         requires jumps { JumpsLand instrs.items }
@@ -176,7 +176,7 @@ impl Code {
     }
 
     /// Where the frame of a callee begins.
-    pub fn entry(&self, callee: &Callee) -> Entry
+    pub fn entry(&self, callee: &Callee) -> EntryPoint
         ensures { result ≡ entry_of self.now callee.now }
     {
         match callee {
@@ -187,14 +187,14 @@ impl Code {
     }
 
     /// Where the frame of a function begins.
-    pub fn function_entry(&self, number: u32) -> Entry
+    pub fn function_entry(&self, number: u32) -> EntryPoint
         ensures { result ≡ unwrap_or (slice_get self.now.functions number) self.now.root }
     {
         entry_at(&self.functions, number, self.root)
     }
 
     /// Where the frame of a loop's turns begins.
-    pub fn loop_entry(&self, number: u32) -> Entry
+    pub fn loop_entry(&self, number: u32) -> EntryPoint
         ensures { result ≡ unwrap_or (slice_get self.now.loops number) self.now.root }
     {
         entry_at(&self.loops, number, self.root)
@@ -221,15 +221,16 @@ impl Code {
     }
 
     /// The call site with a number.
-    pub fn site(&self, number: usize) -> Option<&Site>
-        ensures value { MatchOption result (slice_get self.now.sites number ≡ None) (λ s. slice_get self.now.sites number ≡ Some s.now) }
-        ensures few { IfSome result (λ s. s.now.words ≤ 16) }
+    pub fn site(&self, number: usize) -> &Site
+        requires { slice_get self.now.sites number ≢ None }
+        ensures value { slice_get self.now.sites number ≡ Some result.now }
+        ensures few { result.now.words ≤ 16 }
     {
         site_at(&self.sites, number)
     }
 }
 
-fn entry_at(entries: &[Entry], number: u32, root: Entry) -> Entry
+fn entry_at(entries: &[EntryPoint], number: u32, root: EntryPoint) -> EntryPoint
     ensures { result ≡ unwrap_or (slice_get entries.now number) root }
 {
     match entries.get(number as usize) {
@@ -246,8 +247,9 @@ fn there(instrs: &[Instr], place: usize) -> &Instr
     &instrs[place]
 }
 
-fn site_at(sites: &[Site], number: usize) -> Option<&Site>
-    ensures { MatchOption result (slice_get sites.now number ≡ None) (λ s. slice_get sites.now number ≡ Some s.now) }
+fn site_at(sites: &[Site], number: usize) -> &Site
+    requires { slice_get sites.now number ≢ None }
+    ensures { slice_get sites.now number ≡ Some result.now }
 {
-    sites.get(number)
+    &sites[number]
 }

@@ -8,7 +8,7 @@ ghost use Rattle.cilk_lower.specs.Rooms.{declaration_depth, declarations_depth, 
 ghost use Rattle.cilk_program.specs.Programs.{declaration, function, invoke, loop, statement, statements};
 
 use crate::bodies::{put_own, put_words};
-use crate::code::{Entry, Instr, Site};
+use crate::code::{EntryPoint, Instr, Site};
 use crate::expressions::{emit_value, emit_values};
 use crate::put::{
     begin, begin_else, end_turn, pass, pass_if_zero, pass_unless_one, put, put_ends, put_halves,
@@ -33,7 +33,7 @@ pub struct Emitter {
 
 impl Emitter {
     /// A function: its words, its reducers, its body.
-    pub fn emit_function(&mut self, f: &Function) -> Result<Entry, AllocError>
+    pub fn emit_function(&mut self, f: &Function) -> Result<EntryPoint, AllocError>
         requires { FunctionFits f.now }
         ensures code { OnOk result (self.new.instrs.items ≡ self.old.instrs.items ++ function_code (length self.old.sites.items) (function f.now)) }
         ensures sites { let g = function f.now in OnOk result (self.new.sites.items ≡ self.old.sites.items ++ all_sites g.body) }
@@ -46,14 +46,14 @@ impl Emitter {
         self.room = 0;
         self.emit_all(&f.body)?;
         put_ends(&mut self.instrs)?;
-        Ok(Entry {
+        Ok(EntryPoint {
             place,
             room: self.room,
         })
     }
 
     /// The body of a `cilk_for`: a frame with one turn runs it, a frame with several halves them.
-    pub fn emit_loop(&mut self, l: &Loop) -> Result<Entry, AllocError>
+    pub fn emit_loop(&mut self, l: &Loop) -> Result<EntryPoint, AllocError>
         requires { LoopFits l.now }
         ensures code { OnOk result (self.new.instrs.items ≡ self.old.instrs.items ++ loop_code (length self.old.sites.items) (loop l.now)) }
         ensures sites { let b = loop l.now in OnOk result (self.new.sites.items ≡ self.old.sites.items ++ all_sites b.body) }
@@ -67,7 +67,7 @@ impl Emitter {
         put_ends(&mut self.instrs)?;
         pass_unless_one(&mut self.instrs, place);
         put_halves(&mut self.instrs)?;
-        Ok(Entry {
+        Ok(EntryPoint {
             place,
             room: self.room,
         })

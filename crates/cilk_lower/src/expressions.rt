@@ -62,7 +62,7 @@ fn emit_expr(code: &mut Vec<Instr>, e: &Expr) -> Result<usize, AllocError>
     ensures depth { IfOk result (λ d. d ≡ depth (expression e.now)) }
 {
     match e {
-        Expr::Number(n) => put_operand(code, Instr::Push(*n)),
+        Expr::Number(n) => put_operand(code, Instr::Push(n.value)),
         Expr::Variable(x) => put_operand(code, Instr::Load(*x)),
         Expr::Value(reducer) => put_operand(code, Instr::Value(*reducer)),
         Expr::InputCount => put_operand(code, Instr::InputCount),

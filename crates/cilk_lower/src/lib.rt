@@ -13,7 +13,7 @@
 //!  5 Tick
 //! ```
 //!
-//! The bodies of all functions and loops stand in one list, each at an [`code::Entry`]. A call or spawn names a
+//! The bodies of all functions and loops stand in one list, each at an [`code::EntryPoint`]. A call or spawn names a
 //! [`code::Site`], which says what is called and what it is given. A loop's frame runs its body where it has one turn, and
 //! else spawns the first half of its turns and calls the second.
 //!

@@ -7,7 +7,7 @@ ghost use Rattle.cilk_lower.specs.Rooms.{RoomsFit};
 ghost use Rattle.cilk_program.specs.Sources.{source};
 
 use crate::bodies::{emit_functions, emit_loops, put_globals};
-use crate::code::{Code, Entry};
+use crate::code::{Code, EntryPoint};
 use crate::emitter::Emitter;
 use crate::layout::lay_out;
 use cilk_program::program::Program;
@@ -34,7 +34,7 @@ pub fn lower(alloc: Global, program: &Program) -> Result<Code, AllocError>
     let entry = out.emit_function(&program.functions[main])?;
     let functions = emit_functions(alloc, &mut out, &program.functions, main, entry)?;
     let loops = emit_loops(alloc, &mut out, &program.loops)?;
-    let root = Entry {
+    let root = EntryPoint {
         place: 0,
         room: entry.room,
     };

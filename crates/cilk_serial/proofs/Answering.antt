@@ -9,7 +9,7 @@ use Rattle.cilk_program.specs.SerialRun.{Frame, IsInner, Memory, answer_to, even
 use Rattle.cilk_frames.specs.declared.brief.Brief.{Brief}
 use Rattle.cilk_frames.specs.declared.cursor.Answer.{Answer}
 use Rattle.cilk_frames.specs.declared.cursor.Answer.TheVariants.{Done, Value}
-use Rattle.cilk_frames.specs.Asked.{in_full}
+use Rattle.cilk_frames.specs.AskSlot.{in_full}
 use Rattle.cilk_frames.specs.Following.{Fits, owed_for, word_in}
 use Rattle.cilk_serial.specs.declared.answer.Told.{Told}
 use Rattle.cilk_serial.specs.declared.answer.Told.TheVariants.{Goes}

@@ -8,9 +8,8 @@ use Rattle.cilk_program.specs.Syntax.{Source}
 use Rattle.cilk_program.specs.WellNamed.{is_well_named}
 use Rattle.cilk_program.specs.SerialRun.{Frame, Memory, global_reducer, home_of, itself, next_frame, root_frame}
 use Rattle.cilk_meaning.proofs.Naming.{well_named_parts}
-use Rattle.cilk_serial.specs.declared.activation.Activation.{Activation}
 use Rattle.cilk_types.specs.Stacks.{from_bottom}
-use Rattle.cilk_serial.specs.Scoped.{Parent, Scoped, Seen, Leads, IsCreator, kinds_of}
+use Rattle.cilk_serial.specs.Scoped.{Activation, Frames, Parent, Scoped, Seen, Leads, IsCreator, kinds_of, waiting}
 use Rattle.cilk_serial.proofs.Homes.{leads_more, scoped_length}
 use Rattle.cilk_types.proofs.Stacks.{below_top, on_top}
 
@@ -54,28 +53,28 @@ function_scoped p fr m parents c a number base given outer result first creator 
     }
 
 -- what the static link of a loop's frame leads to
-leads_up : (p : Source) (top : Activation) (below : List Activation) (fr : Frame) (parents : List Parent) (q : Parent) (up : ℕ) (o : Option ℕ) → Seen p top below fr parents → q.frame ≡ fr → up ≤ 1
-    → (up ≡ 0 → o ≡ Some (length below)) → (up ≡ 1 → o ≡ top.outer) → Leads (q ∷ parents) o (drop up fr.scope)
-leads_up p top below fr parents q zero o seen same low here there =
-    let long = scoped_length p below parents seen.waits in
+leads_up : (p : Source) (frames : Frames) (fr : Frame) (parents : List Parent) (q : Parent) (up : ℕ) (o : Option ℕ) → Seen p frames fr parents → q.frame ≡ fr → up ≤ 1
+    → (up ≡ 0 → o ≡ Some (length (waiting frames))) → (up ≡ 1 → o ≡ frames.top.outer) → Leads (q ∷ parents) o (drop up fr.scope)
+leads_up p frames fr parents q zero o seen same low here there =
+    let long = scoped_length p (waiting frames) parents seen.waits in
     subst (λ (o : Option ℕ). Leads (q ∷ parents) o fr.scope) (sym (here refl)) (q, ap (λ n. from_bottom (q ∷ parents) n) long ∙ on_top parents q, ap (λ (fr : Frame). fr.scope) (sym same))
-leads_up p top below fr parents q (suc zero) o seen same low here there =
+leads_up p frames fr parents q (suc zero) o seen same low here there =
     let s = seen.scoped in
     subst (λ (o : Option ℕ). Leads (q ∷ parents) o (drop 1 fr.scope)) (sym (there refl))
-    (leads_more parents (q ∷ parents) top.outer (drop 1 fr.scope) (λ n x e. below_top parents n x q e) (subst (λ x. Leads parents top.outer x) (sym (ap (drop 1) s.scope)) s.leads))
-leads_up p top below fr parents q (suc (suc up)) o seen same low here there = absurd (omega (arith, low))
+    (leads_more parents (q ∷ parents) frames.top.outer (drop 1 fr.scope) (λ n x e. below_top parents n x q e) (subst (λ x. Leads parents frames.top.outer x) (sym (ap (drop 1) s.scope)) s.leads))
+leads_up p frames fr parents q (suc (suc up)) o seen same low here there = absurd (omega (arith, low))
 
-pub turns_scoped : (p : Source) (top : Activation) (below : List Activation) (fr : Frame) (parents : List Parent) (m : Memory) (q : Parent) (l : LoopPart) (a : Activation) → Seen p top below fr parents → q.frame ≡ fr → l.up ≤ 1
-    → (l.up ≡ 0 → a.outer ≡ Some (length below)) → (l.up ≡ 1 → a.outer ≡ top.outer) → a.number ≡ suc m.frames → a.base ≡ m.cells → a.given.items ≡ [] → a.result ≡ None → a.first ≡ 1 → a.creator ≡ None
+pub turns_scoped : (p : Source) (frames : Frames) (fr : Frame) (parents : List Parent) (m : Memory) (q : Parent) (l : LoopPart) (a : Activation) → Seen p frames fr parents → q.frame ≡ fr → l.up ≤ 1
+    → (l.up ≡ 0 → a.outer ≡ Some (length (waiting frames))) → (l.up ≡ 1 → a.outer ≡ frames.top.outer) → a.number ≡ suc m.frames → a.base ≡ m.cells → a.given.items ≡ [] → a.result ≡ None → a.first ≡ 1 → a.creator ≡ None
     → Scoped p a (next_frame p fr.scope m (callees.Loop l)) (q ∷ parents)
-turns_scoped p top below fr parents m q l a seen same low here there number base given result first creator =
+turns_scoped p frames fr parents m q l a seen same low here there number base given result first creator =
     let callee = callees.Loop l in
     let outer = drop l.up fr.scope in
     record {
       number = sym number;
       outer = outer;
       scope = ap (λ n. home_of p callee n m.cells [] ∷ outer) (sym number) ∙ ap (λ n. home_of p callee a.number n [] ∷ outer) (sym base) ∙ ap (λ x. home_of p callee a.number a.base x ∷ outer) (sym given);
-      leads = leads_up p top below fr parents q l.up a.outer seen same low here there;
+      leads = leads_up p frames fr parents q l.up a.outer seen same low here there;
       result = sym result;
       first = first;
       low = omega (arith, first);

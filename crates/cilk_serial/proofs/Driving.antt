@@ -1,5 +1,5 @@
 -- A run that goes on, from one event to the next.
-use Rattle.std.proofs.Common.{◌≡◌, ◌⊎◌, inl, inr, ⊎_elim, ℕ, suc, ◌+◌, ◌-◌, ◌<◌, ◌≤◌, nat_eq, nat_lt, ℤ, pos, if◌then◌else◌, List, [], ◌∷◌, ◌++◌, length, get_or, Option, Some, None, IfSome, IsSome, refl, sym, ap, ◌∙◌, subst, arith, length-append, append_assoc, append-nil}
+use Rattle.std.proofs.Common.{◌≡◌, ◌⊎◌, inl, inr, ⊎_elim, ℕ, suc, ◌+◌, ◌-◌, ◌<◌, ◌≤◌, nat_eq, nat_lt, ℤ, pos, if◌then◌else◌, List, [], ◌∷◌, ◌++◌, length, reverse, get_or, Some, None, refl, sym, ap, ◌∙◌, subst, arith, length-append, append_assoc, append-nil}
 use Rattle.std.proofs.lemmas.Bool.{cases_Bool, ltb-true, ltb-false}
 use Rattle.std.proofs.lemmas.Option.{unwrap_or-slice_get}
 use Rattle.std.specs.Prelude.{IsTrue}
@@ -21,7 +21,7 @@ use Rattle.cilk_program.specs.Behaviour.{asks_for, frame_asks}
 use Rattle.cilk_program.specs.Inside.{CalleeIsFit}
 use Rattle.cilk_program.specs.Store.{Store, clear, clear_all}
 use Rattle.cilk_program.specs.WellNamed.{is_well_named}
-use Rattle.cilk_program.specs.SerialRun.{Run, act, child, stop, Frame, Memory, Ending, Finished, Stopped, Serial, Made, Ended, Went, Broke, Refused, IsInner, answer_to, begun, before_root, cells_of, counted, crowded, event_of, first_place, full, invocation, next_frame, own_from, refused, root_frame, stored, with_store, IsSerialRun}
+use Rattle.cilk_program.specs.SerialRun.{Transcript, act, child, stop, Frame, Memory, Ending, Finished, Stopped, Serial, Made, Ended, Went, Broke, Refused, IsInner, answer_to, begun, before_root, cells_of, counted, crowded, event_of, first_place, full, invocation, next_frame, own_from, refused, root_frame, stored, with_store, IsSerialRun}
 use Rattle.cilk_lower.specs.Behaves.{Behaves}
 use Rattle.cilk_lower.specs.Code.{CodeView}
 use Rattle.cilk_lower.specs.declared.code.Owed.TheVariants.{Nothing}
@@ -33,18 +33,21 @@ use Rattle.cilk_serial.specs.Ran.{StopsAfter}
 use Rattle.cilk_frames.specs.declared.cursor.Answer.{Answer}
 use Rattle.cilk_frames.specs.declared.cursor.Answer.TheVariants.{Done}
 use Rattle.cilk_frames.specs.Cursor.{CursorView}
-use Rattle.cilk_frames.specs.Following.{Asking, GoesOn, HasAnswer, Runs, Stands, child_of, owed_for, word_in}
+use Rattle.cilk_frames.specs.Following.{Asking, GoesOn, HasAnswer, Runs, Stands, owed_for, word_in}
 use Rattle.cilk_frames.proofs.Asking.{asking_first, asking_next}
-use Rattle.cilk_serial.specs.declared.activation.Activation.{Activation}
+use Rattle.cilk_serial.specs.Scoped.{Activation, Frames, MayBegin, waiting}
 use Rattle.cilk_serial.specs.declared.running.Running.{Running}
+use Rattle.cilk_serial.specs.declared.running.Step.TheVariants as steps
 use Rattle.cilk_serial.specs.declared.answer.Told.{Told}
 use Rattle.cilk_serial.specs.declared.state.State.{State}
-use Rattle.cilk_serial.specs.Going.{Whole, Completes, Wait, Going, HasEnded, IsAllowed}
+use Rattle.cilk_serial.specs.Children.{IsChild}
+use Rattle.cilk_serial.specs.Going.{Whole, Completes, Wait, Going, HasBegun, HasEnded, IsAllowed, Progresses}
 use Rattle.cilk_meaning.proofs.Naming.{well_named_parts}
 use Rattle.cilk_monoid.specs.Kinds.{structure_of}
 use Rattle.cilk_hypermap.specs.Hypermap.{EachKind, value_in, view_in}
 use Rattle.cilk_hypermap.specs.Views.{or_unit}
 use Rattle.cilk_hypermap.proofs.Merges.{each_kind}
+use Rattle.cilk_serial.proofs.Homes.{waiting_more}
 use Rattle.cilk_serial.proofs.Sights.{asked, asked_there, asked_rightly, begins, child_sees, root_sees, sees_more}
 use Rattle.cilk_serial.specs.Scoped.{Parent, Scoped, AreScoped, Seen, IsThere, IsBegunRightly, kinds_of, own_of}
 use Rattle.cilk_serial.specs.SoFar.{begun_in}
@@ -66,8 +69,8 @@ wait_more code p inputs n n' (a ∷ list) (q ∷ qs) low h =
     let w = h.0 in
     (record { stands = w.stands; owes = w.owes; scoped = w.scoped; sees = sees_more p q.frame n n' low w.sees }, wait_more code p inputs n n' list qs low h.1)
 
-pub going_seen : (code : CodeView) (p : Source) (inputs : List ℤ) (r : Running) → (g : Going code p inputs r) → Seen p r.top r.below g.frame g.parents
-going_seen code p inputs r g = record { scoped = g.scoped; waits = wait_scoped code p inputs g.memory.cells r.below g.parents g.wait }
+pub going_seen : (code : CodeView) (p : Source) (inputs : List ℤ) (r : Running) → (g : Going code p inputs r) → Seen p r.frames g.frame g.parents
+going_seen code p inputs r g = record { scoped = g.scoped; waits = wait_scoped code p inputs g.memory.cells (waiting r.frames) g.parents g.wait }
 
 pub going_there : (code : CodeView) (p : Source) (inputs : List ℤ) (r : Running) → IsTrue (is_well_named p) → (g : Going code p inputs r) → IsThere p g.frame (length r.state.cells.items) r.ask
 going_there code p inputs r well g =
@@ -135,8 +138,8 @@ behind es es' e more is = ap (λ l. l ++ more) is ∙ append_assoc es (e ∷ [])
 
 pub answers : (code : CodeView) (p : Source) (inputs : List ℤ) (r : Running) (s' : State) (a : Answer) (c' : CursorView) (k' : Ask) (left' : ℕ) → (g : Going code p inputs r) → IsAllowed p r.state r.ask → IsInner r.ask
     → Answers p g.frame r.state s' r.ask a
-    → ((callee : Callee) (history : List ℤ) (took : ℕ) → Stands code inputs p callee r.top.cursor history took → GoesOn code inputs r.top.cursor a r.left k' c' left' p callee history took)
-    → Going code p inputs (record { state = s'; below = r.below; top = record r.top { cursor = c' }; ask = k'; left = left' })
+    → ((callee : Callee) (history : List ℤ) (took : ℕ) → Stands code inputs p callee r.frames.top.cursor history took → GoesOn code inputs r.frames.top.cursor a r.left k' c' left' p callee history took)
+    → Going code p inputs (record { state = s'; frames = record r.frames { top = record r.frames.top { cursor = c' } }; ask = k'; left = left' })
 answers code p inputs r s' a c' k' left' g allowed inner told on =
     let fr = g.frame in
     let m = g.memory in
@@ -156,13 +159,13 @@ answers code p inputs r s' a c' k' left' g allowed inner told on =
       parents = g.parents;
       callees = g.callees;
       shows = made.shows;
-      asking = asking_next code inputs p fr.callee r.top.cursor g.history g.took k r.left a r.left k' c' left' g.asking has (λ stands. on fr.callee g.history g.took stands);
+      asking = asking_next code inputs p fr.callee r.frames.top.cursor g.history g.took k r.left a r.left k' c' left' g.asking has (λ stands. on fr.callee g.history g.took stands);
       completes = λ u es end s.
           let s1 : Serial p inputs fr (g.took + r.left) (g.history ++ answer_to fr m k ∷ []) m' u es end = subst (λ w. Serial p inputs fr (g.took + r.left) (g.history ++ w ∷ []) m' u es end) did.0 (subst (λ n. Serial p inputs fr n (g.history ++ word_in a ∷ []) m' u es end) same s) in
           subst (λ l. Completes p inputs g.parents l (g.callees ++ begun_in u) end) (sym (behind r.state.events.items s'.events.items (event_of fr m k) es made.events))
           (g.completes (act k (answer_to fr m k) u) (event_of fr m k ∷ es) end (Made k r.left g.asking.asks inner ok s1));
       numbered = g.numbered;
-      scoped = cursor_moves p r.top c' fr g.parents g.scoped;
+      scoped = cursor_moves p r.frames.top c' fr g.parents g.scoped;
       sees = g.sees;
       wait = g.wait;
       opened = g.opened;
@@ -176,8 +179,8 @@ answers code p inputs r s' a c' k' left' g allowed inner told on =
 child_completes : (p : Source) (inputs : List ℤ) (fr : Frame) (history : List ℤ) (took left : ℕ) (m : Memory) (parents : List Parent) (es0 es1 : List Event) (cs : List Callee) (how : Invocation) (callee : Callee)
     → frame_asks p inputs fr.callee history (took + left) ≡ asks_for (asks.Invoke how callee) left → refused p m (asks.Invoke how callee) ≡ None
     → es1 ≡ es0 ++ invocation how (suc m.frames) ∷ []
-    → ((u : Run) (es : List Event) (end : Ending) → Serial p inputs fr (took + left) history m u es end → Completes p inputs parents (es0 ++ es) (cs ++ begun_in u) end)
-    → (u : Run) (es : List Event) (end : Ending) → Serial p inputs (next_frame p fr.scope m callee) left [] (begun p callee (counted m)) u es end
+    → ((u : Transcript) (es : List Event) (end : Ending) → Serial p inputs fr (took + left) history m u es end → Completes p inputs parents (es0 ++ es) (cs ++ begun_in u) end)
+    → (u : Transcript) (es : List Event) (end : Ending) → Serial p inputs (next_frame p fr.scope m callee) left [] (begun p callee (counted m)) u es end
     → Completes p inputs (record { frame = fr; history = history; took = took } ∷ parents) (es1 ++ es) ((cs ++ callee ∷ []) ++ begun_in u) end
 child_completes p inputs fr history took left m parents es0 es1 cs how callee asked ok is completes u es (Finished v left' m') s = λ u' es' end' s'.
     let same : left' + took ≡ left' + (took + left - left) = omega arith in
@@ -193,18 +196,18 @@ child_completes p inputs fr history took left m parents es0 es1 cs how callee as
     (subst (λ (c : List Callee). Completes p inputs parents (es0 ++ invocation how (suc m.frames) ∷ es) c (Stopped f)) (sym more)
     (completes (child how callee u stop) (invocation how (suc m.frames) ∷ es) (Stopped f) (Broke how callee left f asked ok s)))
 
-pub invokes : (code : CodeView) (p : Source) (inputs : List ℤ) (r : Running) (s' : State) (a : Activation) (how : Invocation) (callee : Callee) → IsTrue (is_well_named p) → (g : Going code p inputs r) → IsAllowed p r.state r.ask
-    → r.ask ≡ asks.Invoke how callee → Begins r.state s' how (cells_of p callee)
-    → (CalleeIsFit p callee → Stands code inputs p callee a.cursor [] 0) → a.cursor.owed ≡ owed_for asks.Begin
-    → ((q : Parent) → q.frame ≡ g.frame → Scoped p a (next_frame p g.frame.scope g.memory callee) (q ∷ g.parents))
-    → Going code p inputs (record { state = s'; below = r.top ∷ r.below; top = a; ask = asks.Begin; left = r.left })
-invokes code p inputs r s' a how callee well g allowed is made stands owes scoped =
+pub invokes : (code : CodeView) (p : Source) (inputs : List ℤ) (r : Running) (s' : State) (frames : Frames) (how : Invocation) (callee : Callee) → IsTrue (is_well_named p) → (g : Going code p inputs r) → IsAllowed p r.state r.ask
+    → r.ask ≡ asks.Invoke how callee → Begins r.state s' how (cells_of p callee) → waiting frames ≡ r.frames.top ∷ waiting r.frames
+    → (CalleeIsFit p callee → Stands code inputs p callee frames.top.cursor [] 0) → frames.top.cursor.owed ≡ owed_for asks.Begin
+    → ((q : Parent) → q.frame ≡ g.frame → Scoped p frames.top (next_frame p g.frame.scope g.memory callee) (q ∷ g.parents))
+    → Going code p inputs (record { state = s'; frames = frames; ask = asks.Begin; left = r.left })
+invokes code p inputs r s' frames how callee well g allowed is made wait stands owes scoped =
     let fr = g.frame in
     let m = g.memory in
     let did = made m g.shows in
     let k = asks.Invoke how callee in
     let ok = subst (λ k. refused p m k ≡ None) is (allowed m g.shows) in
-    let asking : Asking code inputs p fr.callee r.top.cursor g.history g.took k r.left = subst (λ k. Asking code inputs p fr.callee r.top.cursor g.history g.took k r.left) is g.asking in
+    let asking : Asking code inputs p fr.callee r.frames.top.cursor g.history g.took k r.left = subst (λ k. Asking code inputs p fr.callee r.frames.top.cursor g.history g.took k r.left) is g.asking in
     let q : Parent = record { frame = fr; history = g.history; took = g.took } in
     let there = asked p well inputs fr.callee g.sees.fit g.history (g.took + r.left) k r.left asking.asks in
     let sees = child_sees p well fr m g.sees g.opened callee there (begins p inputs fr.callee g.history (g.took + r.left) r.left how callee asking.asks) in
@@ -219,14 +222,17 @@ invokes code p inputs r s' a how callee well g allowed is made stands owes scope
       parents = q ∷ g.parents;
       callees = g.callees ++ callee ∷ [];
       shows = did.shows;
-      asking = asking_first code inputs p callee a.cursor r.left (stands sees.fit) owes;
+      asking = asking_first code inputs p callee frames.top.cursor r.left (stands sees.fit) owes;
       completes = λ u es end s.
           child_completes p inputs fr g.history g.took r.left m g.parents r.state.events.items s'.events.items g.callees how callee asking.asks ok did.events g.completes u es end
           (subst (λ n. Serial p inputs (next_frame p fr.scope m callee) n [] (begun p callee (counted m)) u es end) none s);
       numbered = omega (arith, length-append g.callees (callee ∷ []), g.numbered);
       scoped = scoped q refl;
       sees = sees;
-      wait = (record { stands = asking.stands tt; owes = asking.owes tt; scoped = g.scoped; sees = sees_more p fr m.cells (m.cells + cells_of p callee) low g.sees }, wait_more code p inputs m.cells (m.cells + cells_of p callee) r.below g.parents low g.wait);
+      wait = subst (λ (b : List Activation). Wait code p inputs (m.cells + cells_of p callee) b (q ∷ g.parents)) (sym wait) (
+        record { stands = asking.stands tt; owes = asking.owes tt; scoped = g.scoped; sees = sees_more p fr m.cells (m.cells + cells_of p callee) low g.sees },
+        wait_more code p inputs m.cells (m.cells + cells_of p callee) (waiting r.frames) g.parents low g.wait,
+      );
       opened = omega (arith, op, low);
       counted = one_more r.state s' m (invocation how (suc m.frames)) g.shows (room_for p m k ok) did.events;
       small = (crowded_not p callee m ok).1;
@@ -251,8 +257,8 @@ pub record Closes (code : CodeView) (p : Source) (inputs : List ℤ) (s' : State
 
 pub closes : (code : CodeView) (p : Source) (inputs : List ℤ) (r : Running) (s' : State) (v : ℤ) → (g : Going code p inputs r) → IsAllowed p r.state r.ask → r.ask ≡ asks.End v
     → s'.events.items ≡ r.state.events.items ++ events.End ∷ []
-    → ((m : Memory) → Shows r.state m → Shows s' (record { store = clear_all same_instance (own_of r.top) 0 (kinds_of p r.top.creator) m.store; frames = m.frames; cells = m.cells; room = m.room - 1 }))
-    → Closes code p inputs s' v r.left r.below
+    → ((m : Memory) → Shows r.state m → Shows s' (record { store = clear_all same_instance (own_of r.frames.top) 0 (kinds_of p r.frames.top.creator) m.store; frames = m.frames; cells = m.cells; room = m.room - 1 }))
+    → Closes code p inputs s' v r.left (waiting r.frames)
 closes code p inputs r s' v g allowed is made cleared =
     let fr = g.frame in
     let m = g.memory in
@@ -260,8 +266,8 @@ closes code p inputs r s' v g allowed is made cleared =
     let ok = subst (λ k. refused p m k ≡ None) is (allowed m g.shows) in
     let asks = g.asking.asks ∙ ap (λ k. asks_for k r.left) is in
     let sc = g.scoped in
-    let own : (n : ℕ) → own_from p fr n ≡ own_of r.top n = λ n. ap (λ x. record { frame = x; place = first_place p fr.callee + n }) sc.number ∙ ap (λ x. record { frame = r.top.number; place = x + n }) (sym sc.first) in
-    let store : clear_all same_instance (own_of r.top) 0 (kinds_of p r.top.creator) m.store ≡ stored p fr m k = cleared_same (own_of r.top) (own_from p fr) (λ n. sym (own n)) 0 (kinds_of p r.top.creator) m.store ∙ ap (λ ks. clear_all same_instance (own_from p fr) 0 ks m.store) (sym sc.creates) in
+    let own : (n : ℕ) → own_from p fr n ≡ own_of r.frames.top n = λ n. ap (λ x. record { frame = x; place = first_place p fr.callee + n }) sc.number ∙ ap (λ x. record { frame = r.frames.top.number; place = x + n }) (sym sc.first) in
+    let store : clear_all same_instance (own_of r.frames.top) 0 (kinds_of p r.frames.top.creator) m.store ≡ stored p fr m k = cleared_same (own_of r.frames.top) (own_from p fr) (λ n. sym (own n)) 0 (kinds_of p r.frames.top.creator) m.store ∙ ap (λ ks. clear_all same_instance (own_from p fr) 0 ks m.store) (sym sc.creates) in
     record {
       memory = with_store m (stored p fr m k);
       parents = g.parents;
@@ -291,13 +297,13 @@ last_ends code p inputs s' v left below c none = all_end c.parents c.completes (
     all_end (q ∷ qs) whole wait = absurd wait
 
 -- the one that waits goes on
-pub resumes : (code : CodeView) (p : Source) (inputs : List ℤ) (s' : State) (v : ℤ) (left : ℕ) (below : List Activation) (a : Activation) (rest : List Activation) (c' : CursorView) (k' : Ask) (left' : ℕ) → Closes code p inputs s' v left below → below ≡ a ∷ rest
-    → ((callee : Callee) (history : List ℤ) (took : ℕ) → Stands code inputs p callee a.cursor history took → GoesOn code inputs a.cursor Done left k' c' left' p callee history took)
-    → Going code p inputs (record { state = s'; below = rest; top = record a { cursor = c' }; ask = k'; left = left' })
-resumes code p inputs s' v left below a rest c' k' left' c is on = one_goes c.parents c.completes (subst (λ (b : List Activation). Wait code p inputs c.memory.cells b c.parents) is c.wait)
+pub resumes : (code : CodeView) (p : Source) (inputs : List ℤ) (s' : State) (v : ℤ) (left : ℕ) (below : List Activation) (frames : Frames) (c' : CursorView) (k' : Ask) (left' : ℕ) → Closes code p inputs s' v left below → below ≡ frames.top ∷ waiting frames
+    → ((callee : Callee) (history : List ℤ) (took : ℕ) → Stands code inputs p callee frames.top.cursor history took → GoesOn code inputs frames.top.cursor Done left k' c' left' p callee history took)
+    → Going code p inputs (record { state = s'; frames = record frames { top = record frames.top { cursor = c' } }; ask = k'; left = left' })
+resumes code p inputs s' v left below frames c' k' left' c is on = one_goes c.parents c.completes (subst (λ (b : List Activation). Wait code p inputs c.memory.cells b c.parents) is c.wait)
   where
-    one_goes : (parents : List Parent) → Completes p inputs parents s'.events.items c.callees (Finished v left c.memory) → Wait code p inputs c.memory.cells (a ∷ rest) parents
-        → Going code p inputs (record { state = s'; below = rest; top = record a { cursor = c' }; ask = k'; left = left' })
+    one_goes : (parents : List Parent) → Completes p inputs parents s'.events.items c.callees (Finished v left c.memory) → Wait code p inputs c.memory.cells (frames.top ∷ waiting frames) parents
+        → Going code p inputs (record { state = s'; frames = record frames { top = record frames.top { cursor = c' } }; ask = k'; left = left' })
     one_goes [] done wait = absurd wait
     one_goes (q ∷ qs) done wait =
         let w = wait.0 in
@@ -315,7 +321,7 @@ resumes code p inputs s' v left below a rest c' k' left' c is on = one_goes c.pa
           asking = record { asks = ap (frame_asks p inputs q.frame.callee (q.history ++ pos 0 ∷ [])) same ∙ step.asks; stands = step.stands; owes = step.owes };
           completes = λ u es end s. done u es end (subst (λ n. Serial p inputs q.frame n (q.history ++ pos 0 ∷ []) c.memory u es end) turned s);
           numbered = c.numbered;
-          scoped = cursor_moves p a c' q.frame qs w.scoped;
+          scoped = cursor_moves p frames.top c' q.frame qs w.scoped;
           sees = w.sees;
           wait = wait.1;
           opened = c.opened;
@@ -369,16 +375,12 @@ stops code p inputs r f well g fault =
 
 -- ---- what a step and an invocation need
 
+-- what a frame may begin
+pub may_begin : (code : CodeView) (p : Source) (inputs : List ℤ) (r : Running) (how : Invocation) (callee : Callee) → IsTrue (is_well_named p) → (g : Going code p inputs r) → r.ask ≡ asks.Invoke how callee → MayBegin p g.frame (length r.state.cells.items) callee
+may_begin code p inputs r how callee well g is = subst (λ k. IsThere p g.frame (length r.state.cells.items) k) is (going_there code p inputs r well g)
+
 pub fits_callee : (code : CodeView) (p : Source) (inputs : List ℤ) (r : Running) (how : Invocation) (callee : Callee) → IsTrue (is_well_named p) → Going code p inputs r → r.ask ≡ asks.Invoke how callee → CalleeIsFit p callee
 fits_callee code p inputs r how callee well g is = subst (λ k. IsBegunRightly p k) is (asked_rightly p well inputs g.frame.callee g.sees.fit g.history (g.took + r.left) r.ask r.left g.asking.asks)
-
-pub going_rightly : (code : CodeView) (p : Source) (inputs : List ℤ) (r : Running) → IsTrue (is_well_named p) → Going code p inputs r → IsBegunRightly p r.ask
-going_rightly code p inputs r well g = asked_rightly p well inputs g.frame.callee g.sees.fit g.history (g.took + r.left) r.ask r.left g.asking.asks
-
--- what is there, with what holds of it
-pub picked : {A : Type 0} (o : Option A) (P : A → Type 0) → IsSome o → IfSome o P → (a : A) × (o ≡ Some a) × P a
-picked (Some a) P is h = (a, refl, h)
-picked None P is h = cc
 
 pub not_crowded : (code : CodeView) (p : Source) (inputs : List ℤ) (r : Running) (how : Invocation) (callee : Callee) → Going code p inputs r → IsAllowed p r.state r.ask → r.ask ≡ asks.Invoke how callee → (r.state.frames < MAX_FRAMES) × (length r.state.cells.items ≤ MAX_CELLS)
 not_crowded code p inputs r how callee g allowed is =
@@ -386,25 +388,17 @@ not_crowded code p inputs r how callee g allowed is =
     let h = crowded_not p callee g.memory (subst (λ k. refused p g.memory k ≡ None) is (allowed g.memory s)) in
     (subst (λ n. n < MAX_FRAMES) s.frames h.0, subst (λ n. n ≤ MAX_CELLS) s.cells g.small)
 
-pub few_cells : (code : CodeView) (p : Source) (inputs : List ℤ) (r : Running) → Going code p inputs r → length r.state.cells.items ≤ MAX_CELLS
-few_cells code p inputs r g = let s = g.shows in subst (λ n. n ≤ MAX_CELLS) s.cells g.small
-
 -- a child begins, as the code says it
-pub invokes_as : (code : CodeView) (p : Source) (inputs : List ℤ) (r : Running) (s' : State) (a top : Activation) (below : List Activation) (how : Invocation) (callee : Callee) (count : ℕ) → IsTrue (is_well_named p) → (g : Going code p inputs r) → IsAllowed p r.state r.ask
-    → r.ask ≡ asks.Invoke how callee → Begins r.state s' how count → count ≡ cells_of p callee
-    → IfSome (child_of r.ask) (λ callee. (p : Source) (inputs : List ℤ) → Behaves p code → CalleeIsFit p callee → Stands code inputs p callee a.cursor [] 0) → a.cursor.owed ≡ owed_for asks.Begin
-    → IfSome (child_of r.ask) (λ callee. (p : Source) (fr : Frame) (parents : List Parent) (m : Memory) (q : Parent) → Seen p r.top r.below fr parents → IsThere p fr (length r.state.cells.items) r.ask → Shows r.state m → q.frame ≡ fr → Scoped p a (next_frame p fr.scope m callee) (q ∷ parents))
-    → top ≡ a → below ≡ r.top ∷ r.below
-    → Going code p inputs (record { state = s'; below = below; top = top; ask = asks.Begin; left = r.left })
-invokes_as code p inputs r s' a top below how callee count well g allowed is made cells stands owes scoped top_is below_is =
-    let there = going_there code p inputs r well g in
-    let made' = subst (λ n. Begins r.state s' how n) cells made in
-    let stands' = subst (λ k. IfSome (child_of k) (λ callee. (p : Source) (inputs : List ℤ) → Behaves p code → CalleeIsFit p callee → Stands code inputs p callee a.cursor [] 0)) is stands in
-    let scoped' = subst (λ k. IfSome (child_of k) (λ callee. (p : Source) (fr : Frame) (parents : List Parent) (m : Memory) (q : Parent) → Seen p r.top r.below fr parents → IsThere p fr (length r.state.cells.items) r.ask → Shows r.state m → q.frame ≡ fr → Scoped p a (next_frame p fr.scope m callee) (q ∷ parents))) is scoped in
-    subst (λ (b : List Activation). Going code p inputs (record { state = s'; below = b; top = top; ask = asks.Begin; left = r.left })) (sym below_is)
-    (subst (λ (t : Activation). Going code p inputs (record { state = s'; below = r.top ∷ r.below; top = t; ask = asks.Begin; left = r.left })) (sym top_is)
-    (invokes code p inputs r s' a how callee well g allowed is made' (λ fit. stands' p inputs g.behaves fit) owes
-    (λ q same. scoped' p g.frame g.parents g.memory q (going_seen code p inputs r g) there g.shows same)))
+pub begins_child : (code : CodeView) (p : Source) (inputs : List ℤ) (r r' : Running) (a : Activation) (how : Invocation) (callee : Callee) (count : ℕ) → IsTrue (is_well_named p) → (g : Going code p inputs r) → IsAllowed p r.state r.ask
+    → r.ask ≡ asks.Invoke how callee → count ≡ cells_of p callee → IsChild code r.state r.frames callee a → HasBegun r r' how count a → Progresses code p inputs r steps.Made r'
+begins_child code p inputs r r' a how callee count well g allowed is cells next did =
+    let may = may_begin code p inputs r how callee well g is in
+    let made = subst (λ n. Begins r.state r'.state how n) cells did.state in
+    let on_top = subst (λ (t : Activation). IsChild code r.state r.frames callee t) (sym did.top) next in
+    let wait = waiting_more r.frames.below.items r'.frames.below.items r.frames.top did.below in
+    let went = invokes code p inputs r r'.state r'.frames how callee well g allowed is made wait (on_top.stands p inputs g.behaves) on_top.owes (λ q same. on_top.scoped p g.frame g.parents g.memory q (going_seen code p inputs r g) may g.shows same) in
+    let left = subst (λ n. Going code p inputs (record { state = r'.state; frames = r'.frames; ask = asks.Begin; left = n })) (sym did.left) went in
+    (subst (λ (k : Ask). Going code p inputs (record { state = r'.state; frames = r'.frames; ask = k; left = r'.left })) (sym did.ask) left, (_, (did.state g.memory g.shows).events))
 
 -- ---- the first frame
 
@@ -424,10 +418,10 @@ first_shows p inputs s0 s1 count cells views output events frames more many =
       room = omega (arith, e1, e0);
     }
 
-pub goes_first : (code : CodeView) (p : Source) (inputs : List ℤ) (s : State) (a : Activation) (below : List Activation) → IsTrue (is_well_named p) → Behaves p code → Shows s (begun p callees.Root (before_root p inputs MAX_EVENTS)) → s.events.items ≡ []
-    → Stands code inputs p callees.Root a.cursor [] 0 → a.cursor.owed ≡ owed_for asks.Begin → Scoped p a (root_frame p inputs) [] → below ≡ []
-    → Going code p inputs (record { state = s; below = below; top = a; ask = asks.Begin; left = MAX_TICKS })
-goes_first code p inputs s a below well behaves shows events stands owes scoped none =
+pub goes_first : (code : CodeView) (p : Source) (inputs : List ℤ) (s : State) (frames : Frames) (a : Activation) → IsTrue (is_well_named p) → Behaves p code → Shows s (begun p callees.Root (before_root p inputs MAX_EVENTS)) → s.events.items ≡ []
+    → Stands code inputs p callees.Root a.cursor [] 0 → a.cursor.owed ≡ owed_for asks.Begin → Scoped p a (root_frame p inputs) [] → frames.top ≡ a → frames.below.items ≡ []
+    → Going code p inputs (record { state = s; frames = frames; ask = asks.Begin; left = MAX_TICKS })
+goes_first code p inputs s frames a well behaves shows events stands owes scoped top none =
     let named = well_named_parts p well in
     let main = named.functions p.main named.main in
     let openings = named.openings in
@@ -441,12 +435,12 @@ goes_first code p inputs s a below well behaves shows events stands owes scoped 
       parents = [];
       callees = [];
       shows = shows;
-      asking = asking_first code inputs p callees.Root a.cursor MAX_TICKS stands owes;
+      asking = asking_first code inputs p callees.Root frames.top.cursor MAX_TICKS (subst (λ (t : Activation). Stands code inputs p callees.Root t.cursor [] 0) (sym top) stands) (ap (λ (t : Activation). t.cursor.owed) top ∙ owes);
       completes = λ u es end r. record { run = u; begins = refl; serial = subst (λ n. Serial p inputs (root_frame p inputs) n [] (begun p callees.Root (before_root p inputs MAX_EVENTS)) u (s.events.items ++ es) end) start (subst (λ (l : List Event). Serial p inputs (root_frame p inputs) (0 + MAX_TICKS) [] (begun p callees.Root (before_root p inputs MAX_EVENTS)) u (l ++ es) end) (sym events) r) };
       numbered = refl;
-      scoped = scoped;
+      scoped = subst (λ (t : Activation). Scoped p t (root_frame p inputs) []) (sym top) scoped;
       sees = root_sees p inputs;
-      wait = subst (λ (b : List Activation). Wait code p inputs (begun p callees.Root (before_root p inputs MAX_EVENTS)).cells b []) (sym none) tt;
+      wait = subst (λ (b : List Activation). Wait code p inputs (begun p callees.Root (before_root p inputs MAX_EVENTS)).cells b []) (sym (ap reverse none)) tt;
       opened = omega arith;
       counted = subst (λ (l : List Event). length l ≤ MAX_EVENTS) (sym events) (omega arith);
       small = omega (arith, openings, cells);
@@ -459,10 +453,14 @@ told_as p fr s s' k k' t t' ask told h = subst (λ (t : Told). Tells p fr s s' k
 
 -- ---- what an ask needs
 
--- what stands in place of a child's beginning
-pub crowd_refuses : (p : Source) (m : Memory) (k : Ask) (n : ℕ) (o : Option Fault) → IsSome (child_of k) → IfSome (child_of k) (λ callee. n ≡ cells_of p callee) → ((callee : Callee) → n ≡ cells_of p callee → o ≡ crowded p callee m) → o ≡ refused p m k
-crowd_refuses p m (asks.Invoke how callee) n o is cells h = h callee cells
-crowd_refuses p m k n o is cells h = cc
+-- nothing stands in place of a child's beginning, or this fault
+pub uncrowded : (p : Source) (s : State) (k : Ask) (how : Invocation) (callee : Callee) (n : ℕ) → k ≡ asks.Invoke how callee → n ≡ cells_of p callee
+    → ((p : Source) (callee : Callee) (m : Memory) → n ≡ cells_of p callee → Shows s m → None ≡ crowded p callee m) → IsAllowed p s k
+uncrowded p s k how callee n is cells none m h = subst (λ k. refused p m k ≡ None) (sym is) (sym (none p callee m cells h))
+
+pub crowd_refuses : (p : Source) (s : State) (k : Ask) (how : Invocation) (callee : Callee) (n : ℕ) (f : Fault) → k ≡ asks.Invoke how callee → n ≡ cells_of p callee
+    → ((p : Source) (callee : Callee) (m : Memory) → n ≡ cells_of p callee → Shows s m → Some f ≡ crowded p callee m) → (m : Memory) → Shows s m → Some f ≡ refused p m k
+crowd_refuses p s k how callee n f is cells some m h = subst (λ k. Some f ≡ refused p m k) (sym is) (some p callee m cells h)
 
 -- what lets the frame go on at once needs but room for an event
 pub allowed_inner : (p : Source) (m : Memory) (k : Ask) → IsInner k → full m ≡ None → refused p m k ≡ None

@@ -22,7 +22,7 @@ use Rattle.cilk_program.specs.Behaviour.{Asked, asks_for, frame_asks}
 use Rattle.cilk_program.specs.Outcomes.{Conclusion, finals_from}
 use Rattle.cilk_program.specs.Syntax.{Source}
 use Rattle.cilk_program.specs.WellNamed.{is_well_named}
-use Rattle.cilk_program.specs.SerialRun.{Run, Frame, Memory, Ending, Finished, Stopped, Serial, Made, Ended, Went, Broke, Refused, IsInner, IsSerialRun, conclusion_of, event_of, global_reducer, invocation, refused, result_written}
+use Rattle.cilk_program.specs.SerialRun.{Transcript, Frame, Memory, Ending, Finished, Stopped, Serial, Made, Ended, Went, Broke, Refused, IsInner, IsSerialRun, conclusion_of, event_of, global_reducer, invocation, refused, result_written}
 use Rattle.cilk_meaning.proofs.Computed.{ran}
 use Rattle.cilk_meaning.proofs.Existence.{none_some, ran_run, serial_run_is_short}
 use Rattle.cilk_meaning.proofs.Uniqueness.{serial_run_is_one}
@@ -131,7 +131,7 @@ same_some : {A : Type 0} {x y : A} → Some x ≡ Some y → x ≡ y
 same_some e = cc
 
 -- the first event of what a frame does, and what the frame runs that it begins
-record First (m : Memory) (k : Ask) (r : Run) (es : List Event) : Type 0 where
+record First (m : Memory) (k : Ask) (r : Transcript) (es : List Event) : Type 0 where
   event : Event
   later : List Event
   is_first : es ≡ event ∷ later
@@ -168,7 +168,7 @@ invocation_begins Spawn n callee cs ys more e =
     let at : suc n - 1 ≡ suc (length cs) = omega (arith, e) in
     ap (slice_get (Root ∷ ((cs ++ callee ∷ ys) ++ more))) at ∙ between cs ys more callee
 
-first : {p : Source} {inputs : List ℤ} {fr : Frame} {start : ℕ} {history : List ℤ} {m : Memory} {r : Run} {es : List Event} {end : Ending}
+first : {p : Source} {inputs : List ℤ} {fr : Frame} {start : ℕ} {history : List ℤ} {m : Memory} {r : Transcript} {es : List Event} {end : Ending}
     → Serial p inputs fr start history m r es end
     → (k : Ask) (left : ℕ) → frame_asks p inputs fr.callee history start ≡ asks_for k left → refused p m k ≡ None → First m k r es
 first (Made {fr = fr} {m = m} {r = r} {es = es} k left q inner ok rest) k' left' q' ok' =
@@ -189,7 +189,7 @@ first {p = p} (Refused {m = m} k left f q bad) k' left' q' ok' =
 
 -- of another serial run of the same program
 transferred : (p : Source) (inputs : List ℤ) (es : List Event) (cs : List Callee) (end : Ending)
-    → (w : Whole p inputs es cs end) → (run : Run) (all : List Event) (c : Conclusion)
+    → (w : Whole p inputs es cs end) → (run : Transcript) (all : List Event) (c : Conclusion)
     → IsSerialRun p inputs run all c → (all ≡ es) × (callees_of run ≡ Root ∷ cs)
 transferred p inputs es cs end w run all c s =
     let one = serial_run_is_one p inputs MAX_TICKS MAX_EVENTS run w.run all es c (conclusion_of p inputs end) s (is_run p inputs es cs end w) in

@@ -1,17 +1,19 @@
 -- A serial run that goes on: whatever completes the rest completes the whole.
 use Rattle.std.specs.Prelude.{◌≡◌, ◌+◌, ◌≤◌, ℕ, suc, ℤ, pos, List, [], ◌∷◌, ◌++◌, length, None}
 use Rattle.cilk_types.specs.declared.event.Event.{Event}
+use Rattle.cilk_types.specs.declared.invocation.Invocation.{Invocation}
 use Rattle.cilk_types.specs.declared.limits.TheConstants.{MAX_CELLS, MAX_EVENTS, MAX_TICKS}
 use Rattle.cilk_program.specs.declared.ask.Ask.{Ask}
+use Rattle.cilk_program.specs.declared.ask.Ask.TheVariants.{Begin}
 use Rattle.cilk_program.specs.declared.ask.Callee.{Callee}
 use Rattle.cilk_program.specs.declared.ask.Callee.TheVariants.{Root}
 use Rattle.cilk_program.specs.Syntax.{Source}
-use Rattle.cilk_program.specs.SerialRun.{Run, Frame, Memory, Ending, Finished, Stopped, Serial, root_frame, before_root, begun, refused}
+use Rattle.cilk_program.specs.SerialRun.{Transcript, Frame, Memory, Ending, Finished, Stopped, Serial, root_frame, before_root, begun, refused}
 use Rattle.cilk_lower.specs.Behaves.{Behaves}
 use Rattle.cilk_lower.specs.Code.{CodeView}
 use Rattle.cilk_lower.specs.declared.code.Owed.TheVariants.{Nothing}
 use Rattle.cilk_frames.specs.Following.{Asking, Stands}
-use Rattle.cilk_serial.specs.declared.activation.Activation.{Activation}
+use Rattle.cilk_serial.specs.Scoped.{Activation}
 use Rattle.cilk_serial.specs.declared.running.Halt.{Halt}
 use Rattle.cilk_serial.specs.declared.running.Halt.TheVariants as halts
 use Rattle.cilk_serial.specs.declared.running.Running.{Running}
@@ -21,13 +23,13 @@ use Rattle.cilk_serial.specs.declared.serial_run.Stage.{Stage}
 use Rattle.cilk_serial.specs.declared.serial_run.Stage.TheVariants as stages
 use Rattle.cilk_serial.specs.declared.state.State.{State}
 use Rattle.cilk_serial.specs.Ran.{StopsAfter}
-use Rattle.cilk_serial.specs.Scoped.{Parent, Scoped, Sees}
+use Rattle.cilk_serial.specs.Scoped.{Parent, Scoped, Sees, waiting}
 use Rattle.cilk_serial.specs.SoFar.{begun_in}
-use Rattle.cilk_serial.specs.States.{Shows}
+use Rattle.cilk_serial.specs.States.{Begins, Shows}
 
 -- the root's frame did this, made these events, began frames that run these and ended so
 pub record Whole (p : Source) (inputs : List ℤ) (events : List Event) (callees : List Callee) (end : Ending) : Type 0 where
-  pub run : Run
+  pub run : Transcript
   pub begins : begun_in run ≡ callees
   pub serial : Serial p inputs (root_frame p inputs) MAX_TICKS [] (begun p Root (before_root p inputs MAX_EVENTS)) run events end
 
@@ -36,7 +38,7 @@ pub record Whole (p : Source) (inputs : List ℤ) (events : List Event) (callees
 abbrev pub Completes : Source → List ℤ → List Parent → List Event → List Callee → Ending → Type 0
 Completes p inputs [] events callees end = Whole p inputs events callees end
 Completes p inputs (q ∷ qs) events callees (Finished v left m) =
-    (r : Run) (es : List Event) (end : Ending) → Serial p inputs q.frame (left + q.took) (q.history ++ pos 0 ∷ []) m r es end → Completes p inputs qs (events ++ es) (callees ++ begun_in r) end
+    (r : Transcript) (es : List Event) (end : Ending) → Serial p inputs q.frame (left + q.took) (q.history ++ pos 0 ∷ []) m r es end → Completes p inputs qs (events ++ es) (callees ++ begun_in r) end
 Completes p inputs (q ∷ qs) events callees (Stopped f) = Completes p inputs qs events callees (Stopped f)
 
 -- an activation that waits for a child
@@ -61,17 +63,25 @@ pub record Going (code : CodeView) (p : Source) (inputs : List ℤ) (running : R
   pub parents : List Parent
   pub callees : List Callee
   pub shows : Shows running.state memory
-  pub asking : Asking code inputs p frame.callee running.top.cursor history took running.ask running.left
-  pub completes : (r : Run) (es : List Event) (end : Ending) → Serial p inputs frame (took + running.left) history memory r es end
+  pub asking : Asking code inputs p frame.callee running.frames.top.cursor history took running.ask running.left
+  pub completes : (r : Transcript) (es : List Event) (end : Ending) → Serial p inputs frame (took + running.left) history memory r es end
       → Completes p inputs parents (running.state.events.items ++ es) (callees ++ begun_in r) end
   pub numbered : suc (length callees) ≡ memory.frames
-  pub scoped : Scoped p running.top frame parents
+  pub scoped : Scoped p running.frames.top frame parents
   pub sees : Sees p frame memory.cells
-  pub wait : Wait code p inputs memory.cells running.below parents
+  pub wait : Wait code p inputs memory.cells (waiting running.frames) parents
   pub opened : length p.openings ≤ memory.cells
   pub counted : length running.state.events.items ≤ MAX_EVENTS
   pub small : memory.cells ≤ MAX_CELLS
   pub behaves : Behaves p code
+
+-- the event of an invocation is made, the child with so many cells runs, and the frame that invoked it waits
+pub record HasBegun (r r' : Running) (how : Invocation) (cells : ℕ) (child : Activation) : Type 0 where
+  pub state : Begins r.state r'.state how cells
+  pub top : r'.frames.top ≡ child
+  pub below : r'.frames.below.items ≡ r.frames.below.items ++ r.frames.top ∷ []
+  pub ask : r'.ask ≡ Begin
+  pub left : r'.left ≡ r.left
 
 -- the run has ended with this result
 pub record HasEnded (p : Source) (inputs : List ℤ) (s : State) (v : ℤ) : Type 0 where

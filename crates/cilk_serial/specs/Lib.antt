@@ -1,3 +1,4 @@
+pub mod Children
 pub mod Going
 pub mod Ran
 pub mod Scoped

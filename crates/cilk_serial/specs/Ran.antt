@@ -6,20 +6,20 @@ use Rattle.cilk_types.specs.declared.outcome.Outcome.{Outcome}
 use Rattle.cilk_program.specs.Syntax.{Source}
 use Rattle.cilk_program.specs.Outcomes.{Leaves, StopsBy}
 use Rattle.cilk_program.specs.Elision.{IsElision}
-use Rattle.cilk_program.specs.SerialRun.{Run, IsSerialRun}
+use Rattle.cilk_program.specs.SerialRun.{Transcript, IsSerialRun}
 use Rattle.cilk_meaning.specs.Agreement.{IsLimit}
 use Rattle.cilk_serial.specs.declared.fault.RunFault.{RunFault}
 use Rattle.cilk_serial.specs.declared.fault.RunFault.TheVariants.{Memory, At}
 
 -- the outcome is the serial elision's, and the events are those of the serial run, which ends with it
 pub record Ran (p : Source) (inputs : List ℤ) (o : Outcome) (events : List Event) : Type 0 where
-  pub run : Run
+  pub run : Transcript
   pub serial : IsSerialRun p inputs run events (Leaves o)
   pub elision : IsElision p inputs (Leaves o)
 
 -- the serial run makes these events, and is then stopped by this fault; one but for a limit is the elision's too
 pub record StopsAfter (p : Source) (inputs : List ℤ) (events : List Event) (fault : Fault) : Type 0 where
-  pub run : Run
+  pub run : Transcript
   pub serial : IsSerialRun p inputs run events (StopsBy fault)
   pub elision : IsElision p inputs (StopsBy fault) ⊎ IsLimit fault
 

@@ -1,5 +1,5 @@
 -- What the code's activations stand for: the frame at hand, and the frames that wait for their children.
-use Rattle.std.specs.Prelude.{◌≡◌, ◌+◌, ◌<◌, ◌≤◌, ℕ, ℤ, List, [], ◌∷◌, length, Option, Some, None}
+use Rattle.std.specs.Prelude.{◌≡◌, ◌+◌, ◌<◌, ◌≤◌, ℕ, ℤ, List, [], ◌∷◌, length, reverse, Option, Some, None}
 use Rattle.cilk_types.specs.declared.event.Instance.{Instance}
 use Rattle.cilk_monoid.specs.declared.kind.MonoidKind.{MonoidKind}
 use Rattle.cilk_program.specs.Syntax.{Source, function_at}
@@ -9,14 +9,26 @@ use Rattle.cilk_program.specs.declared.ask.Ask.TheVariants as asks
 use Rattle.cilk_program.specs.declared.ask.Callee.{Callee}
 use Rattle.cilk_program.specs.declared.ask.Callee.TheVariants as callees
 use Rattle.cilk_program.specs.declared.syntax.Place.{Place}
-use Rattle.cilk_program.specs.declared.syntax.Reducer.{Reducer}
-use Rattle.cilk_program.specs.declared.syntax.ReducerPlace.{ReducerPlace}
-use Rattle.cilk_program.specs.declared.syntax.ReducerPlace.TheVariants as reducers
 use Rattle.cilk_program.specs.Inside.{CalleeIsFit}
 use Rattle.cilk_program.specs.SerialRun.{Frame, cell_at, first_place, global_reducer, home_of, itself, own_reducers}
 use Rattle.cilk_meaning.specs.Visible.{FrameSees}
 use Rattle.cilk_types.specs.Stacks.{from_bottom}
-use Rattle.cilk_serial.specs.declared.activation.Activation.{Activation}
+use Rattle.cilk_activations.specs.declared.activation.Activation as activations
+use Rattle.cilk_activations.specs.declared.call_stack.CallStack as call_stacks
+use Rattle.cilk_frames.specs.Cursor.{CursorView}
+pub use Rattle.cilk_activations.specs.Sight.{AreSmall, number_in}
+
+-- a frame with its cursor
+abbrev pub Activation : Type 0
+Activation = activations.Activation CursorView
+
+-- the frame that runs, and those that wait
+abbrev pub Frames : Type 0
+Frames = call_stacks.CallStack CursorView
+
+-- those that wait, the uppermost first
+abbrev pub waiting : Frames → List Activation
+waiting frames = reverse frames.below.items
 
 -- a frame that waits for a child: the answers that it had, and the ticks that it took
 pub record Parent : Type 0 where
@@ -58,10 +70,10 @@ AreScoped p [] (q ∷ qs) = ⊥
 AreScoped p (a ∷ list) [] = ⊥
 AreScoped p (a ∷ list) (q ∷ qs) = Scoped p a q.frame qs × AreScoped p list qs
 
--- the frame at hand, and those below it
-pub record Seen (p : Source) (top : Activation) (below : List Activation) (fr : Frame) (parents : List Parent) : Type 0 where
-  pub scoped : Scoped p top fr parents
-  pub waits : AreScoped p below parents
+-- the frame that runs, and those below it
+pub record Seen (p : Source) (frames : Frames) (fr : Frame) (parents : List Parent) : Type 0 where
+  pub scoped : Scoped p frames.top fr parents
+  pub waits : AreScoped p (waiting frames) parents
 
 -- a cell is among the first so many
 abbrev pub Below : ℕ → ℕ → Type 0
@@ -74,16 +86,6 @@ Any i k = Unit {0}
 -- what a frame names is there, once there are so many cells
 abbrev pub Sees : Source → Frame → ℕ → Type 0
 Sees p fr n = FrameSees p itself global_reducer (Below n) Any fr.callee fr.scope fr.result
-
--- the number in a reducer's place
-abbrev pub number_in : ReducerPlace → ℕ
-number_in (reducers.Global n) = n
-number_in (reducers.Own up n) = n
-number_in (reducers.Given up n) = n
-
-abbrev pub AreSmall : List Reducer → Type 0
-AreSmall [] = Unit {0}
-AreSmall (r ∷ rs) = (number_in r.place < 65536) × AreSmall rs
 
 abbrev pub ResultFits : Frame → ℕ → Option Place → Type 0
 ResultFits fr n None = Unit {0}
@@ -111,13 +113,6 @@ IsThere p fr n asks.Sync = Unit {0}
 IsThere p fr n (asks.Result v) = (c : ℕ) × (fr.result ≡ Some c) × (c < n)
 IsThere p fr n (asks.End v) = Unit {0}
 IsThere p fr n (asks.Fault f) = Unit {0}
-
--- an activation below has this scope
-pub record IsOuter (p : Source) (scope : Scope ℕ Instance) (a : Activation) : Type 0 where
-  pub parent : Parent
-  pub scope_is : scope ≡ parent.frame.scope
-  pub below : List Parent
-  pub scoped : Scoped p a parent.frame below
 
 -- a callee that an ask begins fits what it runs
 abbrev pub IsBegunRightly : Source → Ask → Type 0

@@ -14,7 +14,7 @@ use Rattle.cilk_program.specs.declared.program.Program.{Program}
 use Rattle.cilk_program.specs.Sources.{source}
 use Rattle.cilk_program.specs.Syntax.{Source}
 use Rattle.cilk_program.specs.Outcomes.{Conclusion}
-use Rattle.cilk_program.specs.SerialRun.{Run, stop, act, child, IsSerialRun}
+use Rattle.cilk_program.specs.SerialRun.{Transcript, stop, act, child, IsSerialRun}
 use Rattle.cilk_serial.specs.declared.serial_run.Next.{Next}
 use Rattle.cilk_serial.specs.declared.serial_run.Next.TheVariants as next
 use Rattle.cilk_serial.specs.declared.serial_run.Stage.{Stage}
@@ -23,19 +23,19 @@ use Rattle.cilk_serial.specs.Ran.{Ran, StopsAfter}
 
 -- The serial run makes these events first: they begin the events of the whole, which ends by itself or by a fault.
 pub record IsSoFar (p : Source) (inputs : List ℤ) (es : List Event) : Type 0 where
-  pub run : Run
+  pub run : Transcript
   pub rest : List Event
   pub conclusion : Conclusion
   pub serial : IsSerialRun p inputs run (es ++ rest) conclusion
 
 -- what the frames run that a frame and its children begin, in order of their numbers
-abbrev pub begun_in : Run → List Callee
+abbrev pub begun_in : Transcript → List Callee
 begun_in stop = []
 begun_in (act k a r) = begun_in r
 begun_in (child how callee u r) = callee ∷ (begun_in u ++ begun_in r)
 
 -- what each frame of a run of the first frame runs, in order of their numbers
-abbrev pub callees_of : Run → List Callee
+abbrev pub callees_of : Transcript → List Callee
 callees_of r = Root ∷ begun_in r
 
 -- what the frame runs that an event begins, if it begins one
@@ -57,7 +57,7 @@ callee_at callees (events.Print v) = None
 -- in the serial run the event after these begins a frame that runs this, or none
 abbrev pub BeginsNext : Source → List ℤ → List Event → Option Callee → Type 0
 BeginsNext p inputs es callee =
-    (run : Run) (all : List Event) (c : Conclusion) (e : Event)
+    (run : Transcript) (all : List Event) (c : Conclusion) (e : Event)
     → IsSerialRun p inputs run all c → slice_get all (length es) ≡ Some e → callee_at (callees_of run) e ≡ callee
 
 -- what callers see of a run that is being made: its program and inputs, the events so far, and how far it has come

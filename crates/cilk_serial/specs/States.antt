@@ -1,5 +1,5 @@
 -- What the code's store, counters and events stand for.
-use Rattle.std.specs.Prelude.{◌≡◌, ℕ, suc, ◌+◌, ◌-◌, false, ℤ, pos, [], ◌∷◌, ◌++◌, length, slice_index_or, IsSome}
+use Rattle.std.specs.Prelude.{◌≡◌, ℕ, suc, ◌+◌, ◌-◌, false, ℤ, pos, [], ◌∷◌, ◌++◌, length, slice_index_or}
 use Rattle.cilk_types.specs.declared.event.Event.{Event}
 use Rattle.cilk_types.specs.declared.event.Instance.{Instance}
 use Rattle.cilk_types.specs.declared.limits.TheConstants.{MAX_EVENTS}
@@ -10,13 +10,14 @@ use Rattle.cilk_program.specs.Syntax.{Source}
 use Rattle.cilk_program.specs.Store.{Store, clear}
 use Rattle.cilk_monoid.specs.Ranges.{same_instance}
 use Rattle.cilk_program.specs.declared.ask.Ask.{Ask}
-use Rattle.cilk_program.specs.declared.ask.Ask.TheVariants.{End, Fault}
+use Rattle.cilk_program.specs.declared.ask.Ask.TheVariants.{End, Fault, Invoke}
+use Rattle.cilk_program.specs.declared.ask.Callee.TheVariants.{Loop}
 use Rattle.cilk_program.specs.SerialRun.{Memory, Frame, IsInner, answer_to, event_of, invocation, stored, with_store}
 use Rattle.cilk_types.specs.declared.invocation.Invocation.{Invocation}
 use Rattle.cilk_frames.specs.declared.cursor.Answer.{Answer}
-use Rattle.cilk_frames.specs.Following.{Fits, child_of, owed_for, word_in}
+use Rattle.cilk_frames.specs.Following.{Fits, owed_for, word_in}
 use Rattle.cilk_serial.specs.declared.answer.Told.{Told}
-use Rattle.cilk_serial.specs.declared.answer.Told.TheVariants.{Goes, Invokes, Ends, Stops}
+use Rattle.cilk_serial.specs.declared.answer.Told.TheVariants.{Goes, Turns, Ends, Stops}
 use Rattle.cilk_serial.specs.declared.state.State.{State}
 
 -- Cells that no frame has yet are 0, and an absent view counts as the unit.
@@ -45,7 +46,7 @@ pub record Answers (p : Source) (fr : Frame) (s s' : State) (k : Ask) (a : Answe
 -- what comes of an ask: only where the frame goes on at once is anything changed
 abbrev pub Tells : Source → Frame → State → State → Ask → Told → Type 0
 Tells p fr s s' k (Goes a) = IsInner k × Answers p fr s s' k a
-Tells p fr s s' k Invokes = (s' ≡ s) × IsSome (child_of k)
+Tells p fr s s' k (Turns how part) = (s' ≡ s) × (k ≡ Invoke how (Loop part))
 Tells p fr s s' k (Ends v) = (s' ≡ s) × (k ≡ End v)
 Tells p fr s s' k (Stops f) = (s' ≡ s) × (k ≡ Fault f)
 

@@ -4,19 +4,19 @@ ghost use Rattle.std.specs.Prelude.{◌≡◌, ◌≤◌, length, List, Ok, Err,
 ghost use Rattle.cilk_types.specs.declared.limits.TheConstants.{MAX_CELLS};
 ghost use Rattle.cilk_program.specs.Syntax.{Source};
 ghost use Rattle.cilk_program.specs.SerialRun.{Frame};
-ghost use Rattle.cilk_frames.specs.Asked.{in_full};
+ghost use Rattle.cilk_frames.specs.AskSlot.{in_full};
 ghost use Rattle.cilk_serial.specs.Scoped.{IsThere, Parent, Seen};
 ghost use Rattle.cilk_serial.specs.States.{Tells};
 ghost use Rattle.cilk_serial.specs.declared.answer.Told.TheVariants.{Goes};
 
-use crate::activation::Activation;
-use crate::places::{cell, instance};
 use crate::state::State;
+use cilk_activations::call_stack::CallStack;
 use cilk_frames::brief::Brief;
-use cilk_frames::cursor::Answer;
+use cilk_frames::cursor::{Answer, Cursor};
+use cilk_program::ask::LoopPart;
 use cilk_types::event::Event;
 use cilk_types::fault::Fault;
-use cilk_types::stack::Stack;
+use cilk_types::invocation::Invocation;
 use std::alloc::{AllocError, Global};
 
 /// What comes of an ask, where there is room for one more event.
@@ -24,8 +24,8 @@ use std::alloc::{AllocError, Global};
 pub enum Told {
     /// Its event is made, and the frame goes on with this answer.
     Goes(Answer),
-    /// A child begins.
-    Invokes,
+    /// The frame of these turns of a loop begins.
+    Turns(Invocation, LoopPart),
     /// The frame ends with this result.
     Ends(i64),
     /// The frame can't go on.
@@ -37,42 +37,43 @@ pub enum Told {
 pub fn answer(
     alloc: Global,
     state: &mut State,
-    top: &Activation,
-    below: &Stack<Activation>,
+    frames: &CallStack<Cursor>,
     ask: &Brief,
 ) -> Result<Told, AllocError>
     requires few { length state.old.cells.items ≤ MAX_CELLS }
-    requires there { (p : Source) × (fr : Frame) × (parents : List Parent) × Seen p top.now below.now fr parents × IsThere p fr (length state.old.cells.items) (in_full ask.now) }
-    ensures { (p : Source) (fr : Frame) (parents : List Parent) → Seen p top.now below.now fr parents → IfOk result (λ told. Tells p fr state.old state.new (in_full ask.now) told) }
+    requires there { (p : Source) × (fr : Frame) × (parents : List Parent) × Seen p frames.now fr parents × IsThere p fr (length state.old.cells.items) (in_full ask.now) }
+    ensures { (p : Source) (fr : Frame) (parents : List Parent) → Seen p frames.now fr parents → IfOk result (λ told. Tells p fr state.old state.new (in_full ask.now) told) }
 {
     match ask {
-        Brief::Begin => goes(state.make(Event::Begin { frame: top.number })),
-        Brief::Read(place) => goes(state.read(cell(top, below, *place))),
-        Brief::Write(place, word) => goes(state.write(cell(top, below, *place), *word)),
+        Brief::Begin => goes(state.make(Event::Begin {
+            frame: frames.top.number,
+        })),
+        Brief::Read(place) => goes(state.read(frames.cell(*place))),
+        Brief::Write(place, word) => goes(state.write(frames.cell(*place), *word)),
         Brief::Create(reducer) => {
-            let instance = instance(top, below, reducer.place);
+            let instance = frames.reducer(reducer.place);
             goes(state.create(alloc, instance, reducer.kind))
         }
         Brief::Update(reducer, word) => {
-            let instance = instance(top, below, reducer.place);
+            let instance = frames.reducer(reducer.place);
             goes(state.update(alloc, instance, reducer.kind, *word))
         }
         Brief::Set(reducer, word) => {
-            let instance = instance(top, below, reducer.place);
+            let instance = frames.reducer(reducer.place);
             goes(state.set(alloc, instance, reducer.kind, *word))
         }
         Brief::Value(reducer) => {
-            let instance = instance(top, below, reducer.place);
+            let instance = frames.reducer(reducer.place);
             goes(state.value(alloc, instance, reducer.kind))
         }
         Brief::Print(word) => goes(state.print(*word)),
-        Brief::Turns(_, _) => Ok(Told::Invokes),
-        Brief::Resume => goes(state.make(Event::Resume { parent: top.number })),
+        Brief::Turns(how, part) => Ok(Told::Turns(*how, *part)),
+        Brief::Resume => goes(state.make(Event::Resume {
+            parent: frames.top.number,
+        })),
         Brief::Sync => goes(state.make(Event::Sync)),
         Brief::Result(word) => {
-            let Some(cell) = top.result else {
-                unreachable!()
-            };
+            let cell = frames.top.result.unwrap();
             goes(state.write(cell, *word))
         }
         Brief::End(result) => Ok(Told::Ends(*result)),

@@ -1,39 +1,34 @@
 // Frames as they begin and end.
 
-ghost use Rattle.std.specs.Prelude.{◌≡◌, ◌<◌, ◌≤◌, ◌∷◌, [], ℕ, suc, List, ℤ, Some, length, IfOk, IfSome, IsSome};
-ghost use Rattle.std.specs.Option.{option_map};
+ghost use Rattle.std.specs.Prelude.{◌≡◌, ◌<◌, ◌≤◌, [], List, ℤ, length, IfOk};
 ghost use Rattle.cilk_monoid.specs.Ranges.{same_instance};
 ghost use Rattle.cilk_program.specs.declared.ask.Ask.TheVariants.{Begin};
 ghost use Rattle.cilk_program.specs.declared.ask.Callee.TheVariants as callees;
-ghost use Rattle.cilk_program.specs.Scopes.{cell_in};
 ghost use Rattle.cilk_program.specs.Store.{clear_all};
 ghost use Rattle.cilk_types.specs.declared.limits.TheConstants.{MAX_CELLS, MAX_FRAMES};
 ghost use Rattle.cilk_program.specs.Sources.{source};
 ghost use Rattle.cilk_program.specs.Syntax.{Source};
-ghost use Rattle.cilk_program.specs.Inside.{CalleeIsFit};
-ghost use Rattle.cilk_program.specs.SerialRun.{Frame, Memory, itself, next_frame, root_frame};
+ghost use Rattle.cilk_program.specs.SerialRun.{Frame, Memory, root_frame};
 ghost use Rattle.cilk_lower.specs.Behaves.{Behaves};
-ghost use Rattle.cilk_frames.specs.Following.{Stands, child_of, owed_for};
-ghost use Rattle.cilk_serial.specs.Scoped.{AreSmall, IsCreator, IsThere, Parent, ResultFits, Scoped, Seen, kinds_of, own_of};
+ghost use Rattle.cilk_frames.specs.Following.{Stands, owed_for};
+ghost use Rattle.cilk_serial.specs.Children.{IsChild};
+ghost use Rattle.cilk_serial.specs.Scoped.{IsCreator, MayBegin, Parent, Scoped, Seen, kinds_of, own_of};
 ghost use Rattle.cilk_serial.specs.States.{Shows};
 
-use crate::activation::Activation;
-use crate::places::{cell, instances};
 use crate::state::State;
-use cilk_frames::asked::Asked;
-use cilk_frames::brief::Brief;
+use cilk_activations::activation::Activation;
+use cilk_activations::beginnings;
+use cilk_activations::call_stack::CallStack;
 use cilk_frames::cursor::Cursor;
 use cilk_lower::code::Code;
 use cilk_monoid::kind::MonoidKind;
 use cilk_program::ask::{FunctionCall, LoopPart};
 use cilk_program::program::Program;
-use cilk_program::syntax::Place;
-use cilk_types::event::{Cell, FrameNo, Instance};
-use cilk_types::stack::Stack;
+use cilk_types::event::{Cell, Instance};
 use std::alloc::{AllocError, Global};
 
 /// The root's frame.
-pub fn root(alloc: Global, program: &Program, code: &Code) -> Result<Activation, AllocError>
+pub fn root(alloc: Global, program: &Program, code: &Code) -> Result<Activation<Cursor>, AllocError>
     ensures stands { IfOk result (λ a. (inputs : List ℤ) → Behaves (source program.now) code.now → Stands code.now inputs (source program.now) callees.Root a.cursor [] 0) }
     ensures owes { IfOk result (λ a. a.cursor.owed ≡ owed_for Begin) }
     ensures scoped { IfOk result (λ a. (inputs : List ℤ) → Scoped (source program.now) a (root_frame (source program.now) inputs) []) }
@@ -41,121 +36,67 @@ pub fn root(alloc: Global, program: &Program, code: &Code) -> Result<Activation,
     let globals = program.globals.len();
     let reducers = program.reducers.len();
     few(program);
-    Ok(Activation {
-        cursor: Cursor::root(alloc, code)?,
-        number: 1,
-        base: globals as Cell,
-        first: reducers as u32 + 1,
-        given: Vec::new(alloc),
-        outer: None,
-        result: None,
-        creator: Some(program.main),
-    })
+    let cursor = Cursor::root(alloc, code)?;
+    Ok(beginnings::root(
+        alloc,
+        cursor,
+        globals as Cell,
+        reducers as u32,
+        program.main,
+    ))
 }
 
-/// The frame that an ask of the one on top begins.
-pub fn child(
+/// The frame of a function that the frame on top invokes, before it begins.
+pub fn function(
     alloc: Global,
     code: &Code,
     state: &State,
-    top: &Activation,
-    below: &Stack<Activation>,
-    ask: &Asked,
-) -> Result<Activation, AllocError>
-    requires begins { IsSome (child_of ask.now) }
-    requires there { (p : Source) × (fr : Frame) × (parents : List Parent) × Seen p top.now below.now fr parents × IsThere p fr (length state.now.cells.items) ask.now }
+    frames: &CallStack<Cursor>,
+    call: &FunctionCall,
+) -> Result<Activation<Cursor>, AllocError>
+    requires may { (p : Source) × (fr : Frame) × (parents : List Parent) × Seen p frames.now fr parents × MayBegin p fr (length state.now.cells.items) (callees.Function call.now) }
     requires frames { state.now.frames < MAX_FRAMES }
     requires cells { length state.now.cells.items ≤ MAX_CELLS }
-    ensures stands { IfOk result (λ a. IfSome (child_of ask.now) (λ callee. (p : Source) (inputs : List ℤ) → Behaves p code.now → CalleeIsFit p callee → Stands code.now inputs p callee a.cursor [] 0)) }
-    ensures owes { IfOk result (λ a. a.cursor.owed ≡ owed_for Begin) }
-    ensures scoped { IfOk result (λ a. IfSome (child_of ask.now) (λ callee. (p : Source) (fr : Frame) (parents : List Parent) (m : Memory) (q : Parent) → Seen p top.now below.now fr parents → IsThere p fr (length state.now.cells.items) ask.now → Shows state.now m → q.frame ≡ fr → Scoped p a (next_frame p fr.scope m callee) (q ∷ parents))) }
+    ensures { IfOk result (λ a. IsChild code.now state.now frames.now (callees.Function call.now) a) }
 {
+    let cursor = Cursor::function(alloc, code, call)?;
     let number = state.frames + 1;
     let base = state.cells.len() as Cell;
-    match ask.brief() {
-        None => {
-            let call = ask.call();
-            let cursor = Cursor::function(alloc, code, call)?;
-            function(alloc, cursor, number, base, top, below, call)
-        }
-        Some(Brief::Turns(_, part)) => {
-            let cursor = Cursor::turns(alloc, code, part)?;
-            Ok(turns(alloc, cursor, number, base, top, below, part))
-        }
-        Some(_) => unreachable!(),
-    }
-}
-
-// The frame of a function.
-fn function(
-    alloc: Global,
-    cursor: Cursor,
-    number: FrameNo,
-    base: Cell,
-    top: &Activation,
-    below: &Stack<Activation>,
-    call: &FunctionCall,
-) -> Result<Activation, AllocError>
-    requires { (p : Source) × (fr : Frame) × (parents : List Parent) × (n : ℕ) × Seen p top.now below.now fr parents × AreSmall call.now.reducers × ResultFits fr n call.now.result × (n ≤ MAX_CELLS) }
-    ensures cursor { IfOk result (λ a. a.cursor ≡ cursor) }
-    ensures scoped { IfOk result (λ a. (p : Source) (fr : Frame) (parents : List Parent) (m : Memory) (q : Parent) → Seen p top.now below.now fr parents → IsCreator p (Some call.now.function) → number ≡ suc m.frames → base ≡ m.cells → Scoped p a (next_frame p fr.scope m (callees.Function call.now)) (q ∷ parents)) }
-{
-    Ok(Activation {
+    let frame = beginnings::function(
+        alloc,
         cursor,
         number,
         base,
-        first: 1,
-        given: instances(alloc, top, below, call.reducers.as_slice())?,
-        outer: None,
-        result: result_cell(top, below, call.result),
-        creator: Some(call.function),
-    })
+        frames.below.as_slice(),
+        &frames.top,
+        call,
+    )?;
+    Ok(frame)
 }
 
-// The cell that a result goes to.
-fn result_cell(top: &Activation, below: &Stack<Activation>, place: Option<Place>) -> Option<Cell>
-    requires { (p : Source) × (fr : Frame) × (parents : List Parent) × (n : ℕ) × Seen p top.now below.now fr parents × ResultFits fr n place × (n ≤ MAX_CELLS) }
-    ensures { (p : Source) (fr : Frame) (parents : List Parent) → Seen p top.now below.now fr parents → result ≡ option_map (cell_in itself fr.scope) place }
-{
-    match place {
-        Some(place) => Some(cell(top, below, place)),
-        None => None,
-    }
-}
-
-// The frame of a loop's turns.
-fn turns(
+/// The frame of some turns of a loop that the frame on top invokes, before it begins.
+pub fn turns(
     alloc: Global,
-    cursor: Cursor,
-    number: FrameNo,
-    base: Cell,
-    top: &Activation,
-    below: &Stack<Activation>,
+    code: &Code,
+    state: &State,
+    frames: &CallStack<Cursor>,
     part: &LoopPart,
-) -> Activation
-    requires { part.now.up ≤ 1 }
-    ensures cursor { result.cursor ≡ cursor }
-    ensures scoped { (p : Source) (fr : Frame) (parents : List Parent) (m : Memory) (q : Parent) → Seen p top.now below.now fr parents → q.frame ≡ fr → number ≡ suc m.frames → base ≡ m.cells → Scoped p result (next_frame p fr.scope m (callees.Loop part.now)) (q ∷ parents) }
+) -> Result<Activation<Cursor>, AllocError>
+    requires up { part.now.up ≤ 1 }
+    requires frames { state.now.frames < MAX_FRAMES }
+    requires cells { length state.now.cells.items ≤ MAX_CELLS }
+    ensures { IfOk result (λ a. IsChild code.now state.now frames.now (callees.Loop part.now) a) }
 {
-    let outer = if part.up == 0 {
-        Some(below.len())
-    } else {
-        top.outer
-    };
-    Activation {
-        cursor,
-        number,
-        base,
-        first: 1,
-        given: Vec::new(alloc),
-        outer,
-        result: None,
-        creator: None,
-    }
+    let cursor = Cursor::turns(alloc, code, part)?;
+    let number = state.frames + 1;
+    let base = state.cells.len() as Cell;
+    let here = frames.depth();
+    let frame = beginnings::turns(alloc, cursor, number, base, here, &frames.top, part);
+    Ok(frame)
 }
 
 /// The reducers of a frame that ends are retired.
-pub fn retire(program: &Program, state: &mut State, top: &Activation)
+pub fn retire(program: &Program, state: &mut State, top: &Activation<Cursor>)
     requires there { IsCreator (source program.now) top.now.creator }
     requires low { top.now.first < 65536 }
     ensures events { state.new.events.items ≡ state.old.events.items }
@@ -170,7 +111,7 @@ pub fn retire(program: &Program, state: &mut State, top: &Activation)
 }
 
 // Those with these monoids, from a frame's first on.
-fn retire_all(state: &mut State, top: &Activation, kinds: &[MonoidKind])
+fn retire_all(state: &mut State, top: &Activation<Cursor>, kinds: &[MonoidKind])
     requires few { length kinds.now ≤ 64 }
     requires low { top.now.first < 65536 }
     ensures events { state.new.events.items ≡ state.old.events.items }

@@ -30,13 +30,11 @@
 //! ```
 #![tactic(auto)]
 
-mod activation;
 mod answer;
 mod callee;
 pub mod fault;
 mod frames;
 mod outcome;
-mod places;
 mod refusal;
 pub mod run;
 mod running;

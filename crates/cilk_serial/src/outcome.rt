@@ -82,8 +82,5 @@ fn last(
     ensures others { OnOk result (KeepsOthers views.old views.new instance) }
 {
     views.value(alloc, instance, kind)?;
-    let Some(value) = views.take(instance, kind) else {
-        unreachable!()
-    };
-    Ok(value)
+    Ok(views.take(instance, kind).unwrap())
 }

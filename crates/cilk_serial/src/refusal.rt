@@ -8,7 +8,7 @@ ghost use Rattle.cilk_program.specs.SerialRun.{Memory, cells_of, crowded, full, 
 ghost use Rattle.cilk_serial.specs.States.{Shows};
 
 use crate::state::State;
-use cilk_frames::asked::Asked;
+use cilk_frames::asked::AskSlot;
 use cilk_program::ask::Ask;
 use cilk_types::fault::Fault;
 use cilk_types::limits::{MAX_CELLS, MAX_EVENTS, MAX_FRAMES};
@@ -24,7 +24,7 @@ pub fn is_full(state: &State) -> bool
 
 /// The fault that stands in place of an ask's event, where no more events may be made.
 #[cold]
-pub fn fault_when_full(ask: &Asked) -> Fault
+pub fn fault_when_full(ask: &AskSlot) -> Fault
     ensures { (p : Source) (m : Memory) → full m ≡ Some TooManyEvents → refused p m ask.now ≡ Some result }
 {
     match ask.in_full() {

@@ -1,42 +1,42 @@
 // A run that goes on.
 
-ghost use Rattle.std.specs.Prelude.{◌≡◌, ℤ, List, [], IfOk, IfSome, OnOk, IsSome};
+ghost use Rattle.std.specs.Prelude.{◌≡◌, ◌<◌, ℤ, List, [], IfOk, OnOk};
+ghost use Rattle.cilk_types.specs.declared.limits.TheConstants.{MAX_FRAMES};
 ghost use Rattle.cilk_program.specs.Sources.{source};
-ghost use Rattle.cilk_program.specs.SerialRun.{cells_of};
-ghost use Rattle.cilk_program.specs.declared.ask.Ask.TheVariants.{End};
+ghost use Rattle.cilk_program.specs.declared.ask.Ask.TheVariants.{End, Invoke};
+ghost use Rattle.cilk_program.specs.declared.ask.Callee.TheVariants as callees;
 ghost use Rattle.cilk_lower.specs.Behaves.{Behaves};
-ghost use Rattle.cilk_frames.specs.Following.{child_of};
-ghost use Rattle.cilk_serial.specs.Going.{Going, Halts, IsAllowed, IsLater, IsLonger, Progresses};
+ghost use Rattle.cilk_frames.specs.AskSlot.{IsFunctionCall};
+ghost use Rattle.cilk_serial.specs.Going.{Going, Halts, HasBegun, IsAllowed, IsLater, Progresses};
 
-use crate::activation::Activation;
 use crate::answer::{Told, answer};
-use crate::callee::{cells_asked, cells_of};
-use crate::frames::{child, retire, root};
+use crate::callee::{function_cells, turn_cells};
+use crate::frames::{function, retire, root, turns};
 use crate::refusal::{crowded, fault_when_full, is_full};
 use crate::state::State;
-use cilk_frames::asked::Asked;
+use cilk_activations::activation::Activation;
+use cilk_activations::call_stack::CallStack;
+use cilk_frames::asked::AskSlot;
 use cilk_frames::brief::Brief;
-use cilk_frames::cursor::Answer;
+use cilk_frames::cursor::{Answer, Cursor};
 use cilk_frames::stepping::step_into;
 use cilk_hypermap::hypermap::Hypermap;
 use cilk_lower::code::Code;
-use cilk_program::ask::Callee;
+use cilk_program::ask::LoopPart;
 use cilk_program::program::Program;
 use cilk_types::event::Event;
 use cilk_types::fault::Fault;
 use cilk_types::input::Input;
+use cilk_types::invocation::Invocation;
 use cilk_types::limits::MAX_TICKS;
-use cilk_types::stack::Stack;
 use std::alloc::{AllocError, Global};
-use std::mem;
 
-/// The store, the frames that wait, the frame at hand, what it asks for, and the ticks that are left.
+/// The store, the frame that runs and those that wait, what it asks for, and the ticks that are left.
 #[derive(Drop)]
 pub struct Running {
     pub state: State,
-    pub below: Stack<Activation>,
-    pub top: Activation,
-    pub ask: Asked,
+    pub frames: CallStack<Cursor>,
+    pub ask: AskSlot,
     pub left: u32,
 }
 
@@ -74,13 +74,12 @@ impl Running {
             events: Vec::new(alloc),
             frames: 1,
         };
-        let root_callee = Callee::Root;
-        state.extend(cells_of(program, &root_callee))?;
+        state.extend(function_cells(program, program.main))?;
+        let frame = root(alloc, program, code)?;
         Ok(Running {
             state,
-            below: Stack::new(alloc),
-            top: root(alloc, program, code)?,
-            ask: Asked::new(),
+            frames: CallStack::new(alloc, frame),
+            ask: AskSlot::new(),
             left: MAX_TICKS,
         })
     }
@@ -102,23 +101,23 @@ impl Running {
             return Ok(Step::Stops(fault_when_full(&self.ask)));
         }
         let Some(ask) = self.ask.brief() else {
-            let step = self.invoke(alloc, program, code)?;
+            let step = self.invoke_function(alloc, program, code)?;
             return Ok(step);
         };
-        match answer(alloc, &mut self.state, &self.top, &self.below, ask)? {
+        match answer(alloc, &mut self.state, &self.frames, ask)? {
             Told::Goes(told) => {
                 step_into(
                     code,
                     input,
-                    &mut self.top.cursor,
+                    &mut self.frames.top.cursor,
                     told,
                     &mut self.left,
                     &mut self.ask,
                 );
                 Ok(Step::Made)
             }
-            Told::Invokes => {
-                let step = self.invoke(alloc, program, code)?;
+            Told::Turns(how, part) => {
+                let step = self.invoke_turns(alloc, program, code, how, &part)?;
                 Ok(step)
             }
             Told::Ends(result) => {
@@ -156,53 +155,71 @@ impl Running {
     {
         let Running {
             state,
-            below: _below,
-            top: _top,
+            frames: _frames,
             ask: _ask,
             left: _left,
         } = self;
         state
     }
 
-    /// A child begins, if there may be one more frame with its cells.
+    /// The frame of the function that is asked for begins, if there may be one more frame with its cells.
     #[inline(never)]
-    pub fn invoke(
+    pub fn invoke_function(
         &mut self,
         alloc: Global,
         program: &Program,
         code: &Code,
     ) -> Result<Step, AllocError>
         requires going { (inputs : List ℤ) × Going code.now (source program.now) inputs self.old }
-        requires begins { IsSome (child_of self.old.ask) }
+        requires begins { IsFunctionCall self.old.ask }
         ensures { (inputs : List ℤ) → Going code.now (source program.now) inputs self.old → IfOk result (λ step. Progresses code.now (source program.now) inputs self.old step self.new) }
     {
-        let cells = cells_asked(program, &self.ask);
+        let (how, call) = self.ask.invocation();
+        let cells = function_cells(program, call.function);
         if let Some(fault) = crowded(&self.state, cells) {
             return Ok(Step::Stops(fault));
         }
-        self.begin_child(alloc, program, code, cells)?;
+        let frame = function(alloc, code, &self.state, &self.frames, call)?;
+        self.begin(how, cells, frame)?;
         Ok(Step::Made)
     }
 
-    // A child with so many cells begins, and the frame that asked for it waits.
-    fn begin_child(
+    /// The frame of some turns of a loop begins, if there may be one more frame with its cells.
+    #[inline(never)]
+    pub fn invoke_turns(
         &mut self,
         alloc: Global,
         program: &Program,
         code: &Code,
-        cells: u32,
-    ) -> Result<(), AllocError>
+        how: Invocation,
+        part: &LoopPart,
+    ) -> Result<Step, AllocError>
         requires going { (inputs : List ℤ) × Going code.now (source program.now) inputs self.old }
-        requires allowed { IsAllowed (source program.now) self.old.state self.old.ask }
-        requires begins { IsSome (child_of self.old.ask) }
-        requires cells { IfSome (child_of self.old.ask) (λ callee. cells ≡ cells_of (source program.now) callee) }
-        ensures going { (inputs : List ℤ) → Going code.now (source program.now) inputs self.old → OnOk result (Going code.now (source program.now) inputs self.new) }
-        ensures longer { OnOk result (IsLonger self.old.state self.new.state) }
+        requires begins { self.old.ask ≡ Invoke how (callees.Loop part.now) }
+        ensures { (inputs : List ℤ) → Going code.now (source program.now) inputs self.old → IfOk result (λ step. Progresses code.now (source program.now) inputs self.old step self.new) }
     {
-        let how = self.ask.how();
-        let frame = child(alloc, code, &self.state, &self.top, &self.below, &self.ask)?;
+        let cells = turn_cells(program, part);
+        if let Some(fault) = crowded(&self.state, cells) {
+            return Ok(Step::Stops(fault));
+        }
+        let frame = turns(alloc, code, &self.state, &self.frames, part)?;
+        self.begin(how, cells, frame)?;
+        Ok(Step::Made)
+    }
+
+    // A child with so many cells begins, and the frame that asked for it waits.
+    #[inline(always)]
+    fn begin(
+        &mut self,
+        how: Invocation,
+        cells: u32,
+        child: Activation<Cursor>,
+    ) -> Result<(), AllocError>
+        requires { self.old.state.frames < MAX_FRAMES }
+        ensures { OnOk result (HasBegun self.old self.new how cells child) }
+    {
         self.state.begin(how, cells)?;
-        self.below.push(mem::replace(&mut self.top, frame))?;
+        self.frames.push(child)?;
         self.ask.put(Brief::Begin);
         Ok(())
     }
@@ -222,21 +239,19 @@ impl Running {
         ensures { IfOk result (λ step. Progresses code.now (source program.now) input.now self.old step self.new) }
     {
         self.state.make(Event::End)?;
-        retire(program, &mut self.state, &self.top);
-        match self.below.pop() {
-            None => Ok(Step::Last(value)),
-            Some(parent) => {
-                self.top = parent;
-                step_into(
-                    code,
-                    input,
-                    &mut self.top.cursor,
-                    Answer::Done,
-                    &mut self.left,
-                    &mut self.ask,
-                );
-                Ok(Step::Made)
-            }
+        retire(program, &mut self.state, &self.frames.top);
+        let goes_on = self.frames.pop();
+        if !goes_on {
+            return Ok(Step::Last(value));
         }
+        step_into(
+            code,
+            input,
+            &mut self.frames.top.cursor,
+            Answer::Done,
+            &mut self.left,
+            &mut self.ask,
+        );
+        Ok(Step::Made)
     }
 }

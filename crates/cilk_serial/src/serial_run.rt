@@ -1,11 +1,11 @@
 //! The serial run, event by event.
 
-ghost use Rattle.std.specs.Prelude.{◌≡◌, [], IfOk, OnOk, OnErr};
+ghost use Rattle.std.specs.Prelude.{◌≡◌, [], IfOk, IfSome, IsSome, OnOk, OnErr};
 ghost use Rattle.cilk_program.specs.Sources.{source};
 ghost use Rattle.cilk_lower.specs.Behaves.{Behaves};
 ghost use Rattle.cilk_serial.specs.Ran.{Ran};
 ghost use Rattle.cilk_serial.specs.SoFar.{BeginsNext, Comes, IsIntact, IsOver, IsSoFar, MakesRest};
-ghost use Rattle.cilk_serial.specs.declared.serial_run.Stage.TheVariants.{Going, Failed};
+ghost use Rattle.cilk_serial.specs.declared.serial_run.Stage.TheVariants.{Going, Ended, Failed};
 
 use crate::callee::callee_asked;
 use crate::outcome::outcome;
@@ -41,6 +41,19 @@ pub enum Stage {
     Ended(i64),
     /// Memory was refused on the way to an event.
     Failed,
+}
+
+impl Stage {
+    // The main function's result, once it has ended.
+    fn result(self) -> Option<i64>
+        ensures over { IsOver self → IsSome result }
+        ensures value { IfSome result (λ v. self ≡ Ended v) }
+    {
+        match self {
+            Stage::Ended(result) => Some(result),
+            _ => None,
+        }
+    }
 }
 
 /// A serial run that is made event by event. It borrows the program, its code and the input, and owns the store, the
@@ -184,9 +197,7 @@ impl<'a> SerialRun<'a> {
             running,
             stage,
         } = self;
-        let Stage::Ended(result) = stage else {
-            unreachable!()
-        };
+        let result = stage.result().unwrap();
         outcome(alloc, program, running.into_state(), result)
     }
 

@@ -1,7 +1,7 @@
 use Rattle.std.proofs.Common.{◌≡◌, ◌<◌, length, take, Some, sym, ap, ◌∙◌, subst, arith}
 use Rattle.std.specs.Prelude.{slice_get}
 use Rattle.cilk_program.specs.Programs.{function}
-use Rattle.cilk_lower.specs.declared.code.Entry.{Entry}
+use Rattle.cilk_lower.specs.declared.code.EntryPoint.{EntryPoint}
 use Rattle.cilk_lower.specs.declared.emitter.Emitter.{Emitter}
 use Rattle.cilk_lower.specs.Bodies.{EachAt, FunctionAt}
 use Rattle.cilk_lower.specs.Code.{function_code}
@@ -43,14 +43,14 @@ each-preserved c =
           let main : slice_get fs c.args.main ≡ Some f = ap (λ k. slice_get fs k) (sym w.if-number-main.true) ∙ there in
           let at = body_grows old.instrs.items is old.sites.items ss c.args.entry (λ k. function_code k g) g.body c.each.invariant.grows (c.requires.main f main) in
           subst (λ (o : Emitter). Next is ss o.instrs.items o.sites.items e (λ k. function_code k g) g.body) (sym w.out-is)
-          (subst (λ (e : Entry). Next is ss is ss e (λ k. function_code k g) g.body) (sym w.place-is) (record { sound = c.each.invariant.sound; grows = grows_none is ss; at = at }))
+          (subst (λ (e : EntryPoint). Next is ss is ss e (λ k. function_code k g) g.body) (sym w.place-is) (record { sound = c.each.invariant.sound; grows = grows_none is ss; at = at }))
           )
       | else-number-main+in_ok-place w ↦ (
           let made = w.in_ok-place.ensures in
           let fits = c.requires.fit i f there in
           let o = w.emit_function.new.self in
           subst (λ (o : Emitter). Next is ss o.instrs.items o.sites.items e (λ k. function_code k g) g.body) (sym w.out-is)
-          (subst (λ (e : Entry). Next is ss o.instrs.items o.sites.items e (λ k. function_code k g) g.body) (sym w.place-is) (function_next is o.instrs.items ss o.sites.items w.in_ok-place.place g c.each.invariant.sound fits.arrays fits.sites made.code made.sites made.place made.room))
+          (subst (λ (e : EntryPoint). Next is ss o.instrs.items o.sites.items e (λ k. function_code k g) g.body) (sym w.place-is) (function_next is o.instrs.items ss o.sites.items w.in_ok-place.place g c.each.invariant.sound fits.arrays fits.sites made.code made.sites made.place made.room))
           )
     ] in
     record {

@@ -5,8 +5,9 @@ use Rattle.cilk_monoid.specs.Ranges.{same_instance}
 use Rattle.cilk_program.specs.declared.ask.Ask.TheVariants as asks
 use Rattle.cilk_program.specs.SerialRun.{cell_at, reducer_at}
 use Rattle.cilk_program.specs.Store.{clear, number_at, put, set, update}
-use Rattle.cilk_frames.specs.Asked.{in_full}
+use Rattle.cilk_frames.specs.AskSlot.{in_full}
 use Rattle.cilk_serial.specs.Scoped.{IsThere}
+use Rattle.cilk_serial.proofs.Homes.{seen_scope}
 use Rattle.cilk_serial.proofs.Answering.{tells_nothing, tells_word, told}
 use Rattle.cilk_serial.proofs.answer.answer.Goals as goal
 
@@ -14,31 +15,35 @@ pub cell-requires : goal.cell-requires
 cell-requires c =
     let t = c.requires.there in
     let there = subst (λ k. IsThere t.0 t.1 (length c.args.state.now.cells.items) (in_full k)) c.in-Read.is t.4 in
-    (t.0, t.1, t.2, t.3, omega (arith, there, c.requires.few))
+    let fr = t.1 in
+    (fr.scope, seen_scope t.0 c.args.frames.now fr t.2 t.3, omega (arith, there, c.requires.few))
 
 pub read-requires : goal.read-requires
 read-requires c =
     let t = c.requires.there in
     let there = subst (λ k. IsThere t.0 t.1 (length c.args.state.now.cells.items) (in_full k)) c.in-Read.is t.4 in
-    let same = c.cell.ensures t.0 t.1 t.2 t.3 in
+    let fr = t.1 in
+    let same = c.cell.ensures fr.scope (seen_scope t.0 c.args.frames.now fr t.2 t.3) in
     omega (arith, there, same)
 
 pub cell-requires-in-Write : goal.cell-requires-in-Write
 cell-requires-in-Write c =
     let t = c.requires.there in
     let there = subst (λ k. IsThere t.0 t.1 (length c.args.state.now.cells.items) (in_full k)) c.in-Write.is t.4 in
-    (t.0, t.1, t.2, t.3, omega (arith, there, c.requires.few))
+    let fr = t.1 in
+    (fr.scope, seen_scope t.0 c.args.frames.now fr t.2 t.3, omega (arith, there, c.requires.few))
 
 pub write-requires : goal.write-requires
 write-requires c =
     let t = c.requires.there in
     let there = subst (λ k. IsThere t.0 t.1 (length c.args.state.now.cells.items) (in_full k)) c.in-Write.is t.4 in
-    let same = c.cell-in-Write.ensures t.0 t.1 t.2 t.3 in
+    let fr = t.1 in
+    let same = c.cell-in-Write.ensures fr.scope (seen_scope t.0 c.args.frames.now fr t.2 t.3) in
     omega (arith, there, same)
 
 pub returns-in-Read : goal.returns-in-Read
 returns-in-Read c = λ p fr parents seen.
-    let same = c.cell.ensures p fr parents seen in
+    let same = c.cell.ensures fr.scope (seen_scope p c.args.frames.now fr parents seen) in
     let k = asks.Read c.in-Read.place in
     told p fr c.args.state.now c.read.new.self c.args.ask.now k c.read.result c.goes-in-Read.result (sym (ap in_full c.in-Read.is)) tt c.goes-in-Read.ensures
     (tells_word p fr c.args.state.now c.read.new.self k (λ m. m.store.cells c.cell.result) (λ m. events.Read c.cell.result (m.store.cells c.cell.result)) (λ m. m.store)
@@ -46,7 +51,7 @@ returns-in-Read c = λ p fr parents seen.
 
 pub returns-in-Write : goal.returns-in-Write
 returns-in-Write c = λ p fr parents seen.
-    let same = c.cell-in-Write.ensures p fr parents seen in
+    let same = c.cell-in-Write.ensures fr.scope (seen_scope p c.args.frames.now fr parents seen) in
     let v = c.in-Write.word in
     let fits : SFits w64 v = search rules in
     let word = to_z-of_z w64 v fits in
@@ -58,17 +63,17 @@ returns-in-Write c = λ p fr parents seen.
 
 pub returns-in-Create : goal.returns-in-Create
 returns-in-Create c = λ p fr parents seen.
-    let same = c.instance-instance.ensures p fr parents seen in
+    let same = c.reducer-instance.ensures fr.scope (seen_scope p c.args.frames.now fr parents seen) in
     let r = c.in-Create.reducer in
     let k = asks.Create r in
     told p fr c.args.state.now c.create.new.self c.args.ask.now k c.create.result c.goes-in-Create.result (sym (ap in_full c.in-Create.is)) tt c.goes-in-Create.ensures
-    (tells_nothing p fr c.args.state.now c.create.new.self k (λ m. pos 0) (λ m. events.Create c.instance-instance.result) (λ m. clear same_instance r.kind c.instance-instance.result m.store)
+    (tells_nothing p fr c.args.state.now c.create.new.self k (λ m. pos 0) (λ m. events.Create c.reducer-instance.result) (λ m. clear same_instance r.kind c.reducer-instance.result m.store)
     (λ m. refl) (λ m. ap events.Create same) (λ m. ap (λ i. clear same_instance r.kind i m.store) same) c.create.result tt c.create.ensures.done c.create.ensures.makes)
 
 pub returns-in-Update : goal.returns-in-Update
 returns-in-Update c = λ p fr parents seen.
-    let i = c.instance-instance-in-Update.result in
-    let same = c.instance-instance-in-Update.ensures p fr parents seen in
+    let i = c.reducer-instance-in-Update.result in
+    let same = c.reducer-instance-in-Update.ensures fr.scope (seen_scope p c.args.frames.now fr parents seen) in
     let r = c.in-Update.reducer in
     let v = c.in-Update.word in
     let fits : SFits w64 v = search rules in
@@ -81,8 +86,8 @@ returns-in-Update c = λ p fr parents seen.
 
 pub returns-in-Set : goal.returns-in-Set
 returns-in-Set c = λ p fr parents seen.
-    let i = c.instance-instance-in-Set.result in
-    let same = c.instance-instance-in-Set.ensures p fr parents seen in
+    let i = c.reducer-instance-in-Set.result in
+    let same = c.reducer-instance-in-Set.ensures fr.scope (seen_scope p c.args.frames.now fr parents seen) in
     let r = c.in-Set.reducer in
     let v = c.in-Set.word in
     let fits : SFits w64 v = search rules in
@@ -95,10 +100,34 @@ returns-in-Set c = λ p fr parents seen.
 
 pub returns-in-Value : goal.returns-in-Value
 returns-in-Value c = λ p fr parents seen.
-    let i = c.instance-instance-in-Value.result in
-    let same = c.instance-instance-in-Value.ensures p fr parents seen in
+    let i = c.reducer-instance-in-Value.result in
+    let same = c.reducer-instance-in-Value.ensures fr.scope (seen_scope p c.args.frames.now fr parents seen) in
     let r = c.in-Value.reducer in
     let k = asks.Value r in
     told p fr c.args.state.now c.value.new.self c.args.ask.now k c.value.result c.goes-in-Value.result (sym (ap in_full c.in-Value.is)) tt c.goes-in-Value.ensures
     (tells_word p fr c.args.state.now c.value.new.self k (λ m. number_at r.kind i m.store) (λ m. events.Value i (number_at r.kind i m.store)) (λ m. m.store)
     (λ m. ap (λ i. number_at r.kind i m.store) same) (λ m. ap (λ i. events.Value i (number_at r.kind i m.store)) same) (λ m. refl) c.value.result (λ v. tt) c.value.ensures.value c.value.ensures.makes)
+
+pub reducer-instance-requires-clause-sees : goal.reducer-instance-requires-clause-sees
+reducer-instance-requires-clause-sees c =
+    let t = c.requires.there in
+    let fr = t.1 in
+    (fr.scope, seen_scope t.0 c.args.frames.now fr t.2 t.3)
+
+pub reducer-instance-requires-in-Update-clause-sees : goal.reducer-instance-requires-in-Update-clause-sees
+reducer-instance-requires-in-Update-clause-sees c =
+    let t = c.requires.there in
+    let fr = t.1 in
+    (fr.scope, seen_scope t.0 c.args.frames.now fr t.2 t.3)
+
+pub reducer-instance-requires-in-Set-clause-sees : goal.reducer-instance-requires-in-Set-clause-sees
+reducer-instance-requires-in-Set-clause-sees c =
+    let t = c.requires.there in
+    let fr = t.1 in
+    (fr.scope, seen_scope t.0 c.args.frames.now fr t.2 t.3)
+
+pub reducer-instance-requires-in-Value-clause-sees : goal.reducer-instance-requires-in-Value-clause-sees
+reducer-instance-requires-in-Value-clause-sees c =
+    let t = c.requires.there in
+    let fr = t.1 in
+    (fr.scope, seen_scope t.0 c.args.frames.now fr t.2 t.3)

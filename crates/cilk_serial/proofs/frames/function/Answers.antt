@@ -1,11 +1,33 @@
-use Rattle.std.proofs.Common.{◌∷◌, None, Some, refl, ap, ◌∙◌}
-use Rattle.cilk_program.specs.Scopes.{instances_in}
-use Rattle.cilk_program.specs.SerialRun.{global_reducer}
-use Rattle.cilk_serial.specs.declared.activation.Activation.{Activation}
+use Rattle.std.proofs.Common.{◌≡◌, suc, ◌+◌, ◌∷◌, List, [], length, sym, ap, ◌∙◌, subst, arith, rules}
+use Rattle.cilk_program.specs.declared.ask.Callee.TheVariants.{Function}
+use Rattle.cilk_activations.specs.Sight.{HasScope}
+use Rattle.cilk_frames.specs.Cursor.{CursorView}
+use Rattle.cilk_frames.specs.Following.{Stands}
+use Rattle.cilk_serial.specs.Scoped.{Activation}
 use Rattle.cilk_serial.proofs.Beginnings.{function_scoped}
+use Rattle.cilk_serial.proofs.Homes.{result_fits, seen_scope}
 use Rattle.cilk_serial.proofs.frames.function.Goals as goal
 
-pub returns-clause-scoped : goal.returns-clause-scoped
-returns-clause-scoped c = λ p fr parents m q seen fits number base.
-    let made : Activation = record { cursor = c.args.cursor; number = c.args.number; base = c.args.base; first = 1; given = c.in_ok-instances.field-0; outer = None; result = c.result_cell.result; creator = Some c.args.call.now.function } in
-    function_scoped p fr m (q ∷ parents) c.args.call.now made number base (c.in_ok-instances.ensures p fr parents seen ∙ ap (instances_in global_reducer fr.scope) c.as_slice.ensures) refl (c.result_cell.ensures p fr parents seen) refl refl fits
+pub function-requires-2 : goal.function-requires-2
+function-requires-2 c =
+    let h = c.requires.may in
+    let fr = h.1 in
+    let may = h.4 in
+    let sees = seen_scope h.0 c.args.frames.now fr h.2 h.3 in
+    (fr.scope, subst (λ (list : List Activation). HasScope list c.args.frames.now.top fr.scope) (sym c.as_slice.ensures.value) sees, may.0, result_fits fr (length c.args.state.now.cells.items) c.args.call.now.result c.requires.cells may.1)
+
+pub returns : goal.returns
+returns c =
+    let made = c.in_ok-frame.ensures in
+    let cursor = c.in_ok-cursor.ensures in
+    let call = c.args.call.now in
+    let s = c.args.state.now in
+    let base : c.len-base.result ≡ length s.cells.items = search rules in
+    record {
+      stands = λ p inputs behaves fit. subst (λ (x : CursorView). Stands c.args.code.now inputs p (Function call) x [] 0) (sym made.cursor) (cursor.stands p inputs behaves fit);
+      owes = ap (λ (x : CursorView). x.owed) made.cursor ∙ cursor.owes;
+      scoped = λ p fr parents m q seen may shows same.
+          let sees = subst (λ (list : List Activation). HasScope list c.args.frames.now.top fr.scope) (sym c.as_slice.ensures.value) (seen_scope p c.args.frames.now fr parents seen) in
+          let number : s.frames + 1 ≡ suc m.frames = omega (arith, shows.frames) in
+          function_scoped p fr m (q ∷ parents) call c.in_ok-frame.frame (made.number ∙ number) (made.base ∙ base ∙ sym shows.cells) (made.given fr.scope sees) made.outer (made.result fr.scope sees) made.first made.creator may.2;
+    }

@@ -1,15 +1,26 @@
-use Rattle.std.proofs.Common.{None, Some, refl, ap, ◌∙◌, arith}
-use Rattle.cilk_serial.specs.declared.activation.Activation.{Activation}
+use Rattle.std.proofs.Common.{◌≡◌, ◌==◌, if◌then◌else◌, ℕ, suc, ◌+◌, [], length, reverse, Some, sym, ap, ◌∙◌, subst, arith, rules}
+use Rattle.std.proofs.lemmas.List.{length-reverse}
+use Rattle.cilk_program.specs.declared.ask.Callee.TheVariants.{Loop}
+use Rattle.cilk_frames.specs.Cursor.{CursorView}
+use Rattle.cilk_frames.specs.Following.{Stands}
 use Rattle.cilk_serial.proofs.Beginnings.{turns_scoped}
 use Rattle.cilk_serial.proofs.frames.turns.Goals as goal
-use Rattle.cilk_serial.proofs.frames.turns.Goals.{then-part-eq0, else-part-eq0}
 
-pub returns-clause-scoped : goal.returns-clause-scoped
-returns-clause-scoped c = λ p fr parents m q seen same number base.
-    let made : Activation = record { cursor = c.args.cursor; number = c.args.number; base = c.args.base; first = 1; given = c.new.result; outer = c.if-part-eq0.outer; result = None; creator = None } in
-    let below = c.args.below.now in
+pub returns : goal.returns
+returns c =
+    let made = c.turns-frame.ensures in
+    let cursor = c.in_ok-cursor.ensures in
     let l = c.args.part.now in
-    elim c.if-part-eq0.branch [
-      | then-part-eq0 w ↦ turns_scoped p c.args.top.now below fr parents m q l made seen same c.requires (λ zero. w.outer-is ∙ ap Some w.len.ensures) (λ one. absurd (omega (arith, one, w.if-part-eq0.true))) number base c.new.ensures.items refl refl refl
-      | else-part-eq0 w ↦ turns_scoped p c.args.top.now below fr parents m q l made seen same c.requires (λ zero. absurd (w.if-part-eq0.false zero)) (λ one. w.outer-is) number base c.new.ensures.items refl refl refl
-    ]
+    let s = c.args.state.now in
+    let frames = c.args.frames.now in
+    let top = frames.top in
+    let base : c.len-base.result ≡ length s.cells.items = search rules in
+    let here : c.depth-here.result ≡ length (reverse frames.below.items) = c.depth-here.ensures ∙ sym (length-reverse frames.below.items) in
+    let outer = λ (n : ℕ). if n == 0 then Some c.depth-here.result else top.outer in
+    record {
+      stands = λ p inputs behaves fit. subst (λ (x : CursorView). Stands c.args.code.now inputs p (Loop l) x [] 0) (sym made.cursor) (cursor.stands p inputs behaves fit);
+      owes = ap (λ (x : CursorView). x.owed) made.cursor ∙ cursor.owes;
+      scoped = λ p fr parents m q seen may shows same.
+          let number : s.frames + 1 ≡ suc m.frames = omega (arith, shows.frames) in
+          turns_scoped p frames fr parents m q l c.turns-frame.result seen same may (λ zero. made.outer ∙ ap outer zero ∙ ap Some here) (λ one. made.outer ∙ ap outer one) (made.number ∙ number) (made.base ∙ base ∙ sym shows.cells) made.given made.result made.first made.creator;
+    }

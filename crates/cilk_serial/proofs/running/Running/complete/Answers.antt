@@ -1,4 +1,4 @@
-use Rattle.std.proofs.Common.{◌∷◌, [], ◌++◌, length, refl, sym, ap, ◌∙◌, subst, arith, append-nil, append_assoc, length-append}
+use Rattle.std.proofs.Common.{◌∷◌, [], ◌++◌, length, sym, ap, ◌∙◌, subst, arith, append-nil, append_assoc, length-append}
 use Rattle.cilk_program.specs.Sources.{source}
 use Rattle.cilk_serial.specs.Going.{Progresses}
 use Rattle.cilk_serial.specs.declared.running.Step.{Step}

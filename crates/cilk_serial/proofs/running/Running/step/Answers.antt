@@ -3,9 +3,9 @@ use Rattle.std.proofs.lemmas.Int.{to_z-of_z}
 use Rattle.cilk_program.specs.declared.ask.Ask.TheVariants.{End}
 use Rattle.cilk_program.specs.Sources.{source}
 use Rattle.cilk_program.specs.SerialRun.{refused}
-use Rattle.cilk_frames.specs.Asked.{in_full}
+use Rattle.cilk_frames.specs.AskSlot.{in_full}
 use Rattle.cilk_frames.proofs.Asking.{asking_fits}
-use Rattle.cilk_serial.specs.declared.answer.Told.TheVariants.{Goes, Invokes, Ends, Stops}
+use Rattle.cilk_serial.specs.declared.answer.Told.TheVariants.{Goes, Turns, Ends, Stops}
 use Rattle.cilk_serial.specs.declared.state.State.{State}
 use Rattle.cilk_serial.specs.Going.{Going, Progresses}
 use Rattle.cilk_serial.specs.Scoped.{IsThere}
@@ -30,14 +30,14 @@ answer-requires-clause-there c =
     let r = c.args.self.now in
     let g = c.requires in
     let there = subst (λ k. IsThere (source p) g.frame (length r.state.cells.items) k) c.in-Some.ensures (going_there c.args.code.now (source p) c.args.input.now r p.well_named g) in
-    (source p, g.frame, g.parents, going_seen _ _ _ _ g, there)
+    (source p, g.frame, g.parents, going_seen c.args.code.now (source p) c.args.input.now r g, there)
 
 pub step_into-requires-clause-runs : goal.step_into-requires-clause-runs
 step_into-requires-clause-runs c =
     let p = source c.args.program.now in
     let r = c.args.self.now in
     let g = c.requires in
-    let told = told_as p g.frame r.state c.answer.new.state r.ask (in_full c.in-Some.ask.now) c.in_ok-told.field-0 (Goes c.in-Goes.told) c.in-Some.ensures c.in-Goes.is (c.in_ok-told.ensures p g.frame g.parents (going_seen _ _ _ _ g)) in
+    let told = told_as p g.frame r.state c.answer.new.state r.ask (in_full c.in-Some.ask.now) c.in_ok-told.field-0 (Goes c.in-Goes.told) c.in-Some.ensures c.in-Goes.is (c.in_ok-told.ensures p g.frame g.parents (going_seen c.args.code.now p c.args.input.now r g)) in
     (_, g.asking.stands (inner_has r.ask told.0))
 
 pub step_into-requires-clause-fits : goal.step_into-requires-clause-fits
@@ -45,60 +45,60 @@ step_into-requires-clause-fits c =
     let p = source c.args.program.now in
     let r = c.args.self.now in
     let g = c.requires in
-    let told = told_as p g.frame r.state c.answer.new.state r.ask (in_full c.in-Some.ask.now) c.in_ok-told.field-0 (Goes c.in-Goes.told) c.in-Some.ensures c.in-Goes.is (c.in_ok-told.ensures p g.frame g.parents (going_seen _ _ _ _ g)) in
+    let told = told_as p g.frame r.state c.answer.new.state r.ask (in_full c.in-Some.ask.now) c.in_ok-told.field-0 (Goes c.in-Goes.told) c.in-Some.ensures c.in-Goes.is (c.in_ok-told.ensures p g.frame g.parents (going_seen c.args.code.now p c.args.input.now r g)) in
     let fits = told.1 in
-    asking_fits c.args.code.now c.args.input.now p g.frame.callee r.top.cursor g.history g.took r.ask r.left c.in-Goes.told g.asking (inner_has r.ask told.0) fits.fits
+    asking_fits c.args.code.now c.args.input.now p g.frame.callee r.frames.top.cursor g.history g.took r.ask r.left c.in-Goes.told g.asking (inner_has r.ask told.0) fits.fits
 
 pub returns-in-Goes : goal.returns-in-Goes
 returns-in-Goes c =
     let p = source c.args.program.now in
     let r = c.args.self.now in
     let g = c.requires in
-    let told = told_as p g.frame r.state c.answer.new.state r.ask (in_full c.in-Some.ask.now) c.in_ok-told.field-0 (Goes c.in-Goes.told) c.in-Some.ensures c.in-Goes.is (c.in_ok-told.ensures p g.frame g.parents (going_seen _ _ _ _ g)) in
+    let told = told_as p g.frame r.state c.answer.new.state r.ask (in_full c.in-Some.ask.now) c.in_ok-told.field-0 (Goes c.in-Goes.told) c.in-Some.ensures c.in-Goes.is (c.in_ok-told.ensures p g.frame g.parents (going_seen c.args.code.now p c.args.input.now r g)) in
     let made = told.1 in (
       answers c.args.code.now p c.args.input.now r c.answer.new.state c.in-Goes.told c.step_into.new.cursor c.step_into.new.asked c.step_into.new.left g (λ m h. allowed_inner p m r.ask told.0 (c.is_full.ensures.room c.if-is_full.false m h)) told.0 made (c.step_into.ensures.stands p),
       (_, (made.makes g.memory g.shows).1.events),
     )
 
-pub invoke-requires-in-Invokes-clause-going : goal.invoke-requires-in-Invokes-clause-going
-invoke-requires-in-Invokes-clause-going c =
+pub invoke_turns-requires-clause-going : goal.invoke_turns-requires-clause-going
+invoke_turns-requires-clause-going c =
     let p = source c.args.program.now in
     let r = c.args.self.now in
     let g = c.requires in
-    let told = told_as p g.frame r.state c.answer.new.state r.ask (in_full c.in-Some.ask.now) c.in_ok-told.field-0 (Invokes) c.in-Some.ensures c.in-Invokes.is (c.in_ok-told.ensures p g.frame g.parents (going_seen _ _ _ _ g)) in
-    (c.args.input.now, subst (λ (s : State). Going c.args.code.now p c.args.input.now (record { state = s; below = r.below; top = r.top; ask = r.ask; left = r.left })) (sym told.0) g)
+    let told = told_as p g.frame r.state c.answer.new.state r.ask (in_full c.in-Some.ask.now) c.in_ok-told.field-0 (Turns c.in-Turns.how c.in-Turns.part) c.in-Some.ensures c.in-Turns.is (c.in_ok-told.ensures p g.frame g.parents (going_seen c.args.code.now p c.args.input.now r g)) in
+    (c.args.input.now, subst (λ (s : State). Going c.args.code.now p c.args.input.now (record { state = s; frames = r.frames; ask = r.ask; left = r.left })) (sym told.0) g)
 
-pub invoke-requires-in-Invokes-clause-begins : goal.invoke-requires-in-Invokes-clause-begins
-invoke-requires-in-Invokes-clause-begins c =
+pub invoke_turns-requires-clause-begins : goal.invoke_turns-requires-clause-begins
+invoke_turns-requires-clause-begins c =
     let p = source c.args.program.now in
     let r = c.args.self.now in
     let g = c.requires in
-    let told = told_as p g.frame r.state c.answer.new.state r.ask (in_full c.in-Some.ask.now) c.in_ok-told.field-0 (Invokes) c.in-Some.ensures c.in-Invokes.is (c.in_ok-told.ensures p g.frame g.parents (going_seen _ _ _ _ g)) in
+    let told = told_as p g.frame r.state c.answer.new.state r.ask (in_full c.in-Some.ask.now) c.in_ok-told.field-0 (Turns c.in-Turns.how c.in-Turns.part) c.in-Some.ensures c.in-Turns.is (c.in_ok-told.ensures p g.frame g.parents (going_seen c.args.code.now p c.args.input.now r g)) in
     told.1
 
-pub returns-in_ok-step-in-Invokes : goal.returns-in_ok-step-in-Invokes
-returns-in_ok-step-in-Invokes c =
+pub returns-in_ok-step-in-Turns : goal.returns-in_ok-step-in-Turns
+returns-in_ok-step-in-Turns c =
     let p = source c.args.program.now in
     let r = c.args.self.now in
     let g = c.requires in
-    let told = told_as p g.frame r.state c.answer.new.state r.ask (in_full c.in-Some.ask.now) c.in_ok-told.field-0 (Invokes) c.in-Some.ensures c.in-Invokes.is (c.in_ok-told.ensures p g.frame g.parents (going_seen _ _ _ _ g)) in
-    subst (λ (s : State). Progresses c.args.code.now p c.args.input.now (record { state = s; below = r.below; top = r.top; ask = r.ask; left = r.left }) c.in_ok-step-in-Invokes.step c.invoke-in-Invokes.new.self) told.0
-    (c.in_ok-step-in-Invokes.ensures c.args.input.now (subst (λ (s : State). Going c.args.code.now p c.args.input.now (record { state = s; below = r.below; top = r.top; ask = r.ask; left = r.left })) (sym told.0) g))
+    let told = told_as p g.frame r.state c.answer.new.state r.ask (in_full c.in-Some.ask.now) c.in_ok-told.field-0 (Turns c.in-Turns.how c.in-Turns.part) c.in-Some.ensures c.in-Turns.is (c.in_ok-told.ensures p g.frame g.parents (going_seen c.args.code.now p c.args.input.now r g)) in
+    subst (λ (s : State). Progresses c.args.code.now p c.args.input.now (record { state = s; frames = r.frames; ask = r.ask; left = r.left }) c.in_ok-step-in-Turns.step c.invoke_turns.new.self) told.0
+    (c.in_ok-step-in-Turns.ensures c.args.input.now (subst (λ (s : State). Going c.args.code.now p c.args.input.now (record { state = s; frames = r.frames; ask = r.ask; left = r.left })) (sym told.0) g))
 
 pub end-requires-clause-going : goal.end-requires-clause-going
 end-requires-clause-going c =
     let p = source c.args.program.now in
     let r = c.args.self.now in
     let g = c.requires in
-    let told = told_as p g.frame r.state c.answer.new.state r.ask (in_full c.in-Some.ask.now) c.in_ok-told.field-0 (Ends c.in-Ends.result) c.in-Some.ensures c.in-Ends.is (c.in_ok-told.ensures p g.frame g.parents (going_seen _ _ _ _ g)) in
-    subst (λ (s : State). Going c.args.code.now p c.args.input.now (record { state = s; below = r.below; top = r.top; ask = r.ask; left = r.left })) (sym told.0) g
+    let told = told_as p g.frame r.state c.answer.new.state r.ask (in_full c.in-Some.ask.now) c.in_ok-told.field-0 (Ends c.in-Ends.result) c.in-Some.ensures c.in-Ends.is (c.in_ok-told.ensures p g.frame g.parents (going_seen c.args.code.now p c.args.input.now r g)) in
+    subst (λ (s : State). Going c.args.code.now p c.args.input.now (record { state = s; frames = r.frames; ask = r.ask; left = r.left })) (sym told.0) g
 
 pub end-requires-clause-allowed : goal.end-requires-clause-allowed
 end-requires-clause-allowed c = λ m h.
     let p = source c.args.program.now in
     let r = c.args.self.now in
     let g = c.requires in
-    let told = told_as p g.frame r.state c.answer.new.state r.ask (in_full c.in-Some.ask.now) c.in_ok-told.field-0 (Ends c.in-Ends.result) c.in-Some.ensures c.in-Ends.is (c.in_ok-told.ensures p g.frame g.parents (going_seen _ _ _ _ g)) in
+    let told = told_as p g.frame r.state c.answer.new.state r.ask (in_full c.in-Some.ask.now) c.in_ok-told.field-0 (Ends c.in-Ends.result) c.in-Some.ensures c.in-Ends.is (c.in_ok-told.ensures p g.frame g.parents (going_seen c.args.code.now p c.args.input.now r g)) in
     ap (λ k. refused p m k) told.1 ∙ c.is_full.ensures.room c.if-is_full.false m (subst (λ (s : State). Shows s m) told.0 h)
 
 pub end-requires-clause-ends : goal.end-requires-clause-ends
@@ -106,7 +106,7 @@ end-requires-clause-ends c =
     let p = source c.args.program.now in
     let r = c.args.self.now in
     let g = c.requires in
-    let told = told_as p g.frame r.state c.answer.new.state r.ask (in_full c.in-Some.ask.now) c.in_ok-told.field-0 (Ends c.in-Ends.result) c.in-Some.ensures c.in-Ends.is (c.in_ok-told.ensures p g.frame g.parents (going_seen _ _ _ _ g)) in
+    let told = told_as p g.frame r.state c.answer.new.state r.ask (in_full c.in-Some.ask.now) c.in_ok-told.field-0 (Ends c.in-Ends.result) c.in-Some.ensures c.in-Ends.is (c.in_ok-told.ensures p g.frame g.parents (going_seen c.args.code.now p c.args.input.now r g)) in
     let fits : SFits w64 c.in-Ends.result = search rules in
     told.1 ∙ ap End (sym (to_z-of_z w64 c.in-Ends.result fits))
 
@@ -115,15 +115,15 @@ returns-in_ok-step-in-Ends c =
     let p = source c.args.program.now in
     let r = c.args.self.now in
     let g = c.requires in
-    let told = told_as p g.frame r.state c.answer.new.state r.ask (in_full c.in-Some.ask.now) c.in_ok-told.field-0 (Ends c.in-Ends.result) c.in-Some.ensures c.in-Ends.is (c.in_ok-told.ensures p g.frame g.parents (going_seen _ _ _ _ g)) in
-    subst (λ (s : State). Progresses c.args.code.now p c.args.input.now (record { state = s; below = r.below; top = r.top; ask = r.ask; left = r.left }) c.in_ok-step-in-Ends.step c.end.new.self) told.0 c.in_ok-step-in-Ends.ensures
+    let told = told_as p g.frame r.state c.answer.new.state r.ask (in_full c.in-Some.ask.now) c.in_ok-told.field-0 (Ends c.in-Ends.result) c.in-Some.ensures c.in-Ends.is (c.in_ok-told.ensures p g.frame g.parents (going_seen c.args.code.now p c.args.input.now r g)) in
+    subst (λ (s : State). Progresses c.args.code.now p c.args.input.now (record { state = s; frames = r.frames; ask = r.ask; left = r.left }) c.in_ok-step-in-Ends.step c.end.new.self) told.0 c.in_ok-step-in-Ends.ensures
 
 pub returns-in-Stops : goal.returns-in-Stops
 returns-in-Stops c =
     let p = source c.args.program.now in
     let r = c.args.self.now in
     let g = c.requires in
-    let told = told_as p g.frame r.state c.answer.new.state r.ask (in_full c.in-Some.ask.now) c.in_ok-told.field-0 (Stops c.in-Stops.fault) c.in-Some.ensures c.in-Stops.is (c.in_ok-told.ensures p g.frame g.parents (going_seen _ _ _ _ g)) in (
-      ap (λ (s : State). record { state = s; below = r.below; top = r.top; ask = r.ask; left = r.left }) told.0,
+    let told = told_as p g.frame r.state c.answer.new.state r.ask (in_full c.in-Some.ask.now) c.in_ok-told.field-0 (Stops c.in-Stops.fault) c.in-Some.ensures c.in-Stops.is (c.in_ok-told.ensures p g.frame g.parents (going_seen c.args.code.now p c.args.input.now r g)) in (
+      ap (λ (s : State). record { state = s; frames = r.frames; ask = r.ask; left = r.left }) told.0,
       stops c.args.code.now p c.args.input.now r c.in-Stops.fault c.args.program.now.well_named g (λ m h. sym (ap (λ k. refused p m k) told.1)),
     )

@@ -1,5 +1,4 @@
 use Rattle.std.proofs.Common.{[], ◌++◌, None, refl, sym, ap, ◌∙◌, subst, append-nil}
-use Rattle.cilk_types.specs.declared.event.Event.{Event}
 use Rattle.cilk_program.specs.Sources.{source}
 use Rattle.cilk_serial.specs.Going.{Keeps, Halts}
 use Rattle.cilk_serial.specs.declared.running.Halt.{Halt}

@@ -1,0 +1,48 @@
+use Rattle.cilk_program.specs.declared.ask.Callee.TheVariants.{Loop}
+use Rattle.cilk_program.specs.Sources.{source}
+use Rattle.cilk_serial.proofs.Driving.{begins_child, crowd_refuses, fits_callee, may_begin, not_crowded, stops, uncrowded}
+use Rattle.cilk_serial.proofs.running.Running.invoke_turns.Goals as goal
+use Rattle.std.proofs.Common.{refl}
+
+pub turn_cells-cells-requires : goal.turn_cells-cells-requires
+turn_cells-cells-requires c =
+    let p = c.args.program.now in
+    let going = c.requires.going in
+    let fits = (fits_callee c.args.code.now (source p) going.0 c.args.self.now c.args.how (Loop c.args.part.now) p.well_named going.1 c.requires.begins) in
+    fits.0
+
+pub returns-in-Some : goal.returns-in-Some
+returns-in-Some c = λ inputs g.
+    let p = c.args.program.now in
+    let r = c.args.self.now in (
+      refl,
+      stops c.args.code.now (source p) inputs r c.in-Some.fault p.well_named g (crowd_refuses (source p) r.state r.ask c.args.how (Loop c.args.part.now) c.turn_cells-cells.result c.in-Some.fault c.requires.begins c.turn_cells-cells.ensures c.in-Some.ensures),
+    )
+
+pub turns-requires-clause-up : goal.turns-requires-clause-up
+turns-requires-clause-up c =
+    let p = c.args.program.now in
+    let r = c.args.self.now in
+    let g = c.requires.going.1 in
+    may_begin c.args.code.now (source p) c.requires.going.0 r c.args.how (Loop c.args.part.now) p.well_named g c.requires.begins
+
+pub turns-requires-clause-frames : goal.turns-requires-clause-frames
+turns-requires-clause-frames c =
+    let p = source c.args.program.now in
+    let r = c.args.self.now in
+    let g = c.requires.going.1 in
+    (not_crowded c.args.code.now p c.requires.going.0 r c.args.how (Loop c.args.part.now) g (uncrowded p r.state r.ask c.args.how (Loop c.args.part.now) c.turn_cells-cells.result c.requires.begins c.turn_cells-cells.ensures c.in_default.ensures) c.requires.begins).0
+
+pub begin-requires : goal.begin-requires
+begin-requires c =
+    let p = source c.args.program.now in
+    let r = c.args.self.now in
+    let g = c.requires.going.1 in
+    (not_crowded c.args.code.now p c.requires.going.0 r c.args.how (Loop c.args.part.now) g (uncrowded p r.state r.ask c.args.how (Loop c.args.part.now) c.turn_cells-cells.result c.requires.begins c.turn_cells-cells.ensures c.in_default.ensures) c.requires.begins).0
+
+pub returns : goal.returns
+returns c = λ inputs g.
+    let p = c.args.program.now in
+    let r = c.args.self.now in
+    let allowed = uncrowded (source p) r.state r.ask c.args.how (Loop c.args.part.now) c.turn_cells-cells.result c.requires.begins c.turn_cells-cells.ensures c.in_default.ensures in
+    begins_child c.args.code.now (source p) inputs r c.begin.new.self c.in_ok-frame.frame c.args.how (Loop c.args.part.now) c.turn_cells-cells.result p.well_named g allowed c.requires.begins c.turn_cells-cells.ensures c.in_ok-frame.ensures c.in_ok-begin.ensures
