@@ -254,13 +254,6 @@ length-accesses_after (events.Read d v) a ws = length-set ws d (greater_of (get_
 length-accesses_after (events.Write d v) a ws = length-set ws d (greater_of (get_or ws d None) a)
 length-accesses_after _ a ws = refl
 
--- the strand of the event at hand
-pub strand_here : (es : List Event) (i n n' x : ℕ) (e : Event) → n ≡ strand_at es i → i < length es → e ≡ get_or es i e → x ≡ begun_by (mark_of e) → n' ≡ n + x → n' ≡ strand_at es (i + 1)
-strand_here es i n n' x e z l h b c =
-    let s = strand_next es i e l in
-    let k = ap (λ (y : Event). begun_by (mark_of y)) h in
-    omega (arith, z, s, k, b, c)
-
 number_here : (s : Shape) (es : List Event) (labels : List ℕ) (i n h : ℕ) → labels ≡ hebrews (tree s) 1 → n ≡ strand_at es (i + 1) → h ≡ get_or labels (n - 1) 0 → h ≡ number (tree s) es i
 number_here s es labels i n h lb z g = g ∙ (ap (λ (x : List ℕ). get_or x (n - 1) 0) lb ∙ ap (λ (x : ℕ). hebrew (tree s) x) z)
 

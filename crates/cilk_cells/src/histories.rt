@@ -90,9 +90,10 @@ fn greater(kept: Option<Access>, here: Access) -> Option<Access>
     }
 }
 
-/// How many cells there are, up to the last that an event names.
+/// How many cells there are, up to the last that an event names, and no more.
 pub fn cells_of(events: &[Event]) -> usize
-    ensures { (k : ℕ) (e : Event) → k < length events.now → Fits result (slice_index_or events.now k e) }
+    ensures room { (k : ℕ) (e : Event) → k < length events.now → Fits result (slice_index_or events.now k e) }
+    ensures least { (n : ℕ) → ((k : ℕ) (e : Event) → k < length events.now → Fits n (slice_index_or events.now k e)) → result ≤ n }
 {
     let mut cells: usize = 0;
     for event in events {
@@ -105,7 +106,8 @@ pub fn cells_of(events: &[Event]) -> usize
 }
 
 fn cells_in(event: &Event) -> usize
-    ensures { Fits result event.now }
+    ensures room { Fits result event.now }
+    ensures least { (n : ℕ) → Fits n event.now → result ≤ n }
 {
     match *event {
         Event::Read { cell, .. } => cell as usize + 1,

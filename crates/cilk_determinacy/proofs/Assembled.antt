@@ -46,10 +46,10 @@ opened : (xs : List ℤ) (n : ℕ) → length xs ≤ n → pos 0 ≡ unwrap_or (
 opened xs n h = ap (λ o. unwrap_or o (pos 0)) (sym (slice_get_past xs n h))
 
 -- frames begin, resume and end where they must
-pub is_framed : (p : Source) (inputs : List ℤ) (r : serial.Run) (es : List Event) (c : Conclusion) → IsProper r → serial.IsSerialRun p inputs r es c → IsFramed begin_due (named p r)
+pub is_framed : (p : Source) (inputs : List ℤ) (r : serial.Transcript) (es : List Event) (c : Conclusion) → IsProper r → serial.IsSerialRun p inputs r es c → IsFramed begin_due (named p r)
 is_framed p inputs r es c proper run = framed p begin_due (first_world p) 1 r proper (runs_begin p inputs r es c run, runs_resume p inputs r es c run)
 
-module _ (p : Source) (inputs : List ℤ) (well : IsTrue (is_well_named p)) (r : serial.Run) (es : List Event) (v : ℤ) (left : ℕ) (m : Memory) (d : Serial p inputs (root_frame p inputs) MAX_TICKS [] (begun p callees.Root (before_root p inputs MAX_EVENTS)) r es (Finished v left m)) (words : SetWords es) where
+module _ (p : Source) (inputs : List ℤ) (well : IsTrue (is_well_named p)) (r : serial.Transcript) (es : List Event) (v : ℤ) (left : ℕ) (m : Memory) (d : Serial p inputs (root_frame p inputs) MAX_TICKS [] (begun p callees.Root (before_root p inputs MAX_EVENTS)) r es (Finished v left m)) (words : SetWords es) where
   run : serial.IsSerialRun p inputs r es (Leaves (outcome_of global_reducer p v m.store))
   run = (Finished v left m, d, refl)
 

@@ -208,7 +208,7 @@ module _ (p : Source) (inputs : List ℤ) where
   holds_lower : (v : ℤ) (left : ℕ) (m : Memory) (w : World) (past : List (Deed World)) (t : Run World) (start : ℕ) → Holds (Finished v left m) w past t start → left ≤ start
   holds_lower v left m w past t start (behaves, adds) = omega (arith, adds)
 
-  pub run_holds : {fr : Frame} {start : ℕ} {history : List ℤ} {m : Memory} {r : serial.Run} {es : List Event} {end : Ending} → Serial p inputs fr start history m r es end
+  pub run_holds : {fr : Frame} {start : ℕ} {history : List ℤ} {m : Memory} {r : serial.Transcript} {es : List Event} {end : Ending} → Serial p inputs fr start history m r es end
       → (w : World) (past : List (Deed World)) (k : ℕ) → At w fr past history k → start ≤ MAX_TICKS → Holds end w past (named_from p w k r) start
   run_holds (Made {fr = fr} {start = start} {history = history} {m = m} {r = r} {end = end} a left q inner ok rest) w past k at low =
       act_holds end w past k a (named_event p w a (answer_to fr m a)) (named_from p w k r) start left (inner_asks p w k a (answer_to fr m a) inner) (asking w fr past history k a start left at q (inner_goes a inner) low)

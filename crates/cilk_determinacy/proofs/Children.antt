@@ -5,7 +5,7 @@ use Rattle.cilk_program.specs.declared.ask.Callee.TheVariants as callees
 use Rattle.cilk_program.specs.Syntax.{Source, main_of, loop_at}
 use Rattle.cilk_program.specs.WellNamed.{is_well_named}
 use Rattle.cilk_program.specs.Inside.{body_of, CalleeIsThere}
-use Rattle.cilk_program.specs.SerialRun.{Run, child, Memory, Frame, root_frame, next_frame}
+use Rattle.cilk_program.specs.SerialRun.{Transcript, child, Memory, Frame, root_frame, next_frame}
 use Rattle.cilk_meaning.specs.Numbering.{Counts, counts_of, counts_after, unbegun, entered, block_of, child_at, frame_at}
 use Rattle.cilk_meaning.proofs.Naming.{well_named_parts}
 use Rattle.cilk_meaning.specs.Visible.{CanInvoke}
@@ -16,7 +16,7 @@ use Rattle.cilk_determinacy.specs.Numbers.{child_runs, frame_runs, IsHere, HasCe
 use Rattle.cilk_determinacy.proofs.Numbers.{up_more}
 use Rattle.cilk_determinacy.proofs.Sights.{HasOne, Stands, Ahead, root_here, globals_here, own_here, tied_home, tied_outer, tied_to, tied_result}
 
-module _ (p : Source) (r : Run) where
+module _ (p : Source) (r : Transcript) where
   pub root_ahead : Ahead p r [] 0 r (entered p callees.Root (unbegun p))
   root_ahead = record {
     blocks = λ i more. let e : 0 + i ≡ i = omega arith in ap (λ i. child_at p r (entered p callees.Root (unbegun p)) i more) e;
@@ -24,7 +24,7 @@ module _ (p : Source) (r : Run) where
   }
 
   -- a child's children are ahead of it
-  pub child_ahead : (path : List ℕ) (j : ℕ) (how : _) (callee : Callee) (u rest : Run) (n : Counts) → Ahead p r path j (child how callee u rest) n → Ahead p r (path ++ j ∷ []) 0 u (entered p callee n)
+  pub child_ahead : (path : List ℕ) (j : ℕ) (how : _) (callee : Callee) (u rest : Transcript) (n : Counts) → Ahead p r path j (child how callee u rest) n → Ahead p r (path ++ j ∷ []) 0 u (entered p callee n)
   child_ahead path j how callee u rest n a = record {
     blocks = λ i more.
         let e : 0 + i ≡ i = omega arith in
@@ -36,7 +36,7 @@ module _ (p : Source) (r : Run) where
         ap (frame_runs r) (append_assoc path (j ∷ []) ((0 + i) ∷ more)) ∙ ap (λ i. frame_runs r (path ++ j ∷ i ∷ more)) e ∙ subst (λ j. frame_runs r (path ++ j ∷ i ∷ more) ≡ child_runs u i more) e' (a.runs 0 (i ∷ more));
   }
 
-  pub past_ahead : (path : List ℕ) (j : ℕ) (how : _) (callee : Callee) (u rest : Run) (n : Counts) → Ahead p r path j (child how callee u rest) n → Ahead p r path (suc j) rest (counts_after p u (entered p callee n))
+  pub past_ahead : (path : List ℕ) (j : ℕ) (how : _) (callee : Callee) (u rest : Transcript) (n : Counts) → Ahead p r path j (child how callee u rest) n → Ahead p r path (suc j) rest (counts_after p u (entered p callee n))
   past_ahead path j how callee u rest n a = record {
     blocks = λ i more. let e : suc j + i ≡ j + suc i = omega arith in ap (λ i. frame_at p r (path ++ i ∷ more)) e ∙ a.blocks (suc i) more;
     runs = λ i more. let e : suc j + i ≡ j + suc i = omega arith in ap (λ i. frame_runs r (path ++ i ∷ more)) e ∙ a.runs (suc i) more;
@@ -65,7 +65,7 @@ module _ (p : Source) (r : Run) where
 
   -- ---- a child
 
-  abbrev pub child_here : (w : World) (here : IsHere p r w.name) (j : ℕ) (how : _) (callee : Callee) (u rest : Run) (n : Counts) → Ahead p r here.path j (child how callee u rest) n → IsHere p r (w.name ++ suc j ∷ [])
+  abbrev pub child_here : (w : World) (here : IsHere p r w.name) (j : ℕ) (how : _) (callee : Callee) (u rest : Transcript) (n : Counts) → Ahead p r here.path j (child how callee u rest) n → IsHere p r (w.name ++ suc j ∷ [])
   child_here w here j how callee u rest n a = record {
     path = here.path ++ j ∷ [];
     named = ap (λ name. name ++ suc j ∷ []) here.named ∙ sym (up_more here.path j);
@@ -73,10 +73,10 @@ module _ (p : Source) (r : Run) where
     found = let e : j + 0 ≡ j = omega arith in subst (λ j. frame_at p r (here.path ++ j ∷ []) ≡ Some (block_of p callee n)) e (a.blocks 0 []);
   }
 
-  child_run : (path : List ℕ) (j : ℕ) (how : _) (callee : Callee) (u rest : Run) (n : Counts) → Ahead p r path j (child how callee u rest) n → frame_runs r (path ++ j ∷ []) ≡ Some callee
+  child_run : (path : List ℕ) (j : ℕ) (how : _) (callee : Callee) (u rest : Transcript) (n : Counts) → Ahead p r path j (child how callee u rest) n → frame_runs r (path ++ j ∷ []) ≡ Some callee
   child_run path j how callee u rest n a = let e : j + 0 ≡ j = omega arith in subst (λ j. frame_runs r (path ++ j ∷ []) ≡ Some callee) e (a.runs 0 [])
 
-  pub child_stands : IsTrue (is_well_named p) → (w : World) (fr : Frame) (h : Stands p r w fr) (j : ℕ) (how : _) (callee : Callee) (u rest : Run) (m : Memory) → (let here = h.here in Ahead p r here.path j (child how callee u rest) (counts_of m))
+  pub child_stands : IsTrue (is_well_named p) → (w : World) (fr : Frame) (h : Stands p r w fr) (j : ℕ) (how : _) (callee : Callee) (u rest : Transcript) (m : Memory) → (let here = h.here in Ahead p r here.path j (child how callee u rest) (counts_of m))
       → CalleeIsThere p (body_of p w.callee) callee → CanInvoke w.callee callee → Stands p r (child_world p w (suc j) callee) (next_frame p fr.scope m callee)
   child_stands well w fr h j how callees.Root u rest m a there can = absurd there
   child_stands well w fr h j how (callees.Function c) u rest m a there can =
@@ -111,7 +111,7 @@ module _ (p : Source) (r : Run) where
             (here, omega (arith, own, many)));
       }
 
-  pub child_path : (well : IsTrue (is_well_named p)) (w : World) (fr : Frame) (h : Stands p r w fr) (j : ℕ) (how : _) (callee : Callee) (u rest : Run) (m : Memory) (a : let here = h.here in Ahead p r here.path j (child how callee u rest) (counts_of m))
+  pub child_path : (well : IsTrue (is_well_named p)) (w : World) (fr : Frame) (h : Stands p r w fr) (j : ℕ) (how : _) (callee : Callee) (u rest : Transcript) (m : Memory) (a : let here = h.here in Ahead p r here.path j (child how callee u rest) (counts_of m))
       (there : CalleeIsThere p (body_of p w.callee) callee) (can : CanInvoke w.callee callee) → let g = child_stands well w fr h j how callee u rest m a there can in let here = g.here in let above = h.here in here.path ≡ above.path ++ j ∷ []
   unfolding child_stands
   child_path well w fr h j how callees.Root u rest m a there can = absurd there

@@ -19,14 +19,13 @@ use Rattle.cilk_runs.specs.Theorem.{HasNoRaces, Agrees}
 use Rattle.cilk_runs.specs.Cuts.{below, IsFull}
 use Rattle.cilk_runs.proofs.Find.{full_deeds}
 use Rattle.cilk_runs.proofs.Kept.{opening_ok}
-use Rattle.cilk_runs.proofs.Positions.{cuts_closed as closed_before}
 use Rattle.cilk_runs.proofs.Theorem.{race_free_kept, race_free_agrees, race_free_determinate, follows_determined}
 use Rattle.cilk_runs.proofs.Spells.{events_spell}
 use Rattle.cilk_worlds.specs.Reducers.{View, monoid_of}
 use Rattle.cilk_worlds.specs.Worlds.{World, first_world}
 use Rattle.cilk_worlds.specs.Machine.{next, costs, opening_values}
 use Rattle.cilk_determinacy.specs.Nested.{named}
-use Rattle.cilk_determinacy.specs.Theorem.{IsSerial, IsAsSerial, RunsFree, TicksAddUp, SerialRunsByNames, SerialRunsAreNumbered, OpensAsCut, CutsAreClosed, StepsKeepCuts, CutsAreAsSerial, IsDeterminate}
+use Rattle.cilk_determinacy.specs.Theorem.{IsSerial, IsAsSerial, RunsFree, TicksAddUp, SerialRunsByNames, SerialRunsAreNumbered, OpensAsCut, StepsKeepCuts, CutsAreAsSerial, IsDeterminateProgram}
 use Rattle.cilk_worlds.specs.Steps.{result_in, outcome_in, Next}
 use Rattle.cilk_determinacy.proofs.Assembled.{views_lawful, remembers, is_framed, is_serial}
 use Rattle.cilk_determinacy.proofs.Ending.{run_result, run_ends, same_outcome}
@@ -46,7 +45,7 @@ ticks_add_up p inputs = record {
 -- ---- a run that ends
 
 -- a serial run that leaves an outcome finishes
-pub record Ran (p : Source) (inputs : List ℤ) (r : serial.Run) (es : List Event) (outcome : Outcome) : Type 0 where
+pub record Ran (p : Source) (inputs : List ℤ) (r : serial.Transcript) (es : List Event) (outcome : Outcome) : Type 0 where
   pub value : ℤ
   pub left : ℕ
   pub memory : Memory
@@ -61,7 +60,7 @@ abbrev left_or : Outcome → Conclusion → Outcome
 left_or o (Leaves o') = o'
 left_or o (StopsBy f) = o
 
-pub ran : (p : Source) (inputs : List ℤ) (r : serial.Run) (es : List Event) (outcome : Outcome) → serial.IsSerialRun p inputs r es (Leaves outcome) → Ran p inputs r es outcome
+pub ran : (p : Source) (inputs : List ℤ) (r : serial.Transcript) (es : List Event) (outcome : Outcome) → serial.IsSerialRun p inputs r es (Leaves outcome) → Ran p inputs r es outcome
 ran p inputs r es outcome (end, d, e) = by end d e
   where
     by : (end : Ending) → Serial p inputs (root_frame p inputs) MAX_TICKS [] (begun p callees.Root (before_root p inputs MAX_EVENTS)) r es end → Leaves outcome ≡ conclusion_of p inputs end → Ran p inputs r es outcome
@@ -82,11 +81,11 @@ serial_numbered p inputs r es outcome well runs =
       spells = events_spell World (cell_number p r) (instance_number p r) (named p r) es framed written;
     }
 
-module _ (p : Source) (inputs : List ℤ) (r : serial.Run) (es : List Event) (outcome : Outcome) (free : RunsFree p inputs r es outcome) where
-  known : IsSerial p inputs r
+module _ (p : Source) (inputs : List ℤ) (r : serial.Transcript) (es : List Event) (outcome : Outcome) (free : RunsFree p inputs r es outcome) where
+  pub known : IsSerial p inputs r
   known = serial_by_names p inputs r es outcome free.named free.runs free.sets
 
-  no_races : HasNoRaces (named p r)
+  pub no_races : HasNoRaces (named p r)
   no_races =
       let n = serial_numbered p inputs r es outcome free.named free.runs in
       record { cell = cell_number p r; instance = instance_number p r; events = es; written = n.written; free = free.free }
@@ -119,9 +118,6 @@ module _ (p : Source) (inputs : List ℤ) (r : serial.Run) (es : List Event) (ou
 pub opens_as_cut : (p : Source) (inputs : List ℤ) → OpensAsCut p inputs
 opens_as_cut p inputs r s first = opening_ok World View monoid_of (Next p inputs) (costs p inputs) (first_world p) (named p r) (opening_values p inputs) s first
 
-pub cuts_closed : (p : Source) (inputs : List ℤ) → CutsAreClosed p inputs
-cuts_closed p inputs r es s n cut = closed_before World (cell_number p r) (instance_number p r) (named p r) es (deeds_at (s.frames [])) (below s.frames) n.framed n.written cut.cut
-
 pub steps_keep_cuts : (p : Source) (inputs : List ℤ) → StepsKeepCuts p inputs
 steps_keep_cuts p inputs r es outcome free s s' n cut step =
     race_free_kept World View monoid_of (Next p inputs) (costs p inputs) views_lawful (follows_determined (next p inputs)) (first_world p) (named p r) (opening_values p inputs) (known p inputs r es outcome free) (no_races p inputs r es outcome free) s s' n cut step
@@ -131,7 +127,7 @@ cuts_as_serial p inputs r es outcome free s cut =
     as_serial p inputs r es outcome free s
     (race_free_agrees World View monoid_of (Next p inputs) (costs p inputs) views_lawful (follows_determined (next p inputs)) (first_world p) (named p r) (opening_values p inputs) (known p inputs r es outcome free) (no_races p inputs r es outcome free) s cut)
 
-pub is_determinate : (p : Source) (inputs : List ℤ) → IsDeterminate p inputs
+pub is_determinate : (p : Source) (inputs : List ℤ) → IsDeterminateProgram p inputs
 is_determinate p inputs r es outcome free ns s' (s, first, steps) =
     let agrees = race_free_determinate World View monoid_of (Next p inputs) (costs p inputs) views_lawful (follows_determined (next p inputs)) (first_world p) (named p r) (opening_values p inputs) (known p inputs r es outcome free) (no_races p inputs r es outcome free) ns s s' first steps in
     cuts_as_serial p inputs r es outcome free s' agrees.consistent

@@ -4,6 +4,7 @@ use Rattle.cilk_types.specs.declared.event.Event.{Event}
 use Rattle.cilk_types.specs.declared.outcome.Final.{Final}
 use Rattle.cilk_types.specs.declared.outcome.Outcome.{Outcome}
 use Rattle.cilk_monoid.specs.declared.kind.MonoidKind.{MonoidKind}
+use Rattle.cilk_monoid.proofs.SameKinds.{kind_itself}
 use Rattle.cilk_monoid.specs.declared.kind.MonoidKind.TheVariants.{Append}
 use Rattle.cilk_monoid.specs.Kinds.{final_of}
 use Rattle.cilk_program.specs.declared.ask.Ask as language
@@ -15,7 +16,6 @@ use Rattle.cilk_program.specs.WellNamed.{is_kind}
 use Rattle.cilk_program.specs.SerialRun as serial
 use Rattle.cilk_program.specs.SerialRun.{Memory, answer_to, global_reducer, IsInner, Ending, Finished, Serial, Made, Ended, Went}
 use Rattle.cilk_types.specs.declared.event.Instance as numbered
-use Rattle.cilk_meaning.proofs.Asked.{same_kind_itself}
 use Rattle.cilk_runs.specs.Runs.{Cell, Global, Instance, Output, Does, Deed}
 use Rattle.cilk_runs.specs.Machine.{State, deeds_at, HasEnd}
 use Rattle.cilk_runs.specs.Serial.{own_deeds}
@@ -53,7 +53,7 @@ result_before : (end : Ending) (ds ds' : List (Deed World)) → result_in ds' �
 result_before (Finished v left m) ds ds' e h = e ∙ h
 result_before (serial.Stopped f) ds ds' e h = tt
 
-pub run_result : {p : Source} {inputs : List ℤ} {fr : _} {start : ℕ} {history : List ℤ} {m : Memory} {r : serial.Run} {es : List Event} {end : Ending} → Serial p inputs fr start history m r es end
+pub run_result : {p : Source} {inputs : List ℤ} {fr : _} {start : ℕ} {history : List ℤ} {m : Memory} {r : serial.Transcript} {es : List Event} {end : Ending} → Serial p inputs fr start history m r es end
     → (w : World) (k : ℕ) → GivesResult end (own_deeds (named_from p w k r))
 run_result {p = p} (Made {fr = fr} {m = m} {r = r} {end = end} a left q inner ok rest) w k =
     result_before end (own_deeds (named_from p w k r)) (own_deeds (named_from p w k (serial.act a (answer_to fr m a) r))) (inner_result p w a (answer_to fr m a) (own_deeds (named_from p w k r)) inner) (run_result rest w k)
@@ -84,7 +84,7 @@ abbrev Finishes : Ending → Type 0
 Finishes (Finished v left m) = Unit {0}
 Finishes (serial.Stopped f) = ⊥
 
-pub run_ends : {p : Source} {inputs : List ℤ} {fr : _} {start : ℕ} {history : List ℤ} {m : Memory} {r : serial.Run} {es : List Event} {end : Ending} → Serial p inputs fr start history m r es end
+pub run_ends : {p : Source} {inputs : List ℤ} {fr : _} {start : ℕ} {history : List ℤ} {m : Memory} {r : serial.Transcript} {es : List Event} {end : Ending} → Serial p inputs fr start history m r es end
     → Finishes end → (w : World) (k : ℕ) → HasEnd (own_deeds (named_from p w k r))
 run_ends {p = p} (Made {fr = fr} {m = m} {r = r} a left q inner ok rest) h w k = goes_on p w a (answer_to fr m a) (own_deeds (named_from p w k r)) inner (run_ends rest h w k)
 run_ends (Ended v left q ok) h w k = tt
@@ -102,13 +102,13 @@ outcome_made a b c d = record { result = a; globals = b; output = c; reducers = 
 outcome_is : (a a' : ℤ) (b b' c c' : List ℤ) (d d' : List Final) → a ≡ a' → b ≡ b' → c ≡ c' → d ≡ d' → outcome_made a b c d ≡ outcome_made a' b' c' d'
 outcome_is a a' b b' c c' d d' e f g h = ap₂ (λ a b. outcome_made a b c d) e f ∙ ap₂ (λ c d. outcome_made a' b' c d) g h
 
-module _ (p : Source) (r : serial.Run) where
+module _ (p : Source) (r : serial.Transcript) where
   same_finals : (memory : Cell → ℤ) (views : Instance → View) (store : Store numbered.Instance) → Same p r memory views store → (n : ℕ) (ks : List MonoidKind) → ((i : ℕ) (k : MonoidKind) → IsTrue (is_kind (slice_get ks i) k) → HasInstance p r (global_named (n + i) k))
       → finals_in views n ks ≡ finals_from global_reducer n ks store
   same_finals memory views store same n [] has = refl
   same_finals memory views store same n (k ∷ ks) has =
       let e : n + 0 ≡ n = omega arith in
-      ap₂ (λ x xs. x ∷ xs) (ap final_of (view_at p r memory views store (global_named n) k (global_reducer n) (subst (λ n. HasInstance p r (global_named n k)) e (has 0 k (same_kind_itself k))) (global_tied p r n) same))
+      ap₂ (λ x xs. x ∷ xs) (ap final_of (view_at p r memory views store (global_named n) k (global_reducer n) (subst (λ n. HasInstance p r (global_named n k)) e (has 0 k (kind_itself k))) (global_tied p r n) same))
       (same_finals memory views store same (suc n) ks (λ i j is. let e' : n + suc i ≡ suc n + i = omega arith in subst (λ n. HasInstance p r (global_named n j)) e' (has (suc i) j is)))
 
   -- a state whose memory and views are those of a store, with this result

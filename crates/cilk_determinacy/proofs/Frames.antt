@@ -62,12 +62,12 @@ first resume_due fr = []
 first neither_due fr = []
 
 module _ (p : Source) where
-  record Begun (d : Due) (fr : Frame) (n : Counts) (r : serial.Run) : Type 0 where
+  record Begun (d : Due) (fr : Frame) (n : Counts) (r : serial.Transcript) : Type 0 where
     many : ℕ
     counted : (counts_after p r n).frames ≡ n.frames + many
     begun : frames_begun (events_of p fr n r) ≡ first d fr ++ count_from (suc n.frames) many
 
-  child_begun : (fr : Frame) (n : Counts) (how : Invocation) (callee : _) (u r : serial.Run)
+  child_begun : (fr : Frame) (n : Counts) (how : Invocation) (callee : _) (u r : serial.Transcript)
       → Begun begin_due (frame_of p fr.scope n callee) (entered p callee n) u → Begun resume_due fr (counts_after p u (entered p callee n)) r
       → Begun neither_due fr n (serial.child how callee u r)
   child_begun fr n how callee u r h g =
@@ -85,7 +85,7 @@ module _ (p : Source) where
             ∙ ap (λ l. suc n.frames ∷ l) (count_more (suc (suc n.frames)) h.many g.many);
       }
 
-  begins : (d : Due) (fr : Frame) (n : Counts) (r : serial.Run) → IsProper r → Stage d r → Begun d fr n r
+  begins : (d : Due) (fr : Frame) (n : Counts) (r : serial.Transcript) → IsProper r → Stage d r → Begun d fr n r
   begins d fr n serial.stop h g = absurd h
   begins begin_due fr n (serial.act a v r) h g =
       subst (λ (a : Ask). Begun begin_due fr n (serial.act a v r)) (sym g.0.0)
@@ -105,7 +105,7 @@ module _ (p : Source) where
       record { many = i.many; counted = i.counted; begun = result_begins_none fr.result y (events_of p fr n r) ∙ i.begun }
   begins neither_due fr n (serial.act (asks.End y) v r) h g =
       let e : (counts_after p serial.stop n).frames ≡ n.frames + 0 = omega arith in
-      subst (λ (r : serial.Run). Begun neither_due fr n (serial.act (asks.End y) v r)) (sym h) (record { many = 0; counted = e; begun = refl })
+      subst (λ (r : serial.Transcript). Begun neither_due fr n (serial.act (asks.End y) v r)) (sym h) (record { many = 0; counted = e; begun = refl })
   begins neither_due fr n (serial.act (asks.Fault f) v r) h g = absurd h
   begins neither_due fr n (serial.act (asks.Read x) v r) h g = let i = begins neither_due fr n r h (g.0.1, g.1.1) in record { many = i.many; counted = i.counted; begun = i.begun }
   begins neither_due fr n (serial.act (asks.Write x y) v r) h g = let i = begins neither_due fr n r h (g.0.1, g.1.1) in record { many = i.many; counted = i.counted; begun = i.begun }

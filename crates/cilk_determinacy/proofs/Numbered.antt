@@ -31,7 +31,7 @@ use Rattle.cilk_determinacy.proofs.Remembered.{written_both}
 use Rattle.cilk_determinacy.proofs.Sights.{IsNumbered, tied_cell, tied_reducer, Stands}
 use Rattle.cilk_determinacy.proofs.Standing.{Standing, asked_there, standing_act, standing_child, standing_past, standing_root}
 
-module _ (p : Source) (whole : serial.Run) where
+module _ (p : Source) (whole : serial.Transcript) where
   -- an event of the list is that of the run by names, which names what is there
   record IsEvent (name : List ℕ) (e : Event) (n : numbers.Event) : Type 0 where
     number : n ≡ numbered_event p whole name e
@@ -100,7 +100,7 @@ module _ (p : Source) (whole : serial.Run) where
   nothing name = record { number = refl; here = tt }
 
   module _ (inputs : List ℤ) (well : IsTrue (is_well_named p)) where
-    run_numbered : {fr : Frame} {start : ℕ} {history : List ℤ} {m : Memory} {rest : serial.Run} {es : List numbers.Event} {end : Ending} → Serial p inputs fr start history m rest es end
+    run_numbered : {fr : Frame} {start : ℕ} {history : List ℤ} {m : Memory} {rest : serial.Transcript} {es : List numbers.Event} {end : Ending} → Serial p inputs fr start history m rest es end
         → (w : World) (j : ℕ) → Standing p inputs well whole w fr j rest (counts_of m) → AreEvents w.name (named_from p w (suc j) rest) es
     run_numbered (Made {fr = fr} {start = start} {history = history} {m = m} {r = r} {es = es} a left q inner ok rest) w j standing =
         let there = asked_there p inputs well whole w fr history start left a standing.stands q in
@@ -132,7 +132,7 @@ events_numbered p inputs r es c well (end, d, e) =
 
 -- ---- as a relation
 
-module _ (p : Source) (whole : serial.Run) where
+module _ (p : Source) (whole : serial.Transcript) where
   event_written : (name : List ℕ) (e : Event) → IsWrittenEvent (cell_number p whole) (instance_number p whole) e (numbered_event p whole name e)
   event_written name (Reads c v) = refl
   event_written name (Writes c v) = refl

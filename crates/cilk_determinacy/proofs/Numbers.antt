@@ -7,6 +7,7 @@ use Rattle.std.proofs.Common.{◌≡◌, ◌⊎◌, inl, inr, ℕ, suc, ◌+◌,
 use Rattle.std.proofs.lemmas.Bool.{and_parts, and_from, false≢true, cases_Bool}
 use Rattle.cilk_types.specs.declared.event.Instance as numbered
 use Rattle.cilk_monoid.specs.declared.kind.MonoidKind.{MonoidKind}
+use Rattle.cilk_monoid.proofs.SameKinds.{kind_itself, same_kind-eq}
 use Rattle.cilk_monoid.specs.Kinds.{same_kind}
 use Rattle.cilk_monoid.specs.Ranges as ranges
 use Rattle.cilk_monoid.proofs.RangeLaws.{same_from_true, same_self}
@@ -14,12 +15,11 @@ use Rattle.cilk_program.specs.declared.ask.Callee.{Callee}
 use Rattle.cilk_program.specs.declared.ask.Callee.TheVariants as callees
 use Rattle.cilk_program.specs.Syntax.{Source}
 use Rattle.cilk_program.specs.WellNamed.{is_kind}
-use Rattle.cilk_program.specs.SerialRun.{Run}
+use Rattle.cilk_program.specs.SerialRun.{Transcript}
 use Rattle.cilk_meaning.specs.Numbering.{Block, Apart, frame_at}
-use Rattle.cilk_meaning.proofs.Asked.{same_kind_itself}
 use Rattle.cilk_meaning.proofs.Numbers.{one_name, past_globals}
 use Rattle.cilk_runs.specs.Runs.{Name, Cell, Global, Own, same_cell, Instance, Output, Reducer, same_instance}
-use Rattle.cilk_runs.proofs.Basics.{same_cell-refl, same_cell-eq, same_kind-eq, same_instance-refl, same_instance-eq}
+use Rattle.cilk_runs.proofs.Basics.{same_cell-refl, same_cell-eq, same_instance-refl, same_instance-eq}
 use Rattle.cilk_determinacy.specs.Numbers.{up, down, frame_runs, all_reducers, first_cell, number_of, frame_number, cell_number, instance_number, IsHere, HasCell, HasReducer, HasInstance, AreOneToOne}
 use Rattle.cilk_worlds.specs.Reducers.{kind_of}
 
@@ -38,7 +38,7 @@ abbrev block_is : Option Block → Block → Block
 block_is None b = b
 block_is (Some c) b = c
 
-module _ (p : Source) (r : Run) where
+module _ (p : Source) (r : Transcript) where
   found_at : (name : Name) (here : IsHere p r name) → frame_at p r (down name) ≡ Some here.block
   found_at name here = ap (frame_at p r) (ap down here.named ∙ down_up here.path) ∙ here.found
 
@@ -134,7 +134,7 @@ module _ (p : Source) (r : Run) where
           not_same : (same_instance i j ≡ true) ⊎ (same_instance i j ≡ false) → same_instance i j ≡ false
           not_same (inl holds) =
               let e : i ≡ j = same_instance-eq i j holds in
-              let both = and_from (same_kind (kind_of i) (kind_of i)) (ranges.same_instance (instance_number p r i) (instance_number p r i)) (same_kind_itself (kind_of i)) (same_self (instance_number p r i)) in
+              let both = and_from (same_kind (kind_of i) (kind_of i)) (ranges.same_instance (instance_number p r i) (instance_number p r i)) (kind_itself (kind_of i)) (same_self (instance_number p r i)) in
               absurd (false≢true (sym fails ∙ subst (λ j. (same_kind (kind_of i) (kind_of j) && ranges.same_instance (instance_number p r i) (instance_number p r j)) ≡ true) e both))
           not_same (inr fails) = fails
 

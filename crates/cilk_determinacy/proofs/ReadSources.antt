@@ -9,7 +9,7 @@ use Rattle.std.proofs.lemmas.Bool.{cases_Bool, false≢true}
 use Rattle.cilk_types.specs.declared.event.Event.{Event}
 use Rattle.cilk_types.specs.declared.event.Event.TheVariants as events
 use Rattle.cilk_program.specs.Syntax.{Source}
-use Rattle.cilk_meaning.specs.Answered.{written, IsRight, AreRight, cells_after, opening_cells}
+use Rattle.cilk_meaning.specs.Answered.{written, IsRightRead, AreRight, cells_after, opening_cells}
 use Rattle.cilk_meaning.proofs.Remembered.{runs_right}
 use Rattle.cilk_tree.specs.Races.{event_at}
 use Rattle.cilk_tree.specs.Sources.{writes, last_write}
@@ -28,7 +28,7 @@ right_at : (cells : Cells) (es : List Event) → AreRight cells es → (n c : �
 right_at cells [] h n c v e = let z : None ≡ Some (events.Read c v) = e in absurd (cc)
 right_at cells (x ∷ es) h zero c v e =
     let same : x ≡ events.Read c v = cc in
-    subst (λ (x : Event). IsRight x cells) same h.0
+    subst (λ (x : Event). IsRightRead x cells) same h.0
 right_at cells (x ∷ es) h (suc n) c v e = right_at (written x cells) es h.1 n c v e
 
 after_next : (cells : Cells) (es : List Event) (n : ℕ) → cells_after (take (suc n) es) cells ≡ written_if (slice_get es n) (cells_after (take n es) cells)

@@ -33,7 +33,7 @@ use Rattle.cilk_meaning.specs.Numbering.{counts_of, counts_after, entered}
 use Rattle.cilk_meaning.proofs.Numbers.{serial_counts}
 use Rattle.cilk_runs.specs.Runs.{Instance, Event, Deed, Does, Invokes, Run, stop, act, child}
 use Rattle.cilk_runs.specs.Traces.{trace}
-use Rattle.cilk_runs.proofs.Basics.{same_kind-eq}
+use Rattle.cilk_monoid.proofs.SameKinds.{same_kind-eq}
 use Rattle.cilk_worlds.specs.Machine.{retired_by, retired_from}
 use Rattle.cilk_determinacy.specs.Nested.{named_event, named_from, named}
 use Rattle.cilk_determinacy.specs.ReducerEvents.{OfKind, only, view_over, of_instance, retired_all, of_event, reducer_events, finals_over, ValuesAreViewed, FinalsAreViewed}
@@ -81,7 +81,7 @@ result_holds : (o : Option ℕ) (v : ℤ) (s : Store numbered.Instance) (ts : Li
 result_holds None v s ts h = record { views = h.views }
 result_holds (Some c) v s ts h = record { views = h.views }
 
-module _ (p : Source) (whole : serial.Run) where
+module _ (p : Source) (whole : serial.Transcript) where
   -- the value that an event reads is the number of its reducer's view over these events
   record IsOver (ts : List OfKind) (i : numbered.Instance) (v : ℤ) : Type 0 where
     name : Instance
@@ -240,7 +240,7 @@ module _ (p : Source) (whole : serial.Run) where
   }
 
   module _ (inputs : List ℤ) (well : IsTrue (is_well_named p)) where
-    run_viewed : {fr : Frame} {start : ℕ} {history : List ℤ} {m : Memory} {rest : serial.Run} {es : List numbers.Event} {end : Ending} → Serial p inputs fr start history m rest es end
+    run_viewed : {fr : Frame} {start : ℕ} {history : List ℤ} {m : Memory} {rest : serial.Transcript} {es : List numbers.Event} {end : Ending} → Serial p inputs fr start history m rest es end
         → (w : World) (j : ℕ) → Standing p inputs well whole w fr j rest (counts_of m) → (ts : List OfKind) → Holds m.store ts → Viewed end (named_from p w (suc j) rest) es ts
     run_viewed (Made {fr = fr} {start = start} {history = history} {m = m} {r = r} {es = es} {end = end} a left q inner ok rest) w j standing ts holds =
         act_viewed end (named_event p w a (answer_to fr m a)) (event_of fr m a) (named_from p w (suc j) r) es ts

@@ -24,7 +24,7 @@ use Rattle.cilk_meaning.proofs.Numbers.{serial_counts}
 use Rattle.cilk_runs.specs.Runs.{Cell, Global, Instance, Event, Reads, Writes, Syncs, Ends, Passes, Begins, Resumes, Creates, Updates, Sets, Values, Prints, Deed, Invokes, Run, stop, act, child}
 use Rattle.cilk_runs.specs.Machine.{put}
 use Rattle.cilk_runs.specs.Monoids.{on_view}
-use Rattle.cilk_runs.specs.Serial.{value_after, IsRight, IsSerial}
+use Rattle.cilk_runs.specs.Serial.{value_after, IsReadRight, IsSerial}
 use Rattle.cilk_runs.specs.Traces.{trace, IsWrittenEvent, IsWritten, AreWritten}
 use Rattle.cilk_runs.specs.Views.{view_after, IsViewRight, IsSerialViews}
 use Rattle.cilk_worlds.specs.Reducers.{View, value_of, kind_of, monoid_of}
@@ -51,7 +51,7 @@ set_second : (es es' : List numbers.Event) → SetWords (es ++ es') → SetWords
 set_second [] es' h = h
 set_second (e ∷ es) es' h = set_second es es' h.1
 
-module _ (p : Source) (whole : serial.Run) where
+module _ (p : Source) (whole : serial.Transcript) where
   -- the reducers of an event are the run's
   abbrev pub EventHas : Event → Type 0
   EventHas (Reads c v) = Unit {0}
@@ -73,7 +73,7 @@ module _ (p : Source) (whole : serial.Run) where
 
   -- one event, by names and by numbers
   pub record Follows (memory : Cell → ℤ) (views : Instance → View) (store : Store numbered.Instance) (e : Event) (n : numbers.Event) : Type 0 where
-    pub right : IsRight e memory
+    pub right : IsReadRight e memory
     pub view_right : IsViewRight monoid_of e views
     pub same : Same p whole (λ c. put e c (memory c)) (λ i. on_view (monoid_of i) i e (views i)) store
     pub written : IsWrittenEvent (cell_number p whole) (instance_number p whole) e n
@@ -241,7 +241,7 @@ module _ (p : Source) (whole : serial.Run) where
   child_remembers (serial.Stopped f) how n w u t es es' memory views v left m h g = tt
 
   module _ (inputs : List ℤ) (well : IsTrue (is_well_named p)) where
-    pub run_remembers : {fr : Frame} {start : ℕ} {history : List ℤ} {m : Memory} {rest : serial.Run} {es : List numbers.Event} {end : Ending} → Serial p inputs fr start history m rest es end
+    pub run_remembers : {fr : Frame} {start : ℕ} {history : List ℤ} {m : Memory} {rest : serial.Transcript} {es : List numbers.Event} {end : Ending} → Serial p inputs fr start history m rest es end
         → (w : World) (j : ℕ) → Standing p inputs well whole w fr j rest (counts_of m) → SetWords es → (memory : Cell → ℤ) (views : Instance → View) → Same p whole memory views m.store → RemembersAt end (named_from p w (suc j) rest) es memory views
     run_remembers (Made {fr = fr} {start = start} {history = history} {m = m} {r = r} {es = es} {end = end} a left q inner ok rest) w j standing words memory views same =
         let there = asked_there p inputs well whole w fr history start left a standing.stands q in

@@ -140,10 +140,10 @@ module _ (p : Source) (i : Instance) where
   one_step w G mine v Synced k sound (EndsNow {v = y}) own = inr (refl, (y, refl))
   one_step w G mine v Closing k sound (EndsThen {v = y}) own = inr (refl, (y, refl))
 
-  no_invoke : (k : Ask) (r : serial.Run) → IsOwnAt k r → ¬ ((how : Invocation) × (c : Callee) × (k ≡ asks.Invoke how c))
+  no_invoke : (k : Ask) (r : serial.Transcript) → IsOwnAt k r → ¬ ((how : Invocation) × (c : Callee) × (k ≡ asks.Invoke how c))
   no_invoke k r own (how, c, e) = subst (λ k. IsOwnAt k r) e own
 
-  at_end : (w : World) (n : ℕ) (k : Ask) (v : ℤ) (r : serial.Run) (mine other : Type 0) → Covers w mine [] → IsOwnAt k r → (y : ℤ) → k ≡ asks.End y → (IsRetire i (named_event p w k v) → mine) × IsRetiredAtHome i (named_from p w n r) other
+  at_end : (w : World) (n : ℕ) (k : Ask) (v : ℤ) (r : serial.Transcript) (mine other : Type 0) → Covers w mine [] → IsOwnAt k r → (y : ℤ) → k ≡ asks.End y → (IsRetire i (named_event p w k v) → mine) × IsRetiredAtHome i (named_from p w n r) other
   at_end w n k v r mine other c own y e = (
     subst (λ k. IsRetire i (named_event p w k v) → mine) (sym e) (λ h. ⊎_elim (λ m. m) (λ d. absurd_of d) (c h)),
     subst (λ r. IsRetiredAtHome i (named_from p w n r) other) (sym (subst (λ k. IsOwnAt k r) e own)) tt,
@@ -175,7 +175,7 @@ module _ (p : Source) (i : Instance) where
       inr (due_both w i (writings 0 c.words) (creations (reducers.Own 0) 0 f.reducers) (due_retired p w i (own_named p (callees.Function c) name) (reducers.Own 0) (λ n k. refl) 0 f.reducers h))
   world_covers name sight (callees.Loop l) h = absurd (true≢false (sym h))
 
-  pub retired_at_home : (w : World) (n : ℕ) (s : Stage) (r : serial.Run) → IsSound s → IsOrderly p s r → (mine : Type 0) → Covers w mine (due_of s) → IsRetiredAtHome i (named_from p w n r) mine
+  pub retired_at_home : (w : World) (n : ℕ) (s : Stage) (r : serial.Transcript) → IsSound s → IsOrderly p s r → (mine : Type 0) → Covers w mine (due_of s) → IsRetiredAtHome i (named_from p w n r) mine
   retired_at_home w n s serial.stop sound orderly mine c = tt
   retired_at_home w n s (serial.act k v r) sound orderly mine c =
       by (one_step w (λ s'. IsOrderly p s' r) mine v s k sound (view s k (λ s'. IsOrderly p s' r) orderly.0) (no_invoke k r orderly.1)) (λ to sound' goes other c'. retired_at_home w n to r sound' goes other c')
@@ -194,5 +194,5 @@ module _ (p : Source) (i : Instance) where
         retired_at_home w (suc n) (Resuming next.1.0) r tt next.1.1 mine (subst (Covers w mine) next.0 c),
       )
 
-  pub root_retires : (r : serial.Run) → IsOrderly p (Fresh (opening_asks p callees.Root)) r → IsRetiredAtHome i (named p r) ⊥
+  pub root_retires : (r : serial.Transcript) → IsOrderly p (Fresh (opening_asks p callees.Root)) r → IsRetiredAtHome i (named p r) ⊥
   root_retires r orderly = retired_at_home (first_world p) 1 (Fresh (opening_asks p callees.Root)) r (opening_asks_open p callees.Root) orderly ⊥ (world_covers [] [] callees.Root)

@@ -18,18 +18,18 @@ use Rattle.cilk_determinacy.specs.Nested.{named_from}
 -- ---- from the language's run
 
 -- an event of a frame is one of its asks but a child or a fault, and its end comes last
-abbrev pub ProperAt : Ask → Type 0 → serial.Run → Type 0
+abbrev pub ProperAt : Ask → Type 0 → serial.Transcript → Type 0
 ProperAt (asks.Invoke how callee) P r = ⊥
 ProperAt (asks.Fault f) P r = ⊥
 ProperAt (asks.End v) P r = r ≡ serial.stop
 ProperAt k P r = P
 
-abbrev pub IsProper : serial.Run → Type 0
+abbrev pub IsProper : serial.Transcript → Type 0
 IsProper serial.stop = ⊥
 IsProper (serial.act k v r) = ProperAt k (IsProper r) r
 IsProper (serial.child how callee u r) = IsProper u × IsProper r
 
-inner_proper : (k : Ask) (P : Type 0) (r : serial.Run) → IsInner k → P → ProperAt k P r
+inner_proper : (k : Ask) (P : Type 0) (r : serial.Transcript) → IsInner k → P → ProperAt k P r
 inner_proper asks.Begin P r i h = h
 inner_proper (asks.Read x) P r i h = h
 inner_proper (asks.Write x y) P r i h = h
@@ -45,11 +45,11 @@ inner_proper (asks.Result y) P r i h = h
 inner_proper (asks.End y) P r i h = absurd i
 inner_proper (asks.Fault f) P r i h = absurd i
 
-abbrev pub ProperIf : Ending → serial.Run → Type 0
+abbrev pub ProperIf : Ending → serial.Transcript → Type 0
 ProperIf (Finished v left m) r = IsProper r
 ProperIf (serial.Stopped f) r = Unit {0}
 
-pub serial_proper : {p : Source} {inputs : List ℤ} {fr : _} {start : ℕ} {history : List ℤ} {m : _} {r : serial.Run} {es : List numbers.Event} {end : Ending} → Serial p inputs fr start history m r es end → ProperIf end r
+pub serial_proper : {p : Source} {inputs : List ℤ} {fr : _} {start : ℕ} {history : List ℤ} {m : _} {r : serial.Transcript} {es : List numbers.Event} {end : Ending} → Serial p inputs fr start history m r es end → ProperIf end r
 serial_proper (Made {fr = fr} {m = m} {r = r} {end = end} k left q inner ok rest) = by end (serial_proper rest)
   where
     by : (end : Ending) → ProperIf end r → ProperIf end (serial.act k (answer_to fr m k) r)
@@ -65,7 +65,7 @@ serial_proper (serial.Broke how callee left f q ok inner) = tt
 serial_proper (serial.Refused k left f q bad) = tt
 
 -- what a frame makes next is due as its events say
-abbrev pub Stage : Due → serial.Run → Type 0
+abbrev pub Stage : Due → serial.Transcript → Type 0
 Stage begin_due r = language.BeginsOnce false r × language.IsResumed false r
 Stage resume_due r = language.BeginsOnce true r × language.IsResumed true r
 Stage neither_due r = language.BeginsOnce true r × language.IsResumed false r
@@ -85,7 +85,7 @@ not_resume : {k : Ask} → k ≡ asks.Resume → is_resume k
 not_resume {k} e = subst is_resume (sym e) tt
 
 module _ (p : Source) where
-  pub framed : (d : Due) (w : World) (n : ℕ) (r : serial.Run) → IsProper r → Stage d r → IsFramed d (named_from p w n r)
+  pub framed : (d : Due) (w : World) (n : ℕ) (r : serial.Transcript) → IsProper r → Stage d r → IsFramed d (named_from p w n r)
   framed d w n serial.stop h g = absurd h
   framed begin_due w n (serial.act asks.Begin v r) h g = framed neither_due w n r h (g.0.1, g.1.1)
   framed begin_due w n (serial.act (asks.Read x) v r) h g = absurd (not_begin g.0.0)
@@ -140,7 +140,7 @@ IsSynced (act e t) = IsSynced t
 IsSynced (child k w u t) = SyncAhead t × IsSynced u × IsSynced t
 
 module _ (p : Source) where
-  sync_ahead : (w : World) (n : ℕ) (r : serial.Run) → language.HasSync r → SyncAhead (named_from p w n r)
+  sync_ahead : (w : World) (n : ℕ) (r : serial.Transcript) → language.HasSync r → SyncAhead (named_from p w n r)
   sync_ahead w n serial.stop h = absurd h
   sync_ahead w n (serial.act asks.Begin v r) h = sync_ahead w n r h
   sync_ahead w n (serial.act (asks.Read x) v r) h = sync_ahead w n r h
@@ -158,7 +158,7 @@ module _ (p : Source) where
   sync_ahead w n (serial.act (asks.Fault f) v r) h = sync_ahead w n r h
   sync_ahead w n (serial.child how callee u r) h = sync_ahead w (suc n) r h
 
-  pub synced : (w : World) (n : ℕ) (r : serial.Run) → language.IsClosed r → IsSynced (named_from p w n r)
+  pub synced : (w : World) (n : ℕ) (r : serial.Transcript) → language.IsClosed r → IsSynced (named_from p w n r)
   synced w n serial.stop h = absurd h
   synced w n (serial.act asks.Begin v r) h = synced w n r h
   synced w n (serial.act (asks.Read x) v r) h = synced w n r h

@@ -13,7 +13,7 @@ use Rattle.cilk_program.specs.declared.syntax.ReducerPlace.TheVariants as reduce
 use Rattle.cilk_program.specs.Syntax.{Source, function_at, main_of}
 use Rattle.cilk_program.specs.Scopes.{Home, Scope, cell_in, instance_in, instances_in}
 use Rattle.cilk_program.specs.WellNamed.{is_kind}
-use Rattle.cilk_program.specs.SerialRun.{Run, Frame, itself, global_reducer, own_reducers, first_place, home_of, outer_of, given_to, result_of}
+use Rattle.cilk_program.specs.SerialRun.{Transcript, Frame, itself, global_reducer, own_reducers, first_place, home_of, outer_of, given_to, result_of}
 use Rattle.cilk_meaning.specs.Numbering.{Counts, unbegun, block_of, child_at, frame_at}
 use Rattle.cilk_meaning.specs.Visible.{GlobalsAreThere, FrameSees}
 use Rattle.cilk_runs.specs.Runs.{Name, Cell, Global}
@@ -45,7 +45,7 @@ own_place p callees.Root n = omega arith
 own_place p (callees.Function c) n = omega arith
 own_place p (callees.Loop l) n = omega arith
 
-module _ (p : Source) (r : Run) where
+module _ (p : Source) (r : Transcript) where
   -- ---- numbers
 
   -- a reducer has this number, and its monoids are its own
@@ -182,6 +182,6 @@ module _ (p : Source) (r : Run) where
     pub sees : FrameSees p Global global_named (HasCell p r) HasOne w.callee w.sight w.result
 
   -- what is ahead of a frame at a path, where so many of its children have begun
-  pub record Ahead (path : List ℕ) (j : ℕ) (rest : Run) (n : Counts) : Type 0 where
+  pub record Ahead (path : List ℕ) (j : ℕ) (rest : Transcript) (n : Counts) : Type 0 where
     pub blocks : (i : ℕ) (more : List ℕ) → frame_at p r (path ++ (j + i) ∷ more) ≡ child_at p rest n i more
     pub runs : (i : ℕ) (more : List ℕ) → frame_runs r (path ++ (j + i) ∷ more) ≡ child_runs rest i more

@@ -2,6 +2,7 @@
 use Rattle.std.proofs.Common.{◌≡◌, ℕ, suc, ◌+◌, nat_eq, ℤ, Bool, true, false, true≢false, cond, if◌then◌else◌, ◌&&◌, IsTrue, List, [], ◌∷◌, slice_get, refl, sym, ap, ◌∙◌, subst, arith}
 use Rattle.cilk_types.specs.declared.event.Instance as numbered
 use Rattle.cilk_monoid.specs.declared.kind.MonoidKind.{MonoidKind}
+use Rattle.cilk_monoid.proofs.SameKinds.{kind_itself}
 use Rattle.cilk_monoid.specs.declared.kind.MonoidKind.TheVariants.{Append}
 use Rattle.cilk_monoid.specs.Kinds.{structure_of, same_kind, appended}
 use Rattle.cilk_monoid.specs.Ranges as ranges
@@ -9,8 +10,7 @@ use Rattle.cilk_monoid.specs.Values.{ViewValue, Elements}
 use Rattle.cilk_program.specs.Store.{Store, put, put_view, clear, clear_all, print}
 use Rattle.cilk_program.specs.Syntax.{Source}
 use Rattle.cilk_program.specs.WellNamed.{is_kind}
-use Rattle.cilk_program.specs.SerialRun.{Run}
-use Rattle.cilk_meaning.proofs.Asked.{same_kind_itself}
+use Rattle.cilk_program.specs.SerialRun.{Transcript}
 use Rattle.cilk_runs.specs.Runs.{Cell, same_cell, Instance, Output, Reducer, same_instance, has_instance}
 use Rattle.cilk_runs.proofs.Basics.{same_instance-eq}
 use Rattle.cilk_worlds.specs.Reducers.{View, value_of, kind_of}
@@ -27,7 +27,7 @@ chosen f true false x y x' y' e h g = absurd (true≢false e)
 chosen f false true x y x' y' e h g = absurd (true≢false (sym e))
 chosen f false false x y x' y' e h g = g
 
-module _ (p : Source) (r : Run) where
+module _ (p : Source) (r : Transcript) where
   pub record Same (memory : Cell → ℤ) (views : Instance → View) (store : Store numbered.Instance) : Type 0 where
     pub cells : (c : Cell) → HasCell p r c → memory c ≡ store.cells (cell_number p r c)
     pub reducers : (i : Instance) → HasInstance p r i → value_of (kind_of i) (views i) ≡ store.views (kind_of i) (instance_number p r i)
@@ -91,7 +91,7 @@ module _ (p : Source) (r : Run) where
   same_retired own own' n [] memory views store numbers has h = h
   same_retired own own' n (k ∷ ks) memory views store numbers has h =
       let e : n + 0 ≡ n = omega arith in
-      let first = same_put_view memory views (λ d u. u) store (own n) k (own' n) ((structure_of k).unit) (subst (λ n. HasInstance p r (own n k)) e (has 0 k (same_kind_itself k))) (numbers n) refl h in
+      let first = same_put_view memory views (λ d u. u) store (own n) k (own' n) ((structure_of k).unit) (subst (λ n. HasInstance p r (own n k)) e (has 0 k (kind_itself k))) (numbers n) refl h in
       same_views memory _ _ (clear_all ranges.same_instance own' n (k ∷ ks) store) (λ d. retired_one (same_instance (own n k) d) (has_instance (retired_from own (suc n) ks) d) (views d))
       (same_retired own own' (suc n) ks memory (λ d. cond (same_instance (own n k) d) (λ u. u) (views d)) (clear ranges.same_instance k (own' n) store) numbers
       (λ i j is. let e' : n + suc i ≡ suc n + i = omega arith in subst (λ n. HasInstance p r (own n j)) e' (has (suc i) j is)) first)

@@ -5,25 +5,24 @@
 -- - `count_from_point`, `many_events`, `named_at`: from any point of a frame on;
 -- - `Within`, `all_within`, `all_apart`: names are different;
 -- - `strands_have_names`: the law.
-use Rattle.std.proofs.Common.{◌≡◌, ◌≤◌, ◌<◌, ◌+◌, ◌-◌, ℕ, zero, suc, ℤ, Bool, true, false, cond, List, [], ◌∷◌, ◌++◌, length, Option, Some, None, slice_get, ◌⊎◌, inl, inr, ⊎_elim, refl, sym, ap, ap₂, ◌∙◌, subst, arith, append_assoc, length-append, zero-add, suc-add}
+use Rattle.std.proofs.Common.{◌≡◌, ◌≤◌, ◌<◌, ◌+◌, ◌-◌, ℕ, zero, suc, ℤ, Bool, true, false, cond, List, [], ◌∷◌, ◌++◌, length, Some, slice_get, ◌⊎◌, inl, inr, ⊎_elim, refl, sym, ap, ap₂, ◌∙◌, subst, arith, append_assoc, length-append, zero-add, suc-add}
 use Rattle.cilk_types.specs.declared.invocation.Invocation.TheVariants.{Call, Spawn}
 use Rattle.cilk_types.specs.declared.invocation.Invocation.{Invocation}
 use Rattle.std.proofs.lemmas.Bool.{cases_lt}
 use Rattle.cilk_types.specs.declared.event.Event as numbers
-use Rattle.cilk_types.specs.declared.event.Event.TheVariants as events
 use Rattle.cilk_types.specs.declared.event.Instance as numbered
 use Rattle.cilk_program.specs.SerialRun as serial
 use Rattle.cilk_program.specs.Syntax.{Source}
-use Rattle.cilk_runs.specs.Runs.{Name, Cell, Instance, Event, Reads, Writes, Syncs, Ends, Passes, Begins, Resumes, Creates, Updates, Sets, Values, Prints, Deed, Does, Invokes, Run, stop, act, child}
+use Rattle.cilk_runs.specs.Runs.{Name, Cell, Instance, Event, Reads, Writes, Syncs, Ends, Passes, Begins, Resumes, Creates, Updates, Sets, Values, Prints, Deed, Invokes, Run, stop, act, child}
 use Rattle.cilk_runs.specs.Traces.{trace}
-use Rattle.cilk_tree.specs.Before.{IsPosition}
 use Rattle.cilk_tree.specs.Marks.{mark_of, begun_by}
 use Rattle.cilk_tree.specs.Races.{strand_at}
 use Rattle.cilk_runs.specs.Traces.{Due, begin_due, resume_due, neither_due, IsFramed, IsWrittenEvent, IsWritten, AreWritten}
 use Rattle.cilk_worlds.specs.Worlds.{World, first_world, child_world}
 use Rattle.cilk_determinacy.specs.Nested.{named, named_from, named_event}
 use Rattle.cilk_determinacy.specs.Numbers.{cell_number, instance_number}
-use Rattle.cilk_determinacy.specs.StrandNames.{StrandName, strand, begins_strand, strands_from, strand_of_each, strand_names, StrandsHaveNames}
+use Rattle.cilk_runs.specs.Machine.{begins_strand}
+use Rattle.cilk_determinacy.specs.StrandNames.{StrandName, strand, strands_from, strand_of_each, strand_names, StrandsHaveNames}
 use Rattle.cilk_determinacy.proofs.Determinate.{serial_numbered}
 
 -- ---- lists
@@ -272,7 +271,7 @@ act_within true n k j xs h = (inl (refl, omega arith), all_weaker n k (suc k) j 
 act_within false n k j xs h = h
 
 module _ (p : Source) where
-  all_within : (w : World) (j k : ℕ) (r : serial.Run) → AllWithin w.name k j (strands_from w.name k (named_from p w j r))
+  all_within : (w : World) (j k : ℕ) (r : serial.Transcript) → AllWithin w.name k j (strands_from w.name k (named_from p w j r))
   all_within w j k serial.stop = tt
   all_within w j k (serial.act a v r) =
       let b = begins_strand (named_event p w a v) in
@@ -330,7 +329,7 @@ never_both n k j x h (inl (q, g)) = let (rest, e) = below_child n j x h in no_lo
 never_both n k j x h (inr (c, other, q, g)) = let (rest, e) = below_child n j x h in let same = same_head n j c rest other (sym e ∙ q) in omega (arith, same, g)
 
 module _ (p : Source) where
-  all_apart : (w : World) (j k : ℕ) (r : serial.Run) → Apart (strands_from w.name k (named_from p w j r))
+  all_apart : (w : World) (j k : ℕ) (r : serial.Transcript) → Apart (strands_from w.name k (named_from p w j r))
   all_apart w j k serial.stop = tt
   all_apart w j k (serial.act a v r) =
       let b = begins_strand (named_event p w a v) in

@@ -43,7 +43,7 @@ how_starts ways.Spawn n = refl
 
 module _ (p : Source) where
   -- what is to be shown of a frame's run from some point on
-  abbrev Spelled : Due → World → ℕ → Frame → Counts → serial.Run → Type 0
+  abbrev Spelled : Due → World → ℕ → Frame → Counts → serial.Transcript → Type 0
   Spelled d w k fr n r = map mark_of (events_of p fr n r) ≡ ahead d ++ marks (shape_of (named_from p w k r))
 
   -- an event of a mark that begins no child, and the rest
@@ -54,9 +54,9 @@ module _ (p : Source) where
   result_next None v e = next_mark mark.Plain e
   result_next (Some c) v e = next_mark mark.Plain e
 
-  ended : (w : World) (k : ℕ) (fr : Frame) (n : Counts) (y v : ℤ) (r : serial.Run) → r ≡ serial.stop
+  ended : (w : World) (k : ℕ) (fr : Frame) (n : Counts) (y v : ℤ) (r : serial.Transcript) → r ≡ serial.stop
       → Spelled neither_due w k fr n (serial.act (asks.End y) v r)
-  ended w k fr n y v r e = ap (λ (r : serial.Run). mark.End ∷ map mark_of (events_of p fr n r)) e
+  ended w k fr n y v r e = ap (λ (r : serial.Transcript). mark.End ∷ map mark_of (events_of p fr n r)) e
 
   children : (how : Invocation) (m : ℕ) (u r : List Event) (a b : List Mark) → map mark_of u ≡ mark.Begin ∷ a → map mark_of r ≡ mark.Resume ∷ b
       → map mark_of (invocation how m ∷ (u ++ r)) ≡ start_of how ∷ mark.Begin ∷ a ++ mark.Resume ∷ b
@@ -65,7 +65,7 @@ module _ (p : Source) where
       ∙ next_mark (start_of how)
       (map-append mark_of u r ∙ (ap (λ l. l ++ map mark_of r) e ∙ ap (λ l. mark.Begin ∷ (a ++ l)) f))
 
-  spelled : (d : Due) (w : World) (k : ℕ) (fr : Frame) (n : Counts) (r : serial.Run) → IsProper r → Stage d r → Spelled d w k fr n r
+  spelled : (d : Due) (w : World) (k : ℕ) (fr : Frame) (n : Counts) (r : serial.Transcript) → IsProper r → Stage d r → Spelled d w k fr n r
   spelled d w k fr n serial.stop h g = absurd h
   spelled begin_due w k fr n (serial.act a v r) h g =
       subst (λ (a : Ask). Spelled begin_due w k fr n (serial.act a v r)) (sym g.0.0)

@@ -8,9 +8,8 @@ use Rattle.cilk_meaning.specs.Created.{Among, Passes as Goes, deed_of, IsCreated
 use Rattle.cilk_types.specs.declared.invocation.Invocation.{Invocation}
 use Rattle.cilk_types.specs.declared.invocation.Invocation.TheVariants.{Call, Spawn}
 use Rattle.cilk_runs.specs.Runs.{Instance, Output, Reducer, Event, Reads, Writes, Syncs, Ends, Passes, Begins, Resumes, Creates, Updates, Sets, Values, Prints, Deed, Invokes, Run, stop, act, child}
-use Rattle.cilk_runs.specs.Races.{HasEventWith}
+use Rattle.cilk_runs.specs.Views.{HasEventWith, IsReducerRead, IsUpdate, IsCreatedFirst, IsCreated as IsCreatedOrUnread}
 use Rattle.cilk_runs.specs.Traces.{trace, IsWrittenEvent, IsWritten, AreWritten}
-use Rattle.cilk_runs.specs.Views.{IsReducerRead, IsUpdate, IsCreatedFirst, IsCreated as IsCreatedOrUnread}
 use Rattle.cilk_worlds.specs.Worlds.{World}
 use Rattle.cilk_determinacy.specs.Numbers.{cell_number, instance_number, HasInstance}
 use Rattle.cilk_determinacy.proofs.Numbers.{declared_one}
@@ -40,7 +39,7 @@ module _ {W : Type 0} (cell : _) (instance : Instance → numbered.Instance) whe
   started_deed Call w e (f, h) = ap deed_of h
   started_deed Spawn w e (f, h) = ap deed_of h
 
-module _ (p : Source) (whole : serial.Run) (i : Instance) where
+module _ (p : Source) (whole : serial.Transcript) (i : Instance) where
   abbrev N : Instance → numbered.Instance
   N = instance_number p whole
 
@@ -146,6 +145,6 @@ module _ (p : Source) (whole : serial.Run) (i : Instance) where
   output_unread (child k w u t) has is (inl h) = output_unread u has.0 is h
   output_unread (child k w u t) has is (inr h) = output_unread t has.1 is h
 
-pub run_created : (p : Source) (whole : serial.Run) (i : Instance) (t : Run World) (es : List numbers.Event) → AreWritten (cell_number p whole) (instance_number p whole) (trace t) es → RunHas p whole t → AreCreated [] es → IsCreatedOrUnread i t
+pub run_created : (p : Source) (whole : serial.Transcript) (i : Instance) (t : Run World) (es : List numbers.Event) → AreWritten (cell_number p whole) (instance_number p whole) (trace t) es → RunHas p whole t → AreCreated [] es → IsCreatedOrUnread i t
 run_created p whole Output t es w has h = inr (output_unread p whole Output t has refl)
 run_created p whole (Reducer name n k) t es w has h = inl (created_first p whole (Reducer name n k) name n k refl t es [] ⊥ w has (λ here a. a) h)

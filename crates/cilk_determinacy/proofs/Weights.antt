@@ -6,13 +6,13 @@ use Rattle.cilk_program.specs.SerialRun as serial
 use Rattle.cilk_program.specs.SerialRun.{cells_of}
 use Rattle.cilk_meaning.specs.Numbering.{Counts, counts_after, entered}
 use Rattle.cilk_runs.specs.Runs.{Event, Reads, Writes, Syncs, Ends, Passes, Deed, Does, Invokes, Run, stop, act, child, ask_of}
-use Rattle.cilk_runs.specs.Costs.{EventTotal, FrameTotal, CellTotal, frames_of, cells_of as cells_begun, weight}
+use Rattle.cilk_runs.specs.Costs.{EventTotal, FrameTotal, CellTotal, frame_cost, cells_of as cells_begun, weight}
 use Rattle.cilk_runs.specs.Traces.{trace, AreWritten}
 use Rattle.cilk_worlds.specs.Worlds.{World, child_world}
 use Rattle.cilk_worlds.specs.Machine.{costs}
 use Rattle.cilk_determinacy.specs.Nested.{named_event, named_from}
 
-no_frames : (W : Type 0) (e : Event) → frames_of {W = W} (ask_of e) ≡ 0
+no_frames : (W : Type 0) (e : Event) → frame_cost {W = W} (ask_of e) ≡ 0
 no_frames W (Reads c v) = refl
 no_frames W (Writes c v) = refl
 no_frames W Syncs = refl
@@ -42,7 +42,7 @@ module _ (p : Source) (inputs : List ℤ) where
       let both = length-append (trace u) (trace t) in
       omega (arith, h, g, both)
 
-  pub frames_weigh : (w : World) (past : List (Deed World)) (n : ℕ) (r : serial.Run) (c : Counts) → c.frames + weight (costs p inputs) FrameTotal w past (named_from p w n r) ≡ (counts_after p r c).frames
+  pub frames_weigh : (w : World) (past : List (Deed World)) (n : ℕ) (r : serial.Transcript) (c : Counts) → c.frames + weight (costs p inputs) FrameTotal w past (named_from p w n r) ≡ (counts_after p r c).frames
   frames_weigh w past n serial.stop c = omega arith
   frames_weigh w past n (serial.act a v r) c =
       let none = no_frames World (named_event p w a v) in
@@ -54,7 +54,7 @@ module _ (p : Source) (inputs : List ℤ) where
       let g = frames_weigh w (past ++ Invokes how v ∷ []) (suc n) r (counts_after p u (entered p callee c)) in
       omega (arith, h, g)
 
-  pub cells_weigh : (w : World) (past : List (Deed World)) (n : ℕ) (r : serial.Run) (c : Counts) → c.cells + weight (costs p inputs) CellTotal w past (named_from p w n r) ≡ (counts_after p r c).cells
+  pub cells_weigh : (w : World) (past : List (Deed World)) (n : ℕ) (r : serial.Transcript) (c : Counts) → c.cells + weight (costs p inputs) CellTotal w past (named_from p w n r) ≡ (counts_after p r c).cells
   cells_weigh w past n serial.stop c = omega arith
   cells_weigh w past n (serial.act a v r) c =
       let none = no_cells (λ (w : World). cells_of p w.callee) (named_event p w a v) in

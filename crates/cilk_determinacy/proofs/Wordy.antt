@@ -19,8 +19,8 @@ use Rattle.cilk_program.specs.Outcomes.{Conclusion, Leaves}
 use Rattle.cilk_program.specs.Store.{Store, put, put_view, clear_all}
 use Rattle.cilk_program.specs.Syntax.{Source}
 use Rattle.cilk_program.specs.SerialRun as serial
-use Rattle.cilk_program.specs.SerialRun.{Memory, Frame, own_reducers, own_from, reducer_at, result_written, full, answer_to, stored, put_result, event_of, invocation, before_root, begun, root_frame, IsInner, refused, Ending, Finished, Stopped, Serial, Made, Ended, Went, Broke, Refused}
-use Rattle.cilk_runs.proofs.Basics.{same_kind-eq}
+use Rattle.cilk_program.specs.SerialRun.{Memory, Frame, own_reducers, own_from, reducer_at, result_written, full, answer_to, stored, put_result, event_of, invocation, IsInner, refused, Ending, Finished, Stopped, Serial, Made, Ended, Went, Broke, Refused}
+use Rattle.cilk_monoid.proofs.SameKinds.{same_kind-eq}
 use Rattle.cilk_determinacy.specs.Theorem.{SetsWord, SetWords}
 use Rattle.cilk_determinacy.specs.Words.{AreWords, HasWords, InputsAreWords, IsDeterminateInWords}
 use Rattle.cilk_determinacy.proofs.Determinate.{is_determinate}
@@ -223,7 +223,7 @@ module _ (p : Source) (has : HasWords p) (inputs : List ℤ) (inputs_words : Inp
   LeavesWords (Finished v left m) = (count : ℕ) × Wordy m.store count × (count + m.room ≤ 1000000)
   LeavesWords (Stopped f) = Unit {0}
 
-  runs_words : {fr : Frame} {start : ℕ} {history : List ℤ} {m : Memory} {r : serial.Run} {es : List Event} {end : Ending} → Serial p inputs fr start history m r es end
+  runs_words : {fr : Frame} {start : ℕ} {history : List ℤ} {m : Memory} {r : serial.Transcript} {es : List Event} {end : Ending} → Serial p inputs fr start history m r es end
       → CalleeWords fr.callee → AreWords history → (count : ℕ) → Wordy m.store count → count + m.room ≤ 1000000 → SetWords es × LeavesWords end
   runs_words (Made {fr = fr} {start = start} {history = history} {m = m} a left q inner ok rest) callee words count h few =
       let w = subst (λ (q : Asked). AskWords q.ask) q (asks_words p has inputs inputs_words fr.callee callee history words start) in
@@ -250,7 +250,7 @@ module _ (p : Source) (has : HasWords p) (inputs : List ℤ) (inputs_words : Inp
   opening_word (x ∷ xs) h zero = h.0
   opening_word (x ∷ xs) h (suc n) = opening_word xs h.1 n
 
-  pub set_words : (r : serial.Run) (es : List Event) (c : Conclusion) → serial.IsSerialRun p inputs r es c → SetWords es
+  pub set_words : (r : serial.Transcript) (es : List Event) (c : Conclusion) → serial.IsSerialRun p inputs r es c → SetWords es
   set_words r es c (end, d, e) =
       (runs_words d tt tt 0 (record { cells = opening_word p.openings has.openings; members = λ k i. let law = lawful k in law.unit_member; sizes = λ k i. unit_size k }) (omega arith)).0
 

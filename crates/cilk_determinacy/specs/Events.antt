@@ -6,7 +6,7 @@ use Rattle.cilk_types.specs.declared.limits.TheConstants.{MAX_FRAMES}
 use Rattle.cilk_types.specs.declared.outcome.Outcome.{Outcome}
 use Rattle.cilk_program.specs.Outcomes.{Conclusion, Leaves}
 use Rattle.cilk_program.specs.Syntax.{Source}
-use Rattle.cilk_program.specs.SerialRun.{Run, IsSerialRun}
+use Rattle.cilk_program.specs.SerialRun.{Transcript, IsSerialRun}
 use Rattle.cilk_program.specs.WellNamed.{is_well_named}
 use Rattle.cilk_meaning.specs.Answered.{opening_cells}
 use Rattle.cilk_tree.specs.Races.{event_at}
@@ -20,7 +20,7 @@ pub record HasCreations (es : List Event) : Type 0 where
   pub first : (t : Tree) (p q : ℕ) → IsFirstViewRace t es p q → IsCreationAndUse t es p q
 
 -- the value of a read at position q is what its source wrote, or the cell's opening value where it has none
-pub record HasSource (opening : ℕ → ℤ) (es : List Event) (q c : ℕ) (v : ℤ) : Type 0 where
+pub record HasReadSource (opening : ℕ → ℤ) (es : List Event) (q c : ℕ) (v : ℤ) : Type 0 where
   pub opened : source_at es c q ≡ 0 → v ≡ opening c
   pub written : (s : ℕ) → source_at es c q ≡ suc s → event_at es (suc s) ≡ Some (Write c v)
 
@@ -46,12 +46,12 @@ pub record HasCountedFrames (es : List Event) : Type 0 where
 
 module _ (p : Source) (inputs : List ℤ) where
   abbrev pub FramesAreCounted : Type 0
-  FramesAreCounted = (r : Run) (es : List Event) (outcome : Outcome) → IsTrue (is_well_named p) → IsSerialRun p inputs r es (Leaves outcome) → HasCountedFrames es
+  FramesAreCounted = (r : Transcript) (es : List Event) (outcome : Outcome) → IsTrue (is_well_named p) → IsSerialRun p inputs r es (Leaves outcome) → HasCountedFrames es
 
   abbrev pub RunsHaveCreations : Type 0
-  RunsHaveCreations = (r : Run) (es : List Event) (c : Conclusion) → IsTrue (is_well_named p) → IsSerialRun p inputs r es c → HasCreations es
+  RunsHaveCreations = (r : Transcript) (es : List Event) (c : Conclusion) → IsTrue (is_well_named p) → IsSerialRun p inputs r es c → HasCreations es
 
   abbrev pub ReadsHaveSources : Type 0
   ReadsHaveSources =
-      (r : Run) (es : List Event) (c : Conclusion) → IsTrue (is_well_named p) → IsSerialRun p inputs r es c
-      → (q cell : ℕ) (v : ℤ) → 1 ≤ q → event_at es q ≡ Some (Read cell v) → HasSource (opening_cells p inputs) es q cell v
+      (r : Transcript) (es : List Event) (c : Conclusion) → IsTrue (is_well_named p) → IsSerialRun p inputs r es c
+      → (q cell : ℕ) (v : ℤ) → 1 ≤ q → event_at es q ≡ Some (Read cell v) → HasReadSource (opening_cells p inputs) es q cell v

@@ -10,3 +10,4 @@ pub mod Strands
 pub mod StrandNames
 pub mod Events
 pub mod Held
+pub mod Pieces

@@ -26,12 +26,12 @@ named_event p w (asks.End v) a = Ends v (retired_by p w)
 named_event p w (asks.Fault f) a = Passes Begins
 
 -- a frame's run from a point on, where its next child has this ordinal
-abbrev pub named_from : Source → World → ℕ → serial.Run → Run World
+abbrev pub named_from : Source → World → ℕ → serial.Transcript → Run World
 named_from p w k serial.stop = stop
 named_from p w k (serial.act a v r) = act (named_event p w a v) (named_from p w k r)
 named_from p w k (serial.child how callee u r) =
     child how (child_world p w k callee) (named_from p (child_world p w k callee) 1 u) (named_from p w (suc k) r)
 
 -- the run of the first frame
-abbrev pub named : Source → serial.Run → Run World
+abbrev pub named : Source → serial.Transcript → Run World
 named p r = named_from p (first_world p) 1 r

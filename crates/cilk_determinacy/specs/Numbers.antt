@@ -13,7 +13,7 @@ use Rattle.cilk_program.specs.WellNamed.{is_kind, is_well_named}
 use Rattle.cilk_meaning.specs.Numbering.{Block, frame_at}
 use Rattle.cilk_types.specs.declared.invocation.Invocation.{Invocation}
 use Rattle.cilk_types.specs.declared.invocation.Invocation.TheVariants.{Call, Spawn}
-use Rattle.cilk_runs.specs.Runs.{Name, Cell, Global, Own, Instance, Output, Reducer, Event, Reads, Writes, Syncs, Ends, Passes, Mark, Begins, Resumes, Creates, Updates, Sets, Values, Prints, Run, stop, act, child}
+use Rattle.cilk_runs.specs.Runs.{Name, Cell, Global, Own, Instance, Output, Reducer, Event, Reads, Writes, Syncs, Ends, Passes, Granted, Begins, Resumes, Creates, Updates, Sets, Values, Prints, Run, stop, act, child}
 use Rattle.cilk_determinacy.specs.Nested.{named}
 use Rattle.cilk_worlds.specs.Worlds.{World}
 
@@ -31,14 +31,14 @@ down [] = []
 down (k ∷ name) = below_one k ∷ down name
 
 -- what the frame to which a path leads runs: first so many children are passed over, then the next child's path follows
-abbrev pub child_runs : serial.Run → ℕ → List ℕ → Option Callee
+abbrev pub child_runs : serial.Transcript → ℕ → List ℕ → Option Callee
 child_runs serial.stop k path = None
 child_runs (serial.act a v r) k path = child_runs r k path
 child_runs (serial.child how callee u r) zero [] = Some callee
 child_runs (serial.child how callee u r) zero (j ∷ path) = child_runs u j path
 child_runs (serial.child how callee u r) (suc k) path = child_runs r k path
 
-abbrev pub frame_runs : serial.Run → List ℕ → Option Callee
+abbrev pub frame_runs : serial.Transcript → List ℕ → Option Callee
 frame_runs r [] = Some callees.Root
 frame_runs r (k ∷ path) = child_runs r k path
 
@@ -60,7 +60,7 @@ abbrev pub start_event : Invocation → ℕ → numbers.Event
 start_event Call n = events.Call n
 start_event Spawn n = events.Spawn n
 
-module _ (p : Source) (r : serial.Run) where
+module _ (p : Source) (r : serial.Transcript) where
   -- frames are numbered from 1 as they begin
   abbrev pub frame_number : Name → ℕ
   frame_number name = number_of (frame_at p r (down name))
@@ -105,7 +105,7 @@ module _ (p : Source) (r : serial.Run) where
     pub reducers : (i j : Instance) → HasInstance i → HasInstance j → instance_number i ≡ instance_number j → i ≡ j
 
   -- an event by numbers, of the frame with this name
-  abbrev pub numbered_mark : Name → Mark → numbers.Event
+  abbrev pub numbered_mark : Name → Granted → numbers.Event
   numbered_mark name Begins = events.Begin (frame_number name)
   numbered_mark name Resumes = events.Resume (frame_number name)
   numbered_mark name (Creates i) = events.Create (instance_number i)
@@ -128,7 +128,7 @@ module _ (p : Source) (r : serial.Run) where
   numbered_events name (child k w u t) = start_event k (frame_number w.name) ∷ (numbered_events w.name u ++ numbered_events name t)
 
   -- what an event names is the run's
-  abbrev pub MarkIsHere : Mark → Type 0
+  abbrev pub MarkIsHere : Granted → Type 0
   MarkIsHere Begins = Unit {0}
   MarkIsHere Resumes = Unit {0}
   MarkIsHere (Creates i) = HasInstance i
@@ -151,10 +151,10 @@ module _ (p : Source) (r : serial.Run) where
   AreHere (child k w u t) = IsHere w.name × AreHere u × AreHere t
 
 -- the list is the run by names, where each frame, cell and reducer has its number
-pub record AreNumbered (p : Source) (r : serial.Run) (es : List numbers.Event) : Type 0 where
+pub record AreNumbered (p : Source) (r : serial.Transcript) (es : List numbers.Event) : Type 0 where
   pub events : es ≡ numbered_events p r [] (named p r)
   pub here : AreHere p r (named p r)
 
 abbrev pub EventsHaveNumbers : Source → List ℤ → Type 0
 EventsHaveNumbers p inputs =
-    (r : serial.Run) (es : List numbers.Event) (c : Conclusion) → IsTrue (is_well_named p) → serial.IsSerialRun p inputs r es c → AreNumbered p r es
+    (r : serial.Transcript) (es : List numbers.Event) (c : Conclusion) → IsTrue (is_well_named p) → serial.IsSerialRun p inputs r es c → AreNumbered p r es

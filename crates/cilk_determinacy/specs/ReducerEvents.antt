@@ -14,7 +14,7 @@ use Rattle.cilk_program.specs.Syntax.{Source}
 use Rattle.cilk_program.specs.SerialRun as serial
 use Rattle.cilk_program.specs.SerialRun.{global_reducer}
 use Rattle.cilk_program.specs.WellNamed.{is_well_named}
-use Rattle.cilk_runs.specs.Runs.{Instance, Event, Reads, Writes, Syncs, Ends, Passes, Mark, Begins, Resumes, Creates, Updates, Sets, Values, Prints, Deed, Does, Invokes}
+use Rattle.cilk_runs.specs.Runs.{Instance, Event, Reads, Writes, Syncs, Ends, Passes, Granted, Begins, Resumes, Creates, Updates, Sets, Values, Prints, Deed, Does, Invokes}
 use Rattle.cilk_runs.specs.Traces.{trace}
 use Rattle.cilk_tree.specs.Races.{event_at}
 use Rattle.cilk_determinacy.specs.Nested.{named}
@@ -36,7 +36,7 @@ only k (t ∷ ts) = cond (same_kind t.kind k) (t.event ∷ only k ts) (only k ts
 abbrev pub view_over : MonoidKind → numbered.Instance → List OfKind → ViewValue
 view_over k i ts = view_of (structure_of k) i (only k ts)
 
-module _ (p : Source) (r : serial.Run) where
+module _ (p : Source) (r : serial.Transcript) where
   abbrev pub of_instance : Instance → (numbered.Instance → ReducerEvent) → OfKind
   of_instance i e = record { kind = kind_of i; event = e (instance_number p r i) }
 
@@ -45,7 +45,7 @@ module _ (p : Source) (r : serial.Run) where
   retired_all [] = []
   retired_all (i ∷ is) = of_instance i Retired ∷ retired_all is
 
-  abbrev pub of_mark : Mark → List OfKind
+  abbrev pub of_mark : Granted → List OfKind
   of_mark Begins = []
   of_mark Resumes = []
   of_mark (Creates i) = of_instance i Created ∷ []
@@ -86,11 +86,11 @@ finals_over ts n (k ∷ ks) = final_of (view_over k (global_reducer n) ts) ∷ f
 module _ (p : Source) (inputs : List ℤ) where
   abbrev pub ValuesAreViewed : Type 0
   ValuesAreViewed =
-      (r : serial.Run) (es : List numbers.Event) (c : Conclusion) → IsTrue (is_well_named p) → serial.IsSerialRun p inputs r es c
+      (r : serial.Transcript) (es : List numbers.Event) (c : Conclusion) → IsTrue (is_well_named p) → serial.IsSerialRun p inputs r es c
       → (q : ℕ) (i : numbered.Instance) (v : ℤ) → 1 ≤ q → event_at es q ≡ Some (events.Value i v) → IsViewed p r q i v
 
   -- what a run leaves in the global reducers is their views over all its events
   abbrev pub FinalsAreViewed : Type 0
   FinalsAreViewed =
-      (r : serial.Run) (es : List numbers.Event) (outcome : Outcome) → IsTrue (is_well_named p) → serial.IsSerialRun p inputs r es (Leaves outcome)
+      (r : serial.Transcript) (es : List numbers.Event) (outcome : Outcome) → IsTrue (is_well_named p) → serial.IsSerialRun p inputs r es (Leaves outcome)
       → outcome.reducers ≡ finals_over (reducer_events p r (trace (named p r))) 0 p.reducers

@@ -5,7 +5,7 @@ use Rattle.cilk_types.specs.declared.outcome.Outcome.{Outcome}
 use Rattle.cilk_program.specs.Syntax.{Source}
 use Rattle.cilk_program.specs.Elision.{IsElision}
 use Rattle.cilk_program.specs.Outcomes.{Leaves}
-use Rattle.cilk_program.specs.SerialRun.{Run, IsSerialRun}
+use Rattle.cilk_program.specs.SerialRun.{Transcript, IsSerialRun}
 use Rattle.cilk_tree.specs.Shape.{Shape, Spells}
 use Rattle.cilk_tree.specs.Tree.{tree}
 use Rattle.cilk_tree.specs.Races.{IsRace}
@@ -33,16 +33,16 @@ IsJudged false es = IsRacy es
 
 module _ (p : Source) (inputs : List ℤ) where
   -- whatever steps are made, in whatever order, the state is as this serial run, which leaves this outcome
-  abbrev pub AlwaysAsSerial : Run → Outcome → Type 0
+  abbrev pub AlwaysAsSerial : Transcript → Outcome → Type 0
   AlwaysAsSerial r outcome = (ns : List Name) (s : State World View) → Reaches p inputs ns s → IsAsSerial p inputs r outcome s
 
   -- a serial run that ends without a fault, and has no race, settles every parallel one
   abbrev pub SerialRunsSettle : Type 0
-  SerialRunsSettle = (r : Run) (es : List Event) (outcome : Outcome) → IsSerialRun p inputs r es (Leaves outcome) → IsRaceFree es → AlwaysAsSerial r outcome
+  SerialRunsSettle = (r : Transcript) (es : List Event) (outcome : Outcome) → IsSerialRun p inputs r es (Leaves outcome) → IsRaceFree es → AlwaysAsSerial r outcome
 
   -- the serial run leaves this outcome, which is the serial elision's, and has no race, so every parallel run is as it is
   pub record IsSettled (outcome : Outcome) : Type 0 where
-    pub run : Run
+    pub run : Transcript
     pub events : List Event
     pub elision : IsElision p inputs (Leaves outcome)
     pub serial : IsSerialRun p inputs run events (Leaves outcome)
@@ -51,7 +51,7 @@ module _ (p : Source) (inputs : List ℤ) where
 
   -- the serial run ends without a fault, and has a race
   pub record HasRace : Type 0 where
-    pub run : Run
+    pub run : Transcript
     pub events : List Event
     pub outcome : Outcome
     pub serial : IsSerialRun p inputs run events (Leaves outcome)

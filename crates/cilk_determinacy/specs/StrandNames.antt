@@ -1,12 +1,13 @@
 -- The names of strands, which no schedule changes, and the strands of a serial run.
-use Rattle.std.specs.Prelude.{◌≡◌, ◌-◌, ℕ, suc, ℤ, IsTrue, Bool, true, false, cond, List, [], ◌∷◌, ◌++◌, length, Some, slice_get}
+use Rattle.std.specs.Prelude.{◌≡◌, ◌-◌, ℕ, suc, ℤ, IsTrue, cond, List, [], ◌∷◌, ◌++◌, length, Some, slice_get}
 use Rattle.cilk_types.specs.declared.event.Event as numbers
 use Rattle.cilk_types.specs.declared.outcome.Outcome.{Outcome}
 use Rattle.cilk_program.specs.Outcomes.{Leaves}
 use Rattle.cilk_program.specs.SerialRun as serial
 use Rattle.cilk_program.specs.Syntax.{Source}
 use Rattle.cilk_program.specs.WellNamed.{is_well_named}
-use Rattle.cilk_runs.specs.Runs.{Name, Event, Reads, Writes, Syncs, Ends, Passes, Begins, Resumes, Creates, Updates, Sets, Values, Prints, Run, stop, act, child}
+use Rattle.cilk_runs.specs.Machine.{begins_strand}
+use Rattle.cilk_runs.specs.Runs.{Name, Run, stop, act, child}
 use Rattle.cilk_tree.specs.Before.{IsPosition}
 use Rattle.cilk_tree.specs.Races.{strand_at}
 use Rattle.cilk_worlds.specs.Worlds.{World}
@@ -19,20 +20,6 @@ pub record StrandName : Type 0 where
 
 abbrev pub strand : Name → ℕ → StrandName
 strand n k = record { frame = n; place = k }
-
--- the event begins a strand of its frame
-abbrev pub begins_strand : Event → Bool
-begins_strand (Reads c v) = false
-begins_strand (Writes c v) = false
-begins_strand Syncs = true
-begins_strand (Ends v gone) = false
-begins_strand (Passes Begins) = true
-begins_strand (Passes Resumes) = true
-begins_strand (Passes (Creates i)) = false
-begins_strand (Passes (Updates i v)) = false
-begins_strand (Passes (Sets i v)) = false
-begins_strand (Passes (Values i v)) = false
-begins_strand (Passes (Prints v)) = false
 
 -- the strands that begin from a point of frame n on, where k of its own have begun, in serial order
 abbrev pub strands_from : Name → ℕ → Run World → List StrandName
@@ -47,7 +34,7 @@ strand_of_each n k stop = []
 strand_of_each n k (act e t) = strand n (cond (begins_strand e) (suc k) k) ∷ strand_of_each n (cond (begins_strand e) (suc k) k) t
 strand_of_each n k (child i w u t) = strand n k ∷ (strand_of_each w.name 0 u ++ strand_of_each n k t)
 
-module _ (p : Source) (r : serial.Run) where
+module _ (p : Source) (r : serial.Transcript) where
   -- the names of the run's strands, where the first is strand 1
   abbrev pub strand_names : List StrandName
   strand_names = strands_from [] 0 (named p r)
@@ -61,4 +48,4 @@ module _ (p : Source) (r : serial.Run) where
 
 abbrev pub StrandsHaveNames : Source → List ℤ → Type 0
 StrandsHaveNames p inputs =
-    (r : serial.Run) (es : List numbers.Event) (outcome : Outcome) → IsTrue (is_well_named p) → serial.IsSerialRun p inputs r es (Leaves outcome) → AreStrandsNamed p r es
+    (r : serial.Transcript) (es : List numbers.Event) (outcome : Outcome) → IsTrue (is_well_named p) → serial.IsSerialRun p inputs r es (Leaves outcome) → AreStrandsNamed p r es

@@ -4,7 +4,7 @@ use Rattle.cilk_types.specs.declared.event.Event.{Event}
 use Rattle.cilk_types.specs.declared.outcome.Outcome.{Outcome}
 use Rattle.cilk_program.specs.Outcomes.{Leaves}
 use Rattle.cilk_program.specs.Syntax.{Source}
-use Rattle.cilk_program.specs.SerialRun.{Run, IsSerialRun}
+use Rattle.cilk_program.specs.SerialRun.{Transcript, IsSerialRun}
 use Rattle.cilk_tree.specs.Reach.{IsSynced}
 use Rattle.cilk_tree.specs.Shape.{Shape, Spells}
 
@@ -17,4 +17,4 @@ pub record HasOneShape (es : List Event) : Type 0 where
 
 -- the events of a serial run that ends without a fault do so
 abbrev pub SpellOneShape : Source → List ℤ → Type 0
-SpellOneShape p inputs = (r : Run) (es : List Event) (outcome : Outcome) → IsSerialRun p inputs r es (Leaves outcome) → HasOneShape es
+SpellOneShape p inputs = (r : Transcript) (es : List Event) (outcome : Outcome) → IsSerialRun p inputs r es (Leaves outcome) → HasOneShape es

@@ -19,9 +19,8 @@ use Rattle.cilk_peers.specs.RaceFree.{IsRaceFree}
 use Rattle.cilk_runs.specs.Runs.{Name}
 use Rattle.cilk_runs.specs.Costs.{Total, TickTotal, EventTotal, FrameTotal, CellTotal, weight}
 use Rattle.cilk_runs.specs.Machine.{State, deeds_at, HasEnd}
-use Rattle.cilk_runs.specs.Cuts.{IsConsistent, below}
-use Rattle.cilk_runs.specs.Positions.{made_at, IsClosedBefore}
-use Rattle.cilk_runs.specs.Theorem.{IsSerialRun, Agrees}
+use Rattle.cilk_runs.specs.Cuts.{IsConsistent}
+use Rattle.cilk_runs.specs.Theorem.{IsNestedSerialRun, Agrees}
 use Rattle.cilk_runs.specs.Traces.{trace, begin_due, IsFramed, shape_of, AreWritten}
 use Rattle.cilk_worlds.specs.Reducers.{View, monoid_of}
 use Rattle.cilk_worlds.specs.Worlds.{World, first_world}
@@ -41,22 +40,22 @@ SetWords (e ∷ es) = SetsWord e × SetWords es
 
 module _ (p : Source) (inputs : List ℤ) where
   -- the serial run, by names, is one in the sense of the theorem on free machines
-  abbrev pub IsSerial : serial.Run → Type 0
-  IsSerial r = IsSerialRun World View monoid_of (Next p inputs) (costs p inputs) (first_world p) (named p r) (opening_values p inputs)
+  abbrev pub IsSerial : serial.Transcript → Type 0
+  IsSerial r = IsNestedSerialRun World View monoid_of (Next p inputs) (costs p inputs) (first_world p) (named p r) (opening_values p inputs)
 
   -- the state is a consistent cut of the serial run by names
-  abbrev pub IsCut : serial.Run → State World View → Type 0
+  abbrev pub IsCut : serial.Transcript → State World View → Type 0
   IsCut r s = IsConsistent monoid_of (costs p inputs) (first_world p) (named p r) (opening_values p inputs) s
 
   -- what the serial run uses as a whole, as the free machine counts it
-  abbrev pub whole : serial.Run → Total → ℕ
+  abbrev pub whole : serial.Transcript → Total → ℕ
   whole r total = used p inputs total + weight (costs p inputs) total (first_world p) [] (named p r)
 
   -- What holds of each consistent cut, and so of each state that steps lead to. It is a consistent cut of the serial run, which nothing stopped; each frame has made a beginning of
   -- its serial events with the same values; each child is at most once in the joins; no total is more than the serial run's. Once the first frame has
   -- ended, result, globals, output and reducers are the serial elision's, each spawned child is in the joins exactly once, and the totals are
   -- the serial run's; until then fewer events are made.
-  pub record IsAsSerial (r : serial.Run) (outcome : Outcome) (s : State World View) : Type 0 where
+  pub record IsAsSerial (r : serial.Transcript) (outcome : Outcome) (s : State World View) : Type 0 where
     pub agrees : Agrees World View monoid_of (Next p inputs) (costs p inputs) (first_world p) (named p r) (opening_values p inputs) s
     pub not_stopped : s.stopped ≡ None
     pub outcome_is : HasEnd (deeds_at (s.frames [])) → outcome_in p s ≡ outcome
@@ -66,7 +65,7 @@ module _ (p : Source) (inputs : List ℤ) where
     pub unspent : ¬ (HasEnd (deeds_at (s.frames []))) → s.totals EventTotal < whole r EventTotal
 
   -- the serial run of these events ends without a fault, and no two positions race
-  pub record RunsFree (r : serial.Run) (es : List Event) (outcome : Outcome) : Type 0 where
+  pub record RunsFree (r : serial.Transcript) (es : List Event) (outcome : Outcome) : Type 0 where
     pub named : IsTrue (is_well_named p)
     pub runs : serial.IsSerialRun p inputs r es (Leaves outcome)
     pub sets : SetWords es
@@ -81,19 +80,19 @@ module _ (p : Source) (inputs : List ℤ) where
     pub fewer : (callee : Callee) (answer : ℤ) (history : List ℤ) (start : ℕ) → (frame_asks p inputs callee (history ++ answer ∷ []) start).left ≤ (frame_asks p inputs callee history start).left
 
   abbrev pub SerialRunsByNames : Type 0
-  SerialRunsByNames = (r : serial.Run) (es : List Event) (outcome : Outcome) → IsTrue (is_well_named p) → serial.IsSerialRun p inputs r es (Leaves outcome) → SetWords es → IsSerial r
+  SerialRunsByNames = (r : serial.Transcript) (es : List Event) (outcome : Outcome) → IsTrue (is_well_named p) → serial.IsSerialRun p inputs r es (Leaves outcome) → SetWords es → IsSerial r
 
   -- the events of the serial run by names are the list, by the numbers of its frames, cells and reducers, and the list spells its shape
-  pub record IsNumbered (r : serial.Run) (es : List Event) : Type 0 where
+  pub record IsNumbered (r : serial.Transcript) (es : List Event) : Type 0 where
     pub framed : IsFramed begin_due (named p r)
     pub written : AreWritten (cell_number p r) (instance_number p r) (trace (named p r)) es
     pub spells : Spells (shape_of (named p r)) es
 
   abbrev pub SerialRunsAreNumbered : Type 0
-  SerialRunsAreNumbered = (r : serial.Run) (es : List Event) (outcome : Outcome) → IsTrue (is_well_named p) → serial.IsSerialRun p inputs r es (Leaves outcome) → IsNumbered r es
+  SerialRunsAreNumbered = (r : serial.Transcript) (es : List Event) (outcome : Outcome) → IsTrue (is_well_named p) → serial.IsSerialRun p inputs r es (Leaves outcome) → IsNumbered r es
 
   -- what a serial run that ended has used, as the language counts it: all ticks but those that are left, its events, frames and cells
-  pub record IsCounted (r : serial.Run) (es : List Event) (left : ℕ) (m : serial.Memory) : Type 0 where
+  pub record IsCounted (r : serial.Transcript) (es : List Event) (left : ℕ) (m : serial.Memory) : Type 0 where
     pub ticks : whole r TickTotal + left ≡ MAX_TICKS
     pub events : whole r EventTotal ≡ length es
     pub frames : whole r FrameTotal ≡ m.frames
@@ -101,24 +100,18 @@ module _ (p : Source) (inputs : List ℤ) where
 
   abbrev pub CountsAsSerial : Type 0
   CountsAsSerial =
-      (r : serial.Run) (es : List Event) (value : ℤ) (left : ℕ) (m : serial.Memory) → IsTrue (is_well_named p)
+      (r : serial.Transcript) (es : List Event) (value : ℤ) (left : ℕ) (m : serial.Memory) → IsTrue (is_well_named p)
       → serial.Serial p inputs (serial.root_frame p inputs) MAX_TICKS [] (serial.begun p callees.Root (serial.before_root p inputs MAX_EVENTS)) r es (serial.Finished value left m) → SetWords es → IsCounted r es left m
 
   abbrev pub OpensAsCut : Type 0
-  OpensAsCut = (r : serial.Run) (s : State World View) → IsFirst p inputs s → IsCut r s
-
-  -- in a consistent cut of a serial run with this list of events, each event that is before one that is made is made
-  abbrev pub CutsAreClosed : Type 0
-  CutsAreClosed =
-      (r : serial.Run) (es : List Event) (s : State World View) → IsNumbered r es → IsCut r s
-      → IsClosedBefore (named p r) es (made_at (named p r) 1 (deeds_at (s.frames [])) (below s.frames))
+  OpensAsCut = (r : serial.Transcript) (s : State World View) → IsFirst p inputs s → IsCut r s
 
   abbrev pub StepsKeepCuts : Type 0
-  StepsKeepCuts = (r : serial.Run) (es : List Event) (outcome : Outcome) → RunsFree r es outcome → (s s' : State World View) (n : Name) → IsCut r s → OneStep p inputs s n s' → IsCut r s'
+  StepsKeepCuts = (r : serial.Transcript) (es : List Event) (outcome : Outcome) → RunsFree r es outcome → (s s' : State World View) (n : Name) → IsCut r s → OneStep p inputs s n s' → IsCut r s'
 
   -- each consistent cut of a serial run that ended and has no race is as that run, however it came about
   abbrev pub CutsAreAsSerial : Type 0
-  CutsAreAsSerial = (r : serial.Run) (es : List Event) (outcome : Outcome) → RunsFree r es outcome → (s : State World View) → IsCut r s → IsAsSerial r outcome s
+  CutsAreAsSerial = (r : serial.Transcript) (es : List Event) (outcome : Outcome) → RunsFree r es outcome → (s : State World View) → IsCut r s → IsAsSerial r outcome s
 
-  abbrev pub IsDeterminate : Type 0
-  IsDeterminate = (r : serial.Run) (es : List Event) (outcome : Outcome) → RunsFree r es outcome → (ns : List Name) (s : State World View) → Reaches p inputs ns s → IsAsSerial r outcome s
+  abbrev pub IsDeterminateProgram : Type 0
+  IsDeterminateProgram = (r : serial.Transcript) (es : List Event) (outcome : Outcome) → RunsFree r es outcome → (ns : List Name) (s : State World View) → Reaches p inputs ns s → IsAsSerial r outcome s

@@ -6,7 +6,7 @@ use Rattle.cilk_monoid.specs.Values.{IsWord}
 use Rattle.cilk_types.specs.declared.outcome.Outcome.{Outcome}
 use Rattle.cilk_program.specs.WellNamed.{is_well_named}
 use Rattle.cilk_program.specs.Outcomes.{Conclusion, Leaves}
-use Rattle.cilk_program.specs.SerialRun.{Run, IsSerialRun}
+use Rattle.cilk_program.specs.SerialRun.{Transcript, IsSerialRun}
 use Rattle.cilk_runs.specs.Runs.{Name}
 use Rattle.cilk_runs.specs.Machine.{State}
 use Rattle.cilk_worlds.specs.Reducers.{View}
@@ -99,10 +99,10 @@ pub record InputsAreWords (inputs : List ℤ) : Type 0 where
 
 -- where the program's numbers and its inputs are words, a serial run sets reducers to words alone
 abbrev pub SetsWords : Source → List ℤ → Type 0
-SetsWords p inputs = HasWords p → InputsAreWords inputs → (r : Run) (es : List Event) (c : Conclusion) → IsSerialRun p inputs r es c → SetWords es
+SetsWords p inputs = HasWords p → InputsAreWords inputs → (r : Transcript) (es : List Event) (c : Conclusion) → IsSerialRun p inputs r es c → SetWords es
 
 -- The theorem with premises on the program and its inputs alone, and on its serial run: that it ends without a fault and has no race.
 abbrev pub IsDeterminateInWords : Source → List ℤ → Type 0
 IsDeterminateInWords p inputs =
-    IsTrue (is_well_named p) → HasWords p → InputsAreWords inputs → (r : Run) (es : List Event) (outcome : Outcome) → IsSerialRun p inputs r es (Leaves outcome) → IsRaceFree es
+    IsTrue (is_well_named p) → HasWords p → InputsAreWords inputs → (r : Transcript) (es : List Event) (outcome : Outcome) → IsSerialRun p inputs r es (Leaves outcome) → IsRaceFree es
     → (ns : List Name) (s : State World View) → Reaches p inputs ns s → IsAsSerial p inputs r outcome s

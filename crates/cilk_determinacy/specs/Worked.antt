@@ -4,7 +4,7 @@ use Rattle.cilk_types.specs.declared.event.Event.{Event}
 use Rattle.cilk_types.specs.declared.outcome.Final.TheVariants as final
 use Rattle.cilk_types.specs.declared.outcome.Outcome.{Outcome}
 use Rattle.cilk_program.specs.Syntax.{Source}
-use Rattle.cilk_program.specs.SerialRun.{Run}
+use Rattle.cilk_program.specs.SerialRun.{Transcript}
 use Rattle.cilk_meaning.specs.WorkedFrames.{get}
 use Rattle.cilk_meaning.specs.WorkedReducers.{changed, lent, again}
 use Rattle.cilk_runs.specs.Runs.{Name}
@@ -16,7 +16,7 @@ use Rattle.cilk_worlds.specs.Steps.{Reaches, outcome_in}
 
 -- the program's serial run has no race and leaves this
 abbrev pub IsFree : Source → List ℤ → Outcome → Type 0
-IsFree p inputs outcome = (r : Run) × (es : List Event) × RunsFree p inputs r es outcome
+IsFree p inputs outcome = (r : Transcript) × (es : List Event) × RunsFree p inputs r es outcome
 
 -- whatever steps are made, nothing stops the run, and once the first frame has ended it has left this
 abbrev pub AlwaysLeaves : Source → List ℤ → Outcome → Type 0

@@ -2,7 +2,7 @@
 
 ghost use Rattle.std.specs.Prelude.{ℤ, List};
 ghost use Rattle.cilk_program.specs.Syntax.{Source};
-ghost use Rattle.cilk_program.specs.SerialRun.{Run};
+ghost use Rattle.cilk_program.specs.SerialRun.{Transcript};
 ghost use Rattle.cilk_determinacy.specs.Events.{RunsHaveCreations, ReadsHaveSources, FramesAreCounted};
 ghost use Rattle.cilk_determinacy.specs.Numbers.{AreOneToOne, EventsHaveNumbers};
 ghost use Rattle.cilk_determinacy.specs.ReducerEvents.{ValuesAreViewed, FinalsAreViewed};
@@ -37,7 +37,7 @@ pub fn events_have_numbers()
 
 /// In each run the names of its frames, of its cells and of the reducers that it creates are numbered one to one.
 pub fn numbers_are_one_to_one()
-    ensures { (p : Source) (r : Run) → AreOneToOne p r }
+    ensures { (p : Source) (r : Transcript) → AreOneToOne p r }
 {}
 
 /// In a serial run of a well-named program that ends without a fault the `begin`s name the frames 1, 2, 3 and so on, in order, at

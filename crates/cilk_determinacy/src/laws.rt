@@ -2,7 +2,7 @@
 
 ghost use Rattle.std.specs.Prelude.{ℤ, List};
 ghost use Rattle.cilk_program.specs.Syntax.{Source};
-ghost use Rattle.cilk_determinacy.specs.Theorem.{TicksAddUp, SerialRunsByNames, SerialRunsAreNumbered, CountsAsSerial, OpensAsCut, CutsAreClosed, StepsKeepCuts, CutsAreAsSerial, IsDeterminate};
+ghost use Rattle.cilk_determinacy.specs.Theorem.{TicksAddUp, SerialRunsByNames, SerialRunsAreNumbered, CountsAsSerial, OpensAsCut, StepsKeepCuts, CutsAreAsSerial, IsDeterminateProgram};
 ghost use Rattle.cilk_determinacy.specs.Words.{SetsWords, IsDeterminateInWords};
 ghost use Rattle.cilk_determinacy.specs.Worked.{GetIsFree, GetLeaves, LentIsFree, LentLeaves, ChangedIsFree, ChangedLeaves, AgainIsFree, AgainLeaves};
 
@@ -35,11 +35,6 @@ pub fn totals_are_serial()
     ensures { (p : Source) (inputs : List ℤ) → CountsAsSerial p inputs }
 {}
 
-/// A consistent cut by positions of the serial run: with an event made, each event before it is made.
-pub fn cuts_are_closed()
-    ensures { (p : Source) (inputs : List ℤ) → CutsAreClosed p inputs }
-{}
-
 /// The opening state of the free machine is a consistent cut.
 pub fn opening_is_a_cut()
     ensures { (p : Source) (inputs : List ℤ) → OpensAsCut p inputs }
@@ -67,7 +62,7 @@ pub fn cuts_are_as_serial()
 ///
 /// After Feng and Leiserson (1997) for races and Lee and Schardl (2015) for the reads of reducers.
 pub fn race_free_programs_are_determinate()
-    ensures { (p : Source) (inputs : List ℤ) → IsDeterminate p inputs }
+    ensures { (p : Source) (inputs : List ℤ) → IsDeterminateProgram p inputs }
 {}
 
 /// The same from the program, its inputs and its serial run alone: where each number that the program writes and each input is a word, as in

@@ -2,13 +2,13 @@
 
 ghost use Rattle.std.specs.Prelude.{ℤ, List};
 ghost use Rattle.cilk_program.specs.Syntax.{Source};
-ghost use Rattle.cilk_determinacy.specs.Positions.{CutsAreClosedAt};
+ghost use Rattle.cilk_determinacy.specs.Positions.{CutsAreClosed};
 ghost use Rattle.cilk_determinacy.specs.StrandNames.{StrandsHaveNames};
 
 /// A consistent cut by positions of the serial run's list, in the tree of the list: each event is made or not, and with an event
 /// made, each event before it is made.
-pub fn cuts_are_closed_at_positions()
-    ensures { (p : Source) (inputs : List ℤ) → CutsAreClosedAt p inputs }
+pub fn cuts_are_closed()
+    ensures { (p : Source) (inputs : List ℤ) → CutsAreClosed p inputs }
 {}
 
 /// A strand is named by its frame's name and its place among the frame's strands, which no schedule changes. The strands of a

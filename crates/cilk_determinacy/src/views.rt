@@ -3,10 +3,18 @@
 ghost use Rattle.std.specs.Prelude.{ℤ, List};
 ghost use Rattle.cilk_program.specs.Syntax.{Source};
 ghost use Rattle.cilk_determinacy.specs.Held.{ViewsAreHeld};
+ghost use Rattle.cilk_determinacy.specs.Pieces.{PiecesCover};
 
 /// Whatever steps the free machine makes, with a race or without, each view in each frame's piece is a view of the language, of its
 /// reducer's monoid: where the numbers of the program and its inputs are words, and no frame reads the length of a list that is
 /// past a word.
 pub fn frames_hold_views()
     ensures { (p : Source) (inputs : List ℤ) → ViewsAreHeld p inputs }
+{}
+
+/// In each consistent cut of a serial run without races each piece covers one stretch of the run without gaps, the stretches lie apart,
+/// together they are the cut, and each piece has the views of its stretch alone: of each reducer what the stretch's creations,
+/// updates, sets and retirements make of the unit.
+pub fn pieces_cover_stretches()
+    ensures { (p : Source) (inputs : List ℤ) → PiecesCover p inputs }
 {}

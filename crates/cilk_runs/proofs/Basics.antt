@@ -1,10 +1,9 @@
 -- Names, cells and lists of deeds.
 use Rattle.std.proofs.Common.{◌≡◌, true, List, [], ◌∷◌, ◌++◌, refl, ap, ap₂, arith, ◌⊎◌, inl, inr, eq-eqb, eqb-true}
 use Rattle.std.specs.Prelude.{◌&&◌, nat_eq}
-use Rattle.std.proofs.lemmas.Bool.{and_parts, and_from, false≢true}
-use Rattle.cilk_monoid.specs.declared.kind.MonoidKind.{MonoidKind}
-use Rattle.cilk_monoid.specs.declared.kind.MonoidKind.TheVariants.{Add, Least, Greatest, Append, Affine}
+use Rattle.std.proofs.lemmas.Bool.{and_parts, and_from}
 use Rattle.cilk_monoid.specs.Kinds.{same_kind}
+use Rattle.cilk_monoid.proofs.SameKinds.{kind_itself, same_kind-eq}
 use Rattle.cilk_runs.specs.Runs.{Name, same_name, Cell, Global, Own, same_cell, Instance, Output, Reducer, same_instance, Reads, Writes, Syncs, Ends, Passes, Deed, Does, Invokes}
 use Rattle.cilk_runs.specs.Machine.{HasSync}
 
@@ -36,43 +35,9 @@ same_cell-eq (Own n a) (Own m b) h =
     let y : a ≡ b = eqb-true a b p.1 in
     cc
 
-pub same_kind-refl : (k : MonoidKind) → same_kind k k ≡ true
-same_kind-refl Add = refl
-same_kind-refl Least = refl
-same_kind-refl Greatest = refl
-same_kind-refl Append = refl
-same_kind-refl Affine = refl
-
-pub same_kind-eq : (j k : MonoidKind) → same_kind j k ≡ true → j ≡ k
-same_kind-eq Add Add h = refl
-same_kind-eq Least Least h = refl
-same_kind-eq Greatest Greatest h = refl
-same_kind-eq Append Append h = refl
-same_kind-eq Affine Affine h = refl
-same_kind-eq Add Least h = absurd (false≢true h)
-same_kind-eq Add Greatest h = absurd (false≢true h)
-same_kind-eq Add Append h = absurd (false≢true h)
-same_kind-eq Add Affine h = absurd (false≢true h)
-same_kind-eq Least Add h = absurd (false≢true h)
-same_kind-eq Least Greatest h = absurd (false≢true h)
-same_kind-eq Least Append h = absurd (false≢true h)
-same_kind-eq Least Affine h = absurd (false≢true h)
-same_kind-eq Greatest Add h = absurd (false≢true h)
-same_kind-eq Greatest Least h = absurd (false≢true h)
-same_kind-eq Greatest Append h = absurd (false≢true h)
-same_kind-eq Greatest Affine h = absurd (false≢true h)
-same_kind-eq Append Add h = absurd (false≢true h)
-same_kind-eq Append Least h = absurd (false≢true h)
-same_kind-eq Append Greatest h = absurd (false≢true h)
-same_kind-eq Append Affine h = absurd (false≢true h)
-same_kind-eq Affine Add h = absurd (false≢true h)
-same_kind-eq Affine Least h = absurd (false≢true h)
-same_kind-eq Affine Greatest h = absurd (false≢true h)
-same_kind-eq Affine Append h = absurd (false≢true h)
-
 pub same_instance-refl : (i : Instance) → same_instance i i ≡ true
 same_instance-refl Output = refl
-same_instance-refl (Reducer n a k) = and_from (same_name n n && nat_eq a a) (same_kind k k) (and_from (same_name n n) (nat_eq a a) (same_name-refl n) (eq-eqb a a refl)) (same_kind-refl k)
+same_instance-refl (Reducer n a k) = and_from (same_name n n && nat_eq a a) (same_kind k k) (and_from (same_name n n) (nat_eq a a) (same_name-refl n) (eq-eqb a a refl)) (kind_itself k)
 
 pub same_instance-eq : (i j : Instance) → same_instance i j ≡ true → i ≡ j
 same_instance-eq Output Output h = refl

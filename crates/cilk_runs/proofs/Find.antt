@@ -5,10 +5,14 @@ use Rattle.cilk_types.specs.declared.invocation.Invocation.{Invocation}
 use Rattle.cilk_types.specs.declared.invocation.Invocation.TheVariants.{Call, Spawn}
 use Rattle.cilk_runs.specs.Runs.{Name, Cell, Ask, Invoke, Sync, Event, Reads, Writes, Syncs, Ends, Passes, Deed, Does, Invokes, Run, stop, act, child, ask_of}
 use Rattle.cilk_runs.specs.Machine.{Frame, Frames, deeds_at, HasEnd, HasSync, Ready, put}
-use Rattle.cilk_runs.specs.Serial.{own_deeds, value_after, IsSerial, SyncAhead, GoesOn, ComesAfter, IsClosed, Behaves, IsDetermined}
+use Rattle.cilk_runs.specs.Serial.{own_deeds, value_after, IsSerial, SyncAhead, GoesOn, ComesAfter, IsClosed, Behaves}
 use Rattle.cilk_runs.specs.Cuts.{below, IsStarted, IsFull, IsPast, NoneFrom, IsCut}
 use Rattle.cilk_runs.proofs.Basics.{has_sync, IsSyncDeed, last_sync}
 use Rattle.cilk_runs.proofs.Front.{Front, here_act, here_child, past_act, past_child, inside}
+
+-- what a frame asks next follows from what it has done
+abbrev pub IsDetermined : (W : Type 0) → (W → List (Deed W) → Ask W → Type 0) → Type 0
+IsDetermined W Next = (w : W) (past : List (Deed W)) (a b : Ask W) → Next w past a → Next w past b → a ≡ b
 
 -- the read at the front answers what the cell holds there in the serial run
 module _ {W : Type 0} {c : Cell} where

@@ -4,8 +4,8 @@ use Rattle.cilk_types.specs.declared.invocation.Invocation.{Invocation}
 use Rattle.cilk_types.specs.declared.invocation.Invocation.TheVariants.{Call, Spawn}
 use Rattle.cilk_runs.specs.Runs.{Reads, Writes, Syncs, Ends, Passes, Begins, Resumes, Creates, Updates, Sets, Values, Prints, Deed, Does, Run, stop, act, child}
 use Rattle.cilk_runs.specs.Traces.{trace, Due, begin_due, resume_due, neither_due, IsFramed}
-use Rattle.cilk_runs.specs.Views.{IsResumed}
-use Rattle.cilk_runs.proofs.Layouts.{Layout, Strand, Series, Beside, in_order, child_layout, layouts, layout, size, IsInhabited}
+use Rattle.cilk_runs.proofs.Blocks.{IsResumed}
+use Rattle.cilk_runs.proofs.Layouts.{Layout, in_order, child_layout, layouts, layout, size, IsInhabited}
 use Rattle.cilk_runs.proofs.Races.{tree_events, tree_size}
 
 abbrev is_due : Due → Bool

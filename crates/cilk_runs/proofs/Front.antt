@@ -6,7 +6,8 @@ use Rattle.cilk_types.specs.declared.invocation.Invocation.TheVariants.{Call, Sp
 use Rattle.cilk_runs.specs.Runs.{Name, Cell, same_cell, Event, Reads, Writes, Syncs, Ends, Passes, Deed, Does, Invokes, Run, stop, act, child}
 use Rattle.cilk_runs.specs.Machine.{Frames, deeds_at, HasSync, put}
 use Rattle.cilk_runs.specs.Serial.{value_after}
-use Rattle.cilk_runs.specs.Races.{IsAccess, IsWrite, IsSync, HasEventWith, HasInBlockWith, ApartIf, RaceFree}
+use Rattle.cilk_runs.specs.Views.{HasEventWith}
+use Rattle.cilk_runs.proofs.Blocks.{IsAccess, IsWrite, IsSync, HasInBlockWith, ApartIf, RaceFree}
 use Rattle.cilk_runs.specs.Cuts.{below, IsFull, IsPast, IsCut, made}
 use Rattle.cilk_runs.proofs.Basics.{same_cell-eq, has_sync, more_sync}
 

@@ -6,7 +6,7 @@ use Rattle.cilk_types.specs.declared.invocation.Invocation.{Invocation}
 use Rattle.cilk_types.specs.declared.invocation.Invocation.TheVariants.{Call, Spawn}
 use Rattle.cilk_runs.specs.Runs.{Name, same_name, Cell, same_cell, Event, Writes, Deed, Does, Invokes, Run, stop, act, child}
 use Rattle.cilk_runs.specs.Machine.{Frame, Frames, deeds_at, started, put, effect, with_frame, begun, after_deed}
-use Rattle.cilk_runs.specs.Races.{RaceFree}
+use Rattle.cilk_runs.proofs.Blocks.{RaceFree}
 use Rattle.cilk_runs.specs.Cuts.{below, IsStarted, IsFull, IsPast, NoneFrom, IsCut, made}
 use Rattle.cilk_runs.proofs.Basics.{same_name-refl, same_name-eq, same_cell-refl}
 use Rattle.cilk_runs.proofs.Find.{counts_from}

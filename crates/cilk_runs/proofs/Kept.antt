@@ -2,19 +2,19 @@
 use Rattle.std.proofs.Common.{◌+◌, None, ◌≡◌, ℕ, Bool, true, false, cond, ◌&&◌, List, [], ◌∷◌, ◌++◌, Some, refl, sym, ap, ◌∙◌, subst, arith, inl, ⊎_elim, eq-eqb, ℤ, suc, pos, ◌≤◌}
 use mathlib.Core.Path.{fun_ext}
 use Rattle.std.proofs.lemmas.Bool.{cases_Bool, cond-true, cond-false}
-use Rattle.cilk_runs.specs.Runs.{Name, same_name, Cell, Global, same_cell, Ask, Read, Write, Invoke, Sync, End, Pass, Fail, Mark, Begins, Resumes, Creates, Updates, Sets, Values, Prints, wish_of, Reads, Writes, Syncs, Ends, Passes, Deed, Does, Invokes, Run, Instance}
+use Rattle.cilk_runs.specs.Runs.{Name, same_name, Cell, Global, same_cell, Ask, Read, Write, Invoke, Sync, End, Pass, Fail, Granted, Begins, Resumes, Creates, Updates, Sets, Values, Prints, wish_of, Reads, Writes, Syncs, Ends, Passes, Deed, Does, Invokes, Run, Instance}
 use Rattle.cilk_runs.specs.Machine.{Frame, Frames, State, deeds_at, HasEnd, started, put, effect, mark_of, deed_of, begun, after_deed, block_view, with_view, after_views, IsAsking, Makes, Steals, Stops, Step, Steps, IsOpening}
-use Rattle.cilk_runs.specs.Serial.{own_deeds, value_after, IsSerial, IsClosed, Behaves, IsDetermined}
+use Rattle.cilk_runs.specs.Serial.{own_deeds, value_after, IsSerial, IsClosed, Behaves}
 use Rattle.cilk_runs.specs.Costs.{Costs, Total, cost, fault_of, weight}
 use Rattle.cilk_runs.proofs.Spent.{CostsAt, spent_nil, spent_le, spent_step, no_fault}
-use Rattle.cilk_runs.specs.Races.{RaceFree}
+use Rattle.cilk_runs.specs.Views.{view_after, IsSerialViews}
+use Rattle.cilk_runs.proofs.Blocks.{RaceFree, ViewFree, IsResumed}
 use Rattle.cilk_runs.specs.Cuts.{times, joined, below, IsStarted, IsFull, NoneFrom, IsCut, made, Lies, IsConsistent}
 use Rattle.cilk_monoid.specs.Laws.{MonoidStructure, IsLawful}
 use Rattle.cilk_runs.specs.Monoids.{IsValue, number_of, numbers_of, unit_of}
-use Rattle.cilk_runs.specs.Views.{view_after, IsSerialViews, ViewFree, IsResumed}
 use Rattle.cilk_runs.proofs.Basics.{same_cell-eq, same_name-eq, same_name-refl}
 use Rattle.cilk_runs.proofs.Front.{Front, here_act, here_child, past_act, past_child, inside, grown, front_value, made_nil, made_full}
-use Rattle.cilk_runs.proofs.Find.{front_right, full_deeds, ended_full, ask_by, Asks, find, counts_from}
+use Rattle.cilk_runs.proofs.Find.{IsDetermined, front_right, full_deeds, ended_full, ask_by, Asks, find, counts_from}
 use Rattle.cilk_runs.proofs.Grows.{Grows, GrowsTree, tree_grows, cut_nil, cut_step, made_other, made_write}
 use Rattle.cilk_runs.proofs.Pieces.{Moved, Rests, lies_nil, lies_step}
 use Rattle.cilk_runs.proofs.Stolen.{At, Taken, find_stolen, lies_steal}
@@ -22,7 +22,7 @@ use Rattle.cilk_runs.proofs.Joins.{times-append, joins_of, joined_front, joined_
 use Rattle.cilk_runs.specs.Machine.{joined_by}
 use Rattle.cilk_runs.proofs.Values.{front_view, view_right, view_of, final_view, view_front}
 
-abbrev IsAnswered : Mark → (Instance → ℤ) → Type 0
+abbrev IsAnswered : Granted → (Instance → ℤ) → Type 0
 IsAnswered Begins number = Unit {0}
 IsAnswered Resumes number = Unit {0}
 IsAnswered (Updates i x) number = Unit {0}
@@ -31,7 +31,7 @@ IsAnswered (Sets i x) number = Unit {0}
 IsAnswered (Values i v) number = v ≡ number i
 IsAnswered (Prints x) number = Unit {0}
 
-same_mark : (m : Mark) (number : Instance → ℤ) → IsAnswered m number → mark_of number (wish_of m) ≡ m
+same_mark : (m : Granted) (number : Instance → ℤ) → IsAnswered m number → mark_of number (wish_of m) ≡ m
 same_mark Begins number h = refl
 same_mark Resumes number h = refl
 same_mark (Updates i x) number h = refl
@@ -58,7 +58,7 @@ module _ {W : Type 0} where
   cell_of (Pass m) = Global 0
   cell_of (Fail m) = Global 0
 
-  same_deed : (e : Deed W) (a : Ask W) (memory : Cell → ℤ) (number : Instance → ℤ) → a ≡ ask_by e → ((v : ℤ) → e ≡ Does (Reads (cell_of a) v) → v ≡ memory (cell_of a)) → ((m : Mark) → e ≡ Does (Passes m) → IsAnswered m number) → deed_of memory number a ≡ e
+  same_deed : (e : Deed W) (a : Ask W) (memory : Cell → ℤ) (number : Instance → ℤ) → a ≡ ask_by e → ((v : ℤ) → e ≡ Does (Reads (cell_of a) v) → v ≡ memory (cell_of a)) → ((m : Granted) → e ≡ Does (Passes m) → IsAnswered m number) → deed_of memory number a ≡ e
   same_deed (Does (Reads c v)) a memory number q h g =
       let e : v ≡ memory c = (rw q at h) v refl in
       rw q (ap (λ z. Does (Reads c z)) (sym e))
@@ -188,7 +188,7 @@ module _ (W V : Type 0) (M : Instance → MonoidStructure V) (Next : W → List 
       }
 
   module _ (determined : IsDetermined W Next) (behaves : Behaves W Next w [] t) (closed : IsClosed t) (serial : IsSerial t opening) (free : RaceFree t) (law : (i : Instance) → IsLawful (M i) IsValue) (resumed : IsResumed false t) (views : IsSerialViews M t (unit_of M)) (apart : (i : Instance) → ViewFree (M i) i t (unit_of M i)) (within : (total : Total) → C.used total + weight C total w [] t ≤ C.limit total) where
-    answered : (s : State W V) (n : Name) (ok : IsConsistent M C w t opening s) (m : Mark) {c : Cell} {x y : ℤ} → Front W c t 1 (deeds_at (s.frames [])) (below s.frames) n (Does (Passes m)) x y → IsAnswered m (numbers_of M (s.piece n))
+    answered : (s : State W V) (n : Name) (ok : IsConsistent M C w t opening s) (m : Granted) {c : Cell} {x y : ℤ} → Front W c t 1 (deeds_at (s.frames [])) (below s.frames) n (Does (Passes m)) x y → IsAnswered m (numbers_of M (s.piece n))
     answered s n ok Begins f = tt
     answered s n ok Resumes f = tt
     answered s n ok (Updates i x) f = tt
@@ -210,7 +210,7 @@ module _ (W V : Type 0) (M : Instance → MonoidStructure V) (Next : W → List 
         let right : (v : ℤ) → e ≡ Does (Reads c v) → v ≡ s.memory c =
         λ v h. let f : Front W c t 1 ds kids n (Does (Reads c v)) (opening c) y = subst (λ z. Front W c t 1 ds kids n z (opening c) y) h front in
         front_right f v refl opening refl serial ∙ sym (front_value f ok.cut free refl) ∙ sym (ok.memory c) in
-        let told : (z : Mark) → e ≡ Does (Passes z) → IsAnswered z number =
+        let told : (z : Granted) → e ≡ Does (Passes z) → IsAnswered z number =
         λ z h. answered s n ok z (subst (λ a. Front W c t 1 ds kids n a (opening c) y) h front) in
         let deed : deed_of s.memory number m.ask ≡ e = same_deed e m.ask s.memory number q right told in
         let frames : s'.frames ≡ after_deed s.frames n m.frame e = m.frames ∙ ap (after_deed s.frames n m.frame) deed in

@@ -4,11 +4,11 @@ use Rattle.std.proofs.lemmas.Bool.{cases_Bool, cond-true, cond-false, cases_orde
 use Rattle.std.specs.Prelude.{slice_get, nat_lt}
 use Rattle.cilk_types.specs.declared.invocation.Invocation.{Invocation}
 use Rattle.cilk_types.specs.declared.invocation.Invocation.TheVariants.{Call, Spawn}
-use Rattle.cilk_runs.specs.Runs.{same_instance, Output, has_instance, Event, Reads, Writes, Syncs, Ends, Passes, Mark, Begins, Resumes, Creates, Updates, Sets, Values, Prints, Deed, Does, Invokes, Run, stop, act, child, Instance}
+use Rattle.cilk_runs.specs.Runs.{same_instance, Output, has_instance, Event, Reads, Writes, Syncs, Ends, Passes, Granted, Begins, Resumes, Creates, Updates, Sets, Values, Prints, Deed, Does, Invokes, Run, stop, act, child, Instance}
 use Rattle.cilk_monoid.specs.Laws.{MonoidStructure, IsLawful}
 use Rattle.cilk_runs.specs.Monoids.{IsValue, mark_view, on_view}
-use Rattle.cilk_runs.specs.Races.{HasEventWith, HasInBlockWith}
-use Rattle.cilk_runs.specs.Views.{view_after, IsReducerRead, IsTouch, IsCreate, IsRetire, IsRetiredAtHome, IsCreated, IsUpdate, IsCreatedFirst, ReadRule, IsReadApart, ViewApart, ViewFree}
+use Rattle.cilk_runs.specs.Views.{HasEventWith, view_after, IsReducerRead, IsCreate, IsRetire, IsRetiredAtHome, IsCreated, IsUpdate, IsCreatedFirst}
+use Rattle.cilk_runs.proofs.Blocks.{HasInBlockWith, IsTouch, ReadRule, IsReadApart, ViewApart, ViewFree}
 use Rattle.cilk_runs.specs.Traces.{trace}
 use Rattle.cilk_runs.proofs.Layouts.{Layout, Strand, Series, Beside, in_order, child_layout, layouts, layout, size, are_beside, events_of, peer_at, ReadsHavePeers, IsInhabited}
 use Rattle.cilk_runs.specs.Serial.{IsClosed, SyncAhead, ComesAfter}
@@ -88,7 +88,7 @@ module _ (i : Instance) where
   block_read (child b w u r) mine home closed ahead (inr h) = inr (block_read r mine home.1 closed.2 ahead h)
 
   module _ {V : Type 0} (M : MonoidStructure V) where
-    mark_unit : (m : Mark) → ¬ (IsReducerRead i (Passes m)) → ¬ (IsUpdate i (Passes m)) → mark_view M m i M.unit ≡ M.unit
+    mark_unit : (m : Granted) → ¬ (IsReducerRead i (Passes m)) → ¬ (IsUpdate i (Passes m)) → mark_view M m i M.unit ≡ M.unit
     mark_unit Begins p q = refl
     mark_unit Resumes p q = refl
     mark_unit (Updates j x) p q = ⊎_elim (λ e. absurd (q (same_instance-eq j i e))) (λ e. cond-false (same_instance j i) _ _ e) (cases_Bool (same_instance j i))

@@ -6,7 +6,7 @@ use Rattle.cilk_types.specs.declared.invocation.Invocation.{Invocation}
 use Rattle.cilk_types.specs.declared.invocation.Invocation.TheVariants.{Call, Spawn}
 use Rattle.cilk_runs.specs.Runs.{Name, Cell, Ask, Event, Reads, Writes, Syncs, Ends, Passes, Begins, Resumes, Creates, Updates, Sets, Values, Prints, Deed, Does, Invokes, Run, stop, act, child, Instance}
 use Rattle.cilk_monoid.specs.Laws.{MonoidStructure}
-use Rattle.cilk_runs.specs.Views.{IsResume, IsResumed}
+use Rattle.cilk_runs.proofs.Blocks.{IsResume, IsResumed}
 use Rattle.cilk_runs.specs.Machine.{Frame, Frames, deeds_at, HasEnd, HasSync, Ready, started, begun, block_view, own_view}
 use Rattle.cilk_runs.specs.Serial.{IsClosed}
 use Rattle.cilk_runs.specs.Cuts.{below, IsFull, IsCut, NoneStolen, WhenResumed, WhenStolen, block_after, own_after, Lies}

@@ -7,7 +7,8 @@ use Rattle.std.proofs.lemmas.Option.{slice_get_past}
 use Rattle.cilk_types.specs.declared.invocation.Invocation.{Invocation}
 use Rattle.cilk_types.specs.declared.invocation.Invocation.TheVariants.{Call, Spawn}
 use Rattle.cilk_runs.specs.Runs.{Cell, Event, Reads, Writes, Syncs, Ends, Passes, Deed, Does, Invokes, Run, stop, act, child}
-use Rattle.cilk_runs.specs.Races.{IsAccess, IsWrite, HasEventWith, HasInBlockWith, Apart, RaceFree}
+use Rattle.cilk_runs.specs.Views.{HasEventWith}
+use Rattle.cilk_runs.proofs.Blocks.{IsAccess, IsWrite, HasInBlockWith, Apart, RaceFree}
 use Rattle.cilk_runs.specs.Traces.{trace}
 use Rattle.cilk_runs.proofs.Layouts.{Layout, Strand, Series, Beside, in_order, child_layout, layouts, layout, size, are_beside, event_clash, clash, NoneClash, events_of}
 use Rattle.cilk_runs.proofs.Basics.{same_cell-refl}

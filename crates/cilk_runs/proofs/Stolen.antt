@@ -6,7 +6,7 @@ use Rattle.cilk_types.specs.declared.invocation.Invocation.{Invocation}
 use Rattle.cilk_types.specs.declared.invocation.Invocation.TheVariants.{Call, Spawn}
 use Rattle.cilk_runs.specs.Runs.{Name, Cell, Event, Passes, Resumes, Deed, Does, Invokes, Run, stop, act, child, Instance}
 use Rattle.cilk_monoid.specs.Laws.{MonoidStructure}
-use Rattle.cilk_runs.specs.Views.{IsResumed}
+use Rattle.cilk_runs.proofs.Blocks.{IsResumed}
 use Rattle.cilk_runs.specs.Machine.{Frame, Frames, deeds_at, started, put}
 use Rattle.cilk_runs.specs.Serial.{value_after}
 use Rattle.cilk_runs.specs.Cuts.{below, IsFull, IsPast, NoneFrom, IsCut, NoneStolen, WhenResumed, block_after, own_after, Lies}

@@ -4,7 +4,7 @@
 -- - `past_marks`, `cover`: the stretches are the events made;
 -- - `Within`, `all_within`, `all_apart`: each frame holds one of them;
 -- - `are_stretches`: the law.
-use Rattle.std.proofs.Common.{◌≡◌, ◌≤◌, ℕ, zero, suc, ◌+◌, Bool, true, false, true≢false, List, [], ◌∷◌, ◌++◌, length, Option, Some, None, ◌⊎◌, inl, inr, ⊎_elim, refl, sym, ap, ap₂, ◌∙◌, subst, arith, append_assoc, append-nil, length-append, zero-add, suc-add, ℤ}
+use Rattle.std.proofs.Common.{◌≡◌, ◌≤◌, ℕ, zero, suc, ◌+◌, Bool, true, false, true≢false, List, [], ◌∷◌, ◌++◌, length, Some, ◌⊎◌, inl, inr, ⊎_elim, refl, sym, ap, ap₂, ◌∙◌, subst, arith, append_assoc, append-nil, length-append, zero-add, suc-add, ℤ}
 use Rattle.cilk_types.specs.declared.invocation.Invocation.TheVariants.{Call, Spawn}
 use Rattle.cilk_types.specs.declared.invocation.Invocation.{Invocation}
 use Rattle.std.specs.Prelude.{replicate, slice_get}
@@ -52,7 +52,7 @@ module _ {W : Type 0} where
   nothing_made (act e r) k kids = none_made (act e r)
   nothing_made (child b w u r) k kids = none_made (child b w u r)
 
-  sync_of : (ds : List (Deed W)) → has_sync ds ≡ true → HasSync ds
+  pub sync_of : (ds : List (Deed W)) → has_sync ds ≡ true → HasSync ds
   sync_of [] h = absurd (true≢false (sym h))
   sync_of (Does (Reads c v) ∷ ds) h = sync_of ds h
   sync_of (Does (Writes c v) ∷ ds) h = sync_of ds h
@@ -74,7 +74,7 @@ past_marks false false on inner thief left own m mu mr h i t n =
     let rest : replicate left false ++ [] ≡ mr = append-nil (replicate left false) ∙ sym (n refl refl) in
     marks_append inner (Ahead left ∷ []) ∙ ap₂ (λ x y. x ++ y) i rest ∙ append_assoc (replicate (suc own) true) mu mr ∙ one_more own (mu ++ mr)
 
-thief_goes : (stolen : Bool) (T X : Type 0) → WhenStolen stolen T X → stolen ≡ true → T
+pub thief_goes : (stolen : Bool) (T X : Type 0) → WhenStolen stolen T X → stolen ≡ true → T
 thief_goes true T X h e = h
 thief_goes false T X h e = absurd (true≢false (sym e))
 

@@ -10,15 +10,14 @@
 --   tests_tell              (Decided) a list of events has no race where a test of each pair finds none.
 use Rattle.std.proofs.Common.{◌≡◌, ◌<◌, ◌≤◌, ℤ, List, [], Option, Some, sym, ◌∙◌, arith}
 use Rattle.cilk_runs.specs.Runs.{Cell, Instance, Ask, Deed, Run}
-use Rattle.cilk_runs.specs.Serial.{IsDetermined}
+use Rattle.cilk_runs.proofs.Find.{IsDetermined}
 use Rattle.cilk_runs.specs.Costs.{Costs, EventTotal, weight, whole}
 use Rattle.cilk_runs.specs.Cuts.{below, IsFull, IsConsistent, spent}
 use Rattle.cilk_runs.specs.Machine.{State, deeds_at}
 use Rattle.cilk_monoid.specs.Laws.{MonoidStructure, IsLawful}
 use Rattle.cilk_runs.specs.Monoids.{IsValue, unit_of}
-use Rattle.cilk_runs.specs.Views.{ViewFree}
-use Rattle.cilk_runs.specs.Races.{RaceFree}
-use Rattle.cilk_runs.specs.Theorem.{IsSerialRun, HasNoRaces, IsKept, CutsAgree, IsDeterminate, follows}
+use Rattle.cilk_runs.proofs.Blocks.{ViewFree, RaceFree}
+use Rattle.cilk_runs.specs.Theorem.{IsNestedSerialRun, HasNoRaces, IsKept, CutsAgree, IsDeterminate, follows}
 use Rattle.cilk_runs.specs.Traces.{begin_due}
 use Rattle.cilk_runs.proofs.Layouts.{NoneClash, ReadsHavePeers}
 use Rattle.cilk_runs.proofs.Framed.{resumed, inhabited}
@@ -30,7 +29,7 @@ use Rattle.cilk_runs.proofs.Begins.{begins, joined_le}
 use Rattle.cilk_runs.proofs.Joins.{full_joined}
 use Rattle.cilk_runs.proofs.Kept.{opening_ok, room_at, step_keeps, steps_keep, ended_ok}
 
-pub kept : (W V : Type 0) (M : Instance → MonoidStructure V) (Next : W → List (Deed W) → Ask W → Type 0) (C : Costs W) → ((i : Instance) → IsLawful (M i) IsValue) → IsDetermined W Next → (w : W) (t : Run W) (opening : Cell → ℤ) → IsSerialRun W V M Next C w t opening → RaceFree t → ((i : Instance) → ViewFree (M i) i t (unit_of M i)) → IsKept W V M Next C w t opening
+pub kept : (W V : Type 0) (M : Instance → MonoidStructure V) (Next : W → List (Deed W) → Ask W → Type 0) (C : Costs W) → ((i : Instance) → IsLawful (M i) IsValue) → IsDetermined W Next → (w : W) (t : Run W) (opening : Cell → ℤ) → IsNestedSerialRun W V M Next C w t opening → RaceFree t → ((i : Instance) → ViewFree (M i) i t (unit_of M i)) → IsKept W V M Next C w t opening
 kept W V M Next C law determined w t opening run free apart s s' n ok step = step_keeps W V M Next C w t opening determined run.behaves run.closed run.serial free law (resumed begin_due t run.framed) run.views apart run.within s s' n ok step
 
 unspent_at : {W V : Type 0} {M : Instance → MonoidStructure V} (C : Costs W) (w : W) (t : Run W) (opening : Cell → ℤ) (s : State W V) → IsConsistent M C w t opening s → ¬ (IsFull t 1 (deeds_at (s.frames [])) (below s.frames)) → s.totals EventTotal < whole C w t EventTotal
@@ -43,7 +42,7 @@ unspent_at C w t opening s ok partly =
     omega (arith, ok.totals EventTotal, le, differ)
 
 -- what holds of each consistent cut
-pub agrees : (W V : Type 0) (M : Instance → MonoidStructure V) (Next : W → List (Deed W) → Ask W → Type 0) (C : Costs W) → ((i : Instance) → IsLawful (M i) IsValue) → IsDetermined W Next → (w : W) (t : Run W) (opening : Cell → ℤ) → IsSerialRun W V M Next C w t opening → RaceFree t → ((i : Instance) → ViewFree (M i) i t (unit_of M i)) → CutsAgree W V M Next C w t opening
+pub agrees : (W V : Type 0) (M : Instance → MonoidStructure V) (Next : W → List (Deed W) → Ask W → Type 0) (C : Costs W) → ((i : Instance) → IsLawful (M i) IsValue) → IsDetermined W Next → (w : W) (t : Run W) (opening : Cell → ℤ) → IsNestedSerialRun W V M Next C w t opening → RaceFree t → ((i : Instance) → ViewFree (M i) i t (unit_of M i)) → CutsAgree W V M Next C w t opening
 agrees W V M Next C law determined w t opening run free apart s ok = record {
   consistent = ok;
   strands = λ n. begins n t w s.frames ok.root ok.cut;
@@ -59,16 +58,16 @@ agrees W V M Next C law determined w t opening run free apart s ok = record {
   reducers = λ h. (ended_ok W V M Next C w t opening determined run.behaves run.closed run.serial free law (resumed begin_due t run.framed) run.views apart run.within s ok h).2;
 }
 
-pub determinate : (W V : Type 0) (M : Instance → MonoidStructure V) (Next : W → List (Deed W) → Ask W → Type 0) (C : Costs W) → ((i : Instance) → IsLawful (M i) IsValue) → IsDetermined W Next → (w : W) (t : Run W) (opening : Cell → ℤ) → IsSerialRun W V M Next C w t opening → RaceFree t → ((i : Instance) → ViewFree (M i) i t (unit_of M i)) → IsDeterminate W V M Next C w t opening
+pub determinate : (W V : Type 0) (M : Instance → MonoidStructure V) (Next : W → List (Deed W) → Ask W → Type 0) (C : Costs W) → ((i : Instance) → IsLawful (M i) IsValue) → IsDetermined W Next → (w : W) (t : Run W) (opening : Cell → ℤ) → IsNestedSerialRun W V M Next C w t opening → RaceFree t → ((i : Instance) → ViewFree (M i) i t (unit_of M i)) → IsDeterminate W V M Next C w t opening
 determinate W V M Next C law determined w t opening run free apart ns s s' o steps =
     agrees W V M Next C law determined w t opening run free apart s'
     (steps_keep W V M Next C w t opening determined run.behaves run.closed run.serial free law (resumed begin_due t run.framed) run.views apart run.within ns s s' (opening_ok W V M Next C w t opening s o) steps)
 
-module _ (W V : Type 0) (M : Instance → MonoidStructure V) (Next : W → List (Deed W) → Ask W → Type 0) (C : Costs W) (law : (i : Instance) → IsLawful (M i) IsValue) (determined : IsDetermined W Next) (w : W) (t : Run W) (opening : Cell → ℤ) (run : IsSerialRun W V M Next C w t opening) (free : HasNoRaces t) where
+module _ (W V : Type 0) (M : Instance → MonoidStructure V) (Next : W → List (Deed W) → Ask W → Type 0) (C : Costs W) (law : (i : Instance) → IsLawful (M i) IsValue) (determined : IsDetermined W Next) (w : W) (t : Run W) (opening : Cell → ℤ) (run : IsNestedSerialRun W V M Next C w t opening) (free : HasNoRaces t) where
   by_names : NoneClash t × ((i : Instance) → ReadsHavePeers i t)
   by_names = free_by_names t run.framed free
 
-  apart_views : (i : Instance) → ViewFree (M i) i t (unit_of M i)
+  pub apart_views : (i : Instance) → ViewFree (M i) i t (unit_of M i)
   apart_views i = no_view_race (M i) (law i) i t (by_names.1 i) (inhabited t run.framed) run.closed (run.retired i) (run.created i)
 
   pub race_free_kept : IsKept W V M Next C w t opening

@@ -3,13 +3,13 @@ use Rattle.std.proofs.Common.{◌≡◌, ℕ, suc, Bool, true, false, List, [], 
 use Rattle.std.proofs.lemmas.Bool.{cases_Bool, cond-true, cond-false}
 use Rattle.cilk_types.specs.declared.invocation.Invocation.{Invocation}
 use Rattle.cilk_types.specs.declared.invocation.Invocation.TheVariants.{Call, Spawn}
-use Rattle.cilk_runs.specs.Runs.{Name, Cell, same_instance, Output, has_instance, Event, Reads, Writes, Syncs, Ends, Passes, Mark, Begins, Resumes, Creates, Updates, Sets, Values, Prints, Deed, Does, Invokes, Run, stop, act, child, Instance}
+use Rattle.cilk_runs.specs.Runs.{Name, Cell, same_instance, Output, has_instance, Event, Reads, Writes, Syncs, Ends, Passes, Granted, Begins, Resumes, Creates, Updates, Sets, Values, Prints, Deed, Does, Invokes, Run, stop, act, child, Instance}
 use Rattle.cilk_monoid.specs.Laws.{MonoidStructure, IsLawful}
 use Rattle.cilk_runs.specs.Monoids.{IsValue, mark_view, on_view, number_of}
-use Rattle.cilk_runs.specs.Views.{view_after, IsSerialViews, IsTouch, ViewApart, ViewFree, IsResumed}
+use Rattle.cilk_runs.specs.Views.{view_after, IsSerialViews, HasEventWith}
+use Rattle.cilk_runs.proofs.Blocks.{IsTouch, ViewApart, ViewFree, IsResumed, IsSync, HasInBlockWith}
 use Rattle.cilk_runs.specs.Machine.{Frames, deeds_at, HasSync}
 use Rattle.cilk_runs.specs.Serial.{IsClosed, SyncAhead}
-use Rattle.cilk_runs.specs.Races.{IsSync, HasEventWith, HasInBlockWith}
 use Rattle.cilk_runs.specs.Cuts.{below, IsFull, IsPast, IsCut, WhenResumed, block_after, own_after, Lies}
 use Rattle.cilk_runs.proofs.Basics.{same_instance-eq}
 use Rattle.cilk_runs.proofs.Front.{Front, here_act, here_child, past_act, past_child, inside, grown}
@@ -55,13 +55,13 @@ abbrev pub view_of : {V : Type 0} → V → (Name → V) → Name → V
 view_of root pcs [] = root
 view_of root pcs (j ∷ m) = pcs (j ∷ m)
 
-view_of_inner : {V : Type 0} (pcs : Name → V) (k : ℕ) (m : Name) → view_of (pcs (k ∷ [])) (λ n. pcs (k ∷ n)) m ≡ pcs (k ∷ m)
+pub view_of_inner : {V : Type 0} (pcs : Name → V) (k : ℕ) (m : Name) → view_of (pcs (k ∷ [])) (λ n. pcs (k ∷ n)) m ≡ pcs (k ∷ m)
 view_of_inner pcs k [] = refl
 view_of_inner pcs k (j ∷ m) = refl
 
 module _ {V : Type 0} (M : MonoidStructure V) (law : IsLawful M IsValue) (i : Instance) where
   -- an event that doesn't read the reducer multiplies from the right
-  mark_quiet : (m : Mark) (a v : V) → ¬ (IsTouch i (Passes m)) → mark_view M m i (M.combine a v) ≡ M.combine a (mark_view M m i v)
+  mark_quiet : (m : Granted) (a v : V) → ¬ (IsTouch i (Passes m)) → mark_view M m i (M.combine a v) ≡ M.combine a (mark_view M m i v)
   mark_quiet Begins a v never = refl
   mark_quiet Resumes a v never = refl
   mark_quiet (Updates j x) a v never =
@@ -122,10 +122,10 @@ module _ {V : Type 0} (M : MonoidStructure V) (law : IsLawful M IsValue) (i : In
 
     -- A frame's own view p and its block's product acc against the serial view x: the own view is the serial one and nothing lies at the block,
     -- or the two together make it, and the reducer isn't read until the sync that is still to come.
-    abbrev Even : Run W → V → V → V → Type 0
+    abbrev pub Even : Run W → V → V → V → Type 0
     Even r acc p x = ((p ≡ x) × (acc ≡ M.unit)) ⊎ ((M.combine acc p ≡ x) × (¬ (HasInBlockWith (IsTouch i) r)) × SyncAhead r)
 
-    even_act : (e : Event) (r : Run W) (acc p x : V) → Even (act e r) acc p x → Even r (block_after M e acc) (own_after M i e acc p) (on_view M i e x)
+    pub even_act : (e : Event) (r : Run W) (acc p x : V) → Even (act e r) acc p x → Even r (block_after M e acc) (own_after M i e acc p) (on_view M i e x)
     even_act (Reads c n) r acc p x (inl h) = inl h
     even_act (Reads c n) r acc p x (inr h) = inr (h.0, λ z. h.1 (inr ((λ t. t), z)), h.2)
     even_act (Writes c n) r acc p x (inl h) = inl h
@@ -139,22 +139,22 @@ module _ {V : Type 0} (M : MonoidStructure V) (law : IsLawful M IsValue) (i : In
     even_act (Passes m) r acc p x (inr h) =
         inr (sym (mark_quiet m acc p (λ z. h.1 (inl z))) ∙ ap (mark_view M m i) h.0, λ z. h.1 (inr ((λ t. t), z)), h.2)
 
-    even_child : (b : Invocation) (w : W) (u r : Run W) (acc p x : V) → Even (child b w u r) acc p x → Even r acc (view_after M i u p) (view_after M i u x)
+    pub even_child : (b : Invocation) (w : W) (u r : Run W) (acc p x : V) → Even (child b w u r) acc p x → Even r acc (view_after M i u p) (view_after M i u x)
     even_child b w u r acc p x (inl h) = inl (ap (view_after M i u) h.0, h.1)
     even_child b w u r acc p x (inr h) =
         inr (sym (view_quiet u acc p (λ z. h.1 (inl z))) ∙ ap (view_after M i u) h.0, λ z. h.1 (inr z), h.2)
 
-    even_stolen : (w : W) (u r : Run W) (acc p x : V) → ViewApart M i Spawn (view_after M i u x) r → SyncAhead r → Even (child Spawn w u r) acc p x → Even r (M.combine acc (view_after M i u p)) M.unit (view_after M i u x)
+    pub even_stolen : (w : W) (u r : Run W) (acc p x : V) → ViewApart M i Spawn (view_after M i u x) r → SyncAhead r → Even (child Spawn w u r) acc p x → Even r (M.combine acc (view_after M i u p)) M.unit (view_after M i u x)
     even_stolen w u r acc p x (inl z) ahead (inl h) = inl (sym z, rw (h.1, h.0, z) (law.left_neutral M.unit tt))
     even_stolen w u r acc p x (inr z) ahead (inl h) = inr (law.right_neutral _ tt ∙ rw (h.1, h.0) (law.left_neutral (view_after M i u x) tt), z, ahead)
     even_stolen w u r acc p x apart ahead (inr h) =
         inr (law.right_neutral _ tt ∙ sym (view_quiet u acc p (λ z. h.1 (inl z))) ∙ ap (view_after M i u) h.0, λ z. h.1 (inr z), ahead)
 
-    free_own : (b : Invocation) (w : W) (u r : Run W) (acc p x : V) → Even (child b w u r) acc p x → ViewFree M i u x → ViewFree M i u p
+    pub free_own : (b : Invocation) (w : W) (u r : Run W) (acc p x : V) → Even (child b w u r) acc p x → ViewFree M i u x → ViewFree M i u p
     free_own b w u r acc p x (inl h) free = rw h.0 free
     free_own b w u r acc p x (inr h) free = quiet_free u p (λ z. h.1 (inl z))
 
-    when_get : (k : ℕ) (loose : Name → Bool) (ds : List (Deed W)) (X : Type 0) → IsPast Call ds → WhenResumed k loose ds X → X
+    pub when_get : (k : ℕ) (loose : Name → Bool) (ds : List (Deed W)) (X : Type 0) → IsPast Call ds → WhenResumed k loose ds X → X
     when_get k loose [] X past h = absurd past
     when_get k loose (d ∷ ds) X past h = h
 

@@ -20,14 +20,14 @@ pub record Costs (W : Type 0) : Type 0 where
   pub limit : Total → ℕ
 
 -- the frames that an ask starts
-abbrev pub frames_of : {W : Type 0} → Ask W → ℕ
-frames_of (Read c) = 0
-frames_of (Write c v) = 0
-frames_of (Invoke k v) = 1
-frames_of Sync = 0
-frames_of (End v gone) = 0
-frames_of (Pass m) = 0
-frames_of (Fail f) = 0
+abbrev pub frame_cost : {W : Type 0} → Ask W → ℕ
+frame_cost (Read c) = 0
+frame_cost (Write c v) = 0
+frame_cost (Invoke k v) = 1
+frame_cost Sync = 0
+frame_cost (End v gone) = 0
+frame_cost (Pass m) = 0
+frame_cost (Fail f) = 0
 
 -- the cells of the frame that an ask starts
 abbrev pub cells_of : {W : Type 0} → (W → ℕ) → Ask W → ℕ
@@ -43,7 +43,7 @@ cells_of cells (Fail f) = 0
 abbrev pub cost : {W : Type 0} → Costs W → Total → W → List (Deed W) → Ask W → ℕ
 cost C TickTotal w past a = C.ticks w past
 cost C EventTotal w past a = 1
-cost C FrameTotal w past a = frames_of a
+cost C FrameTotal w past a = frame_cost a
 cost C CellTotal w past a = cells_of C.cells a
 
 -- with this ask the total is over its limit

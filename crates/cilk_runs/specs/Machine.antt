@@ -2,7 +2,7 @@
 -- 1998, views after Frigo, Halpern, Leiserson and Lewin-Berlin 2009).
 use Rattle.std.specs.Prelude.{◌≡◌, ℕ, suc, ◌+◌, nat_eq, ℤ, Bool, true, false, cond, List, [], ◌∷◌, ◌++◌, Option, Some, None, ◌⊎◌}
 use Rattle.cilk_types.specs.declared.invocation.Invocation.TheVariants.{Call, Spawn}
-use Rattle.cilk_runs.specs.Runs.{Name, same_name, Cell, same_cell, Instance, Ask, Read, Write, Invoke, Sync, End, Pass, Fail, Wish, Begin, Resume, Create, Update, Set, Value, Print, Mark, Begins, Resumes, Creates, Updates, Sets, Values, Prints, Event, Reads, Writes, Syncs, Ends, Passes, Deed, Does, Invokes}
+use Rattle.cilk_runs.specs.Runs.{Name, same_name, Cell, same_cell, Instance, Ask, Read, Write, Invoke, Sync, End, Pass, Fail, Wish, Begin, Resume, Create, Update, Set, Value, Print, Granted, Begins, Resumes, Creates, Updates, Sets, Values, Prints, Event, Reads, Writes, Syncs, Ends, Passes, Deed, Does, Invokes}
 use Rattle.cilk_types.specs.declared.fault.Fault.{Fault}
 use Rattle.cilk_runs.specs.Costs.{Costs, Total, cost, fault_of}
 use Rattle.cilk_monoid.specs.Laws.{MonoidStructure}
@@ -73,20 +73,24 @@ Ready kid loose a k (Invokes Call w ∷ ds) = (ds ≡ [] → HasEnd (deeds_at (k
 Ready kid loose a k (Invokes Spawn w ∷ ds) =
     (ds ≡ [] → HasEnd (deeds_at (kid k)) ⊎ (loose k ≡ true)) × (a ≡ Sync → ¬ (HasSync ds) → HasEnd (deeds_at (kid k))) × Ready kid loose a (suc k) ds
 
--- the strands begun: at the frame's begin, at each resume and at each sync
+-- an event that begins a strand of its frame: the frame's begin, a resume, a sync
+abbrev pub begins_strand : Event → Bool
+begins_strand (Reads c v) = false
+begins_strand (Writes c v) = false
+begins_strand Syncs = true
+begins_strand (Ends v gone) = false
+begins_strand (Passes Begins) = true
+begins_strand (Passes Resumes) = true
+begins_strand (Passes (Creates i)) = false
+begins_strand (Passes (Updates i v)) = false
+begins_strand (Passes (Sets i v)) = false
+begins_strand (Passes (Values i v)) = false
+begins_strand (Passes (Prints v)) = false
+
+-- the strands begun
 abbrev pub strands : {W : Type 0} → List (Deed W) → ℕ
 strands [] = 0
-strands (Does (Reads c v) ∷ ds) = strands ds
-strands (Does (Writes c v) ∷ ds) = strands ds
-strands (Does Syncs ∷ ds) = suc (strands ds)
-strands (Does (Ends val gone) ∷ ds) = strands ds
-strands (Does (Passes Begins) ∷ ds) = suc (strands ds)
-strands (Does (Passes Resumes) ∷ ds) = suc (strands ds)
-strands (Does (Passes (Creates i)) ∷ ds) = strands ds
-strands (Does (Passes (Updates i x)) ∷ ds) = strands ds
-strands (Does (Passes (Sets i x)) ∷ ds) = strands ds
-strands (Does (Passes (Values i n)) ∷ ds) = strands ds
-strands (Does (Passes (Prints x)) ∷ ds) = strands ds
+strands (Does e ∷ ds) = cond (begins_strand e) (suc (strands ds)) (strands ds)
 strands (Invokes k w ∷ ds) = strands ds
 
 -- the latest strand begun, and the first before the frame's begin
@@ -94,7 +98,7 @@ abbrev pub strand_of : {W : Type 0} → List (Deed W) → ℕ
 strand_of ds = cond (nat_eq (strands ds) 0) 1 (strands ds)
 
 -- the answer to a wish, where the views have these numbers
-abbrev pub mark_of : (Instance → ℤ) → Wish → Mark
+abbrev pub mark_of : (Instance → ℤ) → Wish → Granted
 mark_of number Begin = Begins
 mark_of number Resume = Resumes
 mark_of number (Create i) = Creates i

@@ -1,7 +1,7 @@
 -- What a reducer's view is after an event.
 use Rattle.std.specs.Prelude.{ℤ, cond}
 use Rattle.cilk_monoid.specs.Laws.{MonoidStructure}
-use Rattle.cilk_runs.specs.Runs.{Instance, Output, same_instance, has_instance, Event, Reads, Writes, Syncs, Ends, Passes, Mark, Begins, Resumes, Creates, Updates, Sets, Values, Prints}
+use Rattle.cilk_runs.specs.Runs.{Instance, Output, same_instance, has_instance, Event, Reads, Writes, Syncs, Ends, Passes, Granted, Begins, Resumes, Creates, Updates, Sets, Values, Prints}
 
 -- An absent view counts as the unit, so views are total here, and the laws of a monoid are asked of every value of its type.
 abbrev pub IsValue : {V : Type 0} → V → Type 0
@@ -20,7 +20,7 @@ abbrev pub numbers_of : {V : Type 0} → (Instance → MonoidStructure V) → (I
 numbers_of M views i = number_of (M i) (views i)
 
 -- instance i's view after a reducer's event, where M is that instance's monoid
-abbrev pub mark_view : {V : Type 0} → MonoidStructure V → Mark → Instance → V → V
+abbrev pub mark_view : {V : Type 0} → MonoidStructure V → Granted → Instance → V → V
 mark_view M Begins i v = v
 mark_view M Resumes i v = v
 mark_view M (Creates j) i v = cond (same_instance j i) M.unit v

@@ -3,7 +3,7 @@ use Rattle.std.specs.Prelude.{◌≡◌, ℕ, suc, ◌-◌, Bool, true, false, L
 use Rattle.cilk_types.specs.declared.event.Event.{Event}
 use Rattle.cilk_types.specs.declared.event.Instance as numbered
 use Rattle.cilk_tree.specs.Before.{IsPosition, IsBefore}
-use Rattle.cilk_tree.specs.Tree.{tree}
+use Rattle.cilk_tree.specs.Tree.{Tree, tree}
 use Rattle.cilk_runs.specs.Runs.{Cell, Instance, Deed, Run, stop, act, child}
 use Rattle.cilk_runs.specs.Machine.{Frames, deeds_at}
 use Rattle.cilk_runs.specs.Traces.{trace, shape_of, begin_due, IsFramed, AreWritten}
@@ -27,12 +27,12 @@ made_at (child b w u r) k (d ∷ ds) kids = true ∷ (made_at u 1 (deeds_at (kid
 abbrev pub IsMade : List Bool → ℕ → Type 0
 IsMade marks p = slice_get marks (p - 1) ≡ Some true
 
--- with an event of the list made, each event that is before it is made
-pub record IsClosedBefore {W : Type 0} (t : Run W) (es : List Event) (marks : List Bool) : Type 0 where
+-- each event of the list is made or not, and with an event made, each event that is before it in the tree is made
+pub record IsClosedBefore (es : List Event) (t : Tree) (marks : List Bool) : Type 0 where
   pub whole : length marks ≡ length es
-  pub closed : (p q : ℕ) → IsPosition es p → IsPosition es q → IsBefore (tree (shape_of t)) es p q → IsMade marks q → IsMade marks p
+  pub closed : (p q : ℕ) → IsPosition es p → IsPosition es q → IsBefore t es p q → IsMade marks q → IsMade marks p
 
 -- so it is in each cut, with any list of the run's events by numbers
 abbrev pub CutsAreClosed : (W : Type 0) → Type 0
 CutsAreClosed W = (cell : Cell → ℕ) (instance : Instance → numbered.Instance) (t : Run W) (es : List Event) (deeds : List (Deed W)) (kids : ℕ → Frames W)
-    → IsFramed begin_due t → AreWritten cell instance (trace t) es → IsCut t 1 deeds kids → IsClosedBefore t es (made_at t 1 deeds kids)
+    → IsFramed begin_due t → AreWritten cell instance (trace t) es → IsCut t 1 deeds kids → IsClosedBefore es (tree (shape_of t)) (made_at t 1 deeds kids)

@@ -30,17 +30,17 @@ value_after (act e r) c x = value_after r c (put e c x)
 value_after (child k w u r) c x = value_after r c (value_after u c x)
 
 -- each read's answer is the value of the last write before it, or what the cell held before the run
-abbrev pub IsRight : Event → (Cell → ℤ) → Type 0
-IsRight (Reads c v) memory = v ≡ memory c
-IsRight (Writes c v) memory = Unit {0}
-IsRight Syncs memory = Unit {0}
-IsRight (Ends val gone) memory = Unit {0}
-IsRight (Passes m) memory = Unit {0}
+abbrev pub IsReadRight : Event → (Cell → ℤ) → Type 0
+IsReadRight (Reads c v) memory = v ≡ memory c
+IsReadRight (Writes c v) memory = Unit {0}
+IsReadRight Syncs memory = Unit {0}
+IsReadRight (Ends val gone) memory = Unit {0}
+IsReadRight (Passes m) memory = Unit {0}
 
 -- each read of the run is right, where the cells hold these values before it
 abbrev pub IsSerial : {W : Type 0} → Run W → (Cell → ℤ) → Type 0
 IsSerial stop memory = Unit {0}
-IsSerial (act e r) memory = IsRight e memory × IsSerial r (λ c. put e c (memory c))
+IsSerial (act e r) memory = IsReadRight e memory × IsSerial r (λ c. put e c (memory c))
 IsSerial (child k w u r) memory = IsSerial u memory × IsSerial r (λ c. value_after u c (memory c))
 
 -- the frame has a sync ahead; it has something ahead
@@ -80,7 +80,3 @@ module _ (W : Type 0) (Next : W → List (Deed W) → Ask W → Type 0) where
   Behaves w past stop = (a : Ask W) → Next w past a → ⊥
   Behaves w past (act e r) = Next w past (ask_of e) × Behaves w (past ++ Does e ∷ []) r
   Behaves w past (child k v u r) = Next w past (Invoke k v) × Behaves v [] u × Behaves w (past ++ Invokes k v ∷ []) r
-
-  -- what a frame asks next follows from what it has done
-  abbrev pub IsDetermined : Type 0
-  IsDetermined = (w : W) (past : List (Deed W)) (a b : Ask W) → Next w past a → Next w past b → a ≡ b

@@ -1,11 +1,14 @@
--- Which events each piece covers: the serial run as stretches, one after the other.
-use Rattle.std.specs.Prelude.{◌≡◌, ℕ, suc, ◌+◌, Bool, true, false, List, [], ◌∷◌, ◌++◌, replicate, Some, slice_get}
+-- Which events each piece covers, and what its views are: the serial run as stretches, one after the other.
+use Rattle.std.specs.Prelude.{◌≡◌, ℕ, suc, ◌+◌, Bool, true, false, List, [], ◌∷◌, ◌++◌, length, replicate, Some, slice_get}
 use Rattle.cilk_types.specs.declared.invocation.Invocation.TheVariants.{Call, Spawn}
 use Rattle.cilk_types.specs.declared.invocation.Invocation.{Invocation}
-use Rattle.cilk_runs.specs.Runs.{Name, Reads, Writes, Syncs, Ends, Passes, Deed, Does, Invokes, Run, stop, act, child}
+use Rattle.cilk_monoid.specs.Laws.{MonoidStructure}
+use Rattle.cilk_runs.specs.Runs.{Name, Instance, Reads, Writes, Syncs, Ends, Passes, Deed, Does, Invokes, Run, stop, act, child}
 use Rattle.cilk_runs.specs.Machine.{Frames, State, deeds_at}
 use Rattle.cilk_runs.specs.Cuts.{below}
+use Rattle.cilk_runs.specs.Monoids.{on_view}
 use Rattle.cilk_runs.specs.Positions.{made_at}
+use Rattle.cilk_runs.specs.Traces.{trace}
 
 -- so many events that follow one another: the piece of a frame covers them, or they aren't made
 pub data Stretch : Type 0 where
@@ -67,3 +70,22 @@ covered t s = stretches t 1 (deeds_at (s.frames [])) (below s.frames) s.stolen [
 pub record AreStretches {W V : Type 0} (t : Run W) (s : State W V) : Type 0 where
   pub whole : marks (covered t s) ≡ made_at t 1 (deeds_at (s.frames [])) (below s.frames)
   pub one : (a b : ℕ) (n : Name) (x y : ℕ) → slice_get (covered t s) a ≡ Some (Held n x) → slice_get (covered t s) b ≡ Some (Held n y) → a ≡ b
+
+-- instance i's view after these events, from its view before
+abbrev pub view_along : {W V : Type 0} → MonoidStructure V → Instance → List (Deed W) → V → V
+view_along M i [] v = v
+view_along M i (Does e ∷ ds) v = view_along M i ds (on_view M i e v)
+view_along M i (Invokes k w ∷ ds) v = view_along M i ds v
+
+-- The events are those of the stretches, one after the other, and a frame that holds one has in its piece the view of that stretch alone: from the
+-- unit on, after each of its events.
+abbrev pub AreViewed : {W V : Type 0} → MonoidStructure V → Instance → (Name → V) → List Stretch → List (Deed W) → Type 0
+AreViewed M i piece [] ds = ds ≡ []
+AreViewed {W = W} M i piece (Held n many ∷ ss) ds =
+    (own : List (Deed W)) × (rest : List (Deed W)) × (ds ≡ own ++ rest) × (length own ≡ many) × (piece n ≡ view_along M i own M.unit) × AreViewed M i piece ss rest
+AreViewed {W = W} M i piece (Ahead many ∷ ss) ds =
+    (own : List (Deed W)) × (rest : List (Deed W)) × (ds ≡ own ++ rest) × (length own ≡ many) × AreViewed M i piece ss rest
+
+-- so it is for each reducer
+abbrev pub PiecesAreViews : {W V : Type 0} → (Instance → MonoidStructure V) → Run W → State W V → Type 0
+PiecesAreViews M t s = (i : Instance) → AreViewed (M i) i (λ n. s.piece n i) (covered t s) (trace t)

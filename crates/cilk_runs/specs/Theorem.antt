@@ -15,7 +15,7 @@ use Rattle.cilk_runs.specs.Cuts.{BeginsSerially, times, spawned, below, IsFull, 
 
 module _ (W V : Type 0) (M : Instance → MonoidStructure V) (Next : W → List (Deed W) → Ask W → Type 0) (C : Costs W) where
   -- t is the serial run of a program that begins as w, with these opening values
-  pub record IsSerialRun (w : W) (t : Run W) (opening : Cell → ℤ) : Type 0 where
+  pub record IsNestedSerialRun (w : W) (t : Run W) (opening : Cell → ℤ) : Type 0 where
     pub behaves : Behaves W Next w [] t
     -- each frame begins, resumes and ends where it must, and syncs after it spawned
     pub framed : IsFramed begin_due t

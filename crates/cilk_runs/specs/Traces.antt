@@ -6,7 +6,7 @@ use Rattle.cilk_types.specs.declared.event.Instance as numbered
 use Rattle.cilk_types.specs.declared.invocation.Invocation.{Invocation}
 use Rattle.cilk_types.specs.declared.invocation.Invocation.TheVariants.{Call, Spawn}
 use Rattle.cilk_tree.specs.Shape as shapes
-use Rattle.cilk_runs.specs.Runs.{Cell, Instance, Event, Reads, Writes, Syncs, Ends, Passes, Mark, Begins, Resumes, Creates, Updates, Sets, Values, Prints, Deed, Does, Invokes, Run, stop, act, child}
+use Rattle.cilk_runs.specs.Runs.{Cell, Instance, Event, Reads, Writes, Syncs, Ends, Passes, Granted, Begins, Resumes, Creates, Updates, Sets, Values, Prints, Deed, Does, Invokes, Run, stop, act, child}
 
 -- in serial order; the position of an event is its place here, counted from 1
 abbrev pub trace : {W : Type 0} → Run W → List (Deed W)
@@ -54,7 +54,7 @@ IsFramed _ _ = ⊥
 
 module _ (cell : Cell → ℕ) (instance : Instance → numbered.Instance) where
   -- the event by numbers, with the same values, whatever its frames
-  abbrev pub IsWrittenMark : Mark → numbers.Event → Type 0
+  abbrev pub IsWrittenMark : Granted → numbers.Event → Type 0
   IsWrittenMark Begins e = (f : ℕ) × (e ≡ events.Begin f)
   IsWrittenMark Resumes e = (f : ℕ) × (e ≡ events.Resume f)
   IsWrittenMark (Creates i) e = e ≡ events.Create (instance i)

@@ -1,11 +1,8 @@
 -- View-read races of a run (Lee and Schardl 2015), and the serial run's views.
-use Rattle.std.specs.Prelude.{◌≡◌, Bool, true, false, ◌⊎◌}
-use Rattle.cilk_types.specs.declared.invocation.Invocation.{Invocation}
-use Rattle.cilk_types.specs.declared.invocation.Invocation.TheVariants.{Call, Spawn}
-use Rattle.cilk_runs.specs.Runs.{Instance, Output, has_instance, Event, Reads, Writes, Syncs, Ends, Passes, Mark, Begins, Resumes, Creates, Updates, Sets, Values, Prints, Run, stop, act, child}
+use Rattle.std.specs.Prelude.{◌≡◌, true, ◌⊎◌}
+use Rattle.cilk_runs.specs.Runs.{Instance, Output, has_instance, Event, Reads, Writes, Syncs, Ends, Passes, Granted, Begins, Resumes, Creates, Updates, Sets, Values, Prints, Run, stop, act, child}
 use Rattle.cilk_monoid.specs.Laws.{MonoidStructure}
 use Rattle.cilk_runs.specs.Monoids.{numbers_of, on_view}
-use Rattle.cilk_runs.specs.Races.{HasEventWith, HasInBlockWith}
 
 -- instance i's view after the run, from its view before
 abbrev pub view_after : {W V : Type 0} → MonoidStructure V → Instance → Run W → V → V
@@ -14,7 +11,7 @@ view_after M i (act e r) x = view_after M i r (on_view M i e x)
 view_after M i (child k w u r) x = view_after M i r (view_after M i u x)
 
 -- a value is the number of the view
-abbrev pub IsValueRight : {V : Type 0} → (Instance → MonoidStructure V) → Mark → (Instance → V) → Type 0
+abbrev pub IsValueRight : {V : Type 0} → (Instance → MonoidStructure V) → Granted → (Instance → V) → Type 0
 IsValueRight M Begins views = Unit {0}
 IsValueRight M Resumes views = Unit {0}
 IsValueRight M (Updates i x) views = Unit {0}
@@ -38,7 +35,7 @@ IsSerialViews M (act e r) views = IsViewRight M e views × IsSerialViews M r (λ
 IsSerialViews M (child k w u r) views = IsSerialViews M u views × IsSerialViews M r (λ i. view_after (M i) i u (views i))
 
 -- a reducer-read of instance i: a create, a set, a value
-abbrev pub IsMarkRead : Instance → Mark → Type 0
+abbrev pub IsMarkRead : Instance → Granted → Type 0
 IsMarkRead i Begins = ⊥
 IsMarkRead i Resumes = ⊥
 IsMarkRead i (Updates j x) = ⊥
@@ -55,16 +52,8 @@ IsReducerRead i Syncs = ⊥
 IsReducerRead i (Ends val gone) = ⊥
 IsReducerRead i (Passes m) = IsMarkRead i m
 
--- a reducer-read, or the end that retires the instance
-abbrev pub IsTouch : Instance → Event → Type 0
-IsTouch i (Reads c v) = ⊥
-IsTouch i (Writes c v) = ⊥
-IsTouch i Syncs = ⊥
-IsTouch i (Ends val gone) = has_instance gone i ≡ true
-IsTouch i (Passes m) = IsMarkRead i m
-
 -- the creation of instance i
-abbrev pub IsMarkCreate : Instance → Mark → Type 0
+abbrev pub IsMarkCreate : Instance → Granted → Type 0
 IsMarkCreate i Begins = ⊥
 IsMarkCreate i Resumes = ⊥
 IsMarkCreate i (Creates j) = j ≡ i
@@ -95,42 +84,8 @@ IsRetiredAtHome i stop mine = Unit {0}
 IsRetiredAtHome i (act e r) mine = (IsRetire i e → mine) × IsRetiredAtHome i r (mine ⊎ IsCreate i e)
 IsRetiredAtHome i (child k w u r) mine = IsRetiredAtHome i u ⊥ × IsRetiredAtHome i r mine
 
--- What a thief finds at a stolen continuation: either the serial view is the unit there, or the rest of the block doesn't read or retire it.
-abbrev pub ViewApart : {W V : Type 0} → MonoidStructure V → Instance → Invocation → V → Run W → Type 0
-ViewApart M i Call v r = Unit {0}
-ViewApart M i Spawn v r = (v ≡ M.unit) ⊎ (¬ (HasInBlockWith (IsTouch i) r))
-
--- so it is at each continuation of the run, whose view begins as x
-abbrev pub ViewFree : {W V : Type 0} → MonoidStructure V → Instance → Run W → V → Type 0
-ViewFree M i stop x = Unit {0}
-ViewFree M i (act e r) x = ViewFree M i r (on_view M i e x)
-ViewFree M i (child k w u r) x = ViewApart M i k (view_after M i u x) r × ViewFree M i u x × ViewFree M i r (view_after M i u x)
-
--- a resume stands right after each child and nowhere else
-abbrev pub IsResume : Event → Type 0
-IsResume (Reads c v) = ⊥
-IsResume (Writes c v) = ⊥
-IsResume Syncs = ⊥
-IsResume (Ends val gone) = ⊥
-IsResume (Passes Begins) = ⊥
-IsResume (Passes Resumes) = Unit {0}
-IsResume (Passes (Updates i x)) = ⊥
-IsResume (Passes (Creates i)) = ⊥
-IsResume (Passes (Sets i x)) = ⊥
-IsResume (Passes (Values i n)) = ⊥
-IsResume (Passes (Prints x)) = ⊥
-
--- in the run a resume stands where it must; true: one is due at its start
-abbrev pub IsResumed : {W : Type 0} → Bool → Run W → Type 0
-IsResumed true stop = ⊥
-IsResumed true (act e r) = IsResume e × IsResumed false r
-IsResumed true (child k w u r) = ⊥
-IsResumed false stop = Unit {0}
-IsResumed false (act e r) = (¬ (IsResume e)) × IsResumed false r
-IsResumed false (child k w u r) = IsResumed false u × IsResumed true r
-
 -- an update of instance i; a print updates the output
-abbrev pub IsMarkUpdate : Instance → Mark → Type 0
+abbrev pub IsMarkUpdate : Instance → Granted → Type 0
 IsMarkUpdate i Begins = ⊥
 IsMarkUpdate i Resumes = ⊥
 IsMarkUpdate i (Updates j x) = j ≡ i
@@ -147,6 +102,12 @@ IsUpdate i Syncs = ⊥
 IsUpdate i (Ends val gone) = ⊥
 IsUpdate i (Passes m) = IsMarkUpdate i m
 
+-- some event of the run, or of a frame in it, has P
+abbrev pub HasEventWith : {W : Type 0} → (Event → Type 0) → Run W → Type 0
+HasEventWith P stop = ⊥
+HasEventWith P (act e r) = P e ⊎ HasEventWith P r
+HasEventWith P (child k w u r) = HasEventWith P u ⊎ HasEventWith P r
+
 -- no update comes before a reducer-read, the creation; seen: there was one before the run
 abbrev pub IsCreatedFirst : {W : Type 0} → Instance → Run W → Type 0 → Type 0
 IsCreatedFirst i stop seen = Unit {0}
@@ -156,15 +117,3 @@ IsCreatedFirst i (child b w u r) seen = IsCreatedFirst i u seen × IsCreatedFirs
 -- it is created before its first update, or nobody reads it at all, as the output
 abbrev pub IsCreated : {W : Type 0} → Instance → Run W → Type 0
 IsCreated i t = IsCreatedFirst i t ⊥ ⊎ (¬ (HasEventWith (IsReducerRead i) t))
-
--- beside a spawned child nothing is read that was read before
-abbrev pub ReadRule : {W : Type 0} → Instance → Invocation → Type 0 → Run W → Type 0
-ReadRule i Call seen r = Unit {0}
-ReadRule i Spawn seen r = seen → HasInBlockWith (IsReducerRead i) r → ⊥
-
--- what was read before a continuation isn't read in it until the sync
-abbrev pub IsReadApart : {W : Type 0} → Instance → Run W → Type 0 → Type 0
-IsReadApart i stop seen = Unit {0}
-IsReadApart i (act e r) seen = IsReadApart i r (seen ⊎ IsReducerRead i e)
-IsReadApart i (child b w u r) seen =
-    ReadRule i b (seen ⊎ HasEventWith (IsReducerRead i) u) r × IsReadApart i u seen × IsReadApart i r (seen ⊎ HasEventWith (IsReducerRead i) u)

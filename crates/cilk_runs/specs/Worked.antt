@@ -12,7 +12,7 @@ use Rattle.cilk_runs.specs.Runs.{Cell, Global, Own, same_cell, Instance, Reducer
 use Rattle.cilk_runs.specs.Costs.{Costs, Total, TickTotal, EventTotal, FrameTotal, CellTotal}
 use Rattle.cilk_monoid.specs.Laws.{MonoidStructure}
 use Rattle.cilk_runs.specs.Traces.{trace, shape_of, AreWritten}
-use Rattle.cilk_runs.specs.Theorem.{IsSerialRun, HasNoRaces, IsDeterminate, follows}
+use Rattle.cilk_runs.specs.Theorem.{IsNestedSerialRun, HasNoRaces, IsDeterminate, follows}
 
 -- a frame begins
 abbrev pub begin : Event
@@ -140,7 +140,7 @@ costs = record { ticks = λ w past. 1; cells = λ w. 2; used = used; limit = lim
 
 -- the premises of the theorem can be met: this is the serial run of that program
 abbrev pub BothReadRuns : Type 0
-BothReadRuns = IsSerialRun ℕ ℤ sum (follows asked) costs 0 both_read opening
+BothReadRuns = IsNestedSerialRun ℕ ℤ sum (follows asked) costs 0 both_read opening
 
 -- and the theorem speaks of it
 abbrev pub BothReadIsDeterminate : Type 0

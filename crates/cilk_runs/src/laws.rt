@@ -13,7 +13,7 @@ ghost use Rattle.cilk_runs.specs.Traces.{EventsSpell};
 ghost use Rattle.cilk_runs.specs.Tested.{TestsTell};
 ghost use Rattle.cilk_runs.specs.Positions.{CutsAreClosed};
 ghost use Rattle.cilk_runs.specs.Progress.{HasProgress};
-ghost use Rattle.cilk_runs.specs.Theorem.{IsSerialRun, HasNoRaces, IsOpened, IsKept, CutsAgree, IsDeterminate, follows};
+ghost use Rattle.cilk_runs.specs.Theorem.{IsNestedSerialRun, HasNoRaces, IsOpened, IsKept, CutsAgree, IsDeterminate, follows};
 ghost use Rattle.cilk_runs.specs.Worked.{EarlyReadRaces, TwoReadsDoNotRace, TwoWritesRace, BothReadRuns, BothReadIsDeterminate, EarlyValueRaces};
 
 /// The free machine makes the steps that it is to make, in each state that nothing has stopped. A frame that asks for something makes
@@ -32,13 +32,13 @@ pub fn opening_is_consistent<W, V>()
 
 /// Where the serial run has no race, each single step of the free machine leads from a consistent cut of it to a consistent cut.
 pub fn step_is_consistent<W, V>()
-    ensures { (M : Instance → MonoidStructure V) (next : W → List (Deed W) → Option (Ask W)) (C : Costs W) (w : W) (t : Run W) (opening : Cell → ℤ) → ((i : Instance) → IsLawful (M i) IsValue) → IsSerialRun W V M (follows next) C w t opening → HasNoRaces t → IsKept W V M (follows next) C w t opening }
+    ensures { (M : Instance → MonoidStructure V) (next : W → List (Deed W) → Option (Ask W)) (C : Costs W) (w : W) (t : Run W) (opening : Cell → ℤ) → ((i : Instance) → IsLawful (M i) IsValue) → IsNestedSerialRun W V M (follows next) C w t opening → HasNoRaces t → IsKept W V M (follows next) C w t opening }
 {}
 
 /// Where the serial run has no race, each consistent cut of it is as that run, as `determinate` says of the states that steps
 /// lead to: a scheduler that goes step by step ends here.
 pub fn cuts_agree<W, V>()
-    ensures { (M : Instance → MonoidStructure V) (next : W → List (Deed W) → Option (Ask W)) (C : Costs W) (w : W) (t : Run W) (opening : Cell → ℤ) → ((i : Instance) → IsLawful (M i) IsValue) → IsSerialRun W V M (follows next) C w t opening → HasNoRaces t → CutsAgree W V M (follows next) C w t opening }
+    ensures { (M : Instance → MonoidStructure V) (next : W → List (Deed W) → Option (Ask W)) (C : Costs W) (w : W) (t : Run W) (opening : Cell → ℤ) → ((i : Instance) → IsLawful (M i) IsValue) → IsNestedSerialRun W V M (follows next) C w t opening → HasNoRaces t → CutsAgree W V M (follows next) C w t opening }
 {}
 
 /// Where the serial run of a program has no determinacy race and no view-read race, each state that steps of the free machine lead to
@@ -48,7 +48,7 @@ pub fn cuts_agree<W, V>()
 ///
 /// After Feng and Leiserson (1997), whose tree of strands this is, and Lee and Schardl (2015) for the reads of reducers.
 pub fn determinate<W, V>()
-    ensures { (M : Instance → MonoidStructure V) (next : W → List (Deed W) → Option (Ask W)) (C : Costs W) (w : W) (t : Run W) (opening : Cell → ℤ) → ((i : Instance) → IsLawful (M i) IsValue) → IsSerialRun W V M (follows next) C w t opening → HasNoRaces t → IsDeterminate W V M (follows next) C w t opening }
+    ensures { (M : Instance → MonoidStructure V) (next : W → List (Deed W) → Option (Ask W)) (C : Costs W) (w : W) (t : Run W) (opening : Cell → ℤ) → ((i : Instance) → IsLawful (M i) IsValue) → IsNestedSerialRun W V M (follows next) C w t opening → HasNoRaces t → IsDeterminate W V M (follows next) C w t opening }
 {}
 
 /// A consistent cut by positions of the serial run's list of events: with an event made, each event that is before it is made.

@@ -31,7 +31,7 @@
 //!
 //! These contracts are for behaviours given as functions of a frame's history. A crate with a behaviour of its own cites the
 //! lemmas listed at the head of `proofs/Theorem`, which hold for any types, and for a relation by which one history leads to
-//! one ask at most. It shows that its serial run is one (`IsSerialRun` in `specs/Theorem`):
+//! one ask at most. It shows that its serial run is one (`IsNestedSerialRun` in `specs/Theorem`):
 //!
 //! | Field | Where it comes from |
 //! |---|---|

@@ -120,10 +120,6 @@ laid_whole s = laid_rows (preceding s) (whole s) 1 [] [] (λ i l. (let z : 1 + i
 pub none_past : (s : Shape) (p : ℕ) → suc (long (whole s)) ≤ p → preceding s p ≡ []
 none_past s p l = preceding_rows s p ∙ get_or_past (rows (whole s) 1 [] []) (p - 1) [] (let n = length-rows (whole s) 1 [] [] in omega (arith, l, n))
 
--- position 0 is read as position 1, which has none
-pub none_at_zero : (s : Shape) → preceding s 0 ≡ []
-none_at_zero s = refl
-
 -- ---- where syncs stand
 abbrev pub SyncAhead : Line → Type 0
 SyncAhead stop = ⊥

@@ -163,11 +163,11 @@ beside_par s p q h =
     let x = rest_of s in
     from_tree s 2 (1 + suc x.events) (1 + suc x.events + sizes x.after) p q (omega arith) refl (part_blocks x 1 (1 + suc x.events) (1 + suc x.events + sizes x.after) p q refl refl h)
 
-long_whole : (s : Shape) (es : List Event) → Spells s es → long (whole s) ≡ length es
+pub long_whole : (s : Shape) (es : List Event) → Spells s es → long (whole s) ≡ length es
 long_whole s es sp = let a = (measures s).1 in let b = size-blocks (rest_of s) in let c = size-spelled s es sp in omega (arith, a, b, c)
 
 -- immediate predecessors come earlier
-earlier : (s : Shape) (p e : ℕ) → Among e (preceding s p) → e < p
+pub earlier : (s : Shape) (p e : ℕ) → Among e (preceding s p) → e < p
 earlier s p e a =
     elim (cases_lt p (suc (long (whole s)))) [
       | inl l ↦ elim (cases_lt 0 p) [

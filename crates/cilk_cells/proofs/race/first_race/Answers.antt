@@ -4,7 +4,7 @@ use Rattle.cilk_cells.proofs.race.first_race.Goals as goal
 use Rattle.cilk_cells.proofs.race.first_race.Goals.{then-strand-eq0-via-then-strand-eq0, then-strand-eq0-via-else-strand-eq0+then-strand-count}
 
 pub loop-index-init : goal.loop-index-init
-loop-index-init c = standing_first _ _ 0 _ _ _ _ refl c.as_slice-events.ensures.events c.cells_of.ensures c.in_ok-histories.ensures.writes c.in_ok-histories.ensures.accesses
+loop-index-init c = standing_first _ _ 0 _ _ _ _ refl c.as_slice-events.ensures.events c.cells_of.ensures.room c.in_ok-histories.ensures.writes c.in_ok-histories.ensures.accesses
 
 pub loop-index-preserved : goal.loop-index-preserved
 loop-index-preserved c =

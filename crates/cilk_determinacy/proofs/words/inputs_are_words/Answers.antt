@@ -1,6 +1,6 @@
 use Rattle.std.proofs.Common.{All, subst}
 use Rattle.cilk_monoid.specs.Values.{IsWord}
-use Rattle.cilk_determinacy.proofs.Rows.{numbers_are}
+use Rattle.cilk_determinacy.proofs.Literals.{numbers_are}
 use Rattle.cilk_determinacy.proofs.words.inputs_are_words.Goals as goal
 
 pub returns : goal.returns

@@ -1,0 +1,100 @@
+-- A program of the code writes words alone: each number in it keeps in its type that it is one.
+--
+-- - `expression_words` to `loops_words`: by what a program is made of;
+-- - `numbers_are`, `program_words`: with the words that its globals open with.
+use Rattle.std.proofs.Common.{ℤ, List, [], ◌∷◌, map, Option, Some, None}
+use Rattle.std.specs.List.{All}
+use Rattle.std.proofs.lemmas.List.Elements.{All-head, All-tail}
+use Rattle.cilk_monoid.specs.Values.{IsWord}
+use Rattle.cilk_program.specs.declared.program.Function as declared_functions
+use Rattle.cilk_program.specs.declared.program.Loop as declared_loops
+use Rattle.cilk_program.specs.declared.program.Program.{Program}
+use Rattle.cilk_program.specs.declared.syntax.Declaration as declared_declarations
+use Rattle.cilk_program.specs.declared.syntax.Declaration.TheVariants as declarations
+use Rattle.cilk_program.specs.declared.syntax.Expr as exprs
+use Rattle.cilk_program.specs.declared.syntax.Stmt as stmts
+use Rattle.cilk_program.specs.declared.syntax.Target as declared_targets
+use Rattle.cilk_program.specs.declared.syntax.Target.TheVariants as targets
+use Rattle.cilk_program.specs.Programs.{expression, optional, target, declaration, statement, row_view, statements, function, loop}
+use Rattle.cilk_program.specs.Sources.{source}
+use Rattle.cilk_determinacy.specs.Words.{AreWords, ExpressionWords, ExpressionsWords, OptionWords, TargetWords, DeclarationWords, DeclarationsWords, StatementWords, RowWords, FunctionsWords, LoopsWords, HasWords}
+
+expression_words : (e : exprs.Expr) → ExpressionWords (expression e)
+expression_words (exprs.Number n) = n.word
+expression_words (exprs.Variable x) = tt
+expression_words (exprs.Element' a p e) = expression_words e
+expression_words (exprs.Negate' p e) = expression_words e
+expression_words (exprs.Not' p e) = expression_words e
+expression_words (exprs.Binary' op p a q b) = (expression_words a, expression_words b)
+expression_words (exprs.And' p a q b) = (expression_words a, expression_words b)
+expression_words (exprs.Or' p a q b) = (expression_words a, expression_words b)
+expression_words (exprs.Value r) = tt
+expression_words (exprs.Input' p e) = expression_words e
+expression_words exprs.InputCount = tt
+
+expressions_words : (es : List exprs.Expr) → ExpressionsWords (map expression es)
+expressions_words [] = tt
+expressions_words (e ∷ es) = (expression_words e, expressions_words es)
+
+optional_words : (o : Option exprs.Expr) → OptionWords (optional o)
+optional_words None = tt
+optional_words (Some e) = expression_words e
+
+target_words : (t : declared_targets.Target) → TargetWords (target t)
+target_words (targets.Variable x) = tt
+target_words (targets.Element a e) = expression_words e
+
+declaration_words : (d : declared_declarations.Declaration) → DeclarationWords (declaration d)
+declaration_words (declarations.Zero n) = tt
+declaration_words (declarations.Value n e) = expression_words e
+declaration_words (declarations.Invoke i) = expressions_words i.arguments.items
+
+declarations_words : (ds : List declared_declarations.Declaration) → DeclarationsWords (map declaration ds)
+declarations_words [] = tt
+declarations_words (d ∷ ds) = (declaration_words d, declarations_words ds)
+
+mutual
+  statement_words : (s : stmts.Stmt) → StatementWords (statement s)
+  statement_words stmts.Empty = tt
+  statement_words (stmts.Block' shape row) = row_words row
+  statement_words (stmts.Declare row) = declarations_words row.items
+  statement_words (stmts.Assign t e) = (target_words t, expression_words e)
+  statement_words (stmts.Change t op e) = (target_words t, expression_words e)
+  statement_words (stmts.Step t n) = target_words t
+  statement_words (stmts.Invoke i) = expressions_words i.arguments.items
+  statement_words stmts.Sync = tt
+  statement_words (stmts.If' e p s) = (expression_words e, statement_words s)
+  statement_words (stmts.IfElse' e p s q other) = (expression_words e, statement_words s, statement_words other)
+  statement_words (stmts.For' shape row test shape2 row2 p s) = (row_words row, optional_words test, row_words row2, statement_words s)
+  statement_words (stmts.ParallelFor a b n) = (expression_words a, expression_words b)
+  statement_words (stmts.Print e) = expression_words e
+  statement_words (stmts.Update r e) = expression_words e
+  statement_words (stmts.Set r e) = expression_words e
+  statement_words (stmts.Return e) = optional_words e
+
+  row_words : {n : _} (row : stmts.Row_of-Stmt n) → RowWords (row_view row)
+  row_words stmts.end_of-Stmt = tt
+  row_words (stmts.more_of-Stmt s row) = (statement_words s, row_words row)
+
+statements_words : (list : List stmts.Stmt) → RowWords (statements list)
+statements_words [] = tt
+statements_words (s ∷ list) = (statement_words s, statements_words list)
+
+functions_words : (fs : List declared_functions.Function) → FunctionsWords (map function fs)
+functions_words [] = tt
+functions_words (f ∷ fs) = (statements_words f.body.items, functions_words fs)
+
+loops_words : (ls : List declared_loops.Loop) → LoopsWords (map loop ls)
+loops_words [] = tt
+loops_words (l ∷ ls) = (statements_words l.body.items, loops_words ls)
+
+pub numbers_are : (vs : List ℤ) → All IsWord vs → AreWords vs
+numbers_are [] h = tt
+numbers_are (v ∷ vs) h = (All-head IsWord v vs h, numbers_are vs (All-tail IsWord v vs h))
+
+pub program_words : (p : Program) → All IsWord p.globals → HasWords (source p)
+program_words p h = record {
+  openings = numbers_are p.globals h;
+  functions = functions_words p.functions.items;
+  loops = loops_words p.loops.items;
+}

@@ -1,0 +1,18 @@
+-- What the pieces of a state cover of the serial run, and what their views are.
+use Rattle.std.specs.Prelude.{ℤ, List}
+use Rattle.cilk_types.specs.declared.event.Event.{Event}
+use Rattle.cilk_types.specs.declared.outcome.Outcome.{Outcome}
+use Rattle.cilk_program.specs.SerialRun as serial
+use Rattle.cilk_program.specs.Syntax.{Source}
+use Rattle.cilk_runs.specs.Machine.{State}
+use Rattle.cilk_runs.specs.Stretches.{AreStretches, PiecesAreViews}
+use Rattle.cilk_worlds.specs.Reducers.{View, monoid_of}
+use Rattle.cilk_worlds.specs.Worlds.{World}
+use Rattle.cilk_determinacy.specs.Nested.{named}
+use Rattle.cilk_determinacy.specs.Theorem.{RunsFree, IsCut}
+
+-- in each consistent cut of a serial run without races each piece covers one stretch of the run, and has the views of that stretch
+abbrev pub PiecesCover : Source → List ℤ → Type 0
+PiecesCover p inputs =
+    (r : serial.Transcript) (es : List Event) (outcome : Outcome) → RunsFree p inputs r es outcome → (s : State World View) → IsCut p inputs r s
+    → AreStretches (named p r) s × PiecesAreViews monoid_of (named p r) s
