@@ -1,3 +1,4 @@
 pub mod Begun
 pub mod Listing
 pub mod Numbered
+pub mod OneCertificate

@@ -5,7 +5,7 @@ use Rattle.cilk_types.specs.declared.limits.TheConstants.{MAX_EVENTS, MAX_FRAMES
 use Rattle.cilk_types.specs.declared.outcome.Outcome.{Outcome}
 use Rattle.cilk_program.specs.Outcomes.{Leaves}
 use Rattle.cilk_program.specs.Syntax.{Source}
-use Rattle.cilk_program.specs.SerialRun.{Run, IsSerialRun}
+use Rattle.cilk_program.specs.SerialRun.{Transcript, IsSerialRun}
 use Rattle.cilk_program.specs.WellNamed.{is_well_named}
 use Rattle.cilk_tree.specs.Shape.{Shape, Spells}
 use Rattle.cilk_determinacy.specs.Events.{frames_begun}
@@ -19,4 +19,4 @@ pub record HasFewColumns (s : Shape) (es : List Event) : Type 0 where
 
 abbrev pub RunsHaveFewColumns : Source → List ℤ → Type 0
 RunsHaveFewColumns p inputs =
-    (r : Run) (es : List Event) (outcome : Outcome) (s : Shape) → IsTrue (is_well_named p) → IsSerialRun p inputs r es (Leaves outcome) → Spells s es → HasFewColumns s es
+    (r : Transcript) (es : List Event) (outcome : Outcome) (s : Shape) → IsTrue (is_well_named p) → IsSerialRun p inputs r es (Leaves outcome) → Spells s es → HasFewColumns s es

@@ -1,15 +1,11 @@
 -- Cutting a line at its spaces.
-use Rattle.std.proofs.Common.{◌≡◌, ℕ, Bool, true, false, cond, List, [], ◌∷◌, ◌++◌, None, refl, sym, ap, append_assoc, eqb}
+use Rattle.std.proofs.Common.{◌≡◌, ℕ, Bool, true, false, cond, List, [], ◌∷◌, ◌++◌, None, refl, eqb}
 use Rattle.cilk_cert_text.specs.Words.{words, with_first, ended}
 
 -- these bytes at the front of the first word
 abbrev pub with_front : List ℕ → List (List ℕ) → List (List ℕ)
 with_front a [] = a ∷ []
 with_front a (w ∷ ws) = (a ++ w) ∷ ws
-
-with_front-with_first : (a : List ℕ) (b : ℕ) (ws : List (List ℕ)) → with_front a (with_first b ws) ≡ with_front (a ++ b ∷ []) ws
-with_front-with_first a b [] = refl
-with_front-with_first a b (w ∷ ws) = ap (λ (x : List ℕ). x ∷ ws) (sym (append_assoc a (b ∷ []) w))
 
 ended_cond : {A : Type 0} (x : A) (t : Bool) (b : ℕ) (ws : List (List ℕ)) → ended x (cond t ([] ∷ ws) (with_first b ws)) ≡ None
 ended_cond x true b ws = refl

@@ -1,12 +1,14 @@
 pub mod Bounds
+pub mod Columns
 pub mod Cuts
 pub mod Dues
 pub mod Entries
 pub mod Numerals
+pub mod Passed
 pub mod Readings
-pub mod Texts
+pub mod Rooms
 pub mod Shown
 pub mod Spellings
+pub mod Texts
 pub mod Wholes
 pub mod Written
-pub mod Rooms

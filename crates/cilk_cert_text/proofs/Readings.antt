@@ -1,8 +1,7 @@
 -- What a text is read as, where it is taken in pieces.
-use Rattle.std.proofs.Common.{◌≡◌, ℕ, suc, ◌+◌, ◌-◌, ◌<◌, ◌≤◌, Bool, true, false, cond, List, [], ◌∷◌, ◌++◌, length, take, drop, get_or, Option, Some, None, Result, Ok, Err, ◌⊎◌, inl, inr, refl, sym, ap, ◌∙◌, append_assoc, eqb, ltb, arith, length-append, drop-cons, add-one, append-nil, length-take}
-use Rattle.std.proofs.Math.Seq.{take-suc}
+use Rattle.std.proofs.Common.{◌≡◌, ℕ, ◌+◌, ◌-◌, ◌<◌, ◌≤◌, Bool, true, false, cond, List, [], ◌∷◌, ◌++◌, length, take, drop, Option, Some, None, Result, Ok, Err, ◌⊎◌, inl, inr, refl, sym, ap, ◌∙◌, append_assoc, eqb, ltb, arith, length-append, append-nil, length-take}
 use Rattle.std.specs.Prelude.{option_map, OnOk}
-use Rattle.std.proofs.lemmas.Bool.{lt-ltb, le-ltb, ne_eqb}
+use Rattle.std.proofs.lemmas.Bool.{lt-ltb, le-ltb}
 use Rattle.cilk_cert_text.specs.declared.fault.CertFault.{CertFault}
 use Rattle.cilk_cert_text.specs.declared.fault.CertFault.TheVariants.{Malformed, Truncated}
 use Rattle.cilk_cert_text.specs.declared.line.Line.{Line}
@@ -126,20 +125,9 @@ prefixed_none : (o : Option (List ℕ × List ℕ)) → o ≡ prefixed [] o
 prefixed_none None = refl
 prefixed_none (Some s) = refl
 
-pub first_prefixed : (piece : List ℕ) → first_line piece ≡ prefixed [] (first_line piece)
-first_prefixed piece = prefixed_none (first_line piece)
-
 prefixed_more : (a : List ℕ) (b : ℕ) (o : Option (List ℕ × List ℕ)) → prefixed a (option_map (λ s. (b ∷ s.0, s.1)) o) ≡ prefixed (a ++ b ∷ []) o
 prefixed_more a b None = refl
 prefixed_more a b (Some s) = ap (λ (x : List ℕ). Some (x, s.1)) (sym (append_assoc a (b ∷ []) s.0))
-
-pub found_lf : (at : ℕ) (piece : List ℕ) → at < length piece → get_or piece at 0 ≡ 10 → first_line piece ≡ prefixed (take at piece) (first_line (drop at piece)) → first_line piece ≡ Some (take at piece, drop (at + 1) piece)
-found_lf at piece h e so_far =
-    so_far ∙ rw (drop-cons piece at 0 h, e, add-one) (ap (λ (x : List ℕ). Some (x, drop (suc at) piece)) (append-nil (take at piece)))
-
-pub pass_lf : (at : ℕ) (piece : List ℕ) → at < length piece → (get_or piece at 0 ≡ 10 → ⊥) → first_line piece ≡ prefixed (take at piece) (first_line (drop at piece)) → first_line piece ≡ prefixed (take (at + 1) piece) (first_line (drop (at + 1) piece))
-pass_lf at piece h e so_far =
-    so_far ∙ rw (drop-cons piece at 0 h, ne_eqb (get_or piece at 0) 10 e, add-one, take-suc piece at 0 h) (prefixed_more (take at piece) (get_or piece at 0) (first_line (drop (suc at) piece)))
 
 -- ---- a reader in the middle of a text
 

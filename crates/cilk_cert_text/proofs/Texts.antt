@@ -4,9 +4,8 @@ use Rattle.cilk_cert_text.specs.declared.fault.CertFault.{CertFault}
 use Rattle.cilk_cert_text.specs.declared.fault.CertFault.TheVariants.{Malformed, Truncated, Memory}
 use Rattle.cilk_cert_text.specs.declared.line.Line.{Line}
 use Rattle.cilk_cert_text.specs.Certificates.{Contents, lines_of, text_of, IsCertificate}
-use Rattle.cilk_cert_text.specs.Reading.{Reading, whole, stops, reading_of}
+use Rattle.cilk_cert_text.specs.Reading.{Reading, reading_of}
 use Rattle.cilk_cert_text.specs.Gathering.{nothing, gathered}
-use Rattle.cilk_cert_text.specs.Parts.{Leads}
 use Rattle.cilk_cert_text.proofs.Wholes.{certificate_sound, certificate_again, certificate_over, gathered_lines}
 
 same_reading : (r : Reading) (ls : List Line) → r.lines ≡ ls → r.fault ≡ None → r ≡ record { lines = ls; fault = None }
@@ -51,15 +50,6 @@ only_err text (Truncated n) h c fits is = absurd (none_some (Truncated n) (sym (
 only_err text Memory h c fits is = refl
 
 -- ---- from the reader's beginning to its end
-
-pub lead_said : (r first last : Reading) (c : Contents) → first ≡ r → Leads first nothing last c → last ≡ whole → c ≡ gathered nothing r.lines
-lead_said r first last c e l w = ap (λ (x : Reading). gathered c x.lines) (sym w) ∙ sym l.lines ∙ ap (λ (x : Reading). gathered nothing x.lines) e
-
-pub lead_whole : (r first last : Reading) (c : Contents) → first ≡ r → Leads first nothing last c → last ≡ whole → r.fault ≡ None
-lead_whole r first last c e l w = ap (λ (x : Reading). x.fault) (sym e) ∙ l.fault ∙ ap (λ (x : Reading). x.fault) w
-
-pub lead_fault : (r first last : Reading) (c : Contents) (f : CertFault) → first ≡ r → Leads first nothing last c → last ≡ stops f → r.fault ≡ Some f
-lead_fault r first last c f e l w = ap (λ (x : Reading). x.fault) (sym e) ∙ l.fault ∙ ap (λ (x : Reading). x.fault) w
 
 -- ---- one text, one certificate
 

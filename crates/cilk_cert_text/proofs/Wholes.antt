@@ -34,7 +34,7 @@ AllAt (f ∷ fs) (x ∷ xs) = IsAt f x × AllAt fs xs
 abbrev pub all_lines : List Line → Reading
 all_lines xs = record { lines = xs; fault = None }
 
-step_again : {A : Type 0} (n : ℕ) (line : List ℕ → Option A) (next : A → List ℕ → Reading) (x : Line) (a : A) (text : List ℕ) → Shown (line_words x) → line (spelled x) ≡ Some a → step n line next ((spelled x ++ 10 ∷ []) ++ text) (first_line ((spelled x ++ 10 ∷ []) ++ text)) ≡ next a text
+pub step_again : {A : Type 0} (n : ℕ) (line : List ℕ → Option A) (next : A → List ℕ → Reading) (x : Line) (a : A) (text : List ℕ) → Shown (line_words x) → line (spelled x) ≡ Some a → step n line next ((spelled x ++ 10 ∷ []) ++ text) (first_line ((spelled x ++ 10 ∷ []) ++ text)) ≡ next a text
 step_again n line next x a text s e =
     rw (front_line x text s, lt-ltb (length (spelled x)) 97 (omega (arith, short x s)), e) refl
 

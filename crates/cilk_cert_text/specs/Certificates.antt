@@ -39,9 +39,16 @@ event_lines es = map (λ e. lines.Event e) es
 abbrev pub size_of : Contents → Size
 size_of c = record { events = length c.events; frames = length c.frames; strands = length c.strands }
 
+-- those of events and result, and the last
+abbrev pub late_lines : Contents → List Line
+late_lines c = event_lines c.events ++ lines.Result c.result ∷ lines.End ∷ []
+
+-- those behind the first two
+abbrev pub column_lines : Contents → List Line
+column_lines c = frame_lines 1 c.frames ++ (strand_lines 1 c.strands ++ late_lines c)
+
 abbrev pub lines_of : Contents → List Line
-lines_of c =
-    lines.Version c.version ∷ lines.Size (size_of c) ∷ (frame_lines 1 c.frames ++ (strand_lines 1 c.strands ++ (event_lines c.events ++ lines.Result c.result ∷ lines.End ∷ [])))
+lines_of c = lines.Version c.version ∷ lines.Size (size_of c) ∷ column_lines c
 
 -- each line with its LF
 abbrev pub text_of_lines : List Line → List ℕ

@@ -8,4 +8,5 @@ pub mod Places
 pub mod Readers
 pub mod Reading
 pub mod Words
+pub mod Writers
 pub mod Writing

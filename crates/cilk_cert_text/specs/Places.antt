@@ -1,5 +1,5 @@
 -- Which lines are due at a place, and the number of the first.
-use Rattle.std.specs.Prelude.{ℕ, ◌+◌, ◌-◌, List, [], ◌∷◌, ◌++◌, Option, None, option_map}
+use Rattle.std.specs.Prelude.{◌≡◌, ℕ, ◌+◌, ◌-◌, List, [], ◌∷◌, ◌++◌, Option, None, option_map}
 use Rattle.cilk_cert_text.specs.declared.line.Line.{Line}
 use Rattle.cilk_cert_text.specs.declared.line.Line.TheVariants as lines
 use Rattle.cilk_cert_text.specs.declared.line.Form.{Form}
@@ -7,8 +7,8 @@ use Rattle.cilk_cert_text.specs.declared.line.Form.TheVariants as forms
 use Rattle.cilk_cert_text.specs.declared.place.Tail.{Tail}
 use Rattle.cilk_cert_text.specs.declared.place.Tail.TheVariants as tails
 use Rattle.cilk_cert_text.specs.declared.place.Progress.{Progress}
-use Rattle.cilk_cert_text.specs.declared.place.Place.{Place}
-use Rattle.cilk_cert_text.specs.declared.place.Place.TheVariants as places
+use Rattle.cilk_cert_text.specs.declared.place.ReaderPlace.{ReaderPlace}
+use Rattle.cilk_cert_text.specs.declared.place.ReaderPlace.TheVariants as places
 use Rattle.cilk_cert_text.specs.Words.{words}
 use Rattle.cilk_cert_text.specs.Lines.{version_line, size_line, line_of}
 use Rattle.cilk_cert_text.specs.Reading.{Due, Opening, Sizing, Lines, frame_forms, strand_forms, event_forms, forms_of}
@@ -30,12 +30,12 @@ forms_left p =
 abbrev pub number_left : Progress → ℕ
 number_left p = 3 + p.frames + p.strands + p.events + tail_lines p.tail
 
-abbrev pub due_of : Place → Due
+abbrev pub due_of : ReaderPlace → Due
 due_of places.Version = Opening
 due_of (places.Size version) = Sizing version
 due_of (places.Lines p) = Lines (forms_left p)
 
-abbrev pub number_at : Place → ℕ
+abbrev pub number_at : ReaderPlace → ℕ
 number_at places.Version = 1
 number_at (places.Size version) = 2
 number_at (places.Lines p) = number_left p
@@ -46,3 +46,7 @@ line_at Opening l = option_map (λ v. (lines.Version v, Sizing v)) (version_line
 line_at (Sizing version) l = option_map (λ s. (lines.Size s, Lines (forms_of version s))) (size_line (words l))
 line_at (Lines []) l = None
 line_at (Lines (form ∷ forms)) l = option_map (λ x. (x, Lines forms)) (line_of form l)
+
+-- a line of this form is due, and these behind it
+abbrev pub IsDue : Form → Due → Due → Type 0
+IsDue form later due = (forms : List Form) × (due ≡ Lines (form ∷ forms)) × (later ≡ Lines forms)

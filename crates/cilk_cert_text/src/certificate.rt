@@ -1,8 +1,8 @@
 //! A certificate: what a run claims about itself.
 
-ghost use Rattle.std.specs.Prelude.{◌≡◌, ◌≤◌, length};
+ghost use Rattle.std.specs.Prelude.{◌≡◌, ◌≤◌, IfSome, length, slice_get};
 
-use crate::line::{Entry, Frame, Size, Strand, Version};
+use crate::line::{Entry, Frame, Line, Size, Strand, Version};
 use std::marker::Model;
 
 /// A certificate within the limits of the format: at most 1,000,000 events, 65,536 frames and 1,000,000 strands, and each
@@ -27,7 +27,7 @@ impl Model for Certificate {
 }
 
 impl Certificate {
-    ghost use Rattle.cilk_cert_text.specs.Certificates.{Contents, IsCertificate, size_of};
+    ghost use Rattle.cilk_cert_text.specs.Certificates.{Contents, IsCertificate, column_lines, late_lines, lines_of, size_of};
 
     /// The certificate of these parts, with the result's value last.
     pub fn new(
@@ -94,5 +94,51 @@ impl Certificate {
         ensures certificate { IsCertificate self.now }
     {
         self.result
+    }
+
+    /// The line behind so many others of its text.
+    pub fn line(&self, ahead: usize) -> Option<Line>
+        ensures value { result ≡ slice_get (lines_of self.now) ahead }
+        ensures few { IfSome result (λ _. ahead ≤ 2065539) }
+    {
+        match ahead {
+            0 => Some(Line::Version(self.version)),
+            1 => Some(Line::Size(self.size())),
+            _ => self.column_line(ahead - 2),
+        }
+    }
+
+    /// The line behind the first two and so many others.
+    fn column_line(&self, ahead: usize) -> Option<Line>
+        ensures value { result ≡ slice_get (column_lines self.now) ahead }
+        ensures few { IfSome result (λ _. ahead ≤ 2065537) }
+    {
+        let frames = self.frames();
+        let strands = self.strands();
+        if let Some(frame) = frames.get(ahead) {
+            let (number, frame) = (ahead as u32 + 1, *frame);
+            return Some(Line::Frame { number, frame });
+        }
+        let ahead = ahead - frames.len();
+        if let Some(strand) = strands.get(ahead) {
+            let (number, strand) = (ahead as u32 + 1, *strand);
+            return Some(Line::Strand { number, strand });
+        }
+        self.late_line(ahead - strands.len())
+    }
+
+    /// The line behind those of frames and strands and so many others.
+    fn late_line(&self, ahead: usize) -> Option<Line>
+        ensures value { result ≡ slice_get (late_lines self.now) ahead }
+        ensures few { IfSome result (λ _. ahead ≤ 1000001) }
+    {
+        if let Some(event) = self.events.get(ahead) {
+            return Some(Line::Event(*event));
+        }
+        match ahead - self.events.len() {
+            0 => Some(Line::Result(self.result)),
+            1 => Some(Line::End),
+            _ => None,
+        }
     }
 }

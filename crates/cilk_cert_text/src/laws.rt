@@ -6,6 +6,7 @@ ghost use Rattle.cilk_cert_text.specs.declared.line.Form.{Form};
 ghost use Rattle.cilk_cert_text.specs.Lines.{spelled, line_of};
 ghost use Rattle.cilk_cert_text.specs.Certificates.{Contents, IsCertificate, IsAt, text_of, lines_of, text_of_lines};
 ghost use Rattle.cilk_cert_text.specs.Reading.{reading_of};
+ghost use Rattle.cilk_cert_text.specs.declared.reader.TheConstants.{MAX_LINE};
 
 /// A certificate has one text, and a text is of one certificate.
 pub fn one_certificate()
@@ -38,4 +39,10 @@ pub fn one_spelling()
 /// already, and a text's limit of 134,217,728 bytes needs no test.
 pub fn within_limit()
     ensures { (text : List ℕ) → length (text_of_lines (reading_of text).lines) + 97 ≤ 134217728 }
+{}
+
+/// The bytes of the longest line that is read, its LF not included, by number. How many bytes a text may have without a fault is said
+/// by [`LineReader::new`](crate::reader::LineReader::new).
+pub fn limits_are()
+    ensures { MAX_LINE ≡ 96 }
 {}

@@ -36,11 +36,14 @@
 
 pub mod certificate;
 pub mod fault;
+mod form;
 pub mod laws;
 pub mod line;
 mod parse;
 mod place;
 pub mod read;
 pub mod reader;
+mod spelling;
 mod word;
 pub mod write;
+pub mod writer;

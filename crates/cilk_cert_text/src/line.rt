@@ -104,9 +104,3 @@ pub enum Keyword {
     Value,
     Print,
 }
-
-/// The most events, and the most strands, that a certificate may have.
-pub const MAX_EVENTS: u32 = 1_000_000;
-
-/// The most frames that a certificate may have.
-pub const MAX_FRAMES: u32 = 65_536;

@@ -5,11 +5,10 @@ ghost use Rattle.cilk_cert_text.specs.Lines.{keyword_of, reducer_at, reducer_val
 ghost use Rattle.cilk_cert_text.specs.Words.{words};
 ghost use Rattle.cilk_cert_text.specs.Parsing.{words_in};
 
-use crate::line::{
-    Entry, Form, Frame, Keyword, Line, MAX_EVENTS, MAX_FRAMES, Reducer, Size, Strand, Version,
-};
+use crate::line::{Entry, Form, Frame, Keyword, Line, Reducer, Size, Strand, Version};
 use crate::word::{self, after, alone, first, number, value};
 use cilk_types::event::{FrameNo, Instance, StrandNo};
+use cilk_types::limits::{MAX_EVENTS, MAX_FRAMES};
 
 /// The keyword that the word spells.
 #[tactic(auto, unfolding(crate::specs::Lines::keyword_of))]

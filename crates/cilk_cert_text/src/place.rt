@@ -32,7 +32,7 @@ pub(crate) struct Progress {
 
 /// Where the reader stands.
 #[derive(Clone, Copy, Debug)]
-pub(crate) enum Place {
+pub(crate) enum ReaderPlace {
     Version,
     Size(Version),
     Lines(Progress),
@@ -102,8 +102,8 @@ impl Progress {
     }
 }
 
-impl Place {
-    ghost use Rattle.cilk_cert_text.specs.Places.{due_of, number_at, line_at};
+impl ReaderPlace {
+    ghost use Rattle.cilk_cert_text.specs.Places.{due_of, number_at, line_at, IsDue};
     ghost use Rattle.cilk_cert_text.specs.Reading.{Lines};
 
     /// The number of the line that stands next, from 1.
@@ -111,9 +111,9 @@ impl Place {
         ensures { result ≡ number_at self }
     {
         match self {
-            Place::Version => 1,
-            Place::Size(_) => 2,
-            Place::Lines(progress) => {
+            ReaderPlace::Version => 1,
+            ReaderPlace::Size(_) => 2,
+            ReaderPlace::Lines(progress) => {
                 let tail = progress.tail_lines();
                 3 + progress.frames + progress.strands + progress.events + tail
             }
@@ -126,31 +126,46 @@ impl Place {
         ensures no { result ≡ false → due_of self ≡ Lines [] → ⊥ }
     {
         match self {
-            Place::Lines(progress) => progress.next().is_none(),
+            ReaderPlace::Lines(progress) => progress.next().is_none(),
             _ => false,
         }
     }
 
+    /// The form of the line that stands next behind the size line, and the place behind it.
+    pub(crate) fn next(self) -> Option<(Form, ReaderPlace)>
+        ensures due { IfSome result (λ r. IsDue r.0 (due_of r.1) (due_of self)) }
+        ensures number { IfSome result (λ r. number_at r.1 ≡ number_at self + 1) }
+        ensures few { IfSome result (λ r. number_at r.1 ≤ 2065541) }
+    {
+        match self {
+            ReaderPlace::Lines(progress) => {
+                let (form, progress) = progress.next()?;
+                Some((form, ReaderPlace::Lines(progress)))
+            }
+            _ => None,
+        }
+    }
+
     /// The line that the bytes are, and the place behind it.
-    pub(crate) fn line(self, bytes: &[u8]) -> Option<(Line, Place)>
+    pub(crate) fn line(self, bytes: &[u8]) -> Option<(Line, ReaderPlace)>
         ensures line { option_map (λ r. (r.0, due_of r.1)) result ≡ line_at (due_of self) bytes.now }
         ensures number { IfSome result (λ r. number_at r.1 ≡ number_at self + 1) }
         ensures few { IfSome result (λ r. number_at r.1 ≤ 2065541) }
     {
         match self {
-            Place::Version => {
+            ReaderPlace::Version => {
                 let version = parse::version(bytes)?;
-                Some((Line::Version(version), Place::Size(version)))
+                Some((Line::Version(version), ReaderPlace::Size(version)))
             }
-            Place::Size(version) => {
+            ReaderPlace::Size(version) => {
                 let size = parse::size(bytes)?;
                 let progress = Progress::new(version, size);
-                Some((Line::Size(size), Place::Lines(progress)))
+                Some((Line::Size(size), ReaderPlace::Lines(progress)))
             }
-            Place::Lines(progress) => {
+            ReaderPlace::Lines(progress) => {
                 let (form, progress) = progress.next()?;
                 let line = parse::line(form, bytes)?;
-                Some((line, Place::Lines(progress)))
+                Some((line, ReaderPlace::Lines(progress)))
             }
         }
     }

@@ -47,12 +47,8 @@ impl Parts {
     {
         match line {
             Line::Version(version) => self.version = version,
-            Line::Size(size) => {
-                self.frames.reserve_exact(size.frames as usize)?;
-                self.strands.reserve_exact(size.strands as usize)?;
-                self.events.reserve_exact(size.events as usize)?;
-            }
-            Line::End => {}
+            // What a text claims reserves nothing: the lists grow with the lines that come.
+            Line::Size(_) | Line::End => {}
             Line::Frame { frame, .. } => self.frames.push(frame)?,
             Line::Strand { strand, .. } => self.strands.push(strand)?,
             Line::Event(event) => self.events.push(event)?,

@@ -5,18 +5,20 @@ ghost use Rattle.cilk_cert_text.specs.Reading.{first_line, Lines};
 ghost use Rattle.cilk_cert_text.specs.Places.{due_of};
 
 use crate::fault::CertFault;
+use crate::form::is_at;
 use crate::line::Line;
-use crate::place::Place;
+use crate::place::ReaderPlace;
+use crate::spelling::Spelling;
 
 /// The most bytes of a line before its LF.
-const LONGEST: usize = 96;
+pub const MAX_LINE: usize = 96;
 
 /// Reads a certificate's text in whatever pieces it comes, and gives its lines. It takes no memory.
 #[derive(Drop, Debug)]
 pub struct LineReader {
-    place: Place,
+    place: ReaderPlace,
     // The bytes of the line at hand so far stand in front.
-    bytes: [u8; LONGEST],
+    bytes: [u8; MAX_LINE],
     length: usize,
     fault: Option<CertFault>,
     ghost room: { length ≤ 96 },
@@ -40,7 +42,7 @@ fn end_of_line(piece: &[u8]) -> Option<usize>
 }
 
 /// Writes the bytes behind the first `length`.
-fn append(bytes: &mut [u8; LONGEST], length: usize, more: &[u8])
+fn append(bytes: &mut [u8; MAX_LINE], length: usize, more: &[u8])
     requires { length + len_of more.now ≤ 96 }
     ensures front { take (length + len_of more.now) bytes.new ≡ take length bytes.old ++ more.now }
     ensures whole { len_of bytes.new ≡ 96 }
@@ -73,10 +75,11 @@ impl LineReader {
     pub fn new() -> Self
         ensures text { (text : List ℕ) → ahead result text ≡ reading_of text }
         ensures fault { fault_of result ≡ None }
+        ensures room { room_of result ≡ 200357477 }
     {
         LineReader {
-            place: Place::Version,
-            bytes: [0; LONGEST],
+            place: ReaderPlace::Version,
+            bytes: [0; MAX_LINE],
             length: 0,
             fault: None,
         }
@@ -94,7 +97,7 @@ impl LineReader {
     }
 
     /// The line that these bytes end, and the place behind it.
-    fn line(&self, front: &[u8]) -> Option<(Line, Place)>
+    fn line(&self, front: &[u8]) -> Option<(Line, ReaderPlace)>
         requires { self.now.length + len_of front.now ≤ 96 }
         ensures line { option_map (λ r. (r.0, due_of r.1)) result ≡ line_at (due_of self.now.place) (take self.now.length self.now.bytes ++ front.now) }
         ensures number { IfSome result (λ r. number_at r.1 ≡ number_at self.now.place + 1) }
@@ -122,7 +125,7 @@ impl LineReader {
         ensures room { IfOk result (λ r. room_of self.new + r.0 ≤ room_of self.old) }
         ensures silent { OnOk result (fault_of self.new ≡ None) }
     {
-        if at > LONGEST - self.length {
+        if at > MAX_LINE - self.length {
             return Err(self.malformed());
         }
         match self.line(&piece[..at]) {
@@ -148,7 +151,7 @@ impl LineReader {
         ensures room { IfOk result (λ r. room_of self.new + r.0 ≤ room_of self.old) }
         ensures silent { OnOk result (fault_of self.new ≡ None) }
     {
-        if piece.len() > LONGEST - self.length {
+        if piece.len() > MAX_LINE - self.length {
             return Err(self.malformed());
         }
         append(&mut self.bytes, self.length, piece);
@@ -183,6 +186,33 @@ impl LineReader {
             Some(at) => self.end_line(at, piece),
             None => self.go_on(piece),
         }
+    }
+
+    /// Takes the line at the front of the piece where it is this one, with its LF, and gives how many bytes that were: so a line
+    /// that is known is compared, and not read. Else, and where the line at hand has begun in an earlier piece, nothing changes.
+    pub fn pass(&mut self, piece: &[u8], line: Line) -> Option<usize>
+        ensures line { IfSome result (λ taken. (more : List ℕ) → ahead self.old (piece.now ++ more) ≡ with_lines (Some line) (ahead self.new (drop taken piece.now ++ more))) }
+        ensures taken { IfSome result (λ taken. taken ≤ len_of piece.now) }
+        ensures progress { IfSome result (λ taken. 1 ≤ taken) }
+        ensures room { IfSome result (λ taken. room_of self.new + taken ≤ room_of self.old) }
+        ensures silent { IfSome result (λ _. fault_of self.new ≡ None) }
+        ensures same { IfNone result (self.new ≡ self.old) }
+    {
+        if self.fault.is_some() || self.length > 0 {
+            return None;
+        }
+        let (form, place) = self.place.next()?;
+        if !is_at(form, line) {
+            return None;
+        }
+        let mut spelling = Spelling::new();
+        spelling.line(line);
+        let text = spelling.text();
+        if !piece.starts_with(text) {
+            return None;
+        }
+        self.place = place;
+        Some(text.len())
     }
 
     /// Says that the text has ended. A text that ends too early is a fault, which every later call answers too.

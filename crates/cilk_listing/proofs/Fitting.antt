@@ -1,8 +1,8 @@
 -- The cells that are written are below a number.
 --
--- - `fits_next`: one event more;
+-- - `fits_next`, `fits_at`: one event more; one of all;
 -- - `all_fit`: over the whole list.
-use Rattle.std.proofs.Common.{◌≡◌, ℕ, ◌+◌, ◌<◌, ◌≤◌, List, length, get_or, Some, slice_get, sym, ◌∙◌, ap, subst, arith, ◌⊎◌, inl, inr}
+use Rattle.std.proofs.Common.{◌≡◌, ℕ, ◌+◌, ◌<◌, ◌≤◌, List, length, get_or, Some, slice_get, sym, ◌∙◌, ap, subst, arith, inl, inr}
 use Rattle.std.proofs.lemmas.Bool.{cases_lt}
 use Rattle.std.proofs.lemmas.Option.{same_Some, slice_get_within, slice_get-get_or}
 use Rattle.cilk_types.specs.declared.event.Event.{Event}
@@ -36,6 +36,9 @@ fits_next es i n m x d h lt f a b k e l is =
           let here : get_or es i d ≡ e = same_Some (get_or es i d) e (sym (slice_get-get_or es i d lt) ∙ ap (slice_get es) (sym at) ∙ is) in
           fits_more x m e b (subst (λ (y : Event). Fits x y) here f))
     ]
+
+pub fits_at : (es : List Event) (i n : ℕ) (d : Event) → AllFit n es → i < length es → Fits n (get_or es i d)
+fits_at es i n d h lt = h i (get_or es i d) (slice_get-get_or es i d lt)
 
 pub all_fit : (es : List Event) (i n : ℕ) → FitSoFar es i n → length es ≤ i → AllFit n es
 all_fit es i n h far k e is = h k e (let l = slice_get_within es k e is in omega (arith, l, far)) is

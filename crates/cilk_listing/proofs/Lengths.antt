@@ -2,7 +2,7 @@
 --
 -- - `columns_counted`: the lengths of both columns of a trace;
 -- - `frames_small`: where few frames begin, each frame's numbers have 32 bits.
-use Rattle.std.proofs.Common.{◌≡◌, ℕ, ◌+◌, ◌≤◌, ◌<◌, ◌^◌, List, [], ◌∷◌, ◌++◌, length, refl, sym, ap, ◌∙◌, arith, length-append}
+use Rattle.std.proofs.Common.{◌≡◌, ℕ, ◌+◌, ◌≤◌, ◌<◌, ◌^◌, List, ◌∷◌, length, refl, sym, ap, ◌∙◌, arith, length-append}
 use Rattle.std.proofs.lemmas.List.{length-map}
 use Rattle.std.specs.List.{AllByRecursion}
 use Rattle.cilk_types.specs.declared.event.Event.{Event}
@@ -12,7 +12,6 @@ use Rattle.cilk_tree.specs.Marks.{mark_of}
 use Rattle.cilk_tree.specs.Shape.{Shape, finish, act, sync, child, marks, Spells}
 use Rattle.cilk_tree.specs.Tree.{blocks, block, rest_of}
 use Rattle.cilk_tree.proofs.Strands.{number, leaves-block, leaves-blocks, leaves-beside}
-use Rattle.cilk_cert_text.specs.declared.line.Frame.{Frame}
 use Rattle.cilk_cert_text.specs.Certificates.{IsFrame}
 use Rattle.cilk_listing.specs.Frames.{frames_in, frames_from, frames_of, owners_from}
 use Rattle.cilk_listing.specs.Laws.{ColumnsAreCounted}

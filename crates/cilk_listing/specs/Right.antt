@@ -1,5 +1,5 @@
 -- The right certificate of a serial run.
-use Rattle.std.specs.Prelude.{◌≡◌, ℕ, ◌+◌, ◌-◌, ◌<◌, ◌≤◌, ℤ, List, length, Option, Some, None, slice_get}
+use Rattle.std.specs.Prelude.{◌≡◌, ℕ, ◌-◌, ◌<◌, ◌≤◌, ℤ, List, length, Option, Some, None, slice_get}
 use Rattle.cilk_types.specs.declared.event.Event.{Event}
 use Rattle.cilk_tree.specs.Shape.{Shape}
 use Rattle.cilk_tree.specs.Tree.{tree}

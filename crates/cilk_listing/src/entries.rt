@@ -1,6 +1,6 @@
 //! The events of a run as a certificate's entries, and back.
 
-ghost use Rattle.std.specs.Prelude.{◌≡◌, ◌<◌, ◌^◌, ◌++◌, ℕ, List, Some, OnOk, take};
+ghost use Rattle.std.specs.Prelude.{◌≡◌, ◌<◌, ◌^◌, ◌++◌, ℕ, List, Some, OnErr, OnOk, take};
 ghost use Rattle.cilk_types.specs.declared.event.Event.{Event};
 ghost use Rattle.cilk_types.specs.declared.event.Instance.{Instance};
 ghost use Rattle.cilk_cert_text.specs.declared.line.Reducer.TheVariants.{Place};
@@ -30,9 +30,10 @@ impl Creations {
         }
     }
 
-    /// The next event has come.
+    /// The next event has come. Where there is no memory for it, it hasn't.
     pub fn meet(&mut self, event: &Event) -> Result<(), AllocError>
-        ensures { OnOk result (self.new.made.items ≡ self.old.made.items ++ created_by event.now) }
+        ensures made { OnOk result (self.new.made.items ≡ self.old.made.items ++ created_by event.now) }
+        ensures kept { OnErr result (self.new.made.items ≡ self.old.made.items) }
     {
         if let Event::Create { instance } = *event {
             self.made.push(instance)?;

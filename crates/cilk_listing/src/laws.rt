@@ -1,12 +1,18 @@
 //! Laws of what a certificate lists. Each is a function that does nothing: its contract is the law.
 
-ghost use Rattle.std.specs.Prelude.{List};
+ghost use Rattle.std.specs.Prelude.{ℤ, List};
 ghost use Rattle.cilk_types.specs.declared.event.Event.{Event};
 ghost use Rattle.cilk_tree.specs.Shape.{Shape, Spells};
-ghost use Rattle.cilk_listing.specs.Laws.{ColumnsAreCounted};
+ghost use Rattle.cilk_listing.specs.Laws.{ColumnsAreCounted, HasOneCertificate};
 
 /// The root and the frames inside it are a run's frames, and as many strands have a frame as the run's tree has leaves. Neither
 /// are more than the run's events.
 pub fn columns_are_counted()
     ensures { (s : Shape) (es : List Event) → Spells s es → ColumnsAreCounted s es }
+{}
+
+/// What is right of a run is one certificate of each version, and so one text of each. In version 1 that takes a run in which each
+/// reducer is created once, as each serial run is.
+pub fn right_certificates_are_one()
+    ensures { (s : Shape) (es : List Event) (value : ℤ) → HasOneCertificate s es value }
 {}

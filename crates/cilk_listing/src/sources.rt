@@ -1,6 +1,6 @@
 //! The write that each read reads.
 
-ghost use Rattle.std.specs.Prelude.{◌≡◌, ◌+◌, ℕ, List, Some, IfOk, length, slice_get, slice_index};
+ghost use Rattle.std.specs.Prelude.{◌≡◌, ◌+◌, ◌≤◌, ℕ, List, Some, IfOk, length, slice_get, slice_index};
 ghost use Rattle.cilk_types.specs.declared.event.Event.{Event};
 ghost use Rattle.cilk_listing.specs.Sources.{AllFit, AreLast, Fits};
 
@@ -48,7 +48,8 @@ impl LastWrites {
 
 /// How many cells there are, up to the last that an event writes.
 pub fn cells_written(events: &[Event]) -> usize
-    ensures { AllFit result events.now }
+    ensures fit { AllFit result events.now }
+    ensures least { (n : ℕ) → AllFit n events.now → result ≤ n }
 {
     let mut cells: usize = 0;
     for event in events {
@@ -61,7 +62,8 @@ pub fn cells_written(events: &[Event]) -> usize
 }
 
 fn cells_in(event: &Event) -> usize
-    ensures { Fits result event.now }
+    ensures fit { Fits result event.now }
+    ensures least { (n : ℕ) → Fits n event.now → result ≤ n }
 {
     match *event {
         Event::Write { cell, .. } => cell as usize + 1,

@@ -6,7 +6,7 @@ use Rattle.cilk_cert_maker.proofs.Listing.{lists_first, lists_next, fits_here}
 use Rattle.cilk_cert_maker.proofs.entries.entries.Goals as goal
 
 pub loop-index-init : goal.loop-index-init
-loop-index-init c = lists_first _ _ _ _ c.new-entries.ensures.items (c.in_ok-writes.ensures.none c.as_slice-events.result.now) c.in_ok-writes.ensures.cells c.cells_written.ensures
+loop-index-init c = lists_first _ _ _ _ c.new-entries.ensures.items (c.in_ok-writes.ensures.none c.as_slice-events.result.now) c.in_ok-writes.ensures.cells c.cells_written.ensures.fit
 
 pub meet-requires : goal.meet-requires
 meet-requires c = fits_here _ _ _ _ _ c.loop-index.invariant c.loop-index-test.true

@@ -1,6 +1,0 @@
-use Rattle.std.proofs.Common.{◌≡◌, ◌+◌, ◌++◌, drop}
-use Rattle.cilk_cert_text.specs.Certificates.{text_of_lines, frame_lines}
-use Rattle.cilk_cert_text.proofs.write.frames.Given as goal
-
-abbrev pub invariant-loop-at : goal.invariant-loop-at
-invariant-loop-at l = l.out.items ++ text_of_lines (frame_lines (l.at + 1) (drop l.at l.frames)) ≡ l.fn.out.items ++ text_of_lines (frame_lines 1 l.frames)
