@@ -1,14 +1,12 @@
 -- What a checked certificate's run is.
 --
--- - `if_ok_with`: what follows where a call answered Ok;
 -- - `run_spelled`: a serial run that ends has a shape, and its reducers are created before they are used;
 -- - `is_determinate`: where such a run has no race, it is determinate;
 -- - `given_refused`, `refused_at_end`, `refused_before`: what is found in a certificate is a true refusal;
 -- - `certified`: a run with a right certificate and no race is determinate;
 -- - `told_true`: that a text wasn't heard to its end is told truly;
 -- - `ran_at`, `stops_at`: how a run has ended, of the events that a column has.
-use Rattle.std.proofs.Common.{◌≡◌, inl, inr, ℕ, ℤ, List, Option, Result, Ok, Err, IsTrue, sym, subst}
-use Rattle.std.specs.Prelude.{IfOk}
+use Rattle.std.proofs.Common.{◌≡◌, inl, inr, ℕ, ℤ, List, Option, IsTrue, sym, subst}
 use Rattle.cilk_types.specs.declared.event.Event.{Event}
 use Rattle.cilk_types.specs.declared.fault.Fault.{Fault}
 use Rattle.cilk_types.specs.declared.outcome.Outcome.{Outcome}
@@ -41,10 +39,6 @@ use Rattle.cilk_checker.specs.Stops.{GivesCertificate, IsStop}
 use Rattle.cilk_checker.specs.declared.ending.End.{End}
 use Rattle.cilk_checker.specs.declared.ending.End.TheVariants.{Left, Stopped}
 
-pub if_ok_with : {A E : Type 0} (r : Result A E) (P Q : A → Type 0) → IfOk r P → ((x : A) → P x → Q x) → IfOk r Q
-if_ok_with (Ok x) P Q h f = f x h
-if_ok_with (Err e) P Q h f = tt
-
 -- ---- runs
 
 pub run_spelled : (p : Source) (inputs : List ℤ) → IsTrue (is_well_named p) → (o : Outcome) (es : List Event) → Ran p inputs o es → (s : Shape) × Ended p inputs s es o
@@ -67,10 +61,10 @@ is_determinate p inputs settle s es o e races view_races = record {
 -- ---- refusals
 
 -- nothing else than these is found
-abbrev FindsNothing : Refusal → Type 0
+abbrev pub FindsNothing : Refusal → Type 0
 FindsNothing r = ((s : Shape) (es : List Event) (value : ℤ) (c : Contents) → IsFound s es value c r → ⊥) × ((es : List Event) (c : Contents) → IsFoundBefore es c r → ⊥)
 
-never : (p : Source) (inputs : List ℤ) (c : Contents) (r : Refusal) → FindsNothing r → IsRefused p inputs c r → ⊥
+pub never : (p : Source) (inputs : List ℤ) (c : Contents) (r : Refusal) → FindsNothing r → IsRefused p inputs c r → ⊥
 never p inputs c r none (inl x) = none.0 x.0 x.1 x.2.result c x.4
 never p inputs c r none (inr x) = none.1 x.0 c x.3
 

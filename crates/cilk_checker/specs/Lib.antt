@@ -3,8 +3,10 @@ pub mod Columns
 pub mod Determinate
 pub mod Firsts
 pub mod Numbers
+pub mod OneVerdict
 pub mod Refusals
 pub mod Runs
 pub mod Stops
 pub mod Tallies
+pub mod Texts
 pub mod Told

@@ -1,6 +1,6 @@
 //! The check of a certificate against a program and an input.
 
-ghost use Rattle.std.specs.Prelude.{◌≡◌, ◌<◌, IfOk, IfErr};
+ghost use Rattle.std.specs.Prelude.{◌≡◌, ◌<◌, IfOk, IfErr, OnOk};
 ghost use Rattle.cilk_program.specs.Sources.{source as source_of};
 ghost use Rattle.cilk_checker.specs.Answers.{IsCertified, IsUnaccepted};
 
@@ -15,10 +15,10 @@ use cilk_program::program::Program;
 use cilk_types::input::Input;
 use std::alloc::Global;
 
-/// Checks the certificate that a source gives, against the serial run of a program on an input. It is accepted only where it is right,
-/// the run ends without a fault, and no two positions of it race; the program is determinate on its input then. Else the first pass
-/// that finds something says why. Nothing is pulled any more once a fault of the text is certain. Cost: that of the run, and linear in
-/// the text; memory: linear in the run, however long the text is.
+/// Checks the certificate that a source gives, against the serial run of a program on an input. It is accepted only
+/// where it is right, the run ends without a fault, and no two positions of it race; the program is determinate on its
+/// input then. Else the first pass that finds something says why. Nothing is pulled any more once a fault of the text
+/// is certain. Cost: that of the run, and linear in the text; memory: linear in the run, however long the text is.
 pub fn check_run<S: Source>(
     alloc: Global,
     program: Program,
@@ -28,8 +28,12 @@ pub fn check_run<S: Source>(
     requires { S.failed source.old < 18446744073709551615 }
     ensures program { IfOk result (λ a. a.program ≡ program) }
     ensures input { IfOk result (λ a. a.input ≡ input) }
-    ensures accepted { IfOk result (λ a. IsCertified (source_of program) input (S.remaining source.old) a.trace a.outcome) }
-    ensures unaccepted { IfErr result (λ e. IsUnaccepted (source_of program) input (S.remaining source.old) (S.failed source.old) (S.failed source.new) e) }
+    ensures accepted { IfOk result (λ a.
+        IsCertified (source_of program) input (S.remaining source.old) a.trace a.outcome) }
+    ensures unaccepted { let failed = S.failed source.old in let failed' = S.failed source.new in
+        IfErr result (λ e. IsUnaccepted (source_of program) input (S.remaining source.old) failed failed' e) }
+    ensures uncounted { OnOk result (S.failed source.new ≡ S.failed source.old) }
+    ensures lender { S.lender source.new ≡ S.lender source.old }
 {
     let (end, trace) = run_to_end(alloc, &program, &input)?;
     match end {

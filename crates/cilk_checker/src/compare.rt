@@ -1,6 +1,6 @@
 //! A certificate is compared with what is right of a run, as its text comes.
 
-ghost use Rattle.std.specs.Prelude.{◌<◌, ℤ, List, MatchOption, IfOk, IfErr, OnOk};
+ghost use Rattle.std.specs.Prelude.{◌≡◌, ◌<◌, ℤ, List, MatchOption, IfOk, IfErr, OnOk};
 ghost use Rattle.cilk_program.specs.Syntax.{Source as Meaning};
 ghost use Rattle.cilk_tree.specs.Shape.{Shape};
 ghost use Rattle.cilk_tree.specs.Tree.{tree};
@@ -33,8 +33,12 @@ pub fn stopped<S: Source>(
 ) -> Result<Refusal, Unaccepted>
     requires few { AreFew right.now }
     requires counted { S.failed source.old < 18446744073709551615 }
-    ensures refused { IfOk result (λ r. GivesCertificate (S.remaining source.old) (λ c. IsFoundBefore right.now.trace c r)) }
-    ensures unaccepted { IfErr result (λ e. (p : Meaning) (inputs : List ℤ) → IsUnaccepted p inputs (S.remaining source.old) (S.failed source.old) (S.failed source.new) e) }
+    ensures refused { IfOk result (λ r.
+        GivesCertificate (S.remaining source.old) (λ c. IsFoundBefore right.now.trace c r)) }
+    ensures unaccepted { let failed = S.failed source.old in let failed' = S.failed source.new in
+        IfErr result (λ e. (p : Meaning) (inputs : List ℤ)
+        → IsUnaccepted p inputs (S.remaining source.old) failed failed' e) }
+    ensures lender { S.lender source.new ≡ S.lender source.old }
 {
     let tally = heard(alloc, right, source)?;
     Ok(found_before(&tally, right))
@@ -58,8 +62,8 @@ fn found_before(tally: &Tally, right: &Right) -> Refusal
     }
 }
 
-/// Compares the certificate of a run that has ended and leaves this, of which `right` has the columns. Ok where it is right and nothing
-/// races; else what the first pass finds that finds something.
+/// Compares the certificate of a run that has ended and leaves this, of which `right` has the columns. Ok where it is
+/// right and nothing races; else what the first pass finds that finds something.
 pub fn ended<S: Source>(
     alloc: Global,
     right: &Right,
@@ -68,8 +72,14 @@ pub fn ended<S: Source>(
 ) -> Result<(), Unaccepted>
     requires few { AreFew right.now }
     requires counted { S.failed source.old < 18446744073709551615 }
-    ensures clean { OnOk result ((s : Shape) → HasColumns s right.now → HasCreations right.now.trace → GivesCertificate (S.remaining source.old) (IsClean s right.now.trace outcome.now.result)) }
-    ensures refused { IfErr result (λ e. (p : Meaning) (inputs : List ℤ) (s : Shape) → HasColumns s right.now → Ended p inputs s right.now.trace outcome.now → HasCreations right.now.trace → IsUnaccepted p inputs (S.remaining source.old) (S.failed source.old) (S.failed source.new) e) }
+    ensures clean { OnOk result ((s : Shape) → HasColumns s right.now → HasCreations right.now.trace
+        → GivesCertificate (S.remaining source.old) (IsClean s right.now.trace outcome.now.result)) }
+    ensures refused { let failed = S.failed source.old in let failed' = S.failed source.new in
+        IfErr result (λ e. (p : Meaning) (inputs : List ℤ) (s : Shape) → HasColumns s right.now
+        → Ended p inputs s right.now.trace outcome.now → HasCreations right.now.trace
+        → IsUnaccepted p inputs (S.remaining source.old) failed failed' e) }
+    ensures uncounted { OnOk result (S.failed source.new ≡ S.failed source.old) }
+    ensures lender { S.lender source.new ≡ S.lender source.old }
 {
     let tally = heard(alloc, right, source)?;
     if let Some(refusal) = first_found(alloc, &tally, right, outcome)? {
@@ -85,7 +95,10 @@ fn first_found(
     right: &Right,
     outcome: &Outcome,
 ) -> Result<Option<Refusal>, AllocError>
-    ensures { IfOk result (λ found. (s : Shape) (c : Contents) → HasColumns s right.now → HasCreations right.now.trace → Tallied right.now c tally.now → MatchOption found (IsClean s right.now.trace outcome.now.result c) (λ r. IsFound s right.now.trace outcome.now.result c r)) }
+    ensures { IfOk result (λ found. (s : Shape) (c : Contents) → HasColumns s right.now → HasCreations right.now.trace
+        → Tallied right.now c tally.now
+        → MatchOption found (IsClean s right.now.trace outcome.now.result c)
+        (λ r. IsFound s right.now.trace outcome.now.result c r)) }
 {
     if let Some(refusal) = first_difference(tally, right, outcome) {
         return Ok(Some(refusal));
@@ -95,7 +108,9 @@ fn first_found(
 
 // What is found first where nothing differs: a race, a view-read race.
 fn first_race_of(alloc: Global, right: &Right) -> Result<Option<Refusal>, AllocError>
-    ensures { IfOk result (λ found. (s : Shape) (value : ℤ) (c : Contents) → HasColumns s right.now → HasCreations right.now.trace → IsRight s right.now.trace value c → MatchOption found (IsClean s right.now.trace value c) (λ r. IsFound s right.now.trace value c r)) }
+    ensures { IfOk result (λ found. (s : Shape) (value : ℤ) (c : Contents) → HasColumns s right.now
+        → HasCreations right.now.trace → IsRight s right.now.trace value c
+        → MatchOption found (IsClean s right.now.trace value c) (λ r. IsFound s right.now.trace value c r)) }
 {
     match first_race(alloc, &right.trace, &right.labels)? {
         Some((earlier, later)) => Ok(Some(Refusal::Race { earlier, later })),
@@ -105,7 +120,10 @@ fn first_race_of(alloc: Global, right: &Right) -> Result<Option<Refusal>, AllocE
 
 // The first view-read race, where there is no other race.
 fn first_view_race(alloc: Global, right: &Right) -> Result<Option<Refusal>, AllocError>
-    ensures { IfOk result (λ found. (s : Shape) (value : ℤ) (c : Contents) → HasColumns s right.now → HasCreations right.now.trace → IsRight s right.now.trace value c → HasNoRace (tree s) right.now.trace → MatchOption found (IsClean s right.now.trace value c) (λ r. IsFound s right.now.trace value c r)) }
+    ensures { IfOk result (λ found. (s : Shape) (value : ℤ) (c : Contents) → HasColumns s right.now
+        → HasCreations right.now.trace → IsRight s right.now.trace value c
+        → HasNoRace (tree s) right.now.trace
+        → MatchOption found (IsClean s right.now.trace value c) (λ r. IsFound s right.now.trace value c r)) }
 {
     match first_view_read(alloc, &right.trace, &right.classes)? {
         Some((created, used)) => Ok(Some(Refusal::ViewRace { created, used })),

@@ -30,6 +30,12 @@ fn hear_line(
     ensures progress { IfOk result (λ n. n ≡ 0 → piece.now ≡ []) }
     ensures fault { (text : List ℕ) → Heard right.now text piece.now reader.old tally.old → IfErr result (λ fault. fault ≢ Memory → (more : List ℕ) → (reading_of (text ++ more)).fault ≡ Some fault) }
 {
+    if let Some(line) = tally.due(right) {
+        if let Some(taken) = reader.pass(piece, line) {
+            tally.meet(right, line)?;
+            return Ok(taken);
+        }
+    }
     let (taken, line) = reader.next(piece)?;
     if let Some(line) = line {
         tally.meet(right, line)?;
@@ -87,6 +93,8 @@ fn hear_all<S: Source>(tally: &mut Tally, right: &Right, source: &mut S) -> Resu
     requires counted { S.failed source.old < 18446744073709551615 }
     ensures heard { OnOk result (IsHeard right.now (S.remaining source.old) tally.new) }
     ensures stop { IfErr result (λ e. IsStop (S.remaining source.old) (S.failed source.old) (S.failed source.new) e) }
+    ensures uncounted { OnOk result (S.failed source.new ≡ S.failed source.old) }
+    ensures lender { S.lender source.new ≡ S.lender source.old }
 {
     let mut reader = LineReader::new();
     let mut buffer = [0u8; PIECE];
@@ -115,6 +123,8 @@ pub fn heard<S: Source>(alloc: Global, right: &Right, source: &mut S) -> Result<
     requires counted { S.failed source.old < 18446744073709551615 }
     ensures heard { IfOk result (λ t. IsHeard right.now (S.remaining source.old) t) }
     ensures stop { IfErr result (λ e. IsStop (S.remaining source.old) (S.failed source.old) (S.failed source.new) e) }
+    ensures uncounted { OnOk result (S.failed source.new ≡ S.failed source.old) }
+    ensures lender { S.lender source.new ≡ S.lender source.old }
 {
     let mut tally = Tally::new(alloc, right)?;
     hear_all(&mut tally, right, source)?;

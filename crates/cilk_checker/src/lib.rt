@@ -6,8 +6,15 @@
 //!
 //! [`compare::ended`] and [`compare::stopped`] then go through the passes in their order: events, frames, the strands' frames, Hebrew
 //! numbers and classes, the sources of reads, the result, races. The first that finds something gives a [`refusal::Refusal`].
-//! [`check::check_run`] does all of it: its [`accepted::Accepted`] says of a program that it is determinate on its input, for all
-//! lists of steps.
+//! [`check::check_run`] does all of it, and [`texts::check_from`] from the texts of program and input: an [`accepted::Accepted`] says
+//! of a program that it is determinate on its input, for all lists of steps. Three texts have at most one verdict
+//! ([`laws::texts_have_one_verdict`]), and where they have one, it is answered, but for a want of memory.
+//!
+//! ```text
+//! check(alloc, b"int main(){return 0;}", b"", certificate)       // Ok(accepted), and accepted.outcome().result is 0
+//! check(alloc, b"int main(){return 0;}", b"", b"")               // Err(Refusal::Truncated { line: 1 })
+//! check(alloc, b"int main(){return x;}", b"", certificate)       // Err(Refusal::Name(NameNumber::Unknown, 18))
+//! ```
 #![tactic(auto)]
 
 pub mod accepted;
@@ -16,9 +23,11 @@ pub mod compare;
 pub mod ending;
 pub mod first;
 pub mod hearing;
+pub mod laws;
 pub mod passes;
 pub mod refusal;
 pub mod right;
 pub mod source;
 pub mod tally;
+pub mod texts;
 pub mod verdict;

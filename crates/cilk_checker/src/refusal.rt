@@ -149,6 +149,14 @@ impl From<AllocError> for Unaccepted {
     }
 }
 
+impl From<Refusal> for Unaccepted {
+    ghost from_gives = { λ refusal e. e ≡ unaccepted.Refusal refusal };
+
+    fn from(refusal: Refusal) -> Self {
+        Unaccepted::Refusal(refusal)
+    }
+}
+
 impl From<Stop> for Unaccepted {
     ghost use Rattle.cilk_checker.specs.Told.{told};
 

@@ -9,7 +9,7 @@ ghost use Rattle.cilk_listing.specs.Listed.{event_in, source_at, source_in};
 use crate::first::First;
 use crate::right::{Right, event_behind, has, has_class, has_frame, has_hebrew};
 use cilk_cert_text::line::{Entry, Frame, Line, Strand};
-use cilk_listing::entries::{Creations, source_due, source_of};
+use cilk_listing::entries::{Creations, entry, source_due, source_of};
 use cilk_listing::sources::{LastWrites, cells_written};
 use cilk_types::event::{Event, FrameNo, StrandNo};
 use std::alloc::{AllocError, Global};
@@ -111,6 +111,51 @@ impl Tally {
         self.writes.meet(&event, at);
         self.events.meet(true);
         Ok(())
+    }
+
+    // The frame's line that is right behind those that came.
+    fn frame_due(&self, right: &Right) -> Option<Line> {
+        let number = self.frames.agreed.checked_add(1)?;
+        let frame = *right.frames.as_slice().get(self.frames.agreed as usize)?;
+        Some(Line::Frame { number, frame })
+    }
+
+    // The strand's line that is right behind those that came.
+    fn strand_due(&self, right: &Right) -> Option<Line> {
+        let number = self.owners.agreed.checked_add(1)?;
+        let frame = *right.owners.as_slice().get(self.owners.agreed as usize)?;
+        if number > right.labels.count() || number > right.classes.count() {
+            return None;
+        }
+        let hebrew = right.labels.hebrew(number);
+        let class = right.classes.class(number);
+        let strand = Strand {
+            frame,
+            hebrew,
+            class,
+        };
+        Some(Line::Strand { number, strand })
+    }
+
+    // The event's line that is right behind those that came, as version 2 has it.
+    fn event_due(&self, right: &Right) -> Option<Line> {
+        let event = event_behind(right.trace.as_slice(), self.events.agreed)?;
+        Some(Line::Event(entry(&event, &self.writes)))
+    }
+
+    /// The line that comes next where all that came is right, if it is one of a frame, a strand or an event. It is a guess, so that
+    /// the text is compared with it before it is read: what the text says is found out there.
+    pub fn due(&self, right: &Right) -> Option<Line> {
+        if self.events.differs {
+            return None;
+        }
+        if let Some(line) = self.frame_due(right) {
+            return Some(line);
+        }
+        match self.strand_due(right) {
+            Some(line) => Some(line),
+            None => self.event_due(right),
+        }
     }
 
     /// One line more.

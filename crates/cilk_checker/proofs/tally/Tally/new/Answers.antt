@@ -12,7 +12,7 @@ returns c = record {
   events = agrees_none _;
   sources = λ e. agrees_none _;
   result = refl;
-  fit = subst (λ n. AllFit n c.args.right.now.trace) (sym c.in_ok-new.ensures.cells) (rw c.as_slice.ensures.events at c.cells_written.ensures);
+  fit = subst (λ n. AllFit n c.args.right.now.trace) (sym c.in_ok-new.ensures.cells) (rw c.as_slice.ensures.events at c.cells_written.ensures.fit);
   last = λ e. c.in_ok-new.ensures.none c.args.right.now.trace;
   made = λ e. c.new-2.ensures c.args.right.now.trace;
 }
