@@ -3,6 +3,7 @@
 #![tactic(auto)]
 
 use cilk_tool::disk::Disk;
+use cilk_tool::reply::{NO_MEMORY, NO_MEMORY_LINE, WRONG};
 use cilk_tool::serve;
 use std::alloc::{AllocError, Global};
 use std::io::ErrorKind;
@@ -41,12 +42,12 @@ fn main(rt: HostRuntime) -> ExitCode {
     match run(&rt) {
         Ok(status) => ExitCode::from(status),
         Err(error) if error.kind() == ErrorKind::OutOfMemory => {
-            let _ = eprintln!(rt; "no memory");
-            ExitCode::from(5)
+            let _ = eprint!(rt; "{NO_MEMORY_LINE}");
+            ExitCode::from(NO_MEMORY)
         }
         Err(_) => {
             let _ = eprintln!(rt; "error: an argument is not text");
-            ExitCode::from(2)
+            ExitCode::from(WRONG)
         }
     }
 }

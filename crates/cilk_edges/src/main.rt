@@ -2,6 +2,7 @@
 #![tactic(auto)]
 
 use cilk_tool::disk::Disk;
+use cilk_tool::files::Files;
 use cilk_tool::serve;
 use std::io;
 use std::process::ExitCode;
@@ -19,6 +20,25 @@ fn show(rt: &HostRuntime, words: &[&str]) -> io::Result<()> {
     println!(rt; "status {status}")
 }
 
+/// Prints the parts of a file, each with its place, up to the end or to a fault.
+fn show_parts(rt: &HostRuntime, path: &str) -> io::Result<()> {
+    let mut at = 0;
+    for _part in 0..8 {
+        let mut piece = [0; 4];
+        match Disk::new(rt).part(path, at, &mut piece) {
+            Ok(count) => {
+                println!(rt; "{path} at {at}: {:?}", &piece[..count])?;
+                at += count as u64;
+                if count == 0 {
+                    return Ok(());
+                }
+            }
+            Err(fault) => return println!(rt; "{path}: {fault}"),
+        }
+    }
+    Ok(())
+}
+
 fn show_all(rt: &HostRuntime) -> io::Result<()> {
     show(rt, &["run", "program.c", "--input", "numbers"])?;
     show(rt, &["run", "program.c"])?;
@@ -26,9 +46,23 @@ fn show_all(rt: &HostRuntime) -> io::Result<()> {
     show(rt, &["run", "."])?;
     show(rt, &["run", "program.c", "--input", "missing"])?;
     show(rt, &["run", "program.c", "--input", "program.c"])?;
+    show(rt, &["certify", "program.c"])?;
+    show(
+        rt,
+        &["check", "program.c", "certificate", "--input", "many"],
+    )?;
+    show(
+        rt,
+        &["check", "program.c", "certificate", "--input", "numbers"],
+    )?;
+    show(rt, &["check", "program.c", "missing"])?;
+    show(rt, &["check", "program.c", "."])?;
     // A text on standard input that is one byte too long; nothing is left of it for the next call.
     show(rt, &[])?;
-    show(rt, &[])
+    show(rt, &[])?;
+    show_parts(rt, "numbers")?;
+    show_parts(rt, "missing")?;
+    show_parts(rt, ".")
 }
 
 fn main(rt: HostRuntime) -> ExitCode {

@@ -1,8 +1,8 @@
 -- From clap's matches to what is asked for.
-use Rattle.std.proofs.Common.{◌≡◌, ◌<◌, ◌⊎◌, ℕ, List, [], ◌∷◌, Option, Some, None, option_map, refl, sym, ap, ap₂, ◌∙◌, subst, codes, true, false, length, map, inl, inr, arith, rules}
-use Rattle.std.specs.Prelude.{if◌then◌else◌, Result, Ok, Err}
+use Rattle.std.proofs.Common.{◌≡◌, List, [], ◌∷◌, Option, Some, None, option_map, option_and_then, refl, sym, ap, ap₂, ◌∙◌, subst, codes, true, false, length, inl, inr, arith, rules}
+use Rattle.std.specs.Prelude.{if◌then◌else◌, ◌||◌, Result, Ok, Err, IfOk}
 use Rattle.std.specs.Borrow.{Bor}
-use Rattle.clap.specs.Words.{App, FailsBy, HasMatchesOf, Row, Text, app_of, fault_of, first_of, first_value, found_of, is_simple, is_simple_and_free, kind_of, rows_of, subcommand_of, subcommand_rows_of}
+use Rattle.clap.specs.Words.{AddsSubcommand, App, HasMatchesOf, Row, Text, app_of, fault_of, first_of, first_value, is_simple, is_simple_and_free, kind_of, rows_of, subcommand_of, subcommand_rows_of, with_subcommand}
 use Rattle.clap.specs.Kinds.{HasKind, IsAmong, Kinds}
 use Rattle.clap.specs.Walk.{is_empty}
 use Rattle.clap.specs.declared.builder.command.Command.{Command}
@@ -13,23 +13,62 @@ use Rattle.clap.specs.declared.parser.matches.Found.{Found}
 use Rattle.clap.proofs.OnLiterals.{clap_on_literals}
 use Rattle.clap.proofs.WalkLemmas.{first_value-rows}
 use Rattle.cilk_tool.specs.declared.words.Order.{Order}
-use Rattle.cilk_tool.specs.Words.{order_view, Asked, File, IsRefusal, IsWordsFault, Run, Standard, cilk_app, order_by, order_in, run_with, texts}
+use Rattle.cilk_tool.specs.Words.{order_view, Requested, HasShape, Check, IsRefusal, IsWordsFault, Run, Standard, check_with, cilk_app, order_by, order_in, paths_in, paths_view, texts}
 use Rattle.cilk_tool.specs.declared.words.WordsFault.{WordsFault}
 use Rattle.cilk_tool.specs.declared.words.WordsFault.TheVariants.{Usage, Memory}
 
--- `run` with no program
-pub run_is_none : (f : Found) (o : Option (Bor Text)) → option_map (λ s. s.now) o ≡ first_value f (codes "program") → o ≡ None → run_with (rows_of f) ≡ None
-run_is_none f o h e =
-    let none : first_of (codes "program") (rows_of f) ≡ None = sym (first_value-rows f (codes "program")) ∙ sym h ∙ ap (option_map (λ (s : Bor Text). s.now)) e in
-    ap (option_map (λ (program : Text). Run (File program) (first_of (codes "input") (rows_of f)))) none
+-- matches with no program
+pub no_paths : (f : Found) (o : Option (Bor Text)) → option_map (λ s. s.now) o ≡ first_value f (codes "program") → o ≡ None
+    → paths_in (rows_of f) ≡ None
+no_paths f o h e =
+    let none : first_of (codes "program") (rows_of f) ≡ None =
+    sym (first_value-rows f (codes "program")) ∙ sym h ∙ ap (option_map (λ (s : Bor Text). s.now)) e in
+    ap (option_map (λ (program : Text). (program, first_of (codes "input") (rows_of f)))) none
 
--- `run` with a program
-pub run_is_some : (f : Found) (o i : Option (Bor Text)) (p : Bor Text) → option_map (λ s. s.now) o ≡ first_value f (codes "program") → o ≡ Some p
-    → option_map (λ s. s.now) i ≡ first_value f (codes "input") → run_with (rows_of f) ≡ Some (Run (File p.now) (option_map (λ s. s.now) i))
-run_is_some f o i p h e k =
-    let some : first_of (codes "program") (rows_of f) ≡ Some p.now = sym (first_value-rows f (codes "program")) ∙ sym h ∙ ap (option_map (λ (s : Bor Text). s.now)) e in
-    let input : first_of (codes "input") (rows_of f) ≡ option_map (λ (s : Bor Text). s.now) i = sym (first_value-rows f (codes "input")) ∙ sym k in
-    ap (option_map (λ (program : Text). Run (File program) (first_of (codes "input") (rows_of f)))) some ∙ ap (λ (x : Option Text). Some (Run (File p.now) x)) input
+-- matches with a program
+pub some_paths : (f : Found) (o i : Option (Bor Text)) (p : Bor Text)
+    → option_map (λ s. s.now) o ≡ first_value f (codes "program") → o ≡ Some p
+    → option_map (λ s. s.now) i ≡ first_value f (codes "input") → paths_in (rows_of f) ≡ Some (p.now, option_map (λ s. s.now) i)
+some_paths f o i p h e k =
+    let some : first_of (codes "program") (rows_of f) ≡ Some p.now =
+    sym (first_value-rows f (codes "program")) ∙ sym h ∙ ap (option_map (λ (s : Bor Text). s.now)) e in
+    let input : first_of (codes "input") (rows_of f) ≡ option_map (λ (s : Bor Text). s.now) i =
+    sym (first_value-rows f (codes "input")) ∙ sym k in
+    ap (option_map (λ (program : Text). (program, first_of (codes "input") (rows_of f)))) some
+    ∙ ap (λ (x : Option Text). Some (p.now, x)) input
+
+-- what is asked for by the paths that were found
+pub asked_by : (order : Text × Option Text → Requested) (rows : List Row) (o o' : Option (Bor Text × Option (Bor Text)))
+    → option_map paths_view o ≡ paths_in rows → o ≡ o' → option_map order (option_map paths_view o') ≡ option_map order (paths_in rows)
+asked_by order rows o o' h e = ap (option_map order) (ap (option_map paths_view) (sym e) ∙ h)
+
+-- what is asked of the certificate of these paths
+abbrev pub asked_of : List Row → Option Text → Option Requested
+asked_of rows path = option_and_then (λ certificate. option_map (λ paths. Check paths.0 certificate paths.1) (paths_in rows)) path
+
+-- matches with no certificate
+pub no_certificate : (f : Found) (o : Option (Bor Text)) → option_map (λ s. s.now) o ≡ first_value f (codes "certificate")
+    → o ≡ None → check_with (rows_of f) ≡ None
+no_certificate f o h e =
+    ap (asked_of (rows_of f)) (sym (first_value-rows f (codes "certificate")) ∙ sym h ∙ ap (option_map (λ (s : Bor Text). s.now)) e)
+
+-- matches with a certificate
+pub some_certificate : (f : Found) (o : Option (Bor Text)) (c : Bor Text)
+    → option_map (λ s. s.now) o ≡ first_value f (codes "certificate") → o ≡ Some c
+    → check_with (rows_of f) ≡ option_map (λ paths. Check paths.0 c.now paths.1) (paths_in (rows_of f))
+some_certificate f o c h e =
+    ap (asked_of (rows_of f)) (sym (first_value-rows f (codes "certificate")) ∙ sym h ∙ ap (option_map (λ (s : Bor Text). s.now)) e)
+
+-- a program of commands with one more
+pub with_one : (c s r : Command) (a b : App) → HasShape c a → HasShape s b → AddsSubcommand c s r
+    → HasShape r (with_subcommand a b.top)
+with_one c s r a b h k add =
+    (add.shape k.1 ∙ ap₂ (λ (x y : App). with_subcommand x y.top) h.0 k.0, add.globals ∙ ap₂ (λ x y. x || y) h.1 k.1)
+
+pub with_last : {E : Type 0} (c s : Command) (x : Result Command E) (a b : App) → HasShape c a → HasShape s b
+    → IfOk x (λ r. AddsSubcommand c s r) → IfOk x (λ r. HasShape r (with_subcommand a b.top))
+with_last c s (Ok r) a b h k add = with_one c s r a b h k add
+with_last c s (Err e) a b h k add = tt
 
 simple : is_simple cilk_app ≡ true
 unfolding clap_on_literals

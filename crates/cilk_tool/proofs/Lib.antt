@@ -1,8 +1,7 @@
 pub mod Entered
-pub mod Judged
 pub mod Lines
-pub mod OneMeaning
 pub mod OneReply
+pub mod OneShown
 pub mod Reading
 pub mod Replying
 pub mod Writing

@@ -1,5 +1,5 @@
 -- Texts that grow by one piece at a time.
-use Rattle.std.proofs.Common.{◌≡◌, ℕ, zero, suc, ◌+◌, ◌<◌, ℤ, List, [], ◌∷◌, ◌++◌, length, take, get_or, refl, sym, ap, ap₂, inl, inr, ◌⊎◌, ◌∙◌, add-one, append_assoc, arith}
+use Rattle.std.proofs.Common.{◌≡◌, ℕ, zero, suc, ◌+◌, ◌<◌, List, [], ◌∷◌, ◌++◌, length, take, get_or, sym, ap, ap₂, inl, inr, ◌⊎◌, ◌∙◌, add-one, append_assoc, arith}
 use Rattle.std.specs.Prelude.{flat_map}
 use Rattle.cilk_types.specs.declared.outcome.Final.{Final}
 use Rattle.cilk_tool.specs.Replies.{Text, reducer_line, reducer_lines}

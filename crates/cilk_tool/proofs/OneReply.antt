@@ -1,134 +1,82 @@
 -- The texts that the words name have one reply.
 --
--- `given_once`, `input_once`: the texts are one. `shows_once`: a program shows one reply on an input. `one_run`: a run
--- has one reply. `one_reply`: and so have words.
-use Rattle.std.proofs.Common.{◌≡◌, ℕ, ℤ, ◌+◌, List, length, take, Option, Some, None, refl, sym, ap, ◌∙◌, subst}
-use Rattle.std.specs.Prelude.{IfSome, IsSome}
-use Rattle.cilk_types.specs.Fault as faults
-use Rattle.cilk_types.specs.declared.event.Event.{Event}
-use Rattle.cilk_types.specs.declared.fault.Fault.{Fault}
-use Rattle.cilk_types.specs.declared.outcome.Outcome.{Outcome}
-use Rattle.cilk_program.specs.Outcomes.{Conclusion, Leaves, StopsBy}
-use Rattle.cilk_program.specs.SerialRun.{IsSerialRun, Run}
-use Rattle.cilk_program.specs.Syntax.{Source}
-use Rattle.cilk_types.specs.declared.limits.TheConstants.{MAX_EVENTS, MAX_TICKS}
-use Rattle.cilk_meaning.proofs.Uniqueness.{serial_run_is_one}
-use Rattle.cilk_serial.specs.Ran as serial
+-- `given_once`, `input_once`: the texts are one. `one_refusal`, `one_input_refusal`: a text has one first fault.
+-- `same_given`, `one_refused`, `not_refused`: the texts mean one program and one input, or have one first fault, and
+-- not both. `one_judged`, `one_run`, `one_certify`, `one_check`: a command has one reply.
+-- `one_reply`: and so have words.
+use Rattle.std.proofs.Common.{◌≡◌, ℕ, ℤ, List, take, Option, Some, None, refl, sym, ap, ◌∙◌, subst}
+use Rattle.std.specs.Prelude.{◌≢◌, IfSome, IsSome}
+use Rattle.cilk_texts.specs.declared.fault.TextFault.{TextFault}
 use Rattle.cilk_texts.specs.declared.fault.TextFault.TheVariants as text_faults
-use Rattle.cilk_texts.specs.declared.fault.TextNumber.{TextNumber}
 use Rattle.cilk_texts.specs.Inputs.{IsInput, IsInputFault}
 use Rattle.cilk_texts.specs.Texts as texts
 use Rattle.cilk_unambiguous.proofs.Inputs.{one_input}
+use Rattle.cilk_names.proofs.WellNamed.{resolved_named}
+use Rattle.cilk_judge.specs.Judging.{IsProgramText, Meant}
+use Rattle.cilk_judge.specs.declared.fault.ProgramFault.{ProgramFault}
+use Rattle.cilk_judge.specs.declared.fault.ProgramFault.TheVariants as program_faults
+use Rattle.cilk_judge.proofs.OneMeaning.{one_meaning}
 use Rattle.cilk_tool.specs.declared.streams.TheConstants.{MAX_READ}
-use Rattle.cilk_tool.specs.Judging.{InputFails, IsProgramText, Meant, ProgramFails, RunShows}
-use Rattle.cilk_tool.specs.OneReply.{HasOneReply, IsKnown, IsOfTexts}
-use Rattle.cilk_tool.specs.Replies.{BadInput, BadProgram, BadWords, Ended, Faulted, NoMemory, Reply, Text, Unreadable}
-use Rattle.cilk_tool.specs.Serving.{GivesInput, GivesProgram, InputFileFails, InputRefused, InputUnread, OriginFails, ProgramRefused, ProgramUnread, Ran, RunReply, WordsFail, World}
-use Rattle.cilk_tool.specs.Words.{Asked, File, Origin, Standard, order_in}
+use Rattle.cilk_tool.specs.OneReply.{HasOneReply, IsKnown, IsKnownInput, IsOfTexts}
+use Rattle.cilk_tool.specs.Replies.{BadInput, BadWords, NoMemory, Reply, Text, Unreadable}
+use Rattle.cilk_tool.specs.Serving.{AreGiven, CertifyReply, CheckReply, GivesInput, GivesProgram, InputFileFails, InputRefused, InputUnread, Judged, JudgedReply, NoneGiven, OriginFails, ProgramRefused, ProgramUnread, RunReply, Unjudged, WordsFail, Surroundings}
+use Rattle.cilk_tool.specs.Shown.{CertifyShows, CheckShows, InputFails, ProgramFails, RunShows, input_fault_view, program_fault_view}
+use Rattle.cilk_tool.specs.Words.{Requested, File, Origin, Standard, order_in}
 use Rattle.cilk_tool.specs.Words as words
-use Rattle.cilk_tool.proofs.OneMeaning.{no_refusal, one_meant, one_refusal}
+use Rattle.cilk_tool.proofs.OneShown.{certifies_once, checks_once, shows_once}
 
 held : (o : Option Text) (f : Text → Text) (x y : Text) → IsSome o → IfSome o (λ all. x ≡ f all)
     → IfSome o (λ all. y ≡ f all) → x ≡ y
 held None f x y known h k = cc
 held (Some all) f x y known h k = h ∙ sym k
 
-given_once : (w : World) (o : Origin) (x y : Text) → IsKnown w o → GivesProgram w.files w.input o x
+given_once : (w : Surroundings) (o : Origin) (x y : Text) → IsKnown w o → GivesProgram w.files w.input o x
     → GivesProgram w.files w.input o y → x ≡ y
 given_once w Standard x y known h k = held w.input (take MAX_READ) x y known h k
 given_once w (File path) x y known h k = held (w.files path) (λ all. all) x y known h k
 
--- the input file is known, where there is one
-abbrev IsKnownInput : World → Option Text → Type 0
-IsKnownInput w None = Unit {0}
-IsKnownInput w (Some path) = IsKnown w (File path)
-
-input_once : (w : World) (o : Option Text) (x y : Text) → IsKnownInput w o → GivesInput w.files o x
+input_once : (w : Surroundings) (o : Option Text) (x y : Text) → IsKnownInput w o → GivesInput w.files o x
     → GivesInput w.files o y → x ≡ y
 input_once w None x y known h k = h ∙ sym k
 input_once w (Some path) x y known h k = held (w.files path) (λ all. all) x y known h k
 
--- what a run of a program shows
-data Shown (m : Meant) (inputs : List ℤ) (r : Reply) : Type 0 where
-  Ends : (o : Outcome) (events : List Event) → r ≡ Ended m.names o → serial.Ran m.source inputs o events
-      → Shown m inputs r
-  Stops : (fault : Fault) (at : ℕ) → r ≡ Faulted (faults.number_of fault) at → serial.Stops m.source inputs fault at
-      → Shown m inputs r
+-- a fault that is told is no want of memory
+told : (f : ProgramFault) (r : Reply) → r ≡ program_fault_view f → IsOfTexts r → f ≢ program_faults.Memory
+told f r e v m = subst IsOfTexts (e ∙ ap program_fault_view m) v
 
-shown : (m : Meant) (inputs : List ℤ) (r : Reply) → IsOfTexts r → RunShows m inputs r → Shown m inputs r
-shown m inputs (Ended names o) v h = Ends o h.1.0 (ap (λ x. Ended x o) h.0) h.1.1
-shown m inputs (Faulted n at) v h = Stops h.0 at (ap (λ x. Faulted x at) h.1) h.2
-shown m inputs NoMemory v h = absurd v
-shown m inputs BadWords v h = absurd h
-shown m inputs (Unreadable name) v h = absurd v
-shown m inputs (BadProgram n p) v h = absurd h
-shown m inputs (BadInput n p) v h = absurd h
+-- two replies to a program text that is refused
+one_refusal : (text : Text) (r q : Reply) → IsOfTexts r → IsOfTexts q → ProgramFails text r
+    → ProgramFails text q → r ≡ q
+one_refusal text r q v u h k =
+    let same = (one_meaning text).faults h.0 k.0 (told h.0 r h.1 v) (told k.0 q k.1 u) h.2 k.2 in
+    h.1 ∙ (ap program_fault_view same ∙ sym k.1)
 
-one_run_of : (p : Source) (inputs : List ℤ) (r q : Run) (es fs : List Event) (c d : Conclusion)
-    → IsSerialRun p inputs r es c → IsSerialRun p inputs q fs d → (es ≡ fs) × (c ≡ d)
-one_run_of p inputs r q es fs c d h k =
-    let a = serial_run_is_one p inputs MAX_TICKS MAX_EVENTS r q es fs c d h k in (a.1, a.2)
+-- a text that means a program isn't refused
+no_refusal : (text : Text) (m : Meant) (r : Reply) → IsOfTexts r → IsProgramText text m → ProgramFails text r → ⊥
+no_refusal text m r v h k = (one_meaning text).apart m k.0 (told k.0 r k.1 v) h k.2
 
-same_leaves : (o p : Outcome) → Leaves o ≡ Leaves p → o ≡ p
-same_leaves o p e = cc
+one_input_fault : (text : Text) (r q : Reply) (f g : TextFault) → IsOfTexts r → IsOfTexts q → r ≡ input_fault_view f
+    → q ≡ input_fault_view g → IsInputFault f text → IsInputFault g text → r ≡ q
+one_input_fault text r q text_faults.Memory g v u e d h k = absurd (subst IsOfTexts e v)
+one_input_fault text r q (text_faults.At n p) text_faults.Memory v u e d h k = absurd (subst IsOfTexts d u)
+one_input_fault text r q (text_faults.At n p) (text_faults.At m o) v u e d h k =
+    let a = (one_input text).faults n m p o h k in
+    e ∙ (ap (λ x. BadInput (texts.number x) p) a.0 ∙ (ap (λ x. BadInput (texts.number m) x) a.1 ∙ sym d))
 
-same_stops : (f g : Fault) → StopsBy f ≡ StopsBy g → f ≡ g
-same_stops f g e = cc
+-- two replies to an input text that is refused
+one_input_refusal : (text : Text) (r q : Reply) → IsOfTexts r → IsOfTexts q → InputFails text r
+    → InputFails text q → r ≡ q
+one_input_refusal text r q v u h k = one_input_fault text r q h.0 k.0 v u h.1 k.1 h.2 k.2
 
-leaves_or_stops : {A : Type 0} (o : Outcome) (f : Fault) → Leaves o ≡ StopsBy f → A
-leaves_or_stops o f e = cc
+no_input_fault : (text : Text) (numbers : List ℤ) (r : Reply) (f : TextFault) → IsOfTexts r → r ≡ input_fault_view f
+    → IsInput text numbers → IsInputFault f text → ⊥
+no_input_fault text numbers r text_faults.Memory v e h k = subst IsOfTexts e v
+no_input_fault text numbers r (text_faults.At n p) v e h k = (one_input text).apart numbers n p h k
 
-one_shown : (m : Meant) (inputs : List ℤ) (r q : Reply) → Shown m inputs r → Shown m inputs q → r ≡ q
-one_shown m inputs r q (Ends o es e h) (Ends p fs d k) =
-    let a = one_run_of m.source inputs h.run k.run es fs (Leaves o) (Leaves p) h.serial k.serial in
-    e ∙ (ap (Ended m.names) (same_leaves o p a.1) ∙ sym d)
-one_shown m inputs r q (Ends o es e h) (Stops g at d k) =
-    let a = one_run_of m.source inputs h.run k.stops.run es k.events (Leaves o) (StopsBy g) h.serial k.stops.serial in
-    leaves_or_stops o g a.1
-one_shown m inputs r q (Stops f at e h) (Ends p fs d k) =
-    let a = one_run_of m.source inputs k.run h.stops.run fs h.events (Leaves p) (StopsBy f) k.serial h.stops.serial in
-    leaves_or_stops p f a.1
-one_shown m inputs r q (Stops f at e h) (Stops g place d k) =
-    let a = one_run_of m.source inputs h.stops.run k.stops.run h.events k.events (StopsBy f) (StopsBy g) h.stops.serial k.stops.serial in
-    let same : at ≡ place = h.place ∙ (ap (λ es. length es + 1) a.0 ∙ sym k.place) in
-    e
-    ∙ (ap (λ x. Faulted (faults.number_of x) at) (same_stops f g a.1)
-    ∙ (ap (Faulted (faults.number_of g)) same ∙ sym d))
-
-shows_once : (m : Meant) (inputs : List ℤ) (r q : Reply) → IsOfTexts r → IsOfTexts q → RunShows m inputs r
-    → RunShows m inputs q → r ≡ q
-shows_once m inputs r q v w h k = one_shown m inputs r q (shown m inputs r v h) (shown m inputs q w k)
-
--- why an input text is refused
-data Refusal (text : Text) (r : Reply) : Type 0 where
-  Bad : (f : TextNumber) (place : ℕ) → r ≡ BadInput (texts.number f) place → IsInputFault (text_faults.At f place) text
-      → Refusal text r
-
-refusal : (text : Text) (r : Reply) → IsOfTexts r → InputFails text r → Refusal text r
-refusal text (BadInput n p) v h = Bad h.0 p (ap (λ x. BadInput x p) h.1) h.2
-refusal text NoMemory v h = absurd v
-refusal text BadWords v h = absurd h
-refusal text (Unreadable name) v h = absurd v
-refusal text (BadProgram n p) v h = absurd h
-refusal text (Faulted n p) v h = absurd h
-refusal text (Ended names o) v h = absurd h
-
-one_refused : (text : Text) (r q : Reply) → Refusal text r → Refusal text q → r ≡ q
-one_refused text r q (Bad f p e h) (Bad g o d k) =
-    let a = (one_input text).faults f g p o h k in
-    e ∙ (ap (λ x. BadInput (texts.number x) p) a.0 ∙ (ap (λ x. BadInput (texts.number g) x) a.1 ∙ sym d))
-
-none_refused : (text : Text) (numbers : List ℤ) (r : Reply) → IsInput text numbers → Refusal text r → ⊥
-none_refused text numbers r h (Bad f p e k) = (one_input text).apart numbers f p h k
-
--- a reply that follows from the texts
-data Judged (w : World) (program : Origin) (input : Option Text) (r : Reply) : Type 0 where
-  OfProgram : (text : Text) → GivesProgram w.files w.input program text → ProgramFails text r → Judged w program input r
-  OfInput : (text : Text) (m : Meant) (numbers : Text) → GivesProgram w.files w.input program text
-      → IsProgramText text m → GivesInput w.files input numbers → InputFails numbers r → Judged w program input r
-  OfRun : (text : Text) (m : Meant) (numbers : Text) (inputs : List ℤ) → GivesProgram w.files w.input program text
-      → IsProgramText text m → GivesInput w.files input numbers → IsInput numbers inputs → RunShows m inputs r
-      → Judged w program input r
+-- an input text of numbers isn't refused
+no_input_refusal : (text : Text) (numbers : List ℤ) (r : Reply) → IsOfTexts r → IsInput text numbers
+    → InputFails text r → ⊥
+no_input_refusal text numbers r v h k = no_input_fault text numbers r k.0 v k.1 h k.2
 
 not_unread : (n m : ℕ) (o : Origin) (r : Reply) → OriginFails n m o r → IsOfTexts r → ⊥
 not_unread n m Standard (Unreadable name) h v = v
@@ -142,56 +90,103 @@ input_not_unread : (n m : ℕ) (o : Option Text) (r : Reply) → InputFileFails 
 input_not_unread n m None r h v = h
 input_not_unread n m (Some path) r h v = not_unread n m (File path) r h v
 
-judged : (w : World) (program : Origin) (input : Option Text) (r : Reply) → IsOfTexts r → RunReply w program input r
-    → Judged w program input r
-judged w program input r v (ProgramUnread h) = absurd (not_unread w.failed w.failed' program r h v)
-judged w program input r v (ProgramRefused text g h) = OfProgram text g h
-judged w program input r v (InputUnread text m g h k) = absurd (input_not_unread w.failed w.failed' input r k v)
-judged w program input r v (InputRefused text m numbers g h i k) = OfInput text m numbers g h i k
-judged w program input r v (Ran text m numbers inputs g h i j k) = OfRun text m numbers inputs g h i j k
+-- the text that is refused
+data Refused (w : Surroundings) (program : Origin) (input : Option Text) (r : Reply) : Type 0 where
+  OfProgram : (text : Text) → GivesProgram w.files w.input program text → ProgramFails text r
+      → Refused w program input r
+  OfInput : (text : Text) (m : Meant) (numbers : Text) → GivesProgram w.files w.input program text
+      → IsProgramText text m → GivesInput w.files input numbers → InputFails numbers r → Refused w program input r
 
-one_judged : (w : World) (program : Origin) (input : Option Text) (r q : Reply) → IsKnown w program
-    → IsKnownInput w input → IsOfTexts r → IsOfTexts q → Judged w program input r → Judged w program input q → r ≡ q
-one_judged w program input r q x y v u (OfProgram t g h) (OfProgram t' g' h') =
+refused : (w : Surroundings) (program : Origin) (input : Option Text) (r : Reply) → IsOfTexts r → NoneGiven w program input r
+    → Refused w program input r
+refused w program input r v (ProgramUnread h) = absurd (not_unread w.failed w.failed' program r h v)
+refused w program input r v (ProgramRefused text g h) = OfProgram text g h
+refused w program input r v (InputUnread text m g h k) = absurd (input_not_unread w.failed w.failed' input r k v)
+refused w program input r v (InputRefused text m numbers g h i k) = OfInput text m numbers g h i k
+
+-- two replies to texts of which one is refused
+one_refused : (w : Surroundings) (program : Origin) (input : Option Text) (r q : Reply) → IsKnown w program
+    → IsKnownInput w input → IsOfTexts r → IsOfTexts q → Refused w program input r → Refused w program input q → r ≡ q
+one_refused w program input r q x y v u (OfProgram t g h) (OfProgram t' g' h') =
     let e = given_once w program t t' x g g' in one_refusal t' r q v u (subst (λ z. ProgramFails z r) e h) h'
-one_judged w program input r q x y v u (OfProgram t g h) (OfInput t' m' n' g' h' i' k') =
+one_refused w program input r q x y v u (OfProgram t g h) (OfInput t' m' n' g' h' i' k') =
     let e = given_once w program t t' x g g' in absurd (no_refusal t' m' r v h' (subst (λ z. ProgramFails z r) e h))
-one_judged w program input r q x y v u (OfProgram t g h) (OfRun t' m' n' is' g' h' i' j' k') =
-    let e = given_once w program t t' x g g' in absurd (no_refusal t' m' r v h' (subst (λ z. ProgramFails z r) e h))
-one_judged w program input r q x y v u (OfInput t m n g h i k) (OfProgram t' g' h') =
+one_refused w program input r q x y v u (OfInput t m n g h i k) (OfProgram t' g' h') =
     let e = given_once w program t' t x g' g in absurd (no_refusal t m q u h (subst (λ z. ProgramFails z q) e h'))
-one_judged w program input r q x y v u (OfInput t m n g h i k) (OfInput t' m' n' g' h' i' k') =
-    let e = input_once w input n n' y i i' in
-    one_refused n' r q (refusal n' r v (subst (λ z. InputFails z r) e k)) (refusal n' q u k')
-one_judged w program input r q x y v u (OfInput t m n g h i k) (OfRun t' m' n' is' g' h' i' j' k') =
-    let e = input_once w input n n' y i i' in
-    absurd (none_refused n' is' r j' (refusal n' r v (subst (λ z. InputFails z r) e k)))
-one_judged w program input r q x y v u (OfRun t m n is g h i j k) (OfProgram t' g' h') =
-    let e = given_once w program t' t x g' g in absurd (no_refusal t m q u h (subst (λ z. ProgramFails z q) e h'))
-one_judged w program input r q x y v u (OfRun t m n is g h i j k) (OfInput t' m' n' g' h' i' k') =
-    let e = input_once w input n' n y i' i in
-    absurd (none_refused n is q j (refusal n q u (subst (λ z. InputFails z q) e k')))
-one_judged w program input r q x y v u (OfRun t m n is g h i j k) (OfRun t' m' n' is' g' h' i' j' k') =
-    let e = given_once w program t t' x g g' in
-    let d = input_once w input n n' y i i' in
-    let a = one_meant t' m m' (subst (λ z. IsProgramText z m) e h) h' in
-    let b = (one_input n').numbers is is' (subst (λ z. IsInput z is) d j) j' in
-    shows_once m' is' r q v u (subst (λ z. RunShows m' z r) b (subst (λ z. RunShows z is r) a k)) k'
+one_refused w program input r q x y v u (OfInput t m n g h i k) (OfInput t' m' n' g' h' i' k') =
+    let e = input_once w input n n' y i i' in one_input_refusal n' r q v u (subst (λ z. InputFails z r) e k) k'
 
-one_run : (w : World) (program : Origin) (input : Option Text) (r q : Reply) → IsKnown w program → IsKnownInput w input
+-- texts that mean a program and an input aren't refused
+not_refused : (w : Surroundings) (program : Origin) (input : Option Text) (m : Meant) (inputs : List ℤ) (r : Reply)
+    → IsKnown w program → IsKnownInput w input → IsOfTexts r → AreGiven w program input m inputs
+    → Refused w program input r → ⊥
+not_refused w program input m inputs r x y v given (OfProgram t g h) =
+    let e = given_once w program t given.text x g given.text_is in
+    no_refusal given.text m r v given.program_is (subst (λ z. ProgramFails z r) e h)
+not_refused w program input m inputs r x y v given (OfInput t n numbers g h i k) =
+    let e = input_once w input numbers given.numbers y i given.numbers_are in
+    no_input_refusal given.numbers inputs r v given.input_is (subst (λ z. InputFails z r) e k)
+
+-- the texts mean one program and one input
+same_given : (w : Surroundings) (program : Origin) (input : Option Text) (m m' : Meant) (inputs inputs' : List ℤ)
+    → IsKnown w program → IsKnownInput w input → AreGiven w program input m inputs
+    → AreGiven w program input m' inputs' → (m ≡ m') × (inputs ≡ inputs')
+same_given w program input m m' inputs inputs' x y h k =
+    let e = given_once w program h.text k.text x h.text_is k.text_is in
+    let d = input_once w input h.numbers k.numbers y h.numbers_are k.numbers_are in (
+      (one_meaning k.text).meanings m m' (subst (λ z. IsProgramText z m) e h.program_is) k.program_is,
+      (one_input k.numbers).numbers inputs inputs' (subst (λ z. IsInput z inputs) d h.input_is) k.input_is,
+    )
+
+-- where one reply is shown of a program and an input, a command over them has one reply
+one_judged : (IsShown : Meant → List ℤ → Reply → Type 0)
+    → ((m : Meant) (inputs : List ℤ) (text numbers : Text) → IsProgramText text m → IsInput numbers inputs → (r q : Reply)
+    → IsOfTexts r → IsOfTexts q → IsShown m inputs r → IsShown m inputs q → r ≡ q)
+    → (w : Surroundings) (program : Origin) (input : Option Text) (r q : Reply) → IsKnown w program → IsKnownInput w input
+    → JudgedReply IsShown w program input r → JudgedReply IsShown w program input q → IsOfTexts r → IsOfTexts q → r ≡ q
+one_judged IsShown once w program input r q x y (Unjudged h) (Unjudged k) v u =
+    one_refused w program input r q x y v u (refused w program input r v h) (refused w program input q u k)
+one_judged IsShown once w program input r q x y (Unjudged h) (Judged m inputs given k) v u =
+    absurd (not_refused w program input m inputs r x y v given (refused w program input r v h))
+one_judged IsShown once w program input r q x y (Judged m inputs given h) (Unjudged k) v u =
+    absurd (not_refused w program input m inputs q x y u given (refused w program input q u k))
+one_judged IsShown once w program input r q x y (Judged m inputs given h) (Judged m' inputs' given' k) v u =
+    let a = same_given w program input m m' inputs inputs' x y given given' in
+    let h' = subst (λ z. IsShown z inputs r) a.0 h in
+    once m' inputs' given'.text given'.numbers given'.program_is given'.input_is r q v u (subst (λ z. IsShown m' z r) a.1 h') k
+
+one_run : (w : Surroundings) (program : Origin) (input : Option Text) (r q : Reply) → IsKnown w program → IsKnownInput w input
     → RunReply w program input r → RunReply w program input q → IsOfTexts r → IsOfTexts q → r ≡ q
 one_run w program input r q x y h k v u =
-    one_judged w program input r q x y v u (judged w program input r v h) (judged w program input q u k)
+    one_judged RunShows (λ m inputs text numbers i j r q. shows_once m inputs r q) w program input r q x y h k v u
+
+one_certify : (w : Surroundings) (program : Text) (input : Option Text) (r q : Reply) → IsKnown w (File program)
+    → IsKnownInput w input → CertifyReply w program input r → CertifyReply w program input q → IsOfTexts r → IsOfTexts q
+    → r ≡ q
+one_certify w program input r q x y h k v u =
+    one_judged CertifyShows (λ m inputs text numbers i j r q. certifies_once m inputs (resolved_named i.0 m.source i.2.0) r q)
+    w (File program) input r q x y h k v u
+
+one_check : (w : Surroundings) (program certificate : Text) (input : Option Text) (r q : Reply) → IsKnown w (File program)
+    → IsKnownInput w input → IsKnown w (File certificate) → CheckReply w program certificate input r
+    → CheckReply w program certificate input q → IsOfTexts r → IsOfTexts q → r ≡ q
+one_check w program certificate input r q x y z h k v u =
+    one_judged (CheckShows certificate (w.files certificate) w.failed w.failed')
+    (λ m inputs text numbers i j r q. checks_once certificate (w.files certificate) w.failed w.failed' m inputs text numbers z
+    (record { program_is = i; input_is = j }) r q)
+    w (File program) input r q x y h k v u
 
 bad_words : (r : Reply) → WordsFail r → IsOfTexts r → r ≡ BadWords
 bad_words BadWords h v = refl
 bad_words NoMemory h v = absurd v
 bad_words _ h v = absurd h
 
-one_answered : (w : World) (asked : Option Asked) → HasOneReply w asked
+one_answered : (w : Surroundings) (asked : Option Requested) → HasOneReply w asked
 one_answered w None x r q h k v u = bad_words r h v ∙ sym (bad_words q k u)
-one_answered w (Some (words.Run program None)) x r q h k v u = one_run w program None r q x tt h k v u
-one_answered w (Some (words.Run program (Some path))) x r q h k v u = one_run w program (Some path) r q x.0 x.1 h k v u
+one_answered w (Some (words.Run program input)) x r q h k v u = one_run w program input r q x.0 x.1 h k v u
+one_answered w (Some (words.Certify program input)) x r q h k v u = one_certify w program input r q x.0 x.1 h k v u
+one_answered w (Some (words.Check program certificate input)) x r q h k v u =
+    one_check w program certificate input r q x.0 x.1 x.2 h k v u
 
-pub one_reply : (w : World) (line : List Text) → HasOneReply w (order_in line)
+pub one_reply : (w : Surroundings) (line : List Text) → HasOneReply w (order_in line)
 one_reply w line = one_answered w (order_in line)

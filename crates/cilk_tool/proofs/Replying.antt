@@ -1,15 +1,30 @@
 -- How a reply comes about.
-use Rattle.std.proofs.Common.{◌≡◌, ◌⊎◌, ◌+◌, ℕ, List, [], ◌++◌, Bool, true, false, Option, Some, None, length, take, refl, sym, ap, subst, inl, inr, ◌∙◌, rules, arith}
-use Rattle.std.specs.Prelude.{IsTrue, IsFalse, Result, Ok, Err, IfOk, IfErr, IsErrAnd, ℤ}
+--
+-- `front_of`: what was sent is a beginning of a text. `keeps`: nothing went out. `no_memory`: a want of memory answers
+-- anything. `fails`, `ends`: a failure, or an answer, is served. `handed`: an error that was handed on.
+-- `program_refused`, `input_unread`, `input_refused`: no program and input are given. `both_given`: both are.
+-- `judged_ok`, `judged_err`: the answer to a command over both, and its failure. `given_later`: they are given whatever is
+-- read afterwards. `checked_ok`, `checked_err`: the answer to a check, and its failure. `refused_ok`,
+-- `refused_err`: a refusal that is told, or a want of memory. `refused_whole`: a refusal of a file's text.
+use Rattle.std.proofs.Common.{◌≡◌, ℕ, List, [], Bool, true, false, Option, Some, None, option_map, drop, length, refl, sym, ap, subst, inl, inr, ◌∙◌, arith}
+use Rattle.std.specs.Prelude.{◌≢◌, IsTrue, IsFalse, Result, Ok, Err, IfOk, IfErr, IsErrAnd, ℤ}
 use Rattle.std.specs.Io.KnownBytes.{Appends}
 use Rattle.std.proofs.lemmas.List.{append-nil, take_all}
-use Rattle.cilk_tool.specs.Replies.{NoMemory, Reply, Text, answer_view, failure_view, out_text, status_of}
+use Rattle.cilk_checker.specs.Answers.{IsRefusedText, IsUnaccepted}
+use Rattle.cilk_checker.specs.Numbers.{fields_of, number_of}
+use Rattle.cilk_checker.specs.declared.refusal.Refusal.{Refusal}
+use Rattle.cilk_checker.specs.declared.refusal.Refusal.TheVariants as refusals
+use Rattle.cilk_checker.specs.declared.refusal.Unaccepted.{Unaccepted}
+use Rattle.cilk_checker.specs.declared.refusal.Unaccepted.TheVariants as unaccepted
+use Rattle.cilk_program.specs.Syntax.{Source}
+use Rattle.cilk_tool.specs.Replies.{NoMemory, Refused, Reply, Text, answer_view, failure_view, out_text, places_of, status_of}
 use Rattle.cilk_texts.specs.Inputs.{IsInput}
-use Rattle.cilk_tool.specs.Judging.{InputFails, IsProgramText, Meant, ProgramFails, RunShows}
+use Rattle.cilk_judge.specs.Judging.{IsProgramText, Meant}
 use Rattle.cilk_tool.specs.Files.{IsHeld}
-use Rattle.cilk_tool.specs.Serving.{Answers, GivesInput, GivesProgram, InputFileFails, InputRefused, InputUnread, IsOrNoMemory, ProgramRefused, ProgramUnread, Ran, RunReply, Serves, Shows, ShowsError, World}
+use Rattle.cilk_tool.specs.Serving.{Answers, AreGiven, GivesInput, GivesProgram, InputFileFails, InputRefused, InputUnread, IsOrNoMemory, Judged, JudgedReply, NoneGiven, ProgramRefused, ProgramUnread, Serves, Shows, ShowsError, Unjudged, Surroundings, world}
+use Rattle.cilk_tool.specs.Shown.{CheckShows, InputFails, ProgramFails}
 use Rattle.cilk_tool.specs.Streams.{AppendsFront, AppendsPart}
-use Rattle.cilk_tool.specs.Words.{Asked, File, Run, Origin, Standard, order_in}
+use Rattle.cilk_tool.specs.Words.{Requested, Certify, Check, File, Run, Origin, Standard, order_in}
 use Rattle.cilk_tool.specs.declared.reply.Answer.{Answer}
 use Rattle.cilk_tool.specs.declared.reply.Failure.{Failure}
 use Rattle.cilk_tool.specs.declared.reply.Failure.TheVariants as failures
@@ -24,12 +39,14 @@ keeps None = tt
 keeps (Some bytes) = sym (append-nil bytes)
 
 -- a want of memory answers anything
-pub no_memory : (w : World) (asked : Option Asked) → Answers w asked NoMemory
+pub no_memory : (w : Surroundings) (asked : Option Requested) → Answers w asked NoMemory
 no_memory w None = tt
-no_memory w (Some (Run Standard input)) = ProgramUnread tt
-no_memory w (Some (Run (File path) input)) = ProgramUnread tt
+no_memory w (Some (Run Standard input)) = Unjudged (ProgramUnread tt)
+no_memory w (Some (Run (File path) input)) = Unjudged (ProgramUnread tt)
+no_memory w (Some (Certify path input)) = Unjudged (ProgramUnread tt)
+no_memory w (Some (Check path certificate input)) = Unjudged (ProgramUnread tt)
 
-or_no_memory : (w : World) (asked : Option Asked) (wanted r : Reply) → Answers w asked wanted → IsOrNoMemory wanted r → Answers w asked r
+or_no_memory : (w : Surroundings) (asked : Option Requested) (wanted r : Reply) → Answers w asked wanted → IsOrNoMemory wanted r → Answers w asked r
 or_no_memory w asked wanted r h (inl e) = subst (λ (x : Reply). Answers w asked x) (sym e) h
 or_no_memory w asked wanted r h (inr e) = subst (λ (x : Reply). Answers w asked x) (sym e) (no_memory w asked)
 
@@ -46,14 +63,14 @@ still_silent : (f : Failure) (r : Reply) → IsOrNoMemory (failure_view f) r →
 still_silent f r (inl e) = ap out_text e ∙ silent f
 still_silent f r (inr e) = ap out_text e
 
-pub fails : (words : List Text) (w : World) (f : Failure) (status : ℕ) (o e e' : Option Text) → Answers w (order_in words) (failure_view f)
+pub fails : (words : List Text) (w : Surroundings) (f : Failure) (status : ℕ) (o e e' : Option Text) → Answers w (order_in words) (failure_view f)
     → (r : Reply) × IsOrNoMemory (failure_view f) r × (status ≡ status_of r) × ShowsError r e e' → Serves words w status o o e e'
 fails words w f status o e e' h shown =
     let r = shown.0 in
     let out : Appends o o (out_text r) = subst (λ (t : Text). Appends o o t) (sym (still_silent f r shown.1)) (keeps o) in
     (r, or_no_memory w (order_in words) (failure_view f) r h shown.1, inl (shown.2, out, shown.3))
 
-pub ends : (words : List Text) (w : World) (wanted : Reply) (status : ℕ) (o o' e e' : Option Text) → Answers w (order_in words) wanted
+pub ends : (words : List Text) (w : Surroundings) (wanted : Reply) (status : ℕ) (o o' e e' : Option Text) → Answers w (order_in words) wanted
     → (r : Reply) × IsOrNoMemory wanted r × Shows r status o o' e e' → Serves words w status o o' e e'
 ends words w wanted status o o' e e' h shown = (shown.0, or_no_memory w (order_in words) wanted shown.0 h shown.1, shown.2)
 
@@ -67,36 +84,106 @@ same_input : (files files' : Text → Option Text) (i : Option Text) (text : Tex
 same_input files files' None text same h = h
 same_input files files' (Some path) text same h = subst (λ (known : Option Text). IsHeld known text) (same path) h
 
-pub program_refused : (w : World) (p : Origin) (i : Option Text) (r : Reply) (text slice : Text) → GivesProgram w.files w.input p text → slice ≡ text
-    → ProgramFails slice r → RunReply w p i r
+pub program_refused : (w : Surroundings) (p : Origin) (i : Option Text) (r : Reply) (text slice : Text) → GivesProgram w.files w.input p text → slice ≡ text
+    → ProgramFails slice r → NoneGiven w p i r
 program_refused w p i r text slice given e h = ProgramRefused text given (subst (λ (t : Text). ProgramFails t r) e h)
 
-pub input_unread : (w : World) (p : Origin) (i : Option Text) (r : Reply) (text slice : Text) (q : Meant) (failed : ℕ) → GivesProgram w.files w.input p text → slice ≡ text
-    → IsProgramText slice q → failed ≡ w.failed → InputFileFails failed w.failed' i r → RunReply w p i r
+pub input_unread : (w : Surroundings) (p : Origin) (i : Option Text) (r : Reply) (text slice : Text) (q : Meant) (failed : ℕ) → GivesProgram w.files w.input p text → slice ≡ text
+    → IsProgramText slice q → failed ≡ w.failed → InputFileFails failed w.failed' i r → NoneGiven w p i r
 input_unread w p i r text slice q failed given e h same unread =
     InputUnread text q given (subst (λ (t : Text). IsProgramText t q) e h) (subst (λ (n : ℕ). InputFileFails n w.failed' i r) same unread)
 
-pub input_refused : (w : World) (p : Origin) (i : Option Text) (r : Reply) (text slice : Text) (q : Meant) (files : Text → Option Text) (numbers slice' : Text)
+pub input_refused : (w : Surroundings) (p : Origin) (i : Option Text) (r : Reply) (text slice : Text) (q : Meant) (files : Text → Option Text) (numbers slice' : Text)
     → GivesProgram w.files w.input p text → slice ≡ text → IsProgramText slice q → ((path : Text) → files path ≡ w.files path) → GivesInput files i numbers → slice' ≡ numbers
-    → InputFails slice' r → RunReply w p i r
+    → InputFails slice' r → NoneGiven w p i r
 input_refused w p i r text slice q files numbers slice' given e h same input e' fault =
     InputRefused text q numbers given (subst (λ (t : Text). IsProgramText t q) e h) (same_input files w.files i numbers same input) (subst (λ (t : Text). InputFails t r) e' fault)
 
-pub ran : (w : World) (p : Origin) (i : Option Text) (r : Reply) (text slice : Text) (q : Meant) (files : Text → Option Text) (numbers slice' : Text) (inputs : List ℤ)
+pub both_given : (w : Surroundings) (p : Origin) (i : Option Text) (text slice : Text) (q : Meant)
+    (files : Text → Option Text) (numbers slice' : Text) (inputs : List ℤ)
     → GivesProgram w.files w.input p text → slice ≡ text → IsProgramText slice q → ((path : Text) → files path ≡ w.files path) → GivesInput files i numbers → slice' ≡ numbers
-    → IsInput slice' inputs → RunShows q inputs r → RunReply w p i r
-ran w p i r text slice q files numbers slice' inputs given e h same input e' spelled shown =
-    Ran text q numbers inputs given (subst (λ (t : Text). IsProgramText t q) e h) (same_input files w.files i numbers same input)
-    (subst (λ (t : Text). IsInput t inputs) e' spelled) shown
+    → IsInput slice' inputs → AreGiven w p i q inputs
+both_given w p i text slice q files numbers slice' inputs given e h same input e' spelled = record {
+  text = text;
+  text_is = given;
+  program_is = subst (λ (t : Text). IsProgramText t q) e h;
+  numbers = numbers;
+  numbers_are = same_input files w.files i numbers same input;
+  input_is = subst (λ (t : Text). IsInput t inputs) e' spelled;
+}
 
--- a run's answer
-pub ran_ok : {T : Type 0} (x : Result Answer T) (w : World) (p : Origin) (i : Option Text) (q : Meant) (inputs : List ℤ)
-    → ((r : Reply) → RunShows q inputs r → RunReply w p i r) → IfOk x (λ a. RunShows q inputs (answer_view a)) → IfOk x (λ a. RunReply w p i (answer_view a))
-ran_ok (Ok a) w p i q inputs all h = all (answer_view a) h
-ran_ok (Err e) w p i q inputs all h = tt
+-- the answer to a command over a program and its input
+pub judged_ok : {T : Type 0} (IsShown : Meant → List ℤ → Reply → Type 0) (x : Result Answer T) (w : Surroundings) (p : Origin)
+    (i : Option Text) (q : Meant) (inputs : List ℤ)
+    → AreGiven w p i q inputs → IfOk x (λ a. IsShown q inputs (answer_view a))
+    → IfOk x (λ a. JudgedReply IsShown w p i (answer_view a))
+judged_ok IsShown (Ok a) w p i q inputs given h = Judged q inputs given h
+judged_ok IsShown (Err e) w p i q inputs given h = tt
 
--- a run's failure
-pub ran_err : {T : Type 0} (x : Result T Failure) (w : World) (p : Origin) (i : Option Text) (q : Meant) (inputs : List ℤ)
-    → ((r : Reply) → RunShows q inputs r → RunReply w p i r) → IfErr x (λ e. RunShows q inputs (failure_view e)) → IfErr x (λ e. RunReply w p i (failure_view e))
-ran_err (Ok a) w p i q inputs all h = tt
-ran_err (Err e) w p i q inputs all h = all (failure_view e) h
+-- its failure
+pub judged_err : {T : Type 0} (IsShown : Meant → List ℤ → Reply → Type 0) (x : Result T Failure) (w : Surroundings) (p : Origin)
+    (i : Option Text) (q : Meant) (inputs : List ℤ)
+    → AreGiven w p i q inputs → IfErr x (λ e. IsShown q inputs (failure_view e))
+    → IfErr x (λ e. JudgedReply IsShown w p i (failure_view e))
+judged_err IsShown (Ok a) w p i q inputs given h = tt
+judged_err IsShown (Err e) w p i q inputs given h = Judged q inputs given h
+
+-- a program and its input are given whatever is read afterwards
+pub given_later : (files : Text → Option Text) (input : Option Text) (failed before after : ℕ) (p : Origin)
+    (i : Option Text) (q : Meant) (inputs : List ℤ)
+    → AreGiven (world files input failed before) p i q inputs → AreGiven (world files input failed after) p i q inputs
+given_later files input failed before after p i q inputs h = record {
+  text = h.text;
+  text_is = h.text_is;
+  program_is = h.program_is;
+  numbers = h.numbers;
+  numbers_are = h.numbers_are;
+  input_is = h.input_is;
+}
+
+-- the answer to a check, by what was known before the two texts were read
+pub checked_ok : {T : Type 0} (x : Result Answer T) (path : Text) (known known' : Option Text) (n m failed : ℕ) (q : Meant)
+    (inputs : List ℤ) → known ≡ known' → n ≡ m
+    → IfOk x (λ a. CheckShows path known n failed q inputs (answer_view a))
+    → IfOk x (λ a. CheckShows path known' m failed q inputs (answer_view a))
+checked_ok x path known known' n m failed q inputs e d h =
+    let P : Option Text → ℕ → Type 0 = λ k f. IfOk x (λ a. CheckShows path k f failed q inputs (answer_view a)) in
+    subst (λ k. P k m) e (subst (λ f. P known f) d h)
+
+-- its failure
+pub checked_err : {T : Type 0} (x : Result T Failure) (path : Text) (known known' : Option Text) (n m failed : ℕ) (q : Meant)
+    (inputs : List ℤ) → known ≡ known' → n ≡ m
+    → IfErr x (λ a. CheckShows path known n failed q inputs (failure_view a))
+    → IfErr x (λ a. CheckShows path known' m failed q inputs (failure_view a))
+checked_err x path known known' n m failed q inputs e d h =
+    let P : Option Text → ℕ → Type 0 = λ k f. IfErr x (λ a. CheckShows path k f failed q inputs (failure_view a)) in
+    subst (λ k. P k m) e (subst (λ f. P known f) d h)
+
+-- a refusal that is told is shown
+pub refused_ok : {T : Type 0} (x : Result Answer T) (path : Text) (known : Option Text) (n m : ℕ) (q : Meant)
+    (inputs : List ℤ) (f : Refusal)
+    → IfOk x (λ a. (f ≢ refusals.Memory) × (answer_view a ≡ Refused (number_of f) (places_of (fields_of f))))
+    → IsRefusedText q.source inputs known f → IfOk x (λ a. CheckShows path known n m q inputs (answer_view a))
+refused_ok (Ok a) path known n m q inputs f h k =
+    subst (λ (r : Reply). CheckShows path known n m q inputs r) (sym h.1) (f, h.0, refl, refl, k)
+refused_ok (Err e) path known n m q inputs f h k = tt
+
+pub refused_err : {T : Type 0} (x : Result T Failure) (path : Text) (known : Option Text) (n m : ℕ) (q : Meant)
+    (inputs : List ℤ) → IfErr x (λ e. failure_view e ≡ NoMemory)
+    → IfErr x (λ e. CheckShows path known n m q inputs (failure_view e))
+refused_err (Ok a) path known n m q inputs h = tt
+refused_err (Err e) path known n m q inputs h =
+    subst (λ (r : Reply). CheckShows path known n m q inputs r) (sym h) tt
+
+known_whole : (known : Option Text) → option_map (drop 0) known ≡ known
+known_whole None = refl
+known_whole (Some all) = refl
+
+-- a refusal of the text that comes from a file's first byte on is one of the file
+pub refused_whole : (p : Source) (inputs : List ℤ) (known known' : Option Text) (at n m : ℕ) (u : Unaccepted) (f : Refusal)
+    → known' ≡ known → at ≡ 0 → u ≡ unaccepted.Refusal f
+    → IsUnaccepted p inputs (option_map (drop at) known') n m u → IsRefusedText p inputs known f
+refused_whole p inputs known known' at n m u f e d k h =
+    let whole : option_map (drop at) known' ≡ known = rw (e, d) (known_whole known) in
+    subst (λ (x : Option Text). IsRefusedText p inputs x f) whole
+    (subst (λ (x : Unaccepted). IsUnaccepted p inputs (option_map (drop at) known') n m x) k h)

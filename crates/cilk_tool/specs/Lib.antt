@@ -1,7 +1,7 @@
 pub mod Files
-pub mod Judging
 pub mod OneReply
 pub mod Replies
 pub mod Serving
+pub mod Shown
 pub mod Streams
 pub mod Words

@@ -4,6 +4,10 @@ use Rattle.std.specs.Fmt.{signed_decimal}
 use Rattle.cilk_types.specs.declared.outcome.Outcome.{Outcome}
 use Rattle.cilk_types.specs.declared.outcome.Final.{Final}
 use Rattle.cilk_types.specs.declared.outcome.Final.TheVariants as finals
+use Rattle.cilk_cert_text.specs.Certificates.{Contents, text_of}
+use Rattle.cilk_checker.specs.Numbers.{fields_of, number_of}
+use Rattle.cilk_checker.specs.declared.refusal.Fields.{Fields}
+use Rattle.cilk_checker.specs.declared.refusal.Fields.TheVariants as fields
 use Rattle.cilk_tool.specs.declared.reply.Answer.{Answer}
 use Rattle.cilk_tool.specs.declared.reply.Answer.TheVariants as answers
 use Rattle.cilk_tool.specs.declared.reply.Failure.{Failure}
@@ -25,12 +29,21 @@ pub data Reply : Type 0 where
   Faulted : (number at : ℕ) → Reply
   -- what the run left, with the names of its global reducers
   Ended : (names : List Text) (outcome : Outcome) → Reply
+  -- a certificate
+  Certified : (certificate : Contents) → Reply
+  -- a certificate is accepted
+  Accepted : Reply
+  -- a certificate is refused, by a number and the places that it names
+  Refused : (number : ℕ) (places : List ℕ) → Reply
   -- memory was refused
   NoMemory : Reply
 
 abbrev pub status_of : Reply → ℕ
 status_of (Ended names o) = 0
+status_of (Certified certificate) = 0
+status_of Accepted = 0
 status_of (Faulted number at) = 3
+status_of (Refused number places) = 4
 status_of NoMemory = 5
 status_of _ = 2
 
@@ -67,9 +80,20 @@ outcome_text names o =
 abbrev pub place_line : Text → ℕ → ℕ → Text
 place_line what number place = line (what ++ codes " " ++ decimal number ++ codes " at " ++ decimal place)
 
+-- a number that isn't negative, after a space
+abbrev pub place_text : ℕ → Text
+place_text place = 32 ∷ decimal place
+
+-- `refused N`, and a space and a number for each place
+abbrev pub refused_line : ℕ → List ℕ → Text
+refused_line number places = line (codes "refused " ++ decimal number ++ flat_map place_text places)
+
 -- what goes to standard output
 abbrev pub out_text : Reply → Text
 out_text (Ended names o) = outcome_text names o
+out_text (Certified certificate) = text_of certificate
+out_text Accepted = line (codes "accepted")
+out_text (Refused number places) = refused_line number places
 out_text _ = []
 
 -- what goes to standard error; clap's text for bad words isn't stated
@@ -80,10 +104,22 @@ IsErrorText (BadProgram number place) text = text ≡ place_line (codes "program
 IsErrorText (BadInput number place) text = text ≡ place_line (codes "input") number place
 IsErrorText (Faulted number at) text = text ≡ place_line (codes "fault") number at
 IsErrorText (Ended names o) text = text ≡ []
+IsErrorText (Certified certificate) text = text ≡ []
+IsErrorText Accepted text = text ≡ []
+IsErrorText (Refused number places) text = text ≡ []
 IsErrorText NoMemory text = text ≡ line (codes "no memory")
+
+-- the places that a refusal names
+abbrev pub places_of : Fields → List ℕ
+places_of fields.None = []
+places_of (fields.One place) = place ∷ []
+places_of (fields.Two earlier later) = earlier ∷ later ∷ []
 
 abbrev pub answer_view : Answer → Reply
 answer_view (answers.Outcome names outcome) = Ended names outcome
+answer_view (answers.Certificate certificate) = Certified certificate
+answer_view answers.Accepted = Accepted
+answer_view (answers.Refused refusal) = Refused (number_of refusal) (places_of (fields_of refusal))
 
 abbrev pub failure_view : Failure → Reply
 failure_view (failures.Words text) = BadWords

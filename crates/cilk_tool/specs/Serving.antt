@@ -4,10 +4,11 @@ use Rattle.std.specs.Io.KnownBytes.{Appends}
 use Rattle.cilk_tool.specs.declared.streams.TheConstants.{MAX_READ}
 use Rattle.cilk_tool.specs.Files.{IsHeld}
 use Rattle.cilk_texts.specs.Inputs.{IsInput}
-use Rattle.cilk_tool.specs.Judging.{InputFails, IsProgramText, Meant, ProgramFails, RunShows}
+use Rattle.cilk_judge.specs.Judging.{IsProgramText, Meant}
 use Rattle.cilk_tool.specs.Replies.{BadWords, IsErrorText, NoMemory, Reply, Text, Unreadable, line, out_text, status_of}
+use Rattle.cilk_tool.specs.Shown.{CertifyShows, CheckShows, InputFails, ProgramFails, RunShows}
 use Rattle.cilk_tool.specs.Streams.{AppendsFront, AppendsPart}
-use Rattle.cilk_tool.specs.Words.{Asked, File, Run, Origin, Standard, order_in}
+use Rattle.cilk_tool.specs.Words.{Requested, Certify, Check, File, Run, Origin, Standard, order_in}
 
 -- standard input gives the text: all of it, up to the limit
 abbrev pub IsReceived : Option Text → Text → Type 0
@@ -46,26 +47,53 @@ InputFileFails failed failed' None r = ⊥
 
 -- what is known of the outside: what each file holds, what standard input gives, and how many reads of files met a
 -- failing device before the call and after it
-pub record World : Type 0 where
+pub record Surroundings : Type 0 where
   pub files : Text → Option Text
   pub input : Option Text
   pub failed : ℕ
   pub failed' : ℕ
 
-abbrev pub world : (Text → Option Text) → Option Text → ℕ → ℕ → World
+abbrev pub world : (Text → Option Text) → Option Text → ℕ → ℕ → Surroundings
 world files input failed failed' = record { files = files; input = input; failed = failed; failed' = failed' }
 
--- what a run is answered: the program text is read and judged, then the input text is read and judged, then the
--- program runs; the first that fails is shown
-pub data RunReply (w : World) (program : Origin) (input : Option Text) (r : Reply) : Type 0 where
-  ProgramUnread : OriginFails w.failed w.failed' program r → RunReply w program input r
-  ProgramRefused : (text : Text) → GivesProgram w.files w.input program text → ProgramFails text r → RunReply w program input r
+-- a program and the numbers of its input, as the texts mean them that files and standard input give
+pub record AreGiven (w : Surroundings) (program : Origin) (input : Option Text) (p : Meant) (inputs : List ℤ) : Type 0 where
+  pub text : Text
+  pub text_is : GivesProgram w.files w.input program text
+  pub program_is : IsProgramText text p
+  pub numbers : Text
+  pub numbers_are : GivesInput w.files input numbers
+  pub input_is : IsInput numbers inputs
+
+-- the program text is read and judged, then the input text; the first of these that fails is shown
+pub data NoneGiven (w : Surroundings) (program : Origin) (input : Option Text) (r : Reply) : Type 0 where
+  ProgramUnread : OriginFails w.failed w.failed' program r → NoneGiven w program input r
+  ProgramRefused : (text : Text) → GivesProgram w.files w.input program text → ProgramFails text r
+      → NoneGiven w program input r
   InputUnread : (text : Text) (p : Meant) → GivesProgram w.files w.input program text → IsProgramText text p
-      → InputFileFails w.failed w.failed' input r → RunReply w program input r
+      → InputFileFails w.failed w.failed' input r → NoneGiven w program input r
   InputRefused : (text : Text) (p : Meant) (numbers : Text) → GivesProgram w.files w.input program text → IsProgramText text p
-      → GivesInput w.files input numbers → InputFails numbers r → RunReply w program input r
-  Ran : (text : Text) (p : Meant) (numbers : Text) (inputs : List ℤ) → GivesProgram w.files w.input program text → IsProgramText text p
-      → GivesInput w.files input numbers → IsInput numbers inputs → RunShows p inputs r → RunReply w program input r
+      → GivesInput w.files input numbers → InputFails numbers r → NoneGiven w program input r
+
+-- what is answered to a command over a program and its input: both texts are judged, and then this is shown of them
+pub data JudgedReply (IsShown : Meant → List ℤ → Reply → Type 0) (w : Surroundings) (program : Origin) (input : Option Text)
+    (r : Reply) : Type 0 where
+  Unjudged : NoneGiven w program input r → JudgedReply IsShown w program input r
+  Judged : (p : Meant) (inputs : List ℤ) → AreGiven w program input p inputs → IsShown p inputs r
+      → JudgedReply IsShown w program input r
+
+-- what a run is answered
+abbrev pub RunReply : Surroundings → Origin → Option Text → Reply → Type 0
+RunReply w program input r = JudgedReply RunShows w program input r
+
+-- what is answered to a wish for a certificate
+abbrev pub CertifyReply : Surroundings → Text → Option Text → Reply → Type 0
+CertifyReply w program input r = JudgedReply CertifyShows w (File program) input r
+
+-- what is answered to a wish to check a certificate; its file is read after the two texts were judged
+abbrev pub CheckReply : Surroundings → Text → Text → Option Text → Reply → Type 0
+CheckReply w program certificate input r =
+    JudgedReply (CheckShows certificate (w.files certificate) w.failed w.failed') w (File program) input r
 
 -- words that ask for nothing
 abbrev pub WordsFail : Reply → Type 0
@@ -74,9 +102,11 @@ WordsFail NoMemory = Unit {0}
 WordsFail _ = ⊥
 
 -- what is answered to what the words ask for
-abbrev pub Answers : World → Option Asked → Reply → Type 0
+abbrev pub Answers : Surroundings → Option Requested → Reply → Type 0
 Answers w None r = WordsFail r
 Answers w (Some (Run program input)) r = RunReply w program input r
+Answers w (Some (Certify program input)) r = CertifyReply w program input r
+Answers w (Some (Check program certificate input)) r = CheckReply w program certificate input r
 
 -- a text of the reply goes to standard error, as far as that takes it
 abbrev pub ShowsError : Reply → Option Text → Option Text → Type 0
@@ -89,7 +119,7 @@ Shows r status out out' err err' =
     ⊎ ((status ≡ 2) × AppendsPart out out' (out_text r) × AppendsFront err err' (line (codes "cannot write")))
 
 -- the words are answered by a reply, which is shown
-abbrev pub Serves : List Text → World → ℕ → Option Text → Option Text → Option Text → Option Text → Type 0
+abbrev pub Serves : List Text → Surroundings → ℕ → Option Text → Option Text → Option Text → Option Text → Type 0
 Serves words w status out out' err err' = (r : Reply) × Answers w (order_in words) r × Shows r status out out' err err'
 
 -- the reply that was wanted, or that memory was refused while its text was made

@@ -1,5 +1,5 @@
 -- What the words of a command line ask for, by clap's own account of how a simple command matches words.
-use Rattle.std.specs.Prelude.{◌≡◌, ◌≢◌, ◌∷◌, [], ℕ, List, Option, Some, None, map, codes, true, false, if◌then◌else◌, option_map, option_and_then}
+use Rattle.std.specs.Prelude.{◌≡◌, ◌≢◌, ◌∷◌, [], List, Option, Some, None, map, codes, true, false, if◌then◌else◌, option_map, option_and_then}
 use Rattle.std.specs.Str.{bytes_eq}
 use Rattle.std.specs.Borrow.{Bor}
 use Rattle.clap.specs.Words.{App, Row, Rule, Text, app_of, fault_of, first_of, new_app, new_rule, subcommand_of, with_rule, with_subcommand}
@@ -26,48 +26,87 @@ pub data Origin : Type 0 where
   Standard : Origin
   File : (path : Text) → Origin
 
--- what is asked for; a run without an input file has the empty input
-pub data Asked : Type 0 where
-  Run : (program : Origin) (input : Option Text) → Asked
+-- what is asked for; a command without an input file has the empty input
+pub data Requested : Type 0 where
+  Run : (program : Origin) (input : Option Text) → Requested
+  Certify : (program : Text) (input : Option Text) → Requested
+  Check : (program certificate : Text) (input : Option Text) → Requested
 
 abbrev pub origin_view : code.Origin → Origin
 origin_view origins.Standard = Standard
 origin_view (origins.File path) = File path.now
 
-abbrev pub order_view : Order → Asked
+abbrev pub order_view : Order → Requested
 order_view (orders.Run program input) = Run (origin_view program) (option_map (λ path. path.now) input)
+order_view (orders.Certify program input) = Certify program.now (option_map (λ path. path.now) input)
+order_view (orders.Check program certificate input) =
+    Check program.now certificate.now (option_map (λ path. path.now) input)
 
--- `run PROGRAM [--input FILE]`
 abbrev pub program_rule : Rule
 program_rule = record (new_rule (codes "program")) { required = true }
+
+abbrev pub certificate_rule : Rule
+certificate_rule = record (new_rule (codes "certificate")) { required = true }
 
 abbrev pub input_rule : Rule
 input_rule = record (new_rule (codes "input")) { long = Some (codes "input"); action = Some Set }
 
-abbrev pub run_app : App
-run_app = with_rule (with_rule (new_app (codes "run")) program_rule) input_rule
+-- `NAME PROGRAM [--input FILE]`
+abbrev pub program_app : Text → App
+program_app name = with_rule (with_rule (new_app name) program_rule) input_rule
 
--- the commands
+-- `check PROGRAM CERTIFICATE [--input FILE]`
+abbrev pub check_app : App
+check_app = with_rule (with_rule (with_rule (new_app (codes "check")) program_rule) certificate_rule) input_rule
+
+-- a program of commands, none of which it has yet
+abbrev pub empty_app : App
+empty_app = on_top (λ s. record s { no_binary_name = true; subcommand_required = true }) (new_app (codes "cilk"))
+
+-- the commands: `run`, `certify` and `check`
 abbrev pub cilk_app : App
-cilk_app = with_subcommand (on_top (λ s. record s { no_binary_name = true; subcommand_required = true }) (new_app (codes "cilk"))) run_app.top
+cilk_app =
+    with_subcommand (with_subcommand (with_subcommand empty_app (program_app (codes "run")).top)
+    (program_app (codes "certify")).top) check_app.top
 
 -- the command is this one to clap's parser
 abbrev pub HasShape : Command → App → Type 0
 HasShape c a = (app_of c ≡ a) × ((out-Command c).has_globals ≡ false)
 
--- `run` with these matches
-abbrev pub run_with : List Row → Option Asked
-run_with rows = option_map (λ program. Run (File program) (first_of (codes "input") rows)) (first_of (codes "program") rows)
+-- two paths, without the references
+abbrev pub paths_view : Bor Text × Option (Bor Text) → Text × Option Text
+paths_view paths = (paths.0.now, option_map (λ path. path.now) paths.1)
 
-abbrev pub named : Text × List Row → Option Asked
-named p = if bytes_eq p.0 (codes "run") then run_with p.1 else None
+-- the paths of the program and of the input that these matches name
+abbrev pub paths_in : List Row → Option (Text × Option Text)
+paths_in rows = option_map (λ program. (program, first_of (codes "input") rows)) (first_of (codes "program") rows)
+
+-- `run` with these matches
+abbrev pub run_with : List Row → Option Requested
+run_with rows = option_map (λ paths. Run (File paths.0) paths.1) (paths_in rows)
+
+-- `certify` with these matches
+abbrev pub certify_with : List Row → Option Requested
+certify_with rows = option_map (λ paths. Certify paths.0 paths.1) (paths_in rows)
+
+-- `check` with these matches
+abbrev pub check_with : List Row → Option Requested
+check_with rows =
+    option_and_then (λ certificate. option_map (λ paths. Check paths.0 certificate paths.1) (paths_in rows))
+    (first_of (codes "certificate") rows)
+
+abbrev pub named : Text × List Row → Option Requested
+named p =
+    if bytes_eq p.0 (codes "run") then run_with p.1
+    else (if bytes_eq p.0 (codes "certify") then certify_with p.1
+    else (if bytes_eq p.0 (codes "check") then check_with p.1 else None))
 
 -- what the subcommand with its matches asks for
-abbrev pub order_by : Option (Text × List Row) → Option Asked
+abbrev pub order_by : Option (Text × List Row) → Option Requested
 order_by entered = option_and_then named entered
 
 -- what the words after the program's own name ask for: nothing where clap finds a fault in them, or help is asked for
-unfoldable pub order_in : List Text → Option Asked
+unfoldable pub order_in : List Text → Option Requested
 order_in [] = Some (Run Standard None)
 order_in (w ∷ words) = if is_empty (fault_of cilk_app (w ∷ words)) then order_by (subcommand_of cilk_app (w ∷ words)) else None
 

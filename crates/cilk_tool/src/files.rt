@@ -1,12 +1,13 @@
-//! Files that are read whole, by path.
+//! Files by path, read whole or in parts.
 
-ghost use Rattle.std.specs.Prelude.{◌≡◌, ℕ, ◌<◌, List, Option, IfOk, IsErrOf, OnOk, Err};
-ghost use Rattle.cilk_tool.specs.Files.{IsHeld};
+ghost use Rattle.std.specs.Prelude.{◌≡◌, ℕ, ◌+◌, ◌<◌, ◌≤◌, List, Option, IfOk, OnOk, Err, length};
+ghost use Rattle.cilk_tool.specs.Files.{EndsAt, IsHeld, IsPart};
+ghost use Rattle.cilk_tool.specs.declared.disk.TheConstants.{MAX_FILE};
 
 use std::alloc::{AllocError, AllocFailed, Global};
 use thiserror::Error;
 
-/// Why a file wasn't read.
+/// Why a file, or standard input, wasn't read.
 #[derive(Clone, Copy, PartialEq, Eq, Debug, Error)]
 pub enum FileFault {
     /// The file isn't there, can't be read, or is too large.
@@ -48,6 +49,19 @@ pub trait Files {
     fn read(&mut self, alloc: Global, path: &str) -> Result<Vec<u8>, FileFault>
         requires { failed self.old < 18446744073709551615 }
         ensures held { IfOk result (λ bytes. IsHeld (holds self.old path.now) bytes.items) }
+        ensures counted { result ≡ Err FileFault.Device → failed self.old < failed self.new }
+        ensures uncounted { OnOk result (failed self.new ≡ failed self.old) }
+        ensures same { (p : List ℕ) → holds self.new p ≡ holds self.old p };
+
+    /// Bytes of the file of a path from a byte on, counted from 0, by one read: how many stand at the front of `into`
+    /// afterwards. None in an `into` that isn't empty means that the file ends there. No byte past the greatest size of
+    /// a file is given. A fault of the device is counted.
+    fn part(&mut self, path: &str, at: u64, into: &mut [u8]) -> Result<usize, FileFault>
+        requires { failed self.old < 18446744073709551615 }
+        ensures within { IfOk result (λ n. n ≤ length into.old) }
+        ensures small { IfOk result (λ n. at + n ≤ MAX_FILE) }
+        ensures held { IfOk result (λ n. IsPart (holds self.old path.now) at n into.new) }
+        ensures last { IfOk result (λ n. n ≡ 0 → 0 < length into.old → EndsAt (holds self.old path.now) at) }
         ensures counted { result ≡ Err FileFault.Device → failed self.old < failed self.new }
         ensures uncounted { OnOk result (failed self.new ≡ failed self.old) }
         ensures same { (p : List ℕ) → holds self.new p ≡ holds self.old p };

@@ -1,62 +1,41 @@
-//! Texts are judged: the program text first, then the input text, then the program runs.
+//! Texts are judged, and a program is run, or its run certified: what fails is told as what is shown in place of an answer.
 
 ghost use Rattle.std.specs.Prelude.{◌≡◌, IfOk, IfErr, map};
-ghost use Rattle.cilk_tool.specs.Judging.{InputFails, IsProgramText, NamesFail, ProgramFails, ResolvesTo, RunShows, SpellingFails, meant};
-ghost use Rattle.cilk_texts.specs.Inputs.{IsInput};
-ghost use Rattle.cilk_texts.specs.Texts.{IsText};
+ghost use Rattle.cilk_judge.specs.Judging.{IsProgramText, meant};
 ghost use Rattle.cilk_tool.specs.Replies.{answer_view, failure_view};
+ghost use Rattle.cilk_tool.specs.Shown.{CertifyShows, InputFails, ProgramFails, RunShows, run_fault_view};
+ghost use Rattle.cilk_texts.specs.Inputs.{IsInput};
 
 use crate::reply::{Answer, Failure};
-use cilk_names::fault::NameFault;
-use cilk_names::resolve::resolve;
+use cilk_cert_maker::make::make;
+use cilk_judge::fault::ProgramFault;
+use cilk_judge::judge;
 use cilk_parser::input::parse_input;
-use cilk_parser::parse::parse;
 use cilk_program::program::{GlobalReducer, Program};
 use cilk_serial::fault::RunFault;
 use cilk_serial::run::run as run_serially;
-use cilk_syntax::tree::Tree;
 use cilk_texts::fault::TextFault;
 use cilk_types::input::Input;
 use cilk_types::sequence::Sequence;
 use std::alloc::{AllocError, Global};
-
-/// The tree of a program text.
-fn tree<'a>(alloc: Global, text: &[u8]) -> Result<Tree, Failure<'a>>
-    ensures ok { IfOk result (λ t. IsText text.now t) }
-    ensures err { IfErr result (λ e. SpellingFails text.now (failure_view e)) }
-{
-    match parse(alloc, text) {
-        Ok(tree) => Ok(tree),
-        Err(TextFault::Memory) => Err(Failure::Memory),
-        Err(TextFault::At(fault, place)) => Err(Failure::Program {
-            number: fault.number(),
-            place,
-        }),
-    }
-}
-
-/// The program of a tree.
-fn resolved<'a>(alloc: Global, tree: &Tree) -> Result<Program, Failure<'a>>
-    ensures ok { IfOk result (λ p. ResolvesTo tree.now (meant p)) }
-    ensures err { IfErr result (λ e. NamesFail tree.now (failure_view e)) }
-{
-    match resolve(alloc, tree) {
-        Ok(program) => Ok(program),
-        Err(NameFault::Memory) => Err(Failure::Memory),
-        Err(NameFault::At(fault, place)) => Err(Failure::Program {
-            number: fault.number(),
-            place,
-        }),
-    }
-}
 
 /// The program of a text.
 pub fn program<'a>(alloc: Global, text: &[u8]) -> Result<Program, Failure<'a>>
     ensures ok { IfOk result (λ p. IsProgramText text.now (meant p)) }
     ensures err { IfErr result (λ e. ProgramFails text.now (failure_view e)) }
 {
-    let tree = tree(alloc, text)?;
-    resolved(alloc, &tree)
+    match judge::program(alloc, text) {
+        Ok(program) => Ok(program),
+        Err(ProgramFault::Memory) => Err(Failure::Memory),
+        Err(ProgramFault::Text(fault, place)) => Err(Failure::Program {
+            number: fault.number(),
+            place,
+        }),
+        Err(ProgramFault::Name(fault, place)) => Err(Failure::Program {
+            number: fault.number(),
+            place,
+        }),
+    }
 }
 
 /// The numbers of an input text.
@@ -86,6 +65,19 @@ fn names(alloc: Global, reducers: &[GlobalReducer]) -> Result<Sequence<Sequence<
     Ok(Sequence::new(names))
 }
 
+/// What is shown of a run that stops.
+fn stopped<'a>(fault: &RunFault) -> Failure<'a>
+    ensures { failure_view result ≡ run_fault_view fault.now }
+{
+    match fault {
+        RunFault::Memory => Failure::Memory,
+        RunFault::At { fault, at } => Failure::Run {
+            number: fault.number(),
+            at: *at,
+        },
+    }
+}
+
 /// What the run of a program on an input leaves.
 pub fn run<'a>(alloc: Global, program: &Program, input: &Input) -> Result<Answer, Failure<'a>>
     ensures ok { IfOk result (λ a. RunShows (meant program.now) input.now (answer_view a)) }
@@ -96,10 +88,21 @@ pub fn run<'a>(alloc: Global, program: &Program, input: &Input) -> Result<Answer
             names: names(alloc, program.reducers.as_slice())?,
             outcome,
         }),
-        Err(RunFault::Memory) => Err(Failure::Memory),
-        Err(RunFault::At { fault, at }) => Err(Failure::Run {
-            number: fault.number(),
-            at,
-        }),
+        Err(fault) => Err(stopped(&fault)),
+    }
+}
+
+/// The certificate of the run of a program on an input.
+pub fn certificate<'a>(
+    alloc: Global,
+    program: &Program,
+    input: &Input,
+) -> Result<Answer, Failure<'a>>
+    ensures ok { IfOk result (λ a. CertifyShows (meant program.now) input.now (answer_view a)) }
+    ensures err { IfErr result (λ e. CertifyShows (meant program.now) input.now (failure_view e)) }
+{
+    match make(alloc, program, input) {
+        Ok(certificate) => Ok(Answer::Certificate(certificate)),
+        Err(fault) => Err(stopped(&fault)),
     }
 }

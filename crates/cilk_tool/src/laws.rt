@@ -1,23 +1,17 @@
 //! Laws of what the tool answers, and its limits by number. Each is a function that does nothing: its contract is the law.
 
 ghost use Rattle.std.specs.Prelude.{◌≡◌, List};
-ghost use Rattle.cilk_tool.specs.OneReply.{HasOneMeaning, HasOneReply};
+ghost use Rattle.cilk_tool.specs.OneReply.{HasOneReply};
 ghost use Rattle.cilk_tool.specs.Replies.{Text};
-ghost use Rattle.cilk_tool.specs.Serving.{World};
+ghost use Rattle.cilk_tool.specs.Serving.{Surroundings};
 ghost use Rattle.cilk_tool.specs.Words.{order_in};
 ghost use Rattle.cilk_tool.specs.declared.disk.TheConstants.{MAX_FILE};
 ghost use Rattle.cilk_tool.specs.declared.streams.TheConstants.{MAX_READ};
 
-/// From its bytes on, a program text means at most one program, or has at most one first fault, and not both.
-#[tactic(auto, using(crate::proofs::OneMeaning::one_meaning))]
-pub fn text_has_one_meaning()
-    ensures { (text : Text) → HasOneMeaning text }
-{}
-
 /// Two replies to the same words, files and input that are no want of memory and blame no device are equal.
 #[tactic(auto, using(crate::proofs::OneReply::one_reply))]
 pub fn reply_is_one()
-    ensures { (w : World) (words : List Text) → HasOneReply w (order_in words) }
+    ensures { (w : Surroundings) (words : List Text) → HasOneReply w (order_in words) }
 {}
 
 /// The bytes of the largest file, and of the longest text that is taken from standard input, by number.

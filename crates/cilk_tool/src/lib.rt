@@ -13,6 +13,7 @@ pub mod disk;
 pub mod files;
 mod judge;
 pub mod laws;
+mod parts;
 mod render;
 pub mod reply;
 mod running;

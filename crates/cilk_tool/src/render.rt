@@ -2,8 +2,10 @@
 
 ghost use Rattle.std.specs.Prelude.{◌≡◌, ◌++◌, [], ◌∷◌, codes, decimal, flat_map, OnOk, IfOk};
 ghost use Rattle.std.specs.Fmt.{signed_decimal};
-ghost use Rattle.cilk_tool.specs.Replies.{number_line, element, elements, reducer_line, reducer_lines, outcome_text, place_line, line};
+ghost use Rattle.cilk_checker.specs.Numbers.{fields_of, number_of};
+ghost use Rattle.cilk_tool.specs.Replies.{number_line, element, elements, reducer_line, reducer_lines, outcome_text, place_line, place_text, places_of, refused_line, line};
 
+use cilk_checker::refusal::{Fields, Refusal};
 use cilk_types::outcome::{Final, Outcome};
 use cilk_types::sequence::Sequence;
 use itoa::Buffer;
@@ -98,6 +100,39 @@ pub fn place(alloc: Global, what: &[u8], number: u16, place: usize) -> Result<Ve
     text.extend_from_slice(buffer.format(number).as_bytes())?;
     text.extend_from_slice(b" at ")?;
     text.extend_from_slice(buffer.format(place).as_bytes())?;
+    text.push(b'\n')?;
+    Ok(text)
+}
+
+fn push_place(text: &mut Vec<u8>, place: u64) -> Result<(), AllocError>
+    ensures { OnOk result (text.new.items ≡ text.old.items ++ place_text place) }
+{
+    let mut buffer = Buffer::new();
+    text.push(b' ')?;
+    text.extend_from_slice(buffer.format(place).as_bytes())
+}
+
+fn push_places(text: &mut Vec<u8>, places: Fields) -> Result<(), AllocError>
+    ensures { OnOk result (text.new.items ≡ text.old.items ++ flat_map place_text (places_of places)) }
+{
+    match places {
+        Fields::None => Ok(()),
+        Fields::One(place) => push_place(text, place),
+        Fields::Two(earlier, later) => {
+            push_place(text, earlier)?;
+            push_place(text, later)
+        }
+    }
+}
+
+/// The line `refused N`, with the places that the refusal names.
+pub fn refused(alloc: Global, refusal: Refusal) -> Result<Vec<u8>, AllocError>
+    ensures { IfOk result (λ text. text.items ≡ refused_line (number_of refusal) (places_of (fields_of refusal))) }
+{
+    let mut buffer = Buffer::new();
+    let mut text = Vec::from_slice(alloc, b"refused ")?;
+    text.extend_from_slice(buffer.format(refusal.number()).as_bytes())?;
+    push_places(&mut text, refusal.fields())?;
     text.push(b'\n')?;
     Ok(text)
 }

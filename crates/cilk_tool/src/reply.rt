@@ -1,13 +1,34 @@
 //! What the tool shows, and the status that it ends with.
 
-ghost use Rattle.std.specs.Prelude.{◌≡◌, IfOk};
+ghost use Rattle.std.specs.Prelude.{◌≡◌, IfOk, IsFalse, IsTrue, OnErr};
+ghost use Rattle.std.specs.Io.KnownBytes.{Appends};
 ghost use Rattle.cilk_tool.specs.Replies.{status_of, out_text, IsErrorText};
+ghost use Rattle.cilk_tool.specs.Streams.{AppendsPart};
 
 use crate::render;
+use crate::streams::{send, send_certificate};
+use cilk_cert_text::certificate::Certificate;
+use cilk_checker::refusal::Refusal;
 use cilk_types::event::Pos;
 use cilk_types::outcome::Outcome;
 use cilk_types::sequence::Sequence;
 use std::alloc::{AllocError, Global};
+use std::io::Write;
+
+/// The status where the words, a file or a text is wrong, or a write fails.
+pub const WRONG: u8 = 2;
+
+/// The status where the program's run faults.
+pub const FAULTED: u8 = 3;
+
+/// The status where a certificate is refused.
+pub const REFUSED: u8 = 4;
+
+/// The status for a want of memory.
+pub const NO_MEMORY: u8 = 5;
+
+/// What is said of a want of memory.
+pub const NO_MEMORY_LINE: &str = "no memory\n";
 
 /// What a command shows on standard output.
 #[derive(Drop, Debug)]
@@ -17,6 +38,12 @@ pub enum Answer {
         names: Sequence<Sequence<u8>>,
         outcome: Outcome,
     },
+    /// The certificate of a run.
+    Certificate(Certificate),
+    /// A certificate is accepted.
+    Accepted,
+    /// Why a certificate is refused.
+    Refused(Refusal),
 }
 
 /// What is shown in place of an answer, on standard error.
@@ -39,24 +66,32 @@ pub enum Failure<'a> {
 impl Answer {
     ghost use Rattle.cilk_tool.specs.Replies.{answer_view};
 
-    /// The status of a run that ends well.
+    /// 4 where a certificate is refused, else 0.
     pub fn status(&self) -> u8
         ensures { result ≡ status_of (answer_view self.now) }
     {
         match self {
-            Answer::Outcome { .. } => 0,
+            Answer::Outcome { .. } | Answer::Certificate(_) | Answer::Accepted => 0,
+            Answer::Refused(_) => REFUSED,
         }
     }
 
-    /// What goes to standard output.
-    pub fn text(&self, alloc: Global) -> Result<Vec<u8>, AllocError>
-        ensures { IfOk result (λ text. text.items ≡ out_text (answer_view self.now)) }
+    /// Writes what goes to standard output, and says whether all of it went out: else a beginning of it, less than all, did.
+    /// Where memory was refused nothing did. A certificate takes no memory.
+    pub fn send<O: Write>(&self, alloc: Global, out: &mut O) -> Result<bool, AllocError>
+        ensures all { IfOk result (λ sent. IsTrue sent → Appends (O.contents out.old) (O.contents out.new) (out_text (answer_view self.now))) }
+        ensures part { IfOk result (λ sent. IsFalse sent → AppendsPart (O.contents out.old) (O.contents out.new) (out_text (answer_view self.now))) }
+        ensures none { OnErr result (O.contents out.new ≡ O.contents out.old) }
     {
-        match self {
+        let text = match self {
+            Answer::Certificate(certificate) => return Ok(send_certificate(out, certificate)),
             Answer::Outcome { names, outcome } => {
-                render::outcome(alloc, names.as_slice(), outcome)
+                render::outcome(alloc, names.as_slice(), outcome)?
             }
-        }
+            Answer::Accepted => b"accepted\n".to_vec(alloc)?,
+            Answer::Refused(refusal) => render::refused(alloc, *refusal)?,
+        };
+        Ok(send(out, text.as_slice()))
     }
 }
 
@@ -71,9 +106,9 @@ impl Failure<'_> {
             Failure::Words(_)
             | Failure::Unreadable(_)
             | Failure::Program { .. }
-            | Failure::Input { .. } => 2,
-            Failure::Run { .. } => 3,
-            Failure::Memory => 5,
+            | Failure::Input { .. } => WRONG,
+            Failure::Run { .. } => FAULTED,
+            Failure::Memory => NO_MEMORY,
         }
     }
 
@@ -87,7 +122,7 @@ impl Failure<'_> {
             Failure::Program { number, place } => render::place(alloc, b"program", *number, *place),
             Failure::Input { number, place } => render::place(alloc, b"input", *number, *place),
             Failure::Run { number, at } => render::place(alloc, b"fault", *number, *at as usize),
-            Failure::Memory => b"no memory\n".to_vec(alloc),
+            Failure::Memory => NO_MEMORY_LINE.as_bytes().to_vec(alloc),
         }
     }
 }

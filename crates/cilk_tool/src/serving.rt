@@ -1,14 +1,15 @@
 //! From words to a reply that is shown.
 
 ghost use Rattle.std.specs.Prelude.{◌≡◌, ◌<◌, IfOk, IfErr};
+ghost use Rattle.cilk_tool.specs.OneReply.{HasOneReply};
 ghost use Rattle.cilk_tool.specs.Replies.{Reply, answer_view, failure_view, status_of};
 ghost use Rattle.cilk_tool.specs.Serving.{Answers, IsOrNoMemory, Serves, Shows, ShowsError, world};
 ghost use Rattle.cilk_tool.specs.Streams.{AppendsFront};
 ghost use Rattle.cilk_tool.specs.Words.{order_in, texts};
 
 use crate::files::Files;
-use crate::reply::{Answer, Failure};
-use crate::running::run;
+use crate::reply::{Answer, Failure, NO_MEMORY, NO_MEMORY_LINE, WRONG};
+use crate::running::{certify, check, run};
 use crate::streams::send;
 use crate::words::{Order, WordsFault, read};
 use std::alloc::Global;
@@ -34,6 +35,19 @@ fn answer<'a, F: Files, R: Read>(
                 input: numbers,
             },
         ) => run(alloc, program, numbers, files, input),
+        Ok(
+            Order::Certify {
+                program,
+                input: numbers,
+            },
+        ) => certify(alloc, program, numbers, files, input),
+        Ok(
+            Order::Check {
+                program,
+                certificate,
+                input: numbers,
+            },
+        ) => check(alloc, program, certificate, numbers, files, input),
         Err(WordsFault::Usage(text)) => Err(Failure::Words(text)),
         Err(WordsFault::Memory) => Err(Failure::Memory),
     }
@@ -56,8 +70,8 @@ fn complain<E: Write>(alloc: Global, failure: &Failure<'_>, err: &mut E) -> u8
             failure.status()
         }
         Err(_) => {
-            tell(err, b"no memory\n");
-            Failure::Memory.status()
+            tell(err, NO_MEMORY_LINE.as_bytes());
+            NO_MEMORY
         }
     }
 }
@@ -67,14 +81,14 @@ fn show<O: Write, E: Write>(alloc: Global, answer: &Answer, out: &mut O, err: &m
     ensures { (r : Reply) × IsOrNoMemory (answer_view answer.now) r × Shows r result
         (O.contents out.old) (O.contents out.new) (E.contents err.old) (E.contents err.new) }
 {
-    let Ok(text) = answer.text(alloc) else {
-        return complain(alloc, &Failure::Memory, err);
-    };
-    if !send(out, text.as_slice()) {
-        tell(err, b"cannot write\n");
-        return 2;
+    match answer.send(alloc, out) {
+        Ok(true) => answer.status(),
+        Ok(false) => {
+            tell(err, b"cannot write\n");
+            WRONG
+        }
+        Err(_) => complain(alloc, &Failure::Memory, err),
     }
-    answer.status()
 }
 
 /// Serves the words after the program's own name: reads what they ask for, shows one reply, and answers the status to
@@ -89,8 +103,11 @@ pub fn serve<F: Files, R: Read, O: Write, E: Write>(
     err: &mut E,
 ) -> u8
     requires { F.failed files.old < 18446744073709551615 }
-    ensures { Serves (texts words.now) (world (F.holds files.old) (R.remaining input.old) (F.failed files.old) (F.failed files.new)) result
+    ensures served { Serves (texts words.now)
+        (world (F.holds files.old) (R.remaining input.old) (F.failed files.old) (F.failed files.new)) result
         (O.contents out.old) (O.contents out.new) (E.contents err.old) (E.contents err.new) }
+    ensures one { HasOneReply (world (F.holds files.old) (R.remaining input.old) (F.failed files.old) (F.failed files.new))
+        (order_in (texts words.now)) }
 {
     match answer(alloc, words, files, input) {
         Ok(answer) => show(alloc, &answer, out, err),

@@ -2,59 +2,36 @@
 
 ghost use Rattle.std.specs.Prelude.{◌≡◌, ℕ, ◌+◌, ◌≤◌, ◌<◌, length, take, IsTrue, IsFalse, IfOk, IfSome};
 ghost use Rattle.std.specs.Io.KnownBytes.{Appends, Consumes};
+ghost use Rattle.cilk_cert_text.specs.Certificates.{text_of};
 ghost use Rattle.cilk_tool.specs.Streams.{AppendsPart, ReadsOn};
 
+use crate::files::FileFault;
+use cilk_cert_text::certificate::Certificate;
+use cilk_cert_text::writer::LineWriter;
 use cilk_types::limits::MAX_TEXT;
-use std::alloc::{AllocError, AllocFailed, Global};
+use std::alloc::Global;
 use std::io::{Read, Write};
-use thiserror::Error;
 
 /// The bytes after which a program text on standard input is read no further: one more than it may have.
 pub const MAX_READ: usize = MAX_TEXT + 1;
 
 const PIECE: usize = 4096;
 
-/// Why a reader gave no text.
-#[derive(Clone, Copy, PartialEq, Eq, Debug, Error)]
-pub enum ReadFault {
-    #[error("cannot read")]
-    Device,
-    #[error("no memory")]
-    Memory,
-}
-
-impl From<AllocError> for ReadFault {
-    ghost use Rattle.cilk_tool.specs.declared.streams.ReadFault.TheVariants.{Memory};
-
-    ghost from_gives = { λ _ e. e ≡ Memory };
-
-    fn from(_: AllocError) -> ReadFault {
-        ReadFault::Memory
-    }
-}
-
-impl<T: Drop> From<AllocFailed<T>> for ReadFault {
-    ghost use Rattle.cilk_tool.specs.declared.streams.ReadFault.TheVariants.{Memory};
-
-    ghost from_gives = { λ _ e. e ≡ Memory };
-
-    fn from(_: AllocFailed<T>) -> ReadFault {
-        ReadFault::Memory
-    }
-}
+/// The most bytes of a certificate's text that are put together before they are written.
+const MAX_PIECE: usize = 16_384;
 
 /// Reads once, and puts what came at the end of the text. No byte came only at the input's end.
 fn receive_some<R: Read>(
     input: &mut R,
     text: &mut Vec<u8>,
     piece: &mut [u8],
-) -> Result<usize, ReadFault>
+) -> Result<usize, FileFault>
     requires { 0 < length piece.old }
     ensures grows { IfOk result (λ n. ReadsOn (R.remaining input.old) (R.remaining input.new) text.old.items text.new.items n) }
     ensures within { IfOk result (λ n. n ≤ length piece.old) }
 {
     let Ok(count) = input.read(piece) else {
-        return Err(ReadFault::Device);
+        return Err(FileFault::Device);
     };
     text.extend_from_slice(&piece[..count])?;
     Ok(count)
@@ -62,7 +39,7 @@ fn receive_some<R: Read>(
 
 /// Reads a text of at most [`MAX_READ`] bytes, in at most as many reads. What stands after them stays unread. Any read
 /// that fails ends the reading.
-pub fn receive<R: Read>(alloc: Global, input: &mut R) -> Result<Vec<u8>, ReadFault>
+pub fn receive<R: Read>(alloc: Global, input: &mut R) -> Result<Vec<u8>, FileFault>
     ensures whole { IfOk result (λ text. IfSome (R.remaining input.old) (λ all. text.items ≡ take MAX_READ all)) }
     ensures taken { IfOk result (λ text. Consumes (R.remaining input.old) (R.remaining input.new) text.items) }
 {
@@ -93,6 +70,24 @@ pub fn send<W: Write>(out: &mut W, text: &[u8]) -> bool
             Ok(count) if count > 0 => done += count,
             _ => return false,
         }
+    }
+    true
+}
+
+/// Writes the text of a certificate in pieces, without taking memory, and says whether all of it went out. A write that
+/// fails, or takes nothing, ends the writing, and then a beginning of the text, less than all of it, went out.
+pub fn send_certificate<W: Write>(out: &mut W, certificate: &Certificate) -> bool
+    ensures all { IsTrue result → Appends (W.contents out.old) (W.contents out.new) (text_of certificate.now) }
+    ensures part { IsFalse result → AppendsPart (W.contents out.old) (W.contents out.new) (text_of certificate.now) }
+{
+    let mut lines = LineWriter::new(certificate);
+    let mut piece = [0u8; MAX_PIECE];
+    let mut count = lines.fill(&mut piece);
+    'pieces: while count > 0 {
+        if !send(out, &piece[..count]) {
+            return false;
+        }
+        count = lines.fill(&mut piece);
     }
     true
 }

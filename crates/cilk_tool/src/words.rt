@@ -5,7 +5,7 @@
 
 ghost use Rattle.std.specs.Prelude.{◌≡◌, option_map, IfOk, IfErr, Some};
 ghost use Rattle.clap.specs.Words.{found_of, kind_of, rows_of, subcommand_rows_of};
-ghost use Rattle.cilk_tool.specs.Words.{HasShape, run_app, cilk_app, order_in, order_by, run_with, IsWordsFault, order_view, IsRefusal, texts};
+ghost use Rattle.cilk_tool.specs.Words.{HasShape, program_app, check_app, cilk_app, order_in, order_by, paths_in, paths_view, run_with, certify_with, check_with, IsWordsFault, order_view, IsRefusal, texts};
 
 use clap::error::ErrorKind;
 use clap::{Arg, ArgAction, ArgMatches, Command, Error};
@@ -28,6 +28,17 @@ pub enum Order<'a> {
         program: Origin<'a>,
         input: Option<&'a str>,
     },
+    /// Show the certificate of a program's run, on the input of a file or on the empty input.
+    Certify {
+        program: &'a str,
+        input: Option<&'a str>,
+    },
+    /// Check a certificate of a program's run, on the input of a file or on the empty input.
+    Check {
+        program: &'a str,
+        certificate: &'a str,
+        input: Option<&'a str>,
+    },
 }
 
 /// Why words are no order.
@@ -48,36 +59,84 @@ impl From<AllocError> for WordsFault {
     }
 }
 
-/// `run PROGRAM [--input FILE]`.
-fn run_command<'a>(alloc: Global) -> Result<Command<'a>, AllocError>
-    ensures { IfOk result (λ c. HasShape c run_app) }
+/// `NAME PROGRAM [--input FILE]`.
+fn program_command<'a>(alloc: Global, name: &'a str) -> Result<Command<'a>, AllocError>
+    ensures { IfOk result (λ c. HasShape c (program_app name.entry.now)) }
 {
     let program = Arg::new(alloc, "program").required(true);
     let input = Arg::new(alloc, "input")
         .long("input")
         .action(ArgAction::Set);
-    Command::new(alloc, "run").arg(program)?.arg(input)
+    Command::new(alloc, name).arg(program)?.arg(input)
+}
+
+/// `check PROGRAM CERTIFICATE [--input FILE]`.
+fn check_command<'a>(alloc: Global) -> Result<Command<'a>, AllocError>
+    ensures { IfOk result (λ c. HasShape c check_app) }
+{
+    let program = Arg::new(alloc, "program").required(true);
+    let certificate = Arg::new(alloc, "certificate").required(true);
+    let input = Arg::new(alloc, "input")
+        .long("input")
+        .action(ArgAction::Set);
+    Command::new(alloc, "check")
+        .arg(program)?
+        .arg(certificate)?
+        .arg(input)
 }
 
 /// The commands, each a simple one.
 fn command<'a>(alloc: Global) -> Result<Command<'a>, AllocError>
     ensures { IfOk result (λ c. HasShape c cilk_app) }
 {
-    let run = run_command(alloc)?;
+    let run = program_command(alloc, "run")?;
+    let certify = program_command(alloc, "certify")?;
+    let check = check_command(alloc)?;
     Command::new(alloc, "cilk")
         .no_binary_name(true)
         .subcommand_required(true)
-        .subcommand(run)
+        .subcommand(run)?
+        .subcommand(certify)?
+        .subcommand(check)
+}
+
+/// The paths of the program and of the input that the matches of a command name.
+fn paths<'a>(matches: &ArgMatches<'a>) -> Option<(&'a str, Option<&'a str>)>
+    ensures { option_map paths_view result ≡ paths_in (rows_of (found_of matches.now)) }
+{
+    let program = matches.get_str("program")?;
+    let input = matches.get_str("input");
+    Some((program, input))
 }
 
 /// What the matches of `run` ask for.
 fn run_order<'a>(run: &ArgMatches<'a>) -> Option<Order<'a>>
     ensures { option_map order_view result ≡ run_with (rows_of (found_of run.now)) }
 {
-    let program = run.get_str("program")?;
-    let input = run.get_str("input");
+    let (program, input) = paths(run)?;
     Some(Order::Run {
         program: Origin::File(program),
+        input,
+    })
+}
+
+/// What the matches of `certify` ask for.
+fn certify_order<'a>(certify: &ArgMatches<'a>) -> Option<Order<'a>>
+    ensures { option_map order_view result ≡ certify_with (rows_of (found_of certify.now)) }
+{
+    let (program, input) = paths(certify)?;
+    Some(Order::Certify { program, input })
+}
+
+/// What the matches of `check` ask for.
+fn check_order<'a>(check: &ArgMatches<'a>) -> Option<Order<'a>>
+    ensures { option_map order_view result ≡ check_with (rows_of (found_of check.now)) }
+{
+    let certificate = check.get_str("certificate")?;
+    let (program, input) = paths(check)?;
+    Some(Order::Check {
+        program,
+        certificate,
         input,
     })
 }
@@ -88,6 +147,8 @@ fn order_of<'a>(matches: &ArgMatches<'a>) -> Option<Order<'a>>
 {
     match matches.subcommand() {
         Some(("run", run)) => run_order(run),
+        Some(("certify", certify)) => certify_order(certify),
+        Some(("check", check)) => check_order(check),
         _ => None,
     }
 }

@@ -1,7 +1,12 @@
-use Rattle.std.proofs.Common.{inr, refl}
-use Rattle.std.specs.Prelude.{codes}
+use Rattle.std.proofs.Common.{inr, refl, subst}
+use Rattle.std.specs.Prelude.{◌≡◌, ℕ, List, codes}
 use Rattle.cilk_tool.specs.Replies.{NoMemory}
+use Rattle.cilk_tool.specs.Streams.{AppendsFront}
 use Rattle.cilk_tool.proofs.serving.complain.Goals as goal
 
 pub returns-in-Err : goal.returns-in-Err
-returns-in-Err g c = (NoMemory, inr refl, c.status-in-Err.ensures, (codes "no memory\n", refl, c.tell-in-Err.ensures))
+returns-in-Err g c =
+    let same : c.as_bytes.result.now ≡ codes "no memory\n" = c.as_bytes.ensures.value in
+    let front : List ℕ → Type 0 =
+    λ t. AppendsFront (g.E.Write.contents c.args.err.now) (g.E.Write.contents c.tell-in-Err.new.err) t in
+    (NoMemory, inr refl, refl, (codes "no memory\n", refl, subst front same c.tell-in-Err.ensures))

@@ -1,4 +1,4 @@
-use Rattle.std.proofs.Common.{rules, ◌≡◌, ℕ, length, take, subst, arith, length-take}
+use Rattle.std.proofs.Common.{◌≡◌, length, take, subst, arith, length-take}
 use Rattle.std.specs.Prelude.{IfSome}
 use Rattle.cilk_tool.proofs.Reading.{more_read, longer, read_last, read_enough}
 use Rattle.cilk_tool.proofs.streams.receive.Goals as goal

@@ -1,11 +1,13 @@
-use Rattle.std.proofs.Common.{ap, option_map, ◌∙◌, sym}
-use Rattle.clap.specs.Words.{found_of}
-use Rattle.cilk_tool.specs.Words.{order_view}
-use Rattle.cilk_tool.proofs.Entered.{run_is_none, run_is_some}
+use Rattle.std.proofs.Common.{ap, option_map, ◌∙◌}
+use Rattle.clap.specs.Words.{found_of, rows_of}
+use Rattle.cilk_tool.specs.Words.{File, Run, order_view}
+use Rattle.cilk_tool.proofs.Entered.{asked_by}
 use Rattle.cilk_tool.proofs.words.run_order.Goals as goal
 
 pub returns-in_err-program : goal.returns-in_err-program
-returns-in_err-program c = ap (option_map order_view) c.from_residual.ensures ∙ sym (run_is_none (found_of c.args.run.now) _ c.get_str.ensures c.in_err-program.was)
+returns-in_err-program c =
+    ap (option_map order_view) c.from_residual.ensures
+    ∙ asked_by (λ paths. Run (File paths.0) paths.1) (rows_of (found_of c.args.run.now)) _ _ c.paths.ensures c.in_err-program.was
 
 pub returns : goal.returns
-returns c = sym (run_is_some (found_of c.args.run.now) _ _ _ c.get_str.ensures c.in_ok-program.was c.get_str-input.ensures)
+returns c = asked_by (λ paths. Run (File paths.0) paths.1) (rows_of (found_of c.args.run.now)) _ _ c.paths.ensures c.in_ok-program.was
