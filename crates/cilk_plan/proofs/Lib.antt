@@ -1,0 +1,4 @@
+pub mod Passing
+pub mod Passed
+pub mod Stories
+pub mod Worked

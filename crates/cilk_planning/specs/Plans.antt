@@ -1,0 +1,31 @@
+-- The plan of an accepted run.
+use Rattle.std.specs.Prelude.{◌≡◌, ℕ, ◌<◌, ◌≤◌, pos, List, length, Some, slice_get, slice_index_or}
+use Rattle.cilk_types.specs.declared.event.Event.{Event}
+use Rattle.cilk_types.specs.declared.event.Event.TheVariants.{Read, Write}
+use Rattle.cilk_program.specs.Sources.{source}
+use Rattle.cilk_meaning.specs.Answered.{opening_cells}
+use Rattle.cilk_tree.specs.Before.{IsPosition}
+use Rattle.cilk_checker.specs.Determinate.{AcceptedRun}
+use Rattle.cilk_story.specs.declared.story.Story.{Story}
+use Rattle.cilk_story.specs.Runs.{IsAsked}
+use Rattle.cilk_plan.specs.Planned.{planned}
+
+-- the cell that an event reads or writes is below n
+abbrev pub Names : ℕ → Event → Type 0
+Names n (Read c v) = c < n
+Names n (Write c v) = c < n
+Names n _ = Unit {0}
+
+-- the cells that events read or write are below n
+abbrev pub AllNamed : ℕ → List Event → Type 0
+AllNamed n es = (k : ℕ) (e : Event) → slice_get es k ≡ Some e → Names n e
+
+-- the story is that of the accepted run
+pub record IsPlanOf (a : AcceptedRun) (s : Story) : Type 0 where
+  pub story : s ≡ planned a.trace s.opening
+  -- its cells are the globals and all that the run names, and open as the program's do
+  pub globals : length (source a.program).openings ≤ length s.opening
+  pub cells : AllNamed (length s.opening) a.trace
+  pub opens : (c : ℕ) → slice_index_or s.opening c (pos 0) ≡ opening_cells (source a.program) a.input c
+  -- each event is asked for
+  pub asked : (p : ℕ) → IsPosition a.trace p → IsAsked s p

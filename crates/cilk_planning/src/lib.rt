@@ -1,0 +1,4 @@
+//! The plan of an accepted run: [`planning::plan`].
+#![tactic(auto)]
+
+pub mod planning;

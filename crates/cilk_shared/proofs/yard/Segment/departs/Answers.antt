@@ -1,0 +1,17 @@
+use Rattle.std.proofs.Common.{◌≡◌, ap, sym, ◌∙◌, subst}
+use Rattle.cilk_story.specs.declared.story.Story.{Story}
+use Rattle.cilk_story.specs.Orders.{IsOrderly}
+use Rattle.cilk_story.specs.Runs.{IsAsked, Departs}
+use Rattle.cilk_shared.specs.Values.{SegmentValue, IsAhead}
+use Rattle.cilk_shared.proofs.Steps.{departing, along}
+use Rattle.cilk_shared.proofs.yard.Segment.departs.Goals as goal
+
+pub returns-clause-departs : goal.returns-clause-departs
+returns-clause-departs c =
+    let s : Story = c.self.inside.seat.me.0.story in
+    let same : s ≡ c.args.yard.now.story = ap (λ (x : SegmentValue). x.story) c.self.view_is ∙ c.requires.yard.1 in
+    let law : IsOrderly s = subst (λ (z : Story). IsOrderly z) (sym same) c.laws.ensures.order in
+    let next = along IsAhead c.self.view_is c.requires.next in
+    subst (λ (x : SegmentValue). Departs x.story c.self.inside.upto) c.self.view_is
+    (departing s law c.self.inside.seat.me.0 c.self.inside.from c.self.inside.upto c.self.invariant.1 next.0 next.1
+    (along (λ (x : SegmentValue). IsAsked x.story x.upto → ⊥) c.self.view_is c.requires.differs))

@@ -1,0 +1,20 @@
+use Rattle.std.proofs.Common.{◌≡◌, ap, sym, ◌∙◌, subst, arith}
+use Rattle.cilk_story.specs.declared.story.Story.{Story}
+use Rattle.cilk_story.specs.Orders.{IsOrderly}
+use Rattle.cilk_shared.specs.Values.{SegmentValue, CanPass}
+use Rattle.cilk_shared.proofs.Steps.{passes, along}
+use Rattle.cilk_shared.proofs.yard.Segment.pass.Goals as goal
+
+pub overflow_add-self : goal.overflow_add-self
+overflow_add-self c =
+    let next = along CanPass c.self.view_is c.requires.next in
+    let same : c.self.inside.seat.me.0.story ≡ c.args.yard.now.story = ap (λ (g : SegmentValue). g.story) c.self.view_is ∙ c.requires.yard.1 in
+    let law : IsOrderly c.self.inside.seat.me.0.story = subst (λ (z : Story). IsOrderly z) (sym same) c.laws.ensures.order in
+    omega (arith, next.1, law.few)
+
+pub invariant_of-self : goal.invariant_of-self
+invariant_of-self c =
+    let next = along CanPass c.self.view_is c.requires.next in
+    let same : c.self.inside.seat.me.0.story ≡ c.args.yard.now.story = ap (λ (g : SegmentValue). g.story) c.self.view_is ∙ c.requires.yard.1 in
+    let law : IsOrderly c.self.inside.seat.me.0.story = subst (λ (z : Story). IsOrderly z) (sym same) c.laws.ensures.order in
+    (c.self.invariant.0, passes c.self.inside.seat.me.0.story law c.self.inside.seat.me c.self.inside.from c.self.inside.upto c.self.invariant.1 next.0 next.2 next.3 next.4)

@@ -1,0 +1,77 @@
+-- What contracts see of a yard and of a segment.
+use Rattle.std.specs.Prelude.{◌≡◌, ◌≢◌, ℕ, ◌+◌, ◌<◌, ◌≤◌, ◌⊎◌, cond, nat_lt, ℤ, Some, length}
+use Rattle.atomic_table.specs.Seated.{TableId}
+use Rattle.cilk_types.specs.declared.event.Event.TheVariants.{Read, Write}
+use Rattle.cilk_tree.specs.Reach.{Among}
+use Rattle.cilk_story.specs.declared.story.Story.{Story}
+use Rattle.cilk_story.specs.Word.{event, what, after, plain, spawn, resume, finish}
+use Rattle.cilk_story.specs.Runs.{IsAsked}
+use Rattle.cilk_shared.specs.Rows.{spanned}
+
+pub record YardValue : Type 0 where
+  pub of : TableId
+  pub story : Story
+
+-- the events from `from` up to `upto` are done
+pub record SegmentValue : Type 0 where
+  pub of : TableId
+  pub story : Story
+  pub from : ℕ
+  pub upto : ℕ
+
+-- it belongs to the yard
+abbrev pub OfYard : YardValue → SegmentValue → Type 0
+OfYard y g = (g.of ≡ y.of) × (g.story ≡ y.story)
+
+abbrev pub moved_on : SegmentValue → SegmentValue
+moved_on g = record { of = g.of; story = g.story; from = g.from; upto = g.upto + 1 }
+
+-- the segment isn't empty, and the frame asks for its next event
+abbrev pub GoesOn : YardValue → SegmentValue → Type 0
+GoesOn y g = (g.from < g.upto) × IsAsked y.story g.upto
+
+-- the next event of the segment reads the cell
+abbrev pub NextRead : YardValue → SegmentValue → ℕ → Type 0
+NextRead y g c = GoesOn y g × (c < length y.story.opening) × ((v : ℤ) × (event y.story g.upto ≡ Some (Read c v)))
+
+-- the next event of the segment writes the value to the cell
+abbrev pub NextWrite : YardValue → SegmentValue → ℕ → ℤ → Type 0
+NextWrite y g c v = GoesOn y g × (c < length y.story.opening) × (event y.story g.upto ≡ Some (Write c v))
+
+-- the next event of the segment is a spawn
+abbrev pub NextSpawn : YardValue → SegmentValue → Type 0
+NextSpawn y g = GoesOn y g × (what y.story g.upto ≡ spawn)
+
+-- the next event of the segment is the root's `end`
+abbrev pub NextFinish : YardValue → SegmentValue → Type 0
+NextFinish y g = GoesOn y g × (what y.story g.upto ≡ finish)
+
+-- p resumes what the spawn at k left; the segment is empty, or p is its next event
+abbrev pub CanTake : YardValue → SegmentValue → ℕ → ℕ → Type 0
+CanTake y g k p = (what y.story p ≡ resume k) × IsAsked y.story p × ((g.upto ≤ g.from) ⊎ ((g.from < g.upto) × (p ≡ g.upto)))
+
+-- the segment goes on at p
+abbrev pub taken_at : SegmentValue → ℕ → SegmentValue
+taken_at g p = record { of = g.of; story = g.story; from = cond (nat_lt g.from g.upto) g.from p; upto = p + 1 }
+
+-- what comes right before the next event is not ahead of where the segment begins
+abbrev pub HoldsPreceding : SegmentValue → Type 0
+HoldsPreceding g = (e : ℕ) → Among e (after g.story g.upto) → g.from ≤ e
+
+-- the next event is no step on a word, and what comes right before it is in the segment
+abbrev pub CanPass : SegmentValue → Type 0
+CanPass g = (g.from < g.upto) × (g.upto ≤ length g.story.events) × (what g.story g.upto ≡ plain) × HoldsPreceding g × IsAsked g.story g.upto
+
+-- the segment isn't empty, and its next event resumes nothing that a spawn left
+abbrev pub IsAhead : SegmentValue → Type 0
+IsAhead g = (g.from < g.upto) × ((k : ℕ) → what g.story g.upto ≢ resume k)
+
+abbrev pub empty_beside : SegmentValue → SegmentValue
+empty_beside g = record { of = g.of; story = g.story; from = 0; upto = 0 }
+
+-- one is empty, or the second begins where the first ends
+abbrev pub Adjoin : SegmentValue → SegmentValue → Type 0
+Adjoin g h = (g.upto ≤ g.from) ⊎ (h.upto ≤ h.from) ⊎ ((g.from < g.upto) × (h.from < h.upto) × (g.upto ≡ h.from))
+
+abbrev pub both_of : SegmentValue → SegmentValue → SegmentValue
+both_of g h = record { of = g.of; story = g.story; from = (spanned g.from g.upto h.from h.upto).0; upto = (spanned g.from g.upto h.from h.upto).1 }

@@ -1,0 +1,10 @@
+//! What a seat has done, of which no value is made.
+
+use cilk_story::story::Story;
+
+/// The positions from `from` up to `upto`, `upto` itself not among them.
+pub struct View {
+    pub story: Story,
+    pub from: u64,
+    pub upto: u64,
+}

@@ -1,0 +1,395 @@
+//! A yard and its segments.
+
+ghost use Rattle.std.specs.Prelude.{◌≡◌, ◌↔◌, ℕ, ◌+◌, ◌<◌, ◌≤◌, Some, length, cond, nat_lt, IfErr, IfOk, IsTrue, MatchBool};
+ghost use Rattle.cilk_types.specs.declared.event.Event.TheVariants.{Read};
+ghost use Rattle.cilk_story.specs.Orders.{IsOrderly};
+ghost use Rattle.cilk_story.specs.Values.{HasValues, AreFinal};
+ghost use Rattle.cilk_story.specs.Word.{event};
+ghost use Rattle.cilk_shared.specs.Rows.{spanned};
+
+use crate::view::View;
+use crate::words::{first_words, last_values};
+use atomic_table::{Join, Play, Seat, Split, Table, TableRule};
+use cilk_plan::plan::Plan;
+use cilk_types::event::{Cell, Pos};
+use std::alloc::{AllocError, Global};
+use std::marker::Model;
+
+struct Words;
+
+impl TableRule<(), View, Plan> for Words {
+    ghost use Rattle.cilk_shared.specs.Rule.{view, Kept};
+
+    ghost holds = { λ s t. Kept s t };
+
+    ghost first = { λ s. view s 1 2 };
+}
+
+struct Loads;
+
+impl Play<(), View> for Loads {
+    ghost use Rattle.cilk_shared.specs.Rule.{loads};
+
+    ghost then = { loads };
+}
+
+struct Stores;
+
+impl Play<(), View> for Stores {
+    ghost use Rattle.cilk_shared.specs.Rule.{stores};
+
+    ghost then = { stores };
+}
+
+struct Takes;
+
+impl Play<(), View> for Takes {
+    ghost use Rattle.cilk_shared.specs.Rule.{takes};
+
+    ghost then = { takes };
+}
+
+struct Halves;
+
+impl Split<View> for Halves {
+    ghost use Rattle.cilk_shared.specs.Rule.{beside};
+
+    ghost left = { λ v. v };
+
+    ghost right = { beside };
+}
+
+impl Join<View> for Halves {
+    ghost use Rattle.cilk_shared.specs.Rule.{joined, spent};
+
+    ghost both = { joined };
+
+    ghost spent = { spent };
+}
+
+/// The words of a run, shared by its threads. To a contract it is the run's story, and which yard it is.
+#[derive(Drop)]
+pub struct Yard {
+    table: Table<(), View, Plan, Words, Global>,
+    cells: usize,
+}
+
+impl Model for Yard {
+    ghost use Rattle.std.specs.Prelude.{◌≡◌, ◌+◌, ◌^◌, ◌<◌, length};
+    ghost use Rattle.cilk_story.specs.Orders.{IsOrderly};
+    ghost use Rattle.cilk_story.specs.Values.{HasValues};
+    ghost use Rattle.cilk_shared.specs.Values.{YardValue};
+
+    ghost Value = { YardValue };
+
+    ghost view = { λ y. record { of = y.table.shared.table_id; story = y.table.shared.key } };
+
+    ghost invariant = { λ y. IsOrderly y.table.shared.key × (0 < y.table.shared.table_id.words) × (y.table.shared.table_id.slots ≡ 0) × (y.table.shared.table_id.words ≡ length y.table.shared.key.opening + (length y.table.shared.key.events + 1)) × (y.cells ≡ length y.table.shared.key.opening) × (y.cells + length y.table.shared.key.events + 1 < 2 ^ 34) × HasValues y.table.shared.key };
+}
+
+/// A stretch of the run's positions that one piece has done.
+#[derive(Drop)]
+pub struct Segment {
+    seat: Seat<(), View>,
+    from: Pos,
+    upto: Pos,
+}
+
+impl Model for Segment {
+    ghost use Rattle.std.specs.Prelude.{◌≡◌, []};
+    ghost use Rattle.cilk_shared.specs.Rule.{Sits};
+    ghost use Rattle.cilk_shared.specs.Values.{SegmentValue};
+
+    ghost Value = { SegmentValue };
+
+    ghost view = { λ g. record { of = g.seat.table_id; story = g.seat.me.0.story; from = g.from; upto = g.upto } };
+
+    ghost invariant = { λ g. (g.seat.me.1 ≡ []) × Sits g.seat.me.0.story g.seat.me.0 g.from g.upto };
+}
+
+impl Yard {
+    ghost use Rattle.cilk_shared.specs.Values.{OfYard, NextRead, NextWrite, NextSpawn, NextFinish, CanTake, moved_on, taken_at, empty_beside, Adjoin, both_of};
+
+    /// The words of a run, and the segment of its first event.
+    pub fn new(alloc: Global, plan: &Plan) -> Result<(Yard, Segment), AllocError>
+        ensures { IfOk result (λ r. (r.0.story ≡ plan.now) × OfYard r.0 r.1 × (r.1.from ≡ 1) × (r.1.upto ≡ 2)) }
+    {
+        plan.laws();
+        let cells = plan.opening().len();
+        let words = first_words(alloc, plan)?;
+        let (table, seat) = Table::of_words(alloc, words.as_slice(), plan)?;
+        let yard = Yard { table, cells };
+        let segment = Segment {
+            seat,
+            from: 1,
+            upto: 2,
+        };
+        Ok((yard, segment))
+    }
+
+    /// What holds of the yard's story.
+    pub fn laws(&self)
+        ensures order { IsOrderly self.now.story }
+        ensures values { HasValues self.now.story }
+    {
+        let _cells = self.cells;
+    }
+
+    /// The value that the run reads at the segment's next event, a read of the cell.
+    pub fn load(&self, segment: &mut Segment, cell: Cell) -> i64
+        requires yard { OfYard self.now segment.old }
+        requires next { NextRead self.now segment.old cell }
+        ensures segment { segment.new ≡ moved_on segment.old }
+        ensures value { event self.now.story segment.old.upto ≡ Some (Read cell result) }
+    {
+        let found = self
+            .table
+            .shared
+            .load::<Loads>(&mut segment.seat, cell as usize);
+        segment.upto += 1;
+        found.cast_signed()
+    }
+
+    /// Writes the value to the cell, as the segment's next event does.
+    pub fn store(&self, segment: &mut Segment, cell: Cell, value: i64)
+        requires yard { OfYard self.now segment.old }
+        requires next { NextWrite self.now segment.old cell value }
+        ensures { segment.new ≡ moved_on segment.old }
+    {
+        let word = value.cast_unsigned();
+        self.table
+            .shared
+            .store::<Stores>(&mut segment.seat, cell as usize, word);
+        segment.upto += 1;
+    }
+
+    /// Lets any thread take the continuation after the spawn that is the segment's next event. The ticket is the spawn's position.
+    pub fn offer(&self, segment: &mut Segment) -> Pos
+        requires yard { OfYard self.now segment.old }
+        requires next { NextSpawn self.now segment.old }
+        ensures segment { segment.new ≡ moved_on segment.old }
+        ensures ticket { result ≡ segment.old.upto }
+    {
+        let ticket = segment.upto;
+        self.table
+            .shared
+            .store::<Stores>(&mut segment.seat, self.cells + ticket as usize, 1);
+        segment.upto += 1;
+        ticket
+    }
+
+    /// Takes the continuation after the spawn at `ticket`, whose `resume` stands at `at`, unless it was taken: whether it was taken now.
+    pub fn take(&self, segment: &mut Segment, ticket: Pos, at: Pos) -> bool
+        requires yard { OfYard self.now segment.old }
+        requires next { CanTake self.now segment.old ticket at }
+        ensures { MatchBool result (segment.new ≡ taken_at segment.old at) (segment.new ≡ segment.old) }
+    {
+        let found = self
+            .table
+            .shared
+            .compare_exchange::<Takes>(&mut segment.seat, self.cells + ticket as usize, 1, 2);
+        if found != 1 {
+            return false;
+        }
+        segment.from = start(segment.from, segment.upto, at);
+        segment.upto = at + 1;
+        true
+    }
+
+    /// Ends the run, where the segment's next event is the root's `end`.
+    pub fn finish(&self, segment: &mut Segment)
+        requires yard { OfYard self.now segment.old }
+        requires next { NextFinish self.now segment.old }
+        ensures { segment.new ≡ moved_on segment.old }
+    {
+        self.table
+            .shared
+            .store::<Stores>(&mut segment.seat, self.cells, 1);
+        segment.upto += 1;
+    }
+
+    /// Whether the run was seen to have ended. What it answers is not promised: a thread may see the end late.
+    pub fn ended(&self) -> bool {
+        self.table.shared.peek(self.cells) == 1
+    }
+
+    /// The segment, and an empty one.
+    pub fn apart(&self, segment: Segment) -> (Segment, Segment)
+        requires { OfYard self.now segment }
+        ensures first { result.0 ≡ segment }
+        ensures second { result.1 ≡ empty_beside segment }
+    {
+        let Segment {
+            mut seat,
+            from,
+            upto,
+        } = segment;
+        let other = self.table.shared.split_seat::<Halves>(&mut seat);
+        (
+            Segment { seat, from, upto },
+            Segment {
+                seat: other,
+                from: 0,
+                upto: 0,
+            },
+        )
+    }
+
+    /// One segment of two that adjoin.
+    pub fn together(&self, first: Segment, second: Segment) -> Segment
+        requires yard { OfYard self.now first × OfYard self.now second }
+        requires near { Adjoin first second }
+        ensures { result ≡ both_of first second }
+    {
+        let Segment {
+            mut seat,
+            from,
+            upto,
+        } = first;
+        let Segment {
+            seat: other,
+            from: begin,
+            upto: end,
+        } = second;
+        self.table.shared.join_seat::<Halves>(&mut seat, other);
+        let range = span(from, upto, begin, end);
+        Segment {
+            seat,
+            from: range.0,
+            upto: range.1,
+        }
+    }
+
+    /// The cells' values after the whole run, which the segment holds. Without memory, the yard and the segment come back.
+    pub fn globals(self, alloc: Global, segment: Segment) -> Result<Vec<i64>, (Yard, Segment)>
+        requires yard { OfYard self segment }
+        requires all { (segment.from ≡ 1) × (segment.upto ≡ length self.story.events + 1) }
+        ensures ok { IfOk result (λ v. AreFinal self.story v.items) }
+        ensures err { IfErr result (λ r. (r.0 ≡ self) × (r.1 ≡ segment)) }
+    {
+        let Ok(values) = Vec::with_capacity(alloc, self.cells) else {
+            return Err((self, segment));
+        };
+        let Yard { table, cells } = self;
+        let Segment {
+            seat,
+            from: _,
+            upto: _,
+        } = segment;
+        let closed = table.close_with(seat);
+        let values = last_values(&closed, cells, values);
+        closed.free();
+        Ok(values)
+    }
+
+    /// Whether `together` may be called.
+    pub fn adjoins(&self, first: &Segment, second: &Segment) -> bool
+        ensures { IsTrue result ↔ Adjoin first.now second.now }
+    {
+        first.from >= first.upto || second.from >= second.upto || first.upto == second.from
+    }
+}
+
+// Where a segment begins that goes on at `at`.
+fn start(from: Pos, upto: Pos, at: Pos) -> Pos
+    ensures { result ≡ cond (nat_lt from upto) from at }
+{
+    if from < upto { from } else { at }
+}
+
+// The range of two ranges that adjoin.
+fn span(from: Pos, upto: Pos, begin: Pos, end: Pos) -> (Pos, Pos)
+    ensures { result ≡ spanned from upto begin end }
+{
+    if from < upto {
+        if begin < end {
+            (from, end)
+        } else {
+            (from, upto)
+        }
+    } else {
+        (begin, end)
+    }
+}
+
+impl Segment {
+    ghost use Rattle.cilk_story.specs.Runs.{IsAsked, IsFollowed, Departs};
+    ghost use Rattle.cilk_story.specs.Word.{event};
+    ghost use Rattle.std.specs.Prelude.{◌≢◌};
+    ghost use Rattle.cilk_types.specs.declared.event.Event.TheVariants.{Sync};
+    ghost use Rattle.cilk_shared.specs.Values.{OfYard, CanPass, HoldsPreceding, IsAhead, moved_on};
+
+    /// Adds the next event, which is no step on a shared word.
+    pub fn pass(&mut self, yard: &Yard)
+        requires yard { OfYard yard.now self.old }
+        requires next { CanPass self.old }
+        ensures { self.new ≡ moved_on self.old }
+    {
+        yard.laws();
+        self.upto += 1;
+    }
+
+    /// The first position, where there is one.
+    pub fn from(&self) -> Pos
+        ensures { result ≡ self.now.from }
+    {
+        self.from
+    }
+
+    /// The last position, 0 where there is none.
+    pub fn last(&self) -> Pos
+        ensures none { self.now.upto ≤ self.now.from → result ≡ 0 }
+        ensures some { self.now.from < self.now.upto → result + 1 ≡ self.now.upto }
+    {
+        if self.from < self.upto {
+            self.upto - 1
+        } else {
+            0
+        }
+    }
+
+    /// The position after the last one.
+    pub fn upto(&self) -> Pos
+        ensures { result ≡ self.now.upto }
+    {
+        let Segment { upto, .. } = self;
+        *upto
+    }
+
+    /// Whether what comes right before the next event is in the segment, as `pass` asks: before a `sync` come the event ahead of it and the
+    /// `end`s of the children that were spawned in its block.
+    pub fn holds_preceding(&self, plan: &Plan) -> bool
+        requires { plan.now ≡ self.now.story }
+        ensures { IsTrue result ↔ HoldsPreceding self.now }
+    {
+        match plan.earliest_before(self.upto) {
+            None => true,
+            Some(first) => self.from <= first,
+        }
+    }
+
+    /// Where the frame asks for the next event, and that is no `sync`, the run follows the plan there.
+    pub fn follows(&self, yard: &Yard)
+        requires yard { OfYard yard.now self.now }
+        requires next { IsAhead self.now }
+        requires sync { event self.now.story self.now.upto ≢ Some Sync }
+        requires asked { IsAsked self.now.story self.now.upto }
+        ensures { IsFollowed self.now.story self.now.upto }
+    {
+        yard.laws();
+        let _from = self.from;
+    }
+
+    /// Where the frame doesn't ask for the next event, the run departs from the plan there: that position.
+    pub fn departs(&self, yard: &Yard) -> Pos
+        requires yard { OfYard yard.now self.now }
+        requires next { IsAhead self.now }
+        requires differs { IsAsked self.now.story self.now.upto → ⊥ }
+        ensures place { result ≡ self.now.upto }
+        ensures departs { Departs self.now.story result }
+    {
+        yard.laws();
+        let place = self.upto;
+        place
+    }
+}
