@@ -1,13 +1,12 @@
 -- A piece comes to its place by few writes.
 --
 -- - `placed_put`, `put_back`, `placed_some`: of rows over any type with an operation and a unit;
--- - `settled`, `unsettled`, `passes_some`: of a whole arrival;
--- - `few_parts`: how many runs a row has at most.
-use Rattle.std.proofs.Common.{◌≡◌, ◌≤◌, ◌+◌, ℕ, suc, nat_eq, Bool, true, false, List, [], ◌∷◌, length, Option, Some, None, refl, ap, ap₂, ◌∙◌, arith}
+-- - `settled`, `unsettled`, `passes_some`: of a whole arrival.
+use Rattle.std.proofs.Common.{◌≡◌, ℕ, suc, nat_eq, Bool, true, false, List, [], ◌∷◌, Option, Some, None, refl, ap, ap₂, ◌∙◌}
 use Rattle.cilk_join.specs.Products.{Product, nothing, times, between}
 use Rattle.cilk_join.specs.Joins.{JoinView, place_in, run_in, replaced, forgotten, noted, arrived_at, arrived_row, passes}
 use Rattle.cilk_join.specs.Rows as rows
-use Rattle.cilk_join.specs.Rows.{Wait, is_empty, Row, row, wait, ahead, placed, count, runs_in, place_of, run_at, with_run, without}
+use Rattle.cilk_join.specs.Rows.{Wait, is_empty, Row, row, wait, ahead, placed, place_of, run_at, with_run, without}
 
 module _ {V : Type 0} (unit : V) (times : V → V → V) where
   -- the runs beside a place are taken out
@@ -102,13 +101,3 @@ passes_some j k last x h = by (let a = arrived_at j k last x in a.closed) refl
     by : (b : Bool) → (let a = arrived_at j k last x in a.closed ≡ b) → (p : Product) × (run_in (arrived_at j k last x) 0 ≡ Some p)
     by true q = let e : (let r = arrived_row j k x in is_empty r.waits ≡ true) = rw q at h in let r = j.row in placed_some nothing times r.run r.waits k x (empty_from (let s = arrived_row j k x in s.waits) e)
     by false q = let e : false ≡ true = rw q at h in let f : ⊥ = cc in absurd f
-
--- ---- how many runs
-
-one_run : {V : Type 0} (r : Option V) → count r ≤ 1
-one_run None = omega arith
-one_run (Some v) = omega arith
-
-pub few_parts : {V : Type 0} (ws : List (Wait V)) → runs_in ws ≤ length ws
-few_parts [] = omega arith
-few_parts (w ∷ ws) = let one = one_run w.run in let more = few_parts ws in omega (arith, one, more)

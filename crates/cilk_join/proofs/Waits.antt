@@ -1,9 +1,12 @@
 -- The code's list, and the row that it shows.
-use Rattle.std.proofs.Common.{◌≡◌, ◌<◌, ◌≤◌, ℕ, zero, suc, nat_eq, Bool, true, false, List, [], ◌∷◌, ◌++◌, map, length, take, drop, slice_index_or, slice_set, Option, None, refl, ap, arith}
+--
+-- - `map_without`, `without_past`, `run_before`, `set_before`, `run_past`, `with_past`: reads and writes by places;
+-- - `low_step`, `awaited_there`, `there_awaited`: the place of an awaited key.
+use Rattle.std.proofs.Common.{◌≡◌, ◌<◌, ◌≤◌, inl, inr, ⊎_elim, ℕ, zero, suc, nat_eq, eq-eqb, eqb-true, Bool, true, false, List, [], ◌∷◌, ◌++◌, map, length, take, drop, slice_index_or, slice_set, Option, None, refl, sym, ap, ◌∙◌, arith}
 use Rattle.cilk_hypermap.specs.declared.hypermap.Hypermap.{Hypermap}
 use Rattle.cilk_join.specs.declared.join.Awaited.{Awaited}
 use Rattle.cilk_join.specs.Products.{Product, run_of}
-use Rattle.cilk_join.specs.Rows.{row, wait, ahead, place_of, run_at, with_run, without}
+use Rattle.cilk_join.specs.Rows.{row, wait, ahead, keys, Stands, place_of, run_at, with_run, without}
 use Rattle.cilk_join.specs.Waits.{wait_of}
 
 pub map_without : (xs : List Awaited) (i : ℕ) → map wait_of (take i xs ++ drop (suc i) xs) ≡ without (map wait_of xs) i
@@ -51,3 +54,20 @@ low_step (x ∷ xs) k = go (nat_eq x.key k) refl (low_step xs k)
     go : (b : Bool) → nat_eq x.key k ≡ b → place_of (map wait_of xs) k ≤ length xs → place_of (map wait_of (x ∷ xs)) k ≤ length (x ∷ xs)
     go true e h = rw e (omega arith)
     go false e h = rw e (omega (arith, h))
+
+-- a key's place is in the list exactly where it is awaited
+pub awaited_there : (xs : List Awaited) (k : ℕ) → place_of (map wait_of xs) k < length xs → Stands (keys (map wait_of xs)) k
+awaited_there [] k h = let f : ⊥ = omega (arith, h) in absurd f
+awaited_there (x ∷ xs) k h = go (nat_eq x.key k) refl (awaited_there xs k) h
+  where
+    go : (b : Bool) → nat_eq x.key k ≡ b → (place_of (map wait_of xs) k < length xs → Stands (keys (map wait_of xs)) k) → place_of (map wait_of (x ∷ xs)) k < length (x ∷ xs) → Stands (keys (map wait_of (x ∷ xs))) k
+    go true e f h = inl (eqb-true x.key k e)
+    go false e f h = let h' : suc (place_of (map wait_of xs) k) < length (x ∷ xs) = rw e at h in inr (f (omega (arith, h')))
+
+pub there_awaited : (xs : List Awaited) (k : ℕ) → Stands (keys (map wait_of xs)) k → place_of (map wait_of xs) k < length xs
+there_awaited [] k h = absurd h
+there_awaited (x ∷ xs) k h = go (nat_eq x.key k) refl (there_awaited xs k) h
+  where
+    go : (b : Bool) → nat_eq x.key k ≡ b → (Stands (keys (map wait_of xs)) k → place_of (map wait_of xs) k < length xs) → Stands (keys (map wait_of (x ∷ xs))) k → place_of (map wait_of (x ∷ xs)) k < length (x ∷ xs)
+    go true e f h = rw e (omega arith)
+    go false e f h = rw e (⊎_elim (λ q. let z : true ≡ false = sym (eq-eqb x.key k q) ∙ e in let c : ⊥ = cc in absurd c) (λ q. let l = f q in omega (arith, l)) h)

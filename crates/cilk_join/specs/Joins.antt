@@ -23,9 +23,13 @@ IsFresh j k = (j.closed ≡ false) × (j.stolen < k) × (j.arrived < k)
 abbrev pub IsOpen : JoinView → ℕ → Type 0
 IsOpen j k = (j.closed ≡ false) × (j.stolen < k) × (j.arrived ≤ k)
 
+-- the piece of the stolen child with this key is still to come
+abbrev pub IsAwaited : JoinView → ℕ → Type 0
+IsAwaited j k = let r = j.row in Stands (keys r.waits) k
+
 -- a key may arrive: an awaited one, for a child, or a fresh one
 abbrev pub MayArrive : JoinView → ℕ → Bool → Type 0
-MayArrive j k last = ((last ≡ false) × (let r = j.row in Stands (keys r.waits) k)) ⊎ IsFresh j k
+MayArrive j k last = ((last ≡ false) × IsAwaited j k) ⊎ IsFresh j k
 
 -- after k was stolen: it is awaited, unless it has arrived
 abbrev pub stolen_at : JoinView → ℕ → JoinView

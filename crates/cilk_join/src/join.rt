@@ -2,10 +2,10 @@
 //!
 //! A key is the ordinal of a spawned child, or one more than all of them for the piece of the frame itself, which arrives last.
 
-ghost use Rattle.std.specs.Prelude.{◌≡◌, ◌<◌, ◌≤◌, length, IfOk, IfErr, OnOk, OnErr, Some, true};
+ghost use Rattle.std.specs.Prelude.{◌≡◌, ◌≤◌, length, IfOk, IfErr, OnOk, OnErr, Some, true};
 ghost use Rattle.cilk_join.specs.Products.{Product, product, run_of};
 ghost use Rattle.cilk_join.specs.Waits.{shown};
-ghost use Rattle.cilk_join.specs.Joins.{Answers, opening, IsFresh, IsOpen, MayArrive, arrived_at, forgotten, has_awaited, noted, parts_in, passes, place_in, replaced, run_in, stolen_at};
+ghost use Rattle.cilk_join.specs.Joins.{Answers, opening, IsAwaited, IsFresh, IsOpen, MayArrive, arrived_at, forgotten, has_awaited, noted, parts_in, passes, place_in, replaced, run_in, stolen_at};
 
 use crate::merging::{Parts, merge};
 use cilk_hypermap::hypermap::Hypermap;
@@ -67,6 +67,14 @@ impl Join {
         !self.closed && self.stolen < key && self.arrived <= key
     }
 
+    /// Whether the piece of the stolen child with this key is still to come.
+    pub fn awaits(&self, key: u32) -> bool
+        ensures { (result ≡ true → IsAwaited (shown self.now) key) × (IsAwaited (shown self.now) key → result ≡ true) }
+    {
+        let awaited = self.awaited.as_slice();
+        self.place(key) < awaited.len()
+    }
+
     /// Whether a stolen child is still to come.
     pub fn waits(&self) -> bool
         ensures { result ≡ has_awaited (shown self.now) }
@@ -76,7 +84,6 @@ impl Join {
 
     /// The number of runs of arrived keys, which is the number of pieces kept: at most one more than the keys awaited.
     pub fn parts(&self) -> usize
-        requires { parts_in (shown self.now) < 18446744073709551616 }
         ensures { result ≡ parts_in (shown self.now) }
     {
         let mut count = if self.first.is_some() { 1 } else { 0 };

@@ -1,0 +1,17 @@
+pub mod Changing
+pub mod Blocks
+pub mod Placed
+pub mod Finals
+pub mod Kept
+pub mod Refused
+pub mod Nexts
+pub mod Carried
+pub mod Viewed
+pub mod Onward
+pub mod Viewing
+pub mod Plain
+pub mod Touched
+pub mod Within
+pub mod Stepped
+pub mod Strands
+pub mod Reading

@@ -1,0 +1,12 @@
+pub mod Desks
+pub mod Blocks
+pub mod Numbered
+pub mod Boards
+pub mod Seats
+pub mod Workers
+pub mod Asking
+pub mod Events
+pub mod Leaving
+pub mod Invoking
+pub mod Touching
+pub mod Steps
