@@ -3,6 +3,7 @@
 ghost use Rattle.std.specs.Prelude.{◌<◌};
 
 use cilk_cert_text::fault::CertFault;
+use cilk_cert_text::line::{Line, Version};
 use cilk_cert_text::read::{read, read_pieces};
 use cilk_cert_text::reader::LineReader;
 use cilk_cert_text::write::write;
@@ -102,6 +103,46 @@ fn pieces(rt: HostRuntime) {
         count(&SMALL[..40], 7),
         Err(CertFault::Truncated { line: 4 })
     );
+}
+
+/// How many lines of a text are passed over where each is known.
+fn passed(text: &[u8]) -> Result<usize, CertFault> {
+    let mut reader = LineReader::new();
+    let mut passing = LineReader::new();
+    let mut lines = 0_usize;
+    let mut rest = text;
+    'lines: while !rest.is_empty() {
+        let (taken, line) = reader.next(rest)?;
+        let known = match line {
+            Some(line) => passing.pass(rest, line),
+            None => None,
+        };
+        if known == Some(taken) {
+            lines = lines.saturating_add(1);
+        } else {
+            let _ = passing.next(rest)?;
+        }
+        rest = &rest[taken..];
+    }
+    passing.end()?;
+    Ok(lines)
+}
+
+// Each line but the first two.
+#[test]
+fn known_lines(rt: HostRuntime) {
+    for (text, lines) in [
+        (SMALL, 8),
+        (SPAWN, 25),
+        (SECOND_SMALL, 8),
+        (SECOND_SPAWN, 25),
+        (FIRST_REDUCERS, 8),
+        (SECOND_REDUCERS, 7),
+    ] {
+        assert_eq!(rt; passed(text), Ok(lines));
+    }
+    let mut reader = LineReader::new();
+    assert_eq!(rt; reader.pass(SMALL, Line::Version(Version::One)), None);
 }
 
 fn cut(rt: &impl Abort, alloc: std::alloc::Global, text: &[u8]) {

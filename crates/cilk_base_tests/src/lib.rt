@@ -5,11 +5,15 @@
 #![tactic(auto)]
 
 #[cfg(test)]
+mod activations;
+#[cfg(test)]
 mod certificates;
 #[cfg(test)]
 mod frames;
 #[cfg(test)]
 mod hypermaps;
+#[cfg(test)]
+mod joins;
 #[cfg(test)]
 mod monoids;
 #[cfg(test)]

@@ -5,7 +5,7 @@ ghost use Rattle.cilk_program.specs.Programs.{function, source_of, statements};
 ghost use Rattle.cilk_program.specs.WellNamed.{is_well_named};
 
 use cilk_program::program::{Body, Function, Loop, Program};
-use cilk_program::syntax::{Expr, Invoke, Place, Stmt};
+use cilk_program::syntax::{Expr, Invoke, Literal, Place, Stmt};
 use cilk_types::invocation::Invocation;
 use cilk_types::sequence::Sequence;
 use std::alloc::{AllocError, Global};
@@ -43,7 +43,7 @@ fn program_of(
 
 /// `int x; int main() { print(7); }`
 pub fn printing(alloc: Global) -> Result<Program, AllocError> {
-    let body = vec![in alloc; Stmt::Print(Expr::Number(7))]?;
+    let body = vec![in alloc; Stmt::Print(Expr::Number(Literal { value: 7 }))]?;
     let functions = vec![in alloc; function_of(alloc, 0, body)]?;
     program_of(alloc, functions, Vec::new(alloc), 0)
 }
@@ -52,7 +52,7 @@ pub fn printing(alloc: Global) -> Result<Program, AllocError> {
 pub fn calling(alloc: Global) -> Result<Program, AllocError> {
     let body = vec![in alloc; Stmt::Return(Some(Expr::Variable(Place::Local(0, 0))))]?;
     let f = function_of(alloc, 1, body);
-    let arguments = vec![in alloc; Expr::Number(5)]?;
+    let arguments = vec![in alloc; Expr::Number(Literal { value: 5 })]?;
     let call = Invoke {
         how: Invocation::Call,
         function: 0,
@@ -69,7 +69,7 @@ pub fn calling(alloc: Global) -> Result<Program, AllocError> {
 pub fn spawning(alloc: Global) -> Result<Program, AllocError> {
     let body = vec![in alloc; Stmt::Return(Some(Expr::Variable(Place::Local(0, 0))))]?;
     let f = function_of(alloc, 1, body);
-    let arguments = vec![in alloc; Expr::Number(3)]?;
+    let arguments = vec![in alloc; Expr::Number(Literal { value: 3 })]?;
     let call = Invoke {
         how: Invocation::Spawn,
         function: 0,
@@ -84,7 +84,13 @@ pub fn spawning(alloc: Global) -> Result<Program, AllocError> {
 
 /// `int x; int main() { cilk_for (int i = 0; i < 2; i++) print(i); }`
 pub fn looping(alloc: Global) -> Result<Program, AllocError> {
-    let body = vec![in alloc; Stmt::ParallelFor(Expr::Number(0), Expr::Number(2), 0)]?;
+    let body = vec![in alloc;
+        Stmt::ParallelFor(
+            Expr::Number(Literal { value: 0 }),
+            Expr::Number(Literal { value: 2 }),
+            0
+        ),
+    ]?;
     let functions = vec![in alloc; function_of(alloc, 0, body)]?;
     let turn = vec![in alloc; Stmt::Print(Expr::Variable(Place::Local(0, 0)))]?;
     let part = Loop {

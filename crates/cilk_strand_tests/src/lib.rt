@@ -2,8 +2,8 @@
 //!
 //! [`rows`] has worked programs as texts, each with the pairs that race in its serial run. [`worked`] takes each from its
 //! text to its trace, tree, labels, classes, races and span, [`settled`] to its settled outcome, and [`certified`] to
-//! its certificate. [`agreement`] compares the passes with the definitions, by plain search, on these traces and on
-//! random ones. [`listed`] has what a certificate lists of a run.
+//! its certificate. [`checked`] checks certificates, whole and in [`pieces`]. [`agreement`] compares the passes with the
+//! definitions, by plain search, on these traces and on random ones. [`listed`] has what a certificate lists of a run.
 #![tactic(auto)]
 
 #[cfg(test)]
@@ -16,6 +16,8 @@ mod certified;
 mod checked;
 #[cfg(test)]
 mod listed;
+#[cfg(test)]
+mod pieces;
 #[cfg(test)]
 mod programs;
 #[cfg(test)]

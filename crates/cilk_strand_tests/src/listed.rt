@@ -7,6 +7,7 @@ use cilk_judge::fault::ProgramFault;
 use cilk_judge::judge::program;
 use cilk_labels::label;
 use cilk_listing::columns::columns;
+use cilk_names::fault::NameNumber;
 use cilk_texts::fault::TextNumber;
 use cilk_tree::building::tree_of;
 use cilk_types::event::Event;
@@ -58,4 +59,24 @@ fn texts_are_judged(rt: HostRuntime) {
     );
     let misnamed = program(rt.alloc(), b"int main() { return x; }");
     assert!(rt; matches!(misnamed, Err(ProgramFault::Name(_, 20))));
+}
+
+#[test]
+fn program_faults_show_their_place(rt: HostRuntime) -> Result<(), Fail> {
+    let alloc = rt.alloc();
+    let cases = [
+        (ProgramFault::Memory, "no memory"),
+        (
+            ProgramFault::Text(TextNumber::BadToken, 3),
+            "no token at byte 3",
+        ),
+        (
+            ProgramFault::Name(NameNumber::Unknown, 20),
+            "an unknown name at byte 20",
+        ),
+    ];
+    for (fault, text) in &cases {
+        assert_eq!(rt; format!(in alloc; "{fault}")?.as_str(), *text);
+    }
+    Ok(())
 }

@@ -6,7 +6,6 @@ use cilk_names::fault::{NameFault, NameNumber};
 use cilk_serial::fault::RunFault;
 use cilk_texts::fault::{TextFault, TextNumber};
 use cilk_tool::files::FileFault;
-use cilk_tool::streams::ReadFault;
 use cilk_types::fault::Fault;
 use std::alloc::AllocError;
 
@@ -178,14 +177,6 @@ fn faults_of_devices(rt: HostRuntime) -> Result<(), AllocError> {
     );
     assert_eq!(rt;
         format!(in alloc; "{}", FileFault::Memory)?.as_str(),
-        "no memory"
-    );
-    assert_eq!(rt;
-        format!(in alloc; "{}", ReadFault::Device)?.as_str(),
-        "cannot read"
-    );
-    assert_eq!(rt;
-        format!(in alloc; "{}", ReadFault::Memory)?.as_str(),
         "no memory"
     );
     Ok(())

@@ -1,20 +1,58 @@
 //! The tool over files, readers and writers of the tests.
 
-ghost use Rattle.std.specs.Prelude.{◌≡◌, ◌<◌};
+ghost use Rattle.std.specs.Prelude.{◌≡◌, ◌<◌, IfErr, OnOk};
 
+use cilk_tool::disk::MAX_FILE;
 use cilk_tool::files::{FileFault, Files};
 use cilk_tool::serve;
 use std::alloc::Global;
 use std::io;
 use std::io::{ErrorKind, Read, Write};
 
-/// A program text and an input text, by these two paths, and no other file. It counts the reads.
+/// A program text, an input text and a certificate's, by these paths, and no other file. It counts the reads. After so many
+/// parts each further one fails.
 #[derive(Drop)]
 pub struct Folder<'a> {
     program: &'a [u8],
     input: &'a [u8],
+    certificate: &'a [u8],
+    parts: u64,
     pub reads: u64,
     failures: u64,
+}
+
+impl<'a> Folder<'a> {
+    /// A folder with these texts, of which nothing was read yet.
+    fn new(program: &'a [u8], input: &'a [u8], certificate: &'a [u8]) -> Folder<'a>
+        ensures { result.failures ≡ 0 }
+    {
+        Folder {
+            program,
+            input,
+            certificate,
+            parts: u64::MAX,
+            reads: 0,
+            failures: 0,
+        }
+    }
+
+    /// The text of a path. A path without one counts as a failure.
+    fn text(&mut self, path: &str) -> Result<&'a [u8], FileFault>
+        requires { self.old.failures < 18446744073709551615 }
+        ensures counted { IfErr result (λ _. self.old.failures < self.new.failures) }
+        ensures uncounted { OnOk result (self.new.failures ≡ self.old.failures) }
+    {
+        self.reads = self.reads.saturating_add(1);
+        match path {
+            "program" => Ok(self.program),
+            "input" => Ok(self.input),
+            "certificate" => Ok(self.certificate),
+            _ => {
+                self.failures += 1;
+                Err(FileFault::Device)
+            }
+        }
+    }
 }
 
 impl Files for Folder<'_> {
@@ -25,15 +63,21 @@ impl Files for Folder<'_> {
     ghost holds = { λ _ _. None };
 
     fn read(&mut self, alloc: Global, path: &str) -> Result<Vec<u8>, FileFault> {
-        self.reads = self.reads.saturating_add(1);
-        match path {
-            "program" => Ok(self.program.to_vec(alloc)?),
-            "input" => Ok(self.input.to_vec(alloc)?),
-            _ => {
-                self.failures += 1;
-                Err(FileFault::Device)
-            }
+        Ok(self.text(path)?.to_vec(alloc)?)
+    }
+
+    fn part(&mut self, path: &str, at: u64, into: &mut [u8]) -> Result<usize, FileFault> {
+        let whole = self.text(path)?;
+        if at > MAX_FILE || self.parts == 0 {
+            self.failures += 1;
+            return Err(FileFault::Device);
         }
+        self.parts -= 1;
+        let rest = &whole[whole.len().min(at as usize)..];
+        let room = (MAX_FILE - at) as usize;
+        let count = rest.len().min(into.len()).min(room);
+        into[..count].copy_from_slice(&rest[..count]);
+        Ok(count)
     }
 
     fn failures(&self) -> u64 {
@@ -126,13 +170,29 @@ pub fn shown<R: Read>(
     input: &[u8],
     standard: &mut R,
 ) -> Ended {
+    served(alloc, words, Folder::new(program, input, b""), standard)
+}
+
+/// A check of a certificate of this program on this input.
+pub fn checked(alloc: Global, program: &[u8], input: &[u8], certificate: &[u8]) -> Ended {
+    let words = ["check", "program", "certificate", "--input", "input"];
+    let files = Folder::new(program, input, certificate);
+    served(alloc, &words, files, &mut Broken)
+}
+
+/// The same, where the certificate's file fails after so many parts.
+pub fn checked_in_parts(alloc: Global, program: &[u8], certificate: &[u8], parts: u64) -> Ended {
+    let words = ["check", "program", "certificate"];
+    let mut files = Folder::new(program, b"", certificate);
+    files.parts = parts;
+    served(alloc, &words, files, &mut Broken)
+}
+
+/// A call with these words, over a folder of which nothing was read yet, and with standard input.
+fn served<R: Read>(alloc: Global, words: &[&str], mut files: Folder<'_>, standard: &mut R) -> Ended
+    requires { files.failures ≡ 0 }
+{
     let (mut out, mut err) = (Vec::new(alloc), Vec::new(alloc));
-    let mut files = Folder {
-        program,
-        input,
-        reads: 0,
-        failures: 0,
-    };
     let status = serve(alloc, words, &mut files, standard, &mut out, &mut err);
     Ended {
         status,
@@ -149,11 +209,19 @@ pub fn status_of<O: Write, E: Write>(
     out: &mut O,
     err: &mut E,
 ) -> u8 {
-    let mut files = Folder {
-        program: b"",
-        input: b"",
-        reads: 0,
-        failures: 0,
-    };
+    let mut files = Folder::new(b"", b"", b"");
     serve(alloc, &[], &mut files, standard, out, err)
+}
+
+/// The status of a call with these words, over a program and a certificate and these two writers.
+pub fn status_with<O: Write, E: Write>(
+    alloc: Global,
+    words: &[&str],
+    program: &[u8],
+    certificate: &[u8],
+    out: &mut O,
+    err: &mut E,
+) -> u8 {
+    let mut files = Folder::new(program, b"", certificate);
+    serve(alloc, words, &mut files, &mut Broken, out, err)
 }

@@ -137,8 +137,11 @@ fn files_by_path(rt: HostRuntime) {
 
 #[test]
 fn words_that_are_no_command(rt: HostRuntime) {
-    let cases: [&[&str]; 8] = [
+    let cases: [&[&str]; 11] = [
         &["walk", "program"],
+        &["certify"],
+        &["check", "program"],
+        &["check", "program", "certificate", "program"],
         &["run"],
         &["run", "program", "program"],
         &["run", "program", "--input"],
