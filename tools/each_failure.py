@@ -1,0 +1,171 @@
+#!/usr/bin/env python3
+"""Refuses each allocation, and fails each open, read and write, of the built program in turn, and looks at what it answers.
+
+tools/each_failure.py [PROGRAM]     the program, by default crates/cilk/out/cilk
+
+The commands are `certify` and `check` of a chain of spawns (fib(10), accepted) and of a view-read race (refused). Each run has one
+call that fails: the Nth allocation, or all from the Nth on; the Nth open, read, seek or write; the Nth read or write that moves one
+byte of several. It must end with the answer of a run in which nothing fails, or say `no memory`, `cannot read FILE` or `cannot write`
+with that one's status, where a beginning of the answer may have gone out. The calls are counted and failed by a small library that
+`cc` makes and that the program is run with (LD_PRELOAD), so it needs a C compiler and glibc. Run by hand.
+"""
+
+import os
+import subprocess
+import sys
+import tempfile
+
+TOP = os.path.dirname(os.path.dirname(os.path.realpath(__file__)))
+
+LIBRARY = r"""
+#define _GNU_SOURCE
+#include <dlfcn.h>
+#include <errno.h>
+#include <fcntl.h>
+#include <stdarg.h>
+#include <stdio.h>
+#include <stdlib.h>
+#include <unistd.h>
+
+extern void *__libc_malloc(size_t), *__libc_calloc(size_t, size_t), *__libc_realloc(void *, size_t), *__libc_memalign(size_t, size_t);
+static long allocs, calls, moves, fail_alloc, fail_from, fail_call, short_move;
+
+static long wanted(const char *name) {
+    const char *text = getenv(name);
+    return text ? atol(text) : 0;
+}
+
+__attribute__((constructor)) static void begin(void) {
+    fail_alloc = wanted("FAIL_ALLOC");
+    fail_from = wanted("FAIL_FROM");
+    fail_call = wanted("FAIL_CALL");
+    short_move = wanted("SHORT_MOVE");
+    allocs = calls = moves = 0;
+}
+
+__attribute__((destructor)) static void end(void) {
+    const char *path = getenv("COUNTS");
+    char line[80];
+    int file = path ? ((int (*)(const char *, int))dlsym(RTLD_NEXT, "open"))(path, O_WRONLY) : -1;
+    if (file < 0) return;
+    int size = snprintf(line, sizeof line, "%ld %ld %ld\n", allocs, calls, moves);
+    ((ssize_t (*)(int, const void *, size_t))dlsym(RTLD_NEXT, "write"))(file, line, size);
+}
+
+static int refused(void) {
+    allocs++;
+    return allocs == fail_alloc || (fail_from && allocs >= fail_from);
+}
+
+#define MEMORY(call) do { if (refused()) { errno = ENOMEM; return 0; } return call; } while (0)
+void *malloc(size_t n) { MEMORY(__libc_malloc(n)); }
+void *calloc(size_t n, size_t m) { MEMORY(__libc_calloc(n, m)); }
+void *realloc(void *p, size_t n) { MEMORY(__libc_realloc(p, n)); }
+void *aligned_alloc(size_t a, size_t n) { MEMORY(__libc_memalign(a, n)); }
+int posix_memalign(void **p, size_t a, size_t n) {
+    if (refused()) return ENOMEM;
+    *p = __libc_memalign(a, n);
+    return *p ? 0 : ENOMEM;
+}
+
+#define FAILS() do { if (++calls == fail_call) { errno = EIO; return -1; } } while (0)
+ssize_t read(int file, void *into, size_t n) {
+    FAILS();
+    if (n > 1 && ++moves == short_move) n = 1;
+    return ((ssize_t (*)(int, void *, size_t))dlsym(RTLD_NEXT, "read"))(file, into, n);
+}
+ssize_t write(int file, const void *from, size_t n) {
+    FAILS();
+    if (n > 1 && ++moves == short_move) n = 1;
+    return ((ssize_t (*)(int, const void *, size_t))dlsym(RTLD_NEXT, "write"))(file, from, n);
+}
+off_t lseek(int file, off_t at, int whence) {
+    FAILS();
+    return ((off_t (*)(int, off_t, int))dlsym(RTLD_NEXT, "lseek"))(file, at, whence);
+}
+int open(const char *path, int flags, ...) {
+    va_list more;
+    va_start(more, flags);
+    int mode = va_arg(more, int);
+    va_end(more);
+    FAILS();
+    return ((int (*)(const char *, int, ...))dlsym(RTLD_NEXT, "open"))(path, flags, mode);
+}
+int open64(const char *path, int flags, ...) __attribute__((alias("open")));
+off_t lseek64(int file, off_t at, int whence) __attribute__((alias("lseek")));
+"""
+
+FIB = """#include <cilk/cilk.h>
+int fib(int n) { if (n < 2) { return n; } int x; int y; x = cilk_spawn fib(n - 1); y = fib(n - 2); cilk_sync; return x + y; } int main() { int r; r = fib(10); return r; }"""
+
+RACE = "int cilk_reducer(add) r; void f() { update(r, 1); } int main() { int x; cilk_spawn f(); x = value(r); cilk_sync; return x; }"
+
+
+def run(program, words, folder, **settings):
+    """What the program shows: its status and the bytes on both streams; and how many calls of each sort it made."""
+    counts = f"{folder}/counts"
+    with open(counts, "w", encoding="ascii"):
+        pass
+    env = {"LD_PRELOAD": f"{folder}/fails.so", "COUNTS": counts, **{k: str(v) for k, v in settings.items()}}
+    ended = subprocess.run([program, *words], cwd=folder, env=env, capture_output=True, timeout=60, check=False)
+    with open(counts, encoding="ascii") as it:
+        counted = [int(word) for word in it.read().split()]
+    return (ended.returncode, ended.stdout, ended.stderr), counted
+
+
+def is_fair(seen, whole, words):
+    """Whether this is the whole answer, or a want of memory, or a failing device that is called so."""
+    status, out, err = seen
+    if seen == whole:
+        return True
+    if err == b"no memory\n":
+        return status == 5 and out == b""
+    if err in [b"cannot read %s\n" % word.encode() for word in words[1:]]:
+        return status == 2 and out == b""
+    if err == b"cannot write\n":
+        return status == 2 and whole[1].startswith(out) and out != whole[1]
+    return False
+
+
+def turns(program, words, folder):
+    """Fails each call of a command in turn, and gives how many answers weren't fair."""
+    whole, (allocs, calls, moves) = run(program, words, folder)
+    again, _ = run(program, words, folder)
+    if again != whole:
+        print(f"{' '.join(words)}: two runs differ")
+        return 1
+    wrong, kinds = 0, {}
+    for setting, count in [("FAIL_ALLOC", allocs), ("FAIL_FROM", allocs), ("FAIL_CALL", calls), ("SHORT_MOVE", moves)]:
+        for n in range(1, count + 1):
+            seen, _ = run(program, words, folder, **{setting: n})
+            kind = "its own" if seen == whole else seen[2].decode(errors="replace").strip() or "another"
+            kinds.setdefault(setting, {}).setdefault(kind, 0)
+            kinds[setting][kind] += 1
+            if not is_fair(seen, whole, words):
+                wrong += 1
+                print(f"{' '.join(words)}: {setting}={n}: {seen[0]} {seen[1][:80]} {seen[2][:80]}")
+    print(f"{' '.join(words)}: status {whole[0]}; {allocs} allocations, {calls} calls, {moves} moves; {kinds}; {wrong} wrong")
+    return wrong
+
+
+def main():
+    program = os.path.realpath(sys.argv[1] if sys.argv[1:] else f"{TOP}/crates/cilk/out/cilk")
+    wrong = 0
+    with tempfile.TemporaryDirectory() as folder:
+        for name, text in [("fails.c", LIBRARY), ("fib.c", FIB), ("race.c", RACE)]:
+            with open(f"{folder}/{name}", "w", encoding="ascii") as it:
+                it.write(text)
+        cc = os.environ.get("CC") or "cc"
+        subprocess.run([cc, "-O1", "-shared", "-fPIC", "-o", f"{folder}/fails.so", f"{folder}/fails.c", "-ldl"], check=True)
+        for name in ["fib", "race"]:
+            made, _ = run(program, ["certify", f"{name}.c"], folder)
+            with open(f"{folder}/{name}.cert", "wb") as it:
+                it.write(made[1])
+            wrong += turns(program, ["certify", f"{name}.c"], folder)
+            wrong += turns(program, ["check", f"{name}.c", f"{name}.cert"], folder)
+    print(f"{wrong} wrong")
+    return 1 if wrong else 0
+
+
+if __name__ == "__main__":
+    sys.exit(main())
