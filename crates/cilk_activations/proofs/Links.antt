@@ -83,9 +83,6 @@ module _ {C : Type 0} (frames : List (Activation C)) where
   pub links_first : (a : Activation C) (scope : Scope ℕ Instance) → HasScope frames a scope → LinksTo frames a.outer (drop 1 scope)
   links_first a scope h = subst (λ x. LinksTo frames a.outer x) (sym (ap (drop 1) h.scope_is)) h.links
 
-  pub home_first : (a : Activation C) (scope : Scope ℕ Instance) → HasScope frames a scope → slice_get scope 0 ≡ Some (home_at a)
-  home_first a scope h = ap (λ l. slice_get l 0) h.scope_is
-
 module _ {C : Type 0} (scope : Scope ℕ Instance) (up : ℕ) (a : Activation C) (home : slice_get scope up ≡ Some (home_at a)) where
   pub home_cell : (n : ℕ) → cell_in itself scope (places.Local up n) ≡ a.base + n
   home_cell n = ap (λ o. at_home o (itself n) (λ h. h.cells n)) home

@@ -22,6 +22,7 @@ use cilk_program::syntax::Place;
 use cilk_types::fault::Fault;
 use cilk_types::input::Input;
 use cilk_types::invocation::Invocation;
+use cilk_types::word_list::WordList;
 use std::alloc::{AllocError, Global};
 use std::process::Abort;
 use std::test::Fail;
@@ -114,7 +115,7 @@ fn root_asks(
     requires { Behaves (source program.now) code.now }
     ensures { IfOk result (λ asked. IfSome asked (AskIsThere (source program.now) Root)) }
 {
-    let input = Input::new(Vec::new(alloc));
+    let input = Input::new(WordList::new(alloc));
     let mut cursor = Cursor::root(alloc, code)?;
     Ok(answered(code, &input, &mut cursor, answers, left))
 }
@@ -133,7 +134,7 @@ fn child_asks(
 {
     match invoking {
         Ask::Invoke(_, _) => {
-            let input = Input::new(Vec::new(alloc));
+            let input = Input::new(WordList::new(alloc));
             let mut cursor = Cursor::new(alloc, code, invoking)?;
             Ok(answered(code, &input, &mut cursor, answers, left))
         }

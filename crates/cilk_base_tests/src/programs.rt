@@ -8,6 +8,7 @@ use cilk_program::program::{Body, Function, Loop, Program};
 use cilk_program::syntax::{Expr, Invoke, Literal, Place, Stmt};
 use cilk_types::invocation::Invocation;
 use cilk_types::sequence::Sequence;
+use cilk_types::word_list::WordList;
 use std::alloc::{AllocError, Global};
 
 // A function without reducers, whose cells are those of its words.
@@ -32,8 +33,10 @@ fn program_of(
 ) -> Result<Program, AllocError>
     requires { IsTrue (is_well_named (source_of (pos 0 ∷ []) [] functions.items loops.items main)) }
 {
+    let mut globals = WordList::new(alloc);
+    globals.push(0)?;
     Ok(Program {
-        globals: Sequence::new(vec![in alloc; 0]?),
+        globals,
         reducers: Vec::new(alloc),
         functions,
         loops,

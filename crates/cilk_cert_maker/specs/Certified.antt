@@ -10,7 +10,7 @@ use Rattle.cilk_cert_text.specs.Certificates.{Contents, IsCertificate}
 use Rattle.cilk_listing.specs.Right.{IsRight}
 
 -- the serial run ends without a fault, and the certificate lists it
-pub record IsCertified (p : Source) (inputs : List ℤ) (c : Contents) : Type 0 where
+pub record IsCertificateOf (p : Source) (inputs : List ℤ) (c : Contents) : Type 0 where
   pub shape : Shape
   pub events : List Event
   pub outcome : Outcome
@@ -21,4 +21,4 @@ pub record IsCertified (p : Source) (inputs : List ℤ) (c : Contents) : Type 0 
 -- two right certificates of a well-named program's run, of one version, are equal
 abbrev pub RunsHaveOneCertificate : Source → List ℤ → Type 0
 RunsHaveOneCertificate p inputs =
-    (c d : Contents) → IsTrue (is_well_named p) → IsCertificate c → IsCertificate d → c.version ≡ d.version → IsCertified p inputs c → IsCertified p inputs d → c ≡ d
+    (c d : Contents) → IsTrue (is_well_named p) → IsCertificate c → IsCertificate d → c.version ≡ d.version → IsCertificateOf p inputs c → IsCertificateOf p inputs d → c ≡ d

@@ -11,7 +11,7 @@ ghost use Rattle.cilk_cert_text.specs.declared.line.Version.TheVariants.{Two};
 ghost use Rattle.cilk_cert_text.specs.Certificates.{IsCertificate};
 ghost use Rattle.cilk_listing.specs.Frames.{frames_of};
 ghost use Rattle.cilk_listing.specs.Right.{IsRight};
-ghost use Rattle.cilk_cert_maker.specs.Certified.{IsCertified};
+ghost use Rattle.cilk_cert_maker.specs.Certified.{IsCertificateOf};
 
 use crate::entries::entries;
 use crate::strands::strands;
@@ -35,7 +35,7 @@ use std::alloc::{AllocError, Global};
 /// source of each read, its frames, its strands with their labels, and its result. A fault is the serial run's, with its
 /// place. Cost: linear in the ticks; memory: linear in the events.
 pub fn make(alloc: Global, program: &Program, input: &Input) -> Result<Certificate, RunFault>
-    ensures right { IfOk result (λ c. IsCertified (source program.now) input.now c) }
+    ensures right { IfOk result (λ c. IsCertificateOf (source program.now) input.now c) }
     ensures version { IfOk result (λ c. c.version ≡ Two) }
     ensures certificate { IfOk result (λ c. IsCertificate c) }
     ensures fault { IfErr result (λ e. IsRunFault (source program.now) input.now e) }

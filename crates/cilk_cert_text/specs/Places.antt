@@ -50,3 +50,7 @@ line_at (Lines (form ∷ forms)) l = option_map (λ x. (x, Lines forms)) (line_o
 -- a line of this form is due, and these behind it
 abbrev pub IsDue : Form → Due → Due → Type 0
 IsDue form later due = (forms : List Form) × (due ≡ Lines (form ∷ forms)) × (later ≡ Lines forms)
+
+-- a line of this form is due
+abbrev pub IsAwaited : Form → Due → Type 0
+IsAwaited form due = (forms : List Form) × (due ≡ Lines (form ∷ forms))

@@ -3,7 +3,9 @@ use Rattle.std.specs.Prelude.{◌≡◌, ℕ, ◌*◌, ◌-◌, List, ◌++◌, 
 use Rattle.cilk_cert_text.specs.declared.fault.CertFault.{CertFault}
 use Rattle.cilk_cert_text.specs.declared.line.Line.{Line}
 use Rattle.cilk_cert_text.specs.declared.reader.LineReader.{LineReader}
-use Rattle.cilk_cert_text.specs.Places.{due_of, number_at}
+use Rattle.cilk_cert_text.specs.declared.line.Form.{Form}
+use Rattle.cilk_cert_text.specs.Certificates.{IsAt}
+use Rattle.cilk_cert_text.specs.Places.{due_of, number_at, IsAwaited}
 use Rattle.cilk_cert_text.specs.Reading.{Reading, Due, stops, with_line, reading}
 
 -- the fault that it has answered
@@ -33,3 +35,11 @@ IsCertain r fault = (more : List ℕ) → ahead r more ≡ stops fault
 -- No more bytes than these can be taken without a fault: a text has at most 2,065,540 lines of at most 97 bytes each, and one line more is allowed for what comes behind.
 abbrev pub room_of : LineReader → ℕ
 room_of r = 97 * (2065542 - number_at r.place) - r.length
+
+-- it stands at the beginning of a line behind the size line, and this one may stand there
+pub record Awaits (r : LineReader) (line : Line) : Type 0 where
+  pub silent : r.fault ≡ None
+  pub begins : r.length ≡ 0
+  pub form : Form
+  pub due : IsAwaited form (due_of r.place)
+  pub fits : IsAt form line

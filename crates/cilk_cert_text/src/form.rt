@@ -1,13 +1,13 @@
 // Which lines are of a form.
 
-ghost use Rattle.std.specs.Prelude.{IsTrue};
+ghost use Rattle.std.specs.Prelude.{◌↔◌, IsTrue};
 ghost use Rattle.cilk_cert_text.specs.Certificates.{IsAt, IsEntry, IsNumber, IsValue, NamesReducer};
 
 use crate::line::{Entry, Form, Line, Reducer, Version};
 
 /// A number of 32 bits may stand in a line.
 fn is_number(number: u32) -> bool
-    ensures { IsTrue result → IsNumber number }
+    ensures { IsTrue result ↔ IsNumber number }
 {
     let _number = number;
     true
@@ -15,7 +15,7 @@ fn is_number(number: u32) -> bool
 
 /// A value of 64 bits may stand in a line.
 fn is_value(value: i64) -> bool
-    ensures { IsTrue result → IsValue value }
+    ensures { IsTrue result ↔ IsValue value }
 {
     let _value = value;
     true
@@ -23,7 +23,7 @@ fn is_value(value: i64) -> bool
 
 /// Whether the version writes a reducer so.
 fn is_name(version: Version, name: Reducer) -> bool
-    ensures { IsTrue result → NamesReducer version name }
+    ensures { IsTrue result ↔ NamesReducer version name }
 {
     match (version, name) {
         (Version::One, Reducer::Number(number)) => is_number(number),
@@ -36,7 +36,7 @@ fn is_name(version: Version, name: Reducer) -> bool
 
 /// Whether the version can write the event.
 fn is_entry(version: Version, entry: Entry) -> bool
-    ensures { IsTrue result → IsEntry version entry }
+    ensures { IsTrue result ↔ IsEntry version entry }
 {
     match entry {
         Entry::Begin { frame } => is_number(frame),
@@ -60,7 +60,7 @@ fn is_entry(version: Version, entry: Entry) -> bool
 
 /// Whether the line is one of this form.
 pub(crate) fn is_at(form: Form, line: Line) -> bool
-    ensures { IsTrue result → IsAt form line }
+    ensures { IsTrue result ↔ IsAt form line }
 {
     match (form, line) {
         (Form::Frame(k), Line::Frame { number, frame }) => {

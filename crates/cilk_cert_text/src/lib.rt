@@ -18,8 +18,9 @@
 //! the text's end is malformed; one that is absent or has no LF is truncated; one that isn't of its place's form, or
 //! stands behind the last line, is malformed. A fault names its line, counted from 1.
 //!
-//! [`write::write`] gives a certificate's text, [`read::read`] and [`read::read_pieces`] read one that lies in memory, and
-//! [`reader::LineReader`] reads one in pieces, without memory of its own:
+//! [`write::write`] gives a certificate's text, and [`writer::LineWriter`] gives it in pieces, without memory of its own.
+//! [`read::read`] and [`read::read_pieces`] read one that lies in memory, and [`reader::LineReader`] reads one in pieces,
+//! without memory of its own:
 //!
 //! ```text
 //! let mut reader = LineReader::new();

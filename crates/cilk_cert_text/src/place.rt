@@ -103,7 +103,8 @@ impl Progress {
 }
 
 impl ReaderPlace {
-    ghost use Rattle.cilk_cert_text.specs.Places.{due_of, number_at, line_at, IsDue};
+    ghost use Rattle.cilk_cert_text.specs.declared.line.Form.{Form};
+    ghost use Rattle.cilk_cert_text.specs.Places.{due_of, number_at, line_at, IsAwaited, IsDue};
     ghost use Rattle.cilk_cert_text.specs.Reading.{Lines};
 
     /// The number of the line that stands next, from 1.
@@ -136,6 +137,7 @@ impl ReaderPlace {
         ensures due { IfSome result (λ r. IsDue r.0 (due_of r.1) (due_of self)) }
         ensures number { IfSome result (λ r. number_at r.1 ≡ number_at self + 1) }
         ensures few { IfSome result (λ r. number_at r.1 ≤ 2065541) }
+        ensures none { IfNone result ((form : Form) → IsAwaited form (due_of self) → ⊥) }
     {
         match self {
             ReaderPlace::Lines(progress) => {

@@ -64,12 +64,13 @@ impl Default for LineReader {
 }
 
 impl LineReader {
-    ghost use Rattle.std.specs.Prelude.{◌≢◌, ℕ, List, MatchResult, IfErr, IfOk, OnOk, option_map};
+    ghost use Rattle.std.specs.Prelude.{◌≢◌, ◌∷◌, ℕ, List, MatchResult, IfErr, IfOk, IsSome, OnOk, option_map};
     ghost use Rattle.cilk_cert_text.specs.declared.fault.CertFault.{CertFault};
     ghost use Rattle.cilk_cert_text.specs.declared.fault.CertFault.TheVariants.{Malformed, Truncated};
     ghost use Rattle.cilk_cert_text.specs.Places.{line_at, number_at};
     ghost use Rattle.cilk_cert_text.specs.Reading.{reading_of, stops, whole};
-    ghost use Rattle.cilk_cert_text.specs.Readers.{ahead, fault_of, with_lines, line_number, room_of, IsCertain};
+    ghost use Rattle.cilk_cert_text.specs.Readers.{ahead, fault_of, with_lines, line_number, room_of, Awaits, IsCertain};
+    ghost use Rattle.cilk_cert_text.specs.Lines.{spelled};
 
     /// At the beginning of a text.
     pub fn new() -> Self
@@ -190,6 +191,7 @@ impl LineReader {
 
     /// Takes the line at the front of the piece where it is this one, with its LF, and gives how many bytes that were: so a line
     /// that is known is compared, and not read. Else, and where the line at hand has begun in an earlier piece, nothing changes.
+    /// It is taken wherever the reader awaits it and the piece begins with it.
     pub fn pass(&mut self, piece: &[u8], line: Line) -> Option<usize>
         ensures line { IfSome result (λ taken. (more : List ℕ) → ahead self.old (piece.now ++ more) ≡ with_lines (Some line) (ahead self.new (drop taken piece.now ++ more))) }
         ensures taken { IfSome result (λ taken. taken ≤ len_of piece.now) }
@@ -197,6 +199,7 @@ impl LineReader {
         ensures room { IfSome result (λ taken. room_of self.new + taken ≤ room_of self.old) }
         ensures silent { IfSome result (λ _. fault_of self.new ≡ None) }
         ensures same { IfNone result (self.new ≡ self.old) }
+        ensures passed { (rest : List ℕ) → Awaits self.old line → piece.now ≡ (spelled line ++ 10 ∷ []) ++ rest → IsSome result }
     {
         if self.fault.is_some() || self.length > 0 {
             return None;

@@ -20,16 +20,7 @@ pub gathered_last : (c : Contents) (xs : List Line) (x : Line) → gathered c (x
 gathered_last c [] x = refl
 gathered_last c (y ∷ xs) x = gathered_last (with_said c y) xs x
 
--- no line became whole
-pub heard_part : (r : Right) (text rest rest' : List ℕ) (reader reader' : LineReader) (t : Tally)
-    → ((more : List ℕ) → ahead reader (rest ++ more) ≡ with_lines None (ahead reader' (rest' ++ more))) → Heard r text rest reader t → Heard r text rest' reader' t
-heard_part r text rest rest' reader reader' t law h = record {
-  lines = h.lines;
-  ahead_is = λ more. h.ahead_is more ∙ ap (behind_lines h.lines) (law more);
-  tallied = h.tallied;
-}
-
--- a line did
+-- a line became whole
 pub heard_line : (r : Right) (text rest rest' : List ℕ) (reader reader' : LineReader) (t t' : Tally) (line : Line)
     → ((more : List ℕ) → ahead reader (rest ++ more) ≡ with_lines (Some line) (ahead reader' (rest' ++ more)))
     → ((c : Contents) → Tallied r c t → Tallied r (with_said c line) t') → Heard r text rest reader t → Heard r text rest' reader' t'
@@ -39,19 +30,6 @@ heard_line r text rest rest' reader reader' t t' line law next h = record {
       h.ahead_is more ∙ ap (behind_lines h.lines) (law more)
       ∙ ap (λ (ls : List Line). record { lines = ls; fault = (ahead reader' (rest' ++ more)).fault }) (sym (append_assoc h.lines (line ∷ []) (ahead reader' (rest' ++ more)).lines));
   tallied = rw (gathered_last nothing h.lines line) (next (gathered nothing h.lines) h.tallied);
-}
-
--- a fault is the text's, whatever follows
-pub heard_fault : (r : Right) (text rest : List ℕ) (reader : LineReader) (t : Tally) (f : CertFault)
-    → ((more : List ℕ) → ahead reader (rest ++ more) ≡ stops f) → Heard r text rest reader t → (more : List ℕ) → (reading_of (text ++ more)).fault ≡ Some f
-heard_fault r text rest reader t f law h more = ap (λ (x : Reading). x.fault) (h.ahead_is more) ∙ ap (λ (x : Reading). x.fault) (law more)
-
--- a piece more is to be heard
-pub heard_piece : (r : Right) (text piece : List ℕ) (reader : LineReader) (t : Tally) → Heard r text [] reader t → Heard r (text ++ piece) piece reader t
-heard_piece r text piece reader t h = record {
-  lines = h.lines;
-  ahead_is = λ more. ap reading_of (append_assoc text piece more) ∙ h.ahead_is (piece ++ more);
-  tallied = h.tallied;
 }
 
 -- ---- a source

@@ -83,21 +83,6 @@ event_apart r x c t made on wrong h =
       made = λ e. absurd (let o = off in cc);
     }
 
--- nothing matters behind an event that isn't the run's
-pub event_passed : (r : Right) (x : Entry) (c : Contents) (t : Tally) → t.events.differs ≡ true → Tallied r c t → Tallied r (with_said c (lines.Event x)) t
-event_passed r x c t off h = record {
-  frames = h.frames;
-  owners = h.owners;
-  hebrews = h.hebrews;
-  classes = h.classes;
-  events = agrees_kept _ c.events x t.events off h.events;
-  sources = λ e. absurd (let o = off in cc);
-  result = h.result;
-  fit = h.fit;
-  last = λ e. absurd (let o = off in cc);
-  made = λ e. absurd (let o = off in cc);
-}
-
 same_source : (es : List Event) (n : ℕ) (e : Event) (x : Entry) (b : Bool) → slice_get es n ≡ Some e → IsTrue b ↔ (source_in x ≡ source_at es n e) → IsTrue b ↔ HasSource es n x
 same_source es n e x b at test = (
   (λ h. (e, at, test.0 h)),

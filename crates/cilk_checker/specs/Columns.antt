@@ -1,10 +1,11 @@
 -- The columns of a run, and the place of the first wrong item in one.
-use Rattle.std.specs.Prelude.{◌≡◌, ℕ, ◌+◌, ◌||◌, nat_lt, if◌then◌else◌, Option, Some, None}
+use Rattle.std.specs.Prelude.{◌≡◌, ℕ, ◌+◌, ◌||◌, nat_lt, if◌then◌else◌, Option, Some, None, MatchOption}
 use Rattle.cilk_tree.specs.Shape.{Shape, Spells}
 use Rattle.cilk_tree.specs.Tree.{tree}
 use Rattle.cilk_tree.specs.Hebrew.{hebrews}
 use Rattle.cilk_peers.specs.Peers.{class_numbers}
 use Rattle.cilk_listing.specs.Frames.{frames_of, owners_of}
+use Rattle.cilk_listing.specs.Right.{IsLeast, IsNowhere}
 use Rattle.cilk_checker.specs.declared.first.First.{First}
 use Rattle.cilk_checker.specs.declared.right.Right.{Right}
 
@@ -19,3 +20,7 @@ pub record HasColumns (s : Shape) (r : Right) : Type 0 where
 -- the place of the first wrong item, where so many items are right
 abbrev pub place_of : First → ℕ → Option ℕ
 place_of f count = if f.differs || nat_lt f.agreed count then Some (f.agreed + 1) else None
+
+-- the least place of which this holds; none where it holds of no place
+abbrev pub IsFirstPlace : (ℕ → Type 0) → Option ℕ → Type 0
+IsFirstPlace P found = MatchOption found (IsNowhere P) (λ k. IsLeast P k)

@@ -1,5 +1,7 @@
 -- What was found in the lines that came.
-use Rattle.std.specs.Prelude.{◌≡◌, ℕ, ◌<◌, ◌^◌, false, List, ◌++◌, take, length}
+use Rattle.std.specs.Prelude.{◌≡◌, ◌≢◌, ℕ, ◌<◌, ◌^◌, false, List, ◌++◌, take, length, Some}
+use Rattle.cilk_cert_text.specs.declared.fault.CertFault.{CertFault}
+use Rattle.cilk_cert_text.specs.declared.fault.CertFault.TheVariants.{Memory}
 use Rattle.cilk_cert_text.specs.declared.line.Frame.{Frame}
 use Rattle.cilk_cert_text.specs.declared.line.Strand.{Strand}
 use Rattle.cilk_cert_text.specs.declared.line.Line.{Line}
@@ -7,7 +9,7 @@ use Rattle.cilk_cert_text.specs.declared.reader.LineReader.{LineReader}
 use Rattle.cilk_cert_text.specs.Certificates.{Contents}
 use Rattle.cilk_cert_text.specs.Reading.{Reading, reading_of}
 use Rattle.cilk_cert_text.specs.Readers.{ahead}
-use Rattle.cilk_cert_text.specs.Gathering.{nothing, gathered}
+use Rattle.cilk_cert_text.specs.Gathering.{nothing, gathered, with_said}
 use Rattle.cilk_listing.specs.Sources.{AllFit, AreLast}
 use Rattle.cilk_listing.specs.Listed.{creations, ListsEvent, HasSource}
 use Rattle.cilk_listing.specs.Right.{IsAt}
@@ -36,6 +38,10 @@ pub record Tallied (r : Right) (c : Contents) (t : Tally) : Type 0 where
   pub last : t.events.differs ≡ false → AreLast r.trace t.events.agreed t.writes.positions.items
   pub made : t.events.differs ≡ false → t.made.made.items ≡ creations (take t.events.agreed r.trace)
 
+-- one line more is tallied, whatever certificate the lines so far are the beginning of
+abbrev pub TalliesLine : Right → Tally → Line → Tally → Type 0
+TalliesLine r t line t' = (c : Contents) → Tallied r c t → Tallied r (with_said c line) t'
+
 -- a reading behind these lines
 abbrev pub behind_lines : List Line → Reading → Reading
 behind_lines lines r = record { lines = lines ++ r.lines; fault = r.fault }
@@ -45,3 +51,7 @@ pub record Heard (r : Right) (text rest : List ℕ) (reader : LineReader) (t : T
   pub lines : List Line
   pub ahead_is : (more : List ℕ) → reading_of (text ++ more) ≡ behind_lines lines (ahead reader (rest ++ more))
   pub tallied : Tallied r (gathered nothing lines) t
+
+-- memory ran out, or each text that begins so has this fault
+abbrev pub IsFaultOf : List ℕ → CertFault → Type 0
+IsFaultOf text fault = fault ≢ Memory → (more : List ℕ) → (reading_of (text ++ more)).fault ≡ Some fault

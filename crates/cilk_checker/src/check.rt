@@ -34,6 +34,7 @@ pub fn check_run<S: Source>(
         IfErr result (λ e. IsUnaccepted (source_of program) input (S.remaining source.old) failed failed' e) }
     ensures uncounted { OnOk result (S.failed source.new ≡ S.failed source.old) }
     ensures lender { S.lender source.new ≡ S.lender source.old }
+    ensures kept { S.kept source.new ≡ S.kept source.old }
 {
     let (end, trace) = run_to_end(alloc, &program, &input)?;
     match end {

@@ -39,6 +39,7 @@ pub fn stopped<S: Source>(
         IfErr result (λ e. (p : Meaning) (inputs : List ℤ)
         → IsUnaccepted p inputs (S.remaining source.old) failed failed' e) }
     ensures lender { S.lender source.new ≡ S.lender source.old }
+    ensures kept { S.kept source.new ≡ S.kept source.old }
 {
     let tally = heard(alloc, right, source)?;
     Ok(found_before(&tally, right))
@@ -80,6 +81,7 @@ pub fn ended<S: Source>(
         → IsUnaccepted p inputs (S.remaining source.old) failed failed' e) }
     ensures uncounted { OnOk result (S.failed source.new ≡ S.failed source.old) }
     ensures lender { S.lender source.new ≡ S.lender source.old }
+    ensures kept { S.kept source.new ≡ S.kept source.old }
 {
     let tally = heard(alloc, right, source)?;
     if let Some(refusal) = first_found(alloc, &tally, right, outcome)? {

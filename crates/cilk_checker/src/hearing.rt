@@ -1,11 +1,9 @@
 //! Pieces of a certificate's text are read as lines, and the lines are compared.
 
-ghost use Rattle.std.specs.Prelude.{◌≡◌, ◌≢◌, ◌≤◌, ◌<◌, ◌+◌, ℕ, List, [], ◌++◌, Some, IfErr, IfOk, OnOk, length, drop};
-ghost use Rattle.cilk_cert_text.specs.declared.fault.CertFault.TheVariants.{Memory};
-ghost use Rattle.cilk_cert_text.specs.Reading.{reading_of};
+ghost use Rattle.std.specs.Prelude.{◌≡◌, ◌≤◌, ◌<◌, ◌+◌, ℕ, List, [], ◌++◌, IfErr, IfOk, OnOk, length, drop};
 ghost use Rattle.cilk_cert_text.specs.Gathering.{nothing};
 ghost use Rattle.cilk_cert_text.specs.Readers.{room_of};
-ghost use Rattle.cilk_checker.specs.Tallies.{AreFew, Heard, Tallied};
+ghost use Rattle.cilk_checker.specs.Tallies.{AreFew, Heard, IsFaultOf, Tallied};
 ghost use Rattle.cilk_checker.specs.Stops.{IsHeard, IsStop};
 
 use crate::right::Right;
@@ -24,11 +22,13 @@ fn hear_line(
 ) -> Result<usize, CertFault>
     requires few { AreFew right.now }
     requires heard { (text : List ℕ) × Heard right.now text piece.now reader.old tally.old }
-    ensures line { (text : List ℕ) → Heard right.now text piece.now reader.old tally.old → IfOk result (λ n. Heard right.now text (drop n piece.now) reader.new tally.new) }
+    ensures line { (text : List ℕ) → Heard right.now text piece.now reader.old tally.old
+        → IfOk result (λ n. Heard right.now text (drop n piece.now) reader.new tally.new) }
     ensures within { IfOk result (λ n. n ≤ length piece.now) }
     ensures room { IfOk result (λ n. room_of reader.new + n ≤ room_of reader.old) }
     ensures progress { IfOk result (λ n. n ≡ 0 → piece.now ≡ []) }
-    ensures fault { (text : List ℕ) → Heard right.now text piece.now reader.old tally.old → IfErr result (λ fault. fault ≢ Memory → (more : List ℕ) → (reading_of (text ++ more)).fault ≡ Some fault) }
+    ensures fault { (text : List ℕ) → Heard right.now text piece.now reader.old tally.old
+        → IfErr result (λ fault. IsFaultOf text fault) }
 {
     if let Some(line) = tally.due(right) {
         if let Some(taken) = reader.pass(piece, line) {
@@ -52,9 +52,11 @@ fn hear(
 ) -> Result<(), CertFault>
     requires few { AreFew right.now }
     requires heard { (text : List ℕ) × Heard right.now text [] reader.old tally.old }
-    ensures lines { (text : List ℕ) → Heard right.now text [] reader.old tally.old → OnOk result (Heard right.now (text ++ piece.now) [] reader.new tally.new) }
+    ensures lines { (text : List ℕ) → Heard right.now text [] reader.old tally.old
+        → OnOk result (Heard right.now (text ++ piece.now) [] reader.new tally.new) }
     ensures room { OnOk result (room_of reader.new + length piece.now ≤ room_of reader.old) }
-    ensures fault { (text : List ℕ) → Heard right.now text [] reader.old tally.old → IfErr result (λ fault. fault ≢ Memory → (more : List ℕ) → (reading_of ((text ++ piece.now) ++ more)).fault ≡ Some fault) }
+    ensures fault { (text : List ℕ) → Heard right.now text [] reader.old tally.old
+        → IfErr result (λ fault. IsFaultOf (text ++ piece.now) fault) }
 {
     let mut rest = piece;
     'lines: while !rest.is_empty() {
@@ -84,7 +86,8 @@ impl From<AllocError> for Stop {
     }
 }
 
-const PIECE: usize = 4096;
+// Large, since a file is opened anew for each pull.
+const PIECE: usize = 32_768;
 
 // Hears the whole text of a source, and pulls no more once a fault of the text is certain.
 fn hear_all<S: Source>(tally: &mut Tally, right: &Right, source: &mut S) -> Result<(), Stop>
@@ -95,6 +98,7 @@ fn hear_all<S: Source>(tally: &mut Tally, right: &Right, source: &mut S) -> Resu
     ensures stop { IfErr result (λ e. IsStop (S.remaining source.old) (S.failed source.old) (S.failed source.new) e) }
     ensures uncounted { OnOk result (S.failed source.new ≡ S.failed source.old) }
     ensures lender { S.lender source.new ≡ S.lender source.old }
+    ensures kept { S.kept source.new ≡ S.kept source.old }
 {
     let mut reader = LineReader::new();
     let mut buffer = [0u8; PIECE];
@@ -125,6 +129,7 @@ pub fn heard<S: Source>(alloc: Global, right: &Right, source: &mut S) -> Result<
     ensures stop { IfErr result (λ e. IsStop (S.remaining source.old) (S.failed source.old) (S.failed source.new) e) }
     ensures uncounted { OnOk result (S.failed source.new ≡ S.failed source.old) }
     ensures lender { S.lender source.new ≡ S.lender source.old }
+    ensures kept { S.kept source.new ≡ S.kept source.old }
 {
     let mut tally = Tally::new(alloc, right)?;
     hear_all(&mut tally, right, source)?;

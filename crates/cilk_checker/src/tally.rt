@@ -11,7 +11,7 @@ use crate::right::{Right, event_behind, has, has_class, has_frame, has_hebrew};
 use cilk_cert_text::line::{Entry, Frame, Line, Strand};
 use cilk_listing::entries::{Creations, entry, source_due, source_of};
 use cilk_listing::sources::{LastWrites, cells_written};
-use cilk_types::event::{Event, FrameNo, StrandNo};
+use cilk_types::event::Event;
 use std::alloc::{AllocError, Global};
 
 /// What was found so far.
@@ -40,15 +40,16 @@ fn lists(made: &Creations, entry: Entry, event: &Event) -> bool
 
 // Whether the entry gives the source of its event, where it is a read.
 fn has_source(writes: &LastWrites, entry: Entry, event: &Event) -> bool
-    ensures { (es : List Event) (n : ℕ) → AreLast es n writes.now.positions.items → IsTrue result ↔ (source_in entry ≡ source_at es n event.now) }
+    ensures { (es : List Event) (n : ℕ) → AreLast es n writes.now.positions.items
+        → IsTrue result ↔ (source_in entry ≡ source_at es n event.now) }
 {
     source_of(entry) == source_due(writes, event)
 }
 
 impl Tally {
-    ghost use Rattle.cilk_cert_text.specs.Gathering.{nothing, with_said};
+    ghost use Rattle.cilk_cert_text.specs.Gathering.{nothing};
     ghost use Rattle.cilk_cert_text.specs.declared.line.Line.TheVariants as lines;
-    ghost use Rattle.cilk_checker.specs.Tallies.{AreFew, Tallied};
+    ghost use Rattle.cilk_checker.specs.Tallies.{AreFew, Tallied, TalliesLine};
 
     /// Before the first line.
     pub fn new(alloc: Global, right: &Right) -> Result<Tally, AllocError>
@@ -67,17 +68,17 @@ impl Tally {
         })
     }
 
-    fn meet_frame(&mut self, right: &Right, number: FrameNo, frame: Frame)
+    fn meet_frame(&mut self, right: &Right, frame: Frame)
         requires few { AreFew right.now }
-        ensures { (c : Contents) → Tallied right.now c self.old → Tallied right.now (with_said c (lines.Frame number frame)) self.new }
+        ensures { (number : ℕ) → TalliesLine right.now self.old (lines.Frame number frame) self.new }
     {
         let is_right = has_frame(right.frames.as_slice(), self.frames.agreed, frame);
         self.frames.meet(is_right);
     }
 
-    fn meet_strand(&mut self, right: &Right, number: StrandNo, strand: Strand)
+    fn meet_strand(&mut self, right: &Right, strand: Strand)
         requires few { AreFew right.now }
-        ensures { (c : Contents) → Tallied right.now c self.old → Tallied right.now (with_said c (lines.Strand number strand)) self.new }
+        ensures { (number : ℕ) → TalliesLine right.now self.old (lines.Strand number strand) self.new }
     {
         let is_owner = has(right.owners.as_slice(), self.owners.agreed, strand.frame);
         self.owners.meet(is_owner);
@@ -90,7 +91,7 @@ impl Tally {
     fn meet_event(&mut self, right: &Right, entry: Entry) -> Result<(), AllocError>
         requires few { AreFew right.now }
         requires heard { (c : Contents) × Tallied right.now c self.old }
-        ensures { (c : Contents) → Tallied right.now c self.old → OnOk result (Tallied right.now (with_said c (lines.Event entry)) self.new) }
+        ensures { OnOk result (TalliesLine right.now self.old (lines.Event entry) self.new) }
     {
         if self.events.differs {
             return Ok(());
@@ -143,8 +144,8 @@ impl Tally {
         Some(Line::Event(entry(&event, &self.writes)))
     }
 
-    /// The line that comes next where all that came is right, if it is one of a frame, a strand or an event. It is a guess, so that
-    /// the text is compared with it before it is read: what the text says is found out there.
+    /// The line that comes next where all that came is right, if it is one of a frame, a strand or an event. It is a guess,
+    /// so that the text is compared with it before it is read: what the text says is found out there.
     pub fn due(&self, right: &Right) -> Option<Line> {
         if self.events.differs {
             return None;
@@ -162,12 +163,12 @@ impl Tally {
     pub fn meet(&mut self, right: &Right, line: Line) -> Result<(), AllocError>
         requires few { AreFew right.now }
         requires heard { (c : Contents) × Tallied right.now c self.old }
-        ensures { (c : Contents) → Tallied right.now c self.old → OnOk result (Tallied right.now (with_said c line) self.new) }
+        ensures { OnOk result (TalliesLine right.now self.old line self.new) }
     {
         match line {
             Line::Version(_) | Line::Size(_) | Line::End => {}
-            Line::Frame { number, frame } => self.meet_frame(right, number, frame),
-            Line::Strand { number, strand } => self.meet_strand(right, number, strand),
+            Line::Frame { frame, .. } => self.meet_frame(right, frame),
+            Line::Strand { strand, .. } => self.meet_strand(right, strand),
             Line::Event(entry) => self.meet_event(right, entry)?,
             Line::Result(value) => self.result = value,
         }

@@ -3,8 +3,8 @@
 ghost use Rattle.std.specs.Prelude.{◌≡◌, ◌↔◌, IsTrue, MatchOption};
 ghost use Rattle.cilk_tree.specs.Shape.{Shape};
 ghost use Rattle.cilk_cert_text.specs.Certificates.{Contents};
-ghost use Rattle.cilk_listing.specs.Right.{EventIsWrong, FrameIsWrong, OwnerIsWrong, HebrewIsWrong, ClassIsWrong, SourceIsWrong, IsNowhere, IsLeast, IsRight};
-ghost use Rattle.cilk_checker.specs.Columns.{HasColumns, place_of};
+ghost use Rattle.cilk_listing.specs.Right.{EventIsWrong, FrameIsWrong, OwnerIsWrong, HebrewIsWrong, ClassIsWrong, SourceIsWrong, IsNowhere, IsRight};
+ghost use Rattle.cilk_checker.specs.Columns.{HasColumns, IsFirstPlace, place_of};
 ghost use Rattle.cilk_checker.specs.Refusals.{IsFound};
 ghost use Rattle.cilk_checker.specs.Tallies.{Tallied};
 
@@ -34,45 +34,53 @@ fn is_same(one: &i64, other: &i64) -> bool
 
 /// The first event that isn't the run's.
 pub(crate) fn wrong_event(tally: &Tally, right: &Right) -> Option<u64>
-    ensures { (c : Contents) → Tallied right.now c tally.now → MatchOption result (IsNowhere (EventIsWrong right.now.trace c)) (λ k. IsLeast (EventIsWrong right.now.trace c) k) }
+    ensures { (c : Contents) → Tallied right.now c tally.now
+        → IsFirstPlace (EventIsWrong right.now.trace c) result }
 {
     place(tally.events, right.trace.len())
 }
 
 fn wrong_frame(tally: &Tally, right: &Right) -> Option<u64>
-    ensures { (s : Shape) (c : Contents) → HasColumns s right.now → Tallied right.now c tally.now → MatchOption result (IsNowhere (FrameIsWrong s c)) (λ k. IsLeast (FrameIsWrong s c) k) }
+    ensures { (s : Shape) (c : Contents) → HasColumns s right.now → Tallied right.now c tally.now
+        → IsFirstPlace (FrameIsWrong s c) result }
 {
     place(tally.frames, right.frame_count())
 }
 
 fn wrong_owner(tally: &Tally, right: &Right) -> Option<u64>
-    ensures { (s : Shape) (c : Contents) → HasColumns s right.now → Tallied right.now c tally.now → MatchOption result (IsNowhere (OwnerIsWrong s c)) (λ k. IsLeast (OwnerIsWrong s c) k) }
+    ensures { (s : Shape) (c : Contents) → HasColumns s right.now → Tallied right.now c tally.now
+        → IsFirstPlace (OwnerIsWrong s c) result }
 {
     place(tally.owners, right.owner_count())
 }
 
 fn wrong_hebrew(tally: &Tally, right: &Right) -> Option<u64>
-    ensures { (s : Shape) (c : Contents) → HasColumns s right.now → Tallied right.now c tally.now → MatchOption result (IsNowhere (HebrewIsWrong s c)) (λ k. IsLeast (HebrewIsWrong s c) k) }
+    ensures { (s : Shape) (c : Contents) → HasColumns s right.now → Tallied right.now c tally.now
+        → IsFirstPlace (HebrewIsWrong s c) result }
 {
     place(tally.hebrews, right.labels.count() as usize)
 }
 
 fn wrong_class(tally: &Tally, right: &Right) -> Option<u64>
-    ensures { (s : Shape) (c : Contents) → HasColumns s right.now → Tallied right.now c tally.now → MatchOption result (IsNowhere (ClassIsWrong s c)) (λ k. IsLeast (ClassIsWrong s c) k) }
+    ensures { (s : Shape) (c : Contents) → HasColumns s right.now → Tallied right.now c tally.now
+        → IsFirstPlace (ClassIsWrong s c) result }
 {
     place(tally.classes, right.classes.count() as usize)
 }
 
 // Where all events are the run's.
 fn wrong_source(tally: &Tally, right: &Right) -> Option<u64>
-    ensures { (c : Contents) → IsNowhere (EventIsWrong right.now.trace c) → Tallied right.now c tally.now → MatchOption result (IsNowhere (SourceIsWrong right.now.trace c)) (λ k. IsLeast (SourceIsWrong right.now.trace c) k) }
+    ensures { (c : Contents) → IsNowhere (EventIsWrong right.now.trace c) → Tallied right.now c tally.now
+        → IsFirstPlace (SourceIsWrong right.now.trace c) result }
 {
     place(tally.sources, right.trace.len())
 }
 
 /// The first difference of a certificate whose lines were tallied, in the order of the passes.
 pub(crate) fn first_difference(tally: &Tally, right: &Right, outcome: &Outcome) -> Option<Refusal>
-    ensures { (s : Shape) (c : Contents) → HasColumns s right.now → Tallied right.now c tally.now → MatchOption result (IsRight s right.now.trace outcome.now.result c) (λ r. IsFound s right.now.trace outcome.now.result c r) }
+    ensures { (s : Shape) (c : Contents) → HasColumns s right.now → Tallied right.now c tally.now
+        → MatchOption result (IsRight s right.now.trace outcome.now.result c)
+        (λ r. IsFound s right.now.trace outcome.now.result c r) }
 {
     if let Some(at) = wrong_event(tally, right) {
         return Some(Refusal::Event { at });

@@ -12,7 +12,8 @@ use Rattle.cilk_types.specs.declared.limits.TheConstants.{MAX_TICKS}
 use Rattle.cilk_monoid.specs.declared.kind.MonoidKind.{MonoidKind}
 use Rattle.cilk_monoid.specs.declared.kind.MonoidKind.TheVariants.{Add, Least, Greatest, Append, Affine}
 use Rattle.cilk_monoid.specs.Kinds.{structure_of, IsMember}
-use Rattle.cilk_monoid.specs.Values.{ViewValue, Number, Elements, Map, IsWord}
+use Rattle.cilk_monoid.specs.Values.{ViewValue, Number, Elements, Map}
+use Rattle.cilk_types.specs.Word.{IsWord}
 use Rattle.cilk_program.specs.declared.ask.Ask as language
 use Rattle.cilk_program.specs.declared.ask.Ask.TheVariants as asks
 use Rattle.cilk_program.specs.declared.ask.Callee.{Callee}

@@ -5,7 +5,7 @@
 use Rattle.std.proofs.Common.{ℤ, List, [], ◌∷◌, map, Option, Some, None}
 use Rattle.std.specs.List.{All}
 use Rattle.std.proofs.lemmas.List.Elements.{All-head, All-tail}
-use Rattle.cilk_monoid.specs.Values.{IsWord}
+use Rattle.cilk_types.specs.Word.{IsWord}
 use Rattle.cilk_program.specs.declared.program.Function as declared_functions
 use Rattle.cilk_program.specs.declared.program.Loop as declared_loops
 use Rattle.cilk_program.specs.declared.program.Program.{Program}

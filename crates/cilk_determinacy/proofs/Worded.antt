@@ -6,11 +6,10 @@ use Rattle.cilk_meaning.proofs.Intervals.{below_from}
 use Rattle.std.specs.Int.Signed.{mag, mag_rem}
 use Rattle.cilk_meaning.proofs.Halves.{halves}
 use Rattle.cilk_types.specs.Input.{input_at, input_count}
-use Rattle.cilk_types.specs.Word.{word_of}
+use Rattle.cilk_types.specs.Word.{word_of, IsWord}
 use Rattle.cilk_types.specs.declared.fault.Fault.{Fault}
 use Rattle.cilk_types.specs.declared.fault.Fault.TheVariants.{DivisionByZero, IndexOutside, InputOutside}
 use Rattle.cilk_monoid.specs.declared.kind.MonoidKind.{MonoidKind}
-use Rattle.cilk_monoid.specs.Values.{IsWord}
 use Rattle.cilk_program.specs.declared.ask.Ask.{Ask}
 use Rattle.cilk_program.specs.declared.ask.Ask.TheVariants as asks
 use Rattle.cilk_program.specs.declared.ask.Callee.{Callee}

@@ -9,7 +9,8 @@ use Rattle.cilk_monoid.specs.declared.kind.MonoidKind.TheVariants.{Add, Least, G
 use Rattle.cilk_monoid.specs.Kinds.{structure_of, size_of, IsMember, same_kind}
 use Rattle.cilk_monoid.specs.Lawful.{lawful}
 use Rattle.cilk_monoid.specs.Ranges.{same_instance}
-use Rattle.cilk_monoid.specs.Values.{ViewValue, Number, Elements, Map, IsWord}
+use Rattle.cilk_monoid.specs.Values.{ViewValue, Number, Elements, Map}
+use Rattle.cilk_types.specs.Word.{IsWord}
 use Rattle.cilk_program.specs.declared.ask.Ask.{Ask}
 use Rattle.cilk_program.specs.declared.ask.Ask.TheVariants as asks
 use Rattle.cilk_types.specs.declared.invocation.Invocation.{Invocation}

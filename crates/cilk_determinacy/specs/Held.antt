@@ -1,7 +1,7 @@
 -- Frames hold views of the language in each state that steps of the free machine lead to.
 use Rattle.std.specs.Prelude.{◌≡◌, ℕ, ℤ, List, [], ◌∷◌, Some}
 use Rattle.cilk_monoid.specs.declared.kind.MonoidKind.TheVariants.{Append}
-use Rattle.cilk_monoid.specs.Values.{IsWord}
+use Rattle.cilk_types.specs.Word.{IsWord}
 use Rattle.cilk_program.specs.Syntax.{Source}
 use Rattle.cilk_runs.specs.Runs.{Name, Reads, Writes, Syncs, Ends, Passes, Begins, Resumes, Creates, Updates, Sets, Values, Prints, Deed, Does, Invokes}
 use Rattle.cilk_runs.specs.Machine.{Frame, State}

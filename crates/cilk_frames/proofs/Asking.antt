@@ -11,7 +11,7 @@ use Rattle.cilk_lower.specs.Code.{CodeView}
 use Rattle.cilk_lower.specs.declared.code.Owed.{Owed}
 use Rattle.cilk_frames.specs.declared.cursor.Answer.{Answer}
 use Rattle.cilk_frames.specs.Cursor.{CursorView}
-use Rattle.cilk_frames.specs.Following.{Asking, Fits, GoesOn, HasAnswer, Runs, Stands, owed_for, word_in}
+use Rattle.cilk_frames.specs.Following.{Asking, Fits, GoesOn, HasAnswer, Stands, owed_for, word_in}
 
 -- a frame at its beginning
 pub asking_first : (code : CodeView) (inputs : List ℤ) (p : Source) (callee : Callee) (c : CursorView) (left : ℕ) → Stands code inputs p callee c [] 0 → c.owed ≡ owed_for Begin → Asking code inputs p callee c [] 0 Begin left
@@ -20,10 +20,7 @@ asking_first code inputs p callee c left h e =
     record { asks = ap (asks_for Begin) same; stands = λ _. h; owes = λ _. e }
 
 module _ (code : CodeView) (inputs : List ℤ) (p : Source) (callee : Callee) (c : CursorView) (history : List ℤ) (took : ℕ) (k : Ask) (left0 : ℕ) where
-  -- the two conditions of a step, where the answer is to what was asked
-  pub asking_runs : Asking code inputs p callee c history took k left0 → HasAnswer k → Runs code inputs c
-  asking_runs a h = (_, a.stands h)
-
+  -- the answer is to what was asked
   pub asking_fits : (answer : Answer) → Asking code inputs p callee c history took k left0 → HasAnswer k → Fits (owed_for k) answer → Fits c.owed answer
   asking_fits answer a h f = subst (λ (o : Owed). Fits o answer) (sym (a.owes h)) f
 

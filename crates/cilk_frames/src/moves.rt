@@ -21,8 +21,8 @@ use cilk_program::syntax::{Array, Place};
 use cilk_types::fault::Fault;
 use cilk_types::invocation::Invocation;
 
-/// What an instruction did: it went on, it asked and waits for the answer, it asked for the last time, or it invokes the
-/// function of a call site, whose words still stand on the stack.
+/// What an instruction did: it went on, it asked and waits for the answer, it asked for the last time, or it invokes
+/// the function of a call site, whose words still stand on the stack.
 #[derive(Clone, Copy)]
 pub enum Moved {
     Goes,
@@ -67,7 +67,8 @@ pub fn put(cursor: &mut Cursor, word: i64) -> Moved
 /// A statement begins.
 pub fn tick(cursor: &mut Cursor, left: &mut u32, asked: &mut AskSlot) -> Moved
     requires { cursor.old.place < 2 ^ 63 }
-    ensures moves { (code : CodeView) → ticked left.old (Goes (cursor.old.place + 1) cursor.old.stack cursor.old.held) ≡ moved code result asked.new cursor.new left.new }
+    ensures moves { (code : CodeView) → ticked left.old (Goes (cursor.old.place + 1) cursor.old.stack cursor.old.held)
+        ≡ moved code result asked.new cursor.new left.new }
     ensures room { cursor.new.room ≡ cursor.old.room }
     ensures given { cursor.new.given ≡ cursor.old.given }
     ensures falls { IsGoing result → left.old ≡ suc left.new }
@@ -82,7 +83,9 @@ pub fn tick(cursor: &mut Cursor, left: &mut u32, asked: &mut AskSlot) -> Moved
 /// A value is asked for, which takes its tick first.
 pub fn load(cursor: &mut Cursor, ask: Brief, left: &mut u32, asked: &mut AskSlot) -> Moved
     requires { cursor.old.place < 2 ^ 63 }
-    ensures moves { (code : CodeView) → ticked left.old (Waits (in_full ask) Word (cursor.old.place + 1) cursor.old.stack cursor.old.held) ≡ moved code result asked.new cursor.new left.new }
+    ensures moves { (code : CodeView) → ticked left.old
+        (Waits (in_full ask) Word (cursor.old.place + 1) cursor.old.stack cursor.old.held)
+        ≡ moved code result asked.new cursor.new left.new }
     ensures room { cursor.new.room ≡ cursor.old.room }
     ensures given { cursor.new.given ≡ cursor.old.given }
     ensures asks { IsGoing result → ⊥ }
@@ -98,7 +101,10 @@ pub fn load_element(cursor: &mut Cursor, array: Array, left: &mut u32, asked: &m
     requires index { cursor.old.stack ≢ [] }
     requires array { array.first + array.length ≤ 2 ^ 32 }
     requires small { cursor.old.place < 2 ^ 63 }
-    ensures moves { (code : CodeView) → on_top cursor.old.stack (λ i rest. or_stops IndexOutside (element array i) left.old (λ x. ticked left.old (Waits (asks.Read x) Word (cursor.old.place + 1) rest cursor.old.held))) ≡ moved code result asked.new cursor.new left.new }
+    ensures moves { (code : CodeView) → on_top cursor.old.stack (λ i rest. or_stops IndexOutside
+        (element array i) left.old (λ x. ticked left.old
+        (Waits (asks.Read x) Word (cursor.old.place + 1) rest cursor.old.held)))
+        ≡ moved code result asked.new cursor.new left.new }
     ensures room { cursor.new.room ≡ cursor.old.room }
     ensures given { cursor.new.given ≡ cursor.old.given }
     ensures asks { IsGoing result → ⊥ }
@@ -115,7 +121,9 @@ pub fn fetch_element(cursor: &mut Cursor, array: Array, asked: &mut AskSlot) -> 
     requires index { cursor.old.stack ≢ [] }
     requires array { array.first + array.length ≤ 2 ^ 32 }
     requires small { cursor.old.place < 2 ^ 63 }
-    ensures moves { (code : CodeView) (left : ℕ) → on_top cursor.old.stack (λ i rest. or_stops IndexOutside (element array i) left (λ x. Waits (asks.Read x) Word (cursor.old.place + 1) (i ∷ rest) cursor.old.held left)) ≡ moved code result asked.new cursor.new left }
+    ensures moves { (code : CodeView) (left : ℕ) → on_top cursor.old.stack (λ i rest. or_stops IndexOutside
+        (element array i) left (λ x. Waits (asks.Read x) Word (cursor.old.place + 1) (i ∷ rest) cursor.old.held left))
+        ≡ moved code result asked.new cursor.new left }
     ensures room { cursor.new.room ≡ cursor.old.room }
     ensures given { cursor.new.given ≡ cursor.old.given }
     ensures asks { IsGoing result → ⊥ }
@@ -143,7 +151,9 @@ pub fn store_element(cursor: &mut Cursor, array: Array, asked: &mut AskSlot) -> 
     requires operands { on_two cursor.old.stack (λ i v rest. Goes 0 rest v 0) ≢ Stuck }
     requires array { array.first + array.length ≤ 2 ^ 32 }
     requires small { cursor.old.place < 2 ^ 63 }
-    ensures moves { (code : CodeView) (left : ℕ) → on_two cursor.old.stack (λ i v rest. or_stops IndexOutside (element array i) left (λ x. Waits (asks.Write x v) Nothing (cursor.old.place + 1) rest cursor.old.held left)) ≡ moved code result asked.new cursor.new left }
+    ensures moves { (code : CodeView) (left : ℕ) → on_two cursor.old.stack (λ i v rest. or_stops IndexOutside
+        (element array i) left (λ x. Waits (asks.Write x v) Nothing (cursor.old.place + 1) rest cursor.old.held left))
+        ≡ moved code result asked.new cursor.new left }
     ensures room { cursor.new.room ≡ cursor.old.room }
     ensures given { cursor.new.given ≡ cursor.old.given }
     ensures asks { IsGoing result → ⊥ }
@@ -160,7 +170,10 @@ pub fn store_element(cursor: &mut Cursor, array: Array, asked: &mut AskSlot) -> 
 pub fn call_loop(cursor: &mut Cursor, number: u32, asked: &mut AskSlot) -> Moved
     requires operands { on_two cursor.old.stack (λ low high rest. on_none rest (Goes 0 [] low 0)) ≢ Stuck }
     requires small { cursor.old.place < 2 ^ 63 }
-    ensures moves { (code : CodeView) (left : ℕ) → on_two cursor.old.stack (λ low high rest. on_none rest (if int_lt low high then Waits (loop_called number low high) Nothing (cursor.old.place + 1) [] cursor.old.held left else Goes (cursor.old.place + 2) [] cursor.old.held left)) ≡ moved code result asked.new cursor.new left }
+    ensures moves { (code : CodeView) (left : ℕ) → on_two cursor.old.stack (λ low high rest. on_none rest
+        (if int_lt low high then Waits (loop_called number low high) Nothing (cursor.old.place + 1) [] cursor.old.held
+        left else Goes (cursor.old.place + 2) [] cursor.old.held left))
+        ≡ moved code result asked.new cursor.new left }
     ensures room { cursor.new.room ≡ cursor.old.room }
     ensures given { cursor.new.given ≡ cursor.old.given }
     ensures onward { cursor.old.place < cursor.new.place }
@@ -200,7 +213,8 @@ pub fn invoke_turns(
 pub fn skip_if(cursor: &mut Cursor, skips: bool, count: usize) -> Moved
     requires { cursor.old.place + 1 + count < 2 ^ 64 }
     ensures moved { result ≡ Moved.Goes }
-    ensures cursor { cursor.new ≡ record cursor.old { place = if skips then cursor.old.place + 1 + count else cursor.old.place + 1 } }
+    ensures cursor { cursor.new ≡ record cursor.old
+        { place = if skips then cursor.old.place + 1 + count else cursor.old.place + 1 } }
 {
     if skips {
         cursor.skip(count);
@@ -213,7 +227,10 @@ pub fn skip_if(cursor: &mut Cursor, skips: bool, count: usize) -> Moved
 /// The result that is held goes to the caller, if it takes one.
 pub fn give_result(cursor: &mut Cursor, asked: &mut AskSlot) -> Moved
     requires { cursor.old.place < 2 ^ 63 }
-    ensures moves { (code : CodeView) (left : ℕ) → (if cursor.old.given.takes then Waits (asks.Result cursor.old.held) Nothing (cursor.old.place + 1) cursor.old.stack cursor.old.held left else Goes (cursor.old.place + 1) cursor.old.stack cursor.old.held left) ≡ moved code result asked.new cursor.new left }
+    ensures moves { (code : CodeView) (left : ℕ) → (if cursor.old.given.takes
+        then Waits (asks.Result cursor.old.held) Nothing (cursor.old.place + 1) cursor.old.stack cursor.old.held left
+        else Goes (cursor.old.place + 1) cursor.old.stack cursor.old.held left)
+        ≡ moved code result asked.new cursor.new left }
     ensures room { cursor.new.room ≡ cursor.old.room }
     ensures given { cursor.new.given ≡ cursor.old.given }
     ensures onward { cursor.new.place ≡ cursor.old.place + 1 }
@@ -231,7 +248,9 @@ pub fn give_result(cursor: &mut Cursor, asked: &mut AskSlot) -> Moved
 pub fn give(cursor: &mut Cursor, word: i64, left: &mut u32, asked: &mut AskSlot) -> Moved
     requires room { length cursor.old.stack < cursor.old.room }
     requires small { cursor.old.place < 2 ^ 63 }
-    ensures moves { (code : CodeView) → ticked left.old (Goes (cursor.old.place + 1) (word ∷ cursor.old.stack) cursor.old.held) ≡ moved code result asked.new cursor.new left.new }
+    ensures moves { (code : CodeView) → ticked left.old
+        (Goes (cursor.old.place + 1) (word ∷ cursor.old.stack) cursor.old.held)
+        ≡ moved code result asked.new cursor.new left.new }
     ensures room { cursor.new.room ≡ cursor.old.room }
     ensures given { cursor.new.given ≡ cursor.old.given }
     ensures falls { IsGoing result → left.old ≡ suc left.new }
@@ -252,7 +271,9 @@ pub fn give_checked(
 ) -> Moved
     requires room { length cursor.old.stack < cursor.old.room }
     requires small { cursor.old.place < 2 ^ 63 }
-    ensures moves { (code : CodeView) → or_stops fault word left.old (λ v. ticked left.old (Goes (cursor.old.place + 1) (v ∷ cursor.old.stack) cursor.old.held)) ≡ moved code result asked.new cursor.new left.new }
+    ensures moves { (code : CodeView) → or_stops fault word left.old (λ v. ticked left.old
+        (Goes (cursor.old.place + 1) (v ∷ cursor.old.stack) cursor.old.held))
+        ≡ moved code result asked.new cursor.new left.new }
     ensures room { cursor.new.room ≡ cursor.old.room }
     ensures given { cursor.new.given ≡ cursor.old.given }
     ensures falls { IsGoing result → left.old ≡ suc left.new }

@@ -53,9 +53,31 @@ pub fn step_into(
     ensures follows { Steps code.now input.now cursor.old answer left.old asked.new cursor.new left.new }
     ensures stands { (p : Source) (callee : Callee) (history : List ℤ) (took : ℕ) → Stands code.now input.now p callee cursor.old history took → GoesOn code.now input.now cursor.old answer left.old asked.new cursor.new left.new p callee history took }
 {
+    // A number of its own, so that it stays in a register.
+    let mut ticks = *left;
+    go_on(code, input, cursor, answer, &mut ticks, asked);
+    *left = ticks;
+}
+
+// The step of `step_into`, instruction by instruction.
+#[inline(always)]
+fn go_on(
+    code: &Code,
+    input: &Input,
+    cursor: &mut Cursor,
+    answer: Answer,
+    left: &mut u32,
+    asked: &mut AskSlot,
+)
+    requires runs { Runs code.now input.now cursor.old }
+    requires fits { Fits cursor.old.owed answer }
+    ensures follows { Steps code.now input.now cursor.old answer left.old asked.new cursor.new left.new }
+    ensures stands { (p : Source) (callee : Callee) (history : List ℤ) (took : ℕ) → Stands code.now input.now p callee cursor.old history took → GoesOn code.now input.now cursor.old answer left.old asked.new cursor.new left.new p callee history took }
+{
     cursor.receive(answer);
+    let instrs = code.instrs();
     'each: loop {
-        match advance(code, input, cursor, left, asked) {
+        match advance(code, instrs, input, cursor, left, asked) {
             Moved::Goes => {}
             Moved::Waits => return,
             Moved::Stops => return,
@@ -69,18 +91,20 @@ pub fn step_into(
 #[tactic(auto, using(crate::proofs::Effort::effort_back))]
 fn advance(
     code: &Code,
+    instrs: &[Instr],
     input: &Input,
     cursor: &mut Cursor,
     left: &mut u32,
     asked: &mut AskSlot,
 ) -> Moved
-    requires { move_at code.now input.now cursor.old left.old ≢ Stuck }
+    requires instrs { instrs.now ≡ code.now.instrs }
+    requires moves { move_at code.now input.now cursor.old left.old ≢ Stuck }
     ensures moves { move_at code.now input.now cursor.old left.old ≡ moved code.now result asked.new cursor.new left.new }
     ensures room { cursor.new.room ≡ cursor.old.room }
     ensures given { cursor.new.given ≡ cursor.old.given }
     ensures falls { IsGoing result → effort code.now.instrs cursor.new.place left.new < effort code.now.instrs cursor.old.place left.old }
 {
-    match code.at(cursor.place()) {
+    match code.at(instrs, cursor.place()) {
         Instr::Tick => tick(cursor, left, asked),
         Instr::Push(word) => give(cursor, *word, left, asked),
         Instr::Load(place) => load(cursor, Brief::Read(*place), left, asked),

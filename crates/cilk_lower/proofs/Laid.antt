@@ -1,8 +1,7 @@
--- The layout of a program: `map_next` for lists that a loop makes item by item; `function_frame_is` and `loop_cells_are`, what the layout's
--- lists have at a number; `lays_out`, the layout as a whole.
-use Rattle.std.proofs.Common.{◌≡◌, ℕ, zero, suc, ◌+◌, ◌<◌, ℤ, pos, ◌-ℤ◌, int_eq, if◌then◌else◌, map, List, [], ◌∷◌, ◌++◌, length, get_or, take, refl, sym, ap, ◌∙◌}
+-- The layout of a program: `function_frame_is` and `loop_cells_are`, what the layout's lists have at a number; `lays_out`, the layout as
+-- a whole.
+use Rattle.std.proofs.Common.{◌≡◌, ℕ, zero, suc, ℤ, pos, ◌-ℤ◌, int_eq, if◌then◌else◌, map, List, [], ◌∷◌, refl, ap, ◌∙◌}
 use Rattle.std.specs.Prelude.{slice_get, unwrap_or}
-use Rattle.std.proofs.lemmas.List.{take_more, map-append}
 use Rattle.cilk_program.specs.declared.ask.Callee.{Callee}
 use Rattle.cilk_program.specs.declared.ask.Callee.TheVariants as callees
 use Rattle.cilk_program.specs.declared.program.Function as declared_functions
@@ -15,11 +14,6 @@ use Rattle.cilk_lower.specs.declared.layout.FrameLayout.{FrameLayout}
 use Rattle.cilk_lower.specs.declared.layout.Layout.{Layout}
 use Rattle.cilk_lower.specs.Layout.{LaysOut, bare, cells_in, frame_of, function_frame, reducers_in}
 use Rattle.cilk_lower.specs.Plain.{is_plain}
-
--- one more item
-pub map_next : {A B : Type 0} (f : A → B) (xs : List A) (i : ℕ) (x : A) (ys ys' : List B) → i < length xs → x ≡ get_or xs i x → ys ≡ map f (take i xs) → ys' ≡ ys ++ f x ∷ [] → ys' ≡ map f (take (i + 1) xs)
-map_next f xs i x ys ys' low is e e' =
-    e' ∙ ap (λ l. l ++ f x ∷ []) e ∙ sym (map-append f (take i xs) (x ∷ [])) ∙ ap (map f) (ap (λ z. take i xs ++ z ∷ []) is ∙ sym (take_more xs i x low))
 
 -- what a list has at a number, if it stands for another
 found : {A B C : Type 0} (f : B → C) (g : A → B) (xs : List A) (k : ℕ) (d : B) → unwrap_or (slice_get (map (λ x. f (g x)) xs) k) (f d) ≡ f (unwrap_or (slice_get (map g xs) k) d)

@@ -207,17 +207,27 @@ impl Code {
         self.instrs.len()
     }
 
-    /// The instruction at a place.
+    /// The instructions in order.
+    pub fn instrs(&self) -> &[Instr]
+        ensures { result.now ≡ self.now.instrs }
+    {
+        &self.instrs
+    }
+
+    /// The instruction at a place of [`Code::instrs`], which a run of many instructions asks for once.
     #[tactic(auto, using(crate::proofs::Lands::lands_there, crate::proofs::Arrays::fits_there))]
-    pub fn at(&self, place: usize) -> &Instr
-        requires { slice_get self.now.instrs place ≢ None }
+    pub fn at<'a>(&self, instrs: &'a [Instr], place: usize) -> &'a Instr
+        requires instrs { instrs.now ≡ self.now.instrs }
+        requires there { slice_get self.now.instrs place ≢ None }
         ensures value { slice_get self.now.instrs place ≡ Some result.now }
         ensures lands { Lands self.now.instrs place result.now }
         ensures arrays { ArrayFits result.now }
         ensures small { place < 2 ^ 63 }
         ensures fits { length self.now.instrs < 2 ^ 63 }
     {
-        there(&self.instrs, place)
+        // For the proof alone: what all instructions keep is known of the field.
+        let _ = &self.instrs;
+        there(instrs, place)
     }
 
     /// The call site with a number.

@@ -1,13 +1,13 @@
 -- The five monoids that programs name.
 use Rattle.std.specs.Prelude.{Bool, true, false, ℕ, ℤ, pos, negsuc, ◌+ℤ◌, ◌*ℤ◌, [], ◌∷◌, ◌++◌, length, All}
 use Rattle.std.specs.Int.{int_max, int_min}
-use Rattle.cilk_types.specs.Word.{word_of}
+use Rattle.cilk_types.specs.Word.{word_of, IsWord}
 use Rattle.cilk_types.specs.declared.outcome.Final.{Final}
 use Rattle.cilk_types.specs.declared.outcome.Final.TheVariants as final
 use Rattle.cilk_monoid.specs.declared.kind.MonoidKind.{MonoidKind}
 use Rattle.cilk_monoid.specs.declared.kind.MonoidKind.TheVariants.{Add, Least, Greatest, Append, Affine}
 use Rattle.cilk_monoid.specs.Laws.{MonoidStructure}
-use Rattle.cilk_monoid.specs.Values.{ViewValue, Number, Elements, Map, IsWord}
+use Rattle.cilk_monoid.specs.Values.{ViewValue, Number, Elements, Map}
 
 -- an operation on numbers, as one on views
 abbrev pub on_numbers : (ℤ → ℤ → ℤ) → ViewValue → ViewValue → ViewValue

@@ -7,13 +7,13 @@ use Rattle.std.proofs.lemmas.List.Elements.{All-nil, All-cons, All-append}
 use lib.IntN.{one, +ℤ_assoc, *ℤ_comm, *ℤ-one, *ℤ-zero}
 use lib.Signed.{mag}
 use Rattle.std.proofs.lemmas.Grind.{common_steps}
-use Rattle.cilk_types.specs.Word.{word_of}
+use Rattle.cilk_types.specs.Word.{word_of, IsWord}
 use Rattle.cilk_monoid.specs.declared.kind.MonoidKind.{MonoidKind}
 use Rattle.cilk_monoid.specs.declared.kind.MonoidKind.TheVariants.{Add, Least, Greatest, Append, Affine}
 use Rattle.cilk_monoid.specs.Kinds.{structure_of, on_numbers, appended, composed, number_of, size_of, IsNumber, IsList, IsMap, IsMember}
 use Rattle.cilk_monoid.specs.Laws.{IsLawful}
 use Rattle.cilk_monoid.specs.Rings.{times_assoc, times-sum}
-use Rattle.cilk_monoid.specs.Values.{ViewValue, Number, Elements, Map, IsWord}
+use Rattle.cilk_monoid.specs.Values.{ViewValue, Number, Elements, Map}
 
 -- a whole number that is small enough is a word
 fits : {z : ℤ} → mag z < 2 ^ 63 → IsWord z

@@ -1,6 +1,6 @@
 -- Monoids of views, and their laws on a set of members (reducers: Frigo, Halpern, Leiserson and Lewin-Berlin 2009).
 use Rattle.std.specs.Prelude.{◌≡◌, ℕ, ℤ}
-use Rattle.cilk_monoid.specs.Values.{IsWord}
+use Rattle.cilk_types.specs.Word.{IsWord}
 
 -- a monoid with what an update adds, the number that a program reads, and the room that a value takes in a product on its left
 pub record MonoidStructure (V : Type 0) : Type 0 where

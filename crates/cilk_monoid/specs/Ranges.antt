@@ -3,7 +3,7 @@ use Rattle.std.specs.Prelude.{◌≡◌, ℤ, Bool, cond, ◌&&◌, eqb, List, [
 use Rattle.cilk_types.specs.declared.event.Instance.{Instance}
 use Rattle.cilk_monoid.specs.Laws.{MonoidStructure}
 use Rattle.cilk_monoid.specs.Products.{product_of_updates}
-use Rattle.cilk_monoid.specs.Values.{IsWord}
+use Rattle.cilk_types.specs.Word.{IsWord}
 
 -- an event of a reducer: it begins with the unit, is updated with x, is set to the view of x alone, or ends. A print is an update of the output
 pub data ReducerEvent : Type 0 where

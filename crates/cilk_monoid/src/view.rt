@@ -4,7 +4,7 @@
 
 ghost use Rattle.std.specs.Prelude.{All};
 ghost use Rattle.std.proofs.Props.{props};
-ghost use Rattle.cilk_monoid.specs.Values.{IsWord};
+ghost use Rattle.cilk_types.specs.Word.{IsWord};
 
 /// A view that is a word. Its products take no memory.
 #[derive(Clone, Copy, PartialEq, Eq, Debug)]

@@ -11,10 +11,11 @@ use Rattle.cilk_names.specs.Globals.{Known, start, in_function, behind_item, beh
 use Rattle.cilk_scopes.specs.Faults.{again_faults}
 use Rattle.cilk_names.specs.Misnamings.{limit_faults, parameters_faults, row_faults, item_faults, items_faults, or_no_main, faults_of}
 use Rattle.cilk_names.specs.declared.limits.TheConstants.{MAX_FUNCTIONS}
-use Rattle.cilk_names.specs.Pass.{row_of, row_loops, function_of_body, items_functions, items_loops, program_of}
+use Rattle.cilk_names.specs.Pass.{row_of, row_loops, function_of_body, items_functions, items_loops}
 use Rattle.cilk_names.specs.Resolution.{ResolvesItems, Resolves}
 use Rattle.cilk_names.proofs.Rights.{both_nil, row_right}
 use Rattle.cilk_names.proofs.Onlys.{row_only}
+use Rattle.cilk_names.proofs.Made.{program_of}
 
 -- a function's body
 pub function_row_right : (k : Known) (returns : _) (x : _) (ps : List _) (body : trees.Statements) → item_faults k (trees.Function returns x ps body) ≡ []

@@ -33,7 +33,7 @@ use Rattle.cilk_names.specs.Globals.{Known, start, globals_full, array_cells, ze
 use Rattle.cilk_scopes.specs.Sights.{plain}
 use Rattle.cilk_scopes.specs.Faults.{again_faults, monoid_faults, unless}
 use Rattle.cilk_names.specs.Misnamings.{limit_faults, declared_faults, parameter_faults, parameters_faults, global_faults, line_faults, item_faults, items_faults, faults_of}
-use Rattle.cilk_names.specs.Pass.{loops_of, row_loops, items_loops, program_of}
+use Rattle.cilk_names.specs.Pass.{loops_of, row_loops, items_loops}
 use Rattle.cilk_names.specs.Resolution.{ResolvesRow, ResolvesItems, Resolves}
 use Rattle.cilk_names.proofs.Rights.{both_nil, unless_right}
 use Rattle.cilk_names.proofs.Grows.{Grows, counted_more, limit_right, grows_row}
@@ -42,6 +42,7 @@ use Rattle.cilk_names.proofs.Fits.{words_in, given_in, MeaningFits, NamesFit, Si
 use Rattle.cilk_names.proofs.Bodies.{get_drop, drop_more, get_last, at_most_from, loops_named_append, Stands, Ends, RowNamed, row_named}
 use Rattle.cilk_scopes.proofs.Tables.{map_append}
 use Rattle.cilk_names.proofs.Verdicts.{function_row_right, tree_parts, program_resolves, resolves_only}
+use Rattle.cilk_names.proofs.Made.{program_of}
 
 -- the parameters of a function
 record Given (c d : Context) (ps : List Parameter) : Type 0 where

@@ -4,22 +4,21 @@ use Rattle.std.specs.Prelude.{ℕ, pos, negsuc, List, [], ◌∷◌, ◌++◌, m
 use Rattle.std.specs.Option.{option_to_list}
 use Rattle.cilk_syntax.specs.declared.tree.Name.{Name}
 use Rattle.cilk_types.specs.declared.invocation.Invocation.{Invocation}
-use Rattle.cilk_syntax.specs.declared.tree.Tree.{Tree}
 use Rattle.cilk_syntax.specs.Trees as trees
-use Rattle.cilk_syntax.specs.Trees.{Item, Globals, Function, program}
+use Rattle.cilk_syntax.specs.Trees.{Item, Globals, Function}
 use Rattle.cilk_program.specs.declared.syntax.Array.{Array}
 use Rattle.cilk_program.specs.declared.syntax.Place.{Place}
 use Rattle.cilk_program.specs.declared.syntax.Place.TheVariants.{Local}
 use Rattle.cilk_program.specs.declared.syntax.Reducer.{Reducer}
 use Rattle.cilk_program.specs.Syntax as syntax
-use Rattle.cilk_program.specs.Syntax.{Expression, Number, Variable, Element, Value, Input, InputCount, Target, ToVariable, ToElement, Invoke, Declaration, Zero, Opening, Invoking, Statement, Empty, Block, Declare, Assign, Change, Step, Invokes, Sync, If, IfElse, For, ParallelFor, Print, Update, Set, Return, Statements, Nothing, Then, Loop, Source}
+use Rattle.cilk_program.specs.Syntax.{Expression, Number, Variable, Element, Value, Input, InputCount, Target, ToVariable, ToElement, Invoke, Declaration, Zero, Opening, Invoking, Statement, Empty, Block, Declare, Assign, Change, Step, Invokes, Sync, If, IfElse, For, ParallelFor, Print, Update, Set, Return, Statements, Nothing, Then, Loop}
 use Rattle.cilk_scopes.specs.declared.signature.ParameterKind.{ParameterKind}
 use Rattle.cilk_scopes.specs.declared.signature.ParameterKind.TheVariants as kinds
 use Rattle.cilk_scopes.specs.Names.{Names}
 use Rattle.cilk_names.specs.Contexts.{Context, inside, behind_scope, ahead, with_variable, behind_beginning, in_body, behind, behind_row, with_parameters}
 use Rattle.cilk_scopes.specs.Sights.{variable, array, reducer, called, signature_of}
 use Rattle.cilk_names.specs.Calls.{first_of, rest_of, bare_name}
-use Rattle.cilk_names.specs.Globals.{Known, start, in_function, behind_item, behind_items}
+use Rattle.cilk_names.specs.Globals.{Known, in_function, behind_item}
 use Rattle.cilk_scopes.specs.Operators.{prefixed, joined}
 
 abbrev pub read_of : Option Place → Expression
@@ -210,16 +209,3 @@ items_functions k (i ∷ rest) = item_functions k i ++ items_functions (behind_i
 abbrev pub items_loops : Known → List Item → List Loop
 items_loops k [] = []
 items_loops k (i ∷ rest) = item_loops k i ++ items_loops (behind_item k i) rest
-
--- the program of a tree whose main function has this number
-abbrev pub program_of : Tree → ℕ → Source
-program_of t main =
-    let before = start t.text.items (program t) in
-    let after = behind_items before (program t) in
-    record {
-      openings = after.openings;
-      reducers = map (λ r. r.kind) after.shared;
-      functions = items_functions before (program t);
-      loops = items_loops before (program t);
-      main = main;
-    }

@@ -19,7 +19,7 @@ context_of s = record { names = names_of s.table; frame = s.frame; given = s.giv
 abbrev pub known_of : Pass → Known
 known_of p = record {
   names = names_of p.scene.table;
-  openings = p.openings.items;
+  openings = p.openings;
   shared = p.shared.items;
   functions = length p.functions.items;
   reducers = p.scene.reducers;

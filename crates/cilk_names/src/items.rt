@@ -23,6 +23,7 @@ use cilk_scopes::table::{Home, Meaning, bytes_of};
 use cilk_syntax::tree;
 use cilk_syntax::tree::{GlobalVariable, Initializer, Item, Name, Parameter, ReturnType};
 use cilk_types::sequence::Sequence;
+use cilk_types::word_list::WordList;
 use std::alloc::{AllocError, Global};
 use std::mem;
 
@@ -31,7 +32,7 @@ use std::mem;
 #[derive(Drop)]
 pub(crate) struct Pass<'a> {
     pub scene: Resolver<'a>,
-    pub openings: Vec<i64>,
+    pub openings: WordList,
     pub shared: Vec<GlobalReducer>,
     pub functions: Vec<Function>,
 }
@@ -51,8 +52,8 @@ fn array_cells(count: usize, length: i64) -> usize
 }
 
 /// Puts so many zeros behind the opening values.
-fn push_zeros(openings: &mut Vec<i64>, count: usize) -> Result<(), AllocError>
-    ensures { OnOk result (openings.new.items ≡ openings.old.items ++ zeros count) }
+fn push_zeros(openings: &mut WordList, count: usize) -> Result<(), AllocError>
+    ensures { OnOk result (openings.new ≡ openings.old ++ zeros count) }
 {
     'each: for _index in 0..count {
         openings.push(0)?;

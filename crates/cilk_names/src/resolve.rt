@@ -16,7 +16,7 @@ use crate::scene::{Frame, Resolver, number_of};
 use cilk_program::program::{Body, Program};
 use cilk_scopes::signature::Signature;
 use cilk_syntax::tree::{Item, ReturnType, Tree};
-use cilk_types::sequence::Sequence;
+use cilk_types::word_list::WordList;
 use std::alloc::{AllocError, Global};
 
 /// The whole pass.
@@ -44,7 +44,7 @@ fn pass_over<'a>(
             loops: Vec::new(alloc),
             first: None,
         },
-        openings: Vec::new(alloc),
+        openings: WordList::new(alloc),
         shared: Vec::new(alloc),
         functions: Vec::new(alloc),
     };
@@ -86,7 +86,7 @@ pub fn resolve(alloc: Global, tree: &Tree) -> Result<Program, NameFault>
         return Err(NameFault::At(NameNumber::NoMain, text.len()));
     };
     Ok(Program {
-        globals: Sequence::new(openings),
+        globals: openings,
         reducers: shared,
         functions,
         loops,

@@ -9,6 +9,7 @@ use cilk_lexer::lexer::{Class, all_digits, belongs, split, value_of};
 use cilk_texts::fault::{TextFault, TextNumber};
 use cilk_types::input::Input;
 use cilk_types::limits::MAX_INPUTS;
+use cilk_types::word_list::WordList;
 use std::alloc::Global;
 
 /// The number that digits write, up to 2^63 - 1.
@@ -80,7 +81,7 @@ pub fn parse_input(alloc: Global, text: &[u8]) -> Result<Input, TextFault>
     ensures numbers { IfOk result (λ ns. IsInput text.now ns) }
     ensures fault { IfErr result (λ e. IsInputFault e text.now) }
 {
-    let mut numbers = Vec::new(alloc);
+    let mut numbers = WordList::new(alloc);
     let mut rest = text;
     'each: while let [first, tail @ ..] = rest {
         let place = text.len() - rest.len();

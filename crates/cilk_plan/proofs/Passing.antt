@@ -1,13 +1,15 @@
 -- The earliest of what comes right before an event.
 --
+-- - `one_ahead`: at most one event comes right before one that is no `sync`;
 -- - `gives_earliest`: the pass that keeps the earliest of each list gives the earliest of each;
 -- - `Stands`, `stands_first`, `stands_next`, `stands_last`: where it stands in a list of events;
 -- - `earliest_at`: of the list at a place; `IsEarliest`, `earliest_is`: it is the least of a list.
-use Rattle.std.proofs.Common.{◌≡◌, ◌⊎◌, inl, inr, ⊎_elim, Bool, true, false, if◌then◌else◌, nat_lt, ℕ, zero, suc, ◌+◌, ◌<◌, ◌≤◌, List, [], ◌∷◌, ◌++◌, length, map, get_or, drop, slice_index_or, Option, Some, None, refl, sym, ap, ◌∙◌, subst, arith, append_assoc, length-append}
+use Rattle.std.proofs.Common.{◌≡◌, inl, inr, ⊎_elim, Bool, true, false, if◌then◌else◌, nat_lt, ℕ, zero, suc, ◌+◌, ◌-◌, ◌<◌, ◌≤◌, List, [], ◌∷◌, ◌++◌, length, map, get_or, drop, slice_index_or, slice_get, ℤ, Option, Some, None, refl, sym, ap, ◌∙◌, subst, arith, append_assoc, length-append}
 use Rattle.std.proofs.lemmas.List.{drop_all}
 use Rattle.std.proofs.lemmas.Bool.{ltb-true, ltb-false}
 use Rattle.std.proofs.Math.Seq.{drop-cons}
 use Rattle.cilk_types.specs.declared.event.Event.{Event}
+use Rattle.cilk_types.specs.declared.event.Event.TheVariants as events
 use Rattle.cilk_types.specs.declared.invocation.Invocation.{Invocation}
 use Rattle.cilk_types.specs.declared.invocation.Invocation.TheVariants as invocations
 use Rattle.cilk_tree.specs.declared.mark.Mark.{Mark}
@@ -16,7 +18,8 @@ use Rattle.cilk_tree.specs.Marks.{mark_of}
 use Rattle.cilk_tree.specs.Reach.{Among, resumed_from, awaited}
 use Rattle.cilk_tree.proofs.Reaches.{among_none, among_here, among_more, among_first}
 use Rattle.cilk_plan.specs.declared.earliest.Parent.{Parent}
-use Rattle.cilk_plan.specs.Passes.{Waiting, pass, predecessors_in}
+use Rattle.cilk_plan.specs.Passes.{Waiting, pass}
+use Rattle.cilk_plan.specs.Planned.{IsAtMostOne, HasOneAhead, planned}
 use Rattle.cilk_plan.specs.Earliest.{sooner, earliest, Known, nothing, given, met, ahead_of, ends_of, earliest_from, all_earliest}
 
 abbrev parent : Waiting → Parent
@@ -25,14 +28,10 @@ parent w = record { how = w.how; at = w.at; ends = earliest w.ends }
 abbrev known : List ℕ → List ℕ → List Waiting → Known
 known ahead ends ws = record { ahead = earliest ahead; ends = earliest ends; waiting = map parent ws }
 
--- at most one event comes right before one that is no `sync`
-abbrev IsOne : List ℕ → Type 0
-IsOne ps = (ps ≡ []) ⊎ ((p : ℕ) × (ps ≡ p ∷ []))
-
-one : (p : ℕ) → IsOne (p ∷ [])
+one : (p : ℕ) → IsAtMostOne (p ∷ [])
 one p = inr (p, refl)
 
-one_resumed : (k : Invocation) (a z : ℕ) → IsOne (resumed_from k a z)
+one_resumed : (k : Invocation) (a z : ℕ) → IsAtMostOne (resumed_from k a z)
 one_resumed invocations.Call a z = one z
 one_resumed invocations.Spawn a z = one a
 
@@ -44,11 +43,11 @@ awaited_is : (k : Invocation) (z : ℕ) (ends : List ℕ) → earliest (awaited 
 awaited_is invocations.Call z ends = refl
 awaited_is invocations.Spawn z ends = refl
 
-joined_is : (ahead ends : List ℕ) → IsOne ahead → earliest (ahead ++ ends) ≡ sooner (earliest ahead) (earliest ends)
+joined_is : (ahead ends : List ℕ) → IsAtMostOne ahead → earliest (ahead ++ ends) ≡ sooner (earliest ahead) (earliest ends)
 joined_is ahead ends (inl none) = subst (λ (l : List ℕ). earliest (l ++ ends) ≡ sooner (earliest l) (earliest ends)) (sym none) refl
 joined_is ahead ends (inr h) = subst (λ (l : List ℕ). earliest (l ++ ends) ≡ sooner (earliest l) (earliest ends)) (sym h.1) refl
 
-passes : (ms : List Mark) (p : ℕ) (ahead ends : List ℕ) (ws : List Waiting) → IsOne ahead
+passes : (ms : List Mark) (p : ℕ) (ahead ends : List ℕ) (ws : List Waiting) → IsAtMostOne ahead
     → map earliest (pass ms p ahead ends ws) ≡ earliest_from ms p (known ahead ends ws)
 passes [] p ahead ends ws h = refl
 passes (Plain ∷ ms) p ahead ends ws h = ap (λ (l : List (Option ℕ)). earliest ahead ∷ l) (passes ms (suc p) (p ∷ []) ends ws (one p))
@@ -68,6 +67,39 @@ passes (End ∷ ms) p ahead ends (w ∷ ws) h =
     (passes ms (suc p) (resumed_from w.how w.at p) (awaited w.how p w.ends) ws (one_resumed w.how w.at p)
     ∙ ap (λ (a : Option ℕ). back a (earliest (awaited w.how p w.ends))) (resumed_is w.how w.at p)
     ∙ ap (λ (e : Option ℕ). back (ahead_of w.how w.at p) e) (awaited_is w.how p w.ends))
+
+-- ---- at most one event comes right before one that is no `sync`
+one_in : (ms : List Mark) (p : ℕ) (ahead ends : List ℕ) (ws : List Waiting) (i : ℕ) → IsAtMostOne ahead → (get_or ms i Plain ≡ Sync → ⊥) → IsAtMostOne (slice_index_or (pass ms p ahead ends ws) i [])
+one_in [] p ahead ends ws i h not = inl refl
+one_in (Sync ∷ ms) p ahead ends ws zero h not = absurd (not refl)
+one_in (Plain ∷ ms) p ahead ends ws zero h not = h
+one_in (Begin ∷ ms) p ahead ends ws zero h not = h
+one_in (Resume ∷ ms) p ahead ends ws zero h not = h
+one_in (Spawn ∷ ms) p ahead ends ws zero h not = h
+one_in (Call ∷ ms) p ahead ends ws zero h not = h
+one_in (End ∷ ms) p ahead ends [] zero h not = h
+one_in (End ∷ ms) p ahead ends (w ∷ ws) zero h not = h
+one_in (Plain ∷ ms) p ahead ends ws (suc i) h not = one_in ms (suc p) (p ∷ []) ends ws i (one p) not
+one_in (Begin ∷ ms) p ahead ends ws (suc i) h not = one_in ms (suc p) (p ∷ []) ends ws i (one p) not
+one_in (Resume ∷ ms) p ahead ends ws (suc i) h not = one_in ms (suc p) (p ∷ []) ends ws i (one p) not
+one_in (Sync ∷ ms) p ahead ends ws (suc i) h not = one_in ms (suc p) (p ∷ []) [] ws i (one p) not
+one_in (Spawn ∷ ms) p ahead ends ws (suc i) h not = one_in ms (suc p) (p ∷ []) [] (record { how = invocations.Spawn; at = p; ends = ends } ∷ ws) i (one p) not
+one_in (Call ∷ ms) p ahead ends ws (suc i) h not = one_in ms (suc p) (p ∷ []) [] (record { how = invocations.Call; at = p; ends = ends } ∷ ws) i (one p) not
+one_in (End ∷ ms) p ahead ends [] (suc i) h not = one_in ms (suc p) (p ∷ []) ends [] i (one p) not
+one_in (End ∷ ms) p ahead ends (w ∷ ws) (suc i) h not = one_in ms (suc p) (resumed_from w.how w.at p) (awaited w.how p w.ends) ws i (one_resumed w.how w.at p) not
+
+sync_mark : (e : Event) → mark_of e ≡ Sync → e ≡ events.Sync
+sync_mark events.Sync is = refl
+sync_mark e is = absurd (cc is)
+
+sync_at : (es : List Event) (i : ℕ) → get_or (map mark_of es) i Plain ≡ Sync → slice_get es i ≡ Some events.Sync
+sync_at [] zero is = absurd (cc is)
+sync_at [] (suc i) is = absurd (cc is)
+sync_at (e ∷ es) zero is = ap Some (sync_mark e is)
+sync_at (e ∷ es) (suc i) is = sync_at es i is
+
+pub one_ahead : (es : List Event) (opening : List ℤ) → HasOneAhead (planned es opening)
+one_ahead es opening p not = one_in (map mark_of es) 1 [] [] [] (p - 1) (inl refl) (λ is. not (sync_at es (p - 1) is))
 
 gives_earliest : (es : List Event) → all_earliest es ≡ earliest_from (map mark_of es) 1 nothing
 gives_earliest es = passes (map mark_of es) 1 [] [] [] (inl refl)

@@ -16,7 +16,7 @@ use Rattle.cilk_plan.specs.Planned.{planned}
 use Rattle.cilk_plan.specs.Worked.{two_reads, TwoReadsHavePlan}
 
 -- each event of a list has a property of its place
-abbrev Each : (ℕ → Event → Type 0) → List Event → ℕ → Type 0
+abbrev pub Each : (ℕ → Event → Type 0) → List Event → ℕ → Type 0
 Each P [] i = Unit {0}
 Each P (e ∷ es) i = P i e × Each P es (suc i)
 
@@ -29,7 +29,7 @@ each_at P (x ∷ xs) i zero e h is =
     subst (λ (k : ℕ). P k e) z (subst (P i) same h.0)
 each_at P (x ∷ xs) i (suc j) e h is = let z : suc i + j ≡ i + suc j = omega arith in subst (λ (k : ℕ). P k e) z (each_at P xs (suc i) j e h.1 is)
 
-each_here : (P : ℕ → Event → Type 0) (es : List Event) (j : ℕ) (e : Event) → Each P es 0 → slice_get es j ≡ Some e → P j e
+pub each_here : (P : ℕ → Event → Type 0) (es : List Event) (j : ℕ) (e : Event) → Each P es 0 → slice_get es j ≡ Some e → P j e
 each_here P es j e h is = let z : 0 + j ≡ j = omega arith in subst (λ (k : ℕ). P k e) z (each_at P es 0 j e h is)
 
 abbrev shape : Shape

@@ -1,7 +1,7 @@
 -- The story of a plan, and of which runs there is a plan.
-use Rattle.std.specs.Prelude.{◌≡◌, ℕ, ◌-◌, ◌^◌, ◌≤◌, ℤ, Bool, true, List, [], ◌∷◌, length, Some}
+use Rattle.std.specs.Prelude.{◌≡◌, ◌≢◌, ◌⊎◌, ℕ, ◌-◌, ◌^◌, ◌≤◌, ℤ, Bool, true, List, [], ◌∷◌, length, Some}
 use Rattle.cilk_types.specs.declared.event.Event.{Event}
-use Rattle.cilk_types.specs.declared.event.Event.TheVariants.{Read}
+use Rattle.cilk_types.specs.declared.event.Event.TheVariants.{Read, Sync}
 use Rattle.cilk_types.specs.declared.limits.TheConstants.{MAX_EVENTS}
 use Rattle.cilk_tree.specs.Shape.{Shape, Spells}
 use Rattle.cilk_tree.specs.Tree.{tree}
@@ -9,6 +9,7 @@ use Rattle.cilk_tree.specs.Reach.{IsSynced}
 use Rattle.cilk_tree.specs.Races.{event_at, HasNoRace}
 use Rattle.cilk_story.specs.declared.story.Story.{Story}
 use Rattle.cilk_story.specs.Values.{HasValue}
+use Rattle.cilk_story.specs.Word.{event, after}
 use Rattle.cilk_plan.specs.Passes.{predecessors_in}
 
 -- on the input of the run each event is asked for
@@ -30,3 +31,11 @@ pub record HasPlan (events : List Event) (opening : List ℤ) : Type 0 where
   pub few_events : length events ≤ MAX_EVENTS
   pub few_cells : length opening ≤ 2 ^ 32
   pub reads : (p cell : ℕ) (v : ℤ) → event_at events p ≡ Some (Read cell v) → HasValue (planned events opening) cell (p - 1) v
+
+-- none, or one
+abbrev pub IsAtMostOne : List ℕ → Type 0
+IsAtMostOne ps = (ps ≡ []) ⊎ ((p : ℕ) × (ps ≡ p ∷ []))
+
+-- a `sync` alone comes right after several events
+abbrev pub HasOneAhead : Story → Type 0
+HasOneAhead s = (p : ℕ) → event s p ≢ Some Sync → IsAtMostOne (after s p)

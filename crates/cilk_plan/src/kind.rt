@@ -26,6 +26,15 @@ pub enum Kind {
     Print,
 }
 
+/// What a run's frames do next.
+#[derive(Clone, Copy, PartialEq, Eq, Debug)]
+pub enum Asked {
+    /// The frame makes an event of this kind.
+    Next { frame: FrameNo, kind: Kind },
+    /// The run has ended.
+    Nothing,
+}
+
 /// The event without its value.
 pub fn without_value(event: &Event) -> Kind
     ensures { result ≡ kind_of event.now }

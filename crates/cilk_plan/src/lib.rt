@@ -5,7 +5,9 @@
 //! which no two accesses race.
 #![tactic(auto)]
 
+pub mod along;
 pub mod earliest;
+pub mod frames;
 pub mod kind;
 pub mod laws;
 pub mod plan;

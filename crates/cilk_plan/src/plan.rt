@@ -1,19 +1,21 @@
 //! The plan of a run.
 
-ghost use Rattle.std.specs.Prelude.{◌≡◌, ℕ, ◌≤◌, length, IfOk};
+ghost use Rattle.std.specs.Prelude.{◌≡◌, ◌↔◌, ℕ, ◌+◌, ◌<◌, ◌≤◌, Option, Some, length, slice_set, IfOk, IfSome, IsTrue, MatchOption};
 ghost use Rattle.cilk_types.specs.declared.limits.TheConstants.{MAX_EVENTS};
 ghost use Rattle.cilk_tree.specs.Before.{IsPosition};
 ghost use Rattle.cilk_story.specs.Orders.{IsOrderly};
 ghost use Rattle.cilk_story.specs.Runs.{IsAsked};
 ghost use Rattle.cilk_story.specs.Values.{HasValues};
-ghost use Rattle.cilk_story.specs.Word.{after};
+ghost use Rattle.cilk_story.specs.Word.{after, event, resume, what, IsWord};
 ghost use Rattle.cilk_plan.specs.Earliest.{earliest as earliest_of};
-ghost use Rattle.cilk_plan.specs.Kinds.{kind_behind};
-ghost use Rattle.cilk_plan.specs.Planned.{planned, HasPlan};
+ghost use Rattle.cilk_plan.specs.Kinds.{kind_of_event, IsBehind};
+ghost use Rattle.cilk_plan.specs.Planned.{planned, HasOneAhead, HasPlan};
+ghost use Rattle.cilk_plan.specs.Resumptions.{AreResumptions};
 
 use crate::earliest::earliest;
-use crate::kind::{Kind, events_of_words, kinds, words};
-use cilk_types::event::Pos;
+use crate::frames::frames;
+use crate::kind::{Asked, Kind, events_of_words, kinds, words};
+use cilk_types::event::{FrameNo, Pos};
 use cilk_types::trace::Trace;
 use std::alloc::{AllocError, Global};
 use std::marker::Model;
@@ -24,6 +26,7 @@ use std::snapshot::Snapshot;
 pub struct Plan {
     opening: Vec<i64>,
     kinds: Vec<Kind>,
+    frames: Vec<FrameNo>,
     earliest: Vec<Option<Pos>>,
     events: Snapshot<Trace>,
 }
@@ -36,13 +39,14 @@ impl Model for Plan {
     ghost use Rattle.cilk_story.specs.Orders.{IsOrderly};
     ghost use Rattle.cilk_story.specs.Values.{HasValues};
     ghost use Rattle.cilk_plan.specs.Earliest.{all_earliest};
+    ghost use Rattle.cilk_plan.specs.Frames.{AreFrames};
     ghost use Rattle.cilk_plan.specs.Planned.{planned};
 
     ghost Value = { Story };
 
     ghost view = { λ p. planned p.events.value p.opening.items };
 
-    ghost invariant = { λ p. IsOrderly (planned p.events.value p.opening.items) × HasValues (planned p.events.value p.opening.items) × (p.kinds.items ≡ map kind_of p.events.value) × (length p.events.value ≤ MAX_EVENTS) × (p.earliest.items ≡ all_earliest p.events.value) };
+    ghost invariant = { λ p. IsOrderly (planned p.events.value p.opening.items) × HasValues (planned p.events.value p.opening.items) × (p.kinds.items ≡ map kind_of p.events.value) × (length p.events.value ≤ MAX_EVENTS) × (p.earliest.items ≡ all_earliest p.events.value) × AreFrames p.events.value p.frames.items };
 }
 
 impl Plan {
@@ -55,20 +59,30 @@ impl Plan {
         words(opening.as_slice());
         events_of_words(trace);
         let kinds = kinds(alloc, trace)?;
+        let frames = frames(alloc, trace)?;
         let earliest = earliest(alloc, trace)?;
         Ok(Plan {
             opening,
             kinds,
+            frames,
             earliest,
             events: Snapshot::of(trace),
         })
     }
 
-    /// What comes after so many events: the next event without its value, `None` past the last.
-    pub fn next(&self, after: Pos) -> Option<Kind>
-        ensures { result ≡ kind_behind self.now after }
+    /// What comes after so many events: the next event's kind, and whose frame it is in; nothing past the last.
+    pub fn next(&self, after: Pos) -> Asked
+        ensures { IsBehind self.now after result }
     {
-        self.kinds.get(after as usize).copied()
+        let place = after as usize;
+        if place < self.kinds.len() {
+            Asked::Next {
+                frame: self.frames[place],
+                kind: self.kinds[place],
+            }
+        } else {
+            Asked::Nothing
+        }
     }
 
     /// The earliest of the events that come right before the one at a position: before a `sync` come the event ahead of it and the `end`s
@@ -80,6 +94,55 @@ impl Plan {
             Some(first) => *first,
             None => None,
         }
+    }
+
+    /// The spawn whose continuation the event at a position resumes, where it is the `resume` after a spawn.
+    pub fn resumed_by(&self, at: Pos) -> Option<Pos>
+        ensures { (k : ℕ) → (result ≡ Some k) ↔ (what self.now at ≡ resume k) }
+    {
+        self.laws();
+        let Some(Kind::Resume { .. }) = self.kind_at(at) else {
+            return None;
+        };
+        let spawned = self.earliest_before(at)?;
+        match self.kind_at(spawned) {
+            Some(Kind::Spawn { .. }) => Some(spawned),
+            _ => None,
+        }
+    }
+
+    /// Whether the event at a position is a step on a word that threads share.
+    pub fn is_word(&self, at: Pos) -> bool
+        ensures { IsTrue result ↔ IsWord (what self.now at) }
+    {
+        match self.kind_at(at) {
+            Some(Kind::Read { .. } | Kind::Write { .. } | Kind::Spawn { .. }) => true,
+            Some(Kind::Resume { .. }) => self.resumed_by(at).is_some(),
+            Some(Kind::End) => at as usize == self.kinds.len(),
+            _ => false,
+        }
+    }
+
+    /// For each position at which a spawn stands, that of the `resume` after it. Cost and memory: linear in the events.
+    pub fn resumptions(&self, alloc: Global) -> Result<Vec<Option<Pos>>, AllocError>
+        ensures { IfOk result (λ column. AreResumptions self.now column.items) }
+    {
+        self.laws();
+        let count = self.count();
+        let mut column = Vec::new(alloc);
+        column.resize(count + 1, None)?;
+        for behind in 0..count {
+            let at = behind as Pos + 1;
+            note(&mut column, self.resumed_by(at), at);
+        }
+        Ok(column)
+    }
+
+    // The kind of the event at a position; that of the first at 0.
+    fn kind_at(&self, at: Pos) -> Option<Kind>
+        ensures { result ≡ kind_of_event (event self.now at) }
+    {
+        self.kinds.get(at.saturating_sub(1) as usize).copied()
     }
 
     /// How many events the run has.
@@ -101,7 +164,18 @@ impl Plan {
     pub fn laws(&self)
         ensures order { IsOrderly self.now }
         ensures values { HasValues self.now }
+        ensures ahead { HasOneAhead self.now }
     {
         let _cells = self.opening.len();
+    }
+}
+
+// Where an event resumes what a spawn left, notes it at the spawn.
+fn note(column: &mut Vec<Option<Pos>>, spawned: Option<Pos>, at: Pos)
+    requires { IfSome spawned (λ place. place < length column.old.items) }
+    ensures { MatchOption spawned (column.new.items ≡ column.old.items) (λ place. column.new.items ≡ slice_set column.old.items place (Some at)) }
+{
+    if let Some(place) = spawned {
+        column[place as usize] = Some(at);
     }
 }

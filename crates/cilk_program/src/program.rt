@@ -7,6 +7,7 @@ ghost use Rattle.cilk_program.specs.WellNamed.{is_well_named};
 use crate::syntax::Stmt;
 use cilk_monoid::kind::MonoidKind;
 use cilk_types::sequence::Sequence;
+use cilk_types::word_list::WordList;
 
 /// A function: how many of its parameters are words, the monoids of those that are reducers, how many cells its frame has (its word parameters
 /// first, then its variables in order of declaration), the monoids of its own reducers in order, and its body.
@@ -45,7 +46,7 @@ pub struct GlobalReducer {
 /// its loops in order of their first words, and the number of its main function.
 #[derive(Drop)]
 pub struct Program {
-    pub globals: Sequence<i64>,
+    pub globals: WordList,
     pub reducers: Vec<GlobalReducer>,
     pub functions: Vec<Function>,
     pub loops: Vec<Loop>,

@@ -1,6 +1,6 @@
 //! Expressions and statements whose names are resolved.
 
-ghost use Rattle.cilk_monoid.specs.Values.{IsWord};
+ghost use Rattle.cilk_types.specs.Word.{IsWord};
 
 use cilk_monoid::kind::MonoidKind;
 use cilk_types::compound::Compound;

@@ -24,7 +24,6 @@ use Rattle.cilk_program.specs.WellNamed.{is_well_named}
 use Rattle.cilk_program.specs.SerialRun.{Transcript, act, child, stop, Frame, Memory, Ending, Finished, Stopped, Serial, Made, Ended, Went, Broke, Refused, IsInner, answer_to, begun, before_root, cells_of, counted, crowded, event_of, first_place, full, invocation, next_frame, own_from, refused, root_frame, stored, with_store, IsSerialRun}
 use Rattle.cilk_lower.specs.Behaves.{Behaves}
 use Rattle.cilk_lower.specs.Code.{CodeView}
-use Rattle.cilk_lower.specs.declared.code.Owed.TheVariants.{Nothing}
 use Rattle.cilk_program.specs.Outcomes.{StopsBy}
 use Rattle.cilk_meaning.specs.Agreement.{IsLimit}
 use Rattle.cilk_meaning.proofs.Existence.{room_for}
@@ -33,7 +32,7 @@ use Rattle.cilk_serial.specs.Ran.{StopsAfter}
 use Rattle.cilk_frames.specs.declared.cursor.Answer.{Answer}
 use Rattle.cilk_frames.specs.declared.cursor.Answer.TheVariants.{Done}
 use Rattle.cilk_frames.specs.Cursor.{CursorView}
-use Rattle.cilk_frames.specs.Following.{Asking, GoesOn, HasAnswer, Runs, Stands, owed_for, word_in}
+use Rattle.cilk_frames.specs.Following.{Asking, GoesOn, HasAnswer, Stands, owed_for, word_in}
 use Rattle.cilk_frames.proofs.Asking.{asking_first, asking_next}
 use Rattle.cilk_serial.specs.Scoped.{Activation, Frames, MayBegin, waiting}
 use Rattle.cilk_serial.specs.declared.running.Running.{Running}
@@ -329,15 +328,6 @@ resumes code p inputs s' v left below frames c' k' left' c is on = one_goes c.pa
           small = c.small;
           behaves = c.behaves;
         }
-
--- a parent may take its step
-pub resumes_runs : (code : CodeView) (p : Source) (inputs : List ℤ) (s' : State) (v : ℤ) (left : ℕ) (below : List Activation) (a : Activation) (rest : List Activation) → Closes code p inputs s' v left below → below ≡ a ∷ rest
-    → Runs code inputs a.cursor × (a.cursor.owed ≡ Nothing)
-resumes_runs code p inputs s' v left below a rest c is = one_runs c.parents (subst (λ (b : List Activation). Wait code p inputs c.memory.cells b c.parents) is c.wait)
-  where
-    one_runs : (parents : List Parent) → Wait code p inputs c.memory.cells (a ∷ rest) parents → Runs code inputs a.cursor × (a.cursor.owed ≡ Nothing)
-    one_runs [] wait = absurd wait
-    one_runs (q ∷ qs) wait = let w = wait.0 in ((_, w.stands), w.owes)
 
 -- ---- a fault
 

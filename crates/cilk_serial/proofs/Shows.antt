@@ -1,5 +1,5 @@
 -- The code's store after an event.
-use Rattle.std.proofs.Common.{◌≡◌, ℕ, zero, suc, ◌+◌, ◌-◌, ◌<◌, ℤ, pos, Bool, true, false, true≢false, cond, ◌&&◌, if◌then◌else◌, List, [], ◌∷◌, ◌++◌, length, take, get_or, Option, Some, refl, sym, ap, ◌∙◌, subst, arith, length-append, length-take}
+use Rattle.std.proofs.Common.{◌≡◌, ℕ, zero, suc, ◌+◌, ◌-◌, ◌<◌, ℤ, pos, Bool, true, false, cond, ◌&&◌, if◌then◌else◌, List, [], ◌∷◌, ◌++◌, length, take, get_or, Option, Some, refl, sym, ap, ◌∙◌, subst, arith, length-append, length-take}
 use Rattle.std.proofs.lemmas.Bool.{and_parts}
 use Rattle.std.proofs.lemmas.List.{take_more}
 use Rattle.cilk_types.specs.declared.event.Event.{Event}
@@ -7,12 +7,12 @@ use Rattle.cilk_types.specs.declared.event.Event.TheVariants.{Value}
 use Rattle.cilk_types.specs.declared.event.Instance.{Instance}
 use Rattle.cilk_types.specs.declared.limits.TheConstants.{MAX_EVENTS}
 use Rattle.cilk_monoid.specs.declared.kind.MonoidKind.{MonoidKind}
-use Rattle.cilk_monoid.specs.declared.kind.MonoidKind.TheVariants.{Add, Least, Greatest, Append, Affine}
 use Rattle.cilk_monoid.specs.Kinds.{structure_of, same_kind}
 use Rattle.cilk_monoid.specs.Laws.{MonoidStructure}
 use Rattle.cilk_monoid.specs.Ranges.{same_instance}
 use Rattle.cilk_monoid.specs.Values.{ViewValue}
 use Rattle.cilk_monoid.proofs.RangeLaws.{same_from_true}
+use Rattle.cilk_monoid.proofs.SameKinds.{same_kind-eq}
 use Rattle.cilk_hypermap.specs.declared.hypermap.Hypermap.{Hypermap}
 use Rattle.cilk_hypermap.specs.Hypermap.{ChangesIn, view_in, value_in}
 use Rattle.cilk_hypermap.specs.Views.{or_unit}
@@ -47,36 +47,9 @@ view_changes s s' e k i w m h cells output frames events changes = record {
   events = events;
 }
 
-kinds_are : (k k' : MonoidKind) → same_kind k k' ≡ true → k ≡ k'
-kinds_are Add Add h = refl
-kinds_are Add Least h = absurd (true≢false (sym h))
-kinds_are Add Greatest h = absurd (true≢false (sym h))
-kinds_are Add Append h = absurd (true≢false (sym h))
-kinds_are Add Affine h = absurd (true≢false (sym h))
-kinds_are Least Add h = absurd (true≢false (sym h))
-kinds_are Least Least h = refl
-kinds_are Least Greatest h = absurd (true≢false (sym h))
-kinds_are Least Append h = absurd (true≢false (sym h))
-kinds_are Least Affine h = absurd (true≢false (sym h))
-kinds_are Greatest Add h = absurd (true≢false (sym h))
-kinds_are Greatest Least h = absurd (true≢false (sym h))
-kinds_are Greatest Greatest h = refl
-kinds_are Greatest Append h = absurd (true≢false (sym h))
-kinds_are Greatest Affine h = absurd (true≢false (sym h))
-kinds_are Append Add h = absurd (true≢false (sym h))
-kinds_are Append Least h = absurd (true≢false (sym h))
-kinds_are Append Greatest h = absurd (true≢false (sym h))
-kinds_are Append Append h = refl
-kinds_are Append Affine h = absurd (true≢false (sym h))
-kinds_are Affine Add h = absurd (true≢false (sym h))
-kinds_are Affine Least h = absurd (true≢false (sym h))
-kinds_are Affine Greatest h = absurd (true≢false (sym h))
-kinds_are Affine Append h = absurd (true≢false (sym h))
-kinds_are Affine Affine h = refl
-
 -- a view that becomes what it is
 same_chosen : (v : MonoidKind → Instance → ViewValue) (k k' : MonoidKind) (i j : Instance) (b : Bool) → same_kind k k' && same_instance i j ≡ b → (if b then v k i else v k' j) ≡ v k' j
-same_chosen v k k' i j true h = let q = and_parts (same_kind k k') (same_instance i j) h in ap (λ k. v k i) (kinds_are k k' q.0) ∙ ap (v k') (same_from_true i j q.1)
+same_chosen v k k' i j true h = let q = and_parts (same_kind k k') (same_instance i j) h in ap (λ k. v k i) (same_kind-eq k k' q.0) ∙ ap (v k') (same_from_true i j q.1)
 same_chosen v k k' i j false h = refl
 
 pub views_stay : (h h' : Hypermap) (k : MonoidKind) (i : Instance) → ChangesIn h h' k i (Some (value_in h k i)) → (k' : MonoidKind) (j : Instance) → value_in h' k' j ≡ value_in h k' j

@@ -1,13 +1,15 @@
--- The earliest of what comes right before a segment's next event: `earliest_next`; what the segment holds by it: `holds_all`, `holds_from`.
-use Rattle.std.proofs.Common.{◌≡◌, ℕ, ◌≤◌, Option, Some, None, IsTrue, sym, ap, subst, arith}
+-- What may be passed.
+--
+-- - `earliest_next`: the earliest of what comes right before a segment's next event; `holds_all`, `holds_from`: what the segment holds by it;
+-- - `refused`, `has_no_next`, `is_past`, `is_step`, `is_passed`: whether the next event may be passed.
+use Rattle.std.proofs.Common.{◌≡◌, ◌↔◌, ℕ, ◌<◌, ◌≤◌, length, Bool, false, true, Option, Some, None, IsTrue, refl, sym, ap, ◌∙◌, subst, arith}
 use Rattle.std.proofs.lemmas.Bool.{leb-true, le-leb}
 use lib.Dec.{leb}
-use Rattle.cilk_tree.specs.Reach.{Among}
 use Rattle.cilk_story.specs.declared.story.Story.{Story}
-use Rattle.cilk_story.specs.Word.{after}
+use Rattle.cilk_story.specs.Word.{WordEvent, plain, read, write, spawn, resume, finish, what, after, IsWord}
 use Rattle.cilk_plan.specs.Earliest.{earliest}
 use Rattle.cilk_plan.proofs.Passing.{IsEarliest, earliest_is}
-use Rattle.cilk_shared.specs.Values.{SegmentValue, HoldsPreceding}
+use Rattle.cilk_shared.specs.Values.{SegmentValue, HoldsPreceding, MayPass}
 
 pub earliest_next : (g h : SegmentValue) (s : Story) (o o' : Option ℕ) → g ≡ h → s ≡ h.story → o ≡ earliest (after s g.upto) → o ≡ o' → IsEarliest o' (after h.story h.upto)
 earliest_next g h s o o' same story is found =
@@ -25,4 +27,32 @@ holds_from g h m same k =
     let from : g.from ≡ h.from = ap (λ (x : SegmentValue). x.from) same in (
       λ t e a. (let l = leb-true g.from m t in let low = k.1 e a in omega (arith, from, l, low)),
       λ holds. le-leb g.from m (let l = holds m k.0 in omega (arith, from, l)),
+    )
+
+-- ---- whether the next event may be passed
+pub refused : (h : SegmentValue) → (MayPass h → ⊥) → IsTrue false ↔ MayPass h
+refused h not = (λ t. absurd (let c : false ≡ true = t in cc c), λ may. absurd (not may))
+
+pub has_no_next : (h : SegmentValue) → h.upto ≤ h.from → MayPass h → ⊥
+has_no_next h none may = let l = may.0 in omega (arith, none, l)
+
+pub is_past : (h : SegmentValue) (s : Story) (n : ℕ) → s ≡ h.story → n ≡ length s.events → n < h.upto → MayPass h → ⊥
+is_past h s n same all past may = let l = may.1 in let k = ap (λ (z : Story). length z.events) same in omega (arith, l, k, all, past)
+
+pub is_step : (h : SegmentValue) (s : Story) → s ≡ h.story → IsWord (what s h.upto) → MayPass h → ⊥
+is_step h s same word may = subst IsWord (ap (λ (z : Story). what z h.upto) same ∙ may.2) word
+
+is_plain : (e : WordEvent) → (IsWord e → ⊥) → e ≡ plain
+is_plain plain not = refl
+is_plain (read c n) not = absurd (not tt)
+is_plain (write c n) not = absurd (not tt)
+is_plain spawn not = absurd (not tt)
+is_plain (resume q) not = absurd (not tt)
+is_plain finish not = absurd (not tt)
+
+pub is_passed : (h : SegmentValue) (s : Story) (n : ℕ) (b : Bool) → s ≡ h.story → n ≡ length s.events → h.from < h.upto → h.upto ≤ n → (IsWord (what s h.upto) → ⊥) → IsTrue b ↔ HoldsPreceding h → IsTrue b ↔ MayPass h
+is_passed h s n b same all some within not holds =
+    let k = ap (λ (z : Story). length z.events) same in (
+      λ t. (some, omega (arith, within, all, k), subst (λ (z : Story). what z h.upto ≡ plain) same (is_plain (what s h.upto) not), holds.0 t),
+      λ may. holds.1 may.3,
     )

@@ -32,7 +32,7 @@ module _ (s : Story) (D E : ℕ → Type 0) (to : (q : ℕ) → IsWord (what s q
   cut_along cut p q e wp wq b = to q wq (cut p q (back p wp e) wp wq b)
 
   pub reached_along : HasReached s D → HasReached s E
-  reached_along reached k is e = reached k is (back k (word_of_spawn (what s k) is) e)
+  reached_along reached k word e = reached k word (back k word e)
 
   cont_along : (p n : ℕ) → what s p ≡ spawn → Cont s D p n → Cont s E p n
   cont_along p n is (inl a) = inl (a.0, λ e. a.1 (back p (word_of_spawn (what s p) is) e))
@@ -284,7 +284,7 @@ starts s law words is =
           λ d. absurd (let z : plain ≡ spawn = sym (quiet p d) ∙ at in cc z),
         );
       };
-      reached = λ k is_k d. absurd (let z : plain ≡ spawn = sym (quiet k d) ∙ is_k in cc z);
+      reached = λ k step d. absurd (subst IsWord (quiet k d) step);
     }
   where
     only_one : (v : View) (i : ℕ) (u : View) → get_elem? (v ∷ []) i ≡ some u → (i ≡ 0) × (v ≡ u)

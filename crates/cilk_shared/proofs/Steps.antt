@@ -5,10 +5,12 @@
 -- - `sits_on`, `sits_next`, `wider_..`: a segment and its view with one event more;
 -- - `kept_at`, `kept_written`, `kept_opened`, `kept_taken`, `kept_finished`: the rule after a step;
 -- - `allows_..`, and `load_at`, `store_at`, `offer_at`, `take_at`, `finish_at` of a seat as a segment has it;
--- - `after_load_at`, `after_store_at`, `sits_after`, `sits_taken`, `passes`: the segment after the step;
+-- - `stands`, `is_inside`, `has_room`, `moves`, `moved_at`: a segment whose frame goes on by a step on a word, and the segment after it;
+-- - `sits_taken`, `passes`: the segment after a take, and past an event that is no step on a word;
 -- - `both`, `along`, `both_along`: a fact of what contracts see is one of the fields;
+-- - `ended_at`: a look at the end; `spawn_within`: where a spawn stands;
 -- - `departing`: where the run departs.
-use Rattle.std.proofs.Common.{◌≡◌, ◌≢◌, ◌⊎◌, ℕ, ◌+◌, ◌-◌, ◌<◌, ◌≤◌, List, [], length, get_or, set, inl, inr, ⊎_elim, refl, sym, ap, ◌∙◌, subst, arith, cond, eqb, ltb, eq-eqb, ne_eqb, Some}
+use Rattle.std.proofs.Common.{◌≡◌, ◌≢◌, ◌⊎◌, ℕ, ◌+◌, ◌-◌, ◌^◌, ◌<◌, ◌≤◌, List, [], length, get_or, set, inl, inr, ⊎_elim, refl, sym, ap, ◌∙◌, subst, arith, cond, eqb, ltb, eq-eqb, ne_eqb, Some}
 use Rattle.std.proofs.lemmas.List.{set-get_or}
 use Rattle.std.proofs.lemmas.Bool.{lt-ltb, le-ltb}
 use prog.Atomic.{either}
@@ -20,7 +22,7 @@ use lib.ListN.{get_elem?}
 use Rattle.atomic_table.specs.Table.{State, Me, step, keeps, stepped, Allows}
 use Rattle.cilk_story.specs.declared.story.Story.{Story}
 use Rattle.cilk_shared.specs.declared.view.View.{View}
-use Rattle.cilk_shared.specs.Rule.{view, In, Done, Parted, IsCut, Told, HasReached, Kept, Cont, cells, Sits, IsNext, loads, Moves, takes}
+use Rattle.cilk_shared.specs.Rule.{view, In, Done, Parted, IsCut, Told, HasReached, Kept, Cont, cells, Sits, IsNext, loads, Moves, takes, ends, Over}
 use Rattle.cilk_shared.specs.Values.{YardValue, SegmentValue}
 use Rattle.cilk_shared.proofs.Sets.{found, cut_more, told_read, told_written, told_opened, told_taken, word_of_read, word_of_write, word_of_spawn, told_finished, word_of_resume, word_of_finish}
 use Rattle.cilk_shared.proofs.Rows.{done_into, done_here, done_keep, parted_set, gap, fresh_line, ready_line}
@@ -99,7 +101,7 @@ module _ (s : Story) (law : IsOrderly s) (v : View) (a p : ℕ) (sits : Sits s v
     wider_keep q d = done_keep s views parted id v at (view v.story v.from (p + 1)) grows q d
 
     pub wider_reached : HasReached s (Done views) → IsFollowed s p → HasReached s (Done (set views id (view v.story v.from (p + 1))))
-    wider_reached reached up k is d = ⊎_elim (λ (old : Done views k). reached k is old) (λ (same : k ≡ p). subst (λ j. IsFollowed s j) (sym same) up) (wider_into k (word_of_spawn (what s k) is) d)
+    wider_reached reached up k word d = ⊎_elim (λ (old : Done views k). reached k word old) (λ (same : k ≡ p). subst (λ j. IsFollowed s j) (sym same) up) (wider_into k word d)
 
     pub wider_here : Done (set views id (view v.story v.from (p + 1))) p
     wider_here = let f = sits.from some_done in done_here s views parted id v at (view v.story v.from (p + 1)) grows p (omega (arith, f.0), omega arith)
@@ -191,14 +193,6 @@ module _ (s : Story) (law : IsOrderly s) (v : View) (a p : ℕ) (sits : Sits s v
       let no_resume : (q : ℕ) → what s p ≡ resume q → ⊥ = λ q r. absurd (cc (sym is ∙ r)) in
       (view v.story v.from (p + 1), keeps, tt, kept_finished id t kept at (line_fresh id t kept at line no_resume) (line_ready id t kept at line no_resume) (up_line line fits) is, told_move (word_of_finish (what s p) is))
 
--- what a load told, at the segment's place
-pub after_load : (s : Story) (v : View) (a p : ℕ) → Sits s v a p → a < p → (c n : ℕ) (m' : Me (Unit {0}) View) (r : ℕ) → what s p ≡ read c n → loads (step 0 c 0 0 none) (v, []) r m'
-    → (m' ≡ (view v.story v.from (p + 1), [])) × (what s p ≡ read c r)
-after_load s v a p sits some_done c n m' r is told =
-    let f = sits.from some_done in
-    let same : told.0 ≡ p = next_once s v.upto told.0 p (subst (λ z. IsNext z v.upto told.0) sits.story told.1) f.2 (word_of_read (what s p) c n is) (λ k le lt w. sits.rest k le lt some_done w) in
-    (told.2 ∙ ap (λ k. (view v.story v.from (k + 1), [])) same, ap (λ k. what s k) (sym same) ∙ ap (λ z. what z told.0) (sym sits.story) ∙ told.3)
-
 -- nothing changes
 pub unmoved : (s : Story) (t : State (Unit {0}) View) (id i : ℕ) (v : View) → Kept s t → get_elem? t.views id ≡ some v → Kept s (stepped t i (get_or t.words i 0) id [] v keeps)
 unmoved s t id i v kept at =
@@ -210,6 +204,29 @@ unmoved s t id i v kept at =
       told = subst (λ ws. Told s (Done (set t.views id v)) ws) (sym words) (subst (λ vs. Told s (Done vs) t.words) (sym views) kept.told);
       reached = subst (λ vs. HasReached s (Done vs)) (sym views) kept.reached;
     }
+
+-- where the word of the end is 1, all is done
+over_done : (s : Story) (D : ℕ → Type 0) (n q : ℕ) → n ≡ 1 → what s q ≡ finish → Over s D n → D q
+over_done s D n q one is (inl a) = absurd (omega (arith, one, a.0))
+over_done s D n q one is (inr a) = a.1 q is
+
+-- a look at the end
+pub ended_at : (s : Story) → IsOrderly s → (slots id i : ℕ) (me : Me (Unit {0}) View) → me.0.story ≡ s → me.1 ≡ [] → i ≡ cells s → Allows (Kept s) slots id me i (λ x. x) (ends (step slots i 0 0 none) me)
+ended_at s law slots id i me same bare there =
+    let z : ℕ = length s.events in
+    let Goal : ℕ → List (ℕ × Unit {0}) → Type 0 = λ j xs. Allows (Kept s) slots id (me.0, xs) j (λ x. x) (ends (step slots j 0 0 none) (me.0, xs)) in
+    let here : Goal (cells s) [] = λ t kept _ at _. (
+      me.0,
+      keeps,
+      tt,
+      unmoved s t id (cells s) me.0 kept at,
+      (refl, λ one. subst (λ (y : Story). IsFollowed y (length y.events)) (sym same) (kept.reached z (word_of_finish (what s z) law.last) (over_done s (Done t.views) _ z one law.last kept.told.over))),
+    ) in
+    subst (λ j. Goal j me.1) (sym there) (subst (λ xs. Goal (cells s) xs) (sym bare) here)
+
+-- a spawn that is resumed stands within the run
+pub spawn_within : (s : Story) → IsOrderly s → (k p : ℕ) → what s p ≡ resume k → k ≤ length s.events
+spawn_within s law k p is = (law.inside k (word_of_spawn (what s k) (law.resumed p k is).0)).1
 
 -- what the word of a continuation that can be taken says
 could_take : (s : Story) (D : ℕ → Type 0) (k n : ℕ) → n ≡ 1 → Cont s D k n → D k × ((r : ℕ) → what s r ≡ resume k → D r → ⊥)
@@ -225,7 +242,7 @@ module _ (s : Story) (law : IsOrderly s) (k p : ℕ) (is : what s p ≡ resume k
   open_word = could_take s (Done t.views) k (get_or t.words (cells s + k) 0) one (kept.told.each_spawn k spawned)
 
   pub up_spawn : IsFollowed s k
-  up_spawn = kept.reached k spawned open_word.0
+  up_spawn = kept.reached k (word_of_spawn (what s k) spawned) open_word.0
 
   up : IsFollowed s p
   up = up_resume s law k p is up_spawn fits
@@ -238,7 +255,7 @@ module _ (s : Story) (law : IsOrderly s) (k p : ℕ) (is : what s p ≡ resume k
   take_ready q word (through {e = e} b there) = kept.cut k q open_word.0 (word_of_spawn (what s k) spawned) word (subst (λ j. Before s q j) ((law.resumed p k is).2 e there) b)
 
   small_spawn : k ≤ length s.events
-  small_spawn = (law.inside k (word_of_spawn (what s k) spawned)).1
+  small_spawn = spawn_within s law k p is
 
   -- a segment goes on
   take_on : (a : ℕ) → Sits s v a p → a < p → Kept s (stepped t (cells s + k) 2 id [] (view v.story v.from (p + 1)) keeps)
@@ -265,7 +282,7 @@ module _ (s : Story) (law : IsOrderly s) (k p : ℕ) (is : what s p ≡ resume k
           (λ x i u here other there theirs. take_fresh (i, u, there, subst (λ j. In u j) (let same : x ≡ p = omega (arith, here.0, here.1) in same) theirs));
       cut = cut_more s law (Done t.views) kept.cut p take_fresh take_ready (Done (set t.views id (view v.story p (p + 1)))) fresh_into fresh_keep fresh_here;
       told = told_taken s law (Done t.views) kept.cut p take_fresh take_ready (Done (set t.views id (view v.story p (p + 1)))) fresh_into fresh_keep fresh_here t.words k is small_spawn kept.told;
-      reached = λ j is_j d. ⊎_elim (λ (old : Done t.views j). kept.reached j is_j old) (λ (same : j ≡ p). subst (λ i. IsFollowed s i) (sym same) up) (fresh_into j (word_of_spawn (what s j) is_j) d);
+      reached = λ j word d. ⊎_elim (λ (old : Done t.views j). kept.reached j word old) (λ (same : j ≡ p). subst (λ i. IsFollowed s i) (sym same) up) (fresh_into j word d);
     }
 
 -- a seat whose segment is empty, or goes on at p
@@ -304,43 +321,83 @@ allows_take s law k p is fits v same a g slots id t kept _ at _ =
       ((λ (hit : x ≡ 1). absurd (miss hit)), λ _. refl),
     ))
 
--- the same of a seat as a segment has it
-module _ (s : Story) (law : IsOrderly s) (me : Me (Unit {0}) View) (bare : me.1 ≡ []) (same : me.0.story ≡ s) (a p : ℕ) (sits : Sits me.0.story me.0 a p) (some_done : a < p) where
-  pub load_at : (values : HasValues s) (slots id c n : ℕ) → c < cells s → what s p ≡ read c n → IsAsked s p → Allows (Kept s) slots id me c (λ x. x) (loads (step slots c 0 0 none) me)
-  load_at values slots id c n small is fits =
-      subst (λ xs. Allows (Kept s) slots id (me.0, xs) c (λ x. x) (loads (step slots c 0 0 none) (me.0, xs))) (sym bare)
-      (allows_load s law me.0 a p (subst (λ z. Sits z me.0 a p) same sits) some_done slots id values c n small is fits)
+-- a seat as a segment from a up to p has it, whose frame goes on by a step on a word at p
+pub record Stands (s : Story) (me : Me (Unit {0}) View) (a p : ℕ) : Type 0 where
+  pub law : IsOrderly s
+  pub bare : me.1 ≡ []
+  pub same : me.0.story ≡ s
+  pub sits : Sits s me.0 a p
+  pub some_done : a < p
+  pub asked : IsAsked s p
+  pub line : IsLine (what s p)
 
-  pub after_load_at : (slots c n : ℕ) (m' : Me (Unit {0}) View) (r : ℕ) → what s p ≡ read c n → loads (step slots c 0 0 none) me r m' → (m' ≡ (view me.0.story me.0.from (p + 1), [])) × (what s p ≡ read c r)
-  after_load_at slots c n m' r is told =
-      after_load s me.0 a p (subst (λ z. Sits z me.0 a p) same sits) some_done c n m' r is (subst (λ xs. loads (step slots c 0 0 none) (me.0, xs) r m') bare told)
+pub stands : (s : Story) (me : Me (Unit {0}) View) (a p : ℕ) → IsOrderly s → (me.1 ≡ []) × Sits me.0.story me.0 a p → me.0.story ≡ s → (a < p) × IsAsked s p → IsLine (what s p) → Stands s me a p
+stands s me a p law inside same goes line = record {
+  law = law;
+  bare = inside.0;
+  same = same;
+  sits = subst (λ z. Sits z me.0 a p) same inside.1;
+  some_done = goes.0;
+  asked = goes.1;
+  line = line;
+}
 
-  pub store_at : (slots id c n : ℕ) → c < cells s → what s p ≡ write c n → IsAsked s p → Allows (Kept s) slots id me c (λ _. n) (λ _. Moves me)
-  store_at slots id c n small is fits =
-      subst (λ xs. Allows (Kept s) slots id (me.0, xs) c (λ _. n) (λ _. Moves (me.0, xs))) (sym bare)
-      (allows_store s law me.0 a p (subst (λ z. Sits z me.0 a p) same sits) some_done slots id c n small is fits)
+word_of_line : (e : WordEvent) → IsLine e → IsWord e
+word_of_line plain h = h
+word_of_line (read c n) h = h
+word_of_line (write c n) h = h
+word_of_line spawn h = h
+word_of_line (resume q) h = absurd h
+word_of_line finish h = h
 
-  pub offer_at : (slots id i : ℕ) → i ≡ cells s + p → p ≤ length s.events → what s p ≡ spawn → IsAsked s p → Allows (Kept s) slots id me i (λ _. 1) (λ _. Moves me)
-  offer_at slots id i there small is fits =
+module _ (s : Story) (me : Me (Unit {0}) View) (a p : ℕ) (h : Stands s me a p) where
+  step_word : IsWord (what s p)
+  step_word = word_of_line (what s p) h.line
+
+  -- there is room for the step
+  pub is_inside : p ≤ length s.events
+  is_inside = (h.law.inside p step_word).1
+
+  pub has_room : p + 1 < 2 ^ 32
+  has_room = let l = is_inside in let few = h.law.few in omega (arith, l, few)
+
+  pub load_at : (values : HasValues s) (slots id c n : ℕ) → c < cells s → what s p ≡ read c n → Allows (Kept s) slots id me c (λ x. x) (loads (step slots c 0 0 none) me)
+  load_at values slots id c n small is =
+      subst (λ xs. Allows (Kept s) slots id (me.0, xs) c (λ x. x) (loads (step slots c 0 0 none) (me.0, xs))) (sym h.bare)
+      (allows_load s h.law me.0 a p h.sits h.some_done slots id values c n small is h.asked)
+
+  pub store_at : (slots id c n : ℕ) → c < cells s → what s p ≡ write c n → Allows (Kept s) slots id me c (λ _. n) (λ _. Moves me)
+  store_at slots id c n small is =
+      subst (λ xs. Allows (Kept s) slots id (me.0, xs) c (λ _. n) (λ _. Moves (me.0, xs))) (sym h.bare)
+      (allows_store s h.law me.0 a p h.sits h.some_done slots id c n small is h.asked)
+
+  pub offer_at : (slots id i : ℕ) → i ≡ cells s + p → what s p ≡ spawn → Allows (Kept s) slots id me i (λ _. 1) (λ _. Moves me)
+  offer_at slots id i there is =
       let Goal : ℕ → List (ℕ × Unit {0}) → Type 0 = λ j xs. Allows (Kept s) slots id (me.0, xs) j (λ _. 1) (λ _. Moves (me.0, xs)) in
-      subst (λ j. Goal j me.1) (sym there) (subst (λ xs. Goal (cells s + p) xs) (sym bare) (allows_offer s law me.0 a p (subst (λ z. Sits z me.0 a p) same sits) some_done slots id small is fits))
+      subst (λ j. Goal j me.1) (sym there) (subst (λ xs. Goal (cells s + p) xs) (sym h.bare) (allows_offer s h.law me.0 a p h.sits h.some_done slots id is_inside is h.asked))
 
-  pub finish_at : (slots id i : ℕ) → i ≡ cells s → what s p ≡ finish → IsAsked s p → Allows (Kept s) slots id me i (λ _. 1) (λ _. Moves me)
-  finish_at slots id i there is fits =
+  pub finish_at : (slots id i : ℕ) → i ≡ cells s → what s p ≡ finish → Allows (Kept s) slots id me i (λ _. 1) (λ _. Moves me)
+  finish_at slots id i there is =
       let Goal : ℕ → List (ℕ × Unit {0}) → Type 0 = λ j xs. Allows (Kept s) slots id (me.0, xs) j (λ _. 1) (λ _. Moves (me.0, xs)) in
-      subst (λ j. Goal j me.1) (sym there) (subst (λ xs. Goal (cells s) xs) (sym bare) (allows_finish s law me.0 a p (subst (λ z. Sits z me.0 a p) same sits) some_done slots id is fits))
+      subst (λ j. Goal j me.1) (sym there) (subst (λ xs. Goal (cells s) xs) (sym h.bare) (allows_finish s h.law me.0 a p h.sits h.some_done slots id is h.asked))
 
-  pub after_store_at : (m' : Me (Unit {0}) View) → IsWord (what s p) → Moves me m' → m' ≡ (view me.0.story me.0.from (p + 1), [])
-  after_store_at m' word told =
-      let f = sits.from some_done in
-      let is : told.0 ≡ p = next_once s me.0.upto told.0 p (subst (λ z. IsNext z me.0.upto told.0) same told.1) f.2 word (λ k le lt w. sits.rest k le lt some_done (subst (λ z. IsWord (what z k)) (sym same) w)) in
-      told.2 ∙ ap (λ k. (view me.0.story me.0.from (k + 1), me.1)) is ∙ ap (λ xs. (view me.0.story me.0.from (p + 1), xs)) bare
+  -- a load is a step
+  pub moves : (slots c n : ℕ) (m' : Me (Unit {0}) View) → loads (step slots c 0 0 none) me n m' → Moves me m'
+  moves slots c n m' told = (told.0, told.1, told.2)
 
-  pub sits_after : (m' : Me (Unit {0}) View) → IsLine (what s p) → IsAsked s p → m' ≡ (view me.0.story me.0.from (p + 1), []) → (m'.1 ≡ []) × Sits m'.0.story m'.0 a (p + 1)
-  sits_after m' line fits is = (
-    ap (λ m. m.1) is,
-    subst (λ (m : Me (Unit {0}) View). Sits m.0.story m.0 a (p + 1)) (sym is) (subst (λ z. Sits z (view me.0.story me.0.from (p + 1)) a (p + 1)) (sym same) (sits_next s law me.0 a p (subst (λ z. Sits z me.0 a p) same sits) some_done line (up_line s law me.0 a p (subst (λ z. Sits z me.0 a p) same sits) some_done line fits))),
-  )
+  moved_is : (m' : Me (Unit {0}) View) → Moves me m' → m' ≡ (view me.0.story me.0.from (p + 1), [])
+  moved_is m' told =
+      let f = h.sits.from h.some_done in
+      let is : told.0 ≡ p = next_once s me.0.upto told.0 p (subst (λ z. IsNext z me.0.upto told.0) h.same told.1) f.2 step_word (λ k le lt w. h.sits.rest k le lt h.some_done w) in
+      told.2 ∙ ap (λ k. (view me.0.story me.0.from (k + 1), me.1)) is ∙ ap (λ xs. (view me.0.story me.0.from (p + 1), xs)) h.bare
+
+  -- the segment after the step
+  pub moved_at : (m' : Me (Unit {0}) View) → Moves me m' → (m'.1 ≡ []) × Sits m'.0.story m'.0 a (p + 1)
+  moved_at m' told =
+      let is = moved_is m' told in (
+        ap (λ m. m.1) is,
+        subst (λ (m : Me (Unit {0}) View). Sits m.0.story m.0 a (p + 1)) (sym is) (subst (λ z. Sits z (view me.0.story me.0.from (p + 1)) a (p + 1)) (sym h.same) (sits_next s h.law me.0 a p h.sits h.some_done h.line (up_line s h.law me.0 a p h.sits h.some_done h.line h.asked))),
+      )
 
 -- a fact of what contracts see is one of the fields
 pub both : {y y' : YardValue} {g g' : SegmentValue} (P : YardValue → SegmentValue → Type 0) → y ≡ y' → g ≡ g' → P y' g' → P y g

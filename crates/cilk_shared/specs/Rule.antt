@@ -60,9 +60,9 @@ pub record Parted (s : Story) (views : List View) : Type 0 where
 abbrev pub IsCut : Story → (ℕ → Type 0) → Type 0
 IsCut s D = (p q : ℕ) → D p → IsWord (what s p) → IsWord (what s q) → Before s q p → D q
 
--- what is done up to an offered spawn is what the frames ask for
+-- each step on a word that is done, and what comes before it, is what the frames ask for
 abbrev pub HasReached : Story → (ℕ → Type 0) → Type 0
-HasReached s D = (k : ℕ) → what s k ≡ spawn → D k → IsFollowed s k
+HasReached s D = (k : ℕ) → IsWord (what s k) → D k → IsFollowed s k
 
 pub record Kept (s : Story) (t : State (Unit {0}) View) : Type 0 where
   pub parted : Parted s t.views
@@ -89,6 +89,10 @@ Moves m m' = (p : ℕ) × IsNext m.0.story m.0.upto p × (m' ≡ moved m p)
 
 abbrev pub stores : Step (Unit {0}) → Sat → ℕ → Sat → Type 0
 stores st m n m' = Moves m m'
+
+-- nothing changed, and where the run's end was found each of its events is what the frames ask for
+abbrev pub ends : Step (Unit {0}) → Sat → ℕ → Sat → Type 0
+ends st m n m' = (m' ≡ m) × (n ≡ 1 → IsFollowed m.0.story (length m.0.story.events))
 
 -- each event of the range comes right after events of the range, or is the resumption after a spawn
 abbrev pub Whole : Story → ℕ → ℕ → Type 0

@@ -6,6 +6,8 @@ use Rattle.cilk_tree.specs.Reach.{Among}
 use Rattle.cilk_story.specs.declared.story.Story.{Story}
 use Rattle.cilk_story.specs.Word.{event, what, after, plain, spawn, resume, finish}
 use Rattle.cilk_story.specs.Runs.{IsAsked}
+use Rattle.cilk_shared.specs.declared.taken.Taken.{Taken}
+use Rattle.cilk_shared.specs.declared.taken.Taken.TheVariants.{Yes, No}
 use Rattle.cilk_shared.specs.Rows.{spanned}
 
 pub record YardValue : Type 0 where
@@ -46,21 +48,31 @@ NextSpawn y g = GoesOn y g × (what y.story g.upto ≡ spawn)
 abbrev pub NextFinish : YardValue → SegmentValue → Type 0
 NextFinish y g = GoesOn y g × (what y.story g.upto ≡ finish)
 
--- p resumes what the spawn at k left; the segment is empty, or p is its next event
-abbrev pub CanTake : YardValue → SegmentValue → ℕ → ℕ → Type 0
-CanTake y g k p = (what y.story p ≡ resume k) × IsAsked y.story p × ((g.upto ≤ g.from) ⊎ ((g.from < g.upto) × (p ≡ g.upto)))
+-- The segment is empty, or the `resume` after the spawn at k is its next event, as it is behind the `end` of the spawned child. Where no
+-- spawn stands at k there is no such event.
+abbrev pub CanTake : YardValue → SegmentValue → ℕ → Type 0
+CanTake y g k = (p : ℕ) → what y.story p ≡ resume k → IsAsked y.story p × ((g.upto ≤ g.from) ⊎ ((g.from < g.upto) × (p ≡ g.upto)))
 
 -- the segment goes on at p
 abbrev pub taken_at : SegmentValue → ℕ → SegmentValue
 taken_at g p = record { of = g.of; story = g.story; from = cond (nat_lt g.from g.upto) g.from p; upto = p + 1 }
 
+-- the continuation after the spawn at k is taken, and g has become h, or nothing has changed
+abbrev pub IsTaken : YardValue → SegmentValue → ℕ → SegmentValue → Taken → Type 0
+IsTaken y g k h Yes = (p : ℕ) × (what y.story p ≡ resume k) × (h ≡ taken_at g p)
+IsTaken y g k h No = h ≡ g
+
 -- what comes right before the next event is not ahead of where the segment begins
 abbrev pub HoldsPreceding : SegmentValue → Type 0
 HoldsPreceding g = (e : ℕ) → Among e (after g.story g.upto) → g.from ≤ e
 
--- the next event is no step on a word, and what comes right before it is in the segment
+-- there is a next event, it is no step on a word, and what comes right before it is in the segment
+abbrev pub MayPass : SegmentValue → Type 0
+MayPass g = (g.from < g.upto) × (g.upto ≤ length g.story.events) × (what g.story g.upto ≡ plain) × HoldsPreceding g
+
+-- and the frame asks for it
 abbrev pub CanPass : SegmentValue → Type 0
-CanPass g = (g.from < g.upto) × (g.upto ≤ length g.story.events) × (what g.story g.upto ≡ plain) × HoldsPreceding g × IsAsked g.story g.upto
+CanPass g = MayPass g × IsAsked g.story g.upto
 
 -- the segment isn't empty, and its next event resumes nothing that a spawn left
 abbrev pub IsAhead : SegmentValue → Type 0

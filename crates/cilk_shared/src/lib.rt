@@ -12,6 +12,7 @@
 //! ```
 #![tactic(auto)]
 
+pub mod taken;
 pub mod view;
 pub mod words;
 pub mod yard;

@@ -1,12 +1,14 @@
 //! A yard and its segments.
 
-ghost use Rattle.std.specs.Prelude.{◌≡◌, ◌↔◌, ℕ, ◌+◌, ◌<◌, ◌≤◌, Some, length, cond, nat_lt, IfErr, IfOk, IsTrue, MatchBool};
+ghost use Rattle.std.specs.Prelude.{◌≡◌, ◌↔◌, ℕ, ◌+◌, ◌<◌, ◌≤◌, Option, Some, None, length, slice_index_or, cond, nat_lt, IfErr, IfOk, IsTrue};
 ghost use Rattle.cilk_types.specs.declared.event.Event.TheVariants.{Read};
 ghost use Rattle.cilk_story.specs.Orders.{IsOrderly};
 ghost use Rattle.cilk_story.specs.Values.{HasValues, AreFinal};
-ghost use Rattle.cilk_story.specs.Word.{event};
+ghost use Rattle.cilk_story.specs.Runs.{IsFollowed};
+ghost use Rattle.cilk_story.specs.Word.{event, resume, what};
 ghost use Rattle.cilk_shared.specs.Rows.{spanned};
 
+use crate::taken::Taken;
 use crate::view::View;
 use crate::words::{first_words, last_values};
 use atomic_table::{Join, Play, Seat, Split, Table, TableRule};
@@ -49,6 +51,14 @@ impl Play<(), View> for Takes {
     ghost then = { takes };
 }
 
+struct Ends;
+
+impl Play<(), View> for Ends {
+    ghost use Rattle.cilk_shared.specs.Rule.{ends};
+
+    ghost then = { ends };
+}
+
 struct Halves;
 
 impl Split<View> for Halves {
@@ -72,19 +82,21 @@ impl Join<View> for Halves {
 pub struct Yard {
     table: Table<(), View, Plan, Words, Global>,
     cells: usize,
+    resumptions: Vec<Option<Pos>>,
 }
 
 impl Model for Yard {
     ghost use Rattle.std.specs.Prelude.{◌≡◌, ◌+◌, ◌^◌, ◌<◌, length};
     ghost use Rattle.cilk_story.specs.Orders.{IsOrderly};
     ghost use Rattle.cilk_story.specs.Values.{HasValues};
+    ghost use Rattle.cilk_plan.specs.Resumptions.{AreResumptions};
     ghost use Rattle.cilk_shared.specs.Values.{YardValue};
 
     ghost Value = { YardValue };
 
     ghost view = { λ y. record { of = y.table.shared.table_id; story = y.table.shared.key } };
 
-    ghost invariant = { λ y. IsOrderly y.table.shared.key × (0 < y.table.shared.table_id.words) × (y.table.shared.table_id.slots ≡ 0) × (y.table.shared.table_id.words ≡ length y.table.shared.key.opening + (length y.table.shared.key.events + 1)) × (y.cells ≡ length y.table.shared.key.opening) × (y.cells + length y.table.shared.key.events + 1 < 2 ^ 34) × HasValues y.table.shared.key };
+    ghost invariant = { λ y. IsOrderly y.table.shared.key × (0 < y.table.shared.table_id.words) × (y.table.shared.table_id.slots ≡ 0) × (y.table.shared.table_id.words ≡ length y.table.shared.key.opening + (length y.table.shared.key.events + 1)) × (y.cells ≡ length y.table.shared.key.opening) × (y.cells + length y.table.shared.key.events + 1 < 2 ^ 34) × HasValues y.table.shared.key × AreResumptions y.table.shared.key y.resumptions.items };
 }
 
 /// A stretch of the run's positions that one piece has done.
@@ -108,7 +120,7 @@ impl Model for Segment {
 }
 
 impl Yard {
-    ghost use Rattle.cilk_shared.specs.Values.{OfYard, NextRead, NextWrite, NextSpawn, NextFinish, CanTake, moved_on, taken_at, empty_beside, Adjoin, both_of};
+    ghost use Rattle.cilk_shared.specs.Values.{OfYard, NextRead, NextWrite, NextSpawn, NextFinish, CanTake, IsTaken, moved_on, empty_beside, Adjoin, both_of};
 
     /// The words of a run, and the segment of its first event.
     pub fn new(alloc: Global, plan: &Plan) -> Result<(Yard, Segment), AllocError>
@@ -116,9 +128,14 @@ impl Yard {
     {
         plan.laws();
         let cells = plan.opening().len();
+        let resumptions = plan.resumptions(alloc)?;
         let words = first_words(alloc, plan)?;
         let (table, seat) = Table::of_words(alloc, words.as_slice(), plan)?;
-        let yard = Yard { table, cells };
+        let yard = Yard {
+            table,
+            cells,
+            resumptions,
+        };
         let segment = Segment {
             seat,
             from: 1,
@@ -178,22 +195,33 @@ impl Yard {
         ticket
     }
 
-    /// Takes the continuation after the spawn at `ticket`, whose `resume` stands at `at`, unless it was taken: whether it was taken now.
-    pub fn take(&self, segment: &mut Segment, ticket: Pos, at: Pos) -> bool
+    /// Takes the continuation after the spawn at `ticket`, unless it was taken: then the segment goes on with its `resume`. Where the plan
+    /// has no spawn there, nothing is taken.
+    pub fn take(&self, segment: &mut Segment, ticket: Pos) -> Taken
         requires yard { OfYard self.now segment.old }
-        requires next { CanTake self.now segment.old ticket at }
-        ensures { MatchBool result (segment.new ≡ taken_at segment.old at) (segment.new ≡ segment.old) }
+        requires next { CanTake self.now segment.old ticket }
+        ensures { IsTaken self.now segment.old ticket segment.new result }
     {
+        let Some(at) = self.resumption(ticket) else {
+            return Taken::No;
+        };
         let found = self
             .table
             .shared
             .compare_exchange::<Takes>(&mut segment.seat, self.cells + ticket as usize, 1, 2);
         if found != 1 {
-            return false;
+            return Taken::No;
         }
         segment.from = start(segment.from, segment.upto, at);
         segment.upto = at + 1;
-        true
+        Taken::Yes
+    }
+
+    /// The position of the `resume` after the spawn at `ticket`; none where the plan has no spawn there.
+    pub fn resumption(&self, ticket: Pos) -> Option<Pos>
+        ensures { (p : ℕ) → (result ≡ Some p) ↔ (what self.now.story p ≡ resume ticket) }
+    {
+        entry(self.resumptions.as_slice(), ticket as usize)
     }
 
     /// Ends the run, where the segment's next event is the root's `end`.
@@ -208,9 +236,17 @@ impl Yard {
         segment.upto += 1;
     }
 
-    /// Whether the run was seen to have ended. What it answers is not promised: a thread may see the end late.
-    pub fn ended(&self) -> bool {
-        self.table.shared.peek(self.cells) == 1
+    /// Whether the run was seen to have ended; a thread may see the end late. Then its frames asked for each of its events.
+    pub fn ended(&self, segment: &mut Segment) -> bool
+        requires { OfYard self.now segment.old }
+        ensures segment { segment.new ≡ segment.old }
+        ensures whole { IsTrue result → IsFollowed self.now.story (length self.now.story.events) }
+    {
+        let found = self
+            .table
+            .shared
+            .load::<Ends>(&mut segment.seat, self.cells);
+        found == 1
     }
 
     /// The segment, and an empty one.
@@ -270,7 +306,11 @@ impl Yard {
         let Ok(values) = Vec::with_capacity(alloc, self.cells) else {
             return Err((self, segment));
         };
-        let Yard { table, cells } = self;
+        let Yard {
+            table,
+            cells,
+            resumptions: _,
+        } = self;
         let Segment {
             seat,
             from: _,
@@ -287,6 +327,16 @@ impl Yard {
         ensures { IsTrue result ↔ Adjoin first.now second.now }
     {
         first.from >= first.upto || second.from >= second.upto || first.upto == second.from
+    }
+}
+
+// What a column has at a place; nothing past its end.
+fn entry(column: &[Option<Pos>], place: usize) -> Option<Pos>
+    ensures { result ≡ slice_index_or column.now place None }
+{
+    match column.get(place) {
+        Some(at) => *at,
+        None => None,
     }
 }
 
@@ -317,7 +367,7 @@ impl Segment {
     ghost use Rattle.cilk_story.specs.Word.{event};
     ghost use Rattle.std.specs.Prelude.{◌≢◌};
     ghost use Rattle.cilk_types.specs.declared.event.Event.TheVariants.{Sync};
-    ghost use Rattle.cilk_shared.specs.Values.{OfYard, CanPass, HoldsPreceding, IsAhead, moved_on};
+    ghost use Rattle.cilk_shared.specs.Values.{OfYard, CanPass, MayPass, HoldsPreceding, IsAhead, moved_on};
 
     /// Adds the next event, which is no step on a shared word.
     pub fn pass(&mut self, yard: &Yard)
@@ -366,6 +416,24 @@ impl Segment {
             None => true,
             Some(first) => self.from <= first,
         }
+    }
+
+    /// Whether `pass` may be called where the frame asks for the next event: there is one, it is no step on a shared word, and what comes
+    /// right before it is in the segment.
+    pub fn may_pass(&self, plan: &Plan) -> bool
+        requires { plan.now ≡ self.now.story }
+        ensures { IsTrue result ↔ MayPass self.now }
+    {
+        if self.from >= self.upto {
+            return false;
+        }
+        if self.upto as usize > plan.count() {
+            return false;
+        }
+        if plan.is_word(self.upto) {
+            return false;
+        }
+        self.holds_preceding(plan)
     }
 
     /// Where the frame asks for the next event, and that is no `sync`, the run follows the plan there.

@@ -8,6 +8,7 @@ use cilk_types::input::Input;
 use cilk_types::limits::MAX_INPUTS;
 use cilk_types::outcome::Outcome;
 use cilk_types::trace::Trace;
+use cilk_types::word_list::WordList;
 use std::alloc::Global;
 use std::process::Abort;
 
@@ -24,11 +25,12 @@ pub fn program_of(rt: &impl Abort, alloc: Global, text: &str) -> Program {
 
 /// An input of these numbers.
 pub fn input_of(rt: &impl Abort, alloc: Global, numbers: &[i64]) -> Input {
-    let Ok(numbers) = numbers.to_vec(alloc) else {
-        panic!(rt; "no memory");
-    };
-    assert!(rt; numbers.len() <= MAX_INPUTS);
-    Input::new(numbers)
+    let mut list = WordList::new(alloc);
+    for number in numbers {
+        assert!(rt; list.push(*number).is_ok());
+    }
+    assert!(rt; list.len() <= MAX_INPUTS);
+    Input::new(list)
 }
 
 /// What the serial run of a text on these numbers leaves, and its trace.

@@ -4,7 +4,7 @@
 -- `same_given`, `one_refused`, `not_refused`: the texts mean one program and one input, or have one first fault, and
 -- not both. `one_judged`, `one_run`, `one_certify`, `one_check`: a command has one reply.
 -- `one_reply`: and so have words.
-use Rattle.std.proofs.Common.{◌≡◌, ℕ, ℤ, List, take, Option, Some, None, refl, sym, ap, ◌∙◌, subst}
+use Rattle.std.proofs.Common.{◌≡◌, ℤ, List, take, Option, Some, None, refl, sym, ap, ◌∙◌, subst}
 use Rattle.std.specs.Prelude.{◌≢◌, IfSome, IsSome}
 use Rattle.cilk_texts.specs.declared.fault.TextFault.{TextFault}
 use Rattle.cilk_texts.specs.declared.fault.TextFault.TheVariants as text_faults
@@ -18,6 +18,7 @@ use Rattle.cilk_judge.specs.declared.fault.ProgramFault.TheVariants as program_f
 use Rattle.cilk_judge.proofs.OneMeaning.{one_meaning}
 use Rattle.cilk_tool.specs.declared.streams.TheConstants.{MAX_READ}
 use Rattle.cilk_tool.specs.OneReply.{HasOneReply, IsKnown, IsKnownInput, IsOfTexts}
+use Rattle.cilk_tool.specs.Files.{Failures}
 use Rattle.cilk_tool.specs.Replies.{BadInput, BadWords, NoMemory, Reply, Text, Unreadable}
 use Rattle.cilk_tool.specs.Serving.{AreGiven, CertifyReply, CheckReply, GivesInput, GivesProgram, InputFileFails, InputRefused, InputUnread, Judged, JudgedReply, NoneGiven, OriginFails, ProgramRefused, ProgramUnread, RunReply, Unjudged, WordsFail, Surroundings}
 use Rattle.cilk_tool.specs.Shown.{CertifyShows, CheckShows, InputFails, ProgramFails, RunShows, input_fault_view, program_fault_view}
@@ -78,7 +79,7 @@ no_input_refusal : (text : Text) (numbers : List ℤ) (r : Reply) → IsOfTexts 
     → InputFails text r → ⊥
 no_input_refusal text numbers r v h k = no_input_fault text numbers r k.0 v k.1 h k.2
 
-not_unread : (n m : ℕ) (o : Origin) (r : Reply) → OriginFails n m o r → IsOfTexts r → ⊥
+not_unread : (n m : Failures) (o : Origin) (r : Reply) → OriginFails n m o r → IsOfTexts r → ⊥
 not_unread n m Standard (Unreadable name) h v = v
 not_unread n m Standard NoMemory h v = v
 not_unread n m Standard _ h v = h
@@ -86,7 +87,7 @@ not_unread n m (File path) (Unreadable name) h v = v
 not_unread n m (File path) NoMemory h v = v
 not_unread n m (File path) _ h v = h
 
-input_not_unread : (n m : ℕ) (o : Option Text) (r : Reply) → InputFileFails n m o r → IsOfTexts r → ⊥
+input_not_unread : (n m : Failures) (o : Option Text) (r : Reply) → InputFileFails n m o r → IsOfTexts r → ⊥
 input_not_unread n m None r h v = h
 input_not_unread n m (Some path) r h v = not_unread n m (File path) r h v
 

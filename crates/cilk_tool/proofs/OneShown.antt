@@ -31,6 +31,7 @@ use Rattle.cilk_checker.proofs.Judged.{true_refusal}
 use Rattle.cilk_checker.proofs.OneVerdict.{acceptable_by, one_verdict}
 use Rattle.cilk_tool.specs.OneReply.{IsOfTexts}
 use Rattle.cilk_tool.specs.Replies as replies
+use Rattle.cilk_tool.specs.Files.{Failures}
 use Rattle.cilk_tool.specs.Replies.{BadInput, BadProgram, BadWords, Ended, Faulted, NoMemory, Reply, Text, Unreadable, places_of}
 use Rattle.cilk_tool.specs.Shown.{CertifyShows, CheckShows, RunFails, RunShows, run_fault_view}
 
@@ -111,7 +112,7 @@ shows_once m inputs r q v w h k =
 -- the right certificate is shown
 abbrev IsMade : Meant → List ℤ → Reply → Outcome → Type 0
 IsMade m inputs r o =
-    (c : Contents) × (r ≡ replies.Certified c) × (c.version ≡ Two) × IsCertificate c × made.IsCertified m.source inputs c
+    (c : Contents) × (r ≡ replies.Certified c) × (c.version ≡ Two) × IsCertificate c × made.IsCertificateOf m.source inputs c
 
 wished : (m : Meant) (inputs : List ℤ) (r : Reply) → IsOfTexts r → CertifyShows m inputs r
     → Shown m inputs (IsMade m inputs) r
@@ -146,7 +147,7 @@ data Checked (known : Option Text) (m : Meant) (inputs : List ℤ) (r : Reply) :
   Refuses : (f : Refusal) → f ≢ refusals.Memory → r ≡ replies.Refused (number_of f) (places_of (fields_of f))
       → IsRefusedText m.source inputs known f → Checked known m inputs r
 
-checked : (path : Text) (known : Option Text) (failed failed' : ℕ) (m : Meant) (inputs : List ℤ) (r : Reply)
+checked : (path : Text) (known : Option Text) (failed failed' : Failures) (m : Meant) (inputs : List ℤ) (r : Reply)
     → IsOfTexts r → CheckShows path known failed failed' m inputs r → Checked known m inputs r
 checked path known failed failed' m inputs replies.Accepted v h = Accepts h.0 h.1 refl h.2
 checked path known failed failed' m inputs (replies.Refused n ps) v h =
@@ -188,7 +189,7 @@ one_checked_known None m inputs text numbers some t r q h k = cc
 one_checked_known (Some certificate) m inputs text numbers some t r q h k =
     one_checked m inputs text numbers certificate t r q h k
 
-pub checks_once : (path : Text) (known : Option Text) (failed failed' : ℕ) (m : Meant) (inputs : List ℤ)
+pub checks_once : (path : Text) (known : Option Text) (failed failed' : Failures) (m : Meant) (inputs : List ℤ)
     (text numbers : Text) → IsSome known → AreTexts text numbers m inputs → (r q : Reply) → IsOfTexts r → IsOfTexts q
     → CheckShows path known failed failed' m inputs r → CheckShows path known failed failed' m inputs q → r ≡ q
 checks_once path known failed failed' m inputs text numbers some t r q v w h k =

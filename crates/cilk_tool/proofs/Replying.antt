@@ -20,7 +20,7 @@ use Rattle.cilk_program.specs.Syntax.{Source}
 use Rattle.cilk_tool.specs.Replies.{NoMemory, Refused, Reply, Text, answer_view, failure_view, out_text, places_of, status_of}
 use Rattle.cilk_texts.specs.Inputs.{IsInput}
 use Rattle.cilk_judge.specs.Judging.{IsProgramText, Meant}
-use Rattle.cilk_tool.specs.Files.{IsHeld}
+use Rattle.cilk_tool.specs.Files.{Failures, IsHeld}
 use Rattle.cilk_tool.specs.Serving.{Answers, AreGiven, GivesInput, GivesProgram, InputFileFails, InputRefused, InputUnread, IsOrNoMemory, Judged, JudgedReply, NoneGiven, ProgramRefused, ProgramUnread, Serves, Shows, ShowsError, Unjudged, Surroundings, world}
 use Rattle.cilk_tool.specs.Shown.{CheckShows, InputFails, ProgramFails}
 use Rattle.cilk_tool.specs.Streams.{AppendsFront, AppendsPart}
@@ -88,10 +88,10 @@ pub program_refused : (w : Surroundings) (p : Origin) (i : Option Text) (r : Rep
     → ProgramFails slice r → NoneGiven w p i r
 program_refused w p i r text slice given e h = ProgramRefused text given (subst (λ (t : Text). ProgramFails t r) e h)
 
-pub input_unread : (w : Surroundings) (p : Origin) (i : Option Text) (r : Reply) (text slice : Text) (q : Meant) (failed : ℕ) → GivesProgram w.files w.input p text → slice ≡ text
+pub input_unread : (w : Surroundings) (p : Origin) (i : Option Text) (r : Reply) (text slice : Text) (q : Meant) (failed : Failures) → GivesProgram w.files w.input p text → slice ≡ text
     → IsProgramText slice q → failed ≡ w.failed → InputFileFails failed w.failed' i r → NoneGiven w p i r
 input_unread w p i r text slice q failed given e h same unread =
-    InputUnread text q given (subst (λ (t : Text). IsProgramText t q) e h) (subst (λ (n : ℕ). InputFileFails n w.failed' i r) same unread)
+    InputUnread text q given (subst (λ (t : Text). IsProgramText t q) e h) (subst (λ (n : Failures). InputFileFails n w.failed' i r) same unread)
 
 pub input_refused : (w : Surroundings) (p : Origin) (i : Option Text) (r : Reply) (text slice : Text) (q : Meant) (files : Text → Option Text) (numbers slice' : Text)
     → GivesProgram w.files w.input p text → slice ≡ text → IsProgramText slice q → ((path : Text) → files path ≡ w.files path) → GivesInput files i numbers → slice' ≡ numbers
@@ -129,7 +129,7 @@ judged_err IsShown (Ok a) w p i q inputs given h = tt
 judged_err IsShown (Err e) w p i q inputs given h = Judged q inputs given h
 
 -- a program and its input are given whatever is read afterwards
-pub given_later : (files : Text → Option Text) (input : Option Text) (failed before after : ℕ) (p : Origin)
+pub given_later : (files : Text → Option Text) (input : Option Text) (failed before after : Failures) (p : Origin)
     (i : Option Text) (q : Meant) (inputs : List ℤ)
     → AreGiven (world files input failed before) p i q inputs → AreGiven (world files input failed after) p i q inputs
 given_later files input failed before after p i q inputs h = record {
@@ -142,38 +142,39 @@ given_later files input failed before after p i q inputs h = record {
 }
 
 -- the answer to a check, by what was known before the two texts were read
-pub checked_ok : {T : Type 0} (x : Result Answer T) (path : Text) (known known' : Option Text) (n m failed : ℕ) (q : Meant)
+pub checked_ok : {T : Type 0} (x : Result Answer T) (path : Text) (known known' : Option Text) (n m failed : Failures) (q : Meant)
     (inputs : List ℤ) → known ≡ known' → n ≡ m
     → IfOk x (λ a. CheckShows path known n failed q inputs (answer_view a))
     → IfOk x (λ a. CheckShows path known' m failed q inputs (answer_view a))
 checked_ok x path known known' n m failed q inputs e d h =
-    let P : Option Text → ℕ → Type 0 = λ k f. IfOk x (λ a. CheckShows path k f failed q inputs (answer_view a)) in
+    let P : Option Text → Failures → Type 0 = λ k f. IfOk x (λ a. CheckShows path k f failed q inputs (answer_view a)) in
     subst (λ k. P k m) e (subst (λ f. P known f) d h)
 
 -- its failure
-pub checked_err : {T : Type 0} (x : Result T Failure) (path : Text) (known known' : Option Text) (n m failed : ℕ) (q : Meant)
+pub checked_err : {T : Type 0} (x : Result T Failure) (path : Text) (known known' : Option Text) (n m failed : Failures) (q : Meant)
     (inputs : List ℤ) → known ≡ known' → n ≡ m
     → IfErr x (λ a. CheckShows path known n failed q inputs (failure_view a))
     → IfErr x (λ a. CheckShows path known' m failed q inputs (failure_view a))
 checked_err x path known known' n m failed q inputs e d h =
-    let P : Option Text → ℕ → Type 0 = λ k f. IfErr x (λ a. CheckShows path k f failed q inputs (failure_view a)) in
+    let P : Option Text → Failures → Type 0 = λ k f. IfErr x (λ a. CheckShows path k f failed q inputs (failure_view a)) in
     subst (λ k. P k m) e (subst (λ f. P known f) d h)
 
 -- a refusal that is told is shown
-pub refused_ok : {T : Type 0} (x : Result Answer T) (path : Text) (known : Option Text) (n m : ℕ) (q : Meant)
-    (inputs : List ℤ) (f : Refusal)
+pub refused_ok : {F T : Type 0} (x : Result Answer T) (path : Text) (known : Option Text) (failed : F → Failures) (old new : F)
+    (q : Meant) (inputs : List ℤ) (f : Refusal)
     → IfOk x (λ a. (f ≢ refusals.Memory) × (answer_view a ≡ Refused (number_of f) (places_of (fields_of f))))
-    → IsRefusedText q.source inputs known f → IfOk x (λ a. CheckShows path known n m q inputs (answer_view a))
-refused_ok (Ok a) path known n m q inputs f h k =
-    subst (λ (r : Reply). CheckShows path known n m q inputs r) (sym h.1) (f, h.0, refl, refl, k)
-refused_ok (Err e) path known n m q inputs f h k = tt
+    → IsRefusedText q.source inputs known f
+    → IfOk x (λ a. CheckShows path known (failed old) (failed new) q inputs (answer_view a))
+refused_ok (Ok a) path known failed old new q inputs f h k =
+    subst (λ (r : Reply). CheckShows path known (failed old) (failed new) q inputs r) (sym h.1) (f, h.0, refl, refl, k)
+refused_ok (Err e) path known failed old new q inputs f h k = tt
 
-pub refused_err : {T : Type 0} (x : Result T Failure) (path : Text) (known : Option Text) (n m : ℕ) (q : Meant)
-    (inputs : List ℤ) → IfErr x (λ e. failure_view e ≡ NoMemory)
-    → IfErr x (λ e. CheckShows path known n m q inputs (failure_view e))
-refused_err (Ok a) path known n m q inputs h = tt
-refused_err (Err e) path known n m q inputs h =
-    subst (λ (r : Reply). CheckShows path known n m q inputs r) (sym h) tt
+pub refused_err : {F T : Type 0} (x : Result T Failure) (path : Text) (known : Option Text) (failed : F → Failures) (old new : F)
+    (q : Meant) (inputs : List ℤ) → IfErr x (λ e. failure_view e ≡ NoMemory)
+    → IfErr x (λ e. CheckShows path known (failed old) (failed new) q inputs (failure_view e))
+refused_err (Ok a) path known failed old new q inputs h = tt
+refused_err (Err e) path known failed old new q inputs h =
+    subst (λ (r : Reply). CheckShows path known (failed old) (failed new) q inputs r) (sym h) tt
 
 known_whole : (known : Option Text) → option_map (drop 0) known ≡ known
 known_whole None = refl

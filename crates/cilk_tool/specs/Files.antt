@@ -1,5 +1,5 @@
--- What a file holds.
-use Rattle.std.specs.Prelude.{◌≡◌, ℕ, ◌≤◌, List, length, take, drop, Option, IfSome}
+-- What a file holds, and which reads failed.
+use Rattle.std.specs.Prelude.{◌≡◌, ℕ, ◌<◌, ◌≤◌, List, length, take, drop, Option, IfSome}
 
 -- the bytes are those that are known, where they are known
 abbrev pub IsHeld : Option (List ℕ) → List ℕ → Type 0
@@ -12,3 +12,15 @@ IsPart known at n bytes = IfSome known (λ all. take n bytes ≡ take n (drop at
 -- no byte is known at this place or behind it
 abbrev pub EndsAt : Option (List ℕ) → ℕ → Type 0
 EndsAt known at = IfSome known (λ all. length all ≤ at)
+
+-- how many reads of files met a failing device, and how many of these were of other files than that of a path
+pub record Failures : Type 0 where
+  pub count : ℕ
+  pub elsewhere : List ℕ → ℕ
+
+abbrev pub failures : ℕ → (List ℕ → ℕ) → Failures
+failures count elsewhere = record { count = count; elsewhere = elsewhere }
+
+-- a read of this path met a failing device, and none of another path did
+abbrev pub HasFailed : List ℕ → Failures → Failures → Type 0
+HasFailed path old new = (old.count < new.count) × (new.elsewhere path ≡ old.elsewhere path)

@@ -1,8 +1,8 @@
 -- What `serve` shows.
-use Rattle.std.specs.Prelude.{◌≡◌, ◌⊎◌, ◌<◌, ℕ, ℤ, List, [], Option, Some, None, IfSome, codes, take}
+use Rattle.std.specs.Prelude.{◌≡◌, ◌⊎◌, ℕ, ℤ, List, [], Option, Some, None, IfSome, codes, take}
 use Rattle.std.specs.Io.KnownBytes.{Appends}
 use Rattle.cilk_tool.specs.declared.streams.TheConstants.{MAX_READ}
-use Rattle.cilk_tool.specs.Files.{IsHeld}
+use Rattle.cilk_tool.specs.Files.{Failures, HasFailed, IsHeld}
 use Rattle.cilk_texts.specs.Inputs.{IsInput}
 use Rattle.cilk_judge.specs.Judging.{IsProgramText, Meant}
 use Rattle.cilk_tool.specs.Replies.{BadWords, IsErrorText, NoMemory, Reply, Text, Unreadable, line, out_text, status_of}
@@ -24,9 +24,9 @@ abbrev pub GivesInput : (Text → Option Text) → Option Text → Text → Type
 GivesInput files (Some path) text = IsHeld (files path) text
 GivesInput files None text = text ≡ []
 
--- a file isn't read only where its device failed: the count of failures rose
-abbrev pub FileFails : ℕ → ℕ → Text → Reply → Type 0
-FileFails failed failed' path (Unreadable name) = (name ≡ path) × (failed < failed')
+-- a file isn't read only where its device failed, and that of no other file
+abbrev pub FileFails : Failures → Failures → Text → Reply → Type 0
+FileFails failed failed' path (Unreadable name) = (name ≡ path) × HasFailed path failed failed'
 FileFails failed failed' path NoMemory = Unit {0}
 FileFails failed failed' path _ = ⊥
 
@@ -36,24 +36,24 @@ StandardFails (Unreadable name) = name ≡ codes "-"
 StandardFails NoMemory = Unit {0}
 StandardFails _ = ⊥
 
-abbrev pub OriginFails : ℕ → ℕ → Origin → Reply → Type 0
+abbrev pub OriginFails : Failures → Failures → Origin → Reply → Type 0
 OriginFails failed failed' Standard r = StandardFails r
 OriginFails failed failed' (File path) r = FileFails failed failed' path r
 
 -- the empty input can't fail
-abbrev pub InputFileFails : ℕ → ℕ → Option Text → Reply → Type 0
+abbrev pub InputFileFails : Failures → Failures → Option Text → Reply → Type 0
 InputFileFails failed failed' (Some path) r = FileFails failed failed' path r
 InputFileFails failed failed' None r = ⊥
 
--- what is known of the outside: what each file holds, what standard input gives, and how many reads of files met a
--- failing device before the call and after it
+-- what is known of the outside: what each file holds, what standard input gives, and which reads of files met a
+-- failing device before the call and up to its end
 pub record Surroundings : Type 0 where
   pub files : Text → Option Text
   pub input : Option Text
-  pub failed : ℕ
-  pub failed' : ℕ
+  pub failed : Failures
+  pub failed' : Failures
 
-abbrev pub world : (Text → Option Text) → Option Text → ℕ → ℕ → Surroundings
+abbrev pub world : (Text → Option Text) → Option Text → Failures → Failures → Surroundings
 world files input failed failed' = record { files = files; input = input; failed = failed; failed' = failed' }
 
 -- a program and the numbers of its input, as the texts mean them that files and standard input give

@@ -1,5 +1,5 @@
 -- What is shown of a text with a fault, of a run, and of a certificate.
-use Rattle.std.specs.Prelude.{◌≡◌, ◌≢◌, ◌<◌, ℕ, ℤ, List, Option}
+use Rattle.std.specs.Prelude.{◌≡◌, ◌≢◌, ℤ, List, Option}
 use Rattle.cilk_types.specs.Fault as run_faults
 use Rattle.cilk_types.specs.declared.event.Event.{Event}
 use Rattle.cilk_types.specs.declared.outcome.Outcome.{Outcome}
@@ -21,6 +21,7 @@ use Rattle.cilk_checker.specs.Answers.{IsCertified, IsRefusedText}
 use Rattle.cilk_checker.specs.Numbers.{fields_of, number_of}
 use Rattle.cilk_checker.specs.declared.refusal.Refusal.{Refusal}
 use Rattle.cilk_checker.specs.declared.refusal.Refusal.TheVariants as refusals
+use Rattle.cilk_tool.specs.Files.{Failures, HasFailed}
 use Rattle.cilk_tool.specs.Replies.{Accepted, BadInput, BadProgram, Certified, Ended, Faulted, NoMemory, Refused, Reply, Text, Unreadable, places_of}
 
 abbrev pub program_fault_view : ProgramFault → Reply
@@ -56,17 +57,17 @@ RunShows m inputs r = RunFails m inputs r
 -- what is shown of a wish for a certificate: the right one of the program's run, in version 2, or the fault that stops the
 -- run
 abbrev pub CertifyShows : Meant → List ℤ → Reply → Type 0
-CertifyShows m inputs (Certified c) = (c.version ≡ Two) × IsCertificate c × made.IsCertified m.source inputs c
+CertifyShows m inputs (Certified c) = (c.version ≡ Two) × IsCertificate c × made.IsCertificateOf m.source inputs c
 CertifyShows m inputs r = RunFails m inputs r
 
--- what is shown of the certificate in the file of this path, of which so much is known, where so many reads of files met a
--- failing device before and so many after it was read: that it is accepted, or refused, or that the file can't be read
-abbrev pub CheckShows : Text → Option Text → ℕ → ℕ → Meant → List ℤ → Reply → Type 0
+-- what is shown of the certificate in the file of this path, of which so much is known, where these reads of files met a
+-- failing device before and up to its end: that it is accepted, or refused, or that the file can't be read
+abbrev pub CheckShows : Text → Option Text → Failures → Failures → Meant → List ℤ → Reply → Type 0
 CheckShows path known failed failed' m inputs Accepted =
     (events : List Event) × (o : Outcome) × IsCertified m.source inputs known events o
 CheckShows path known failed failed' m inputs (Refused number places) =
     (f : Refusal) × (f ≢ refusals.Memory) × (number ≡ number_of f) × (places ≡ places_of (fields_of f))
     × IsRefusedText m.source inputs known f
-CheckShows path known failed failed' m inputs (Unreadable name) = (name ≡ path) × (failed < failed')
+CheckShows path known failed failed' m inputs (Unreadable name) = (name ≡ path) × HasFailed path failed failed'
 CheckShows path known failed failed' m inputs NoMemory = Unit {0}
 CheckShows path known failed failed' m inputs _ = ⊥

@@ -84,7 +84,9 @@ impl<R: System> Disk<'_, R> {
 }
 
 impl<R: System> Files for Disk<'_, R> {
-    ghost failed = { λ d. d.failures };
+    ghost use Rattle.cilk_tool.specs.Files.{failures};
+
+    ghost failed = { λ d. failures d.failures (λ _. 0) };
 
     ghost holds = { λ _ _. None };
 

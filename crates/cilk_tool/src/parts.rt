@@ -1,6 +1,6 @@
 //! A file, read in parts, as the source of a certificate's text.
 
-ghost use Rattle.std.specs.Prelude.{◌≡◌, drop, option_map};
+ghost use Rattle.std.specs.Prelude.{◌≡◌, ◌∷◌, drop, option_map};
 
 use crate::files::{FileFault, Files};
 use cilk_checker::source::{PullFault, Source};
@@ -26,11 +26,14 @@ impl<'f, 'p, F: Files> PartSource<'f, 'p, F> {
 }
 
 impl<F: Files> Source for PartSource<'_, '_, F> {
-    ghost failed = { λ s. F.failed s.files.now };
+    ghost failed = { λ s. (F.failed s.files.now).count };
 
     ghost remaining = { λ s. option_map (drop s.at) (F.holds s.files.now s.path.now) };
 
     ghost lender = { λ s. s.files.ghost_name };
+
+    // Its path, and the failures of other files.
+    ghost kept = { λ s. (F.failed s.files.now).elsewhere s.path.now ∷ s.path.now };
 
     fn pull(&mut self, into: &mut [u8]) -> Result<usize, PullFault> {
         match self.files.part(self.path, self.at, into) {

@@ -29,7 +29,7 @@ fn read_file<'a, F: Files>(
     path: &'a str,
     files: &mut F,
 ) -> Result<Vec<u8>, Failure<'a>>
-    requires { F.failed files.old < 18446744073709551615 }
+    requires { (F.failed files.old).count < 18446744073709551615 }
     ensures held { IfOk result (λ text. IsHeld (F.holds files.old path.entry.now) text.items) }
     ensures fault { IfErr result (λ e. FileFails (F.failed files.old) (F.failed files.new) path.entry.now (failure_view e)) }
     ensures uncounted { OnOk result (F.failed files.new ≡ F.failed files.old) }
@@ -61,7 +61,7 @@ fn read_program<'a, F: Files, R: Read>(
     files: &mut F,
     reader: &mut R,
 ) -> Result<Vec<u8>, Failure<'a>>
-    requires { F.failed files.old < 18446744073709551615 }
+    requires { (F.failed files.old).count < 18446744073709551615 }
     ensures given { IfOk result (λ text. GivesProgram (F.holds files.old) (R.remaining reader.old) (origin_view origin.entry) text.items) }
     ensures fault { IfErr result (λ e. OriginFails (F.failed files.old) (F.failed files.new) (origin_view origin.entry) (failure_view e)) }
     ensures uncounted { OnOk result (F.failed files.new ≡ F.failed files.old) }
@@ -79,7 +79,7 @@ fn read_input<'a, F: Files>(
     path: Option<&'a str>,
     files: &mut F,
 ) -> Result<Vec<u8>, Failure<'a>>
-    requires { F.failed files.old < 18446744073709551615 }
+    requires { (F.failed files.old).count < 18446744073709551615 }
     ensures given { IfOk result (λ text. GivesInput (F.holds files.old) (option_map (λ p. p.now) path.entry) text.items) }
     ensures fault { IfErr result (λ e. InputFileFails (F.failed files.old) (F.failed files.new) (option_map (λ p. p.now) path.entry) (failure_view e)) }
     ensures uncounted { OnOk result (F.failed files.new ≡ F.failed files.old) }
@@ -99,7 +99,7 @@ fn given<'a, F: Files, R: Read>(
     files: &mut F,
     reader: &mut R,
 ) -> Result<(Program, Input), Failure<'a>>
-    requires { F.failed files.old < 18446744073709551615 }
+    requires { (F.failed files.old).count < 18446744073709551615 }
     ensures given { IfOk result (λ r. AreGiven (world (F.holds files.old) (R.remaining reader.old)
         (F.failed files.old) (F.failed files.new))
         (origin_view program.entry) (option_map (λ p. p.now) input.entry) (meant r.0) r.1) }
@@ -124,7 +124,7 @@ pub fn run<'a, F: Files, R: Read>(
     files: &mut F,
     reader: &mut R,
 ) -> Result<Answer, Failure<'a>>
-    requires { F.failed files.old < 18446744073709551615 }
+    requires { (F.failed files.old).count < 18446744073709551615 }
     ensures answer { IfOk result (λ a. RunReply (world (F.holds files.old) (R.remaining reader.old) (F.failed files.old) (F.failed files.new))
         (origin_view program.entry) (option_map (λ p. p.now) input.entry) (answer_view a)) }
     ensures failure { IfErr result (λ e. RunReply (world (F.holds files.old) (R.remaining reader.old) (F.failed files.old) (F.failed files.new))
@@ -142,7 +142,7 @@ pub fn certify<'a, F: Files, R: Read>(
     files: &mut F,
     reader: &mut R,
 ) -> Result<Answer, Failure<'a>>
-    requires { F.failed files.old < 18446744073709551615 }
+    requires { (F.failed files.old).count < 18446744073709551615 }
     ensures answer { IfOk result (λ a. CertifyReply (world (F.holds files.old) (R.remaining reader.old) (F.failed files.old) (F.failed files.new))
         program.entry.now (option_map (λ p. p.now) input.entry) (answer_view a)) }
     ensures failure { IfErr result (λ e. CertifyReply (world (F.holds files.old) (R.remaining reader.old) (F.failed files.old) (F.failed files.new))
@@ -171,7 +171,7 @@ fn checked<'a, F: Files>(
     path: &'a str,
     files: &mut F,
 ) -> Result<Answer, Failure<'a>>
-    requires { F.failed files.old < 18446744073709551615 }
+    requires { (F.failed files.old).count < 18446744073709551615 }
     ensures answer { IfOk result (λ a. CheckShows path.entry.now (F.holds files.old path.entry.now) (F.failed files.old) (F.failed files.new)
         (meant program) input (answer_view a)) }
     ensures failure { IfErr result (λ e. CheckShows path.entry.now (F.holds files.old path.entry.now) (F.failed files.old) (F.failed files.new)
@@ -194,7 +194,7 @@ pub fn check<'a, F: Files, R: Read>(
     files: &mut F,
     reader: &mut R,
 ) -> Result<Answer, Failure<'a>>
-    requires { F.failed files.old < 18446744073709551615 }
+    requires { (F.failed files.old).count < 18446744073709551615 }
     ensures answer { IfOk result (λ a. CheckReply (world (F.holds files.old) (R.remaining reader.old) (F.failed files.old) (F.failed files.new))
         program.entry.now certificate.entry.now (option_map (λ p. p.now) input.entry) (answer_view a)) }
     ensures failure { IfErr result (λ e. CheckReply (world (F.holds files.old) (R.remaining reader.old) (F.failed files.old) (F.failed files.new))

@@ -22,7 +22,7 @@ fn answer<'a, F: Files, R: Read>(
     files: &mut F,
     input: &mut R,
 ) -> Result<Answer, Failure<'a>>
-    requires { F.failed files.old < 18446744073709551615 }
+    requires { (F.failed files.old).count < 18446744073709551615 }
     ensures answer { IfOk result (λ a. Answers (world (F.holds files.old) (R.remaining input.old) (F.failed files.old) (F.failed files.new))
         (order_in (texts words.entry.now)) (answer_view a)) }
     ensures failure { IfErr result (λ e. Answers (world (F.holds files.old) (R.remaining input.old) (F.failed files.old) (F.failed files.new))
@@ -102,7 +102,7 @@ pub fn serve<F: Files, R: Read, O: Write, E: Write>(
     out: &mut O,
     err: &mut E,
 ) -> u8
-    requires { F.failed files.old < 18446744073709551615 }
+    requires { (F.failed files.old).count < 18446744073709551615 }
     ensures served { Serves (texts words.now)
         (world (F.holds files.old) (R.remaining input.old) (F.failed files.old) (F.failed files.new)) result
         (O.contents out.old) (O.contents out.new) (E.contents err.old) (E.contents err.new) }

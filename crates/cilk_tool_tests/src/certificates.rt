@@ -362,8 +362,8 @@ fn a_file_that_fails_at_a_later_part(rt: HostRuntime) {
             assert!(rt; answer.is(0, "accepted\n", ""), "after {parts} parts");
         }
     }
-    // A part has at most 4,096 bytes, and the last tells the file's end.
-    assert_eq!(rt; told, made.out.len().div_ceil(4096) as u64 + 1);
+    // A part has at most 32,768 bytes, and the last tells the file's end.
+    assert_eq!(rt; told, made.out.len().div_ceil(32_768) as u64 + 1);
 }
 
 #[test]

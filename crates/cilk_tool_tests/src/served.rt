@@ -57,8 +57,9 @@ impl<'a> Folder<'a> {
 
 impl Files for Folder<'_> {
     ghost use Rattle.std.specs.Prelude.{None};
+    ghost use Rattle.cilk_tool.specs.Files.{failures};
 
-    ghost failed = { λ f. f.failures };
+    ghost failed = { λ f. failures f.failures (λ _. 0) };
 
     ghost holds = { λ _ _. None };
 

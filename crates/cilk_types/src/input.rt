@@ -1,32 +1,34 @@
 //! The input of a run: a list of numbers.
 
-ghost use Rattle.std.specs.Prelude.{◌≡◌, ◌≤◌, length, slice_get};
+ghost use Rattle.std.specs.Prelude.{◌≡◌, ◌≤◌, All, length, slice_get};
 ghost use Rattle.cilk_types.specs.Input.{input_at, input_count};
+ghost use Rattle.cilk_types.specs.Word.{IsWord};
 
 use crate::limits::MAX_INPUTS;
+use crate::word_list::WordList;
 use std::marker::Model;
 
-/// The numbers that a program reads by `input`, counted from 0: at most [`MAX_INPUTS`].
+/// The numbers that a program reads by `input`, counted from 0: at most [`MAX_INPUTS`], each of them a word.
 #[derive(Drop, Debug)]
 pub struct Input {
-    numbers: Vec<i64>,
+    numbers: WordList,
 }
 
 impl Model for Input {
-    ghost use Rattle.std.specs.Prelude.{◌≤◌, ℤ, List, vec_len};
+    ghost use Rattle.std.specs.Prelude.{◌≤◌, ℤ, List, length};
 
     ghost Value = { List ℤ };
 
-    ghost view = { λ i. i.numbers.items };
+    ghost view = { λ i. i.numbers };
 
-    ghost invariant = { λ i. vec_len i.numbers ≤ 65536 };
+    ghost invariant = { λ i. length i.numbers ≤ 65536 };
 }
 
 impl Input {
     /// These numbers, without taking memory.
-    pub fn new(numbers: Vec<i64>) -> Input
-        requires { length numbers.items ≤ MAX_INPUTS }
-        ensures { result ≡ numbers.items }
+    pub fn new(numbers: WordList) -> Input
+        requires { length numbers ≤ MAX_INPUTS }
+        ensures { result ≡ numbers }
     {
         Input { numbers }
     }
@@ -36,7 +38,7 @@ impl Input {
         ensures { result ≡ input_at self.now place }
     {
         match usize::try_from(place) {
-            Ok(place) => get(&self.numbers, place),
+            Ok(place) => get(self.numbers.as_slice(), place),
             Err(_) => None,
         }
     }
@@ -53,6 +55,13 @@ impl Input {
         ensures { result.now ≡ self.now }
     {
         self.numbers.as_slice()
+    }
+
+    /// Each number is a word. This does nothing: its contract is the law that the type keeps.
+    pub fn are_words(&self)
+        ensures { All IsWord self.now }
+    {
+        self.numbers.are_words();
     }
 }
 

@@ -3,7 +3,7 @@
 //!
 //! A program's numbers are words: whole numbers of 64 bits in two's complement ([`word`]). A serial run makes a list
 //! of [`event::Event`]s, its [`trace::Trace`]. It ends with an [`outcome::Outcome`], or it stops by a [`fault::Fault`].
-//! A [`stack::Stack`] is what passes over a run keep their frames and parts on.
+//! A [`word_list::WordList`] is a list of words. A [`stack::Stack`] is what passes over a run keep their frames and parts on.
 //!
 //! ```text
 //! word::add(i64::MAX, 1)             // i64::MIN: it wraps
@@ -24,3 +24,4 @@ pub mod sequence;
 pub mod stack;
 pub mod trace;
 pub mod word;
+pub mod word_list;

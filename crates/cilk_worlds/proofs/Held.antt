@@ -11,7 +11,8 @@ use Rattle.cilk_types.specs.declared.invocation.Invocation.{Invocation}
 use Rattle.std.proofs.lemmas.Bool.{cases_lt, cond-true}
 use Rattle.cilk_monoid.specs.declared.kind.MonoidKind.{MonoidKind}
 use Rattle.cilk_monoid.specs.Kinds.{structure_of}
-use Rattle.cilk_monoid.specs.Values.{ViewValue, IsWord}
+use Rattle.cilk_monoid.specs.Values.{ViewValue}
+use Rattle.cilk_types.specs.Word.{IsWord}
 use Rattle.cilk_program.specs.Syntax.{Source}
 use Rattle.cilk_runs.specs.Runs.{Name, same_name, Cell, Instance, Output, same_instance, has_instance, Wish, Begin, Resume, Create, Update, Set, Value, Print, Ask, Read, Write, Invoke, Sync, End, Pass, Fail, Event, Reads, Writes, Syncs, Ends, Passes, Begins, Deed, Does, Invokes}
 use Rattle.cilk_runs.specs.Machine.{Frame, Frames, State, deeds_at, started, mark_of, deed_of, begun, after_deed, block_view, own_view, with_view, after_views, IsAsking, Makes, Steals, Stops}

@@ -7,7 +7,8 @@ use Rattle.cilk_monoid.specs.Kinds.{structure_of}
 use Rattle.cilk_monoid.specs.Lawful.{lawful}
 use Rattle.cilk_monoid.specs.Ranges.{Created, Updated, SetTo, Retired}
 use Rattle.cilk_monoid.specs.Ranges as ranges
-use Rattle.cilk_monoid.specs.Values.{ViewValue, IsWord}
+use Rattle.cilk_monoid.specs.Values.{ViewValue}
+use Rattle.cilk_types.specs.Word.{IsWord}
 use Rattle.cilk_monoid.proofs.RangeLaws.{same_self}
 use Rattle.cilk_runs.specs.Runs.{Instance, Output, same_instance, has_instance, Ends, Passes, Creates, Updates, Sets, Prints}
 use Rattle.cilk_runs.proofs.Basics.{same_instance-refl}

@@ -1,6 +1,7 @@
 -- What frames hold is views of the language.
 use Rattle.std.specs.Prelude.{◌≡◌, ◌≤◌, ℕ, ℤ, List, [], ◌∷◌, ◌++◌, Some}
-use Rattle.cilk_monoid.specs.Values.{ViewValue, IsWord}
+use Rattle.cilk_monoid.specs.Values.{ViewValue}
+use Rattle.cilk_types.specs.Word.{IsWord}
 use Rattle.cilk_program.specs.Syntax.{Source}
 use Rattle.cilk_runs.specs.Runs.{Name, Instance, Wish, Begin, Resume, Create, Update, Set, Value, Print, Ask, Read, Write, Invoke, Sync, End, Pass, Fail, Deed}
 use Rattle.cilk_runs.specs.Machine.{Frame, State, started, IsAsking}

@@ -4,7 +4,8 @@ use Rattle.cilk_types.specs.declared.event.Instance as numbered
 use Rattle.cilk_monoid.specs.declared.kind.MonoidKind.{MonoidKind}
 use Rattle.cilk_monoid.specs.Kinds.{structure_of, IsMember}
 use Rattle.cilk_monoid.specs.Ranges.{ReducerEvent, Created, Updated, SetTo, Retired, after_event}
-use Rattle.cilk_monoid.specs.Values.{ViewValue, IsWord}
+use Rattle.cilk_monoid.specs.Values.{ViewValue}
+use Rattle.cilk_types.specs.Word.{IsWord}
 use Rattle.cilk_runs.specs.Runs.{Instance, Output, has_instance, Event, Ends, Passes, Creates, Updates, Sets, Prints}
 use Rattle.cilk_runs.specs.Monoids.{on_view}
 use Rattle.cilk_worlds.specs.Reducers.{View, value_of, views_of, kind_of, monoid_of}

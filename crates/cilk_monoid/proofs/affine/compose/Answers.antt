@@ -1,8 +1,8 @@
 -- The product of two maps: what passes through the code's words is as it was.
 use Rattle.std.proofs.Common.{◌≡◌, ◌∙◌, w64, ℤ, ◌+ℤ◌, ◌*ℤ◌, to_z, of_z}
 use Rattle.std.proofs.lemmas.Int.{to_z-of_z, int_wrap-add_left}
-use Rattle.cilk_types.specs.Word.{word_of}
-use Rattle.cilk_monoid.specs.Values.{Map, IsWord}
+use Rattle.cilk_types.specs.Word.{word_of, IsWord}
+use Rattle.cilk_monoid.specs.Values.{Map}
 use Rattle.cilk_monoid.proofs.affine.compose.Goals as goal
 
 -- a word, as the code passes it

@@ -4,4 +4,4 @@ use Rattle.cilk_names.specs.Globals.{zeros}
 use Rattle.cilk_names.proofs.items.push_zeros.Given as goal
 
 abbrev pub invariant-each : goal.invariant-each
-invariant-each l = l.openings.items ≡ l.initial.openings.items ++ zeros l._index
+invariant-each l = l.openings ≡ l.initial.openings ++ zeros l._index

@@ -32,7 +32,7 @@ returns c =
     } in
     let items = items_of c.args.items.now in
     let at : known_of before ≡ start c.args.text.now items =
-    started (known_of before) c.args.text.now c.args.signatures.now items c.in_ok-known.ensures c.requires c.new-4.ensures.items c.new-5.ensures.items
+    started (known_of before) c.args.text.now c.args.signatures.now items c.in_ok-known.ensures c.requires c.new-4.ensures c.new-5.ensures.items
     (ap length c.new-6.ensures.items) refl (ap length c.new-3.ensures.items) in
     record {
       first = c.in_ok-items.ensures.faults ∙ ap (λ k. earliest None (items_faults k items)) at;

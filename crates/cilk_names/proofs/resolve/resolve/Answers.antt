@@ -30,8 +30,8 @@ returns-in_default-main_of-clause-fault c =
     ∙ sym c.main_of.ensures ∙ c.in_default-main_of.is in
     no_main_is t c.in_ok-scene.field-0.scene.first (length c.as_slice-text.result.now) done.first c.in_default.is main (ap length c.as_slice-text.ensures.value)
 
-pub invariant_of-result : goal.invariant_of-result
-invariant_of-result c =
+pub invariant_of-result-2 : goal.invariant_of-result-2
+invariant_of-result-2 c =
     let t = c.args.tree.now in
     let n = c.in_ok-number_of.field-0 in
     let done : Comes c.in_ok-scene.field-0 t.text.items (program t) =
@@ -41,7 +41,7 @@ invariant_of-result c =
     ∙ sym c.main_of.ensures ∙ c.in-Some-main_of.is ∙ ap Some (sym c.in_ok-number_of.ensures) in
     let right : faults_of t ≡ _ = right_is t c.in_ok-scene.field-0.scene.first n done.first c.in_default.is main in
     record {
-      well_named = subst (λ (s : Source). IsTrue (is_well_named s)) (sym (source_is t c.in_ok-scene.field-0 c.new.result n done c.new.ensures)) (well_named t n right main);
+      well_named = subst (λ (s : Source). IsTrue (is_well_named s)) (sym (source_is t c.in_ok-scene.field-0 c.openings.inside.numbers.items n done c.openings.view_is)) (well_named t n right main);
     }
 
 pub returns-clause-ok : goal.returns-clause-ok
@@ -54,7 +54,7 @@ returns-clause-ok c =
     ap (λ x. main_of x 0 (program t)) (sym c.as_slice-text.ensures.value) ∙ ap (λ l. main_of c.as_slice-text.result.now 0 (items_of l)) (sym c.as_slice-items.ensures.value)
     ∙ sym c.main_of.ensures ∙ c.in-Some-main_of.is ∙ ap Some (sym c.in_ok-number_of.ensures) in
     let right : faults_of t ≡ _ = right_is t c.in_ok-scene.field-0.scene.first n done.first c.in_default.is main in
-    subst (λ (s : Source). Resolves t s) (sym (source_is t c.in_ok-scene.field-0 c.new.result n done c.new.ensures)) (program_resolves t n right main)
+    subst (λ (s : Source). Resolves t s) (sym (source_is t c.in_ok-scene.field-0 c.openings.inside.numbers.items n done c.openings.view_is)) (program_resolves t n right main)
 
 pub returns-clause-reducers : goal.returns-clause-reducers
 returns-clause-reducers c =
@@ -73,4 +73,4 @@ returns-clause-named c =
     ap (λ x. main_of x 0 (program t)) (sym c.as_slice-text.ensures.value) ∙ ap (λ l. main_of c.as_slice-text.result.now 0 (items_of l)) (sym c.as_slice-items.ensures.value)
     ∙ sym c.main_of.ensures ∙ c.in-Some-main_of.is ∙ ap Some (sym c.in_ok-number_of.ensures) in
     let right : faults_of t ≡ _ = right_is t c.in_ok-scene.field-0.scene.first n done.first c.in_default.is main in
-    subst (λ (s : Source). IsTrue (is_well_named s)) (sym (source_is t c.in_ok-scene.field-0 c.new.result n done c.new.ensures)) (well_named t n right main)
+    subst (λ (s : Source). IsTrue (is_well_named s)) (sym (source_is t c.in_ok-scene.field-0 c.openings.inside.numbers.items n done c.openings.view_is)) (well_named t n right main)

@@ -16,9 +16,9 @@ each-preserved-in-Gap c = record {
 pub each-preserved : goal.each-preserved
 each-preserved c =
     let fits : SFits w64 c.in-Number.number = search rules in
-    let more : length c.push.new.self.items ≡ length c.each.numbers.items + 1 = grind (arith, common_steps) in
+    let more : length c.push.new.self ≡ length c.each.numbers + 1 = grind (arith, common_steps) in
     record {
-      numbers = λ ns h. rw (c.in_ok-push-in-Number.ensures.items, append_assoc, to_z-of_z w64 c.in-Number.number fits) (c.each.invariant.numbers _ (Found c.in-Number.number c.in-Number.ensures.0 h));
+      numbers = λ ns h. rw (c.in_ok-push-in-Number.ensures, append_assoc, to_z-of_z w64 c.in-Number.number fits) (c.each.invariant.numbers _ (Found c.in-Number.number c.in-Number.ensures.0 h));
       fault = λ n place h. c.each.invariant.fault n place (Beyond c.in-Number.number c.in-Number.ensures.0 (grind (arith, common_steps)) (subst (λ k. Fails (length c.args.text.now) k c.in-Number.after.now n place) more h));
       few = grind (arith, common_steps);
       shorter = grind (arith, common_steps);

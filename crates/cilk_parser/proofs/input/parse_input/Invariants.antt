@@ -5,9 +5,9 @@ use Rattle.cilk_parser.proofs.input.parse_input.Given as goal
 
 abbrev pub invariant-each : goal.invariant-each
 invariant-each l = record {
-  numbers : (ns : List ℤ) → Holds l.rest ns → Holds l.text (l.numbers.items ++ ns);
-  fault : (n : TextNumber) (place : ℕ) → Fails (length l.text) (length l.numbers.items) l.rest n place → Fails (length l.text) 0 l.text n place;
-  few : length l.numbers.items ≤ 65536;
+  numbers : (ns : List ℤ) → Holds l.rest ns → Holds l.text (l.numbers ++ ns);
+  fault : (n : TextNumber) (place : ℕ) → Fails (length l.text) (length l.numbers) l.rest n place → Fails (length l.text) 0 l.text n place;
+  few : length l.numbers ≤ 65536;
   shorter : length l.rest ≤ length l.text;
 }
 

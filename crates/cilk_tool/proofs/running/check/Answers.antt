@@ -10,12 +10,16 @@ returns-in_err-program-clause-failure g c =
 
 pub returns-clause-answer : goal.returns-clause-answer
 returns-clause-answer g c =
-    judged_ok (CheckShows _ _ _ _) c.checked.result _ _ _ (meant c.in_ok-program.program) c.in_ok-program.input
+    judged_ok (CheckShows c.args.certificate.now (g.F.Files.holds c.args.files.now c.args.certificate.now)
+    (g.F.Files.failed c.args.files.now) (g.F.Files.failed c.checked.new.files)) c.checked.result _ _ _ (meant c.in_ok-program.program) c.in_ok-program.input
     (given_later _ _ _ _ _ _ _ _ _ c.in_ok-program.ensures.given)
-    (checked_ok c.checked.result _ _ _ _ _ _ (meant c.in_ok-program.program) c.in_ok-program.input (c.given.ensures.same _) c.in_ok-program.ensures.uncounted c.checked.ensures.answer)
+    (checked_ok c.checked.result c.args.certificate.now _ _ _ _ (g.F.Files.failed c.checked.new.files) (meant c.in_ok-program.program) c.in_ok-program.input
+    (c.given.ensures.same c.args.certificate.now) c.in_ok-program.ensures.uncounted c.checked.ensures.answer)
 
 pub returns-clause-failure : goal.returns-clause-failure
 returns-clause-failure g c =
-    judged_err (CheckShows _ _ _ _) c.checked.result _ _ _ (meant c.in_ok-program.program) c.in_ok-program.input
+    judged_err (CheckShows c.args.certificate.now (g.F.Files.holds c.args.files.now c.args.certificate.now)
+    (g.F.Files.failed c.args.files.now) (g.F.Files.failed c.checked.new.files)) c.checked.result _ _ _ (meant c.in_ok-program.program) c.in_ok-program.input
     (given_later _ _ _ _ _ _ _ _ _ c.in_ok-program.ensures.given)
-    (checked_err c.checked.result _ _ _ _ _ _ (meant c.in_ok-program.program) c.in_ok-program.input (c.given.ensures.same _) c.in_ok-program.ensures.uncounted c.checked.ensures.failure)
+    (checked_err c.checked.result c.args.certificate.now _ _ _ _ (g.F.Files.failed c.checked.new.files) (meant c.in_ok-program.program) c.in_ok-program.input
+    (c.given.ensures.same c.args.certificate.now) c.in_ok-program.ensures.uncounted c.checked.ensures.failure)

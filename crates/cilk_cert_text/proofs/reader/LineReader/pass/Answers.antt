@@ -1,4 +1,4 @@
-use Rattle.std.proofs.Common.{rules, ◌≡◌, ◌++◌, ◌∷◌, [], drop, length, arith, ◌∙◌, ap, List, ℕ}
+use Rattle.std.proofs.Common.{rules, ◌≡◌, ◌++◌, ◌∷◌, [], drop, length, arith, ◌∙◌, ap, sym, true, List, ℕ}
 use Rattle.std.proofs.lemmas.Bool.Decides.{Decides-eqb}
 use Rattle.std.proofs.lemmas.Slice.Eq.{starts_is}
 use Rattle.cilk_cert_text.specs.Certificates.{IsAt}
@@ -25,3 +25,13 @@ returns-clause-room c =
     let next = c.in_ok-form.ensures.number in
     let last = c.in_ok-form.ensures.few in
     omega (arith, few, long, next, last)
+
+pub returns-in_err-form-clause-passed : goal.returns-in_err-form-clause-passed
+returns-in_err-form-clause-passed c = λ rest h is. absurd (c.in_err-form.ensures.none h.form h.due)
+
+pub returns-then-not-starts_with-clause-passed : goal.returns-then-not-starts_with-clause-passed
+returns-then-not-starts_with-clause-passed c = λ rest h is.
+    let text : c.text-text.result.now ≡ spelled c.args.line ++ 10 ∷ [] = cc in
+    let begins : c.args.piece.now ≡ c.text-text.result.now ++ rest = is ∙ ap (λ (l : List ℕ). l ++ rest) (sym text) in
+    let yes : c.starts_with.result ≡ true = (starts_is Decides-eqb c.args.piece.now c.text-text.result.now c.starts_with.result c.starts_with.ensures.value).1 rest begins in
+    sym c.if-not-starts_with.true ∙ yes

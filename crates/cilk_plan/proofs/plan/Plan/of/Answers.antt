@@ -6,16 +6,21 @@ use Rattle.cilk_story.specs.Values.{HasValues}
 use Rattle.std.specs.Prelude.{FitsSigned}
 use Rattle.std.specs.Int.{w64}
 use Rattle.cilk_plan.specs.Earliest.{all_earliest}
+use Rattle.cilk_plan.specs.Frames.{AreFrames}
 use Rattle.cilk_plan.specs.Kinds.{kind_of}
 use Rattle.cilk_plan.specs.Planned.{all_asked, planned}
+use Rattle.cilk_plan.proofs.Framed.{begins}
 use Rattle.cilk_plan.proofs.Stories.{asked, orderly, valued}
 use Rattle.cilk_plan.proofs.plan.Plan.of.Goals as goal
+
+pub frames-requires : goal.frames-requires
+frames-requires c = begins c.requires.shape c.args.trace.now c.requires.spells
 
 pub invariant_of-result : goal.invariant_of-result
 invariant_of-result c =
     let opening = c.args.opening.items in
-    let Goal : List Event → Type 0 = λ es. IsOrderly (planned es opening) × HasValues (planned es opening) × (c.in_ok-kinds.kinds.items ≡ map kind_of es) × (length es ≤ MAX_EVENTS) × (c.in_ok-earliest.earliest.items ≡ all_earliest es) in
-    let h : Goal c.args.trace.now = (orderly c.args.trace.now opening c.requires, valued c.args.trace.now opening c.requires c.events_of_words.ensures (subst (All (FitsSigned w64)) c.as_slice.ensures.value c.words.ensures), c.in_ok-kinds.ensures, c.requires.few_events, c.in_ok-earliest.ensures) in
+    let Goal : List Event → Type 0 = λ es. IsOrderly (planned es opening) × HasValues (planned es opening) × (c.in_ok-kinds.kinds.items ≡ map kind_of es) × (length es ≤ MAX_EVENTS) × (c.in_ok-earliest.earliest.items ≡ all_earliest es) × AreFrames es c.in_ok-frames.frames.items in
+    let h : Goal c.args.trace.now = (orderly c.args.trace.now opening c.requires, valued c.args.trace.now opening c.requires c.events_of_words.ensures (subst (All (FitsSigned w64)) c.as_slice.ensures.value c.words.ensures), c.in_ok-kinds.ensures, c.requires.few_events, c.in_ok-earliest.ensures, c.in_ok-frames.ensures) in
     subst Goal (sym c.of.ensures) h
 
 pub returns-clause-asked : goal.returns-clause-asked

@@ -10,11 +10,11 @@ overflow_add-self c =
     let next = along CanPass c.self.view_is c.requires.next in
     let same : c.self.inside.seat.me.0.story ≡ c.args.yard.now.story = ap (λ (g : SegmentValue). g.story) c.self.view_is ∙ c.requires.yard.1 in
     let law : IsOrderly c.self.inside.seat.me.0.story = subst (λ (z : Story). IsOrderly z) (sym same) c.laws.ensures.order in
-    omega (arith, next.1, law.few)
+    omega (arith, next.0.1, law.few)
 
 pub invariant_of-self : goal.invariant_of-self
 invariant_of-self c =
     let next = along CanPass c.self.view_is c.requires.next in
     let same : c.self.inside.seat.me.0.story ≡ c.args.yard.now.story = ap (λ (g : SegmentValue). g.story) c.self.view_is ∙ c.requires.yard.1 in
     let law : IsOrderly c.self.inside.seat.me.0.story = subst (λ (z : Story). IsOrderly z) (sym same) c.laws.ensures.order in
-    (c.self.invariant.0, passes c.self.inside.seat.me.0.story law c.self.inside.seat.me c.self.inside.from c.self.inside.upto c.self.invariant.1 next.0 next.2 next.3 next.4)
+    (c.self.invariant.0, passes c.self.inside.seat.me.0.story law c.self.inside.seat.me c.self.inside.from c.self.inside.upto c.self.invariant.1 next.0.0 next.0.2 next.0.3 next.1)

@@ -4,6 +4,7 @@ use Rattle.cilk_story.specs.declared.story.Story.{Story}
 use Rattle.cilk_story.specs.Word.{word}
 use Rattle.cilk_story.specs.Orders.{IsOrderly}
 use Rattle.cilk_story.specs.Values.{HasValues}
+use Rattle.cilk_plan.specs.Resumptions.{AreResumptions}
 use Rattle.cilk_shared.specs.declared.view.View.{View}
 use Rattle.cilk_shared.specs.Rule.{view, Sits}
 use Rattle.cilk_shared.proofs.Seats.{starts, first_sits}
@@ -21,9 +22,9 @@ invariant_of-yard c =
     let one = length-map s.opening word in
     let two = length-replicate {A = ℕ} (length s.events + 1) 0 in
     let wide : c.in_ok-table.table.shared.table_id.words ≡ length s.opening + (length s.events + 1) = omega (arith, t.0, all, one, two) in
-    let Goal : Story → Type 0 = λ k. IsOrderly k × (0 < c.in_ok-table.table.shared.table_id.words) × (c.in_ok-table.table.shared.table_id.slots ≡ 0) × (c.in_ok-table.table.shared.table_id.words ≡ length k.opening + (length k.events + 1)) × (length c.opening-cells.result.now ≡ length k.opening) × (length c.opening-cells.result.now + length k.events + 1 < 2 ^ 34) × HasValues k in
+    let Goal : Story → Type 0 = λ k. IsOrderly k × (0 < c.in_ok-table.table.shared.table_id.words) × (c.in_ok-table.table.shared.table_id.slots ≡ 0) × (c.in_ok-table.table.shared.table_id.words ≡ length k.opening + (length k.events + 1)) × (length c.opening-cells.result.now ≡ length k.opening) × (length c.opening-cells.result.now + length k.events + 1 < 2 ^ 34) × HasValues k × AreResumptions k c.in_ok-resumptions.resumptions.items in
     let count : length c.opening-cells.result.now ≡ length s.opening = ap length c.opening-cells.ensures in
-    let h : Goal s = (law, omega (arith, wide), t.1, wide, count, omega (arith, law.small, count), c.laws.ensures.values) in
+    let h : Goal s = (law, omega (arith, wide), t.1, wide, count, omega (arith, law.small, count), c.laws.ensures.values, c.in_ok-resumptions.ensures) in
     subst Goal (sym t.5) h
 
 pub invariant_of-segment : goal.invariant_of-segment

@@ -1,0 +1,37 @@
+//! Parts of a stepwise machine: workers that are told one choice after another.
+//!
+//! A worker goes on with the frame that it has, or takes a continuation that another one offers (work stealing: Frigo, Leiserson
+//! and Randall 1998). A [`board::Board`] keeps all frames of a run, its cells, its workers with their views, and the events so
+//! far, by numbers that the run gives as frames begin. [`choice`] has the choices and what comes of them.
+//!
+//! What is here acts on parts of a board, and each contract says exactly what changes: a frame goes on to what it asks for,
+//! and a fault may stand in its place; cells and reducers are touched; a piece arrives at a block; a frame starts another;
+//! continuations are found and withdrawn; a run leaves an outcome. The choices themselves, which put these together, aren't
+//! here yet.
+//!
+//! Above it stand definitions by names that no schedule changes. `specs/Desks.antt`: what a choice does, as a step of the free
+//! machine of `cilk_worlds` or none. `specs/Boards.antt`: which state of that machine a board shows. [`laws`] has what is proved
+//! of these.
+#![tactic(auto)]
+
+pub mod acting;
+mod arriving;
+mod asking;
+pub mod board;
+mod cells;
+pub mod choice;
+mod invoking;
+mod journal;
+pub mod laws;
+pub mod laws_of_blocks;
+pub mod laws_of_openings;
+pub mod laws_of_starts;
+pub mod noting;
+mod offers;
+pub mod orders;
+mod outcome;
+mod reducers;
+pub mod seat;
+mod seats;
+mod stealing;
+mod workers;

@@ -1,0 +1,4 @@
+pub mod AskedStories
+pub mod CourseFrames
+pub mod CourseLists
+pub mod CourseRuns

@@ -1,0 +1,112 @@
+-- The values along a plan on an input, its own or another. The plan is a run; its events are followed as far as frames ask for them.
+use Rattle.std.specs.Prelude.{◌≡◌, ℤ, Bool, true, List, [], ◌∷◌, ◌++◌, Option, Some, None}
+use Rattle.cilk_types.specs.declared.invocation.Invocation.{Invocation}
+use Rattle.cilk_monoid.specs.Laws.{MonoidStructure}
+use Rattle.cilk_runs.specs.Runs.{Cell, Instance, Ask, Invoke, Granted, Begins, Resumes, Creates, Updates, Sets, Values, Prints, Event, Reads, Writes, Syncs, Ends, Passes, Deed, Does, Invokes, Run, ask_of}
+use Rattle.cilk_runs.specs.Runs as runs
+use Rattle.cilk_runs.specs.Machine.{put}
+use Rattle.cilk_runs.specs.Monoids.{on_view}
+use Rattle.cilk_runs.specs.Serial.{value_after, IsReadRight, IsSerial, Behaves}
+use Rattle.cilk_runs.specs.Traces.{begin_due, IsFramed}
+use Rattle.cilk_runs.specs.Views.{view_after, IsViewRight, IsSerialViews}
+use Rattle.cilk_runs.specs.Theorem.{follows}
+
+-- A run along a plan: for each event, whether its frame asks for it.
+pub data Course (W : Type 0) : Type 0 where
+  stop : Course W
+  act : (asked : Bool) → (event : Event) → (rest : Course W) → Course W
+  child : (asked : Bool) → (how : Invocation) → (what : W) → (inner : Course W) → (rest : Course W) → Course W
+
+-- the run, without what is asked
+abbrev pub run_of : {W : Type 0} → Course W → Run W
+run_of stop = runs.stop
+run_of (act b e r) = runs.act e (run_of r)
+run_of (child b k w u r) = runs.child k w (run_of u) (run_of r)
+
+-- for each event, in serial order: whether it is asked for
+abbrev pub asked_in : {W : Type 0} → Course W → List Bool
+asked_in stop = []
+asked_in (act b e r) = b ∷ asked_in r
+asked_in (child b k w u r) = b ∷ (asked_in u ++ asked_in r)
+
+-- the course of a run each of whose events is asked for
+abbrev pub all_asked : {W : Type 0} → Run W → Course W
+all_asked runs.stop = stop
+all_asked (runs.act e r) = act true e (all_asked r)
+all_asked (runs.child k w u r) = child true k w (all_asked u) (all_asked r)
+
+-- each event is asked for
+abbrev pub IsAskedThroughout : {W : Type 0} → Course W → Type 0
+IsAskedThroughout stop = Unit {0}
+IsAskedThroughout (act b e r) = (b ≡ true) × IsAskedThroughout r
+IsAskedThroughout (child b k w u r) = (b ≡ true) × IsAskedThroughout u × IsAskedThroughout r
+
+-- two events of one kind, and of one instance
+abbrev pub IsMarkLike : Granted → Granted → Type 0
+IsMarkLike Begins Begins = Unit {0}
+IsMarkLike Resumes Resumes = Unit {0}
+IsMarkLike (Creates i) (Creates j) = i ≡ j
+IsMarkLike (Updates i x) (Updates j y) = i ≡ j
+IsMarkLike (Sets i x) (Sets j y) = i ≡ j
+IsMarkLike (Values i x) (Values j y) = i ≡ j
+IsMarkLike (Prints x) (Prints y) = Unit {0}
+IsMarkLike _ _ = ⊥
+
+-- two events of one kind, and of one cell or instance, whatever their values
+abbrev pub IsLike : Event → Event → Type 0
+IsLike (Reads c v) (Reads d w) = c ≡ d
+IsLike (Writes c v) (Writes d w) = c ≡ d
+IsLike Syncs Syncs = Unit {0}
+IsLike (Ends v gone) (Ends w gone') = Unit {0}
+IsLike (Passes m) (Passes n) = IsMarkLike m n
+IsLike _ _ = ⊥
+
+-- `next` is the program's behaviour on the input. `same` tells whether two frames are of one function or of one loop.
+module _ (W V : Type 0) (M : Instance → MonoidStructure V) (next : W → List (Deed W) → Option (Ask W)) (same : W → W → Bool) where
+  -- Where the plan has event e, a frame that has done this makes event e'. It asks for it where the next that it asks for is of that
+  -- kind, and then with the values of its own: a read gives what its cell has, a value is the number of its view.
+  pub record IsMadeFor (w : W) (past : List (Deed W)) (memory : Cell → ℤ) (views : Instance → V) (e e' : Event) (asked : Bool) : Type 0 where
+    pub like : IsLike e e'
+    pub made : asked ≡ true → (next w past ≡ Some (ask_of e')) × IsReadRight e' memory × IsViewRight M e' views
+    pub only : (x : Event) → IsLike e x → next w past ≡ Some (ask_of x) → asked ≡ true
+
+  -- where the plan starts v, it starts v'
+  pub record IsStartedFor (w : W) (past : List (Deed W)) (k k' : Invocation) (v v' : W) (asked : Bool) : Type 0 where
+    pub how : k ≡ k'
+    pub fits : same v v' ≡ true
+    pub made : asked ≡ true → next w past ≡ Some (Invoke k' v')
+    pub only : (x : W) → same v x ≡ true → next w past ≡ Some (Invoke k x) → asked ≡ true
+
+  -- The course of the plan's run, where frame w has done this, the cells hold these values and the views are these. A read is of the
+  -- last write of its cell before it in serial order, a value of what is before it in serial order.
+  abbrev pub IsCourse : W → List (Deed W) → (Cell → ℤ) → (Instance → V) → Run W → Course W → Type 0
+  IsCourse w past memory views runs.stop stop = Unit {0}
+  IsCourse w past memory views (runs.act e r) (act b e' r') =
+      IsMadeFor w past memory views e e' b
+      × IsCourse w (past ++ Does e' ∷ []) (λ c. put e' c (memory c)) (λ i. on_view (M i) i e' (views i)) r r'
+  IsCourse w past memory views (runs.child k v u r) (child b k' v' u' r') =
+      IsStartedFor w past k k' v v' b
+      × IsCourse v' [] memory views u u'
+      × IsCourse w (past ++ Invokes k' v' ∷ []) (λ c. value_after (run_of u') c (memory c)) (λ i. view_after (M i) i (run_of u') (views i)) r r'
+  IsCourse _ _ _ _ _ _ = ⊥
+
+  -- the run is what its frames ask for, one after the other, and each read and each value is right
+  pub record IsSerialRunFrom (w : W) (memory : Cell → ℤ) (views : Instance → V) (t : Run W) : Type 0 where
+    pub behaves : Behaves W (follows next) w [] t
+    pub framed : IsFramed begin_due t
+    pub reads : IsSerial t memory
+    pub values : IsSerialViews M t views
+
+  -- On its own input a run is its own course, in which each event is asked for.
+  abbrev pub OwnCourse : Type 0
+  OwnCourse = ((v : W) → same v v ≡ true) → (w : W) (memory : Cell → ℤ) (views : Instance → V) (t : Run W) → IsSerialRunFrom w memory views t
+      → IsCourse w [] memory views t (all_asked t) × IsAskedThroughout (all_asked t) × (run_of (all_asked t) ≡ t)
+
+  -- a frame asks for nothing after its end
+  abbrev pub IsOverWithItsEnd : Type 0
+  IsOverWithItsEnd = (w : W) (past : List (Deed W)) (v : ℤ) (gone : List Instance) → next w (past ++ Does (Ends v gone) ∷ []) ≡ None
+
+  -- Where each event is asked for, the course of a plan is a serial run of the program on the input, whatever input the plan is of.
+  abbrev pub AskedCourseIsSerial : Type 0
+  AskedCourseIsSerial = IsOverWithItsEnd → (w : W) (memory : Cell → ℤ) (views : Instance → V) (t : Run W) (c : Course W) → IsFramed begin_due t
+      → IsCourse w [] memory views t c → IsAskedThroughout c → IsSerialRunFrom w memory views (run_of c)

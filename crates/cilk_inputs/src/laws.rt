@@ -1,0 +1,49 @@
+//! Laws of the courses of a run. Each is a function that does nothing: its contract is the law.
+//!
+//! In each, `W` is what a frame can be started as, `V` a reducer's view, `M` the monoid of each reducer, `next` the program's behaviour
+//! on the input, and `same` tells whether two frames are of one function or one loop.
+
+ghost use Rattle.std.specs.Prelude.{Bool, ℤ, List, Option};
+ghost use Rattle.cilk_inputs.specs.Courses.{AskedCourseIsSerial, OwnCourse};
+ghost use Rattle.cilk_inputs.specs.Frames.{AskedCoursesAreSerialRuns, SerialRunsAreTheirCourses};
+ghost use Rattle.cilk_inputs.specs.Lists.{AskedStoriesAreOfAskedCourses, CoursesAreAlongPlans, InputsThatDepartNowhere};
+ghost use Rattle.cilk_monoid.specs.Laws.{MonoidStructure};
+ghost use Rattle.cilk_runs.specs.Runs.{Ask, Deed, Instance};
+
+/// On its own input a run is its own course, and each of its events is asked for.
+pub fn own_course<W, V>()
+    ensures { (M : Instance → MonoidStructure V) (next : W → List (Deed W) → Option (Ask W)) (same : W → W → Bool) → OwnCourse W V M next same }
+{}
+
+/// Where each event of a course is asked for, it is a serial run of the program on that input.
+pub fn asked_course_is_serial<W, V>()
+    ensures { (M : Instance → MonoidStructure V) (next : W → List (Deed W) → Option (Ask W)) (same : W → W → Bool) → AskedCourseIsSerial W V M next same }
+{}
+
+/// At the language: on its own inputs a serial run of a program is its own course, in which each event is asked for.
+pub fn serial_runs_are_their_courses()
+    ensures { SerialRunsAreTheirCourses }
+{}
+
+/// At the language: along a serial run of a program on some inputs, a course on others is a serial run on those, where each event is
+/// asked for. Each frame is asked as if it had all ticks of a run for itself.
+pub fn asked_courses_are_serial_runs()
+    ensures { AskedCoursesAreSerialRuns }
+{}
+
+/// The story of a course, by the numbers that the run's cells and reducers have, is along the plan of the run: what holds of each story
+/// along a plan holds of it, as `cilk_plan::along` says.
+pub fn courses_are_along_plans<W, V>()
+    ensures { (M : Instance → MonoidStructure V) (next : W → List (Deed W) → Option (Ask W)) (same : W → W → Bool) → CoursesAreAlongPlans W V M next same }
+{}
+
+/// Where the story of a course asks for the event at each position, each event of the course is asked for.
+pub fn asked_stories_are_of_asked_courses<W>()
+    ensures { AskedStoriesAreOfAskedCourses W }
+{}
+
+/// At the language, along an orderly plan of a program's serial run: inputs on which the story of a course departs nowhere have a serial
+/// run of the program, and the values of the course are that run's.
+pub fn inputs_that_depart_nowhere()
+    ensures { InputsThatDepartNowhere }
+{}

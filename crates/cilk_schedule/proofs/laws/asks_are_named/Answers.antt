@@ -1,5 +1,0 @@
-use Rattle.cilk_schedule.proofs.Nexts.{named_next}
-use Rattle.cilk_schedule.proofs.laws.asks_are_named.Goals as goal
-
-pub returns : goal.returns
-returns c = named_next

@@ -1,0 +1,35 @@
+-- Which choices the steps of a script stand for.
+use Rattle.std.specs.Prelude.{◌≡◌, ◌-◌, ℕ, nat_lt, if◌then◌else◌, List, [], ◌∷◌, ◌++◌, replicate, Option, Some, None}
+use Rattle.cilk_script.specs.declared.choices.Choices.{Choices}
+use Rattle.cilk_script.specs.declared.choices.Next.{Next}
+use Rattle.cilk_script.specs.declared.choices.Next.TheVariants as nexts
+use Rattle.cilk_script.specs.declared.script.Order.{Order}
+use Rattle.cilk_script.specs.declared.script.Order.TheVariants.{Run, Steal, All}
+use Rattle.cilk_script.specs.declared.script.Step.{Step}
+
+-- how many choices an order makes; those of `all` don't count
+abbrev pub count_of : Order → ℕ
+count_of (Run w n) = n
+count_of (Steal w k) = 1
+count_of All = 0
+
+-- the choices of an order, one by one
+abbrev pub choices_of : Order → List Next
+choices_of (Run w n) = replicate n (nexts.Run w)
+choices_of (Steal w k) = nexts.Steal w k ∷ []
+choices_of All = nexts.Rounds ∷ []
+
+-- The choices of steps, where so many may be made: the first line whose choices would go past them ends the script.
+abbrev pub choices_within : ℕ → List Step → List Next
+choices_within room [] = []
+choices_within room (s ∷ ss) =
+    if nat_lt room (count_of s.order) then nexts.Past s.line ∷ [] else choices_of s.order ++ choices_within (room - count_of s.order) ss
+
+-- the choices that are left: those of the last `run`, and of the steps behind it
+abbrev pub choices_left : Choices → List Next
+choices_left c = replicate c.left (nexts.Run c.worker) ++ choices_within c.room c.steps.now
+
+-- the first of these is the next, and the others are left behind it
+abbrev pub IsNext : List Next → Option Next → List Next → Type 0
+IsNext before None after = (before ≡ []) × (after ≡ [])
+IsNext before (Some next) after = before ≡ next ∷ after

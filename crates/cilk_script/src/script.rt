@@ -1,0 +1,120 @@
+//! A script.
+
+ghost use Rattle.std.specs.Prelude.{◌≡◌, ◌≢◌, ◌+◌, ◌++◌, ◌≤◌, length, IfOk, IfErr, OnOk};
+ghost use Rattle.cilk_script.specs.Scripts.{IsBadAt, IsFaultOf, IsLine, IsScript, order_in, steps_of, without_return};
+
+use crate::form::order;
+use cilk_lexer::lexer::{Class, split};
+use std::alloc::{AllocError, AllocFailed, Global};
+
+/// The greatest number in a script.
+pub const MAX_NUMBER: u64 = 1_000_000;
+
+/// The greatest size of a script.
+pub const MAX_SCRIPT: usize = 1_048_576;
+
+/// What a line orders. Workers count from 1, and continuations from 0.
+#[derive(Clone, Copy, PartialEq, Eq, Debug)]
+pub enum Order {
+    /// So many times, the worker goes on with the frame that it holds.
+    Run { worker: u32, count: u32 },
+    /// The worker takes the continuation at a place.
+    Steal { worker: u32, place: u32 },
+    /// Rounds of all workers, until the run has ended.
+    All,
+}
+
+/// An order, and the number of its line, from 1.
+#[derive(Clone, Copy, PartialEq, Eq, Debug)]
+pub struct Step {
+    pub line: usize,
+    pub order: Order,
+}
+
+/// Why a text is no script.
+#[derive(Clone, Copy, PartialEq, Eq, Debug)]
+pub enum ScriptFault {
+    /// The first line that has another form, or goes past the greatest size, from 1.
+    Line(usize),
+    Memory,
+}
+
+impl From<AllocError> for ScriptFault {
+    ghost use Rattle.cilk_script.specs.declared.script.ScriptFault.TheVariants.{Memory};
+
+    ghost from_gives = { λ _ e. e ≡ Memory };
+
+    fn from(_: AllocError) -> ScriptFault {
+        ScriptFault::Memory
+    }
+}
+
+impl<T: Drop> From<AllocFailed<T>> for ScriptFault {
+    ghost use Rattle.cilk_script.specs.declared.script.ScriptFault.TheVariants.{Memory};
+
+    ghost from_gives = { λ _ e. e ≡ Memory };
+
+    fn from(_: AllocFailed<T>) -> ScriptFault {
+        ScriptFault::Memory
+    }
+}
+
+/// The orders of a text, in order. The time is linear in the text.
+pub fn read(alloc: Global, text: &[u8]) -> Result<Vec<Step>, ScriptFault>
+    ensures script { IfOk result (λ steps. IsScript text.now steps.items) }
+    ensures none { IfErr result (λ e. IsFaultOf text.now e) }
+{
+    let mut steps = Vec::new(alloc);
+    let mut line = 1;
+    let mut room = MAX_SCRIPT;
+    let mut rest = text;
+    'lines: loop {
+        let (front, behind) = split(Class::Line, rest);
+        match behind {
+            [] => {
+                if rest.len() > room {
+                    return Err(ScriptFault::Line(line));
+                }
+                push_step(&mut steps, line, rest)?;
+                return Ok(steps);
+            }
+            [_, after @ ..] => {
+                if front.len() >= room {
+                    return Err(ScriptFault::Line(line));
+                }
+                push_step(&mut steps, line, without_return(front))?;
+                room -= front.len() + 1;
+                line += 1;
+                rest = after;
+            }
+        }
+    }
+}
+
+// The step of a line is added, if it has one.
+fn push_step(steps: &mut Vec<Step>, line: usize, text: &[u8]) -> Result<(), ScriptFault>
+    ensures steps { OnOk result (IsLine text.now × (steps.new.items ≡ steps.old.items ++ steps_of line text.now (order_in text.now))) }
+    ensures fault { IfErr result (λ e. IsBadAt line text.now e) }
+{
+    match text {
+        [] => Ok(()),
+        [b'#', ..] => Ok(()),
+        _ => {
+            let Some(order) = order(text) else {
+                return Err(ScriptFault::Line(line));
+            };
+            steps.push(Step { line, order })?;
+            Ok(())
+        }
+    }
+}
+
+// A line without the carriage return that ends it.
+fn without_return(line: &[u8]) -> &[u8]
+    ensures { result.now ≡ without_return line.now }
+{
+    if line.is_empty() || line[line.len() - 1] != b'\r' {
+        return line;
+    }
+    &line[..line.len() - 1]
+}

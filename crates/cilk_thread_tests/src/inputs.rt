@@ -1,0 +1,89 @@
+//! Where runs on other inputs depart from the plan of a run: at the first event that is of another kind, or that a fault replaces.
+
+use cilk_names::resolve::resolve;
+use cilk_parser::parse::parse;
+use cilk_plan::kind::without_value;
+use cilk_program::program::Program;
+use cilk_serial::fault::RunFault;
+use cilk_serial::run::run;
+use cilk_types::event::Pos;
+use cilk_types::input::Input;
+use cilk_types::limits::MAX_INPUTS;
+use cilk_types::trace::Trace;
+use cilk_types::word_list::WordList;
+use std::alloc::Global;
+use std::process::Abort;
+use std::test::Fail;
+
+const SQUARES: &str =
+    "int a[4]; int main() { cilk_for (int i = 0; i < 4; i++) { a[i] = input(i) * input(i); } return a[0] + a[3]; }";
+
+const TURNS: &str =
+    "int a[7]; int main() { int n = input(0); cilk_for (int i = 0; i < n; i++) { a[i] = i; } return a[6]; }";
+
+fn program_of(rt: &impl Abort, alloc: Global, text: &str) -> Program {
+    let Ok(tree) = parse(alloc, text.as_bytes()) else {
+        panic!(rt; "no tree: {text}");
+    };
+    let Ok(program) = resolve(alloc, &tree) else {
+        panic!(rt; "no program: {text}");
+    };
+    program
+}
+
+fn input_of(rt: &impl Abort, alloc: Global, numbers: &[i64]) -> Input {
+    let mut list = WordList::new(alloc);
+    for number in numbers {
+        assert!(rt; list.push(*number).is_ok());
+    }
+    assert!(rt; list.len() <= MAX_INPUTS);
+    Input::new(list)
+}
+
+// The first position at which the events are of different kinds.
+fn parting(plan: &Trace, other: &Trace) -> Option<Pos> {
+    let both = plan.as_slice().iter().zip(other.as_slice());
+    let mut at: Pos = 1;
+    for (planned, made) in both {
+        if without_value(planned) != without_value(made) {
+            return Some(at);
+        }
+        at = at.saturating_add(1);
+    }
+    None
+}
+
+// A program's text, the input of its plan, another input, and the result on it, or where it departs.
+const INPUTS: [(&str, &[i64], &[i64], Result<i64, Pos>); 4] = [
+    (SQUARES, &[1, 2, 3, 4], &[5, 6, 7, 8], Ok(89)),
+    (SQUARES, &[1, 2, 3, 4], &[5, 6, 7], Err(46)),
+    (TURNS, &[1], &[0], Err(4)),
+    (TURNS, &[1], &[7], Err(6)),
+];
+
+#[test]
+fn runs_depart_where_they_ask_otherwise(rt: HostRuntime) -> Result<(), Fail> {
+    let alloc = rt.alloc();
+    for (text, input, other, wanted) in INPUTS {
+        let program = program_of(&rt, alloc, text);
+        let Ok((_, plan)) = run(alloc, &program, &input_of(&rt, alloc, input)) else {
+            panic!(rt; "no plan: {text}");
+        };
+        match (run(alloc, &program, &input_of(&rt, alloc, other)), wanted) {
+            (Ok((outcome, trace)), Ok(result)) => {
+                assert_eq!(rt; parting(&plan, &trace), None, "{text}");
+                assert_eq!(rt; trace.len(), plan.len(), "{text}");
+                assert_eq!(rt; outcome.result, result, "{text}");
+            }
+            (Ok((_, trace)), Err(place)) => {
+                assert_eq!(rt; parting(&plan, &trace), Some(place), "{text}");
+            }
+            (Err(RunFault::At { at, .. }), Err(place)) => {
+                assert_eq!(rt; at, place, "{text}");
+                assert!(rt; plan.len() >= at as usize, "{text}");
+            }
+            _ => panic!(rt; "not as wanted: {text}"),
+        }
+    }
+    Ok(())
+}

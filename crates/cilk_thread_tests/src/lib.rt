@@ -1,0 +1,13 @@
+//! Tests of a yard with two real threads, and of plans on other inputs.
+//!
+//! [`worked`] has a worked run and its plan, [`steps`] makes a segment's next event as that run does, and [`two_threads`] forces an
+//! order of the events of two threads by messages, each of which is waited for at most ten seconds. [`inputs`] has runs on other inputs, and
+//! where they depart from a plan.
+#![tactic(auto)]
+
+#[cfg(test)]
+mod inputs;
+pub mod steps;
+#[cfg(test)]
+mod two_threads;
+pub mod worked;

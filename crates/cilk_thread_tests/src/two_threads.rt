@@ -1,0 +1,171 @@
+//! Two threads on one yard, in an order that messages force.
+
+ghost use Rattle.std.specs.Prelude.{◌≡◌};
+ghost use Rattle.cilk_shared.specs.Values.{OfYard};
+ghost use Rattle.cilk_thread_tests.specs.Settings.{AreOf};
+ghost use Rattle.cilk_thread_tests.specs.Worked.{story};
+
+use crate::steps::{Done, step};
+use crate::worked::{is_of_the_run, plan, take, trace};
+use cilk_plan::plan::Plan;
+use cilk_shared::yard::{Segment, Yard};
+use cilk_types::event::{Event, Pos};
+use crossbeam_channel::{Receiver, Sender, bounded};
+use std::alloc::Global;
+use std::process::Abort;
+use std::sync::Wait;
+use std::test::Fail;
+use std::thread;
+use std::time::{Clock, Duration};
+
+// How many seconds a message is waited for.
+const PATIENCE: u64 = 10;
+
+// Makes the events up to a position, each of which can be made, and gives the last one's answer.
+fn make_up_to<R: Abort>(
+    rt: &R,
+    yard: &Yard,
+    plan: &Plan,
+    events: &[Event],
+    segment: &mut Segment,
+    last: Pos,
+) -> Done
+    requires yard { OfYard yard.now segment.old }
+    requires run { AreOf yard.now.story plan.now events.now }
+    ensures { OfYard yard.now segment.new }
+{
+    let mut done = Done::Nothing;
+    'events: for _at in segment.upto()..last.saturating_add(1) {
+        done = step(yard, plan, events, segment);
+        assert!(rt; done != Done::Nothing);
+    }
+    done
+}
+
+// The thread that makes the first child: it offers the rest, waits until that was taken, and is told No at the child's end.
+fn makes_the_child<R: Abort + Wait + Clock>(
+    rt: &R,
+    yard: &Yard,
+    plan: &Plan,
+    events: &[Event],
+    mut segment: Segment,
+    tickets: &Sender<Pos, Global>,
+    taken: &Receiver<bool, Global>,
+) -> Segment
+    requires yard { OfYard yard.now segment }
+    requires run { AreOf yard.now.story plan.now events.now }
+    requires story { yard.now.story ≡ story }
+    ensures { OfYard yard.now result }
+{
+    let Done::Offered(ticket) = make_up_to(rt, yard, plan, events, &mut segment, 4) else {
+        panic!(rt; "no offer");
+    };
+    assert!(rt; tickets.send(rt, ticket).is_ok());
+    assert!(rt;
+        taken
+            .recv_timeout(rt, Duration::from_secs(PATIENCE))
+            .is_ok()
+    );
+    let read = make_up_to(rt, yard, plan, events, &mut segment, 6);
+    assert_eq!(rt; read, Done::Loaded(7));
+    make_up_to(rt, yard, plan, events, &mut segment, 9);
+    assert!(rt; !take(yard, &mut segment, ticket));
+    segment
+}
+
+// The thread that takes the rest: it offers again, makes the second child, and takes its own continuation.
+fn takes_the_rest<R: Abort + Wait + Clock>(
+    rt: &R,
+    yard: &Yard,
+    plan: &Plan,
+    events: &[Event],
+    mut segment: Segment,
+    tickets: &Receiver<Pos, Global>,
+    taken: &Sender<bool, Global>,
+) -> Segment
+    requires yard { OfYard yard.now segment }
+    requires run { AreOf yard.now.story plan.now events.now }
+    requires story { yard.now.story ≡ story }
+    ensures { OfYard yard.now result }
+{
+    let Ok(ticket) = tickets.recv_timeout(rt, Duration::from_secs(PATIENCE)) else {
+        panic!(rt; "no ticket");
+    };
+    assert!(rt; take(yard, &mut segment, ticket));
+    assert!(rt; taken.send(rt, true).is_ok());
+    let Done::Offered(own) = make_up_to(rt, yard, plan, events, &mut segment, 11) else {
+        panic!(rt; "no offer");
+    };
+    let read = make_up_to(rt, yard, plan, events, &mut segment, 13);
+    assert_eq!(rt; read, Done::Loaded(7));
+    make_up_to(rt, yard, plan, events, &mut segment, 16);
+    assert!(rt; take(yard, &mut segment, own));
+    segment
+}
+
+// Ends the run from the `sync` of the two spawns on, and tells what the cells have then.
+fn ends_with<R: Abort>(
+    rt: &R,
+    alloc: Global,
+    yard: Yard,
+    plan: &Plan,
+    events: &[Event],
+    mut segment: Segment,
+)
+    requires yard { OfYard yard segment }
+    requires run { AreOf yard.story plan.now events.now }
+    requires story { yard.story ≡ story }
+{
+    let synced = make_up_to(rt, &yard, plan, events, &mut segment, 18);
+    assert_eq!(rt; synced, Done::Passed);
+    let first = make_up_to(rt, &yard, plan, events, &mut segment, 19);
+    let second = make_up_to(rt, &yard, plan, events, &mut segment, 20);
+    assert!(rt; first == Done::Loaded(7) && second == Done::Loaded(7));
+    assert!(rt; !yard.ended(&mut segment));
+    let ended = make_up_to(rt, &yard, plan, events, &mut segment, 22);
+    assert_eq!(rt; ended, Done::Finished);
+    assert!(rt; yard.ended(&mut segment));
+    assert!(rt; segment.from() == 1 && segment.upto() == 23);
+    let Ok(values) = yard.globals(alloc, segment) else {
+        panic!(rt; "no memory");
+    };
+    assert_eq!(rt; values.as_slice(), [7, 7, 7].as_slice());
+}
+
+#[test]
+fn a_thief_takes_the_rest(rt: HostRuntime) -> Result<(), Fail> {
+    let alloc = rt.alloc();
+    let trace = trace(alloc)?;
+    let plan = plan(alloc, &trace)?;
+    let events = trace.as_slice();
+    let (yard, segment) = Yard::new(alloc, &plan)?;
+    is_of_the_run(&yard, &plan, events);
+    let (first, second) = yard.apart(segment);
+    let (give_ticket, get_ticket) = bounded(alloc, 1)?;
+    let (tell_taken, hear_taken) = bounded(alloc, 1)?;
+    let (first, second) = thread::join(
+        &rt,
+        || makes_the_child(&rt, &yard, &plan, events, first, &give_ticket, &hear_taken),
+        || takes_the_rest(&rt, &yard, &plan, events, second, &get_ticket, &tell_taken),
+    );
+    assert!(rt; yard.adjoins(&first, &second));
+    let whole = yard.together(first, second);
+    ends_with(&rt, alloc, yard, &plan, events, whole);
+    Ok(())
+}
+
+#[test]
+fn nobody_takes_the_rest(rt: HostRuntime) -> Result<(), Fail> {
+    let alloc = rt.alloc();
+    let trace = trace(alloc)?;
+    let plan = plan(alloc, &trace)?;
+    let events = trace.as_slice();
+    let (yard, mut segment) = Yard::new(alloc, &plan)?;
+    is_of_the_run(&yard, &plan, events);
+    make_up_to(&rt, &yard, &plan, events, &mut segment, 9);
+    assert!(rt; take(&yard, &mut segment, 4));
+    make_up_to(&rt, &yard, &plan, events, &mut segment, 16);
+    assert!(rt; take(&yard, &mut segment, 11));
+    ends_with(&rt, alloc, yard, &plan, events, segment);
+    Ok(())
+}
