@@ -4,11 +4,10 @@ use Rattle.std.specs.Prelude.{◌≡◌, ◌+◌, ◌<◌, ◌^◌, ℕ, List, [
 use Rattle.cilk_types.specs.declared.event.Instance.{Instance}
 use Rattle.cilk_program.specs.declared.syntax.Place.{Place}
 use Rattle.cilk_program.specs.declared.syntax.Reducer.{Reducer}
-use Rattle.cilk_program.specs.declared.syntax.ReducerPlace.{ReducerPlace}
-use Rattle.cilk_program.specs.declared.syntax.ReducerPlace.TheVariants as reducers
 use Rattle.cilk_program.specs.Scopes.{Home, Scope, cell_in}
 use Rattle.cilk_program.specs.SerialRun.{itself}
 use Rattle.cilk_activations.specs.declared.activation.Activation.{Activation}
+pub use Rattle.cilk_program.specs.Syntax.{number_in}
 
 -- an activation's own cells and reducers
 abbrev pub home_at : {C : Type 0} → Activation C → Home ℕ Instance
@@ -27,12 +26,6 @@ pub record HasScope {C : Type 0} (frames : List (Activation C)) (a : Activation 
   pub scope_is : scope ≡ home_at a ∷ outer
   pub low : a.first < 65536
   pub links : LinksTo frames a.outer outer
-
--- the number in a reducer's place
-abbrev pub number_in : ReducerPlace → ℕ
-number_in (reducers.Global n) = n
-number_in (reducers.Own up n) = n
-number_in (reducers.Given up n) = n
 
 abbrev pub AreSmall : List Reducer → Type 0
 AreSmall [] = Unit {0}

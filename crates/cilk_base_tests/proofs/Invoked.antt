@@ -9,7 +9,7 @@ use Rattle.cilk_program.specs.declared.ask.Callee.{Callee}
 use Rattle.cilk_program.specs.declared.ask.Callee.TheVariants as callees
 use Rattle.cilk_program.specs.declared.program.Body.{Body}
 use Rattle.cilk_types.specs.declared.invocation.Invocation.{Invocation}
-use Rattle.cilk_program.specs.Behaviour.{Asked, asks_for, frame_asks}
+use Rattle.cilk_program.specs.Behaviour.{OpenAsk, asks_for, frame_asks}
 use Rattle.cilk_program.specs.Inside.{AskIsThere, CalleeIsFit, CalleeIsThere, body_of}
 use Rattle.cilk_program.specs.Syntax.{Source}
 use Rattle.cilk_program.specs.WellNamed.{is_well_named}
@@ -28,7 +28,7 @@ pub asked_is_there : (p : Source) → IsTrue (is_well_named p) → (inputs answe
     → IfSome o (λ k. frame_asks p inputs callees.Root answers left ≡ asks_for k left') → IfSome o (AskIsThere p callees.Root)
 asked_is_there p well inputs answers left None left' e = tt
 asked_is_there p well inputs answers left (Some k) left' e =
-    subst (λ (q : Asked). AskIsThere p callees.Root q.ask) e (asks_there p well callees.Root tt inputs answers left)
+    subst (λ (q : OpenAsk). AskIsThere p callees.Root q.ask) e (asks_there p well callees.Root tt inputs answers left)
 
 -- what a new cursor says of the frame that an ask begins
 abbrev pub StandsFirst : CodeView → CursorView → Callee → Type 0

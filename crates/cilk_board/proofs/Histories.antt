@@ -19,7 +19,7 @@ use Rattle.cilk_program.specs.declared.ask.Callee.TheVariants as callees
 use Rattle.cilk_program.specs.declared.syntax.Place.TheVariants as places
 use Rattle.cilk_program.specs.declared.syntax.ReducerPlace.{ReducerPlace}
 use Rattle.cilk_program.specs.declared.syntax.ReducerPlace.TheVariants as reducers
-use Rattle.cilk_program.specs.Behaviour.{Asked, frame_asks}
+use Rattle.cilk_program.specs.Behaviour.{OpenAsk, frame_asks}
 use Rattle.cilk_program.specs.Syntax.{Source, function_at, main_of}
 use Rattle.std.specs.Prelude.{pos, ◌-ℤ◌, if◌then◌else◌}
 use Rattle.std.specs.Ordering.{int_eq}
@@ -395,7 +395,7 @@ module _ (p : Source) (inputs : List ℤ) (w : World) where
   next_is : (past : List (Deed World)) (c : Rest) → IsLeft past c → has_ended past ≡ false → next p inputs w past ≡ Some (named_ask p w (suc (started past)) (asked c))
   next_is past c h going =
       going_next (has_ended past) going
-      ∙ ap (λ (q : Asked). Some (named_ask p w (suc (started past)) q.ask)) (sym (ap (λ l. frame_asks p inputs w.callee l MAX_TICKS) (append-nil (answers_of past))) ∙ h [] MAX_TICKS)
+      ∙ ap (λ (q : OpenAsk). Some (named_ask p w (suc (started past)) q.ask)) (sym (ap (λ l. frame_asks p inputs w.callee l MAX_TICKS) (append-nil (answers_of past))) ∙ h [] MAX_TICKS)
     where
       going_next : (b : Bool) → b ≡ false → cond b None (Some (named_ask p w (suc (started past)) (let q = frame_asks p inputs w.callee (answers_of past) MAX_TICKS in q.ask))) ≡ Some (named_ask p w (suc (started past)) (let q = frame_asks p inputs w.callee (answers_of past) MAX_TICKS in q.ask))
       going_next true q = absurd (true≢false q)

@@ -17,7 +17,7 @@ use Rattle.cilk_runs.specs.Runs.{Name, Cell, Global, Own, Instance, Output, Redu
 use Rattle.cilk_runs.specs.Machine.{State}
 use Rattle.cilk_worlds.specs.Reducers.{View}
 use Rattle.cilk_worlds.specs.Worlds.{World}
-use Rattle.cilk_board.specs.declared.seat.Entry.{Entry}
+use Rattle.cilk_board.specs.declared.seat.JournalEntry.{JournalEntry}
 use Rattle.cilk_board.specs.declared.seat.Seat.{Seat}
 use Rattle.cilk_board.specs.Events.{SeesAt}
 use Rattle.cilk_board.specs.Numbered.{AreNamed, IsAbsent, size_of, IsCell, IsInstance, IsMarked, IsDeed, AreDeeds, events_of}
@@ -117,7 +117,7 @@ module _ (f : Seat → Seat) (frames : List (Activation Seat)) (k : ℕ) (name :
 
 -- ---- one event more
 
-pub events_more : (k : ℕ) (es : List Entry) (e : Entry) → events_of k (es ++ e ∷ []) ≡ cond (nat_eq e.frame k) (events_of k es ++ e.event ∷ []) (events_of k es)
+pub events_more : (k : ℕ) (es : List JournalEntry) (e : JournalEntry) → events_of k (es ++ e ∷ []) ≡ cond (nat_eq e.frame k) (events_of k es ++ e.event ∷ []) (events_of k es)
 events_more k [] e = refl
 events_more k (x ∷ es) e = by (nat_eq x.frame k) refl (nat_eq e.frame k) refl (events_more k es e)
   where

@@ -37,7 +37,7 @@ use Rattle.cilk_worlds.specs.Worlds.{World, first_world, own_named}
 use Rattle.cilk_worlds.proofs.Views.{are_multiplied}
 use Rattle.cilk_board.specs.declared.board.Board.{Board}
 use Rattle.cilk_board.specs.declared.seat.Due.TheVariants as due
-use Rattle.cilk_board.specs.declared.seat.Entry.{Entry}
+use Rattle.cilk_board.specs.declared.seat.JournalEntry.{JournalEntry}
 use Rattle.cilk_board.specs.declared.seat.Seat.{Seat}
 use Rattle.cilk_board.specs.declared.seat.Status.TheVariants.{Held, Waiting}
 use Rattle.cilk_board.specs.declared.seat.Worker.{Worker}
@@ -281,7 +281,7 @@ module _ (code : CodeView) (p : Source) (inputs : List ℤ) (well : IsTrue (is_w
     holds = holds;
     desk = desk;
     ticks = o.6 TickTotal ∙ sym h.ticks;
-    events = o.6 EventTotal ∙ sym (ap (λ (l : List Entry). length l) h.journal);
+    events = o.6 EventTotal ∙ sym (ap (λ (l : List JournalEntry). length l) h.journal);
     frames = o.6 FrameTotal ∙ sym one;
     cells = o.6 CellTotal ∙ sym h.count;
     few_frames = subst (λ n. n ≤ MAX_FRAMES) (sym (o.6 FrameTotal)) (openings_fit p inputs well FrameTotal);

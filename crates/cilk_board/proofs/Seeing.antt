@@ -13,7 +13,7 @@ use Rattle.cilk_program.specs.declared.syntax.Place.{Place}
 use Rattle.cilk_program.specs.declared.syntax.Place.TheVariants as places
 use Rattle.cilk_program.specs.declared.syntax.ReducerPlace.{ReducerPlace}
 use Rattle.cilk_program.specs.declared.syntax.ReducerPlace.TheVariants as reducers
-use Rattle.cilk_program.specs.Behaviour.{Asked}
+use Rattle.cilk_program.specs.Behaviour.{OpenAsk}
 use Rattle.cilk_program.specs.Inside.{AskIsThere, CalleeIsFit}
 use Rattle.cilk_program.specs.Scopes.{Scope, cell_in, instance_in}
 use Rattle.cilk_program.specs.SerialRun.{global_reducer, itself}
@@ -93,7 +93,7 @@ module _ (code : CodeView) (p : Source) (inputs : List ℤ) where
       let same : h.before ≡ c = (let q : Some h.before ≡ Some c = sym h.was ∙ at in cc) in
       let told' : IsTold code p inputs w past h.before a x.took = subst (λ b. IsTold code p inputs w past b a x.took) (sym same) told in
       let goes = h.goes_on p w.callee (answers_of told'.past) x.took told'.stands in
-      subst (λ (q : Asked). AskIsThere p w.callee q.ask) goes.asks (asks_there p well w.callee fit inputs (answers_of told'.past ++ word_in a ∷ []) (x.took + (MAX_TICKS - x.took)))
+      subst (λ (q : OpenAsk). AskIsThere p w.callee q.ask) goes.asks (asks_there p well w.callee fit inputs (answers_of told'.past ++ word_in a ∷ []) (x.took + (MAX_TICKS - x.took)))
   asked_there w past x came c k due.Sync well fit at is h = subst (AskIsThere p w.callee) (sym h.0) tt
 
 -- ---- numbers of cells

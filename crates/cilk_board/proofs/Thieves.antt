@@ -45,7 +45,7 @@ use Rattle.cilk_worlds.specs.Worlds.{World}
 use Rattle.cilk_worlds.proofs.Views.{are_multiplied}
 use Rattle.cilk_board.specs.declared.board.Board.{Board}
 use Rattle.cilk_board.specs.declared.choice.Choice.TheVariants.{Steal}
-use Rattle.cilk_board.specs.declared.seat.Entry.{Entry}
+use Rattle.cilk_board.specs.declared.seat.JournalEntry.{JournalEntry}
 use Rattle.cilk_board.specs.declared.seat.Seat.{Seat}
 use Rattle.cilk_board.specs.declared.seat.Status.{Status}
 use Rattle.cilk_board.specs.declared.seat.Status.TheVariants.{Held, Calling, Offered, Waiting, Finished}
@@ -854,7 +854,7 @@ module _ (code : CodeView) (p : Source) (inputs : List ℤ) (name : ℕ → Name
       holds = still_holds;
       desk = desk_is;
       ticks = ap (λ z. z TickTotal) st.totals ∙ sh.ticks ∙ sym t.ticks;
-      events = ap (λ z. z EventTotal) st.totals ∙ sh.events ∙ sym (ap (λ (l : List Entry). length l) t.journal);
+      events = ap (λ z. z EventTotal) st.totals ∙ sh.events ∙ sym (ap (λ (l : List JournalEntry). length l) t.journal);
       frames = ap (λ z. z FrameTotal) st.totals ∙ sh.frames ∙ sym same_length;
       cells = ap (λ z. z CellTotal) st.totals ∙ sh.cells ∙ sym (ap (λ (l : List ℤ). length l) t.cells);
       few_frames = subst (λ n. n ≤ MAX_FRAMES) (ap (λ z. z FrameTotal) (sym st.totals)) sh.few_frames;

@@ -36,7 +36,7 @@ use Rattle.cilk_worlds.specs.Worlds.{World}
 use Rattle.cilk_worlds.proofs.Kept.{but_last_more, ended_more}
 use Rattle.cilk_board.specs.declared.board.Board.{Board}
 use Rattle.cilk_board.specs.declared.seat.Due.TheVariants as due
-use Rattle.cilk_board.specs.declared.seat.Entry.{Entry}
+use Rattle.cilk_board.specs.declared.seat.JournalEntry.{JournalEntry}
 use Rattle.cilk_board.specs.declared.seat.Seat.{Seat}
 use Rattle.cilk_board.specs.declared.seat.Status.{Status}
 use Rattle.cilk_board.specs.declared.seat.Status.TheVariants.{Held, Calling, Offered, Waiting, Finished}
@@ -58,7 +58,7 @@ joined_child t [] q = refl
 joined_child t (j ∷ []) q = refl
 joined_child t (j ∷ i ∷ n) q = joined_child (below t j) (i ∷ n) q
 
-module _ (code : CodeView) (p : Source) (inputs : List ℤ) (name : ℕ → Name) (b b' : Board) (d : Desk) (s s' : State World View) (w k : ℕ) (e : Event) (entry : Entry)
+module _ (code : CodeView) (p : Source) (inputs : List ℤ) (name : ℕ → Name) (b b' : Board) (d : Desk) (s s' : State World View) (w k : ℕ) (e : Event) (entry : JournalEntry)
     (sh : ShowsBy code p inputs name b d s) (t : Touches code p inputs name b b' s s' w k e entry) where
   abbrev old_seats : List (Activation Seat)
   old_seats = let f = b.frames in f.items
@@ -236,7 +236,7 @@ module _ (code : CodeView) (p : Source) (inputs : List ℤ) (name : ℕ → Name
 
   -- ---- what is written down
 
-  abbrev entries : List Entry
+  abbrev entries : List JournalEntry
   entries = let l = b.journal in l.items
 
   deeds_on : (j : ℕ) (ds : List (Deed World)) (es : List numbered_event.Event) → AreDeeds p old_seats name s j ds es → AreDeeds p new_seats name s' j ds es
@@ -537,7 +537,7 @@ module _ (code : CodeView) (p : Source) (inputs : List ℤ) (name : ℕ → Name
     holds = λ v j u at has. still_holds v j u at has;
     desk = desk_is;
     ticks = t.ticks;
-    events = t.events ∙ ap (λ n. n + 1) sh.events ∙ sym (ap (λ (l : List Entry). length l) t.written ∙ length_more entries entry);
+    events = t.events ∙ ap (λ n. n + 1) sh.events ∙ sym (ap (λ (l : List JournalEntry). length l) t.written ∙ length_more entries entry);
     frames = t.frame_total ∙ sh.frames ∙ sym same_length;
     cells = t.cell_total ∙ sh.cells ∙ sym t.cells;
     few_frames = subst (λ n. n ≤ MAX_FRAMES) (sym t.frame_total) sh.few_frames;

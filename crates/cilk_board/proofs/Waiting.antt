@@ -37,7 +37,7 @@ use Rattle.cilk_worlds.proofs.Views.{are_multiplied}
 use Rattle.cilk_board.specs.declared.board.Board.{Board}
 use Rattle.cilk_board.specs.declared.choice.Choice.TheVariants.{Run}
 use Rattle.cilk_board.specs.declared.seat.Due.TheVariants as due
-use Rattle.cilk_board.specs.declared.seat.Entry.{Entry}
+use Rattle.cilk_board.specs.declared.seat.JournalEntry.{JournalEntry}
 use Rattle.cilk_board.specs.declared.seat.Seat.{Seat}
 use Rattle.cilk_board.specs.declared.seat.Status.{Status}
 use Rattle.cilk_board.specs.declared.seat.Status.TheVariants.{Held, Calling, Offered, Waiting, Finished}
@@ -594,7 +594,7 @@ module _ (code : CodeView) (p : Source) (inputs : List ℤ) (name : ℕ → Name
     holds = still_holds;
     desk = desk_is;
     ticks = sh.ticks ∙ sym h.ticks;
-    events = sh.events ∙ sym (ap (λ (l : List Entry). length l) h.journal);
+    events = sh.events ∙ sym (ap (λ (l : List JournalEntry). length l) h.journal);
     frames = sh.frames ∙ sym same_length;
     cells = sh.cells ∙ sym (ap (λ (l : List ℤ). length l) h.cells);
     few_frames = sh.few_frames;

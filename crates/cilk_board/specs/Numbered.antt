@@ -12,7 +12,7 @@ use Rattle.cilk_runs.specs.Runs.{Name, Cell, Global, Own, Instance, Output, Redu
 use Rattle.cilk_runs.specs.Machine.{Frame, State}
 use Rattle.cilk_worlds.specs.Reducers.{View}
 use Rattle.cilk_worlds.specs.Worlds.{World, Reducers, Sight, global_named}
-use Rattle.cilk_board.specs.declared.seat.Entry.{Entry}
+use Rattle.cilk_board.specs.declared.seat.JournalEntry.{JournalEntry}
 use Rattle.cilk_board.specs.declared.seat.Seat.{Seat}
 
 -- The frames of a board in the order in which they began, and the names that they have: the first is the root, each other is known by an
@@ -69,7 +69,7 @@ module _ (p : Source) (frames : List (Activation Seat)) (name : ℕ → Name) wh
   AreDeeds s k (d ∷ ds) (e ∷ es) = IsDeed s k d e × AreDeeds s k ds es
 
 -- the events of a frame in a journal
-abbrev pub events_of : ℕ → List Entry → List Event
+abbrev pub events_of : ℕ → List JournalEntry → List Event
 events_of k [] = []
 events_of k (e ∷ es) = cond (nat_eq e.frame k) (e.event ∷ events_of k es) (events_of k es)
 

@@ -20,7 +20,7 @@ use Rattle.cilk_worlds.specs.Views.{IsViewOf}
 use Rattle.cilk_worlds.specs.Worlds.{World}
 use Rattle.cilk_board.specs.declared.board.Board.{Board}
 use Rattle.cilk_board.specs.declared.seat.Due.TheVariants as due
-use Rattle.cilk_board.specs.declared.seat.Entry.{Entry}
+use Rattle.cilk_board.specs.declared.seat.JournalEntry.{JournalEntry}
 use Rattle.cilk_board.specs.declared.seat.Seat.{Seat}
 use Rattle.cilk_board.specs.declared.seat.Worker.{Worker}
 use Rattle.cilk_board.specs.Boards.{IsBare, ShowsBy}
@@ -54,7 +54,7 @@ touched same begun took c a x = record x { strands = begun; took = took; counted
 module _ (code : CodeView) (p : Source) (inputs : List ℤ) where
   module _ (name : ℕ → Name) (b b' : Board) (s s' : State World View) where
     -- Worker w's frame, at place k, makes this event: what it leaves of the state and of the board.
-    pub record Touches (w k : ℕ) (e : Event) (entry : Entry) : Type 0 where
+    pub record Touches (w k : ℕ) (e : Event) (entry : JournalEntry) : Type 0 where
       pub worker : Worker
       pub seat : Activation Seat
       pub frame : Frame World
@@ -108,4 +108,4 @@ module _ (code : CodeView) (p : Source) (inputs : List ℤ) where
   -- A board that shows a state shows the next one after such an event, by the same names and with the same desk.
   abbrev pub TouchesAreShown : Type 0
   TouchesAreShown =
-      (name : ℕ → Name) (b b' : Board) (d : Desk) (s s' : State World View) (w k : ℕ) (e : Event) (entry : Entry) → ShowsBy code p inputs name b d s → Touches name b b' s s' w k e entry → ShowsBy code p inputs name b' d s'
+      (name : ℕ → Name) (b b' : Board) (d : Desk) (s s' : State World View) (w k : ℕ) (e : Event) (entry : JournalEntry) → ShowsBy code p inputs name b d s → Touches name b b' s s' w k e entry → ShowsBy code p inputs name b' d s'

@@ -1,7 +1,7 @@
 //! The state of a machine.
 
 use crate::choice::Stop;
-use crate::seat::{Entry, Seat, Worker};
+use crate::seat::{JournalEntry, Seat, Worker};
 use cilk_activations::activation::Activation;
 use cilk_frames::asked::AskSlot;
 use cilk_types::outcome::Outcome;
@@ -14,7 +14,7 @@ pub struct Board {
     pub cells: Vec<i64>,
     pub workers: Vec<Worker>,
     pub offered: usize,
-    pub journal: Vec<Entry>,
+    pub journal: Vec<JournalEntry>,
     pub ticks: u32,
     pub asked: AskSlot,
     pub outcome: Option<Outcome>,

@@ -6,7 +6,7 @@ ghost use Rattle.cilk_activations.specs.declared.activation.Activation.{Activati
 ghost use Rattle.cilk_board.specs.declared.seat.Seat.{Seat};
 ghost use Rattle.cilk_board.specs.Seats.{changed, counted};
 
-use crate::seat::{Entry, Seat};
+use crate::seat::{JournalEntry, Seat};
 use crate::seats::count;
 use cilk_activations::activation::Activation;
 use cilk_types::event::Event;
@@ -15,7 +15,7 @@ use cilk_types::event::Event;
 /// counted then.
 pub fn note(
     frames: &mut Vec<Activation<Seat>>,
-    journal: &mut Vec<Entry>,
+    journal: &mut Vec<JournalEntry>,
     ticks: u32,
     frame: u32,
     event: Event,
@@ -30,7 +30,7 @@ pub fn note(
 {
     let ticks = ticks + uncounted(frames.as_slice(), frame as usize);
     count(frames, frame as usize);
-    journal.push_reserved(Entry { frame, event });
+    journal.push_reserved(JournalEntry { frame, event });
     ticks
 }
 

@@ -94,7 +94,7 @@ pub struct Worker {
 
 /// An event, and the place of the frame that made it.
 #[derive(Clone, Copy)]
-pub struct Entry {
+pub struct JournalEntry {
     pub frame: u32,
     pub event: Event,
 }

@@ -6,7 +6,7 @@ use Rattle.cilk_program.specs.declared.ask.Ask as language
 use Rattle.cilk_program.specs.declared.ask.Ask.TheVariants as asks
 use Rattle.cilk_program.specs.declared.ask.Callee.{Callee}
 use Rattle.cilk_program.specs.Syntax.{Source}
-use Rattle.cilk_program.specs.Behaviour.{Asked, asks_for, frame_asks}
+use Rattle.cilk_program.specs.Behaviour.{OpenAsk, asks_for, frame_asks}
 use Rattle.cilk_program.specs.SerialRun as serial
 use Rattle.cilk_program.specs.SerialRun.{Memory, Frame, answer_to, IsInner, Ending, Finished, Serial, Made, Ended, Went}
 use Rattle.cilk_runs.specs.Runs.{Ask, Invoke, Event as Happens, Ends, Deed, Does, Invokes, Run, stop, act, child, ask_of}
@@ -136,10 +136,10 @@ module _ (p : Source) (inputs : List ℤ) where
       let full = at_full p inputs fr.callee MAX_TICKS history start left a q out low in
       let asked : asked_after p inputs w past ≡ asks_for a (left + (MAX_TICKS - start)) =
       ap (λ callee. frame_asks p inputs callee (answers_of past) MAX_TICKS) at.callee ∙ ap (λ hs. frame_asks p inputs fr.callee hs MAX_TICKS) at.answers ∙ full.0 in
-      let left_is : (asked_after p inputs w past).left ≡ left + (MAX_TICKS - start) = ap (λ (q : Asked). q.left) asked in
+      let left_is : (asked_after p inputs w past).left ≡ left + (MAX_TICKS - start) = ap (λ (q : OpenAsk). q.left) asked in
       let left_low = full.1 in
       record {
-        asks = ap (λ t. cond t None (Some (named_ask p w (suc (started past)) (asked_after p inputs w past).ask))) at.going ∙ ap (λ k. Some (named_ask p w k (asked_after p inputs w past).ask)) at.ordinal ∙ ap (λ (q : Asked). Some (named_ask p w k q.ask)) asked;
+        asks = ap (λ t. cond t None (Some (named_ask p w (suc (started past)) (asked_after p inputs w past).ask))) at.going ∙ ap (λ k. Some (named_ask p w k (asked_after p inputs w past).ask)) at.ordinal ∙ ap (λ (q : OpenAsk). Some (named_ask p w k q.ask)) asked;
         took = omega (arith, left_is, left_low, low);
         low = left_low;
         before = before_taken w past;

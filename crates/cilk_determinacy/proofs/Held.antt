@@ -19,7 +19,7 @@ use Rattle.cilk_program.specs.declared.ask.Ask.TheVariants as asks
 use Rattle.cilk_program.specs.declared.ask.Callee.{Callee}
 use Rattle.cilk_types.specs.declared.invocation.Invocation.{Invocation}
 use Rattle.cilk_types.specs.declared.invocation.Invocation.TheVariants.{Call, Spawn}
-use Rattle.cilk_program.specs.Behaviour.{Asked, frame_asks}
+use Rattle.cilk_program.specs.Behaviour.{OpenAsk, frame_asks}
 use Rattle.cilk_program.specs.Syntax.{Source}
 use Rattle.cilk_meaning.specs.Closed.{IsNoResume}
 use Rattle.cilk_meaning.specs.Order.{opening_asks, Stage, Fresh, Due, Going, Resuming, Synced, Closing, opened, follows}
@@ -377,7 +377,7 @@ module _ (p : Source) (inputs : List ℤ) where
     comes r f never t = by t.more t.enough t.legal
       where
         here : (t.rest [] MAX_TICKS).ask ≡ asks_now f
-        here = ap (λ (q : Asked). q.ask) (sym (t.same [] MAX_TICKS) ∙ ap (λ h. frame_asks p inputs f.what.callee h MAX_TICKS) (append-nil (answers_of f.deeds)))
+        here = ap (λ (q : OpenAsk). q.ask) (sym (t.same [] MAX_TICKS) ∙ ap (λ h. frame_asks p inputs f.what.callee h MAX_TICKS) (append-nil (answers_of f.deeds)))
 
         by : (n : ℕ) → suc r ≤ n → IsLegal MAX_TICKS t.stage t.rest n → (more : ℕ) × (r ≤ more) × Advance (Onward f t.rest more) t.stage (asks_now f)
         by zero low legal = absurd (omega arith)

@@ -6,7 +6,7 @@ use Rattle.cilk_program.specs.declared.ask.Callee.{Callee}
 use Rattle.cilk_program.specs.declared.ask.Callee.TheVariants as callees
 use Rattle.cilk_types.specs.declared.invocation.Invocation.{Invocation}
 use Rattle.cilk_program.specs.Syntax.{Source}
-use Rattle.cilk_program.specs.Behaviour.{Asked, asks_for, frame_asks}
+use Rattle.cilk_program.specs.Behaviour.{OpenAsk, asks_for, frame_asks}
 use Rattle.cilk_program.specs.WellNamed.{is_well_named}
 use Rattle.cilk_program.specs.Inside.{AskIsThere}
 use Rattle.cilk_program.specs.SerialRun.{Transcript, act, child, Memory, Frame, root_frame, next_frame}
@@ -25,7 +25,7 @@ module _ (p : Source) (inputs : List ℤ) (well : IsTrue (is_well_named p)) (r :
   -- what a frame asks for is there
   pub asked_there : (w : World) (fr : Frame) (history : List ℤ) (start left : ℕ) (a : Ask) → Stands p r w fr → frame_asks p inputs fr.callee history start ≡ asks_for a left → AskIsThere p w.callee a
   asked_there w fr history start left a h q =
-      subst (λ (q : Asked). AskIsThere p w.callee q.ask) (ap (λ callee. frame_asks p inputs callee history start) h.callee ∙ q) (asks_there p well w.callee h.sees.fit inputs history start)
+      subst (λ (q : OpenAsk). AskIsThere p w.callee q.ask) (ap (λ callee. frame_asks p inputs callee history start) h.callee ∙ q) (asks_there p well w.callee h.sees.fit inputs history start)
 
   pub standing_act : (w : World) (fr : Frame) (j : ℕ) (a : Ask) (v : ℤ) (rest : Transcript) (n : Counts) → Standing w fr j (act a v rest) n → Standing w fr j rest n
   standing_act w fr j a v rest n h = record { stands = h.stands; ahead = let ahead = h.ahead in record { blocks = ahead.blocks; runs = ahead.runs } }

@@ -15,7 +15,7 @@ use Rattle.cilk_program.specs.declared.ask.Ask.{Ask}
 use Rattle.cilk_program.specs.declared.ask.Ask.TheVariants as asks
 use Rattle.cilk_types.specs.declared.invocation.Invocation.{Invocation}
 use Rattle.cilk_types.specs.declared.invocation.Invocation.TheVariants.{Call, Spawn}
-use Rattle.cilk_program.specs.Behaviour.{Asked}
+use Rattle.cilk_program.specs.Behaviour.{OpenAsk}
 use Rattle.cilk_program.specs.Outcomes.{Conclusion, Leaves}
 use Rattle.cilk_program.specs.Store.{Store, put, put_view, clear_all}
 use Rattle.cilk_program.specs.Syntax.{Source}
@@ -227,7 +227,7 @@ module _ (p : Source) (has : HasWords p) (inputs : List ℤ) (inputs_words : Inp
   runs_words : {fr : Frame} {start : ℕ} {history : List ℤ} {m : Memory} {r : serial.Transcript} {es : List Event} {end : Ending} → Serial p inputs fr start history m r es end
       → CalleeWords fr.callee → AreWords history → (count : ℕ) → Wordy m.store count → count + m.room ≤ 1000000 → SetWords es × LeavesWords end
   runs_words (Made {fr = fr} {start = start} {history = history} {m = m} a left q inner ok rest) callee words count h few =
-      let w = subst (λ (q : Asked). AskWords q.ask) q (asks_words p has inputs inputs_words fr.callee callee history words start) in
+      let w = subst (λ (q : OpenAsk). AskWords q.ask) q (asks_words p has inputs inputs_words fr.callee callee history words start) in
       let room = inner_room p m a inner ok in
       let later = runs_words rest callee (more_words history (answer_to fr m a) words (answer_word fr m count a (omega (arith, few)) h)) (suc count) (stored_wordy p fr m count a w h) (omega (arith, few, room)) in
       ((event_word fr m a w, later.0), later.1)
@@ -235,13 +235,13 @@ module _ (p : Source) (has : HasWords p) (inputs : List ℤ) (inputs_words : Inp
       let room = has_room m ok in
       ((tt, tt), (suc count, stored_wordy p fr m count (asks.End v) tt h, omega (arith, few, room)))
   runs_words (Went {fr = fr} {start = start} {history = history} {m = m} {es = es} {es' = es'} how callee' left v left' m' q ok inner rest) callee words count h few =
-      let w = subst (λ (q : Asked). AskWords q.ask) q (asks_words p has inputs inputs_words fr.callee callee history words start) in
+      let w = subst (λ (q : OpenAsk). AskWords q.ask) q (asks_words p has inputs inputs_words fr.callee callee history words start) in
       let one = runs_words inner w tt count h (omega (arith, few)) in
       let leaves = one.1 in
       let later = runs_words rest callee (more_words history (pos 0) words zero_word) leaves.0 leaves.1 leaves.2 in
       (started_words how (suc m.frames) (es ++ es') (both_words es es' one.0 later.0), later.1)
   runs_words (Broke {fr = fr} {start = start} {history = history} {m = m} {es = es} how callee' left f q ok inner) callee words count h few =
-      let w = subst (λ (q : Asked). AskWords q.ask) q (asks_words p has inputs inputs_words fr.callee callee history words start) in
+      let w = subst (λ (q : OpenAsk). AskWords q.ask) q (asks_words p has inputs inputs_words fr.callee callee history words start) in
       let one = runs_words inner w tt count h (omega (arith, few)) in
       (started_words how (suc m.frames) es one.0, tt)
   runs_words (Refused k left f q bad) callee words count h few = (tt, tt)

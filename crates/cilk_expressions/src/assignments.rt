@@ -3,14 +3,14 @@
 ghost use Rattle.std.specs.Prelude.{◌≡◌, ◌<◌, ◌≤◌, List, ◌∷◌, IfOk, IfErr, length};
 ghost use Rattle.cilk_grammar.specs.Expected as expected;
 ghost use Rattle.cilk_grammar.specs.Expected.{Symbol, Named, Subscript, Operation, run};
-ghost use Rattle.cilk_grammar.specs.Grammar.{SpellsAssignment, SpellsAssignmentRest, SpellsOperation, SpellsPlace, SpellsPlaceRest};
+ghost use Rattle.cilk_grammar.specs.Grammar.{SpellsAssignment, SpellsAssignmentRest, SpellsOperation, SpellsLvalue, SpellsLvalueRest};
 ghost use Rattle.cilk_grammar.specs.Stops.{IsStop};
 ghost use Rattle.cilk_syntax.specs.Trees as trees;
 
 use crate::expressions::expr;
 use cilk_grammar::marks::{Punct, name, then_one};
 use cilk_grammar::stop::Stop;
-use cilk_syntax::tree::{Assignment, Name, Place};
+use cilk_syntax::tree::{Assignment, Name, Lvalue};
 use cilk_token::token::{Kind, Token};
 use cilk_types::compound::Compound;
 use std::alloc::Global;
@@ -22,9 +22,9 @@ fn place<'a>(
     name: Name,
     tokens: &'a [Token],
     depth: u32,
-) -> Result<(Place, &'a [Token]), Stop<'a>>
+) -> Result<(Lvalue, &'a [Token]), Stop<'a>>
     requires { depth ≤ 64 }
-    ensures tree { IfOk result (λ x. SpellsPlaceRest (trees.place x.0) name tokens.now x.1.now) }
+    ensures tree { IfOk result (λ x. SpellsLvalueRest (trees.place x.0) name tokens.now x.1.now) }
     ensures shorter { IfOk result (λ x. length x.1.now ≤ length tokens.now) }
     ensures reads { IfOk result (λ x. (stack : List Symbol) →
         run tokens.now (Subscript depth ∷ stack) 0 ≡ run x.1.now stack 0) }
@@ -40,16 +40,16 @@ fn place<'a>(
             after @ ..,
         ] => {
             let (index, rest) = expr(alloc, after, depth + 1)?;
-            then_one(Place::Element(name, index), rest, Punct::CloseBracket)
+            then_one(Lvalue::Element(name, index), rest, Punct::CloseBracket)
         }
-        _ => Ok((Place::Variable(name), tokens)),
+        _ => Ok((Lvalue::Variable(name), tokens)),
     }
 }
 
 /// What is done to the place, from behind it.
 fn operation<'a>(
     alloc: Global,
-    target: Place,
+    target: Lvalue,
     tokens: &'a [Token],
     depth: u32,
 ) -> Result<(Assignment, &'a [Token]), Stop<'a>>
@@ -116,9 +116,9 @@ pub fn target<'a>(
     alloc: Global,
     tokens: &'a [Token],
     depth: u32,
-) -> Result<(Place, &'a [Token]), Stop<'a>>
+) -> Result<(Lvalue, &'a [Token]), Stop<'a>>
     requires { depth ≤ 64 }
-    ensures tree { IfOk result (λ x. SpellsPlace (trees.place x.0) tokens.now x.1.now) }
+    ensures tree { IfOk result (λ x. SpellsLvalue (trees.place x.0) tokens.now x.1.now) }
     ensures shorter { IfOk result (λ x. length x.1.now < length tokens.now) }
     ensures reads { IfOk result (λ x. (stack : List Symbol) →
         run tokens.now (Named ∷ Subscript depth ∷ stack) 0 ≡ run x.1.now stack 0) }

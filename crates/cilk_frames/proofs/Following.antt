@@ -7,7 +7,7 @@ use Rattle.cilk_program.specs.Inside.{CalleeIsFit}
 use Rattle.cilk_program.specs.declared.ask.Ask.{Ask}
 use Rattle.cilk_program.specs.declared.ask.Callee.{Callee}
 use Rattle.cilk_program.specs.declared.ask.Callee.TheVariants.{Root}
-use Rattle.cilk_program.specs.Behaviour.{Behaviour, Asked, asks_for, ended, frame_asks, frame_gives}
+use Rattle.cilk_program.specs.Behaviour.{Behaviour, OpenAsk, asks_for, ended, frame_asks, frame_gives}
 use Rattle.cilk_lower.specs.declared.code.Owed.{Owed}
 use Rattle.cilk_lower.specs.declared.code.Owed.TheVariants.{Nothing, Word}
 use Rattle.cilk_lower.specs.Code.{CodeView}
@@ -21,15 +21,15 @@ use Rattle.cilk_frames.specs.Moving.{RoomFor, HasRoom, told, move_at}
 use Rattle.cilk_frames.proofs.Straight.{IsOnward, left_of, with_left, OwesAnswer, straight}
 
 -- a test that a run passed
-passed : (t : Bool) (x : MachineRun) (k : Asked) → (if t then x else Fails) ≡ Reaches k → t ≡ true
+passed : (t : Bool) (x : MachineRun) (k : OpenAsk) → (if t then x else Fails) ≡ Reaches k → t ≡ true
 passed true x k h = refl
 passed false x k h = cc
 
-passed_on : (t : Bool) (x : MachineRun) (k : Asked) → (if t then x else Fails) ≡ Reaches k → x ≡ Reaches k
+passed_on : (t : Bool) (x : MachineRun) (k : OpenAsk) → (if t then x else Fails) ≡ Reaches k → x ≡ Reaches k
 passed_on true x k h = h
 passed_on false x k h = cc
 
-room_for : (owed : Owed) (stack : List ℤ) (room : ℕ) (a : ℤ) (go : List ℤ → MachineRun) (k : Asked) → received room owed a stack go ≡ Reaches k → RoomFor owed stack room
+room_for : (owed : Owed) (stack : List ℤ) (room : ℕ) (a : ℤ) (go : List ℤ → MachineRun) (k : OpenAsk) → received room owed a stack go ≡ Reaches k → RoomFor owed stack room
 room_for Nothing stack room a go k h = tt
 room_for Word stack room a go k h = ltb-true (length stack) room (passed (nat_lt (length stack) room) (go (a ∷ stack)) k h)
 
@@ -41,7 +41,7 @@ has_room code inputs c r = let f = r.1.by (pos 0) [] 0 in room_for c.owed c.stac
 abbrev runs_at : CodeView → List ℤ → CursorView → ℕ → List ℤ → ℕ → MachineRun
 runs_at code inputs c n answers l = exec (setting_at inputs code c) n c.place c.stack c.held answers l
 
-heard : (owed : Owed) (answer : Answer) (code : CodeView) (inputs : List ℤ) (c : CursorView) (n : ℕ) (answers : List ℤ) (l : ℕ) (k : Asked) → Fits owed answer → received c.room owed (word_in answer) c.stack (λ stack. exec (setting_at inputs code c) n c.place stack c.held answers l) ≡ Reaches k → runs_at code inputs (told c answer) n answers l ≡ Reaches k
+heard : (owed : Owed) (answer : Answer) (code : CodeView) (inputs : List ℤ) (c : CursorView) (n : ℕ) (answers : List ℤ) (l : ℕ) (k : OpenAsk) → Fits owed answer → received c.room owed (word_in answer) c.stack (λ stack. exec (setting_at inputs code c) n c.place stack c.held answers l) ≡ Reaches k → runs_at code inputs (told c answer) n answers l ≡ Reaches k
 heard Nothing Done code inputs c n answers l k fits h = h
 heard Nothing (Value v) code inputs c n answers l k fits h = absurd fits
 heard Word Done code inputs c n answers l k fits h = absurd fits
@@ -63,11 +63,11 @@ loop_begins code inputs c0 answer left0 fits = record {
 }
 
 -- a run that reaches an ask begins with a move
-moves : (m : Setting) (n place : ℕ) (stack : List ℤ) (held : ℤ) (answers : List ℤ) (left : ℕ) (k : Asked) → exec m n place stack held answers left ≡ Reaches k → (n' : ℕ) × (going m.room (move m (slice_get m.code.instrs place) place stack held left) answers (exec m n') ≡ Reaches k)
+moves : (m : Setting) (n place : ℕ) (stack : List ℤ) (held : ℤ) (answers : List ℤ) (left : ℕ) (k : OpenAsk) → exec m n place stack held answers left ≡ Reaches k → (n' : ℕ) × (going m.room (move m (slice_get m.code.instrs place) place stack held left) answers (exec m n') ≡ Reaches k)
 moves m zero place stack held answers left k h = cc
 moves m (suc n) place stack held answers left k h = (n, h)
 
-not_stuck : (room : ℕ) (m : Move) (answers : List ℤ) (go : Next) (k : Asked) → going room m answers go ≡ Reaches k → m ≢ Stuck
+not_stuck : (room : ℕ) (m : Move) (answers : List ℤ) (go : Next) (k : OpenAsk) → going room m answers go ≡ Reaches k → m ≢ Stuck
 not_stuck room m answers go k h is = let e = ap (λ m. going room m answers go) is in cc
 
 same_setting : (code : CodeView) (inputs : List ℤ) (c c' : CursorView) → c'.room ≡ c.room → c'.given ≡ c.given → setting_at inputs code c' ≡ setting_at inputs code c
@@ -107,7 +107,7 @@ module _ (code : CodeView) (inputs : List ℤ) (c0 : CursorView) (answer : Answe
   owes_on x is = subst OwesAnswer is ((straight m c.place c.stack c.held (slice_get code.instrs c.place)).owes left)
 
   -- what a move asks is what the behaviour asks
-  asked : Loop code inputs c0 answer left0 c left → (x : Move) → here left ≡ x → (k : Asked) → ((go : Next) → going c.room x [] go ≡ Reaches k) → (b : Behaviour) → Follows code inputs c0 b → b (word_in answer ∷ []) left0 ≡ k
+  asked : Loop code inputs c0 answer left0 c left → (x : Move) → here left ≡ x → (k : OpenAsk) → ((go : Next) → going c.room x [] go ≡ Reaches k) → (b : Behaviour) → Follows code inputs c0 b → b (word_in answer ∷ []) left0 ≡ k
   asked loop x is k reaches b f =
       let h = loop.on b f [] left in
       let n = moves m h.0 c.place c.stack c.held [] left _ h.1 in

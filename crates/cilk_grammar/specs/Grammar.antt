@@ -169,19 +169,19 @@ SpellsSource trees.Absent ts rest = ⊥
 SpellsSource (LocalInitializer.Value e) ts rest = SpellsExpr e ts rest
 SpellsSource (LocalInitializer.Invoke how c) ts rest = SpellsInvoked how c ts rest
 
-abbrev pub SpellsPlace : trees.Place → List Token → List Token → Type 0
-SpellsPlace (trees.Place.Variable name) ts rest = IsName name ts rest
-SpellsPlace (trees.Place.Element name e) ts rest =
+abbrev pub SpellsLvalue : trees.Lvalue → List Token → List Token → Type 0
+SpellsLvalue (trees.Lvalue.Variable name) ts rest = IsName name ts rest
+SpellsLvalue (trees.Lvalue.Element name e) ts rest =
     (ts1 ts2 ts3 : List Token) × IsName name ts ts1 × Is kinds.OpenBracket ts1 ts2 × SpellsExpr e ts2 ts3 × Is kinds.CloseBracket ts3 rest
 
 -- a place with this mark in front of it or behind it
-abbrev pub SpellsStepped : Kind → trees.Place → List Token → List Token → Type 0
+abbrev pub SpellsStepped : Kind → trees.Lvalue → List Token → List Token → Type 0
 SpellsStepped kind p ts rest =
-    ((ts1 : List Token) × Is kind ts ts1 × SpellsPlace p ts1 rest) ⊎ ((ts1 : List Token) × SpellsPlace p ts ts1 × Is kind ts1 rest)
+    ((ts1 : List Token) × Is kind ts ts1 × SpellsLvalue p ts1 rest) ⊎ ((ts1 : List Token) × SpellsLvalue p ts ts1 × Is kind ts1 rest)
 
 -- a place, this mark, and an expression
-abbrev pub SpellsTaken : Kind → trees.Place → Expression → List Token → List Token → Type 0
-SpellsTaken kind p e ts rest = (ts1 ts2 : List Token) × SpellsPlace p ts ts1 × Is kind ts1 ts2 × SpellsExpr e ts2 rest
+abbrev pub SpellsTaken : Kind → trees.Lvalue → Expression → List Token → List Token → Type 0
+SpellsTaken kind p e ts rest = (ts1 ts2 : List Token) × SpellsLvalue p ts ts1 × Is kind ts1 ts2 × SpellsExpr e ts2 rest
 
 abbrev pub SpellsAssignment : Assignment → List Token → List Token → Type 0
 SpellsAssignment (Assignment.Set p e) ts rest = SpellsTaken kinds.Assign p e ts rest
@@ -190,16 +190,16 @@ SpellsAssignment (trees.Increment p) ts rest = SpellsStepped kinds.Increment p t
 SpellsAssignment (trees.Decrement p) ts rest = SpellsStepped kinds.Decrement p ts rest
 
 -- behind a name, the rest of a place
-abbrev pub SpellsPlaceRest : trees.Place → Name → List Token → List Token → Type 0
-SpellsPlaceRest p name ts rest = (ts0 : List Token) → IsName name ts0 ts → SpellsPlace p ts0 rest
+abbrev pub SpellsLvalueRest : trees.Lvalue → Name → List Token → List Token → Type 0
+SpellsLvalueRest p name ts rest = (ts0 : List Token) → IsName name ts0 ts → SpellsLvalue p ts0 rest
 
 -- behind a name, the rest of an assignment to a place that begins with it
 abbrev pub SpellsAssignmentRest : Assignment → Name → List Token → List Token → Type 0
 SpellsAssignmentRest a name ts rest = (ts0 : List Token) → IsName name ts0 ts → SpellsAssignment a ts0 rest
 
 -- behind a place, the rest of an assignment to it
-abbrev pub SpellsOperation : Assignment → trees.Place → List Token → List Token → Type 0
-SpellsOperation a p ts rest = (ts0 : List Token) → SpellsPlace p ts0 ts → SpellsAssignment a ts0 rest
+abbrev pub SpellsOperation : Assignment → trees.Lvalue → List Token → List Token → Type 0
+SpellsOperation a p ts rest = (ts0 : List Token) → SpellsLvalue p ts0 ts → SpellsAssignment a ts0 rest
 
 -- what stands behind a local variable's name
 abbrev pub SpellsLocalInitializer : LocalInitializer → List Token → List Token → Type 0

@@ -86,9 +86,9 @@ excess_invoked invocations.Call c d more = flag (is_deep d) (excess_called c.arg
 excess_invoked invocations.Spawn c d more = flag (is_deep d) (flag false (excess_called c.arguments d more))
 
 -- what is written to, where b tells of its first token
-abbrev pub excess_place : trees.Place → Bool → ℕ → Flags → Flags
-excess_place (trees.Place.Variable name) b d more = flag b more
-excess_place (trees.Place.Element name e) b d more = flag b (excess_inside e (d + 1) more)
+abbrev pub excess_place : trees.Lvalue → Bool → ℕ → Flags → Flags
+excess_place (trees.Lvalue.Variable name) b d more = flag b more
+excess_place (trees.Lvalue.Element name e) b d more = flag b (excess_inside e (d + 1) more)
 
 abbrev pub is_step : Kind → Bool
 is_step kinds.Increment = true
@@ -96,7 +96,7 @@ is_step kinds.Decrement = true
 is_step _ = false
 
 -- a place with `++` or `--` in front of it or behind it
-abbrev pub excess_stepped : trees.Place → Bool → ℕ → Flags → Flags
+abbrev pub excess_stepped : trees.Lvalue → Bool → ℕ → Flags → Flags
 excess_stepped p b d more = where_next is_step (flag b (excess_place p false d more)) (excess_place p b d (flag false more))
 
 abbrev pub excess_assignment : Assignment → Bool → ℕ → Flags → Flags

@@ -6,7 +6,7 @@ use Rattle.cilk_program.specs.declared.ask.Ask.TheVariants as asks
 use Rattle.cilk_program.specs.declared.ask.Callee.{Callee}
 use Rattle.cilk_types.specs.declared.invocation.Invocation.{Invocation}
 use Rattle.cilk_program.specs.Syntax.{Expression}
-use Rattle.cilk_program.specs.Behaviour.{Asked, Got, Gives, Asks, ◌>>=◌, ask, or_fault, value, Flow, unless_returned, invokes, finishes, gives_result, ended}
+use Rattle.cilk_program.specs.Behaviour.{OpenAsk, Got, Gives, Asks, ◌>>=◌, ask, or_fault, value, Flow, unless_returned, invokes, finishes, gives_result, ended}
 use Rattle.cilk_lower.specs.declared.code.Instr.{Instr}
 use Rattle.cilk_lower.specs.declared.code.Instr.TheVariants as instrs
 use Rattle.cilk_lower.specs.declared.code.Owed.TheVariants.{Nothing}
@@ -80,7 +80,7 @@ module _ (m : Setting) where
       (value_acts m pc p1 (p1 + 1) [] [] answers left (value m.inputs e answers left) h (expr_does m e pc [] answers left room (has_front m.code.instrs pc ce (i ∷ []) has)) (λ v a l. r p1 v a l at))
 
   -- What a frame ends with. It holds its result by then, so these runs begin with a result of their own.
-  abbrev ComesHolding : ℕ → ℤ → List ℤ → ℕ → Asked → Type 0
+  abbrev ComesHolding : ℕ → ℤ → List ℤ → ℕ → OpenAsk → Type 0
   ComesHolding pc held answers left k = (j : ℕ) × (exec m j pc [] held answers left ≡ Reaches k)
 
   step_on : (pc : ℕ) (held : ℤ) (answers : List ℤ) (left : ℕ) (i : Instr) → Stands m pc i → (k : ℕ) → exec m (suc k) pc [] held answers left ≡ going m.room (move m (Some i) pc [] held left) answers (exec m k)

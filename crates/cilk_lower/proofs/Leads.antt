@@ -5,7 +5,7 @@ use Rattle.std.proofs.lemmas.Bool.{lt-ltb}
 use Rattle.cilk_types.specs.declared.fault.Fault.{Fault}
 use Rattle.cilk_program.specs.declared.ask.Ask.{Ask}
 use Rattle.cilk_program.specs.Operators.{is_zero}
-use Rattle.cilk_program.specs.Behaviour.{Asked, asks_for, Got, Gives, Asks, ◌>>=◌, tick, ask, tick_gives, or_fault, Flow, ended, finishes}
+use Rattle.cilk_program.specs.Behaviour.{OpenAsk, asks_for, Got, Gives, Asks, ◌>>=◌, tick, ask, tick_gives, or_fault, Flow, ended, finishes}
 use Rattle.cilk_lower.specs.declared.code.Instr.{Instr}
 use Rattle.cilk_lower.specs.declared.code.Instr.TheVariants as instrs
 use Rattle.cilk_lower.specs.declared.code.Owed.{Owed}
@@ -26,7 +26,7 @@ pub record Leads (m : Setting) (pc : ℕ) (stack answers : List ℤ) (left : ℕ
   pub by : (k : ℕ) → (j : ℕ) × (k ≤ j) × (runs m j pc stack answers left ≡ runs m k pc' stack' answers' left')
 
 -- the machine comes to an ask that has no answer yet
-abbrev pub Comes : Setting → ℕ → List ℤ → List ℤ → ℕ → Asked → Type 0
+abbrev pub Comes : Setting → ℕ → List ℤ → List ℤ → ℕ → OpenAsk → Type 0
 Comes m pc stack answers left k = (j : ℕ) × (runs m j pc stack answers left ≡ Reaches k)
 
 -- what a stretch of code does, from a stack to another one with a value on it: the value, or the same ask
@@ -72,7 +72,7 @@ module _ (m : Setting) where
   pub leads_on : (pc pc1 pc2 : ℕ) (s s1 s2 a a1 a2 : List ℤ) (l l1 l2 : ℕ) → Leads m pc s a l pc1 s1 a1 l1 → Leads m pc1 s1 a1 l1 pc2 s2 a2 l2 → Leads m pc s a l pc2 s2 a2 l2
   leads_on pc pc1 pc2 s s1 s2 a a1 a2 l l1 l2 f r = record { by = λ k. let b = r.by k in let c = f.by b.0 in (c.0, omega (arith, c.1, b.1), c.2 ∙ b.2) }
 
-  pub comes_on : (pc pc1 : ℕ) (s s1 a a1 : List ℤ) (l l1 : ℕ) (k : Asked) → Leads m pc s a l pc1 s1 a1 l1 → Comes m pc1 s1 a1 l1 k → Comes m pc s a l k
+  pub comes_on : (pc pc1 : ℕ) (s s1 a a1 : List ℤ) (l l1 : ℕ) (k : OpenAsk) → Leads m pc s a l pc1 s1 a1 l1 → Comes m pc1 s1 a1 l1 k → Comes m pc s a l k
   comes_on pc pc1 s s1 a a1 l l1 k f r = let c = f.by r.0 in (c.0, c.2 ∙ r.1)
 
   pub then_does : (pc pc1 pc' : ℕ) (stack s s1 a a1 : List ℤ) (l l1 : ℕ) (g : Got ℤ) → Leads m pc s a l pc1 s1 a1 l1 → Does m pc1 s1 stack a1 l1 pc' g → Does m pc s stack a l pc' g

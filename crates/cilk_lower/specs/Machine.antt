@@ -13,7 +13,7 @@ use Rattle.cilk_program.specs.declared.ask.Callee.TheVariants as callees
 use Rattle.cilk_program.specs.declared.ask.LoopPart.{LoopPart}
 use Rattle.cilk_types.specs.declared.invocation.Invocation.TheVariants.{Call, Spawn}
 use Rattle.cilk_program.specs.declared.syntax.Place.TheVariants as places
-use Rattle.cilk_program.specs.Behaviour.{Asked, asks_for, middle, part}
+use Rattle.cilk_program.specs.Behaviour.{OpenAsk, asks_for, middle, part}
 use Rattle.cilk_program.specs.Operators.{is_zero, truth, truth_of, apply, change}
 use Rattle.cilk_program.specs.Syntax.{element}
 use Rattle.cilk_lower.specs.declared.code.Instr.{Instr}
@@ -160,7 +160,7 @@ module _ (m : Setting) where
 
 -- what a run of the machine comes to: an ask without an answer, no more steps allowed, or stuck
 pub data MachineRun : Type 0 where
-  Reaches : (asked : Asked) → MachineRun
+  Reaches : (asked : OpenAsk) → MachineRun
   Unfinished : MachineRun
   Fails : MachineRun
 

@@ -4,12 +4,12 @@ ghost use Rattle.std.specs.Prelude.{◌≡◌, ℕ, ℤ, List, Option};
 ghost use Rattle.cilk_lower.specs.Machine.{exec, move, Reaches, Setting};
 ghost use Rattle.cilk_lower.specs.Strands.{IsClear};
 ghost use Rattle.cilk_lower.specs.declared.code.Instr.{Instr};
-ghost use Rattle.cilk_program.specs.Behaviour.{Asked};
+ghost use Rattle.cilk_program.specs.Behaviour.{OpenAsk};
 
 /// The machine comes to one ask, however many instructions it is allowed: so code behaves as at most one behaviour.
 #[tactic(auto, using(crate::proofs::Once::one_ask))]
 pub fn machine_asks_once()
-    ensures { (m : Setting) (n k place : ℕ) (stack : List ℤ) (held : ℤ) (answers : List ℤ) (left : ℕ) (a b : Asked) →
+    ensures { (m : Setting) (n k place : ℕ) (stack : List ℤ) (held : ℤ) (answers : List ℤ) (left : ℕ) (a b : OpenAsk) →
         exec m n place stack held answers left ≡ Reaches a →
         exec m k place stack held answers left ≡ Reaches b →
         a ≡ b }

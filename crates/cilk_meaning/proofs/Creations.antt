@@ -16,7 +16,7 @@ use Rattle.cilk_program.specs.declared.syntax.Reducer.{Reducer}
 use Rattle.cilk_program.specs.declared.syntax.ReducerPlace.{ReducerPlace}
 use Rattle.cilk_program.specs.declared.syntax.ReducerPlace.TheVariants as reducers
 use Rattle.cilk_program.specs.Syntax.{Source, function_at, main_of}
-use Rattle.cilk_program.specs.Behaviour.{Asked}
+use Rattle.cilk_program.specs.Behaviour.{OpenAsk}
 use Rattle.cilk_program.specs.Outcomes.{Conclusion}
 use Rattle.cilk_program.specs.WellNamed.{is_well_named}
 use Rattle.cilk_program.specs.Inside.{body_of, CalleeIsThere, AskIsThere}
@@ -383,14 +383,14 @@ serial_leaves : {p : Source} {inputs : List ℤ} {fr : Frame} {start : ℕ} {his
     → IsTrue (is_well_named p) → (top : ℕ) → (counts_after p r (counts_of m)).cells ≤ top → (s : Stage) → IsSound s → IsOrderly p s r → (made : List Instance) → Here p fr (counts_of m) made (due_of s)
     → Leaves p top made es (counts_after p r (counts_of m))
 serial_leaves {p = p} {inputs = inputs} (Made {fr = fr} {start = start} {history = history} {m = m} {r = r} {es = es} k left q inner ok rest) well top low s sound orderly made h =
-    let there = subst (λ (q : Asked). AskIsThere p fr.callee q.ask) q (asks_there p well fr.callee h.stands.sees.fit inputs history start) in
+    let there = subst (λ (q : OpenAsk). AskIsThere p fr.callee q.ask) q (asks_there p well fr.callee h.stands.sees.fit inputs history start) in
     let step = steps p fr m made (λ s'. IsOrderly p s' r) s k sound inner there (view s k (λ s'. IsOrderly p s' r) orderly.0) h in
     let grows = cells_grow p r (counts_of m) in
     act_leaves p top made (event_of fr m k) es (counts_after p r (counts_of m)) step.is_created (cell_higher m.cells top (event_of fr m k) (omega (arith, grows, low)) step.is_below)
     (serial_leaves rest well top low step.to step.sound step.goes (made_by (deed_of (event_of fr m k)) made) step.here)
 serial_leaves {p = p} (Ended {fr = fr} {m = m} v left q ok) well top low s sound orderly made h = record { are_created = (tt, tt); are_below = (tt, tt); bounded = h.bounded }
 serial_leaves {p = p} {inputs = inputs} (Went {fr = fr} {start = start} {history = history} {m = m} {u = u} {r = r} {es = es} {es' = es'} how callee left v left' m' q ok inner rest) well top low s sound orderly made h =
-    let there = subst (λ (q : Asked). AskIsThere p fr.callee q.ask) q (asks_there p well fr.callee h.stands.sees.fit inputs history start) in
+    let there = subst (λ (q : OpenAsk). AskIsThere p fr.callee q.ask) q (asks_there p well fr.callee h.stands.sees.fit inputs history start) in
     let next = child_next p r s how callee sound (view s (asks.Invoke how callee) (λ s'. IsOrderly p s' r) orderly.1) in
     let here = subst (λ due. Here p fr (counts_of m) made due) next.0 h in
     let n = entered p callee (counts_of m) in
@@ -405,7 +405,7 @@ serial_leaves {p = p} {inputs = inputs} (Went {fr = fr} {start = start} {history
     (subst (λ n. Leaves p top (created es made) es' (counts_after p r n)) after
     (serial_leaves rest well top (subst (λ n. (counts_after p r n).cells ≤ top) (sym after) low) (Resuming next.1.0) tt next.1.1 (created es made) (subst (λ n. Here p fr n (created es made) []) (sym after) past)))
 serial_leaves {p = p} {inputs = inputs} (Broke {fr = fr} {start = start} {history = history} {m = m} {u = u} {es = es} how callee left f q ok inner) well top low s sound orderly made h =
-    let there = subst (λ (q : Asked). AskIsThere p fr.callee q.ask) q (asks_there p well fr.callee h.stands.sees.fit inputs history start) in
+    let there = subst (λ (q : OpenAsk). AskIsThere p fr.callee q.ask) q (asks_there p well fr.callee h.stands.sees.fit inputs history start) in
     let next = child_next p stop s how callee sound (view s (asks.Invoke how callee) (λ s'. IsOrderly p s' stop) orderly.1) in
     let here = subst (λ due. Here p fr (counts_of m) made due) next.0 h in
     broken_leaves p top made how (suc m.frames) es (counts_after p u (entered p callee (counts_of m)))

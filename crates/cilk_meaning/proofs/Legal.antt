@@ -17,12 +17,12 @@ use Rattle.cilk_program.specs.declared.syntax.ReducerPlace.{ReducerPlace}
 use Rattle.cilk_program.specs.declared.syntax.ReducerPlace.TheVariants as reducers
 use Rattle.cilk_program.specs.Operators.{is_zero, truth, truth_of, apply, change}
 use Rattle.cilk_program.specs.Syntax.{Expression, Number, Variable, Element, Negate, Not, Binary, And, Or, Value, Input, InputCount, Target, ToVariable, ToElement, Invoke, Declaration, Zero, Opening, Invoking, Statement, Empty, Block, Declare, Assign, Change, Step, Invokes, Sync, If, IfElse, For, ParallelFor, Print, Update, Set, Return, Statements, Nothing, Then, Function, Source, function_at, main_of, loop_at, element, place_of}
-use Rattle.cilk_program.specs.Behaviour.{Asked, asks_for, Got, Gives, Asks, ◌>>=◌, tick, ask, tick_gives, or_fault, chosen, value, values, index_of, Flow, unless_returned, invokes, invokes_function, declares, all_declare, condition, turns, parallel_turns, return_value, does, all_do, returned, gives_result, finishes, writes_words, creates, function_gives, middle, part, frame_gives, ended, frame_asks}
+use Rattle.cilk_program.specs.Behaviour.{OpenAsk, asks_for, Got, Gives, Asks, ◌>>=◌, tick, ask, tick_gives, or_fault, chosen, value, values, index_of, Flow, unless_returned, invokes, invokes_function, declares, all_declare, condition, turns, parallel_turns, return_value, does, all_do, returned, gives_result, finishes, writes_words, creates, function_gives, middle, part, frame_gives, ended, frame_asks}
 use Rattle.cilk_meaning.specs.Order.{writings, creations, opening_asks, Stage, Fresh, Due, Going, Resuming, Synced, Closing, opened, goes_on, closes, follows}
 
 -- what is left of a frame: what it asks for after these answers, with so many ticks from its beginning on
 abbrev pub Rest : Type 0
-Rest = List ℤ → ℕ → Asked
+Rest = List ℤ → ℕ → OpenAsk
 
 -- what is left after one more answer
 abbrev pub after : ℤ → Rest → Rest
@@ -101,7 +101,7 @@ in_turn (Gives v a l) f g = refl
 in_turn (Asks k) f g = refl
 
 -- what it comes to, or a fault
-abbrev IsFault : Asked → Type 0
+abbrev IsFault : OpenAsk → Type 0
 IsFault q = (f : Fault) × (q.ask ≡ asks.Fault f)
 
 abbrev Faults : {A : Type 0} → Got A → Type 0
@@ -213,7 +213,7 @@ module _ (top : ℕ) where
       ⊎_elim (λ below. inr (h.short [] start low below))
       (λ above. let e : start ≡ took + (start - took) = omega (arith, above) in ⊎_elim (λ q. inl (start - took, q)) inr (h.on [] start (start - took) low e)) (cases_lt start took)
 
-  at_fault : (q : Asked) (P : Ask → Type 0) → IsFault q → unless_fault q.ask (P q.ask)
+  at_fault : (q : OpenAsk) (P : Ask → Type 0) → IsFault q → unless_fault q.ask (P q.ask)
   at_fault q P (f, e) = subst (λ k. unless_fault k (P k)) (sym e) tt
 
   -- a fault comes, whatever the ticks
@@ -227,7 +227,7 @@ module _ (top : ℕ) where
   asks_next : (c : Rest) (took : ℕ) (k : Ask) (f : ℤ → List ℤ → ℕ → Got ℤ) (s : Stage) → Stands c took (λ a l. ask k a l >>= f) → ((n : ℕ) → follows s k (λ s'. (a : ℤ) → IsLegal s' (after a c) n)) → Fine s c
   asks_next c took k f s h next zero = tt
   asks_next c took k f s h next (suc n) = λ start low.
-      ⊎_elim (λ there. subst (λ (q : Asked). unless_fault q.ask (follows s q.ask (λ s'. (a : ℤ) → IsLegal s' (after a c) n))) (sym there.1) (may_fault k (follows s k (λ s'. (a : ℤ) → IsLegal s' (after a c) n)) (next n)))
+      ⊎_elim (λ there. subst (λ (q : OpenAsk). unless_fault q.ask (follows s q.ask (λ s'. (a : ℤ) → IsLegal s' (after a c) n))) (sym there.1) (may_fault k (follows s k (λ s'. (a : ℤ) → IsLegal s' (after a c) n)) (next n)))
       (λ bad. at_fault (c [] start) (λ k. follows s k (λ s'. (a : ℤ) → IsLegal s' (after a c) n)) bad) (now c took (λ a l. ask k a l >>= f) h start low)
 
   synced : (c : Rest) (n : ℕ) → IsLegal (Going false) c n → IsLegal Synced c n
@@ -423,13 +423,13 @@ module _ (top : ℕ) where
   ends_synced : (v : ℤ) (c : Rest) (took : ℕ) → Stands c took (Gives v) → Fine Synced c
   ends_synced v c took h zero = tt
   ends_synced v c took h (suc n) = λ start low.
-      ⊎_elim (λ there. subst (λ (q : Asked). unless_fault q.ask (follows Synced q.ask (λ s'. (a : ℤ) → IsLegal s' (after a c) n))) (sym there.1) tt)
+      ⊎_elim (λ there. subst (λ (q : OpenAsk). unless_fault q.ask (follows Synced q.ask (λ s'. (a : ℤ) → IsLegal s' (after a c) n))) (sym there.1) tt)
       (λ bad. at_fault (c [] start) (λ k. follows Synced k (λ s'. (a : ℤ) → IsLegal s' (after a c) n)) bad) (now c took (Gives v) h start low)
 
   ends_closing : (v : ℤ) (c : Rest) (took : ℕ) → Stands c took (Gives v) → Fine Closing c
   ends_closing v c took h zero = tt
   ends_closing v c took h (suc n) = λ start low.
-      ⊎_elim (λ there. subst (λ (q : Asked). unless_fault q.ask (follows Closing q.ask (λ s'. (a : ℤ) → IsLegal s' (after a c) n))) (sym there.1) (v, refl))
+      ⊎_elim (λ there. subst (λ (q : OpenAsk). unless_fault q.ask (follows Closing q.ask (λ s'. (a : ℤ) → IsLegal s' (after a c) n))) (sym there.1) (v, refl))
       (λ bad. at_fault (c [] start) (λ k. follows Closing k (λ s'. (a : ℤ) → IsLegal s' (after a c) n)) bad) (now c took (Gives v) h start low)
 
   gives_fine : (gives : Bool) (v : ℤ) (c : Rest) (took : ℕ) → Stands c took (gives_result gives v) → Fine Synced c

@@ -28,6 +28,7 @@ pub mod Repeating
 pub mod Roots
 pub mod Rows
 pub mod Sights
+pub mod Smallness
 pub mod Sounds
 pub mod Spending
 pub mod Statements

@@ -7,7 +7,7 @@ use Rattle.cilk_program.specs.declared.ask.Callee.{Callee}
 use Rattle.cilk_program.specs.declared.ask.Callee.TheVariants as callees
 use Rattle.cilk_types.specs.declared.invocation.Invocation.TheVariants.{Call, Spawn}
 use Rattle.cilk_program.specs.Syntax.{Source}
-use Rattle.cilk_program.specs.Behaviour.{Asked, asks_for, frame_asks}
+use Rattle.cilk_program.specs.Behaviour.{OpenAsk, asks_for, frame_asks}
 use Rattle.cilk_program.specs.Outcomes.{Conclusion}
 use Rattle.cilk_program.specs.SerialRun.{Transcript, stop, act, child, Memory, Frame, answer_to, IsInner, Ending, Serial, Made, Ended, Went, Broke, Refused, IsSerialRun}
 use Rattle.cilk_meaning.specs.Order.{opening_asks, Stage, Fresh, Due, Going, Resuming, Synced, Closing, goes_on, closes, follows, IsOwnAt, IsOrderly}
@@ -110,7 +110,7 @@ rest_after : (p : Source) (inputs : List ℤ) (callee : Callee) (history : List 
 rest_after p inputs callee history c a h = λ answers start. ap (λ l. frame_asks p inputs callee l start) (append_assoc history (a ∷ []) answers) ∙ h (a ∷ answers) start
 
 now_asks : (p : Source) (inputs : List ℤ) (callee : Callee) (history : List ℤ) (c : Rest) (start left : ℕ) (k : Ask) → IsRest p inputs callee history c → frame_asks p inputs callee history start ≡ asks_for k left → (c [] start).ask ≡ k
-now_asks p inputs callee history c start left k h q = ap (λ (q : Asked). q.ask) (sym (h [] start) ∙ ap (λ l. frame_asks p inputs callee l start) (append-nil history) ∙ q)
+now_asks p inputs callee history c start left k h q = ap (λ (q : OpenAsk). q.ask) (sym (h [] start) ∙ ap (λ l. frame_asks p inputs callee l start) (append-nil history) ∙ q)
 
 pub serial_orderly : {p : Source} {inputs : List ℤ} {fr : Frame} {start : ℕ} {history : List ℤ} {m : Memory} {r : Transcript} {es : List Event} {end : Ending} → (d : Serial p inputs fr start history m r es end)
     → (top : ℕ) → most d ≤ top → (s : Stage) (c : Rest) → IsRest p inputs fr.callee history c → IsLegal top s c (long r) → IsOrderly p s r

@@ -13,7 +13,7 @@ use Rattle.cilk_program.specs.declared.ask.Callee.TheVariants as callees
 use Rattle.cilk_types.specs.declared.invocation.Invocation.{Invocation}
 use Rattle.cilk_types.specs.declared.invocation.Invocation.TheVariants.{Call, Spawn}
 use Rattle.cilk_program.specs.Syntax.{Source}
-use Rattle.cilk_program.specs.Behaviour.{Asked}
+use Rattle.cilk_program.specs.Behaviour.{OpenAsk}
 use Rattle.cilk_program.specs.Outcomes.{Conclusion, Leaves, StopsBy, cells_from}
 use Rattle.cilk_program.specs.WellNamed.{is_well_named}
 use Rattle.cilk_program.specs.Inside.{body_of, CalleeIsFit, CalleeIsThere, AskIsThere, IsTaken}
@@ -125,20 +125,20 @@ child_kept p fr m (callees.Loop l) taken = absurd taken
 pub serial_right : {p : Source} {inputs : List ℤ} {fr : Frame} {start : ℕ} {history : List ℤ} {m : Memory} {r : Transcript} {es : List Event} {end : Ending} → Serial p inputs fr start history m r es end
     → IsTrue (is_well_named p) → CalleeIsFit p fr.callee → IsKept fr → AreRight m.store.cells es × DoAll m.store.cells m.store.output es end
 serial_right {p = p} {inputs = inputs} (Made {fr = fr} {start = start} {history = history} {m = m} {es = es} {end = end} k left q inner ok rest) well fit kept =
-    let there = subst (λ (q : Asked). AskIsThere p fr.callee q.ask) q (asks_there p well fr.callee fit inputs history start) in
+    let there = subst (λ (q : OpenAsk). AskIsThere p fr.callee q.ask) q (asks_there p well fr.callee fit inputs history start) in
     let one = event_does p fr m k inner there kept in
     let more = serial_right rest well fit kept in
     ((one.right, subst (λ cells. AreRight cells es) one.written_is more.0), act_all m.store.cells (stored p fr m k).cells m.store.output (stored p fr m k).output (event_of fr m k) es end one more.1)
 serial_right {p = p} (Ended {fr = fr} {m = m} v left q ok) well fit kept = ((tt, tt), (cleared_cells (own_from p fr) 0 (own_reducers p fr.callee) m.store, cleared_output (own_from p fr) 0 (own_reducers p fr.callee) m.store ∙ sym (append-nil m.store.output)))
 serial_right {p = p} {inputs = inputs} (Went {fr = fr} {start = start} {history = history} {m = m} {es = es} {es' = es'} {end = end} how callee left v left' m' q ok inner rest) well fit kept =
-    let there = subst (λ (q : Asked). AskIsThere p fr.callee q.ask) q (asks_there p well fr.callee fit inputs history start) in
+    let there = subst (λ (q : OpenAsk). AskIsThere p fr.callee q.ask) q (asks_there p well fr.callee fit inputs history start) in
     let one = serial_right inner well (child_fit p (body_of p fr.callee) callee there) (child_kept p fr (counted m) callee) in
     let more = serial_right rest well fit kept in (
       starts_right how (suc m.frames) (es ++ es') m.store.cells (right_both es es' m.store.cells one.0 (subst (λ cells. AreRight cells es') one.1.0 more.0)),
       child_all m.store.cells m'.store.cells m.store.output m'.store.output how (suc m.frames) es es' end one.1.0 one.1.1 more.1,
     )
 serial_right {p = p} {inputs = inputs} (Broke {fr = fr} {start = start} {history = history} {m = m} {es = es} how callee left f q ok inner) well fit kept =
-    let there = subst (λ (q : Asked). AskIsThere p fr.callee q.ask) q (asks_there p well fr.callee fit inputs history start) in
+    let there = subst (λ (q : OpenAsk). AskIsThere p fr.callee q.ask) q (asks_there p well fr.callee fit inputs history start) in
     let one = serial_right inner well (child_fit p (body_of p fr.callee) callee there) (child_kept p fr (counted m) callee) in
     (starts_right how (suc m.frames) es m.store.cells one.0, tt)
 serial_right (Refused k left f q bad) well fit kept = (tt, tt)

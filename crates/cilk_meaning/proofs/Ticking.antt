@@ -10,7 +10,7 @@ use Rattle.cilk_program.specs.declared.ask.Ask.{Ask}
 use Rattle.cilk_program.specs.declared.ask.Ask.TheVariants as asks
 use Rattle.cilk_program.specs.declared.ask.Callee.{Callee}
 use Rattle.cilk_program.specs.Syntax.{Source}
-use Rattle.cilk_program.specs.Behaviour.{Asked, asks_for, Got, Gives, Asks, frame_gives, ended, frame_asks}
+use Rattle.cilk_program.specs.Behaviour.{OpenAsk, asks_for, Got, Gives, Asks, frame_gives, ended, frame_asks}
 use Rattle.cilk_meaning.specs.Ticks.{IsWithin, TicksRunShort}
 use Rattle.cilk_meaning.proofs.Parts.{is_out, More, Low, Further, Fewer, Short, frame_steady}
 
@@ -76,9 +76,9 @@ module _ (p : Source) (inputs : List ℤ) (callee : Callee) where
       → (frame_asks p inputs callee history full ≡ asks_for k (left + (full - start))) × (left ≤ start)
   at_full full history start left k q out low =
       let same : start + (full - start) ≡ full = omega (arith, low) in
-      let asked = frame_more (full - start) history start (subst (λ (q : Asked). is_out q.ask ≡ false) (sym q) out) in (
-        subst (λ n. frame_asks p inputs callee history n ≡ asks_for k (left + (full - start))) same (asked ∙ ap (λ (q : Asked). asks_for q.ask (q.left + (full - start))) q),
-        subst (λ (q : Asked). q.left ≤ start) q (frame_low history start),
+      let asked = frame_more (full - start) history start (subst (λ (q : OpenAsk). is_out q.ask ≡ false) (sym q) out) in (
+        subst (λ n. frame_asks p inputs callee history n ≡ asks_for k (left + (full - start))) same (asked ∙ ap (λ (q : OpenAsk). asks_for q.ask (q.left + (full - start))) q),
+        subst (λ (q : OpenAsk). q.left ≤ start) q (frame_low history start),
       )
 
   frame_short : (d : ℕ) (history : List ℤ) (start : ℕ) → is_out (frame_asks p inputs callee history start).ask ≡ true → is_out (frame_asks p inputs callee history (start + d)).ask ≡ false
@@ -89,7 +89,7 @@ module _ (p : Source) (inputs : List ℤ) (callee : Callee) where
 
   short_left : (start d left : ℕ) (history : List ℤ) (k : Ask) → is_out (frame_asks p inputs callee history start).ask ≡ true → frame_asks p inputs callee history (start + d) ≡ asks_for k left → is_out k ≡ false → left < d
   short_left start d left history k out q within =
-      subst (λ (q : Asked). q.left < d) q (frame_short d history start out (subst (λ (q : Asked). is_out q.ask ≡ false) (sym q) within))
+      subst (λ (q : OpenAsk). q.left < d) q (frame_short d history start out (subst (λ (q : OpenAsk). is_out q.ask ≡ false) (sym q) within))
 
   -- with as many ticks as the other ask leaves, or fewer, taken away
   same_before : (start spare left : ℕ) (history : List ℤ) (k : Ask) → frame_asks p inputs callee history (start + spare) ≡ asks_for k (left + spare) → is_out k ≡ false → frame_asks p inputs callee history start ≡ asks_for k left
@@ -98,8 +98,8 @@ module _ (p : Source) (inputs : List ℤ) (callee : Callee) where
       ⊎_elim
       (λ out. absurd (let bad : left + spare < spare = short_left start spare (left + spare) history k out q within in omega (arith, bad)))
       (λ inside. let e : asks_for k (left + spare) ≡ asks_for now.ask (now.left + spare) = sym q ∙ frame_more spare history start inside in
-      let same : k ≡ now.ask = ap (λ (q : Asked). q.ask) e in
-      let much : left + spare ≡ now.left + spare = ap (λ (q : Asked). q.left) e in
+      let same : k ≡ now.ask = ap (λ (q : OpenAsk). q.ask) e in
+      let much : left + spare ≡ now.left + spare = ap (λ (q : OpenAsk). q.left) e in
       let few : left ≡ now.left = omega (arith, much) in
       λ i. asks_for (sym same i) (sym few i))
       (cases_Bool (is_out now.ask))

@@ -10,7 +10,7 @@ use Rattle.cilk_program.specs.declared.ask.Callee.TheVariants as callees
 use Rattle.cilk_types.specs.declared.invocation.Invocation.{Invocation}
 use Rattle.cilk_program.specs.Syntax.{Source}
 use Rattle.cilk_program.specs.Outcomes.{Conclusion}
-use Rattle.cilk_program.specs.Behaviour.{Asked, asks_for, frame_asks}
+use Rattle.cilk_program.specs.Behaviour.{OpenAsk, asks_for, frame_asks}
 use Rattle.cilk_program.specs.SerialRun.{Transcript, stop, act, child, Memory, Frame, answer_to, stored, event_of, invocation, refused, IsInner, next_frame, begun, counted, with_store, Ending, Finished, Stopped, Serial, Made, Ended, Went, Broke, Refused, before_root, root_frame, conclusion_of, IsSerialRunWithin}
 use Rattle.cilk_meaning.specs.Runs.{HasSerialRun, HasOneSerialRun}
 use Rattle.cilk_meaning.proofs.Computed.{Ran, Going, broken, made, joined, settled, ran, ran_within}
@@ -71,7 +71,7 @@ module _ (p : Source) where
       → frame_asks p inputs fr.callee history start ≡ asks_for k left → refused p m k ≡ o
       → Is r es end (settled p o k left fr start history m (ran p inputs n)) → Is r es end (ran p inputs (suc n) fr start history m)
   at_ask inputs n fr start history m k left o r es end q known h =
-      subst (λ (q : Asked). Is r es end (settled p (refused p m q.ask) q.ask q.left fr start history m (ran p inputs n))) (sym q)
+      subst (λ (q : OpenAsk). Is r es end (settled p (refused p m q.ask) q.ask q.left fr start history m (ran p inputs n))) (sym q)
       (subst (λ o. Is r es end (settled p o k left fr start history m (ran p inputs n))) (sym known) h)
 
 pub serial_is : (n : ℕ) {p : Source} {inputs : List ℤ} {fr : Frame} {start : ℕ} {history : List ℤ} {m : Memory} {r : Transcript} {es : List Event} {end : Ending} → m.room < n → Serial p inputs fr start history m r es end → Is r es end (ran p inputs n fr start history m)

@@ -29,7 +29,7 @@ use Rattle.cilk_program.specs.declared.syntax.Place.TheVariants as places
 use Rattle.cilk_program.specs.declared.syntax.Reducer.{Reducer}
 use Rattle.cilk_program.specs.declared.syntax.ReducerPlace.{ReducerPlace}
 use Rattle.cilk_program.specs.declared.syntax.ReducerPlace.TheVariants as reducers
-use Rattle.cilk_program.specs.Behaviour.{Asked, asks_for, frame_asks}
+use Rattle.cilk_program.specs.Behaviour.{OpenAsk, asks_for, frame_asks}
 use Rattle.cilk_program.specs.Syntax.{Source, function_at, loop_at}
 use Rattle.cilk_program.specs.Scopes.{Home, Scope, cell_in, instance_in, instances_in}
 use Rattle.cilk_program.specs.WellNamed.{loop_level, levels_of, has_cell, has_own, has_given, is_kind, have_kinds}
@@ -53,7 +53,7 @@ pub can_invoke : (p : Source) (inputs : List ℤ) (parent : Callee) (history : L
 can_invoke p inputs callees.Root history start left how callee e = inl refl
 can_invoke p inputs (callees.Function c) history start left how callee e = inl refl
 can_invoke p inputs (callees.Loop l) history start left how callee e =
-    ⊎_elim (λ one. inl one) (λ several. inr (half_of how callee (subst (λ (q : Asked). IsPart q.ask) e (parts_asked p l several inputs history start))))
+    ⊎_elim (λ one. inl one) (λ several. inr (half_of how callee (subst (λ (q : OpenAsk). IsPart q.ask) e (parts_asked p l several inputs history start))))
     (cases_Bool (int_eq (l.high -ℤ l.low) (pos 1)))
 
 -- ---- more is there

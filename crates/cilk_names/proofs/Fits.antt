@@ -211,9 +211,9 @@ module _ (p : Source) where
     optional_named None r h = subst (λ (x : Option Expression). IsTrue (option_is_named p b x)) (sym h) refl
     optional_named (Some e) r (e', k, is) = subst (λ (x : Option Expression). IsTrue (option_is_named p b x)) (sym is) (expression_named e e' k)
 
-    place_named : (d : trees.Place) (t : Target) → ResolvesPlace names d t → IsTrue (target_is_named p b t)
-    place_named (trees.Place.Variable x) t (y, v, is) = subst (λ (z : Target). IsTrue (target_is_named p b z)) (sym is) (variable_there x y v)
-    place_named (trees.Place.Element x e) t (a, e', v, k, is) =
+    place_named : (d : trees.Lvalue) (t : Target) → ResolvesPlace names d t → IsTrue (target_is_named p b t)
+    place_named (trees.Lvalue.Variable x) t (y, v, is) = subst (λ (z : Target). IsTrue (target_is_named p b z)) (sym is) (variable_there x y v)
+    place_named (trees.Lvalue.Element x e) t (a, e', v, k, is) =
         subst (λ (z : Target). IsTrue (target_is_named p b z)) (sym is) (and_from (array_is_there p b a) (expression_is_named p b e') (array_there x a v) (expression_named e e' k))
 
     pub assignment_named : (a : trees.Assignment) (r : Statement) → ResolvesAssignment names a r → IsTrue (statement_is_named p b r)

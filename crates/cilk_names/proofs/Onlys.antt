@@ -34,9 +34,9 @@ optional_only : (names : Names) (e : Option trees.Expression) (r : Option Expres
 optional_only names None r h = h
 optional_only names (Some e) r h = h.2 ∙ ap (λ x. let o : Option Expression = Some x in o) (expression_only names e h.0 h.1)
 
-place_only : (names : Names) (p : trees.Place) (t : Target) → ResolvesPlace names p t → target_of names p ≡ Some t
-place_only names (trees.Place.Variable x) t h = ap to_variable h.1 ∙ ap Some (sym h.2)
-place_only names (trees.Place.Element x e) t h =
+place_only : (names : Names) (p : trees.Lvalue) (t : Target) → ResolvesPlace names p t → target_of names p ≡ Some t
+place_only names (trees.Lvalue.Variable x) t h = ap to_variable h.1 ∙ ap Some (sym h.2)
+place_only names (trees.Lvalue.Element x e) t h =
     ap (λ o. to_element o (expression_of names e)) h.2 ∙ ap Some (ap (ToElement h.0) (sym (expression_only names e h.1 h.3)) ∙ sym h.4)
 
 assignment_only : (names : Names) (a : trees.Assignment) (r : Statement) → ResolvesAssignment names a r → r ≡ assignment_of names a

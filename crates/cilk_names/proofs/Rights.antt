@@ -77,9 +77,9 @@ pub optional_right : (names : Names) (e : Option trees.Expression) → optional_
 optional_right names None h = refl
 optional_right names (Some e) h = (expression_of names e, expression_right names e h, refl)
 
-pub place_right : (names : Names) (p : trees.Place) → place_faults names p ≡ [] → (t : Target) × (target_of names p ≡ Some t) × ResolvesPlace names p t
-place_right names (trees.Place.Variable x) h = let v = written_right names x h in (ToVariable v.0, ap to_variable v.1, (v.0, v.1, refl))
-place_right names (trees.Place.Element x e) h =
+pub place_right : (names : Names) (p : trees.Lvalue) → place_faults names p ≡ [] → (t : Target) × (target_of names p ≡ Some t) × ResolvesPlace names p t
+place_right names (trees.Lvalue.Variable x) h = let v = written_right names x h in (ToVariable v.0, ap to_variable v.1, (v.0, v.1, refl))
+place_right names (trees.Lvalue.Element x e) h =
     let p = both_nil (array_faults names x) (expression_faults names e) h in
     let v = array_right names x p.0 in
     (ToElement v.0 (expression_of names e), ap (λ o. to_element o (expression_of names e)) v.1, (v.0, expression_of names e, v.1, expression_right names e p.1, refl))

@@ -42,9 +42,9 @@ abbrev pub optional_faults : Names → Option Expression → List Misnaming
 optional_faults names None = []
 optional_faults names (Some e) = expression_faults names e
 
-abbrev pub place_faults : Names → trees.Place → List Misnaming
-place_faults names (trees.Place.Variable x) = written_faults names x
-place_faults names (trees.Place.Element x e) = array_faults names x ++ expression_faults names e
+abbrev pub place_faults : Names → trees.Lvalue → List Misnaming
+place_faults names (trees.Lvalue.Variable x) = written_faults names x
+place_faults names (trees.Lvalue.Element x e) = array_faults names x ++ expression_faults names e
 
 abbrev pub assignment_faults : Names → trees.Assignment → List Misnaming
 assignment_faults names (trees.Assignment.Set p e) = place_faults names p ++ expression_faults names e

@@ -56,9 +56,9 @@ abbrev pub to_element : Option Array → Expression → Option Target
 to_element None e = None
 to_element (Some a) e = Some (ToElement a e)
 
-abbrev pub target_of : Names → trees.Place → Option Target
-target_of names (trees.Place.Variable x) = to_variable (variable names x)
-target_of names (trees.Place.Element x e) = to_element (array names x) (expression_of names e)
+abbrev pub target_of : Names → trees.Lvalue → Option Target
+target_of names (trees.Lvalue.Variable x) = to_variable (variable names x)
+target_of names (trees.Lvalue.Element x e) = to_element (array names x) (expression_of names e)
 
 -- a statement, if there is what it needs
 abbrev pub or_empty : {A : Type 0} → Option A → (A → Statement) → Statement

@@ -41,9 +41,9 @@ ResolvesOptional names None r = r ≡ None
 ResolvesOptional names (Some e) r = (e' : Expression) × ResolvesExpression names e e' × (r ≡ Some e')
 
 -- what is written to
-abbrev pub ResolvesPlace : Names → trees.Place → Target → Type 0
-ResolvesPlace names (trees.Place.Variable x) t = (p : Place) × (variable names x ≡ Some p) × (t ≡ ToVariable p)
-ResolvesPlace names (trees.Place.Element x e) t = (a : Array) × (e' : Expression) × (array names x ≡ Some a) × ResolvesExpression names e e' × (t ≡ ToElement a e')
+abbrev pub ResolvesPlace : Names → trees.Lvalue → Target → Type 0
+ResolvesPlace names (trees.Lvalue.Variable x) t = (p : Place) × (variable names x ≡ Some p) × (t ≡ ToVariable p)
+ResolvesPlace names (trees.Lvalue.Element x e) t = (a : Array) × (e' : Expression) × (array names x ≡ Some a) × ResolvesExpression names e e' × (t ≡ ToElement a e')
 
 abbrev pub ResolvesAssignment : Names → trees.Assignment → Statement → Type 0
 ResolvesAssignment names (trees.Assignment.Set p e) r = (t : Target) × (e' : Expression) × ResolvesPlace names p t × ResolvesExpression names e e' × (r ≡ Assign t e')

@@ -120,18 +120,18 @@ pub(crate) fn optional(
 fn target(
     alloc: Global,
     table: &Table,
-    tree: &tree::Place,
+    tree: &tree::Lvalue,
     first: &mut Option<Misnaming>,
 ) -> Result<Option<Target>, AllocError>
     ensures faults { OnOk result (first.new ≡ earliest first.old (place_faults (names_of table.now) (trees.place tree.now))) }
     ensures value { IfOk result (λ r. option_map target r ≡ target_of (names_of table.now) (trees.place tree.now)) }
 {
     match tree {
-        tree::Place::Variable(name) => match written(table, *name, first) {
+        tree::Lvalue::Variable(name) => match written(table, *name, first) {
             Some(place) => Ok(Some(Target::Variable(place))),
             None => Ok(None),
         },
-        tree::Place::Element(name, index) => {
+        tree::Lvalue::Element(name, index) => {
             let array = array(table, *name, first);
             let index = expression(alloc, table, index, first)?;
             match array {

@@ -26,7 +26,7 @@ use Rattle.cilk_grammar.specs.Limits as limits
 use Rattle.cilk_grammar.specs.Limits.{Flags, flag, where_next, is_deep, is_many, is_step, is_sum, is_void, excess, excess_inside, excess_optional, excess_arguments, excess_called, excess_invoked, excess_place, excess_stepped, excess_assignment, excess_local_initializer, excess_locals, excess_declaration, excess_reducer, excess_beginning, excess_step, excess_unit_step, excess_bounds, excess_update, excess_stmt, excess_all, excess_initializer, excess_global, excess_more, excess_variables, excess_parameter, excess_more_parameters, excess_parameters, excess_function, excess_item, excess_items}
 use Rattle.cilk_grammar.specs.Expected as expected
 use Rattle.cilk_grammar.specs.Expected.{Symbol, One, Named, Numeral, Single, Operand, Index, Tail, Anew, Optional, ElsePart, AfterName, Subscript, Operation, Source, SourceRest, Arguments, MoreArguments, Declaration, LocalInitial, Locals, Step, UnitStep, UnitStepRest, Item, Declared, Literal, Initial, Variables, Parameters, MoreParameters, Items, Goes, Fails, after}
-use Rattle.cilk_grammar.specs.Grammar.{Is, IsName, mark_of, compound_mark, level, level_in, SpellsExpr, SpellsInside, SpellsOptional, SpellsArgument, SpellsMoreArguments, SpellsArguments, SpellsCall, SpellsInvoked, SpellsPlace, SpellsStepped, SpellsTaken, SpellsAssignment, SpellsLocalInitializer, SpellsLocal, SpellsMoreLocals, SpellsLocals, SpellsLocalLine, SpellsReducer, SpellsDefined, SpellsTested, SpellsUnit, SpellsUnitStep, SpellsBeginning, SpellsStep, SpellsHead, SpellsBounds, SpellsUpdate, SpellsStmt, SpellsAll, SpellsLiteral, SpellsInitializer, SpellsGlobal, SpellsMore, SpellsVariables, SpellsLine, SpellsParameter, SpellsMoreParameters, SpellsParameters, SpellsBody, SpellsFunction, SpellsItem, SpellsItems}
+use Rattle.cilk_grammar.specs.Grammar.{Is, IsName, mark_of, compound_mark, level, level_in, SpellsExpr, SpellsInside, SpellsOptional, SpellsArgument, SpellsMoreArguments, SpellsArguments, SpellsCall, SpellsInvoked, SpellsLvalue, SpellsStepped, SpellsTaken, SpellsAssignment, SpellsLocalInitializer, SpellsLocal, SpellsMoreLocals, SpellsLocals, SpellsLocalLine, SpellsReducer, SpellsDefined, SpellsTested, SpellsUnit, SpellsUnitStep, SpellsBeginning, SpellsStep, SpellsHead, SpellsBounds, SpellsUpdate, SpellsStmt, SpellsAll, SpellsLiteral, SpellsInitializer, SpellsGlobal, SpellsMore, SpellsVariables, SpellsLine, SpellsParameter, SpellsMoreParameters, SpellsParameters, SpellsBody, SpellsFunction, SpellsItem, SpellsItems}
 use Rattle.cilk_parser.proofs.Traces.{trace, goes, Shut, no_index, no_subscript, absent, no_source, declares, declares_locals, some_value, some_argument, begins_assigning, steps_assigning, takes_value, assigns, ends_local, ends_argument, repeats, no_else}
 
 named : (name : Name) (ts rest : List Token) → IsName name ts rest → Is kinds.Name ts rest
@@ -248,18 +248,18 @@ call_reads invocations.Spawn c ts ts1 rest d stack more h is k =
 abbrev Behind : ℕ → List Symbol → List Symbol → Type 0
 Behind d stack behind = (us : List Token) (past : List Bool) → trace us (Subscript d ∷ stack) 0 ≡ Some past → trace us behind 0 ≡ Some past
 
-place_reads : (p : trees.Place) (ts rest : List Token) (d : ℕ) (b : Bool) (front behind stack : List Symbol) (more : Flags) → SpellsPlace p ts rest → after front 0 kinds.Name ≡ Goes b behind 0 → Behind d stack behind → Shut stack → trace rest stack 0 ≡ Some (more rest) → trace ts front 0 ≡ Some (excess_place p b d more ts)
-place_reads (trees.Place.Variable name) ts rest d b front behind stack more h e f s k =
+place_reads : (p : trees.Lvalue) (ts rest : List Token) (d : ℕ) (b : Bool) (front behind stack : List Symbol) (more : Flags) → SpellsLvalue p ts rest → after front 0 kinds.Name ≡ Goes b behind 0 → Behind d stack behind → Shut stack → trace rest stack 0 ≡ Some (more rest) → trace ts front 0 ≡ Some (excess_place p b d more ts)
+place_reads (trees.Lvalue.Variable name) ts rest d b front behind stack more h e f s k =
     goes kinds.Name ts rest front behind 0 0 b more (named name ts rest h) e (f rest (more rest) (no_subscript rest d stack 0 (more rest) s k))
-place_reads (trees.Place.Element name i) ts rest d b front behind stack more h e f s k =
+place_reads (trees.Lvalue.Element name i) ts rest d b front behind stack more h e f s k =
     goes kinds.Name ts h.0 front behind 0 0 b (excess_inside i (d + 1) more) (named name ts h.0 h.3) e
     (f h.0 (excess_inside i (d + 1) more h.0)
     (goes kinds.OpenBracket h.0 h.1 (Subscript d ∷ stack) (Operand (d + 1) ∷ Tail (d + 1) ∷ Anew ∷ One marks.CloseBracket ∷ stack) 0 0 false (excess i (d + 1) 0 (flag false more)) h.4 refl
     (indexed_reads i h.1 h.2 rest (d + 1) stack more h.5 h.6 k)))
 
-first_name : (p : trees.Place) (ts rest : List Token) → SpellsPlace p ts rest → (us : List Token) × Is kinds.Name ts us
-first_name (trees.Place.Variable name) ts rest h = (rest, named name ts rest h)
-first_name (trees.Place.Element name i) ts rest h = (h.0, named name ts h.0 h.3)
+first_name : (p : trees.Lvalue) (ts rest : List Token) → SpellsLvalue p ts rest → (us : List Token) × Is kinds.Name ts us
+first_name (trees.Lvalue.Variable name) ts rest h = (rest, named name ts rest h)
+first_name (trees.Lvalue.Element name i) ts rest h = (h.0, named name ts h.0 h.3)
 
 where_is : (is : Kind → Bool) (first second : Flags) (kind : Kind) (ts rest : List Token) → Is kind ts rest → is kind ≡ true → where_next is first second ts ≡ first ts
 where_is is first second kind ts rest h e =
@@ -277,13 +277,13 @@ record Begins (d : ℕ) (b : Bool) (front behind stack : List Symbol) : Type 0 w
   subscript : Behind d (Operation d ∷ stack) behind
   shut : Shut stack
 
-taken_reads : (kind : Kind) (p : trees.Place) (e : Expression) (ts rest : List Token) (d : ℕ) (b : Bool) (front behind stack : List Symbol) (more : Flags) → Begins d b front behind stack → after (Operation d ∷ stack) 0 kind ≡ Goes false (Operand d ∷ Tail d ∷ Anew ∷ stack) 0 → SpellsTaken kind p e ts rest → ((m : ℕ) → trace rest (Tail d ∷ Anew ∷ stack) m ≡ Some (more rest)) → trace ts front 0 ≡ Some (excess_place p b d (flag false (excess e d 0 more)) ts)
+taken_reads : (kind : Kind) (p : trees.Lvalue) (e : Expression) (ts rest : List Token) (d : ℕ) (b : Bool) (front behind stack : List Symbol) (more : Flags) → Begins d b front behind stack → after (Operation d ∷ stack) 0 kind ≡ Goes false (Operand d ∷ Tail d ∷ Anew ∷ stack) 0 → SpellsTaken kind p e ts rest → ((m : ℕ) → trace rest (Tail d ∷ Anew ∷ stack) m ≡ Some (more rest)) → trace ts front 0 ≡ Some (excess_place p b d (flag false (excess e d 0 more)) ts)
 taken_reads kind p e ts rest d b front behind stack more begins is h k =
     place_reads p ts h.0 d b front behind (Operation d ∷ stack) (flag false (excess e d 0 more)) h.2 begins.name begins.subscript (λ n. refl)
     (goes kind h.0 h.1 (Operation d ∷ stack) (Operand d ∷ Tail d ∷ Anew ∷ stack) 0 0 false (excess e d 0 more) h.3 is
     (whole_reads e h.1 rest d stack more h.4 begins.shut k))
 
-stepped_reads : (kind : Kind) (p : trees.Place) (ts rest : List Token) (d : ℕ) (b : Bool) (front behind stack : List Symbol) (more : Flags) → Begins d b front behind stack → is_step kind ≡ true → after front 0 kind ≡ Goes b (Named ∷ Subscript d ∷ stack) 0 → after (Operation d ∷ stack) 0 kind ≡ Goes false stack 0 → SpellsStepped kind p ts rest → trace rest stack 0 ≡ Some (more rest) → trace ts front 0 ≡ Some (excess_stepped p b d more ts)
+stepped_reads : (kind : Kind) (p : trees.Lvalue) (ts rest : List Token) (d : ℕ) (b : Bool) (front behind stack : List Symbol) (more : Flags) → Begins d b front behind stack → is_step kind ≡ true → after front 0 kind ≡ Goes b (Named ∷ Subscript d ∷ stack) 0 → after (Operation d ∷ stack) 0 kind ≡ Goes false stack 0 → SpellsStepped kind p ts rest → trace rest stack 0 ≡ Some (more rest) → trace ts front 0 ≡ Some (excess_stepped p b d more ts)
 stepped_reads kind p ts rest d b front behind stack more begins step first last (inl h) k =
     goes kind ts h.0 front (Named ∷ Subscript d ∷ stack) 0 0 b (excess_place p false d more) h.1 first
     (place_reads p h.0 rest d false (Named ∷ Subscript d ∷ stack) (Subscript d ∷ stack) stack more h.2 refl (λ us past z. z) begins.shut k)

@@ -27,7 +27,7 @@ use Rattle.cilk_syntax.specs.Trees as trees
 use Rattle.cilk_syntax.specs.Trees.{Expression, Number, Group, Unary, Binary, Input, InputCount, Argument, Call, Local, LocalInitializer, Statement, Statements, End, Then}
 use Rattle.cilk_grammar.specs.Expected as expected
 use Rattle.cilk_grammar.specs.Expected.{Symbol, One, Named, Numeral, Single, Operand, Index, Tail, Anew, Optional, ElsePart, AfterName, Subscript, Operation, Source, SourceRest, Arguments, MoreArguments, Declaration, LocalInitial, Locals, Step, UnitStep, UnitStepRest, Declared, Literal, Initial, Variables, Parameters, MoreParameters, Items, After, Goes, Fails, move_one, move_named, move_numeral, move_single, move_operand, move_index, move_tail, move_optional, move_statement, move_else, move_after_name, move_assignment, move_subscript, move_operation, move_source, move_source_rest, move_arguments, move_more_arguments, move_declaration, move_local_initial, move_locals, move_beginning, move_step, move_unit_step, move_unit_step_rest, move_item, move_declared, move_literal, move_initial, move_variables, move_parameters, move_parameter, move_more_parameters, move_items, kind_of, fits, level_of, begins_statement, followed, passed, chosen, after, at_end}
-use Rattle.cilk_grammar.specs.Grammar.{Is, IsName, mark_of, level, level_in, SpellsExpr, SpellsInside, SpellsEnded, SpellsOptional, SpellsArgument, SpellsMoreArguments, SpellsArguments, SpellsCall, SpellsSource, SpellsPlace, SpellsAssignment, SpellsLocalInitializer, SpellsLocal, SpellsMoreLocals, SpellsLocalLine, SpellsReducer, SpellsDefined, SpellsTested, SpellsUnit, SpellsUnitStep, SpellsBeginning, SpellsStep, SpellsHead, SpellsBounds, SpellsUpdate, SpellsStmt, SpellsAll, SpellsLiteral, SpellsGlobal, SpellsMore, SpellsLine, SpellsParameter, SpellsMoreParameters, SpellsParameters, SpellsBody, SpellsFunction, SpellsItem, SpellsItems, NoElse}
+use Rattle.cilk_grammar.specs.Grammar.{Is, IsName, mark_of, level, level_in, SpellsExpr, SpellsInside, SpellsEnded, SpellsOptional, SpellsArgument, SpellsMoreArguments, SpellsArguments, SpellsCall, SpellsSource, SpellsLvalue, SpellsAssignment, SpellsLocalInitializer, SpellsLocal, SpellsMoreLocals, SpellsLocalLine, SpellsReducer, SpellsDefined, SpellsTested, SpellsUnit, SpellsUnitStep, SpellsBeginning, SpellsStep, SpellsHead, SpellsBounds, SpellsUpdate, SpellsStmt, SpellsAll, SpellsLiteral, SpellsGlobal, SpellsMore, SpellsLine, SpellsParameter, SpellsMoreParameters, SpellsParameters, SpellsBody, SpellsFunction, SpellsItem, SpellsItems, NoElse}
 use Rattle.cilk_grammar.proofs.Lists.{form_repeats, spells_initial}
 use Rattle.cilk_grammar.proofs.MarkLaws.{is_mark}
 use Rattle.cilk_parser.proofs.Accepted.{low}
@@ -72,15 +72,15 @@ NamesPart ts rest = (name : Name) (ts0 : List Token) → IsName name ts0 ts → 
 abbrev NamesStatement : List Token → List Token → Type 0
 NamesStatement ts rest = (name : Name) (ts0 : List Token) → IsName name ts0 ts → (s : Statement) × SpellsStmt s ts0 rest
 
-abbrev NamesPlace : List Token → List Token → Type 0
-NamesPlace ts rest = (name : Name) (ts0 : List Token) → IsName name ts0 ts → (p : trees.Place) × SpellsPlace p ts0 rest
+abbrev NamesLvalue : List Token → List Token → Type 0
+NamesLvalue ts rest = (name : Name) (ts0 : List Token) → IsName name ts0 ts → (p : trees.Lvalue) × SpellsLvalue p ts0 rest
 
 abbrev NamesSource : List Token → List Token → Type 0
 NamesSource ts rest = (name : Name) (ts0 : List Token) → IsName name ts0 ts → (v : LocalInitializer) × SpellsSource v ts0 rest
 
 -- whatever place ends here is assigned to
 abbrev Assigns : List Token → List Token → Type 0
-Assigns ts rest = (p : trees.Place) (ts0 : List Token) → SpellsPlace p ts0 ts → (a : trees.Assignment) × SpellsAssignment a ts0 rest
+Assigns ts rest = (p : trees.Lvalue) (ts0 : List Token) → SpellsLvalue p ts0 ts → (a : trees.Assignment) × SpellsAssignment a ts0 rest
 
 -- an `int` that ends here declares something
 abbrev DeclaresLocals : List Token → List Token → Type 0
@@ -125,7 +125,7 @@ Stands (expected.Statements d) ts rest = (row : Statements) × SpellsAll row ts 
 Stands (ElsePart d) ts rest = ((ts ≡ rest) × NoElse ts) ⊎ Second ts rest
 Stands (AfterName d) ts rest = NamesStatement ts rest
 Stands (expected.Assignment d) ts rest = (a : trees.Assignment) × SpellsAssignment a ts rest
-Stands (Subscript d) ts rest = NamesPlace ts rest
+Stands (Subscript d) ts rest = NamesLvalue ts rest
 Stands (Operation d) ts rest = Assigns ts rest
 Stands (Source d) ts rest = (v : LocalInitializer) × SpellsSource v ts rest
 Stands (SourceRest d) ts rest = NamesSource ts rest
@@ -370,8 +370,8 @@ back_source_rest t ts d stack n below _ e pass h = variable_source d stack (t �
 back_subscript : (t : Token) (ts : List Token) (d : ℕ) (stack : List Symbol) (n : ℕ) (below : After) (k : Kind) → t.kind ≡ k → (RowAfter below ts → Row stack (t ∷ ts)) → RowAfter (chosen (move_subscript d k) stack n below) ts → Row (Subscript d ∷ stack) (t ∷ ts)
 back_subscript t ts d stack n below kinds.OpenBracket e pass h =
     let w = whole (d + 1) (One marks.CloseBracket ∷ stack) ts h in
-    (w.3.0, (λ name ts0 is. (trees.Place.Element name w.1, (t ∷ ts, ts, w.0, is, (t, refl, e), w.2, w.3.1))), w.3.2)
-back_subscript t ts d stack n below _ e pass h = (t ∷ ts, (λ name ts0 is. (trees.Place.Variable name, is)), pass h)
+    (w.3.0, (λ name ts0 is. (trees.Lvalue.Element name w.1, (t ∷ ts, ts, w.0, is, (t, refl, e), w.2, w.3.1))), w.3.2)
+back_subscript t ts d stack n below _ e pass h = (t ∷ ts, (λ name ts0 is. (trees.Lvalue.Variable name, is)), pass h)
 
 back_operation : (t : Token) (ts : List Token) (d : ℕ) (stack : List Symbol) (n : ℕ) (below : After) (k : Kind) → t.kind ≡ k → RowAfter (chosen (move_operation d k) stack n below) ts → Row (Operation d ∷ stack) (t ∷ ts)
 back_operation t ts d stack n below kinds.Assign e h =
@@ -390,7 +390,7 @@ back_operation t ts d stack n below kinds.Increment e h = (ts, (λ p ts0 place. 
 back_operation t ts d stack n below kinds.Decrement e h = (ts, (λ p ts0 place. (trees.Decrement p, inr (t ∷ ts, place, (t, refl, e)))), h)
 back_operation t ts d stack n below _ e h = absurd h
 
-placed : (d : ℕ) (stack : List Symbol) (ts : List Token) → Row (Named ∷ Subscript d ∷ stack) ts → (rest : List Token) × (p : trees.Place) × SpellsPlace p ts rest × Row stack rest
+placed : (d : ℕ) (stack : List Symbol) (ts : List Token) → Row (Named ∷ Subscript d ∷ stack) ts → (rest : List Token) × (p : trees.Lvalue) × SpellsLvalue p ts rest × Row stack rest
 placed d stack ts h =
     let p = h.2.1 (name_at h.1.0) ts (is_name ts h.0 h.1) in
     (h.2.0, p.0, p.1, h.2.2)
@@ -411,7 +411,7 @@ back_assignment t ts d stack n below _ e h = absurd h
 -- a variable takes a value or the result of a call
 taking : (v : LocalInitializer) (name : Name) (ts0 ts ts1 ts2 rest : List Token) → IsName name ts0 ts → Is kinds.Assign ts ts1 → SpellsSource v ts1 ts2 → Is kinds.Semicolon ts2 rest → (s : Statement) × SpellsStmt s ts0 rest
 taking trees.Absent name ts0 ts ts1 ts2 rest is a v c = absurd v
-taking (LocalInitializer.Value x) name ts0 ts ts1 ts2 rest is a v c = (trees.Assign (trees.Assignment.Set (trees.Place.Variable name) x), (ts2, (ts, ts1, is, a, v), c))
+taking (LocalInitializer.Value x) name ts0 ts ts1 ts2 rest is a v c = (trees.Assign (trees.Assignment.Set (trees.Lvalue.Variable name) x), (ts2, (ts, ts1, is, a, v), c))
 taking (LocalInitializer.Invoke how call) name ts0 ts ts1 ts2 rest is a v c = (trees.AssignCall name how call, (ts, ts1, ts2, is, a, v, c))
 
 assigning : (d : ℕ) (stack : List Symbol) (ts : List Token) → Row (Subscript d ∷ Operation d ∷ One marks.Semicolon ∷ stack) ts → Row (AfterName d ∷ stack) ts
@@ -424,11 +424,11 @@ back_after_name t ts d stack n below kinds.Open e h =
 back_after_name t ts d stack n below kinds.Assign e h =
     (h.2.0, (λ name ts0 is. taking h.1.0 name ts0 (t ∷ ts) ts h.0 h.2.0 is (t, refl, e) h.1.1 h.2.1), h.2.2)
 back_after_name t ts d stack n below kinds.OpenBracket e h = assigning d stack (t ∷ ts) (back_subscript t ts d (Operation d ∷ One marks.Semicolon ∷ stack) n Fails kinds.OpenBracket e (λ z. absurd z) h)
-back_after_name t ts d stack n below kinds.PlusAssign e h = assigning d stack (t ∷ ts) (t ∷ ts, (λ name ts0 is. (trees.Place.Variable name, is)), back_operation t ts d (One marks.Semicolon ∷ stack) n Fails kinds.PlusAssign e h)
-back_after_name t ts d stack n below kinds.MinusAssign e h = assigning d stack (t ∷ ts) (t ∷ ts, (λ name ts0 is. (trees.Place.Variable name, is)), back_operation t ts d (One marks.Semicolon ∷ stack) n Fails kinds.MinusAssign e h)
-back_after_name t ts d stack n below kinds.StarAssign e h = assigning d stack (t ∷ ts) (t ∷ ts, (λ name ts0 is. (trees.Place.Variable name, is)), back_operation t ts d (One marks.Semicolon ∷ stack) n Fails kinds.StarAssign e h)
-back_after_name t ts d stack n below kinds.Increment e h = assigning d stack (t ∷ ts) (t ∷ ts, (λ name ts0 is. (trees.Place.Variable name, is)), back_operation t ts d (One marks.Semicolon ∷ stack) n Fails kinds.Increment e h)
-back_after_name t ts d stack n below kinds.Decrement e h = assigning d stack (t ∷ ts) (t ∷ ts, (λ name ts0 is. (trees.Place.Variable name, is)), back_operation t ts d (One marks.Semicolon ∷ stack) n Fails kinds.Decrement e h)
+back_after_name t ts d stack n below kinds.PlusAssign e h = assigning d stack (t ∷ ts) (t ∷ ts, (λ name ts0 is. (trees.Lvalue.Variable name, is)), back_operation t ts d (One marks.Semicolon ∷ stack) n Fails kinds.PlusAssign e h)
+back_after_name t ts d stack n below kinds.MinusAssign e h = assigning d stack (t ∷ ts) (t ∷ ts, (λ name ts0 is. (trees.Lvalue.Variable name, is)), back_operation t ts d (One marks.Semicolon ∷ stack) n Fails kinds.MinusAssign e h)
+back_after_name t ts d stack n below kinds.StarAssign e h = assigning d stack (t ∷ ts) (t ∷ ts, (λ name ts0 is. (trees.Lvalue.Variable name, is)), back_operation t ts d (One marks.Semicolon ∷ stack) n Fails kinds.StarAssign e h)
+back_after_name t ts d stack n below kinds.Increment e h = assigning d stack (t ∷ ts) (t ∷ ts, (λ name ts0 is. (trees.Lvalue.Variable name, is)), back_operation t ts d (One marks.Semicolon ∷ stack) n Fails kinds.Increment e h)
+back_after_name t ts d stack n below kinds.Decrement e h = assigning d stack (t ∷ ts) (t ∷ ts, (λ name ts0 is. (trees.Lvalue.Variable name, is)), back_operation t ts d (One marks.Semicolon ∷ stack) n Fails kinds.Decrement e h)
 back_after_name t ts d stack n below _ e h = absurd h
 
 reduced : (t : Token) (ts : List Token) (stack : List Symbol) → t.kind ≡ kinds.CilkReducer → Row (One marks.Open ∷ Named ∷ One marks.Close ∷ Named ∷ stack) ts → (rest : List Token) × (r : reducers.Reducer) × SpellsReducer r (t ∷ ts) rest × Row stack rest
@@ -728,7 +728,7 @@ at_last (expected.Statements d ∷ stack) past h = ([], (End, refl), at_last sta
 at_last (ElsePart d ∷ stack) past h = ([], inl (refl, tt), at_last stack past h)
 at_last (AfterName d ∷ stack) past h = cc
 at_last (expected.Assignment d ∷ stack) past h = cc
-at_last (Subscript d ∷ stack) past h = ([], (λ name ts0 is. (trees.Place.Variable name, is)), at_last stack past h)
+at_last (Subscript d ∷ stack) past h = ([], (λ name ts0 is. (trees.Lvalue.Variable name, is)), at_last stack past h)
 at_last (Operation d ∷ stack) past h = cc
 at_last (Source d ∷ stack) past h = cc
 at_last (SourceRest d ∷ stack) past h = ([], (λ name ts0 is. (LocalInitializer.Value (Expression.Variable name), is)), at_last stack past h)

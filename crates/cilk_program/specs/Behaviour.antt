@@ -22,20 +22,20 @@ use Rattle.cilk_program.specs.Operators.{is_zero, truth, truth_of, apply, change
 use Rattle.cilk_program.specs.Syntax.{Expression, Number, Variable, Element, Negate, Not, Binary, And, Or, Value, Input, InputCount, Target, ToVariable, ToElement, Invoke, Declaration, Zero, Opening, Invoking, Statement, Empty, Block, Declare, Assign, Change, Step, Invokes, Sync, If, IfElse, For, ParallelFor, Print, Update, Set, Return, Statements, Nothing, Then, Function, Source, function_at, main_of, loop_at, element, place_of}
 
 -- an ask that has no answer yet, and the ticks that are then left
-pub record Asked : Type 0 where
+pub record OpenAsk : Type 0 where
   pub ask : Ask
   pub left : ℕ
 
 -- what a part of a body comes to: a value, with the answers and ticks that are left, or an ask that has no answer yet
 pub data Got (A : Type 0) : Type 0 where
   Gives : (value : A) (answers : List ℤ) (left : ℕ) → Got A
-  Asks : (asked : Asked) → Got A
+  Asks : (asked : OpenAsk) → Got A
 
 -- what a frame, or what is left of it, asks for after these answers, with so many ticks
 abbrev pub Behaviour : Type 0
-Behaviour = List ℤ → ℕ → Asked
+Behaviour = List ℤ → ℕ → OpenAsk
 
-abbrev pub asks_for : Ask → ℕ → Asked
+abbrev pub asks_for : Ask → ℕ → OpenAsk
 asks_for k left = record { ask = k; left = left }
 
 infixl 10 ◌>>=◌
@@ -233,7 +233,7 @@ frame_gives p inputs callees.Root answers left =
 frame_gives p inputs (callees.Function c) answers left = function_gives inputs (function_at p c.function) c.words (is_some c.result) answers left
 frame_gives p inputs (callees.Loop l) answers left = let body = loop_at p l.number in loop_gives inputs body.body l answers left
 
-abbrev pub ended : Got ℤ → Asked
+abbrev pub ended : Got ℤ → OpenAsk
 ended (Gives v answers left) = asks_for (asks.End v) left
 ended (Asks k) = k
 

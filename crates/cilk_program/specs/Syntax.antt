@@ -7,6 +7,8 @@ use Rattle.cilk_program.specs.declared.syntax.Place.{Place}
 use Rattle.cilk_program.specs.declared.syntax.Place.TheVariants as places
 use Rattle.cilk_program.specs.declared.syntax.Array.{Array}
 use Rattle.cilk_program.specs.declared.syntax.Reducer.{Reducer}
+use Rattle.cilk_program.specs.declared.syntax.ReducerPlace.{ReducerPlace}
+use Rattle.cilk_program.specs.declared.syntax.ReducerPlace.TheVariants as reducers
 use Rattle.cilk_types.specs.declared.invocation.Invocation.{Invocation}
 use Rattle.cilk_program.specs.declared.program.Body.{Body}
 use Rattle.cilk_program.specs.declared.program.Body.TheVariants as bodies
@@ -115,3 +117,9 @@ element a (negsuc n) = None
 abbrev pub place_of : Target → ℤ → Option Place
 place_of (ToVariable x) i = Some x
 place_of (ToElement a e) i = element a i
+
+-- the number in a reducer's place
+abbrev pub number_in : ReducerPlace → ℕ
+number_in (reducers.Global n) = n
+number_in (reducers.Own up n) = n
+number_in (reducers.Given up n) = n

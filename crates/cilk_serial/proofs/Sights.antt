@@ -17,12 +17,12 @@ use Rattle.cilk_program.specs.declared.syntax.ReducerPlace.TheVariants as reduce
 use Rattle.cilk_program.specs.Syntax.{Source, Function, idle, function_at, main_of, loop_at}
 use Rattle.cilk_program.specs.WellNamed.{Level, function_level, loop_level, levels, levels_of, has_own, has_given, reducer_is_there, reducers_are_there, result_is_there, is_well_named}
 use Rattle.cilk_program.specs.Inside.{body_of, is_whole, CalleeIsFit, CalleeIsThere, AskIsThere}
-use Rattle.cilk_program.specs.Behaviour.{Asked, asks_for, frame_asks}
+use Rattle.cilk_program.specs.Behaviour.{OpenAsk, asks_for, frame_asks}
 use Rattle.cilk_program.specs.SerialRun.{Frame, Memory, itself, global_reducer, cells_of, home_of, next_frame, root_frame}
 use Rattle.cilk_meaning.specs.Visible.{CanInvoke, GlobalsAreThere}
 use Rattle.cilk_meaning.proofs.Naming.{SourceIsNamed, well_named_parts}
 use Rattle.cilk_meaning.proofs.Asked.{asks_there}
-use Rattle.cilk_meaning.proofs.Sights.{kind_within}
+use Rattle.cilk_meaning.proofs.Smallness.{reducer_small}
 use Rattle.cilk_meaning.proofs.Visible.{can_invoke, frame_more, root_sees as root_sees_all, called_sees, part_sees}
 use Rattle.cilk_serial.specs.Scoped.{Below, Any, Sees, AreSmall, ResultFits, MayBegin, IsThere, IsBegunRightly, number_in}
 use Rattle.cilk_serial.proofs.Beginnings.{creates}
@@ -75,41 +75,6 @@ root_sees p inputs =
 
 -- ---- reducers
 
-record IsSmall (l : Level) : Type 0 where
-  own : length l.own ≤ 64
-  given : length l.given ≤ 64
-
-function_small : (p : Source) → SourceIsNamed p → (k : ℕ) → IsSmall (function_level (function_at p k))
-function_small p named k = elim (cases_lt k (length p.functions)) [
-  | inl low ↦ (let f = named.functions k low in let few = f.parameters in record { own = f.reducers; given = omega (arith, few) })
-  | inr past ↦ (
-      let none : slice_get p.functions k ≡ None = slice_get_past p.functions k past in
-      subst (λ (o : Option Function). IsSmall (function_level (unwrap_or o idle))) (sym none) (record { own = omega arith; given = omega arith }))
-]
-
-level_is : (l k : Level) → Some l ≡ Some k → l ≡ k
-level_is l k e = cc
-
-levels_small : (p : Source) → SourceIsNamed p → (n : ℕ) (b : Body) (up : ℕ) (l : Level) → slice_get (levels n p b) up ≡ Some l → IsSmall l
-levels_small p named zero b up l e = cc
-levels_small p named (suc n) (bodies.Function k) zero l e = subst IsSmall (level_is (function_level (function_at p k)) l e) (function_small p named k)
-levels_small p named (suc n) (bodies.Function k) (suc up) l e = cc
-levels_small p named (suc n) (bodies.Loop k) zero l e = subst IsSmall (level_is (loop_level (loop_at p k)) l e) (record { own = omega arith; given = omega arith })
-levels_small p named (suc n) (bodies.Loop k) (suc up) l e = let body = loop_at p k in levels_small p named n body.within up l e
-
-own_small : (o : Option Level) (n : ℕ) (k : MonoidKind) → ((l : Level) → o ≡ Some l → IsSmall l) → has_own o n k ≡ true → n < 65536
-own_small None n k small h = absurd (false≢true h)
-own_small (Some l) n k small h = let few = (small l refl).own in let low = kind_within l.own n k h in omega (arith, few, low)
-
-given_small : (o : Option Level) (n : ℕ) (k : MonoidKind) → ((l : Level) → o ≡ Some l → IsSmall l) → has_given o n k ≡ true → n < 65536
-given_small None n k small h = absurd (false≢true h)
-given_small (Some l) n k small h = let few = (small l refl).given in let low = kind_within l.given n k h in omega (arith, few, low)
-
-reducer_small : (p : Source) → SourceIsNamed p → (b : Body) (r : ReducerPlace) (k : MonoidKind) → IsTrue (reducer_is_there p b r k) → number_in r < 65536
-reducer_small p named b (reducers.Global n) k h = let few = named.reducers in let low = kind_within p.reducers n k h in omega (arith, few, low)
-reducer_small p named b (reducers.Own up n) k h = own_small (slice_get (levels_of p b) up) n k (λ l e. levels_small p named (suc (length p.loops)) b up l e) h
-reducer_small p named b (reducers.Given up n) k h = given_small (slice_get (levels_of p b) up) n k (λ l e. levels_small p named (suc (length p.loops)) b up l e) h
-
 reducers_small : (p : Source) → SourceIsNamed p → (b : Body) (rs : List Reducer) → IsTrue (reducers_are_there p b rs) → AreSmall rs
 reducers_small p named b [] h = tt
 reducers_small p named b (r ∷ rs) h =
@@ -149,7 +114,7 @@ is_there p well fr n sees (asks.Fault f) h may = tt
 
 -- what a frame asks for
 pub asked : (p : Source) → IsTrue (is_well_named p) → (inputs : List ℤ) (callee : Callee) → CalleeIsFit p callee → (history : List ℤ) (start : ℕ) (k : Ask) (left : ℕ) → frame_asks p inputs callee history start ≡ asks_for k left → AskIsThere p callee k
-asked p well inputs callee fit history start k left e = subst (λ (q : Asked). AskIsThere p callee q.ask) e (asks_there p well callee fit inputs history start)
+asked p well inputs callee fit history start k left e = subst (λ (q : OpenAsk). AskIsThere p callee q.ask) e (asks_there p well callee fit inputs history start)
 
 pub asked_there : (p : Source) → IsTrue (is_well_named p) → (inputs : List ℤ) (fr : Frame) (n : ℕ) → Sees p fr n → (history : List ℤ) (start : ℕ) (k : Ask) (left : ℕ) → frame_asks p inputs fr.callee history start ≡ asks_for k left → IsThere p fr n k
 asked_there p well inputs fr n sees history start k left e =

@@ -18,7 +18,7 @@ use Rattle.cilk_program.specs.declared.ask.Callee.{Callee}
 use Rattle.cilk_program.specs.declared.ask.Callee.TheVariants.{Root}
 use Rattle.cilk_types.specs.declared.invocation.Invocation.{Invocation}
 use Rattle.cilk_types.specs.declared.invocation.Invocation.TheVariants.{Call, Spawn}
-use Rattle.cilk_program.specs.Behaviour.{Asked, asks_for, frame_asks}
+use Rattle.cilk_program.specs.Behaviour.{OpenAsk, asks_for, frame_asks}
 use Rattle.cilk_program.specs.Outcomes.{Conclusion, finals_from}
 use Rattle.cilk_program.specs.Syntax.{Source}
 use Rattle.cilk_program.specs.WellNamed.{is_well_named}
@@ -172,19 +172,19 @@ first : {p : Source} {inputs : List ℤ} {fr : Frame} {start : ℕ} {history : L
     → Serial p inputs fr start history m r es end
     → (k : Ask) (left : ℕ) → frame_asks p inputs fr.callee history start ≡ asks_for k left → refused p m k ≡ None → First m k r es
 first (Made {fr = fr} {m = m} {r = r} {es = es} k left q inner ok rest) k' left' q' ok' =
-    let same : k ≡ k' = ap (λ (a : Asked). a.ask) (sym q ∙ q') in
+    let same : k ≡ k' = ap (λ (a : OpenAsk). a.ask) (sym q ∙ q') in
     record { event = event_of fr m k; later = es; is_first = refl; begins = λ cs more n. inner_begins_none (Root ∷ ((cs ++ begun_in r) ++ more)) fr m k inner ∙ ap child_of same }
 first (Ended v left q ok) k' left' q' ok' =
-    let same : asks.End v ≡ k' = ap (λ (a : Asked). a.ask) (sym q ∙ q') in
+    let same : asks.End v ≡ k' = ap (λ (a : OpenAsk). a.ask) (sym q ∙ q') in
     record { event = events.End; later = []; is_first = refl; begins = λ cs more n. ap child_of same }
 first (Went {m = m} {u = u} {r = r} {es = es} {es' = es'} how callee left v left2 m2 q ok inner rest) k' left' q' ok' =
-    let same : asks.Invoke how callee ≡ k' = ap (λ (a : Asked). a.ask) (sym q ∙ q') in
+    let same : asks.Invoke how callee ≡ k' = ap (λ (a : OpenAsk). a.ask) (sym q ∙ q') in
     record { event = invocation how (suc m.frames); later = es ++ es'; is_first = refl; begins = λ cs more n. invocation_begins how m.frames callee cs (begun_in u ++ begun_in r) more n ∙ ap child_of same }
 first (Broke {m = m} {u = u} {es = es} how callee left f q ok inner) k' left' q' ok' =
-    let same : asks.Invoke how callee ≡ k' = ap (λ (a : Asked). a.ask) (sym q ∙ q') in
+    let same : asks.Invoke how callee ≡ k' = ap (λ (a : OpenAsk). a.ask) (sym q ∙ q') in
     record { event = invocation how (suc m.frames); later = es; is_first = refl; begins = λ cs more n. invocation_begins how m.frames callee cs (begun_in u ++ []) more n ∙ ap child_of same }
 first {p = p} (Refused {m = m} k left f q bad) k' left' q' ok' =
-    let same : k ≡ k' = ap (λ (a : Asked). a.ask) (sym q ∙ q') in
+    let same : k ≡ k' = ap (λ (a : OpenAsk). a.ask) (sym q ∙ q') in
     none_some (sym bad ∙ ap (refused p m) same ∙ ok')
 
 -- of another serial run of the same program

@@ -111,7 +111,7 @@ impl<'a> SerialRun<'a> {
     pub fn next(&mut self) -> Result<Next, AllocError>
         ensures ok { IfOk result (λ next. Comes self.old next self.new) }
         ensures err { OnErr result (self.new.stage ≡ Failed) }
-        ensures intact { OnOk result (IsIntact self.old.stage) }
+        ensures intact { OnOk result (IsIntact self.old.stage × IsIntact self.new.stage) }
     {
         match self.stage {
             Stage::Going => {}
@@ -141,7 +141,7 @@ impl<'a> SerialRun<'a> {
     pub fn complete(&mut self) -> Result<Option<Fault>, AllocError>
         ensures ok { IfOk result (λ fault. MakesRest self.old fault self.new) }
         ensures err { OnErr result (self.new.stage ≡ Failed) }
-        ensures intact { OnOk result (IsIntact self.old.stage) }
+        ensures intact { OnOk result (IsIntact self.old.stage × IsIntact self.new.stage) }
     {
         match self.stage {
             Stage::Going => {}

@@ -3,7 +3,7 @@
 ghost use Rattle.std.specs.Prelude.{◌≡◌, ◌+◌, ◌<◌, ◌≤◌, false, List, ◌∷◌, IfOk, IfErr, length};
 ghost use Rattle.cilk_grammar.specs.Expected;
 ghost use Rattle.cilk_grammar.specs.Expected.{Symbol, One, Named, Operand, Tail, Anew, Optional, Statement, Statements, ElsePart, AfterName, Subscript, Arguments, UnitStep, Step, run, first_nests};
-ghost use Rattle.cilk_grammar.specs.Grammar.{Is, SpellsPlace, SpellsStmt, SpellsAll, SpellsNamed, SpellsNamedRest, SpellsRest, SpellsUpdate};
+ghost use Rattle.cilk_grammar.specs.Grammar.{Is, SpellsLvalue, SpellsStmt, SpellsAll, SpellsNamed, SpellsNamedRest, SpellsRest, SpellsUpdate};
 ghost use Rattle.cilk_grammar.specs.Stops.{IsStop};
 ghost use Rattle.cilk_token.specs.declared.token.Kind.TheVariants as kinds;
 ghost use Rattle.cilk_syntax.specs.Trees as trees;
@@ -16,7 +16,7 @@ use cilk_expressions::expressions::{expr, optional, parenthesized};
 use cilk_grammar::firsts::{begins_statement, may_begin};
 use cilk_grammar::marks::{Punct, name, one, then_one};
 use cilk_grammar::stop::{DEEPEST, Stop};
-use cilk_syntax::tree::{Assignment, Call, Expr, Name, Place, Stmt};
+use cilk_syntax::tree::{Assignment, Call, Expr, Name, Lvalue, Stmt};
 use cilk_token::token::{Kind, Token};
 use cilk_types::invocation::Invocation;
 use std::alloc::Global;
@@ -83,7 +83,7 @@ fn taken<'a>(
     let rest = one(rest, Punct::Semicolon)?;
     match source {
         Source::Value(value) => {
-            let assignment = Assignment::Set(Place::Variable(name), value);
+            let assignment = Assignment::Set(Lvalue::Variable(name), value);
             Ok((Stmt::Assign(assignment), rest))
         }
         Source::Invoke(how, call) => Ok((Stmt::AssignCall(name, how, call), rest)),
@@ -134,9 +134,9 @@ fn ended_target<'a>(
     alloc: Global,
     tokens: &'a [Token],
     depth: u32,
-) -> Result<(Place, &'a [Token]), Stop<'a>>
+) -> Result<(Lvalue, &'a [Token]), Stop<'a>>
     requires { depth ≤ 64 }
-    ensures tree { IfOk result (λ x. (ts : List Token) × SpellsPlace (trees.place x.0) tokens.now ts × Is kinds.Semicolon ts x.1.now) }
+    ensures tree { IfOk result (λ x. (ts : List Token) × SpellsLvalue (trees.place x.0) tokens.now ts × Is kinds.Semicolon ts x.1.now) }
     ensures shorter { IfOk result (λ x. length x.1.now < length tokens.now) }
     ensures reads { IfOk result (λ x. (stack : List Symbol) →
         run tokens.now (Named ∷ Subscript depth ∷ One Punct.Semicolon ∷ stack) 0 ≡ run x.1.now stack 0) }

@@ -16,8 +16,8 @@ use Rattle.cilk_syntax.specs.declared.tree.Parameter.{Parameter}
 use Rattle.cilk_syntax.specs.declared.tree.Expr as exprs
 use Rattle.cilk_syntax.specs.declared.tree.Argument as declared_arguments
 use Rattle.cilk_syntax.specs.declared.tree.Call as declared_calls
-use Rattle.cilk_syntax.specs.declared.tree.Place as declared_places
-use Rattle.cilk_syntax.specs.declared.tree.Place.TheVariants as places
+use Rattle.cilk_syntax.specs.declared.tree.Lvalue as declared_places
+use Rattle.cilk_syntax.specs.declared.tree.Lvalue.TheVariants as places
 use Rattle.cilk_syntax.specs.declared.tree.Assignment as declared_assignments
 use Rattle.cilk_syntax.specs.declared.tree.Assignment.TheVariants as assignments
 use Rattle.cilk_syntax.specs.declared.tree.LocalInitializer as declared_initializers
@@ -52,15 +52,15 @@ pub record Call : Type 0 where
   pub arguments : List Argument
 
 -- what an assignment writes to
-pub data Place : Type 0 where
-  Variable : (name : Name) → Place
-  Element : (name : Name) (index : Expression) → Place
+pub data Lvalue : Type 0 where
+  Variable : (name : Name) → Lvalue
+  Element : (name : Name) (index : Expression) → Lvalue
 
 pub data Assignment : Type 0 where
-  Set : (place : Place) (value : Expression) → Assignment
-  Compound : (operator : compounds.Compound) (place : Place) (value : Expression) → Assignment
-  Increment : (place : Place) → Assignment
-  Decrement : (place : Place) → Assignment
+  Set : (place : Lvalue) (value : Expression) → Assignment
+  Compound : (operator : compounds.Compound) (place : Lvalue) (value : Expression) → Assignment
+  Increment : (place : Lvalue) → Assignment
+  Decrement : (place : Lvalue) → Assignment
 
 -- what stands behind a local variable's name
 pub data LocalInitializer : Type 0 where
@@ -141,9 +141,9 @@ arguments_of (a ∷ list) = argument a ∷ arguments_of list
 abbrev pub call : declared_calls.Call → Call
 call c = record { name = c.name; arguments = arguments_of c.arguments.items }
 
-abbrev pub place : declared_places.Place → Place
-place (places.Variable name) = Place.Variable name
-place (places.Element name e) = Place.Element name (expression e.value)
+abbrev pub place : declared_places.Lvalue → Lvalue
+place (places.Variable name) = Lvalue.Variable name
+place (places.Element name e) = Lvalue.Element name (expression e.value)
 
 abbrev pub assignment : declared_assignments.Assignment → Assignment
 assignment (assignments.Set p e) = Assignment.Set (place p) (expression e.value)

@@ -88,7 +88,7 @@ pub struct Call {
 
 /// What an assignment writes to: a variable, or an element of an array.
 #[derive(Drop)]
-pub enum Place {
+pub enum Lvalue {
     Variable(Name),
     Element(Name, Box<Expr>),
 }
@@ -96,10 +96,10 @@ pub enum Place {
 /// An assignment: `=`, one of `+=`, `-=` and `*=`, `++`, or `--`.
 #[derive(Drop)]
 pub enum Assignment {
-    Set(Place, Box<Expr>),
-    Compound(Compound, Place, Box<Expr>),
-    Increment(Place),
-    Decrement(Place),
+    Set(Lvalue, Box<Expr>),
+    Compound(Compound, Lvalue, Box<Expr>),
+    Increment(Lvalue),
+    Decrement(Lvalue),
 }
 
 /// What stands behind a local variable's name: nothing, `=` and an expression, or `=` and a call.

@@ -13,7 +13,7 @@ use Rattle.cilk_types.specs.declared.invocation.Invocation.{Invocation}
 use Rattle.cilk_types.specs.declared.invocation.Invocation.TheVariants as invocations
 use Rattle.cilk_syntax.specs.Trees as trees
 use Rattle.cilk_syntax.specs.Trees.{Expression, Argument, Call, Assignment, Local, LocalInitializer, Beginning, Bounds}
-use Rattle.cilk_grammar.specs.Grammar.{Is, IsName, SpellsExpr, SpellsInside, SpellsEnded, SpellsOptional, SpellsArgument, SpellsMoreArguments, SpellsArguments, SpellsCall, SpellsInvoked, SpellsPlace, SpellsAssignment}
+use Rattle.cilk_grammar.specs.Grammar.{Is, IsName, SpellsExpr, SpellsInside, SpellsEnded, SpellsOptional, SpellsArgument, SpellsMoreArguments, SpellsArguments, SpellsCall, SpellsInvoked, SpellsLvalue, SpellsAssignment}
 use Rattle.cilk_grammar.specs.Stops.{NotFirst}
 use Rattle.cilk_unambiguous.proofs.Tokens.{heads, same_is, same_name, is_name, apart, Starts, not_first, not_it}
 use Rattle.cilk_unambiguous.proofs.Reading.{Ends, ends, ends_at, one_expression, no_expression, no_call}
@@ -125,26 +125,26 @@ no_invocation e invocations.Call c ts us r s p h x k =
     let d = calls c us s k in no_call e d.0 ts r us d.1 d.2 p h x d.3 d.4
 no_invocation e invocations.Spawn c ts us r s p h x k = no_expression e ts r us k.0 p h x k.1 (λ n. refl)
 
-pub one_place : (a b : trees.Place) (ts us r s : List Token) → ts ≡ us → SpellsPlace a ts r → SpellsPlace b us s
+pub one_place : (a b : trees.Lvalue) (ts us r s : List Token) → ts ≡ us → SpellsLvalue a ts r → SpellsLvalue b us s
     → NotFirst kinds.OpenBracket r → NotFirst kinds.OpenBracket s → (a ≡ b) × (r ≡ s)
-one_place (trees.Place.Variable m) (trees.Place.Variable n) ts us r s p h k x y =
-    let a = same_name p h k in (ap (λ z. trees.Place.Variable z) a.0, a.1)
-one_place (trees.Place.Variable m) (trees.Place.Element n f) ts us r s p h k x y = not_it (same_name p h k.3).1 x k.4
-one_place (trees.Place.Element m e) (trees.Place.Variable n) ts us r s p h k x y =
+one_place (trees.Lvalue.Variable m) (trees.Lvalue.Variable n) ts us r s p h k x y =
+    let a = same_name p h k in (ap (λ z. trees.Lvalue.Variable z) a.0, a.1)
+one_place (trees.Lvalue.Variable m) (trees.Lvalue.Element n f) ts us r s p h k x y = not_it (same_name p h k.3).1 x k.4
+one_place (trees.Lvalue.Element m e) (trees.Lvalue.Variable n) ts us r s p h k x y =
     not_it (sym (same_name p h.3 k).1) y h.4
-one_place (trees.Place.Element m e) (trees.Place.Element n f) ts us r s p h k x y =
+one_place (trees.Lvalue.Element m e) (trees.Lvalue.Element n f) ts us r s p h k x y =
     let a = same_name p h.3 k.3 in
     let b = same_is a.1 h.4 k.4 in
     let c = one_expression e f h.1 k.1 h.2 k.2 b.1 h.5 k.5 (ends_at h.6 refl) (ends_at k.6 refl) in
-    (ap (λ z. trees.Place.Element z e) a.0 ∙ ap (λ z. trees.Place.Element n z) c.0, (same_is c.1 h.6 k.6).1)
+    (ap (λ z. trees.Lvalue.Element z e) a.0 ∙ ap (λ z. trees.Lvalue.Element n z) c.0, (same_is c.1 h.6 k.6).1)
 
 -- a place begins with a name
-place_starts : (a : trees.Place) (ts r : List Token) → SpellsPlace a ts r → Starts kinds.Name ts
-place_starts (trees.Place.Variable m) ts r h = (r, is_name h)
-place_starts (trees.Place.Element m e) ts r h = (h.0, is_name h.3)
+place_starts : (a : trees.Lvalue) (ts r : List Token) → SpellsLvalue a ts r → Starts kinds.Name ts
+place_starts (trees.Lvalue.Variable m) ts r h = (r, is_name h)
+place_starts (trees.Lvalue.Element m e) ts r h = (h.0, is_name h.3)
 
 -- an assignment by its mark, with the expression that it takes or none
-abbrev made : Kind → trees.Place → Option Expression → Assignment
+abbrev made : Kind → trees.Lvalue → Option Expression → Assignment
 made kinds.Assign a (Some e) = Assignment.Set a e
 made kinds.PlusAssign a (Some e) = trees.Compound compounds.Add a e
 made kinds.MinusAssign a (Some e) = trees.Compound compounds.Subtract a e
@@ -173,10 +173,10 @@ is_mark kinds.Decrement = true
 is_mark kind = takes_one kind
 
 pub data Form (a : Assignment) (ts r : List Token) : Type 0 where
-  Front : (kind : Kind) (place : trees.Place) (ts1 : List Token) → is_mark kind ≡ true → Is kind ts ts1
-      → SpellsPlace place ts1 r → a ≡ made kind place None → Form a ts r
-  Back : (kind : Kind) (place : trees.Place) (o : Option Expression) (ts1 ts2 : List Token) → is_mark kind ≡ true
-      → takes_one kind ≡ is_there o → SpellsPlace place ts ts1 → Is kind ts1 ts2 → Taken o ts2 r
+  Front : (kind : Kind) (place : trees.Lvalue) (ts1 : List Token) → is_mark kind ≡ true → Is kind ts ts1
+      → SpellsLvalue place ts1 r → a ≡ made kind place None → Form a ts r
+  Back : (kind : Kind) (place : trees.Lvalue) (o : Option Expression) (ts1 ts2 : List Token) → is_mark kind ≡ true
+      → takes_one kind ≡ is_there o → SpellsLvalue place ts ts1 → Is kind ts1 ts2 → Taken o ts2 r
       → a ≡ made kind place o → Form a ts r
 
 pub form : (a : Assignment) (ts r : List Token) → SpellsAssignment a ts r → Form a ts r
@@ -264,13 +264,13 @@ no_assignment {A} {kind} a ts us r s p h is n =
     apart p o.2 is (λ e. (let x : true ≡ false = sym o.3 ∙ (ap opens e ∙ n) in cc))
 
 -- behind a name that an assignment begins with comes its mark or a bracket
-place_goes : {A : Type 0} (c : trees.Place) (name : Name) (kind j : Kind) (ts us r s y z : List Token) → ts ≡ us
-    → SpellsPlace c ts r → Is j r y → IsName name us s → Is kind s z → kind ≢ kinds.OpenBracket
+place_goes : {A : Type 0} (c : trees.Lvalue) (name : Name) (kind j : Kind) (ts us r s y z : List Token) → ts ≡ us
+    → SpellsLvalue c ts r → Is j r y → IsName name us s → Is kind s z → kind ≢ kinds.OpenBracket
     → (j ≡ kind → r ≡ s → y ≡ z → A) → A
-place_goes (trees.Place.Variable m) name kind j ts us r s y z p h js is ks n f =
+place_goes (trees.Lvalue.Variable m) name kind j ts us r s y z p h js is ks n f =
     let a = same_name p h is in
     let b = same_is a.1 js ks in f b.0 a.1 b.1
-place_goes (trees.Place.Element m e) name kind j ts us r s y z p h js is ks n f =
+place_goes (trees.Lvalue.Element m e) name kind j ts us r s y z p h js is ks n f =
     let a = same_name p h.3 is in
     let b = same_is a.1 h.4 ks in absurd (n (sym b.0))
 
