@@ -6,8 +6,8 @@
 //!
 //! What is here acts on parts of a board, and each contract says exactly what changes: a frame goes on to what it asks for,
 //! and a fault may stand in its place; cells and reducers are touched; a piece arrives at a block; a frame starts another;
-//! continuations are found and withdrawn; a run leaves an outcome. The choices themselves, which put these together, aren't
-//! here yet.
+//! continuations are found and withdrawn; a run leaves an outcome. The choices themselves stand in the crate above, which puts
+//! these together.
 //!
 //! Above it stand definitions by names that no schedule changes. `specs/Desks.antt`: what a choice does, as a step of the free
 //! machine of `cilk_worlds` or none. `specs/Boards.antt`: which state of that machine a board shows. [`laws`] has what is proved
@@ -15,23 +15,23 @@
 #![tactic(auto)]
 
 pub mod acting;
-mod arriving;
-mod asking;
+pub mod arriving;
+pub mod asking;
 pub mod board;
-mod cells;
+pub mod cells;
 pub mod choice;
-mod invoking;
-mod journal;
+pub mod invoking;
+pub mod journal;
 pub mod laws;
 pub mod laws_of_blocks;
 pub mod laws_of_openings;
 pub mod laws_of_starts;
 pub mod noting;
-mod offers;
+pub mod offers;
 pub mod orders;
-mod outcome;
-mod reducers;
+pub mod outcome;
+pub mod reducers;
 pub mod seat;
-mod seats;
-mod stealing;
-mod workers;
+pub mod seats;
+pub mod stealing;
+pub mod workers;
