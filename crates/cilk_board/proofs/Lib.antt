@@ -17,6 +17,7 @@ pub mod Strands
 pub mod Altered
 pub mod Spawned
 pub mod Carries
+pub mod Taking
 pub mod Thieves
 pub mod Waiting
 pub mod Openings
@@ -30,4 +31,5 @@ pub mod Starting
 pub mod Ordinals
 pub mod Limits
 pub mod Choosing
+pub mod GoneOn
 pub mod Synced

@@ -14,6 +14,7 @@ pub mod Thieves
 pub mod Waiting
 pub mod Openings
 pub mod Histories
+pub mod GoneOn
 pub mod Acting
 pub mod Noting
 pub mod Syncing
