@@ -31,3 +31,7 @@ pub mod Ordinals
 pub mod Limits
 pub mod Choosing
 pub mod Synced
+pub mod Renaming
+pub mod Children
+pub mod Invoked
+pub mod Invocations
