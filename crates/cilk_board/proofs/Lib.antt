@@ -33,3 +33,7 @@ pub mod Limits
 pub mod Choosing
 pub mod GoneOn
 pub mod Synced
+pub mod Renaming
+pub mod Children
+pub mod Invoked
+pub mod Invocations
