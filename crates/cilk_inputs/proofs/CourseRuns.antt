@@ -97,7 +97,7 @@ framed_to (Passes (Sets i x)) r n f = f
 framed_to (Passes (Values i x)) r n f = f
 framed_to (Passes (Prints x)) r n f = f
 
-run_all : {W : Type 0} (t : Run W) → run_of (all_asked t) ≡ t
+pub run_all : {W : Type 0} (t : Run W) → run_of (all_asked t) ≡ t
 run_all runs.stop = refl
 run_all (runs.act e r) = ap (λ (z : Run _). runs.act e z) (run_all r)
 run_all (runs.child k w u r) = ap (λ (z : Run _). runs.child k w z (run_of (all_asked r))) (run_all u) ∙ ap (λ (z : Run _). runs.child k w u z) (run_all r)

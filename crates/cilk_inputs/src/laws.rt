@@ -7,6 +7,7 @@ ghost use Rattle.std.specs.Prelude.{Bool, ℤ, List, Option};
 ghost use Rattle.cilk_inputs.specs.Courses.{AskedCourseIsSerial, CoursesAreOne, OwnCourse};
 ghost use Rattle.cilk_inputs.specs.Frames.{AskedCoursesAreSerialRuns, ProgramsHaveOneCourse, SerialRunsAreTheirCourses};
 ghost use Rattle.cilk_inputs.specs.Lists.{AskedStoriesAreOfAskedCourses, CoursesAreAlongPlans, InputsThatDepartNowhere};
+ghost use Rattle.cilk_inputs.specs.Stories.{OwnStory, StoriesAlongHaveValues};
 ghost use Rattle.cilk_monoid.specs.Laws.{MonoidStructure};
 ghost use Rattle.cilk_runs.specs.Runs.{Ask, Deed, Instance};
 
@@ -57,4 +58,14 @@ pub fn asked_stories_are_of_asked_courses<W>()
 /// run of the program, and the values of the course are that run's.
 pub fn inputs_that_depart_nowhere()
     ensures { InputsThatDepartNowhere }
+{}
+
+/// At the language: on its own inputs the story of a run along its plan is the plan's.
+pub fn own_story()
+    ensures { OwnStory }
+{}
+
+/// At the language: on all inputs of words the story along the plan of a serial run is along that plan and has values.
+pub fn stories_along_have_values()
+    ensures { StoriesAlongHaveValues }
 {}
