@@ -2,3 +2,8 @@ pub mod AskedStories
 pub mod CourseFrames
 pub mod CourseLists
 pub mod CourseRuns
+pub mod CourseValues
+pub mod CourseWords
+pub mod LastWrites
+pub mod OneCourse
+pub mod StoryValues

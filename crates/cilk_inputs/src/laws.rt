@@ -4,11 +4,18 @@
 //! on the input, and `same` tells whether two frames are of one function or one loop.
 
 ghost use Rattle.std.specs.Prelude.{Bool, ℤ, List, Option};
-ghost use Rattle.cilk_inputs.specs.Courses.{AskedCourseIsSerial, OwnCourse};
-ghost use Rattle.cilk_inputs.specs.Frames.{AskedCoursesAreSerialRuns, SerialRunsAreTheirCourses};
+ghost use Rattle.cilk_inputs.specs.Courses.{AskedCourseIsSerial, CoursesAreOne, OwnCourse};
+ghost use Rattle.cilk_inputs.specs.Frames.{AskedCoursesAreSerialRuns, ProgramsHaveOneCourse, SerialRunsAreTheirCourses};
 ghost use Rattle.cilk_inputs.specs.Lists.{AskedStoriesAreOfAskedCourses, CoursesAreAlongPlans, InputsThatDepartNowhere};
+ghost use Rattle.cilk_inputs.specs.Stories.{OwnStory, StoriesAlongHaveValues};
 ghost use Rattle.cilk_monoid.specs.Laws.{MonoidStructure};
 ghost use Rattle.cilk_runs.specs.Runs.{Ask, Deed, Instance};
+
+/// On each input a plan's run has a course, the one that `course_of` gives, and no other: at each event of the plan stands what its frame
+/// makes, where the frame's next ask is of that kind, and else the plan's own event.
+pub fn courses_are_one<W, V>()
+    ensures { (M : Instance → MonoidStructure V) (next : W → List (Deed W) → Option (Ask W)) (same : W → W → Bool) → CoursesAreOne W V M next same }
+{}
 
 /// On its own input a run is its own course, and each of its events is asked for.
 pub fn own_course<W, V>()
@@ -18,6 +25,11 @@ pub fn own_course<W, V>()
 /// Where each event of a course is asked for, it is a serial run of the program on that input.
 pub fn asked_course_is_serial<W, V>()
     ensures { (M : Instance → MonoidStructure V) (next : W → List (Deed W) → Option (Ask W)) (same : W → W → Bool) → AskedCourseIsSerial W V M next same }
+{}
+
+/// At the language: a run of a program has one course on each inputs.
+pub fn programs_have_one_course()
+    ensures { ProgramsHaveOneCourse }
 {}
 
 /// At the language: on its own inputs a serial run of a program is its own course, in which each event is asked for.
@@ -46,4 +58,14 @@ pub fn asked_stories_are_of_asked_courses<W>()
 /// run of the program, and the values of the course are that run's.
 pub fn inputs_that_depart_nowhere()
     ensures { InputsThatDepartNowhere }
+{}
+
+/// At the language: on its own inputs the story of a run along its plan is the plan's.
+pub fn own_story()
+    ensures { OwnStory }
+{}
+
+/// At the language: on all inputs of words the story along the plan of a serial run is along that plan and has values.
+pub fn stories_along_have_values()
+    ensures { StoriesAlongHaveValues }
 {}
