@@ -3,18 +3,18 @@ use Rattle.std.specs.Prelude.{◌≡◌, ◌-◌, ℕ, nat_lt, if◌then◌else�
 use Rattle.cilk_script.specs.declared.choices.Choices.{Choices}
 use Rattle.cilk_script.specs.declared.choices.Next.{Next}
 use Rattle.cilk_script.specs.declared.choices.Next.TheVariants as nexts
-use Rattle.cilk_script.specs.declared.script.Order.{Order}
-use Rattle.cilk_script.specs.declared.script.Order.TheVariants.{Run, Steal, All}
+use Rattle.cilk_script.specs.declared.script.LineOrder.{LineOrder}
+use Rattle.cilk_script.specs.declared.script.LineOrder.TheVariants.{Run, Steal, All}
 use Rattle.cilk_script.specs.declared.script.Step.{Step}
 
 -- how many choices an order makes; those of `all` don't count
-abbrev pub count_of : Order → ℕ
+abbrev pub count_of : LineOrder → ℕ
 count_of (Run w n) = n
 count_of (Steal w k) = 1
 count_of All = 0
 
 -- the choices of an order, one by one
-abbrev pub choices_of : Order → List Next
+abbrev pub choices_of : LineOrder → List Next
 choices_of (Run w n) = replicate n (nexts.Run w)
 choices_of (Steal w k) = nexts.Steal w k ∷ []
 choices_of All = nexts.Rounds ∷ []
@@ -30,6 +30,6 @@ abbrev pub choices_left : Choices → List Next
 choices_left c = replicate c.left (nexts.Run c.worker) ++ choices_within c.room c.steps.now
 
 -- the first of these is the next, and the others are left behind it
-abbrev pub IsNext : List Next → Option Next → List Next → Type 0
-IsNext before None after = (before ≡ []) × (after ≡ [])
-IsNext before (Some next) after = before ≡ next ∷ after
+abbrev pub IsNextChoice : List Next → Option Next → List Next → Type 0
+IsNextChoice before None after = (before ≡ []) × (after ≡ [])
+IsNextChoice before (Some next) after = before ≡ next ∷ after

@@ -3,8 +3,8 @@ use Rattle.std.specs.Prelude.{◌≡◌, ◌⊎◌, ◌-◌, ◌<◌, ◌≤◌,
 use Rattle.std.specs.Str.{bytes_eq}
 use Rattle.cilk_lexer.specs.Lexing.{all_digits, front_of, behind, value_of}
 use Rattle.cilk_lexer.specs.declared.lexer.Class.TheVariants.{Line, Solid}
-use Rattle.cilk_script.specs.declared.script.Order.{Order}
-use Rattle.cilk_script.specs.declared.script.Order.TheVariants.{Run, Steal, All}
+use Rattle.cilk_script.specs.declared.script.LineOrder.{LineOrder}
+use Rattle.cilk_script.specs.declared.script.LineOrder.TheVariants.{Run, Steal, All}
 use Rattle.cilk_script.specs.declared.script.ScriptFault.{ScriptFault}
 use Rattle.cilk_script.specs.declared.script.ScriptFault.TheVariants as faults
 use Rattle.cilk_script.specs.declared.script.Step.{Step}
@@ -33,7 +33,7 @@ number [] = None
 number (d ∷ ds) = if all_digits (d ∷ ds) && nat_le (value_of (d ∷ ds)) MAX_NUMBER then Some (value_of (d ∷ ds)) else None
 
 -- `run W N`, where neither is 0
-abbrev pub run_order : Option ℕ → Option ℕ → Option Order
+abbrev pub run_order : Option ℕ → Option ℕ → Option LineOrder
 run_order None n = None
 run_order (Some zero) n = None
 run_order (Some (suc w)) None = None
@@ -41,14 +41,14 @@ run_order (Some (suc w)) (Some zero) = None
 run_order (Some (suc w)) (Some (suc n)) = Some (Run (suc w) (suc n))
 
 -- `steal W K`, where W isn't 0
-abbrev pub steal_order : Option ℕ → Option ℕ → Option Order
+abbrev pub steal_order : Option ℕ → Option ℕ → Option LineOrder
 steal_order None k = None
 steal_order (Some zero) k = None
 steal_order (Some (suc w)) None = None
 steal_order (Some (suc w)) (Some k) = Some (Steal (suc w) k)
 
 -- What up to three words order, where a word that isn't there is empty: `all`, `run W`, `run W N`, `steal W K`.
-abbrev pub words_order : List ℕ → List ℕ → List ℕ → Option Order
+abbrev pub words_order : List ℕ → List ℕ → List ℕ → Option LineOrder
 words_order verb first second =
     if bytes_eq verb (codes "all") then (if is_empty first then Some All else None)
     else if bytes_eq verb (codes "run") then run_order (number first) (if is_empty second then Some 1 else number second)
@@ -56,7 +56,7 @@ words_order verb first second =
     else None
 
 -- what a line with words orders, if it has one of these forms
-abbrev pub order_in : List ℕ → Option Order
+abbrev pub order_in : List ℕ → Option LineOrder
 order_in line =
     if is_empty (trimmed (behind_word (behind_word (behind_word line))))
     then words_order (word line) (word (behind_word line)) (word (behind_word (behind_word line)))
@@ -68,13 +68,13 @@ is_silent [] = true
 is_silent (b ∷ bs) = b == 35
 
 -- the steps of a line with this number
-abbrev pub steps_of : ℕ → List ℕ → Option Order → List Step
+abbrev pub steps_of : ℕ → List ℕ → Option LineOrder → List Step
 steps_of n line None = []
 steps_of n line (Some order) = if is_silent line then [] else record { line = n; order = order } ∷ []
 
 -- a line has a form, or says nothing
 abbrev pub IsLine : List ℕ → Type 0
-IsLine line = (is_silent line ≡ true) ⊎ ((order : Order) × (order_in line ≡ Some order))
+IsLine line = (is_silent line ≡ true) ⊎ ((order : LineOrder) × (order_in line ≡ Some order))
 
 abbrev pub IsBadLine : List ℕ → Type 0
 IsBadLine line = (is_silent line ≡ false) × (order_in line ≡ None)
@@ -91,13 +91,13 @@ pub data Orders : ℕ → ℕ → List ℕ → List Step → Type 0 where
       → Orders n room text (steps_of n (without_return (front_of Line text)) (order_in (without_return (front_of Line text))) ++ steps)
 
 -- The line with number `at` is the first of another form, or holds the byte behind those that the text may have.
-pub data Fails : ℕ → ℕ → List ℕ → ℕ → Type 0 where
-  Long : {n room : ℕ} {text : List ℕ} → behind Line text ≡ [] → room < length text → Fails n room text n
-  LongLine : {n room : ℕ} {b : ℕ} {text rest : List ℕ} → behind Line text ≡ b ∷ rest → room ≤ length (front_of Line text) → Fails n room text n
-  Bad : {n room : ℕ} {text : List ℕ} → behind Line text ≡ [] → length text ≤ room → IsBadLine text → Fails n room text n
-  BadLine : {n room : ℕ} {b : ℕ} {text rest : List ℕ} → behind Line text ≡ b ∷ rest → length (front_of Line text) < room → IsBadLine (without_return (front_of Line text)) → Fails n room text n
+pub data FailsAtLine : ℕ → ℕ → List ℕ → ℕ → Type 0 where
+  Long : {n room : ℕ} {text : List ℕ} → behind Line text ≡ [] → room < length text → FailsAtLine n room text n
+  LongLine : {n room : ℕ} {b : ℕ} {text rest : List ℕ} → behind Line text ≡ b ∷ rest → room ≤ length (front_of Line text) → FailsAtLine n room text n
+  Bad : {n room : ℕ} {text : List ℕ} → behind Line text ≡ [] → length text ≤ room → IsBadLine text → FailsAtLine n room text n
+  BadLine : {n room : ℕ} {b : ℕ} {text rest : List ℕ} → behind Line text ≡ b ∷ rest → length (front_of Line text) < room → IsBadLine (without_return (front_of Line text)) → FailsAtLine n room text n
   Later : {n room at : ℕ} {b : ℕ} {text rest : List ℕ} → behind Line text ≡ b ∷ rest → length (front_of Line text) < room → IsLine (without_return (front_of Line text))
-      → Fails (suc n) (room - suc (length (front_of Line text))) rest at → Fails n room text at
+      → FailsAtLine (suc n) (room - suc (length (front_of Line text))) rest at → FailsAtLine n room text at
 
 -- a script's text orders these steps
 abbrev pub IsScript : List ℕ → List Step → Type 0
@@ -105,7 +105,7 @@ IsScript text steps = Orders 1 MAX_SCRIPT text steps
 
 -- a text that is none, at this line
 abbrev pub IsNoScript : List ℕ → ℕ → Type 0
-IsNoScript text at = Fails 1 MAX_SCRIPT text at
+IsNoScript text at = FailsAtLine 1 MAX_SCRIPT text at
 
 -- a fault is a want of memory, or names that line
 abbrev pub IsFaultOf : List ℕ → ScriptFault → Type 0

@@ -1,9 +1,9 @@
 //! The choices that a script's steps stand for, one by one.
 
 ghost use Rattle.std.specs.Prelude.{◌≡◌};
-ghost use Rattle.cilk_script.specs.Choices.{IsNext, choices_left, choices_within, count_of};
+ghost use Rattle.cilk_script.specs.Choices.{IsNextChoice, choices_left, choices_within, count_of};
 
-use crate::script::{Order, Step};
+use crate::script::{LineOrder, Step};
 
 /// The most choices that a script may order, those of `all` not counted.
 pub const MAX_CHOICES: u32 = 16_000_000;
@@ -47,7 +47,7 @@ impl<'a> Choices<'a> {
 
     /// The next choice, `None` where none is left.
     pub fn next(&mut self) -> Option<Next>
-        ensures { IsNext (choices_left self.old) result (choices_left self.new) }
+        ensures { IsNextChoice (choices_left self.old) result (choices_left self.new) }
     {
         'steps: while self.left == 0 {
             let [step, behind @ ..] = self.steps else {
@@ -61,12 +61,12 @@ impl<'a> Choices<'a> {
             self.steps = behind;
             self.room -= count;
             match step.order {
-                Order::Run { worker, count } => {
+                LineOrder::Run { worker, count } => {
                     self.worker = worker;
                     self.left = count;
                 }
-                Order::Steal { worker, place } => return Some(Next::Steal(worker, place)),
-                Order::All => return Some(Next::Rounds),
+                LineOrder::Steal { worker, place } => return Some(Next::Steal(worker, place)),
+                LineOrder::All => return Some(Next::Rounds),
             }
         }
         self.left -= 1;
@@ -75,12 +75,12 @@ impl<'a> Choices<'a> {
 }
 
 // How many choices an order makes; those of `all` don't count.
-fn count_of(order: Order) -> u32
+fn count_of(order: LineOrder) -> u32
     ensures { result ≡ count_of order }
 {
     match order {
-        Order::Run { worker: _, count } => count,
-        Order::Steal { .. } => 1,
-        Order::All => 0,
+        LineOrder::Run { worker: _, count } => count,
+        LineOrder::Steal { .. } => 1,
+        LineOrder::All => 0,
     }
 }

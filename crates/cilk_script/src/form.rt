@@ -3,11 +3,11 @@
 ghost use Rattle.std.specs.Prelude.{◌≡◌};
 ghost use Rattle.cilk_script.specs.Scripts.{behind_word, number, order_in, run_order, steal_order, trimmed, word, words_order};
 
-use crate::script::{MAX_NUMBER, Order};
+use crate::script::{MAX_NUMBER, LineOrder};
 use cilk_lexer::lexer::{Class, all_digits, split, value_of};
 
 /// What a line with words orders, if it has one of the forms.
-pub fn order(line: &[u8]) -> Option<Order>
+pub fn order(line: &[u8]) -> Option<LineOrder>
     ensures { result ≡ order_in line.now }
 {
     let (verb, rest) = next_word(line);
@@ -20,12 +20,12 @@ pub fn order(line: &[u8]) -> Option<Order>
 }
 
 // What up to three words order. A word that isn't there is empty.
-fn words_order(verb: &[u8], first: &[u8], second: &[u8]) -> Option<Order>
+fn words_order(verb: &[u8], first: &[u8], second: &[u8]) -> Option<LineOrder>
     ensures { result ≡ words_order verb.now first.now second.now }
 {
     if verb == b"all".as_slice() {
         return if first.is_empty() {
-            Some(Order::All)
+            Some(LineOrder::All)
         } else {
             None
         };
@@ -45,7 +45,7 @@ fn words_order(verb: &[u8], first: &[u8], second: &[u8]) -> Option<Order>
 }
 
 // `run W N`, where neither is 0.
-fn run_order(worker: Option<u32>, count: Option<u32>) -> Option<Order>
+fn run_order(worker: Option<u32>, count: Option<u32>) -> Option<LineOrder>
     ensures { result ≡ run_order worker count }
 {
     let worker = worker?;
@@ -53,11 +53,11 @@ fn run_order(worker: Option<u32>, count: Option<u32>) -> Option<Order>
     if worker == 0 || count == 0 {
         return None;
     }
-    Some(Order::Run { worker, count })
+    Some(LineOrder::Run { worker, count })
 }
 
 // `steal W K`, where W isn't 0.
-fn steal_order(worker: Option<u32>, place: Option<u32>) -> Option<Order>
+fn steal_order(worker: Option<u32>, place: Option<u32>) -> Option<LineOrder>
     ensures { result ≡ steal_order worker place }
 {
     let worker = worker?;
@@ -65,7 +65,7 @@ fn steal_order(worker: Option<u32>, place: Option<u32>) -> Option<Order>
     if worker == 0 {
         return None;
     }
-    Some(Order::Steal { worker, place })
+    Some(LineOrder::Steal { worker, place })
 }
 
 // The next word, which is empty where there is none, and what is behind it.

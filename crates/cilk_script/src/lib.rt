@@ -14,4 +14,5 @@
 
 pub mod choices;
 mod form;
+pub mod laws;
 pub mod script;

@@ -15,7 +15,7 @@ pub const MAX_SCRIPT: usize = 1_048_576;
 
 /// What a line orders. Workers count from 1, and continuations from 0.
 #[derive(Clone, Copy, PartialEq, Eq, Debug)]
-pub enum Order {
+pub enum LineOrder {
     /// So many times, the worker goes on with the frame that it holds.
     Run { worker: u32, count: u32 },
     /// The worker takes the continuation at a place.
@@ -28,7 +28,7 @@ pub enum Order {
 #[derive(Clone, Copy, PartialEq, Eq, Debug)]
 pub struct Step {
     pub line: usize,
-    pub order: Order,
+    pub order: LineOrder,
 }
 
 /// Why a text is no script.

@@ -1,7 +1,7 @@
 //! Steps, and the choices that they stand for.
 
 use cilk_script::choices::{Choices, MAX_CHOICES, Next};
-use cilk_script::script::{Order, Step};
+use cilk_script::script::{LineOrder, Step};
 use std::process::Abort;
 
 fn gives(rt: &impl Abort, choices: &mut Choices, wanted: Next) {
@@ -20,11 +20,11 @@ fn ends(rt: &impl Abort, choices: &mut Choices) {
 
 #[test]
 fn one_by_one(rt: HostRuntime) {
-    let run = Order::Run {
+    let run = LineOrder::Run {
         worker: 1,
         count: 2,
     };
-    let steal = Order::Steal {
+    let steal = LineOrder::Steal {
         worker: 2,
         place: 0,
     };
@@ -39,7 +39,7 @@ fn one_by_one(rt: HostRuntime) {
         },
         Step {
             line: 4,
-            order: Order::All,
+            order: LineOrder::All,
         },
     ];
     let mut choices = Choices::new(steps.as_slice());
@@ -53,17 +53,17 @@ fn one_by_one(rt: HostRuntime) {
 
 #[test]
 fn greatest_number_of_choices(rt: HostRuntime) {
-    let within = Order::Run {
+    let within = LineOrder::Run {
         worker: 3,
         count: MAX_CHOICES,
     };
-    let past = Order::Run {
+    let past = LineOrder::Run {
         worker: 3,
         count: MAX_CHOICES + 1,
     };
     let all = Step {
         line: 1,
-        order: Order::All,
+        order: LineOrder::All,
     };
     let steps = [
         all,

@@ -1,15 +1,15 @@
 //! Texts, and the steps that they order, or the line that has another form.
 
-use cilk_script::script::{MAX_SCRIPT, Order, ScriptFault, Step, read};
+use cilk_script::script::{MAX_SCRIPT, LineOrder, ScriptFault, Step, read};
 use std::process::Abort;
 
 fn run(line: usize, worker: u32, count: u32) -> Step {
-    let order = Order::Run { worker, count };
+    let order = LineOrder::Run { worker, count };
     Step { line, order }
 }
 
 fn steal(line: usize, worker: u32, place: u32) -> Step {
-    let order = Order::Steal { worker, place };
+    let order = LineOrder::Steal { worker, place };
     Step { line, order }
 }
 
@@ -32,7 +32,7 @@ fn each_form(rt: HostRuntime) {
     let alloc = rt.alloc();
     let all = Step {
         line: 6,
-        order: Order::All,
+        order: LineOrder::All,
     };
     orders(
         &rt,

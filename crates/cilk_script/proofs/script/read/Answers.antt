@@ -1,7 +1,7 @@
 use Rattle.std.proofs.Common.{◌≡◌, ◌+◌, ◌-◌, ◌<◌, ◌≤◌, suc, ◌∷◌, length, take, drop, sym, ap, ◌∙◌, subst, arith}
 use Rattle.cilk_lexer.specs.Lexing.{behind, front_of}
 use Rattle.cilk_lexer.specs.declared.lexer.Class.TheVariants.{Line}
-use Rattle.cilk_script.specs.Scripts.{Fails, IsLine, IsScript, Last, Later, Long, LongLine, Orders, order_in, steps_of, without_return}
+use Rattle.cilk_script.specs.Scripts.{FailsAtLine, IsLine, IsScript, Last, Later, Long, LongLine, Orders, order_in, steps_of, without_return}
 use Rattle.cilk_script.proofs.Scripts.{handed, last_bad, line_bad, longer, nothing, parted}
 use Rattle.cilk_script.proofs.script.read.Goals as goal
 
@@ -60,6 +60,6 @@ lines-preserved c =
     record {
       script = λ more h. longer c.args.text.now c.lines.line c.lines.room rest c.lines.steps.items c.push_step-in-len1-up.new.steps.items inv.script two.0 after ends few
           c.without_return.result.now is made.0 made.1 more (subst (λ k. Orders (suc c.lines.line) k after more) gone (subst (λ k. Orders k (c.lines.room - (length c.split.result.0.now + 1)) after more) next h));
-      fails = λ at h. inv.fails at (Later ends few good (subst (λ k. Fails (suc c.lines.line) k after at) gone (subst (λ k. Fails k (c.lines.room - (length c.split.result.0.now + 1)) after at) next h)));
+      fails = λ at h. inv.fails at (Later ends few good (subst (λ k. FailsAtLine (suc c.lines.line) k after at) gone (subst (λ k. FailsAtLine k (c.lines.room - (length c.split.result.0.now + 1)) after at) next h)));
       few = (let q = inv.few in let s : length left ≡ suc (length after) = ap length two.1 in let t = c.split.ensures.shorter in omega (arith, q, s, t));
     }
