@@ -33,3 +33,6 @@ pub mod Limits
 pub mod Choosing
 pub mod GoneOn
 pub mod Synced
+pub mod OpenBlocks
+pub mod Parts
+pub mod NewBoards

@@ -20,3 +20,4 @@ pub mod Noting
 pub mod Syncing
 pub mod Starting
 pub mod Ordinals
+pub mod Parts
