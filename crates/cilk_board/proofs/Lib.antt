@@ -36,3 +36,7 @@ pub mod Synced
 pub mod OpenBlocks
 pub mod Parts
 pub mod NewBoards
+pub mod Renaming
+pub mod Children
+pub mod Invoked
+pub mod Invocations

@@ -223,6 +223,7 @@ module _ (code : CodeView) (p : Source) (inputs : List ℤ) (well : IsTrue (is_w
     places = λ v q j u at has. absurd (no_offer v q j u at has);
     once = λ v q r j u at has also. absurd (no_offer v q j u at has);
     waiting = λ j a at. let r = only j a at in ((λ q. let z : Held 0 ≡ Waiting = ap (λ (y : Activation Seat). let x = y.cursor in x.status) r.1 ∙ q in let f : ⊥ = cc in absurd f), (λ q. absurd q));
+    present = λ n is none. is;
   }
     where
       hand : Option ℕ → Option Name
@@ -286,6 +287,7 @@ module _ (code : CodeView) (p : Source) (inputs : List ℤ) (well : IsTrue (is_w
     cells = o.6 CellTotal ∙ sym h.count;
     few_frames = subst (λ n. n ≤ MAX_FRAMES) (sym (o.6 FrameTotal)) (openings_fit p inputs well FrameTotal);
     few_cells = subst (λ n. n ≤ MAX_CELLS) (sym (o.6 CellTotal)) (openings_fit p inputs well CellTotal);
+    eventless = λ j far. ap (λ l. events_of j l) h.journal;
   }
     where
       bare_at : (m : Name) (q : ℕ) (kind : MonoidKind) (n : Name) → (IsAbsent seats name m → ⊥) → (c : Bool) → same_name [] m ≡ c → s.piece m (Reducer n q kind) ≡ unit_of monoid_of (Reducer n q kind)

@@ -418,7 +418,7 @@ children_sit code p inputs name b b' d s s' w k how callee behaves x t u =
       block = λ going. inl (refl, refl, refl);
       written = subst (λ es. AreDeeds p (let q = b'.frames in q.items) renamed s' (length f.items) [] es) (sym (
           ap (λ l. events_of (length f.items) l) u.written ∙ events_more (length f.items) (let e = b.journal in e.items) (record { frame = k; event = invocation how (suc (length f.items)) })
-          ∙ ap (λ c. cond c (events_of (length f.items) (let e = b.journal in e.items) ++ invocation how (suc (length f.items)) ∷ []) (events_of (length f.items) (let e = b.journal in e.items))) (unlike k (length f.items) (λ same. omega (arith, same, less))) ∙ u.unwritten)) tt;
+          ∙ ap (λ c. cond c (events_of (length f.items) (let e = b.journal in e.items) ++ invocation how (suc (length f.items)) ∷ []) (events_of (length f.items) (let e = b.journal in e.items))) (unlike k (length f.items) (λ same. omega (arith, same, less))) ∙ shown.eventless (length f.items) (omega arith))) tt;
     })
 
 pub names_stay_apart : (code : CodeView) (p : Source) (inputs : List ℤ) → NamesStayApart code p inputs

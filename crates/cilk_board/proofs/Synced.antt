@@ -118,7 +118,7 @@ stands_in loose k ks (Invokes Spawn w ∷ ds) after what none h =
     subst (λ q. Stands (stolen_in loose (suc k) (cond (loose k) (ks ++ k ∷ []) ks) (ds ++ Invokes Spawn what ∷ after)) q) is (stands_in loose (suc k) (cond (loose k) (ks ++ k ∷ []) ks) ds after what none (ap loose is ∙ h))
 
 -- a block whose pieces are units is one
-block_unit : (kind : MonoidKind) (kid : ℕ → View) (loose : ℕ → Bool) → ((q : ℕ) → loose q ≡ true → kid q ≡ (views_of kind).unit) → (k : ℕ) (ds : List (Deed World)) → block_view (views_of kind) kid loose ((views_of kind).unit) k ds ≡ (views_of kind).unit
+pub block_unit : (kind : MonoidKind) (kid : ℕ → View) (loose : ℕ → Bool) → ((q : ℕ) → loose q ≡ true → kid q ≡ (views_of kind).unit) → (k : ℕ) (ds : List (Deed World)) → block_view (views_of kind) kid loose ((views_of kind).unit) k ds ≡ (views_of kind).unit
 block_unit kind kid loose h k [] = refl
 block_unit kind kid loose h k (Does (Reads c v) ∷ ds) = block_unit kind kid loose h k ds
 block_unit kind kid loose h k (Does (Writes c v) ∷ ds) = block_unit kind kid loose h k ds

@@ -366,6 +366,7 @@ module _ (code : CodeView) (p : Source) (inputs : List ℤ) (name : ℕ → Name
             (y.0, y.1, y.2 ∙ g.2);
         once = λ v q r j u at has also. let z = worker_was v u at in once_now v q r j z.0 u z.1 z.2 has also;
         waiting = waits_as;
+        present = λ n is none. o.present n is (λ j at. none j (subst (λ z. j < z) (sym same_length) at));
       }
 
   -- ---- names

@@ -633,6 +633,7 @@ module _ (code : CodeView) (p : Source) (inputs : List ℤ) (name : ℕ → Name
       cells = ap (λ z. z CellTotal) st.totals ∙ sh.cells ∙ sym (ap (λ (l : List ℤ). length l) t.cells);
       few_frames = subst (λ n. n ≤ MAX_FRAMES) (ap (λ z. z FrameTotal) (sym st.totals)) sh.few_frames;
       few_cells = subst (λ n. n ≤ MAX_CELLS) (ap (λ z. z CellTotal) (sym st.totals)) sh.few_cells;
+      eventless = λ j far. let e = same_length in written_now j ∙ sh.eventless j (omega (arith, e, far));
     }
       where
         bare_by : (n m : Name) (q : ℕ) (kind : MonoidKind) → IsAbsent old_seats name n → (IsAbsent old_seats name m → ⊥) → (c : Bool) → same_name (name k) m ≡ c → s'.piece m (Reducer n q kind) ≡ unit_of monoid_of (Reducer n q kind)

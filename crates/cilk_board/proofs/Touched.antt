@@ -5,7 +5,7 @@
 -- - `itself`: the frame's own seat;
 -- - `still_holds`, `desk_is`, `tells_is`: workers, the desk, what is told;
 -- - `touched_is`: the law.
-use Rattle.std.proofs.Common.{◌≡◌, inl, inr, ⊎_elim, ◌+◌, ◌<◌, ◌≤◌, ℕ, nat_eq, eq-eqb, eqb-true, Bool, true, false, true≢false, cond, ℤ, List, [], ◌∷◌, ◌++◌, length, map, slice_get, sum, Some, None, refl, sym, ap, ◌∙◌, subst}
+use Rattle.std.proofs.Common.{◌≡◌, inl, inr, ⊎_elim, ◌+◌, ◌<◌, ◌≤◌, ℕ, nat_eq, eq-eqb, eqb-true, Bool, true, false, true≢false, cond, ℤ, List, [], ◌∷◌, ◌++◌, length, map, slice_get, sum, Some, None, refl, sym, ap, ◌∙◌, subst, arith}
 use Rattle.std.proofs.lemmas.Bool.{cases_Bool}
 use Rattle.cilk_types.specs.declared.event.Event as numbered_event
 use Rattle.cilk_types.specs.declared.event.Instance as numbered
@@ -53,7 +53,7 @@ use Rattle.cilk_board.proofs.Onward.{name_off, frame_else, frame_here, size_same
 use Rattle.cilk_board.proofs.Plain.{get_low, length_more, plain_lasts, stolen_plain, joined_plain, end_plain, stolen_sync, end_sync, lays_same}
 use Rattle.cilk_board.proofs.Viewing.{viewing_get, viewing_from, viewing_hands, viewing_offers, viewing_counts}
 
-joined_child : (t : Frames World) (n : Name) (q : ℕ) → joined t (n ++ q ∷ []) ≡ joined_at 1 q (deeds_at (t n))
+pub joined_child : (t : Frames World) (n : Name) (q : ℕ) → joined t (n ++ q ∷ []) ≡ joined_at 1 q (deeds_at (t n))
 joined_child t [] q = refl
 joined_child t (j ∷ []) q = refl
 joined_child t (j ∷ i ∷ n) q = joined_child (below t j) (i ∷ n) q
@@ -462,6 +462,7 @@ module _ (code : CodeView) (p : Source) (inputs : List ℤ) (name : ℕ → Name
             (n.0, n.1, n.2 ∙ g.2);
         once = λ v q i j u at has also. let r = worker_was v u at in o.once v q i j r.0 r.1 (subst (λ f. slice_get f.items q ≡ Some j) r.2 has) (subst (λ f. slice_get f.items i ≡ Some j) r.2 also);
         waiting = λ j a at. let r = was j a at in let g = o.waiting j r.before r.there in ((λ z. g.0 (sym r.status ∙ z)), (λ z. r.status ∙ g.1 z));
+        present = λ n is none. o.present n is (absent_back n none);
       }
 
   -- ---- what is told
@@ -542,6 +543,7 @@ module _ (code : CodeView) (p : Source) (inputs : List ℤ) (name : ℕ → Name
     cells = t.cell_total ∙ sh.cells ∙ sym t.cells;
     few_frames = subst (λ n. n ≤ MAX_FRAMES) (sym t.frame_total) sh.few_frames;
     few_cells = subst (λ n. n ≤ MAX_CELLS) (sym t.cell_total) sh.few_cells;
+    eventless = λ j far. let l = low in let e = same_length in written_else j (λ q. omega (arith, l, e, far, q)) ∙ sh.eventless j (omega (arith, e, far));
   }
     where
       bare_by : (n m : Name) (q : ℕ) (kind : MonoidKind) → IsAbsent old_seats name n → (IsAbsent old_seats name m → ⊥) → (c : Bool) → same_name (name k) m ≡ c → s'.piece m (Reducer n q kind) ≡ unit_of monoid_of (Reducer n q kind)

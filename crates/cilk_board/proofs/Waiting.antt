@@ -535,6 +535,7 @@ module _ (code : CodeView) (p : Source) (inputs : List ℤ) (name : ℕ → Name
             let r = worker_was v u at in
             o.once v q i j r.0 r.1 (subst (λ f. slice_get f.items q ≡ Some j) (offers_same v r.0 u r.2) has) (subst (λ f. slice_get f.items i ≡ Some j) (offers_same v r.0 u r.2) also);
         waiting = waits_as;
+        present = λ n is none. ⊎_elim (λ e. absent_back n none k low e) (λ y. o.present n y (absent_back n none)) is;
       }
     where
       waits_as : (j : ℕ) (a : Activation Seat) → slice_get new_seats j ≡ Some a → ((let x = a.cursor in x.status ≡ Waiting) → IsIn (name j) (name k ∷ d.waiting)) × (IsIn (name j) (name k ∷ d.waiting) → let x = a.cursor in x.status ≡ Waiting)
@@ -599,6 +600,7 @@ module _ (code : CodeView) (p : Source) (inputs : List ℤ) (name : ℕ → Name
     cells = sh.cells ∙ sym (ap (λ (l : List ℤ). length l) h.cells);
     few_frames = sh.few_frames;
     few_cells = sh.few_cells;
+    eventless = λ j far. let e = same_length in written_now j ∙ sh.eventless j (omega (arith, e, far));
   }
 
   hand_is : slice_get d.hands w ≡ Some (Some (name k))

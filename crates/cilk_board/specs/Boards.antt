@@ -192,6 +192,8 @@ module _ (code : CodeView) (p : Source) (inputs : List ℤ) where
     pub places : (w q k : ℕ) (u : Worker) → (let l = b.workers in slice_get l.items w ≡ Some u) → (let o = u.offered in slice_get o.items q ≡ Some k) → (x : Activation Seat) × (let f = b.frames in slice_get f.items k ≡ Some x) × (let a = x.cursor in a.status ≡ Offered w)
     pub once : (w q r k : ℕ) (u : Worker) → (let l = b.workers in slice_get l.items w ≡ Some u) → (let o = u.offered in slice_get o.items q ≡ Some k) → (let o = u.offered in slice_get o.items r ≡ Some k) → q ≡ r
     pub waiting : (k : ℕ) (x : Activation Seat) → (let f = b.frames in slice_get f.items k ≡ Some x) → ((let a = x.cursor in a.status ≡ Waiting) → IsIn (name k) d.waiting) × (IsIn (name k) d.waiting → let a = x.cursor in a.status ≡ Waiting)
+    -- Each frame that waits is there.
+    pub present : (n : Name) → IsIn n d.waiting → (let f = b.frames in IsAbsent f.items name n) → ⊥
 
   -- What is left to be seen of a board after a stop too: frames with what they did, the joins, and the outcome once the first frame has ended.
   pub record Tells (name : ℕ → Name) (b : Board) (s : State World View) : Type 0 where
@@ -226,6 +228,8 @@ module _ (code : CodeView) (p : Source) (inputs : List ℤ) where
     pub cells : let l = b.cells in s.totals CellTotal ≡ length l.items
     pub few_frames : s.totals FrameTotal ≤ MAX_FRAMES
     pub few_cells : s.totals CellTotal ≤ MAX_CELLS
+    -- No event is of a frame that isn't there.
+    pub eventless : (j : ℕ) → length (seats name b s) ≤ j → let e = b.journal in events_of j e.items ≡ []
 
   -- The board shows this state of the free machine, and who has what by names.
   abbrev pub Shows : Board → Desk → State World View → Type 0

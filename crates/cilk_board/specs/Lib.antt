@@ -21,3 +21,4 @@ pub mod Syncing
 pub mod Starting
 pub mod Ordinals
 pub mod Parts
+pub mod Invocations

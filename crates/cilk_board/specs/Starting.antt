@@ -20,7 +20,6 @@ use Rattle.cilk_board.specs.Acting.{IsShown}
 use Rattle.cilk_board.specs.Boards.{Seen, Sits}
 use Rattle.cilk_board.specs.Desks.{Desk}
 use Rattle.cilk_board.specs.Invoking.{IsChild}
-use Rattle.cilk_board.specs.Numbered.{events_of}
 use Rattle.cilk_board.specs.Seats.{changed, counted, started_at}
 use Rattle.cilk_board.specs.Steps.{HasCome}
 
@@ -42,13 +41,12 @@ module _ (code : CodeView) (p : Source) (inputs : List ℤ) where
     pub is_child : let f = b.frames in let c = b.cells in IsChild code (changed (λ _. comes.came) f.items k) k w (length c.items) how callee child
     pub seats_are : let f = b.frames in let g = b'.frames in g.items ≡ changed (λ _. counted (started_at status (length f.items) comes.came)) f.items k ++ child ∷ []
 
-  -- The worker has the new frame then, whose place nothing was written down for; its parent's event is written down, and no continuation is stolen.
+  -- The worker has the new frame then; its parent's event is written down, and no continuation is stolen.
   pub record TakesTurn (b b' : Board) (s s' : State World View) (w k : ℕ) (how : Invocation) : Type 0 where
     pub worker : Worker
     pub at : let l = b'.workers in slice_get l.items w ≡ Some worker
     pub has : let f = b.frames in worker.frame ≡ Some (length f.items)
     pub stolen : s'.stolen ≡ s.stolen
-    pub unwritten : let f = b.frames in let e = b.journal in events_of (length f.items) e.items ≡ []
     pub written : let f = b.frames in let e = b.journal in let l = b'.journal in l.items ≡ e.items ++ (record { frame = k; event = invocation how (suc (length f.items)) }) ∷ []
 
   -- The new frame sees, by names and by numbers at once, what its callee names, and all of it is there.
