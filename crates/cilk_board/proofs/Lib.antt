@@ -33,6 +33,9 @@ pub mod Limits
 pub mod Choosing
 pub mod GoneOn
 pub mod Synced
+pub mod OpenBlocks
+pub mod Parts
+pub mod NewBoards
 pub mod Renaming
 pub mod Children
 pub mod Invoked

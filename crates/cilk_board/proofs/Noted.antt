@@ -210,7 +210,7 @@ module _ (code : CodeView) (p : Source) (inputs : List ℤ) where
 
   -- ---- an event is noted
 
-  views_set : (ws : List Worker) (w : ℕ) (u : Worker) (views : Hypermap) → slice_get ws w ≡ Some u → slice_set ws w (record u { views = views }) ≡ viewing views ws w
+  pub views_set : (ws : List Worker) (w : ℕ) (u : Worker) (views : Hypermap) → slice_get ws w ≡ Some u → slice_set ws w (record u { views = views }) ≡ viewing views ws w
   views_set [] w u views at = refl
   views_set (x ∷ ws) zero u views at =
       let same : u ≡ x = (let q : Some x ≡ Some u = at in cc) in

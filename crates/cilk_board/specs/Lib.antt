@@ -20,4 +20,5 @@ pub mod Noting
 pub mod Syncing
 pub mod Starting
 pub mod Ordinals
+pub mod Parts
 pub mod Invocations
