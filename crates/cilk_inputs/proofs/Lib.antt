@@ -6,4 +6,5 @@ pub mod CourseValues
 pub mod CourseWords
 pub mod LastWrites
 pub mod OneCourse
+pub mod OneRun
 pub mod StoryValues

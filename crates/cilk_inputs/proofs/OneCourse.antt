@@ -103,7 +103,7 @@ same_mark M views m n q g h = absurd (cc q)
 pass_inner : (W : Type 0) (a b : Wish) (x y : Ask W) → x ≡ Pass a → y ≡ Pass b → x ≡ y → a ≡ b
 pass_inner W a b x y g h q = cc
 
-same_event : {W V : Type 0} (M : Instance → MonoidStructure V) (memory : Cell → ℤ) (views : Instance → V) (e x : Event) → ask_of {W = W} e ≡ ask_of x
+pub same_event : {W V : Type 0} (M : Instance → MonoidStructure V) (memory : Cell → ℤ) (views : Instance → V) (e x : Event) → ask_of {W = W} e ≡ ask_of x
     → IsReadRight e memory → IsReadRight x memory → IsViewRight M e views → IsViewRight M x views → e ≡ x
 same_event M memory views (Reads c v) (Reads d w) q g h k l =
     let s : c ≡ d = cc q in

@@ -158,7 +158,7 @@ module _ (p : Source) (inputs : List ℤ) (r : Transcript) (es : List numbers.Ev
   abbrev t : Run World
   t = named p r
 
-  serial : IsSerialRunOn p inputs t
+  pub serial : IsSerialRunOn p inputs t
   serial =
       let h = serial_by_names p inputs r es is.outcome is.named is.runs (set_words p is.words inputs is.inputs_words r es (Leaves is.outcome) is.runs) in
       record { behaves = h.behaves; framed = h.framed; reads = h.serial; values = h.views }
@@ -210,10 +210,10 @@ module _ (p : Source) (inputs : List ℤ) (r : Transcript) (es : List numbers.Ev
     abbrev s : Story
     s = story_on p others r es opening
 
-    course : IsCourseOn p others t c
+    pub course : IsCourseOn p others t c
     course = (programs_have_one p others t).0
 
-    written : AreWritten (cell_number p r) (instance_number p r) (trace (run_of c)) (with_values es (trace (run_of c)))
+    pub written : AreWritten (cell_number p r) (instance_number p r) (trace (run_of c)) (with_values es (trace (run_of c)))
     written =
         let n = numbers_are in
         course_written World View monoid_of (next p others) (same_frame p) (cell_number p r) (instance_number p r) (first_world p) [] (opening_values p others) (unit_of monoid_of) t c es course n.written

@@ -1,4 +1,5 @@
 pub mod Courses
+pub mod Ends
 pub mod Frames
 pub mod Lists
 pub mod Stories

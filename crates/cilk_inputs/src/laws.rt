@@ -4,7 +4,8 @@
 //! on the input, and `same` tells whether two frames are of one function or one loop.
 
 ghost use Rattle.std.specs.Prelude.{Bool, ℤ, List, Option};
-ghost use Rattle.cilk_inputs.specs.Courses.{AskedCourseIsSerial, CoursesAreOne, OwnCourse};
+ghost use Rattle.cilk_inputs.specs.Courses.{AskedCourseIsSerial, CoursesAreOne, OwnCourse, SerialRunsAreOne};
+ghost use Rattle.cilk_inputs.specs.Ends.{InputsRunAlong, NamedRunsAreSerial};
 ghost use Rattle.cilk_inputs.specs.Frames.{AskedCoursesAreSerialRuns, ProgramsHaveOneCourse, SerialRunsAreTheirCourses};
 ghost use Rattle.cilk_inputs.specs.Lists.{AskedStoriesAreOfAskedCourses, CoursesAreAlongPlans, InputsThatDepartNowhere};
 ghost use Rattle.cilk_inputs.specs.Stories.{OwnStory, StoriesAlongHaveValues};
@@ -20,6 +21,11 @@ pub fn courses_are_one<W, V>()
 /// On its own input a run is its own course, and each of its events is asked for.
 pub fn own_course<W, V>()
     ensures { (M : Instance → MonoidStructure V) (next : W → List (Deed W) → Option (Ask W)) (same : W → W → Bool) → OwnCourse W V M next same }
+{}
+
+/// By names, a program has one serial run at most on an input.
+pub fn serial_runs_are_one<W, V>()
+    ensures { (M : Instance → MonoidStructure V) (next : W → List (Deed W) → Option (Ask W)) (same : W → W → Bool) → SerialRunsAreOne W V M next same }
 {}
 
 /// Where each event of a course is asked for, it is a serial run of the program on that input.
@@ -68,4 +74,15 @@ pub fn own_story()
 /// At the language: on all inputs of words the story along the plan of a serial run is along that plan and has values.
 pub fn stories_along_have_values()
     ensures { StoriesAlongHaveValues }
+{}
+
+/// At the language: the serial run of a program of words, by names, is a serial run in the sense of courses.
+pub fn named_runs_are_serial()
+    ensures { NamedRunsAreSerial }
+{}
+
+/// At the language, along an orderly plan: inputs on which the story departs nowhere run as the course says, and where the program's
+/// serial run on them ends without a fault, it is the course.
+pub fn inputs_run_along()
+    ensures { InputsRunAlong }
 {}
