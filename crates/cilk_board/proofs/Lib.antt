@@ -31,3 +31,11 @@ pub mod Ordinals
 pub mod Limits
 pub mod Choosing
 pub mod Synced
+pub mod Retiring
+pub mod Among
+pub mod Ended
+pub mod Outcomes
+pub mod RunsEnd
+pub mod Under
+pub mod Returning
+pub mod HandingIn

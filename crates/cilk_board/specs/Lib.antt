@@ -19,3 +19,5 @@ pub mod Noting
 pub mod Syncing
 pub mod Starting
 pub mod Ordinals
+pub mod Parents
+pub mod Ending
