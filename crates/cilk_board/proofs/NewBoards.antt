@@ -6,18 +6,14 @@
 use Rattle.std.proofs.Common.{◌≡◌, ⊎_elim, ◌+◌, ◌<◌, ℕ, zero, suc, nat_eq, eqb-true, false, if◌then◌else◌, ℤ, pos, List, [], ◌∷◌, ◌++◌, length, replicate, slice_get, Option, Some, None, refl, sym, ap, ap₂, ◌∙◌, subst, length-append, arith}
 use Rattle.std.proofs.lemmas.Bool.{cases_Bool}
 use Rattle.std.proofs.lemmas.List.{length-replicate}
-use Rattle.cilk_types.specs.declared.event.Instance.{Instance}
 use Rattle.cilk_types.specs.declared.invocation.Invocation.TheVariants.{Call}
 use Rattle.cilk_program.specs.declared.ask.Callee.TheVariants as callees
 use Rattle.cilk_program.specs.SerialRun.{cells_of, home_of}
 use Rattle.cilk_program.specs.Syntax.{Source}
 use Rattle.cilk_lower.specs.Code.{CodeView}
-use Rattle.cilk_lower.specs.Layout.{LaysOut, cells_in}
-use Rattle.cilk_lower.specs.declared.code.Owed.TheVariants.{Nothing}
 use Rattle.cilk_frames.specs.Cursor.{CursorView}
 use Rattle.cilk_activations.specs.Sight.{HasScope}
 use Rattle.cilk_activations.specs.declared.activation.Activation.{Activation}
-use Rattle.cilk_board.specs.declared.board.Board.{Board}
 use Rattle.cilk_board.specs.declared.seat.Seat.{Seat}
 use Rattle.cilk_board.specs.declared.seat.Worker.{Worker}
 use Rattle.cilk_board.specs.Openings.{IsNew, first_seat}

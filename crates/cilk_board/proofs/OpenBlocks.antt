@@ -3,7 +3,7 @@
 -- - `kept`: what lies there;
 -- - `own_fresh`, `last_open`: the keys that may come next;
 -- - `keys_not`, `placed_empty`, `own_passes`: a block passes with the own piece where nothing is awaited.
-use Rattle.std.proofs.Common.{◌≡◌, ◌⊎◌, inl, inr, ⊎_elim, ◌+◌, ◌<◌, ◌≤◌, ℕ, suc, nat_eq, Bool, true, false, true≢false, cond, if◌then◌else◌, ℤ, List, [], ◌∷◌, ◌++◌, Option, Some, None, refl, sym, ap, ◌∙◌, subst, arith}
+use Rattle.std.proofs.Common.{◌≡◌, inl, inr, ⊎_elim, ◌+◌, ℕ, suc, Bool, true, false, true≢false, cond, if◌then◌else◌, ℤ, List, [], ◌∷◌, ◌++◌, Option, refl, sym, ap, ◌∙◌, subst, arith}
 use Rattle.std.proofs.lemmas.Bool.{cases_Bool}
 use Rattle.cilk_types.specs.declared.event.Instance as numbered
 use Rattle.cilk_types.specs.declared.invocation.Invocation.TheVariants.{Spawn}
@@ -14,9 +14,9 @@ use Rattle.cilk_lower.specs.Code.{CodeView}
 use Rattle.cilk_activations.specs.declared.activation.Activation.{Activation}
 use Rattle.cilk_join.specs.Joins.{IsFresh, IsOpen, JoinView, arrived_at, has_awaited, opening, passes}
 use Rattle.cilk_join.specs.Products.{Product, nothing, times}
-use Rattle.cilk_join.specs.Rows.{Row, Wait, ahead, is_empty, keys, placed}
+use Rattle.cilk_join.specs.Rows.{Wait, is_empty, keys, placed}
 use Rattle.cilk_join.specs.Waits.{shown}
-use Rattle.cilk_runs.specs.Machine.{Frame, State, started}
+use Rattle.cilk_runs.specs.Machine.{State, started}
 use Rattle.cilk_runs.specs.Monoids.{unit_of}
 use Rattle.cilk_runs.specs.Runs.{Name, Output, Deed, Invokes}
 use Rattle.cilk_runs.proofs.Started.{started_invokes}

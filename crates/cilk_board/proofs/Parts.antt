@@ -4,52 +4,45 @@
 -- - `taken`, `offered`: a continuation that is located is offered, and taken over by what the functions change;
 -- - `calm`, `may_arrive`: a frame that has come to its sync;
 -- - `stays`, `passes_on`: it waits, or its block passes and it makes its sync.
-use Rattle.std.proofs.Common.{◌≡◌, ◌⊎◌, inl, inr, ⊎_elim, ◌+◌, ◌-◌, ◌<◌, ◌≤◌, ℕ, zero, suc, Bool, true, false, true≢false, cond, if◌then◌else◌, Box, ℤ, List, [], ◌∷◌, ◌++◌, length, slice_get, slice_index_or, slice_set, Option, Some, None, refl, sym, ap, ap₂, ◌∙◌, subst, arith}
+use Rattle.std.proofs.Common.{◌≡◌, inr, ◌+◌, ◌<◌, ℕ, zero, suc, Bool, true, false, true≢false, if◌then◌else◌, ℤ, List, [], ◌∷◌, ◌++◌, length, slice_get, slice_index_or, slice_set, Option, Some, None, refl, sym, ap, ap₂, ◌∙◌, subst, arith}
 use Rattle.std.specs.Option.{is_some}
-use Rattle.std.specs.Prelude.{remove}
 use Rattle.cilk_types.specs.declared.event.Event.TheVariants as events
-use Rattle.cilk_types.specs.declared.event.Instance.{Instance}
 use Rattle.cilk_program.specs.declared.ask.Ask.TheVariants as asks
 use Rattle.cilk_program.specs.Syntax.{Source}
 use Rattle.cilk_lower.specs.Code.{CodeView}
-use Rattle.cilk_frames.specs.Cursor.{CursorView}
 use Rattle.cilk_activations.specs.declared.activation.Activation.{Activation}
-use Rattle.cilk_hypermap.specs.Hypermap.{EachKind, view_in}
 use Rattle.cilk_hypermap.specs.declared.hypermap.Hypermap.{Hypermap}
-use Rattle.cilk_join.specs.Joins.{JoinView, IsOpen, MayArrive, arrived_at, has_awaited, opening, passes}
+use Rattle.cilk_join.specs.Joins.{MayArrive, arrived_at, has_awaited, passes}
 use Rattle.cilk_join.specs.Products.{product}
 use Rattle.cilk_join.specs.Waits.{shown}
-use Rattle.cilk_runs.specs.Machine.{Frame, State, deeds_at, started}
+use Rattle.cilk_runs.specs.Machine.{State, deeds_at, started}
 use Rattle.cilk_runs.specs.Runs.{Name, Ask, Pass, Resume, Sync, Deed}
 use Rattle.cilk_runs.proofs.Started.{started_invokes}
 use Rattle.cilk_types.specs.declared.invocation.Invocation.TheVariants.{Spawn}
-use Rattle.cilk_worlds.specs.Machine.{has_ended, next}
+use Rattle.cilk_worlds.specs.Machine.{next}
 use Rattle.cilk_worlds.specs.Reducers.{View}
 use Rattle.cilk_worlds.specs.Worlds.{World}
 use Rattle.cilk_board.specs.declared.board.Board.{Board}
 use Rattle.cilk_board.specs.declared.seat.Seat.{Seat}
 use Rattle.cilk_board.specs.declared.seat.Status.TheVariants.{Held, Offered, Waiting}
 use Rattle.cilk_board.specs.declared.seat.Worker.{Worker}
-use Rattle.cilk_board.specs.Acting.{IsShown}
 use Rattle.cilk_board.specs.Asking.{WentOn}
-use Rattle.cilk_board.specs.Boards.{IsDue, IsWhere, ShowsBy, Sits, is_resuming}
+use Rattle.cilk_board.specs.Boards.{IsWhere, ShowsBy, Sits, is_resuming}
 use Rattle.cilk_board.specs.Desks.{Desk}
-use Rattle.cilk_board.specs.Events.{Arrives, AwaitsLast, block_in}
+use Rattle.cilk_board.specs.Events.{Arrives, block_in}
 use Rattle.cilk_board.specs.Histories.{DidAsAsked}
 use Rattle.cilk_board.specs.Noting.{HasFrame}
 use Rattle.cilk_board.specs.Parts.{Alone, Brought, BringsOwn, ContinuationsAreOffered, ContinuationsAreTaken, FramesPass, FramesStayBehind, OwnPiecesMayArrive, Passed, freed, must_wait, working}
-use Rattle.cilk_board.specs.Seats.{changed, counted, moved_to, robbed, synced, waiting}
+use Rattle.cilk_board.specs.Seats.{changed, moved_to, robbed, synced, waiting}
 use Rattle.cilk_board.specs.Steps.{HasCome, Notes}
 use Rattle.cilk_board.specs.Syncing.{AllArrived, HadPassed, NothingStolen, PassesWith}
-use Rattle.cilk_board.specs.Thieves.{IsOffered, TakesOver}
-use Rattle.cilk_board.specs.Waiting.{StaysBehind, idling}
-use Rattle.cilk_board.specs.Workers.{IsLocated, altered, holding, is_free, is_idle, offers, viewing}
+use Rattle.cilk_board.specs.Waiting.{StaysBehind}
+use Rattle.cilk_board.specs.Workers.{altered, is_free, viewing}
 use Rattle.cilk_board.proofs.Changing.{changed_twice}
 use Rattle.cilk_board.proofs.Histories.{does_as_asked}
 use Rattle.cilk_board.proofs.Nexts.{named_next}
 use Rattle.cilk_board.proofs.Noted.{noted, views_set}
 use Rattle.cilk_board.proofs.OpenBlocks.{last_open, own_fresh, own_passes}
-use Rattle.cilk_board.proofs.Plain.{get_low}
 use Rattle.cilk_board.proofs.Stepped.{kept_by}
 
 -- ---- workers

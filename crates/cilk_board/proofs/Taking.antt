@@ -29,7 +29,7 @@ use Rattle.cilk_board.specs.declared.seat.Seat.{Seat}
 use Rattle.cilk_board.specs.declared.seat.Status.TheVariants.{Held, Offered, Waiting}
 use Rattle.cilk_board.specs.declared.seat.Worker.{Worker}
 use Rattle.cilk_board.specs.Boards.{hand_of, offers_of, IsWhere, Sits, IsDesk, ShowsBy}
-use Rattle.cilk_board.specs.Desks.{Desk, IsIn, steals, withdrawn, without, all_offered, holds}
+use Rattle.cilk_board.specs.Desks.{Desk, IsIn, withdrawn, without, all_offered, holds}
 use Rattle.cilk_board.specs.Numbered.{AreNamed}
 use Rattle.cilk_board.specs.Seats.{changed, moved_to, robbed}
 use Rattle.cilk_board.specs.Thieves.{IsOffered, TakesOver}
