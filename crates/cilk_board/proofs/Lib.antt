@@ -36,6 +36,8 @@ pub mod Synced
 pub mod OpenBlocks
 pub mod Parts
 pub mod NewBoards
+pub mod OverBlocks
+pub mod Stopping
 pub mod Renaming
 pub mod Children
 pub mod Invoked

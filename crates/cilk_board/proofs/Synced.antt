@@ -99,7 +99,7 @@ stays_in loose k ks (Does (Passes m) ∷ ds) q none h = stays_in loose k ks ds q
 stays_in loose k ks (Invokes Call w ∷ ds) q none h = stays_in loose (suc k) ks ds q (sync_none (Invokes Call w) ds none) h
 stays_in loose k ks (Invokes Spawn w ∷ ds) q none h = stays_in loose (suc k) (cond (loose k) (ks ++ k ∷ []) ks) ds q (sync_none (Invokes Spawn w) ds none) (stands_cond (loose k) ks k q h)
 
-stands_in : (loose : ℕ → Bool) (k : ℕ) (ks : List ℕ) (before after : List (Deed World)) (what : World) → HasNoSync after → loose (k + started before) ≡ true → Stands (stolen_in loose k ks (before ++ Invokes Spawn what ∷ after)) (k + started before)
+pub stands_in : (loose : ℕ → Bool) (k : ℕ) (ks : List ℕ) (before after : List (Deed World)) (what : World) → HasNoSync after → loose (k + started before) ≡ true → Stands (stolen_in loose k ks (before ++ Invokes Spawn what ∷ after)) (k + started before)
 stands_in loose k ks [] after what none h =
     let is : k + 0 ≡ k = omega arith in
     let at : loose k ≡ true = ap loose (sym is) ∙ h in
@@ -145,7 +145,7 @@ strands_sync (Does (Ends v gone) ∷ ds) = strands_sync ds
 strands_sync (Does (Passes m) ∷ ds) = in_turn (begins_strand (Passes m)) (strands (ds ++ Does Syncs ∷ [])) (strands ds) (strands_sync ds)
 strands_sync (Invokes how w ∷ ds) = strands_sync ds
 
-empty_list : {A : Type 0} (ws : List A) → is_empty ws ≡ true → ws ≡ []
+pub empty_list : {A : Type 0} (ws : List A) → is_empty ws ≡ true → ws ≡ []
 empty_list [] h = refl
 empty_list (v ∷ ws) h = absurd (true≢false (sym h))
 

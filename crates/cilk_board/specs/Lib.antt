@@ -21,4 +21,5 @@ pub mod Syncing
 pub mod Starting
 pub mod Ordinals
 pub mod Parts
+pub mod Stopping
 pub mod Invocations
