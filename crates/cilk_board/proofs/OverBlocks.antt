@@ -2,8 +2,7 @@
 --
 -- - `ended_by`: each child that was spawned in the block has ended, once the stolen ones have;
 -- - `blocks_are_over`: the law.
-use Rattle.std.proofs.Common.{◌≡◌, ◌⊎◌, ⊎_elim, ◌+◌, ℕ, suc, Bool, true, false, true≢false, cond, if◌then◌else◌, ℤ, List, [], ◌∷◌, ◌++◌, Some, refl, sym, ap, ◌∙◌, subst, arith}
-use Rattle.std.proofs.lemmas.Bool.{cases_Bool}
+use Rattle.std.proofs.Common.{◌≡◌, ⊎_elim, ◌+◌, ℕ, suc, Bool, true, false, true≢false, cond, if◌then◌else◌, ℤ, List, [], ◌∷◌, ◌++◌, Some, refl, sym, ap, ◌∙◌, subst, arith}
 use Rattle.cilk_types.specs.declared.event.Instance as numbered
 use Rattle.cilk_types.specs.declared.invocation.Invocation.TheVariants.{Spawn}
 use Rattle.cilk_program.specs.declared.ask.Ask.TheVariants as asks
@@ -12,9 +11,9 @@ use Rattle.cilk_lower.specs.Code.{CodeView}
 use Rattle.cilk_activations.specs.declared.activation.Activation.{Activation}
 use Rattle.cilk_join.specs.Joins.{JoinView, has_awaited}
 use Rattle.cilk_join.specs.Rows.{Stands, is_empty}
-use Rattle.cilk_runs.specs.Machine.{Frame, State, deeds_at, started}
+use Rattle.cilk_runs.specs.Machine.{State, deeds_at, started}
 use Rattle.cilk_runs.specs.Monoids.{unit_of}
-use Rattle.cilk_runs.specs.Progress.{GoesOn, HasEnded, HasNoSync, child_after}
+use Rattle.cilk_runs.specs.Progress.{GoesOn, HasEnded, child_after}
 use Rattle.cilk_runs.specs.Runs.{Name, Output, Deed, Invokes}
 use Rattle.cilk_worlds.specs.Machine.{has_ended}
 use Rattle.cilk_worlds.specs.Reducers.{View, kind_of, monoid_of}

@@ -5,15 +5,13 @@
 -- - `stops_are_shown`: a fault in place of an event;
 -- - `blocks_are_over`: a sync that need not wait;
 -- - `skips_are_shown`: choices that can't be made.
-use Rattle.std.proofs.Common.{◌≡◌, ◌⊎◌, inl, inr, ⊎_elim, ◌+◌, ◌-◌, ◌<◌, ◌≤◌, ℕ, zero, suc, nat_eq, nat_lt, Bool, true, false, true≢false, cond, if◌then◌else◌, ℤ, List, [], ◌∷◌, ◌++◌, length, map, slice_get, sum, Option, Some, None, refl, sym, ap, ap₂, ◌∙◌, subst, arith, length-append}
+use Rattle.std.proofs.Common.{◌≡◌, inl, inr, ⊎_elim, ◌+◌, ◌-◌, ◌<◌, ◌≤◌, ℕ, zero, suc, Bool, true, false, true≢false, cond, if◌then◌else◌, ℤ, List, [], ◌∷◌, ◌++◌, length, map, slice_get, sum, Option, Some, None, refl, sym, ap, ap₂, ◌∙◌, subst, arith, length-append}
 use Rattle.std.specs.Option.{is_some, option_map}
-use Rattle.std.proofs.lemmas.Bool.{cases_Bool, ltb-false, ltb-true}
+use Rattle.std.proofs.lemmas.Bool.{ltb-false, ltb-true}
 use Rattle.std.proofs.lemmas.List.Sums.{sum_by-cons}
 use Rattle.std.proofs.lemmas.Option.{slice_get-map, slice_get_past}
-use Rattle.cilk_types.specs.declared.event.Instance as numbered
 use Rattle.cilk_types.specs.declared.fault.Fault.{Fault}
 use Rattle.cilk_types.specs.declared.fault.Fault.TheVariants.{TooManyCells, TooManyEvents, TooManyFrames}
-use Rattle.cilk_types.specs.declared.invocation.Invocation.TheVariants.{Spawn}
 use Rattle.cilk_types.specs.declared.outcome.Outcome.{Outcome}
 use Rattle.cilk_program.specs.declared.ask.Ask as language
 use Rattle.cilk_program.specs.declared.ask.Ask.TheVariants as asks
@@ -22,28 +20,24 @@ use Rattle.cilk_lower.specs.Code.{CodeView}
 use Rattle.cilk_lower.specs.Layout.{LaysOut}
 use Rattle.cilk_frames.specs.Cursor.{CursorView}
 use Rattle.cilk_activations.specs.declared.activation.Activation.{Activation}
-use Rattle.cilk_join.specs.Joins.{has_awaited}
-use Rattle.cilk_join.specs.Rows.{Stands, is_empty}
-use Rattle.cilk_join.specs.Waits.{shown}
 use Rattle.cilk_runs.specs.Costs.{Total, TickTotal, EventTotal, FrameTotal, CellTotal, cost, fault_of, is_over, own_fault}
 use Rattle.cilk_runs.specs.Machine.{Frame, IsAsking, State, Stop, Stops, deeds_at, started, strand_of}
-use Rattle.cilk_runs.specs.Monoids.{unit_of}
-use Rattle.cilk_runs.specs.Progress.{BlockHasEnded, GoesOn, HasEnded, HasNoSync, HasStop, MayAsk, child_after}
-use Rattle.cilk_runs.specs.Runs.{Ask, End, Fail, Invoke, Name, Output, Pass, Read, Sync, Write, Deed, Invokes}
+use Rattle.cilk_runs.specs.Progress.{BlockHasEnded, HasStop, MayAsk}
+use Rattle.cilk_runs.specs.Runs.{Ask, End, Fail, Invoke, Name, Pass, Read, Sync, Write, Deed}
 use Rattle.cilk_runs.proofs.Progress.{progress}
-use Rattle.cilk_worlds.specs.Machine.{costs, has_ended, named_ask, next, taken}
-use Rattle.cilk_worlds.specs.Reducers.{View, kind_of, monoid_of}
+use Rattle.cilk_worlds.specs.Machine.{costs, named_ask, next, taken}
+use Rattle.cilk_worlds.specs.Reducers.{View, monoid_of}
 use Rattle.cilk_worlds.specs.Steps.{Next}
 use Rattle.cilk_worlds.specs.Worlds.{World}
 use Rattle.cilk_board.specs.declared.board.Board.{Board}
 use Rattle.cilk_board.specs.declared.choice.Choice.{Choice}
 use Rattle.cilk_board.specs.declared.choice.Choice.TheVariants.{Run, Steal}
 use Rattle.cilk_board.specs.declared.seat.Seat.{Seat}
-use Rattle.cilk_board.specs.declared.seat.Status.TheVariants.{Held, Waiting}
+use Rattle.cilk_board.specs.declared.seat.Status.TheVariants.{Held}
 use Rattle.cilk_board.specs.declared.seat.Worker.{Worker}
 use Rattle.cilk_board.specs.Asking.{refusal}
-use Rattle.cilk_board.specs.Boards.{IsDue, IsWhere, ShowsBy, Tells, hand_of, offers_of}
-use Rattle.cilk_board.specs.Desks.{BlockIsOver, Chooses, Desk, IsSkipped, Skipped, StopsAt, all_offered, skips}
+use Rattle.cilk_board.specs.Boards.{IsDue, IsWhere, ShowsBy, Tells, hand_of}
+use Rattle.cilk_board.specs.Desks.{BlockIsOver, Chooses, Desk, Skipped, all_offered, skips}
 use Rattle.cilk_board.specs.Noting.{HasFrame}
 use Rattle.cilk_board.specs.Numbered.{AreDeeds, events_of}
 use Rattle.cilk_board.specs.Seats.{changed}
@@ -78,8 +72,7 @@ module _ (code : CodeView) (p : Source) (inputs : List ℤ) where
         let low : j < length new = subst (λ n. j < n) (sym same.as_many) (get_low old j a at) in
         let z = get_some new j low in
         let r = same.each j z.0 z.1 in
-        let is : r.0 ≡ a = (let q : Some r.0 ≡ Some a = sym r.1 ∙ at in cc) in
-        (
+        let is : r.0 ≡ a = (let q : Some r.0 ≡ Some a = sym r.1 ∙ at in cc) in (
           (let c = z.0 in c.cursor),
           z.1 ∙ ap (λ (y : Activation Seat). Some y) r.2 ∙ ap (λ (y : Activation Seat). Some (record y { cursor = (let c = z.0 in c.cursor) })) is,
         )
