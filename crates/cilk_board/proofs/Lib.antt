@@ -24,6 +24,7 @@ pub mod OpenBlocks
 pub mod Openings
 pub mod Ordinals
 pub mod Outcomes
+pub mod OverBlocks
 pub mod Parts
 pub mod Placed
 pub mod Plain
@@ -38,6 +39,7 @@ pub mod Seeing
 pub mod Spawned
 pub mod Starting
 pub mod Stepped
+pub mod Stopping
 pub mod Strands
 pub mod Synced
 pub mod Taking

@@ -198,7 +198,7 @@ module _ (code : CodeView) (p : Source) (inputs : List ℤ) where
   must_alone : (x : Seat) → x.merged ≡ false → x.join ≡ None → must_wait x ≡ true → ⊥
   must_alone x q none m = true≢false (sym m ∙ rw (q, none) refl)
 
-  must_await : (x : Seat) → x.merged ≡ false → must_wait x ≡ has_awaited (block_in x.join)
+  pub must_await : (x : Seat) → x.merged ≡ false → must_wait x ≡ has_awaited (block_in x.join)
   must_await x q = rw q refl
 
   pub stays : FramesStayBehind code p inputs

@@ -145,7 +145,7 @@ strands_sync (Does (Ends v gone) ∷ ds) = strands_sync ds
 strands_sync (Does (Passes m) ∷ ds) = in_turn (begins_strand (Passes m)) (strands (ds ++ Does Syncs ∷ [])) (strands ds) (strands_sync ds)
 strands_sync (Invokes how w ∷ ds) = strands_sync ds
 
-empty_list : {A : Type 0} (ws : List A) → is_empty ws ≡ true → ws ≡ []
+pub empty_list : {A : Type 0} (ws : List A) → is_empty ws ≡ true → ws ≡ []
 empty_list [] h = refl
 empty_list (v ∷ ws) h = absurd (true≢false (sym h))
 

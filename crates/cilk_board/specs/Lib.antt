@@ -19,6 +19,7 @@ pub mod Parts
 pub mod Seats
 pub mod Starting
 pub mod Steps
+pub mod Stopping
 pub mod Syncing
 pub mod Thieves
 pub mod Touching

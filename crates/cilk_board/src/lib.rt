@@ -28,6 +28,7 @@ pub mod laws_of_ends;
 pub mod laws_of_openings;
 pub mod laws_of_parts;
 pub mod laws_of_starts;
+pub mod laws_of_stops;
 pub mod noting;
 pub mod offers;
 pub mod orders;
