@@ -35,3 +35,6 @@ pub mod Renaming
 pub mod Children
 pub mod Invoked
 pub mod Invocations
+pub mod Begun
+pub mod Forked
+pub mod Grown
