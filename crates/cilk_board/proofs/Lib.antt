@@ -1,5 +1,6 @@
 pub mod Altered
 pub mod Among
+pub mod Begun
 pub mod Blocks
 pub mod Carried
 pub mod Carries
@@ -9,7 +10,9 @@ pub mod Children
 pub mod Choosing
 pub mod Ended
 pub mod Finals
+pub mod Forked
 pub mod GoneOn
+pub mod Grown
 pub mod HandingIn
 pub mod Histories
 pub mod Invocations
