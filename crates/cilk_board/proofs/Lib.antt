@@ -39,3 +39,5 @@ pub mod RunsEnd
 pub mod Under
 pub mod Returning
 pub mod HandingIn
+pub mod Stages
+pub mod Parents
