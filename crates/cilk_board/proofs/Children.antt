@@ -3,8 +3,10 @@
 -- - `stolen_child`, `end_child`, `strands_child`: one deed more, that starts a child;
 -- - `lays_units`, `carried_unit`: a reducer of which no piece has a view;
 -- - `first_part`, `second_part`, `replicate_at`: places in lists;
--- - `newest_is`, `sum_more`: a worker that offers one continuation more.
-use Rattle.std.proofs.Common.{◌≡◌, ◌⊎◌, inl, inr, ⊎_elim, ◌+◌, ◌<◌, ℕ, zero, suc, Bool, true, false, cond, List, [], ◌∷◌, ◌++◌, length, map, replicate, slice_get, sum, Option, Some, None, refl, sym, ap, ap₂, ◌∙◌, subst, arith}
+-- - `newest_is`, `sum_more`: a worker that offers one continuation more;
+-- - `still_offered`, `was_offered`, `offered_length`, `offers_by`, `not_waiting`: by a call or a spawn.
+use Rattle.std.proofs.Common.{◌≡◌, ◌⊎◌, inl, inr, ⊎_elim, ◌+◌, ◌<◌, ℕ, zero, suc, Bool, true, false, cond, ℤ, pos, List, [], ◌∷◌, ◌++◌, length, map, replicate, slice_get, sum, Option, Some, None, refl, sym, ap, ap₂, ◌∙◌, subst, arith}
+use Rattle.std.proofs.lemmas.List.{length-replicate}
 use Rattle.std.proofs.lemmas.List.Sums.{sum_by-cons}
 use Rattle.cilk_types.specs.declared.event.Instance as numbered
 use Rattle.cilk_types.specs.declared.invocation.Invocation.{Invocation}
@@ -20,11 +22,14 @@ use Rattle.cilk_worlds.specs.Reducers.{View, views_of}
 use Rattle.cilk_worlds.specs.Views.{IsViewOf}
 use Rattle.cilk_worlds.specs.Worlds.{World}
 use Rattle.cilk_worlds.proofs.Views.{are_multiplied}
+use Rattle.cilk_board.specs.declared.seat.Status.TheVariants.{Calling, Offered, Waiting}
 use Rattle.cilk_board.specs.declared.seat.Worker.{Worker}
 use Rattle.cilk_board.specs.Blocks.{stolen_in, IsRun, Lays}
 use Rattle.cilk_board.specs.Boards.{carried, IsUsed, is_resuming, offers_of, run_at, waits_at}
 use Rattle.cilk_board.specs.Desks.{newest_of}
+use Rattle.cilk_board.specs.Invocations.{left_at, newly_offered, offering}
 use Rattle.cilk_board.specs.Workers.{altered}
+use Rattle.cilk_board.proofs.Plain.{length_more}
 use Rattle.cilk_board.proofs.Synced.{block_unit}
 
 -- ---- one deed more
@@ -149,3 +154,32 @@ sum_more F f (x ∷ ws) zero u m at more =
     let is : x ≡ u = (let q : Some x ≡ Some u = at in cc) in
     sum_first (F (f x)) (F x) m (map F ws) (ap (λ z. F (f z)) is ∙ more ∙ ap (λ z. F z + m) (sym is))
 sum_more F f (x ∷ ws) (suc w) u m at more = sum_later (F x) m (map F (altered f ws w)) (map F ws) (sum_more F f ws w u m at more)
+
+-- ---- the frame that starts it
+
+-- a continuation that was offered is offered still, at its place
+pub still_offered : (how : Invocation) (k : ℕ) (ks : List ℕ) (q j : ℕ) → slice_get ks q ≡ Some j → slice_get (offering how k ks) q ≡ Some j
+still_offered Call k ks q j at = at
+still_offered Spawn k ks q j at = first_part ks (k ∷ []) q j at
+
+-- one that is offered was, or it is the newest
+pub was_offered : (how : Invocation) (k : ℕ) (ks : List ℕ) (q j : ℕ) → slice_get (offering how k ks) q ≡ Some j → (slice_get ks q ≡ Some j) ⊎ ((how ≡ Spawn) × (q ≡ length ks) × (k ≡ j))
+was_offered Call k ks q j at = inl at
+was_offered Spawn k ks q j at = ⊎_elim (λ g. inl g) (λ g. inr (refl, g.0, g.1)) (part_of ks k q j at)
+
+pub offered_length : (how : Invocation) (k : ℕ) (ks : List ℕ) → length (offering how k ks) ≡ length ks + newly_offered how
+offered_length Call k ks = omega arith
+offered_length Spawn k ks = length_more ks k
+
+-- the frames whose continuations are offered after it, by names
+abbrev pub offers_by : Invocation → List (List Name) → ℕ → Name → List (List Name)
+offers_by Call ls w n = ls
+offers_by Spawn ls w n = newest_of ls w n
+
+pub not_waiting : (how : Invocation) (w : ℕ) → left_at how w ≡ Waiting → ⊥
+not_waiting Call w q = let z : Calling ≡ Waiting = q in cc
+not_waiting Spawn w q = let z : Offered w ≡ Waiting = q in cc
+
+pub cells_length : (l : List ℤ) (n : ℕ) → length (l ++ replicate n (pos 0)) ≡ length l + n
+cells_length [] n = let e = length-replicate n (pos 0) in omega (arith, e)
+cells_length (x ∷ l) n = let e = cells_length l n in omega (arith, e)

@@ -8,7 +8,7 @@
 use Rattle.std.proofs.Common.{◌≡◌, ◌⊎◌, inl, inr, ⊎_elim, ◌+◌, ◌<◌, ◌≤◌, ℕ, suc, nat_eq, eq-eqb, eqb-true, Bool, true, false, true≢false, cond, ℤ, pos, List, [], ◌∷◌, ◌++◌, length, map, replicate, set, slice_get, sum, Option, Some, None, refl, sym, ap, ap₂, ◌∙◌, subst, arith}
 use Rattle.std.specs.Option.{option_map}
 use Rattle.std.proofs.lemmas.Bool.{cases_Bool, cases_lt}
-use Rattle.std.proofs.lemmas.List.{length-replicate, map-append}
+use Rattle.std.proofs.lemmas.List.{map-append}
 use Rattle.cilk_types.specs.declared.event.Event as numbered_event
 use Rattle.cilk_types.specs.declared.event.Instance as numbered
 use Rattle.cilk_types.specs.declared.invocation.Invocation.{Invocation}
@@ -20,7 +20,7 @@ use Rattle.cilk_program.specs.declared.ask.Callee.{Callee}
 use Rattle.cilk_program.specs.SerialRun.{cells_of, invocation}
 use Rattle.cilk_program.specs.Syntax.{Source}
 use Rattle.cilk_lower.specs.Code.{CodeView}
-use Rattle.cilk_lower.specs.Layout.{LaysOut, cells_in}
+use Rattle.cilk_lower.specs.Layout.{LaysOut}
 use Rattle.cilk_frames.specs.Cursor.{CursorView}
 use Rattle.cilk_frames.specs.Following.{Fits}
 use Rattle.cilk_frames.specs.declared.cursor.Answer.TheVariants.{Done}
@@ -29,14 +29,13 @@ use Rattle.cilk_hypermap.specs.Hypermap.{value_in}
 use Rattle.cilk_join.specs.Joins.{JoinView}
 use Rattle.cilk_join.specs.Products.{Product}
 use Rattle.cilk_join.specs.Waits.{shown}
-use Rattle.cilk_runs.specs.Cuts.{times, joined, joined_at}
+use Rattle.cilk_runs.specs.Cuts.{times}
 use Rattle.cilk_runs.specs.Costs.{Total, TickTotal, EventTotal, FrameTotal, CellTotal, cost}
-use Rattle.cilk_runs.specs.Machine.{Frame, State, HasEnd, Makes, after_deed, after_views, begun, deed_of, deeds_at, effect, joined_by, started}
+use Rattle.cilk_runs.specs.Machine.{Frame, State, Makes, after_deed, after_views, begun, deed_of, deeds_at, effect, joined_by, started}
 use Rattle.cilk_runs.specs.Monoids.{numbers_of, unit_of}
 use Rattle.cilk_runs.specs.Progress.{BlockHasEnded}
-use Rattle.cilk_runs.specs.Runs.{Name, same_name, Cell, Global, Own, Instance, Output, Reducer, Invoke, Deed, Invokes}
+use Rattle.cilk_runs.specs.Runs.{Name, same_name, Cell, Own, Instance, Output, Reducer, Invoke, Deed, Invokes}
 use Rattle.cilk_runs.proofs.Basics.{same_name-refl, same_name-eq}
-use Rattle.cilk_runs.proofs.Joins.{joined_step}
 use Rattle.cilk_runs.proofs.Started.{started_invokes}
 use Rattle.cilk_worlds.specs.Kept.{IsTold}
 use Rattle.cilk_worlds.specs.Machine.{costs, has_ended, next, taken}
@@ -59,46 +58,25 @@ use Rattle.cilk_board.specs.Boards.{carried, IsUsed, greatest, IsBare, hand_of, 
 use Rattle.cilk_board.specs.Desks.{Desk, BlockIsOver, IsIn, Did, Chooses, Settles, does, calls, spawns, newest_of}
 use Rattle.cilk_board.specs.Histories.{DidAsAsked}
 use Rattle.cilk_board.specs.Invocations.{GoesToChild, left_at, newly_offered, offering}
-use Rattle.cilk_board.specs.Numbered.{AreNamed, IsAbsent, size_of, IsCell, IsInstance, IsDeed, AreDeeds, events_of}
+use Rattle.cilk_board.specs.Numbered.{AreNamed, IsAbsent, size_of, IsInstance, IsDeed, AreDeeds, events_of}
 use Rattle.cilk_board.specs.Seats.{changed, counted, seated, started_at}
 use Rattle.cilk_board.specs.Steps.{HasCome}
 use Rattle.cilk_board.proofs.Altered as altering
 use Rattle.cilk_board.proofs.Carried.{plain, unused, carried_ext}
 use Rattle.cilk_board.proofs.Carries as carries
 use Rattle.cilk_board.proofs.Changing.{changed_here, changed_off, changed_length}
-use Rattle.cilk_board.proofs.Children.{stolen_child, end_child, strands_child, lays_units, carried_unit, first_part, second_part, replicate_at, part_of, newest_is, sum_more}
+use Rattle.cilk_board.proofs.Children.{stolen_child, strands_child, lays_units, carried_unit, first_part, part_of, newest_is, sum_more, still_offered, was_offered, offered_length, offers_by, not_waiting, cells_length}
+use Rattle.cilk_board.proofs.Forked as forked
+use Rattle.cilk_board.proofs.Forked.{off_by}
+use Rattle.cilk_board.proofs.Grown.{Grows, grown}
 use Rattle.cilk_board.proofs.Kept.{events_more, deeds_more}
-use Rattle.cilk_board.proofs.Onward.{name_off, longer}
+use Rattle.cilk_board.proofs.Onward.{name_off}
 use Rattle.cilk_board.proofs.Placed.{get_some}
 use Rattle.cilk_board.proofs.Plain.{get_low, length_more, lays_same}
 use Rattle.cilk_board.proofs.Ready as ready
 use Rattle.cilk_board.proofs.Starting.{carries_more, last_there, more_length, sizes_more}
 use Rattle.cilk_board.proofs.Stepped as stepped
-use Rattle.cilk_board.proofs.Touched.{joined_child}
 use Rattle.cilk_board.proofs.Within.{no_fault_then}
-
--- a continuation that was offered is offered still, at its place
-still_offered : (how : Invocation) (k : ℕ) (ks : List ℕ) (q j : ℕ) → slice_get ks q ≡ Some j → slice_get (offering how k ks) q ≡ Some j
-still_offered Call k ks q j at = at
-still_offered Spawn k ks q j at = first_part ks (k ∷ []) q j at
-
--- one that is offered was, or it is the newest
-was_offered : (how : Invocation) (k : ℕ) (ks : List ℕ) (q j : ℕ) → slice_get (offering how k ks) q ≡ Some j → (slice_get ks q ≡ Some j) ⊎ ((how ≡ Spawn) × (q ≡ length ks) × (k ≡ j))
-was_offered Call k ks q j at = inl at
-was_offered Spawn k ks q j at = ⊎_elim (λ g. inl g) (λ g. inr (refl, g.0, g.1)) (part_of ks k q j at)
-
-offered_length : (how : Invocation) (k : ℕ) (ks : List ℕ) → length (offering how k ks) ≡ length ks + newly_offered how
-offered_length Call k ks = omega arith
-offered_length Spawn k ks = length_more ks k
-
--- the frames whose continuations are offered after it, by names
-abbrev pub offers_by : Invocation → List (List Name) → ℕ → Name → List (List Name)
-offers_by Call ls w n = ls
-offers_by Spawn ls w n = newest_of ls w n
-
-not_waiting : (how : Invocation) (w : ℕ) → left_at how w ≡ Waiting → ⊥
-not_waiting Call w q = let z : Calling ≡ Waiting = q in cc
-not_waiting Spawn w q = let z : Offered w ≡ Waiting = q in cc
 
 module _ (code : CodeView) (p : Source) (inputs : List ℤ) (name : ℕ → Name) (b b' : Board) (d : Desk) (s s' : State World View) (w k : ℕ) (how : Invocation) (callee : Callee)
     (lays : LaysOut p code.layout) (sh : ShowsBy code p inputs name b d s) (asked : DidAsAsked p inputs s) (h : HasCome code p inputs b w k (asks.Invoke how callee)) (t : GoesToChild code p inputs b b' w k how callee h)
@@ -208,46 +186,25 @@ module _ (code : CodeView) (p : Source) (inputs : List ℤ) (name : ℕ → Name
   -- ---- frames by name
 
   kid_at : s'.frames kid ≡ Some (begun child_is)
-  kid_at = ap (λ z. z kid) made ∙ rw (same_name-refl kid) refl
-
-  kid_longer : kid ≡ name k → ⊥
-  kid_longer q = longer (name k) (suc (started past)) q
+  kid_at = forked.kid_at p s s' (name k) frame how child_is here fresh going made
 
   here_at : s'.frames (name k) ≡ Some (record frame { deeds = longer_past })
-  here_at = ap (λ z. z (name k)) made ∙ rw (name_off kid (name k) kid_longer, same_name-refl (name k)) refl
+  here_at = forked.here_at p s s' (name k) frame how child_is here fresh going made
 
   else_at : (n : Name) → (name k ≡ n → ⊥) → (kid ≡ n → ⊥) → s'.frames n ≡ s.frames n
-  else_at n ne ne' = ap (λ z. z n) made ∙ rw (name_off kid n ne', name_off (name k) n ne) refl
-
-  off_by : (n n' : Name) → same_name n n' ≡ false → n ≡ n' → ⊥
-  off_by n n' q e = true≢false (sym (same_name-refl n) ∙ ap (λ z. same_name n z) e ∙ q)
+  else_at = forked.else_at p s s' (name k) frame how child_is here fresh going made
 
   ends_same : (n : Name) → has_ended (deeds_at (s'.frames n)) ≡ has_ended (deeds_at (s.frames n))
-  ends_same n = by (same_name kid n) refl (same_name (name k) n) refl
-    where
-      by : (c : Bool) → same_name kid n ≡ c → (e : Bool) → same_name (name k) n ≡ e → has_ended (deeds_at (s'.frames n)) ≡ has_ended (deeds_at (s.frames n))
-      by true c e q =
-          let is = same_name-eq kid n c in
-          ap (λ z. has_ended (deeds_at (s'.frames z))) (sym is) ∙ ap (λ f. has_ended (deeds_at f)) kid_at ∙ sym (ap (λ f. has_ended (deeds_at f)) fresh) ∙ ap (λ z. has_ended (deeds_at (s.frames z))) is
-      by false c true e =
-          let is = same_name-eq (name k) n e in
-          ap (λ z. has_ended (deeds_at (s'.frames z))) (sym is) ∙ ap (λ f. has_ended (deeds_at f)) here_at ∙ ended_more past deed going ∙ sym (ap (λ f. has_ended (deeds_at f)) here ∙ going) ∙ ap (λ z. has_ended (deeds_at (s.frames z))) is
-      by false c false e = ap (λ f. has_ended (deeds_at f)) (else_at n (off_by (name k) n e) (off_by kid n c))
+  ends_same = forked.ends_same p s s' (name k) frame how child_is here fresh going made
 
   sizes : (n : Name) (q : ℕ) → q < size_of p (s.frames n) → q < size_of p (s'.frames n)
   sizes = sizes_more p s s' (name k) frame how child_is here fresh made
 
   size_off : (n : Name) → (kid ≡ n → ⊥) → size_of p (s'.frames n) ≡ size_of p (s.frames n)
-  size_off n ne = by (same_name (name k) n) refl
-    where
-      by : (c : Bool) → same_name (name k) n ≡ c → size_of p (s'.frames n) ≡ size_of p (s.frames n)
-      by true q =
-          let is = same_name-eq (name k) n q in
-          ap (λ z. size_of p (s'.frames z)) (sym is) ∙ ap (λ f. size_of p f) here_at ∙ sym (ap (λ f. size_of p f) here) ∙ ap (λ z. size_of p (s.frames z)) is
-      by false q = ap (λ f. size_of p f) (else_at n (off_by (name k) n q) ne)
+  size_off = forked.size_off p s s' (name k) frame how child_is here fresh going made
 
   size_kid : size_of p (s'.frames kid) ≡ cells_of p callee
-  size_kid = ap (λ f. size_of p f) kid_at
+  size_kid = forked.size_kid p s s' (name k) frame how child_is here fresh going made
 
   -- no frame of the board had the new one's name
   kid_absent : IsAbsent old_seats name kid
@@ -771,30 +728,14 @@ module _ (code : CodeView) (p : Source) (inputs : List ℤ) (name : ℕ → Name
       apart_now i j li lj q =
           ⊎_elim (λ a. ⊎_elim (λ c. named.apart i j a c q) (λ c. absurd (mixed i j a (is_last j lj c) q)) (cases_lt j last)) (λ a. ⊎_elim (λ c. absurd (mixed j i c (is_last i li a) (sym q))) (λ c. is_last i li a ∙ sym (is_last j lj c)) (cases_lt j last)) (cases_lt i last)
 
-  joined_same : (n : Name) (q : ℕ) → joined_at 1 q (deeds_at (s.frames n)) ≡ joined_at 1 q (deeds_at (s'.frames n))
-  joined_same n q =
-      let z = joined_step (name k) s.frames frame deed here (ap (λ f. deeds_at f) fresh) (n ++ q ∷ []) in
-      let step : joined s.frames (n ++ q ∷ []) ≡ joined (after_deed s.frames (name k) frame deed) (n ++ q ∷ []) = omega (arith, z) in
-      sym (joined_child s.frames n q) ∙ step ∙ ap (λ f. joined f (n ++ q ∷ [])) (sym made) ∙ joined_child s'.frames n q
-
-  end_before : (n : Name) → HasEnd (deeds_at (s'.frames n)) → HasEnd (deeds_at (s.frames n))
-  end_before n g = by (same_name kid n) refl (same_name (name k) n) refl
-    where
-      by : (c : Bool) → same_name kid n ≡ c → (e : Bool) → same_name (name k) n ≡ e → HasEnd (deeds_at (s.frames n))
-      by true c e q = absurd (subst (λ f. HasEnd (deeds_at f)) kid_at (subst (λ z. HasEnd (deeds_at (s'.frames z))) (sym (same_name-eq kid n c)) g))
-      by false c true e =
-          let is = same_name-eq (name k) n e in
-          subst (λ z. HasEnd (deeds_at (s.frames z))) is (subst (λ f. HasEnd (deeds_at f)) (sym here) (end_child past how child_is (subst (λ f. HasEnd (deeds_at f)) here_at (subst (λ z. HasEnd (deeds_at (s'.frames z))) (sym is) g))))
-      by false c false e = subst (λ f. HasEnd (deeds_at f)) (else_at n (off_by (name k) n e) (off_by kid n c)) g
-
   tells_is : Tells code p inputs name b' s'
   tells_is =
       let o = sh.tells in record {
         named = named_now;
         here = λ j a at. let z = seats_sit j a at in (z.frame, z.here, z.written);
         absent = λ n none. else_at n (λ q. absent_back n none k low q) (λ q. none last last_low (last_name ∙ q)) ∙ o.absent n (absent_back n none);
-        joins = λ n q. ap (λ l. times (n ++ q ∷ []) l) (m.joins ∙ ap₂ (λ a (f : Frame World). joined_by a (name k) f.deeds ++ s.joins) ask_is frame_is) ∙ o.joins n q ∙ joined_same n q;
-        going = λ z g. o.going h.was_open (end_before [] g);
+        joins = λ n q. ap (λ l. times (n ++ q ∷ []) l) (m.joins ∙ ap₂ (λ a (f : Frame World). joined_by a (name k) f.deeds ++ s.joins) ask_is frame_is) ∙ o.joins n q ∙ forked.joined_same p s s' (name k) frame how child_is here fresh going made n q;
+        going = λ z g. o.going h.was_open (forked.end_before p s s' (name k) frame how child_is here fresh going made [] g);
         over = λ z at. let no : None ≡ Some z = sym h.was_open ∙ sym t.outcome ∙ at in let f : ⊥ = cc in absurd f;
       }
 
@@ -806,63 +747,15 @@ module _ (code : CodeView) (p : Source) (inputs : List ℤ) (name : ℕ → Name
   abbrev new_cells : List ℤ
   new_cells = let c = b'.cells in c.items
 
-  cells_more : length new_cells ≡ length cells + cells_of p callee
-  cells_more = ap (λ (l : List ℤ). length l) t.cells ∙ more cells (cells_in code.layout callee) ∙ ap (λ n. length cells + n) (lays.cells callee)
-    where
-      more : (l : List ℤ) (n : ℕ) → length (l ++ replicate n (pos 0)) ≡ length l + n
-      more [] n = let e = length-replicate n (pos 0) in omega (arith, e)
-      more (x ∷ l) n = let e = more l n in omega (arith, e)
+  cells_are : new_cells ≡ cells ++ replicate (cells_of p callee) (pos 0)
+  cells_are = t.cells ∙ ap (λ n. cells ++ replicate n (pos 0)) (lays.cells callee)
 
   child_base : (let a = t.child in a.base) ≡ length cells
   child_base = let i = t.is_child in i.base_is
 
-  memory_now : (c : Cell) (n : ℕ) → IsCell p new_seats name s' c n → slice_get new_cells n ≡ Some (s'.memory c)
-  memory_now (Global g) n is = ap (λ l. slice_get l n) t.cells ∙ first_part cells (replicate (cells_in code.layout callee) (pos 0)) n (s.memory (Global g)) (sh.memory (Global g) n is) ∙ ap (λ v. Some v) (sym (memory_same (Global g)))
-  memory_now (Own z q) n is =
-      ap (λ l. slice_get l n) t.cells
-      ∙ ⊎_elim (λ o.
-      let lower = get_low old_seats is.0 o.0 o.1 in
-      first_part cells (replicate (cells_in code.layout callee) (pos 0)) n (s.memory (Own z q)) (sh.memory (Own z q) n (is.0, o.0, o.1, is.3, is.4 ∙ ap (λ v. v + q) o.2, subst (λ v. q < v) (size_off z (λ e. kid_absent is.0 lower (is.3 ∙ sym e))) is.5)))
-      (λ o.
-      let at : kid ≡ z = sym last_name ∙ ap name o.0 ∙ is.3 in
-      let place : n ≡ length cells + q = is.4 ∙ ap (λ (a : Activation Seat). a.base + q) (sym o.1) ∙ ap (λ v. v + q) child_base in
-      let inside : q < cells_in code.layout callee = subst (λ v. q < v) (ap (λ v. size_of p (s'.frames v)) (sym at) ∙ size_kid ∙ sym (lays.cells callee)) is.5 in
-      ap (λ v. slice_get (cells ++ replicate (cells_in code.layout callee) (pos 0)) v) place ∙ second_part cells (replicate (cells_in code.layout callee) (pos 0)) q ∙ replicate_at (cells_in code.layout callee) (pos 0) q inside
-      ∙ ap (λ v. Some v) (sym (sh.unwritten kid q kid_absent) ∙ ap (λ v. s.memory (Own v q)) at)) (base_was is.0 is.1 is.2)
-      ∙ ap (λ v. Some v) (sym (memory_same (Own z q)))
-
-  ascends : (i j : ℕ) (x y : Activation Seat) → slice_get new_seats i ≡ Some x → slice_get new_seats j ≡ Some y → i < j → x.base + size_of p (s'.frames (name i)) ≤ y.base
-  ascends i j x y at at' less = ⊎_elim (λ f. ⊎_elim (λ g. both f g) (λ g. first f g) (base_was j y at')) (λ f. let e = one_more in let l = get_low new_seats j y at' in let is = f.0 in absurd (omega (arith, e, l, is, less))) (base_was i x at)
-    where
-      both : (f : (z : Activation Seat) × (slice_get old_seats i ≡ Some z) × (x.base ≡ z.base)) → (z : Activation Seat) × (slice_get old_seats j ≡ Some z) × (y.base ≡ z.base) → x.base + size_of p (s'.frames (name i)) ≤ y.base
-      both f g =
-          let old = sh.ascend i j f.0 g.0 f.1 g.1 less in
-          let e = size_off (name i) (kid_apart i (get_low old_seats i f.0 f.1)) in
-          let u = f.2 in
-          let v = g.2 in
-          omega (arith, old, e, u, v)
-
-      first : (f : (z : Activation Seat) × (slice_get old_seats i ≡ Some z) × (x.base ≡ z.base)) → (last ≡ j) × (t.child ≡ y) → x.base + size_of p (s'.frames (name i)) ≤ y.base
-      first f g =
-          let old = sh.within i f.0 f.1 in
-          let e = size_off (name i) (kid_apart i (get_low old_seats i f.0 f.1)) in
-          let u = f.2 in
-          let v : y.base ≡ length cells = ap (λ (a : Activation Seat). a.base) (sym g.1) ∙ child_base in
-          omega (arith, old, e, u, v)
-
-  inside : (j : ℕ) (x : Activation Seat) → slice_get new_seats j ≡ Some x → x.base + size_of p (s'.frames (name j)) ≤ length new_cells
-  inside j x at =
-      ⊎_elim (λ f.
-      let old = sh.within j f.0 f.1 in
-      let e = size_off (name j) (kid_apart j (get_low old_seats j f.0 f.1)) in
-      let u = f.2 in
-      let v = cells_more in
-      omega (arith, old, e, u, v))
-      (λ f.
-      let e : size_of p (s'.frames (name j)) ≡ cells_of p callee = ap (λ i. size_of p (s'.frames (name i))) (sym f.0) ∙ ap (λ n. size_of p (s'.frames n)) last_name ∙ size_kid in
-      let u : x.base ≡ length cells = ap (λ (a : Activation Seat). a.base) (sym f.1) ∙ child_base in
-      let v = cells_more in
-      omega (arith, e, u, v)) (base_was j x at)
+  grows : Grows p name old_seats new_seats cells new_cells s s'
+  grows =
+      grown p name old_seats new_seats t.child cells new_cells s s' kid (cells_of p callee) base_was one_more last_name kid_absent size_off size_kid child_base cells_are memory_same (λ q. sh.unwritten kid q kid_absent) sh.memory sh.ascend sh.within
 
   -- ---- the whole
 
@@ -879,17 +772,17 @@ module _ (code : CodeView) (p : Source) (inputs : List ℤ) (name : ℕ → Name
         unstolen = λ n none. ap (λ l. l n) m.stolen ∙ sh.unstolen n (absent_back n none);
         unwritten = λ n q none. memory_same (Own n q) ∙ sh.unwritten n q (absent_back n none);
         bare = λ n z q kind none there. bare_by n z q kind (absent_back n none) there (same_name kid z) refl;
-        memory = memory_now;
+        memory = let g = grows in g.memory;
         first = λ a at.
             ⊎_elim (λ f. subst (λ z. length p.openings ≤ z) (sym f.2) (sh.first f.0 f.1)) (λ f. let l = low in let is = f.0 in absurd (omega (arith, l, is))) (base_was 0 a at);
-        ascend = ascends;
-        within = inside;
+        ascend = let g = grows in g.ascend;
+        within = let g = grows in g.within;
         holds = still_holds;
         desk = desk_is;
         ticks = total_at TickTotal ∙ sym (stepped.spent_is code p inputs name b d s w k (asks.Invoke how callee) lays sh h no_sync) ∙ sym t.ticks;
         events = total_at EventTotal ∙ ap (λ n. n + 1) sh.events ∙ sym (ap (λ (l : List JournalEntry). length l) t.journal ∙ length_more entries (record { frame = k; event = event }));
         frames = let e = one_more in let n = total_at FrameTotal in let f = sh.frames in omega (arith, e, n, f);
-        cells = total_at CellTotal ∙ ap (λ n. n + cells_of p callee) sh.cells ∙ sym cells_more;
+        cells = total_at CellTotal ∙ ap (λ n. n + cells_of p callee) sh.cells ∙ sym (ap (λ (l : List ℤ). length l) cells_are ∙ cells_length cells (cells_of p callee));
         few_frames = subst (λ n. n ≤ MAX_FRAMES) (sym (total_at FrameTotal)) (fine.1 FrameTotal);
         few_cells = subst (λ n. n ≤ MAX_CELLS) (sym (total_at CellTotal)) (fine.1 CellTotal);
         eventless = λ j far. let l = low in let e = one_more in written_else j (λ q. omega (arith, l, e, far, q)) ∙ sh.eventless j (omega (arith, e, far));

@@ -42,3 +42,6 @@ pub mod Renaming
 pub mod Children
 pub mod Invoked
 pub mod Invocations
+pub mod Begun
+pub mod Forked
+pub mod Grown

@@ -1,5 +1,6 @@
 -- A worker's frame starts another, by a call or a spawn: the board before and after, by numbers.
-use Rattle.std.specs.Prelude.{◌≡◌, ◌+◌, ◌-◌, ℕ, suc, ℤ, pos, List, [], ◌∷◌, ◌++◌, length, replicate, Some}
+use Rattle.std.specs.Prelude.{◌≡◌, ◌+◌, ◌-◌, ℕ, suc, ℤ, pos, List, [], ◌∷◌, ◌++◌, length, replicate, slice_get, Some}
+use Rattle.cilk_types.specs.declared.event.Event.{Event}
 use Rattle.cilk_types.specs.declared.invocation.Invocation.{Invocation}
 use Rattle.cilk_types.specs.declared.invocation.Invocation.TheVariants.{Call, Spawn}
 use Rattle.cilk_program.specs.SerialRun.{invocation}
@@ -44,6 +45,44 @@ abbrev pub newly_offered : Invocation → ℕ
 newly_offered Call = 0
 newly_offered Spawn = 1
 
+-- the worker goes on with the frame at a place, and offers the continuation of the one that it had, at place k, where that spawned it
+abbrev pub HandsOver : Invocation → ℕ → ℕ → Worker → Worker → Type 0
+HandsOver how k place u v = (v.frame ≡ Some place) × (v.views ≡ u.views) × (let o = u.offered in let q = v.offered in q.items ≡ offering how k o.items)
+
+-- The frame at place k has gone on as this seat, and nothing else has changed.
+pub record HasGoneOn (b b' : Board) (k : ℕ) (came : Seat) : Type 0 where
+  pub frames : let f = b.frames in let g = b'.frames in g.items ≡ changed (λ _. came) f.items k
+  pub cells : let c = b.cells in let d = b'.cells in d.items ≡ c.items
+  pub workers : let l = b.workers in let m = b'.workers in m.items ≡ l.items
+  pub offered : b'.offered ≡ b.offered
+  pub journal : let e = b.journal in let l = b'.journal in l.items ≡ e.items
+  pub ticks : b'.ticks ≡ b.ticks
+  pub outcome : b'.outcome ≡ b.outcome
+
+-- A frame that the one at place k has started begins, with so many cells: worker w goes on with it, and the starter is elsewhere.
+pub record ChildBegins (b b' : Board) (w k : ℕ) (how : Invocation) (child : Activation Seat) (count : ℕ) : Type 0 where
+  pub before : Worker
+  pub after : Worker
+  pub at : let l = b.workers in slice_get l.items w ≡ Some before
+  pub hands : let f = b.frames in HandsOver how k (length f.items) before after
+  pub workers : let l = b.workers in let m = b'.workers in m.items ≡ altered (λ _. after) l.items w
+  pub frames : let f = b.frames in let g = b'.frames in g.items ≡ changed (started_at (left_at how w) (length f.items)) (f.items ++ child ∷ []) k
+  pub cells : let c = b.cells in let d = b'.cells in d.items ≡ c.items ++ replicate count (pos 0)
+  pub offered : b'.offered ≡ b.offered + newly_offered how
+  pub journal : let e = b.journal in let l = b'.journal in l.items ≡ e.items
+  pub ticks : b'.ticks ≡ b.ticks
+  pub outcome : b'.outcome ≡ b.outcome
+
+-- An event of the frame at place k is written down, its ticks are counted, and nothing else has changed.
+pub record IsNoted (b b' : Board) (k : ℕ) (event : Event) : Type 0 where
+  pub frames : let f = b.frames in let g = b'.frames in g.items ≡ changed counted f.items k
+  pub journal : let e = b.journal in let l = b'.journal in l.items ≡ e.items ++ (record { frame = k; event = event }) ∷ []
+  pub ticks : (a : Activation Seat) → (let f = b.frames in slice_get f.items k ≡ Some a) → b'.ticks ≡ b.ticks + (let x = a.cursor in x.took - x.counted)
+  pub cells : let c = b.cells in let d = b'.cells in d.items ≡ c.items
+  pub workers : let l = b.workers in let m = b'.workers in m.items ≡ l.items
+  pub offered : b'.offered ≡ b.offered
+  pub outcome : b'.outcome ≡ b.outcome
+
 module _ (code : CodeView) (p : Source) (inputs : List ℤ) where
   -- Worker w has the frame at place k, which has come to an invocation. The new frame is the last then, with its cells behind all others, each 0;
   -- the worker has it, with the views that it had.
@@ -61,6 +100,14 @@ module _ (code : CodeView) (p : Source) (inputs : List ℤ) where
     pub journal : let f = b.frames in let e = b.journal in let l = b'.journal in l.items ≡ e.items ++ (record { frame = k; event = invocation how (suc (length f.items)) }) ∷ []
     pub ticks : let y = h.came in b'.ticks ≡ b.ticks + (y.took - y.counted)
     pub outcome : b'.outcome ≡ b.outcome
+
+  -- So does a board where the frame has gone on, the other was made and begun, the event was written down and its ticks were counted, one after
+  -- the other.
+  abbrev pub InvocationsAreNoted : Type 0
+  InvocationsAreNoted =
+      (b went begun b' : Board) (w k : ℕ) (how : Invocation) (callee : Callee) (h : HasCome code p inputs b w k (asks.Invoke how callee)) (child : Activation Seat)
+      → HasGoneOn b went k h.came → (let f = went.frames in let c = went.cells in IsChild code f.items k w (length c.items) how callee child) → ChildBegins went begun w k how child (cells_in code.layout callee)
+      → IsNoted begun b' k (let f = went.frames in invocation how (suc (length f.items))) → GoesToChild b b' w k how callee h
 
   -- A worker's frame that has come to an invocation starts the other: a step of the free machine, and the choice of that worker, by names. The
   -- board shows what comes of it, by the names that it had and the new frame's.

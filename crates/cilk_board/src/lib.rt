@@ -17,6 +17,7 @@
 pub mod acting;
 pub mod arriving;
 pub mod asking;
+pub mod beginning;
 pub mod board;
 pub mod cells;
 pub mod choice;
