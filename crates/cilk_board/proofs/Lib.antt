@@ -45,3 +45,11 @@ pub mod Invocations
 pub mod Begun
 pub mod Forked
 pub mod Grown
+pub mod Retiring
+pub mod Among
+pub mod Ended
+pub mod Outcomes
+pub mod RunsEnd
+pub mod Under
+pub mod Returning
+pub mod HandingIn

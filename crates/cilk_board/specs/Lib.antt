@@ -23,3 +23,5 @@ pub mod Ordinals
 pub mod Parts
 pub mod Stopping
 pub mod Invocations
+pub mod Parents
+pub mod Ending

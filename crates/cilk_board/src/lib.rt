@@ -25,6 +25,7 @@ pub mod invoking;
 pub mod journal;
 pub mod laws;
 pub mod laws_of_blocks;
+pub mod laws_of_ends;
 pub mod laws_of_openings;
 pub mod laws_of_parts;
 pub mod laws_of_starts;

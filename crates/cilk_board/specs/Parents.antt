@@ -1,0 +1,32 @@
+-- What holds of each state that steps lead to: frames outlive the children that they start, and each was started under its own name.
+use Rattle.std.specs.Prelude.{◌≡◌, ◌⊎◌, ℕ, true, false, ℤ, List, [], ◌∷◌, ◌++◌, Some, None}
+use Rattle.cilk_types.specs.declared.invocation.Invocation.{Invocation}
+use Rattle.cilk_types.specs.declared.invocation.Invocation.TheVariants.{Spawn}
+use Rattle.cilk_program.specs.Syntax.{Source}
+use Rattle.cilk_runs.specs.Machine.{Frame, State}
+use Rattle.cilk_runs.specs.Progress.{HasEnded, HasNoSync, child_after}
+use Rattle.cilk_runs.specs.Runs.{Name, Deed, Invokes}
+use Rattle.cilk_worlds.specs.Machine.{has_ended}
+use Rattle.cilk_worlds.specs.Reducers.{View}
+use Rattle.cilk_worlds.specs.Worlds.{World, Sight, world_of}
+use Rattle.cilk_board.specs.Ordinals.{AreCounted}
+
+-- Frame m started a child behind these deeds, and hasn't ended: it has done nothing since; or it spawned the child, the continuation was
+-- stolen, and it has made no sync since.
+pub record GoesBeside (s : State World View) (m : Name) (f : Frame World) (before : List (Deed World)) (how : Invocation) (after : List (Deed World)) : Type 0 where
+  pub goes : has_ended f.deeds ≡ false
+  pub since : (after ≡ []) ⊎ ((how ≡ Spawn) × HasNoSync after × (s.stolen (child_after m before) ≡ true))
+
+pub record OutliveChildren (s : State World View) : Type 0 where
+  -- Each child that was started has ended, or its parent hasn't and goes beside it.
+  pub outlive : (m : Name) (f : Frame World) (before : List (Deed World)) (how : Invocation) (what : World) (after : List (Deed World)) → s.frames m ≡ Some f → f.deeds ≡ before ++ Invokes how what ∷ after
+      → HasEnded World View s (child_after m before) ⊎ GoesBeside s m f before how after
+  -- Continuations were stolen beside spawned children alone, which are there.
+  pub spawned : (m : Name) (f : Frame World) (before : List (Deed World)) (how : Invocation) (what : World) (after : List (Deed World)) → s.frames m ≡ Some f → f.deeds ≡ before ++ Invokes how what ∷ after
+      → s.stolen (child_after m before) ≡ true → how ≡ Spawn
+  pub unstolen : (n : Name) → s.frames n ≡ None → s.stolen n ≡ false
+  pub counted : AreCounted s.frames
+
+-- each frame runs what was started under its name
+abbrev pub AreStarted : Source → State World View → Type 0
+AreStarted p s = (n : Name) (f : Frame World) → s.frames n ≡ Some f → (sight : Sight) × (let w = f.what in w ≡ world_of p n sight w.callee)

@@ -1,0 +1,24 @@
+//! Laws of frames that end. Each is a function that does nothing: its contract is the law.
+
+ghost use Rattle.std.specs.Prelude.{ℤ, List};
+ghost use Rattle.cilk_lower.specs.Code.{CodeView};
+ghost use Rattle.cilk_program.specs.Syntax.{Source};
+ghost use Rattle.cilk_board.specs.Ending.{ArrivalsAreShown, ReturnsAreShown, RunsEnd};
+
+/// The first frame's end is a step of the free machine, by the choice of the worker that has it: the run is over, and leaves the outcome of
+/// that machine's state.
+pub fn runs_end()
+    ensures { (code : CodeView) (p : Source) (inputs : List ℤ) → RunsEnd code p inputs }
+{}
+
+/// The end of a frame that was called, or beside which nobody took the continuation, is a step of the free machine, by the choice of its
+/// worker, which goes on with the parent. No worker offers the parent's continuation then.
+pub fn returns_are_shown()
+    ensures { (code : CodeView) (p : Source) (inputs : List ℤ) → ReturnsAreShown code p inputs }
+{}
+
+/// The end of a frame beside which the continuation was stolen is a step of the free machine, by the choice of its worker: its piece
+/// arrives at its parent's block. Where the block passes, the worker goes on with the parent, at its sync; else it is idle.
+pub fn arrivals_are_shown()
+    ensures { (code : CodeView) (p : Source) (inputs : List ℤ) → ArrivalsAreShown code p inputs }
+{}
