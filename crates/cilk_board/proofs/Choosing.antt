@@ -21,7 +21,7 @@ module _ (p : Source) (inputs : List ℤ) where
   abbrev Lead : List Name → State World View → State World View → Type 0
   Lead ns s s' = Steps World View monoid_of (Next p inputs) (costs p inputs) ns s s'
 
-  one_step : (s s' : State World View) (d d' : Desk) (c : Choice) (t : Comes) → s.stopped ≡ None → Chooses p inputs s d c t s' d' → (ns : List Name) × Lead ns s s'
+  pub one_step : (s s' : State World View) (d d' : Desk) (c : Choice) (t : Comes) → s.stopped ≡ None → Chooses p inputs s d c t s' d' → (ns : List Name) × Lead ns s s'
   one_step s s' d d' c t going (does w n _ _ hand m settles) = (n ∷ [], (s', (going, inl m), refl))
   one_step s s' d d' c t going (waits w n f hand stands open_yet) = ([], refl)
   one_step s s' d d' c t going (steals w k n _ hand on offered m) = (n ∷ [], (s', (going, inr (inl m)), refl))

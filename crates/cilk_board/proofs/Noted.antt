@@ -4,17 +4,24 @@
 -- - `is_ready`: a frame may go on;
 -- - `taken_more`, `ticks_more`: ticks are counted no faster than they are taken;
 -- - `refused_low`, `frames_come`: a frame has come to an ask;
--- - `read_there`, `write_there`, `result_there`: cells are there;
+-- - `read_there`, `write_there`, `result_there`, `reducer_there`: cells and reducers are there;
 -- - `views_set`, `noted`: an event is noted.
-use Rattle.std.proofs.Common.{◌≡◌, ⊎_elim, ◌+◌, ◌-◌, ◌<◌, ◌≤◌, ℕ, zero, suc, nat_lt, Bool, true, false, if◌then◌else◌, ℤ, List, [], ◌∷◌, ◌++◌, length, slice_get, slice_set, Option, Some, None, refl, sym, ap, ◌∙◌, subst, arith}
+use Rattle.std.proofs.Common.{◌≡◌, ⊎_elim, ◌+◌, ◌-◌, ◌<◌, ◌≤◌, ℕ, zero, suc, nat_lt, Bool, true, false, if◌then◌else◌, IsTrue, ℤ, List, [], ◌∷◌, ◌++◌, length, slice_get, slice_set, Option, Some, None, refl, sym, ap, ◌∙◌, subst, arith}
 use Rattle.std.proofs.lemmas.Bool.{ltb-false}
 use Rattle.std.specs.Option.{option_map}
 use Rattle.cilk_types.specs.declared.fault.Fault.{Fault}
 use Rattle.cilk_types.specs.declared.fault.Fault.TheVariants.{TooManyEvents}
 use Rattle.cilk_types.specs.declared.limits.TheConstants.{MAX_TICKS}
+use Rattle.cilk_program.specs.declared.ask.Ask.{Ask}
 use Rattle.cilk_program.specs.declared.ask.Ask.TheVariants as asks
+use Rattle.cilk_program.specs.declared.ask.Callee.{Callee}
+use Rattle.cilk_program.specs.declared.syntax.Reducer.{Reducer}
 use Rattle.cilk_program.specs.Behaviour.{frame_asks}
+use Rattle.cilk_program.specs.Inside.{AskIsThere, body_of}
 use Rattle.cilk_program.specs.Syntax.{Source}
+use Rattle.cilk_program.specs.WellNamed.{reducer_is_there}
+use Rattle.cilk_meaning.proofs.Naming.{well_named_parts}
+use Rattle.cilk_meaning.proofs.Smallness.{reducer_small}
 use Rattle.cilk_meaning.proofs.Ticking.{frame_further}
 use Rattle.cilk_lower.specs.Code.{CodeView}
 use Rattle.cilk_frames.specs.Cursor.{CursorView}
@@ -36,7 +43,7 @@ use Rattle.cilk_board.specs.Asking.{IsReadyFor, refusal}
 use Rattle.cilk_board.specs.Boards.{IsDue, IsWhere, Sits, ShowsBy}
 use Rattle.cilk_board.specs.Desks.{Desk}
 use Rattle.cilk_board.specs.Events.{SeesAt}
-use Rattle.cilk_board.specs.Noting.{SightStays, HasFrame, FramesAreReady, TicksAreMore, FramesCome, ReadCellsAreThere, WrittenCellsAreThere, ResultCellsAreThere, EventsAreNoted}
+use Rattle.cilk_board.specs.Noting.{SightStays, HasFrame, FramesAreReady, TicksAreMore, FramesCome, ReadCellsAreThere, WrittenCellsAreThere, ResultCellsAreThere, ReducersAreThere, EventsAreNoted, reducer_asked}
 use Rattle.cilk_board.specs.Numbered.{CellBoth, IsCell, numbers_in}
 use Rattle.cilk_board.specs.Seats.{changed, counted}
 use Rattle.cilk_board.specs.Workers.{viewing}
@@ -78,6 +85,9 @@ module _ (p : Source) (inputs : List ℤ) (w : World) where
       let less : (let q = frame_asks p inputs w.callee (answers_of (d ∷ ds)) MAX_TICKS in q.left) ≤ (let q = frame_asks p inputs w.callee (answers_of front) MAX_TICKS in q.left) =
       subst (λ l. (let q = frame_asks p inputs w.callee l MAX_TICKS in q.left) ≤ (let q = frame_asks p inputs w.callee (answers_of front) MAX_TICKS in q.left)) (sym same) further in
       omega (arith, less)
+
+none_named : {X : Type 0} (r : Reducer) → None ≡ Some r → X
+none_named r e = let no : ⊥ = cc in absurd no
 
 module _ (code : CodeView) (p : Source) (inputs : List ℤ) where
   module _ (name : ℕ → Name) (b : Board) (d : Desk) (s : State World View) (w k : ℕ) (sh : ShowsBy code p inputs name b d s) (f : HasFrame b w k) where
@@ -172,9 +182,35 @@ module _ (code : CodeView) (p : Source) (inputs : List ℤ) where
       let c = it.0 in
       (c.1, seen.lies_at ∙ ap (λ z. option_map (λ (y : CellBoth). y.1) z) it.1, low_cell name b d s sh c.0 c.1 it.2)
 
+  -- ---- reducers are there
+
+  named_there : (callee : Callee) (ask : Ask) (r : Reducer) → AskIsThere p callee ask → reducer_asked ask ≡ Some r → IsTrue (reducer_is_there p (body_of p callee) r.place r.kind)
+  named_there callee (asks.Create q) r is e = let same : q ≡ r = (let z : Some q ≡ Some r = e in cc) in subst (λ (q : Reducer). IsTrue (reducer_is_there p (body_of p callee) q.place q.kind)) same is.1
+  named_there callee (asks.Update q v) r is e = let same : q ≡ r = (let z : Some q ≡ Some r = e in cc) in subst (λ (q : Reducer). IsTrue (reducer_is_there p (body_of p callee) q.place q.kind)) same is.1
+  named_there callee (asks.Set q v) r is e = let same : q ≡ r = (let z : Some q ≡ Some r = e in cc) in subst (λ (q : Reducer). IsTrue (reducer_is_there p (body_of p callee) q.place q.kind)) same is.1
+  named_there callee (asks.Value q) r is e = let same : q ≡ r = (let z : Some q ≡ Some r = e in cc) in subst (λ (q : Reducer). IsTrue (reducer_is_there p (body_of p callee) q.place q.kind)) same is.1
+  named_there callee asks.Begin r is e = none_named r e
+  named_there callee (asks.Read x) r is e = none_named r e
+  named_there callee (asks.Write x v) r is e = none_named r e
+  named_there callee (asks.Print v) r is e = none_named r e
+  named_there callee (asks.Invoke how c) r is e = none_named r e
+  named_there callee asks.Resume r is e = none_named r e
+  named_there callee asks.Sync r is e = none_named r e
+  named_there callee (asks.Result v) r is e = none_named r e
+  named_there callee (asks.End v) r is e = none_named r e
+  named_there callee (asks.Fault f) r is e = none_named r e
+
+  pub reducer_there : ReducersAreThere code p inputs
+  reducer_there name b d s w k ask r t h named =
+      let sh = t.shows in
+      let o = sh.sits k h.seat h.sits in
+      let seen = o.seen in
+      let is = there code p inputs name b d s w k ask t.lays sh h (λ q. none_named r (sym (ap reducer_asked q) ∙ named)) t.well in
+      ((numbers_in seen.scope, (h.seat, h.sits, seen.numbers)), reducer_small p (well_named_parts p t.well) (body_of p (let f = o.frame in let v = f.what in v.callee)) r.place r.kind (named_there (let f = o.frame in let v = f.what in v.callee) ask r is named))
+
   -- ---- an event is noted
 
-  views_set : (ws : List Worker) (w : ℕ) (u : Worker) (views : Hypermap) → slice_get ws w ≡ Some u → slice_set ws w (record u { views = views }) ≡ viewing views ws w
+  pub views_set : (ws : List Worker) (w : ℕ) (u : Worker) (views : Hypermap) → slice_get ws w ≡ Some u → slice_set ws w (record u { views = views }) ≡ viewing views ws w
   views_set [] w u views at = refl
   views_set (x ∷ ws) zero u views at =
       let same : u ≡ x = (let q : Some x ≡ Some u = at in cc) in

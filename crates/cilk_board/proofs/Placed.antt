@@ -17,7 +17,7 @@ get_there [] k d e h = absurd (omega (arith, h))
 get_there (x ∷ xs) zero d e h = ap Some (sym e)
 get_there (x ∷ xs) (suc k) d e h = get_there xs k d e (omega (arith, h))
 
-get_first : {A : Type 0} (xs ys : List A) (i : ℕ) → i < length xs → slice_get (xs ++ ys) i ≡ slice_get xs i
+pub get_first : {A : Type 0} (xs ys : List A) (i : ℕ) → i < length xs → slice_get (xs ++ ys) i ≡ slice_get xs i
 get_first [] ys i h = absurd (omega (arith, h))
 get_first (x ∷ xs) ys zero h = refl
 get_first (x ∷ xs) ys (suc i) h = get_first xs ys i (omega (arith, h))

@@ -30,7 +30,7 @@ use Rattle.cilk_join.specs.Waits.{shown}
 use Rattle.cilk_runs.specs.Costs.{Total, TickTotal, EventTotal, FrameTotal, CellTotal, cost, fault_of}
 use Rattle.cilk_runs.specs.Machine.{Frame, State, begins_strand, started, strands, block_view, after_views, after_deed, deed_of, deeds_at, effect, joined_by, Makes}
 use Rattle.cilk_runs.specs.Monoids.{numbers_of, unit_of}
-use Rattle.cilk_runs.specs.Progress.{BlockHasEnded, HasEnded, HasNext, HasNoSync, child_after}
+use Rattle.cilk_runs.specs.Progress.{BlockHasEnded, GoesOn, HasEnded, HasNext, HasNoSync, child_after}
 use Rattle.cilk_runs.specs.Runs.{Name, same_name, Cell, Own, Instance, Output, Reducer, Reads, Writes, Syncs, Ends, Passes, Ask, Invoke, Pass, Resume, Sync, End, Deed, Does, Invokes}
 use Rattle.cilk_runs.proofs.Basics.{same_name-refl}
 use Rattle.cilk_runs.proofs.Progress.{progress}
@@ -49,15 +49,17 @@ use Rattle.cilk_board.specs.Blocks.{stolen_in, Lays}
 use Rattle.cilk_board.specs.Boards.{carried, IsBare, hand_of, is_resuming, is_there, run_at, waits_at, IsDue, Keeps, IsWhere, ShowsBy}
 use Rattle.cilk_board.specs.Desks.{Desk, BlockIsOver, Did, Chooses, does, goes_on}
 use Rattle.cilk_board.specs.Events.{block_in}
+use Rattle.cilk_board.specs.GoneOn.{HaveGoneOn, WentOnBehind}
 use Rattle.cilk_board.specs.Histories.{DidAsAsked}
 use Rattle.cilk_board.specs.Numbered.{IsAbsent, IsInstance}
 use Rattle.cilk_board.specs.Seats.{counted, synced}
 use Rattle.cilk_board.specs.Steps.{HasCome, IsDone, Notes}
-use Rattle.cilk_board.specs.Syncing.{PassesWith, HadPassed, NothingStolen, AllArrived, WentOnBehind, SyncsAreShown}
+use Rattle.cilk_board.specs.Syncing.{PassesWith, HadPassed, NothingStolen, AllArrived, SyncsAreShown}
 use Rattle.cilk_board.specs.Touching.{Touches, touched}
 use Rattle.cilk_board.proofs.Blocks as blocks
 use Rattle.cilk_board.proofs.Carried.{plain}
 use Rattle.cilk_board.proofs.Changing.{changed_known}
+use Rattle.cilk_board.proofs.GoneOn.{gone_on_behind}
 use Rattle.cilk_board.proofs.Histories.{does_as_asked}
 use Rattle.cilk_board.proofs.Nexts.{named_next}
 use Rattle.cilk_board.proofs.Onward.{end_of}
@@ -143,11 +145,11 @@ strands_sync (Does (Ends v gone) ∷ ds) = strands_sync ds
 strands_sync (Does (Passes m) ∷ ds) = in_turn (begins_strand (Passes m)) (strands (ds ++ Does Syncs ∷ [])) (strands ds) (strands_sync ds)
 strands_sync (Invokes how w ∷ ds) = strands_sync ds
 
-empty_list : {A : Type 0} (ws : List A) → is_empty ws ≡ true → ws ≡ []
+pub empty_list : {A : Type 0} (ws : List A) → is_empty ws ≡ true → ws ≡ []
 empty_list [] h = refl
 empty_list (v ∷ ws) h = absurd (true≢false (sym h))
 
-module _ (code : CodeView) (p : Source) (inputs : List ℤ) (name : ℕ → Name) (b : Board) (d : Desk) (s : State World View) (w k : ℕ) (lays : LaysOut p code.layout) (sh : ShowsBy code p inputs name b d s) (asked : DidAsAsked p inputs s) (behind : WentOnBehind s (name k) (deeds_at (s.frames (name k))))
+module _ (code : CodeView) (p : Source) (inputs : List ℤ) (name : ℕ → Name) (b : Board) (d : Desk) (s : State World View) (w k : ℕ) (lays : LaysOut p code.layout) (sh : ShowsBy code p inputs name b d s) (asked : DidAsAsked p inputs s) (gone : HaveGoneOn s)
     (h : HasCome code p inputs b w k asks.Sync) where
   abbrev seats : List (Activation Seat)
   seats = let f = b.frames in f.items
@@ -181,6 +183,9 @@ module _ (code : CodeView) (p : Source) (inputs : List ℤ) (name : ℕ → Name
 
   goes : has_ended past ≡ false
   goes = held.4
+
+  behind : WentOnBehind s (name k) (deeds_at (s.frames (name k)))
+  behind = let law = gone_on_behind p inputs in law.behind s (name k) gone (subst (λ f. GoesOn World View s (name k) (deeds_at f)) (sym here) held.3)
 
   dues : (c : CursorView) × (x.cursor ≡ Some c) × IsDue code p inputs what past x.due c x.took
   dues = let o = sh.sits k h.seat h.sits in o.due goes
@@ -475,5 +480,5 @@ module _ (code : CodeView) (p : Source) (inputs : List ℤ) (name : ℕ → Name
     synced_then = let n = next_step in (n.after, settles n.after n.makes, shown_after code p inputs name b b' d s n.after w k Syncs (record { frame = k; event = events.Sync }) sh (touches n.after n.makes))
 
 pub syncs_are_shown : (code : CodeView) (p : Source) (inputs : List ℤ) → SyncsAreShown code p inputs
-syncs_are_shown code p inputs name b b' d s w k lays sh asked behind h views passes notes =
-    synced_then code p inputs name b d s w k lays sh asked behind h b' views (merges code p inputs name b d s w k lays sh asked behind h views passes) notes
+syncs_are_shown code p inputs name b b' d s w k lays sh asked gone h views passes notes =
+    synced_then code p inputs name b d s w k lays sh asked gone h b' views (merges code p inputs name b d s w k lays sh asked gone h views passes) notes

@@ -53,7 +53,7 @@ use Rattle.cilk_board.proofs.Onward.{name_off, frame_else, frame_here, size_same
 use Rattle.cilk_board.proofs.Plain.{get_low, length_more, plain_lasts, stolen_plain, joined_plain, end_plain, stolen_sync, end_sync, lays_same}
 use Rattle.cilk_board.proofs.Viewing.{viewing_get, viewing_from, viewing_hands, viewing_offers, viewing_counts}
 
-joined_child : (t : Frames World) (n : Name) (q : ℕ) → joined t (n ++ q ∷ []) ≡ joined_at 1 q (deeds_at (t n))
+pub joined_child : (t : Frames World) (n : Name) (q : ℕ) → joined t (n ++ q ∷ []) ≡ joined_at 1 q (deeds_at (t n))
 joined_child t [] q = refl
 joined_child t (j ∷ []) q = refl
 joined_child t (j ∷ i ∷ n) q = joined_child (below t j) (i ∷ n) q

@@ -14,10 +14,14 @@ pub mod Thieves
 pub mod Waiting
 pub mod Openings
 pub mod Histories
+pub mod GoneOn
 pub mod Acting
 pub mod Noting
 pub mod Syncing
 pub mod Starting
 pub mod Ordinals
+pub mod Parts
+pub mod Stopping
+pub mod Invocations
 pub mod Parents
 pub mod Ending

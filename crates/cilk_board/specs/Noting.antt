@@ -1,14 +1,16 @@
 -- From what the functions promise by numbers: a frame may go on, it has come to an ask, what it names is there, and its event is noted.
-use Rattle.std.specs.Prelude.{◌≡◌, ◌⊎◌, ◌+◌, ◌-◌, ◌<◌, ◌≤◌, ℕ, ℤ, List, [], ◌∷◌, ◌++◌, length, slice_get, slice_set, Some, None}
+use Rattle.std.specs.Prelude.{◌≡◌, ◌⊎◌, ◌+◌, ◌-◌, ◌<◌, ◌≤◌, ℕ, ℤ, List, [], ◌∷◌, ◌++◌, length, slice_get, slice_set, Option, Some, None}
 use Rattle.cilk_types.specs.declared.event.Event as numbered
 use Rattle.cilk_types.specs.declared.event.Instance.{Instance}
 use Rattle.cilk_types.specs.declared.limits.TheConstants.{MAX_TICKS}
 use Rattle.cilk_program.specs.declared.ask.Ask.{Ask}
 use Rattle.cilk_program.specs.declared.ask.Ask.TheVariants as asks
 use Rattle.cilk_program.specs.declared.syntax.Place.{Place}
+use Rattle.cilk_program.specs.declared.syntax.Reducer.{Reducer}
+use Rattle.cilk_program.specs.declared.syntax.ReducerPlace.{ReducerPlace}
 use Rattle.cilk_program.specs.Scopes.{Scope, cell_in}
 use Rattle.cilk_program.specs.SerialRun.{itself}
-use Rattle.cilk_program.specs.Syntax.{Source}
+use Rattle.cilk_program.specs.Syntax.{Source, number_in}
 use Rattle.cilk_lower.specs.Code.{CodeView}
 use Rattle.cilk_activations.specs.declared.activation.Activation.{Activation}
 use Rattle.cilk_hypermap.specs.declared.hypermap.Hypermap.{Hypermap}
@@ -38,6 +40,27 @@ pub record HasFrame (b : Board) (w k : ℕ) : Type 0 where
 -- the place means a cell of the board to the frame at place k
 abbrev pub CellIsThere : Board → ℕ → Place → Type 0
 CellIsThere b k x = (scope : Scope ℕ Instance) × (let f = b.frames in SeesAt f.items k scope) × (let c = b.cells in cell_in itself scope x < length c.items)
+
+-- the reducer that an ask names
+abbrev pub reducer_asked : Ask → Option Reducer
+reducer_asked asks.Begin = None
+reducer_asked (asks.Read x) = None
+reducer_asked (asks.Write x v) = None
+reducer_asked (asks.Create r) = Some r
+reducer_asked (asks.Update r v) = Some r
+reducer_asked (asks.Set r v) = Some r
+reducer_asked (asks.Value r) = Some r
+reducer_asked (asks.Print v) = None
+reducer_asked (asks.Invoke how callee) = None
+reducer_asked asks.Resume = None
+reducer_asked asks.Sync = None
+reducer_asked (asks.Result v) = None
+reducer_asked (asks.End v) = None
+reducer_asked (asks.Fault f) = None
+
+-- the frame at place k sees something, and the place of a reducer has a small number there
+abbrev pub ReducerIsThere : Board → ℕ → ReducerPlace → Type 0
+ReducerIsThere b k r = ((scope : Scope ℕ Instance) × (let f = b.frames in SeesAt f.items k scope)) × (number_in r < 65536)
 
 -- A frame that has gone on sees what it saw, and its result goes where it went.
 abbrev pub SightStays : Type 0
@@ -75,6 +98,11 @@ module _ (code : CodeView) (p : Source) (inputs : List ℤ) where
   ResultCellsAreThere =
       (name : ℕ → Name) (b : Board) (d : Desk) (s : State World View) (w k : ℕ) (v : ℤ) → IsShown code p inputs name b d s → (h : HasCome code p inputs b w k (asks.Result v))
       → (n : ℕ) × (let a = h.seat in a.result ≡ Some n) × (let c = b.cells in n < length c.items)
+
+  -- the reducers that asks name are there
+  abbrev pub ReducersAreThere : Type 0
+  ReducersAreThere =
+      (name : ℕ → Name) (b : Board) (d : Desk) (s : State World View) (w k : ℕ) (ask : Ask) (r : Reducer) → IsShown code p inputs name b d s → HasCome code p inputs b w k ask → reducer_asked ask ≡ Some r → ReducerIsThere b k r.place
 
   -- An event is noted where the frame has gone on, acted and had its ticks counted, one after the other, and the worker has the views that
   -- it had or these.

@@ -20,7 +20,6 @@ use Rattle.cilk_board.specs.Acting.{IsShown}
 use Rattle.cilk_board.specs.Boards.{Seen, Sits}
 use Rattle.cilk_board.specs.Desks.{Desk}
 use Rattle.cilk_board.specs.Invoking.{IsChild}
-use Rattle.cilk_board.specs.Numbered.{events_of}
 use Rattle.cilk_board.specs.Seats.{changed, counted, started_at}
 use Rattle.cilk_board.specs.Steps.{HasCome}
 

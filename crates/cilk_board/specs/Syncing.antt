@@ -1,7 +1,6 @@
 -- A worker's frame makes a sync: the board before and after, by numbers.
-use Rattle.std.specs.Prelude.{◌≡◌, ◌⊎◌, ◌+◌, ℕ, true, false, ℤ, List, ◌∷◌, ◌++◌, None}
+use Rattle.std.specs.Prelude.{◌≡◌, ◌+◌, ℕ, true, false, ℤ, List, None}
 use Rattle.cilk_types.specs.declared.event.Event.TheVariants as events
-use Rattle.cilk_types.specs.declared.invocation.Invocation.TheVariants.{Spawn}
 use Rattle.cilk_program.specs.declared.ask.Ask.TheVariants as asks
 use Rattle.cilk_program.specs.Syntax.{Source}
 use Rattle.cilk_lower.specs.Code.{CodeView}
@@ -9,9 +8,8 @@ use Rattle.cilk_lower.specs.Layout.{LaysOut}
 use Rattle.cilk_hypermap.specs.declared.hypermap.Hypermap.{Hypermap}
 use Rattle.cilk_join.specs.Joins.{JoinView}
 use Rattle.cilk_join.specs.Products.{product}
-use Rattle.cilk_runs.specs.Machine.{State, deeds_at}
-use Rattle.cilk_runs.specs.Progress.{HasEnded, child_after}
-use Rattle.cilk_runs.specs.Runs.{Name, Deed, Invokes}
+use Rattle.cilk_runs.specs.Machine.{State}
+use Rattle.cilk_runs.specs.Runs.{Name}
 use Rattle.cilk_worlds.specs.Reducers.{View}
 use Rattle.cilk_worlds.specs.Worlds.{World}
 use Rattle.cilk_board.specs.declared.board.Board.{Board}
@@ -19,6 +17,7 @@ use Rattle.cilk_board.specs.declared.seat.Seat.{Seat}
 use Rattle.cilk_board.specs.Boards.{ShowsBy}
 use Rattle.cilk_board.specs.Desks.{Desk}
 use Rattle.cilk_board.specs.Events.{Arrives, block_in}
+use Rattle.cilk_board.specs.GoneOn.{HaveGoneOn}
 use Rattle.cilk_board.specs.Histories.{DidAsAsked}
 use Rattle.cilk_board.specs.Seats.{synced}
 use Rattle.cilk_board.specs.Steps.{HasCome, IsDone, Notes}
@@ -30,14 +29,10 @@ pub data PassesWith (x : Seat) (old new : Hypermap) : Type 0 where
   NothingStolen : x.merged ≡ false → x.join ≡ None → new ≡ old → PassesWith x old new
   AllArrived : x.merged ≡ false → (after : JoinView) → Arrives (block_in x.join) (x.children + 1) true (product old) true after new → PassesWith x old new
 
--- Each child that frame n spawned has ended, or the continuation beside it was stolen: the frame went on behind each.
-abbrev pub WentOnBehind : State World View → Name → List (Deed World) → Type 0
-WentOnBehind s n deeds = (before after : List (Deed World)) (what : World) → deeds ≡ before ++ Invokes Spawn what ∷ after → HasEnded World View s (child_after n before) ⊎ (s.stolen (child_after n before) ≡ true)
-
 module _ (code : CodeView) (p : Source) (inputs : List ℤ) where
   -- A worker's frame that has come to a sync, and whose block passes, makes it: the sync is a step of the free machine.
   abbrev pub SyncsAreShown : Type 0
   SyncsAreShown =
-      (name : ℕ → Name) (b b' : Board) (d : Desk) (s : State World View) (w k : ℕ) → LaysOut p code.layout → ShowsBy code p inputs name b d s → DidAsAsked p inputs s → WentOnBehind s (name k) (deeds_at (s.frames (name k))) → (h : HasCome code p inputs b w k asks.Sync)
+      (name : ℕ → Name) (b b' : Board) (d : Desk) (s : State World View) (w k : ℕ) → LaysOut p code.layout → ShowsBy code p inputs name b d s → DidAsAsked p inputs s → HaveGoneOn s → (h : HasCome code p inputs b w k asks.Sync)
       → (views : Hypermap) → (let a = h.seat in let u = h.worker in PassesWith a.cursor u.views views)
       → (let c = b.cells in Notes code p inputs b b' w k h.came (synced h.came) events.Sync c.items views) → IsDone code p inputs name b' d s w

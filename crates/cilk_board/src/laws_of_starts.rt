@@ -3,6 +3,7 @@
 ghost use Rattle.std.specs.Prelude.{ℤ, List};
 ghost use Rattle.cilk_lower.specs.Code.{CodeView};
 ghost use Rattle.cilk_program.specs.Syntax.{Source};
+ghost use Rattle.cilk_board.specs.Invocations.{InvocationsAreShown};
 ghost use Rattle.cilk_board.specs.Ordinals.{ChildrenAreCounted};
 ghost use Rattle.cilk_board.specs.Starting.{ChildrenSee, ChildrenSit, NamesStayApart};
 
@@ -26,4 +27,11 @@ pub fn children_are_counted()
 /// Two frames of the board have two names then too.
 pub fn names_stay_apart()
     ensures { (code : CodeView) (p : Source) (inputs : List ℤ) → NamesStayApart code p inputs }
+{}
+
+/// A worker's frame that has come to an invocation starts the other frame: a step of the free machine, and the choice of that worker, by
+/// names. The board on which the worker has the new frame, behind all others and before its begin, and on which the starter waits for it
+/// or offers its continuation, shows what comes of it.
+pub fn invocations_are_shown()
+    ensures { (code : CodeView) (p : Source) (inputs : List ℤ) → InvocationsAreShown code p inputs }
 {}

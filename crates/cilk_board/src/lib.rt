@@ -17,6 +17,7 @@
 pub mod acting;
 pub mod arriving;
 pub mod asking;
+pub mod beginning;
 pub mod board;
 pub mod cells;
 pub mod choice;
@@ -26,7 +27,9 @@ pub mod laws;
 pub mod laws_of_blocks;
 pub mod laws_of_ends;
 pub mod laws_of_openings;
+pub mod laws_of_parts;
 pub mod laws_of_starts;
+pub mod laws_of_stops;
 pub mod noting;
 pub mod offers;
 pub mod orders;

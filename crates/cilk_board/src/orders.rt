@@ -2,6 +2,7 @@
 
 ghost use Rattle.std.specs.Prelude.{ℤ, List};
 ghost use Rattle.cilk_program.specs.Syntax.{Source};
+ghost use Rattle.cilk_board.specs.GoneOn.{FramesGoOnBehind};
 ghost use Rattle.cilk_board.specs.Histories.{ChoicesAreSteps, FramesDoAsAsked, TotalsStayWithin};
 
 /// In each state of the free machine that steps lead to, whether or not the program has a race, each deed of a frame answers what
@@ -21,4 +22,10 @@ pub fn totals_stay_within()
 /// the laws above say of these goes on to hold.
 pub fn choices_are_steps()
     ensures { (p : Source) (inputs : List ℤ) → ChoicesAreSteps p inputs }
+{}
+
+/// In each state of the free machine that steps or choices lead to, each child that a frame spawned before its last deed has ended, or
+/// the continuation beside it was stolen. So a frame that goes on went on behind each child that it spawned.
+pub fn frames_go_on_behind()
+    ensures { (p : Source) (inputs : List ℤ) → FramesGoOnBehind p inputs }
 {}
