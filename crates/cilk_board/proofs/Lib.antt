@@ -28,6 +28,7 @@ pub mod Openings
 pub mod Ordinals
 pub mod Outcomes
 pub mod OverBlocks
+pub mod Parents
 pub mod Parts
 pub mod Placed
 pub mod Plain
@@ -40,6 +41,7 @@ pub mod Returning
 pub mod RunsEnd
 pub mod Seeing
 pub mod Spawned
+pub mod Stages
 pub mod Starting
 pub mod Stepped
 pub mod Stopping

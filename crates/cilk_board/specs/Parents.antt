@@ -8,7 +8,9 @@ use Rattle.cilk_runs.specs.Progress.{HasEnded, HasNoSync, child_after}
 use Rattle.cilk_runs.specs.Runs.{Name, Deed, Invokes}
 use Rattle.cilk_worlds.specs.Machine.{has_ended}
 use Rattle.cilk_worlds.specs.Reducers.{View}
+use Rattle.cilk_worlds.specs.Steps.{IsFirst, OneStep, Reaches}
 use Rattle.cilk_worlds.specs.Worlds.{World, Sight, world_of}
+use Rattle.cilk_board.specs.Histories.{DidAsAsked}
 use Rattle.cilk_board.specs.Ordinals.{AreCounted}
 
 -- Frame m started a child behind these deeds, and hasn't ended: it has done nothing since; or it spawned the child, the continuation was
@@ -25,8 +27,24 @@ pub record OutliveChildren (s : State World View) : Type 0 where
   pub spawned : (m : Name) (f : Frame World) (before : List (Deed World)) (how : Invocation) (what : World) (after : List (Deed World)) → s.frames m ≡ Some f → f.deeds ≡ before ++ Invokes how what ∷ after
       → s.stolen (child_after m before) ≡ true → how ≡ Spawn
   pub unstolen : (n : Name) → s.frames n ≡ None → s.stolen n ≡ false
+  -- Each child that was started is there, and each that is there was started.
+  pub present : (m : Name) (f : Frame World) (before : List (Deed World)) (how : Invocation) (what : World) (after : List (Deed World)) → s.frames m ≡ Some f → f.deeds ≡ before ++ Invokes how what ∷ after
+      → (g : Frame World) × (s.frames (child_after m before) ≡ Some g)
   pub counted : AreCounted s.frames
 
 -- each frame runs what was started under its name
 abbrev pub AreStarted : Source → State World View → Type 0
 AreStarted p s = (n : Name) (f : Frame World) → s.frames n ≡ Some f → (sight : Sight) × (let w = f.what in w ≡ world_of p n sight w.callee)
+
+module _ (p : Source) (inputs : List ℤ) where
+  -- Frames outlive their children, in each state that steps lead to.
+  pub record ParentsOutlive : Type 0 where
+    pub opens : (s : State World View) → IsFirst p inputs s → OutliveChildren s
+    pub keeps : (s s' : State World View) (n : Name) → DidAsAsked p inputs s → OutliveChildren s → OneStep p inputs s n s' → OutliveChildren s'
+    pub reached : (ns : List Name) (s : State World View) → Reaches p inputs ns s → OutliveChildren s
+
+  -- Each was started under its name, in each state that steps lead to.
+  pub record NamesAreKept : Type 0 where
+    pub opens : (s : State World View) → IsFirst p inputs s → AreStarted p s
+    pub keeps : (s s' : State World View) (n : Name) → AreStarted p s → OneStep p inputs s n s' → AreStarted p s'
+    pub reached : (ns : List Name) (s : State World View) → Reaches p inputs ns s → AreStarted p s

@@ -4,6 +4,7 @@ ghost use Rattle.std.specs.Prelude.{ℤ, List};
 ghost use Rattle.cilk_lower.specs.Code.{CodeView};
 ghost use Rattle.cilk_program.specs.Syntax.{Source};
 ghost use Rattle.cilk_board.specs.Ending.{ArrivalsAreShown, ReturnsAreShown, RunsEnd};
+ghost use Rattle.cilk_board.specs.Parents.{NamesAreKept, ParentsOutlive};
 
 /// The first frame's end is a step of the free machine, by the choice of the worker that has it: the run is over, and leaves the outcome of
 /// that machine's state.
@@ -21,4 +22,15 @@ pub fn returns_are_shown()
 /// arrives at its parent's block. Where the block passes, the worker goes on with the parent, at its sync; else it is idle.
 pub fn arrivals_are_shown()
     ensures { (code : CodeView) (p : Source) (inputs : List ℤ) → ArrivalsAreShown code p inputs }
+{}
+
+/// In each state that steps lead to, a frame outlives the children that it starts: each has ended, or the frame hasn't, and goes beside
+/// it, as its last deed or because the continuation was stolen, with no sync since.
+pub fn parents_outlive()
+    ensures { (p : Source) (inputs : List ℤ) → ParentsOutlive p inputs }
+{}
+
+/// In each state that steps lead to, each frame runs what was started under its name.
+pub fn names_are_kept()
+    ensures { (p : Source) (inputs : List ℤ) → NamesAreKept p inputs }
 {}
