@@ -5,6 +5,7 @@ pub mod CourseRuns
 pub mod CourseValues
 pub mod CourseWords
 pub mod LastWrites
+pub mod NoFault
 pub mod OneCourse
 pub mod OneRun
 pub mod StoryValues

@@ -24,7 +24,7 @@ use Rattle.cilk_inputs.proofs.AskedStories.{departs_nowhere}
 use Rattle.cilk_inputs.proofs.OneCourse.{same_event}
 use Rattle.cilk_inputs.proofs.StoryValues.{stories_have_values, course, written, serial}
 
-invoked : {W : Type 0} (e : Event) (k : Invocation) (v : W) → ask_of e ≡ Invoke k v → ⊥
+pub invoked : {W : Type 0} (e : Event) (k : Invocation) (v : W) → ask_of e ≡ Invoke k v → ⊥
 invoked (Reads c x) k v q = cc q
 invoked (Writes c x) k v q = cc q
 invoked Syncs k v q = cc q
