@@ -1,5 +1,6 @@
 pub mod AskedStories
 pub mod CourseFrames
+pub mod CourseLimits
 pub mod CourseLists
 pub mod CourseRuns
 pub mod CourseValues
@@ -8,4 +9,6 @@ pub mod LastWrites
 pub mod NoFault
 pub mod OneCourse
 pub mod OneRun
+pub mod Owned
+pub mod RunsEnd
 pub mod StoryValues

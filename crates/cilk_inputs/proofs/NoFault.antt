@@ -1,4 +1,4 @@
--- A serial run by names that keeps the limits is the program's serial run, and that ends without a fault: `runs_end`.
+-- A serial run by names that keeps the limits is the program's serial run: `goes_along`.
 --
 -- - `asking`, `at_act`, `at_child`: where a frame stands, by names and by numbers;
 -- - `Goes`: the run by names from a point on, with what is left of each limit;
@@ -248,15 +248,15 @@ module _ (p : Source) (inputs : List ℤ) where
   }
 
   -- ---- the run by names from a point on, and what is left of each limit
-  record Goes (w : World) (past : List (Deed World)) (u : Run World) (memory : Cell → ℤ) (views : Instance → View) (start : ℕ) (m : Memory) : Type 0 where
-    behaves : Behaves World (follows (next p inputs)) w past u
-    reads : IsSerial u memory
-    values : IsSerialViews monoid_of u views
-    full : start ≤ MAX_TICKS
-    ticks : weight (costs p inputs) TickTotal w past u + taken p inputs w (but_last past) ≤ start
-    events : length (trace u) ≤ m.room
-    frames : m.frames + weight (costs p inputs) FrameTotal w past u ≤ MAX_FRAMES
-    cells : m.cells + weight (costs p inputs) CellTotal w past u ≤ MAX_CELLS
+  pub record Goes (w : World) (past : List (Deed World)) (u : Run World) (memory : Cell → ℤ) (views : Instance → View) (start : ℕ) (m : Memory) : Type 0 where
+    pub behaves : Behaves World (follows (next p inputs)) w past u
+    pub reads : IsSerial u memory
+    pub values : IsSerialViews monoid_of u views
+    pub full : start ≤ MAX_TICKS
+    pub ticks : weight (costs p inputs) TickTotal w past u + taken p inputs w (but_last past) ≤ start
+    pub events : length (trace u) ≤ m.room
+    pub frames : m.frames + weight (costs p inputs) FrameTotal w past u ≤ MAX_FRAMES
+    pub cells : m.cells + weight (costs p inputs) CellTotal w past u ≤ MAX_CELLS
 
   goes_act : (w : World) (past : List (Deed World)) (e : Happens) (u : Run World) (memory : Cell → ℤ) (views : Instance → View) (start : ℕ) (m : Memory) (store : _) → Goes w past (act e u) memory views start m
       → Goes w (past ++ Does e ∷ []) u (λ c. put e c (memory c)) (λ i. on_view (monoid_of i) i e (views i)) start (with_store m store)
@@ -335,7 +335,7 @@ module _ (p : Source) (inputs : List ℤ) where
 
   -- ---- the serial run goes along
 
-  abbrev EndsAs : Ending → Run World → Run World → Type 0
+  abbrev pub EndsAs : Ending → Run World → Run World → Type 0
   EndsAs (Finished v left m) t u = t ≡ u
   EndsAs (Stopped f) t u = ⊥
 
@@ -369,7 +369,7 @@ module _ (p : Source) (inputs : List ℤ) where
   over w past e v (child k x d u) same b =
       absurd (nothing_some (Ask World) _ _ (ends_over p inputs w past v (retired_by p w)) (subst (λ (z : Happens). next p inputs w (past ++ Does z ∷ []) ≡ Some (Invoke k x)) same b.0))
 
-  at_begin : (w : World) (fr : Frame) → w.callee ≡ fr.callee → At p inputs w fr [] [] 1
+  pub at_begin : (w : World) (fr : Frame) → w.callee ≡ fr.callee → At p inputs w fr [] [] 1
   at_begin w fr same = record { callee = same; answers = refl; going = refl; ordinal = refl }
 
   -- the child's part
@@ -427,7 +427,7 @@ module _ (p : Source) (inputs : List ℤ) where
       }
 
   module _ (well : IsTrue (is_well_named p)) (whole : serial.Transcript) where
-    goes_along : {fr : Frame} {start : ℕ} {history : List ℤ} {m : Memory} {r : serial.Transcript} {es : List Event} {end : Ending} → Serial p inputs fr start history m r es end
+    pub goes_along : {fr : Frame} {start : ℕ} {history : List ℤ} {m : Memory} {r : serial.Transcript} {es : List Event} {end : Ending} → Serial p inputs fr start history m r es end
         → (w : World) (past : List (Deed World)) (j : ℕ) → At p inputs w fr past history (suc j) → Standing p inputs well whole w fr j r (counts_of m) → SetWords es
         → (memory : Cell → ℤ) (views : Instance → View) → Same p whole memory views m.store → (u : Run World) → Goes w past u memory views start m → EndsAs end (named_from p w (suc j) r) u
     goes_along (Made {fr = fr} {start = start} {history = history} {m = m} {r = r} {es = es} {end = end} a left q inner ok rest) w past j at standing words memory views same stop h = absurd (stopped_early w fr past history (suc j) at h.behaves)
