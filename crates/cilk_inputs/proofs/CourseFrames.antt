@@ -30,7 +30,7 @@ ended_by : (past : List (Deed World)) (v : ℤ) (gone : List Instance) → has_e
 ended_by [] v gone = refl
 ended_by (d ∷ past) v gone = true_then (is_end d) (has_ended (past ++ Does (Ends v gone) ∷ [])) (ended_by past v gone)
 
-ends_over : (p : Source) (inputs : List ℤ) → IsOverWithItsEnd World View monoid_of (next p inputs) (same_frame p)
+pub ends_over : (p : Source) (inputs : List ℤ) → IsOverWithItsEnd World View monoid_of (next p inputs) (same_frame p)
 ends_over p inputs w past v gone = by (has_ended (past ++ Does (Ends v gone) ∷ [])) (ended_by past v gone) _
   where
     by : (b : Bool) → b ≡ true → (a : Ask World) → cond b None (Some a) ≡ None

@@ -1,30 +1,21 @@
--- A program has one serial run at most by names: `runs_are_one`. What the runs on other inputs are: `inputs_run_along`.
+-- A program has one serial run at most by names: `runs_are_one`. The serial run by names is one: `named_runs_are_serial`.
 use Rattle.std.proofs.Common.{◌≡◌, ℤ, Bool, List, [], ◌∷◌, ◌++◌, Option, Some, refl, sym, ap, ◌∙◌, subst}
 use Rattle.cilk_types.specs.declared.invocation.Invocation.{Invocation}
 use Rattle.cilk_monoid.specs.Laws.{MonoidStructure}
 use Rattle.cilk_program.specs.Outcomes.{Leaves}
-use Rattle.cilk_runs.specs.Monoids.{on_view, unit_of}
+use Rattle.cilk_runs.specs.Monoids.{on_view}
 use Rattle.cilk_runs.specs.Runs.{Cell, Instance, Ask, Invoke, Event, Reads, Writes, Syncs, Ends, Passes, Deed, Does, Invokes, Run, stop, act, child, ask_of}
 use Rattle.cilk_runs.specs.Machine.{put}
 use Rattle.cilk_runs.specs.Serial.{value_after, IsSerial, Behaves}
 use Rattle.cilk_runs.specs.Theorem.{follows}
 use Rattle.cilk_runs.specs.Views.{view_after, IsSerialViews}
-use Rattle.cilk_plan.specs.Planned.{planned}
-use Rattle.cilk_worlds.specs.Machine.{next, opening_values}
-use Rattle.cilk_worlds.specs.Reducers.{View, monoid_of}
-use Rattle.cilk_worlds.specs.Worlds.{World, first_world}
-use Rattle.cilk_determinacy.specs.Nested.{named}
-use Rattle.cilk_determinacy.specs.Numbers.{cell_number, instance_number}
 use Rattle.cilk_determinacy.proofs.Determinate.{serial_by_names}
 use Rattle.cilk_determinacy.proofs.Wordy.{set_words}
-use Rattle.cilk_inputs.specs.Courses.{run_of, IsSerialRunFrom, SerialRunsAreOne}
-use Rattle.cilk_inputs.specs.Ends.{NamedRunsAreSerial, InputsRunAlong}
-use Rattle.cilk_inputs.specs.Frames.{same_frame, course_on}
-use Rattle.cilk_inputs.proofs.AskedStories.{departs_nowhere}
+use Rattle.cilk_inputs.specs.Courses.{SerialRunsAreOne}
+use Rattle.cilk_inputs.specs.Ends.{NamedRunsAreSerial}
 use Rattle.cilk_inputs.proofs.OneCourse.{same_event}
-use Rattle.cilk_inputs.proofs.StoryValues.{stories_have_values, course, written, serial}
 
-invoked : {W : Type 0} (e : Event) (k : Invocation) (v : W) → ask_of e ≡ Invoke k v → ⊥
+pub invoked : {W : Type 0} (e : Event) (k : Invocation) (v : W) → ask_of e ≡ Invoke k v → ⊥
 invoked (Reads c x) k v q = cc q
 invoked (Writes c x) k v q = cc q
 invoked Syncs k v q = cc q
@@ -80,16 +71,3 @@ pub named_runs_are_serial : NamedRunsAreSerial
 named_runs_are_serial p inputs r es outcome well has words runs =
     let h = serial_by_names p inputs r es outcome well runs (set_words p has inputs words r es (Leaves outcome) runs) in
     record { behaves = h.behaves; framed = h.framed; reads = h.serial; values = h.views }
-
-pub inputs_run_along : InputsRunAlong
-inputs_run_along p inputs others r es opening is are orderly nowhere =
-    let stands = stories_have_values p inputs others r es opening is are in
-    let along = stands.0 in
-    let values = stands.1 in
-    let run = departs_nowhere p inputs others (named p r) (course_on p others (named p r)) (cell_number p r) (instance_number p r) es _ opening (serial p inputs r es opening is)
-    (course p inputs r es opening is others are) (written p inputs r es opening is others are) orderly along values.begins nowhere in (
-      run,
-      λ r' es' outcome runs.
-          let other = named_runs_are_serial p others r' es' outcome is.named is.words are runs in
-          runs_are_one World View monoid_of (next p others) (same_frame p) (first_world p) (opening_values p others) (unit_of monoid_of) (named p r') (run_of (course_on p others (named p r))) other run,
-    )

@@ -154,6 +154,14 @@ known_here p r (runs.child k v u t) h = (known_here p r u h.1, known_here p r t 
 opens_with : (xs : List ℤ) (n : ℕ) → length xs ≤ n → pos 0 ≡ unwrap_or (slice_get xs n) (pos 0)
 opens_with xs n h = ap (λ o. unwrap_or o (pos 0)) (sym (slice_get_past xs n h))
 
+-- the cells of a run open as the program's do
+pub cells_open : (p : Source) (inputs : List ℤ) (r : Transcript) (c : Cell) → HasCell p r c → opening_values p inputs c ≡ opening_cells p inputs (cell_number p r c)
+cells_open p inputs r (Global n) has = refl
+cells_open p inputs r (Own name n) (here, less) =
+    let low = past_globals p r here.path here.block here.found in
+    let where_is = cell_is p r name n here in
+    opens_with p.openings (cell_number p r (Own name n)) (omega (arith, low, where_is))
+
 module _ (p : Source) (inputs : List ℤ) (r : Transcript) (es : List numbers.Event) (opening : List ℤ) (is : IsPlannedRun p inputs r es opening) where
   abbrev t : Run World
   t = named p r
@@ -172,13 +180,6 @@ module _ (p : Source) (inputs : List ℤ) (r : Transcript) (es : List numbers.Ev
       let same = written_length (cell_number p r) (instance_number p r) (trace t) es n.written in
       let short = serial_run_is_short p inputs r es (Leaves is.outcome) is.runs in
       omega (arith, same, short)
-
-  cells_open : (c : Cell) → HasCell p r c → opening_values p inputs c ≡ opening_cells p inputs (cell_number p r c)
-  cells_open (Global n) has = refl
-  cells_open (Own name n) (here, less) =
-      let low = past_globals p r here.path here.block here.found in
-      let where_is = cell_is p r name n here in
-      opens_with p.openings (cell_number p r (Own name n)) (omega (arith, low, where_is))
 
   opening_is : (c : Cell) → IsWord (opening_values p inputs c)
   opening_is (Global n) = let w = is.words in opening_word p is.words inputs is.inputs_words p.openings w.openings n
@@ -222,7 +223,7 @@ module _ (p : Source) (inputs : List ℤ) (r : Transcript) (es : List numbers.Ev
     right =
         let n = events_numbered p inputs r es (Leaves is.outcome) is.named is.runs in
         course_right (cell_number p r) (instance_number p r) (HasCell p r) (same_cells p r) World View monoid_of (next p others) (same_frame p) (first_world p) [] (opening_values p others) (unit_of monoid_of) (opening_cells p inputs)
-        t c (with_values es (trace (run_of c))) course (known_here p r t n.here) written cells_open
+        t c (with_values es (trace (run_of c))) course (known_here p r t n.here) written (cells_open p inputs r)
 
     words : ListWords (trace (run_of c))
     words =

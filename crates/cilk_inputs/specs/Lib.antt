@@ -2,4 +2,5 @@ pub mod Courses
 pub mod Ends
 pub mod Frames
 pub mod Lists
+pub mod Owned
 pub mod Stories

@@ -5,9 +5,10 @@
 
 ghost use Rattle.std.specs.Prelude.{Bool, ℤ, List, Option};
 ghost use Rattle.cilk_inputs.specs.Courses.{AskedCourseIsSerial, CoursesAreOne, OwnCourse, SerialRunsAreOne};
-ghost use Rattle.cilk_inputs.specs.Ends.{InputsRunAlong, NamedRunsAreSerial};
+ghost use Rattle.cilk_inputs.specs.Ends.{InputsRunAlong, NamedRunsAreSerial, RunsWithinLimitsAreWhole};
 ghost use Rattle.cilk_inputs.specs.Frames.{AskedCoursesAreSerialRuns, ProgramsHaveOneCourse, SerialRunsAreTheirCourses};
 ghost use Rattle.cilk_inputs.specs.Lists.{AskedStoriesAreOfAskedCourses, CoursesAreAlongPlans, InputsThatDepartNowhere};
+ghost use Rattle.cilk_inputs.specs.Owned.{EventsAreInTheirFrames};
 ghost use Rattle.cilk_inputs.specs.Stories.{OwnStory, StoriesAlongHaveValues};
 ghost use Rattle.cilk_monoid.specs.Laws.{MonoidStructure};
 ghost use Rattle.cilk_runs.specs.Runs.{Ask, Deed, Instance};
@@ -81,8 +82,19 @@ pub fn named_runs_are_serial()
     ensures { NamedRunsAreSerial }
 {}
 
-/// At the language, along an orderly plan: inputs on which the story departs nowhere run as the course says, and where the program's
-/// serial run on them ends without a fault, it is the course.
+/// At the language: a serial run in the sense of courses, each frame of which has all ticks of a run for itself, is the program's serial
+/// run, which ends without a fault, where it keeps the limits of a run.
+pub fn runs_within_limits_are_whole()
+    ensures { RunsWithinLimitsAreWhole }
+{}
+
+/// At the language, along an orderly plan: inputs on which the story departs nowhere run as the course says. It is the program's serial
+/// run on them, and ends without a fault, where its frames together take no more ticks than a run may.
 pub fn inputs_run_along()
     ensures { InputsRunAlong }
+{}
+
+/// At the language: in the list of a serial run's events each event is in the frame that makes it by names, by that frame's number.
+pub fn events_are_in_their_frames()
+    ensures { EventsAreInTheirFrames }
 {}

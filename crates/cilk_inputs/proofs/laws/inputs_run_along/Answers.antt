@@ -1,4 +1,4 @@
-use Rattle.cilk_inputs.proofs.OneRun.{inputs_run_along as law}
+use Rattle.cilk_inputs.proofs.RunsEnd.{inputs_run_along as law}
 use Rattle.cilk_inputs.proofs.laws.inputs_run_along.Goals as goal
 
 pub returns : goal.returns
