@@ -16,11 +16,14 @@ const CERTIFICATES: [(&str, &str); 3] = [
     ),
     (
         EARLY_READ,
-        "cilkcert 2\nsize 15 2 6\nframe 1 0 0\nframe 2 1 1\nstrand 1 1 1 0\nstrand 2 2 3 2\nstrand 3 2 4 2\nstrand 4 1 2 4\nstrand 5 1 5 0\nstrand 6 1 6 0\nbegin 1\nwrite 0 0\nwrite 1 0\nspawn 2\nbegin 2\nsync\nwrite 0 1\nend\nresume 1\nread 0 1 7\nwrite 1 1\nsync\nread 1 1 11\nsync\nend\nresult 1\nend\n",
+        "cilkcert 2\nsize 15 2 6\nframe 1 0 0\nframe 2 1 1\nstrand 1 1 1 0\nstrand 2 2 3 2\nstrand 3 2 4 2\n\
+        strand 4 1 2 4\nstrand 5 1 5 0\nstrand 6 1 6 0\nbegin 1\nwrite 0 0\nwrite 1 0\nspawn 2\nbegin 2\nsync\n\
+        write 0 1\nend\nresume 1\nread 0 1 7\nwrite 1 1\nsync\nread 1 1 11\nsync\nend\nresult 1\nend\n",
     ),
     (
         LIST_SET,
-        "cilkcert 2\nsize 9 1 2\nframe 1 0 0\nstrand 1 1 1 0\nstrand 2 1 2 0\nbegin 1\ncreate 1 1\nupdate 1 1 4\nset 1 1 7\nupdate 1 1 8\nvalue 1 1 2\nprint 2\nsync\nend\nresult 0\nend\n",
+        "cilkcert 2\nsize 9 1 2\nframe 1 0 0\nstrand 1 1 1 0\nstrand 2 1 2 0\nbegin 1\ncreate 1 1\nupdate 1 1 4\n\
+        set 1 1 7\nupdate 1 1 8\nvalue 1 1 2\nprint 2\nsync\nend\nresult 0\nend\n",
     ),
 ];
 

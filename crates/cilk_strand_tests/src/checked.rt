@@ -55,13 +55,16 @@ const CHECKS: [(&str, &str, u16, Fields); 27] = [
     ),
     (
         LIST_SET,
-        "cilkcert 2\nsize 9 1 2\nframe 1 0 0\nstrand 1 1 1 0\nstrand 2 1 2 0\nbegin 1\ncreate 1 1\nupdate 1 1 4\nset 1 1 7\nupdate 1 1 8\nvalue 1 1 2\nprint 2\nsync\nend\nresult 0\nend\n",
+        "cilkcert 2\nsize 9 1 2\nframe 1 0 0\nstrand 1 1 1 0\nstrand 2 1 2 0\nbegin 1\ncreate 1 1\nupdate 1 1 4\n\
+        set 1 1 7\nupdate 1 1 8\nvalue 1 1 2\nprint 2\nsync\nend\nresult 0\nend\n",
         0,
         Fields::None,
     ),
     (
         EARLY_READ,
-        "cilkcert 2\nsize 15 2 6\nframe 1 0 0\nframe 2 1 1\nstrand 1 1 1 0\nstrand 2 2 3 2\nstrand 3 2 4 2\nstrand 4 1 2 4\nstrand 5 1 5 0\nstrand 6 1 6 0\nbegin 1\nwrite 0 0\nwrite 1 0\nspawn 2\nbegin 2\nsync\nwrite 0 1\nend\nresume 1\nread 0 1 7\nwrite 1 1\nsync\nread 1 1 11\nsync\nend\nresult 1\nend\n",
+        "cilkcert 2\nsize 15 2 6\nframe 1 0 0\nframe 2 1 1\nstrand 1 1 1 0\nstrand 2 2 3 2\nstrand 3 2 4 2\n\
+        strand 4 1 2 4\nstrand 5 1 5 0\nstrand 6 1 6 0\nbegin 1\nwrite 0 0\nwrite 1 0\nspawn 2\nbegin 2\nsync\n\
+        write 0 1\nend\nresume 1\nread 0 1 7\nwrite 1 1\nsync\nread 1 1 11\nsync\nend\nresult 1\nend\n",
         311,
         Fields::Two(7, 10),
     ),
@@ -85,73 +88,97 @@ const CHECKS: [(&str, &str, u16, Fields); 27] = [
     ),
     (
         EARLY_READ,
-        "cilkcert 2\nsize 15 2 6\nframe 1 0 0\nframe 2 1 1\nstrand 1 1 1 0\nstrand 2 2 3 2\nstrand 3 2 4 2\nstrand 4 1 2 4\nstrand 5 1 5 0\nstrand 6 1 6 0\nbegin 1\nwrite 0 0\nwrite 1 0\nspawn 2\nbegin 2\nsync\nwrite 0 1\nend\nresume 1\nread 0 1 2\nwrite 1 1\nsync\nread 1 1 11\nsync\nend\nresult 1\nend\n",
+        "cilkcert 2\nsize 15 2 6\nframe 1 0 0\nframe 2 1 1\nstrand 1 1 1 0\nstrand 2 2 3 2\nstrand 3 2 4 2\n\
+        strand 4 1 2 4\nstrand 5 1 5 0\nstrand 6 1 6 0\nbegin 1\nwrite 0 0\nwrite 1 0\nspawn 2\nbegin 2\nsync\n\
+        write 0 1\nend\nresume 1\nread 0 1 2\nwrite 1 1\nsync\nread 1 1 11\nsync\nend\nresult 1\nend\n",
         308,
         Fields::One(10),
     ),
     (
         DIVIDES,
-        "cilkcert 2\nsize 15 3 5\nframe 1 0 0\nframe 2 1 1\nframe 3 1 2\nstrand 1 1 1 0\nstrand 2 2 4 2\nstrand 3 2 5 2\nstrand 4 1 2 4\nstrand 5 3 3 5\nbegin 1\nwrite 0 0\nwrite 1 0\nspawn 2\nbegin 2\nwrite 2 2\nread 2 2 6\nsync\nwrite 0 3\nend\nresume 1\nspawn 3\nbegin 3\nwrite 3 0\nread 3 0 14\nresult 0\nend\n",
+        "cilkcert 2\nsize 15 3 5\nframe 1 0 0\nframe 2 1 1\nframe 3 1 2\nstrand 1 1 1 0\nstrand 2 2 4 2\n\
+        strand 3 2 5 2\nstrand 4 1 2 4\nstrand 5 3 3 5\nbegin 1\nwrite 0 0\nwrite 1 0\nspawn 2\nbegin 2\n\
+        write 2 2\nread 2 2 6\nsync\nwrite 0 3\nend\nresume 1\nspawn 3\nbegin 3\nwrite 3 0\nread 3 0 14\nresult 0\n\
+        end\n",
         310,
         Fields::One(16),
     ),
     (
         LIST_SET,
-        "cilkcert 1\nsize 9 1 2\nframe 1 0 0\nstrand 1 1 1 0\nstrand 2 1 2 0\nbegin 1\ncreate 1\nupdate 1 4\nset 1 7\nupdate 1 8\nvalue 1 2\nprint 2\nsync\nend\nresult 0\nend\n",
+        "cilkcert 1\nsize 9 1 2\nframe 1 0 0\nstrand 1 1 1 0\nstrand 2 1 2 0\nbegin 1\ncreate 1\nupdate 1 4\n\
+        set 1 7\nupdate 1 8\nvalue 1 2\nprint 2\nsync\nend\nresult 0\nend\n",
         0,
         Fields::None,
     ),
     (
         EARLY_READ,
-        "cilkcert 1\nsize 15 2 6\nframe 1 0 0\nframe 2 1 1\nstrand 1 1 1 0\nstrand 2 2 3 2\nstrand 3 2 4 2\nstrand 4 1 2 4\nstrand 5 1 5 0\nstrand 6 1 6 0\nbegin 1\nwrite 0 0\nwrite 1 0\nspawn 2\nbegin 2\nsync\nwrite 0 1\nend\nresume 1\nread 0 1 7\nwrite 1 1\nsync\nread 1 1 11\nsync\nend\nresult 1\nend\n",
+        "cilkcert 1\nsize 15 2 6\nframe 1 0 0\nframe 2 1 1\nstrand 1 1 1 0\nstrand 2 2 3 2\nstrand 3 2 4 2\n\
+        strand 4 1 2 4\nstrand 5 1 5 0\nstrand 6 1 6 0\nbegin 1\nwrite 0 0\nwrite 1 0\nspawn 2\nbegin 2\nsync\n\
+        write 0 1\nend\nresume 1\nread 0 1 7\nwrite 1 1\nsync\nread 1 1 11\nsync\nend\nresult 1\nend\n",
         311,
         Fields::Two(7, 10),
     ),
     (
         EARLY_READ,
-        "cilkcert 2\nsize 15 2 6\nframe 1 0 0\nframe 2 1 1\nstrand 1 1 1 0\nstrand 2 2 4 2\nstrand 3 2 3 2\nstrand 4 1 2 4\nstrand 5 1 5 0\nstrand 6 1 6 0\nbegin 1\nwrite 0 0\nwrite 1 0\nspawn 2\nbegin 2\nsync\nwrite 0 1\nend\nresume 1\nread 0 1 7\nwrite 1 1\nsync\nread 1 1 11\nsync\nend\nresult 1\nend\n",
+        "cilkcert 2\nsize 15 2 6\nframe 1 0 0\nframe 2 1 1\nstrand 1 1 1 0\nstrand 2 2 4 2\nstrand 3 2 3 2\n\
+        strand 4 1 2 4\nstrand 5 1 5 0\nstrand 6 1 6 0\nbegin 1\nwrite 0 0\nwrite 1 0\nspawn 2\nbegin 2\nsync\n\
+        write 0 1\nend\nresume 1\nread 0 1 7\nwrite 1 1\nsync\nread 1 1 11\nsync\nend\nresult 1\nend\n",
         306,
         Fields::One(2),
     ),
     (
         EARLY_READ,
-        "cilkcert 2\nsize 15 2 6\nframe 1 0 0\nframe 2 1 1\nstrand 1 1 1 0\nstrand 2 2 3 2\nstrand 3 2 4 2\nstrand 4 1 2 4\nstrand 5 1 5 0\nstrand 6 1 6 0\nbegin 1\nwrite 0 0\nwrite 1 0\nspawn 2\nbegin 2\nsync\nwrite 0 1\nend\nresume 1\nread 0 1 7\nwrite 1 1\nsync\nread 1 1 11\nsync\nend\nresult 2\nend\n",
+        "cilkcert 2\nsize 15 2 6\nframe 1 0 0\nframe 2 1 1\nstrand 1 1 1 0\nstrand 2 2 3 2\nstrand 3 2 4 2\n\
+        strand 4 1 2 4\nstrand 5 1 5 0\nstrand 6 1 6 0\nbegin 1\nwrite 0 0\nwrite 1 0\nspawn 2\nbegin 2\nsync\n\
+        write 0 1\nend\nresume 1\nread 0 1 7\nwrite 1 1\nsync\nread 1 1 11\nsync\nend\nresult 2\nend\n",
         309,
         Fields::None,
     ),
     (
         EARLY_READ,
-        "cilkcert 2\nsize 15 2 6\nframe 1 0 0\nframe 2 1 2\nstrand 1 1 1 0\nstrand 2 2 3 2\nstrand 3 2 4 2\nstrand 4 1 2 4\nstrand 5 1 5 0\nstrand 6 1 6 0\nbegin 1\nwrite 0 0\nwrite 1 0\nspawn 2\nbegin 2\nsync\nwrite 0 1\nend\nresume 1\nread 0 1 7\nwrite 1 1\nsync\nread 1 1 11\nsync\nend\nresult 1\nend\n",
+        "cilkcert 2\nsize 15 2 6\nframe 1 0 0\nframe 2 1 2\nstrand 1 1 1 0\nstrand 2 2 3 2\nstrand 3 2 4 2\n\
+        strand 4 1 2 4\nstrand 5 1 5 0\nstrand 6 1 6 0\nbegin 1\nwrite 0 0\nwrite 1 0\nspawn 2\nbegin 2\nsync\n\
+        write 0 1\nend\nresume 1\nread 0 1 7\nwrite 1 1\nsync\nread 1 1 11\nsync\nend\nresult 1\nend\n",
         304,
         Fields::One(2),
     ),
     (
         EARLY_READ,
-        "cilkcert 2\nsize 15 2 6\nframe 1 0 0\nframe 2 1 1\nstrand 1 1 1 0\nstrand 2 2 3 2\nstrand 3 2 4 2\nstrand 4 2 2 4\nstrand 5 1 5 0\nstrand 6 1 6 0\nbegin 1\nwrite 0 0\nwrite 1 0\nspawn 2\nbegin 2\nsync\nwrite 0 1\nend\nresume 1\nread 0 1 7\nwrite 1 1\nsync\nread 1 1 11\nsync\nend\nresult 1\nend\n",
+        "cilkcert 2\nsize 15 2 6\nframe 1 0 0\nframe 2 1 1\nstrand 1 1 1 0\nstrand 2 2 3 2\nstrand 3 2 4 2\n\
+        strand 4 2 2 4\nstrand 5 1 5 0\nstrand 6 1 6 0\nbegin 1\nwrite 0 0\nwrite 1 0\nspawn 2\nbegin 2\nsync\n\
+        write 0 1\nend\nresume 1\nread 0 1 7\nwrite 1 1\nsync\nread 1 1 11\nsync\nend\nresult 1\nend\n",
         305,
         Fields::One(4),
     ),
     (
         EARLY_READ,
-        "cilkcert 2\nsize 15 2 6\nframe 1 0 0\nframe 2 1 1\nstrand 1 1 1 0\nstrand 2 2 3 2\nstrand 3 2 4 2\nstrand 4 1 2 3\nstrand 5 1 5 0\nstrand 6 1 6 0\nbegin 1\nwrite 0 0\nwrite 1 0\nspawn 2\nbegin 2\nsync\nwrite 0 1\nend\nresume 1\nread 0 1 7\nwrite 1 1\nsync\nread 1 1 11\nsync\nend\nresult 1\nend\n",
+        "cilkcert 2\nsize 15 2 6\nframe 1 0 0\nframe 2 1 1\nstrand 1 1 1 0\nstrand 2 2 3 2\nstrand 3 2 4 2\n\
+        strand 4 1 2 3\nstrand 5 1 5 0\nstrand 6 1 6 0\nbegin 1\nwrite 0 0\nwrite 1 0\nspawn 2\nbegin 2\nsync\n\
+        write 0 1\nend\nresume 1\nread 0 1 7\nwrite 1 1\nsync\nread 1 1 11\nsync\nend\nresult 1\nend\n",
         307,
         Fields::One(4),
     ),
     (
         EARLY_READ,
-        "cilkcert 2\nsize 15 2 6\nframe 1 0 0\nframe 2 1 1\nstrand 1 1 1 0\nstrand 2 2 3 2\nstrand 3 2 4 2\nstrand 4 1 2 4\nstrand 5 1 5 0\nstrand 6 1 6 0\nbegin 1\nwrite 0 0\nwrite 1 0\nspawn 2\nbegin 2\nsync\nwrite 0 2\nend\nresume 1\nread 0 1 7\nwrite 1 1\nsync\nread 1 1 11\nsync\nend\nresult 1\nend\n",
+        "cilkcert 2\nsize 15 2 6\nframe 1 0 0\nframe 2 1 1\nstrand 1 1 1 0\nstrand 2 2 3 2\nstrand 3 2 4 2\n\
+        strand 4 1 2 4\nstrand 5 1 5 0\nstrand 6 1 6 0\nbegin 1\nwrite 0 0\nwrite 1 0\nspawn 2\nbegin 2\nsync\n\
+        write 0 2\nend\nresume 1\nread 0 1 7\nwrite 1 1\nsync\nread 1 1 11\nsync\nend\nresult 1\nend\n",
         303,
         Fields::One(7),
     ),
     (
         EARLY_READ,
-        "cilkcert 2\nsize 15 2 6\nframe 1 0 0\nframe 2 1 1\nstrand 1 1 1 0\nstrand 2 2 3 2\nstrand 3 2 4 2\nstrand 4 1 2 4\nstrand 5 1 5 0\nstrand 6 1 6 0\nbegin 1\nwrite 0 0\nwrite 1 0\nspawn 2\nbegin 2\nsync\nwrite 0 1\nend\nresume 1\nread 0 0 7\nwrite 1 1\nsync\nread 1 1 11\nsync\nend\nresult 1\nend\n",
+        "cilkcert 2\nsize 15 2 6\nframe 1 0 0\nframe 2 1 1\nstrand 1 1 1 0\nstrand 2 2 3 2\nstrand 3 2 4 2\n\
+        strand 4 1 2 4\nstrand 5 1 5 0\nstrand 6 1 6 0\nbegin 1\nwrite 0 0\nwrite 1 0\nspawn 2\nbegin 2\nsync\n\
+        write 0 1\nend\nresume 1\nread 0 0 7\nwrite 1 1\nsync\nread 1 1 11\nsync\nend\nresult 1\nend\n",
         303,
         Fields::One(10),
     ),
     (
         EARLY_READ,
-        "cilkcert 2\nsize 14 2 6\nframe 1 0 0\nframe 2 1 1\nstrand 1 1 1 0\nstrand 2 2 3 2\nstrand 3 2 4 2\nstrand 4 1 2 4\nstrand 5 1 5 0\nstrand 6 1 6 0\nbegin 1\nwrite 0 0\nwrite 1 0\nspawn 2\nbegin 2\nsync\nwrite 0 1\nend\nresume 1\nread 0 1 7\nwrite 1 1\nsync\nread 1 1 11\nsync\nresult 1\nend\n",
+        "cilkcert 2\nsize 14 2 6\nframe 1 0 0\nframe 2 1 1\nstrand 1 1 1 0\nstrand 2 2 3 2\nstrand 3 2 4 2\n\
+        strand 4 1 2 4\nstrand 5 1 5 0\nstrand 6 1 6 0\nbegin 1\nwrite 0 0\nwrite 1 0\nspawn 2\nbegin 2\nsync\n\
+        write 0 1\nend\nresume 1\nread 0 1 7\nwrite 1 1\nsync\nread 1 1 11\nsync\nresult 1\nend\n",
         303,
         Fields::One(15),
     ),

@@ -9,7 +9,8 @@ pub type Row = (&'static str, &'static [i64], Pair, Pair, Option<u64>);
 pub const EMPTY: &str = "int main(){return 0;}";
 
 pub const FIB: &str =
-    "#include <cilk/cilk.h>\nint fib(int n) { if (n < 2) { return n; } int x; int y; x = cilk_spawn fib(n - 1); y = fib(n - 2); cilk_sync; return x + y; } int main() { int r; r = fib(10); return r; }";
+    "#include <cilk/cilk.h>\nint fib(int n) { if (n < 2) { return n; } int x; int y; x = cilk_spawn fib(n - 1); y \
+    = fib(n - 2); cilk_sync; return x + y; } int main() { int r; r = fib(10); return r; }";
 
 pub const COUNTDOWN: &str =
     "int g = 3; int main() { while (g) { print(g); g = g - 1; } return g; }";
@@ -45,10 +46,12 @@ pub const EARLY_VALUE: &str =
     "int cilk_reducer(add) r; void f() { update(r, 1); } int main() { int x; cilk_spawn f(); x = value(r); cilk_sync; return x; }";
 
 pub const SUMS_APART: &str =
-    "int f(int n) { int cilk_reducer(add) s; cilk_for (int i = 0; i < n; i++) { update(s, i); } return value(s); } int main() { int x; int y; x = cilk_spawn f(4); y = cilk_spawn f(5); cilk_sync; return x + y; }";
+    "int f(int n) { int cilk_reducer(add) s; cilk_for (int i = 0; i < n; i++) { update(s, i); } return value(s); } \
+    int main() { int x; int y; x = cilk_spawn f(4); y = cilk_spawn f(5); cilk_sync; return x + y; }";
 
 pub const WRAPPED_SUM: &str =
-    "int cilk_reducer(add) s; void u(int k) { update(s, k); } int main() { cilk_spawn u(9223372036854775807); cilk_spawn u(1); cilk_spawn u(1); cilk_sync; return value(s); }";
+    "int cilk_reducer(add) s; void u(int k) { update(s, k); } int main() { cilk_spawn u(9223372036854775807); \
+    cilk_spawn u(1); cilk_spawn u(1); cilk_sync; return value(s); }";
 
 pub const LEAST_OF_NONE: &str = "int cilk_reducer(min) m; int main() { return value(m); }";
 
@@ -62,7 +65,8 @@ pub const LIST_SET: &str =
     "int cilk_reducer(append) l; int main() { update(l, 4); set(l, 7); update(l, 8); print(value(l)); return 0; }";
 
 pub const LENT: &str =
-    "void put(int cilk_reducer(append) l, int x) { update(l, x); } int main() { int cilk_reducer(append) a; cilk_spawn put(a, 1); cilk_spawn put(a, 2); cilk_sync; return value(a); }";
+    "void put(int cilk_reducer(append) l, int x) { update(l, x); } int main() { int cilk_reducer(append) a; \
+    cilk_spawn put(a, 1); cilk_spawn put(a, 2); cilk_sync; return value(a); }";
 
 pub const PEEKED: &str =
     "int peek(int cilk_reducer(add) r) { return value(r); } int main() { int cilk_reducer(add) a; int x; x = cilk_spawn peek(a); cilk_sync; return x; }";
@@ -99,7 +103,8 @@ pub const ROWS: &[Row] = &[
         None,
     ),
     (
-        "int g; int get() { return g; } void put() { g = 1; } int main() { int x; int y; x = cilk_spawn get(); y = cilk_spawn get(); cilk_spawn put(); cilk_sync; return x + y; }",
+        "int g; int get() { return g; } void put() { g = 1; } int main() { int x; int y; x = cilk_spawn get(); y = \
+        cilk_spawn get(); cilk_spawn put(); cilk_sync; return x + y; }",
         &[],
         Some((6, 20)),
         None,

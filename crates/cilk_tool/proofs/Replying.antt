@@ -1,6 +1,6 @@
 -- How a reply comes about.
 --
--- `front_of`: what was sent is a beginning of a text. `keeps`: nothing went out. `no_memory`: a want of memory answers
+-- `front_of`: what was sent is a text, or a part of it. `keeps`: nothing went out. `no_memory`: a want of memory answers
 -- anything. `fails`, `ends`: a failure, or an answer, is served. `handed`: an error that was handed on.
 -- `program_refused`, `input_unread`, `input_refused`: no program and input are given. `both_given`: both are.
 -- `judged_ok`, `judged_err`: the answer to a command over both, and its failure. `given_later`: they are given whatever is
@@ -9,7 +9,7 @@
 use Rattle.std.proofs.Common.{◌≡◌, ℕ, List, [], Bool, true, false, Option, Some, None, option_map, drop, length, refl, sym, ap, subst, inl, inr, ◌∙◌, arith}
 use Rattle.std.specs.Prelude.{◌≢◌, IsTrue, IsFalse, Result, Ok, Err, IfOk, IfErr, IsErrAnd, ℤ}
 use Rattle.std.specs.Io.KnownBytes.{Appends}
-use Rattle.std.proofs.lemmas.List.{append-nil, take_all}
+use Rattle.std.proofs.lemmas.List.{append-nil}
 use Rattle.cilk_checker.specs.Answers.{IsRefusedText, IsUnaccepted}
 use Rattle.cilk_checker.specs.Numbers.{fields_of, number_of}
 use Rattle.cilk_checker.specs.declared.refusal.Refusal.{Refusal}
@@ -30,9 +30,10 @@ use Rattle.cilk_tool.specs.declared.reply.Failure.{Failure}
 use Rattle.cilk_tool.specs.declared.reply.Failure.TheVariants as failures
 
 -- all of a text, or a part of it, is a beginning of it
-pub front_of : (sent : Bool) (o n : Option Text) (text : Text) → (IsTrue sent → Appends o n text) → (IsFalse sent → AppendsPart o n text) → AppendsFront o n text
-front_of true o n text all part = (length text, subst (λ (t : Text). Appends o n t) (sym (take_all (length text) text (omega arith))) (all refl))
-front_of false o n text all part = let p = part refl in (p.0, p.2)
+pub front_of : (sent : Bool) (o n : Option Text) (text : Text) → (IsTrue sent → Appends o n text) → (IsFalse sent → AppendsPart o n text)
+    → AppendsFront sent o n text
+front_of true o n text all part = all refl
+front_of false o n text all part = part refl
 
 pub keeps : (o : Option Text) → Appends o o []
 keeps None = tt
@@ -63,16 +64,18 @@ still_silent : (f : Failure) (r : Reply) → IsOrNoMemory (failure_view f) r →
 still_silent f r (inl e) = ap out_text e ∙ silent f
 still_silent f r (inr e) = ap out_text e
 
-pub fails : (words : List Text) (w : Surroundings) (f : Failure) (status : ℕ) (o e e' : Option Text) → Answers w (order_in words) (failure_view f)
-    → (r : Reply) × IsOrNoMemory (failure_view f) r × (status ≡ status_of r) × ShowsError r e e' → Serves words w status o o e e'
-fails words w f status o e e' h shown =
+pub fails : (words : List Text) (w : Surroundings) (f : Failure) (status : ℕ) (told : Bool) (o e e' : Option Text)
+    → Answers w (order_in words) (failure_view f)
+    → (r : Reply) × IsOrNoMemory (failure_view f) r × (status ≡ status_of r) × ShowsError r told e e' → Serves words w status told o o e e'
+fails words w f status told o e e' h shown =
     let r = shown.0 in
     let out : Appends o o (out_text r) = subst (λ (t : Text). Appends o o t) (sym (still_silent f r shown.1)) (keeps o) in
     (r, or_no_memory w (order_in words) (failure_view f) r h shown.1, inl (shown.2, out, shown.3))
 
-pub ends : (words : List Text) (w : Surroundings) (wanted : Reply) (status : ℕ) (o o' e e' : Option Text) → Answers w (order_in words) wanted
-    → (r : Reply) × IsOrNoMemory wanted r × Shows r status o o' e e' → Serves words w status o o' e e'
-ends words w wanted status o o' e e' h shown = (shown.0, or_no_memory w (order_in words) wanted shown.0 h shown.1, shown.2)
+pub ends : (words : List Text) (w : Surroundings) (wanted : Reply) (status : ℕ) (told : Bool) (o o' e e' : Option Text)
+    → Answers w (order_in words) wanted
+    → (r : Reply) × IsOrNoMemory wanted r × Shows r status told o o' e e' → Serves words w status told o o' e e'
+ends words w wanted status told o o' e e' h shown = (shown.0, or_no_memory w (order_in words) wanted shown.0 h shown.1, shown.2)
 
 -- an error that was handed on
 pub handed : {T : Type 0} (x : Result T Failure) (f : Failure) (P : Failure → Type 0) → IsErrAnd x (λ e. e ≡ f) → P f → IfErr x P

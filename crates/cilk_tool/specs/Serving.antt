@@ -1,5 +1,5 @@
 -- What `serve` shows.
-use Rattle.std.specs.Prelude.{◌≡◌, ◌⊎◌, ℕ, ℤ, List, [], Option, Some, None, IfSome, codes, take}
+use Rattle.std.specs.Prelude.{◌≡◌, ◌⊎◌, ℕ, ℤ, Bool, List, [], Option, Some, None, IfSome, codes, take}
 use Rattle.std.specs.Io.KnownBytes.{Appends}
 use Rattle.cilk_tool.specs.declared.streams.TheConstants.{MAX_READ}
 use Rattle.cilk_tool.specs.Files.{Failures, HasFailed, IsHeld}
@@ -108,19 +108,20 @@ Answers w (Some (Run program input)) r = RunReply w program input r
 Answers w (Some (Certify program input)) r = CertifyReply w program input r
 Answers w (Some (Check program certificate input)) r = CheckReply w program certificate input r
 
--- a text of the reply goes to standard error, as far as that takes it
-abbrev pub ShowsError : Reply → Option Text → Option Text → Type 0
-ShowsError r err err' = (text : Text) × IsErrorText r text × AppendsFront err err' text
+-- a text of the reply goes to standard error: the whole of it, or it is said that a write there failed
+abbrev pub ShowsError : Reply → (is_whole : Bool) → Option Text → Option Text → Type 0
+ShowsError r is_whole err err' = (text : Text) × IsErrorText r text × AppendsFront is_whole err err' text
 
--- the whole reply goes out, with its status; or a write to standard output fails, after a beginning of its text
-abbrev pub Shows : Reply → ℕ → Option Text → Option Text → Option Text → Option Text → Type 0
-Shows r status out out' err err' =
-    ((status ≡ status_of r) × Appends out out' (out_text r) × ShowsError r err err')
-    ⊎ ((status ≡ 2) × AppendsPart out out' (out_text r) × AppendsFront err err' (line (codes "cannot write")))
+-- the whole reply goes out, with its status; or a write to standard output fails, after a beginning of its text, and standard error says so
+abbrev pub Shows : Reply → ℕ → (is_whole : Bool) → Option Text → Option Text → Option Text → Option Text → Type 0
+Shows r status is_whole out out' err err' =
+    ((status ≡ status_of r) × Appends out out' (out_text r) × ShowsError r is_whole err err')
+    ⊎ ((status ≡ 2) × AppendsPart out out' (out_text r) × AppendsFront is_whole err err' (line (codes "cannot write")))
 
 -- the words are answered by a reply, which is shown
-abbrev pub Serves : List Text → Surroundings → ℕ → Option Text → Option Text → Option Text → Option Text → Type 0
-Serves words w status out out' err err' = (r : Reply) × Answers w (order_in words) r × Shows r status out out' err err'
+abbrev pub Serves : List Text → Surroundings → ℕ → (is_whole : Bool) → Option Text → Option Text → Option Text → Option Text → Type 0
+Serves words w status is_whole out out' err err' =
+    (r : Reply) × Answers w (order_in words) r × Shows r status is_whole out out' err err'
 
 -- the reply that was wanted, or that memory was refused while its text was made
 abbrev pub IsOrNoMemory : Reply → Reply → Type 0

@@ -9,6 +9,7 @@
 //! ```
 #![tactic(auto)]
 
+pub mod counted;
 pub mod disk;
 pub mod files;
 mod judge;
@@ -21,4 +22,4 @@ mod serving;
 pub mod streams;
 pub mod words;
 
-pub use serving::serve;
+pub use serving::{Served, serve, serve_and_tell};

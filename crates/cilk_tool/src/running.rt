@@ -10,6 +10,7 @@ ghost use Rattle.cilk_tool.specs.Serving.{AreGiven, CertifyReply, CheckReply, Fi
 ghost use Rattle.cilk_tool.specs.Shown.{CheckShows};
 ghost use Rattle.cilk_tool.specs.Words.{origin_view};
 
+use crate::counted::CountedReader;
 use crate::files::{FileFault, Files};
 use crate::judge;
 use crate::parts::PartSource;
@@ -47,7 +48,7 @@ fn read_standard<'a, R: Read>(alloc: Global, reader: &mut R) -> Result<Vec<u8>, 
     ensures given { IfOk result (λ text. IsReceived (R.remaining reader.old) text.items) }
     ensures fault { IfErr result (λ e. StandardFails (failure_view e)) }
 {
-    match receive(alloc, reader) {
+    match receive(alloc, &mut CountedReader::new(reader)) {
         Ok(text) => Ok(text),
         Err(FileFault::Device) => Err(Failure::Unreadable("-")),
         Err(FileFault::Memory) => Err(Failure::Memory),

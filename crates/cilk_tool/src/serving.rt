@@ -1,6 +1,6 @@
 //! From words to a reply that is shown.
 
-ghost use Rattle.std.specs.Prelude.{◌≡◌, ◌<◌, IfOk, IfErr};
+ghost use Rattle.std.specs.Prelude.{◌≡◌, ◌<◌, Bool, IfOk, IfErr};
 ghost use Rattle.cilk_tool.specs.OneReply.{HasOneReply};
 ghost use Rattle.cilk_tool.specs.Replies.{Reply, answer_view, failure_view, status_of};
 ghost use Rattle.cilk_tool.specs.Serving.{Answers, IsOrNoMemory, Serves, Shows, ShowsError, world};
@@ -53,41 +53,74 @@ fn answer<'a, F: Files, R: Read>(
     }
 }
 
-/// Writes to standard error, as far as that takes it: a fault there changes nothing else.
-fn tell<E: Write>(err: &mut E, text: &[u8])
-    ensures { AppendsFront (E.contents err.old) (E.contents err.new) text.now }
+/// What a call ends with.
+#[derive(Clone, Copy, PartialEq, Eq, Debug)]
+pub struct Served {
+    /// The status to end with.
+    pub status: u8,
+    /// Whether all that goes to standard error went out: it didn't only where a write there failed.
+    pub told: bool,
+}
+
+/// Writes to standard error, and says whether all of it went out.
+fn tell<E: Write>(err: &mut E, text: &[u8]) -> bool
+    ensures { AppendsFront result (E.contents err.old) (E.contents err.new) text.now }
 {
-    let _ = send(err, text);
+    send(err, text)
 }
 
 /// Shows a failure.
-fn complain<E: Write>(alloc: Global, failure: &Failure<'_>, err: &mut E) -> u8
-    ensures { (r : Reply) × IsOrNoMemory (failure_view failure.now) r × (result ≡ status_of r) × ShowsError r (E.contents err.old) (E.contents err.new) }
+fn complain<E: Write>(alloc: Global, failure: &Failure<'_>, err: &mut E) -> Served
+    ensures { (r : Reply) × IsOrNoMemory (failure_view failure.now) r × (result.status ≡ status_of r)
+        × ShowsError r result.told (E.contents err.old) (E.contents err.new) }
 {
     match failure.text(alloc) {
-        Ok(text) => {
-            tell(err, text.as_slice());
-            failure.status()
-        }
-        Err(_) => {
-            tell(err, NO_MEMORY_LINE.as_bytes());
-            NO_MEMORY
-        }
+        Ok(text) => Served {
+            told: tell(err, text.as_slice()),
+            status: failure.status(),
+        },
+        Err(_) => Served {
+            told: tell(err, NO_MEMORY_LINE.as_bytes()),
+            status: NO_MEMORY,
+        },
     }
 }
 
 /// Shows an answer.
-fn show<O: Write, E: Write>(alloc: Global, answer: &Answer, out: &mut O, err: &mut E) -> u8
-    ensures { (r : Reply) × IsOrNoMemory (answer_view answer.now) r × Shows r result
+fn show<O: Write, E: Write>(alloc: Global, answer: &Answer, out: &mut O, err: &mut E) -> Served
+    ensures { (r : Reply) × IsOrNoMemory (answer_view answer.now) r × Shows r result.status result.told
         (O.contents out.old) (O.contents out.new) (E.contents err.old) (E.contents err.new) }
 {
     match answer.send(alloc, out) {
-        Ok(true) => answer.status(),
-        Ok(false) => {
-            tell(err, b"cannot write\n");
-            WRONG
-        }
+        Ok(true) => Served {
+            status: answer.status(),
+            told: true,
+        },
+        Ok(false) => Served {
+            told: tell(err, b"cannot write\n"),
+            status: WRONG,
+        },
         Err(_) => complain(alloc, &Failure::Memory, err),
+    }
+}
+
+/// Serves the words after the program's own name, and says whether all that goes to standard error went out, as [`serve`] doesn't.
+pub fn serve_and_tell<F: Files, R: Read, O: Write, E: Write>(
+    alloc: Global,
+    words: &[&str],
+    files: &mut F,
+    input: &mut R,
+    out: &mut O,
+    err: &mut E,
+) -> Served
+    requires { (F.failed files.old).count < 18446744073709551615 }
+    ensures served { Serves (texts words.now)
+        (world (F.holds files.old) (R.remaining input.old) (F.failed files.old) (F.failed files.new)) result.status result.told
+        (O.contents out.old) (O.contents out.new) (E.contents err.old) (E.contents err.new) }
+{
+    match answer(alloc, words, files, input) {
+        Ok(answer) => show(alloc, &answer, out, err),
+        Err(failure) => complain(alloc, &failure, err),
     }
 }
 
@@ -103,14 +136,11 @@ pub fn serve<F: Files, R: Read, O: Write, E: Write>(
     err: &mut E,
 ) -> u8
     requires { (F.failed files.old).count < 18446744073709551615 }
-    ensures served { Serves (texts words.now)
-        (world (F.holds files.old) (R.remaining input.old) (F.failed files.old) (F.failed files.new)) result
+    ensures served { (is_whole : Bool) × Serves (texts words.now)
+        (world (F.holds files.old) (R.remaining input.old) (F.failed files.old) (F.failed files.new)) result is_whole
         (O.contents out.old) (O.contents out.new) (E.contents err.old) (E.contents err.new) }
     ensures one { HasOneReply (world (F.holds files.old) (R.remaining input.old) (F.failed files.old) (F.failed files.new))
         (order_in (texts words.now)) }
 {
-    match answer(alloc, words, files, input) {
-        Ok(answer) => show(alloc, &answer, out, err),
-        Err(failure) => complain(alloc, &failure, err),
-    }
+    serve_and_tell(alloc, words, files, input, out, err).status
 }

@@ -1,10 +1,11 @@
 //! Bytes in from a reader and out to a writer.
 
-ghost use Rattle.std.specs.Prelude.{◌≡◌, ℕ, ◌+◌, ◌≤◌, ◌<◌, length, take, IsTrue, IsFalse, IfOk, IfSome};
+ghost use Rattle.std.specs.Prelude.{◌≡◌, ℕ, ◌+◌, ◌^◌, ◌≤◌, ◌<◌, length, take, IsTrue, IsFalse, IfOk, IfSome};
 ghost use Rattle.std.specs.Io.KnownBytes.{Appends, Consumes};
 ghost use Rattle.cilk_cert_text.specs.Certificates.{text_of};
 ghost use Rattle.cilk_tool.specs.Streams.{AppendsPart, ReadsOn};
 
+use crate::counted::CountedReader;
 use crate::files::FileFault;
 use cilk_cert_text::certificate::Certificate;
 use cilk_cert_text::writer::LineWriter;
@@ -22,13 +23,16 @@ const MAX_PIECE: usize = 16_384;
 
 /// Reads once, and puts what came at the end of the text. No byte came only at the input's end.
 fn receive_some<R: Read>(
-    input: &mut R,
+    input: &mut CountedReader<'_, R>,
     text: &mut Vec<u8>,
     piece: &mut [u8],
 ) -> Result<usize, FileFault>
-    requires { 0 < length piece.old }
-    ensures grows { IfOk result (λ n. ReadsOn (R.remaining input.old) (R.remaining input.new) text.old.items text.new.items n) }
+    requires room { 0 < length piece.old }
+    requires few { input.old.reads + 1 < 2 ^ 32 }
+    ensures grows { IfOk result (λ n. ReadsOn (R.remaining input.old.reader.now) (R.remaining input.new.reader.now)
+        text.old.items text.new.items n) }
     ensures within { IfOk result (λ n. n ≤ length piece.old) }
+    ensures counted { input.new.reads ≡ input.old.reads + 1 }
 {
     let Ok(count) = input.read(piece) else {
         return Err(FileFault::Device);
@@ -37,11 +41,16 @@ fn receive_some<R: Read>(
     Ok(count)
 }
 
-/// Reads a text of at most [`MAX_READ`] bytes, in at most as many reads. What stands after them stays unread. Any read
-/// that fails ends the reading.
-pub fn receive<R: Read>(alloc: Global, input: &mut R) -> Result<Vec<u8>, FileFault>
-    ensures whole { IfOk result (λ text. IfSome (R.remaining input.old) (λ all. text.items ≡ take MAX_READ all)) }
-    ensures taken { IfOk result (λ text. Consumes (R.remaining input.old) (R.remaining input.new) text.items) }
+/// Reads a text of at most [`MAX_READ`] bytes, in at most 262,145 reads, also where one of them fails: that ends the reading. What
+/// stands after those bytes stays unread.
+pub fn receive<R: Read>(
+    alloc: Global,
+    input: &mut CountedReader<'_, R>,
+) -> Result<Vec<u8>, FileFault>
+    requires { input.old.reads + 262145 < 2 ^ 32 }
+    ensures few { input.new.reads ≤ input.old.reads + 262145 }
+    ensures whole { IfOk result (λ text. IfSome (R.remaining input.old.reader.now) (λ all. text.items ≡ take MAX_READ all)) }
+    ensures taken { IfOk result (λ text. Consumes (R.remaining input.old.reader.now) (R.remaining input.new.reader.now) text.items) }
 {
     let mut text = Vec::new(alloc);
     let mut buffer = [0u8; PIECE];

@@ -10,7 +10,8 @@ type Case = (&'static str, &'static str, &'static str, u8, &'static str);
 const EMPTY: &str = "int main(){return 0;}";
 
 const FIB: &str =
-    "#include <cilk/cilk.h>\nint fib(int n) { if (n < 2) { return n; } int x; int y; x = cilk_spawn fib(n - 1); y = fib(n - 2); cilk_sync; return x + y; } int main() { int r; r = fib(10); return r; }";
+    "#include <cilk/cilk.h>\nint fib(int n) { if (n < 2) { return n; } int x; int y; x = cilk_spawn fib(n - 1); y \
+    = fib(n - 2); cilk_sync; return x + y; } int main() { int r; r = fib(10); return r; }";
 
 const EARLY_READ: &str =
     "int one() { return 1; } int main() { int x; int y; x = cilk_spawn one(); y = x; cilk_sync; return y; }";
@@ -30,7 +31,9 @@ const SPAWNS: &[Case] = &[
     (
         EARLY_READ,
         "",
-        "cilkcert 2\nsize 15 2 6\nframe 1 0 0\nframe 2 1 1\nstrand 1 1 1 0\nstrand 2 2 3 2\nstrand 3 2 4 2\nstrand 4 1 2 4\nstrand 5 1 5 0\nstrand 6 1 6 0\nbegin 1\nwrite 0 0\nwrite 1 0\nspawn 2\nbegin 2\nsync\nwrite 0 1\nend\nresume 1\nread 0 1 7\nwrite 1 1\nsync\nread 1 1 11\nsync\nend\nresult 1\nend\n",
+        "cilkcert 2\nsize 15 2 6\nframe 1 0 0\nframe 2 1 1\nstrand 1 1 1 0\nstrand 2 2 3 2\nstrand 3 2 4 2\n\
+        strand 4 1 2 4\nstrand 5 1 5 0\nstrand 6 1 6 0\nbegin 1\nwrite 0 0\nwrite 1 0\nspawn 2\nbegin 2\nsync\n\
+        write 0 1\nend\nresume 1\nread 0 1 7\nwrite 1 1\nsync\nread 1 1 11\nsync\nend\nresult 1\nend\n",
         4,
         "refused 311 7 10\n",
     ),
@@ -121,14 +124,17 @@ const REDUCERS: &[Case] = &[
         "refused 312 2 10\n",
     ),
     (
-        "int f(int n) { int cilk_reducer(add) s; cilk_for (int i = 0; i < n; i++) { update(s, i); } return value(s); } int main() { int x; int y; x = cilk_spawn f(4); y = cilk_spawn f(5); cilk_sync; return x + y; }",
+        "int f(int n) { int cilk_reducer(add) s; cilk_for (int i = 0; i < n; i++) { update(s, i); } return \
+        value(s); } int main() { int x; int y; x = cilk_spawn f(4); y = cilk_spawn f(5); cilk_sync; return x + y; \
+        }",
         "",
         "cilkcert 2\n",
         0,
         "accepted\n",
     ),
     (
-        "int cilk_reducer(add) s; void u(int k) { update(s, k); } int main() { cilk_spawn u(9223372036854775807); cilk_spawn u(1); cilk_spawn u(1); cilk_sync; return value(s); }",
+        "int cilk_reducer(add) s; void u(int k) { update(s, k); } int main() { cilk_spawn u(9223372036854775807); \
+        cilk_spawn u(1); cilk_spawn u(1); cilk_sync; return value(s); }",
         "",
         "cilkcert 2\n",
         0,
@@ -149,7 +155,8 @@ const REDUCERS: &[Case] = &[
         "accepted\n",
     ),
     (
-        "void put(int cilk_reducer(append) l, int x) { update(l, x); } int main() { int cilk_reducer(append) a; cilk_spawn put(a, 1); cilk_spawn put(a, 2); cilk_sync; return value(a); }",
+        "void put(int cilk_reducer(append) l, int x) { update(l, x); } int main() { int cilk_reducer(append) a; \
+        cilk_spawn put(a, 1); cilk_spawn put(a, 2); cilk_sync; return value(a); }",
         "",
         "cilkcert 2\nsize 22 3 9\n",
         0,
@@ -239,17 +246,23 @@ fn damaged_certificates(rt: HostRuntime) {
     let cases: [(&str, &str, &str); 6] = [
         (
             EARLY_READ,
-            "cilkcert 1\nsize 15 2 6\nframe 1 0 0\nframe 2 1 1\nstrand 1 1 1 0\nstrand 2 2 4 2\nstrand 3 2 3 2\nstrand 4 1 2 4\nstrand 5 1 5 0\nstrand 6 1 6 0\nbegin 1\nwrite 0 0\nwrite 1 0\nspawn 2\nbegin 2\nsync\nwrite 0 1\nend\nresume 1\nread 0 1 7\nwrite 1 1\nsync\nread 1 1 11\nsync\nend\nresult 1\nend\n",
+            "cilkcert 1\nsize 15 2 6\nframe 1 0 0\nframe 2 1 1\nstrand 1 1 1 0\nstrand 2 2 4 2\nstrand 3 2 3 2\n\
+            strand 4 1 2 4\nstrand 5 1 5 0\nstrand 6 1 6 0\nbegin 1\nwrite 0 0\nwrite 1 0\nspawn 2\nbegin 2\nsync\n\
+            write 0 1\nend\nresume 1\nread 0 1 7\nwrite 1 1\nsync\nread 1 1 11\nsync\nend\nresult 1\nend\n",
             "refused 306 2\n",
         ),
         (
             EARLY_READ,
-            "cilkcert 1\nsize 15 2 6\nframe 1 0 0\nframe 2 1 1\nstrand 1 1 1 0\nstrand 2 2 3 2\nstrand 3 2 4 2\nstrand 4 1 2 4\nstrand 5 1 5 0\nstrand 6 1 6 0\nbegin 1\nwrite 0 0\nwrite 1 0\nspawn 2\nbegin 2\nsync\nwrite 0 1\nend\nresume 1\nread 0 1 2\nwrite 1 1\nsync\nread 1 1 11\nsync\nend\nresult 1\nend\n",
+            "cilkcert 1\nsize 15 2 6\nframe 1 0 0\nframe 2 1 1\nstrand 1 1 1 0\nstrand 2 2 3 2\nstrand 3 2 4 2\n\
+            strand 4 1 2 4\nstrand 5 1 5 0\nstrand 6 1 6 0\nbegin 1\nwrite 0 0\nwrite 1 0\nspawn 2\nbegin 2\nsync\n\
+            write 0 1\nend\nresume 1\nread 0 1 2\nwrite 1 1\nsync\nread 1 1 11\nsync\nend\nresult 1\nend\n",
             "refused 308 10\n",
         ),
         (
             EARLY_READ,
-            "cilkcert 1\nsize 15 2 6\nframe 1 0 0\nframe 2 1 1\nstrand 1 1 1 0\nstrand 2 2 3 2\nstrand 3 2 4 2\nstrand 4 1 2 4\nstrand 5 1 5 0\nstrand 6 1 6 0\nbegin 1\nwrite 0 0\nwrite 1 0\nspawn 2\nbegin 2\nsync\nwrite 0 1\nend\nresume 1\nread 0 1 7\nwrite 1 1\nsync\nread 1 1 11\nsync\nend\nresult 2\nend\n",
+            "cilkcert 1\nsize 15 2 6\nframe 1 0 0\nframe 2 1 1\nstrand 1 1 1 0\nstrand 2 2 3 2\nstrand 3 2 4 2\n\
+            strand 4 1 2 4\nstrand 5 1 5 0\nstrand 6 1 6 0\nbegin 1\nwrite 0 0\nwrite 1 0\nspawn 2\nbegin 2\nsync\n\
+            write 0 1\nend\nresume 1\nread 0 1 7\nwrite 1 1\nsync\nread 1 1 11\nsync\nend\nresult 2\nend\n",
             "refused 309\n",
         ),
         (

@@ -1,7 +1,7 @@
 //! Each limit, by the last that passes and the first that is refused.
 
 use crate::repeats::{Numbered, numbered, repeated};
-use crate::served::{Broken, Ended, shown};
+use crate::served::{Broken, Drip, Ended, shown};
 use std::alloc::{AllocError, Global};
 use std::process::Abort;
 
@@ -154,6 +154,22 @@ fn bytes_of_a_text(rt: HostRuntime) -> Result<(), AllocError> {
             ),
         ],
     )
+}
+
+#[test]
+fn reads_of_standard_input(rt: HostRuntime) -> Result<(), AllocError> {
+    let alloc = rt.alloc();
+    // Byte by byte: one read tells that the longest text has ended, and none comes behind the first byte too many.
+    for (count, status) in [(262_132, 0), (262_133, 2), (300_000, 2)] {
+        let text = repeated(alloc, &[(b"int main(){", 1), (b";", count), (b"}", 1)])?;
+        let mut drip = Drip {
+            rest: text.as_slice(),
+            reads: 0,
+        };
+        assert_eq!(rt; shown(alloc, &[], b"", b"", &mut drip).status, status, "{count}");
+        assert_eq!(rt; drip.reads, 262_145, "{count}");
+    }
+    Ok(())
 }
 
 #[test]

@@ -4,7 +4,7 @@ ghost use Rattle.std.specs.Prelude.{◌≡◌, ◌<◌, IfErr, OnOk};
 
 use cilk_tool::disk::MAX_FILE;
 use cilk_tool::files::{FileFault, Files};
-use cilk_tool::serve;
+use cilk_tool::{Served, serve, serve_and_tell};
 use std::alloc::Global;
 use std::io;
 use std::io::{ErrorKind, Read, Write};
@@ -111,6 +111,21 @@ impl Read for Torn<'_> {
     }
 }
 
+/// A reader that gives one byte at a time, and counts how often it is read.
+#[derive(Drop)]
+pub struct Drip<'a> {
+    pub rest: &'a [u8],
+    pub reads: u64,
+}
+
+impl Read for Drip<'_> {
+    fn read(&mut self, piece: &mut [u8]) -> io::Result<usize> {
+        self.reads = self.reads.saturating_add(1);
+        let room = piece.len().min(1);
+        self.rest.read(&mut piece[..room])
+    }
+}
+
 /// A writer that takes so many bytes, one by one, and then none: it fails, or takes nothing.
 #[derive(Drop)]
 pub struct Short {
@@ -212,6 +227,17 @@ pub fn status_of<O: Write, E: Write>(
 ) -> u8 {
     let mut files = Folder::new(b"", b"", b"");
     serve(alloc, &[], &mut files, standard, out, err)
+}
+
+/// The same, with whether all that goes to standard error went out.
+pub fn served_over<O: Write, E: Write>(
+    alloc: Global,
+    standard: &mut &[u8],
+    out: &mut O,
+    err: &mut E,
+) -> Served {
+    let mut files = Folder::new(b"", b"", b"");
+    serve_and_tell(alloc, &[], &mut files, standard, out, err)
 }
 
 /// The status of a call with these words, over a program and a certificate and these two writers.

@@ -1,6 +1,6 @@
 //! Words, files and streams: which are read, and how a fault of a device shows.
 
-use crate::served::{Broken, Ended, Torn, short_writer, shown, status_of};
+use crate::served::{Broken, Ended, Torn, served_over, short_writer, shown, status_of};
 use std::alloc::Global;
 
 /// A program text that prints two lines.
@@ -86,8 +86,9 @@ fn standard_error_that_fails_changes_no_status(rt: HostRuntime) {
         for room in [0, 3, 1000] {
             let mut err = short_writer(rt.alloc(), room, true);
             let mut out = Vec::new(rt.alloc());
-            let ended = status_of(rt.alloc(), &mut text.as_bytes(), &mut out, &mut err);
-            assert_eq!(rt; ended, status, "{text}");
+            let ended = served_over(rt.alloc(), &mut text.as_bytes(), &mut out, &mut err);
+            assert_eq!(rt; ended.status, status, "{text}");
+            assert_eq!(rt; ended.told, told.len() <= room, "{text}");
             let taken = room.min(told.len());
             assert!(rt; err.taken.len() == taken, "{text}");
             assert!(rt; told.as_bytes().starts_with(err.taken.as_slice()), "{text}");

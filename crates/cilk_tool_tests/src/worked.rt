@@ -26,7 +26,8 @@ const STATEMENTS: &[Case] = &[
 
 const SPAWNS: &[Case] = &[
     (
-        "#include <cilk/cilk.h>\nint fib(int n) { if (n < 2) { return n; } int x; int y; x = cilk_spawn fib(n - 1); y = fib(n - 2); cilk_sync; return x + y; } int main() { int r; r = fib(10); return r; }",
+        "#include <cilk/cilk.h>\nint fib(int n) { if (n < 2) { return n; } int x; int y; x = cilk_spawn fib(n - \
+        1); y = fib(n - 2); cilk_sync; return x + y; } int main() { int r; r = fib(10); return r; }",
         "",
         0,
         "result 55\n",
@@ -125,14 +126,17 @@ const REDUCERS: &[Case] = &[
         "",
     ),
     (
-        "int f(int n) { int cilk_reducer(add) s; cilk_for (int i = 0; i < n; i++) { update(s, i); } return value(s); } int main() { int x; int y; x = cilk_spawn f(4); y = cilk_spawn f(5); cilk_sync; return x + y; }",
+        "int f(int n) { int cilk_reducer(add) s; cilk_for (int i = 0; i < n; i++) { update(s, i); } return \
+        value(s); } int main() { int x; int y; x = cilk_spawn f(4); y = cilk_spawn f(5); cilk_sync; return x + y; \
+        }",
         "",
         0,
         "result 16\n",
         "",
     ),
     (
-        "int cilk_reducer(add) s; void u(int k) { update(s, k); } int main() { cilk_spawn u(9223372036854775807); cilk_spawn u(1); cilk_spawn u(1); cilk_sync; return value(s); }",
+        "int cilk_reducer(add) s; void u(int k) { update(s, k); } int main() { cilk_spawn u(9223372036854775807); \
+        cilk_spawn u(1); cilk_spawn u(1); cilk_sync; return value(s); }",
         "",
         0,
         "reducer s -9223372036854775807\nresult -9223372036854775807\n",
@@ -160,7 +164,8 @@ const REDUCERS: &[Case] = &[
         "",
     ),
     (
-        "void put(int cilk_reducer(append) l, int x) { update(l, x); } int main() { int cilk_reducer(append) a; cilk_spawn put(a, 1); cilk_spawn put(a, 2); cilk_sync; return value(a); }",
+        "void put(int cilk_reducer(append) l, int x) { update(l, x); } int main() { int cilk_reducer(append) a; \
+        cilk_spawn put(a, 1); cilk_spawn put(a, 2); cilk_sync; return value(a); }",
         "",
         0,
         "result 2\n",

@@ -9,6 +9,7 @@ loop-turn-preserved g c =
     record {
       within = omega (arith, c.in_ok-count.ensures.within, same, length-take c.min-room.result c.loop-turn.buffer);
       far = omega (arith, same);
+      few = omega (arith, c.in_ok-count.ensures.counted);
       read = more_read _ _ _ _ _ _ c.loop-turn.invariant.read c.in_ok-count.ensures.grows;
     }
 
@@ -19,12 +20,12 @@ returns-then-count-eq0-clause-whole g c =
 pub returns-then-room-eq0-clause-whole : goal.returns-then-room-eq0-clause-whole
 returns-then-room-eq0-clause-whole g c =
     let full : length c.loop-turn.text.items ≡ 262145 = omega arith in
-    subst (λ n. IfSome (g.R.Read.remaining c.args.input.now) (λ all. c.loop-turn.text.items ≡ take n all)) full (read_enough _ _ _ c.loop-turn.invariant.read)
+    subst (λ n. IfSome (g.R.Read.remaining c.args.input.now.reader.now) (λ all. c.loop-turn.text.items ≡ take n all)) full (read_enough _ _ _ c.loop-turn.invariant.read)
 
 pub returns-clause-whole : goal.returns-clause-whole
 returns-clause-whole g c =
     let full : length c.loop-turn.text.items ≡ 262145 = omega arith in
-    subst (λ n. IfSome (g.R.Read.remaining c.args.input.now) (λ all. c.loop-turn.text.items ≡ take n all)) full (read_enough _ _ _ c.loop-turn.invariant.read)
+    subst (λ n. IfSome (g.R.Read.remaining c.args.input.now.reader.now) (λ all. c.loop-turn.text.items ≡ take n all)) full (read_enough _ _ _ c.loop-turn.invariant.read)
 
 pub returns-then-count-eq0-clause-taken : goal.returns-then-count-eq0-clause-taken
 returns-then-count-eq0-clause-taken g c = more_read _ _ _ _ _ _ c.loop-turn.invariant.read c.in_ok-count.ensures.grows
