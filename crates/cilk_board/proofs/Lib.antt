@@ -55,3 +55,5 @@ pub mod Returning
 pub mod HandingIn
 pub mod Stages
 pub mod Parents
+pub mod EndParts
+pub mod Awaited

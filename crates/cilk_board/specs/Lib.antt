@@ -25,3 +25,4 @@ pub mod Stopping
 pub mod Invocations
 pub mod Parents
 pub mod Ending
+pub mod EndParts
