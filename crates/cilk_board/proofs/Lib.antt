@@ -1,5 +1,6 @@
 pub mod Altered
 pub mod Among
+pub mod Awaited
 pub mod Begun
 pub mod Blocks
 pub mod Carried
@@ -8,6 +9,7 @@ pub mod CellEvents
 pub mod Changing
 pub mod Children
 pub mod Choosing
+pub mod EndParts
 pub mod Ended
 pub mod Finals
 pub mod Forked

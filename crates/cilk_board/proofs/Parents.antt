@@ -455,7 +455,11 @@ module _ (p : Source) (inputs : List ℤ) where
       by x e = subst (λ x. OutliveChildren x) (sym e) (record {
         outlive = λ z g before how what after at e.
             ⊎_elim (λ y. inl (ended_on s (record s { stopped = x }) (λ q is. is) (child_after z before) y)) (λ b. inr (record { goes = b.goes; since = b.since })) (o.outlive z g before how what after at e);
-        spawned = o.spawned; unstolen = o.unstolen; present = o.present; counted = o.counted })
+        spawned = o.spawned;
+        unstolen = o.unstolen;
+        present = o.present;
+        counted = o.counted;
+      })
 
   pub parents_outlive : ParentsOutlive p inputs
   parents_outlive = record { opens = children_open; keeps = children_keep; reached = λ ns s r. steps_so ns r.0 s (let l = does_as_asked p inputs in l.opens r.0 r.1) (children_open r.0 r.1) r.2 }

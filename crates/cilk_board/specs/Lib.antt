@@ -3,6 +3,7 @@ pub mod Asking
 pub mod Blocks
 pub mod Boards
 pub mod Desks
+pub mod EndParts
 pub mod Ending
 pub mod Events
 pub mod GoneOn

@@ -4,6 +4,7 @@ ghost use Rattle.std.specs.Prelude.{ℤ, List};
 ghost use Rattle.cilk_lower.specs.Code.{CodeView};
 ghost use Rattle.cilk_program.specs.Syntax.{Source};
 ghost use Rattle.cilk_board.specs.Ending.{ArrivalsAreShown, ReturnsAreShown, RunsEnd};
+ghost use Rattle.cilk_board.specs.EndParts.{FramesGoBack, PiecesAreHandedIn, PiecesMayArrive, RunsAreLeft};
 ghost use Rattle.cilk_board.specs.Parents.{NamesAreKept, ParentsOutlive};
 
 /// The first frame's end is a step of the free machine, by the choice of the worker that has it: the run is over, and leaves the outcome of
@@ -33,4 +34,18 @@ pub fn parents_outlive()
 /// In each state that steps lead to, each frame runs what was started under its name.
 pub fn names_are_kept()
     ensures { (p : Source) (inputs : List ℤ) → NamesAreKept p inputs }
+{}
+
+/// A frame has ended as the laws of ends want it where it has gone on to its end, the worker's views have lost its reducers, and it is
+/// finished, counted and written down; and meanwhile an outcome was left, or the worker has the parent, whose continuation was taken back,
+/// or the piece has arrived at the parent's block.
+pub fn ends_are_put_together()
+    ensures left { (code : CodeView) (p : Source) (inputs : List ℤ) → RunsAreLeft code p inputs }
+    ensures back { (code : CodeView) (p : Source) (inputs : List ℤ) → FramesGoBack code p inputs }
+    ensures handed { (code : CodeView) (p : Source) (inputs : List ℤ) → PiecesAreHandedIn code p inputs }
+{}
+
+/// The parent of a frame that ends is there. Where the continuation beside the frame was stolen, the parent's block awaits its piece.
+pub fn pieces_may_arrive()
+    ensures { (code : CodeView) (p : Source) (inputs : List ℤ) → PiecesMayArrive code p inputs }
 {}

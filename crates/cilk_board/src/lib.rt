@@ -21,6 +21,7 @@ pub mod beginning;
 pub mod board;
 pub mod cells;
 pub mod choice;
+pub mod ending;
 pub mod invoking;
 pub mod journal;
 pub mod laws;
