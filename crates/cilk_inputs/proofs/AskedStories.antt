@@ -22,7 +22,7 @@ throughout (child b k w u r) h =
     )
 
 -- ---- as many events as askings
-long : {W : Type 0} (c : Course W) → length (trace (run_of c)) ≡ length (asked_in c)
+pub long : {W : Type 0} (c : Course W) → length (trace (run_of c)) ≡ length (asked_in c)
 long stop = refl
 long (act b e r) = ap suc (long r)
 long (child b k w u r) =
@@ -33,7 +33,7 @@ long (child b k w u r) =
     omega (arith, inner, rest, deeds, both)
 
 module _ (cell : Cell → ℕ) (instance : Instance → numbered.Instance) where
-  written_long : {W : Type 0} (ds : List (Deed W)) (es : List numbers.Event) → AreWritten cell instance ds es → length es ≡ length ds
+  pub written_long : {W : Type 0} (ds : List (Deed W)) (es : List numbers.Event) → AreWritten cell instance ds es → length es ≡ length ds
   written_long [] [] h = refl
   written_long [] (e ∷ es) h = absurd h
   written_long (d ∷ ds) [] h = absurd h

@@ -11,14 +11,15 @@ use Rattle.cilk_worlds.specs.Machine.{is_end, has_ended, next, opening_values}
 use Rattle.cilk_worlds.specs.Reducers.{View, monoid_of}
 use Rattle.cilk_worlds.specs.Worlds.{World, first_world}
 use Rattle.cilk_inputs.specs.Courses.{IsOverWithItsEnd}
-use Rattle.cilk_inputs.specs.Frames.{same_body, same_frame, SerialRunsAreTheirCourses, AskedCoursesAreSerialRuns}
+use Rattle.cilk_inputs.specs.Frames.{same_body, same_frame, ProgramsHaveOneCourse, SerialRunsAreTheirCourses, AskedCoursesAreSerialRuns}
 use Rattle.cilk_inputs.proofs.CourseRuns.{own_course, asked_is_serial}
+use Rattle.cilk_inputs.proofs.OneCourse.{courses_are_one}
 
 one_body : (b : Body) → same_body b b ≡ true
 one_body (Function n) = eq-eqb n n refl
 one_body (Loop n) = eq-eqb n n refl
 
-one_frame : (p : Source) (w : World) → same_frame p w w ≡ true
+pub one_frame : (p : Source) (w : World) → same_frame p w w ≡ true
 one_frame p w = ap (λ (b : Bool). b && same_body (body_of p w.callee) (body_of p w.callee)) (same_name-refl w.name) ∙ one_body (body_of p w.callee)
 
 true_then : (b x : Bool) → x ≡ true → cond b true x ≡ true
@@ -29,7 +30,7 @@ ended_by : (past : List (Deed World)) (v : ℤ) (gone : List Instance) → has_e
 ended_by [] v gone = refl
 ended_by (d ∷ past) v gone = true_then (is_end d) (has_ended (past ++ Does (Ends v gone) ∷ [])) (ended_by past v gone)
 
-ends_over : (p : Source) (inputs : List ℤ) → IsOverWithItsEnd World View monoid_of (next p inputs) (same_frame p)
+pub ends_over : (p : Source) (inputs : List ℤ) → IsOverWithItsEnd World View monoid_of (next p inputs) (same_frame p)
 ends_over p inputs w past v gone = by (has_ended (past ++ Does (Ends v gone) ∷ [])) (ended_by past v gone) _
   where
     by : (b : Bool) → b ≡ true → (a : Ask World) → cond b None (Some a) ≡ None
@@ -43,3 +44,7 @@ runs_are_courses p inputs t run =
 pub courses_are_runs : AskedCoursesAreSerialRuns
 courses_are_runs p inputs others t c run course asked =
     asked_is_serial World View monoid_of (next p others) (same_frame p) (ends_over p others) (first_world p) (opening_values p others) (unit_of monoid_of) t c run.framed course asked
+
+pub programs_have_one : ProgramsHaveOneCourse
+programs_have_one p inputs t =
+    courses_are_one World View monoid_of (next p inputs) (same_frame p) (one_frame p) (first_world p) [] (opening_values p inputs) (unit_of monoid_of) t

@@ -20,7 +20,7 @@ mark_like (Sets i x) = refl
 mark_like (Values i x) = refl
 mark_like (Prints x) = tt
 
-like : (e : Event) → IsLike e e
+pub like : (e : Event) → IsLike e e
 like (Reads c v) = refl
 like (Writes c v) = refl
 like Syncs = tt
@@ -97,7 +97,7 @@ framed_to (Passes (Sets i x)) r n f = f
 framed_to (Passes (Values i x)) r n f = f
 framed_to (Passes (Prints x)) r n f = f
 
-run_all : {W : Type 0} (t : Run W) → run_of (all_asked t) ≡ t
+pub run_all : {W : Type 0} (t : Run W) → run_of (all_asked t) ≡ t
 run_all runs.stop = refl
 run_all (runs.act e r) = ap (λ (z : Run _). runs.act e z) (run_all r)
 run_all (runs.child k w u r) = ap (λ (z : Run _). runs.child k w z (run_of (all_asked r))) (run_all u) ∙ ap (λ (z : Run _). runs.child k w u z) (run_all r)
@@ -112,11 +112,11 @@ module _ (W V : Type 0) (M : Instance → MonoidStructure V) (next : W → List 
       → Behaves W (follows next) w past t → IsSerial t memory → IsSerialViews M t views → IsCourse W V M next same w past memory views t (all_asked t)
   own known w past memory views runs.stop b s v = tt
   own known w past memory views (runs.act e r) b s v = (
-    record { like = like e; made = λ _. (b.0, s.0, v.0); only = λ _ _ _. refl },
+    record { like = like e; made = λ _. (b.0, s.0, v.0); kept = λ _. refl; only = λ _ _ _. refl },
     own known w (past ++ Does e ∷ []) (λ c. put e c (memory c)) (λ i. on_view (M i) i e (views i)) r b.1 s.1 v.1,
   )
   own known w past memory views (runs.child k z u r) b s v = (
-    record { how = refl; fits = known z; made = λ _. b.0; only = λ _ _ _. refl },
+    record { how = refl; fits = known z; made = λ _. b.0; kept = λ _. refl; only = λ _ _ _. refl },
     own known z [] memory views u b.1 s.0 v.0,
     subst (λ (x : Run W). IsCourse W V M next same w (past ++ Invokes k z ∷ []) (λ c. value_after x c (memory c)) (λ i. view_after (M i) i x (views i)) r (all_asked r)) (sym (run_all u))
         (own known w (past ++ Invokes k z ∷ []) (λ c. value_after u c (memory c)) (λ i. view_after (M i) i u (views i)) r b.2 s.1 v.1),

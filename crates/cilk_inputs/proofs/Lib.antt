@@ -1,4 +1,14 @@
 pub mod AskedStories
 pub mod CourseFrames
+pub mod CourseLimits
 pub mod CourseLists
 pub mod CourseRuns
+pub mod CourseValues
+pub mod CourseWords
+pub mod LastWrites
+pub mod NoFault
+pub mod OneCourse
+pub mod OneRun
+pub mod Owned
+pub mod RunsEnd
+pub mod StoryValues

@@ -1,11 +1,12 @@
 -- The values along a plan on an input, its own or another. The plan is a run; its events are followed as far as frames ask for them.
-use Rattle.std.specs.Prelude.{◌≡◌, ℤ, Bool, true, List, [], ◌∷◌, ◌++◌, Option, Some, None}
+use Rattle.std.specs.Prelude.{◌≡◌, ℤ, Bool, true, false, cond, List, [], ◌∷◌, ◌++◌, Option, Some, None}
 use Rattle.cilk_types.specs.declared.invocation.Invocation.{Invocation}
+use Rattle.cilk_types.specs.declared.invocation.Invocation.TheVariants.{Call, Spawn}
 use Rattle.cilk_monoid.specs.Laws.{MonoidStructure}
-use Rattle.cilk_runs.specs.Runs.{Cell, Instance, Ask, Invoke, Granted, Begins, Resumes, Creates, Updates, Sets, Values, Prints, Event, Reads, Writes, Syncs, Ends, Passes, Deed, Does, Invokes, Run, ask_of}
+use Rattle.cilk_runs.specs.Runs.{Cell, same_cell, Instance, same_instance, Wish, Begin, Resume, Create, Update, Set, Value, Print, Ask, Read, Write, Invoke, Sync, End, Pass, Granted, Begins, Resumes, Creates, Updates, Sets, Values, Prints, Event, Reads, Writes, Syncs, Ends, Passes, Deed, Does, Invokes, Run, ask_of}
 use Rattle.cilk_runs.specs.Runs as runs
-use Rattle.cilk_runs.specs.Machine.{put}
-use Rattle.cilk_runs.specs.Monoids.{on_view}
+use Rattle.cilk_runs.specs.Machine.{put, mark_of}
+use Rattle.cilk_runs.specs.Monoids.{on_view, numbers_of}
 use Rattle.cilk_runs.specs.Serial.{value_after, IsReadRight, IsSerial, Behaves}
 use Rattle.cilk_runs.specs.Traces.{begin_due, IsFramed}
 use Rattle.cilk_runs.specs.Views.{view_after, IsViewRight, IsSerialViews}
@@ -61,13 +62,54 @@ IsLike (Ends v gone) (Ends w gone') = Unit {0}
 IsLike (Passes m) (Passes n) = IsMarkLike m n
 IsLike _ _ = ⊥
 
+-- an ask for an event of this kind, and of this cell or instance
+abbrev pub wishes_for : Wish → Granted → Bool
+wishes_for Begin Begins = true
+wishes_for Resume Resumes = true
+wishes_for (Create i) (Creates j) = same_instance j i
+wishes_for (Update i x) (Updates j y) = same_instance j i
+wishes_for (Set i x) (Sets j y) = same_instance j i
+wishes_for (Value i) (Values j y) = same_instance j i
+wishes_for (Print x) (Prints y) = true
+wishes_for _ _ = false
+
+abbrev pub asks_for : {W : Type 0} → Option (Ask W) → Event → Bool
+asks_for (Some (Read c)) (Reads d v) = same_cell d c
+asks_for (Some (Write c x)) (Writes d v) = same_cell d c
+asks_for (Some Sync) Syncs = true
+asks_for (Some (End x gone)) (Ends v gone') = true
+asks_for (Some (Pass a)) (Passes m) = wishes_for a m
+asks_for _ _ = false
+
+-- what an ask makes, where the cells hold these values and the views have these numbers; this event, where it makes none
+abbrev pub made_by : {W : Type 0} → (Cell → ℤ) → (Instance → ℤ) → Option (Ask W) → Event → Event
+made_by memory number (Some (Read c)) e = Reads c (memory c)
+made_by memory number (Some (Write c v)) e = Writes c v
+made_by memory number (Some Sync) e = Syncs
+made_by memory number (Some (End v gone)) e = Ends v gone
+made_by memory number (Some (Pass a)) e = Passes (mark_of number a)
+made_by memory number _ e = e
+
+-- an ask that starts a frame so, of one function or one loop with v
+abbrev pub starts_like : {W : Type 0} → (W → W → Bool) → Option (Ask W) → Invocation → W → Bool
+starts_like same (Some (Invoke Call x)) Call v = same v x
+starts_like same (Some (Invoke Spawn x)) Spawn v = same v x
+starts_like same _ k v = false
+
+-- what an ask starts; this, where it starts nothing
+abbrev pub started_by : {W : Type 0} → Option (Ask W) → W → W
+started_by (Some (Invoke k x)) v = x
+started_by _ v = v
+
 -- `next` is the program's behaviour on the input. `same` tells whether two frames are of one function or of one loop.
 module _ (W V : Type 0) (M : Instance → MonoidStructure V) (next : W → List (Deed W) → Option (Ask W)) (same : W → W → Bool) where
   -- Where the plan has event e, a frame that has done this makes event e'. It asks for it where the next that it asks for is of that
-  -- kind, and then with the values of its own: a read gives what its cell has, a value is the number of its view.
+  -- kind, and then with the values of its own: a read gives what its cell has, a value is the number of its view. What it doesn't ask
+  -- for stays as the plan has it.
   pub record IsMadeFor (w : W) (past : List (Deed W)) (memory : Cell → ℤ) (views : Instance → V) (e e' : Event) (asked : Bool) : Type 0 where
     pub like : IsLike e e'
     pub made : asked ≡ true → (next w past ≡ Some (ask_of e')) × IsReadRight e' memory × IsViewRight M e' views
+    pub kept : asked ≡ false → e' ≡ e
     pub only : (x : Event) → IsLike e x → next w past ≡ Some (ask_of x) → asked ≡ true
 
   -- where the plan starts v, it starts v'
@@ -75,6 +117,7 @@ module _ (W V : Type 0) (M : Instance → MonoidStructure V) (next : W → List 
     pub how : k ≡ k'
     pub fits : same v v' ≡ true
     pub made : asked ≡ true → next w past ≡ Some (Invoke k' v')
+    pub kept : asked ≡ false → v' ≡ v
     pub only : (x : W) → same v x ≡ true → next w past ≡ Some (Invoke k x) → asked ≡ true
 
   -- The course of the plan's run, where frame w has done this, the cells hold these values and the views are these. A read is of the
@@ -90,12 +133,40 @@ module _ (W V : Type 0) (M : Instance → MonoidStructure V) (next : W → List 
       × IsCourse w (past ++ Invokes k' v' ∷ []) (λ c. value_after (run_of u') c (memory c)) (λ i. view_after (M i) i (run_of u') (views i)) r r'
   IsCourse _ _ _ _ _ _ = ⊥
 
+  -- The same as a function.
+  abbrev pub event_for : W → List (Deed W) → (Cell → ℤ) → (Instance → V) → Event → Event
+  event_for w past memory views e = cond (asks_for (next w past) e) (made_by memory (numbers_of M views) (next w past) e) e
+
+  abbrev pub frame_for : W → List (Deed W) → Invocation → W → W
+  frame_for w past k v = cond (starts_like same (next w past) k v) (started_by (next w past) v) v
+
+  abbrev pub course_of : W → List (Deed W) → (Cell → ℤ) → (Instance → V) → Run W → Course W
+  course_of w past memory views runs.stop = stop
+  course_of w past memory views (runs.act e r) =
+      let e' = event_for w past memory views e in
+      act (asks_for (next w past) e) e' (course_of w (past ++ Does e' ∷ []) (λ c. put e' c (memory c)) (λ i. on_view (M i) i e' (views i)) r)
+  course_of w past memory views (runs.child k v u r) =
+      let v' = frame_for w past k v in
+      let u' = course_of v' [] memory views u in
+      child (starts_like same (next w past) k v) k v' u'
+          (course_of w (past ++ Invokes k v' ∷ []) (λ c. value_after (run_of u') c (memory c)) (λ i. view_after (M i) i (run_of u') (views i)) r)
+
+  -- A plan's run has a course on each input, and one alone.
+  abbrev pub CoursesAreOne : Type 0
+  CoursesAreOne = ((v : W) → same v v ≡ true) → (w : W) (past : List (Deed W)) (memory : Cell → ℤ) (views : Instance → V) (t : Run W)
+      → IsCourse w past memory views t (course_of w past memory views t)
+        × ((c : Course W) → IsCourse w past memory views t c → c ≡ course_of w past memory views t)
+
   -- the run is what its frames ask for, one after the other, and each read and each value is right
   pub record IsSerialRunFrom (w : W) (memory : Cell → ℤ) (views : Instance → V) (t : Run W) : Type 0 where
     pub behaves : Behaves W (follows next) w [] t
     pub framed : IsFramed begin_due t
     pub reads : IsSerial t memory
     pub values : IsSerialViews M t views
+
+  -- There is one such run at most.
+  abbrev pub SerialRunsAreOne : Type 0
+  SerialRunsAreOne = (w : W) (memory : Cell → ℤ) (views : Instance → V) (t u : Run W) → IsSerialRunFrom w memory views t → IsSerialRunFrom w memory views u → t ≡ u
 
   -- On its own input a run is its own course, in which each event is asked for.
   abbrev pub OwnCourse : Type 0

@@ -9,7 +9,7 @@ use Rattle.cilk_runs.specs.Runs.{Run, same_name}
 use Rattle.cilk_worlds.specs.Machine.{next, opening_values}
 use Rattle.cilk_worlds.specs.Reducers.{View, monoid_of}
 use Rattle.cilk_worlds.specs.Worlds.{World, first_world}
-use Rattle.cilk_inputs.specs.Courses.{Course, run_of, all_asked, IsAskedThroughout, IsCourse, IsSerialRunFrom}
+use Rattle.cilk_inputs.specs.Courses.{Course, run_of, all_asked, IsAskedThroughout, IsCourse, course_of, IsSerialRunFrom}
 
 abbrev pub same_body : Body → Body → Bool
 same_body (Function n) (Function m) = nat_eq n m
@@ -29,6 +29,15 @@ IsSerialRunOn p inputs t =
 abbrev pub IsCourseOn : Source → List ℤ → Run World → Course World → Type 0
 IsCourseOn p inputs t c =
     IsCourse World View monoid_of (next p inputs) (same_frame p) (first_world p) [] (opening_values p inputs) (unit_of monoid_of) t c
+
+abbrev pub course_on : Source → List ℤ → Run World → Course World
+course_on p inputs t = course_of World View monoid_of (next p inputs) (same_frame p) (first_world p) [] (opening_values p inputs) (unit_of monoid_of) t
+
+-- A program's run has a course on each inputs, and one alone.
+abbrev pub ProgramsHaveOneCourse : Type 0
+ProgramsHaveOneCourse =
+    (p : Source) (inputs : List ℤ) (t : Run World) → IsCourseOn p inputs t (course_on p inputs t)
+    × ((c : Course World) → IsCourseOn p inputs t c → c ≡ course_on p inputs t)
 
 -- On its own inputs a serial run is its own course, and each of its events is asked for.
 abbrev pub SerialRunsAreTheirCourses : Type 0

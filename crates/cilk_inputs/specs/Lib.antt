@@ -1,3 +1,6 @@
 pub mod Courses
+pub mod Ends
 pub mod Frames
 pub mod Lists
+pub mod Owned
+pub mod Stories

@@ -4,20 +4,39 @@
 //! on the input, and `same` tells whether two frames are of one function or one loop.
 
 ghost use Rattle.std.specs.Prelude.{Bool, ℤ, List, Option};
-ghost use Rattle.cilk_inputs.specs.Courses.{AskedCourseIsSerial, OwnCourse};
-ghost use Rattle.cilk_inputs.specs.Frames.{AskedCoursesAreSerialRuns, SerialRunsAreTheirCourses};
+ghost use Rattle.cilk_inputs.specs.Courses.{AskedCourseIsSerial, CoursesAreOne, OwnCourse, SerialRunsAreOne};
+ghost use Rattle.cilk_inputs.specs.Ends.{InputsRunAlong, NamedRunsAreSerial, RunsWithinLimitsAreWhole};
+ghost use Rattle.cilk_inputs.specs.Frames.{AskedCoursesAreSerialRuns, ProgramsHaveOneCourse, SerialRunsAreTheirCourses};
 ghost use Rattle.cilk_inputs.specs.Lists.{AskedStoriesAreOfAskedCourses, CoursesAreAlongPlans, InputsThatDepartNowhere};
+ghost use Rattle.cilk_inputs.specs.Owned.{EventsAreInTheirFrames};
+ghost use Rattle.cilk_inputs.specs.Stories.{OwnStory, StoriesAlongHaveValues};
 ghost use Rattle.cilk_monoid.specs.Laws.{MonoidStructure};
 ghost use Rattle.cilk_runs.specs.Runs.{Ask, Deed, Instance};
+
+/// On each input a plan's run has a course, the one that `course_of` gives, and no other: at each event of the plan stands what its frame
+/// makes, where the frame's next ask is of that kind, and else the plan's own event.
+pub fn courses_are_one<W, V>()
+    ensures { (M : Instance → MonoidStructure V) (next : W → List (Deed W) → Option (Ask W)) (same : W → W → Bool) → CoursesAreOne W V M next same }
+{}
 
 /// On its own input a run is its own course, and each of its events is asked for.
 pub fn own_course<W, V>()
     ensures { (M : Instance → MonoidStructure V) (next : W → List (Deed W) → Option (Ask W)) (same : W → W → Bool) → OwnCourse W V M next same }
 {}
 
+/// By names, a program has one serial run at most on an input.
+pub fn serial_runs_are_one<W, V>()
+    ensures { (M : Instance → MonoidStructure V) (next : W → List (Deed W) → Option (Ask W)) (same : W → W → Bool) → SerialRunsAreOne W V M next same }
+{}
+
 /// Where each event of a course is asked for, it is a serial run of the program on that input.
 pub fn asked_course_is_serial<W, V>()
     ensures { (M : Instance → MonoidStructure V) (next : W → List (Deed W) → Option (Ask W)) (same : W → W → Bool) → AskedCourseIsSerial W V M next same }
+{}
+
+/// At the language: a run of a program has one course on each inputs.
+pub fn programs_have_one_course()
+    ensures { ProgramsHaveOneCourse }
 {}
 
 /// At the language: on its own inputs a serial run of a program is its own course, in which each event is asked for.
@@ -46,4 +65,36 @@ pub fn asked_stories_are_of_asked_courses<W>()
 /// run of the program, and the values of the course are that run's.
 pub fn inputs_that_depart_nowhere()
     ensures { InputsThatDepartNowhere }
+{}
+
+/// At the language: on its own inputs the story of a run along its plan is the plan's.
+pub fn own_story()
+    ensures { OwnStory }
+{}
+
+/// At the language: on all inputs of words the story along the plan of a serial run is along that plan and has values.
+pub fn stories_along_have_values()
+    ensures { StoriesAlongHaveValues }
+{}
+
+/// At the language: the serial run of a program of words, by names, is a serial run in the sense of courses.
+pub fn named_runs_are_serial()
+    ensures { NamedRunsAreSerial }
+{}
+
+/// At the language: a serial run in the sense of courses, each frame of which has all ticks of a run for itself, is the program's serial
+/// run, which ends without a fault, where it keeps the limits of a run.
+pub fn runs_within_limits_are_whole()
+    ensures { RunsWithinLimitsAreWhole }
+{}
+
+/// At the language, along an orderly plan: inputs on which the story departs nowhere run as the course says. It is the program's serial
+/// run on them, and ends without a fault, where its frames together take no more ticks than a run may.
+pub fn inputs_run_along()
+    ensures { InputsRunAlong }
+{}
+
+/// At the language: in the list of a serial run's events each event is in the frame that makes it by names, by that frame's number.
+pub fn events_are_in_their_frames()
+    ensures { EventsAreInTheirFrames }
 {}
