@@ -11,7 +11,7 @@ use Rattle.std.proofs.lemmas.Bool.{and_parts, ltb-true}
 use Rattle.std.proofs.lemmas.Bool.Decides.{Decides-int_eq}
 use Rattle.std.proofs.lemmas.Int.{fits_signed_from_abs}
 use Rattle.cilk_types.specs.declared.event.Event.{Event}
-use Rattle.cilk_types.specs.declared.event.Event.TheVariants.{Begin, Spawn, Call, Resume, Sync, End, Read, Write, Create, Update, Set, Value, Print}
+use Rattle.cilk_types.specs.declared.event.Event.TheVariants.{Read, Write}
 use Rattle.cilk_tree.specs.Races.{event_at, Writes}
 use Rattle.cilk_tree.specs.Sources.{last_write}
 use Rattle.cilk_tree.proofs.Sources.{sources_last}
@@ -19,7 +19,6 @@ use Rattle.cilk_story.specs.declared.story.Story.{Story}
 use Rattle.cilk_story.specs.Word.{event}
 use Rattle.cilk_story.specs.Values.{HasValue, HasValues}
 use Rattle.cilk_story.specs.Runs.{IsAsked}
-use Rattle.cilk_plan.specs.Kinds.{IsOfWords}
 
 abbrev written : Option Event → ℤ
 written (Some (Write c v)) = v

@@ -9,7 +9,7 @@ use Rattle.cilk_story.specs.Values.{HasValues}
 use Rattle.cilk_plan.specs.Along.{IsAlong}
 use Rattle.cilk_runs.specs.Tested.{none}
 use Rattle.cilk_runs.proofs.Decided.{tests_tell}
-use Rattle.cilk_thread_tests.specs.Others.{four, squares, squares_on, squares_plan, three, turns, turns_on, turns_plan, SquaresHavePlan, TurnsHavePlan}
+use Rattle.cilk_thread_tests.specs.Others.{four, squares_on, squares_plan, three, turns_on, turns_plan, SquaresHavePlan, TurnsHavePlan}
 use Rattle.cilk_thread_tests.proofs.Checked.{right_reads, valued}
 
 abbrev square : Shape

@@ -95,7 +95,11 @@ fn runs_depart_where_they_ask_otherwise(rt: HostRuntime) -> Result<(), Fail> {
 
 // The program's serial run on the input has these events.
 fn is_run_of(rt: &impl Abort, alloc: Global, text: &str, input: &[i64], events: &Trace) {
-    let Ok((_, made)) = run(alloc, &program_of(rt, alloc, text), &input_of(rt, alloc, input)) else {
+    let Ok((_, made)) = run(
+        alloc,
+        &program_of(rt, alloc, text),
+        &input_of(rt, alloc, input),
+    ) else {
         panic!(rt; "no run: {text}");
     };
     assert!(rt; made.as_slice() == events.as_slice(), "{text}");
@@ -105,8 +109,20 @@ fn is_run_of(rt: &impl Abort, alloc: Global, text: &str, input: &[i64], events: 
 fn worked_runs_are_those_of_programs(rt: HostRuntime) -> Result<(), Fail> {
     let alloc = rt.alloc();
     is_run_of(&rt, alloc, GETS, &[], &trace(alloc)?);
-    is_run_of(&rt, alloc, SQUARES, &[1, 2, 3, 4], &squares(alloc, 1, 4, 9, 16)?);
-    is_run_of(&rt, alloc, SQUARES, &[5, 6, 7, 8], &squares(alloc, 25, 36, 49, 64)?);
+    is_run_of(
+        &rt,
+        alloc,
+        SQUARES,
+        &[1, 2, 3, 4],
+        &squares(alloc, 1, 4, 9, 16)?,
+    );
+    is_run_of(
+        &rt,
+        alloc,
+        SQUARES,
+        &[5, 6, 7, 8],
+        &squares(alloc, 25, 36, 49, 64)?,
+    );
     is_run_of(&rt, alloc, TURNS, &[1], &turns(alloc, 1)?);
     Ok(())
 }

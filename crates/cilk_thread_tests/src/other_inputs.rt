@@ -36,13 +36,7 @@ fn make_up_to(
 }
 
 // Makes the next event.
-fn next(
-    yard: &Yard,
-    plan: &Plan,
-    events: &[Event],
-    asked: &[bool],
-    segment: &mut Segment,
-) -> Done
+fn next(yard: &Yard, plan: &Plan, events: &[Event], asked: &[bool], segment: &mut Segment) -> Done
     requires yard { OfYard yard.now segment.old }
     requires run { AreOf yard.now.story plan.now events.now asked.now }
     ensures { OfYard yard.now segment.new }
@@ -69,7 +63,14 @@ fn departs_at<R: Abort>(rt: &R, setting: Setting, place: Pos)
         events,
         asked,
     } = setting;
-    let done = make_up_to(&yard, &plan, events.as_slice(), asked.as_slice(), &mut segment, place);
+    let done = make_up_to(
+        &yard,
+        &plan,
+        events.as_slice(),
+        asked.as_slice(),
+        &mut segment,
+        place,
+    );
     assert_eq!(rt; done, Done::Departed(place));
     assert_eq!(rt; segment.upto(), place);
     assert!(rt; !yard.ended(&mut segment));

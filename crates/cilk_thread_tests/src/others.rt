@@ -130,7 +130,11 @@ pub fn turns_plan(alloc: Global) -> Result<Plan, AllocError>
 }
 
 /// The yard of the first program's run along its plan on 5 6 7 8, or on 5 6 7.
-pub fn squares_yard(alloc: Global, plan: &Plan, input: &Input) -> Result<(Yard, Segment), AllocError>
+pub fn squares_yard(
+    alloc: Global,
+    plan: &Plan,
+    input: &Input,
+) -> Result<(Yard, Segment), AllocError>
     requires plan { plan.now ≡ squares_plan }
     requires input { (input.now ≡ four) ⊎ (input.now ≡ three) }
     ensures story { IfOk result (λ r. r.0.story ≡ squares_on input.now) }

@@ -5,7 +5,9 @@ ghost use Rattle.cilk_shared.specs.Values.{OfYard};
 ghost use Rattle.cilk_thread_tests.specs.Others.{four, three};
 ghost use Rattle.cilk_thread_tests.specs.Settings.{AreOf};
 
-use crate::others::{asked_up_to, squares, squares_plan, squares_yard, turns, turns_plan, turns_yard};
+use crate::others::{
+    asked_up_to, squares, squares_plan, squares_yard, turns, turns_plan, turns_yard,
+};
 use cilk_plan::plan::Plan;
 use cilk_shared::yard::{Segment, Yard};
 use cilk_types::input::Input;

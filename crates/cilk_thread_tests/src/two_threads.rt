@@ -146,8 +146,26 @@ fn a_thief_takes_the_rest(rt: HostRuntime) -> Result<(), Fail> {
     let (tell_taken, hear_taken) = bounded(alloc, 1)?;
     let (first, second) = thread::join(
         &rt,
-        || makes_the_child(&rt, &yard, &plan, events, asked, first, &give_ticket, &hear_taken),
-        || takes_the_rest(&rt, &yard, &plan, events, asked, second, &get_ticket, &tell_taken),
+        || makes_the_child(
+            &rt,
+            &yard,
+            &plan,
+            events,
+            asked,
+            first,
+            &give_ticket,
+            &hear_taken,
+        ),
+        || takes_the_rest(
+            &rt,
+            &yard,
+            &plan,
+            events,
+            asked,
+            second,
+            &get_ticket,
+            &tell_taken,
+        ),
     );
     assert!(rt; yard.adjoins(&first, &second));
     let whole = yard.together(first, second);

@@ -1,4 +1,4 @@
-use Rattle.std.proofs.Common.{◌≡◌, ℕ, ◌+◌, inl, inr, get_or}
+use Rattle.std.proofs.Common.{◌≡◌, ℕ, inl, inr}
 use Rattle.cilk_story.specs.declared.story.Story.{Story}
 use Rattle.cilk_story.specs.Word.{resume, what}
 use Rattle.cilk_shared.specs.Rule.{Cont}

@@ -1,6 +1,3 @@
-use Rattle.std.proofs.Common.{sym, subst}
-use Rattle.cilk_story.specs.declared.story.Story.{Story}
-use Rattle.cilk_plan.specs.Along.{IsAlong}
 use Rattle.cilk_thread_tests.proofs.OtherRuns.{squares_along}
 use Rattle.cilk_thread_tests.proofs.others.squares_yard.Goals as goal
 

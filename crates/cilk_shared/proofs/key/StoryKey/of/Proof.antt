@@ -9,7 +9,7 @@ use types.ByLocal.{alloc_all, pass_all, free_all, look_at, sets}
 use types.Part.{agg}
 use contract.Running.{tables}
 use denote.Exit.{yes}
-use denote.RattleType.{RattleType, owns}
+use denote.RattleType.{owns}
 use denote.Signature.{types_at, plain}
 use denote.Steps.{nothing}
 use denote.Builtin.{RefOf}
