@@ -2,8 +2,9 @@
 --
 -- - `bare`, `bare_at`: what an event is to the words but for its value, by kinds and predecessors alone;
 -- - `bare_alone`, `bare_read`, `bare_write`: back from it;
+-- - `same_resume`, `was_word`, `is_word`, `afters`, `many`: what a story along a plan and the plan have in common;
 -- - `before_less`: what is before a position is less.
-use Rattle.std.proofs.Common.{◌≡◌, ◌≢◌, ℕ, zero, suc, ◌+◌, ◌-◌, ◌^◌, ◌<◌, ◌≤◌, Bool, true, false, nat_eq, if◌then◌else◌, List, [], ◌∷◌, length, map, Option, Some, None, slice_get, slice_index_or, refl, sym, ap, ◌∙◌, subst, arith, ◌⊎◌, inl, inr, ⊎_elim}
+use Rattle.std.proofs.Common.{◌≡◌, ◌≢◌, ◌↔◌, ℕ, zero, suc, ◌+◌, ◌-◌, ◌^◌, ◌<◌, ◌≤◌, Bool, true, false, nat_eq, if◌then◌else◌, List, [], ◌∷◌, length, map, Option, Some, None, slice_get, slice_index_or, refl, sym, ap, ◌∙◌, subst, arith, ◌⊎◌, inl, inr, ⊎_elim}
 use Rattle.std.specs.Option.{option_map}
 use Rattle.std.proofs.lemmas.List.{length-map}
 use Rattle.std.proofs.lemmas.Option.{slice_get-map}
@@ -170,7 +171,7 @@ sync_of (Some events.Sync) h = refl
 sync_of o h = absurd (cc h)
 
 -- ---- a story along a plan
-module _ (plan s : Story) (o : IsOrderly plan) (along : IsAlong plan s) where
+module _ (plan s : Story) (along : IsAlong plan s) where
   same : (p : ℕ) → bare (what s p) ≡ bare (what plan p)
   same p =
       bare_what s p
@@ -184,10 +185,13 @@ module _ (plan s : Story) (o : IsOrderly plan) (along : IsAlong plan s) where
   there : (p : ℕ) (x : WordEvent) → HasNoValue x → bare x ≡ x → what s p ≡ x → what plan p ≡ x
   there p x n b h = bare_alone (what plan p) x (sym (same p) ∙ ap bare h ∙ b) n
 
-  afters : after s ≡ after plan
+  pub same_resume : (p q : ℕ) → (what s p ≡ resume q) ↔ (what plan p ≡ resume q)
+  same_resume p q = (there p (resume q) tt refl, here p (resume q) tt refl)
+
+  pub afters : after s ≡ after plan
   afters = ap (λ (pre : List (List ℕ)). (λ (p : ℕ). slice_index_or pre (p - 1) [])) along.preceding
 
-  many : length s.events ≡ length plan.events
+  pub many : length s.events ≡ length plan.events
   many = sym (length-map s.events kind_of) ∙ ap length along.kinds ∙ length-map plan.events kind_of
 
   among : (e p : ℕ) → Among e (after s p) → Among e (after plan p)
@@ -196,8 +200,11 @@ module _ (plan s : Story) (o : IsOrderly plan) (along : IsAlong plan s) where
   before : (q p : ℕ) → Before plan q p → Before s q p
   before q p h = subst (λ (g : ℕ → List ℕ). Reaches g q p) (sym afters) h
 
-  was_word : (p : ℕ) → IsWord (what s p) → IsWord (what plan p)
+  pub was_word : (p : ℕ) → IsWord (what s p) → IsWord (what plan p)
   was_word p h = bare_word (what plan p) (subst IsWord (same p) (word_bare (what s p) h))
+
+  pub is_word : (p : ℕ) → IsWord (what plan p) → IsWord (what s p)
+  is_word p h = bare_word (what s p) (subst IsWord (sym (same p)) (word_bare (what plan p) h))
 
   was_line : (p : ℕ) → IsLine (what s p) → IsLine (what plan p)
   was_line p h = bare_line (what plan p) (subst IsLine (same p) (line_bare (what s p) h))
@@ -218,58 +225,59 @@ module _ (plan s : Story) (o : IsOrderly plan) (along : IsAlong plan s) where
   conflict p q (c, v, w, inr (inl h)) = let a = was_read p c w h.0 in let b = was_write q c v h.1 in (c, b.0, a.0, inr (inl (a.1, b.1)))
   conflict p q (c, v, w, inr (inr h)) = let a = was_write p c v h.0 in let b = was_write q c w h.1 in (c, a.0, b.0, inr (inr (a.1, b.1)))
 
-  resumed : (p q : ℕ) → what s p ≡ resume q → (what s q ≡ spawn) × Among q (after s p) × ((e : ℕ) → Among e (after s p) → e ≡ q)
-  resumed p q h =
-      let r = o.resumed p q (there p (resume q) tt refl h) in (
-        here q spawn tt refl r.0,
-        subst (λ (g : ℕ → List ℕ). Among q (g p)) (sym afters) r.1,
-        λ e a. r.2 e (among e p a),
-      )
+  module _ (o : IsOrderly plan) where
+    resumed : (p q : ℕ) → what s p ≡ resume q → (what s q ≡ spawn) × Among q (after s p) × ((e : ℕ) → Among e (after s p) → e ≡ q)
+    resumed p q h =
+        let r = o.resumed p q (there p (resume q) tt refl h) in (
+          here q spawn tt refl r.0,
+          subst (λ (g : ℕ → List ℕ). Among q (g p)) (sym afters) r.1,
+          λ e a. r.2 e (among e p a),
+        )
 
-  returns : (q : ℕ) → what s q ≡ spawn → (p : ℕ) × (what s p ≡ resume q)
-  returns q h = let r = o.returns q (there q spawn tt refl h) in (r.0, here r.0 (resume q) tt refl r.1)
+    returns : (q : ℕ) → what s q ≡ spawn → (p : ℕ) × (what s p ≡ resume q)
+    returns q h = let r = o.returns q (there q spawn tt refl h) in (r.0, here r.0 (resume q) tt refl r.1)
 
-  inside : (p : ℕ) → IsWord (what s p) → (1 ≤ p) × (p ≤ length s.events)
-  inside p h = let i = o.inside p (was_word p h) in let m = many in (i.0, let k = i.1 in omega (arith, k, m))
+    inside : (p : ℕ) → IsWord (what s p) → (1 ≤ p) × (p ≤ length s.events)
+    inside p h = let i = o.inside p (was_word p h) in let m = many in (i.0, let k = i.1 in omega (arith, k, m))
 
-  small : length s.opening + length s.events + 1 < 2 ^ 34
-  small = let m = many in let k = o.small in let c = ap length along.opening in omega (arith, m, k, c)
+    small : length s.opening + length s.events + 1 < 2 ^ 34
+    small = let m = many in let k = o.small in let c = ap length along.opening in omega (arith, m, k, c)
 
-  few : length s.events + 1 < 2 ^ 32
-  few = let m = many in let k = o.few in omega (arith, m, k)
+    few : length s.events + 1 < 2 ^ 32
+    few = let m = many in let k = o.few in omega (arith, m, k)
 
-  some : 1 ≤ length s.events
-  some = let m = many in let k = o.root.1 in omega (arith, m, k)
+    some : 1 ≤ length s.events
+    some = let m = many in let k = o.root.1 in omega (arith, m, k)
 
-  last : what s (length s.events) ≡ finish
-  last = subst (λ (n : ℕ). what s n ≡ finish) (sym many) (here (length plan.events) finish tt refl o.last)
+    last : what s (length s.events) ≡ finish
+    last = subst (λ (n : ℕ). what s n ≡ finish) (sym many) (here (length plan.events) finish tt refl o.last)
 
-  all : (p : ℕ) → 1 ≤ p → p < length s.events → Before s p (length s.events)
-  all p low less =
-      let m = many in
-      subst (λ (n : ℕ). Before s p n) (sym many) (before p (length plan.events) (o.all p low (omega (arith, less, m))))
+    all : (p : ℕ) → 1 ≤ p → p < length s.events → Before s p (length s.events)
+    all p low less =
+        let m = many in
+        subst (λ (n : ℕ). Before s p n) (sym many) (before p (length plan.events) (o.all p low (omega (arith, less, m))))
 
-  orderly : IsOrderly s
-  orderly = record {
-    root = (here 1 plain tt refl o.root.0, some);
-    none_ahead = λ e a. o.none_ahead e (among e 1 a);
-    last = last;
-    finished = λ p h. o.finished p (there p finish tt refl h) ∙ sym many;
-    inside = inside;
-    few = few;
-    small = small;
-    earlier = λ p e a. o.earlier p e (among e p a);
-    line = λ p h e a. o.line p (was_line p h) e (among e p a);
-    ordinary = λ p h other e a. o.ordinary p (there p plain tt refl h) (λ z. other (was_sync p z)) e (among e p a);
-    resumed = resumed;
-    returns = returns;
-    once = λ p p' q h h'. o.once p p' q (there p (resume q) tt refl h) (there p' (resume q) tt refl h');
-    no_race = λ p q less bad. before p q (o.no_race p q less (conflict p q bad));
-    all = all;
-  }
+    orderly : IsOrderly s
+    orderly = record {
+      root = (here 1 plain tt refl o.root.0, some);
+      none_ahead = λ e a. o.none_ahead e (among e 1 a);
+      last = last;
+      finished = λ p h. o.finished p (there p finish tt refl h) ∙ sym many;
+      inside = inside;
+      few = few;
+      small = small;
+      earlier = λ p e a. o.earlier p e (among e p a);
+      line = λ p h e a. o.line p (was_line p h) e (among e p a);
+      ordinary = λ p h other e a. o.ordinary p (there p plain tt refl h) (λ z. other (was_sync p z)) e (among e p a);
+      resumed = resumed;
+      returns = returns;
+      once = λ p p' q h h'. o.once p p' q (there p (resume q) tt refl h) (there p' (resume q) tt refl h');
+      no_race = λ p q less bad. before p q (o.no_race p q less (conflict p q bad));
+      all = all;
+    }
 
 pub along_orderly : StoriesAlongAreOrderly
-along_orderly plan s o along = orderly plan s o along
+along_orderly plan s o along = orderly plan s along o
 
 -- ---- where a run departs nowhere
 before_less : (s : Story) → IsOrderly s → (q p : ℕ) → Before s q p → q < p

@@ -1,7 +1,8 @@
 -- The plan of an accepted run.
-use Rattle.std.specs.Prelude.{◌≡◌, ℕ, ◌<◌, ◌≤◌, pos, List, length, Some, slice_get, slice_index_or}
+use Rattle.std.specs.Prelude.{◌≡◌, ℕ, ◌<◌, ℤ, ◌≤◌, pos, List, length, Some, slice_get, slice_index_or}
 use Rattle.cilk_types.specs.declared.event.Event.{Event}
 use Rattle.cilk_types.specs.declared.event.Event.TheVariants.{Read, Write}
+use Rattle.cilk_program.specs.SerialRun.{Transcript}
 use Rattle.cilk_program.specs.Sources.{source}
 use Rattle.cilk_meaning.specs.Answered.{opening_cells}
 use Rattle.cilk_tree.specs.Before.{IsPosition}
@@ -9,6 +10,7 @@ use Rattle.cilk_checker.specs.Determinate.{AcceptedRun}
 use Rattle.cilk_story.specs.declared.story.Story.{Story}
 use Rattle.cilk_story.specs.Runs.{IsAsked}
 use Rattle.cilk_plan.specs.Planned.{planned}
+use Rattle.cilk_inputs.specs.Stories.{story_on, IsPlannedRun}
 
 -- the cell that an event reads or writes is below n
 abbrev pub Names : ℕ → Event → Type 0
@@ -29,3 +31,13 @@ pub record IsPlanOf (a : AcceptedRun) (s : Story) : Type 0 where
   pub opens : (c : ℕ) → slice_index_or s.opening c (pos 0) ≡ opening_cells (source a.program) a.input c
   -- each event is asked for
   pub asked : (p : ℕ) → IsPosition a.trace p → IsAsked s p
+
+-- the story is what the program makes, on these inputs, of the plan of its accepted run, whose cells open so
+pub record IsStoryOn (a : AcceptedRun) (opening inputs : List ℤ) (s : Story) : Type 0 where
+  pub run : Transcript
+  pub of_run : IsPlannedRun (source a.program) a.input run a.trace opening
+  pub is : s ≡ story_on (source a.program) inputs run a.trace opening
+
+-- there is such a story
+abbrev pub HasStoryOn : AcceptedRun → List ℤ → List ℤ → Type 0
+HasStoryOn a opening inputs = (s : Story) × IsStoryOn a opening inputs s

@@ -1,3 +1,4 @@
+pub mod NoBytes
 pub mod Preceding
 pub mod Rows
 pub mod Seats

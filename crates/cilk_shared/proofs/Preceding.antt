@@ -2,19 +2,21 @@
 --
 -- - `earliest_next`: the earliest of what comes right before a segment's next event; `holds_all`, `holds_from`: what the segment holds by it;
 -- - `refused`, `has_no_next`, `is_past`, `is_step`, `is_passed`: whether the next event may be passed.
-use Rattle.std.proofs.Common.{◌≡◌, ◌↔◌, ℕ, ◌<◌, ◌≤◌, length, Bool, false, true, Option, Some, None, IsTrue, refl, sym, ap, ◌∙◌, subst, arith}
+use Rattle.std.proofs.Common.{◌≡◌, ◌↔◌, ℕ, ◌<◌, ◌≤◌, length, List, Bool, false, true, Option, Some, None, IsTrue, refl, sym, ap, subst, arith}
 use Rattle.std.proofs.lemmas.Bool.{leb-true, le-leb}
 use lib.Dec.{leb}
 use Rattle.cilk_story.specs.declared.story.Story.{Story}
 use Rattle.cilk_story.specs.Word.{WordEvent, plain, read, write, spawn, resume, finish, what, after, IsWord}
+use Rattle.cilk_plan.specs.Along.{IsAlong}
 use Rattle.cilk_plan.specs.Earliest.{earliest}
+use Rattle.cilk_plan.proofs.AlongPlans.{afters, is_word, many, was_word}
 use Rattle.cilk_plan.proofs.Passing.{IsEarliest, earliest_is}
 use Rattle.cilk_shared.specs.Values.{SegmentValue, HoldsPreceding, MayPass}
 
-pub earliest_next : (g h : SegmentValue) (s : Story) (o o' : Option ℕ) → g ≡ h → s ≡ h.story → o ≡ earliest (after s g.upto) → o ≡ o' → IsEarliest o' (after h.story h.upto)
-earliest_next g h s o o' same story is found =
+pub earliest_next : (g h : SegmentValue) (s : Story) (o o' : Option ℕ) → g ≡ h → IsAlong s h.story → o ≡ earliest (after s g.upto) → o ≡ o' → IsEarliest o' (after h.story h.upto)
+earliest_next g h s o o' same along is found =
     subst (λ (x : Option ℕ). IsEarliest x (after h.story h.upto)) found
-    (subst (λ (z : Story). IsEarliest o (after z h.upto)) story
+    (subst (λ (preceding : ℕ → List ℕ). IsEarliest o (preceding h.upto)) (sym (afters s h.story along))
     (subst (λ (k : SegmentValue). IsEarliest o (after s k.upto)) same
     (subst (λ (x : Option ℕ). IsEarliest x (after s g.upto)) (sym is) (earliest_is (after s g.upto)))))
 
@@ -36,11 +38,11 @@ refused h not = (λ t. absurd (let c : false ≡ true = t in cc c), λ may. absu
 pub has_no_next : (h : SegmentValue) → h.upto ≤ h.from → MayPass h → ⊥
 has_no_next h none may = let l = may.0 in omega (arith, none, l)
 
-pub is_past : (h : SegmentValue) (s : Story) (n : ℕ) → s ≡ h.story → n ≡ length s.events → n < h.upto → MayPass h → ⊥
-is_past h s n same all past may = let l = may.1 in let k = ap (λ (z : Story). length z.events) same in omega (arith, l, k, all, past)
+pub is_past : (h : SegmentValue) (s : Story) (n : ℕ) → IsAlong s h.story → n ≡ length s.events → n < h.upto → MayPass h → ⊥
+is_past h s n along all past may = let l = may.1 in let k = many s h.story along in omega (arith, l, k, all, past)
 
-pub is_step : (h : SegmentValue) (s : Story) → s ≡ h.story → IsWord (what s h.upto) → MayPass h → ⊥
-is_step h s same word may = subst IsWord (ap (λ (z : Story). what z h.upto) same ∙ may.2) word
+pub is_step : (h : SegmentValue) (s : Story) → IsAlong s h.story → IsWord (what s h.upto) → MayPass h → ⊥
+is_step h s along word may = subst IsWord may.2 (is_word s h.story along h.upto word)
 
 is_plain : (e : WordEvent) → (IsWord e → ⊥) → e ≡ plain
 is_plain plain not = refl
@@ -50,9 +52,9 @@ is_plain spawn not = absurd (not tt)
 is_plain (resume q) not = absurd (not tt)
 is_plain finish not = absurd (not tt)
 
-pub is_passed : (h : SegmentValue) (s : Story) (n : ℕ) (b : Bool) → s ≡ h.story → n ≡ length s.events → h.from < h.upto → h.upto ≤ n → (IsWord (what s h.upto) → ⊥) → IsTrue b ↔ HoldsPreceding h → IsTrue b ↔ MayPass h
-is_passed h s n b same all some within not holds =
-    let k = ap (λ (z : Story). length z.events) same in (
-      λ t. (some, omega (arith, within, all, k), subst (λ (z : Story). what z h.upto ≡ plain) same (is_plain (what s h.upto) not), holds.0 t),
+pub is_passed : (h : SegmentValue) (s : Story) (n : ℕ) (b : Bool) → IsAlong s h.story → n ≡ length s.events → h.from < h.upto → h.upto ≤ n → (IsWord (what s h.upto) → ⊥) → IsTrue b ↔ HoldsPreceding h → IsTrue b ↔ MayPass h
+is_passed h s n b along all some within not holds =
+    let k = many s h.story along in (
+      λ t. (some, omega (arith, within, all, k), is_plain (what h.story h.upto) (λ word. not (was_word s h.story along h.upto word)), holds.0 t),
       λ may. holds.1 may.3,
     )

@@ -1,3 +1,4 @@
+pub mod Laws
 pub mod Rows
 pub mod Rule
 pub mod Values

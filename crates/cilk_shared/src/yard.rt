@@ -1,30 +1,34 @@
 //! A yard and its segments.
 
-ghost use Rattle.std.specs.Prelude.{◌≡◌, ◌↔◌, ℕ, ◌+◌, ◌<◌, ◌≤◌, Option, Some, None, length, slice_index_or, cond, nat_lt, IfErr, IfOk, IsTrue};
+ghost use Rattle.std.specs.Prelude.{◌≡◌, ◌↔◌, ℕ, ◌+◌, ◌<◌, ◌≤◌, ℤ, List, Option, Some, None, length, slice_index_or, cond, nat_lt, IfErr, IfOk, IsTrue};
 ghost use Rattle.cilk_types.specs.declared.event.Event.TheVariants.{Read};
+ghost use Rattle.cilk_story.specs.declared.story.Story.{Story};
 ghost use Rattle.cilk_story.specs.Orders.{IsOrderly};
 ghost use Rattle.cilk_story.specs.Values.{HasValues, AreFinal};
 ghost use Rattle.cilk_story.specs.Runs.{IsFollowed};
 ghost use Rattle.cilk_story.specs.Word.{event, resume, what};
+ghost use Rattle.cilk_plan.specs.Along.{IsAlong};
 ghost use Rattle.cilk_shared.specs.Rows.{spanned};
 
+use crate::key::StoryKey;
 use crate::taken::Taken;
 use crate::view::View;
 use crate::words::{first_words, last_values};
 use atomic_table::{Join, Play, Seat, Split, Table, TableRule};
 use cilk_plan::plan::Plan;
 use cilk_types::event::{Cell, Pos};
+use cilk_types::input::Input;
 use std::alloc::{AllocError, Global};
 use std::marker::Model;
 
 struct Words;
 
-impl TableRule<(), View, Plan> for Words {
+impl TableRule<(), View, StoryKey> for Words {
     ghost use Rattle.cilk_shared.specs.Rule.{view, Kept};
 
-    ghost holds = { λ s t. Kept s t };
+    ghost holds = { λ k t. Kept k.story t };
 
-    ghost first = { λ s. view s 1 2 };
+    ghost first = { λ k. view k.story 1 2 };
 }
 
 struct Loads;
@@ -80,7 +84,7 @@ impl Join<View> for Halves {
 /// The words of a run, shared by its threads. To a contract it is the run's story, and which yard it is.
 #[derive(Drop)]
 pub struct Yard {
-    table: Table<(), View, Plan, Words, Global>,
+    table: Table<(), View, StoryKey, Words, Global>,
     cells: usize,
     resumptions: Vec<Option<Pos>>,
 }
@@ -94,9 +98,9 @@ impl Model for Yard {
 
     ghost Value = { YardValue };
 
-    ghost view = { λ y. record { of = y.table.shared.table_id; story = y.table.shared.key } };
+    ghost view = { λ y. record { of = y.table.shared.table_id; story = y.table.shared.key.story } };
 
-    ghost invariant = { λ y. IsOrderly y.table.shared.key × (0 < y.table.shared.table_id.words) × (y.table.shared.table_id.slots ≡ 0) × (y.table.shared.table_id.words ≡ length y.table.shared.key.opening + (length y.table.shared.key.events + 1)) × (y.cells ≡ length y.table.shared.key.opening) × (y.cells + length y.table.shared.key.events + 1 < 2 ^ 34) × HasValues y.table.shared.key × AreResumptions y.table.shared.key y.resumptions.items };
+    ghost invariant = { λ y. IsOrderly y.table.shared.key.story × (0 < y.table.shared.table_id.words) × (y.table.shared.table_id.slots ≡ 0) × (y.table.shared.table_id.words ≡ length y.table.shared.key.story.opening + (length y.table.shared.key.story.events + 1)) × (y.cells ≡ length y.table.shared.key.story.opening) × (y.cells + length y.table.shared.key.story.events + 1 < 2 ^ 34) × HasValues y.table.shared.key.story × AreResumptions y.table.shared.key.story y.resumptions.items };
 }
 
 /// A stretch of the run's positions that one piece has done.
@@ -122,15 +126,21 @@ impl Model for Segment {
 impl Yard {
     ghost use Rattle.cilk_shared.specs.Values.{OfYard, NextRead, NextWrite, NextSpawn, NextFinish, CanTake, IsTaken, moved_on, empty_beside, Adjoin, both_of};
 
-    /// The words of a run, and the segment of its first event.
-    pub fn new(alloc: Global, plan: &Plan) -> Result<(Yard, Segment), AllocError>
-        ensures { IfOk result (λ r. (r.0.story ≡ plan.now) × OfYard r.0 r.1 × (r.1.from ≡ 1) × (r.1.upto ≡ 2)) }
+    /// The words of a run along the plan on this input, and the segment of its first event. `along` says what runs on each input make
+    /// of the plan: on the input of the plan's own run it is the plan.
+    pub fn new(alloc: Global, plan: &Plan, input: &Input) -> Result<(Yard, Segment), AllocError>
+        ghost along: { List ℤ → Story }
+        requires plan { IsAlong plan.now (along input.now) }
+        requires values { HasValues (along input.now) }
+        ensures story { IfOk result (λ r. r.0.story ≡ along input.now) }
+        ensures segment { IfOk result (λ r. OfYard r.0 r.1 × (r.1.from ≡ 1) × (r.1.upto ≡ 2)) }
     {
         plan.laws();
         let cells = plan.opening().len();
         let resumptions = plan.resumptions(alloc)?;
         let words = first_words(alloc, plan)?;
-        let (table, seat) = Table::of_words(alloc, words.as_slice(), plan)?;
+        let key = StoryKey::of(input);
+        let (table, seat) = Table::of_words(alloc, words.as_slice(), &key)?;
         let yard = Yard {
             table,
             cells,
@@ -409,7 +419,7 @@ impl Segment {
     /// Whether what comes right before the next event is in the segment, as `pass` asks: before a `sync` come the event ahead of it and the
     /// `end`s of the children that were spawned in its block.
     pub fn holds_preceding(&self, plan: &Plan) -> bool
-        requires { plan.now ≡ self.now.story }
+        requires { IsAlong plan.now self.now.story }
         ensures { IsTrue result ↔ HoldsPreceding self.now }
     {
         match plan.earliest_before(self.upto) {
@@ -421,7 +431,7 @@ impl Segment {
     /// Whether `pass` may be called where the frame asks for the next event: there is one, it is no step on a shared word, and what comes
     /// right before it is in the segment.
     pub fn may_pass(&self, plan: &Plan) -> bool
-        requires { plan.now ≡ self.now.story }
+        requires { IsAlong plan.now self.now.story }
         ensures { IsTrue result ↔ MayPass self.now }
     {
         if self.from >= self.upto {

@@ -1,2 +1,3 @@
+pub mod Others
 pub mod Settings
 pub mod Worked

@@ -1,12 +1,11 @@
 -- What the steps of a test rest on.
-use Rattle.std.specs.Prelude.{◌≡◌, ℕ, List}
+use Rattle.std.specs.Prelude.{◌≡◌, Bool, List}
 use Rattle.cilk_types.specs.declared.event.Event.{Event}
-use Rattle.cilk_tree.specs.Before.{IsPosition}
 use Rattle.cilk_story.specs.declared.story.Story.{Story}
-use Rattle.cilk_story.specs.Runs.{IsAsked}
+use Rattle.cilk_plan.specs.Along.{IsAlong}
 
--- a plan and a list of events are those of a yard's story, and each event is asked for
-pub record AreOf (s p : Story) (es : List Event) : Type 0 where
-  pub plan : p ≡ s
+-- a yard's story is along a plan, has these events, and asks for these of them
+pub record AreOf (s plan : Story) (es : List Event) (asked : List Bool) : Type 0 where
+  pub along : IsAlong plan s
   pub events : es ≡ s.events
-  pub asked : (q : ℕ) → IsPosition es q → IsAsked s q
+  pub asks : asked ≡ s.asked

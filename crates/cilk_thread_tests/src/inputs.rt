@@ -1,5 +1,7 @@
 //! Where runs on other inputs depart from the plan of a run: at the first event that is of another kind, or that a fault replaces.
 
+use crate::others::{squares, turns};
+use crate::worked::trace;
 use cilk_names::resolve::resolve;
 use cilk_parser::parse::parse;
 use cilk_plan::kind::without_value;
@@ -20,6 +22,9 @@ const SQUARES: &str =
 
 const TURNS: &str =
     "int a[7]; int main() { int n = input(0); cilk_for (int i = 0; i < n; i++) { a[i] = i; } return a[6]; }";
+
+const GETS: &str =
+    "int g = 7; int get() { return g; } int main() { int x; int y; x = cilk_spawn get(); y = cilk_spawn get(); cilk_sync; return x + y; }";
 
 fn program_of(rt: &impl Abort, alloc: Global, text: &str) -> Program {
     let Ok(tree) = parse(alloc, text.as_bytes()) else {
@@ -85,5 +90,39 @@ fn runs_depart_where_they_ask_otherwise(rt: HostRuntime) -> Result<(), Fail> {
             _ => panic!(rt; "not as wanted: {text}"),
         }
     }
+    Ok(())
+}
+
+// The program's serial run on the input has these events.
+fn is_run_of(rt: &impl Abort, alloc: Global, text: &str, input: &[i64], events: &Trace) {
+    let Ok((_, made)) = run(
+        alloc,
+        &program_of(rt, alloc, text),
+        &input_of(rt, alloc, input),
+    ) else {
+        panic!(rt; "no run: {text}");
+    };
+    assert!(rt; made.as_slice() == events.as_slice(), "{text}");
+}
+
+#[test]
+fn worked_runs_are_those_of_programs(rt: HostRuntime) -> Result<(), Fail> {
+    let alloc = rt.alloc();
+    is_run_of(&rt, alloc, GETS, &[], &trace(alloc)?);
+    is_run_of(
+        &rt,
+        alloc,
+        SQUARES,
+        &[1, 2, 3, 4],
+        &squares(alloc, 1, 4, 9, 16)?,
+    );
+    is_run_of(
+        &rt,
+        alloc,
+        SQUARES,
+        &[5, 6, 7, 8],
+        &squares(alloc, 25, 36, 49, 64)?,
+    );
+    is_run_of(&rt, alloc, TURNS, &[1], &turns(alloc, 1)?);
     Ok(())
 }

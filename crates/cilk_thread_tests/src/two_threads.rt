@@ -3,10 +3,9 @@
 ghost use Rattle.std.specs.Prelude.{◌≡◌};
 ghost use Rattle.cilk_shared.specs.Values.{OfYard};
 ghost use Rattle.cilk_thread_tests.specs.Settings.{AreOf};
-ghost use Rattle.cilk_thread_tests.specs.Worked.{story};
 
-use crate::steps::{Done, step};
-use crate::worked::{is_of_the_run, plan, take, trace};
+use crate::steps::{Done, last_values, step, take};
+use crate::worked::{all_asked, is_of_the_run, plan, trace, yard};
 use cilk_plan::plan::Plan;
 use cilk_shared::yard::{Segment, Yard};
 use cilk_types::event::{Event, Pos};
@@ -27,16 +26,17 @@ fn make_up_to<R: Abort>(
     yard: &Yard,
     plan: &Plan,
     events: &[Event],
+    asked: &[bool],
     segment: &mut Segment,
     last: Pos,
 ) -> Done
     requires yard { OfYard yard.now segment.old }
-    requires run { AreOf yard.now.story plan.now events.now }
+    requires run { AreOf yard.now.story plan.now events.now asked.now }
     ensures { OfYard yard.now segment.new }
 {
     let mut done = Done::Nothing;
     'events: for _at in segment.upto()..last.saturating_add(1) {
-        done = step(yard, plan, events, segment);
+        done = step(yard, plan, events, asked, segment);
         assert!(rt; done != Done::Nothing);
     }
     done
@@ -48,16 +48,16 @@ fn makes_the_child<R: Abort + Wait + Clock>(
     yard: &Yard,
     plan: &Plan,
     events: &[Event],
+    asked: &[bool],
     mut segment: Segment,
     tickets: &Sender<Pos, Global>,
     taken: &Receiver<bool, Global>,
 ) -> Segment
     requires yard { OfYard yard.now segment }
-    requires run { AreOf yard.now.story plan.now events.now }
-    requires story { yard.now.story ≡ story }
+    requires run { AreOf yard.now.story plan.now events.now asked.now }
     ensures { OfYard yard.now result }
 {
-    let Done::Offered(ticket) = make_up_to(rt, yard, plan, events, &mut segment, 4) else {
+    let Done::Offered(ticket) = make_up_to(rt, yard, plan, events, asked, &mut segment, 4) else {
         panic!(rt; "no offer");
     };
     assert!(rt; tickets.send(rt, ticket).is_ok());
@@ -66,10 +66,10 @@ fn makes_the_child<R: Abort + Wait + Clock>(
             .recv_timeout(rt, Duration::from_secs(PATIENCE))
             .is_ok()
     );
-    let read = make_up_to(rt, yard, plan, events, &mut segment, 6);
+    let read = make_up_to(rt, yard, plan, events, asked, &mut segment, 6);
     assert_eq!(rt; read, Done::Loaded(7));
-    make_up_to(rt, yard, plan, events, &mut segment, 9);
-    assert!(rt; !take(yard, &mut segment, ticket));
+    make_up_to(rt, yard, plan, events, asked, &mut segment, 9);
+    assert!(rt; !take(yard, asked, &mut segment, ticket));
     segment
 }
 
@@ -79,27 +79,27 @@ fn takes_the_rest<R: Abort + Wait + Clock>(
     yard: &Yard,
     plan: &Plan,
     events: &[Event],
+    asked: &[bool],
     mut segment: Segment,
     tickets: &Receiver<Pos, Global>,
     taken: &Sender<bool, Global>,
 ) -> Segment
     requires yard { OfYard yard.now segment }
-    requires run { AreOf yard.now.story plan.now events.now }
-    requires story { yard.now.story ≡ story }
+    requires run { AreOf yard.now.story plan.now events.now asked.now }
     ensures { OfYard yard.now result }
 {
     let Ok(ticket) = tickets.recv_timeout(rt, Duration::from_secs(PATIENCE)) else {
         panic!(rt; "no ticket");
     };
-    assert!(rt; take(yard, &mut segment, ticket));
+    assert!(rt; take(yard, asked, &mut segment, ticket));
     assert!(rt; taken.send(rt, true).is_ok());
-    let Done::Offered(own) = make_up_to(rt, yard, plan, events, &mut segment, 11) else {
+    let Done::Offered(own) = make_up_to(rt, yard, plan, events, asked, &mut segment, 11) else {
         panic!(rt; "no offer");
     };
-    let read = make_up_to(rt, yard, plan, events, &mut segment, 13);
+    let read = make_up_to(rt, yard, plan, events, asked, &mut segment, 13);
     assert_eq!(rt; read, Done::Loaded(7));
-    make_up_to(rt, yard, plan, events, &mut segment, 16);
-    assert!(rt; take(yard, &mut segment, own));
+    make_up_to(rt, yard, plan, events, asked, &mut segment, 16);
+    assert!(rt; take(yard, asked, &mut segment, own));
     segment
 }
 
@@ -110,24 +110,23 @@ fn ends_with<R: Abort>(
     yard: Yard,
     plan: &Plan,
     events: &[Event],
+    asked: &[bool],
     mut segment: Segment,
 )
     requires yard { OfYard yard segment }
-    requires run { AreOf yard.story plan.now events.now }
-    requires story { yard.story ≡ story }
+    requires run { AreOf yard.story plan.now events.now asked.now }
 {
-    let synced = make_up_to(rt, &yard, plan, events, &mut segment, 18);
+    let synced = make_up_to(rt, &yard, plan, events, asked, &mut segment, 18);
     assert_eq!(rt; synced, Done::Passed);
-    let first = make_up_to(rt, &yard, plan, events, &mut segment, 19);
-    let second = make_up_to(rt, &yard, plan, events, &mut segment, 20);
+    let first = make_up_to(rt, &yard, plan, events, asked, &mut segment, 19);
+    let second = make_up_to(rt, &yard, plan, events, asked, &mut segment, 20);
     assert!(rt; first == Done::Loaded(7) && second == Done::Loaded(7));
     assert!(rt; !yard.ended(&mut segment));
-    let ended = make_up_to(rt, &yard, plan, events, &mut segment, 22);
+    let ended = make_up_to(rt, &yard, plan, events, asked, &mut segment, 22);
     assert_eq!(rt; ended, Done::Finished);
     assert!(rt; yard.ended(&mut segment));
-    assert!(rt; segment.from() == 1 && segment.upto() == 23);
-    let Ok(values) = yard.globals(alloc, segment) else {
-        panic!(rt; "no memory");
+    let Some(values) = last_values(alloc, yard, events, segment) else {
+        panic!(rt; "no values");
     };
     assert_eq!(rt; values.as_slice(), [7, 7, 7].as_slice());
 }
@@ -138,19 +137,39 @@ fn a_thief_takes_the_rest(rt: HostRuntime) -> Result<(), Fail> {
     let trace = trace(alloc)?;
     let plan = plan(alloc, &trace)?;
     let events = trace.as_slice();
-    let (yard, segment) = Yard::new(alloc, &plan)?;
-    is_of_the_run(&yard, &plan, events);
+    let asked = all_asked(alloc)?;
+    let asked = asked.as_slice();
+    let (yard, segment) = yard(alloc, &plan)?;
+    is_of_the_run(&yard, &plan, events, asked);
     let (first, second) = yard.apart(segment);
     let (give_ticket, get_ticket) = bounded(alloc, 1)?;
     let (tell_taken, hear_taken) = bounded(alloc, 1)?;
     let (first, second) = thread::join(
         &rt,
-        || makes_the_child(&rt, &yard, &plan, events, first, &give_ticket, &hear_taken),
-        || takes_the_rest(&rt, &yard, &plan, events, second, &get_ticket, &tell_taken),
+        || makes_the_child(
+            &rt,
+            &yard,
+            &plan,
+            events,
+            asked,
+            first,
+            &give_ticket,
+            &hear_taken,
+        ),
+        || takes_the_rest(
+            &rt,
+            &yard,
+            &plan,
+            events,
+            asked,
+            second,
+            &get_ticket,
+            &tell_taken,
+        ),
     );
     assert!(rt; yard.adjoins(&first, &second));
     let whole = yard.together(first, second);
-    ends_with(&rt, alloc, yard, &plan, events, whole);
+    ends_with(&rt, alloc, yard, &plan, events, asked, whole);
     Ok(())
 }
 
@@ -160,12 +179,14 @@ fn nobody_takes_the_rest(rt: HostRuntime) -> Result<(), Fail> {
     let trace = trace(alloc)?;
     let plan = plan(alloc, &trace)?;
     let events = trace.as_slice();
-    let (yard, mut segment) = Yard::new(alloc, &plan)?;
-    is_of_the_run(&yard, &plan, events);
-    make_up_to(&rt, &yard, &plan, events, &mut segment, 9);
-    assert!(rt; take(&yard, &mut segment, 4));
-    make_up_to(&rt, &yard, &plan, events, &mut segment, 16);
-    assert!(rt; take(&yard, &mut segment, 11));
-    ends_with(&rt, alloc, yard, &plan, events, segment);
+    let asked = all_asked(alloc)?;
+    let asked = asked.as_slice();
+    let (yard, mut segment) = yard(alloc, &plan)?;
+    is_of_the_run(&yard, &plan, events, asked);
+    make_up_to(&rt, &yard, &plan, events, asked, &mut segment, 9);
+    assert!(rt; take(&yard, asked, &mut segment, 4));
+    make_up_to(&rt, &yard, &plan, events, asked, &mut segment, 16);
+    assert!(rt; take(&yard, asked, &mut segment, 11));
+    ends_with(&rt, alloc, yard, &plan, events, asked, segment);
     Ok(())
 }

@@ -2,16 +2,15 @@
 
 ghost use Rattle.std.specs.Prelude.{◌≡◌, IfOk};
 ghost use Rattle.cilk_shared.specs.Values.{OfYard};
-ghost use Rattle.cilk_story.specs.Runs.{IsAsked};
-ghost use Rattle.cilk_story.specs.Word.{resume, what};
 ghost use Rattle.cilk_thread_tests.specs.Settings.{AreOf};
 ghost use Rattle.cilk_thread_tests.specs.Worked.{opening, story, two_gets, TwoGetsHavePlan};
 
 use cilk_plan::plan::Plan;
-use cilk_shared::taken::Taken;
 use cilk_shared::yard::{Segment, Yard};
-use cilk_types::event::{Event, Pos};
+use cilk_types::event::Event;
+use cilk_types::input::Input;
 use cilk_types::trace::Trace;
+use cilk_types::word_list::WordList;
 use std::alloc::{AllocError, Global};
 
 /// The worked run has a plan.
@@ -60,34 +59,28 @@ pub fn plan(alloc: Global, trace: &Trace) -> Result<Plan, AllocError>
     Plan::of(alloc, trace, values)
 }
 
+/// The yard of the run, which reads no input.
+pub fn yard(alloc: Global, plan: &Plan) -> Result<(Yard, Segment), AllocError>
+    requires { plan.now ≡ story }
+    ensures story { IfOk result (λ r. r.0.story ≡ story) }
+    ensures segment { IfOk result (λ r. OfYard r.0 r.1) }
+{
+    two_gets_have_a_plan();
+    plan.laws();
+    Yard::new(alloc, plan, &Input::new(WordList::new(alloc)))
+}
+
+/// For each event of the run, that it is asked for.
+pub fn all_asked(alloc: Global) -> Result<Vec<bool>, AllocError>
+    ensures { IfOk result (λ asked. asked.items ≡ story.asked) }
+{
+    Vec::from_elem(alloc, true, 22)
+}
+
 /// What the steps of the worked run rest on.
-pub fn is_of_the_run(yard: &Yard, plan: &Plan, events: &[Event])
-    requires { (yard.now.story ≡ story) × (plan.now ≡ story) × (events.now ≡ two_gets) }
-    ensures { AreOf yard.now.story plan.now events.now }
+pub fn is_of_the_run(yard: &Yard, plan: &Plan, events: &[Event], asked: &[bool])
+    requires yard { yard.now.story ≡ story }
+    requires plan { plan.now ≡ story }
+    requires events { (events.now ≡ two_gets) × (asked.now ≡ story.asked) }
+    ensures { AreOf yard.now.story plan.now events.now asked.now }
 {}
-
-/// Takes the continuation after the spawn at a position of the worked run, for a segment that is empty or that ends right before the
-/// `resume`: whether it was taken now.
-pub fn take(yard: &Yard, segment: &mut Segment, ticket: Pos) -> bool
-    requires yard { OfYard yard.now segment.old }
-    requires run { yard.now.story ≡ story }
-    ensures { OfYard yard.now segment.new }
-{
-    match ticket {
-        4 => take_at(yard, segment, 4, 10),
-        11 => take_at(yard, segment, 11, 17),
-        _ => false,
-    }
-}
-
-fn take_at(yard: &Yard, segment: &mut Segment, ticket: Pos, at: Pos) -> bool
-    requires yard { OfYard yard.now segment.old }
-    requires resumes { (what yard.now.story at ≡ resume ticket) × IsAsked yard.now.story at }
-    ensures { OfYard yard.now segment.new }
-{
-    if segment.from() < segment.upto() && segment.upto() != at {
-        return false;
-    }
-    yard.laws();
-    yard.take(segment, ticket) == Taken::Yes
-}

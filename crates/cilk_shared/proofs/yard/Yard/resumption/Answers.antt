@@ -11,4 +11,4 @@ looked_up s z k column column' found h same copy is p =
     subst (λ (x : Story). (found ≡ Some p) ↔ (what x p ≡ resume k)) same (λ e. (h k p).0 (sym at ∙ e), λ w. at ∙ (h k p).1 w)
 
 pub returns : goal.returns
-returns c = looked_up c.self.inside.table.shared.key c.args.self.now.story c.args.ticket c.self.inside.resumptions.items c.as_slice.result.now c.entry.result c.self.invariant.7 (ap (λ (y : YardValue). y.story) c.self.view_is) c.as_slice.ensures.value c.entry.ensures
+returns c = looked_up c.self.inside.table.shared.key.story c.args.self.now.story c.args.ticket c.self.inside.resumptions.items c.as_slice.result.now c.entry.result c.self.invariant.7 (ap (λ (y : YardValue). y.story) c.self.view_is) c.as_slice.ensures.value c.entry.ensures

@@ -9,7 +9,7 @@ use Rattle.cilk_shared.proofs.yard.Yard.take.Goals as goal
 pub overflow_add-self-inside : goal.overflow_add-self-inside
 overflow_add-self-inside c =
     let i = c.self.invariant in
-    let s : Story = c.self.inside.table.shared.key in
+    let s : Story = c.self.inside.table.shared.key.story in
     let k : ℕ = c.args.ticket in
     let at : ℕ = c.in-Some.at in
     let same : s ≡ c.args.self.now.story = ap (λ (y : YardValue). y.story) c.self.view_is in
@@ -21,7 +21,7 @@ pub compare_exchange-found-requires : goal.compare_exchange-found-requires
 compare_exchange-found-requires c =
     let i = c.self.invariant in
     let j = c.segment.invariant in
-    let s : Story = c.self.inside.table.shared.key in
+    let s : Story = c.self.inside.table.shared.key.story in
     let k : ℕ = c.args.ticket in
     let at : ℕ = c.in-Some.at in
     let of = both OfYard c.self.view_is c.segment.view_is c.requires.yard in
@@ -38,7 +38,7 @@ pub invariant_of-segment-2 : goal.invariant_of-segment-2
 invariant_of-segment-2 c =
     let i = c.self.invariant in
     let j = c.segment.invariant in
-    let s : Story = c.self.inside.table.shared.key in
+    let s : Story = c.self.inside.table.shared.key.story in
     let k : ℕ = c.args.ticket in
     let at : ℕ = c.in-Some.at in
     let of = both OfYard c.self.view_is c.segment.view_is c.requires.yard in

@@ -1,0 +1,4 @@
+use Rattle.cilk_planning.proofs.yards.yard.Given as goal
+
+abbrev pub ghost-yard_of : goal.ghost-yard_of
+ghost-yard_of a = λ _. a.told.now.story

@@ -1,0 +1,127 @@
+//! The worked programs on other inputs than those of their plans.
+
+ghost use Rattle.std.specs.Prelude.{◌≡◌, ◌∷◌, [], pos, IfOk};
+ghost use Rattle.cilk_shared.specs.Values.{OfYard};
+ghost use Rattle.cilk_thread_tests.specs.Others.{four, three};
+ghost use Rattle.cilk_thread_tests.specs.Settings.{AreOf};
+
+use crate::others::{
+    asked_up_to, squares, squares_plan, squares_yard, turns, turns_plan, turns_yard,
+};
+use cilk_plan::plan::Plan;
+use cilk_shared::yard::{Segment, Yard};
+use cilk_types::input::Input;
+use cilk_types::trace::Trace;
+use cilk_types::word_list::WordList;
+use std::alloc::{AllocError, Global};
+
+/// A yard, its first segment, the plan that its story is along, that story's events, and which of them it asks for.
+#[derive(Drop)]
+pub struct Setting {
+    pub plan: Plan,
+    pub yard: Yard,
+    pub segment: Segment,
+    pub events: Trace,
+    pub asked: Vec<bool>,
+}
+
+/// The first program on 5 6 7 8, along its run on 1 2 3 4.
+pub fn squares_on_four(alloc: Global) -> Result<Setting, AllocError>
+    ensures segment { IfOk result (λ s. OfYard s.yard s.segment) }
+    ensures run { IfOk result (λ s. AreOf s.yard.story s.plan s.events s.asked.items) }
+{
+    let plan = squares_plan(alloc)?;
+    let (yard, segment) = squares_yard(alloc, &plan, &four_numbers(alloc)?)?;
+    let events = squares(alloc, 25, 36, 49, 64)?;
+    let asked = asked_up_to(alloc, 60, 0)?;
+    Ok(Setting {
+        plan,
+        yard,
+        segment,
+        events,
+        asked,
+    })
+}
+
+/// The first program on 5 6 7, along the same run: it asks for no event past the 45th.
+pub fn squares_on_three(alloc: Global) -> Result<Setting, AllocError>
+    ensures segment { IfOk result (λ s. OfYard s.yard s.segment) }
+    ensures run { IfOk result (λ s. AreOf s.yard.story s.plan s.events s.asked.items) }
+{
+    let plan = squares_plan(alloc)?;
+    let (yard, segment) = squares_yard(alloc, &plan, &three_numbers(alloc)?)?;
+    let events = squares(alloc, 25, 36, 49, 0)?;
+    let asked = asked_up_to(alloc, 45, 15)?;
+    Ok(Setting {
+        plan,
+        yard,
+        segment,
+        events,
+        asked,
+    })
+}
+
+/// The second program on 0, along its run on 1.
+pub fn turns_on_none(alloc: Global) -> Result<Setting, AllocError>
+    ensures segment { IfOk result (λ s. OfYard s.yard s.segment) }
+    ensures run { IfOk result (λ s. AreOf s.yard.story s.plan s.events s.asked.items) }
+{
+    let plan = turns_plan(alloc)?;
+    let (yard, segment) = turns_yard(alloc, &plan, &number(alloc, 0)?)?;
+    let events = turns(alloc, 0)?;
+    let asked = asked_up_to(alloc, 3, 12)?;
+    Ok(Setting {
+        plan,
+        yard,
+        segment,
+        events,
+        asked,
+    })
+}
+
+/// The second program on 7, along its run on 1.
+pub fn turns_on_seven(alloc: Global) -> Result<Setting, AllocError>
+    ensures segment { IfOk result (λ s. OfYard s.yard s.segment) }
+    ensures run { IfOk result (λ s. AreOf s.yard.story s.plan s.events s.asked.items) }
+{
+    let plan = turns_plan(alloc)?;
+    let (yard, segment) = turns_yard(alloc, &plan, &number(alloc, 7)?)?;
+    let events = turns(alloc, 7)?;
+    let asked = asked_up_to(alloc, 5, 10)?;
+    Ok(Setting {
+        plan,
+        yard,
+        segment,
+        events,
+        asked,
+    })
+}
+
+fn number(alloc: Global, n: i64) -> Result<Input, AllocError>
+    ensures { IfOk result (λ input. input ≡ n ∷ []) }
+{
+    let mut list = WordList::new(alloc);
+    list.push(n)?;
+    Ok(Input::new(list))
+}
+
+fn three_numbers(alloc: Global) -> Result<Input, AllocError>
+    ensures { IfOk result (λ input. input ≡ three) }
+{
+    let mut list = WordList::new(alloc);
+    list.push(5)?;
+    list.push(6)?;
+    list.push(7)?;
+    Ok(Input::new(list))
+}
+
+fn four_numbers(alloc: Global) -> Result<Input, AllocError>
+    ensures { IfOk result (λ input. input ≡ four) }
+{
+    let mut list = WordList::new(alloc);
+    list.push(5)?;
+    list.push(6)?;
+    list.push(7)?;
+    list.push(8)?;
+    Ok(Input::new(list))
+}
