@@ -2,7 +2,7 @@
 --
 -- - `head_is`: the first thing that a part of a loop does tells whether it is one turn, and so whether it has cells;
 -- - `IsOpened`: each frame begins and goes on;
--- - `as_much`: what the course weighs.
+-- - `are_like`: a course starts frames of as many cells where the plan's run does; `as_much`: so it weighs as much.
 use Rattle.std.proofs.Common.{◌≡◌, ℕ, suc, ◌+◌, nat_eq, ℤ, pos, ◌-ℤ◌, int_eq, Bool, true, false, cond, if◌then◌else◌, List, [], ◌∷◌, ◌++◌, Option, Some, None, refl, sym, ap, ap₂, ◌∙◌, subst, arith, eqb-true}
 use Rattle.std.proofs.lemmas.Bool.{and_parts}
 use Rattle.cilk_types.specs.declared.invocation.Invocation.{Invocation}
@@ -158,12 +158,49 @@ no_cells cells Syncs = refl
 no_cells cells (Ends v gone) = refl
 no_cells cells (Passes m) = refl
 
+-- the runs have children where the other has, of as many cells
+abbrev pub AreLike : Source → Run World → Run World → Type 0
+AreLike p runs.stop runs.stop = Unit {0}
+AreLike p (runs.act e r) (runs.act x s) = AreLike p r s
+AreLike p (runs.child k v u r) (runs.child j y d s) = (cells_of p v.callee ≡ cells_of p y.callee) × AreLike p u d × AreLike p r s
+AreLike p _ _ = ⊥
+
 module _ (p : Source) (inputs others : List ℤ) where
   -- the run from a point on uses as much as the other
   pub record IsAsMuch (w x : World) (past past' : List (Deed World)) (t u : Run World) : Type 0 where
     pub events : weight (costs p inputs) EventTotal w past t ≡ weight (costs p others) EventTotal x past' u
     pub frames : weight (costs p inputs) FrameTotal w past t ≡ weight (costs p others) FrameTotal x past' u
     pub cells : weight (costs p inputs) CellTotal w past t ≡ weight (costs p others) CellTotal x past' u
+
+  pub as_much : (w x : World) (past past' : List (Deed World)) (t u : Run World) → AreLike p t u → IsAsMuch w x past past' t u
+  as_much w x past past' runs.stop runs.stop h = record { events = refl; frames = refl; cells = refl }
+  as_much w x past past' runs.stop (runs.act y s) h = absurd h
+  as_much w x past past' runs.stop (runs.child j y d s) h = absurd h
+  as_much w x past past' (runs.act e r) runs.stop h = absurd h
+  as_much w x past past' (runs.act e r) (runs.child j y d s) h = absurd h
+  as_much w x past past' (runs.act e r) (runs.act y s) h =
+      let rest = as_much w x (past ++ Does e ∷ []) (past' ++ Does y ∷ []) r s h in
+      let f = no_frames e in
+      let f' = no_frames y in
+      let n = no_cells (λ (w : World). cells_of p w.callee) e in
+      let n' = no_cells (λ (w : World). cells_of p w.callee) y in
+      let re = rest.events in
+      let rf = rest.frames in
+      let rc = rest.cells in
+      record { events = omega (arith, re); frames = omega (arith, f, f', rf); cells = omega (arith, n, n', rc) }
+  as_much w x past past' (runs.child k v u r) runs.stop h = absurd h
+  as_much w x past past' (runs.child k v u r) (runs.act y s) h = absurd h
+  as_much w x past past' (runs.child k v u r) (runs.child j y d s) h =
+      let inner = as_much v y [] [] u d h.1 in
+      let rest = as_much w x (past ++ Invokes k v ∷ []) (past' ++ Invokes j y ∷ []) r s h.2 in
+      let cells = h.0 in
+      let ie = inner.events in
+      let re = rest.events in
+      let jf = inner.frames in
+      let rf = rest.frames in
+      let ic = inner.cells in
+      let rc = rest.cells in
+      record { events = omega (arith, ie, re); frames = omega (arith, jf, rf); cells = omega (arith, cells, ic, rc) }
 
   first_same : (w : World) (past : List (Deed World)) (memory : Cell → ℤ) (views : Instance → View) (t : Run World) (c : Course World) → IsCourse World View monoid_of (next p others) (same_frame p) w past memory views t c → child_first t ≡ child_first (run_of c)
   first_same w past memory views runs.stop stop h = refl
@@ -184,35 +221,22 @@ module _ (p : Source) (inputs others : List ℤ) where
   first_same w past memory views (runs.child k v u r) (act b x c) h = absurd h
   first_same w past memory views (runs.child k v u r) (child b j x d c) h = refl
 
-  pub as_much : (w x : World) (past past' : List (Deed World)) (memory : Cell → ℤ) (views : Instance → View) (t : Run World) (c : Course World) → IsCourse World View monoid_of (next p others) (same_frame p) x past' memory views t c
-      → Behaves World (follows (next p inputs)) w past t → IsOpened t → Behaves World (follows (next p others)) x past' (run_of c) → IsOpened (run_of c) → IsAsMuch w x past past' t (run_of c)
-  as_much w x past past' memory views runs.stop stop h b o b' o' = record { events = refl; frames = refl; cells = refl }
-  as_much w x past past' memory views runs.stop (act z y c) h b o b' o' = absurd h
-  as_much w x past past' memory views runs.stop (child z j y d c) h b o b' o' = absurd h
-  as_much w x past past' memory views (runs.act e r) stop h b o b' o' = absurd h
-  as_much w x past past' memory views (runs.act e r) (child z j y d c) h b o b' o' = absurd h
-  as_much w x past past' memory views (runs.act e r) (act z y c) h b o b' o' =
-      let rest = as_much w x (past ++ Does e ∷ []) (past' ++ Does y ∷ []) (λ i. put y i (memory i)) (λ i. on_view (monoid_of i) i y (views i)) r c h.1 b.1 o b'.1 o' in
-      let f = no_frames e in
-      let f' = no_frames y in
-      let n = no_cells (λ (w : World). cells_of p w.callee) e in
-      let n' = no_cells (λ (w : World). cells_of p w.callee) y in
-      let re = rest.events in
-      let rf = rest.frames in
-      let rc = rest.cells in
-      record { events = omega (arith, re); frames = omega (arith, f, f', rf); cells = omega (arith, n, n', rc) }
-  as_much w x past past' memory views (runs.child k v u r) stop h b o b' o' = absurd h
-  as_much w x past past' memory views (runs.child k v u r) (act z y c) h b o b' o' = absurd h
-  as_much w x past past' memory views (runs.child k v u r) (child z j y d c) h b o b' o' =
-      let inner = as_much v y [] [] memory views u d h.1 b.1 o.1 b'.1 o'.1 in
-      let rest = as_much w x (past ++ Invokes k v ∷ []) (past' ++ Invokes j y ∷ []) (λ i. value_after (run_of d) i (memory i)) (λ i. view_after (monoid_of i) i (run_of d) (views i)) r c h.2 b.2 o.2 b'.2 o'.2 in
-      let bodies = and_parts _ _ h.0.fits in
-      let cells : cells_of p v.callee ≡ cells_of p y.callee = same_cells p v.callee y.callee bodies.1
-      (λ l m at_v at_y. opposites (single l) (single m) (sym (head_is p inputs v l at_v u o.0 b.1) ∙ first_same y [] memory views u d h.1 ∙ head_is p others y m at_y (run_of d) o'.0 b'.1)) in
-      let ie = inner.events in
-      let re = rest.events in
-      let jf = inner.frames in
-      let rf = rest.frames in
-      let ic = inner.cells in
-      let rc = rest.cells in
-      record { events = omega (arith, ie, re); frames = omega (arith, jf, rf); cells = omega (arith, cells, ic, rc) }
+  -- a course is like the plan's run
+  pub are_like : (w x : World) (past past' : List (Deed World)) (memory : Cell → ℤ) (views : Instance → View) (t : Run World) (c : Course World) → IsCourse World View monoid_of (next p others) (same_frame p) x past' memory views t c
+      → Behaves World (follows (next p inputs)) w past t → IsOpened t → Behaves World (follows (next p others)) x past' (run_of c) → IsOpened (run_of c) → AreLike p t (run_of c)
+  are_like w x past past' memory views runs.stop stop h b o b' o' = tt
+  are_like w x past past' memory views runs.stop (act z y c) h b o b' o' = absurd h
+  are_like w x past past' memory views runs.stop (child z j y d c) h b o b' o' = absurd h
+  are_like w x past past' memory views (runs.act e r) stop h b o b' o' = absurd h
+  are_like w x past past' memory views (runs.act e r) (child z j y d c) h b o b' o' = absurd h
+  are_like w x past past' memory views (runs.act e r) (act z y c) h b o b' o' =
+      are_like w x (past ++ Does e ∷ []) (past' ++ Does y ∷ []) (λ i. put y i (memory i)) (λ i. on_view (monoid_of i) i y (views i)) r c h.1 b.1 o b'.1 o'
+  are_like w x past past' memory views (runs.child k v u r) stop h b o b' o' = absurd h
+  are_like w x past past' memory views (runs.child k v u r) (act z y c) h b o b' o' = absurd h
+  are_like w x past past' memory views (runs.child k v u r) (child z j y d c) h b o b' o' =
+      let bodies = and_parts _ _ h.0.fits in (
+        same_cells p v.callee y.callee bodies.1
+        (λ l m at_v at_y. opposites (single l) (single m) (sym (head_is p inputs v l at_v u o.0 b.1) ∙ first_same y [] memory views u d h.1 ∙ head_is p others y m at_y (run_of d) o'.0 b'.1)),
+        are_like v y [] [] memory views u d h.1 b.1 o.1 b'.1 o'.1,
+        are_like w x (past ++ Invokes k v ∷ []) (past' ++ Invokes j y ∷ []) (λ i. value_after (run_of d) i (memory i)) (λ i. view_after (monoid_of i) i (run_of d) (views i)) r c h.2 b.2 o.2 b'.2 o'.2,
+      )

@@ -2,6 +2,7 @@ pub mod AskedStories
 pub mod CourseFrames
 pub mod CourseLimits
 pub mod CourseLists
+pub mod CourseNumbers
 pub mod CourseRuns
 pub mod CourseValues
 pub mod CourseWords
