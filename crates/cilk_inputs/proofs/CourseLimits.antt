@@ -3,7 +3,7 @@
 -- - `head_is`: the first thing that a part of a loop does tells whether it is one turn, and so whether it has cells;
 -- - `IsOpened`: each frame begins and goes on;
 -- - `are_like`: a course starts frames of as many cells where the plan's run does; `as_much`: so it weighs as much.
-use Rattle.std.proofs.Common.{◌≡◌, ℕ, suc, ◌+◌, nat_eq, ℤ, pos, ◌-ℤ◌, int_eq, Bool, true, false, cond, if◌then◌else◌, List, [], ◌∷◌, ◌++◌, Option, Some, None, refl, sym, ap, ap₂, ◌∙◌, subst, arith, eqb-true}
+use Rattle.std.proofs.Common.{◌≡◌, ℕ, ℤ, pos, ◌-ℤ◌, int_eq, Bool, true, false, if◌then◌else◌, List, [], ◌∷◌, ◌++◌, Option, Some, refl, sym, ap, ap₂, ◌∙◌, subst, arith, eqb-true}
 use Rattle.std.proofs.lemmas.Bool.{and_parts}
 use Rattle.cilk_types.specs.declared.invocation.Invocation.{Invocation}
 use Rattle.cilk_types.specs.declared.invocation.Invocation.TheVariants.{Spawn}
@@ -236,7 +236,7 @@ module _ (p : Source) (inputs others : List ℤ) where
   are_like w x past past' memory views (runs.child k v u r) (child z j y d c) h b o b' o' =
       let bodies = and_parts _ _ h.0.fits in (
         same_cells p v.callee y.callee bodies.1
-        (λ l m at_v at_y. opposites (single l) (single m) (sym (head_is p inputs v l at_v u o.0 b.1) ∙ first_same y [] memory views u d h.1 ∙ head_is p others y m at_y (run_of d) o'.0 b'.1)),
+            (λ l m at_v at_y. opposites (single l) (single m) (sym (head_is p inputs v l at_v u o.0 b.1) ∙ first_same y [] memory views u d h.1 ∙ head_is p others y m at_y (run_of d) o'.0 b'.1)),
         are_like v y [] [] memory views u d h.1 b.1 o.1 b'.1 o'.1,
         are_like w x (past ++ Invokes k v ∷ []) (past' ++ Invokes j y ∷ []) (λ i. value_after (run_of d) i (memory i)) (λ i. view_after (monoid_of i) i (run_of d) (views i)) r c h.2 b.2 o.2 b'.2 o'.2,
       )

@@ -14,7 +14,7 @@ use Rattle.cilk_program.specs.declared.ask.Callee.TheVariants as callees
 use Rattle.cilk_program.specs.Syntax.{Source}
 use Rattle.cilk_program.specs.SerialRun as serial
 use Rattle.cilk_program.specs.SerialRun.{Transcript, cells_of}
-use Rattle.cilk_meaning.specs.Numbering.{Counts, Block, entered, counts_after, block_of, child_at, frame_at, unbegun}
+use Rattle.cilk_meaning.specs.Numbering.{Counts, Block, entered, counts_after, child_at, frame_at, unbegun}
 use Rattle.cilk_runs.specs.Machine.{put}
 use Rattle.cilk_runs.specs.Monoids.{on_view}
 use Rattle.cilk_runs.specs.Runs.{Name, Cell, Global, Own, Instance, Output, Reducer, Begins, Resumes, Creates, Updates, Sets, Values, Prints, Event, Reads, Writes, Syncs, Ends, Passes, Deed, Does, Invokes, Run}

@@ -1,7 +1,6 @@
 -- Each read of a course that is asked for gives what its cell holds by the course's own list: `course_right`.
-use Rattle.std.proofs.Common.{◌≡◌, ℕ, ℤ, nat_eq, Bool, true, false, cond, if◌then◌else◌, List, [], ◌∷◌, ◌++◌, length, Option, refl, sym, ap, ◌∙◌, subst, arith}
+use Rattle.std.proofs.Common.{◌≡◌, ℕ, ℤ, nat_eq, Bool, true, false, cond, if◌then◌else◌, List, [], ◌∷◌, ◌++◌, length, Option, refl, sym, ap, ◌∙◌, subst}
 use Rattle.cilk_types.specs.declared.event.Event as numbers
-use Rattle.cilk_types.specs.declared.event.Event.TheVariants as events
 use Rattle.cilk_types.specs.declared.event.Instance as numbered
 use Rattle.cilk_types.specs.declared.invocation.Invocation.{Invocation}
 use Rattle.cilk_types.specs.declared.invocation.Invocation.TheVariants.{Call, Spawn}
@@ -103,7 +102,7 @@ module _ (cell : Cell → ℕ) (instance : Instance → numbered.Instance) (Know
         let inner = tied_after memory (written n cells) u parts.first parts.first_written k.0 (start_tied memory cells j v n h.0 tied) in
         let rest = tied_after (λ c. value_after u c (memory c)) (cells_after parts.first (written n cells)) r parts.second parts.second_written k.1 inner in
         subst (λ (f : Cells). Tied (λ c. value_after r c (value_after u c (memory c))) f)
-            (sym (ap (λ l. cells_after l (written n cells)) parts.both ∙ cells_after_both parts.first parts.second (written n cells))) rest
+        (sym (ap (λ l. cells_after l (written n cells)) parts.both ∙ cells_after_both parts.first parts.second (written n cells))) rest
 
     read_right : (memory : Cell → ℤ) (cells : Cells) (e : Event) (n : numbers.Event) → IsWrittenEvent cell instance e n → EventKnown Known e → Tied memory cells → IsReadRight e memory → IsRightRead n cells
     read_right memory cells (Reads d v) n is k h r = subst (λ n. IsRightRead n cells) (sym is) (r ∙ h d k)

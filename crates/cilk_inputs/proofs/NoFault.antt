@@ -4,17 +4,16 @@
 -- - `Goes`: the run by names from a point on, with what is left of each limit;
 -- - `no_refusal`: the ask at that point is not refused;
 -- - `goes_along`: the serial run from that point on is the run by names.
-use Rattle.std.proofs.Common.{◌≡◌, ◌≤◌, ◌<◌, ℕ, zero, suc, ◌+◌, ◌-◌, nat_eq, nat_lt, ℤ, pos, Bool, true, false, cond, if◌then◌else◌, IsTrue, List, [], ◌∷◌, ◌++◌, length, Option, Some, None, refl, sym, ap, ap₂, ◌∙◌, subst, arith, length-append}
+use Rattle.std.proofs.Common.{◌≡◌, ◌≤◌, ◌<◌, ℕ, suc, ◌+◌, ◌-◌, nat_eq, nat_lt, ℤ, pos, Bool, false, cond, if◌then◌else◌, IsTrue, List, [], ◌∷◌, ◌++◌, length, Option, Some, None, refl, sym, ap, ap₂, ◌∙◌, subst, arith, length-append}
 use Rattle.std.proofs.lemmas.Bool.{lt-ltb, le-ltb, ne_eqb}
 use Rattle.cilk_types.specs.declared.event.Event.{Event}
 use Rattle.cilk_types.specs.declared.fault.Fault.{Fault}
 use Rattle.cilk_types.specs.declared.fault.Fault.TheVariants.{TooManyEvents, TooManyFrames, TooManyCells}
 use Rattle.cilk_types.specs.declared.invocation.Invocation.{Invocation}
-use Rattle.cilk_types.specs.declared.limits.TheConstants.{MAX_TICKS, MAX_EVENTS, MAX_FRAMES, MAX_CELLS}
+use Rattle.cilk_types.specs.declared.limits.TheConstants.{MAX_TICKS, MAX_FRAMES, MAX_CELLS}
 use Rattle.cilk_program.specs.declared.ask.Ask as language
 use Rattle.cilk_program.specs.declared.ask.Ask.TheVariants as asks
 use Rattle.cilk_program.specs.declared.ask.Callee.{Callee}
-use Rattle.cilk_program.specs.declared.ask.Callee.TheVariants as callees
 use Rattle.cilk_program.specs.Behaviour.{OpenAsk, asks_for, frame_asks}
 use Rattle.cilk_program.specs.Syntax.{Source}
 use Rattle.cilk_program.specs.SerialRun as serial
@@ -22,11 +21,11 @@ use Rattle.cilk_program.specs.SerialRun.{Memory, Frame, cells_of, next_frame, be
 use Rattle.cilk_program.specs.WellNamed.{is_well_named}
 use Rattle.cilk_meaning.specs.Numbering.{Counts, counts_of, counts_after, entered}
 use Rattle.cilk_meaning.specs.Ticks.{IsWithin}
-use Rattle.cilk_meaning.proofs.Existence.{room_for, serial_spends}
+use Rattle.cilk_meaning.proofs.Existence.{serial_spends}
 use Rattle.cilk_meaning.proofs.Numbers.{serial_counts}
 use Rattle.cilk_meaning.proofs.Parts.{is_out}
 use Rattle.cilk_meaning.proofs.Ticking.{at_full, frame_further, runs_short}
-use Rattle.cilk_runs.specs.Costs.{TickTotal, EventTotal, FrameTotal, CellTotal, weight}
+use Rattle.cilk_runs.specs.Costs.{TickTotal, FrameTotal, CellTotal, weight}
 use Rattle.cilk_runs.specs.Machine.{started, put}
 use Rattle.cilk_runs.specs.Monoids.{on_view}
 use Rattle.cilk_runs.specs.Runs.{Cell, Instance, Ask, Invoke, Event as Happens, Reads, Writes, Syncs, Ends, Passes, Deed, Does, Invokes, Run, stop, act, child, ask_of}
@@ -36,7 +35,7 @@ use Rattle.cilk_runs.specs.Theorem.{follows}
 use Rattle.cilk_runs.specs.Traces.{trace}
 use Rattle.cilk_runs.specs.Views.{view_after, IsSerialViews}
 use Rattle.cilk_runs.proofs.Started.{started_does, started_invokes}
-use Rattle.cilk_worlds.specs.Machine.{retired_by, named_ask, answer_of, answers_of, is_end, has_ended, but_last, asked_after, next, taken, costs}
+use Rattle.cilk_worlds.specs.Machine.{retired_by, named_ask, answer_of, answers_of, is_end, but_last, asked_after, next, taken, costs}
 use Rattle.cilk_worlds.specs.Reducers.{View, monoid_of}
 use Rattle.cilk_worlds.specs.Worlds.{World, child_world}
 use Rattle.cilk_worlds.proofs.Kept.{but_last_more, answers_more, ended_more}
@@ -44,10 +43,10 @@ use Rattle.cilk_determinacy.specs.Nested.{named_event, named_from}
 use Rattle.cilk_determinacy.specs.Numbers.{cell_number, instance_number}
 use Rattle.cilk_determinacy.specs.Theorem.{SetWords}
 use Rattle.cilk_determinacy.proofs.Behaving.{At, run_holds}
-use Rattle.cilk_determinacy.proofs.Remembered.{act_follows, end_follows, run_remembers}
+use Rattle.cilk_determinacy.proofs.Remembered.{act_follows, run_remembers}
 use Rattle.cilk_determinacy.proofs.Standing.{Standing, asked_there, standing_act, standing_child, standing_past}
 use Rattle.cilk_determinacy.proofs.Stores.{Same}
-use Rattle.cilk_determinacy.proofs.Weights.{written_length, events_weigh, frames_weigh, cells_weigh}
+use Rattle.cilk_determinacy.proofs.Weights.{written_length, frames_weigh, cells_weigh}
 use Rattle.cilk_inputs.proofs.CourseFrames.{ends_over}
 use Rattle.cilk_inputs.proofs.OneCourse.{same_event}
 use Rattle.cilk_inputs.proofs.OneRun.{invoked}

@@ -43,9 +43,9 @@ module _ (W V : Type 0) (M : Instance → MonoidStructure V) (next : W → List 
       let same : e ≡ x = same_event M memory views e x (same_ask w past (ask_of e) (ask_of x) b.0 b'.0) s.0 s'.0 v.0 v'.0 in
       let back : x ≡ e = sym same in
       ap (λ (z : Run W). act e z) (one_run w (past ++ Does e ∷ []) (λ c. put e c (memory c)) (λ i. on_view (M i) i e (views i)) t u b.1 s.1 v.1
-          (subst (λ (z : Event). Behaves W (follows next) w (past ++ Does z ∷ []) u) back b'.1)
-          (subst (λ (z : Event). IsSerial u (λ c. put z c (memory c))) back s'.1)
-          (subst (λ (z : Event). IsSerialViews M u (λ i. on_view (M i) i z (views i))) back v'.1))
+      (subst (λ (z : Event). Behaves W (follows next) w (past ++ Does z ∷ []) u) back b'.1)
+      (subst (λ (z : Event). IsSerial u (λ c. put z c (memory c))) back s'.1)
+      (subst (λ (z : Event). IsSerialViews M u (λ i. on_view (M i) i z (views i))) back v'.1))
       ∙ ap (λ (z : Event). act z u) same
   one_run w past memory views (child j v t t') stop b s n b' s' n' = absurd (b' (Invoke j v) b.0)
   one_run w past memory views (child j v t t') (act e u) b s n b' s' n' = absurd (invoked e j v (same_ask w past (ask_of e) (Invoke j v) b'.0 b.0))
@@ -56,9 +56,9 @@ module _ (W V : Type 0) (M : Instance → MonoidStructure V) (next : W → List 
       let inner : t ≡ d = one_run v [] memory views t d b.1 s.0 n.0 (subst (λ (z : W). Behaves W (follows next) z [] d) what b'.1) s'.0 n'.0 in
       let back : d ≡ t = sym inner in
       let rest : t' ≡ u = one_run w (past ++ Invokes j v ∷ []) (λ c. value_after t c (memory c)) (λ i. view_after (M i) i t (views i)) t' u b.2 s.1 n.1
-          (subst (λ (z : Invocation). Behaves W (follows next) w (past ++ Invokes z v ∷ []) u) how (subst (λ (z : W). Behaves W (follows next) w (past ++ Invokes k z ∷ []) u) what b'.2))
-          (subst (λ (z : Run W). IsSerial u (λ c. value_after z c (memory c))) back s'.1)
-          (subst (λ (z : Run W). IsSerialViews M u (λ i. view_after (M i) i z (views i))) back n'.1) in
+      (subst (λ (z : Invocation). Behaves W (follows next) w (past ++ Invokes z v ∷ []) u) how (subst (λ (z : W). Behaves W (follows next) w (past ++ Invokes k z ∷ []) u) what b'.2))
+      (subst (λ (z : Run W). IsSerial u (λ c. value_after z c (memory c))) back s'.1)
+      (subst (λ (z : Run W). IsSerialViews M u (λ i. view_after (M i) i z (views i))) back n'.1) in
       ap (λ (z : Run W). child j v t z) rest
       ∙ ap (λ (z : Run W). child j v z u) inner
       ∙ ap (λ (z : W). child j z d u) (sym what)

@@ -1,5 +1,5 @@
 -- A serial run by names within the limits is the program's: `within_limits`. What runs on other inputs are: `inputs_run_along`.
-use Rattle.std.proofs.Common.{◌≡◌, ◌≤◌, ◌+◌, ℕ, ℤ, pos, IsTrue, List, [], length, refl, sym, ap, ◌∙◌, arith}
+use Rattle.std.proofs.Common.{◌≡◌, ◌≤◌, ℤ, List, [], refl, sym, ap, ◌∙◌, arith}
 use Rattle.cilk_types.specs.declared.event.Event.{Event}
 use Rattle.cilk_types.specs.declared.limits.TheConstants.{MAX_TICKS, MAX_EVENTS}
 use Rattle.cilk_program.specs.declared.ask.Callee.TheVariants as callees
@@ -7,7 +7,6 @@ use Rattle.cilk_program.specs.Outcomes.{Conclusion, Leaves, outcome_of}
 use Rattle.cilk_program.specs.Store.{opening}
 use Rattle.cilk_program.specs.Syntax.{Source}
 use Rattle.cilk_program.specs.SerialRun.{Transcript, global_reducer, before_root, root_frame, begun, conclusion_of, Ending, Finished, Stopped, Serial}
-use Rattle.cilk_program.specs.WellNamed.{is_well_named}
 use Rattle.cilk_meaning.proofs.Uniqueness.{serial_run_exists}
 use Rattle.cilk_runs.specs.Costs.{Total, TickTotal, EventTotal, FrameTotal, CellTotal, whole}
 use Rattle.cilk_runs.specs.Monoids.{unit_of}
@@ -26,8 +25,8 @@ use Rattle.cilk_determinacy.proofs.Stores.{Same}
 use Rattle.cilk_determinacy.proofs.Weights.{events_weigh}
 use Rattle.cilk_determinacy.proofs.Wordy.{set_words}
 use Rattle.cilk_inputs.specs.Courses.{run_of}
-use Rattle.cilk_inputs.specs.Ends.{KeepsLimits, IsWholeRun, RunsWithinLimitsAreWhole, RunsAsCourse, InputsRunAlong}
-use Rattle.cilk_inputs.specs.Frames.{same_frame, course_on, IsSerialRunOn}
+use Rattle.cilk_inputs.specs.Ends.{KeepsLimits, IsWholeRun, RunsWithinLimitsAreWhole, InputsRunAlong}
+use Rattle.cilk_inputs.specs.Frames.{same_frame, course_on}
 use Rattle.cilk_inputs.specs.Lists.{with_values}
 use Rattle.cilk_inputs.proofs.AskedStories.{departs_nowhere}
 use Rattle.cilk_inputs.proofs.CourseLimits.{opened, IsAsMuch, as_much, are_like}
@@ -102,7 +101,7 @@ inputs_run_along p inputs others r es opening is are orderly nowhere =
           let list' = events_numbered p others r' es' (Leaves outcome) is.named runs in (
             same,
             list'.events
-            ∙ events_are p others r r' (first_world p) (opening_values p others) (unit_of monoid_of) c like same is_course
-            ∙ ap (λ l. with_values l (trace (run_of c))) (sym list.events),
+                ∙ events_are p others r r' (first_world p) (opening_values p others) (unit_of monoid_of) c like same is_course
+                ∙ ap (λ l. with_values l (trace (run_of c))) (sym list.events),
           );
     }
