@@ -13,3 +13,4 @@ pub mod OneRun
 pub mod Owned
 pub mod RunsEnd
 pub mod StoryValues
+pub mod Worked
