@@ -56,7 +56,8 @@ loop_ask l b = if b then asks.Write (places.Local 0 0) l.low else asks.Invoke Sp
 asked_first : (p : Source) (inputs : List ℤ) (l : LoopPart) → (frame_asks p inputs (callees.Loop l) (pos 0 ∷ []) MAX_TICKS).ask ≡ loop_ask l (single l)
 asked_first p inputs l = by (single l)
   where
-    by : (b : Bool) → (ended (if b then (ask (asks.Write (places.Local 0 0) l.low) [] MAX_TICKS >>= λ _ answers left. (let body = loop_at p l.number in all_do inputs body.body answers left) >>= finishes false)
+    by : (b : Bool)
+        → (ended (if b then (ask (asks.Write (places.Local 0 0) l.low) [] MAX_TICKS >>= λ _ answers left. (let body = loop_at p l.number in all_do inputs body.body answers left) >>= finishes false)
         else (invokes Spawn (part l l.low (middle l.low l.high)) [] MAX_TICKS >>= λ _ answers left. invokes invocations.Call (part l (middle l.low l.high) l.high) answers left >>= finishes false))).ask ≡ loop_ask l b
     by true = refl
     by false = refl
@@ -81,13 +82,15 @@ both_asks : (W : Type 0) (o : Option (Ask W)) (a b : Ask W) → o ≡ Some a →
 both_asks W o a b g h = cc
 
 module _ (p : Source) (inputs : List ℤ) where
-  loop_next : (w : World) (l : LoopPart) → w.callee ≡ callees.Loop l → (b : Bool) → single l ≡ b → next p inputs w (Does (Passes Begins) ∷ []) ≡ Some (named_ask p w 1 (loop_ask l b))
+  loop_next : (w : World) (l : LoopPart) → w.callee ≡ callees.Loop l → (b : Bool) → single l ≡ b
+      → next p inputs w (Does (Passes Begins) ∷ []) ≡ Some (named_ask p w 1 (loop_ask l b))
   loop_next w l is b e =
       ap (λ (c : Callee). Some (named_ask p w 1 (frame_asks p inputs c (pos 0 ∷ []) MAX_TICKS).ask)) is
       ∙ ap (λ (a : language.Ask). Some (named_ask p w 1 a)) (asked_first p inputs l)
       ∙ ap (λ (b : Bool). Some (named_ask p w 1 (loop_ask l b))) e
 
-  head_is : (w : World) (l : LoopPart) → w.callee ≡ callees.Loop l → (d : Run World) → BeginsOn d → Behaves World (follows (next p inputs)) w [] d → child_first d ≡ opposite (single l)
+  head_is : (w : World) (l : LoopPart) → w.callee ≡ callees.Loop l → (d : Run World) → BeginsOn d → Behaves World (follows (next p inputs)) w [] d
+      → child_first d ≡ opposite (single l)
   head_is w l is (runs.act (Passes Begins) (runs.act x r)) on b = by (single l) refl
     where
       by : (s : Bool) → single l ≡ s → false ≡ opposite s
@@ -102,7 +105,8 @@ module _ (p : Source) (inputs : List ℤ) where
 
 -- ---- one body
 
-same_cells : (p : Source) (a b : Callee) → same_body (body_of p a) (body_of p b) ≡ true → ((l m : LoopPart) → a ≡ callees.Loop l → b ≡ callees.Loop m → single l ≡ single m) → cells_of p a ≡ cells_of p b
+same_cells : (p : Source) (a b : Callee) → same_body (body_of p a) (body_of p b) ≡ true
+    → ((l m : LoopPart) → a ≡ callees.Loop l → b ≡ callees.Loop m → single l ≡ single m) → cells_of p a ≡ cells_of p b
 same_cells p callees.Root callees.Root h loops = refl
 same_cells p callees.Root (callees.Function c) h loops = ap (λ n. let f = function_at p n in f.cells) (eqb-true p.main c.function h)
 same_cells p callees.Root (callees.Loop m) h loops = absurd (cc h)
@@ -202,7 +206,8 @@ module _ (p : Source) (inputs others : List ℤ) where
       let rc = rest.cells in
       record { events = omega (arith, ie, re); frames = omega (arith, jf, rf); cells = omega (arith, cells, ic, rc) }
 
-  first_same : (w : World) (past : List (Deed World)) (memory : Cell → ℤ) (views : Instance → View) (t : Run World) (c : Course World) → IsCourse World View monoid_of (next p others) (same_frame p) w past memory views t c → child_first t ≡ child_first (run_of c)
+  first_same : (w : World) (past : List (Deed World)) (memory : Cell → ℤ) (views : Instance → View) (t : Run World) (c : Course World)
+      → IsCourse World View monoid_of (next p others) (same_frame p) w past memory views t c → child_first t ≡ child_first (run_of c)
   first_same w past memory views runs.stop stop h = refl
   first_same w past memory views runs.stop (act b x c) h = absurd h
   first_same w past memory views runs.stop (child b j x d c) h = absurd h
@@ -222,8 +227,10 @@ module _ (p : Source) (inputs others : List ℤ) where
   first_same w past memory views (runs.child k v u r) (child b j x d c) h = refl
 
   -- a course is like the plan's run
-  pub are_like : (w x : World) (past past' : List (Deed World)) (memory : Cell → ℤ) (views : Instance → View) (t : Run World) (c : Course World) → IsCourse World View monoid_of (next p others) (same_frame p) x past' memory views t c
-      → Behaves World (follows (next p inputs)) w past t → IsOpened t → Behaves World (follows (next p others)) x past' (run_of c) → IsOpened (run_of c) → AreLike p t (run_of c)
+  pub are_like : (w x : World) (past past' : List (Deed World)) (memory : Cell → ℤ) (views : Instance → View) (t : Run World) (c : Course World)
+      → IsCourse World View monoid_of (next p others) (same_frame p) x past' memory views t c
+      → Behaves World (follows (next p inputs)) w past t → IsOpened t → Behaves World (follows (next p others)) x past' (run_of c)
+      → IsOpened (run_of c) → AreLike p t (run_of c)
   are_like w x past past' memory views runs.stop stop h b o b' o' = tt
   are_like w x past past' memory views runs.stop (act z y c) h b o b' o' = absurd h
   are_like w x past past' memory views runs.stop (child z j y d c) h b o b' o' = absurd h

@@ -141,7 +141,8 @@ values_long [] ds = refl
 values_long (e ∷ es) [] = refl
 values_long (e ∷ es) (d ∷ ds) = ap suc (values_long es ds)
 
-values_both : (es xs : List numbers.Event) (ds ms : List (Deed World)) → length es ≡ length ds → with_values (es ++ xs) (ds ++ ms) ≡ with_values es ds ++ with_values xs ms
+values_both : (es xs : List numbers.Event) (ds ms : List (Deed World)) → length es ≡ length ds
+    → with_values (es ++ xs) (ds ++ ms) ≡ with_values es ds ++ with_values xs ms
 values_both [] xs [] ms h = refl
 values_both [] xs (d ∷ ds) ms h = absurd (omega (arith, h))
 values_both (e ∷ es) xs [] ms h = absurd (omega (arith, h))
@@ -166,7 +167,8 @@ module _ (p : Source) (r : Transcript) (others : List ℤ) where
   one_value name e x h = absurd h
 
   valued : (name : Name) (w : World) (past : List (Deed World)) (memory : Cell → ℤ) (views : Instance → View) (t : Run World) (c : Course World)
-      → IsCourse World View monoid_of (next p others) (same_frame p) w past memory views t c → numbered_events p r name (run_of c) ≡ with_values (numbered_events p r name t) (trace (run_of c))
+      → IsCourse World View monoid_of (next p others) (same_frame p) w past memory views t c
+      → numbered_events p r name (run_of c) ≡ with_values (numbered_events p r name t) (trace (run_of c))
   valued name w past memory views runs.stop stop h = refl
   valued name w past memory views runs.stop (act b x c) h = absurd h
   valued name w past memory views runs.stop (child b j x d c) h = absurd h
@@ -191,7 +193,8 @@ module _ (p : Source) (r : Transcript) (others : List ℤ) where
 
 -- ---- a run whose named run is a course
 
-pub events_are : (p : Source) (others : List ℤ) (r s : Transcript) (w : World) (memory : Cell → ℤ) (views : Instance → View) (c : Course World) → AreLike p (named_from p w 1 r) (run_of c) → named_from p w 1 s ≡ run_of c
+pub events_are : (p : Source) (others : List ℤ) (r s : Transcript) (w : World) (memory : Cell → ℤ) (views : Instance → View) (c : Course World)
+    → AreLike p (named_from p w 1 r) (run_of c) → named_from p w 1 s ≡ run_of c
     → IsCourse World View monoid_of (next p others) (same_frame p) w [] memory views (named_from p w 1 r) c
     → numbered_events p s [] (named_from p w 1 s) ≡ with_values (numbered_events p r [] (named_from p w 1 r)) (trace (run_of c))
 events_are p others r s w memory views c like is course =

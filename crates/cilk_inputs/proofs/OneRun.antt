@@ -32,7 +32,8 @@ module _ (W V : Type 0) (M : Instance → MonoidStructure V) (next : W → List 
   same_world : (j k : Invocation) (v x : W) → Invoke j v ≡ Invoke k x → v ≡ x
   same_world j k v x q = cc
 
-  pub one_run : (w : W) (past : List (Deed W)) (memory : Cell → ℤ) (views : Instance → V) (t u : Run W) → Behaves W (follows next) w past t → IsSerial t memory → IsSerialViews M t views
+  pub one_run : (w : W) (past : List (Deed W)) (memory : Cell → ℤ) (views : Instance → V) (t u : Run W) → Behaves W (follows next) w past t
+      → IsSerial t memory → IsSerialViews M t views
       → Behaves W (follows next) w past u → IsSerial u memory → IsSerialViews M u views → t ≡ u
   one_run w past memory views stop stop b s v b' s' v' = refl
   one_run w past memory views stop (act e u) b s v b' s' v' = absurd (b (ask_of e) b'.0)
@@ -64,7 +65,8 @@ module _ (W V : Type 0) (M : Instance → MonoidStructure V) (next : W → List 
       ∙ ap (λ (z : W). child j z d u) (sym what)
       ∙ ap (λ (z : Invocation). child z x d u) (sym how)
 
-pub runs_are_one : (W V : Type 0) (M : Instance → MonoidStructure V) (next : W → List (Deed W) → Option (Ask W)) (same : W → W → Bool) → SerialRunsAreOne W V M next same
+pub runs_are_one : (W V : Type 0) (M : Instance → MonoidStructure V) (next : W → List (Deed W) → Option (Ask W)) (same : W → W → Bool)
+    → SerialRunsAreOne W V M next same
 runs_are_one W V M next same w memory views t u g h = one_run W V M next w [] memory views t u g.behaves g.reads g.values h.behaves h.reads h.values
 
 pub named_runs_are_serial : NamedRunsAreSerial

@@ -64,7 +64,8 @@ record IsPassed (es : List Event) (i : ℕ) (frames : List ℕ) : Type 0 where
   frame : ℕ
   so_far : SoFar es i frames frame
 
-passed : (es : List Event) → BeginsAFrame es → (done rest : List Event) (frames : List ℕ) (g i : ℕ) → es ≡ done ++ rest → i ≡ length done → SoFar es i frames g → IsPassed es (length es) (frames ++ frames_from g rest)
+passed : (es : List Event) → BeginsAFrame es → (done rest : List Event) (frames : List ℕ) (g i : ℕ) → es ≡ done ++ rest → i ≡ length done
+    → SoFar es i frames g → IsPassed es (length es) (frames ++ frames_from g rest)
 passed es begin done [] frames g i is at h =
     let l = ap length is in
     let n = length-append {A = Event} done [] in

@@ -61,17 +61,21 @@ within_limits p inputs u well has are run keeps =
     same : (r : Transcript) → Same p r (opening_values p inputs) (unit_of monoid_of) (opening p.openings)
     same r = record { cells = cells_open p inputs r; reducers = λ i has. refl; output = refl }
 
-    by : (r : Transcript) (es : List Event) (c : Conclusion) (end : Ending) → Serial p inputs (root_frame p inputs) MAX_TICKS [] (begun p callees.Root (before_root p inputs MAX_EVENTS)) r es end → c ≡ conclusion_of p inputs end → IsWholeRun p inputs u
+    by : (r : Transcript) (es : List Event) (c : Conclusion) (end : Ending)
+        → Serial p inputs (root_frame p inputs) MAX_TICKS [] (begun p callees.Root (before_root p inputs MAX_EVENTS)) r es end
+        → c ≡ conclusion_of p inputs end → IsWholeRun p inputs u
     by r es c end d is =
         done end d
         (goes_along p inputs well r d (first_world p) [] 0 (at_begin p inputs (first_world p) (root_frame p inputs) refl) (standing_root p inputs well r) (set_words p has inputs are r es (conclusion_of p inputs end) (end, d, refl))
         (opening_values p inputs) (unit_of monoid_of) (same r) u goes)
       where
-        done : (end : Ending) → Serial p inputs (root_frame p inputs) MAX_TICKS [] (begun p callees.Root (before_root p inputs MAX_EVENTS)) r es end → EndsAs p inputs end (named p r) u → IsWholeRun p inputs u
+        done : (end : Ending) → Serial p inputs (root_frame p inputs) MAX_TICKS [] (begun p callees.Root (before_root p inputs MAX_EVENTS)) r es end
+            → EndsAs p inputs end (named p r) u → IsWholeRun p inputs u
         done (Finished v left m) d h = record { transcript = r; events = es; outcome = outcome_of global_reducer p v m.store; serial = (Finished v left m, d, refl); names = h }
         done (Stopped f) d h = absurd h
 
-keeps : (p : Source) (inputs others : List ℤ) (t u : Run World) → whole (costs p others) (first_world p) u TickTotal ≤ MAX_TICKS → IsAsMuch p inputs others (first_world p) (first_world p) [] [] t u
+keeps : (p : Source) (inputs others : List ℤ) (t u : Run World) → whole (costs p others) (first_world p) u TickTotal ≤ MAX_TICKS
+    → IsAsMuch p inputs others (first_world p) (first_world p) [] [] t u
     → ((total : Total) → whole (costs p inputs) (first_world p) t total ≤ limit p inputs total) → KeepsLimits p others u
 keeps p inputs others t u ticks much within TickTotal = ticks
 keeps p inputs others t u ticks much within EventTotal = let h = within EventTotal in let e = much.events in omega (arith, h, e)

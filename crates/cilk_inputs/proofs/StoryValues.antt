@@ -96,7 +96,8 @@ module _ (cell : Cell → ℕ) (instance : Instance → numbered.Instance) where
   one_of_words (Invokes Call v) n is h = subst IsOfWords (sym is.1) tt
   one_of_words (Invokes Spawn v) n is h = subst IsOfWords (sym is.1) tt
 
-  each_of_words : (ds : List (Deed World)) (es : List numbers.Event) → AreWritten cell instance ds es → ListWords ds → (k : ℕ) (e : numbers.Event) → slice_get es k ≡ Some e → IsOfWords e
+  each_of_words : (ds : List (Deed World)) (es : List numbers.Event) → AreWritten cell instance ds es → ListWords ds → (k : ℕ) (e : numbers.Event)
+      → slice_get es k ≡ Some e → IsOfWords e
   each_of_words [] [] is h k e q = let none : None ≡ Some e = q in absurd (cc)
   each_of_words [] (n ∷ es) is h k e q = absurd is
   each_of_words (d ∷ ds) [] is h k e q = absurd is
@@ -153,7 +154,8 @@ opens_with : (xs : List ℤ) (n : ℕ) → length xs ≤ n → pos 0 ≡ unwrap_
 opens_with xs n h = ap (λ o. unwrap_or o (pos 0)) (sym (slice_get_past xs n h))
 
 -- the cells of a run open as the program's do
-pub cells_open : (p : Source) (inputs : List ℤ) (r : Transcript) (c : Cell) → HasCell p r c → opening_values p inputs c ≡ opening_cells p inputs (cell_number p r c)
+pub cells_open : (p : Source) (inputs : List ℤ) (r : Transcript) (c : Cell) → HasCell p r c
+    → opening_values p inputs c ≡ opening_cells p inputs (cell_number p r c)
 cells_open p inputs r (Global n) has = refl
 cells_open p inputs r (Own name n) (here, less) =
     let low = past_globals p r here.path here.block here.found in

@@ -166,7 +166,8 @@ module _ (W V : Type 0) (M : Instance → MonoidStructure V) (next : W → List 
 
   -- There is one such run at most.
   abbrev pub SerialRunsAreOne : Type 0
-  SerialRunsAreOne = (w : W) (memory : Cell → ℤ) (views : Instance → V) (t u : Run W) → IsSerialRunFrom w memory views t → IsSerialRunFrom w memory views u → t ≡ u
+  SerialRunsAreOne =
+      (w : W) (memory : Cell → ℤ) (views : Instance → V) (t u : Run W) → IsSerialRunFrom w memory views t → IsSerialRunFrom w memory views u → t ≡ u
 
   -- On its own input a run is its own course, in which each event is asked for.
   abbrev pub OwnCourse : Type 0

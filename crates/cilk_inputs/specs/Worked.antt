@@ -1,5 +1,5 @@
 -- A worked program along the plan of its run on one input: on two others the story departs where the program's asks first differ.
-use Rattle.std.specs.Prelude.{◌≡◌, ℤ, pos, Bool, true, false, List, [], ◌∷◌, take}
+use Rattle.std.specs.Prelude.{◌≡◌, ℤ, pos, true, false, List, [], ◌∷◌, take}
 use Rattle.cilk_types.specs.declared.event.Event.{Event}
 use Rattle.cilk_types.specs.declared.event.Event.TheVariants as events
 use Rattle.cilk_types.specs.declared.invocation.Invocation.TheVariants.{Call}
