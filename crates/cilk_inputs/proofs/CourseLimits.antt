@@ -2,8 +2,8 @@
 --
 -- - `head_is`: the first thing that a part of a loop does tells whether it is one turn, and so whether it has cells;
 -- - `IsOpened`: each frame begins and goes on;
--- - `as_much`: what the course weighs.
-use Rattle.std.proofs.Common.{◌≡◌, ℕ, suc, ◌+◌, nat_eq, ℤ, pos, ◌-ℤ◌, int_eq, Bool, true, false, cond, if◌then◌else◌, List, [], ◌∷◌, ◌++◌, Option, Some, None, refl, sym, ap, ap₂, ◌∙◌, subst, arith, eqb-true}
+-- - `are_like`: a course starts frames of as many cells where the plan's run does; `as_much`: so it weighs as much.
+use Rattle.std.proofs.Common.{◌≡◌, ℕ, ℤ, pos, ◌-ℤ◌, int_eq, Bool, true, false, if◌then◌else◌, List, [], ◌∷◌, ◌++◌, Option, Some, refl, sym, ap, ap₂, ◌∙◌, subst, arith, eqb-true}
 use Rattle.std.proofs.lemmas.Bool.{and_parts}
 use Rattle.cilk_types.specs.declared.invocation.Invocation.{Invocation}
 use Rattle.cilk_types.specs.declared.invocation.Invocation.TheVariants.{Spawn}
@@ -56,7 +56,8 @@ loop_ask l b = if b then asks.Write (places.Local 0 0) l.low else asks.Invoke Sp
 asked_first : (p : Source) (inputs : List ℤ) (l : LoopPart) → (frame_asks p inputs (callees.Loop l) (pos 0 ∷ []) MAX_TICKS).ask ≡ loop_ask l (single l)
 asked_first p inputs l = by (single l)
   where
-    by : (b : Bool) → (ended (if b then (ask (asks.Write (places.Local 0 0) l.low) [] MAX_TICKS >>= λ _ answers left. (let body = loop_at p l.number in all_do inputs body.body answers left) >>= finishes false)
+    by : (b : Bool)
+        → (ended (if b then (ask (asks.Write (places.Local 0 0) l.low) [] MAX_TICKS >>= λ _ answers left. (let body = loop_at p l.number in all_do inputs body.body answers left) >>= finishes false)
         else (invokes Spawn (part l l.low (middle l.low l.high)) [] MAX_TICKS >>= λ _ answers left. invokes invocations.Call (part l (middle l.low l.high) l.high) answers left >>= finishes false))).ask ≡ loop_ask l b
     by true = refl
     by false = refl
@@ -81,13 +82,15 @@ both_asks : (W : Type 0) (o : Option (Ask W)) (a b : Ask W) → o ≡ Some a →
 both_asks W o a b g h = cc
 
 module _ (p : Source) (inputs : List ℤ) where
-  loop_next : (w : World) (l : LoopPart) → w.callee ≡ callees.Loop l → (b : Bool) → single l ≡ b → next p inputs w (Does (Passes Begins) ∷ []) ≡ Some (named_ask p w 1 (loop_ask l b))
+  loop_next : (w : World) (l : LoopPart) → w.callee ≡ callees.Loop l → (b : Bool) → single l ≡ b
+      → next p inputs w (Does (Passes Begins) ∷ []) ≡ Some (named_ask p w 1 (loop_ask l b))
   loop_next w l is b e =
       ap (λ (c : Callee). Some (named_ask p w 1 (frame_asks p inputs c (pos 0 ∷ []) MAX_TICKS).ask)) is
       ∙ ap (λ (a : language.Ask). Some (named_ask p w 1 a)) (asked_first p inputs l)
       ∙ ap (λ (b : Bool). Some (named_ask p w 1 (loop_ask l b))) e
 
-  head_is : (w : World) (l : LoopPart) → w.callee ≡ callees.Loop l → (d : Run World) → BeginsOn d → Behaves World (follows (next p inputs)) w [] d → child_first d ≡ opposite (single l)
+  head_is : (w : World) (l : LoopPart) → w.callee ≡ callees.Loop l → (d : Run World) → BeginsOn d → Behaves World (follows (next p inputs)) w [] d
+      → child_first d ≡ opposite (single l)
   head_is w l is (runs.act (Passes Begins) (runs.act x r)) on b = by (single l) refl
     where
       by : (s : Bool) → single l ≡ s → false ≡ opposite s
@@ -102,7 +105,8 @@ module _ (p : Source) (inputs : List ℤ) where
 
 -- ---- one body
 
-same_cells : (p : Source) (a b : Callee) → same_body (body_of p a) (body_of p b) ≡ true → ((l m : LoopPart) → a ≡ callees.Loop l → b ≡ callees.Loop m → single l ≡ single m) → cells_of p a ≡ cells_of p b
+same_cells : (p : Source) (a b : Callee) → same_body (body_of p a) (body_of p b) ≡ true
+    → ((l m : LoopPart) → a ≡ callees.Loop l → b ≡ callees.Loop m → single l ≡ single m) → cells_of p a ≡ cells_of p b
 same_cells p callees.Root callees.Root h loops = refl
 same_cells p callees.Root (callees.Function c) h loops = ap (λ n. let f = function_at p n in f.cells) (eqb-true p.main c.function h)
 same_cells p callees.Root (callees.Loop m) h loops = absurd (cc h)
@@ -158,6 +162,13 @@ no_cells cells Syncs = refl
 no_cells cells (Ends v gone) = refl
 no_cells cells (Passes m) = refl
 
+-- the runs have children where the other has, of as many cells
+abbrev pub AreLike : Source → Run World → Run World → Type 0
+AreLike p runs.stop runs.stop = Unit {0}
+AreLike p (runs.act e r) (runs.act x s) = AreLike p r s
+AreLike p (runs.child k v u r) (runs.child j y d s) = (cells_of p v.callee ≡ cells_of p y.callee) × AreLike p u d × AreLike p r s
+AreLike p _ _ = ⊥
+
 module _ (p : Source) (inputs others : List ℤ) where
   -- the run from a point on uses as much as the other
   pub record IsAsMuch (w x : World) (past past' : List (Deed World)) (t u : Run World) : Type 0 where
@@ -165,7 +176,38 @@ module _ (p : Source) (inputs others : List ℤ) where
     pub frames : weight (costs p inputs) FrameTotal w past t ≡ weight (costs p others) FrameTotal x past' u
     pub cells : weight (costs p inputs) CellTotal w past t ≡ weight (costs p others) CellTotal x past' u
 
-  first_same : (w : World) (past : List (Deed World)) (memory : Cell → ℤ) (views : Instance → View) (t : Run World) (c : Course World) → IsCourse World View monoid_of (next p others) (same_frame p) w past memory views t c → child_first t ≡ child_first (run_of c)
+  pub as_much : (w x : World) (past past' : List (Deed World)) (t u : Run World) → AreLike p t u → IsAsMuch w x past past' t u
+  as_much w x past past' runs.stop runs.stop h = record { events = refl; frames = refl; cells = refl }
+  as_much w x past past' runs.stop (runs.act y s) h = absurd h
+  as_much w x past past' runs.stop (runs.child j y d s) h = absurd h
+  as_much w x past past' (runs.act e r) runs.stop h = absurd h
+  as_much w x past past' (runs.act e r) (runs.child j y d s) h = absurd h
+  as_much w x past past' (runs.act e r) (runs.act y s) h =
+      let rest = as_much w x (past ++ Does e ∷ []) (past' ++ Does y ∷ []) r s h in
+      let f = no_frames e in
+      let f' = no_frames y in
+      let n = no_cells (λ (w : World). cells_of p w.callee) e in
+      let n' = no_cells (λ (w : World). cells_of p w.callee) y in
+      let re = rest.events in
+      let rf = rest.frames in
+      let rc = rest.cells in
+      record { events = omega (arith, re); frames = omega (arith, f, f', rf); cells = omega (arith, n, n', rc) }
+  as_much w x past past' (runs.child k v u r) runs.stop h = absurd h
+  as_much w x past past' (runs.child k v u r) (runs.act y s) h = absurd h
+  as_much w x past past' (runs.child k v u r) (runs.child j y d s) h =
+      let inner = as_much v y [] [] u d h.1 in
+      let rest = as_much w x (past ++ Invokes k v ∷ []) (past' ++ Invokes j y ∷ []) r s h.2 in
+      let cells = h.0 in
+      let ie = inner.events in
+      let re = rest.events in
+      let jf = inner.frames in
+      let rf = rest.frames in
+      let ic = inner.cells in
+      let rc = rest.cells in
+      record { events = omega (arith, ie, re); frames = omega (arith, jf, rf); cells = omega (arith, cells, ic, rc) }
+
+  first_same : (w : World) (past : List (Deed World)) (memory : Cell → ℤ) (views : Instance → View) (t : Run World) (c : Course World)
+      → IsCourse World View monoid_of (next p others) (same_frame p) w past memory views t c → child_first t ≡ child_first (run_of c)
   first_same w past memory views runs.stop stop h = refl
   first_same w past memory views runs.stop (act b x c) h = absurd h
   first_same w past memory views runs.stop (child b j x d c) h = absurd h
@@ -184,35 +226,24 @@ module _ (p : Source) (inputs others : List ℤ) where
   first_same w past memory views (runs.child k v u r) (act b x c) h = absurd h
   first_same w past memory views (runs.child k v u r) (child b j x d c) h = refl
 
-  pub as_much : (w x : World) (past past' : List (Deed World)) (memory : Cell → ℤ) (views : Instance → View) (t : Run World) (c : Course World) → IsCourse World View monoid_of (next p others) (same_frame p) x past' memory views t c
-      → Behaves World (follows (next p inputs)) w past t → IsOpened t → Behaves World (follows (next p others)) x past' (run_of c) → IsOpened (run_of c) → IsAsMuch w x past past' t (run_of c)
-  as_much w x past past' memory views runs.stop stop h b o b' o' = record { events = refl; frames = refl; cells = refl }
-  as_much w x past past' memory views runs.stop (act z y c) h b o b' o' = absurd h
-  as_much w x past past' memory views runs.stop (child z j y d c) h b o b' o' = absurd h
-  as_much w x past past' memory views (runs.act e r) stop h b o b' o' = absurd h
-  as_much w x past past' memory views (runs.act e r) (child z j y d c) h b o b' o' = absurd h
-  as_much w x past past' memory views (runs.act e r) (act z y c) h b o b' o' =
-      let rest = as_much w x (past ++ Does e ∷ []) (past' ++ Does y ∷ []) (λ i. put y i (memory i)) (λ i. on_view (monoid_of i) i y (views i)) r c h.1 b.1 o b'.1 o' in
-      let f = no_frames e in
-      let f' = no_frames y in
-      let n = no_cells (λ (w : World). cells_of p w.callee) e in
-      let n' = no_cells (λ (w : World). cells_of p w.callee) y in
-      let re = rest.events in
-      let rf = rest.frames in
-      let rc = rest.cells in
-      record { events = omega (arith, re); frames = omega (arith, f, f', rf); cells = omega (arith, n, n', rc) }
-  as_much w x past past' memory views (runs.child k v u r) stop h b o b' o' = absurd h
-  as_much w x past past' memory views (runs.child k v u r) (act z y c) h b o b' o' = absurd h
-  as_much w x past past' memory views (runs.child k v u r) (child z j y d c) h b o b' o' =
-      let inner = as_much v y [] [] memory views u d h.1 b.1 o.1 b'.1 o'.1 in
-      let rest = as_much w x (past ++ Invokes k v ∷ []) (past' ++ Invokes j y ∷ []) (λ i. value_after (run_of d) i (memory i)) (λ i. view_after (monoid_of i) i (run_of d) (views i)) r c h.2 b.2 o.2 b'.2 o'.2 in
-      let bodies = and_parts _ _ h.0.fits in
-      let cells : cells_of p v.callee ≡ cells_of p y.callee = same_cells p v.callee y.callee bodies.1
-      (λ l m at_v at_y. opposites (single l) (single m) (sym (head_is p inputs v l at_v u o.0 b.1) ∙ first_same y [] memory views u d h.1 ∙ head_is p others y m at_y (run_of d) o'.0 b'.1)) in
-      let ie = inner.events in
-      let re = rest.events in
-      let jf = inner.frames in
-      let rf = rest.frames in
-      let ic = inner.cells in
-      let rc = rest.cells in
-      record { events = omega (arith, ie, re); frames = omega (arith, jf, rf); cells = omega (arith, cells, ic, rc) }
+  -- a course is like the plan's run
+  pub are_like : (w x : World) (past past' : List (Deed World)) (memory : Cell → ℤ) (views : Instance → View) (t : Run World) (c : Course World)
+      → IsCourse World View monoid_of (next p others) (same_frame p) x past' memory views t c
+      → Behaves World (follows (next p inputs)) w past t → IsOpened t → Behaves World (follows (next p others)) x past' (run_of c)
+      → IsOpened (run_of c) → AreLike p t (run_of c)
+  are_like w x past past' memory views runs.stop stop h b o b' o' = tt
+  are_like w x past past' memory views runs.stop (act z y c) h b o b' o' = absurd h
+  are_like w x past past' memory views runs.stop (child z j y d c) h b o b' o' = absurd h
+  are_like w x past past' memory views (runs.act e r) stop h b o b' o' = absurd h
+  are_like w x past past' memory views (runs.act e r) (child z j y d c) h b o b' o' = absurd h
+  are_like w x past past' memory views (runs.act e r) (act z y c) h b o b' o' =
+      are_like w x (past ++ Does e ∷ []) (past' ++ Does y ∷ []) (λ i. put y i (memory i)) (λ i. on_view (monoid_of i) i y (views i)) r c h.1 b.1 o b'.1 o'
+  are_like w x past past' memory views (runs.child k v u r) stop h b o b' o' = absurd h
+  are_like w x past past' memory views (runs.child k v u r) (act z y c) h b o b' o' = absurd h
+  are_like w x past past' memory views (runs.child k v u r) (child z j y d c) h b o b' o' =
+      let bodies = and_parts _ _ h.0.fits in (
+        same_cells p v.callee y.callee bodies.1
+            (λ l m at_v at_y. opposites (single l) (single m) (sym (head_is p inputs v l at_v u o.0 b.1) ∙ first_same y [] memory views u d h.1 ∙ head_is p others y m at_y (run_of d) o'.0 b'.1)),
+        are_like v y [] [] memory views u d h.1 b.1 o.1 b'.1 o'.1,
+        are_like w x (past ++ Invokes k v ∷ []) (past' ++ Invokes j y ∷ []) (λ i. value_after (run_of d) i (memory i)) (λ i. view_after (monoid_of i) i (run_of d) (views i)) r c h.2 b.2 o.2 b'.2 o'.2,
+      )

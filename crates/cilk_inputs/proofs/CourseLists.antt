@@ -65,7 +65,8 @@ module _ (W : Type 0) (cell : Cell → ℕ) (instance : Instance → numbered.In
   one (Passes (Prints v)) (Passes (Prints x)) n h is = ap (λ n. with_value {W = W} n (Does (Passes (Prints x)))) is
   one e x n h is = absurd h
 
-  started : (k : Invocation) (v w : W) (n : numbers.Event) → IsWritten cell instance (Invokes k v) n → IsWritten cell instance (Invokes k w) (with_value n (Invokes k w))
+  started : (k : Invocation) (v w : W) (n : numbers.Event) → IsWritten cell instance (Invokes k v) n
+      → IsWritten cell instance (Invokes k w) (with_value n (Invokes k w))
   started Call v w n is = (is.0, ap (λ n. with_value n (Invokes Call w)) is.1)
   started Spawn v w n is = (is.0, ap (λ n. with_value n (Invokes Spawn w)) is.1)
 
@@ -102,10 +103,12 @@ module _ (W V : Type 0) (M : Instance → MonoidStructure V) (next : W → List 
 
   -- the list of a course, with its values
   pub course_written : (cell : Cell → ℕ) (instance : Instance → numbered.Instance) (w : W) (past : List (Deed W)) (memory : Cell → ℤ) (views : Instance → V) (t : Run W) (c : Course W) (es : List numbers.Event)
-      → IsCourse W V M next same w past memory views t c → AreWritten cell instance (trace t) es → AreWritten cell instance (trace (run_of c)) (with_values es (trace (run_of c)))
+      → IsCourse W V M next same w past memory views t c → AreWritten cell instance (trace t) es
+      → AreWritten cell instance (trace (run_of c)) (with_values es (trace (run_of c)))
   course_written cell instance w past memory views t c es course written = valued W cell instance (trace t) (trace (run_of c)) es (alike w past memory views t c course) written
 
-pub courses_along : (W V : Type 0) (M : Instance → MonoidStructure V) (next : W → List (Deed W) → Option (Ask W)) (same : W → W → Bool) → CoursesAreAlongPlans W V M next same
+pub courses_along : (W V : Type 0) (M : Instance → MonoidStructure V) (next : W → List (Deed W) → Option (Ask W)) (same : W → W → Bool)
+    → CoursesAreAlongPlans W V M next same
 courses_along W V M next same cell instance w memory views t c es opening course written = (
   course_written W V M next same cell instance w [] memory views t c es course written,
   record { kinds = kept_kinds es (trace (run_of c)); preceding = refl; opening = refl },

@@ -135,7 +135,8 @@ module _ (W V : Type 0) (M : Instance → MonoidStructure V) (next : W → List 
   -- the frame goes on after an event that doesn't end it
   goes_on : (w : W) (past : List (Deed W)) (memory : Cell → ℤ) (views : Instance → V) (due : Due) (e e' : Event) (b : Bool) (t : Run W)
       → IsMadeFor W V M next same w past memory views e e' b → b ≡ true → due ≡ due_of e → is_end e ≡ false
-      → IsFrom (w) (past ++ Does e' ∷ []) (λ c. put e' c (memory c)) (λ i. on_view (M i) i e' (views i)) neither_due t → IsFrom w past memory views due (runs.act e' t)
+      → IsFrom (w) (past ++ Does e' ∷ []) (λ c. put e' c (memory c)) (λ i. on_view (M i) i e' (views i)) neither_due t
+      → IsFrom w past memory views due (runs.act e' t)
   goes_on w past memory views due e e' b t made is here no_end rest =
       let m = made.made is in
       let wanted : due_of e' ≡ due = sym (here ∙ like_due e e' made.like) in
@@ -162,7 +163,8 @@ module _ (W V : Type 0) (M : Instance → MonoidStructure V) (next : W → List 
     ends w past memory views v x gone gone' b (act d e r) made is rest = absurd rest
     ends w past memory views v x gone gone' b (child d k u q r) made is rest = absurd rest
 
-    last : (w : W) (past : List (Deed W)) (memory : Cell → ℤ) (views : Instance → V) (due : Due) (e e' : Event) (b : Bool) (r : Run W) (c : Course W) → is_end e ≡ true
+    last : (w : W) (past : List (Deed W)) (memory : Cell → ℤ) (views : Instance → V) (due : Due) (e e' : Event) (b : Bool) (r : Run W) (c : Course W)
+        → is_end e ≡ true
         → IsFramed due (runs.act e r) → IsMadeFor W V M next same w past memory views e e' b → b ≡ true
         → IsCourse W V M next same w (past ++ Does e' ∷ []) (λ c. put e' c (memory c)) (λ i. on_view (M i) i e' (views i)) r c
         → IsFrom w past memory views due (runs.act e' (run_of c))
@@ -205,7 +207,8 @@ module _ (W V : Type 0) (M : Instance → MonoidStructure V) (next : W → List 
           values = (inner.values, rest.values);
         }
 
-pub asked_is_serial : (W V : Type 0) (M : Instance → MonoidStructure V) (next : W → List (Deed W) → Option (Ask W)) (same : W → W → Bool) → AskedCourseIsSerial W V M next same
+pub asked_is_serial : (W V : Type 0) (M : Instance → MonoidStructure V) (next : W → List (Deed W) → Option (Ask W)) (same : W → W → Bool)
+    → AskedCourseIsSerial W V M next same
 asked_is_serial W V M next same over w memory views t c framed course asked =
     let r = from W V M next same over begin_due w [] memory views t c framed course asked in
     record { behaves = r.behaves; framed = r.framed; reads = r.reads; values = r.values }

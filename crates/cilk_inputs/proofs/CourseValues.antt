@@ -1,7 +1,6 @@
 -- Each read of a course that is asked for gives what its cell holds by the course's own list: `course_right`.
-use Rattle.std.proofs.Common.{◌≡◌, ℕ, ℤ, nat_eq, Bool, true, false, cond, if◌then◌else◌, List, [], ◌∷◌, ◌++◌, length, Option, refl, sym, ap, ◌∙◌, subst, arith}
+use Rattle.std.proofs.Common.{◌≡◌, ℕ, ℤ, nat_eq, Bool, true, false, cond, if◌then◌else◌, List, [], ◌∷◌, ◌++◌, length, Option, refl, sym, ap, ◌∙◌, subst}
 use Rattle.cilk_types.specs.declared.event.Event as numbers
-use Rattle.cilk_types.specs.declared.event.Event.TheVariants as events
 use Rattle.cilk_types.specs.declared.event.Instance as numbered
 use Rattle.cilk_types.specs.declared.invocation.Invocation.{Invocation}
 use Rattle.cilk_types.specs.declared.invocation.Invocation.TheVariants.{Call, Spawn}
@@ -31,7 +30,8 @@ record IsSplit {W : Type 0} (cell : Cell → ℕ) (instance : Instance → numbe
   first_written : AreWritten cell instance ds first
   second_written : AreWritten cell instance ms second
 
-split : {W : Type 0} (cell : Cell → ℕ) (instance : Instance → numbered.Instance) (ds ms : List (Deed W)) (es : List numbers.Event) → AreWritten cell instance (ds ++ ms) es → IsSplit cell instance ds ms es
+split : {W : Type 0} (cell : Cell → ℕ) (instance : Instance → numbered.Instance) (ds ms : List (Deed W)) (es : List numbers.Event)
+    → AreWritten cell instance (ds ++ ms) es → IsSplit cell instance ds ms es
 split cell instance [] ms es h = record { first = []; second = es; both = refl; first_written = tt; second_written = h }
 split cell instance (d ∷ ds) ms [] h = absurd h
 split cell instance (d ∷ ds) ms (e ∷ es) h =
@@ -71,7 +71,8 @@ module _ (cell : Cell → ℕ) (instance : Instance → numbered.Instance) (Know
   abbrev pub Tied : (Cell → ℤ) → Cells → Type 0
   Tied memory cells = (c : Cell) → Known c → memory c ≡ cells (cell c)
 
-  put_tied : (memory : Cell → ℤ) (cells : Cells) (e : Event) (n : numbers.Event) → IsWrittenEvent cell instance e n → EventKnown Known e → Tied memory cells → Tied (λ c. put e c (memory c)) (written n cells)
+  put_tied : (memory : Cell → ℤ) (cells : Cells) (e : Event) (n : numbers.Event) → IsWrittenEvent cell instance e n → EventKnown Known e
+      → Tied memory cells → Tied (λ c. put e c (memory c)) (written n cells)
   put_tied memory cells (Reads d v) n is k h c known = h c known ∙ ap (λ n. written n cells (cell c)) (sym is)
   put_tied memory cells (Writes d v) n is k h c known =
       chosen (same_cell d c) (nat_eq (cell d) (cell c)) v (memory c) (cells (cell c)) (apart d c k known) (h c known) ∙ ap (λ n. written n cells (cell c)) (sym is)
@@ -86,11 +87,13 @@ module _ (cell : Cell → ℕ) (instance : Instance → numbered.Instance) (Know
   put_tied memory cells (Passes (Prints v)) n is k h c known = h c known ∙ ap (λ n. written n cells (cell c)) (sym is)
 
   module _ (W : Type 0) where
-    start_tied : (memory : Cell → ℤ) (cells : Cells) (k : Invocation) (v : W) (n : numbers.Event) → IsWritten cell instance (Invokes k v) n → Tied memory cells → Tied memory (written n cells)
+    start_tied : (memory : Cell → ℤ) (cells : Cells) (k : Invocation) (v : W) (n : numbers.Event) → IsWritten cell instance (Invokes k v) n
+        → Tied memory cells → Tied memory (written n cells)
     start_tied memory cells Call v n is h c known = h c known ∙ ap (λ n. written n cells (cell c)) (sym is.1)
     start_tied memory cells Spawn v n is h c known = h c known ∙ ap (λ n. written n cells (cell c)) (sym is.1)
 
-    tied_after : (memory : Cell → ℤ) (cells : Cells) (t : Run W) (es : List numbers.Event) → AreWritten cell instance (trace t) es → IsKnown Known t → Tied memory cells
+    tied_after : (memory : Cell → ℤ) (cells : Cells) (t : Run W) (es : List numbers.Event) → AreWritten cell instance (trace t) es → IsKnown Known t
+        → Tied memory cells
         → Tied (λ c. value_after t c (memory c)) (cells_after es cells)
     tied_after memory cells runs.stop [] h k tied = tied
     tied_after memory cells runs.stop (n ∷ es) h k tied = absurd h
@@ -103,9 +106,10 @@ module _ (cell : Cell → ℕ) (instance : Instance → numbered.Instance) (Know
         let inner = tied_after memory (written n cells) u parts.first parts.first_written k.0 (start_tied memory cells j v n h.0 tied) in
         let rest = tied_after (λ c. value_after u c (memory c)) (cells_after parts.first (written n cells)) r parts.second parts.second_written k.1 inner in
         subst (λ (f : Cells). Tied (λ c. value_after r c (value_after u c (memory c))) f)
-            (sym (ap (λ l. cells_after l (written n cells)) parts.both ∙ cells_after_both parts.first parts.second (written n cells))) rest
+        (sym (ap (λ l. cells_after l (written n cells)) parts.both ∙ cells_after_both parts.first parts.second (written n cells))) rest
 
-    read_right : (memory : Cell → ℤ) (cells : Cells) (e : Event) (n : numbers.Event) → IsWrittenEvent cell instance e n → EventKnown Known e → Tied memory cells → IsReadRight e memory → IsRightRead n cells
+    read_right : (memory : Cell → ℤ) (cells : Cells) (e : Event) (n : numbers.Event) → IsWrittenEvent cell instance e n → EventKnown Known e
+        → Tied memory cells → IsReadRight e memory → IsRightRead n cells
     read_right memory cells (Reads d v) n is k h r = subst (λ n. IsRightRead n cells) (sym is) (r ∙ h d k)
     read_right memory cells (Writes d v) n is k h r = subst (λ n. IsRightRead n cells) (sym is) tt
     read_right memory cells Syncs n is k h r = subst (λ n. IsRightRead n cells) (sym is) tt
@@ -123,7 +127,8 @@ module _ (cell : Cell → ℕ) (instance : Instance → numbered.Instance) (Know
     start_right cells Spawn v n is = subst (λ n. IsRightRead n cells) (sym is.1) tt
 
     module _ (V : Type 0) (M : Instance → MonoidStructure V) (next : W → List (Deed W) → Option (Ask W)) (same : W → W → Bool) where
-      course_known : (w : W) (past : List (Deed W)) (memory : Cell → ℤ) (views : Instance → V) (t : Run W) (c : Course W) → IsCourse W V M next same w past memory views t c
+      course_known : (w : W) (past : List (Deed W)) (memory : Cell → ℤ) (views : Instance → V) (t : Run W) (c : Course W)
+          → IsCourse W V M next same w past memory views t c
           → IsKnown Known t → IsKnown Known (run_of c)
       course_known w past memory views runs.stop stop h k = tt
       course_known w past memory views runs.stop (act b x c) h k = absurd h
@@ -140,7 +145,8 @@ module _ (cell : Cell → ℕ) (instance : Instance → numbered.Instance) (Know
       )
 
       pub course_right : (w : W) (past : List (Deed W)) (memory : Cell → ℤ) (views : Instance → V) (cells : Cells) (t : Run W) (c : Course W) (es : List numbers.Event)
-          → IsCourse W V M next same w past memory views t c → IsKnown Known t → AreWritten cell instance (trace (run_of c)) es → Tied memory cells → AreAskedRight cells es (asked_in c)
+          → IsCourse W V M next same w past memory views t c → IsKnown Known t → AreWritten cell instance (trace (run_of c)) es → Tied memory cells
+          → AreAskedRight cells es (asked_in c)
       course_right w past memory views cells runs.stop stop [] h k is tied = tt
       course_right w past memory views cells runs.stop stop (n ∷ es) h k is tied = absurd is
       course_right w past memory views cells runs.stop (act b x c) es h k is tied = absurd h

@@ -1,5 +1,5 @@
 -- What the events of a course read, write and put into views is words, where the plan's are: `course_words`.
-use Rattle.std.proofs.Common.{◌≡◌, ◌≤◌, ◌+◌, ℕ, suc, ℤ, pos, Bool, true, false, cond, List, [], ◌∷◌, ◌++◌, length, Option, Some, None, refl, sym, ap, ◌∙◌, subst, arith, length-append}
+use Rattle.std.proofs.Common.{◌≡◌, ◌≤◌, ◌+◌, ℕ, suc, ℤ, pos, Bool, true, false, cond, List, [], ◌∷◌, ◌++◌, length, Option, Some, None, refl, sym, subst, arith, length-append}
 use Rattle.cilk_types.specs.Word.{IsWord}
 use Rattle.cilk_types.specs.declared.invocation.Invocation.{Invocation}
 use Rattle.cilk_monoid.specs.declared.kind.MonoidKind.{MonoidKind}
@@ -198,14 +198,16 @@ unless_ended : (b : Bool) (a : Option (Ask World)) → NamedWords a → NamedWor
 unless_ended true a h = tt
 unless_ended false a h = h
 
-pub next_words : (p : Source) (inputs : List ℤ) → HasWords p → InputsAreWords inputs → (w : World) (past : List (Deed World)) → CalleeWords w.callee → AreWords (answers_of past) → NamedWords (next p inputs w past)
+pub next_words : (p : Source) (inputs : List ℤ) → HasWords p → InputsAreWords inputs → (w : World) (past : List (Deed World)) → CalleeWords w.callee
+    → AreWords (answers_of past) → NamedWords (next p inputs w past)
 next_words p inputs has are w past callee answers =
     unless_ended (has_ended past) (Some (named_ask p w (suc (started past)) (asked_after p inputs w past).ask))
     (named_words p w (suc (started past)) (asked_after p inputs w past).ask (asks_words p has inputs are w.callee callee (answers_of past) answers MAX_TICKS))
 
 -- ---- one event
 
-asked_words : (e : Event) (memory : Cell → ℤ) (views : Instance → View) (n : ℕ) → n ≤ 1000000 → ((c : Cell) → IsWord (memory c)) → AreViewed views n → NamedWords (Some (ask_of e))
+asked_words : (e : Event) (memory : Cell → ℤ) (views : Instance → View) (n : ℕ) → n ≤ 1000000 → ((c : Cell) → IsWord (memory c)) → AreViewed views n
+    → NamedWords (Some (ask_of e))
     → IsReadRight e memory → IsViewRight monoid_of e views → EventWords e
 asked_words (Reads c v) memory views n few cells viewed h r s = subst IsWord (sym r) (cells c)
 asked_words (Writes c v) memory views n few cells viewed h r s = h
@@ -284,7 +286,8 @@ record LeavesWords (t : Run World) (memory : Cell → ℤ) (views : Instance →
   viewed : AreViewed (λ i. view_after (monoid_of i) i t (views i)) n
 
 module _ (next : World → List (Deed World) → Option (Ask World)) (same : World → World → Bool) (asks_so : (w : World) (past : List (Deed World)) → CalleeWords w.callee → AreWords (answers_of past) → NamedWords (next w past)) where
-  event_words : (w : World) (past : List (Deed World)) (memory : Cell → ℤ) (views : Instance → View) (n : ℕ) (e x : Event) (b : Bool) → n ≤ 1000000 → Fits w past memory views n
+  event_words : (w : World) (past : List (Deed World)) (memory : Cell → ℤ) (views : Instance → View) (n : ℕ) (e x : Event) (b : Bool) → n ≤ 1000000
+      → Fits w past memory views n
       → IsMadeFor World View monoid_of next same w past memory views e x b → (b ≡ false → EventWords e) → EventWords x
   event_words w past memory views n e x true few fits made other =
       let m = made.made refl in
@@ -299,7 +302,8 @@ module _ (next : World → List (Deed World) → Option (Ask World)) (same : Wor
   more_answers : (past : List (Deed World)) (d : Deed World) → AreWords (answers_of past) → IsWord (answer_of d) → AreWords (answers_of (past ++ d ∷ []))
   more_answers past d h w = subst AreWords (sym (answers_more past d)) (more_words (answers_of past) (answer_of d) h w)
 
-  course_words : (w : World) (past : List (Deed World)) (memory : Cell → ℤ) (views : Instance → View) (n m : ℕ) (t : Run World) (c : Course World) → m ≡ n + length (trace t) → m ≤ 1000000
+  course_words : (w : World) (past : List (Deed World)) (memory : Cell → ℤ) (views : Instance → View) (n m : ℕ) (t : Run World) (c : Course World)
+      → m ≡ n + length (trace t) → m ≤ 1000000
       → Fits w past memory views n → IsCourse World View monoid_of next same w past memory views t c → IsElseWords t c → LeavesWords (run_of c) memory views m
   course_words w past memory views n m runs.stop stop long few fits h other = record { events = tt; cells = fits.cells; viewed = λ i. longer (kind_of i) (views i) n m (omega (arith, long)) (fits.viewed i) }
   course_words w past memory views n m runs.stop (act b x c) long few fits h other = absurd h
@@ -322,7 +326,8 @@ module _ (next : World → List (Deed World) → Option (Ask World)) (same : Wor
       (record { callee = fits.callee; answers = more_answers past (Invokes j x) fits.answers zero_word; cells = inner.cells; viewed = inner.viewed }) h.2 other.2 in
       record { events = (callee, inner.events, rest.events); cells = rest.cells; viewed = rest.viewed }
 
-  pub whole_words : (w : World) (memory : Cell → ℤ) (views : Instance → View) (t : Run World) (c : Course World) → length (trace t) ≤ 1000000 → CalleeWords w.callee → ((c : Cell) → IsWord (memory c))
+  pub whole_words : (w : World) (memory : Cell → ℤ) (views : Instance → View) (t : Run World) (c : Course World) → length (trace t) ≤ 1000000
+      → CalleeWords w.callee → ((c : Cell) → IsWord (memory c))
       → ((i : Instance) → views i ≡ (monoid_of i).unit) → IsCourse World View monoid_of next same w [] memory views t c → IsElseWords t c → RunWords (run_of c)
   whole_words w memory views t c few callee cells units h other =
       let l = course_words w [] memory views 0 (length (trace t)) t c (omega arith) few

@@ -1,5 +1,5 @@
 -- What a cell holds after the first events is what its last write among them wrote: `last_value`.
-use Rattle.std.proofs.Common.{◌≡◌, ◌⊎◌, inl, inr, ℕ, zero, suc, ◌+◌, ℤ, pos, nat_eq, Bool, true, false, if◌then◌else◌, List, [], ◌∷◌, ◌++◌, length, take, Option, Some, None, slice_get, slice_index_or, refl, sym, ap, ◌∙◌, subst, arith, eqb-true}
+use Rattle.std.proofs.Common.{◌≡◌, ◌⊎◌, inl, inr, ℕ, zero, suc, ℤ, pos, nat_eq, Bool, true, false, if◌then◌else◌, List, [], ◌∷◌, ◌++◌, length, take, Option, Some, None, slice_get, slice_index_or, refl, sym, ap, ◌∙◌, subst, arith, eqb-true}
 use Rattle.std.proofs.lemmas.Bool.{cases_Bool, false≢true}
 use Rattle.cilk_types.specs.declared.event.Event.{Event}
 use Rattle.cilk_types.specs.declared.event.Event.TheVariants as events
@@ -23,14 +23,16 @@ AreAskedRight cells [] bs = Unit {0}
 AreAskedRight cells (e ∷ es) [] = Unit {0}
 AreAskedRight cells (e ∷ es) (b ∷ bs) = (b ≡ true → IsRightRead e cells) × AreAskedRight (written e cells) es bs
 
-pub right_both : (cells : Cells) (es xs : List Event) (bs ds : List Bool) → length es ≡ length bs → AreAskedRight cells es bs → AreAskedRight (cells_after es cells) xs ds
+pub right_both : (cells : Cells) (es xs : List Event) (bs ds : List Bool) → length es ≡ length bs → AreAskedRight cells es bs
+    → AreAskedRight (cells_after es cells) xs ds
     → AreAskedRight cells (es ++ xs) (bs ++ ds)
 right_both cells [] xs [] ds e h g = g
 right_both cells [] xs (b ∷ bs) ds e h g = absurd (omega (arith, e))
 right_both cells (x ∷ es) xs [] ds e h g = absurd (omega (arith, e))
 right_both cells (x ∷ es) xs (b ∷ bs) ds e h g = let less : length es ≡ length bs = omega (arith, e) in (h.0, right_both (written x cells) es xs bs ds less h.1 g)
 
-pub asked_right : (cells : Cells) (es : List Event) (bs : List Bool) → AreAskedRight cells es bs → (n c : ℕ) (v : ℤ) → slice_get es n ≡ Some (events.Read c v) → slice_index_or bs n false ≡ true
+pub asked_right : (cells : Cells) (es : List Event) (bs : List Bool) → AreAskedRight cells es bs → (n c : ℕ) (v : ℤ)
+    → slice_get es n ≡ Some (events.Read c v) → slice_index_or bs n false ≡ true
     → v ≡ cells_after (take n es) cells c
 asked_right cells [] bs h n c v e b = let z : None ≡ Some (events.Read c v) = e in absurd (cc)
 asked_right cells (x ∷ es) [] h n c v e b = let z : false ≡ true = b in absurd (cc z)
@@ -73,7 +75,8 @@ last_written cells es c (suc n) = by (last_written cells es c n) (cases_Bool (wr
     here : cells_after (take (suc n) es) cells c ≡ written_if (slice_get es n) (cells_after (take n es) cells) c
     here = ap (λ (f : Cells). f c) (after_next cells es n)
 
-    by : IsLastWritten cells es c (cells_after (take n es) cells c) (last_write es c n) → (writes (slice_get es n) c ≡ true) ⊎ (writes (slice_get es n) c ≡ false)
+    by : IsLastWritten cells es c (cells_after (take n es) cells c) (last_write es c n)
+        → (writes (slice_get es n) c ≡ true) ⊎ (writes (slice_get es n) c ≡ false)
         → IsLastWritten cells es c (cells_after (take (suc n) es) cells c) (last_write es c (suc n))
     by h (inl holds) =
         subst (λ b. IsLastWritten cells es c (cells_after (take (suc n) es) cells c) (if b then suc n else last_write es c n)) (sym holds) (record {
@@ -88,7 +91,8 @@ last_written cells es c (suc n) = by (last_written cells es c n) (cases_Bool (wr
         (subst (λ x. IsLastWritten cells es c x (last_write es c n)) (sym same) h)
 
 -- what a cell of a story holds, where its cells open so
-pub last_value : (s : Story) (cells : Cells) → ((c : ℕ) → slice_index_or s.opening c (pos 0) ≡ cells c) → (c n : ℕ) (v : ℤ) → v ≡ cells_after (take n s.events) cells c → HasValue s c n v
+pub last_value : (s : Story) (cells : Cells) → ((c : ℕ) → slice_index_or s.opening c (pos 0) ≡ cells c) → (c n : ℕ) (v : ℤ)
+    → v ≡ cells_after (take n s.events) cells c → HasValue s c n v
 last_value s cells opens c n v e =
     let h = last_written cells s.events c n in
     record {

@@ -2,6 +2,7 @@ pub mod AskedStories
 pub mod CourseFrames
 pub mod CourseLimits
 pub mod CourseLists
+pub mod CourseNumbers
 pub mod CourseRuns
 pub mod CourseValues
 pub mod CourseWords
@@ -12,3 +13,4 @@ pub mod OneRun
 pub mod Owned
 pub mod RunsEnd
 pub mod StoryValues
+pub mod Worked

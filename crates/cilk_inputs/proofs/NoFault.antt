@@ -4,17 +4,16 @@
 -- - `Goes`: the run by names from a point on, with what is left of each limit;
 -- - `no_refusal`: the ask at that point is not refused;
 -- - `goes_along`: the serial run from that point on is the run by names.
-use Rattle.std.proofs.Common.{◌≡◌, ◌≤◌, ◌<◌, ℕ, zero, suc, ◌+◌, ◌-◌, nat_eq, nat_lt, ℤ, pos, Bool, true, false, cond, if◌then◌else◌, IsTrue, List, [], ◌∷◌, ◌++◌, length, Option, Some, None, refl, sym, ap, ap₂, ◌∙◌, subst, arith, length-append}
+use Rattle.std.proofs.Common.{◌≡◌, ◌≤◌, ◌<◌, ℕ, suc, ◌+◌, ◌-◌, nat_eq, nat_lt, ℤ, pos, Bool, false, cond, if◌then◌else◌, IsTrue, List, [], ◌∷◌, ◌++◌, length, Option, Some, None, refl, sym, ap, ap₂, ◌∙◌, subst, arith, length-append}
 use Rattle.std.proofs.lemmas.Bool.{lt-ltb, le-ltb, ne_eqb}
 use Rattle.cilk_types.specs.declared.event.Event.{Event}
 use Rattle.cilk_types.specs.declared.fault.Fault.{Fault}
 use Rattle.cilk_types.specs.declared.fault.Fault.TheVariants.{TooManyEvents, TooManyFrames, TooManyCells}
 use Rattle.cilk_types.specs.declared.invocation.Invocation.{Invocation}
-use Rattle.cilk_types.specs.declared.limits.TheConstants.{MAX_TICKS, MAX_EVENTS, MAX_FRAMES, MAX_CELLS}
+use Rattle.cilk_types.specs.declared.limits.TheConstants.{MAX_TICKS, MAX_FRAMES, MAX_CELLS}
 use Rattle.cilk_program.specs.declared.ask.Ask as language
 use Rattle.cilk_program.specs.declared.ask.Ask.TheVariants as asks
 use Rattle.cilk_program.specs.declared.ask.Callee.{Callee}
-use Rattle.cilk_program.specs.declared.ask.Callee.TheVariants as callees
 use Rattle.cilk_program.specs.Behaviour.{OpenAsk, asks_for, frame_asks}
 use Rattle.cilk_program.specs.Syntax.{Source}
 use Rattle.cilk_program.specs.SerialRun as serial
@@ -22,11 +21,11 @@ use Rattle.cilk_program.specs.SerialRun.{Memory, Frame, cells_of, next_frame, be
 use Rattle.cilk_program.specs.WellNamed.{is_well_named}
 use Rattle.cilk_meaning.specs.Numbering.{Counts, counts_of, counts_after, entered}
 use Rattle.cilk_meaning.specs.Ticks.{IsWithin}
-use Rattle.cilk_meaning.proofs.Existence.{room_for, serial_spends}
+use Rattle.cilk_meaning.proofs.Existence.{serial_spends}
 use Rattle.cilk_meaning.proofs.Numbers.{serial_counts}
 use Rattle.cilk_meaning.proofs.Parts.{is_out}
 use Rattle.cilk_meaning.proofs.Ticking.{at_full, frame_further, runs_short}
-use Rattle.cilk_runs.specs.Costs.{TickTotal, EventTotal, FrameTotal, CellTotal, weight}
+use Rattle.cilk_runs.specs.Costs.{TickTotal, FrameTotal, CellTotal, weight}
 use Rattle.cilk_runs.specs.Machine.{started, put}
 use Rattle.cilk_runs.specs.Monoids.{on_view}
 use Rattle.cilk_runs.specs.Runs.{Cell, Instance, Ask, Invoke, Event as Happens, Reads, Writes, Syncs, Ends, Passes, Deed, Does, Invokes, Run, stop, act, child, ask_of}
@@ -36,7 +35,7 @@ use Rattle.cilk_runs.specs.Theorem.{follows}
 use Rattle.cilk_runs.specs.Traces.{trace}
 use Rattle.cilk_runs.specs.Views.{view_after, IsSerialViews}
 use Rattle.cilk_runs.proofs.Started.{started_does, started_invokes}
-use Rattle.cilk_worlds.specs.Machine.{retired_by, named_ask, answer_of, answers_of, is_end, has_ended, but_last, asked_after, next, taken, costs}
+use Rattle.cilk_worlds.specs.Machine.{retired_by, named_ask, answer_of, answers_of, is_end, but_last, asked_after, next, taken, costs}
 use Rattle.cilk_worlds.specs.Reducers.{View, monoid_of}
 use Rattle.cilk_worlds.specs.Worlds.{World, child_world}
 use Rattle.cilk_worlds.proofs.Kept.{but_last_more, answers_more, ended_more}
@@ -44,10 +43,10 @@ use Rattle.cilk_determinacy.specs.Nested.{named_event, named_from}
 use Rattle.cilk_determinacy.specs.Numbers.{cell_number, instance_number}
 use Rattle.cilk_determinacy.specs.Theorem.{SetWords}
 use Rattle.cilk_determinacy.proofs.Behaving.{At, run_holds}
-use Rattle.cilk_determinacy.proofs.Remembered.{act_follows, end_follows, run_remembers}
+use Rattle.cilk_determinacy.proofs.Remembered.{act_follows, run_remembers}
 use Rattle.cilk_determinacy.proofs.Standing.{Standing, asked_there, standing_act, standing_child, standing_past}
 use Rattle.cilk_determinacy.proofs.Stores.{Same}
-use Rattle.cilk_determinacy.proofs.Weights.{written_length, events_weigh, frames_weigh, cells_weigh}
+use Rattle.cilk_determinacy.proofs.Weights.{written_length, frames_weigh, cells_weigh}
 use Rattle.cilk_inputs.proofs.CourseFrames.{ends_over}
 use Rattle.cilk_inputs.proofs.OneCourse.{same_event}
 use Rattle.cilk_inputs.proofs.OneRun.{invoked}
@@ -70,7 +69,8 @@ inner_asks p w k (asks.Result y) v i = refl
 inner_asks p w k (asks.End y) v i = absurd i
 inner_asks p w k (asks.Fault f) v i = absurd i
 
-inner_answers : (p : Source) (w : World) (fr : Frame) (m : Memory) (a : language.Ask) → answer_of (Does (named_event p w a (answer_to fr m a))) ≡ answer_to fr m a
+inner_answers : (p : Source) (w : World) (fr : Frame) (m : Memory) (a : language.Ask)
+    → answer_of (Does (named_event p w a (answer_to fr m a))) ≡ answer_to fr m a
 inner_answers p w fr m asks.Begin = refl
 inner_answers p w fr m (asks.Read x) = refl
 inner_answers p w fr m (asks.Write x y) = refl
@@ -114,13 +114,15 @@ failed (Passes m) f a g q = cc
 has_room : (room : ℕ) (o : Option Fault) → 0 < room → (if nat_eq room 0 then Some TooManyEvents else o) ≡ o
 has_room room o h = ap (λ (b : Bool). if b then Some TooManyEvents else o) (ne_eqb room 0 (λ e. omega (arith, e, h)))
 
-not_crowded : (p : Source) (callee : Callee) (m : Memory) → 0 < m.room → m.frames < MAX_FRAMES → m.cells + cells_of p callee ≤ MAX_CELLS → crowded p callee m ≡ None
+not_crowded : (p : Source) (callee : Callee) (m : Memory) → 0 < m.room → m.frames < MAX_FRAMES → m.cells + cells_of p callee ≤ MAX_CELLS
+    → crowded p callee m ≡ None
 not_crowded p callee m room frames cells =
     has_room m.room _ room
     ∙ ap (λ (b : Bool). if b then (if nat_lt MAX_CELLS (m.cells + cells_of p callee) then Some TooManyCells else None) else Some TooManyFrames) (lt-ltb m.frames MAX_FRAMES frames)
     ∙ ap (λ (b : Bool). if b then Some TooManyCells else None) (le-ltb MAX_CELLS (m.cells + cells_of p callee) cells)
 
-not_refused : (p : Source) (w : World) (k : ℕ) (m : Memory) (a : language.Ask) (e : Happens) → 0 < m.room → named_ask p w k a ≡ ask_of e → (refused p m a ≡ None) × IsWithin a
+not_refused : (p : Source) (w : World) (k : ℕ) (m : Memory) (a : language.Ask) (e : Happens) → 0 < m.room → named_ask p w k a ≡ ask_of e
+    → (refused p m a ≡ None) × IsWithin a
 not_refused p w k m asks.Begin e h q = (has_room m.room None h, tt)
 not_refused p w k m (asks.Read x) e h q = (has_room m.room None h, tt)
 not_refused p w k m (asks.Write x y) e h q = (has_room m.room None h, tt)
@@ -171,7 +173,8 @@ nothing_some : (W : Type 0) (o : Option W) (a : W) → o ≡ None → o ≡ Some
 nothing_some W o a g h = cc
 
 -- a history is empty or has a last deed
-before_is_less : (f : List (Deed World) → ℕ) → ((past : List (Deed World)) (d : Deed World) → f past ≤ f (past ++ d ∷ [])) → (past : List (Deed World)) → f (but_last past) ≤ f past
+before_is_less : (f : List (Deed World) → ℕ) → ((past : List (Deed World)) (d : Deed World) → f past ≤ f (past ++ d ∷ []))
+    → (past : List (Deed World)) → f (but_last past) ≤ f past
 before_is_less f more [] = omega arith
 before_is_less f more (d ∷ past) = by past [] d
   where
@@ -208,14 +211,17 @@ module _ (p : Source) (inputs : List ℤ) where
     took : taken p inputs w past ≡ start - left
     low : left ≤ start
 
-  named_next : (w : World) (fr : Frame) (past : List (Deed World)) (history : List ℤ) (k : ℕ) → At p inputs w fr past history k → next p inputs w past ≡ Some (named_ask p w k (asked_after p inputs w past).ask)
+  named_next : (w : World) (fr : Frame) (past : List (Deed World)) (history : List ℤ) (k : ℕ) → At p inputs w fr past history k
+      → next p inputs w past ≡ Some (named_ask p w k (asked_after p inputs w past).ask)
   named_next w fr past history k at =
       ap (λ t. cond t None (Some (named_ask p w (suc (started past)) (asked_after p inputs w past).ask))) at.going ∙ ap (λ k. Some (named_ask p w k (asked_after p inputs w past).ask)) at.ordinal
 
-  full_ask : (w : World) (fr : Frame) (past : List (Deed World)) (history : List ℤ) (k : ℕ) → At p inputs w fr past history k → asked_after p inputs w past ≡ frame_asks p inputs fr.callee history MAX_TICKS
+  full_ask : (w : World) (fr : Frame) (past : List (Deed World)) (history : List ℤ) (k : ℕ) → At p inputs w fr past history k
+      → asked_after p inputs w past ≡ frame_asks p inputs fr.callee history MAX_TICKS
   full_ask w fr past history k at = ap (λ callee. frame_asks p inputs callee (answers_of past) MAX_TICKS) at.callee ∙ ap (λ hs. frame_asks p inputs fr.callee hs MAX_TICKS) at.answers
 
-  asking : (w : World) (fr : Frame) (past : List (Deed World)) (history : List ℤ) (k : ℕ) (a : language.Ask) (start left : ℕ) → At p inputs w fr past history k → frame_asks p inputs fr.callee history start ≡ asks_for a left
+  asking : (w : World) (fr : Frame) (past : List (Deed World)) (history : List ℤ) (k : ℕ) (a : language.Ask) (start left : ℕ)
+      → At p inputs w fr past history k → frame_asks p inputs fr.callee history start ≡ asks_for a left
       → is_out a ≡ false → start ≤ MAX_TICKS → Asking w past k a start left
   asking w fr past history k a start left at q out low =
       let full = at_full p inputs fr.callee MAX_TICKS history start left a q out low in
@@ -228,7 +234,8 @@ module _ (p : Source) (inputs : List ℤ) where
         low = left_low;
       }
 
-  at_act : (w : World) (fr : Frame) (past : List (Deed World)) (history : List ℤ) (k : ℕ) (m : Memory) (a : language.Ask) → IsInner a → At p inputs w fr past history k
+  at_act : (w : World) (fr : Frame) (past : List (Deed World)) (history : List ℤ) (k : ℕ) (m : Memory) (a : language.Ask) → IsInner a
+      → At p inputs w fr past history k
       → At p inputs w fr (past ++ Does (named_event p w a (answer_to fr m a)) ∷ []) (history ++ answer_to fr m a ∷ []) k
   at_act w fr past history k m a inner at =
       let e = named_event p w a (answer_to fr m a) in
@@ -239,7 +246,8 @@ module _ (p : Source) (inputs : List ℤ) where
         ordinal = ap suc (started_does past e) ∙ at.ordinal;
       }
 
-  at_child : (w : World) (fr : Frame) (past : List (Deed World)) (history : List ℤ) (k : ℕ) (how : Invocation) (v : World) → At p inputs w fr past history k → At p inputs w fr (past ++ Invokes how v ∷ []) (history ++ pos 0 ∷ []) (suc k)
+  at_child : (w : World) (fr : Frame) (past : List (Deed World)) (history : List ℤ) (k : ℕ) (how : Invocation) (v : World)
+      → At p inputs w fr past history k → At p inputs w fr (past ++ Invokes how v ∷ []) (history ++ pos 0 ∷ []) (suc k)
   at_child w fr past history k how v at = record {
     callee = at.callee;
     answers = answers_more past (Invokes how v) ∙ ap (λ hs. hs ++ pos 0 ∷ []) at.answers;
@@ -280,7 +288,8 @@ module _ (p : Source) (inputs : List ℤ) where
 
   -- ---- the ask at that point
 
-  asks_same : (w : World) (fr : Frame) (past : List (Deed World)) (history : List ℤ) (k start : ℕ) → At p inputs w fr past history k → start ≤ MAX_TICKS → taken p inputs w past ≤ start → IsWithin (asked_after p inputs w past).ask
+  asks_same : (w : World) (fr : Frame) (past : List (Deed World)) (history : List ℤ) (k start : ℕ) → At p inputs w fr past history k
+      → start ≤ MAX_TICKS → taken p inputs w past ≤ start → IsWithin (asked_after p inputs w past).ask
       → frame_asks p inputs fr.callee history start ≡ asks_for (asked_after p inputs w past).ask ((asked_after p inputs w past).left - (MAX_TICKS - start))
   asks_same w fr past history k start at low enough within =
       let a = asked_after p inputs w past in
@@ -293,7 +302,8 @@ module _ (p : Source) (inputs : List ℤ) where
       (subst (λ n. frame_asks p inputs fr.callee history MAX_TICKS ≡ asks_for a.ask n) (sym much) here)) within
 
   -- an ask that stands at a point of the run by names isn't refused
-  no_refusal : (w : World) (fr : Frame) (past : List (Deed World)) (history : List ℤ) (k start left : ℕ) (m : Memory) (b : language.Ask) (f : Fault) → At p inputs w fr past history k → start ≤ MAX_TICKS → taken p inputs w past ≤ start
+  no_refusal : (w : World) (fr : Frame) (past : List (Deed World)) (history : List ℤ) (k start left : ℕ) (m : Memory) (b : language.Ask) (f : Fault)
+      → At p inputs w fr past history k → start ≤ MAX_TICKS → taken p inputs w past ≤ start
       → frame_asks p inputs fr.callee history start ≡ asks_for b left → refused p m b ≡ Some f
       → (refused p m (asked_after p inputs w past).ask ≡ None) × IsWithin (asked_after p inputs w past).ask → ⊥
   no_refusal w fr past history k start left m b f at low enough q bad good =
@@ -330,7 +340,8 @@ module _ (p : Source) (inputs : List ℤ) where
       no_refusal w fr past history j start left m b f at h.full (enough_child w past k x d u memory views start m h) q bad
       (subst (λ a. (refused p m a ≡ None) × IsWithin a) (sym i.is) (not_crowded p i.callee m room frames cells, tt))
 
-  stopped_early : (w : World) (fr : Frame) (past : List (Deed World)) (history : List ℤ) (j : ℕ) → At p inputs w fr past history j → Behaves World (follows (next p inputs)) w past stop → ⊥
+  stopped_early : (w : World) (fr : Frame) (past : List (Deed World)) (history : List ℤ) (j : ℕ) → At p inputs w fr past history j
+      → Behaves World (follows (next p inputs)) w past stop → ⊥
   stopped_early w fr past history j at b = b _ (named_next w fr past history j at)
 
   -- ---- the serial run goes along
@@ -362,7 +373,8 @@ module _ (p : Source) (inputs : List ℤ) where
   set_second (e ∷ es) es' h = set_second es es' h.1
 
   -- nothing follows a frame's end
-  over : (w : World) (past : List (Deed World)) (e : Happens) (v : ℤ) (u : Run World) → e ≡ Ends v (retired_by p w) → Behaves World (follows (next p inputs)) w (past ++ Does e ∷ []) u → u ≡ stop
+  over : (w : World) (past : List (Deed World)) (e : Happens) (v : ℤ) (u : Run World) → e ≡ Ends v (retired_by p w)
+      → Behaves World (follows (next p inputs)) w (past ++ Does e ∷ []) u → u ≡ stop
   over w past e v stop same b = refl
   over w past e v (act x u) same b =
       absurd (nothing_some (Ask World) _ _ (ends_over p inputs w past v (retired_by p w)) (subst (λ (z : Happens). next p inputs w (past ++ Does z ∷ []) ≡ Some (ask_of x)) same b.0))
@@ -374,7 +386,8 @@ module _ (p : Source) (inputs : List ℤ) where
 
   -- the child's part
   goes_inner : (w : World) (past : List (Deed World)) (k : Invocation) (c : World) (callee : Callee) (d u : Run World) (memory : Cell → ℤ) (views : Instance → View) (start left : ℕ) (m : Memory) → c.callee ≡ callee
-      → taken p inputs w past ≡ start - left → left ≤ start → Goes w past (child k c d u) memory views start m → Goes c [] d memory views left (begun p callee (counted m))
+      → taken p inputs w past ≡ start - left → left ≤ start → Goes w past (child k c d u) memory views start m
+      → Goes c [] d memory views left (begun p callee (counted m))
   goes_inner w past k c callee d u memory views start left m same took low h =
       let nothing : taken p inputs c (but_last []) ≡ 0 = omega arith in
       let before = before_taken w past in
@@ -401,7 +414,8 @@ module _ (p : Source) (inputs : List ℤ) where
       → taken p inputs w past ≡ start - left → left ≤ start → Goes w past (child k c d u) memory views start m
       → weight (costs p inputs) TickTotal c [] d + left' + taken p inputs c (but_last []) ≡ left
       → many + m'.room ≡ m.room - 1 → length (trace d) ≡ many → counts_of m' ≡ after
-      → suc m.frames + weight (costs p inputs) FrameTotal c [] d ≡ after.frames → m.cells + cells_of p callee + weight (costs p inputs) CellTotal c [] d ≡ after.cells
+      → suc m.frames + weight (costs p inputs) FrameTotal c [] d ≡ after.frames
+      → m.cells + cells_of p callee + weight (costs p inputs) CellTotal c [] d ≡ after.cells
       → Goes w (past ++ Invokes k c ∷ []) u (λ x. value_after d x (memory x)) (λ i. view_after (monoid_of i) i d (views i)) (left' + (start - left)) m'
   goes_past w past k c callee d u memory views start left left' m m' many after same took low h adds spent long counts frames_are cells_are =
       let last : taken p inputs w (but_last (past ++ Invokes k c ∷ [])) ≡ taken p inputs w past = ap (taken p inputs w) (but_last_more past (Invokes k c)) in
@@ -427,9 +441,12 @@ module _ (p : Source) (inputs : List ℤ) where
       }
 
   module _ (well : IsTrue (is_well_named p)) (whole : serial.Transcript) where
-    pub goes_along : {fr : Frame} {start : ℕ} {history : List ℤ} {m : Memory} {r : serial.Transcript} {es : List Event} {end : Ending} → Serial p inputs fr start history m r es end
-        → (w : World) (past : List (Deed World)) (j : ℕ) → At p inputs w fr past history (suc j) → Standing p inputs well whole w fr j r (counts_of m) → SetWords es
-        → (memory : Cell → ℤ) (views : Instance → View) → Same p whole memory views m.store → (u : Run World) → Goes w past u memory views start m → EndsAs end (named_from p w (suc j) r) u
+    pub goes_along : {fr : Frame} {start : ℕ} {history : List ℤ} {m : Memory} {r : serial.Transcript} {es : List Event} {end : Ending}
+        → Serial p inputs fr start history m r es end
+        → (w : World) (past : List (Deed World)) (j : ℕ) → At p inputs w fr past history (suc j) → Standing p inputs well whole w fr j r (counts_of m)
+        → SetWords es
+        → (memory : Cell → ℤ) (views : Instance → View) → Same p whole memory views m.store → (u : Run World) → Goes w past u memory views start m
+        → EndsAs end (named_from p w (suc j) r) u
     goes_along (Made {fr = fr} {start = start} {history = history} {m = m} {r = r} {es = es} {end = end} a left q inner ok rest) w past j at standing words memory views same stop h = absurd (stopped_early w fr past history (suc j) at h.behaves)
     goes_along (Made {fr = fr} {start = start} {history = history} {m = m} {r = r} {es = es} {end = end} a left q inner ok rest) w past j at standing words memory views same (child k x d u) h =
         let asked = asking w fr past history (suc j) a start left at q (inner_goes p w a (answer_to fr m a) inner).1 h.full in

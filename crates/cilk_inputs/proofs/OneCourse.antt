@@ -1,5 +1,5 @@
 -- A plan's run has a course on each input, and one alone: `courses_are_one`.
-use Rattle.std.proofs.Common.{◌≡◌, ℤ, Bool, true, false, cond, List, [], ◌∷◌, ◌++◌, Option, Some, None, refl, sym, ap, ◌∙◌, subst}
+use Rattle.std.proofs.Common.{◌≡◌, ℤ, Bool, true, false, cond, List, [], ◌∷◌, ◌++◌, Option, Some, refl, sym, ap, ◌∙◌, subst}
 use Rattle.cilk_types.specs.declared.invocation.Invocation.{Invocation}
 use Rattle.cilk_types.specs.declared.invocation.Invocation.TheVariants.{Call, Spawn}
 use Rattle.cilk_monoid.specs.Laws.{MonoidStructure}
@@ -87,7 +87,8 @@ answer M memory views a e h = absurd (cc h)
 
 -- ---- one answer
 
-same_mark : {V : Type 0} (M : Instance → MonoidStructure V) (views : Instance → V) (m n : Granted) → wish_of m ≡ wish_of n → IsValueRight M m views → IsValueRight M n views → m ≡ n
+same_mark : {V : Type 0} (M : Instance → MonoidStructure V) (views : Instance → V) (m n : Granted) → wish_of m ≡ wish_of n → IsValueRight M m views
+    → IsValueRight M n views → m ≡ n
 same_mark M views Begins Begins q g h = refl
 same_mark M views Resumes Resumes q g h = refl
 same_mark M views (Creates i) (Creates j) q g h = let s : i ≡ j = cc q in ap Creates s
@@ -126,7 +127,8 @@ start same (Some (Invoke Call x)) Call v h = record { kind = h; asks = refl }
 start same (Some (Invoke Spawn x)) Spawn v h = record { kind = h; asks = refl }
 start same a k v h = absurd (cc h)
 
-start_like : {W : Type 0} (same : W → W → Bool) (a : Option (Ask W)) (k : Invocation) (v x : W) → same v x ≡ true → a ≡ Some (Invoke k x) → starts_like same a k v ≡ true
+start_like : {W : Type 0} (same : W → W → Bool) (a : Option (Ask W)) (k : Invocation) (v x : W) → same v x ≡ true → a ≡ Some (Invoke k x)
+    → starts_like same a k v ≡ true
 start_like same a Call v x h q = ap (λ a. starts_like same a Call v) q ∙ h
 start_like same a Spawn v x h q = ap (λ a. starts_like same a Spawn v) q ∙ h
 
@@ -175,7 +177,8 @@ module _ (W V : Type 0) (M : Instance → MonoidStructure V) (next : W → List 
   some_inner : (a b : Ask W) → Some a ≡ Some b → a ≡ b
   some_inner a b q = cc
 
-  one_made : (w : W) (past : List (Deed W)) (memory : Cell → ℤ) (views : Instance → V) (e x y : Event) (b d : Bool) → IsMadeFor W V M next same w past memory views e x b
+  one_made : (w : W) (past : List (Deed W)) (memory : Cell → ℤ) (views : Instance → V) (e x y : Event) (b d : Bool)
+      → IsMadeFor W V M next same w past memory views e x b
       → IsMadeFor W V M next same w past memory views e y d → (b ≡ d) × (x ≡ y)
   one_made w past memory views e x y true true g h =
       let a = g.made refl in
@@ -188,7 +191,8 @@ module _ (W V : Type 0) (M : Instance → MonoidStructure V) (next : W → List 
   one_world : (j k : Invocation) (x y : W) (a : Option (Ask W)) → a ≡ Some (Invoke j x) → a ≡ Some (Invoke k y) → x ≡ y
   one_world j k x y a g h = cc
 
-  one_started : (w : W) (past : List (Deed W)) (k j l : Invocation) (v x y : W) (b d : Bool) → IsStartedFor W V M next same w past k j v x b → IsStartedFor W V M next same w past k l v y d → (b ≡ d) × (x ≡ y)
+  one_started : (w : W) (past : List (Deed W)) (k j l : Invocation) (v x y : W) (b d : Bool) → IsStartedFor W V M next same w past k j v x b
+      → IsStartedFor W V M next same w past k l v y d → (b ≡ d) × (x ≡ y)
   one_started w past k j l v x y true true g h = (refl, one_world j l x y (next w past) (g.made refl) (h.made refl))
   one_started w past k j l v x y true false g h =
       let z : false ≡ true = h.only x g.fits (subst (λ (i : Invocation). next w past ≡ Some (Invoke i x)) (sym g.how) (g.made refl)) in
@@ -231,6 +235,7 @@ module _ (W V : Type 0) (M : Instance → MonoidStructure V) (next : W → List 
       ∙ ap (λ (z : Invocation). child d z x (of x [] memory views u) (on z x (of x [] memory views u))) (sym h.0.how)
       ∙ ap (λ (z : W). child d k z (of z [] memory views u) (on k z (of z [] memory views u))) one.1
 
-pub courses_are_one : (W V : Type 0) (M : Instance → MonoidStructure V) (next : W → List (Deed W) → Option (Ask W)) (same : W → W → Bool) → CoursesAreOne W V M next same
+pub courses_are_one : (W V : Type 0) (M : Instance → MonoidStructure V) (next : W → List (Deed W) → Option (Ask W)) (same : W → W → Bool)
+    → CoursesAreOne W V M next same
 courses_are_one W V M next same known w past memory views t =
     (is_course W V M next same known w past memory views t, one_course W V M next same known w past memory views t)

@@ -3,7 +3,7 @@
 -- - `frames_from`: the frames of a list by one pass; `all_frames`: what the plan's law says of it;
 -- - `passes`: of a run by names it gives the frames that make the events;
 -- - `only_one`: an event is in one frame.
-use Rattle.std.proofs.Common.{◌≡◌, ◌⊎◌, inl, inr, ⊎_elim, ℕ, suc, ◌+◌, ◌<◌, ◌≤◌, ℤ, List, [], ◌∷◌, ◌++◌, map, length, get_or, slice_index_or, Option, Some, None, refl, sym, ap, ap₂, ◌∙◌, subst, arith, append_assoc, append-nil, length-append}
+use Rattle.std.proofs.Common.{◌≡◌, ◌⊎◌, inl, inr, ⊎_elim, ℕ, ◌+◌, ◌<◌, ◌≤◌, List, [], ◌∷◌, ◌++◌, map, length, get_or, slice_index_or, Option, Some, refl, sym, ap, ap₂, ◌∙◌, subst, arith, append_assoc, append-nil, length-append}
 use Rattle.std.proofs.lemmas.Bool.{cases_lt}
 use Rattle.std.proofs.lemmas.List.{get_or-append-add}
 use Rattle.cilk_types.specs.declared.event.Event.{Event}
@@ -16,14 +16,14 @@ use Rattle.cilk_program.specs.Syntax.{Source}
 use Rattle.cilk_tree.specs.Races.{event_at}
 use Rattle.cilk_plan.specs.Frames.{Enters, IsInFrame, BeginsAFrame, AreFrames}
 use Rattle.cilk_plan.proofs.Framed.{SoFar, frames_first, frames_next, frames_all, begins}
-use Rattle.cilk_runs.specs.Runs.{Name, Begins, Resumes, Creates, Updates, Sets, Values, Prints, Event as Happens, Reads, Writes, Syncs, Ends, Passes, Run, stop, act, child}
+use Rattle.cilk_runs.specs.Runs.{Name, Begins, Resumes, Creates, Updates, Sets, Values, Prints, Reads, Writes, Syncs, Ends, Passes, Run, act, child}
 use Rattle.cilk_runs.specs.Traces.{Due, begin_due, resume_due, neither_due, IsFramed, shape_of}
 use Rattle.cilk_worlds.specs.Worlds.{World}
 use Rattle.cilk_determinacy.specs.Nested.{named}
 use Rattle.cilk_determinacy.specs.Numbers.{frame_number, start_event, numbered_events}
 use Rattle.cilk_determinacy.proofs.Determinate.{serial_numbered}
 use Rattle.cilk_determinacy.proofs.Numbered.{events_numbered}
-use Rattle.cilk_inputs.specs.Owned.{makers, maker_numbers, AreTheFrames, EventsAreInTheirFrames}
+use Rattle.cilk_inputs.specs.Owned.{makers, maker_numbers, EventsAreInTheirFrames}
 
 -- ---- one pass over a list
 
@@ -64,7 +64,8 @@ record IsPassed (es : List Event) (i : ℕ) (frames : List ℕ) : Type 0 where
   frame : ℕ
   so_far : SoFar es i frames frame
 
-passed : (es : List Event) → BeginsAFrame es → (done rest : List Event) (frames : List ℕ) (g i : ℕ) → es ≡ done ++ rest → i ≡ length done → SoFar es i frames g → IsPassed es (length es) (frames ++ frames_from g rest)
+passed : (es : List Event) → BeginsAFrame es → (done rest : List Event) (frames : List ℕ) (g i : ℕ) → es ≡ done ++ rest → i ≡ length done
+    → SoFar es i frames g → IsPassed es (length es) (frames ++ frames_from g rest)
 passed es begin done [] frames g i is at h =
     let l = ap length is in
     let n = length-append {A = Event} done [] in

@@ -1,5 +1,5 @@
 -- A serial run by names within the limits is the program's: `within_limits`. What runs on other inputs are: `inputs_run_along`.
-use Rattle.std.proofs.Common.{◌≡◌, ◌≤◌, ◌+◌, ℕ, ℤ, pos, IsTrue, List, [], length, refl, sym, ap, ◌∙◌, arith}
+use Rattle.std.proofs.Common.{◌≡◌, ◌≤◌, ℤ, List, [], refl, sym, ap, ◌∙◌, arith}
 use Rattle.cilk_types.specs.declared.event.Event.{Event}
 use Rattle.cilk_types.specs.declared.limits.TheConstants.{MAX_TICKS, MAX_EVENTS}
 use Rattle.cilk_program.specs.declared.ask.Callee.TheVariants as callees
@@ -7,12 +7,11 @@ use Rattle.cilk_program.specs.Outcomes.{Conclusion, Leaves, outcome_of}
 use Rattle.cilk_program.specs.Store.{opening}
 use Rattle.cilk_program.specs.Syntax.{Source}
 use Rattle.cilk_program.specs.SerialRun.{Transcript, global_reducer, before_root, root_frame, begun, conclusion_of, Ending, Finished, Stopped, Serial}
-use Rattle.cilk_program.specs.WellNamed.{is_well_named}
 use Rattle.cilk_meaning.proofs.Uniqueness.{serial_run_exists}
 use Rattle.cilk_runs.specs.Costs.{Total, TickTotal, EventTotal, FrameTotal, CellTotal, whole}
 use Rattle.cilk_runs.specs.Monoids.{unit_of}
 use Rattle.cilk_runs.specs.Runs.{Run}
-use Rattle.cilk_runs.specs.Traces.{begin_due}
+use Rattle.cilk_runs.specs.Traces.{trace, begin_due}
 use Rattle.cilk_worlds.specs.Machine.{next, opening_values, limit, costs}
 use Rattle.cilk_worlds.specs.Reducers.{View, monoid_of}
 use Rattle.cilk_worlds.specs.Worlds.{World, first_world}
@@ -20,15 +19,18 @@ use Rattle.cilk_determinacy.specs.Nested.{named}
 use Rattle.cilk_determinacy.specs.Numbers.{cell_number, instance_number}
 use Rattle.cilk_determinacy.specs.Theorem.{IsSerial}
 use Rattle.cilk_determinacy.proofs.Determinate.{serial_by_names}
+use Rattle.cilk_determinacy.proofs.Numbered.{events_numbered}
 use Rattle.cilk_determinacy.proofs.Standing.{standing_root}
 use Rattle.cilk_determinacy.proofs.Stores.{Same}
 use Rattle.cilk_determinacy.proofs.Weights.{events_weigh}
 use Rattle.cilk_determinacy.proofs.Wordy.{set_words}
 use Rattle.cilk_inputs.specs.Courses.{run_of}
-use Rattle.cilk_inputs.specs.Ends.{KeepsLimits, IsWholeRun, RunsWithinLimitsAreWhole, RunsAsCourse, InputsRunAlong}
-use Rattle.cilk_inputs.specs.Frames.{same_frame, course_on, IsSerialRunOn}
+use Rattle.cilk_inputs.specs.Ends.{KeepsLimits, IsWholeRun, RunsWithinLimitsAreWhole, InputsRunAlong}
+use Rattle.cilk_inputs.specs.Frames.{same_frame, course_on}
+use Rattle.cilk_inputs.specs.Lists.{with_values}
 use Rattle.cilk_inputs.proofs.AskedStories.{departs_nowhere}
-use Rattle.cilk_inputs.proofs.CourseLimits.{opened, IsAsMuch, as_much}
+use Rattle.cilk_inputs.proofs.CourseLimits.{opened, IsAsMuch, as_much, are_like}
+use Rattle.cilk_inputs.proofs.CourseNumbers.{events_are}
 use Rattle.cilk_inputs.proofs.NoFault.{EndsAs, Goes, goes_along, at_begin}
 use Rattle.cilk_inputs.proofs.OneRun.{runs_are_one, named_runs_are_serial}
 use Rattle.cilk_inputs.proofs.StoryValues.{stories_have_values, course, written, serial, cells_open}
@@ -59,17 +61,21 @@ within_limits p inputs u well has are run keeps =
     same : (r : Transcript) → Same p r (opening_values p inputs) (unit_of monoid_of) (opening p.openings)
     same r = record { cells = cells_open p inputs r; reducers = λ i has. refl; output = refl }
 
-    by : (r : Transcript) (es : List Event) (c : Conclusion) (end : Ending) → Serial p inputs (root_frame p inputs) MAX_TICKS [] (begun p callees.Root (before_root p inputs MAX_EVENTS)) r es end → c ≡ conclusion_of p inputs end → IsWholeRun p inputs u
+    by : (r : Transcript) (es : List Event) (c : Conclusion) (end : Ending)
+        → Serial p inputs (root_frame p inputs) MAX_TICKS [] (begun p callees.Root (before_root p inputs MAX_EVENTS)) r es end
+        → c ≡ conclusion_of p inputs end → IsWholeRun p inputs u
     by r es c end d is =
         done end d
         (goes_along p inputs well r d (first_world p) [] 0 (at_begin p inputs (first_world p) (root_frame p inputs) refl) (standing_root p inputs well r) (set_words p has inputs are r es (conclusion_of p inputs end) (end, d, refl))
         (opening_values p inputs) (unit_of monoid_of) (same r) u goes)
       where
-        done : (end : Ending) → Serial p inputs (root_frame p inputs) MAX_TICKS [] (begun p callees.Root (before_root p inputs MAX_EVENTS)) r es end → EndsAs p inputs end (named p r) u → IsWholeRun p inputs u
+        done : (end : Ending) → Serial p inputs (root_frame p inputs) MAX_TICKS [] (begun p callees.Root (before_root p inputs MAX_EVENTS)) r es end
+            → EndsAs p inputs end (named p r) u → IsWholeRun p inputs u
         done (Finished v left m) d h = record { transcript = r; events = es; outcome = outcome_of global_reducer p v m.store; serial = (Finished v left m, d, refl); names = h }
         done (Stopped f) d h = absurd h
 
-keeps : (p : Source) (inputs others : List ℤ) (t u : Run World) → whole (costs p others) (first_world p) u TickTotal ≤ MAX_TICKS → IsAsMuch p inputs others (first_world p) (first_world p) [] [] t u
+keeps : (p : Source) (inputs others : List ℤ) (t u : Run World) → whole (costs p others) (first_world p) u TickTotal ≤ MAX_TICKS
+    → IsAsMuch p inputs others (first_world p) (first_world p) [] [] t u
     → ((total : Total) → whole (costs p inputs) (first_world p) t total ≤ limit p inputs total) → KeepsLimits p others u
 keeps p inputs others t u ticks much within TickTotal = ticks
 keeps p inputs others t u ticks much within EventTotal = let h = within EventTotal in let e = much.events in omega (arith, h, e)
@@ -86,11 +92,20 @@ inputs_run_along p inputs others r es opening is are orderly nowhere =
     let own = serial p inputs r es opening is in
     let is_course = course p inputs r es opening is others are in
     let run = departs_nowhere p inputs others t c (cell_number p r) (instance_number p r) es _ opening own is_course (written p inputs r es opening is others are) orderly along values.begins nowhere in
-    let much = as_much p inputs others (first_world p) (first_world p) [] [] (opening_values p others) (unit_of monoid_of) t c is_course own.behaves (opened begin_due t own.framed) run.behaves (opened begin_due (run_of c) run.framed) in
+    let like = are_like p inputs others (first_world p) (first_world p) [] [] (opening_values p others) (unit_of monoid_of) t c is_course own.behaves (opened begin_due t own.framed) run.behaves (opened begin_due (run_of c) run.framed) in
+    let much = as_much p inputs others (first_world p) (first_world p) [] [] t (run_of c) like in
     let limits : IsSerial p inputs r = serial_by_names p inputs r es is.outcome is.named is.runs (set_words p is.words inputs is.inputs_words r es (Leaves is.outcome) is.runs) in
     record {
       course = run;
       ends = λ ticks. within_limits p others (run_of c) is.named is.words are run (keeps p inputs others t (run_of c) ticks much limits.within);
       only = λ r' es' outcome runs.
-          runs_are_one World View monoid_of (next p others) (same_frame p) (first_world p) (opening_values p others) (unit_of monoid_of) (named p r') (run_of c) (named_runs_are_serial p others r' es' outcome is.named is.words are runs) run;
+          let same : named p r' ≡ run_of c =
+          runs_are_one World View monoid_of (next p others) (same_frame p) (first_world p) (opening_values p others) (unit_of monoid_of) (named p r') (run_of c) (named_runs_are_serial p others r' es' outcome is.named is.words are runs) run in
+          let list = events_numbered p inputs r es (Leaves is.outcome) is.named is.runs in
+          let list' = events_numbered p others r' es' (Leaves outcome) is.named runs in (
+            same,
+            list'.events
+                ∙ events_are p others r r' (first_world p) (opening_values p others) (unit_of monoid_of) c like same is_course
+                ∙ ap (λ l. with_values l (trace (run_of c))) (sym list.events),
+          );
     }

@@ -1,5 +1,5 @@
 -- The story of a plan's run on another input has values: `stories_have_values`. On the run's own it is the plan's: `own_story`.
-use Rattle.std.proofs.Common.{◌≡◌, ◌≤◌, ℕ, ◌-◌, ℤ, pos, Bool, true, false, IsTrue, List, [], ◌∷◌, ◌++◌, zero, suc, length, take, Option, Some, None, slice_get, slice_index_or, unwrap_or, refl, sym, ap, ap₂, ◌∙◌, subst, arith, inl}
+use Rattle.std.proofs.Common.{◌≡◌, ◌≤◌, ℕ, ◌-◌, ℤ, pos, Bool, true, false, List, [], ◌∷◌, ◌++◌, zero, suc, length, Some, None, slice_get, slice_index_or, unwrap_or, refl, sym, ap, ap₂, ◌∙◌, subst, arith, inl}
 use Rattle.std.proofs.lemmas.Option.{slice_get_past}
 use Rattle.cilk_types.specs.declared.event.Event as numbers
 use Rattle.cilk_types.specs.declared.event.Event.TheVariants as events
@@ -13,10 +13,8 @@ use Rattle.cilk_meaning.specs.Answered.{opening_cells}
 use Rattle.cilk_meaning.proofs.Existence.{serial_run_is_short}
 use Rattle.cilk_meaning.proofs.Numbers.{past_globals}
 use Rattle.cilk_story.specs.declared.story.Story.{Story}
-use Rattle.cilk_story.specs.Runs.{IsAsked, IsFollowed}
-use Rattle.cilk_story.specs.Values.{HasValue, HasValues}
+use Rattle.cilk_story.specs.Values.{HasValues}
 use Rattle.cilk_story.specs.Word.{event}
-use Rattle.cilk_plan.specs.Along.{IsAlong}
 use Rattle.cilk_plan.specs.Kinds.{IsOfWords}
 use Rattle.cilk_plan.specs.Passes.{predecessors_in}
 use Rattle.cilk_plan.specs.Planned.{planned}
@@ -24,7 +22,7 @@ use Rattle.cilk_plan.specs.Planned as plans
 use Rattle.cilk_runs.specs.Monoids.{unit_of}
 use Rattle.cilk_runs.specs.Runs.{Cell, Global, Own, Instance, Begins, Resumes, Creates, Updates, Sets, Values, Prints, Event, Reads, Writes, Syncs, Ends, Passes, Deed, Does, Invokes, Run}
 use Rattle.cilk_runs.specs.Runs as runs
-use Rattle.cilk_runs.specs.Traces.{trace, begin_due, IsFramed, IsWrittenEvent, IsWritten, AreWritten}
+use Rattle.cilk_runs.specs.Traces.{trace, begin_due, IsFramed, IsWritten, AreWritten}
 use Rattle.cilk_worlds.specs.Machine.{next, opening_values}
 use Rattle.cilk_worlds.specs.Reducers.{View, monoid_of}
 use Rattle.cilk_worlds.specs.Worlds.{World, first_world}
@@ -38,16 +36,16 @@ use Rattle.cilk_determinacy.proofs.Numbers.{cell_is, same_cells}
 use Rattle.cilk_determinacy.proofs.Weights.{written_length}
 use Rattle.cilk_determinacy.proofs.Worded.{zero_word}
 use Rattle.cilk_determinacy.proofs.Wordy.{opening_word, set_words}
-use Rattle.cilk_inputs.specs.Courses.{Course, stop, act, child, run_of, all_asked, asked_in, IsMadeFor, IsCourse}
+use Rattle.cilk_inputs.specs.Courses.{Course, stop, act, child, run_of, all_asked, asked_in}
 use Rattle.cilk_inputs.specs.Frames.{same_frame, course_on, IsCourseOn, IsSerialRunOn}
 use Rattle.cilk_inputs.specs.Lists.{with_value, with_values, story_along}
 use Rattle.cilk_inputs.specs.Stories.{story_on, IsPlannedRun, OwnStory, StoriesAlongHaveValues}
-use Rattle.cilk_inputs.proofs.CourseFrames.{one_frame, runs_are_courses, programs_have_one}
+use Rattle.cilk_inputs.proofs.CourseFrames.{runs_are_courses, programs_have_one}
 use Rattle.cilk_inputs.proofs.CourseLists.{kept_kinds, course_written}
 use Rattle.cilk_inputs.proofs.CourseRuns.{run_all}
 use Rattle.cilk_inputs.proofs.CourseValues.{EventKnown, IsKnown, course_right}
 use Rattle.cilk_inputs.proofs.CourseWords.{EventWords, RunWords, words_else, all_else, next_words, whole_words}
-use Rattle.cilk_inputs.proofs.LastWrites.{Cells, AreAskedRight, asked_right, last_value}
+use Rattle.cilk_inputs.proofs.LastWrites.{AreAskedRight, asked_right, last_value}
 
 abbrev all_true : {A : Type 0} → List A → List Bool
 all_true [] = []
@@ -98,7 +96,8 @@ module _ (cell : Cell → ℕ) (instance : Instance → numbered.Instance) where
   one_of_words (Invokes Call v) n is h = subst IsOfWords (sym is.1) tt
   one_of_words (Invokes Spawn v) n is h = subst IsOfWords (sym is.1) tt
 
-  each_of_words : (ds : List (Deed World)) (es : List numbers.Event) → AreWritten cell instance ds es → ListWords ds → (k : ℕ) (e : numbers.Event) → slice_get es k ≡ Some e → IsOfWords e
+  each_of_words : (ds : List (Deed World)) (es : List numbers.Event) → AreWritten cell instance ds es → ListWords ds → (k : ℕ) (e : numbers.Event)
+      → slice_get es k ≡ Some e → IsOfWords e
   each_of_words [] [] is h k e q = let none : None ≡ Some e = q in absurd (cc)
   each_of_words [] (n ∷ es) is h k e q = absurd is
   each_of_words (d ∷ ds) [] is h k e q = absurd is
@@ -155,7 +154,8 @@ opens_with : (xs : List ℤ) (n : ℕ) → length xs ≤ n → pos 0 ≡ unwrap_
 opens_with xs n h = ap (λ o. unwrap_or o (pos 0)) (sym (slice_get_past xs n h))
 
 -- the cells of a run open as the program's do
-pub cells_open : (p : Source) (inputs : List ℤ) (r : Transcript) (c : Cell) → HasCell p r c → opening_values p inputs c ≡ opening_cells p inputs (cell_number p r c)
+pub cells_open : (p : Source) (inputs : List ℤ) (r : Transcript) (c : Cell) → HasCell p r c
+    → opening_values p inputs c ≡ opening_cells p inputs (cell_number p r c)
 cells_open p inputs r (Global n) has = refl
 cells_open p inputs r (Own name n) (here, less) =
     let low = past_globals p r here.path here.block here.found in

@@ -149,13 +149,13 @@ module _ (W V : Type 0) (M : Instance → MonoidStructure V) (next : W → List 
       let v' = frame_for w past k v in
       let u' = course_of v' [] memory views u in
       child (starts_like same (next w past) k v) k v' u'
-          (course_of w (past ++ Invokes k v' ∷ []) (λ c. value_after (run_of u') c (memory c)) (λ i. view_after (M i) i (run_of u') (views i)) r)
+      (course_of w (past ++ Invokes k v' ∷ []) (λ c. value_after (run_of u') c (memory c)) (λ i. view_after (M i) i (run_of u') (views i)) r)
 
   -- A plan's run has a course on each input, and one alone.
   abbrev pub CoursesAreOne : Type 0
   CoursesAreOne = ((v : W) → same v v ≡ true) → (w : W) (past : List (Deed W)) (memory : Cell → ℤ) (views : Instance → V) (t : Run W)
       → IsCourse w past memory views t (course_of w past memory views t)
-        × ((c : Course W) → IsCourse w past memory views t c → c ≡ course_of w past memory views t)
+      × ((c : Course W) → IsCourse w past memory views t c → c ≡ course_of w past memory views t)
 
   -- the run is what its frames ask for, one after the other, and each read and each value is right
   pub record IsSerialRunFrom (w : W) (memory : Cell → ℤ) (views : Instance → V) (t : Run W) : Type 0 where
@@ -166,7 +166,8 @@ module _ (W V : Type 0) (M : Instance → MonoidStructure V) (next : W → List 
 
   -- There is one such run at most.
   abbrev pub SerialRunsAreOne : Type 0
-  SerialRunsAreOne = (w : W) (memory : Cell → ℤ) (views : Instance → V) (t u : Run W) → IsSerialRunFrom w memory views t → IsSerialRunFrom w memory views u → t ≡ u
+  SerialRunsAreOne =
+      (w : W) (memory : Cell → ℤ) (views : Instance → V) (t u : Run W) → IsSerialRunFrom w memory views t → IsSerialRunFrom w memory views u → t ≡ u
 
   -- On its own input a run is its own course, in which each event is asked for.
   abbrev pub OwnCourse : Type 0

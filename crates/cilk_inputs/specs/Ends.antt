@@ -9,6 +9,7 @@ use Rattle.cilk_program.specs.Syntax.{Source}
 use Rattle.cilk_program.specs.WellNamed.{is_well_named}
 use Rattle.cilk_plan.specs.Along.{DepartsNowhere}
 use Rattle.cilk_plan.specs.Planned.{planned}
+use Rattle.cilk_story.specs.declared.story.Story.{Story}
 use Rattle.cilk_story.specs.Orders.{IsOrderly}
 use Rattle.cilk_runs.specs.Costs.{Total, TickTotal, whole}
 use Rattle.cilk_runs.specs.Runs.{Run}
@@ -47,14 +48,14 @@ RunsWithinLimitsAreWhole =
 
 -- Along an orderly plan: where the story on some inputs departs nowhere, the course is a serial run on them, with as many events, frames
 -- and cells as the plan's. It is the program's serial run on them, which ends without a fault, where all its frames together take no more
--- ticks than a run may; and each serial run of the program on them that ends without a fault is it.
-pub record RunsAsCourse (p : Source) (others : List ℤ) (u : Run World) : Type 0 where
+-- ticks than a run may; and each serial run of the program on them that ends without a fault is it, with the story's events by numbers.
+pub record RunsAsCourse (p : Source) (others : List ℤ) (u : Run World) (story : Story) : Type 0 where
   pub course : IsSerialRunOn p others u
   pub ends : whole (costs p others) (first_world p) u TickTotal ≤ MAX_TICKS → IsWholeRun p others u
-  pub only : (r : Transcript) (es : List Event) (outcome : Outcome) → IsSerialRun p others r es (Leaves outcome) → named p r ≡ u
+  pub only : (r : Transcript) (es : List Event) (outcome : Outcome) → IsSerialRun p others r es (Leaves outcome) → (named p r ≡ u) × (es ≡ story.events)
 
 abbrev pub InputsRunAlong : Type 0
 InputsRunAlong =
     (p : Source) (inputs others : List ℤ) (r : Transcript) (es : List Event) (opening : List ℤ)
     → IsPlannedRun p inputs r es opening → InputsAreWords others → IsOrderly (planned es opening) → DepartsNowhere (story_on p others r es opening)
-    → RunsAsCourse p others (run_of (course_on p others (named p r)))
+    → RunsAsCourse p others (run_of (course_on p others (named p r))) (story_on p others r es opening)

@@ -4,3 +4,4 @@ pub mod Frames
 pub mod Lists
 pub mod Owned
 pub mod Stories
+pub mod Worked

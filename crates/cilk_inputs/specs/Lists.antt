@@ -45,7 +45,8 @@ story_along es opening c = story_of es opening (with_values es (trace (run_of c)
 -- and the story of the course is along the run's plan.
 abbrev pub CoursesAreAlongPlans : (W V : Type 0) → (Instance → MonoidStructure V) → (W → List (Deed W) → Option (Ask W)) → (W → W → Bool) → Type 0
 CoursesAreAlongPlans W V M next same =
-    (cell : Cell → ℕ) (instance : Instance → numbered.Instance) (w : W) (memory : Cell → ℤ) (views : Instance → V) (t : Run W) (c : Course W) (es : List numbers.Event) (opening : List ℤ)
+    (cell : Cell → ℕ) (instance : Instance → numbered.Instance) (w : W) (memory : Cell → ℤ) (views : Instance → V) (t : Run W) (c : Course W)
+    (es : List numbers.Event) (opening : List ℤ)
     → IsCourse W V M next same w [] memory views t c → AreWritten cell instance (trace t) es
     → AreWritten cell instance (trace (run_of c)) (with_values es (trace (run_of c))) × IsAlong (planned es opening) (story_along es opening c)
 

@@ -10,6 +10,7 @@ ghost use Rattle.cilk_inputs.specs.Frames.{AskedCoursesAreSerialRuns, ProgramsHa
 ghost use Rattle.cilk_inputs.specs.Lists.{AskedStoriesAreOfAskedCourses, CoursesAreAlongPlans, InputsThatDepartNowhere};
 ghost use Rattle.cilk_inputs.specs.Owned.{EventsAreInTheirFrames};
 ghost use Rattle.cilk_inputs.specs.Stories.{OwnStory, StoriesAlongHaveValues};
+ghost use Rattle.cilk_inputs.specs.Worked.{WorkedStories};
 ghost use Rattle.cilk_monoid.specs.Laws.{MonoidStructure};
 ghost use Rattle.cilk_runs.specs.Runs.{Ask, Deed, Instance};
 
@@ -97,4 +98,9 @@ pub fn inputs_run_along()
 /// At the language: in the list of a serial run's events each event is in the frame that makes it by names, by that frame's number.
 pub fn events_are_in_their_frames()
     ensures { EventsAreInTheirFrames }
+{}
+
+/// A worked program along the plan of its run on one input: the story on that and on two others, which depart.
+pub fn worked_stories()
+    ensures { WorkedStories }
 {}

@@ -3,11 +3,11 @@
 //! A scheduler that runs a program along the plan of one of its runs may be given another input. Each frame then asks for what it asks
 //! for on that input, and the plan's event is followed where the ask is of its kind. `specs/Courses` says what stands at each position
 //! of the plan then: the *course* of the plan's run on the input. A read gives the last write of its cell before it in serial order, a
-//! value the number of what comes before it.
+//! value the number of what comes before it, and what isn't asked for stays as the plan has it.
 //!
-//! The laws, in [`laws`]: on its own input a run is its own course, and each of its events is asked for. Where each event of a course is
-//! asked for, it is a serial run of the program on that input. The story of a course by numbers is along the plan of its run; where it
-//! departs nowhere, the input has that serial run.
+//! The laws, in [`laws`]: on each input there is one course; on its own input a run is its own course, and each of its events is asked
+//! for. The story of a course is along the plan of its run and has values. Where each event of a course is asked for, as where its story
+//! departs nowhere, it is a serial run of the program on that input: the program's own, where that isn't stopped for its ticks.
 #![tactic(auto)]
 
 pub mod laws;
