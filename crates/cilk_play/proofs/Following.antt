@@ -9,7 +9,7 @@
 -- - `round_made`, `round_fails`, `rounds_ended`, `rounds_enough`: rounds;
 -- - `passes`: a line's choices would go past the limit;
 -- - `led`, `led_to_fault`: all of a script; `begun`: a board on which a run begins.
-use Rattle.std.proofs.Common.{◌≡◌, ℕ, zero, suc, ◌+◌, arith, List, [], ◌∷◌, ◌++◌, Option, Some, None, true, false, refl, sym, ap, subst, ◌∙◌, append_assoc}
+use Rattle.std.proofs.Common.{◌≡◌, ℕ, zero, suc, ◌+◌, arith, List, [], ◌∷◌, ◌++◌, None, true, false, sym, ap, subst, ◌∙◌, append_assoc}
 use Rattle.std.specs.Prelude.{IfErr, IsErrAnd, OnOk, Result, Ok, Err, ℤ, length}
 use Rattle.std.specs.Option.{is_some}
 use Rattle.std.specs.Prelude.{if◌then◌else◌}

@@ -1,7 +1,6 @@
 -- What a machine makes of a script.
 use Rattle.std.specs.Prelude.{◌≡◌, ◌≢◌, ◌-◌, ◌≤◌, reverse, ℕ, zero, suc, ℤ, true, false, if◌then◌else◌, List, [], ◌∷◌, ◌++◌, length, map, None, Some, Result, Ok, Err, IfOk, IfErr}
 use Rattle.std.specs.Option.{is_some}
-use Rattle.cilk_types.specs.declared.outcome.Outcome.{Outcome}
 use Rattle.cilk_program.specs.Syntax.{Source}
 use Rattle.cilk_lower.specs.Code.{CodeView}
 use Rattle.cilk_board.specs.Workers.{held_by}

@@ -56,12 +56,7 @@ fn make_all(
 }
 
 // What comes next of a script.
-fn make(
-    alloc: Global,
-    machine: &mut Machine<'_>,
-    workers: u32,
-    next: Next,
-) -> Result<(), PlayFault>
+fn make(alloc: Global, machine: &mut Machine<'_>, workers: u32, next: Next) -> Result<(), PlayFault>
     requires { IsGoing machine.old }
     ensures going { OnOk result (IsGoing machine.new) }
     ensures made { OnOk result (Follows workers (task_of next ∷ []) machine.old.board [] machine.new.board) }

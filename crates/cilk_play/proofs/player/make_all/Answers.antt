@@ -1,4 +1,4 @@
-use Rattle.std.proofs.Common.{◌≡◌, ◌∷◌, [], List, ap, subst, sym}
+use Rattle.std.proofs.Common.{subst, sym}
 use Rattle.std.specs.Prelude.{map}
 use Rattle.cilk_script.specs.Choices.{choices_left}
 use Rattle.cilk_play.specs.Playing.{ComesToFault, Follows, IsFault, Plays, task_of, tasks_of}

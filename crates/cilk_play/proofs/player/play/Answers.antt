@@ -1,4 +1,3 @@
-use Rattle.std.proofs.Common.{refl}
 use Rattle.cilk_program.specs.Sources.{source}
 use Rattle.cilk_play.specs.Playing.{Ends, IsFault, Opens, Plays, tasks_of}
 use Rattle.cilk_play.proofs.Following.{begun, fault_of, handed}
