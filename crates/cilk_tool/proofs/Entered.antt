@@ -1,5 +1,5 @@
 -- From clap's matches to what is asked for.
-use Rattle.std.proofs.Common.{◌≡◌, List, [], ◌∷◌, Option, Some, None, option_map, option_and_then, refl, sym, ap, ap₂, ◌∙◌, subst, codes, true, false, length, inl, inr, arith, rules}
+use Rattle.std.proofs.Common.{◌≡◌, ℕ, List, [], ◌∷◌, Option, Some, None, option_map, option_and_then, refl, sym, ap, ap₂, ◌∙◌, subst, codes, true, false, length, inl, inr, arith, rules}
 use Rattle.std.specs.Prelude.{if◌then◌else◌, ◌||◌, Result, Ok, Err, IfOk}
 use Rattle.std.specs.Borrow.{Bor}
 use Rattle.clap.specs.Words.{AddsSubcommand, App, HasMatchesOf, Row, Text, app_of, fault_of, first_of, first_value, is_simple, is_simple_and_free, kind_of, rows_of, subcommand_of, subcommand_rows_of, with_subcommand}
@@ -13,7 +13,7 @@ use Rattle.clap.specs.declared.parser.matches.Found.{Found}
 use Rattle.clap.proofs.OnLiterals.{clap_on_literals}
 use Rattle.clap.proofs.WalkLemmas.{first_value-rows}
 use Rattle.cilk_tool.specs.declared.words.Order.{Order}
-use Rattle.cilk_tool.specs.Words.{order_view, Requested, HasShape, Check, IsRefusal, IsWordsFault, Run, Standard, check_with, cilk_app, order_by, order_in, paths_in, paths_view, texts}
+use Rattle.cilk_tool.specs.Words.{order_view, Requested, HasShape, Check, IsRefusal, IsWordsFault, Play, Run, Standard, check_with, cilk_app, order_by, order_in, paths_in, paths_view, play_with, script_with, texts, workers_in}
 use Rattle.cilk_tool.specs.declared.words.WordsFault.{WordsFault}
 use Rattle.cilk_tool.specs.declared.words.WordsFault.TheVariants.{Usage, Memory}
 
@@ -58,6 +58,37 @@ pub some_certificate : (f : Found) (o : Option (Bor Text)) (c : Bor Text)
     → check_with (rows_of f) ≡ option_map (λ paths. Check paths.0 c.now paths.1) (paths_in (rows_of f))
 some_certificate f o c h e =
     ap (asked_of (rows_of f)) (sym (first_value-rows f (codes "certificate")) ∙ sym h ∙ ap (option_map (λ (s : Bor Text). s.now)) e)
+
+-- matches with no script
+pub no_script : (f : Found) (o : Option (Bor Text)) → option_map (λ s. s.now) o ≡ first_value f (codes "script") → o ≡ None
+    → play_with (rows_of f) ≡ None
+no_script f o h e =
+    ap (option_and_then (script_with (rows_of f))) (sym (first_value-rows f (codes "script")) ∙ sym h ∙ ap (option_map (λ (s : Bor Text). s.now)) e)
+
+-- matches with a script
+pub some_script : (f : Found) (o : Option (Bor Text)) (s : Bor Text) → option_map (λ s. s.now) o ≡ first_value f (codes "script") → o ≡ Some s
+    → play_with (rows_of f) ≡ script_with (rows_of f) s.now
+some_script f o s h e =
+    ap (option_and_then (script_with (rows_of f))) (sym (first_value-rows f (codes "script")) ∙ sym h ∙ ap (option_map (λ (s : Bor Text). s.now)) e)
+
+-- what is asked of a script, of these paths, with this many workers
+abbrev pub played_by : Text → Option ℕ → Text × Option Text → Option Requested
+played_by script workers paths = option_map (λ count. Play paths.0 script count paths.1) workers
+
+-- a script without a program
+pub no_script_paths : (rows : List Row) (script : Text) (o : Option (Bor Text × Option (Bor Text))) → option_map paths_view o ≡ paths_in rows → o ≡ None
+    → script_with rows script ≡ None
+no_script_paths rows script o h e =
+    ap (option_and_then (played_by script (workers_in (first_of (codes "workers") rows)))) (sym h ∙ ap (option_map paths_view) e)
+
+-- a script with a program, and with so many workers
+pub some_script_paths : (f : Found) (script : Text) (o : Option (Bor Text × Option (Bor Text))) (p : Bor Text × Option (Bor Text)) (word : Option (Bor Text))
+    (workers workers' : Option ℕ) → option_map paths_view o ≡ paths_in (rows_of f) → o ≡ Some p
+    → option_map (λ s. s.now) word ≡ first_value f (codes "workers") → workers ≡ workers_in (option_map (λ s. s.now) word) → workers ≡ workers'
+    → script_with (rows_of f) script ≡ played_by script workers' (paths_view p)
+some_script_paths f script o p word workers workers' h e k l d =
+    ap (option_and_then (played_by script (workers_in (first_of (codes "workers") (rows_of f))))) (sym h ∙ ap (option_map paths_view) e)
+    ∙ ap (λ (n : Option ℕ). played_by script n (paths_view p)) (ap workers_in (sym (first_value-rows f (codes "workers")) ∙ sym k) ∙ sym l ∙ d)
 
 -- a program of commands with one more
 pub with_one : (c s r : Command) (a b : App) → HasShape c a → HasShape s b → AddsSubcommand c s r

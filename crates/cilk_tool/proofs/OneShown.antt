@@ -100,6 +100,9 @@ shown m inputs (BadInput n p) v h = fails m inputs (IsEnded m) (BadInput n p) v 
 shown m inputs (replies.Certified c) v h = fails m inputs (IsEnded m) (replies.Certified c) v h
 shown m inputs replies.Accepted v h = fails m inputs (IsEnded m) replies.Accepted v h
 shown m inputs (replies.Refused n ps) v h = fails m inputs (IsEnded m) (replies.Refused n ps) v h
+shown m inputs (replies.FaultedIn n name) v h = fails m inputs (IsEnded m) (replies.FaultedIn n name) v h
+shown m inputs (replies.BadScript at) v h = fails m inputs (IsEnded m) (replies.BadScript at) v h
+shown m inputs replies.NotEnded v h = fails m inputs (IsEnded m) replies.NotEnded v h
 
 pub shows_once : (m : Meant) (inputs : List ℤ) (r q : Reply) → IsOfTexts r → IsOfTexts q → RunShows m inputs r
     → RunShows m inputs q → r ≡ q
@@ -126,6 +129,9 @@ wished m inputs (BadProgram n p) v h = fails m inputs (IsMade m inputs) (BadProg
 wished m inputs (BadInput n p) v h = fails m inputs (IsMade m inputs) (BadInput n p) v h
 wished m inputs replies.Accepted v h = fails m inputs (IsMade m inputs) replies.Accepted v h
 wished m inputs (replies.Refused n ps) v h = fails m inputs (IsMade m inputs) (replies.Refused n ps) v h
+wished m inputs (replies.FaultedIn n name) v h = fails m inputs (IsMade m inputs) (replies.FaultedIn n name) v h
+wished m inputs (replies.BadScript at) v h = fails m inputs (IsMade m inputs) (replies.BadScript at) v h
+wished m inputs replies.NotEnded v h = fails m inputs (IsMade m inputs) replies.NotEnded v h
 
 one_made : (m : Meant) (inputs : List ℤ) (r q : Reply) (o p : Outcome) → IsTrue (is_well_named m.source)
     → IsMade m inputs r o → IsMade m inputs q p → r ≡ q
@@ -160,6 +166,9 @@ checked path known failed failed' m inputs BadWords v h = absurd h
 checked path known failed failed' m inputs (BadProgram n p) v h = absurd h
 checked path known failed failed' m inputs (BadInput n p) v h = absurd h
 checked path known failed failed' m inputs (replies.Certified c) v h = absurd h
+checked path known failed failed' m inputs (replies.FaultedIn n name) v h = absurd h
+checked path known failed failed' m inputs (replies.BadScript at) v h = absurd h
+checked path known failed failed' m inputs replies.NotEnded v h = absurd h
 
 -- a text that is accepted isn't refused
 not_refused : {A : Type 0} (m : Meant) (inputs : List ℤ) (text numbers certificate : Text)

@@ -6,6 +6,8 @@
 -- `judged_ok`, `judged_err`: the answer to a command over both, and its failure. `given_later`: they are given whatever is
 -- read afterwards. `checked_ok`, `checked_err`: the answer to a check, and its failure. `refused_ok`,
 -- `refused_err`: a refusal that is told, or a want of memory. `refused_whole`: a refusal of a file's text.
+-- `fault_shown`: a fault of a script's steps. `steps_shown`, `steps_fail`: what the steps of a script's text show. `script_unread`, `text_played`: a script that isn't read, and what its text shows. `played_ok`, `played_err`: the answer to a
+-- wish to play it, and its failure.
 use Rattle.std.proofs.Common.{◌≡◌, ℕ, List, [], Bool, true, false, Option, Some, None, option_map, drop, length, refl, sym, ap, subst, inl, inr, ◌∙◌, arith}
 use Rattle.std.specs.Prelude.{◌≢◌, IsTrue, IsFalse, Result, Ok, Err, IfOk, IfErr, IsErrAnd, ℤ}
 use Rattle.std.specs.Io.KnownBytes.{Appends}
@@ -17,14 +19,20 @@ use Rattle.cilk_checker.specs.declared.refusal.Refusal.TheVariants as refusals
 use Rattle.cilk_checker.specs.declared.refusal.Unaccepted.{Unaccepted}
 use Rattle.cilk_checker.specs.declared.refusal.Unaccepted.TheVariants as unaccepted
 use Rattle.cilk_program.specs.Syntax.{Source}
-use Rattle.cilk_tool.specs.Replies.{NoMemory, Refused, Reply, Text, answer_view, failure_view, out_text, places_of, status_of}
+use Rattle.cilk_tool.specs.Replies as replies
+use Rattle.cilk_tool.specs.Replies.{NoMemory, Refused, Reply, Text, Unreadable, answer_view, failure_view, out_text, places_of, status_of}
 use Rattle.cilk_texts.specs.Inputs.{IsInput}
 use Rattle.cilk_judge.specs.Judging.{IsProgramText, Meant}
 use Rattle.cilk_tool.specs.Files.{Failures, IsHeld}
-use Rattle.cilk_tool.specs.Serving.{Answers, AreGiven, GivesInput, GivesProgram, InputFileFails, InputRefused, InputUnread, IsOrNoMemory, Judged, JudgedReply, NoneGiven, ProgramRefused, ProgramUnread, Serves, Shows, ShowsError, Unjudged, Surroundings, world}
-use Rattle.cilk_tool.specs.Shown.{CheckShows, InputFails, ProgramFails}
+use Rattle.cilk_tool.specs.Serving.{Answers, AreGiven, FileFails, GivesInput, GivesProgram, InputFileFails, InputRefused, InputUnread, IsOrNoMemory, Judged, JudgedReply, NoneGiven, ProgramRefused, ProgramUnread, Serves, Shows, ShowsError, Unjudged, Surroundings, world}
+use Rattle.cilk_script.specs.Scripts.{IsScript}
+use Rattle.cilk_script.specs.declared.script.Step.{Step}
+use Rattle.cilk_tool.specs.Shown.{CheckShows, InputFails, PlayShows, ProgramFails, StepsShow, TextShows, play_fault_view}
+use Rattle.cilk_play.specs.Playing.{Ends, IsFault}
+use Rattle.cilk_play.specs.declared.fault.PlayFault.{PlayFault}
+use Rattle.cilk_play.specs.declared.fault.PlayFault.TheVariants as play_faults
 use Rattle.cilk_tool.specs.Streams.{AppendsFront, AppendsPart}
-use Rattle.cilk_tool.specs.Words.{Requested, Certify, Check, File, Run, Origin, Standard, order_in}
+use Rattle.cilk_tool.specs.Words.{Requested, Certify, Check, File, Play, Run, Origin, Standard, order_in}
 use Rattle.cilk_tool.specs.declared.reply.Answer.{Answer}
 use Rattle.cilk_tool.specs.declared.reply.Failure.{Failure}
 use Rattle.cilk_tool.specs.declared.reply.Failure.TheVariants as failures
@@ -46,6 +54,7 @@ no_memory w (Some (Run Standard input)) = Unjudged (ProgramUnread tt)
 no_memory w (Some (Run (File path) input)) = Unjudged (ProgramUnread tt)
 no_memory w (Some (Certify path input)) = Unjudged (ProgramUnread tt)
 no_memory w (Some (Check path certificate input)) = Unjudged (ProgramUnread tt)
+no_memory w (Some (Play path script workers input)) = Unjudged (ProgramUnread tt)
 
 or_no_memory : (w : Surroundings) (asked : Option Requested) (wanted r : Reply) → Answers w asked wanted → IsOrNoMemory wanted r → Answers w asked r
 or_no_memory w asked wanted r h (inl e) = subst (λ (x : Reply). Answers w asked x) (sym e) h
@@ -58,6 +67,8 @@ silent (failures.Unreadable name) = refl
 silent (failures.Program number place) = refl
 silent (failures.Input number place) = refl
 silent (failures.Run number at) = refl
+silent (failures.Strand number name) = refl
+silent (failures.Script at) = refl
 silent failures.Memory = refl
 
 still_silent : (f : Failure) (r : Reply) → IsOrNoMemory (failure_view f) r → out_text r ≡ []
@@ -191,3 +202,92 @@ refused_whole p inputs known known' at n m u f e d k h =
     let whole : option_map (drop at) known' ≡ known = rw (e, d) (known_whole known) in
     subst (λ (x : Option Text). IsRefusedText p inputs x f) whole
     (subst (λ (x : Unaccepted). IsUnaccepted p inputs (option_map (drop at) known') n m x) k h)
+
+told_of : (workers : ℕ) (steps : List Step) (q : Meant) (inputs : List ℤ) (f : PlayFault) → IsFault (Ends q.source inputs workers steps) f
+    → StepsShow workers steps q inputs (play_fault_view f)
+told_of workers steps q inputs play_faults.Memory h = tt
+told_of workers steps q inputs (play_faults.Line at) h = h
+told_of workers steps q inputs (play_faults.Stop fault name) h = (fault, h.0, h.1, refl, h.3, h.2)
+
+-- a fault that is told of a script's steps
+pub fault_shown : (workers : ℕ) (steps : List Step) (q : Meant) (inputs : List ℤ) (f : PlayFault) (r : Reply) → IsFault (Ends q.source inputs workers steps) f
+    → r ≡ play_fault_view f → StepsShow workers steps q inputs r
+fault_shown workers steps q inputs f r h e = subst (λ x. StepsShow workers steps q inputs x) (sym e) (told_of workers steps q inputs f h)
+
+-- what the steps of a script's text show
+pub steps_shown : {T : Type 0} (x : Result Answer T) (workers : ℕ) (text : Text) (steps slice : List Step) (q : Meant) (inputs : List ℤ) → IsScript text steps
+    → slice ≡ steps → IfOk x (λ a. StepsShow workers slice q inputs (answer_view a)) → IfOk x (λ a. TextShows workers text q inputs (answer_view a))
+steps_shown (Ok a) workers text steps slice q inputs is e h = inr (steps, is, subst (λ s. StepsShow workers s q inputs (answer_view a)) e h)
+steps_shown (Err f) workers text steps slice q inputs is e h = tt
+
+pub steps_fail : {T : Type 0} (x : Result T Failure) (workers : ℕ) (text : Text) (steps slice : List Step) (q : Meant) (inputs : List ℤ) → IsScript text steps
+    → slice ≡ steps → IfErr x (λ f. StepsShow workers slice q inputs (failure_view f)) → IfErr x (λ f. TextShows workers text q inputs (failure_view f))
+steps_fail (Ok a) workers text steps slice q inputs is e h = tt
+steps_fail (Err f) workers text steps slice q inputs is e h = inr (steps, is, subst (λ s. StepsShow workers s q inputs (failure_view f)) e h)
+
+-- a script that isn't read
+pub script_unread : (path : Text) (known : Option Text) (failed failed' : Failures) (workers : ℕ) (q : Meant) (inputs : List ℤ) (r : Reply)
+    → FileFails failed failed' path r → PlayShows path known failed failed' workers q inputs r
+script_unread path known failed failed' workers q inputs (Unreadable name) h = h
+script_unread path known failed failed' workers q inputs NoMemory h = tt
+script_unread path known failed failed' workers q inputs _ h = absurd h
+
+-- what a script's text shows
+pub text_played : (path : Text) (known : Option Text) (failed failed' : Failures) (workers : ℕ) (q : Meant) (inputs : List ℤ) (r : Reply)
+    (text slice : Text) → IsHeld known text → slice ≡ text → TextShows workers slice q inputs r → PlayShows path known failed failed' workers q inputs r
+text_played path known failed failed' workers q inputs (Unreadable name) text slice held e h = elim h [ inl k ↦ absurd k | inr k ↦ absurd k.2 ]
+text_played path known failed failed' workers q inputs NoMemory text slice held e h = tt
+text_played path known failed failed' workers q inputs replies.BadWords text slice held e h =
+    (text, held, subst (λ t. TextShows workers t q inputs replies.BadWords) e h)
+text_played path known failed failed' workers q inputs (replies.BadProgram n p) text slice held e h =
+    (text, held, subst (λ t. TextShows workers t q inputs (replies.BadProgram n p)) e h)
+text_played path known failed failed' workers q inputs (replies.BadInput n p) text slice held e h =
+    (text, held, subst (λ t. TextShows workers t q inputs (replies.BadInput n p)) e h)
+text_played path known failed failed' workers q inputs (replies.Faulted n at) text slice held e h =
+    (text, held, subst (λ t. TextShows workers t q inputs (replies.Faulted n at)) e h)
+text_played path known failed failed' workers q inputs (replies.FaultedIn n name) text slice held e h =
+    (text, held, subst (λ t. TextShows workers t q inputs (replies.FaultedIn n name)) e h)
+text_played path known failed failed' workers q inputs (replies.BadScript at) text slice held e h =
+    (text, held, subst (λ t. TextShows workers t q inputs (replies.BadScript at)) e h)
+text_played path known failed failed' workers q inputs (replies.Ended names o) text slice held e h =
+    (text, held, subst (λ t. TextShows workers t q inputs (replies.Ended names o)) e h)
+text_played path known failed failed' workers q inputs (replies.Certified c) text slice held e h =
+    (text, held, subst (λ t. TextShows workers t q inputs (replies.Certified c)) e h)
+text_played path known failed failed' workers q inputs replies.Accepted text slice held e h =
+    (text, held, subst (λ t. TextShows workers t q inputs replies.Accepted) e h)
+text_played path known failed failed' workers q inputs (replies.Refused n ps) text slice held e h =
+    (text, held, subst (λ t. TextShows workers t q inputs (replies.Refused n ps)) e h)
+text_played path known failed failed' workers q inputs replies.NotEnded text slice held e h =
+    (text, held, subst (λ t. TextShows workers t q inputs replies.NotEnded) e h)
+
+pub texts_played : {T : Type 0} (x : Result Answer T) (path : Text) (known : Option Text) (failed failed' : Failures) (workers : ℕ) (q : Meant)
+    (inputs : List ℤ) (text slice : Text) → IsHeld known text → slice ≡ text → IfOk x (λ a. TextShows workers slice q inputs (answer_view a))
+    → IfOk x (λ a. PlayShows path known failed failed' workers q inputs (answer_view a))
+texts_played (Ok a) path known failed failed' workers q inputs text slice held e h =
+    text_played path known failed failed' workers q inputs (answer_view a) text slice held e h
+texts_played (Err f) path known failed failed' workers q inputs text slice held e h = tt
+
+pub texts_fail : {T : Type 0} (x : Result T Failure) (path : Text) (known : Option Text) (failed failed' : Failures) (workers : ℕ) (q : Meant)
+    (inputs : List ℤ) (text slice : Text) → IsHeld known text → slice ≡ text → IfErr x (λ f. TextShows workers slice q inputs (failure_view f))
+    → IfErr x (λ f. PlayShows path known failed failed' workers q inputs (failure_view f))
+texts_fail (Ok a) path known failed failed' workers q inputs text slice held e h = tt
+texts_fail (Err f) path known failed failed' workers q inputs text slice held e h =
+    text_played path known failed failed' workers q inputs (failure_view f) text slice held e h
+
+-- the answer to a wish to play a script, by what was known before the two texts were read
+pub played_ok : {T : Type 0} (x : Result Answer T) (path : Text) (known known' : Option Text) (n m failed : Failures) (workers : ℕ) (q : Meant)
+    (inputs : List ℤ) → known ≡ known' → n ≡ m
+    → IfOk x (λ a. PlayShows path known n failed workers q inputs (answer_view a))
+    → IfOk x (λ a. PlayShows path known' m failed workers q inputs (answer_view a))
+played_ok x path known known' n m failed workers q inputs e d h =
+    let P : Option Text → Failures → Type 0 = λ k f. IfOk x (λ a. PlayShows path k f failed workers q inputs (answer_view a)) in
+    subst (λ k. P k m) e (subst (λ f. P known f) d h)
+
+-- its failure
+pub played_err : {T : Type 0} (x : Result T Failure) (path : Text) (known known' : Option Text) (n m failed : Failures) (workers : ℕ) (q : Meant)
+    (inputs : List ℤ) → known ≡ known' → n ≡ m
+    → IfErr x (λ a. PlayShows path known n failed workers q inputs (failure_view a))
+    → IfErr x (λ a. PlayShows path known' m failed workers q inputs (failure_view a))
+played_err x path known known' n m failed workers q inputs e d h =
+    let P : Option Text → Failures → Type 0 = λ k f. IfErr x (λ a. PlayShows path k f failed workers q inputs (failure_view a)) in
+    subst (λ k. P k m) e (subst (λ f. P known f) d h)

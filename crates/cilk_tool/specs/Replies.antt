@@ -27,6 +27,10 @@ pub data Reply : Type 0 where
   BadInput : (number place : ℕ) → Reply
   -- the run stops by a fault in place of an event counted from 1
   Faulted : (number at : ℕ) → Reply
+  -- the run of a script stops by a fault in the strand of this name
+  FaultedIn : (number : ℕ) (name : List ℕ) → Reply
+  -- a line of a script, counted from 1, has another form, or its choices go past the limit
+  BadScript : (at : ℕ) → Reply
   -- what the run left, with the names of its global reducers
   Ended : (names : List Text) (outcome : Outcome) → Reply
   -- a certificate
@@ -35,6 +39,8 @@ pub data Reply : Type 0 where
   Accepted : Reply
   -- a certificate is refused, by a number and the places that it names
   Refused : (number : ℕ) (places : List ℕ) → Reply
+  -- the run of a script hasn't ended
+  NotEnded : Reply
   -- memory was refused
   NoMemory : Reply
 
@@ -42,7 +48,9 @@ abbrev pub status_of : Reply → ℕ
 status_of (Ended names o) = 0
 status_of (Certified certificate) = 0
 status_of Accepted = 0
+status_of NotEnded = 0
 status_of (Faulted number at) = 3
+status_of (FaultedIn number name) = 3
 status_of (Refused number places) = 4
 status_of NoMemory = 5
 status_of _ = 2
@@ -80,6 +88,24 @@ outcome_text names o =
 abbrev pub place_line : Text → ℕ → ℕ → Text
 place_line what number place = line (what ++ codes " " ++ decimal number ++ codes " at " ++ decimal place)
 
+-- ahead of a strand's number stands `:`, and `.` ahead of each ordinal of its frame's path
+abbrev pub mark : List ℕ → ℕ
+mark [] = 58
+mark (n ∷ behind) = 46
+
+-- a strand's name behind the first frame's
+abbrev pub strand_text : List ℕ → Text
+strand_text [] = []
+strand_text (n ∷ behind) = (mark behind ∷ decimal n) ++ strand_text behind
+
+-- `fault N in STRAND`
+abbrev pub strand_line : ℕ → List ℕ → Text
+strand_line number name = line (codes "fault " ++ decimal number ++ codes " in r" ++ strand_text name)
+
+-- `script at LINE`
+abbrev pub script_line : ℕ → Text
+script_line at = line (codes "script at " ++ decimal at)
+
 -- a number that isn't negative, after a space
 abbrev pub place_text : ℕ → Text
 place_text place = 32 ∷ decimal place
@@ -94,6 +120,7 @@ out_text (Ended names o) = outcome_text names o
 out_text (Certified certificate) = text_of certificate
 out_text Accepted = line (codes "accepted")
 out_text (Refused number places) = refused_line number places
+out_text NotEnded = line (codes "not ended")
 out_text _ = []
 
 -- what goes to standard error; clap's text for bad words isn't stated
@@ -103,10 +130,13 @@ IsErrorText (Unreadable name) text = text ≡ line (codes "cannot read " ++ name
 IsErrorText (BadProgram number place) text = text ≡ place_line (codes "program") number place
 IsErrorText (BadInput number place) text = text ≡ place_line (codes "input") number place
 IsErrorText (Faulted number at) text = text ≡ place_line (codes "fault") number at
+IsErrorText (FaultedIn number name) text = text ≡ strand_line number name
+IsErrorText (BadScript at) text = text ≡ script_line at
 IsErrorText (Ended names o) text = text ≡ []
 IsErrorText (Certified certificate) text = text ≡ []
 IsErrorText Accepted text = text ≡ []
 IsErrorText (Refused number places) text = text ≡ []
+IsErrorText NotEnded text = text ≡ []
 IsErrorText NoMemory text = text ≡ line (codes "no memory")
 
 -- the places that a refusal names
@@ -120,6 +150,7 @@ answer_view (answers.Outcome names outcome) = Ended names outcome
 answer_view (answers.Certificate certificate) = Certified certificate
 answer_view answers.Accepted = Accepted
 answer_view (answers.Refused refusal) = Refused (number_of refusal) (places_of (fields_of refusal))
+answer_view answers.NotEnded = NotEnded
 
 abbrev pub failure_view : Failure → Reply
 failure_view (failures.Words text) = BadWords
@@ -127,4 +158,6 @@ failure_view (failures.Unreadable name) = Unreadable name.now
 failure_view (failures.Program number place) = BadProgram number place
 failure_view (failures.Input number place) = BadInput number place
 failure_view (failures.Run number at) = Faulted number at
+failure_view (failures.Strand number name) = FaultedIn number (let n = name in n.items)
+failure_view (failures.Script at) = BadScript at
 failure_view failures.Memory = NoMemory

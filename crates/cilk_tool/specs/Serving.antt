@@ -6,9 +6,9 @@ use Rattle.cilk_tool.specs.Files.{Failures, HasFailed, IsHeld}
 use Rattle.cilk_texts.specs.Inputs.{IsInput}
 use Rattle.cilk_judge.specs.Judging.{IsProgramText, Meant}
 use Rattle.cilk_tool.specs.Replies.{BadWords, IsErrorText, NoMemory, Reply, Text, Unreadable, line, out_text, status_of}
-use Rattle.cilk_tool.specs.Shown.{CertifyShows, CheckShows, InputFails, ProgramFails, RunShows}
+use Rattle.cilk_tool.specs.Shown.{CertifyShows, CheckShows, InputFails, PlayShows, ProgramFails, RunShows}
 use Rattle.cilk_tool.specs.Streams.{AppendsFront, AppendsPart}
-use Rattle.cilk_tool.specs.Words.{Requested, Certify, Check, File, Run, Origin, Standard, order_in}
+use Rattle.cilk_tool.specs.Words.{Requested, Certify, Check, File, Play, Run, Origin, Standard, order_in}
 
 -- standard input gives the text: all of it, up to the limit
 abbrev pub IsReceived : Option Text → Text → Type 0
@@ -95,6 +95,11 @@ abbrev pub CheckReply : Surroundings → Text → Text → Option Text → Reply
 CheckReply w program certificate input r =
     JudgedReply (CheckShows certificate (w.files certificate) w.failed w.failed') w (File program) input r
 
+-- what is answered to a wish to play a script with so many workers; its file is read after the two texts were judged
+abbrev pub PlayReply : Surroundings → Text → Text → ℕ → Option Text → Reply → Type 0
+PlayReply w program script workers input r =
+    JudgedReply (PlayShows script (w.files script) w.failed w.failed' workers) w (File program) input r
+
 -- words that ask for nothing
 abbrev pub WordsFail : Reply → Type 0
 WordsFail BadWords = Unit {0}
@@ -107,6 +112,7 @@ Answers w None r = WordsFail r
 Answers w (Some (Run program input)) r = RunReply w program input r
 Answers w (Some (Certify program input)) r = CertifyReply w program input r
 Answers w (Some (Check program certificate input)) r = CheckReply w program certificate input r
+Answers w (Some (Play program script workers input)) r = PlayReply w program script workers input r
 
 -- a text of the reply goes to standard error: the whole of it, or it is said that a write there failed
 abbrev pub ShowsError : Reply → (is_whole : Bool) → Option Text → Option Text → Type 0

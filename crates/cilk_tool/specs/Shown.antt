@@ -1,7 +1,8 @@
--- What is shown of a text with a fault, of a run, and of a certificate.
-use Rattle.std.specs.Prelude.{◌≡◌, ◌≢◌, ℤ, List, Option}
+-- What is shown of a text with a fault, of a run, of a certificate, and of a script.
+use Rattle.std.specs.Prelude.{◌≡◌, ◌≢◌, ◌⊎◌, ℕ, ℤ, List, Option, Some, None}
 use Rattle.cilk_types.specs.Fault as run_faults
 use Rattle.cilk_types.specs.declared.event.Event.{Event}
+use Rattle.cilk_types.specs.declared.fault.Fault.{Fault}
 use Rattle.cilk_types.specs.declared.outcome.Outcome.{Outcome}
 use Rattle.cilk_texts.specs.Inputs.{IsInputFault}
 use Rattle.cilk_texts.specs.Texts as texts
@@ -21,8 +22,16 @@ use Rattle.cilk_checker.specs.Answers.{IsCertified, IsRefusedText}
 use Rattle.cilk_checker.specs.Numbers.{fields_of, number_of}
 use Rattle.cilk_checker.specs.declared.refusal.Refusal.{Refusal}
 use Rattle.cilk_checker.specs.declared.refusal.Refusal.TheVariants as refusals
-use Rattle.cilk_tool.specs.Files.{Failures, HasFailed}
-use Rattle.cilk_tool.specs.Replies.{Accepted, BadInput, BadProgram, Certified, Ended, Faulted, NoMemory, Refused, Reply, Text, Unreadable, places_of}
+use Rattle.cilk_board.specs.declared.board.Board.{Board}
+use Rattle.cilk_board.specs.declared.choice.Stop.TheVariants.{At}
+use Rattle.cilk_board.specs.declared.choice.Strand.{Strand}
+use Rattle.cilk_script.specs.Scripts.{IsNoScript, IsScript}
+use Rattle.cilk_script.specs.declared.script.Step.{Step}
+use Rattle.cilk_play.specs.declared.fault.PlayFault.{PlayFault}
+use Rattle.cilk_play.specs.declared.fault.PlayFault.TheVariants as play_faults
+use Rattle.cilk_play.specs.Playing.{Done, Ends, IsNameIn, Passed, Stopped}
+use Rattle.cilk_tool.specs.Files.{Failures, HasFailed, IsHeld}
+use Rattle.cilk_tool.specs.Replies.{Accepted, BadInput, BadProgram, BadScript, Certified, Ended, Faulted, FaultedIn, NoMemory, NotEnded, Refused, Reply, Text, Unreadable, places_of}
 
 abbrev pub program_fault_view : ProgramFault → Reply
 program_fault_view program_faults.Memory = NoMemory
@@ -36,6 +45,11 @@ input_fault_view (text_faults.At n place) = BadInput (texts.number n) place
 abbrev pub run_fault_view : RunFault → Reply
 run_fault_view stops.Memory = NoMemory
 run_fault_view (stops.At fault at) = Faulted (run_faults.number_of fault) at
+
+abbrev pub play_fault_view : PlayFault → Reply
+play_fault_view play_faults.Memory = NoMemory
+play_fault_view (play_faults.Line at) = BadScript at
+play_fault_view (play_faults.Stop fault name) = FaultedIn (run_faults.number_of fault) (let n = name in n.items)
 
 -- what is shown of a program text with a fault
 abbrev pub ProgramFails : Text → Reply → Type 0
@@ -71,3 +85,33 @@ CheckShows path known failed failed' m inputs (Refused number places) =
 CheckShows path known failed failed' m inputs (Unreadable name) = (name ≡ path) × HasFailed path failed failed'
 CheckShows path known failed failed' m inputs NoMemory = Unit {0}
 CheckShows path known failed failed' m inputs _ = ⊥
+
+-- what is shown of a text that is no script
+abbrev pub ScriptFails : Text → Reply → Type 0
+ScriptFails text (BadScript at) = IsNoScript text at
+ScriptFails text NoMemory = Unit {0}
+ScriptFails text _ = ⊥
+
+-- what is shown of the steps of a script, with so many workers: what the machine to which they lead has left, that it hasn't
+-- ended, the line whose choices go past the limit, or the fault of the choice that stopped it, with its strand
+abbrev pub StepsShow : ℕ → List Step → Meant → List ℤ → Reply → Type 0
+StepsShow workers steps m inputs (Ended names o) =
+    (names ≡ m.names) × ((b : Board) × (b.outcome ≡ Some o) × Ends m.source inputs workers steps (Done b))
+StepsShow workers steps m inputs NotEnded = (b : Board) × (b.outcome ≡ None) × Ends m.source inputs workers steps (Done b)
+StepsShow workers steps m inputs (BadScript at) = Ends m.source inputs workers steps (Passed at)
+StepsShow workers steps m inputs (FaultedIn number name) =
+    (fault : Fault) × (strand : Strand) × (b : Board) × (number ≡ run_faults.number_of fault) × IsNameIn b strand name
+    × Ends m.source inputs workers steps (Stopped (At fault strand) b)
+StepsShow workers steps m inputs NoMemory = Unit {0}
+StepsShow workers steps m inputs _ = ⊥
+
+-- what is shown of a script's text: the line that makes it none, or what is shown of its steps
+abbrev pub TextShows : ℕ → Text → Meant → List ℤ → Reply → Type 0
+TextShows workers text m inputs r = ScriptFails text r ⊎ ((steps : List Step) × IsScript text steps × StepsShow workers steps m inputs r)
+
+-- what is shown of the script in the file of this path, of which so much is known, where these reads of files met a failing
+-- device before and up to its end: that the file can't be read, or what is shown of its text
+abbrev pub PlayShows : Text → Option Text → Failures → Failures → ℕ → Meant → List ℤ → Reply → Type 0
+PlayShows path known failed failed' workers m inputs (Unreadable name) = (name ≡ path) × HasFailed path failed failed'
+PlayShows path known failed failed' workers m inputs NoMemory = Unit {0}
+PlayShows path known failed failed' workers m inputs r = (text : Text) × IsHeld known text × TextShows workers text m inputs r

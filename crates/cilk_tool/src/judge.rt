@@ -1,9 +1,11 @@
-//! Texts are judged, and a program is run, or its run certified: what fails is told as what is shown in place of an answer.
+//! Texts are judged, and a program is run, its run certified, or a script played: what fails is told as what is shown
+//! in place of an answer.
 
 ghost use Rattle.std.specs.Prelude.{◌≡◌, IfOk, IfErr, map};
 ghost use Rattle.cilk_judge.specs.Judging.{IsProgramText, meant};
 ghost use Rattle.cilk_tool.specs.Replies.{answer_view, failure_view};
-ghost use Rattle.cilk_tool.specs.Shown.{CertifyShows, InputFails, ProgramFails, RunShows, run_fault_view};
+ghost use Rattle.cilk_script.specs.Scripts.{IsScript};
+ghost use Rattle.cilk_tool.specs.Shown.{CertifyShows, InputFails, ProgramFails, RunShows, ScriptFails, StepsShow, TextShows, play_fault_view, run_fault_view};
 ghost use Rattle.cilk_texts.specs.Inputs.{IsInput};
 
 use crate::reply::{Answer, Failure};
@@ -11,7 +13,9 @@ use cilk_cert_maker::make::make;
 use cilk_judge::fault::ProgramFault;
 use cilk_judge::judge;
 use cilk_parser::input::parse_input;
+use cilk_play::{PlayFault, play as play_steps};
 use cilk_program::program::{GlobalReducer, Program};
+use cilk_script::script::{ScriptFault, Step, read};
 use cilk_serial::fault::RunFault;
 use cilk_serial::run::run as run_serially;
 use cilk_texts::fault::TextFault;
@@ -105,4 +109,66 @@ pub fn certificate<'a>(
         Ok(certificate) => Ok(Answer::Certificate(certificate)),
         Err(fault) => Err(stopped(&fault)),
     }
+}
+
+/// The steps of a script's text.
+fn steps<'a>(alloc: Global, text: &[u8]) -> Result<Vec<Step>, Failure<'a>>
+    ensures ok { IfOk result (λ steps. IsScript text.now steps.items) }
+    ensures err { IfErr result (λ e. ScriptFails text.now (failure_view e)) }
+{
+    match read(alloc, text) {
+        Ok(steps) => Ok(steps),
+        Err(ScriptFault::Memory) => Err(Failure::Memory),
+        Err(ScriptFault::Line(line)) => Err(Failure::Script(line)),
+    }
+}
+
+/// What is shown of a script that doesn't come to its end.
+fn unplayed<'a>(fault: PlayFault) -> Failure<'a>
+    ensures { failure_view result ≡ play_fault_view fault }
+{
+    match fault {
+        PlayFault::Line(line) => Failure::Script(line),
+        PlayFault::Stop { fault, name } => Failure::Strand {
+            number: fault.number(),
+            name,
+        },
+        PlayFault::Memory => Failure::Memory,
+    }
+}
+
+/// What the steps of a script leave, with so many workers.
+fn steps_left<'a>(
+    alloc: Global,
+    program: &Program,
+    input: &Input,
+    workers: u32,
+    steps: &[Step],
+) -> Result<Answer, Failure<'a>>
+    ensures ok { IfOk result (λ a. StepsShow workers steps.now (meant program.now) input.now (answer_view a)) }
+    ensures err { IfErr result (λ e. StepsShow workers steps.now (meant program.now) input.now (failure_view e)) }
+{
+    match play_steps(alloc, program, input, workers, steps) {
+        Ok(Some(outcome)) => Ok(Answer::Outcome {
+            names: names(alloc, program.reducers.as_slice())?,
+            outcome,
+        }),
+        Ok(None) => Ok(Answer::NotEnded),
+        Err(fault) => Err(unplayed(fault)),
+    }
+}
+
+/// What the script of a text leaves, with so many workers.
+pub fn script<'a>(
+    alloc: Global,
+    program: &Program,
+    input: &Input,
+    workers: u32,
+    text: &[u8],
+) -> Result<Answer, Failure<'a>>
+    ensures ok { IfOk result (λ a. TextShows workers text.now (meant program.now) input.now (answer_view a)) }
+    ensures err { IfErr result (λ e. TextShows workers text.now (meant program.now) input.now (failure_view e)) }
+{
+    let steps = steps(alloc, text)?;
+    steps_left(alloc, program, input, workers, steps.as_slice())
 }

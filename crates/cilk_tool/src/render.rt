@@ -3,7 +3,7 @@
 ghost use Rattle.std.specs.Prelude.{◌≡◌, ◌++◌, [], ◌∷◌, codes, decimal, flat_map, OnOk, IfOk};
 ghost use Rattle.std.specs.Fmt.{signed_decimal};
 ghost use Rattle.cilk_checker.specs.Numbers.{fields_of, number_of};
-ghost use Rattle.cilk_tool.specs.Replies.{number_line, element, elements, reducer_line, reducer_lines, outcome_text, place_line, place_text, places_of, refused_line, line};
+ghost use Rattle.cilk_tool.specs.Replies.{number_line, element, elements, reducer_line, reducer_lines, outcome_text, place_line, place_text, places_of, refused_line, line, script_line, strand_line, strand_text};
 
 use cilk_checker::refusal::{Fields, Refusal};
 use cilk_types::outcome::{Final, Outcome};
@@ -100,6 +100,44 @@ pub fn place(alloc: Global, what: &[u8], number: u16, place: usize) -> Result<Ve
     text.extend_from_slice(buffer.format(number).as_bytes())?;
     text.extend_from_slice(b" at ")?;
     text.extend_from_slice(buffer.format(place).as_bytes())?;
+    text.push(b'\n')?;
+    Ok(text)
+}
+
+/// The line `script at LINE`.
+pub fn script(alloc: Global, at: usize) -> Result<Vec<u8>, AllocError>
+    ensures { IfOk result (λ text. text.items ≡ script_line at) }
+{
+    let mut buffer = Buffer::new();
+    let mut text = Vec::from_slice(alloc, b"script at ")?;
+    text.extend_from_slice(buffer.format(at).as_bytes())?;
+    text.push(b'\n')?;
+    Ok(text)
+}
+
+// A strand's name behind the first frame's: the ordinals of its frame's path, and its number there.
+fn push_strand(text: &mut Vec<u8>, name: &[u32]) -> Result<(), AllocError>
+    ensures { OnOk result (text.new.items ≡ text.old.items ++ strand_text name.now) }
+{
+    let mut buffer = Buffer::new();
+    let mut rest = name;
+    'each: while let [number, behind @ ..] = rest {
+        text.push(if behind.is_empty() { b':' } else { b'.' })?;
+        text.extend_from_slice(buffer.format(*number).as_bytes())?;
+        rest = behind;
+    }
+    Ok(())
+}
+
+/// The line `fault N in STRAND`.
+pub fn strand(alloc: Global, number: u16, name: &[u32]) -> Result<Vec<u8>, AllocError>
+    ensures { IfOk result (λ text. text.items ≡ strand_line number name.now) }
+{
+    let mut buffer = Buffer::new();
+    let mut text = Vec::from_slice(alloc, b"fault ")?;
+    text.extend_from_slice(buffer.format(number).as_bytes())?;
+    text.extend_from_slice(b" in r")?;
+    push_strand(&mut text, name)?;
     text.push(b'\n')?;
     Ok(text)
 }

@@ -44,6 +44,8 @@ pub enum Answer {
     Accepted,
     /// Why a certificate is refused.
     Refused(Refusal),
+    /// The run of a script hasn't ended.
+    NotEnded,
 }
 
 /// What is shown in place of an answer, on standard error.
@@ -59,6 +61,10 @@ pub enum Failure<'a> {
     Input { number: u16, place: usize },
     /// The run stops by a fault, in place of the event at this position, counted from 1.
     Run { number: u16, at: Pos },
+    /// The run of a script stops by a fault in the strand of this name.
+    Strand { number: u16, name: Vec<u32> },
+    /// The first line of a script, from 1, that has another form, or whose choices go past the limit.
+    Script(usize),
     /// Memory was refused.
     Memory,
 }
@@ -71,7 +77,8 @@ impl Answer {
         ensures { result ≡ status_of (answer_view self.now) }
     {
         match self {
-            Answer::Outcome { .. } | Answer::Certificate(_) | Answer::Accepted => 0,
+            Answer::Outcome { .. } | Answer::Certificate(_) | Answer::Accepted | Answer::NotEnded =>
+                0,
             Answer::Refused(_) => REFUSED,
         }
     }
@@ -90,6 +97,7 @@ impl Answer {
             }
             Answer::Accepted => b"accepted\n".to_vec(alloc)?,
             Answer::Refused(refusal) => render::refused(alloc, *refusal)?,
+            Answer::NotEnded => b"not ended\n".to_vec(alloc)?,
         };
         Ok(send(out, text.as_slice()))
     }
@@ -106,8 +114,9 @@ impl Failure<'_> {
             Failure::Words(_)
             | Failure::Unreadable(_)
             | Failure::Program { .. }
-            | Failure::Input { .. } => WRONG,
-            Failure::Run { .. } => FAULTED,
+            | Failure::Input { .. }
+            | Failure::Script(_) => WRONG,
+            Failure::Run { .. } | Failure::Strand { .. } => FAULTED,
             Failure::Memory => NO_MEMORY,
         }
     }
@@ -122,6 +131,8 @@ impl Failure<'_> {
             Failure::Program { number, place } => render::place(alloc, b"program", *number, *place),
             Failure::Input { number, place } => render::place(alloc, b"input", *number, *place),
             Failure::Run { number, at } => render::place(alloc, b"fault", *number, *at as usize),
+            Failure::Strand { number, name } => render::strand(alloc, *number, name.as_slice()),
+            Failure::Script(line) => render::script(alloc, *line),
             Failure::Memory => NO_MEMORY_LINE.as_bytes().to_vec(alloc),
         }
     }

@@ -6,8 +6,8 @@ ghost use Rattle.cilk_tool.specs.Files.{IsHeld};
 ghost use Rattle.cilk_checker.specs.Numbers.{fields_of, number_of};
 ghost use Rattle.cilk_checker.specs.declared.refusal.Refusal.TheVariants as refusals;
 ghost use Rattle.cilk_tool.specs.Replies.{NoMemory, Refused, answer_view, failure_view, places_of};
-ghost use Rattle.cilk_tool.specs.Serving.{AreGiven, CertifyReply, CheckReply, FileFails, GivesInput, GivesProgram, InputFileFails, IsReceived, NoneGiven, OriginFails, RunReply, StandardFails, world};
-ghost use Rattle.cilk_tool.specs.Shown.{CheckShows};
+ghost use Rattle.cilk_tool.specs.Serving.{AreGiven, CertifyReply, CheckReply, FileFails, GivesInput, GivesProgram, InputFileFails, IsReceived, NoneGiven, OriginFails, PlayReply, RunReply, StandardFails, world};
+ghost use Rattle.cilk_tool.specs.Shown.{CheckShows, PlayShows};
 ghost use Rattle.cilk_tool.specs.Words.{origin_view};
 
 use crate::counted::CountedReader;
@@ -203,4 +203,43 @@ pub fn check<'a, F: Files, R: Read>(
 {
     let (program, input) = given(alloc, Origin::File(program), input, files, reader)?;
     checked(alloc, program, input, certificate, files)
+}
+
+/// What is shown of a program, an input and the file of a script, with so many workers.
+fn played<'a, F: Files>(
+    alloc: Global,
+    program: &Program,
+    input: &Input,
+    path: &'a str,
+    workers: u32,
+    files: &mut F,
+) -> Result<Answer, Failure<'a>>
+    requires { (F.failed files.old).count < 18446744073709551615 }
+    ensures answer { IfOk result (λ a. PlayShows path.entry.now (F.holds files.old path.entry.now) (F.failed files.old) (F.failed files.new)
+        workers (meant program.now) input.now (answer_view a)) }
+    ensures failure { IfErr result (λ e. PlayShows path.entry.now (F.holds files.old path.entry.now) (F.failed files.old) (F.failed files.new)
+        workers (meant program.now) input.now (failure_view e)) }
+{
+    let text = read_file(alloc, path, files)?;
+    judge::script(alloc, program, input, workers, text.as_slice())
+}
+
+/// Plays a script with so many workers over a program and an input. The script is read after the two texts were judged.
+pub fn play<'a, F: Files, R: Read>(
+    alloc: Global,
+    program: &'a str,
+    script: &'a str,
+    workers: u32,
+    input: Option<&'a str>,
+    files: &mut F,
+    reader: &mut R,
+) -> Result<Answer, Failure<'a>>
+    requires { (F.failed files.old).count < 18446744073709551615 }
+    ensures answer { IfOk result (λ a. PlayReply (world (F.holds files.old) (R.remaining reader.old) (F.failed files.old) (F.failed files.new))
+        program.entry.now script.entry.now workers (option_map (λ p. p.now) input.entry) (answer_view a)) }
+    ensures failure { IfErr result (λ e. PlayReply (world (F.holds files.old) (R.remaining reader.old) (F.failed files.old) (F.failed files.new))
+        program.entry.now script.entry.now workers (option_map (λ p. p.now) input.entry) (failure_view e)) }
+{
+    let (program, input) = given(alloc, Origin::File(program), input, files, reader)?;
+    played(alloc, &program, &input, script, workers, files)
 }

@@ -9,7 +9,7 @@ ghost use Rattle.cilk_tool.specs.Words.{order_in, texts};
 
 use crate::files::Files;
 use crate::reply::{Answer, Failure, NO_MEMORY, NO_MEMORY_LINE, WRONG};
-use crate::running::{certify, check, run};
+use crate::running::{certify, check, play, run};
 use crate::streams::send;
 use crate::words::{Order, WordsFault, read};
 use std::alloc::Global;
@@ -48,6 +48,14 @@ fn answer<'a, F: Files, R: Read>(
                 input: numbers,
             },
         ) => check(alloc, program, certificate, numbers, files, input),
+        Ok(
+            Order::Play {
+                program,
+                script,
+                workers,
+                input: numbers,
+            },
+        ) => play(alloc, program, script, workers, numbers, files, input),
         Err(WordsFault::Usage(text)) => Err(Failure::Words(text)),
         Err(WordsFault::Memory) => Err(Failure::Memory),
     }

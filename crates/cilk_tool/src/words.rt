@@ -3,13 +3,23 @@
 //! With no words a program text is read from standard input and run. Else the words are read by `clap`: a command and
 //! what it takes.
 
-ghost use Rattle.std.specs.Prelude.{◌≡◌, option_map, IfOk, IfErr, Some};
+ghost use Rattle.std.specs.Prelude.{◌≡◌, ℕ, option_map, IfOk, IfErr, Some};
 ghost use Rattle.clap.specs.Words.{found_of, kind_of, rows_of, subcommand_rows_of};
-ghost use Rattle.cilk_tool.specs.Words.{HasShape, program_app, check_app, cilk_app, order_in, order_by, paths_in, paths_view, run_with, certify_with, check_with, IsWordsFault, order_view, IsRefusal, texts};
+ghost use Rattle.cilk_tool.specs.Words.{HasShape, program_app, check_app, cilk_app, order_in, order_by, paths_in, paths_view, play_app, play_with, script_app, run_with, certify_with, check_with, IsWordsFault, order_view, IsRefusal, texts, worker_count, workers_in};
 
+use cilk_lexer::lexer::{all_digits, value_of};
 use clap::error::ErrorKind;
 use clap::{Arg, ArgAction, ArgMatches, Command, Error};
 use std::alloc::{AllocError, Global};
+
+/// How many workers play a script where no word names them.
+pub const WORKERS: u32 = 2;
+
+/// The most workers that play a script.
+pub const MAX_WORKERS: u64 = 64;
+
+// What is said of words that clap matches and that still ask for nothing.
+const NO_ORDER: &str = "error: the number of workers is 1 to 64\n";
 
 /// Where a program text comes from.
 #[derive(Clone, Copy, PartialEq, Eq, Debug)]
@@ -37,6 +47,13 @@ pub enum Order<'a> {
     Check {
         program: &'a str,
         certificate: &'a str,
+        input: Option<&'a str>,
+    },
+    /// Play a script with so many workers, on the input of a file or on the empty input.
+    Play {
+        program: &'a str,
+        script: &'a str,
+        workers: u32,
         input: Option<&'a str>,
     },
 }
@@ -85,6 +102,28 @@ fn check_command<'a>(alloc: Global) -> Result<Command<'a>, AllocError>
         .arg(input)
 }
 
+/// `play PROGRAM SCRIPT`.
+fn script_command<'a>(alloc: Global) -> Result<Command<'a>, AllocError>
+    ensures { IfOk result (λ c. HasShape c script_app) }
+{
+    let program = Arg::new(alloc, "program").required(true);
+    let script = Arg::new(alloc, "script").required(true);
+    Command::new(alloc, "play").arg(program)?.arg(script)
+}
+
+/// `play PROGRAM SCRIPT [--workers N] [--input FILE]`.
+fn play_command<'a>(alloc: Global) -> Result<Command<'a>, AllocError>
+    ensures { IfOk result (λ c. HasShape c play_app) }
+{
+    let workers = Arg::new(alloc, "workers")
+        .long("workers")
+        .action(ArgAction::Set);
+    let input = Arg::new(alloc, "input")
+        .long("input")
+        .action(ArgAction::Set);
+    script_command(alloc)?.arg(workers)?.arg(input)
+}
+
 /// The commands, each a simple one.
 fn command<'a>(alloc: Global) -> Result<Command<'a>, AllocError>
     ensures { IfOk result (λ c. HasShape c cilk_app) }
@@ -92,12 +131,14 @@ fn command<'a>(alloc: Global) -> Result<Command<'a>, AllocError>
     let run = program_command(alloc, "run")?;
     let certify = program_command(alloc, "certify")?;
     let check = check_command(alloc)?;
+    let play = play_command(alloc)?;
     Command::new(alloc, "cilk")
         .no_binary_name(true)
         .subcommand_required(true)
         .subcommand(run)?
         .subcommand(certify)?
-        .subcommand(check)
+        .subcommand(check)?
+        .subcommand(play)
 }
 
 /// The paths of the program and of the input that the matches of a command name.
@@ -141,6 +182,45 @@ fn check_order<'a>(check: &ArgMatches<'a>) -> Option<Order<'a>>
     })
 }
 
+/// How many workers digits name, if they name a number from 1 to 64.
+fn worker_count(digits: &[u8]) -> Option<u32>
+    ensures { result ≡ worker_count digits.now }
+{
+    if !all_digits(digits) {
+        return None;
+    }
+    match value_of(digits) {
+        Some(count) if count >= 1 && count <= MAX_WORKERS => Some(count as u32),
+        _ => None,
+    }
+}
+
+/// How many workers there are, by the word that may name them.
+fn workers_in(word: Option<&str>) -> Option<u32>
+    ensures { result ≡ workers_in (option_map (λ w. w.now) word.entry) }
+{
+    match word {
+        Some(digits) => worker_count(digits.as_bytes()),
+        None => Some(WORKERS),
+    }
+}
+
+/// What the matches of `play` ask for.
+fn play_order<'a>(play: &ArgMatches<'a>) -> Option<Order<'a>>
+    ensures { option_map order_view result ≡ play_with (rows_of (found_of play.now)) }
+{
+    let script = play.get_str("script")?;
+    let (program, input) = paths(play)?;
+    let word = play.get_str("workers");
+    let workers = workers_in(word)?;
+    Some(Order::Play {
+        program,
+        script,
+        workers,
+        input,
+    })
+}
+
 /// What the matches ask for.
 fn order_of<'a>(matches: &ArgMatches<'a>) -> Option<Order<'a>>
     ensures { option_map order_view result ≡ order_by (subcommand_rows_of matches.now) }
@@ -149,6 +229,7 @@ fn order_of<'a>(matches: &ArgMatches<'a>) -> Option<Order<'a>>
         Some(("run", run)) => run_order(run),
         Some(("certify", certify)) => certify_order(certify),
         Some(("check", check)) => check_order(check),
+        Some(("play", play)) => play_order(play),
         _ => None,
     }
 }
@@ -180,7 +261,7 @@ pub fn read<'a>(alloc: Global, words: &'a [&'a str]) -> Result<Order<'a>, WordsF
     match command(alloc)?.try_get_matches_from(words) {
         Ok(matches) => match order_of(&matches) {
             Some(order) => Ok(order),
-            None => Err(WordsFault::Usage(String::from_str(alloc, "error: no command\n")?)),
+            None => Err(WordsFault::Usage(String::from_str(alloc, NO_ORDER)?)),
         },
         Err(error) => Err(refusal(alloc, &error)),
     }

@@ -14,6 +14,8 @@ mod messages;
 #[cfg(test)]
 mod names;
 #[cfg(test)]
+mod play;
+#[cfg(test)]
 mod repeats;
 #[cfg(test)]
 mod served;
