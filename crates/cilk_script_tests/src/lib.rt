@@ -1,7 +1,9 @@
-//! Tests of scripts of choices.
+//! Tests of scripts of choices, and of what faults are explained by.
 #![tactic(auto)]
 
 #[cfg(test)]
 mod choices;
+#[cfg(test)]
+mod explanations;
 #[cfg(test)]
 mod scripts;

@@ -1,0 +1,67 @@
+//! The words of a text round a place.
+
+use crate::place::between;
+
+// Whether a byte may stand in a name or number.
+fn is_word(byte: u8) -> bool {
+    byte.is_ascii_alphanumeric() || byte == b'_'
+}
+
+fn is_blank(byte: u8) -> bool {
+    byte == b' ' || (byte >= b'\t' && byte <= b'\r')
+}
+
+fn byte_at(text: &[u8], at: usize) -> u8 {
+    match text.get(at) {
+        Some(byte) => *byte,
+        None => 0,
+    }
+}
+
+/// The word that begins at a place: a name or number, or a single mark.
+pub fn word_at(text: &[u8], at: usize) -> &[u8] {
+    if !is_word(byte_at(text, at)) {
+        return between(text, at, at.saturating_add(1));
+    }
+    let mut upto = at;
+    for place in at..text.len() {
+        if !is_word(text[place]) {
+            break;
+        }
+        upto = place.saturating_add(1);
+    }
+    between(text, at, upto)
+}
+
+/// Where the word before a place begins, if there is one.
+pub fn before(text: &[u8], at: usize) -> Option<usize> {
+    let mut first = None;
+    for back in 0..at {
+        let place = at.saturating_sub(back).saturating_sub(1);
+        let byte = byte_at(text, place);
+        match first {
+            None if is_blank(byte) => {}
+            None if is_word(byte) => first = Some(place),
+            None => return Some(place),
+            Some(_) if is_word(byte) => first = Some(place),
+            Some(_) => return first,
+        }
+    }
+    first
+}
+
+/// The word before a place; empty where there is none.
+pub fn word_before(text: &[u8], at: usize) -> &[u8] {
+    match before(text, at) {
+        Some(place) => word_at(text, place),
+        None => &[],
+    }
+}
+
+/// Whether a word is a name.
+pub fn is_name(word: &[u8]) -> bool {
+    match word.first() {
+        Some(byte) => byte.is_ascii_alphabetic() || *byte == b'_',
+        None => false,
+    }
+}
