@@ -1,6 +1,6 @@
 //! Texts, and the steps that they order, or the line that has another form.
 
-use cilk_script::script::{MAX_SCRIPT, LineOrder, ScriptFault, Step, read};
+use cilk_script::script::{LineOrder, MAX_SCRIPT, ScriptFault, Step, read};
 use std::process::Abort;
 
 fn run(line: usize, worker: u32, count: u32) -> Step {
