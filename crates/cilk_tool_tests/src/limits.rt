@@ -166,7 +166,11 @@ fn reads_of_standard_input(rt: HostRuntime) -> Result<(), AllocError> {
             rest: text.as_slice(),
             reads: 0,
         };
-        assert_eq!(rt; shown(alloc, &[], b"", b"", &mut drip).status, status, "{count}");
+        assert_eq!(rt;
+            shown(alloc, &[], b"", b"", &mut drip).status,
+            status,
+            "{count}"
+        );
         assert_eq!(rt; drip.reads, 262_145, "{count}");
     }
     Ok(())
