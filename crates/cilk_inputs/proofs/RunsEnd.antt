@@ -1,12 +1,20 @@
 -- A serial run by names within the limits is the program's: `within_limits`. What runs on other inputs are: `inputs_run_along`.
-use Rattle.std.proofs.Common.{◌≡◌, ◌≤◌, ℤ, List, [], refl, sym, ap, ◌∙◌, arith}
+use Rattle.std.proofs.Common.{◌≡◌, ◌≤◌, ℤ, List, [], refl, sym, ap, ◌∙◌, arith, ◌<◌, zero, suc, slice_index_or, pos, length, ℕ, ◌+◌}
 use Rattle.cilk_types.specs.declared.event.Event.{Event}
+use Rattle.cilk_types.specs.declared.outcome.Outcome.{Outcome}
+use Rattle.cilk_meaning.specs.Answered.{cells_after, opening_cells}
+use Rattle.cilk_meaning.proofs.Remembered.{runs_leave}
+use Rattle.cilk_story.specs.declared.story.Story.{Story}
+use Rattle.cilk_story.specs.Values.{HasValue}
+use Rattle.cilk_inputs.specs.Stories.{story_on}
+use Rattle.cilk_inputs.proofs.LastWrites.{last_value}
+use Rattle.std.proofs.Math.Seq.{take-length}
 use Rattle.cilk_types.specs.declared.limits.TheConstants.{MAX_TICKS, MAX_EVENTS}
 use Rattle.cilk_program.specs.declared.ask.Callee.TheVariants as callees
-use Rattle.cilk_program.specs.Outcomes.{Conclusion, Leaves, outcome_of}
+use Rattle.cilk_program.specs.Outcomes.{Conclusion, Leaves, outcome_of, cells_from}
 use Rattle.cilk_program.specs.Store.{opening}
 use Rattle.cilk_program.specs.Syntax.{Source}
-use Rattle.cilk_program.specs.SerialRun.{Transcript, global_reducer, before_root, root_frame, begun, conclusion_of, Ending, Finished, Stopped, Serial}
+use Rattle.cilk_program.specs.SerialRun.{Transcript, global_reducer, before_root, root_frame, begun, conclusion_of, Ending, Finished, Stopped, Serial, IsSerialRun}
 use Rattle.cilk_meaning.proofs.Uniqueness.{serial_run_exists}
 use Rattle.cilk_runs.specs.Costs.{Total, TickTotal, EventTotal, FrameTotal, CellTotal, whole}
 use Rattle.cilk_runs.specs.Monoids.{unit_of}
@@ -82,6 +90,24 @@ keeps p inputs others t u ticks much within EventTotal = let h = within EventTot
 keeps p inputs others t u ticks much within FrameTotal = let h = within FrameTotal in let e = much.frames in omega (arith, h, e)
 keeps p inputs others t u ticks much within CellTotal = let h = within CellTotal in let e = much.cells in omega (arith, h, e)
 
+from_at : (k n : ℕ) (f : ℕ → ℤ) (i : ℕ) → i < n → slice_index_or (cells_from k n f) i (pos 0) ≡ f (k + i)
+from_at k zero f i less = absurd (omega (arith, less))
+from_at k (suc n) f zero less = let e : k ≡ k + 0 = omega arith in ap f e
+from_at k (suc n) f (suc i) less =
+    let e : suc k + i ≡ k + suc i = omega arith in
+    from_at (suc k) n f i (omega (arith, less)) ∙ ap f e
+
+-- a global of the run's outcome is what the cell's last write wrote
+last_global : (p : Source) (s : Story) (opening : List ℤ) → ((c : ℕ) → slice_index_or s.opening c (pos 0) ≡ opening_cells p [] c) → (es : List Event) (outcome : Outcome) → es ≡ s.events
+    → outcome.globals ≡ cells_from 0 (length p.openings) (cells_after es (opening_cells p [])) → (c : ℕ) → c < length p.openings
+    → HasValue s c (length s.events) (slice_index_or outcome.globals c (pos 0))
+last_global p s opening opens es outcome same left c less =
+    last_value s (opening_cells p []) opens c (length s.events) (slice_index_or outcome.globals c (pos 0))
+    (ap (λ l. slice_index_or l c (pos 0)) left
+    ∙ from_at 0 (length p.openings) (cells_after es (opening_cells p [])) c less
+    ∙ ap (λ n. cells_after es (opening_cells p []) n) (let e : 0 + c ≡ c = omega arith in e)
+    ∙ ap (λ l. cells_after l (opening_cells p []) c) (same ∙ sym (take-length s.events)))
+
 pub inputs_run_along : InputsRunAlong
 inputs_run_along p inputs others r es opening is are orderly nowhere =
     let stands = stories_have_values p inputs others r es opening is are in
@@ -95,17 +121,24 @@ inputs_run_along p inputs others r es opening is are orderly nowhere =
     let like = are_like p inputs others (first_world p) (first_world p) [] [] (opening_values p others) (unit_of monoid_of) t c is_course own.behaves (opened begin_due t own.framed) run.behaves (opened begin_due (run_of c) run.framed) in
     let much = as_much p inputs others (first_world p) (first_world p) [] [] t (run_of c) like in
     let limits : IsSerial p inputs r = serial_by_names p inputs r es is.outcome is.named is.runs (set_words p is.words inputs is.inputs_words r es (Leaves is.outcome) is.runs) in
+    let s = story_on p others r es opening in
+    let only : (r' : Transcript) (es' : List Event) (outcome : Outcome) → IsSerialRun p others r' es' (Leaves outcome) → (named p r' ≡ run_of c) × (es' ≡ s.events) =
+    λ r' es' outcome runs.
+        let same : named p r' ≡ run_of c =
+        runs_are_one World View monoid_of (next p others) (same_frame p) (first_world p) (opening_values p others) (unit_of monoid_of) (named p r') (run_of c)
+        (named_runs_are_serial p others r' es' outcome is.named is.words are runs) run in
+        let list = events_numbered p inputs r es (Leaves is.outcome) is.named is.runs in
+        let list' = events_numbered p others r' es' (Leaves outcome) is.named runs in (
+          same,
+          list'.events
+          ∙ events_are p others r r' (first_world p) (opening_values p others) (unit_of monoid_of) c like same is_course
+          ∙ ap (λ l. with_values l (trace (run_of c))) (sym list.events),
+        ) in
     record {
       course = run;
       ends = λ ticks. within_limits p others (run_of c) is.named is.words are run (keeps p inputs others t (run_of c) ticks much limits.within);
-      only = λ r' es' outcome runs.
-          let same : named p r' ≡ run_of c =
-          runs_are_one World View monoid_of (next p others) (same_frame p) (first_world p) (opening_values p others) (unit_of monoid_of) (named p r') (run_of c) (named_runs_are_serial p others r' es' outcome is.named is.words are runs) run in
-          let list = events_numbered p inputs r es (Leaves is.outcome) is.named is.runs in
-          let list' = events_numbered p others r' es' (Leaves outcome) is.named runs in (
-            same,
-            list'.events
-                ∙ events_are p others r r' (first_world p) (opening_values p others) (unit_of monoid_of) c like same is_course
-                ∙ ap (λ l. with_values l (trace (run_of c))) (sym list.events),
-          );
+      only = only;
+      globals = λ r' es' outcome runs c less.
+          let left = runs_leave p is.named others r' es' outcome runs in
+          last_global p s opening is.opens es' outcome (only r' es' outcome runs).1 left.globals c less;
     }

@@ -1,5 +1,5 @@
 -- The runs of a program on several inputs, by names and in the language's own terms.
-use Rattle.std.specs.Prelude.{◌≡◌, ◌≤◌, ℤ, IsTrue, List}
+use Rattle.std.specs.Prelude.{◌≡◌, ◌≤◌, ◌<◌, ℕ, ℤ, pos, IsTrue, List, length, slice_index_or}
 use Rattle.cilk_types.specs.declared.event.Event.{Event}
 use Rattle.cilk_types.specs.declared.limits.TheConstants.{MAX_TICKS}
 use Rattle.cilk_types.specs.declared.outcome.Outcome.{Outcome}
@@ -11,6 +11,7 @@ use Rattle.cilk_plan.specs.Along.{DepartsNowhere}
 use Rattle.cilk_plan.specs.Planned.{planned}
 use Rattle.cilk_story.specs.declared.story.Story.{Story}
 use Rattle.cilk_story.specs.Orders.{IsOrderly}
+use Rattle.cilk_story.specs.Values.{HasValue}
 use Rattle.cilk_runs.specs.Costs.{Total, TickTotal, whole}
 use Rattle.cilk_runs.specs.Runs.{Run}
 use Rattle.cilk_worlds.specs.Machine.{limit, costs}
@@ -53,6 +54,9 @@ pub record RunsAsCourse (p : Source) (others : List ℤ) (u : Run World) (story 
   pub course : IsSerialRunOn p others u
   pub ends : whole (costs p others) (first_world p) u TickTotal ≤ MAX_TICKS → IsWholeRun p others u
   pub only : (r : Transcript) (es : List Event) (outcome : Outcome) → IsSerialRun p others r es (Leaves outcome) → (named p r ≡ u) × (es ≡ story.events)
+  -- and leaves the globals that the story's last writes leave
+  pub globals : (r : Transcript) (es : List Event) (outcome : Outcome) → IsSerialRun p others r es (Leaves outcome)
+      → (c : ℕ) → c < length p.openings → HasValue story c (length story.events) (slice_index_or outcome.globals c (pos 0))
 
 abbrev pub InputsRunAlong : Type 0
 InputsRunAlong =
