@@ -4,7 +4,7 @@
 -- - `bare_alone`, `bare_read`, `bare_write`: back from it;
 -- - `same_resume`, `was_word`, `is_word`, `afters`, `many`: what a story along a plan and the plan have in common;
 -- - `before_less`: what is before a position is less.
-use Rattle.std.proofs.Common.{◌≡◌, ◌≢◌, ◌↔◌, ℕ, zero, suc, ◌+◌, ◌-◌, ◌^◌, ◌<◌, ◌≤◌, Bool, true, false, nat_eq, if◌then◌else◌, List, [], ◌∷◌, length, map, Option, Some, None, slice_get, slice_index_or, refl, sym, ap, ◌∙◌, subst, arith, ◌⊎◌, inl, inr, ⊎_elim}
+use Rattle.std.proofs.Common.{◌≡◌, ◌≢◌, ◌↔◌, ℕ, zero, suc, ◌+◌, ◌-◌, ◌^◌, ◌<◌, ◌≤◌, Bool, true, false, nat_eq, if◌then◌else◌, List, [], ◌∷◌, length, map, Option, Some, None, slice_get, slice_index_or, refl, sym, ap, ◌∙◌, subst, arith, inl, inr, ⊎_elim}
 use Rattle.std.specs.Option.{option_map}
 use Rattle.std.proofs.lemmas.List.{length-map}
 use Rattle.std.proofs.lemmas.Option.{slice_get-map}
@@ -12,13 +12,12 @@ use mathlib.Core.Logic.{dite}
 use native.Mathlib.Decide.{ℕ_discrete}
 use Rattle.cilk_types.specs.declared.event.Event.{Event}
 use Rattle.cilk_types.specs.declared.event.Event.TheVariants as events
-use Rattle.cilk_tree.specs.Before.{IsPosition}
 use Rattle.cilk_tree.specs.Races.{event_at}
 use Rattle.cilk_tree.specs.Reach.{Among, Reaches, direct, through}
 use Rattle.cilk_story.specs.declared.story.Story.{Story}
 use Rattle.cilk_story.specs.Word.{WordEvent, plain, read, write, spawn, resume, finish, is_spawn, resumption, word_event, event, after, Before, what, IsWord, IsLine, Conflict}
 use Rattle.cilk_story.specs.Orders.{IsOrderly}
-use Rattle.cilk_story.specs.Runs.{IsAsked, IsFollowed, IsReached, Departs}
+use Rattle.cilk_story.specs.Runs.{IsAsked, IsReached}
 use Rattle.cilk_plan.specs.declared.kind.Kind.{Kind}
 use Rattle.cilk_plan.specs.declared.kind.Kind.TheVariants as kinds
 use Rattle.cilk_plan.specs.Kinds.{kind_of}

@@ -4,13 +4,12 @@ use Rattle.std.specs.declared.result.Result.TheVariants.{Ok, Err}
 use Rattle.std.specs.Result.{IfOk}
 use Rattle.std.proofs.Common.{◌≡◌, ℤ, List, refl, sym, ◌∙◌, subst}
 use Rattle.cilk_program.specs.Sources.{source}
-use Rattle.cilk_program.specs.SerialRun.{Transcript}
 use Rattle.cilk_story.specs.declared.story.Story.{Story}
 use Rattle.cilk_story.specs.Values.{HasValues}
 use Rattle.cilk_plan.specs.Along.{IsAlong}
 use Rattle.cilk_plan.specs.Planned.{planned}
 use Rattle.cilk_determinacy.specs.Words.{HasWords, InputsAreWords}
-use Rattle.cilk_inputs.specs.Stories.{story_on, IsPlannedRun, OwnStory, StoriesAlongHaveValues}
+use Rattle.cilk_inputs.specs.Stories.{story_on, OwnStory, StoriesAlongHaveValues}
 use Rattle.cilk_checker.specs.Determinate.{AcceptedRun, HasDeterminateRun}
 use Rattle.cilk_planning.specs.Plans.{HasStoryOn, IsPlanOf, IsStoryOn}
 

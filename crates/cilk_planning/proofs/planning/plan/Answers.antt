@@ -3,7 +3,6 @@ use Rattle.cilk_types.specs.declared.event.Event.{Event}
 use Rattle.cilk_program.specs.declared.program.Program.{Program}
 use Rattle.cilk_program.specs.Sources.{source}
 use Rattle.cilk_types.specs.declared.limits.TheConstants.{MAX_EVENTS}
-use Rattle.cilk_meaning.specs.Answered.{opening_cells}
 use Rattle.cilk_tree.specs.Before.{IsPosition}
 use Rattle.cilk_story.specs.declared.story.Story.{Story}
 use Rattle.cilk_story.specs.Runs.{IsAsked}

@@ -1,7 +1,6 @@
-use Rattle.std.proofs.Common.{◌≡◌, ℤ, List, refl, sym, ◌∙◌, subst}
+use Rattle.std.proofs.Common.{refl, sym, ◌∙◌, subst}
 use Rattle.cilk_program.specs.declared.program.Program.{Program}
 use Rattle.cilk_program.specs.Sources.{source}
-use Rattle.cilk_story.specs.declared.story.Story.{Story}
 use Rattle.cilk_plan.specs.Along.{IsAlong}
 use Rattle.cilk_determinacy.specs.Words.{HasWords, InputsAreWords}
 use Rattle.cilk_planning.proofs.Telling.{has_story, along_it, own_is_the_plan, for_ok}
