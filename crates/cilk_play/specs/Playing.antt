@@ -12,6 +12,7 @@ use Rattle.cilk_board.specs.declared.choice.Stop.TheVariants as stops
 use Rattle.cilk_board.specs.declared.choice.Strand.{Strand}
 use Rattle.cilk_board.specs.declared.choice.Told.{Told}
 use Rattle.cilk_board.specs.declared.choice.Told.TheVariants.{Skipped}
+use Rattle.cilk_schedule.specs.Choices.{CanChoose, Writes}
 use Rattle.cilk_schedule.specs.Machines.{OrdinalsUp}
 use Rattle.cilk_schedule.specs.Sound.{IsCodeOf, Runs}
 use Rattle.cilk_schedule.specs.declared.machine.Machine.{Machine}
@@ -25,13 +26,17 @@ use Rattle.cilk_play.specs.declared.fault.PlayFault.TheVariants as faults
 use Rattle.cilk_play.specs.declared.player.TheConstants.{MAX_ROUNDS}
 
 -- What is known of a choice at a board, of what is told of it, and of the board behind it: the run hasn't stopped before, and
--- stops by this choice or not at all; nothing changes where it is skipped, and it is skipped once the first frame has ended.
+-- stops by this choice or not at all; nothing changes where it is skipped, and it is skipped where it can't be made, or the first
+-- frame has ended, and nowhere else; an event that is told of is written down behind the others, and nothing else is.
 pub record IsChosen (b : Board) (choice : Choice) (told : Result Told Stop) (b' : Board) : Type 0 where
   pub before : b.stopped ≡ None
   pub after : IfOk told (λ t. b'.stopped ≡ None)
   pub stop : IfErr told (λ s. b'.stopped ≡ Some s)
   pub skipped : IfOk told (λ t. t ≡ Skipped → b' ≡ b)
   pub over : b.outcome ≢ None → told ≡ Ok Skipped
+  pub vain : (CanChoose b choice → ⊥) → told ≡ Ok Skipped
+  pub made : b.outcome ≡ None → told ≡ Ok Skipped → CanChoose b choice → ⊥
+  pub journal : Writes told (let e = b.journal in e.items) (let e = b'.journal in e.items)
 
 -- what is to be done of a script
 pub data Task : Type 0 where

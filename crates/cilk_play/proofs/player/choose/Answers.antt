@@ -10,6 +10,9 @@ returns-in-Ok-clause-made c = λ workers.
       stop = tt;
       skipped = λ e. ap (λ m. m.board) (c.in-Ok.ensures.skipped e);
       over = λ ended. (c.in-Ok.ensures.over c.in-Ok.ensures.going.0 ended).0;
+      vain = λ no. c.in-Ok.ensures.vain c.in-Ok.ensures.going.0 no;
+      made = λ going skipped can. c.in-Ok.ensures.made c.in-Ok.ensures.going.0 going skipped can;
+      journal = c.in-Ok.ensures.journal;
     })
 
 pub returns-in-Err-clause-fault : goal.returns-in-Err-clause-fault
@@ -20,4 +23,7 @@ returns-in-Err-clause-fault c = λ workers.
       stop = c.in-Err.ensures.stop;
       skipped = tt;
       over = λ ended. (c.in-Err.ensures.over c.requires.0 ended).0;
+      vain = λ no. c.in-Err.ensures.vain c.requires.0 no;
+      made = λ going skipped can. c.in-Err.ensures.made c.requires.0 going skipped can;
+      journal = c.in-Err.ensures.journal;
     }) c.stopped.ensures
