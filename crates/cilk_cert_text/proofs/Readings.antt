@@ -121,14 +121,6 @@ cut_law due n part unread h fits =
 abbrev pub prefixed : List ℕ → Option (List ℕ × List ℕ) → Option (List ℕ × List ℕ)
 prefixed a o = option_map (λ s. (a ++ s.0, s.1)) o
 
-prefixed_none : (o : Option (List ℕ × List ℕ)) → o ≡ prefixed [] o
-prefixed_none None = refl
-prefixed_none (Some s) = refl
-
-prefixed_more : (a : List ℕ) (b : ℕ) (o : Option (List ℕ × List ℕ)) → prefixed a (option_map (λ s. (b ∷ s.0, s.1)) o) ≡ prefixed (a ++ b ∷ []) o
-prefixed_more a b None = refl
-prefixed_more a b (Some s) = ap (λ (x : List ℕ). Some (x, s.1)) (sym (append_assoc a (b ∷ []) s.0))
-
 -- ---- a reader in the middle of a text
 
 pub end_whole : (fault : Option CertFault) (due : Due) (n len : ℕ) (bytes : List ℕ) → fault ≡ None → due ≡ Lines [] → len ≡ 0 → rest_of fault due n (take len bytes ++ []) ≡ whole

@@ -4,7 +4,8 @@ ghost use Rattle.std.specs.Prelude.{◌≡◌, None, Some, IsSome, IsOk, OnOk, O
 ghost use Rattle.std.specs.Option.{option_map};
 ghost use Rattle.cilk_types.specs.declared.event.Instance.{Instance};
 ghost use Rattle.cilk_monoid.specs.Kinds.{structure_of, final_of};
-ghost use Rattle.cilk_hypermap.specs.Hypermap.{EachKind, view_in, value_in, ChangesIn, KeepsAll, KeepsAllValues, Retires, FillsAll, FitsAll, LosesAtMost, HasRoomForAll};
+ghost use Rattle.cilk_hypermap.specs.Hypermap.{EachKind, view_in, value_in, ChangesIn, KeepsAll};
+ghost use Rattle.cilk_hypermap.specs.Hypermap.{KeepsAllValues, Retires, FillsAll, FitsAll, LosesAtMost, HasRoomForAll};
 ghost use Rattle.cilk_hypermap.specs.Ranges.{JoinsRanges};
 ghost use Rattle.cilk_hypermap.specs.Views.{merged, output};
 ghost use Rattle.cilk_monoid.specs.Views.{number_value};
@@ -106,7 +107,8 @@ impl Hypermap {
         kind: MonoidKind,
         x: i64,
     ) -> Result<(), AllocError>
-        ensures ok { OnOk result (ChangesIn self.old self.new kind instance (Some ((structure_of kind).combine (value_in self.old kind instance) ((structure_of kind).single x)))) }
+        ensures ok { OnOk result (ChangesIn self.old self.new kind instance
+            (Some ((structure_of kind).combine (value_in self.old kind instance) ((structure_of kind).single x)))) }
         ensures err { OnErr result (KeepsAll self.old self.new) }
     {
         match kind {
@@ -140,7 +142,9 @@ impl Hypermap {
 
     /// Appends the number to the ordered output.
     pub fn print(&mut self, alloc: Global, x: i64) -> Result<(), AllocError>
-        ensures ok { OnOk result (ChangesIn self.old self.new MonoidKind.Append output (Some ((structure_of MonoidKind.Append).combine (value_in self.old MonoidKind.Append output) ((structure_of MonoidKind.Append).single x)))) }
+        ensures ok { OnOk result (ChangesIn self.old self.new MonoidKind.Append output
+            (Some ((structure_of MonoidKind.Append).combine (value_in self.old MonoidKind.Append output)
+            ((structure_of MonoidKind.Append).single x)))) }
         ensures err { OnErr result (KeepsAll self.old self.new) }
     {
         self.lists.print(alloc, x)
@@ -229,7 +233,8 @@ impl Hypermap {
     /// side: no view is cloned. A refused merge gives both back with the same values.
     pub fn merge(alloc: Global, mut left: Self, mut right: Self) -> Result<Self, (Self, Self)>
         ensures views { IfOk result (λ h. EachKind (λ k. (j : Instance) → view_in h k j ≡ merged (structure_of k) (view_in left k j) (view_in right k j))) }
-        ensures values { IfOk result (λ h. EachKind (λ k. (j : Instance) → value_in h k j ≡ (structure_of k).combine (value_in left k j) (value_in right k j))) }
+        ensures values { IfOk result (λ h. EachKind (λ k. (j : Instance) → value_in h k j
+            ≡ (structure_of k).combine (value_in left k j) (value_in right k j))) }
         ensures err { IfErr result (λ p. KeepsAllValues left p.0 × KeepsAllValues right p.1) }
 
         // Pieces of a run may be merged where the right one resets nothing that the left one mentions.
@@ -253,8 +258,12 @@ impl Hypermap {
         mut middle: Self,
         right: Self,
     ) -> Result<Self, (Self, Self, Self)>
-        ensures views { IfOk result (λ h. EachKind (λ k. (j : Instance) → view_in h k j ≡ merged (structure_of k) (merged (structure_of k) (view_in left k j) (view_in middle k j)) (view_in right k j))) }
-        ensures values { IfOk result (λ h. EachKind (λ k. (j : Instance) → value_in h k j ≡ (structure_of k).combine ((structure_of k).combine (value_in left k j) (value_in middle k j)) (value_in right k j))) }
+        ensures views { IfOk result (λ h. EachKind (λ k. (j : Instance) → view_in h k j
+            ≡ merged (structure_of k) (merged (structure_of k) (view_in left k j) (view_in middle k j))
+            (view_in right k j))) }
+        ensures values { IfOk result (λ h. EachKind (λ k. (j : Instance) → value_in h k j
+            ≡ (structure_of k).combine ((structure_of k).combine (value_in left k j) (value_in middle k j))
+            (value_in right k j))) }
         ensures err { IfErr result (λ p. KeepsAllValues left p.0 × KeepsAllValues middle p.1 × KeepsAllValues right p.2) }
         ensures succeeds { HasRoomForAll left middle right → IsOk result }
     {

@@ -6,8 +6,8 @@ use Rattle.cilk_token.specs.declared.token.Kind.TheVariants as kinds
 use Rattle.cilk_token.specs.declared.token.Token.{Token}
 use Rattle.cilk_token.specs.Kinds.{is_reserved, spelling}
 use Rattle.cilk_lexer.specs.declared.lexer.Class.TheVariants as classes
-use Rattle.cilk_lexer.specs.declared.lexer.Gap.{Gap}
-use Rattle.cilk_lexer.specs.declared.lexer.Gap.TheVariants as gaps
+use Rattle.cilk_lexer.specs.Gaps.{Gap}
+use Rattle.cilk_lexer.specs.Gaps as gaps
 use Rattle.cilk_lexer.specs.Lexing.{is_blank, is_digit, is_letter, belongs, front_of, behind, begins_with, after_close, value_of, starts_digit, starts_letter, Passes, Spells, Lexes, Ended, Skipped, Found, AreTokens}
 
 same_bytes : List ℕ → List ℕ → Bool

@@ -5,8 +5,8 @@ use Rattle.cilk_token.specs.declared.token.Kind.TheVariants as kinds
 use Rattle.cilk_token.specs.declared.token.Token.{Token}
 use Rattle.cilk_lexer.specs.declared.lexer.Class.{Class}
 use Rattle.cilk_lexer.specs.declared.lexer.Class.TheVariants as classes
-use Rattle.cilk_lexer.specs.declared.lexer.Gap.{Gap}
-use Rattle.cilk_lexer.specs.declared.lexer.Gap.TheVariants as gaps
+use Rattle.cilk_lexer.specs.Gaps.{Gap}
+use Rattle.cilk_lexer.specs.Gaps as gaps
 use Rattle.cilk_lexer.specs.declared.lexer.Bad.{Bad}
 use Rattle.cilk_lexer.specs.declared.lexer.Bad.TheVariants as bads
 use Rattle.cilk_token.specs.Kinds.{is_reserved, is_mark, spelling}

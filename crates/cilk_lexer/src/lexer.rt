@@ -2,7 +2,6 @@
 
 ghost use Rattle.std.specs.Prelude.{◌≡◌, ◌≢◌, ℕ, ◌+◌, ◌<◌, ◌≤◌, Bool, true, false, List, ◌∷◌, IfOk, IfErr, IfSome, IfNone, length, None, Some, pos};
 ghost use Rattle.cilk_lexer.specs.declared.lexer.Bad.TheVariants as bads;
-ghost use Rattle.cilk_lexer.specs.declared.lexer.Gap.TheVariants as gaps;
 ghost use Rattle.cilk_lexer.specs.declared.lexer.Class.TheVariants as classes;
 ghost use Rattle.cilk_token.specs.declared.token.Kind.{Kind};
 ghost use Rattle.cilk_token.specs.declared.token.Token.{Token};
@@ -27,15 +26,6 @@ pub enum Class {
     Solid,
 }
 
-/// What stands between tokens.
-#[derive(Clone, Copy, Debug)]
-pub enum Gap {
-    Blank,
-    LineComment,
-    BlockComment,
-    Directive,
-}
-
 /// Why a text can't be cut into tokens.
 #[derive(Clone, Copy, Debug, Error)]
 pub enum Bad {
@@ -53,10 +43,10 @@ pub enum Bad {
     TooLarge,
 }
 
-/// What stands first: something between tokens, a token, or neither.
+/// What stands first: something between tokens, and whether a `#` line may begin behind it; a token; or neither.
 #[derive(Drop)]
 enum Front<'a> {
-    Skip(Gap, bool, &'a [u8]),
+    Skip(bool, &'a [u8]),
     Word(Kind, &'a [u8]),
     Fault(Bad),
 }
@@ -146,7 +136,7 @@ fn directive(fresh: bool, tail: &[u8]) -> Front<'_>
     let (word, _) = split(Class::Word, inner);
     let (_, rest) = split(Class::Line, tail);
     if fresh && directs(word) {
-        Front::Skip(Gap::Directive, false, rest)
+        Front::Skip(false, rest)
     } else {
         Front::Fault(Bad::Directive)
     }
@@ -167,11 +157,11 @@ fn slash(fresh: bool, tail: &[u8]) -> Front<'_>
 {
     if let Some(tail) = strip(b'/', tail) {
         let (_, rest) = split(Class::Line, tail);
-        return Front::Skip(Gap::LineComment, false, rest);
+        return Front::Skip(false, rest);
     }
     if let Some(tail) = strip(b'*', tail) {
         return match after_close(tail) {
-            Some(rest) => Front::Skip(Gap::BlockComment, false, rest),
+            Some(rest) => Front::Skip(false, rest),
             None => Front::Fault(Bad::Unclosed),
         };
     }
@@ -395,7 +385,7 @@ fn piece<'a>(fresh: bool, first: u8, tail: &'a [u8], bytes: &'a [u8]) -> Front<'
         return Front::Fault(Bad::NotAscii);
     }
     if is_blank(first) {
-        return Front::Skip(Gap::Blank, fresh || first == 10, tail);
+        return Front::Skip(fresh || first == 10, tail);
     }
     if is_digit(first) {
         return number(fresh, bytes);
@@ -445,7 +435,7 @@ pub fn lex(alloc: Global, text: &[u8]) -> Result<Vec<Token>, LexFault>
     let mut rest = text;
     'each: while let [first, tail @ ..] = rest {
         match piece(fresh, *first, tail, rest) {
-            Front::Skip(_, next, after) => {
+            Front::Skip(next, after) => {
                 fresh = next;
                 rest = after;
             }

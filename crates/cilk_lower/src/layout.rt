@@ -2,7 +2,7 @@
 
 ghost use Rattle.std.specs.Prelude.{◌≡◌, pos, ◌-ℤ◌, map, slice_get, unwrap_or, IfOk};
 ghost use Rattle.std.specs.Ordering.{int_eq};
-ghost use Rattle.cilk_lower.specs.Layout.{LaysOut, cells_in, frame_of, function_frame, reducers_in};
+ghost use Rattle.cilk_lower.specs.Layout.{LaysOut, cells_in, frame_of, function_frame};
 ghost use Rattle.cilk_program.specs.Programs.{function};
 ghost use Rattle.cilk_program.specs.Sources.{source};
 ghost use Rattle.cilk_program.specs.declared.ask.Callee.TheVariants as callees;
@@ -75,17 +75,6 @@ impl Layout {
         match self.loops.as_slice().get(number as usize) {
             Some(cells) => *cells,
             None => 0,
-        }
-    }
-
-    /// The monoids of the reducers that the frame of a callee creates for itself, and retires with its end.
-    pub fn own_reducers(&self, callee: &Callee) -> &[MonoidKind]
-        ensures { result.now ≡ reducers_in self.now callee.now }
-    {
-        match callee {
-            Callee::Root => self.function_reducers(self.main),
-            Callee::Function(call) => self.function_reducers(call.function),
-            Callee::Loop(_) => &[],
         }
     }
 

@@ -56,7 +56,9 @@ fn bare(
     argument: &Argument,
     first: &mut Option<Misnaming>,
 ) -> Result<Option<Reducer>, AllocError>
-    ensures faults { OnOk result (first.new ≡ earliest first.old (bare_faults (names_of table.now) kind (trees.argument argument.now).at (trees.argument argument.now).value (bare_name (trees.argument argument.now).value))) }
+    ensures faults { OnOk result (first.new ≡ earliest first.old
+        (bare_faults (names_of table.now) kind (trees.argument argument.now).at (trees.argument argument.now).value
+        (bare_name (trees.argument argument.now).value))) }
     ensures value { IfOk result (λ r. r ≡ bare_reducer (names_of table.now) (bare_name (trees.argument argument.now).value)) }
 {
     match bare_name(&argument.value) {
@@ -80,8 +82,10 @@ impl Passed {
         first: &mut Option<Misnaming>,
     ) -> Result<(), AllocError>
         ensures faults { OnOk result (first.new ≡ earliest first.old (argument_faults (names_of table.now) kind (trees.argument argument.now))) }
-        ensures words { OnOk result (map expression self.new.words.items ≡ map expression self.old.words.items ++ word_of_argument (names_of table.now) kind (trees.argument argument.now)) }
-        ensures reducers { OnOk result (self.new.reducers.items ≡ self.old.reducers.items ++ reducer_of_argument (names_of table.now) kind (trees.argument argument.now)) }
+        ensures words { OnOk result (map expression self.new.words.items ≡ map expression self.old.words.items
+            ++ word_of_argument (names_of table.now) kind (trees.argument argument.now)) }
+        ensures reducers { OnOk result (self.new.reducers.items ≡ self.old.reducers.items
+            ++ reducer_of_argument (names_of table.now) kind (trees.argument argument.now)) }
     {
         match kind {
             ParameterKind::Word => {
@@ -182,7 +186,9 @@ fn fit<'a>(
     first: &mut Option<Misnaming>,
 ) -> &'a [ParameterKind]
     ensures kinds { result.now ≡ (let s = signature_of (names_of table.now) (Some function) in s.parameters) }
-    ensures faults { first.new ≡ earliest first.old (fit_faults (Some function) (signature_of (names_of table.now) (Some function)) is_taken (trees.call call.now)) }
+    ensures faults { first.new ≡ earliest first.old
+        (fit_faults (Some function) (signature_of (names_of table.now) (Some function)) is_taken
+        (trees.call call.now)) }
 {
     let (returns, kinds): (ReturnType, &'a [ParameterKind]) = signature(table, function);
     let is_whole = call.arguments.len() == kinds.len();

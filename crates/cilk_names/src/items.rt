@@ -86,9 +86,13 @@ impl Resolver<'_> {
         reducer: tree::Reducer,
         number: u32,
     ) -> Result<Option<MonoidKind>, AllocError>
-        ensures names { OnOk result (names_of self.new.table ≡ declare (names_of self.old.table) reducer.name (Meaning.Reducer (Home.Global number) (monoid_at (names_of self.old.table) reducer))) }
+        ensures names { OnOk result (names_of self.new.table
+            ≡ declare (names_of self.old.table) reducer.name
+            (Meaning.Reducer (Home.Global number) (monoid_at (names_of self.old.table) reducer))) }
         ensures kind { IfOk result (λ k. k ≡ monoid_at (names_of self.old.table) reducer) }
-        ensures faults { OnOk result (self.new.first ≡ earliest self.old.first (monoid_faults (names_of self.old.table) reducer ++ again_faults (names_of self.old.table) reducer.name)) }
+        ensures faults { OnOk result (self.new.first
+            ≡ earliest self.old.first (monoid_faults (names_of self.old.table) reducer
+            ++ again_faults (names_of self.old.table) reducer.name)) }
         ensures same { (self.new.loops ≡ self.old.loops) × (self.new.reducers ≡ self.old.reducers) }
     {
         let kind = monoid(&self.table, reducer, &mut self.first);
@@ -99,7 +103,10 @@ impl Resolver<'_> {
 
     /// Enters a function, in whose scope its parameters stand.
     fn begin(&mut self, alloc: Global, number: u32, returns: ReturnType) -> Result<(), AllocError>
-        ensures context { OnOk result (context_of self.new ≡ record { names = opened (names_of self.old.table); frame = record { body = Body.Function number; returns = returns; cells = 0; heading = true }; given = []; own = []; reducers = self.old.reducers; loops = length self.old.loops.items }) }
+        ensures context { OnOk result (context_of self.new
+            ≡ record { names = opened (names_of self.old.table);
+            frame = record { body = Body.Function number; returns = returns; cells = 0; heading = true };
+            given = []; own = []; reducers = self.old.reducers; loops = length self.old.loops.items }) }
         ensures same { OnOk result ((self.new.loops ≡ self.old.loops) × (self.new.first ≡ self.old.first)) }
     {
         self.table.open(alloc)?;
@@ -116,9 +123,13 @@ impl Resolver<'_> {
 
     /// Leaves a function, of which so many cells are its words.
     fn end(&mut self, alloc: Global, words: u32, body: Vec<Stmt>) -> Function
-        ensures names { (outer : List Scope) (inner : Scope) → (let n = names_of self.old.table in n.outer) ≡ outer ++ inner ∷ [] → names_of self.new.table ≡ record (names_of self.old.table) { inner = inner; outer = outer } }
+        ensures names { (outer : List Scope) (inner : Scope)
+            → (let n = names_of self.old.table in n.outer) ≡ outer ++ inner ∷ []
+            → names_of self.new.table ≡ record (names_of self.old.table) { inner = inner; outer = outer } }
         ensures same { (self.new.loops ≡ self.old.loops) × (self.new.first ≡ self.old.first) × (self.new.reducers ≡ self.old.reducers) }
-        ensures made { function result ≡ record { words = words; given = self.old.given.items; cells = self.old.frame.cells; reducers = self.old.own.items; body = statements body.items } }
+        ensures made { function result
+            ≡ record { words = words; given = self.old.given.items; cells = self.old.frame.cells;
+            reducers = self.old.own.items; body = statements body.items } }
     {
         self.table.close();
         let given = mem::replace(&mut self.given, Vec::new(alloc));
@@ -150,7 +161,9 @@ impl Pass<'_> {
     #[tactic(auto, using(cilk_scopes::proofs::Earliest::earliest_append, crate::proofs::Lists::append_nothing))]
     fn word(&mut self, name: Name, initializer: Initializer) -> Result<(), AllocError>
         ensures known { OnOk result (known_of self.new ≡ behind_global (known_of self.old) (GlobalVariable.Variable name initializer)) }
-        ensures faults { OnOk result (self.new.scene.first ≡ earliest self.old.scene.first (global_faults (known_of self.old) (GlobalVariable.Variable name initializer))) }
+        ensures faults { OnOk result (self.new.scene.first
+            ≡ earliest self.old.scene.first (global_faults (known_of self.old)
+            (GlobalVariable.Variable name initializer))) }
         ensures same { OnOk result ((self.new.functions ≡ self.old.functions) × (self.new.scene.loops ≡ self.old.scene.loops)) }
     {
         let count = self.openings.len();
@@ -168,7 +181,9 @@ impl Pass<'_> {
     #[tactic(auto, using(cilk_scopes::proofs::Earliest::earliest_append))]
     fn array(&mut self, name: Name, length: i64) -> Result<(), AllocError>
         ensures known { OnOk result (known_of self.new ≡ behind_global (known_of self.old) (GlobalVariable.Array name length)) }
-        ensures faults { OnOk result (self.new.scene.first ≡ earliest self.old.scene.first (global_faults (known_of self.old) (GlobalVariable.Array name length))) }
+        ensures faults { OnOk result (self.new.scene.first
+            ≡ earliest self.old.scene.first
+            (global_faults (known_of self.old) (GlobalVariable.Array name length))) }
         ensures same { OnOk result ((self.new.functions ≡ self.old.functions) × (self.new.scene.loops ≡ self.old.scene.loops)) }
     {
         let count = self.openings.len();
@@ -225,10 +240,18 @@ impl Pass<'_> {
         parameters: &[Parameter],
         body: &[tree::Stmt],
     ) -> Result<(), AllocError>
-        ensures known { OnOk result (known_of self.new ≡ behind_item (known_of self.old) (trees.Function returns name parameters.now (trees.statements body.now))) }
-        ensures faults { OnOk result (self.new.scene.first ≡ earliest self.old.scene.first (item_faults (known_of self.old) (trees.Function returns name parameters.now (trees.statements body.now)))) }
-        ensures functions { OnOk result (map function self.new.functions.items ≡ map function self.old.functions.items ++ item_functions (known_of self.old) (trees.Function returns name parameters.now (trees.statements body.now))) }
-        ensures loops { OnOk result (map loop self.new.scene.loops.items ≡ map loop self.old.scene.loops.items ++ item_loops (known_of self.old) (trees.Function returns name parameters.now (trees.statements body.now))) }
+        ensures known { OnOk result (known_of self.new
+            ≡ behind_item (known_of self.old) (trees.Function returns name parameters.now
+            (trees.statements body.now))) }
+        ensures faults { OnOk result (self.new.scene.first
+            ≡ earliest self.old.scene.first (item_faults (known_of self.old)
+            (trees.Function returns name parameters.now (trees.statements body.now)))) }
+        ensures functions { OnOk result (map function self.new.functions.items
+            ≡ map function self.old.functions.items ++ item_functions (known_of self.old)
+            (trees.Function returns name parameters.now (trees.statements body.now))) }
+        ensures loops { OnOk result (map loop self.new.scene.loops.items ≡ map loop self.old.scene.loops.items
+            ++ item_loops (known_of self.old) (trees.Function returns name parameters.now
+            (trees.statements body.now))) }
     {
         let count = self.functions.len();
         let number = number_of(count)?;
@@ -249,8 +272,10 @@ impl Pass<'_> {
     fn item(&mut self, alloc: Global, item: &Item) -> Result<(), AllocError>
         ensures known { OnOk result (known_of self.new ≡ behind_item (known_of self.old) (trees.item item.now)) }
         ensures faults { OnOk result (self.new.scene.first ≡ earliest self.old.scene.first (item_faults (known_of self.old) (trees.item item.now))) }
-        ensures functions { OnOk result (map function self.new.functions.items ≡ map function self.old.functions.items ++ item_functions (known_of self.old) (trees.item item.now)) }
-        ensures loops { OnOk result (map loop self.new.scene.loops.items ≡ map loop self.old.scene.loops.items ++ item_loops (known_of self.old) (trees.item item.now)) }
+        ensures functions { OnOk result (map function self.new.functions.items
+            ≡ map function self.old.functions.items ++ item_functions (known_of self.old) (trees.item item.now)) }
+        ensures loops { OnOk result (map loop self.new.scene.loops.items ≡ map loop self.old.scene.loops.items
+            ++ item_loops (known_of self.old) (trees.item item.now)) }
     {
         match item {
             Item::Globals(variables) => {
@@ -272,8 +297,11 @@ impl Pass<'_> {
     pub fn items(&mut self, alloc: Global, items: &[Item]) -> Result<(), AllocError>
         ensures known { OnOk result (known_of self.new ≡ behind_items (known_of self.old) (trees.items_of items.now)) }
         ensures faults { OnOk result (self.new.scene.first ≡ earliest self.old.scene.first (items_faults (known_of self.old) (trees.items_of items.now))) }
-        ensures functions { OnOk result (map function self.new.functions.items ≡ map function self.old.functions.items ++ items_functions (known_of self.old) (trees.items_of items.now)) }
-        ensures loops { OnOk result (map loop self.new.scene.loops.items ≡ map loop self.old.scene.loops.items ++ items_loops (known_of self.old) (trees.items_of items.now)) }
+        ensures functions { OnOk result (map function self.new.functions.items
+            ≡ map function self.old.functions.items ++ items_functions (known_of self.old)
+            (trees.items_of items.now)) }
+        ensures loops { OnOk result (map loop self.new.scene.loops.items ≡ map loop self.old.scene.loops.items
+            ++ items_loops (known_of self.old) (trees.items_of items.now)) }
     {
         'each: for item in items {
             self.item(alloc, item)?;

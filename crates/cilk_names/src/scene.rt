@@ -6,7 +6,8 @@ ghost use Rattle.cilk_program.specs.Programs.{declaration, statement, statements
 ghost use Rattle.cilk_program.specs.Syntax.{Nothing, Then};
 ghost use Rattle.cilk_names.specs.Contexts.{behind_beginning, behind_locals, counted, with_parameter, with_parameters, with_reducer, with_variable};
 ghost use Rattle.cilk_scopes.specs.Faults.{earliest};
-ghost use Rattle.cilk_names.specs.Misnamings.{beginning_faults, declared_faults, initializer_faults, local_faults, locals_faults, own_faults, parameter_faults, parameters_faults};
+ghost use Rattle.cilk_names.specs.Misnamings.{beginning_faults, declared_faults, initializer_faults, local_faults};
+ghost use Rattle.cilk_names.specs.Misnamings.{locals_faults, own_faults, parameter_faults, parameters_faults};
 ghost use Rattle.cilk_names.specs.Pass.{beginning_of, declaration_of, declarations_of};
 ghost use Rattle.cilk_scopes.specs.Tables.{names_of};
 ghost use Rattle.cilk_names.specs.States.{context_of};
@@ -126,7 +127,9 @@ impl Resolver<'_> {
         initializer: &LocalInitializer,
     ) -> Result<Declaration, AllocError>
         ensures context { context_of self.new ≡ context_of self.old }
-        ensures faults { OnOk result (self.new.first ≡ earliest self.old.first (initializer_faults (names_of self.old.table) (trees.local_initializer initializer.now))) }
+        ensures faults { OnOk result (self.new.first
+            ≡ earliest self.old.first (initializer_faults (names_of self.old.table)
+            (trees.local_initializer initializer.now))) }
         ensures loops { self.new.loops ≡ self.old.loops }
         ensures value { IfOk result (λ r. declaration r ≡ declaration_of (names_of self.old.table) number (trees.local_initializer initializer.now)) }
     {
@@ -181,9 +184,12 @@ impl Resolver<'_> {
     #[tactic(auto, using(cilk_scopes::proofs::Earliest::earliest_append))]
     fn counter(&mut self, alloc: Global, name: Name, value: &tree::Expr) -> Result<Stmt, AllocError>
         ensures context { OnOk result (context_of self.new ≡ with_variable (context_of self.old) name) }
-        ensures faults { OnOk result (self.new.first ≡ earliest self.old.first (beginning_faults (context_of self.old) (Some (trees.Declares name (trees.expression value.now))))) }
+        ensures faults { OnOk result (self.new.first
+            ≡ earliest self.old.first (beginning_faults (context_of self.old)
+            (Some (trees.Declares name (trees.expression value.now))))) }
         ensures loops { self.new.loops ≡ self.old.loops }
-        ensures value { IfOk result (λ r. Then (statement r) Nothing ≡ beginning_of (context_of self.old) (Some (trees.Declares name (trees.expression value.now)))) }
+        ensures value { IfOk result (λ r. Then (statement r) Nothing
+            ≡ beginning_of (context_of self.old) (Some (trees.Declares name (trees.expression value.now)))) }
     {
         let number = self.frame.cells;
         self.variable(name)?;
@@ -200,7 +206,9 @@ impl Resolver<'_> {
         beginning: &Option<Beginning>,
     ) -> Result<Vec<Stmt>, AllocError>
         ensures context { OnOk result (context_of self.new ≡ behind_beginning (context_of self.old) (trees.optional_beginning beginning.now)) }
-        ensures faults { OnOk result (self.new.first ≡ earliest self.old.first (beginning_faults (context_of self.old) (trees.optional_beginning beginning.now))) }
+        ensures faults { OnOk result (self.new.first
+            ≡ earliest self.old.first (beginning_faults (context_of self.old)
+            (trees.optional_beginning beginning.now))) }
         ensures loops { self.new.loops ≡ self.old.loops }
         ensures value { IfOk result (λ r. statements r.items ≡ beginning_of (context_of self.old) (trees.optional_beginning beginning.now)) }
     {

@@ -8,7 +8,8 @@ ghost use Rattle.cilk_program.specs.Syntax.{For, Invokes, Nothing, Return, Set, 
 ghost use Rattle.cilk_scopes.specs.Names.{Scope};
 ghost use Rattle.cilk_names.specs.Contexts.{ahead, behind, behind_row, behind_scope, in_body, inside, keeps_heading};
 ghost use Rattle.cilk_scopes.specs.Faults.{earliest, reducer_faults, written_faults};
-ghost use Rattle.cilk_names.specs.Misnamings.{call_faults, expression_faults, gives_what_it_returns, head_faults, optional_assignment_faults, return_faults, row_faults, same_faults, statement_faults};
+ghost use Rattle.cilk_names.specs.Misnamings.{call_faults, expression_faults, gives_what_it_returns, head_faults};
+ghost use Rattle.cilk_names.specs.Misnamings.{optional_assignment_faults, return_faults, row_faults, same_faults, statement_faults};
 ghost use Rattle.cilk_names.specs.Pass.{expression_of, invoke_of, loops_of, optional_of, optional_row, or_empty, row_loops, row_of, statement_of};
 ghost use Rattle.cilk_scopes.specs.Sights.{reducer, variable};
 ghost use Rattle.cilk_scopes.specs.Tables.{names_of};
@@ -118,8 +119,11 @@ fn assigned(
     tree: &tree::Call,
     first: &mut Option<Misnaming>,
 ) -> Result<Stmt, AllocError>
-    ensures faults { OnOk result (first.new ≡ earliest first.old (written_faults (names_of table.now) name ++ call_faults (names_of table.now) true (trees.call tree.now))) }
-    ensures value { IfOk result (λ r. statement r ≡ or_empty (invoke_of (names_of table.now) how (trees.call tree.now) (variable (names_of table.now) name)) Invokes) }
+    ensures faults { OnOk result (first.new ≡ earliest first.old
+        (written_faults (names_of table.now) name ++ call_faults (names_of table.now) true (trees.call tree.now))) }
+    ensures value { IfOk result (λ r. statement r
+        ≡ or_empty (invoke_of (names_of table.now) how (trees.call tree.now) (variable (names_of table.now) name))
+        Invokes) }
 {
     let place = written(table, name, first);
     let call = call(alloc, table, how, tree, true, place, first)?;
@@ -135,8 +139,12 @@ fn update(
     value: &tree::Expr,
     first: &mut Option<Misnaming>,
 ) -> Result<Stmt, AllocError>
-    ensures faults { OnOk result (first.new ≡ earliest first.old (reducer_faults (names_of table.now) name ++ expression_faults (names_of table.now) (trees.expression value.now))) }
-    ensures value { IfOk result (λ r. statement r ≡ or_empty (reducer (names_of table.now) name) (λ x. Update x (expression_of (names_of table.now) (trees.expression value.now)))) }
+    ensures faults { OnOk result (first.new ≡ earliest first.old
+        (reducer_faults (names_of table.now) name ++ expression_faults (names_of table.now)
+        (trees.expression value.now))) }
+    ensures value { IfOk result (λ r. statement r
+        ≡ or_empty (reducer (names_of table.now) name)
+        (λ x. Update x (expression_of (names_of table.now) (trees.expression value.now)))) }
 {
     let reducer = reducer(table, name, first);
     let value = expression(alloc, table, value, first)?;
@@ -155,8 +163,12 @@ fn set(
     value: &tree::Expr,
     first: &mut Option<Misnaming>,
 ) -> Result<Stmt, AllocError>
-    ensures faults { OnOk result (first.new ≡ earliest first.old (reducer_faults (names_of table.now) name ++ expression_faults (names_of table.now) (trees.expression value.now))) }
-    ensures value { IfOk result (λ r. statement r ≡ or_empty (reducer (names_of table.now) name) (λ x. Set x (expression_of (names_of table.now) (trees.expression value.now)))) }
+    ensures faults { OnOk result (first.new ≡ earliest first.old
+        (reducer_faults (names_of table.now) name ++ expression_faults (names_of table.now)
+        (trees.expression value.now))) }
+    ensures value { IfOk result (λ r. statement r
+        ≡ or_empty (reducer (names_of table.now) name)
+        (λ x. Set x (expression_of (names_of table.now) (trees.expression value.now)))) }
 {
     let reducer = reducer(table, name, first);
     let value = expression(alloc, table, value, first)?;
@@ -235,7 +247,10 @@ impl Resolver<'_> {
 
     /// Closes the innermost scope.
     fn close(&mut self)
-        ensures context { (outer : List Scope) (inner : Scope) → (let n = names_of self.old.table in n.outer) ≡ outer ++ inner ∷ [] → context_of self.new ≡ record (context_of self.old) { names = record (names_of self.old.table) { inner = inner; outer = outer } } }
+        ensures context { (outer : List Scope) (inner : Scope)
+            → (let n = names_of self.old.table in n.outer) ≡ outer ++ inner ∷ []
+            → context_of self.new ≡ record (context_of self.old) {
+            names = record (names_of self.old.table) { inner = inner; outer = outer } } }
         ensures same { (self.new.loops ≡ self.old.loops) × (self.new.first ≡ self.old.first) }
     {
         self.table.close();
@@ -277,9 +292,15 @@ impl Resolver<'_> {
     /// Leaves the body of a parallel loop, which takes its place among the loops.
     fn leave(&mut self, alloc: Global, outside: Outside, body: Box<Stmt>) -> Result<(), AllocError>
         requires { outside.number < length self.old.loops.items }
-        ensures context { OnOk result ((outer : List Scope) (inner : Scope) → (let n = names_of self.old.table in n.outer) ≡ outer ++ inner ∷ [] → context_of self.new ≡ record (context_of self.old) { names = record (names_of self.old.table) { inner = inner; outer = outer; level = outside.level }; frame = outside.frame }) }
+        ensures context { OnOk result ((outer : List Scope) (inner : Scope)
+            → (let n = names_of self.old.table in n.outer) ≡ outer ++ inner ∷ []
+            → context_of self.new ≡ record (context_of self.old) { names = record (names_of self.old.table)
+            { inner = inner; outer = outer; level = outside.level }; frame = outside.frame }) }
         ensures first { self.new.first ≡ self.old.first }
-        ensures loops { OnOk result (map loop self.new.loops.items ≡ slice_set (map loop self.old.loops.items) outside.number (record { within = outside.frame.body; cells = self.old.frame.cells; body = Then (statement body.value) Nothing })) }
+        ensures loops { OnOk result (map loop self.new.loops.items
+            ≡ slice_set (map loop self.old.loops.items) outside.number
+            (record { within = outside.frame.body; cells = self.old.frame.cells;
+            body = Then (statement body.value) Nothing })) }
     {
         let row = row_of_one(alloc, Box::into_inner(body))?;
         let index = outside.number as usize;
@@ -303,10 +324,17 @@ impl Resolver<'_> {
         head: &Bounds,
         body: &tree::Stmt,
     ) -> Result<Stmt, AllocError>
-        ensures context { OnOk result (context_of self.new ≡ behind (context_of self.old) (trees.ParallelFor (trees.bounds head.now) (trees.statement body.now))) }
-        ensures faults { OnOk result (self.new.first ≡ earliest self.old.first (statement_faults (context_of self.old) (trees.ParallelFor (trees.bounds head.now) (trees.statement body.now)))) }
-        ensures loops { OnOk result (map loop self.new.loops.items ≡ map loop self.old.loops.items ++ loops_of (context_of self.old) (trees.ParallelFor (trees.bounds head.now) (trees.statement body.now))) }
-        ensures value { IfOk result (λ r. statement r ≡ statement_of (context_of self.old) (trees.ParallelFor (trees.bounds head.now) (trees.statement body.now))) }
+        ensures context { OnOk result (context_of self.new
+            ≡ behind (context_of self.old) (trees.ParallelFor (trees.bounds head.now) (trees.statement body.now))) }
+        ensures faults { OnOk result (self.new.first
+            ≡ earliest self.old.first (statement_faults (context_of self.old)
+            (trees.ParallelFor (trees.bounds head.now) (trees.statement body.now)))) }
+        ensures loops { OnOk result (map loop self.new.loops.items ≡ map loop self.old.loops.items
+            ++ loops_of (context_of self.old) (trees.ParallelFor (trees.bounds head.now)
+            (trees.statement body.now))) }
+        ensures value { IfOk result (λ r. statement r
+            ≡ statement_of (context_of self.old) (trees.ParallelFor (trees.bounds head.now)
+            (trees.statement body.now))) }
     {
         let (low, high) = bounds(alloc, &self.table, head, &mut self.first)?;
         let outside = self.enter(alloc, head.variable)?;
@@ -326,10 +354,19 @@ impl Resolver<'_> {
         tree: &Option<tree::Assignment>,
         body: &tree::Stmt,
     ) -> Result<Stmt, AllocError>
-        ensures context { OnOk result (context_of self.new ≡ behind (context_of self.old) (trees.For (trees.optional_beginning beginning.now) (trees.optional test.now) (trees.optional_assignment tree.now) (trees.statement body.now))) }
-        ensures faults { OnOk result (self.new.first ≡ earliest self.old.first (statement_faults (context_of self.old) (trees.For (trees.optional_beginning beginning.now) (trees.optional test.now) (trees.optional_assignment tree.now) (trees.statement body.now)))) }
-        ensures loops { OnOk result (map loop self.new.loops.items ≡ map loop self.old.loops.items ++ loops_of (context_of self.old) (trees.For (trees.optional_beginning beginning.now) (trees.optional test.now) (trees.optional_assignment tree.now) (trees.statement body.now))) }
-        ensures value { IfOk result (λ r. statement r ≡ statement_of (context_of self.old) (trees.For (trees.optional_beginning beginning.now) (trees.optional test.now) (trees.optional_assignment tree.now) (trees.statement body.now))) }
+        ensures context { OnOk result (context_of self.new
+            ≡ behind (context_of self.old) (trees.For (trees.optional_beginning beginning.now)
+            (trees.optional test.now) (trees.optional_assignment tree.now) (trees.statement body.now))) }
+        ensures faults { OnOk result (self.new.first
+            ≡ earliest self.old.first (statement_faults (context_of self.old)
+            (trees.For (trees.optional_beginning beginning.now) (trees.optional test.now)
+            (trees.optional_assignment tree.now) (trees.statement body.now)))) }
+        ensures loops { OnOk result (map loop self.new.loops.items ≡ map loop self.old.loops.items
+            ++ loops_of (context_of self.old) (trees.For (trees.optional_beginning beginning.now)
+            (trees.optional test.now) (trees.optional_assignment tree.now) (trees.statement body.now))) }
+        ensures value { IfOk result (λ r. statement r
+            ≡ statement_of (context_of self.old) (trees.For (trees.optional_beginning beginning.now)
+            (trees.optional test.now) (trees.optional_assignment tree.now) (trees.statement body.now))) }
     {
         self.open(alloc)?;
         let row = self.beginning(alloc, beginning)?;
@@ -343,9 +380,12 @@ impl Resolver<'_> {
     /// A statement in a scope of its own.
     #[cycle(statements)]
     fn scoped(&mut self, alloc: Global, tree: &tree::Stmt) -> Result<Box<Stmt>, AllocError>
-        ensures context { OnOk result (context_of self.new ≡ behind_scope (context_of self.old) (behind (inside (context_of self.old)) (trees.statement tree.now))) }
+        ensures context { OnOk result (context_of self.new
+            ≡ behind_scope (context_of self.old) (behind (inside (context_of self.old))
+            (trees.statement tree.now))) }
         ensures faults { OnOk result (self.new.first ≡ earliest self.old.first (statement_faults (inside (context_of self.old)) (trees.statement tree.now))) }
-        ensures loops { OnOk result (map loop self.new.loops.items ≡ map loop self.old.loops.items ++ loops_of (inside (context_of self.old)) (trees.statement tree.now)) }
+        ensures loops { OnOk result (map loop self.new.loops.items ≡ map loop self.old.loops.items
+            ++ loops_of (inside (context_of self.old)) (trees.statement tree.now)) }
         ensures value { IfOk result (λ r. statement r.value ≡ statement_of (inside (context_of self.old)) (trees.statement tree.now)) }
     {
         self.open(alloc)?;
@@ -363,9 +403,14 @@ impl Resolver<'_> {
         body: &tree::Stmt,
         test: &tree::Expr,
     ) -> Result<(Expr, Box<Stmt>), AllocError>
-        ensures context { OnOk result (context_of self.new ≡ behind_scope (context_of self.old) (behind (inside (context_of self.old)) (trees.statement body.now))) }
-        ensures faults { OnOk result (self.new.first ≡ earliest self.old.first (expression_faults (names_of self.old.table) (trees.expression test.now) ++ statement_faults (inside (context_of self.old)) (trees.statement body.now))) }
-        ensures loops { OnOk result (map loop self.new.loops.items ≡ map loop self.old.loops.items ++ loops_of (inside (context_of self.old)) (trees.statement body.now)) }
+        ensures context { OnOk result (context_of self.new
+            ≡ behind_scope (context_of self.old) (behind (inside (context_of self.old))
+            (trees.statement body.now))) }
+        ensures faults { OnOk result (self.new.first
+            ≡ earliest self.old.first (expression_faults (names_of self.old.table) (trees.expression test.now)
+            ++ statement_faults (inside (context_of self.old)) (trees.statement body.now))) }
+        ensures loops { OnOk result (map loop self.new.loops.items ≡ map loop self.old.loops.items
+            ++ loops_of (inside (context_of self.old)) (trees.statement body.now)) }
         ensures test { IfOk result (λ r. expression r.0 ≡ expression_of (names_of self.old.table) (trees.expression test.now)) }
         ensures body { IfOk result (λ r. statement r.1.value ≡ statement_of (inside (context_of self.old)) (trees.statement body.now)) }
     {
@@ -380,7 +425,8 @@ impl Resolver<'_> {
     fn statement(&mut self, alloc: Global, tree: &tree::Stmt) -> Result<Stmt, AllocError>
         ensures context { OnOk result (context_of self.new ≡ behind (context_of self.old) (trees.statement tree.now)) }
         ensures faults { OnOk result (self.new.first ≡ earliest self.old.first (statement_faults (context_of self.old) (trees.statement tree.now))) }
-        ensures loops { OnOk result (map loop self.new.loops.items ≡ map loop self.old.loops.items ++ loops_of (context_of self.old) (trees.statement tree.now)) }
+        ensures loops { OnOk result (map loop self.new.loops.items ≡ map loop self.old.loops.items
+            ++ loops_of (context_of self.old) (trees.statement tree.now)) }
         ensures value { IfOk result (λ r. statement r ≡ statement_of (context_of self.old) (trees.statement tree.now)) }
     {
         match tree {
@@ -438,8 +484,11 @@ impl Resolver<'_> {
     #[tactic(auto, using(crate::proofs::Blocks::block))]
     fn block(&mut self, alloc: Global, list: &[tree::Stmt]) -> Result<Stmt, AllocError>
         ensures context { OnOk result (context_of self.new ≡ behind (context_of self.old) (trees.Block (trees.statements list.now))) }
-        ensures faults { OnOk result (self.new.first ≡ earliest self.old.first (statement_faults (context_of self.old) (trees.Block (trees.statements list.now)))) }
-        ensures loops { OnOk result (map loop self.new.loops.items ≡ map loop self.old.loops.items ++ loops_of (context_of self.old) (trees.Block (trees.statements list.now))) }
+        ensures faults { OnOk result (self.new.first
+            ≡ earliest self.old.first (statement_faults (context_of self.old)
+            (trees.Block (trees.statements list.now)))) }
+        ensures loops { OnOk result (map loop self.new.loops.items ≡ map loop self.old.loops.items
+            ++ loops_of (context_of self.old) (trees.Block (trees.statements list.now))) }
         ensures value { IfOk result (λ r. statement r ≡ statement_of (context_of self.old) (trees.Block (trees.statements list.now))) }
     {
         self.open(alloc)?;
@@ -453,7 +502,8 @@ impl Resolver<'_> {
     pub fn row(&mut self, alloc: Global, list: &[tree::Stmt]) -> Result<Vec<Stmt>, AllocError>
         ensures context { OnOk result (context_of self.new ≡ behind_row (context_of self.old) (trees.statements list.now)) }
         ensures faults { OnOk result (self.new.first ≡ earliest self.old.first (row_faults (context_of self.old) (trees.statements list.now))) }
-        ensures loops { OnOk result (map loop self.new.loops.items ≡ map loop self.old.loops.items ++ row_loops (context_of self.old) (trees.statements list.now)) }
+        ensures loops { OnOk result (map loop self.new.loops.items ≡ map loop self.old.loops.items
+            ++ row_loops (context_of self.old) (trees.statements list.now)) }
         ensures value { IfOk result (λ r. statements r.items ≡ row_of (context_of self.old) (trees.statements list.now)) }
     {
         let mut row = Vec::new(alloc);

@@ -10,10 +10,8 @@ use cilk_lexer::lexer::{Bad, LexFault, lex};
 use cilk_syntax::tree::Tree;
 use cilk_texts::fault::{TextFault, TextNumber};
 use cilk_token::token::Token;
+use cilk_types::limits::MAX_TEXT;
 use std::alloc::Global;
-
-/// The greatest length of a program text, in bytes.
-pub const LONGEST: usize = 262_144;
 
 fn number_of(bad: Bad) -> TextNumber
     ensures { result ≡ Texts.number_of bad }
@@ -37,15 +35,15 @@ fn place_of(text: &[u8], rest: &[Token]) -> usize
 
 /// The tree of a program text, or its first fault. Linear in the text's length.
 ///
-/// A text of more than [`LONGEST`] bytes comes first. Next come bytes that aren't tokens, by place; then, by place, a
+/// A text of more than [`MAX_TEXT`] bytes comes first. Next come bytes that aren't tokens, by place; then, by place, a
 /// token that no text of the grammar has there, and one that goes past a limit: it begins a statement or a part of an
 /// expression that stands in more than 64 others, or it is an operator behind 256 of its expression.
 pub fn parse(alloc: Global, text: &[u8]) -> Result<Tree, TextFault>
     ensures tree { IfOk result (λ t. IsText text.now t) }
     ensures fault { IfErr result (λ e. IsTextFault e text.now) }
 {
-    if text.len() > LONGEST {
-        return Err(TextFault::At(TextNumber::TooLong, LONGEST));
+    if text.len() > MAX_TEXT {
+        return Err(TextFault::At(TextNumber::TooLong, MAX_TEXT));
     }
     let tokens = match lex(alloc, text) {
         Ok(tokens) => tokens,

@@ -66,7 +66,7 @@ stretches (child b w u r) k (d ∷ ds) kids loose n own =
 abbrev pub covered : {W V : Type 0} → Run W → State W V → List Stretch
 covered t s = stretches t 1 (deeds_at (s.frames [])) (below s.frames) s.stolen [] 0
 
--- Each piece covers one stretch of the serial run without gaps, the stretches lie apart, and together they are the cut.
+-- Each piece covers at most one stretch of the serial run, without gaps, the stretches lie apart, and together they are the cut.
 pub record AreStretches {W V : Type 0} (t : Run W) (s : State W V) : Type 0 where
   pub whole : marks (covered t s) ≡ made_at t 1 (deeds_at (s.frames [])) (below s.frames)
   pub one : (a b : ℕ) (n : Name) (x y : ℕ) → slice_get (covered t s) a ≡ Some (Held n x) → slice_get (covered t s) b ≡ Some (Held n y) → a ≡ b

@@ -12,8 +12,8 @@ ghost use Rattle.cilk_runs.specs.Cuts.{IsConsistent};
 ghost use Rattle.cilk_runs.specs.Stretches.{AreStretches, PiecesAreViews};
 ghost use Rattle.cilk_runs.specs.Theorem.{IsNestedSerialRun, HasNoRaces, follows};
 
-/// In each consistent cut of a serial run, and so in each state that steps lead to where the run has no race, a piece covers one
-/// stretch of the run without gaps, the pieces' stretches lie apart, and together they are the cut. A child's piece covers
+/// In each consistent cut of a serial run, and so in each state that steps lead to where the run has no race, a piece covers at
+/// most one stretch of the run, without gaps, the pieces' stretches lie apart, and together they are the cut. A child's piece covers
 /// what its parent's covered before, a thief's begins where the thief does, and a sync's covers its whole block.
 pub fn pieces_cover_stretches<W, V>()
     ensures { (M : Instance → MonoidStructure V) (C : Costs W) (w : W) (t : Run W) (opening : Cell → ℤ) (s : State W V) → IsConsistent M C w t opening s → AreStretches t s }

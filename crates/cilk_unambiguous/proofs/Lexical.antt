@@ -10,8 +10,8 @@ use Rattle.cilk_token.specs.declared.token.Kind.TheVariants as kinds
 use Rattle.cilk_token.specs.declared.token.Token.{Token}
 use Rattle.cilk_token.specs.Kinds.{is_reserved, spelling}
 use Rattle.cilk_lexer.specs.declared.lexer.Class.TheVariants as classes
-use Rattle.cilk_lexer.specs.declared.lexer.Gap.{Gap}
-use Rattle.cilk_lexer.specs.declared.lexer.Gap.TheVariants as gaps
+use Rattle.cilk_lexer.specs.Gaps.{Gap}
+use Rattle.cilk_lexer.specs.Gaps as gaps
 use Rattle.cilk_lexer.specs.declared.lexer.Bad.{Bad}
 use Rattle.cilk_lexer.specs.declared.lexer.Bad.TheVariants as bads
 use Rattle.cilk_lexer.specs.Lexing.{IsBad, BeginsNone, Faults, Here, Behind, Beyond, IsFirstFault, is_numeral, is_blank, is_digit, is_letter, front_of, begins_with, after_close, value_of, starts_digit, starts_letter, Passes, Spells, Directs, directive_of, Lexes, Ended, Skipped, Found, AreTokens}

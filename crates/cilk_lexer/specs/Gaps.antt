@@ -1,0 +1,7 @@
+-- What stands between tokens.
+
+pub data Gap : Type 0 where
+  Blank : Gap
+  LineComment : Gap
+  BlockComment : Gap
+  Directive : Gap
