@@ -53,10 +53,10 @@ fn append(bytes: &mut [u8; MAX_LINE], length: usize, more: &[u8])
 impl Default for LineReader {
     ghost use Rattle.std.specs.Prelude.{ℕ, List};
     ghost use Rattle.cilk_cert_text.specs.Reading.{reading_of};
-    ghost use Rattle.cilk_cert_text.specs.Readers.{ahead, fault_of};
+    ghost use Rattle.cilk_cert_text.specs.Readers.{ahead, fault_of, room_of};
 
     // It stands at the beginning of a text.
-    ghost is_default = { λ r. ((text : List ℕ) → ahead r text ≡ reading_of text) × (fault_of r ≡ None) };
+    ghost is_default = { λ r. ((text : List ℕ) → ahead r text ≡ reading_of text) × (fault_of r ≡ None) × (room_of r ≡ 200357477) };
 
     fn default() -> Self {
         LineReader::new()

@@ -7,6 +7,7 @@ ghost use Rattle.cilk_tool.specs.Serving.{Surroundings};
 ghost use Rattle.cilk_tool.specs.Words.{order_in};
 ghost use Rattle.cilk_tool.specs.declared.disk.TheConstants.{MAX_FILE};
 ghost use Rattle.cilk_tool.specs.declared.streams.TheConstants.{MAX_READ};
+ghost use Rattle.cilk_tool.specs.declared.words.TheConstants.{MAX_WORKERS};
 
 /// Two replies to the same words, files and input that are no want of memory and blame no device are equal.
 #[tactic(auto, using(crate::proofs::OneReply::one_reply))]
@@ -14,8 +15,10 @@ pub fn reply_is_one()
     ensures { (w : Surroundings) (words : List Text) → HasOneReply w (order_in words) }
 {}
 
-/// The bytes of the largest file, and of the longest text that is taken from standard input, by number.
+/// The bytes of the largest file and of the longest text that is taken from standard input, and the most workers of a script, by
+/// number.
 pub fn limits_are()
     ensures file { MAX_FILE ≡ 268435456 }
     ensures input { MAX_READ ≡ 262145 }
+    ensures workers { MAX_WORKERS ≡ 64 }
 {}

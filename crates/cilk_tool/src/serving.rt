@@ -133,8 +133,8 @@ pub fn serve_and_tell<F: Files, R: Read, O: Write, E: Write>(
 }
 
 /// Serves the words after the program's own name: reads what they ask for, shows one reply, and answers the status to
-/// end with. Standard input is read only where no words are given, in at most 262,145 reads. A fault of `err` changes
-/// nothing else.
+/// end with. A fault of `err` changes nothing else. (Standard input is read only where no words are given, in at most 262,145
+/// reads: `streams::receive` promises the number.)
 pub fn serve<F: Files, R: Read, O: Write, E: Write>(
     alloc: Global,
     words: &[&str],
