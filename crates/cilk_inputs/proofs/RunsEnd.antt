@@ -124,16 +124,16 @@ inputs_run_along p inputs others r es opening is are orderly nowhere =
     let s = story_on p others r es opening in
     let only : (r' : Transcript) (es' : List Event) (outcome : Outcome) → IsSerialRun p others r' es' (Leaves outcome) → (named p r' ≡ run_of c) × (es' ≡ s.events) =
     λ r' es' outcome runs.
-        let same : named p r' ≡ run_of c =
-        runs_are_one World View monoid_of (next p others) (same_frame p) (first_world p) (opening_values p others) (unit_of monoid_of) (named p r') (run_of c)
-        (named_runs_are_serial p others r' es' outcome is.named is.words are runs) run in
-        let list = events_numbered p inputs r es (Leaves is.outcome) is.named is.runs in
-        let list' = events_numbered p others r' es' (Leaves outcome) is.named runs in (
-          same,
-          list'.events
+    let same : named p r' ≡ run_of c =
+    runs_are_one World View monoid_of (next p others) (same_frame p) (first_world p) (opening_values p others) (unit_of monoid_of) (named p r') (run_of c)
+    (named_runs_are_serial p others r' es' outcome is.named is.words are runs) run in
+    let list = events_numbered p inputs r es (Leaves is.outcome) is.named is.runs in
+    let list' = events_numbered p others r' es' (Leaves outcome) is.named runs in (
+      same,
+      list'.events
           ∙ events_are p others r r' (first_world p) (opening_values p others) (unit_of monoid_of) c like same is_course
           ∙ ap (λ l. with_values l (trace (run_of c))) (sym list.events),
-        ) in
+    ) in
     record {
       course = run;
       ends = λ ticks. within_limits p others (run_of c) is.named is.words are run (keeps p inputs others t (run_of c) ticks much limits.within);
