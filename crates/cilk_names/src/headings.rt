@@ -97,9 +97,7 @@ pub(crate) fn known<'a>(
     signatures: &'a [Signature],
     items: &[Item],
 ) -> Result<Table<'a>, AllocError>
-    ensures { IfOk result (λ t. names_of t
-        ≡ record { text = text.now; signatures = signatures.now;
-        inner = functions_known text.now 0 (trees.items_of items.now); outer = []; level = 0 }) }
+    ensures { IfOk result (λ t. names_of t ≡ record { text = text.now; signatures = signatures.now; inner = functions_known text.now 0 (trees.items_of items.now); outer = []; level = 0 }) }
 {
     let mut table = Table::new(alloc, text, signatures);
     let mut count = 0;
@@ -112,9 +110,7 @@ pub(crate) fn known<'a>(
 
 /// Knows the function of an item by its number, if it is one.
 fn know(table: &mut Table, item: &Item, number: usize) -> Result<(), AllocError>
-    ensures names { OnOk result (names_of table.new
-        ≡ (let n = names_of table.old in
-        record n { inner = with_item n.text n.inner number (trees.item item.now) })) }
+    ensures names { OnOk result (names_of table.new ≡ (let n = names_of table.old in record n { inner = with_item n.text n.inner number (trees.item item.now) })) }
 {
     match item {
         Item::Globals(_) | Item::Reducer(_) => Ok(()),

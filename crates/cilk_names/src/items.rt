@@ -103,10 +103,7 @@ impl Resolver<'_> {
 
     /// Enters a function, in whose scope its parameters stand.
     fn begin(&mut self, alloc: Global, number: u32, returns: ReturnType) -> Result<(), AllocError>
-        ensures context { OnOk result (context_of self.new
-            ≡ record { names = opened (names_of self.old.table);
-            frame = record { body = Body.Function number; returns = returns; cells = 0; heading = true };
-            given = []; own = []; reducers = self.old.reducers; loops = length self.old.loops.items }) }
+        ensures context { OnOk result (context_of self.new ≡ record { names = opened (names_of self.old.table); frame = record { body = Body.Function number; returns = returns; cells = 0; heading = true }; given = []; own = []; reducers = self.old.reducers; loops = length self.old.loops.items }) }
         ensures same { OnOk result ((self.new.loops ≡ self.old.loops) × (self.new.first ≡ self.old.first)) }
     {
         self.table.open(alloc)?;
@@ -123,13 +120,9 @@ impl Resolver<'_> {
 
     /// Leaves a function, of which so many cells are its words.
     fn end(&mut self, alloc: Global, words: u32, body: Vec<Stmt>) -> Function
-        ensures names { (outer : List Scope) (inner : Scope)
-            → (let n = names_of self.old.table in n.outer) ≡ outer ++ inner ∷ []
-            → names_of self.new.table ≡ record (names_of self.old.table) { inner = inner; outer = outer } }
+        ensures names { (outer : List Scope) (inner : Scope) → (let n = names_of self.old.table in n.outer) ≡ outer ++ inner ∷ [] → names_of self.new.table ≡ record (names_of self.old.table) { inner = inner; outer = outer } }
         ensures same { (self.new.loops ≡ self.old.loops) × (self.new.first ≡ self.old.first) × (self.new.reducers ≡ self.old.reducers) }
-        ensures made { function result
-            ≡ record { words = words; given = self.old.given.items; cells = self.old.frame.cells;
-            reducers = self.old.own.items; body = statements body.items } }
+        ensures made { function result ≡ record { words = words; given = self.old.given.items; cells = self.old.frame.cells; reducers = self.old.own.items; body = statements body.items } }
     {
         self.table.close();
         let given = mem::replace(&mut self.given, Vec::new(alloc));

@@ -247,10 +247,7 @@ impl Resolver<'_> {
 
     /// Closes the innermost scope.
     fn close(&mut self)
-        ensures context { (outer : List Scope) (inner : Scope)
-            → (let n = names_of self.old.table in n.outer) ≡ outer ++ inner ∷ []
-            → context_of self.new ≡ record (context_of self.old) {
-            names = record (names_of self.old.table) { inner = inner; outer = outer } } }
+        ensures context { (outer : List Scope) (inner : Scope) → (let n = names_of self.old.table in n.outer) ≡ outer ++ inner ∷ [] → context_of self.new ≡ record (context_of self.old) { names = record (names_of self.old.table) { inner = inner; outer = outer } } }
         ensures same { (self.new.loops ≡ self.old.loops) × (self.new.first ≡ self.old.first) }
     {
         self.table.close();
@@ -292,15 +289,9 @@ impl Resolver<'_> {
     /// Leaves the body of a parallel loop, which takes its place among the loops.
     fn leave(&mut self, alloc: Global, outside: Outside, body: Box<Stmt>) -> Result<(), AllocError>
         requires { outside.number < length self.old.loops.items }
-        ensures context { OnOk result ((outer : List Scope) (inner : Scope)
-            → (let n = names_of self.old.table in n.outer) ≡ outer ++ inner ∷ []
-            → context_of self.new ≡ record (context_of self.old) { names = record (names_of self.old.table)
-            { inner = inner; outer = outer; level = outside.level }; frame = outside.frame }) }
+        ensures context { OnOk result ((outer : List Scope) (inner : Scope) → (let n = names_of self.old.table in n.outer) ≡ outer ++ inner ∷ [] → context_of self.new ≡ record (context_of self.old) { names = record (names_of self.old.table) { inner = inner; outer = outer; level = outside.level }; frame = outside.frame }) }
         ensures first { self.new.first ≡ self.old.first }
-        ensures loops { OnOk result (map loop self.new.loops.items
-            ≡ slice_set (map loop self.old.loops.items) outside.number
-            (record { within = outside.frame.body; cells = self.old.frame.cells;
-            body = Then (statement body.value) Nothing })) }
+        ensures loops { OnOk result (map loop self.new.loops.items ≡ slice_set (map loop self.old.loops.items) outside.number (record { within = outside.frame.body; cells = self.old.frame.cells; body = Then (statement body.value) Nothing })) }
     {
         let row = row_of_one(alloc, Box::into_inner(body))?;
         let index = outside.number as usize;
