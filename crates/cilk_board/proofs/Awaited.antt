@@ -3,7 +3,7 @@
 -- - `keys_at`: the keys of one reducer's row;
 -- - `spawn`, `among`: the child among the block's stolen children;
 -- - `may_arrive`: the law.
-use Rattle.std.proofs.Common.{◌≡◌, inl, inr, ⊎_elim, ◌+◌, ◌<◌, ℕ, suc, Bool, true, false, true≢false, cond, ℤ, List, [], ◌∷◌, ◌++◌, length, slice_get, Some, refl, sym, ap, ap₂, ◌∙◌, subst, arith}
+use Rattle.std.proofs.Common.{◌≡◌, inl, inr, ⊎_elim, ◌+◌, ◌<◌, ℕ, suc, Bool, true, false, true≢false, cond, ℤ, List, [], ◌∷◌, ◌++◌, length, slice_get, Some, refl, sym, ap, ◌∙◌, subst, arith}
 use Rattle.std.proofs.lemmas.Bool.{cases_Bool}
 use Rattle.cilk_types.specs.declared.event.Instance as numbered
 use Rattle.cilk_types.specs.declared.invocation.Invocation.TheVariants.{Spawn}
@@ -32,7 +32,6 @@ use Rattle.cilk_board.specs.Blocks.{stolen_in}
 use Rattle.cilk_board.specs.Boards.{is_there, run_at, waits_at, HasBlock, IsWhere, Keeps, Sits, ShowsBy}
 use Rattle.cilk_board.specs.Desks.{BlockIsOver, Desk}
 use Rattle.cilk_board.specs.EndParts.{PiecesMayArrive}
-use Rattle.cilk_board.specs.Numbered.{AreNamed}
 use Rattle.cilk_board.specs.Parents.{OutliveChildren}
 use Rattle.cilk_board.specs.Steps.{HasCome}
 use Rattle.cilk_board.proofs.Blocks as blocks

@@ -3,8 +3,7 @@
 -- - `changed_apart`, `working_back`, `altered_known`: changes at two places;
 -- - `closed_by`, `frames_by`: a frame that is finished;
 -- - `runs_left`, `go_back`, `handed_in`: the three ways in which a frame ends.
-use Rattle.std.proofs.Common.{◌≡◌, inl, inr, ⊎_elim, ◌+◌, ◌-◌, ◌<◌, ℕ, zero, suc, Bool, true, false, cond, ℤ, List, [], ◌∷◌, ◌++◌, length, slice_get, Option, Some, None, refl, sym, ap, ap₂, ◌∙◌, subst, arith}
-use Rattle.cilk_types.specs.declared.event.Instance as numbered
+use Rattle.std.proofs.Common.{◌≡◌, ◌-◌, ℕ, zero, suc, Bool, true, false, cond, ℤ, List, [], ◌∷◌, slice_get, Some, refl, sym, ap, ap₂, ◌∙◌, subst, arith}
 use Rattle.cilk_program.specs.declared.ask.Ask.TheVariants as asks
 use Rattle.cilk_program.specs.Syntax.{Source}
 use Rattle.cilk_lower.specs.Code.{CodeView}
@@ -18,7 +17,7 @@ use Rattle.cilk_worlds.specs.Worlds.{World}
 use Rattle.cilk_board.specs.declared.board.Board.{Board}
 use Rattle.cilk_board.specs.declared.seat.Seat.{Seat}
 use Rattle.cilk_board.specs.declared.seat.Status.{Status}
-use Rattle.cilk_board.specs.declared.seat.Status.TheVariants.{Held, Offered}
+use Rattle.cilk_board.specs.declared.seat.Status.TheVariants.{Held}
 use Rattle.cilk_board.specs.declared.seat.Worker.{Worker}
 use Rattle.cilk_board.specs.Boards.{ShowsBy}
 use Rattle.cilk_board.specs.Desks.{Desk}

@@ -6,14 +6,11 @@
 -- - `keeps_stays`, `where_else`, `other`, `itself`, `holds_at`: blocks, seats and workers;
 -- - `waits_as`, `desk_kept`: the desk;
 -- - `shown_after`: the whole.
-use Rattle.std.proofs.Common.{◌≡◌, ◌⊎◌, inl, inr, ⊎_elim, ◌+◌, ◌<◌, ◌≤◌, ℕ, zero, suc, nat_eq, eq-eqb, eqb-true, Bool, true, false, true≢false, cond, ℤ, List, [], ◌∷◌, ◌++◌, length, map, set, slice_get, sum, Option, Some, None, refl, sym, ap, ap₂, ◌∙◌, subst, arith}
+use Rattle.std.proofs.Common.{◌≡◌, ◌⊎◌, inl, inr, ⊎_elim, ◌+◌, ◌<◌, ◌≤◌, ℕ, suc, nat_eq, eq-eqb, eqb-true, Bool, true, false, true≢false, cond, ℤ, List, [], ◌∷◌, ◌++◌, length, map, set, slice_get, sum, Option, Some, None, refl, sym, ap, ap₂, ◌∙◌, subst, arith}
 use Rattle.std.proofs.lemmas.Bool.{cases_Bool}
 use Rattle.cilk_types.specs.declared.event.Event.TheVariants as events
 use Rattle.cilk_types.specs.declared.event.Instance as numbered
-use Rattle.cilk_types.specs.declared.invocation.Invocation.TheVariants.{Call, Spawn}
-use Rattle.cilk_types.specs.declared.limits.TheConstants.{MAX_CELLS, MAX_FRAMES}
 use Rattle.cilk_types.specs.declared.outcome.Outcome.{Outcome}
-use Rattle.cilk_monoid.specs.Values.{ViewValue}
 use Rattle.cilk_monoid.specs.declared.kind.MonoidKind.{MonoidKind}
 use Rattle.cilk_program.specs.declared.ask.Ask.TheVariants as asks
 use Rattle.cilk_program.specs.declared.syntax.Reducer as syntax
@@ -22,24 +19,22 @@ use Rattle.cilk_program.specs.Scopes.{Scope, instance_in}
 use Rattle.cilk_program.specs.SerialRun.{global_reducer, own_reducers}
 use Rattle.cilk_program.specs.Syntax.{Source}
 use Rattle.cilk_lower.specs.Code.{CodeView}
-use Rattle.cilk_lower.specs.Layout.{LaysOut, function_frame}
-use Rattle.cilk_activations.specs.Sight.{HasScope}
+use Rattle.cilk_lower.specs.Layout.{LaysOut}
 use Rattle.cilk_activations.specs.declared.activation.Activation.{Activation}
 use Rattle.cilk_hypermap.specs.Hypermap.{view_in, value_in}
 use Rattle.cilk_hypermap.specs.declared.hypermap.Hypermap.{Hypermap}
 use Rattle.cilk_join.specs.Joins.{JoinView}
-use Rattle.cilk_join.specs.Rows.{Wait, Stands}
 use Rattle.cilk_join.specs.Waits.{shown}
 use Rattle.cilk_runs.specs.Cuts.{times, joined_at, spawn_bit, sync_bit}
 use Rattle.cilk_runs.specs.Costs.{Total, TickTotal, EventTotal, FrameTotal, CellTotal, cost}
-use Rattle.cilk_runs.specs.Machine.{Frame, State, HasEnd, Makes, after_deed, after_views, deed_of, deeds_at, effect, joined_by, started, strands}
+use Rattle.cilk_runs.specs.Machine.{Frame, State, HasEnd, Makes, after_deed, after_views, deed_of, deeds_at, effect, joined_by, started}
 use Rattle.cilk_runs.specs.Monoids.{numbers_of, unit_of}
-use Rattle.cilk_runs.specs.Progress.{BlockHasEnded, GoesOn, HasEnded, HasNext, child_after}
-use Rattle.cilk_runs.specs.Runs.{Name, same_name, Cell, Global, Own, Instance, Output, Reducer, has_instance, Ask, End, Pass, Resume, Sync, Reads, Writes, Syncs, Ends, Passes, Deed, Does, Invokes}
+use Rattle.cilk_runs.specs.Progress.{BlockHasEnded, GoesOn, HasNext, child_after}
+use Rattle.cilk_runs.specs.Runs.{Name, same_name, Cell, Global, Own, Instance, Output, Reducer, has_instance, End, Pass, Resume, Sync, Reads, Writes, Syncs, Ends, Passes, Deed, Does, Invokes}
 use Rattle.cilk_runs.proofs.Basics.{same_name-refl, same_name-eq}
 use Rattle.cilk_runs.proofs.Started.{started_does}
-use Rattle.cilk_worlds.specs.Machine.{costs, has_ended, is_end, next, retired_by, taken}
-use Rattle.cilk_worlds.specs.Reducers.{View, kind_of, monoid_of, views_of}
+use Rattle.cilk_worlds.specs.Machine.{costs, has_ended, next, retired_by, taken}
+use Rattle.cilk_worlds.specs.Reducers.{View, kind_of, monoid_of}
 use Rattle.cilk_worlds.specs.Steps.{Next, outcome_in}
 use Rattle.cilk_worlds.specs.Views.{IsViewOf}
 use Rattle.cilk_worlds.specs.Worlds.{World, global_named, own_named, reducer_seen}
@@ -51,7 +46,7 @@ use Rattle.cilk_board.specs.declared.seat.Status.{Status}
 use Rattle.cilk_board.specs.declared.seat.Status.TheVariants.{Held, Calling, Offered, Waiting, Finished}
 use Rattle.cilk_board.specs.declared.seat.Worker.{Worker}
 use Rattle.cilk_board.specs.Acting.{IsShown}
-use Rattle.cilk_board.specs.Blocks.{IsRun, Lays, stolen_in}
+use Rattle.cilk_board.specs.Blocks.{Lays, stolen_in}
 use Rattle.cilk_board.specs.Boards.{carried, greatest, hand_of, offers_of, IsBare, IsDue, IsUsed, is_resuming, is_there, run_at, stolen_at_block, waits_at, HasBlock, Holds, IsDesk, IsWhere, Keeps, Sits, ShowsBy, Tells}
 use Rattle.cilk_board.specs.Desks.{BlockIsOver, Desk, IsIn}
 use Rattle.cilk_board.specs.Ending.{Closes, created_by}

@@ -5,11 +5,10 @@
 -- - `unfinished`, `over_now`: whether the block is complete;
 -- - `moved`, `parent_sits`, `holds_parent`, `desk_is`: workers, the parent's seat, who has it, the desk;
 -- - `arrivals_are_shown`: the law.
-use Rattle.std.proofs.Common.{◌≡◌, ◌⊎◌, inl, inr, ⊎_elim, ◌+◌, ◌<◌, ◌≤◌, ℕ, zero, suc, nat_eq, eq-eqb, eqb-true, Bool, true, false, true≢false, cond, ℤ, List, [], ◌∷◌, ◌++◌, length, map, set, slice_get, Option, Some, None, refl, sym, ap, ap₂, ◌∙◌, subst, append_assoc, arith}
+use Rattle.std.proofs.Common.{◌≡◌, ◌⊎◌, inl, inr, ⊎_elim, ◌+◌, ◌<◌, ◌≤◌, ℕ, suc, nat_eq, eq-eqb, eqb-true, Bool, true, false, true≢false, cond, ℤ, List, [], ◌∷◌, ◌++◌, length, set, slice_get, Option, Some, None, refl, sym, ap, ap₂, ◌∙◌, subst, append_assoc, arith}
 use Rattle.std.specs.Prelude.{if◌then◌else◌, nat_lt}
 use Rattle.std.proofs.lemmas.Bool.{cases_Bool}
 use Rattle.cilk_types.specs.declared.event.Instance as numbered
-use Rattle.cilk_types.specs.declared.invocation.Invocation.{Invocation}
 use Rattle.cilk_types.specs.declared.invocation.Invocation.TheVariants.{Call, Spawn}
 use Rattle.cilk_monoid.specs.Values.{ViewValue}
 use Rattle.cilk_program.specs.declared.ask.Ask.TheVariants as asks
@@ -17,7 +16,6 @@ use Rattle.cilk_program.specs.Syntax.{Source}
 use Rattle.cilk_lower.specs.Code.{CodeView}
 use Rattle.cilk_activations.specs.declared.activation.Activation.{Activation}
 use Rattle.cilk_hypermap.specs.Hypermap.{value_in}
-use Rattle.cilk_hypermap.specs.declared.hypermap.Hypermap.{Hypermap}
 use Rattle.cilk_join.specs.Joins.{JoinView, arrived_at, passed as passed_block, passes}
 use Rattle.cilk_join.specs.Products.{Product, product}
 use Rattle.cilk_join.specs.Rows.{Row, Stands, Wait, is_empty}
@@ -51,7 +49,7 @@ use Rattle.cilk_board.specs.Parents.{AreStarted, OutliveChildren}
 use Rattle.cilk_board.specs.Seats.{changed, counted, finished, moved_to, passed}
 use Rattle.cilk_board.specs.Steps.{HasCome}
 use Rattle.cilk_board.specs.Waiting.{idling}
-use Rattle.cilk_board.specs.Workers.{altered, holding}
+use Rattle.cilk_board.specs.Workers.{holding}
 use Rattle.cilk_board.proofs.Altered as altering
 use Rattle.cilk_board.proofs.Among.{among_low, in_less, in_rest, lays_among, not_in, stolen_apart}
 use Rattle.cilk_board.proofs.Blocks as blocks

@@ -2,9 +2,8 @@
 --
 -- - `globals_same`, `output_same`, `finals_same`: global cells, the output, the last values of global reducers;
 -- - `left_is`: the outcome.
-use Rattle.std.proofs.Common.{◌≡◌, ◌+◌, ◌<◌, ◌≤◌, ℕ, zero, suc, ℤ, List, [], ◌∷◌, ◌++◌, length, take, slice_get, Option, Some, None, refl, sym, ap, ap₂, ◌∙◌, subst, arith}
+use Rattle.std.proofs.Common.{◌≡◌, ◌+◌, ◌<◌, ℕ, zero, suc, ℤ, List, [], ◌∷◌, length, take, slice_get, Option, Some, None, refl, sym, ap, ap₂, ◌∙◌, arith}
 use Rattle.std.specs.Option.{option_map}
-use Rattle.cilk_types.specs.declared.event.Instance as numbered
 use Rattle.cilk_types.specs.declared.outcome.Final.{Final}
 use Rattle.cilk_types.specs.declared.outcome.Outcome.{Outcome}
 use Rattle.cilk_monoid.specs.declared.kind.MonoidKind.{MonoidKind}
@@ -21,7 +20,7 @@ use Rattle.cilk_hypermap.specs.Views.{or_unit, output}
 use Rattle.cilk_hypermap.specs.declared.hypermap.Hypermap.{Hypermap}
 use Rattle.cilk_runs.specs.Machine.{State, deeds_at}
 use Rattle.cilk_runs.specs.Runs.{Global, Instance, Output}
-use Rattle.cilk_worlds.specs.Reducers.{View, elements_of, kind_of, value_of}
+use Rattle.cilk_worlds.specs.Reducers.{View, elements_of, value_of}
 use Rattle.cilk_worlds.specs.Steps.{finals_in, outcome_in, result_in}
 use Rattle.cilk_worlds.specs.Views.{IsViewOf}
 use Rattle.cilk_worlds.specs.Worlds.{World, global_named}

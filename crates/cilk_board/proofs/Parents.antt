@@ -5,7 +5,7 @@
 -- - `named_invoke`, `names_are_kept`: what frames run;
 -- - `own_more`, `made`, `stolen_then`: children after an event, and after a steal;
 -- - `parents_outlive`: the law.
-use Rattle.std.proofs.Common.{◌≡◌, ◌⊎◌, inl, inr, ⊎_elim, ◌<◌, ◌≤◌, ℕ, suc, Bool, true, false, true≢false, cond, ℤ, List, [], ◌∷◌, ◌++◌, Option, Some, None, refl, sym, ap, ap₂, ◌∙◌, subst, append_assoc, arith}
+use Rattle.std.proofs.Common.{◌≡◌, ◌⊎◌, inl, inr, ⊎_elim, ◌≤◌, ℕ, suc, Bool, true, false, true≢false, cond, ℤ, List, [], ◌∷◌, ◌++◌, Option, Some, None, refl, sym, ap, ap₂, ◌∙◌, subst, append_assoc, arith}
 use Rattle.cilk_types.specs.declared.invocation.Invocation.{Invocation}
 use Rattle.cilk_types.specs.declared.invocation.Invocation.TheVariants.{Spawn}
 use Rattle.cilk_program.specs.declared.ask.Ask as language
@@ -28,7 +28,7 @@ use Rattle.cilk_board.specs.Ordinals.{AreCounted}
 use Rattle.cilk_board.specs.Parents.{AreStarted, GoesBeside, NamesAreKept, OutliveChildren, ParentsOutlive}
 use Rattle.cilk_board.proofs.Carries.{ended_on}
 use Rattle.cilk_board.proofs.Histories.{does_as_asked}
-use Rattle.cilk_board.proofs.Onward.{longer, name_off}
+use Rattle.cilk_board.proofs.Onward.{name_off}
 use Rattle.cilk_board.proofs.Ordinals.{children_are_counted, next_is_none}
 use Rattle.cilk_board.proofs.Stages.{synced_before_end}
 use Rattle.cilk_board.proofs.Thieves.{snoc_name}

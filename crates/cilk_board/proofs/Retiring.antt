@@ -3,7 +3,7 @@
 -- - `AreOwn`, `own_named_there`: the numbers of a frame's own reducers;
 -- - `lost_value`, `lost_views`: the views that are left;
 -- - `lost_bare`: they hold nothing of frames that haven't begun.
-use Rattle.std.proofs.Common.{◌≡◌, ◌+◌, ◌<◌, ℕ, zero, suc, Bool, true, false, true≢false, cond, IsTrue, ℤ, List, [], ◌∷◌, ◌++◌, length, slice_get, Option, Some, None, refl, sym, ap, ap₂, ◌∙◌, subst, arith}
+use Rattle.std.proofs.Common.{◌≡◌, ◌+◌, ℕ, suc, Bool, true, false, true≢false, cond, IsTrue, List, [], ◌∷◌, slice_get, Option, Some, None, refl, sym, ap, ◌∙◌, subst, arith}
 use Rattle.std.specs.Prelude.{◌&&◌}
 use Rattle.std.proofs.lemmas.Bool.{and_parts, and_from}
 use Rattle.cilk_types.specs.declared.event.Instance as numbered

@@ -6,11 +6,10 @@
 -- - `parent_sits`, `holds_parent`: the parent's seat, and the worker that has it;
 -- - `desk_called`, `desk_offered`: the desk;
 -- - `returns_are_shown`: the law.
-use Rattle.std.proofs.Common.{◌≡◌, ◌⊎◌, inl, inr, ⊎_elim, ◌+◌, ◌-◌, ◌<◌, ◌≤◌, ℕ, zero, suc, Bool, true, false, true≢false, cond, ℤ, List, [], ◌∷◌, ◌++◌, length, map, set, slice_get, sum, Option, Some, None, refl, sym, ap, ap₂, ◌∙◌, subst, arith}
+use Rattle.std.proofs.Common.{◌≡◌, ◌⊎◌, inl, inr, ⊎_elim, ◌+◌, ◌-◌, ◌<◌, ℕ, suc, Bool, true, false, true≢false, cond, ℤ, List, [], ◌∷◌, ◌++◌, length, map, set, slice_get, sum, Some, None, refl, sym, ap, ◌∙◌, subst, arith}
 use Rattle.std.specs.Prelude.{remove}
 use Rattle.std.specs.Option.{option_map}
 use Rattle.std.proofs.lemmas.List.Edits.{length-remove}
-use Rattle.cilk_types.specs.declared.event.Instance as numbered
 use Rattle.cilk_types.specs.declared.invocation.Invocation.{Invocation}
 use Rattle.cilk_monoid.specs.Laws.{MonoidStructure}
 use Rattle.cilk_program.specs.declared.ask.Ask.TheVariants as asks
@@ -18,10 +17,9 @@ use Rattle.cilk_program.specs.Syntax.{Source}
 use Rattle.cilk_lower.specs.Code.{CodeView}
 use Rattle.cilk_activations.specs.declared.activation.Activation.{Activation}
 use Rattle.cilk_hypermap.specs.Hypermap.{value_in}
-use Rattle.cilk_join.specs.Waits.{shown}
 use Rattle.cilk_runs.specs.Machine.{Frame, State, HasEnd, Makes, deeds_at, started}
 use Rattle.cilk_runs.specs.Progress.{AfterChild, AfterEvent, AfterSteal, AtBegin, GoesOn, child_after}
-use Rattle.cilk_runs.specs.Runs.{Name, Instance, End, Reads, Writes, Syncs, Ends, Passes, Deed, Does, Invokes}
+use Rattle.cilk_runs.specs.Runs.{Name, Instance, Reads, Writes, Syncs, Ends, Passes, Deed, Does, Invokes}
 use Rattle.cilk_runs.proofs.Basics.{nil_snoc, same_name-refl, snoc_one}
 use Rattle.cilk_runs.proofs.Started.{started_invokes}
 use Rattle.cilk_worlds.specs.Machine.{costs, has_ended}
@@ -40,7 +38,7 @@ use Rattle.cilk_board.specs.Acting.{IsShown}
 use Rattle.cilk_board.specs.Boards.{carried, hand_of, offers_of, is_resuming, is_there, IsBare, IsUsed, HasBlock, Holds, IsDesk, IsWhere, Sits, ShowsBy}
 use Rattle.cilk_board.specs.Desks.{Desk, Did, Chooses, IsIn, Settles, does, holds, returns, withdrawn, without}
 use Rattle.cilk_board.specs.Ending.{GoesBack, IsEnded, ReturnsAreShown, TakesBack, WasNotOffered, WasOffered}
-use Rattle.cilk_board.specs.Numbered.{AreNamed, IsInstance}
+use Rattle.cilk_board.specs.Numbered.{AreNamed}
 use Rattle.cilk_board.specs.Parents.{AreStarted, OutliveChildren}
 use Rattle.cilk_board.specs.Seats.{changed, counted, finished, moved_to}
 use Rattle.cilk_board.specs.Steps.{HasCome}

@@ -3,18 +3,16 @@
 -- - `no_snoc`, `result_end`: names, and what an end gives;
 -- - `outcome_is`: what the run leaves;
 -- - `runs_end`: the law.
-use Rattle.std.proofs.Common.{◌≡◌, inl, inr, ⊎_elim, ◌+◌, ◌<◌, ◌≤◌, ℕ, zero, suc, Bool, true, false, true≢false, cond, ℤ, List, [], ◌∷◌, ◌++◌, length, set, slice_get, Option, Some, None, refl, sym, ap, ◌∙◌, subst, arith}
+use Rattle.std.proofs.Common.{◌≡◌, ⊎_elim, ◌+◌, ℕ, suc, true, false, true≢false, ℤ, List, [], ◌∷◌, ◌++◌, length, slice_get, Some, None, refl, sym, ap, ◌∙◌, subst}
 use Rattle.cilk_types.specs.declared.event.Instance as numbered
-use Rattle.cilk_types.specs.declared.outcome.Outcome.{Outcome}
-use Rattle.cilk_monoid.specs.declared.kind.MonoidKind.{MonoidKind}
 use Rattle.cilk_program.specs.declared.ask.Ask.TheVariants as asks
 use Rattle.cilk_program.specs.SerialRun.{global_reducer}
 use Rattle.cilk_program.specs.Syntax.{Source}
 use Rattle.cilk_lower.specs.Code.{CodeView}
 use Rattle.cilk_activations.specs.declared.activation.Activation.{Activation}
 use Rattle.cilk_hypermap.specs.Hypermap.{value_in}
-use Rattle.cilk_runs.specs.Machine.{Frame, State, HasEnd, Makes, deeds_at}
-use Rattle.cilk_runs.specs.Runs.{Name, Global, Instance, Output, End, Reads, Writes, Syncs, Ends, Passes, Deed, Does, Invokes}
+use Rattle.cilk_runs.specs.Machine.{State, HasEnd, Makes, deeds_at}
+use Rattle.cilk_runs.specs.Runs.{Name, Global, Instance, Output, Reads, Writes, Syncs, Ends, Passes, Deed, Does, Invokes}
 use Rattle.cilk_worlds.specs.Machine.{costs, has_ended, retired_by}
 use Rattle.cilk_worlds.specs.Reducers.{View, kind_of, monoid_of}
 use Rattle.cilk_worlds.specs.Steps.{Next, outcome_in, result_in}
@@ -26,7 +24,6 @@ use Rattle.cilk_board.specs.declared.seat.Seat.{Seat}
 use Rattle.cilk_board.specs.declared.seat.Status.TheVariants.{Held, Offered}
 use Rattle.cilk_board.specs.declared.seat.Worker.{Worker}
 use Rattle.cilk_board.specs.Acting.{IsShown}
-use Rattle.cilk_board.specs.Boards.{ShowsBy}
 use Rattle.cilk_board.specs.Desks.{Desk, Did, Chooses, Settles, does, ends_all, idle}
 use Rattle.cilk_board.specs.Ending.{EndsRun, IsEnded, RunsEnd}
 use Rattle.cilk_board.specs.Leaving.{outcome_of}

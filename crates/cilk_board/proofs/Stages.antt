@@ -4,7 +4,7 @@
 -- - `turn`, `at_end`: which stage comes next, and where a frame may end;
 -- - `walk`: the stage that a frame has come to by its deeds;
 -- - `synced_before_end`: the lemma.
-use Rattle.std.proofs.Common.{◌≡◌, ◌⊎◌, inl, inr, ⊎_elim, ℕ, zero, suc, ℤ, Bool, true, false, true≢false, cond, List, [], ◌∷◌, ◌++◌, Option, Some, None, refl, sym, ap, ◌∙◌, subst, append-nil, append_assoc, arith}
+use Rattle.std.proofs.Common.{◌≡◌, ◌⊎◌, inl, inr, ⊎_elim, ℕ, zero, suc, ℤ, Bool, true, false, true≢false, cond, List, [], ◌∷◌, ◌++◌, Some, None, refl, sym, ap, ◌∙◌, subst, append-nil, append_assoc, arith}
 use Rattle.std.proofs.lemmas.List.{map-append}
 use Rattle.cilk_types.specs.declared.fault.Fault.{Fault}
 use Rattle.cilk_types.specs.declared.invocation.Invocation.{Invocation}
@@ -15,7 +15,7 @@ use Rattle.cilk_program.specs.declared.ask.Ask.TheVariants as asks
 use Rattle.cilk_program.specs.Behaviour.{OpenAsk, frame_asks}
 use Rattle.cilk_program.specs.Syntax.{Source}
 use Rattle.cilk_meaning.specs.Order.{opening_asks, Stage, Fresh, Due, Going, Resuming, Synced, Closing, opened, goes_on, closes, follows}
-use Rattle.cilk_meaning.proofs.Closings.{AreOpening, IsOpening, IsSound, opened_sound, opening_asks_open}
+use Rattle.cilk_meaning.proofs.Closings.{IsOpening, IsSound, opened_sound, opening_asks_open}
 use Rattle.cilk_meaning.proofs.Legal.{Rest, after, unless_fault, IsLegal, fresh_fine}
 use Rattle.cilk_runs.specs.Machine.{started}
 use Rattle.cilk_runs.specs.Progress.{Answers, HasNoSync}

@@ -3,8 +3,7 @@
 -- - `split_at`: the deed that started a child of an ordinal;
 -- - `IsUnder`, `under_of`: a child that hasn't ended stands beside its parent;
 -- - `last_of`, `more_started`, `none_after`: deeds behind another.
-use Rattle.std.proofs.Common.{◌≡◌, ◌⊎◌, inl, inr, ⊎_elim, ◌<◌, ◌≤◌, ℕ, zero, suc, nat_eq, eqb-true, Bool, true, false, true≢false, List, [], ◌∷◌, ◌++◌, Option, Some, None, refl, sym, ap, ◌∙◌, subst, arith}
-use Rattle.std.proofs.lemmas.Bool.{cases_Bool}
+use Rattle.std.proofs.Common.{◌≡◌, ◌⊎◌, inl, inr, ⊎_elim, ◌<◌, ◌≤◌, ℕ, zero, suc, nat_eq, eqb-true, Bool, true, false, true≢false, List, [], ◌∷◌, ◌++◌, Option, Some, None, refl, sym, ap, ◌∙◌, arith}
 use Rattle.cilk_types.specs.declared.invocation.Invocation.{Invocation}
 use Rattle.cilk_types.specs.declared.invocation.Invocation.TheVariants.{Spawn}
 use Rattle.cilk_runs.specs.Machine.{Frame, State, deeds_at, started}

@@ -1,7 +1,7 @@
-use Rattle.std.proofs.Common.{◌≡◌, Bool, false, Result, Ok, Err, IfOk, refl, sym, subst}
+use Rattle.std.proofs.Common.{false, Result, Ok, Err, IfOk, refl, subst}
 use Rattle.cilk_join.specs.Products.{product}
 use Rattle.cilk_join.specs.Waits.{shown}
-use Rattle.cilk_board.specs.EndParts.{Brings, ToJoin}
+use Rattle.cilk_board.specs.EndParts.{ToJoin}
 use Rattle.cilk_board.specs.Events.{Arrives}
 use Rattle.cilk_board.proofs.ending.bring.Goals as goal
 

@@ -1,4 +1,4 @@
-use Rattle.std.proofs.Common.{◌≡◌, ◌-◌, cond, refl, sym, ap, ◌∙◌}
+use Rattle.std.proofs.Common.{◌-◌, cond, refl, sym, ap, ◌∙◌}
 use Rattle.cilk_board.specs.declared.seat.Worker.{Worker}
 use Rattle.cilk_board.specs.EndParts.{OfferedBy}
 use Rattle.cilk_board.proofs.Parts.{altered_at}
