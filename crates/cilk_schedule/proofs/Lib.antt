@@ -1,0 +1,11 @@
+pub mod Sounds
+pub mod Coming
+pub mod Begun
+pub mod Answering
+pub mod Quieting
+pub mod Opened
+pub mod Workers
+pub mod Accepted
+pub mod Turns
+pub mod Onward
+pub mod Paths

@@ -1,0 +1,7 @@
+use Rattle.std.proofs.Common.{◌≡◌, ◌+◌, ◌<◌, ◌≤◌, ◌^◌, ℕ, List, length, slice_get, Some, refl, sym, ap, ◌∙◌, subst, arith}
+use Rattle.cilk_schedule.proofs.Turns.{few_children, waits_runs}
+use Rattle.cilk_schedule.proofs.arrivals.wait_at.Goals as goal
+
+pub returns-clause-runs : goal.returns-clause-runs
+returns-clause-runs c = λ code inputs t.
+    waits_runs code inputs c.args.board.now c.args.frame t c.requires.syncs c.bring_own.new.frames.items c.in_ok-_waits.ensures.frames _ c.wait.ensures refl refl refl refl

@@ -1,0 +1,33 @@
+use Rattle.std.proofs.Common.{◌≡◌, ◌<◌, ℕ, List, length, Some, sym, ap, ◌∙◌, subst, refl, arith}
+use Rattle.std.proofs.lemmas.List.{length-set}
+use Rattle.cilk_program.specs.declared.ask.Ask.TheVariants as asks
+use Rattle.cilk_frames.specs.declared.cursor.Answer.TheVariants as answers
+use Rattle.cilk_activations.specs.declared.activation.Activation.{Activation}
+use Rattle.cilk_board.specs.Events.{SeesAt}
+use Rattle.cilk_board.specs.Seats.{answered, changed}
+use Rattle.cilk_board.specs.declared.seat.Seat.{Seat}
+use Rattle.cilk_schedule.specs.Sound.{SameTicks, Settles}
+use Rattle.cilk_schedule.proofs.Answering.{on_ok, settles, ticks}
+use Rattle.cilk_schedule.proofs.Coming.{cell_there, reducer_small, result_there, sees_there, some_is}
+use Rattle.cilk_board.proofs.Placed.{get_there}
+use Rattle.cilk_schedule.proofs.events.write_result.Goals as goal
+
+pub write-requires-clause-there : goal.write-requires-clause-there
+write-requires-clause-there c =
+    let t = result_there c.args.frames.now.items (length c.args.cells.now.items) c.args.frame c.args.word c.requires.here c.requires.comes c.index.result.now
+    (get_there c.args.frames.now.items c.args.frame c.index.result.now c.index.ensures c.requires.here) in
+    subst (λ n. n < length c.args.cells.now.items) (some_is t.0 c.in-Some.cell (sym t.1 ∙ c.in-Some.is)) t.2
+
+pub returns-clause-settles : goal.returns-clause-settles
+returns-clause-settles c =
+    settles answers.Done c.args.frames.now.items c.write.new.frames.items (length c.args.cells.now.items) (length c.write.new.cells.items) c.args.frame (asks.Result c.args.word) tt tt c.requires.here c.write.ensures.frames
+    (ap length c.write.ensures.cells ∙ length-set c.args.cells.now.items _ _)
+
+pub returns-clause-ticks : goal.returns-clause-ticks
+returns-clause-ticks c = ticks answers.Done c.args.frames.now.items c.write.new.frames.items c.args.frame c.write.ensures.frames
+
+pub unreachable-requires : goal.unreachable-requires
+unreachable-requires c =
+    let t = result_there c.args.frames.now.items (length c.args.cells.now.items) c.args.frame c.args.word c.requires.here c.requires.comes c.index.result.now
+    (get_there c.args.frames.now.items c.args.frame c.index.result.now c.index.ensures c.requires.here) in
+    c.in_default.not-Some t.0 t.1

@@ -1,0 +1,113 @@
+use Rattle.std.proofs.Common.{◌≡◌, ◌+◌, ◌<◌, ◌≤◌, ◌^◌, ℕ, ℤ, List, length, slice_get, Some, Ok, Err, OnOk, refl, sym, ap, ◌∙◌, subst, arith, rules, to_z, of_z, w64}
+use Rattle.cilk_program.specs.declared.ask.Ask.TheVariants as asks
+use Rattle.cilk_frames.specs.AskSlot.{in_full}
+use Rattle.cilk_schedule.specs.Sound.{HasCome, Settles}
+use Rattle.cilk_schedule.proofs.Answering.{both, on_ok}
+use Rattle.cilk_schedule.proofs.Turns.{comes, settles_made, strand_settles, strand_ticks}
+use Rattle.cilk_schedule.proofs.making.make.Goals as goal
+
+pub write-requires-clause-comes : goal.write-requires-clause-comes
+write-requires-clause-comes c =
+    let q = c.requires.turn in
+    let w : ℤ = to_z w64 (of_z w64 c.in-Write.word) in
+    let same : w ≡ c.in-Write.word = search rules in
+    subst (λ k. HasCome c.args.board.now.frames.items (length c.args.board.now.cells.items) c.args.place k) (c.in-Some.ensures ∙ ap in_full c.in-Write.is ∙ ap (λ v. asks.Write c.in-Write.cell v) (sym same)) (comes c.args.code.now q.0 c.args.board.now c.args.place q.1)
+
+pub write_result-requires-clause-comes : goal.write_result-requires-clause-comes
+write_result-requires-clause-comes c =
+    let q = c.requires.turn in
+    let w : ℤ = to_z w64 (of_z w64 c.in-Result.word) in
+    let same : w ≡ c.in-Result.word = search rules in
+    subst (λ k. HasCome c.args.board.now.frames.items (length c.args.board.now.cells.items) c.args.place k) (c.in-Some.ensures ∙ ap in_full c.in-Result.is ∙ ap (λ v. asks.Result v) (sym same)) (comes c.args.code.now q.0 c.args.board.now c.args.place q.1)
+
+pub update-requires-clause-comes : goal.update-requires-clause-comes
+update-requires-clause-comes c =
+    let q = c.requires.turn in
+    let w : ℤ = to_z w64 (of_z w64 c.in-Update.word) in
+    let same : w ≡ c.in-Update.word = search rules in
+    (length c.args.board.now.cells.items, subst (λ k. HasCome c.args.board.now.frames.items (length c.args.board.now.cells.items) c.args.place k) (c.in-Some.ensures ∙ ap in_full c.in-Update.is ∙ ap (λ v. asks.Update c.in-Update.reducer v) (sym same)) (comes c.args.code.now q.0 c.args.board.now c.args.place q.1))
+
+pub set-requires-clause-comes : goal.set-requires-clause-comes
+set-requires-clause-comes c =
+    let q = c.requires.turn in
+    let w : ℤ = to_z w64 (of_z w64 c.in-Set.word) in
+    let same : w ≡ c.in-Set.word = search rules in
+    (length c.args.board.now.cells.items, subst (λ k. HasCome c.args.board.now.frames.items (length c.args.board.now.cells.items) c.args.place k) (c.in-Some.ensures ∙ ap in_full c.in-Set.is ∙ ap (λ v. asks.Set c.in-Set.reducer v) (sym same)) (comes c.args.code.now q.0 c.args.board.now c.args.place q.1))
+
+pub returns-in-Begin-clause-made : goal.returns-in-Begin-clause-made
+returns-in-Begin-clause-made c =
+    let is : c.args.board.now.asked ≡ asks.Begin = c.in-Some.ensures ∙ ap in_full c.in-Begin.is in (
+      λ inputs t. let a = t.asked in settles_made c.args.code.now inputs c.args.board.now c.args.place t asks.Begin is _ (strand_settles _ _ _ c.args.place asks.Begin tt tt a.here c.begin_strand.ensures) refl refl,
+      strand_ticks _ _ c.args.place c.begin_strand.ensures,
+    )
+
+pub returns-in-Resume-clause-made : goal.returns-in-Resume-clause-made
+returns-in-Resume-clause-made c =
+    let is : c.args.board.now.asked ≡ asks.Resume = c.in-Some.ensures ∙ ap in_full c.in-Resume.is in (
+      λ inputs t. let a = t.asked in settles_made c.args.code.now inputs c.args.board.now c.args.place t asks.Resume is _ (strand_settles _ _ _ c.args.place asks.Resume tt tt a.here c.begin_strand-in-Resume.ensures) refl refl,
+      strand_ticks _ _ c.args.place c.begin_strand-in-Resume.ensures,
+    )
+
+pub returns-in-Read-clause-made : goal.returns-in-Read-clause-made
+returns-in-Read-clause-made c =
+    let is : c.args.board.now.asked ≡ asks.Read c.in-Read.cell = c.in-Some.ensures ∙ ap in_full c.in-Read.is in (
+      λ inputs t. settles_made c.args.code.now inputs c.args.board.now c.args.place t (asks.Read c.in-Read.cell) is (record c.args.board.now { frames = c.read.new.frames }) (subst (λ l. Settles c.args.board.now.frames.items c.read.new.frames.items (length l) (length l) c.args.place (asks.Read c.in-Read.cell)) c.as_slice.ensures.value c.read.ensures.settles) refl refl,
+      c.read.ensures.ticks,
+    )
+
+pub returns-in-Write-clause-made : goal.returns-in-Write-clause-made
+returns-in-Write-clause-made c =
+    let w : ℤ = to_z w64 (of_z w64 c.in-Write.word) in
+    let same : w ≡ c.in-Write.word = search rules in
+    let is : c.args.board.now.asked ≡ asks.Write c.in-Write.cell w = c.in-Some.ensures ∙ ap in_full c.in-Write.is ∙ ap (λ v. asks.Write c.in-Write.cell v) (sym same) in (
+      λ inputs t. settles_made c.args.code.now inputs c.args.board.now c.args.place t (asks.Write c.in-Write.cell w) is (record c.args.board.now { frames = c.write.new.frames; cells = c.write.new.cells }) c.write.ensures.settles refl refl,
+      c.write.ensures.ticks,
+    )
+
+pub returns-in-Result-clause-made : goal.returns-in-Result-clause-made
+returns-in-Result-clause-made c =
+    let w : ℤ = to_z w64 (of_z w64 c.in-Result.word) in
+    let same : w ≡ c.in-Result.word = search rules in
+    let is : c.args.board.now.asked ≡ asks.Result w = c.in-Some.ensures ∙ ap in_full c.in-Result.is ∙ ap (λ v. asks.Result v) (sym same) in (
+      λ inputs t. settles_made c.args.code.now inputs c.args.board.now c.args.place t (asks.Result w) is (record c.args.board.now { frames = c.write_result.new.frames; cells = c.write_result.new.cells }) c.write_result.ensures.settles refl refl,
+      c.write_result.ensures.ticks,
+    )
+
+pub returns-in-Sync-clause-made : goal.returns-in-Sync-clause-made
+returns-in-Sync-clause-made c = on_ok c.sync.result c.sync.ensures.made (λ h. h c.args.code.now)
+
+pub returns-in-Create-clause-made : goal.returns-in-Create-clause-made
+returns-in-Create-clause-made c =
+    let is : c.args.board.now.asked ≡ asks.Create c.in-Create.reducer = c.in-Some.ensures ∙ ap in_full c.in-Create.is in
+    on_ok c.create.result (both _ _ c.create.result c.create.ensures.settles c.create.ensures.ticks)
+    (λ h. (λ inputs t. settles_made c.args.code.now inputs c.args.board.now c.args.place t (asks.Create c.in-Create.reducer) is _ (h.0 _) refl refl, h.1))
+
+pub returns-in-Value-clause-made : goal.returns-in-Value-clause-made
+returns-in-Value-clause-made c =
+    let is : c.args.board.now.asked ≡ asks.Value c.in-Value.reducer = c.in-Some.ensures ∙ ap in_full c.in-Value.is in
+    on_ok c.value.result (both _ _ c.value.result c.value.ensures.settles c.value.ensures.ticks)
+    (λ h. (λ inputs t. settles_made c.args.code.now inputs c.args.board.now c.args.place t (asks.Value c.in-Value.reducer) is _ (h.0 _) refl refl, h.1))
+
+pub returns-in-Update-clause-made : goal.returns-in-Update-clause-made
+returns-in-Update-clause-made c =
+    let w : ℤ = to_z w64 (of_z w64 c.in-Update.word) in
+    let same : w ≡ c.in-Update.word = search rules in
+    let is : c.args.board.now.asked ≡ asks.Update c.in-Update.reducer w = c.in-Some.ensures ∙ ap in_full c.in-Update.is ∙ ap (λ v. asks.Update c.in-Update.reducer v) (sym same) in
+    on_ok c.update.result (both _ _ c.update.result c.update.ensures.settles c.update.ensures.ticks)
+    (λ h. (λ inputs t. settles_made c.args.code.now inputs c.args.board.now c.args.place t (asks.Update c.in-Update.reducer w) is _ (h.0 _) refl refl, h.1))
+
+pub returns-in-Set-clause-made : goal.returns-in-Set-clause-made
+returns-in-Set-clause-made c =
+    let w : ℤ = to_z w64 (of_z w64 c.in-Set.word) in
+    let same : w ≡ c.in-Set.word = search rules in
+    let is : c.args.board.now.asked ≡ asks.Set c.in-Set.reducer w = c.in-Some.ensures ∙ ap in_full c.in-Set.is ∙ ap (λ v. asks.Set c.in-Set.reducer v) (sym same) in
+    on_ok c.set.result (both _ _ c.set.result c.set.ensures.settles c.set.ensures.ticks)
+    (λ h. (λ inputs t. settles_made c.args.code.now inputs c.args.board.now c.args.place t (asks.Set c.in-Set.reducer w) is _ (h.0 _) refl refl, h.1))
+
+pub returns-in-Print-clause-made : goal.returns-in-Print-clause-made
+returns-in-Print-clause-made c =
+    let w : ℤ = to_z w64 (of_z w64 c.in-Print.word) in
+    let same : w ≡ c.in-Print.word = search rules in
+    let is : c.args.board.now.asked ≡ asks.Print w = c.in-Some.ensures ∙ ap in_full c.in-Print.is ∙ ap (λ v. asks.Print v) (sym same) in
+    on_ok c.print.result (both _ _ c.print.result c.print.ensures.settles c.print.ensures.ticks)
+    (λ h. (λ inputs t. settles_made c.args.code.now inputs c.args.board.now c.args.place t (asks.Print w) is _ (h.0 _) refl refl, h.1))

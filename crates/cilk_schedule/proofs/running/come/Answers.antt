@@ -1,0 +1,22 @@
+use Rattle.std.proofs.Common.{◌≡◌, ◌+◌, ◌-◌, ◌<◌, ◌≤◌, ◌^◌, ℕ, List, [], ◌∷◌, ◌++◌, length, slice_get, Option, Some, None, Ok, Err, OnOk, refl, sym, ap, ◌∙◌, subst, arith, rules}
+use Rattle.cilk_schedule.proofs.Onward.{is_asked, is_ready}
+use Rattle.cilk_schedule.proofs.Workers.{same_at}
+use Rattle.cilk_board.specs.Asking.{IsReady}
+use Rattle.cilk_activations.specs.declared.activation.Activation.{Activation}
+use Rattle.cilk_board.specs.declared.seat.Seat.{Seat}
+use Rattle.cilk_schedule.proofs.running.come.Goals as goal
+
+pub go_on-requires-clause-ready : goal.go_on-requires-clause-ready
+go_on-requires-clause-ready c = λ a at.
+    let q = c.requires.ready in
+    let r = q.1 in
+    let same : r.seat ≡ a = same_at c.args.board.now.frames.items c.args.frame r.seat a r.sits at in
+    subst (λ (z : Activation Seat). let x = z.cursor in IsReady c.args.code.now c.args.input.now x) same
+    (is_ready c.args.code.now c.args.input.now c.args.board.now c.requires.runs c.args.frame r.seat r.cursor r.sits r.has)
+
+pub returns-clause-asked : goal.returns-clause-asked
+returns-clause-asked c =
+    let q = c.requires.ready in
+    let r = q.1 in
+    let went = c.go_on.ensures r.seat r.sits in
+    is_asked c.args.code.now c.args.input.now c.args.board.now c.requires.runs c.args.frame r.seat r.cursor r.sits r.has went.0 c.go_on.new.asked went.1 _ went.2 refl refl refl refl refl

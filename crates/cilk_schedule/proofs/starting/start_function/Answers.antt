@@ -1,0 +1,33 @@
+use Rattle.std.proofs.Common.{◌≡◌, ◌+◌, ◌<◌, ◌≤◌, ◌^◌, ℕ, List, length, slice_get, Some, Ok, Err, OnOk, refl, sym, ap, ◌∙◌, subst, arith}
+use Rattle.cilk_program.specs.declared.ask.Callee.TheVariants as callees
+use Rattle.cilk_lower.specs.Layout.{cells_in, function_frame}
+use Rattle.cilk_lower.specs.declared.layout.Layout.{Layout}
+use Rattle.cilk_board.specs.Events.{SeesAt}
+use Rattle.cilk_board.specs.Invoking.{IsChild}
+use Rattle.cilk_schedule.proofs.Answering.{on_ok}
+use Rattle.cilk_schedule.proofs.Turns.{begun_made, begun_ticks, function_may}
+use Rattle.cilk_schedule.proofs.starting.start_function.Goals as goal
+
+pub function_child-requires-clause-sees : goal.function_child-requires-clause-sees
+function_child-requires-clause-sees c =
+    let q = c.requires.turn in
+    let m = function_may c.args.code.now q.0 c.args.board.now c.args.frame q.1 c.invocation-how.result.0 c.invocation-how.result.1.now c.invocation-how.ensures in
+    (m.0, subst (λ l. SeesAt l c.args.frame m.0) (sym c.as_slice.ensures.value) m.1, m.2, m.3)
+
+pub returns-clause-made : goal.returns-clause-made
+returns-clause-made c =
+    let how = c.invocation-how.result.0 in
+    let call = c.invocation-how.result.1.now in
+    let old = c.args.board.now in
+    let new = c.begin.new.board in
+    let child = c.in_ok-child.child in
+    let fine = c.args.board.now.cells.ok in
+    let counts = c.len.ensures in
+    let base : c.len.result ≡ length c.args.board.now.cells.items = omega (arith, fine, counts) in
+    let count : c.function_cells-count.result ≡ cells_in c.args.code.now.layout (callees.Function call) = c.function_cells-count.ensures ∙ ap (λ (l : Layout). let f = function_frame l call.function in f.cells) c.layout.ensures in
+    let is = subst (λ l. IsChild c.args.code.now l c.args.frame c.args.worker c.len.result how (callees.Function call) child) c.as_slice.ensures.value c.in_ok-child.ensures in
+    on_ok c.begin.result c.begin.ensures.begun
+    (λ h. (
+      λ inputs t. begun_made c.args.code.now inputs old c.args.frame t how (callees.Function call) c.invocation-how.ensures c.args.worker c.len.result c.function_cells-count.result child base is count new h c.begin.ensures.rest.journal,
+      begun_ticks old new c.args.frame child c.function_cells-count.result h,
+    ))

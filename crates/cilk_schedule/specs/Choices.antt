@@ -1,0 +1,51 @@
+-- Which choices a board allows, and what they write down.
+use Rattle.std.specs.Prelude.{◌≡◌, ◌+◌, ◌<◌, ◌≤◌, ℕ, true, List, [], ◌∷◌, ◌++◌, length, slice_get, Option, Some, None, Result, Ok, Err}
+use Rattle.cilk_frames.specs.Cursor.{CursorView}
+use Rattle.cilk_join.specs.Joins.{IsOpen}
+use Rattle.cilk_activations.specs.declared.activation.Activation.{Activation}
+use Rattle.cilk_board.specs.Events.{block_in}
+use Rattle.cilk_board.specs.Workers.{held_by, is_idle, offers}
+use Rattle.cilk_board.specs.declared.board.Board.{Board}
+use Rattle.cilk_board.specs.declared.choice.Choice.{Choice}
+use Rattle.cilk_board.specs.declared.choice.Choice.TheVariants as choices
+use Rattle.cilk_board.specs.declared.choice.Stop.{Stop}
+use Rattle.cilk_board.specs.declared.choice.Told.{Told}
+use Rattle.cilk_board.specs.declared.choice.Told.TheVariants as told
+use Rattle.cilk_board.specs.declared.seat.JournalEntry.{JournalEntry}
+use Rattle.cilk_board.specs.declared.seat.Seat.{Seat}
+
+-- a worker, which counts from 1, has the frame at place k, which hasn't ended
+pub record IsReadyAt (b : Board) (worker k : ℕ) : Type 0 where
+  pub held : let u = b.workers in held_by u.items worker ≡ Some k
+  pub first : 0 < worker
+  pub last : let u = b.workers in worker ≤ length u.items
+  pub seat : Activation Seat
+  pub sits : let f = b.frames in slice_get f.items k ≡ Some seat
+  pub cursor : CursorView
+  pub has : let x = seat.cursor in x.cursor ≡ Some cursor
+
+-- a worker has no frame, and may take the continuation of frame k, which is offered at this place
+pub record CanSteal (b : Board) (worker place k : ℕ) : Type 0 where
+  pub idle : let u = b.workers in is_idle u.items worker ≡ true
+  pub few : place < b.offered
+  pub offered : let u = b.workers in slice_get (offers u.items) place ≡ Some k
+  pub seat : Activation Seat
+  pub sits : let f = b.frames in slice_get f.items k ≡ Some seat
+  pub opens : let x = seat.cursor in IsOpen (block_in x.join) x.children
+
+-- the choice can be made
+abbrev pub CanChoose : Board → Choice → Type 0
+CanChoose b (choices.Run worker) = (k : ℕ) × IsReadyAt b worker k
+CanChoose b (choices.Steal worker place) = (k : ℕ) × CanSteal b worker place k
+
+-- an event that was made is written down behind the others
+abbrev pub WritesTold : Told → List JournalEntry → List JournalEntry → Type 0
+WritesTold (told.Did act) old new = (k : ℕ) × (act.frame ≡ k + 1) × (new ≡ old ++ (record { frame = k; event = act.event }) ∷ [])
+WritesTold told.Stole old new = new ≡ old
+WritesTold told.Waits old new = new ≡ old
+WritesTold told.Skipped old new = new ≡ old
+
+-- and nothing else is
+abbrev pub Writes : Result Told Stop → List JournalEntry → List JournalEntry → Type 0
+Writes (Ok t) old new = WritesTold t old new
+Writes (Err stop) old new = new ≡ old

@@ -1,0 +1,3 @@
+pub mod Sound
+pub mod Machines
+pub mod Choices

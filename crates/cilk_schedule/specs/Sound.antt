@@ -1,0 +1,189 @@
+-- What a board keeps true, by its own numbers, so that its next choice is safe.
+use Rattle.std.specs.Prelude.{◌≡◌, ◌+◌, ◌-◌, ◌<◌, ◌≤◌, ◌^◌, ℕ, zero, suc, IsTrue, ℤ, List, [], ◌∷◌, ◌++◌, length, slice_get, Option, Some, None}
+use Rattle.cilk_types.specs.declared.event.Instance.{Instance}
+use Rattle.cilk_types.specs.declared.invocation.Invocation.{Invocation}
+use Rattle.cilk_types.specs.declared.limits.TheConstants.{MAX_CELLS, MAX_EVENTS, MAX_FRAMES, MAX_TICKS}
+use Rattle.cilk_program.specs.declared.ask.Ask.{Ask}
+use Rattle.cilk_program.specs.declared.ask.Ask.TheVariants as asks
+use Rattle.cilk_program.specs.declared.ask.Callee.{Callee}
+use Rattle.cilk_program.specs.Inside.{AskIsThere}
+use Rattle.cilk_program.specs.Scopes.{Scope}
+use Rattle.cilk_program.specs.SerialRun.{Frame}
+use Rattle.cilk_program.specs.Syntax.{Source}
+use Rattle.cilk_program.specs.WellNamed.{is_well_named}
+use Rattle.cilk_meaning.specs.Visible.{CanInvoke}
+use Rattle.cilk_lower.specs.Behaves.{Behaves}
+use Rattle.cilk_lower.specs.Code.{CodeView}
+use Rattle.cilk_lower.specs.Layout.{LaysOut, function_frame}
+use Rattle.cilk_lower.specs.declared.code.Owed.{Owed}
+use Rattle.cilk_lower.specs.declared.code.Owed.TheVariants.{Nothing}
+use Rattle.cilk_frames.specs.Cursor.{CursorView}
+use Rattle.cilk_frames.specs.Following.{Fits, HasAnswer, Stands, owed_for}
+use Rattle.cilk_activations.specs.Sight.{HasScope}
+use Rattle.cilk_activations.specs.declared.activation.Activation.{Activation}
+use Rattle.cilk_serial.specs.Scoped.{IsThere, Sees}
+use Rattle.cilk_board.specs.Asking.{refusal}
+use Rattle.cilk_board.specs.declared.board.Board.{Board}
+use Rattle.cilk_board.specs.declared.seat.Due.{Due}
+use Rattle.cilk_board.specs.declared.seat.Due.TheVariants as due
+use Rattle.cilk_board.specs.declared.seat.Seat.{Seat}
+use Rattle.cilk_board.specs.declared.seat.Status.{Status}
+use Rattle.cilk_board.specs.Seats.{changed, started_at}
+
+-- the code of a well-named program, with its layout
+pub record IsCodeOf (p : Source) (code : CodeView) : Type 0 where
+  pub well : IsTrue (is_well_named p)
+  pub behaves : Behaves p code
+  pub lays : LaysOut p code.layout
+
+abbrev pub IsCode : CodeView → Type 0
+IsCode code = (p : Source) × IsCodeOf p code
+
+-- what a frame goes on with brings what its cursor is owed
+abbrev pub FitsDue : Owed → Due → Type 0
+FitsDue o due.Begin = o ≡ Nothing
+FitsDue o (due.Answer a) = Fits o a
+FitsDue o due.Sync = o ≡ Nothing
+
+-- an activation as the frame that it stands for
+abbrev pub frame_of : Callee → Scope ℕ Instance → Activation Seat → Frame
+frame_of callee scope a = record { callee = callee; number = a.number; scope = scope; result = a.result }
+
+module _ (code : CodeView) (p : Source) (inputs : List ℤ) (frames : List (Activation Seat)) (cells events : ℕ) where
+  -- A frame that hasn't ended runs this and sees this, and what it sees is there.
+  pub record Lives (a : Activation Seat) : Type 0 where
+    pub callee : Callee
+    pub scope : Scope ℕ Instance
+    pub history : List ℤ
+    pub links : HasScope frames a scope
+    pub sees : Sees p (frame_of callee scope a) cells
+
+  -- Between two of its events its cursor stands at its history.
+  pub record Rests (a : Activation Seat) (c : CursorView) : Type 0 where
+    pub lives : Lives a
+    pub stands : let x = a.cursor in Stands code inputs p lives.callee c lives.history x.took
+    pub fits : let x = a.cursor in FitsDue c.owed x.due
+
+  -- It has come to this ask, and what that names is there.
+  pub record Comes (a : Activation Seat) (ask : Ask) : Type 0 where
+    pub cursor : CursorView
+    pub lives : Lives a
+    pub here : let x = a.cursor in x.cursor ≡ Some cursor
+    pub stands : HasAnswer ask → let x = a.cursor in Stands code inputs p lives.callee cursor lives.history x.took
+    pub owes : HasAnswer ask → cursor.owed ≡ owed_for ask
+    pub there : IsThere p (frame_of lives.callee lives.scope a) cells ask
+    pub named : AskIsThere p lives.callee ask
+    pub may : (how : Invocation) (child : Callee) → ask ≡ asks.Invoke how child → CanInvoke lives.callee child
+
+  -- Its numbers are those of frames that are there, and within limits.
+  pub record Counts (a : Activation Seat) : Type 0 where
+    pub parent : let x = a.cursor in x.parent < length frames
+    pub last : let x = a.cursor in x.last < length frames
+    pub children : let x = a.cursor in x.children ≤ length frames
+    pub strands : let x = a.cursor in x.strands ≤ events
+    pub counted : let x = a.cursor in x.counted ≤ x.took
+    pub took : let x = a.cursor in x.took ≤ MAX_TICKS
+    pub low : a.first < 65536
+    pub creates : (function : ℕ) → a.creator ≡ Some function → let f = function_frame code.layout function in length f.reducers ≤ 64
+
+  -- All frames do so: the one whose turn it is, if any, has come to an ask, and the others rest.
+  pub record Sound (turn : Option ℕ) (ask : Ask) : Type 0 where
+    pub counts : (k : ℕ) (a : Activation Seat) → slice_get frames k ≡ Some a → Counts a
+    pub rests : (k : ℕ) (a : Activation Seat) (c : CursorView) → slice_get frames k ≡ Some a → (turn ≡ Some k → ⊥) → (let x = a.cursor in x.cursor ≡ Some c) → Rests a c
+    pub comes : (k : ℕ) (a : Activation Seat) → slice_get frames k ≡ Some a → turn ≡ Some k → Comes a ask
+    pub few_frames : length frames ≤ MAX_FRAMES
+    pub few_cells : cells ≤ MAX_CELLS
+    pub few_events : events ≤ MAX_EVENTS
+    pub opened : length p.openings ≤ cells
+
+-- a change of frames that leaves them all sound, whosever turn it is
+abbrev pub Keeps : List (Activation Seat) → List (Activation Seat) → Type 0
+Keeps frames frames' =
+    (code : CodeView) (p : Source) (inputs : List ℤ) (cells events : ℕ) (turn : Option ℕ) (ask : Ask) → Sound code p inputs frames cells events turn ask → Sound code p inputs frames' cells events turn ask
+
+-- each frame has taken as many ticks, and as many of them are counted
+abbrev pub SameTicks : List (Activation Seat) → List (Activation Seat) → Type 0
+SameTicks frames frames' =
+    (k : ℕ) (a : Activation Seat) → slice_get frames k ≡ Some a → (b : Activation Seat) × (slice_get frames' k ≡ Some b) × (let x = a.cursor in let y = b.cursor in (y.took ≡ x.took) × (y.counted ≡ x.counted))
+
+-- a quiet change: of where frames are and of what lies at their blocks
+abbrev pub IsQuiet : List (Activation Seat) → List (Activation Seat) → Type 0
+IsQuiet frames frames' = Keeps frames frames' × SameTicks frames frames' × (length frames' ≡ length frames)
+
+-- the frame at place k has come to this ask
+abbrev pub HasCome : List (Activation Seat) → ℕ → ℕ → Ask → Type 0
+HasCome frames cells k ask = (code : CodeView) × (p : Source) × (inputs : List ℤ) × (events : ℕ) × Sound code p inputs frames cells events (Some k) ask
+
+-- the event that it has come to is made
+abbrev pub Settles : List (Activation Seat) → List (Activation Seat) → ℕ → ℕ → ℕ → Ask → Type 0
+Settles frames frames' cells cells' k ask =
+    (code : CodeView) (p : Source) (inputs : List ℤ) (events : ℕ) → events + 1 ≤ MAX_EVENTS → Sound code p inputs frames cells events (Some k) ask → Sound code p inputs frames' cells' (events + 1) None asks.Begin
+
+-- the board between two choices
+pub record Runs (code : CodeView) (inputs : List ℤ) (b : Board) : Type 0 where
+  pub program : Source
+  pub is_code : IsCodeOf program code
+  pub sound : let f = b.frames in let c = b.cells in let e = b.journal in Sound code program inputs f.items (length c.items) (length e.items) None asks.Begin
+  pub ticks : b.ticks ≤ MAX_TICKS
+  pub offers : let e = b.journal in b.offered ≤ length e.items
+
+-- the frame at place k has come to what is asked for
+pub record IsAsked (code : CodeView) (inputs : List ℤ) (b : Board) (k : ℕ) : Type 0 where
+  pub program : Source
+  pub is_code : IsCodeOf program code
+  pub sound : let f = b.frames in let c = b.cells in let e = b.journal in Sound code program inputs f.items (length c.items) (length e.items) (Some k) b.asked
+  pub here : let f = b.frames in k < length f.items
+  pub few_ticks : b.ticks ≤ MAX_TICKS
+  pub offers : let e = b.journal in b.offered ≤ length e.items
+
+-- No fault stands in place of what is asked for, with the ticks that the frame at place k has taken.
+pub record IsAccepted (code : CodeView) (b : Board) (k : ℕ) : Type 0 where
+  pub seat : Activation Seat
+  pub sits : let f = b.frames in slice_get f.items k ≡ Some seat
+  pub accepted : let f = b.frames in let c = b.cells in let e = b.journal in let x = seat.cursor in refusal (b.ticks + (x.took - x.counted)) (length e.items) (length f.items) (length c.items) code.layout b.asked ≡ None
+
+-- and no fault stands in place of its event
+pub record IsTurn (code : CodeView) (inputs : List ℤ) (b : Board) (k : ℕ) : Type 0 where
+  pub asked : IsAsked code inputs b k
+  pub ticks : ℕ
+  pub accepted : let f = b.frames in let c = b.cells in let e = b.journal in refusal ticks (length e.items) (length f.items) (length c.items) code.layout b.asked ≡ None
+
+-- The event of what was asked for is made, and still to be written down.
+pub record IsMade (code : CodeView) (inputs : List ℤ) (b : Board) : Type 0 where
+  pub program : Source
+  pub is_code : IsCodeOf program code
+  pub sound : let f = b.frames in let c = b.cells in let e = b.journal in Sound code program inputs f.items (length c.items) (length e.items + 1) None asks.Begin
+  pub offers : let e = b.journal in b.offered ≤ length e.items + 1
+
+-- The events, the ticks counted, what is asked for, and why the run stopped, are as before.
+pub record SameRest (b b' : Board) : Type 0 where
+  pub journal : b'.journal ≡ b.journal
+  pub ticks : b'.ticks ≡ b.ticks
+  pub stopped : b'.stopped ≡ b.stopped
+
+-- The workers, the events, what a run has left, and why it stopped, are as before.
+pub record SameShown (b b' : Board) : Type 0 where
+  pub workers : b'.workers ≡ b.workers
+  pub journal : b'.journal ≡ b.journal
+  pub outcome : b'.outcome ≡ b.outcome
+  pub stopped : b'.stopped ≡ b.stopped
+
+-- Another frame with so many cells has begun, which frame k has started.
+pub record HasBegun (b b' : Board) (k : ℕ) (child : Activation Seat) (count : ℕ) : Type 0 where
+  pub status : Status
+  pub frames : let f = b.frames in let g = b'.frames in g.items ≡ changed (started_at status (length f.items)) (f.items ++ child ∷ []) k
+  pub cells : let c = b.cells in let d = b'.cells in length d.items ≡ length c.items + count
+  pub offers : b'.offered ≤ b.offered + 1
+
+-- a frame may start one more
+abbrev pub CanStart : List (Activation Seat) → ℕ → Type 0
+CanStart frames k = (a : Activation Seat) → slice_get frames k ≡ Some a → let x = a.cursor in x.children < 2 ^ 31
+
+-- the frame's event is made, and no ticks are taken or counted
+abbrev pub Makes : CodeView → Board → Board → ℕ → Type 0
+Makes code b b' k = ((inputs : List ℤ) → IsTurn code inputs b k → IsMade code inputs b') × (let f = b.frames in let g = b'.frames in SameTicks f.items g.items)
+
+-- the number of a frame's latest strand, which is 1 before its begin
+abbrev pub strand_in : ℕ → ℕ
+strand_in zero = 1
+strand_in (suc n) = suc n

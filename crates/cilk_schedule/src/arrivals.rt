@@ -1,0 +1,156 @@
+//! Pieces that arrive at a block, and syncs.
+
+ghost use Rattle.std.specs.Prelude.{◌≡◌, ◌<◌, ◌^◌, ℤ, List, Some, length, slice_get, OnOk};
+ghost use Rattle.cilk_program.specs.declared.ask.Ask.TheVariants as asks;
+ghost use Rattle.cilk_lower.specs.Code.{CodeView};
+ghost use Rattle.cilk_activations.specs.declared.activation.Activation.{Activation};
+ghost use Rattle.cilk_board.specs.declared.seat.Seat.{Seat};
+ghost use Rattle.cilk_schedule.specs.Sound.{IsAsked, IsQuiet, IsTurn, Makes, Runs, SameRest};
+
+use cilk_activations::activation::Activation;
+use cilk_board::arriving::arrive;
+use cilk_board::board::Board;
+use cilk_board::seat::{Seat, Worker};
+use cilk_board::seats::{begin_block, wait};
+use cilk_hypermap::hypermap::Hypermap;
+use cilk_types::event::Event;
+use std::alloc::{AllocError, Global};
+
+/// Whether the sync that a frame asks for has to wait for a stolen child, with the frame's own piece still to come.
+pub fn must_wait(frames: &[Activation<Seat>], frame: usize) -> bool
+    requires { frame < length frames.now }
+{
+    let seat = &frames[frame].cursor;
+    if seat.merged {
+        return false;
+    }
+    match &seat.join {
+        Some(join) => join.waits(),
+        None => false,
+    }
+}
+
+/// The frame's own piece arrives at its sync, whose block isn't complete, and the worker is idle.
+pub fn wait_at(
+    alloc: Global,
+    board: &mut Board,
+    worker: usize,
+    frame: usize,
+) -> Result<(), AllocError>
+    requires turn { (code : CodeView) × (inputs : List ℤ) × IsAsked code inputs board.old frame }
+    requires works { worker < length board.old.workers.items }
+    requires syncs { board.old.asked ≡ asks.Sync }
+    ensures runs { OnOk result ((code : CodeView) (inputs : List ℤ) → IsAsked code inputs board.old frame → Runs code inputs board.new) }
+    ensures rest { SameRest board.old board.new }
+    ensures outcome { board.new.outcome ≡ board.old.outcome }
+{
+    let _waits = bring_own(alloc, &mut board.frames, &mut board.workers, worker, frame)?;
+    wait(&mut board.frames, frame);
+    leave(&mut board.workers, worker);
+    Ok(())
+}
+
+/// The frame's block is complete, and its worker has the block's views; another block begins.
+pub fn sync(
+    alloc: Global,
+    board: &mut Board,
+    worker: usize,
+    frame: usize,
+) -> Result<Event, AllocError>
+    requires turn { (code : CodeView) × (inputs : List ℤ) × IsTurn code inputs board.old frame }
+    requires works { worker < length board.old.workers.items }
+    requires syncs { board.old.asked ≡ asks.Sync }
+    ensures made { OnOk result ((code : CodeView) → Makes code board.old board.new frame) }
+    ensures rest { SameRest board.old board.new }
+    ensures outcome { board.new.outcome ≡ board.old.outcome }
+{
+    bring_once(alloc, &mut board.frames, &mut board.workers, worker, frame)?;
+    begin_block(&mut board.frames, frame);
+    Ok(Event::Sync)
+}
+
+// The frame's own piece arrives at its block, unless that has passed.
+fn bring_once(
+    alloc: Global,
+    frames: &mut Vec<Activation<Seat>>,
+    workers: &mut Vec<Worker>,
+    worker: usize,
+    frame: usize,
+) -> Result<(), AllocError>
+    requires here { frame < length frames.old.items }
+    requires works { worker < length workers.old.items }
+    requires few { (a : Activation Seat) → slice_get frames.old.items frame ≡ Some a → a.cursor.children < 2 ^ 31 }
+    ensures { OnOk result (IsQuiet frames.old.items frames.new.items) }
+{
+    if frames[frame].cursor.merged {
+        return Ok(());
+    }
+    let _passes = bring_own(alloc, frames, workers, worker, frame)?;
+    Ok(())
+}
+
+// The frame's own piece arrives at its block, if a continuation of that was stolen.
+fn bring_own(
+    alloc: Global,
+    frames: &mut Vec<Activation<Seat>>,
+    workers: &mut Vec<Worker>,
+    worker: usize,
+    frame: usize,
+) -> Result<bool, AllocError>
+    requires here { frame < length frames.old.items }
+    requires works { worker < length workers.old.items }
+    requires few { (a : Activation Seat) → slice_get frames.old.items frame ≡ Some a → a.cursor.children < 2 ^ 31 }
+    ensures frames { OnOk result (IsQuiet frames.old.items frames.new.items) }
+    ensures workers { length workers.new.items ≡ length workers.old.items }
+{
+    let key = frames[frame].cursor.children + 1;
+    bring(alloc, frames, workers, worker, frame, key, true)
+}
+
+/// A worker's views arrive at a frame's block with this key, if pieces may arrive there. Whether the block passes: then the
+/// worker has the block's. Where memory is refused, they are lost.
+pub fn bring(
+    alloc: Global,
+    frames: &mut Vec<Activation<Seat>>,
+    workers: &mut Vec<Worker>,
+    worker: usize,
+    frame: usize,
+    key: u32,
+    last: bool,
+) -> Result<bool, AllocError>
+    requires here { frame < length frames.old.items }
+    requires works { worker < length workers.old.items }
+    ensures frames { OnOk result (IsQuiet frames.old.items frames.new.items) }
+    ensures workers { length workers.new.items ≡ length workers.old.items }
+{
+    let views = &mut workers[worker].views;
+    bring_to(alloc, &mut frames[frame].cursor, views, key, last)
+}
+
+// The same, of what is kept of the frame.
+fn bring_to(
+    alloc: Global,
+    seat: &mut Seat,
+    views: &mut Hypermap,
+    key: u32,
+    last: bool,
+) -> Result<bool, AllocError>
+    ensures { seat.new ≡ record seat.old { join = seat.new.join } }
+{
+    let Some(join) = &mut seat.join else {
+        return Ok(false);
+    };
+    if (!last && join.awaits(key)) || join.fresh(key) {
+        arrive(alloc, join, views, key, last)
+    } else {
+        Ok(false)
+    }
+}
+
+/// The worker is idle.
+pub fn leave(workers: &mut Vec<Worker>, worker: usize)
+    requires { worker < length workers.old.items }
+    ensures { length workers.new.items ≡ length workers.old.items }
+{
+    workers[worker].frame = None;
+}

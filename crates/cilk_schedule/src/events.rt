@@ -1,0 +1,146 @@
+//! Events of cells and reducers, as a frame asks for them.
+
+ghost use Rattle.std.specs.Prelude.{◌<◌, ℕ, length, OnOk};
+ghost use Rattle.cilk_program.specs.declared.ask.Ask.TheVariants as asks;
+ghost use Rattle.cilk_schedule.specs.Sound.{HasCome, SameTicks, Settles};
+
+use cilk_activations::activation::Activation;
+use cilk_board::cells::cell_at;
+use cilk_board::reducers::instance_at;
+use cilk_board::seat::Seat;
+use cilk_board::{cells, reducers};
+use cilk_hypermap::hypermap::Hypermap;
+use cilk_program::syntax::{Place, Reducer};
+use cilk_types::event::Event;
+use std::alloc::{AllocError, Global};
+
+/// The frame reads a cell.
+pub fn read(frames: &mut Vec<Activation<Seat>>, cells: &[i64], frame: usize, place: Place) -> Event
+    requires here { frame < length frames.old.items }
+    requires comes { HasCome frames.old.items (length cells.now) frame (asks.Read place) }
+    ensures settles { Settles frames.old.items frames.new.items (length cells.now) (length cells.now) frame (asks.Read place) }
+    ensures ticks { SameTicks frames.old.items frames.new.items }
+{
+    let cell = cell_at(frames.as_slice(), frame, place);
+    cells::read(frames, cells, frame, cell)
+}
+
+/// The frame writes a cell.
+pub fn write(
+    frames: &mut Vec<Activation<Seat>>,
+    cells: &mut Vec<i64>,
+    frame: usize,
+    place: Place,
+    word: i64,
+) -> Event
+    requires here { frame < length frames.old.items }
+    requires comes { HasCome frames.old.items (length cells.old.items) frame (asks.Write place word) }
+    ensures settles { Settles frames.old.items frames.new.items (length cells.old.items) (length cells.new.items) frame (asks.Write place word) }
+    ensures ticks { SameTicks frames.old.items frames.new.items }
+{
+    let cell = cell_at(frames.as_slice(), frame, place);
+    cells::write(frames, cells, frame, cell, word)
+}
+
+/// The frame writes its result, into the cell that takes it.
+pub fn write_result(
+    frames: &mut Vec<Activation<Seat>>,
+    cells: &mut Vec<i64>,
+    frame: usize,
+    word: i64,
+) -> Event
+    requires here { frame < length frames.old.items }
+    requires comes { HasCome frames.old.items (length cells.old.items) frame (asks.Result word) }
+    ensures settles { Settles frames.old.items frames.new.items (length cells.old.items) (length cells.new.items) frame (asks.Result word) }
+    ensures ticks { SameTicks frames.old.items frames.new.items }
+{
+    let Some(cell) = frames[frame].result else {
+        unreachable!()
+    };
+    cells::write(frames, cells, frame, cell, word)
+}
+
+/// The frame creates a reducer.
+pub fn create(
+    alloc: Global,
+    frames: &mut Vec<Activation<Seat>>,
+    views: &mut Hypermap,
+    frame: usize,
+    reducer: Reducer,
+) -> Result<Event, AllocError>
+    requires here { frame < length frames.old.items }
+    requires comes { (cells : ℕ) × HasCome frames.old.items cells frame (asks.Create reducer) }
+    ensures settles { OnOk result ((cells : ℕ) → Settles frames.old.items frames.new.items cells cells frame (asks.Create reducer)) }
+    ensures ticks { OnOk result (SameTicks frames.old.items frames.new.items) }
+{
+    let instance = instance_at(frames.as_slice(), frame, reducer.place);
+    reducers::create(alloc, frames, views, frame, instance, reducer.kind)
+}
+
+/// The frame updates a reducer.
+pub fn update(
+    alloc: Global,
+    frames: &mut Vec<Activation<Seat>>,
+    views: &mut Hypermap,
+    frame: usize,
+    reducer: Reducer,
+    word: i64,
+) -> Result<Event, AllocError>
+    requires here { frame < length frames.old.items }
+    requires comes { (cells : ℕ) × HasCome frames.old.items cells frame (asks.Update reducer word) }
+    ensures settles { OnOk result ((cells : ℕ) → Settles frames.old.items frames.new.items cells cells frame (asks.Update reducer word)) }
+    ensures ticks { OnOk result (SameTicks frames.old.items frames.new.items) }
+{
+    let instance = instance_at(frames.as_slice(), frame, reducer.place);
+    reducers::update(alloc, frames, views, frame, instance, reducer.kind, word)
+}
+
+/// The frame sets a reducer.
+pub fn set(
+    alloc: Global,
+    frames: &mut Vec<Activation<Seat>>,
+    views: &mut Hypermap,
+    frame: usize,
+    reducer: Reducer,
+    word: i64,
+) -> Result<Event, AllocError>
+    requires here { frame < length frames.old.items }
+    requires comes { (cells : ℕ) × HasCome frames.old.items cells frame (asks.Set reducer word) }
+    ensures settles { OnOk result ((cells : ℕ) → Settles frames.old.items frames.new.items cells cells frame (asks.Set reducer word)) }
+    ensures ticks { OnOk result (SameTicks frames.old.items frames.new.items) }
+{
+    let instance = instance_at(frames.as_slice(), frame, reducer.place);
+    reducers::set(alloc, frames, views, frame, instance, reducer.kind, word)
+}
+
+/// The frame reads the number of a reducer's view.
+pub fn value(
+    alloc: Global,
+    frames: &mut Vec<Activation<Seat>>,
+    views: &mut Hypermap,
+    frame: usize,
+    reducer: Reducer,
+) -> Result<Event, AllocError>
+    requires here { frame < length frames.old.items }
+    requires comes { (cells : ℕ) × HasCome frames.old.items cells frame (asks.Value reducer) }
+    ensures settles { OnOk result ((cells : ℕ) → Settles frames.old.items frames.new.items cells cells frame (asks.Value reducer)) }
+    ensures ticks { OnOk result (SameTicks frames.old.items frames.new.items) }
+{
+    let instance = instance_at(frames.as_slice(), frame, reducer.place);
+    reducers::value(alloc, frames, views, frame, instance, reducer.kind)
+}
+
+/// The frame prints a number.
+pub fn print(
+    alloc: Global,
+    frames: &mut Vec<Activation<Seat>>,
+    views: &mut Hypermap,
+    frame: usize,
+    word: i64,
+) -> Result<Event, AllocError>
+    requires here { frame < length frames.old.items }
+    ensures settles { OnOk result ((cells : ℕ) → Settles frames.old.items frames.new.items cells cells frame (asks.Print word)) }
+    ensures ticks { OnOk result (SameTicks frames.old.items frames.new.items) }
+{
+    reducers::print(alloc, frames, views, frame, word)
+}

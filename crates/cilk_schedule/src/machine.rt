@@ -1,0 +1,161 @@
+//! A machine: a program's code, its input, and workers that are told one choice after another.
+
+ghost use Rattle.std.specs.Prelude.{◌≡◌, ◌≢◌, ◌-◌, ◌≤◌, ◌++◌, ◌∷◌, [], ℕ, List, length, reverse, Err, None, Ok, Some, IfOk, IfErr};
+ghost use Rattle.std.specs.Option.{is_some};
+ghost use Rattle.cilk_types.specs.declared.fault.Fault.{Fault};
+ghost use Rattle.cilk_board.specs.Workers.{held_by};
+ghost use Rattle.cilk_board.specs.declared.choice.Stop.{Stop};
+ghost use Rattle.cilk_board.specs.declared.choice.Stop.TheVariants as stops;
+ghost use Rattle.cilk_board.specs.declared.choice.Strand.{Strand};
+ghost use Rattle.cilk_board.specs.declared.choice.Told.TheVariants as told;
+ghost use Rattle.cilk_schedule.specs.Choices.{CanChoose, Writes};
+ghost use Rattle.cilk_schedule.specs.Machines.{OrdinalsUp};
+ghost use Rattle.cilk_schedule.specs.Sound.{IsCode, Runs};
+
+use crate::naming::path;
+use crate::opening::open;
+use crate::running::choose;
+use crate::showing::{Shown, show};
+use cilk_board::board::Board;
+use cilk_board::choice::{Choice, Stop, Told};
+use cilk_board::workers::held_by;
+use cilk_lower::code::Code;
+use cilk_types::input::Input;
+use cilk_types::outcome::Outcome;
+use std::alloc::{AllocError, Global};
+
+/// A machine. It borrows code and input, and owns all else.
+#[derive(Drop)]
+pub struct Machine<'a> {
+    code: &'a Code,
+    input: &'a Input,
+    board: Board,
+}
+
+impl<'a> Machine<'a> {
+    /// A machine with so many workers before its first choice: the first worker holds the first frame.
+    pub fn new(
+        alloc: Global,
+        code: &'a Code,
+        input: &'a Input,
+        workers: u32,
+    ) -> Result<Machine<'a>, AllocError>
+        requires { IsCode code.now }
+        ensures of { IfOk result (λ m. (m.code.now ≡ code.now) × (m.input.now ≡ input.now)) }
+        ensures runs { IfOk result (λ m. Runs m.code.now m.input.now m.board) }
+        ensures workers { IfOk result (λ m. length m.board.workers.items ≡ workers) }
+        ensures running { IfOk result (λ m. (m.board.stopped ≡ None) × (m.board.outcome ≡ None)) }
+    {
+        let board = open(alloc, code, workers)?;
+        Ok(Machine { code, input, board })
+    }
+
+    /// Makes a choice. A choice that can't be made is skipped and changes nothing. Once a choice has stopped the run, each
+    /// further one answers the same stop.
+    pub fn choose(&mut self, alloc: Global, choice: Choice) -> Result<Told, Stop>
+        requires { self.old.board.stopped ≡ None → Runs self.old.code.now self.old.input.now self.old.board }
+        ensures runs { self.new.board.stopped ≡ None → Runs self.new.code.now self.new.input.now self.new.board }
+        ensures same { (self.new.code ≡ self.old.code) × (self.new.input ≡ self.old.input) }
+        ensures skipped { IfOk result (λ t. t ≡ told.Skipped → self.new ≡ self.old) }
+        ensures going { IfOk result (λ told. (self.old.board.stopped ≡ None) × (self.new.board.stopped ≡ None)) }
+        ensures stop { IfErr result (λ stop. self.new.board.stopped ≡ Some stop) }
+        ensures again { (stop : Stop) → self.old.board.stopped ≡ Some stop → (result ≡ Err stop) × (self.new ≡ self.old) }
+        ensures over { self.old.board.stopped ≡ None → self.old.board.outcome ≢ None → (result ≡ Ok told.Skipped) × (self.new ≡ self.old) }
+        ensures made { self.old.board.stopped ≡ None → self.old.board.outcome ≡ None → result ≡ Ok told.Skipped → CanChoose self.old.board choice → ⊥ }
+        ensures vain { self.old.board.stopped ≡ None → (CanChoose self.old.board choice → ⊥) → result ≡ Ok told.Skipped }
+        ensures journal { Writes result self.old.board.journal.items self.new.board.journal.items }
+    {
+        choose(alloc, self.code, self.input, &mut self.board, choice)
+    }
+
+    /// Whether a worker holds a frame.
+    pub fn holds(&self, worker: u32) -> bool
+        ensures { result ≡ is_some (held_by self.now.board.workers.items worker) }
+    {
+        held_by(self.board.workers.as_slice(), worker).is_some()
+    }
+
+    /// How many continuations are offered.
+    pub fn offered(&self) -> usize
+        ensures { result ≡ self.now.board.offered }
+    {
+        self.board.offered
+    }
+
+    /// Whether the first frame has ended.
+    pub fn ended(&self) -> bool
+        ensures { result ≡ is_some self.now.board.outcome }
+    {
+        self.board.outcome.is_some()
+    }
+
+    /// What the run shows so far. After a stop it shows the run before the choice that stopped it.
+    pub fn shown(&self, alloc: Global) -> Result<Shown, AllocError>
+        ensures { IfOk result (λ shown. shown.outcome ≡ self.now.board.outcome) }
+    {
+        show(alloc, &self.board, self.code.layout().openings.len())
+    }
+
+    /// What the first frame's end left, once it has ended.
+    pub fn into_outcome(self) -> Option<Outcome>
+        ensures { result ≡ self.entry.board.outcome }
+    {
+        let Machine {
+            code: _code,
+            input: _input,
+            board,
+        } = self;
+        board.outcome
+    }
+
+    /// The name of the strand that stopped: the path of its frame from the first one down, by ordinals, and then the strand's
+    /// number in its frame. Nothing, where memory was refused.
+    pub fn name(&self, alloc: Global, stop: Stop) -> Result<Vec<u32>, AllocError>
+        ensures memory { stop ≡ stops.Memory → IfOk result (λ name. name.items ≡ []) }
+        ensures name { (fault : Fault) (strand : Strand) (up : List ℕ) → stop ≡ stops.At fault strand → OrdinalsUp self.now.board.frames.items (strand.frame - 1) up → length up ≤ length self.now.board.frames.items → IfOk result (λ name. name.items ≡ reverse up ++ strand.number ∷ []) }
+    {
+        let Stop::At { fault: _, strand } = stop else {
+            return Ok(Vec::new(alloc));
+        };
+        let frame = (strand.frame as usize).saturating_sub(1);
+        let mut name = path(alloc, self.board.frames.as_slice(), frame)?;
+        name.push(strand.number)?;
+        Ok(name)
+    }
+}
+
+/// Makes these choices one after another. A stop comes with the name of its strand; where that finds no memory, the stop is
+/// the want of memory.
+pub fn play(
+    alloc: Global,
+    code: &Code,
+    input: &Input,
+    workers: u32,
+    choices: &[Choice],
+) -> Result<Shown, (Stop, Vec<u32>)>
+    requires { IsCode code.now }
+    ensures { IfErr result (λ e. e.0 ≡ stops.Memory → e.1.items ≡ []) }
+{
+    let Ok(mut machine) = Machine::new(alloc, code, input, workers) else {
+        return Err((Stop::Memory, Vec::new(alloc)));
+    };
+    'each: for choice in choices {
+        if let Err(stop) = machine.choose(alloc, *choice) {
+            return Err(named(alloc, &machine, stop));
+        }
+    }
+    match machine.shown(alloc) {
+        Ok(shown) => Ok(shown),
+        Err(_) => Err((Stop::Memory, Vec::new(alloc))),
+    }
+}
+
+// A stop with the name of its strand.
+fn named(alloc: Global, machine: &Machine, stop: Stop) -> (Stop, Vec<u32>)
+    ensures { result.0 ≡ stops.Memory → result.1.items ≡ [] }
+{
+    match machine.name(alloc, stop) {
+        Ok(name) => (stop, name),
+        Err(_) => (Stop::Memory, Vec::new(alloc)),
+    }
+}

@@ -1,0 +1,75 @@
+//! What a frame asks for is done.
+
+ghost use Rattle.std.specs.Prelude.{◌≡◌, ◌<◌, ◌^◌, ℤ, List, length, OnErr, OnOk};
+ghost use Rattle.cilk_schedule.specs.Sound.{IsTurn, Makes, SameRest};
+
+use crate::arrivals::sync;
+use crate::ending::end;
+use crate::events::{create, print, read, set, update, value, write, write_result};
+use crate::starting::{start_function, start_turns};
+use cilk_board::board::Board;
+use cilk_board::seats::begin_strand;
+use cilk_frames::brief::Brief;
+use cilk_lower::code::Code;
+use cilk_types::event::Event;
+use std::alloc::{AllocError, Global};
+
+/// What the worker's frame asks for is done. The event is still to be written down.
+pub fn make(
+    alloc: Global,
+    code: &Code,
+    board: &mut Board,
+    worker: usize,
+    place: u32,
+) -> Result<Event, AllocError>
+    requires turn { (inputs : List ℤ) × IsTurn code.now inputs board.old place }
+    requires works { worker < length board.old.workers.items }
+    requires low { worker < 2 ^ 32 }
+    ensures made { OnOk result (Makes code.now board.old board.new place) }
+    ensures rest { SameRest board.old board.new }
+    ensures outcome { OnErr result (board.new.outcome ≡ board.old.outcome) }
+{
+    let frame = place as usize;
+    let Some(brief) = board.asked.brief() else {
+        return start_function(alloc, code, board, worker, place);
+    };
+    match *brief {
+        Brief::Begin => {
+            begin_strand(&mut board.frames, frame);
+            Ok(Event::Begin { frame: place + 1 })
+        }
+        Brief::Resume => {
+            begin_strand(&mut board.frames, frame);
+            Ok(Event::Resume { parent: place + 1 })
+        }
+        Brief::Read(cell) => Ok(read(&mut board.frames, board.cells.as_slice(), frame, cell)),
+        Brief::Write(cell, word) => {
+            Ok(write(&mut board.frames, &mut board.cells, frame, cell, word))
+        }
+        Brief::Result(word) => Ok(write_result(&mut board.frames, &mut board.cells, frame, word)),
+        Brief::Turns(how, part) => start_turns(alloc, code, board, worker, place, how, part),
+        Brief::Sync => sync(alloc, board, worker, frame),
+        Brief::End(word) => end(alloc, code, board, worker, frame, word),
+        Brief::Fault(_) => unreachable!(),
+        Brief::Create(reducer) => {
+            let views = &mut board.workers[worker].views;
+            create(alloc, &mut board.frames, views, frame, reducer)
+        }
+        Brief::Update(reducer, word) => {
+            let views = &mut board.workers[worker].views;
+            update(alloc, &mut board.frames, views, frame, reducer, word)
+        }
+        Brief::Set(reducer, word) => {
+            let views = &mut board.workers[worker].views;
+            set(alloc, &mut board.frames, views, frame, reducer, word)
+        }
+        Brief::Value(reducer) => {
+            let views = &mut board.workers[worker].views;
+            value(alloc, &mut board.frames, views, frame, reducer)
+        }
+        Brief::Print(word) => {
+            let views = &mut board.workers[worker].views;
+            print(alloc, &mut board.frames, views, frame, word)
+        }
+    }
+}

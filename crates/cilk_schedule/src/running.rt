@@ -1,0 +1,202 @@
+//! A choice, and a worker that goes on with the frame that it holds.
+
+ghost use Rattle.std.specs.Prelude.{◌≡◌, ◌≢◌, ◌+◌, ◌-◌, ◌<◌, ◌≤◌, ◌^◌, ℕ, ℤ, List, Err, None, Ok, Some, length, slice_get, IfOk, IfErr, IsTrue, MatchOption};
+ghost use Rattle.cilk_program.specs.declared.ask.Ask.TheVariants as asks;
+ghost use Rattle.cilk_activations.specs.declared.activation.Activation.{Activation};
+ghost use Rattle.cilk_board.specs.declared.choice.Act.{Act};
+ghost use Rattle.cilk_board.specs.declared.choice.Stop.{Stop};
+ghost use Rattle.cilk_board.specs.declared.choice.Stop.TheVariants as stops;
+ghost use Rattle.cilk_board.specs.Asking.{refusal};
+ghost use Rattle.cilk_board.specs.declared.choice.Told.TheVariants as told;
+ghost use Rattle.cilk_board.specs.declared.seat.Seat.{Seat};
+ghost use Rattle.cilk_schedule.specs.Choices.{CanChoose, IsReadyAt, Writes};
+ghost use Rattle.cilk_schedule.specs.Sound.{IsAccepted, IsAsked, Runs, SameShown, strand_in};
+
+use crate::arrivals::{must_wait, wait_at};
+use crate::making::make;
+use crate::thieves::steal;
+use cilk_activations::activation::Activation;
+use cilk_board::asking::{go_on, refusal};
+use cilk_board::board::Board;
+use cilk_board::choice::{Act, Choice, Stop, Strand, Told};
+use cilk_board::journal::{note, uncounted};
+use cilk_board::seat::Seat;
+use cilk_board::workers::held_by;
+use cilk_frames::asked::AskSlot;
+use cilk_frames::brief::Brief;
+use cilk_lower::code::Code;
+use cilk_types::fault::Fault;
+use cilk_types::input::Input;
+use std::alloc::Global;
+
+/// Makes a choice. Once it has stopped the run, each further choice answers the same stop.
+pub fn choose(
+    alloc: Global,
+    code: &Code,
+    input: &Input,
+    board: &mut Board,
+    choice: Choice,
+) -> Result<Told, Stop>
+    requires { board.old.stopped ≡ None → Runs code.now input.now board.old }
+    ensures runs { IfOk result (λ told. Runs code.now input.now board.new) }
+    ensures skipped { IfOk result (λ t. t ≡ told.Skipped → board.new ≡ board.old) }
+    ensures going { IfOk result (λ told. (board.old.stopped ≡ None) × (board.new.stopped ≡ None)) }
+    ensures stop { IfErr result (λ stop. board.new.stopped ≡ Some stop) }
+    ensures again { (stop : Stop) → board.old.stopped ≡ Some stop → (result ≡ Err stop) × (board.new ≡ board.old) }
+    ensures over { board.old.stopped ≡ None → board.old.outcome ≢ None → (result ≡ Ok told.Skipped) × (board.new ≡ board.old) }
+    ensures made { board.old.stopped ≡ None → board.old.outcome ≡ None → result ≡ Ok told.Skipped → CanChoose board.old choice → ⊥ }
+    ensures vain { board.old.stopped ≡ None → (CanChoose board.old choice → ⊥) → result ≡ Ok told.Skipped }
+    ensures journal { Writes result board.old.journal.items board.new.journal.items }
+{
+    if let Some(stop) = board.stopped {
+        return Err(stop);
+    }
+    if board.outcome.is_some() {
+        return Ok(Told::Skipped);
+    }
+    let told = match choice {
+        Choice::Run(worker) => run(alloc, code, input, board, worker),
+        Choice::Steal(worker, place) => steal(alloc, board, worker, place),
+    };
+    if let Err(stop) = told {
+        board.stopped = Some(stop);
+    }
+    told
+}
+
+// The worker's frame makes its next event, or waits at its sync.
+fn run(
+    alloc: Global,
+    code: &Code,
+    input: &Input,
+    board: &mut Board,
+    worker: u32,
+) -> Result<Told, Stop>
+    requires { Runs code.now input.now board.old }
+    ensures runs { IfOk result (λ told. Runs code.now input.now board.new) }
+    ensures skipped { IfOk result (λ t. t ≡ told.Skipped → board.new ≡ board.old) }
+    ensures stopped { board.new.stopped ≡ board.old.stopped }
+    ensures made { (k : ℕ) → IsReadyAt board.old worker k → result ≡ Ok told.Skipped → ⊥ }
+    ensures vain { ((k : ℕ) → IsReadyAt board.old worker k → ⊥) → result ≡ Ok told.Skipped }
+    ensures journal { Writes result board.old.journal.items board.new.journal.items }
+{
+    let Some(frame) = ready(board, worker) else {
+        return Ok(Told::Skipped);
+    };
+    let worker = worker as usize - 1;
+    come(code, input, board, frame);
+    if at_sync(&board.asked) && must_wait(board.frames.as_slice(), frame as usize) {
+        wait_at(alloc, board, worker, frame as usize)?;
+        return Ok(Told::Waits);
+    }
+    if let Some(fault) = refused(code, board, frame as usize) {
+        return Err(stop_at(board.frames.as_slice(), frame, fault));
+    }
+    act(alloc, code, board, worker, frame)
+}
+
+// The frame goes on to what it asks for next.
+fn come(code: &Code, input: &Input, board: &mut Board, frame: u32)
+    requires runs { Runs code.now input.now board.old }
+    requires ready { (worker : ℕ) × IsReadyAt board.old worker frame }
+    ensures asked { IsAsked code.now input.now board.new frame }
+    ensures same { SameShown board.old board.new }
+{
+    go_on(
+        code,
+        input,
+        &mut board.frames,
+        frame as usize,
+        &mut board.asked,
+    );
+}
+
+// The event that the frame asks for is made and written down, into room that was made before.
+fn act(
+    alloc: Global,
+    code: &Code,
+    board: &mut Board,
+    worker: usize,
+    frame: u32,
+) -> Result<Told, Stop>
+    requires asked { (inputs : List ℤ) × IsAsked code.now inputs board.old frame }
+    requires accepted { IsAccepted code.now board.old frame }
+    requires works { worker < length board.old.workers.items }
+    requires low { worker < 2 ^ 32 }
+    ensures runs { IfOk result (λ told. (inputs : List ℤ) → IsAsked code.now inputs board.old frame → Runs code.now inputs board.new) }
+    ensures did { IfOk result (λ t. (act : Act) × (t ≡ told.Did act)) }
+    ensures journal { Writes result board.old.journal.items board.new.journal.items }
+    ensures stopped { board.new.stopped ≡ board.old.stopped }
+{
+    board.journal.reserve(1)?;
+    let event = make(alloc, code, board, worker, frame)?;
+    board.ticks = note(
+        &mut board.frames,
+        &mut board.journal,
+        board.ticks,
+        frame,
+        event,
+    );
+    Ok(Told::Did(Act {
+        frame: frame + 1,
+        event,
+    }))
+}
+
+// The place of the frame that a worker holds and can go on with.
+fn ready(board: &Board, worker: u32) -> Option<u32>
+    ensures { MatchOption result ((k : ℕ) → IsReadyAt board.now worker k → ⊥) (λ k. IsReadyAt board.now worker k) }
+{
+    let frame = held_by(board.workers.as_slice(), worker)?;
+    let seat = board.frames.get(frame as usize)?;
+    if seat.cursor.cursor.is_none() {
+        return None;
+    }
+    Some(frame)
+}
+
+// Whether a sync is asked for.
+fn at_sync(asked: &AskSlot) -> bool
+    ensures { IsTrue result → asked.now ≡ asks.Sync }
+{
+    match asked.brief() {
+        Some(Brief::Sync) => true,
+        _ => false,
+    }
+}
+
+// The fault that stands in place of what a frame asks for, if any.
+fn refused(code: &Code, board: &Board, frame: usize) -> Option<Fault>
+    requires here { frame < length board.now.frames.items }
+    requires few { (a : Activation Seat) → slice_get board.now.frames.items frame ≡ Some a → (a.cursor.counted ≤ a.cursor.took) × (board.now.ticks + a.cursor.took < 2 ^ 32) }
+    requires events { length board.now.journal.items < 2 ^ 63 }
+    requires frames { length board.now.frames.items < 2 ^ 63 }
+    requires cells { length board.now.cells.items < 2 ^ 63 }
+    ensures { (a : Activation Seat) → slice_get board.now.frames.items frame ≡ Some a → result ≡ refusal (board.now.ticks + (a.cursor.took - a.cursor.counted)) (length board.now.journal.items) (length board.now.frames.items) (length board.now.cells.items) code.now.layout board.now.asked }
+{
+    let ticks = board.ticks + uncounted(board.frames.as_slice(), frame);
+    refusal(
+        ticks,
+        board.journal.len(),
+        board.frames.len(),
+        board.cells.len(),
+        code.layout(),
+        &board.asked,
+    )
+}
+
+// The stop of a frame by a fault, at its latest strand.
+fn stop_at(frames: &[Activation<Seat>], frame: u32, fault: Fault) -> Stop
+    requires here { frame < length frames.now }
+    requires few { length frames.now < 2 ^ 31 }
+    ensures { (a : Activation Seat) → slice_get frames.now frame ≡ Some a → result ≡ stops.At fault (record { frame = frame + 1; number = strand_in a.cursor.strands }) }
+{
+    let strands = frames[frame as usize].cursor.strands;
+    Stop::At {
+        fault,
+        strand: Strand {
+            frame: frame + 1,
+            number: if strands == 0 { 1 } else { strands },
+        },
+    }
+}

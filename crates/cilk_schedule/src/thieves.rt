@@ -1,0 +1,131 @@
+//! Workers that take continuations.
+
+ghost use Rattle.std.specs.Prelude.{◌≡◌, ◌<◌, ◌≤◌, ◌⊎◌, ℕ, ℤ, true, List, None, Ok, Some, length, slice_get, IfOk, IsTrue, MatchOption, OnOk};
+ghost use Rattle.cilk_join.specs.Joins.{IsOpen};
+ghost use Rattle.cilk_lower.specs.Code.{CodeView};
+ghost use Rattle.cilk_activations.specs.declared.activation.Activation.{Activation};
+ghost use Rattle.cilk_board.specs.Events.{block_in};
+ghost use Rattle.cilk_board.specs.Workers.{IsLocated, offers};
+ghost use Rattle.cilk_board.specs.declared.choice.Told.TheVariants as told;
+ghost use Rattle.cilk_board.specs.declared.seat.Seat.{Seat};
+ghost use Rattle.cilk_schedule.specs.Choices.{CanSteal};
+ghost use Rattle.cilk_schedule.specs.Sound.{IsQuiet, Runs};
+
+use crate::ending::hold;
+use cilk_activations::activation::Activation;
+use cilk_board::board::Board;
+use cilk_board::choice::{Stop, Told};
+use cilk_board::offers::locate;
+use cilk_board::seat::{Seat, Worker};
+use cilk_board::seats::rob;
+use cilk_board::stealing::await_last;
+use cilk_board::workers::is_idle;
+use cilk_hypermap::hypermap::Hypermap;
+use std::alloc::{AllocError, Global};
+
+/// An idle worker takes the continuation at this place, with no views, if there is one.
+pub fn steal(alloc: Global, board: &mut Board, worker: u32, place: usize) -> Result<Told, Stop>
+    requires { (code : CodeView) × (inputs : List ℤ) × Runs code inputs board.old }
+    ensures runs { IfOk result (λ told. (code : CodeView) (inputs : List ℤ) → Runs code inputs board.old → Runs code inputs board.new) }
+    ensures skipped { IfOk result (λ t. t ≡ told.Skipped → board.new ≡ board.old) }
+    ensures outcome { board.new.outcome ≡ board.old.outcome }
+    ensures stopped { board.new.stopped ≡ board.old.stopped }
+    ensures journal { board.new.journal ≡ board.old.journal }
+    ensures kind { IfOk result (λ t. (t ≡ told.Stole) ⊎ (t ≡ told.Skipped)) }
+    ensures made { (k : ℕ) → CanSteal board.old worker place k → result ≡ Ok told.Skipped → ⊥ }
+    ensures vain { ((k : ℕ) → CanSteal board.old worker place k → ⊥) → result ≡ Ok told.Skipped }
+{
+    let Some(found) = find(board, worker, place) else {
+        return Ok(Told::Skipped);
+    };
+    rob_at(alloc, &mut board.frames, found.frame as usize)?;
+    let thief = worker as usize - 1;
+    withdraw_at(&mut board.workers, found.victim, found.index);
+    clear(alloc, &mut board.workers, thief);
+    board.offered -= 1;
+    hold(&mut board.frames, &mut board.workers, thief, found.frame);
+    Ok(Told::Stole)
+}
+
+// A continuation that is offered: the worker that offers it, its place in that worker's list, and its frame's place.
+#[derive(Clone, Copy)]
+struct Offer {
+    victim: usize,
+    index: usize,
+    frame: u32,
+}
+
+// The continuation at this place among all, if the worker is idle and may take it.
+fn find(board: &Board, worker: u32, place: usize) -> Option<Offer>
+    ensures { MatchOption result ((k : ℕ) → CanSteal board.now worker place k → ⊥) (λ found. CanSteal board.now worker place found.frame) }
+{
+    if !is_idle(board.workers.as_slice(), worker) || place >= board.offered {
+        return None;
+    }
+    let (victim, index) = locate(board.workers.as_slice(), place)?;
+    let Some(frame) = offered_at(board.workers.as_slice(), victim, index) else {
+        return None;
+    };
+    if !may_steal(board.frames.as_slice(), frame as usize) {
+        return None;
+    }
+    Some(Offer {
+        victim,
+        index,
+        frame,
+    })
+}
+
+// The last child of a frame loses the continuation beside it, and its piece is awaited at the frame's block.
+fn rob_at(alloc: Global, frames: &mut Vec<Activation<Seat>>, frame: usize) -> Result<(), AllocError>
+    requires here { frame < length frames.old.items }
+    requires opens { (a : Activation Seat) → slice_get frames.old.items frame ≡ Some a → IsOpen (block_in a.cursor.join) a.cursor.children }
+    requires last { (a : Activation Seat) → slice_get frames.old.items frame ≡ Some a → a.cursor.last < length frames.old.items }
+    ensures { OnOk result (IsQuiet frames.old.items frames.new.items) }
+{
+    let child = frames[frame].cursor.last;
+    await_last(alloc, &mut frames[frame].cursor)?;
+    rob(frames, child as usize);
+    Ok(())
+}
+
+// The frame whose continuation stands at a place of a worker's list.
+fn offered_at(workers: &[Worker], worker: usize, index: usize) -> Option<u32>
+    ensures { (place : ℕ) → IsLocated workers.now place worker index → result ≡ slice_get (offers workers.now) place }
+{
+    let worker = workers.get(worker)?;
+    let frame = worker.offered.get(index)?;
+    Some(*frame)
+}
+
+// Whether a continuation of the frame may be stolen, beside its last child.
+fn may_steal(frames: &[Activation<Seat>], frame: usize) -> bool
+    ensures yes { IsTrue result → (a : Activation Seat) × (slice_get frames.now frame ≡ Some a) × IsOpen (block_in a.cursor.join) a.cursor.children }
+    ensures no { (a : Activation Seat) → slice_get frames.now frame ≡ Some a → IsOpen (block_in a.cursor.join) a.cursor.children → result ≡ true }
+{
+    let Some(seat) = frames.get(frame) else {
+        return false;
+    };
+    let key = seat.cursor.children;
+    match &seat.cursor.join {
+        Some(join) => join.open(key),
+        None => key > 0,
+    }
+}
+
+// The worker has no views.
+fn clear(alloc: Global, workers: &mut Vec<Worker>, worker: usize)
+    requires { worker < length workers.old.items }
+    ensures { length workers.new.items ≡ length workers.old.items }
+{
+    workers[worker].views = Hypermap::new(alloc);
+}
+
+// A worker no longer offers the continuation at a place of its list.
+fn withdraw_at(workers: &mut Vec<Worker>, worker: usize, index: usize)
+    ensures { length workers.new.items ≡ length workers.old.items }
+{
+    if let Some(worker) = workers.get_mut(worker) {
+        let _frame = worker.offered.remove(index);
+    }
+}
