@@ -9,3 +9,4 @@ pub mod Accepted
 pub mod Turns
 pub mod Onward
 pub mod Paths
+pub mod Stepping

@@ -1,3 +1,4 @@
 pub mod Sound
 pub mod Machines
 pub mod Choices
+pub mod Acts

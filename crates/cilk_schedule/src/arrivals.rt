@@ -1,10 +1,11 @@
 //! Pieces that arrive at a block, and syncs.
 
-ghost use Rattle.std.specs.Prelude.{◌≡◌, ◌<◌, ◌^◌, ℤ, List, Some, length, slice_get, OnOk};
+ghost use Rattle.std.specs.Prelude.{◌≡◌, ◌<◌, ◌^◌, ℤ, List, Some, length, slice_get, IfOk, OnOk};
 ghost use Rattle.cilk_program.specs.declared.ask.Ask.TheVariants as asks;
 ghost use Rattle.cilk_lower.specs.Code.{CodeView};
 ghost use Rattle.cilk_activations.specs.declared.activation.Activation.{Activation};
 ghost use Rattle.cilk_board.specs.declared.seat.Seat.{Seat};
+ghost use Rattle.cilk_schedule.specs.Acts.{IsTouch};
 ghost use Rattle.cilk_schedule.specs.Sound.{IsAsked, IsQuiet, IsTurn, Makes, Runs, SameRest};
 
 use cilk_activations::activation::Activation;
@@ -63,6 +64,7 @@ pub fn sync(
     ensures made { OnOk result ((code : CodeView) → Makes code board.old board.new frame) }
     ensures rest { SameRest board.old board.new }
     ensures outcome { board.new.outcome ≡ board.old.outcome }
+    ensures event { IfOk result (λ e. IsTouch e → ⊥) }
 {
     bring_once(alloc, &mut board.frames, &mut board.workers, worker, frame)?;
     begin_block(&mut board.frames, frame);

@@ -1,10 +1,11 @@
 //! A frame ends.
 
-ghost use Rattle.std.specs.Prelude.{◌≡◌, ◌<◌, ◌^◌, ◌≤◌, ℕ, ℤ, List, Some, length, slice_get, OnErr, OnOk};
+ghost use Rattle.std.specs.Prelude.{◌≡◌, ◌<◌, ◌^◌, ◌≤◌, ℕ, ℤ, List, Some, length, slice_get, IfOk, OnErr, OnOk};
 ghost use Rattle.cilk_program.specs.declared.ask.Ask.TheVariants as asks;
 ghost use Rattle.cilk_lower.specs.Layout.{function_frame};
 ghost use Rattle.cilk_activations.specs.declared.activation.Activation.{Activation};
 ghost use Rattle.cilk_board.specs.declared.seat.Seat.{Seat};
+ghost use Rattle.cilk_schedule.specs.Acts.{IsTouch};
 ghost use Rattle.cilk_schedule.specs.Sound.{IsQuiet, IsTurn, Makes, SameRest};
 
 use crate::arrivals::{bring, leave};
@@ -36,6 +37,7 @@ pub fn end(
     ensures made { OnOk result (Makes code.now board.old board.new frame) }
     ensures rest { SameRest board.old board.new }
     ensures outcome { OnErr result (board.new.outcome ≡ board.old.outcome) }
+    ensures event { IfOk result (λ e. IsTouch e → ⊥) }
 {
     let views = &mut board.workers[worker].views;
     retire_own(code, board.frames.as_slice(), views, frame);

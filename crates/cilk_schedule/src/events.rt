@@ -1,7 +1,9 @@
 //! Events of cells and reducers, as a frame asks for them.
 
-ghost use Rattle.std.specs.Prelude.{◌<◌, ℕ, length, OnOk};
+ghost use Rattle.std.specs.Prelude.{◌<◌, ℕ, ℤ, List, length, IfOk, OnOk};
 ghost use Rattle.cilk_program.specs.declared.ask.Ask.TheVariants as asks;
+ghost use Rattle.cilk_hypermap.specs.declared.hypermap.Hypermap.{Hypermap};
+ghost use Rattle.cilk_schedule.specs.Acts.{MakesEvent};
 ghost use Rattle.cilk_schedule.specs.Sound.{HasCome, SameTicks, Settles};
 
 use cilk_activations::activation::Activation;
@@ -20,6 +22,7 @@ pub fn read(frames: &mut Vec<Activation<Seat>>, cells: &[i64], frame: usize, pla
     requires comes { HasCome frames.old.items (length cells.now) frame (asks.Read place) }
     ensures settles { Settles frames.old.items frames.new.items (length cells.now) (length cells.now) frame (asks.Read place) }
     ensures ticks { SameTicks frames.old.items frames.new.items }
+    ensures makes { (views : Hypermap) → MakesEvent frames.old.items frames.new.items cells.now cells.now views views frame (asks.Read place) result }
 {
     let cell = cell_at(frames.as_slice(), frame, place);
     cells::read(frames, cells, frame, cell)
@@ -37,6 +40,7 @@ pub fn write(
     requires comes { HasCome frames.old.items (length cells.old.items) frame (asks.Write place word) }
     ensures settles { Settles frames.old.items frames.new.items (length cells.old.items) (length cells.new.items) frame (asks.Write place word) }
     ensures ticks { SameTicks frames.old.items frames.new.items }
+    ensures makes { (views : Hypermap) → MakesEvent frames.old.items frames.new.items cells.old.items cells.new.items views views frame (asks.Write place word) result }
 {
     let cell = cell_at(frames.as_slice(), frame, place);
     cells::write(frames, cells, frame, cell, word)
@@ -53,6 +57,7 @@ pub fn write_result(
     requires comes { HasCome frames.old.items (length cells.old.items) frame (asks.Result word) }
     ensures settles { Settles frames.old.items frames.new.items (length cells.old.items) (length cells.new.items) frame (asks.Result word) }
     ensures ticks { SameTicks frames.old.items frames.new.items }
+    ensures makes { (views : Hypermap) → MakesEvent frames.old.items frames.new.items cells.old.items cells.new.items views views frame (asks.Result word) result }
 {
     let Some(cell) = frames[frame].result else {
         unreachable!()
@@ -72,6 +77,7 @@ pub fn create(
     requires comes { (cells : ℕ) × HasCome frames.old.items cells frame (asks.Create reducer) }
     ensures settles { OnOk result ((cells : ℕ) → Settles frames.old.items frames.new.items cells cells frame (asks.Create reducer)) }
     ensures ticks { OnOk result (SameTicks frames.old.items frames.new.items) }
+    ensures makes { IfOk result (λ e. (cells : List ℤ) → MakesEvent frames.old.items frames.new.items cells cells views.old views.new frame (asks.Create reducer) e) }
 {
     let instance = instance_at(frames.as_slice(), frame, reducer.place);
     reducers::create(alloc, frames, views, frame, instance, reducer.kind)
@@ -90,6 +96,7 @@ pub fn update(
     requires comes { (cells : ℕ) × HasCome frames.old.items cells frame (asks.Update reducer word) }
     ensures settles { OnOk result ((cells : ℕ) → Settles frames.old.items frames.new.items cells cells frame (asks.Update reducer word)) }
     ensures ticks { OnOk result (SameTicks frames.old.items frames.new.items) }
+    ensures makes { IfOk result (λ e. (cells : List ℤ) → MakesEvent frames.old.items frames.new.items cells cells views.old views.new frame (asks.Update reducer word) e) }
 {
     let instance = instance_at(frames.as_slice(), frame, reducer.place);
     reducers::update(alloc, frames, views, frame, instance, reducer.kind, word)
@@ -108,6 +115,7 @@ pub fn set(
     requires comes { (cells : ℕ) × HasCome frames.old.items cells frame (asks.Set reducer word) }
     ensures settles { OnOk result ((cells : ℕ) → Settles frames.old.items frames.new.items cells cells frame (asks.Set reducer word)) }
     ensures ticks { OnOk result (SameTicks frames.old.items frames.new.items) }
+    ensures makes { IfOk result (λ e. (cells : List ℤ) → MakesEvent frames.old.items frames.new.items cells cells views.old views.new frame (asks.Set reducer word) e) }
 {
     let instance = instance_at(frames.as_slice(), frame, reducer.place);
     reducers::set(alloc, frames, views, frame, instance, reducer.kind, word)
@@ -125,6 +133,7 @@ pub fn value(
     requires comes { (cells : ℕ) × HasCome frames.old.items cells frame (asks.Value reducer) }
     ensures settles { OnOk result ((cells : ℕ) → Settles frames.old.items frames.new.items cells cells frame (asks.Value reducer)) }
     ensures ticks { OnOk result (SameTicks frames.old.items frames.new.items) }
+    ensures makes { IfOk result (λ e. (cells : List ℤ) → MakesEvent frames.old.items frames.new.items cells cells views.old views.new frame (asks.Value reducer) e) }
 {
     let instance = instance_at(frames.as_slice(), frame, reducer.place);
     reducers::value(alloc, frames, views, frame, instance, reducer.kind)
@@ -141,6 +150,7 @@ pub fn print(
     requires here { frame < length frames.old.items }
     ensures settles { OnOk result ((cells : ℕ) → Settles frames.old.items frames.new.items cells cells frame (asks.Print word)) }
     ensures ticks { OnOk result (SameTicks frames.old.items frames.new.items) }
+    ensures makes { IfOk result (λ e. (cells : List ℤ) → MakesEvent frames.old.items frames.new.items cells cells views.old views.new frame (asks.Print word) e) }
 {
     reducers::print(alloc, frames, views, frame, word)
 }

@@ -8,6 +8,7 @@ ghost use Rattle.cilk_board.specs.declared.choice.Stop.{Stop};
 ghost use Rattle.cilk_board.specs.declared.choice.Stop.TheVariants as stops;
 ghost use Rattle.cilk_board.specs.declared.choice.Strand.{Strand};
 ghost use Rattle.cilk_board.specs.declared.choice.Told.TheVariants as told;
+ghost use Rattle.cilk_schedule.specs.Acts.{EventsAreSteps};
 ghost use Rattle.cilk_schedule.specs.Choices.{CanChoose, Writes};
 ghost use Rattle.cilk_schedule.specs.Machines.{OrdinalsUp};
 ghost use Rattle.cilk_schedule.specs.Sound.{IsCode, Runs};
@@ -64,6 +65,7 @@ impl<'a> Machine<'a> {
         ensures made { self.old.board.stopped ≡ None → self.old.board.outcome ≡ None → result ≡ Ok told.Skipped → CanChoose self.old.board choice → ⊥ }
         ensures vain { self.old.board.stopped ≡ None → (CanChoose self.old.board choice → ⊥) → result ≡ Ok told.Skipped }
         ensures journal { Writes result self.old.board.journal.items self.new.board.journal.items }
+        ensures steps { IfOk result (λ t. EventsAreSteps self.old.code.now self.old.input.now self.old.board self.new.board choice t) }
     {
         choose(alloc, self.code, self.input, &mut self.board, choice)
     }

@@ -1,6 +1,7 @@
 //! What a frame asks for is done.
 
-ghost use Rattle.std.specs.Prelude.{◌≡◌, ◌<◌, ◌^◌, ℤ, List, length, OnErr, OnOk};
+ghost use Rattle.std.specs.Prelude.{◌≡◌, ◌<◌, ◌^◌, ℤ, List, length, IfOk, OnErr, OnOk};
+ghost use Rattle.cilk_schedule.specs.Acts.{IsTouch, Touched};
 ghost use Rattle.cilk_schedule.specs.Sound.{IsTurn, Makes, SameRest};
 
 use crate::arrivals::sync;
@@ -28,6 +29,7 @@ pub fn make(
     ensures made { OnOk result (Makes code.now board.old board.new place) }
     ensures rest { SameRest board.old board.new }
     ensures outcome { OnErr result (board.new.outcome ≡ board.old.outcome) }
+    ensures touched { IfOk result (λ e. IsTouch e → Touched board.old board.new worker place e) }
 {
     let frame = place as usize;
     let Some(brief) = board.asked.brief() else {

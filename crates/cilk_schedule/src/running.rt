@@ -9,6 +9,9 @@ ghost use Rattle.cilk_board.specs.declared.choice.Stop.TheVariants as stops;
 ghost use Rattle.cilk_board.specs.Asking.{refusal};
 ghost use Rattle.cilk_board.specs.declared.choice.Told.TheVariants as told;
 ghost use Rattle.cilk_board.specs.declared.seat.Seat.{Seat};
+ghost use Rattle.cilk_types.specs.declared.event.Event.{Event};
+ghost use Rattle.cilk_board.specs.declared.choice.Choice.TheVariants as choices;
+ghost use Rattle.cilk_schedule.specs.Acts.{EventsAreSteps, IsTouch, WentTo, Wrote};
 ghost use Rattle.cilk_schedule.specs.Choices.{CanChoose, IsReadyAt, Writes};
 ghost use Rattle.cilk_schedule.specs.Sound.{IsAccepted, IsAsked, Runs, SameShown, strand_in};
 
@@ -47,6 +50,7 @@ pub fn choose(
     ensures made { board.old.stopped ≡ None → board.old.outcome ≡ None → result ≡ Ok told.Skipped → CanChoose board.old choice → ⊥ }
     ensures vain { board.old.stopped ≡ None → (CanChoose board.old choice → ⊥) → result ≡ Ok told.Skipped }
     ensures journal { Writes result board.old.journal.items board.new.journal.items }
+    ensures steps { IfOk result (λ t. EventsAreSteps code.now input.now board.old board.new choice t) }
 {
     if let Some(stop) = board.stopped {
         return Err(stop);
@@ -79,6 +83,7 @@ fn run(
     ensures made { (k : ℕ) → IsReadyAt board.old worker k → result ≡ Ok told.Skipped → ⊥ }
     ensures vain { ((k : ℕ) → IsReadyAt board.old worker k → ⊥) → result ≡ Ok told.Skipped }
     ensures journal { Writes result board.old.journal.items board.new.journal.items }
+    ensures steps { IfOk result (λ t. board.old.outcome ≡ None → EventsAreSteps code.now input.now board.old board.new (choices.Run worker) t) }
 {
     let Some(frame) = ready(board, worker) else {
         return Ok(Told::Skipped);
@@ -101,6 +106,7 @@ fn come(code: &Code, input: &Input, board: &mut Board, frame: u32)
     requires ready { (worker : ℕ) × IsReadyAt board.old worker frame }
     ensures asked { IsAsked code.now input.now board.new frame }
     ensures same { SameShown board.old board.new }
+    ensures went { WentTo code.now input.now board.old board.new frame }
 {
     go_on(
         code,
@@ -127,6 +133,7 @@ fn act(
     ensures did { IfOk result (λ t. (act : Act) × (t ≡ told.Did act)) }
     ensures journal { Writes result board.old.journal.items board.new.journal.items }
     ensures stopped { board.new.stopped ≡ board.old.stopped }
+    ensures wrote { IfOk result (λ t. (e : Event) × (t ≡ told.Did (record { frame = frame + 1; event = e })) × (IsTouch e → Wrote board.old board.new worker frame e)) }
 {
     board.journal.reserve(1)?;
     let event = make(alloc, code, board, worker, frame)?;

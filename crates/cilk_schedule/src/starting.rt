@@ -1,12 +1,13 @@
 //! A frame starts another.
 
-ghost use Rattle.std.specs.Prelude.{◌≡◌, ◌+◌, ◌<◌, ◌≤◌, ◌^◌, ◌∷◌, ◌++◌, [], ℕ, ℤ, List, length, OnOk};
+ghost use Rattle.std.specs.Prelude.{◌≡◌, ◌+◌, ◌<◌, ◌≤◌, ◌^◌, ◌∷◌, ◌++◌, [], ℕ, ℤ, List, length, IfOk, OnOk};
 ghost use Rattle.cilk_program.specs.declared.ask.Ask.TheVariants as asks;
 ghost use Rattle.cilk_program.specs.declared.ask.Callee.{Callee};
 ghost use Rattle.cilk_program.specs.declared.ask.Callee.TheVariants as callees;
 ghost use Rattle.cilk_lower.specs.Layout.{cells_in};
 ghost use Rattle.cilk_frames.specs.AskSlot.{IsFunctionCall};
 ghost use Rattle.cilk_board.specs.Invoking.{IsChild};
+ghost use Rattle.cilk_schedule.specs.Acts.{IsTouch};
 ghost use Rattle.cilk_schedule.specs.Sound.{CanStart, HasBegun, IsTurn, Makes, SameRest};
 
 use crate::opening::add_cells;
@@ -36,6 +37,7 @@ pub fn start_function(
     ensures made { OnOk result (Makes code.now board.old board.new frame) }
     ensures rest { SameRest board.old board.new }
     ensures outcome { board.new.outcome ≡ board.old.outcome }
+    ensures event { IfOk result (λ e. IsTouch e → ⊥) }
 {
     let (how, call) = board.asked.invocation();
     let count = code.layout().function_cells(call.function);
@@ -65,6 +67,7 @@ pub fn start_turns(
     ensures made { OnOk result (Makes code.now board.old board.new frame) }
     ensures rest { SameRest board.old board.new }
     ensures outcome { board.new.outcome ≡ board.old.outcome }
+    ensures event { IfOk result (λ e. IsTouch e → ⊥) }
 {
     let count = code.layout().part_cells(&part);
     let starter = Starter {
@@ -94,6 +97,7 @@ fn begin(
     ensures begun { OnOk result (HasBegun board.old board.new frame child count) }
     ensures rest { SameRest board.old board.new }
     ensures outcome { board.new.outcome ≡ board.old.outcome }
+    ensures event { IfOk result (λ e. IsTouch e → ⊥) }
 {
     let place = board.frames.len() as u32;
     if how == Invocation::Spawn {

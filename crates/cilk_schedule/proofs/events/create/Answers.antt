@@ -1,14 +1,14 @@
-use Rattle.std.proofs.Common.{◌≡◌, ◌<◌, ℕ, List, length, Some, sym, ap, ◌∙◌, subst, refl, arith}
-use Rattle.std.proofs.lemmas.List.{length-set}
+use Rattle.std.proofs.Common.{ℤ, List, sym, subst, refl}
 use Rattle.cilk_program.specs.declared.ask.Ask.TheVariants as asks
 use Rattle.cilk_frames.specs.declared.cursor.Answer.TheVariants as answers
-use Rattle.cilk_activations.specs.declared.activation.Activation.{Activation}
 use Rattle.cilk_board.specs.Events.{SeesAt}
-use Rattle.cilk_board.specs.Seats.{answered, changed}
-use Rattle.cilk_board.specs.declared.seat.Seat.{Seat}
-use Rattle.cilk_schedule.specs.Sound.{SameTicks, Settles}
+use Rattle.cilk_board.specs.Seats.{answered}
 use Rattle.cilk_schedule.proofs.Answering.{on_ok, settles, ticks}
-use Rattle.cilk_schedule.proofs.Coming.{cell_there, reducer_small, result_there, sees_there}
+use Rattle.cilk_schedule.proofs.Coming.{reducer_small, sees_there}
+use Rattle.cilk_types.specs.declared.event.Event.TheVariants as numbered
+use Rattle.cilk_schedule.specs.Acts as does
+use Rattle.cilk_schedule.specs.Acts.{Acts, MakesEvent}
+use Rattle.cilk_schedule.proofs.Stepping.{made}
 use Rattle.cilk_schedule.proofs.events.create.Goals as goal
 
 pub instance_at-instance-requires-clause-sees : goal.instance_at-instance-requires-clause-sees
@@ -29,3 +29,13 @@ returns-clause-settles c =
 
 pub returns-clause-ticks : goal.returns-clause-ticks
 returns-clause-ticks c = on_ok c.create.result c.create.ensures.frames (λ is. ticks answers.Done c.args.frames.now.items c.create.new.frames.items c.args.frame is)
+
+pub returns-clause-makes : goal.returns-clause-makes
+returns-clause-makes c =
+    let f = c.args.frames.now.items in
+    let g = c.create.new.frames.items in
+    let v = c.args.views.now in
+    let w = c.create.new.views in
+    let i = c.instance_at-instance.result in
+    made c.create.result (numbered.Create i) _ _ (λ e. (cells : List ℤ) → MakesEvent f g cells cells v w c.args.frame (asks.Create c.args.reducer) e) c.create.ensures.event c.create.ensures.views c.create.ensures.frames
+    (λ to is cells. (answered answers.Done, does.creates c.args.reducer i w (λ scope sees. c.instance_at-instance.ensures scope (subst (λ z. SeesAt z c.args.frame scope) (sym c.as_slice.ensures.value) sees)) to, is))

@@ -1,14 +1,12 @@
-use Rattle.std.proofs.Common.{◌≡◌, ◌<◌, ℕ, List, length, Some, sym, ap, ◌∙◌, subst, refl, arith}
-use Rattle.std.proofs.lemmas.List.{length-set}
+use Rattle.std.proofs.Common.{◌<◌, length, sym, subst, refl}
 use Rattle.cilk_program.specs.declared.ask.Ask.TheVariants as asks
 use Rattle.cilk_frames.specs.declared.cursor.Answer.TheVariants as answers
-use Rattle.cilk_activations.specs.declared.activation.Activation.{Activation}
 use Rattle.cilk_board.specs.Events.{SeesAt}
-use Rattle.cilk_board.specs.Seats.{answered, changed}
-use Rattle.cilk_board.specs.declared.seat.Seat.{Seat}
-use Rattle.cilk_schedule.specs.Sound.{SameTicks, Settles}
-use Rattle.cilk_schedule.proofs.Answering.{on_ok, settles, ticks}
-use Rattle.cilk_schedule.proofs.Coming.{cell_there, reducer_small, result_there, sees_there}
+use Rattle.cilk_board.specs.Seats.{answered}
+use Rattle.cilk_schedule.proofs.Answering.{settles, ticks}
+use Rattle.cilk_schedule.proofs.Coming.{cell_there}
+use Rattle.cilk_schedule.specs.Acts as does
+use Rattle.cilk_schedule.specs.Acts.{Acts, MakesEvent}
 use Rattle.cilk_schedule.proofs.events.read.Goals as goal
 
 pub cell_at-cell-requires-clause-sees : goal.cell_at-cell-requires-clause-sees
@@ -29,3 +27,15 @@ returns-clause-settles c =
 
 pub returns-clause-ticks : goal.returns-clause-ticks
 returns-clause-ticks c = let is = c.read.ensures in ticks (answers.Value is.0) c.args.frames.now.items c.read.new.frames.items c.args.frame is.3
+
+pub returns-clause-makes : goal.returns-clause-makes
+returns-clause-makes c = λ views.
+    let is = c.read.ensures in
+    let n = c.cell_at-cell.result in
+    let f = c.args.frames.now.items in
+    let l = c.args.cells.now in (
+      answered (answers.Value is.0),
+      subst (λ e. Acts f l views c.args.frame (asks.Read c.args.place) (answered (answers.Value is.0)) e l views) (sym is.2)
+      (does.reads c.args.place n is.0 (λ scope sees. c.cell_at-cell.ensures scope (subst (λ z. SeesAt z c.args.frame scope) (sym c.as_slice.ensures.value) sees)) is.1),
+      is.3,
+    )

@@ -1,4 +1,6 @@
-use Rattle.std.proofs.Common.{◌≡◌, ◌<◌, ℕ, List, length, Some, sym, ap, ◌∙◌, subst, refl, arith}
+use Rattle.std.proofs.Common.{◌≡◌, ◌<◌, ℕ, ℤ, List, length, Some, sym, ap, ◌∙◌, subst, refl, arith}
+use Rattle.std.proofs.Common.{to_z, of_z, w64, rules, IfOk}
+use Rattle.cilk_types.specs.Word.{IsWord}
 use Rattle.std.proofs.lemmas.List.{length-set}
 use Rattle.cilk_program.specs.declared.ask.Ask.TheVariants as asks
 use Rattle.cilk_frames.specs.declared.cursor.Answer.TheVariants as answers
@@ -9,6 +11,10 @@ use Rattle.cilk_board.specs.declared.seat.Seat.{Seat}
 use Rattle.cilk_schedule.specs.Sound.{SameTicks, Settles}
 use Rattle.cilk_schedule.proofs.Answering.{on_ok, settles, ticks}
 use Rattle.cilk_schedule.proofs.Coming.{cell_there, reducer_small, result_there, sees_there}
+use Rattle.cilk_types.specs.declared.event.Event.TheVariants as numbered
+use Rattle.cilk_schedule.specs.Acts as does
+use Rattle.cilk_schedule.specs.Acts.{Acts, MakesEvent}
+use Rattle.cilk_schedule.proofs.Stepping.{made}
 use Rattle.cilk_schedule.proofs.events.update.Goals as goal
 
 pub instance_at-instance-requires-clause-sees : goal.instance_at-instance-requires-clause-sees
@@ -29,3 +35,16 @@ returns-clause-settles c =
 
 pub returns-clause-ticks : goal.returns-clause-ticks
 returns-clause-ticks c = on_ok c.update.result c.update.ensures.frames (λ is. ticks answers.Done c.args.frames.now.items c.update.new.frames.items c.args.frame is)
+
+pub returns-clause-makes : goal.returns-clause-makes
+returns-clause-makes c =
+    let x : ℤ = to_z w64 (of_z w64 c.args.word) in
+    let same : x ≡ c.args.word = search rules in
+    let f = c.args.frames.now.items in
+    let g = c.update.new.frames.items in
+    let v = c.args.views.now in
+    let w = c.update.new.views in
+    let i = c.instance_at-instance.result in
+    subst (λ v. IfOk c.update.result (λ e. (cells : List ℤ) → MakesEvent f g cells cells c.args.views.now c.update.new.views c.args.frame (asks.Update c.args.reducer v) e)) same
+    (made c.update.result (numbered.Update i x) _ _ (λ e. (cells : List ℤ) → MakesEvent f g cells cells v w c.args.frame (asks.Update c.args.reducer x) e) c.update.ensures.event c.update.ensures.views c.update.ensures.frames
+    (λ to is cells. (answered answers.Done, does.updates c.args.reducer x i w (subst IsWord (sym same) c.ranges.word) (λ scope sees. c.instance_at-instance.ensures scope (subst (λ z. SeesAt z c.args.frame scope) (sym c.as_slice.ensures.value) sees)) to, is)))

@@ -1,4 +1,6 @@
 use Rattle.std.proofs.Common.{◌≡◌, ◌<◌, ℕ, List, length, Some, sym, ap, ◌∙◌, subst, refl, arith}
+use Rattle.std.proofs.Common.{ℤ, to_z, of_z, w64, rules}
+use Rattle.cilk_types.specs.Word.{IsWord}
 use Rattle.std.proofs.lemmas.List.{length-set}
 use Rattle.cilk_program.specs.declared.ask.Ask.TheVariants as asks
 use Rattle.cilk_frames.specs.declared.cursor.Answer.TheVariants as answers
@@ -9,6 +11,10 @@ use Rattle.cilk_board.specs.declared.seat.Seat.{Seat}
 use Rattle.cilk_schedule.specs.Sound.{SameTicks, Settles}
 use Rattle.cilk_schedule.proofs.Answering.{on_ok, settles, ticks}
 use Rattle.cilk_schedule.proofs.Coming.{cell_there, reducer_small, result_there, sees_there}
+use Rattle.cilk_types.specs.declared.event.Event.TheVariants as numbered
+use Rattle.cilk_schedule.specs.Acts as does
+use Rattle.cilk_schedule.specs.Acts.{Acts, MakesEvent}
+use Rattle.cilk_schedule.proofs.Stepping.{made}
 use Rattle.cilk_schedule.proofs.events.write.Goals as goal
 
 pub cell_at-cell-requires-clause-sees : goal.cell_at-cell-requires-clause-sees
@@ -29,3 +35,19 @@ returns-clause-settles c =
 
 pub returns-clause-ticks : goal.returns-clause-ticks
 returns-clause-ticks c = ticks answers.Done c.args.frames.now.items c.write.new.frames.items c.args.frame c.write.ensures.frames
+
+pub returns-clause-makes : goal.returns-clause-makes
+returns-clause-makes c = λ views.
+    let x : ℤ = to_z w64 (of_z w64 c.args.word) in
+    let same : x ≡ c.args.word = search rules in
+    let n = c.cell_at-cell.result in
+    let f = c.args.frames.now.items in
+    let l = c.args.cells.now.items in
+    let m = c.write.new.cells.items in
+    subst (λ v. MakesEvent f c.write.new.frames.items l m views views c.args.frame (asks.Write c.args.place v) c.write.result) same (
+      answered answers.Done,
+      subst (λ e. Acts f l views c.args.frame (asks.Write c.args.place x) (answered answers.Done) e m views) (sym c.write.ensures.event)
+      (subst (λ z. Acts f l views c.args.frame (asks.Write c.args.place x) (answered answers.Done) (numbered.Write n x) z views) (sym c.write.ensures.cells)
+      (does.writes c.args.place n x (λ scope sees. c.cell_at-cell.ensures scope (subst (λ z. SeesAt z c.args.frame scope) (sym c.as_slice.ensures.value) sees)))),
+      c.write.ensures.frames,
+    )

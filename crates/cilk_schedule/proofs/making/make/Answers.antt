@@ -4,6 +4,12 @@ use Rattle.cilk_frames.specs.AskSlot.{in_full}
 use Rattle.cilk_schedule.specs.Sound.{HasCome, Settles}
 use Rattle.cilk_schedule.proofs.Answering.{both, on_ok}
 use Rattle.cilk_schedule.proofs.Turns.{comes, settles_made, strand_settles, strand_ticks}
+use Rattle.cilk_types.specs.declared.event.Event.TheVariants as events
+use Rattle.cilk_board.specs.Seats.{stranded}
+use Rattle.cilk_schedule.specs.Acts as does
+use Rattle.cilk_schedule.specs.Acts.{Acts, MakesEvent}
+use Rattle.cilk_schedule.proofs.Stepping.{if_ok, touched_still, touched_views}
+use Rattle.cilk_board.proofs.Placed.{get_there}
 use Rattle.cilk_schedule.proofs.making.make.Goals as goal
 
 pub write-requires-clause-comes : goal.write-requires-clause-comes
@@ -111,3 +117,104 @@ returns-in-Print-clause-made c =
     let is : c.args.board.now.asked ≡ asks.Print w = c.in-Some.ensures ∙ ap in_full c.in-Print.is ∙ ap (λ v. asks.Print v) (sym same) in
     on_ok c.print.result (both _ _ c.print.result c.print.ensures.settles c.print.ensures.ticks)
     (λ h. (λ inputs t. settles_made c.args.code.now inputs c.args.board.now c.args.place t (asks.Print w) is _ (h.0 _) refl refl, h.1))
+
+pub returns-in-Begin-clause-touched : goal.returns-in-Begin-clause-touched
+returns-in-Begin-clause-touched c = λ it.
+    let is : c.args.board.now.asked ≡ asks.Begin = c.in-Some.ensures ∙ ap in_full c.in-Begin.is in
+    let b = c.args.board.now in
+    let new = record b { frames = c.begin_strand.new.frames } in
+    touched_still b new c.args.worker c.args.place (events.Begin (c.args.place + 1)) c.requires.works refl refl refl
+    (λ views. (stranded, subst (λ k. Acts b.frames.items b.cells.items views c.args.place k stranded (events.Begin (c.args.place + 1)) b.cells.items views) (sym is) does.begins, c.begin_strand.ensures))
+
+pub returns-in-Resume-clause-touched : goal.returns-in-Resume-clause-touched
+returns-in-Resume-clause-touched c = λ it.
+    let is : c.args.board.now.asked ≡ asks.Resume = c.in-Some.ensures ∙ ap in_full c.in-Resume.is in
+    let b = c.args.board.now in
+    let new = record b { frames = c.begin_strand-in-Resume.new.frames } in
+    touched_still b new c.args.worker c.args.place (events.Resume (c.args.place + 1)) c.requires.works refl refl refl
+    (λ views. (stranded, subst (λ k. Acts b.frames.items b.cells.items views c.args.place k stranded (events.Resume (c.args.place + 1)) b.cells.items views) (sym is) does.resumes, c.begin_strand-in-Resume.ensures))
+
+pub returns-in-Read-clause-touched : goal.returns-in-Read-clause-touched
+returns-in-Read-clause-touched c = λ it.
+    let is : c.args.board.now.asked ≡ asks.Read c.in-Read.cell = c.in-Some.ensures ∙ ap in_full c.in-Read.is in
+    let b = c.args.board.now in
+    let new = record b { frames = c.read.new.frames } in
+    touched_still b new c.args.worker c.args.place c.read.result c.requires.works refl refl refl
+    (λ views. subst (λ k. MakesEvent b.frames.items c.read.new.frames.items b.cells.items b.cells.items views views c.args.place k c.read.result) (sym is)
+    (subst (λ l. MakesEvent b.frames.items c.read.new.frames.items l l views views c.args.place (asks.Read c.in-Read.cell) c.read.result) c.as_slice.ensures.value (c.read.ensures.makes views)))
+
+pub returns-in-Write-clause-touched : goal.returns-in-Write-clause-touched
+returns-in-Write-clause-touched c = λ it.
+    let w : ℤ = to_z w64 (of_z w64 c.in-Write.word) in
+    let same : w ≡ c.in-Write.word = search rules in
+    let is : c.args.board.now.asked ≡ asks.Write c.in-Write.cell w = c.in-Some.ensures ∙ ap in_full c.in-Write.is ∙ ap (λ v. asks.Write c.in-Write.cell v) (sym same) in
+    let b = c.args.board.now in
+    let new = record b { frames = c.write.new.frames; cells = c.write.new.cells } in
+    touched_still b new c.args.worker c.args.place c.write.result c.requires.works refl refl refl
+    (λ views. subst (λ k. MakesEvent b.frames.items c.write.new.frames.items b.cells.items c.write.new.cells.items views views c.args.place k c.write.result) (sym is) (c.write.ensures.makes views))
+
+pub returns-in-Result-clause-touched : goal.returns-in-Result-clause-touched
+returns-in-Result-clause-touched c = λ it.
+    let w : ℤ = to_z w64 (of_z w64 c.in-Result.word) in
+    let same : w ≡ c.in-Result.word = search rules in
+    let is : c.args.board.now.asked ≡ asks.Result w = c.in-Some.ensures ∙ ap in_full c.in-Result.is ∙ ap (λ v. asks.Result v) (sym same) in
+    let b = c.args.board.now in
+    let new = record b { frames = c.write_result.new.frames; cells = c.write_result.new.cells } in
+    touched_still b new c.args.worker c.args.place c.write_result.result c.requires.works refl refl refl
+    (λ views. subst (λ k. MakesEvent b.frames.items c.write_result.new.frames.items b.cells.items c.write_result.new.cells.items views views c.args.place k c.write_result.result) (sym is) (c.write_result.ensures.makes views))
+
+pub returns-in-Create-clause-touched : goal.returns-in-Create-clause-touched
+returns-in-Create-clause-touched c =
+    let is : c.args.board.now.asked ≡ asks.Create c.in-Create.reducer = c.in-Some.ensures ∙ ap in_full c.in-Create.is in
+    let b = c.args.board.now in
+    let u = c.index_mut.result.now in
+    let at = get_there b.workers.items c.args.worker u c.index_mut.ensures.value c.requires.works in
+    if_ok c.create.result c.create.ensures.makes
+    (λ e h it. touched_views b _ c.args.worker c.args.place e u c.create.new.views at refl refl refl
+        (subst (λ k. MakesEvent b.frames.items c.create.new.frames.items b.cells.items b.cells.items u.views c.create.new.views c.args.place k e) (sym is) (h b.cells.items)))
+
+pub returns-in-Update-clause-touched : goal.returns-in-Update-clause-touched
+returns-in-Update-clause-touched c =
+    let w : ℤ = to_z w64 (of_z w64 c.in-Update.word) in
+    let same : w ≡ c.in-Update.word = search rules in
+    let is : c.args.board.now.asked ≡ asks.Update c.in-Update.reducer w = c.in-Some.ensures ∙ ap in_full c.in-Update.is ∙ ap (λ v. asks.Update c.in-Update.reducer v) (sym same) in
+    let b = c.args.board.now in
+    let u = c.index_mut-in-Update.result.now in
+    let at = get_there b.workers.items c.args.worker u c.index_mut-in-Update.ensures.value c.requires.works in
+    if_ok c.update.result c.update.ensures.makes
+    (λ e h it. touched_views b _ c.args.worker c.args.place e u c.update.new.views at refl refl refl
+        (subst (λ k. MakesEvent b.frames.items c.update.new.frames.items b.cells.items b.cells.items u.views c.update.new.views c.args.place k e) (sym is) (h b.cells.items)))
+
+pub returns-in-Set-clause-touched : goal.returns-in-Set-clause-touched
+returns-in-Set-clause-touched c =
+    let w : ℤ = to_z w64 (of_z w64 c.in-Set.word) in
+    let same : w ≡ c.in-Set.word = search rules in
+    let is : c.args.board.now.asked ≡ asks.Set c.in-Set.reducer w = c.in-Some.ensures ∙ ap in_full c.in-Set.is ∙ ap (λ v. asks.Set c.in-Set.reducer v) (sym same) in
+    let b = c.args.board.now in
+    let u = c.index_mut-in-Set.result.now in
+    let at = get_there b.workers.items c.args.worker u c.index_mut-in-Set.ensures.value c.requires.works in
+    if_ok c.set.result c.set.ensures.makes
+    (λ e h it. touched_views b _ c.args.worker c.args.place e u c.set.new.views at refl refl refl
+        (subst (λ k. MakesEvent b.frames.items c.set.new.frames.items b.cells.items b.cells.items u.views c.set.new.views c.args.place k e) (sym is) (h b.cells.items)))
+
+pub returns-in-Value-clause-touched : goal.returns-in-Value-clause-touched
+returns-in-Value-clause-touched c =
+    let is : c.args.board.now.asked ≡ asks.Value c.in-Value.reducer = c.in-Some.ensures ∙ ap in_full c.in-Value.is in
+    let b = c.args.board.now in
+    let u = c.index_mut-in-Value.result.now in
+    let at = get_there b.workers.items c.args.worker u c.index_mut-in-Value.ensures.value c.requires.works in
+    if_ok c.value.result c.value.ensures.makes
+    (λ e h it. touched_views b _ c.args.worker c.args.place e u c.value.new.views at refl refl refl
+        (subst (λ k. MakesEvent b.frames.items c.value.new.frames.items b.cells.items b.cells.items u.views c.value.new.views c.args.place k e) (sym is) (h b.cells.items)))
+
+pub returns-in-Print-clause-touched : goal.returns-in-Print-clause-touched
+returns-in-Print-clause-touched c =
+    let w : ℤ = to_z w64 (of_z w64 c.in-Print.word) in
+    let same : w ≡ c.in-Print.word = search rules in
+    let is : c.args.board.now.asked ≡ asks.Print w = c.in-Some.ensures ∙ ap in_full c.in-Print.is ∙ ap (λ v. asks.Print v) (sym same) in
+    let b = c.args.board.now in
+    let u = c.index_mut-in-Print.result.now in
+    let at = get_there b.workers.items c.args.worker u c.index_mut-in-Print.ensures.value c.requires.works in
+    if_ok c.print.result c.print.ensures.makes
+    (λ e h it. touched_views b _ c.args.worker c.args.place e u c.print.new.views at refl refl refl
+        (subst (λ k. MakesEvent b.frames.items c.print.new.frames.items b.cells.items b.cells.items u.views c.print.new.views c.args.place k e) (sym is) (h b.cells.items)))

@@ -3,6 +3,7 @@ use Rattle.cilk_types.specs.declared.limits.TheConstants.{MAX_TICKS}
 use Rattle.cilk_schedule.proofs.Onward.{is_turn, runs_on}
 use Rattle.cilk_schedule.proofs.Workers.{inside}
 use Rattle.cilk_schedule.proofs.Accepted as accepted
+use Rattle.cilk_schedule.specs.Acts.{Touched, Wrote}
 use Rattle.cilk_schedule.proofs.running.act.Goals as goal
 
 pub returns-clause-runs : goal.returns-clause-runs
@@ -21,3 +22,19 @@ returns-clause-runs c = λ inputs t.
     let few = accepted.few_ticks ticks (length b.journal.items) (length b.frames.items) (length b.cells.items) c.args.code.now.layout b.asked q.accepted in
     let low : c.note-board.result ≤ MAX_TICKS = omega (arith, now, before, took, counted, few) in
     runs_on c.args.code.now inputs c.make.new.board c.args.frame (made.0 inputs turn) here _ _ c.note-board.ensures.frames refl c.note-board.ensures.journal refl low
+
+pub returns-clause-wrote : goal.returns-clause-wrote
+returns-clause-wrote c = (c.in_ok-event.event, refl, λ it.
+    let b = c.args.board.now in
+    let t = c.in_ok-event.ensures.touched it in
+    record {
+      made = c.make.new.board;
+      touched = record { worker = t.worker; views = t.views; at = t.at; makes = t.makes; workers = t.workers; offered = t.offered; outcome = t.outcome };
+      frames = c.note-board.ensures.frames;
+      ticks = λ a at. c.note-board.ensures.ticks a at ∙ ap (λ n. n + (let x = a.cursor in x.took - x.counted)) c.make.ensures.rest.ticks;
+      journal = c.note-board.ensures.journal ∙ ap (λ l. l ++ (record { frame = c.args.frame; event = c.in_ok-event.event }) ∷ []) (ap (λ z. z.items) c.make.ensures.rest.journal ∙ c.in_ok-reserve.ensures.items);
+      cells = refl;
+      workers = refl;
+      offered = refl;
+      outcome = refl;
+    })

@@ -1,4 +1,4 @@
-use Rattle.std.proofs.Common.{◌≡◌, ◌+◌, ◌-◌, ◌<◌, ◌≤◌, ◌^◌, ℕ, List, [], ◌∷◌, ◌++◌, length, slice_get, Option, Some, None, Ok, Err, OnOk, refl, sym, ap, ◌∙◌, subst, arith, rules}
+use Rattle.std.proofs.Common.{◌≡◌, refl, subst}
 use Rattle.cilk_schedule.proofs.Onward.{is_asked, is_ready}
 use Rattle.cilk_schedule.proofs.Workers.{same_at}
 use Rattle.cilk_board.specs.Asking.{IsReady}
@@ -20,3 +20,10 @@ returns-clause-asked c =
     let r = q.1 in
     let went = c.go_on.ensures r.seat r.sits in
     is_asked c.args.code.now c.args.input.now c.args.board.now c.requires.runs c.args.frame r.seat r.cursor r.sits r.has went.0 c.go_on.new.asked went.1 _ went.2 refl refl refl refl refl
+
+pub returns-clause-went : goal.returns-clause-went
+returns-clause-went c =
+    let q = c.requires.ready in
+    let r = q.1 in
+    let went = c.go_on.ensures r.seat r.sits in
+    record { seat = r.seat; came = went.0; sits = r.sits; went = went.1; frames = went.2; cells = refl; workers = refl; journal = refl; ticks = refl; offered = refl; outcome = refl }
