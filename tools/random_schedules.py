@@ -61,7 +61,7 @@ def main():
     words = argparse.ArgumentParser()
     words.add_argument("count", type=int)
     words.add_argument("program", nargs="+")
-    words.add_argument("--cilk", default=f"{TOP}/cilk/out/cilk")
+    words.add_argument("--cilk", default=f"{TOP}/cilk")
     words.add_argument("--seed", type=int, default=1)
     words.add_argument("--input")
     given = words.parse_args()
