@@ -11,7 +11,7 @@ use Rattle.cilk_types.specs.declared.fault.Fault.TheVariants.{TooManyEvents}
 use Rattle.cilk_types.specs.declared.limits.TheConstants.{MAX_TICKS}
 use Rattle.cilk_monoid.specs.declared.kind.MonoidKind.{MonoidKind}
 use Rattle.cilk_monoid.specs.declared.kind.MonoidKind.TheVariants.{Add, Least, Greatest, Append, Affine}
-use Rattle.cilk_monoid.specs.Kinds.{structure_of, IsMember}
+use Rattle.cilk_monoid.specs.Kinds.{structure_of, size_of, IsMember}
 use Rattle.cilk_monoid.specs.Values.{ViewValue, Number, Elements, Map}
 use Rattle.cilk_types.specs.Word.{IsWord}
 use Rattle.cilk_program.specs.declared.ask.Ask as language
@@ -34,14 +34,14 @@ use Rattle.cilk_runs.proofs.Basics.{same_name-refl}
 use Rattle.cilk_runs.proofs.Started.{started_does, started_invokes}
 use Rattle.cilk_worlds.specs.Held.{HoldsViews, AskIsSound}
 use Rattle.cilk_worlds.specs.Machine.{named_ask, answer_of, answers_of, is_end, has_ended, asked_after, next, costs, opening_values}
-use Rattle.cilk_worlds.specs.Reducers.{View, kind_of, monoid_of}
+use Rattle.cilk_worlds.specs.Reducers.{View, value_of, kind_of, monoid_of}
 use Rattle.cilk_worlds.specs.Steps.{Next, IsFirst, OneStep, Reaches}
 use Rattle.cilk_worlds.specs.Worlds.{World, first_world, child_world, cell_seen, reducer_seen, result_cell}
 use Rattle.cilk_worlds.proofs.Held.{HasView, views_kept}
 use Rattle.cilk_worlds.proofs.Kept.{answers_more, ended_more}
 use Rattle.cilk_worlds.proofs.Views.{are_multiplied}
 use Rattle.cilk_determinacy.specs.Held.{LengthIsWord, LengthsAreWords, ViewsAreHeld}
-use Rattle.cilk_determinacy.specs.Lengths.{LengthsStayWords}
+use Rattle.cilk_determinacy.specs.Lengths.{HasShortLists, ListsAreShort}
 use Rattle.cilk_determinacy.specs.Words.{AreWords, HasWords, InputsAreWords}
 use Rattle.cilk_determinacy.proofs.Lengths.{Small, Sized, small_unit, is_resume, ask_sized, steals_sized, stolen_now, number_word}
 use Rattle.cilk_determinacy.proofs.Owed.{lies, onward, waiting, waiting_does, waiting_invokes}
@@ -735,17 +735,31 @@ module _ (p : Source) (inputs : List ℤ) where
         small [] f i q = subst (Small (kind_of i) 0) (sym (o.5 i)) (small_unit (kind_of i) 0)
         small (k ∷ n) f i q = let no : None ≡ Some f = sym (o.0 (k ∷ n)) ∙ q in absurd (cc)
 
-    all_fit : (todo : List Name) (mid s' : State World View) → Fit (length todo) mid → Long mid → Steps World View monoid_of (Next p inputs) (costs p inputs) todo mid s' → HoldsViews s' × ((n : Name) (f : Frame World) → s'.frames n ≡ Some f → LengthsAreWords f.deeds)
-    all_fit [] mid s' fit l same = subst (λ t. HoldsViews t × ((n : Name) (f : Frame World) → t.frames n ≡ Some f → LengthsAreWords f.deeds)) (sym same) (fit.holds, l.lengths)
+    short_lists : (s : State World View) → Long s → HasShortLists s
+    short_lists s l = record {
+      events = l.events;
+      sizes = λ n f i q.
+          let size = l.sized in
+          let (x, h, low) = size.small n f i q in
+          let m = are_multiplied in
+          let same : size_of (value_of (kind_of i) (s.piece n i)) ≡ size_of x = ap size_of (m.value (kind_of i) (s.piece n i) x h) in
+          let a = size.within n in
+          let b = size.below n in
+          omega (arith, same, low, a, b);
+      lengths = l.lengths;
+    }
+
+    all_fit : (todo : List Name) (mid s' : State World View) → Fit (length todo) mid → Long mid → Steps World View monoid_of (Next p inputs) (costs p inputs) todo mid s' → HoldsViews s' × HasShortLists s'
+    all_fit [] mid s' fit l same = subst (λ t. HoldsViews t × HasShortLists t) (sym same) (fit.holds, short_lists mid l)
     all_fit (n ∷ todo) mid s' fit l (next_state, step, rest) =
         let l' = step_long (length todo) mid next_state n fit l step in
         all_fit todo next_state s' (step_fits (length todo) mid next_state n fit step l'.lengths) l' rest
 
-both : (p : Source) (inputs : List ℤ) (has : HasWords p) (inputs_words : InputsAreWords inputs) (ns : List Name) (s' : State World View) → Reaches p inputs ns s' → HoldsViews s' × ((n : Name) (f : Frame World) → s'.frames n ≡ Some f → LengthsAreWords f.deeds)
+both : (p : Source) (inputs : List ℤ) (has : HasWords p) (inputs_words : InputsAreWords inputs) (ns : List Name) (s' : State World View) → Reaches p inputs ns s' → HoldsViews s' × HasShortLists s'
 both p inputs has inputs_words ns s' (s, o, steps) = all_fit p inputs has inputs_words ns s s' (opening_fits p inputs has inputs_words (length ns) s o) (opening_long p inputs has inputs_words s o) steps
 
 pub views_held : (p : Source) (inputs : List ℤ) → ViewsAreHeld p inputs
 views_held p inputs has inputs_words ns s' reaches = (both p inputs has inputs_words ns s' reaches).0
 
-pub lengths_words : (p : Source) (inputs : List ℤ) → LengthsStayWords p inputs
-lengths_words p inputs has inputs_words ns s' reaches = (both p inputs has inputs_words ns s' reaches).1
+pub lists_short : (p : Source) (inputs : List ℤ) → ListsAreShort p inputs
+lists_short p inputs has inputs_words ns s' reaches = (both p inputs has inputs_words ns s' reaches).1
