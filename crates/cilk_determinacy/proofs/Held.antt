@@ -16,9 +16,7 @@ use Rattle.cilk_monoid.specs.Values.{ViewValue, Number, Elements, Map}
 use Rattle.cilk_types.specs.Word.{IsWord}
 use Rattle.cilk_program.specs.declared.ask.Ask as language
 use Rattle.cilk_program.specs.declared.ask.Ask.TheVariants as asks
-use Rattle.cilk_program.specs.declared.ask.Callee.{Callee}
 use Rattle.cilk_types.specs.declared.invocation.Invocation.{Invocation}
-use Rattle.cilk_types.specs.declared.invocation.Invocation.TheVariants.{Call, Spawn}
 use Rattle.cilk_program.specs.Behaviour.{OpenAsk, frame_asks}
 use Rattle.cilk_program.specs.Syntax.{Source}
 use Rattle.cilk_meaning.specs.Closed.{IsNoResume}
@@ -28,10 +26,10 @@ use Rattle.cilk_meaning.proofs.Legal.{IsPlain, Rest, after, unless_fault, IsLega
 use Rattle.cilk_runs.specs.Runs as runs
 use Rattle.cilk_runs.specs.Runs.{Name, same_name, Cell, same_cell, Instance, Ask, Deed, Does, Invokes}
 use Rattle.cilk_runs.specs.Costs.{Costs, Total, TickTotal, EventTotal, is_over, own_fault, fault_of}
-use Rattle.cilk_runs.specs.Machine.{Frame, Frames, State, started, deed_of, effect, begun, after_deed, IsAsking, Makes, Steals, Stops, Step, Steps}
+use Rattle.cilk_runs.specs.Machine.{Frame, Frames, State, started, deed_of, effect, begun, after_deed, IsAsking, Makes, Steals, Stops, Steps}
 use Rattle.cilk_runs.specs.Monoids.{numbers_of}
 use Rattle.cilk_runs.proofs.Basics.{same_name-refl}
-use Rattle.cilk_runs.proofs.Started.{started_does, started_invokes}
+use Rattle.cilk_runs.proofs.Started.{started_invokes}
 use Rattle.cilk_worlds.specs.Held.{HoldsViews, AskIsSound}
 use Rattle.cilk_worlds.specs.Machine.{named_ask, answer_of, answers_of, is_end, has_ended, asked_after, next, costs, opening_values}
 use Rattle.cilk_worlds.specs.Reducers.{View, value_of, kind_of, monoid_of}
