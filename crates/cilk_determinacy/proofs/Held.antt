@@ -3,7 +3,8 @@
 -- - `Advance`, `advance`: the stage of a frame's order that follows an ask;
 -- - `deed_word`, `write_word`, `ask_sound`: what a frame is answered, writes, and puts into views, is words;
 -- - `Fit`, `step_fits`: what holds of each state, and its step;
--- - `views_held`: the law.
+-- - `Long`, `step_long`: how long views are beside, and its step;
+-- - `views_held`, `lists_short`: the laws.
 use Rattle.std.proofs.Common.{◌≡◌, ◌≤◌, ◌+◌, ℕ, zero, suc, ℤ, pos, Bool, true, false, cond, List, [], ◌∷◌, ◌++◌, length, Option, Some, None, ◌⊎◌, inl, inr, ⊎_elim, refl, sym, ap, ◌∙◌, subst, arith, append_assoc, append-nil, le_refl}
 use Rattle.std.proofs.lemmas.Bool.{cond-true, cond-false, ltb-false}
 use Rattle.cilk_types.specs.declared.fault.Fault.{Fault}

@@ -1,7 +1,7 @@
 -- Views have no more elements than events were made, whatever steps are made.
 --
 -- - `Small`, `small_unit`, `small_single`, `small_join`, `block_small`: views with at most so many elements;
--- - `Sized`: what holds of each state; `makes_sized`, `steals_sized`: its steps;
+-- - `Sized`: what holds of each state; `ask_sized`, `steals_sized`: its steps;
 -- - `number_word`: the length of such a view is a word.
 use Rattle.std.proofs.Common.{◌≡◌, ◌≤◌, ◌<◌, ◌+◌, ℕ, suc, ℤ, Bool, true, false, true≢false, cond, List, [], ◌∷◌, ◌++◌, length, length-append, Option, Some, None, refl, sym, ap, ap₂, ◌∙◌, subst, arith}
 use Rattle.std.proofs.lemmas.Bool.{cond-true, cond-false}
