@@ -3,45 +3,47 @@
 -- - `Advance`, `advance`: the stage of a frame's order that follows an ask;
 -- - `deed_word`, `write_word`, `ask_sound`: what a frame is answered, writes, and puts into views, is words;
 -- - `Fit`, `step_fits`: what holds of each state, and its step;
--- - `views_held`: the law.
+-- - `Long`, `step_long`: how long views are beside, and its step;
+-- - `views_held`, `lists_short`: the laws.
 use Rattle.std.proofs.Common.{◌≡◌, ◌≤◌, ◌+◌, ℕ, zero, suc, ℤ, pos, Bool, true, false, cond, List, [], ◌∷◌, ◌++◌, length, Option, Some, None, ◌⊎◌, inl, inr, ⊎_elim, refl, sym, ap, ◌∙◌, subst, arith, append_assoc, append-nil, le_refl}
-use Rattle.std.proofs.lemmas.Bool.{cond-true}
+use Rattle.std.proofs.lemmas.Bool.{cond-true, cond-false, ltb-false}
 use Rattle.cilk_types.specs.declared.fault.Fault.{Fault}
 use Rattle.cilk_types.specs.declared.fault.Fault.TheVariants.{TooManyEvents}
 use Rattle.cilk_types.specs.declared.limits.TheConstants.{MAX_TICKS}
 use Rattle.cilk_monoid.specs.declared.kind.MonoidKind.{MonoidKind}
 use Rattle.cilk_monoid.specs.declared.kind.MonoidKind.TheVariants.{Add, Least, Greatest, Append, Affine}
-use Rattle.cilk_monoid.specs.Kinds.{structure_of, IsMember}
+use Rattle.cilk_monoid.specs.Kinds.{structure_of, size_of, IsMember}
 use Rattle.cilk_monoid.specs.Values.{ViewValue, Number, Elements, Map}
 use Rattle.cilk_types.specs.Word.{IsWord}
 use Rattle.cilk_program.specs.declared.ask.Ask as language
 use Rattle.cilk_program.specs.declared.ask.Ask.TheVariants as asks
-use Rattle.cilk_program.specs.declared.ask.Callee.{Callee}
 use Rattle.cilk_types.specs.declared.invocation.Invocation.{Invocation}
-use Rattle.cilk_types.specs.declared.invocation.Invocation.TheVariants.{Call, Spawn}
 use Rattle.cilk_program.specs.Behaviour.{OpenAsk, frame_asks}
 use Rattle.cilk_program.specs.Syntax.{Source}
 use Rattle.cilk_meaning.specs.Closed.{IsNoResume}
 use Rattle.cilk_meaning.specs.Order.{opening_asks, Stage, Fresh, Due, Going, Resuming, Synced, Closing, opened, follows}
-use Rattle.cilk_meaning.proofs.Closings.{View as Comes, Begins, Opens, Goes, Calls, Spawns, Syncs, Resumes, Again, Gives, Ends, EndsThen, view, IsSound, opened_sound, opening_asks_open, plain_no_resume, opening_no_resume}
-use Rattle.cilk_meaning.proofs.Legal.{Rest, after, unless_fault, IsLegal, fresh_fine}
+use Rattle.cilk_meaning.proofs.Closings.{IsOpening, View as Comes, Begins, Opens, Goes, Calls, Spawns, Syncs, Resumes, Again, Gives, Ends, EndsThen, view, IsSound, opened_sound, opening_asks_open, plain_no_resume, opening_no_resume}
+use Rattle.cilk_meaning.proofs.Legal.{IsPlain, Rest, after, unless_fault, IsLegal, fresh_fine}
 use Rattle.cilk_runs.specs.Runs as runs
 use Rattle.cilk_runs.specs.Runs.{Name, same_name, Cell, same_cell, Instance, Ask, Deed, Does, Invokes}
-use Rattle.cilk_runs.specs.Costs.{Total, TickTotal, is_over, fault_of}
-use Rattle.cilk_runs.specs.Machine.{Frame, Frames, State, started, deed_of, effect, begun, after_deed, IsAsking, Makes, Steals, Stops, Step, Steps}
+use Rattle.cilk_runs.specs.Costs.{Costs, Total, TickTotal, EventTotal, is_over, own_fault, fault_of}
+use Rattle.cilk_runs.specs.Machine.{Frame, Frames, State, started, deed_of, effect, begun, after_deed, IsAsking, Makes, Steals, Stops, Steps}
 use Rattle.cilk_runs.specs.Monoids.{numbers_of}
 use Rattle.cilk_runs.proofs.Basics.{same_name-refl}
-use Rattle.cilk_runs.proofs.Started.{started_does, started_invokes}
+use Rattle.cilk_runs.proofs.Started.{started_invokes}
 use Rattle.cilk_worlds.specs.Held.{HoldsViews, AskIsSound}
 use Rattle.cilk_worlds.specs.Machine.{named_ask, answer_of, answers_of, is_end, has_ended, asked_after, next, costs, opening_values}
-use Rattle.cilk_worlds.specs.Reducers.{View, kind_of, monoid_of}
+use Rattle.cilk_worlds.specs.Reducers.{View, value_of, kind_of, monoid_of}
 use Rattle.cilk_worlds.specs.Steps.{Next, IsFirst, OneStep, Reaches}
 use Rattle.cilk_worlds.specs.Worlds.{World, first_world, child_world, cell_seen, reducer_seen, result_cell}
 use Rattle.cilk_worlds.proofs.Held.{HasView, views_kept}
 use Rattle.cilk_worlds.proofs.Kept.{answers_more, ended_more}
 use Rattle.cilk_worlds.proofs.Views.{are_multiplied}
-use Rattle.cilk_determinacy.specs.Held.{LengthIsWord, LengthsAreWords, HasWordLengths, ViewsAreHeld}
+use Rattle.cilk_determinacy.specs.Held.{LengthIsWord, LengthsAreWords, ViewsAreHeld}
+use Rattle.cilk_determinacy.specs.Lengths.{HasShortLists, ListsAreShort}
 use Rattle.cilk_determinacy.specs.Words.{AreWords, HasWords, InputsAreWords}
+use Rattle.cilk_determinacy.proofs.Lengths.{Small, Sized, small_unit, is_resume, ask_sized, steals_sized, stolen_now, number_word}
+use Rattle.cilk_determinacy.proofs.Owed.{lies, onward, waiting, waiting_does, waiting_invokes}
 use Rattle.cilk_determinacy.proofs.Worded.{zero_word, AskWords, CalleeWords, asks_words}
 use Rattle.cilk_determinacy.proofs.Wordy.{more_words, opening_word}
 
@@ -68,28 +70,82 @@ not_resuming : (due : List language.Ask) → ¬ (IsResuming (opened due))
 not_resuming [] h = h
 not_resuming (k ∷ due) h = h
 
+-- an ask that starts a child, and one that comes after a child
+abbrev invoke_bit : language.Ask → Bool
+invoke_bit (asks.Invoke how callee) = true
+invoke_bit k = false
+
+abbrev resume_bit : language.Ask → Bool
+resume_bit asks.Resume = true
+resume_bit k = false
+
+abbrev resuming_bit : Stage → Bool
+resuming_bit (Fresh due) = false
+resuming_bit (Due first due) = false
+resuming_bit (Going w) = false
+resuming_bit (Resuming w) = true
+resuming_bit Synced = false
+resuming_bit Closing = false
+
+not_resuming_bit : (due : List language.Ask) → resuming_bit (opened due) ≡ false
+not_resuming_bit [] = refl
+not_resuming_bit (k ∷ due) = refl
+
+plain_bits : (k : language.Ask) → IsPlain k → (invoke_bit k ≡ false) × (resume_bit k ≡ false)
+plain_bits asks.Begin h = (refl, refl)
+plain_bits (asks.Read x) h = (refl, refl)
+plain_bits (asks.Write x v) h = (refl, refl)
+plain_bits (asks.Create r) h = (refl, refl)
+plain_bits (asks.Update r v) h = (refl, refl)
+plain_bits (asks.Set r v) h = (refl, refl)
+plain_bits (asks.Value r) h = (refl, refl)
+plain_bits (asks.Print v) h = (refl, refl)
+plain_bits (asks.Invoke how callee) h = absurd h
+plain_bits asks.Resume h = absurd h
+plain_bits asks.Sync h = (refl, refl)
+plain_bits (asks.Result v) h = (refl, refl)
+plain_bits (asks.End v) h = (refl, refl)
+plain_bits (asks.Fault f) h = (refl, refl)
+
+opening_bits : (k : language.Ask) → IsOpening k → (invoke_bit k ≡ false) × (resume_bit k ≡ false)
+opening_bits asks.Begin h = (refl, refl)
+opening_bits (asks.Read x) h = (refl, refl)
+opening_bits (asks.Write x v) h = (refl, refl)
+opening_bits (asks.Create r) h = (refl, refl)
+opening_bits (asks.Update r v) h = (refl, refl)
+opening_bits (asks.Set r v) h = (refl, refl)
+opening_bits (asks.Value r) h = (refl, refl)
+opening_bits (asks.Print v) h = (refl, refl)
+opening_bits (asks.Invoke how callee) h = absurd h
+opening_bits asks.Resume h = absurd h
+opening_bits asks.Sync h = (refl, refl)
+opening_bits (asks.Result v) h = (refl, refl)
+opening_bits (asks.End v) h = (refl, refl)
+opening_bits (asks.Fault f) h = (refl, refl)
+
 -- After this ask the frame stands at a stage, unless it has ended; a child has just ended there only if the ask starts one. And it resumes only where
 -- a child has just ended.
 record Advance (G : Stage → Type 0) (s : Stage) (k : language.Ask) : Type 0 where
-  next_stage : IsEnd k ⊎ ((s' : Stage) × IsSound s' × G s' × (IsResuming s' → IsInvoke k))
+  next_stage : IsEnd k ⊎ ((s' : Stage) × IsSound s' × G s' × (IsResuming s' → IsInvoke k) × (invoke_bit k ≡ resuming_bit s'))
+  comes_after : resume_bit k ≡ resuming_bit s
   resumes : IsNoResume k ⊎ IsResuming s
 
 module _ {G : Stage → Type 0} where
   advance_going : (w : Bool) (k : language.Ask) → Comes G (Going w) k → Advance G (Going w) k
-  advance_going w k (Goes plain h) = record { next_stage = inr (Going w, tt, h, λ z. absurd z); resumes = inl (plain_no_resume k plain) }
-  advance_going w k (Calls h) = record { next_stage = inr (Resuming w, tt, h, λ z. tt); resumes = inl tt }
-  advance_going w k (Spawns h) = record { next_stage = inr (Resuming true, tt, h, λ z. tt); resumes = inl tt }
-  advance_going w k (Syncs h) = record { next_stage = inr (Synced, tt, h, λ z. absurd z); resumes = inl tt }
+  advance_going w k (Goes plain h) = let bits = plain_bits k plain in record { next_stage = inr (Going w, tt, h, λ z. absurd z, bits.0); comes_after = bits.1; resumes = inl (plain_no_resume k plain) }
+  advance_going w k (Calls h) = record { next_stage = inr (Resuming w, tt, h, λ z. tt, refl); comes_after = refl; resumes = inl tt }
+  advance_going w k (Spawns h) = record { next_stage = inr (Resuming true, tt, h, λ z. tt, refl); comes_after = refl; resumes = inl tt }
+  advance_going w k (Syncs h) = record { next_stage = inr (Synced, tt, h, λ z. absurd z, refl); comes_after = refl; resumes = inl tt }
 
   advance : (s : Stage) (k : language.Ask) → IsSound s → Comes G s k → Advance G s k
-  advance (Fresh due) k sound (Begins h) = record { next_stage = inr (opened due, opened_sound due sound, h, λ z. absurd (not_resuming due z)); resumes = inl tt }
-  advance (Due first due) k sound (Opens h) = record { next_stage = inr (opened due, opened_sound due sound.1, h, λ z. absurd (not_resuming due z)); resumes = inl (opening_no_resume first sound.0) }
+  advance (Fresh due) k sound (Begins h) = record { next_stage = inr (opened due, opened_sound due sound, h, λ z. absurd (not_resuming due z), sym (not_resuming_bit due)); comes_after = refl; resumes = inl tt }
+  advance (Due first due) k sound (Opens h) = let bits = opening_bits first sound.0 in record { next_stage = inr (opened due, opened_sound due sound.1, h, λ z. absurd (not_resuming due z), bits.0 ∙ sym (not_resuming_bit due)); comes_after = bits.1; resumes = inl (opening_no_resume first sound.0) }
   advance (Going w) k sound h = advance_going w k h
-  advance (Resuming w) k sound (Resumes h) = record { next_stage = inr (Going w, tt, h, λ z. absurd z); resumes = inr tt }
-  advance Synced k sound (Again h) = let a = advance_going false k h in record { next_stage = a.next_stage; resumes = ⊎_elim inl (λ z. absurd z) a.resumes }
-  advance Synced k sound (Gives h) = record { next_stage = inr (Closing, tt, h, λ z. absurd z); resumes = inl tt }
-  advance Synced k sound Ends = record { next_stage = inl tt; resumes = inl tt }
-  advance Closing k sound EndsThen = record { next_stage = inl tt; resumes = inl tt }
+  advance (Resuming w) k sound (Resumes h) = record { next_stage = inr (Going w, tt, h, λ z. absurd z, refl); comes_after = refl; resumes = inr tt }
+  advance Synced k sound (Again h) = let a = advance_going false k h in record { next_stage = a.next_stage; comes_after = a.comes_after; resumes = ⊎_elim inl (λ z. absurd z) a.resumes }
+  advance Synced k sound (Gives h) = record { next_stage = inr (Closing, tt, h, λ z. absurd z, refl); comes_after = refl; resumes = inl tt }
+  advance Synced k sound Ends = record { next_stage = inl tt; comes_after = refl; resumes = inl tt }
+  advance Closing k sound EndsThen = record { next_stage = inl tt; comes_after = refl; resumes = inl tt }
 
 no_fault : (k : language.Ask) (P : Type 0) → ((f : Fault) → k ≡ asks.Fault f → ⊥) → unless_fault k P → P
 no_fault asks.Begin P never h = h
@@ -150,6 +206,10 @@ view_word i v (x, h) g =
 last_length : (past : List (Deed World)) (d : Deed World) → LengthsAreWords (past ++ d ∷ []) → LengthIsWord d
 last_length [] d h = h.0
 last_length (e ∷ past) d h = last_length past d h.1
+
+more_lengths : (past : List (Deed World)) (d : Deed World) → LengthsAreWords past → LengthIsWord d → LengthsAreWords (past ++ d ∷ [])
+more_lengths [] d h g = (g, tt)
+more_lengths (e ∷ past) d h g = (h.0, more_lengths past d h.1 g)
 
 not_child : (e : runs.Event) (i : Invocation) (v : World) → Does e ≡ Invokes i v → ⊥
 not_child e i v q = cc
@@ -248,6 +308,56 @@ module _ (p : Source) (w : World) (j : ℕ) (memory : Cell → ℤ) (number : In
   end_ends (asks.End y) h = refl
   end_ends (asks.Fault f) h = absurd h
 
+  -- a deed that starts a child, and one that comes after a child
+  deed_invokes : (k : language.Ask) (past : List (Deed World)) → waiting false (past ++ deed_of memory number (named_ask p w j k) ∷ []) ≡ invoke_bit k
+  deed_invokes asks.Begin past = waiting_does false past _
+  deed_invokes (asks.Read x) past = waiting_does false past _
+  deed_invokes (asks.Write x v) past = waiting_does false past _
+  deed_invokes (asks.Create r) past = waiting_does false past _
+  deed_invokes (asks.Update r v) past = waiting_does false past _
+  deed_invokes (asks.Set r v) past = waiting_does false past _
+  deed_invokes (asks.Value r) past = waiting_does false past _
+  deed_invokes (asks.Print v) past = waiting_does false past _
+  deed_invokes (asks.Invoke how callee) past = waiting_invokes false past _ _
+  deed_invokes asks.Resume past = waiting_does false past _
+  deed_invokes asks.Sync past = waiting_does false past _
+  deed_invokes (asks.Result v) past = waiting_does false past _
+  deed_invokes (asks.End v) past = waiting_does false past _
+  deed_invokes (asks.Fault f) past = waiting_does false past _
+
+  named_resumes : (k : language.Ask) → is_resume (named_ask p w j k) ≡ resume_bit k
+  named_resumes asks.Begin = refl
+  named_resumes (asks.Read x) = refl
+  named_resumes (asks.Write x v) = refl
+  named_resumes (asks.Create r) = refl
+  named_resumes (asks.Update r v) = refl
+  named_resumes (asks.Set r v) = refl
+  named_resumes (asks.Value r) = refl
+  named_resumes (asks.Print v) = refl
+  named_resumes (asks.Invoke how callee) = refl
+  named_resumes asks.Resume = refl
+  named_resumes asks.Sync = refl
+  named_resumes (asks.Result v) = refl
+  named_resumes (asks.End v) = refl
+  named_resumes (asks.Fault f) = refl
+
+  -- the length that a deed reads
+  long_ask : (k : language.Ask) → ((i : Instance) → kind_of i ≡ Append → IsWord (number i)) → LengthIsWord (deed_of memory number (named_ask p w j k))
+  long_ask asks.Begin g = tt
+  long_ask (asks.Read x) g = tt
+  long_ask (asks.Write x v) g = tt
+  long_ask (asks.Create r) g = tt
+  long_ask (asks.Update r v) g = tt
+  long_ask (asks.Set r v) g = tt
+  long_ask (asks.Value r) g = g (reducer_seen w r)
+  long_ask (asks.Print v) g = tt
+  long_ask (asks.Invoke how callee) g = tt
+  long_ask asks.Resume g = tt
+  long_ask asks.Sync g = tt
+  long_ask (asks.Result v) g = tt
+  long_ask (asks.End v) g = tt
+  long_ask (asks.Fault f) g = tt
+
   more_started : (k : language.Ask) (past : List (Deed World)) → IsInvoke k → 1 ≤ started (past ++ deed_of memory number (named_ask p w j k) ∷ [])
   more_started asks.Begin past h = absurd h
   more_started (asks.Read x) past h = absurd h
@@ -293,6 +403,27 @@ all_after P frames n f (Invokes i v) old mine child m g q = by (same_name (n ++ 
         subst P same mine
     by false false r = old m g r
 
+-- with no fault the events stay within their limit
+event_off : (b : Bool) (x : Fault) (o : Option Fault) → cond b (Some x) o ≡ None → (b ≡ false) × (o ≡ None)
+event_off true x o h = let no : Some x ≡ None = h in let z : ⊥ = cc in absurd z
+event_off false x o h = (refl, h)
+
+own_off : (a : Ask World) (o : Option Fault) → own_fault a o ≡ None → o ≡ None
+own_off (runs.Read c) o h = h
+own_off (runs.Write c v) o h = h
+own_off (runs.Invoke k v) o h = h
+own_off runs.Sync o h = h
+own_off (runs.End v gone) o h = h
+own_off (runs.Pass m) o h = h
+own_off (runs.Fail x) o h = let no : Some x ≡ None = h in let z : ⊥ = cc in absurd z
+
+events_within : (C : Costs World) (totals : Total → ℕ) (w : World) (past : List (Deed World)) (a : Ask World) → fault_of C totals w past a ≡ None → totals EventTotal + 1 ≤ C.limit EventTotal
+events_within C totals w past a h =
+    let ticks = event_off (is_over C TickTotal totals w past a) _ _ h in
+    let own = own_off a _ ticks.1 in
+    let events = event_off (is_over C EventTotal totals w past a) _ _ own in
+    ltb-false (C.limit EventTotal) (totals EventTotal + 1) events.0
+
 module _ (p : Source) (inputs : List ℤ) where
   -- a frame that hasn't ended comes in order for so many asks more
   record Standing (f : Frame World) (r : ℕ) : Type 0 where
@@ -304,6 +435,7 @@ module _ (p : Source) (inputs : List ℤ) where
     same : (answers : List ℤ) (start : ℕ) → frame_asks p inputs f.what.callee (answers_of f.deeds ++ answers) start ≡ rest answers start
     legal : IsLegal MAX_TICKS stage rest more
     resuming : IsResuming stage → 1 ≤ started f.deeds
+    waits : waiting false f.deeds ≡ resuming_bit stage
 
   -- a frame that was started with words, and was answered words
   record FrameFits (r : ℕ) (f : Frame World) : Type 0 where
@@ -321,7 +453,7 @@ module _ (p : Source) (inputs : List ℤ) where
   fewer_steps r f h = record {
     callee = h.callee;
     answers = h.answers;
-    standing = λ going. let t = h.standing going in let e = t.enough in record { stage = t.stage; sound = t.sound; more = t.more; enough = omega (arith, e); rest = t.rest; same = t.same; legal = t.legal; resuming = t.resuming };
+    standing = λ going. let t = h.standing going in let e = t.enough in record { stage = t.stage; sound = t.sound; more = t.more; enough = omega (arith, e); rest = t.rest; same = t.same; legal = t.legal; resuming = t.resuming; waits = t.waits };
   }
 
   -- a frame that begins
@@ -338,6 +470,7 @@ module _ (p : Source) (inputs : List ℤ) where
       same = λ answers start. refl;
       legal = fresh_fine MAX_TICKS p inputs w.callee r;
       resuming = λ z. absurd z;
+      waits = refl;
     };
   }
 
@@ -413,6 +546,7 @@ module _ (p : Source) (inputs : List ℤ) where
                     ap (λ l. frame_asks p inputs f.what.callee l start) (ap (λ l. l ++ answers) (answers_more f.deeds d) ∙ append_assoc (answers_of f.deeds) (answer_of d ∷ []) answers) ∙ t.same (answer_of d ∷ answers) start;
                 legal = z.2 (answer_of d);
                 resuming = λ due. more_started p f.what j memory number cells k f.deeds (z.3 due);
+                waits = deed_invokes p f.what j memory number cells k f.deeds ∙ z.4;
               })
               step.next_stage;
         }
@@ -447,6 +581,10 @@ module _ (p : Source) (inputs : List ℤ) where
     sound_ask r s n fit f a asking =
         let (going, is) = next_is f a asking.next in
         subst (λ a. AskIsSound a f.deeds) (sym is) (sound_now r f (fit.frames n f asking.here) going)
+
+    -- a frame resumes where its last deed started a child, and there alone
+    resumes_now : (r : ℕ) (f : Frame World) → FrameFits (suc r) f → has_ended f.deeds ≡ false → ((x : Fault) → asks_now f ≡ asks.Fault x → ⊥) → resume_bit (asks_now f) ≡ waiting false f.deeds
+    resumes_now r f h going never = let t = h.standing going in let (more, low, step) = comes r f never t in step.comes_after ∙ sym t.waits
 
     makes_fits : (r : ℕ) (s s' : State World View) (n : Name) → Fit (suc r) s → HoldsViews s' → Makes World View monoid_of (Next p inputs) (costs p inputs) s n s'
         → ((m : Name) (g : Frame World) → s'.frames m ≡ Some g → LengthsAreWords g.deeds) → Fit r s'
@@ -513,16 +651,114 @@ module _ (p : Source) (inputs : List ℤ) where
             subst (FrameFits r) (sym same) (begun_fits r (first_world p) tt)
         opened_frame (k ∷ n) f q = let none : None ≡ Some f = sym (o.0 (k ∷ n)) ∙ q in absurd (cc)
 
-    one_more : (ns : List Name) (n : Name) (s mid s' : State World View) → Steps World View monoid_of (Next p inputs) (costs p inputs) ns s mid → OneStep p inputs mid n s' → Steps World View monoid_of (Next p inputs) (costs p inputs) (ns ++ n ∷ []) s s'
-    one_more [] n s mid s' same step = (s', subst (λ t. OneStep p inputs t n s') same step, refl)
-    one_more (m ∷ ns) n s mid s' (next_state, first, rest) step = (next_state, first, one_more ns n next_state mid s' rest step)
+    -- what holds of a state beside
+    record Long (s : State World View) : Type 0 where
+      sized : Sized s.frames s.piece s.stolen (s.totals EventTotal)
+      events : s.totals EventTotal ≤ 1000000
+      lengths : (n : Name) (f : Frame World) → s.frames n ≡ Some f → LengthsAreWords f.deeds
 
-    all_fit : HasWordLengths p inputs → (done todo : List Name) (s mid s' : State World View) → IsFirst p inputs s → Steps World View monoid_of (Next p inputs) (costs p inputs) done s mid → Fit (length todo) mid
-        → Steps World View monoid_of (Next p inputs) (costs p inputs) todo mid s' → HoldsViews s'
-    all_fit long done [] s mid s' o so_far fit same = subst HoldsViews (sym same) fit.holds
-    all_fit long done (n ∷ todo) s mid s' o so_far fit (next_state, step, rest) =
-        let further = one_more done n s mid next_state so_far step in
-        all_fit long (done ++ n ∷ []) todo s next_state s' o further (step_fits (length todo) mid next_state n fit step (long (done ++ n ∷ []) next_state (s, o, further))) rest
+    kids_there : (r : ℕ) (s : State World View) (n : Name) (f : Frame World) → Fit r s → s.frames n ≡ Some f → (k : ℕ) → 1 ≤ k → k ≤ started f.deeds → (h : Frame World) × (s.frames (n ++ k ∷ []) ≡ Some h)
+    kids_there r s n f fit q k low high = let v = fit.holds in v.children n f k q low high
+
+    makes_long : (r : ℕ) (s s' : State World View) (n : Name) → Fit (suc r) s → Long s → Makes World View monoid_of (Next p inputs) (costs p inputs) s n s' → Long s'
+    makes_long r s s' n fit l m =
+        let f = m.frame in
+        let number = numbers_of monoid_of (s.piece n) in
+        let j = suc (started f.deeds) in
+        let k = asks_now f in
+        let (going, is) = next_is f m.ask m.asking.next in
+        let never = never_faults f s.totals m.ask is m.within in
+        let mine = fit.frames n f m.asking.here in
+        let resumes : is_resume m.ask ≡ waiting false f.deeds = ap is_resume is ∙ named_resumes p f.what j s.memory number fit.cells k ∙ resumes_now r f mine going never in
+        let count : s'.totals EventTotal ≡ suc (s.totals EventTotal) = (let t = m.totals EventTotal in omega (arith, t)) in
+        let once = ask_sized s.frames s.piece s.stolen (s.totals EventTotal) l.sized n f m.asking.here (kids_there (suc r) s n f fit m.asking.here) s.memory number m.ask (sound_ask r s n fit f m.ask m.asking) resumes s'.piece m.piece in
+        let moved = subst (λ t. Sized t s'.piece s.stolen (suc (s.totals EventTotal))) (sym m.frames) once in
+        let kept = subst (λ t. Sized s'.frames s'.piece t (suc (s.totals EventTotal))) (sym m.stolen) moved in
+        let size = l.sized in
+        let word : LengthIsWord (deed_of s.memory number m.ask) =
+            subst (λ a. LengthIsWord (deed_of s.memory number a)) (sym is)
+            (long_ask p f.what j s.memory number fit.cells k (λ i list. number_word i (size.own n) (s.piece n i) (size.small n f i m.asking.here) (let a = size.within n in let b = size.below n in let c = l.events in omega (arith, a, b, c)) list)) in
+        record {
+          sized = subst (λ t. Sized s'.frames s'.piece s'.stolen t) (sym count) kept;
+          events = (let t = events_within (costs p inputs) s.totals f.what f.deeds m.ask m.within in omega (arith, count, t));
+          lengths = λ z g q.
+              all_after (λ g. LengthsAreWords g.deeds) s.frames n f (deed_of s.memory number m.ask) l.lengths (more_lengths f.deeds (deed_of s.memory number m.ask) (l.lengths n f m.asking.here) word) (λ i v e. tt) z g
+              (sym (ap (λ (t : Frames World). t z) m.frames) ∙ q);
+        }
+
+    steals_long : (r : ℕ) (s s' : State World View) (n : Name) → Fit (suc r) s → Long s → Steals World View monoid_of (Next p inputs) (costs p inputs) s n s' → Long s'
+    steals_long r s s' n fit l m =
+        let count : s'.totals EventTotal ≡ s.totals EventTotal = ap (λ (t : Total → ℕ). t EventTotal) m.totals in
+        let once = steals_sized s.frames s.piece s.stolen (s.totals EventTotal) l.sized n m.frame m.here (kids_there (suc r) s n m.frame fit m.here) m.before m.what m.spawned m.not_yet s'.piece m.piece in
+        let moved = subst (λ t. Sized t s'.piece (stolen_now s.frames s.piece s.stolen (s.totals EventTotal) l.sized n m.frame m.here (kids_there (suc r) s n m.frame fit m.here) m.before m.what m.spawned m.not_yet) (s.totals EventTotal)) (sym m.frames) once in
+        let kept = subst (λ t. Sized s'.frames s'.piece t (s.totals EventTotal)) (sym m.stolen) moved in
+        record {
+          sized = subst (λ t. Sized s'.frames s'.piece s'.stolen t) (sym count) kept;
+          events = (let c = l.events in omega (arith, count, c));
+          lengths = λ z g q. l.lengths z g (sym (ap (λ (t : Frames World). t z) m.frames) ∙ q);
+        }
+
+    stops_long : (s s' : State World View) (n : Name) → Long s → Stops World View monoid_of (Next p inputs) (costs p inputs) s n s' → Long s'
+    stops_long s s' n l m = subst Long (sym m.after) (record { sized = l.sized; events = l.events; lengths = l.lengths })
+
+    step_long : (r : ℕ) (s s' : State World View) (n : Name) → Fit (suc r) s → Long s → OneStep p inputs s n s' → Long s'
+    step_long r s s' n fit l step =
+        ⊎_elim (λ m. makes_long r s s' n fit l m) (λ other. ⊎_elim (λ m. steals_long r s s' n fit l m) (λ m. stops_long s s' n l m) other) step.1
+
+    opening_long : (s : State World View) → IsFirst p inputs s → Long s
+    opening_long s o =
+        record {
+          sized = record {
+            own = λ n. 0;
+            total = λ n. 0;
+            small = small;
+            within = λ n. omega arith;
+            below = λ n. omega arith;
+            paid = λ n f q. subst (λ d. lies (λ k. s.stolen (n ++ k ∷ [])) (λ k. 0) 0 1 d + onward (λ k. s.stolen (n ++ k ∷ [])) (λ k. 0) 0 0 1 d ≤ 0) (sym (none n f q)) (omega arith);
+            fresh = λ n q. o.4 n;
+            late = λ n k low. o.0 (n ++ k ∷ []) ∙ cond-false (same_name [] (n ++ k ∷ [])) _ _ (no_root n k);
+          };
+          events = (let t = o.6 EventTotal in omega (arith, t));
+          lengths = λ n f q. subst LengthsAreWords (sym (none n f q)) tt;
+        }
+      where
+        none : (n : Name) (f : Frame World) → s.frames n ≡ Some f → f.deeds ≡ []
+        none [] f q = let found : Some f ≡ Some (begun (first_world p)) = sym q ∙ o.0 [] in let same : f ≡ begun (first_world p) = cc in ap (λ (g : Frame World). g.deeds) same
+        none (k ∷ n) f q = let no : None ≡ Some f = sym (o.0 (k ∷ n)) ∙ q in absurd (cc)
+
+        no_root : (n : Name) (k : ℕ) → same_name [] (n ++ k ∷ []) ≡ false
+        no_root [] k = refl
+        no_root (j ∷ n) k = refl
+
+        small : (n : Name) (f : Frame World) (i : Instance) → s.frames n ≡ Some f → Small (kind_of i) 0 (s.piece n i)
+        small [] f i q = subst (Small (kind_of i) 0) (sym (o.5 i)) (small_unit (kind_of i) 0)
+        small (k ∷ n) f i q = let no : None ≡ Some f = sym (o.0 (k ∷ n)) ∙ q in absurd (cc)
+
+    short_lists : (s : State World View) → Long s → HasShortLists s
+    short_lists s l = record {
+      events = l.events;
+      sizes = λ n f i q.
+          let size = l.sized in
+          let (x, h, low) = size.small n f i q in
+          let m = are_multiplied in
+          let same : size_of (value_of (kind_of i) (s.piece n i)) ≡ size_of x = ap size_of (m.value (kind_of i) (s.piece n i) x h) in
+          let a = size.within n in
+          let b = size.below n in
+          omega (arith, same, low, a, b);
+      lengths = l.lengths;
+    }
+
+    all_fit : (todo : List Name) (mid s' : State World View) → Fit (length todo) mid → Long mid → Steps World View monoid_of (Next p inputs) (costs p inputs) todo mid s' → HoldsViews s' × HasShortLists s'
+    all_fit [] mid s' fit l same = subst (λ t. HoldsViews t × HasShortLists t) (sym same) (fit.holds, short_lists mid l)
+    all_fit (n ∷ todo) mid s' fit l (next_state, step, rest) =
+        let l' = step_long (length todo) mid next_state n fit l step in
+        all_fit todo next_state s' (step_fits (length todo) mid next_state n fit step l'.lengths) l' rest
+
+both : (p : Source) (inputs : List ℤ) (has : HasWords p) (inputs_words : InputsAreWords inputs) (ns : List Name) (s' : State World View) → Reaches p inputs ns s' → HoldsViews s' × HasShortLists s'
+both p inputs has inputs_words ns s' (s, o, steps) = all_fit p inputs has inputs_words ns s s' (opening_fits p inputs has inputs_words (length ns) s o) (opening_long p inputs has inputs_words s o) steps
 
 pub views_held : (p : Source) (inputs : List ℤ) → ViewsAreHeld p inputs
-views_held p inputs has inputs_words long ns s' (s, o, steps) = all_fit p inputs has inputs_words long [] ns s s s' o refl (opening_fits p inputs has inputs_words (length ns) s o) steps
+views_held p inputs has inputs_words ns s' reaches = (both p inputs has inputs_words ns s' reaches).0
+
+pub lists_short : (p : Source) (inputs : List ℤ) → ListsAreShort p inputs
+lists_short p inputs has inputs_words ns s' reaches = (both p inputs has inputs_words ns s' reaches).1

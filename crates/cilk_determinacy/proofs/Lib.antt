@@ -8,9 +8,11 @@ pub mod Ending
 pub mod Examples
 pub mod Frames
 pub mod Held
+pub mod Lengths
 pub mod Literals
 pub mod Numbered
 pub mod Numbers
+pub mod Owed
 pub mod PieceViews
 pub mod ReadSources
 pub mod ReducerEvents

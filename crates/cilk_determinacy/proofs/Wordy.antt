@@ -36,7 +36,7 @@ record Wordy (store : Store Instance) (count : ℕ) : Type 0 where
 more : (store : Store Instance) (n k : ℕ) → n ≤ k → Wordy store n → Wordy store k
 more store n k low h = record { cells = h.cells; members = h.members; sizes = λ j i. let s = h.sizes j i in omega (arith, s, low) }
 
-length_word : (n : ℕ) → n ≤ 1000000 → IsWord (pos n)
+pub length_word : (n : ℕ) → n ≤ 1000000 → IsWord (pos n)
 length_word n h = record { sfits = omega (arith, h) }
 
 -- the number of a view

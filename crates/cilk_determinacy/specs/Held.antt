@@ -1,10 +1,10 @@
 -- Frames hold views of the language in each state that steps of the free machine lead to.
-use Rattle.std.specs.Prelude.{◌≡◌, ℕ, ℤ, List, [], ◌∷◌, Some}
+use Rattle.std.specs.Prelude.{◌≡◌, ℤ, List, [], ◌∷◌}
 use Rattle.cilk_monoid.specs.declared.kind.MonoidKind.TheVariants.{Append}
 use Rattle.cilk_types.specs.Word.{IsWord}
 use Rattle.cilk_program.specs.Syntax.{Source}
 use Rattle.cilk_runs.specs.Runs.{Name, Reads, Writes, Syncs, Ends, Passes, Begins, Resumes, Creates, Updates, Sets, Values, Prints, Deed, Does, Invokes}
-use Rattle.cilk_runs.specs.Machine.{Frame, State}
+use Rattle.cilk_runs.specs.Machine.{State}
 use Rattle.cilk_worlds.specs.Held.{HoldsViews}
 use Rattle.cilk_worlds.specs.Reducers.{View, kind_of}
 use Rattle.cilk_worlds.specs.Steps.{Reaches}
@@ -30,11 +30,6 @@ abbrev pub LengthsAreWords : List (Deed World) → Type 0
 LengthsAreWords [] = Unit {0}
 LengthsAreWords (d ∷ ds) = LengthIsWord d × LengthsAreWords ds
 
-module _ (p : Source) (inputs : List ℤ) where
-  -- no frame reads the length of a list that is past a word, whatever steps are made
-  abbrev pub HasWordLengths : Type 0
-  HasWordLengths = (ns : List Name) (s : State World View) → Reaches p inputs ns s → (n : Name) (f : Frame World) → s.frames n ≡ Some f → LengthsAreWords f.deeds
-
-  -- whatever steps are made, each view in the piece of each frame is a view of the language
-  abbrev pub ViewsAreHeld : Type 0
-  ViewsAreHeld = HasWords p → InputsAreWords inputs → HasWordLengths → (ns : List Name) (s : State World View) → Reaches p inputs ns s → HoldsViews s
+-- whatever steps are made, each view in the piece of each frame is a view of the language
+abbrev pub ViewsAreHeld : Source → List ℤ → Type 0
+ViewsAreHeld p inputs = HasWords p → InputsAreWords inputs → (ns : List Name) (s : State World View) → Reaches p inputs ns s → HoldsViews s

@@ -10,4 +10,5 @@ pub mod Strands
 pub mod StrandNames
 pub mod Events
 pub mod Held
+pub mod Lengths
 pub mod Pieces

@@ -1,0 +1,23 @@
+-- No view of a list has more elements than events were made, and so each length that a frame reads is a word.
+use Rattle.std.specs.Prelude.{◌≡◌, ◌≤◌, ℤ, List, Some}
+use Rattle.cilk_types.specs.declared.limits.TheConstants.{MAX_EVENTS}
+use Rattle.cilk_monoid.specs.Kinds.{size_of}
+use Rattle.cilk_program.specs.Syntax.{Source}
+use Rattle.cilk_runs.specs.Costs.{EventTotal}
+use Rattle.cilk_runs.specs.Runs.{Name, Instance}
+use Rattle.cilk_runs.specs.Machine.{Frame, State}
+use Rattle.cilk_worlds.specs.Reducers.{View, kind_of, value_of}
+use Rattle.cilk_worlds.specs.Steps.{Reaches}
+use Rattle.cilk_worlds.specs.Worlds.{World}
+use Rattle.cilk_determinacy.specs.Held.{LengthsAreWords}
+use Rattle.cilk_determinacy.specs.Words.{HasWords, InputsAreWords}
+
+-- the events made are within their limit, each view in a piece has at most as many elements, and each length of a list that a frame has read is a word
+pub record HasShortLists (s : State World View) : Type 0 where
+  pub events : s.totals EventTotal ≤ MAX_EVENTS
+  pub sizes : (n : Name) (f : Frame World) (i : Instance) → s.frames n ≡ Some f → size_of (value_of (kind_of i) (s.piece n i)) ≤ s.totals EventTotal
+  pub lengths : (n : Name) (f : Frame World) → s.frames n ≡ Some f → LengthsAreWords f.deeds
+
+-- so it is whatever steps are made
+abbrev pub ListsAreShort : Source → List ℤ → Type 0
+ListsAreShort p inputs = HasWords p → InputsAreWords inputs → (ns : List Name) (s : State World View) → Reaches p inputs ns s → HasShortLists s
