@@ -676,8 +676,8 @@ module _ (p : Source) (inputs : List ℤ) where
         let kept = subst (λ t. Sized s'.frames s'.piece t (suc (s.totals EventTotal))) (sym m.stolen) moved in
         let size = l.sized in
         let word : LengthIsWord (deed_of s.memory number m.ask) =
-            subst (λ a. LengthIsWord (deed_of s.memory number a)) (sym is)
-            (long_ask p f.what j s.memory number fit.cells k (λ i list. number_word i (size.own n) (s.piece n i) (size.small n f i m.asking.here) (let a = size.within n in let b = size.below n in let c = l.events in omega (arith, a, b, c)) list)) in
+        subst (λ a. LengthIsWord (deed_of s.memory number a)) (sym is)
+        (long_ask p f.what j s.memory number fit.cells k (λ i list. number_word i (size.own n) (s.piece n i) (size.small n f i m.asking.here) (let a = size.within n in let b = size.below n in let c = l.events in omega (arith, a, b, c)) list)) in
         record {
           sized = subst (λ t. Sized s'.frames s'.piece s'.stolen t) (sym count) kept;
           events = (let t = events_within (costs p inputs) s.totals f.what f.deeds m.ask m.within in omega (arith, count, t));

@@ -297,7 +297,7 @@ module _ (frames : Frames World) (piece : Name → Instance → View) (stolen : 
         let s = sized in
         let paid = s.paid m x q in
         let most = grown_most (λ k. stolen (m ++ k ∷ [])) (λ k. s.total (m ++ k ∷ [])) (λ k. total_invokes (m ++ k ∷ [])) (s.own m) (way m n) (under m n)
-            (λ h. let z = under_way m n h in let o = other_kid m h (λ a b. true≢false (sym (ap (same_name n) (sym a) ∙ same_name-refl n) ∙ e)) in omega (arith, z, o)) x.deeds in
+        (λ h. let z = under_way m n h in let o = other_kid m h (λ a b. true≢false (sym (ap (same_name n) (sym a) ∙ same_name-refl n) ∙ e)) in omega (arith, z, o)) x.deeds in
         omega (arith, paid, most)
 
     invokes_fresh : (m : Name) (c b : Bool) → cond c (Some (begun w)) (cond b (Some after_invokes) (frames m)) ≡ None → stolen m ≡ false
@@ -388,7 +388,7 @@ module _ (frames : Frames World) (piece : Name → Instance → View) (stolen : 
         let s = sized in
         let paid = s.paid m x q in
         let kept_all : (h : ℕ) → h < 1 + started x.deeds → (stolen_now (m ++ h ∷ []) ≡ stolen (m ++ h ∷ [])) × (s.total (m ++ h ∷ []) ≡ s.total (m ++ h ∷ [])) =
-            λ h low. (kept m h (λ a b. true≢false (sym (ap (same_name n) (sym a) ∙ same_name-refl n) ∙ e)), refl) in
+        λ h low. (kept m h (λ a b. true≢false (sym (ap (same_name n) (sym a) ∙ same_name-refl n) ∙ e)), refl) in
         let one = same_lies (λ k. stolen (m ++ k ∷ [])) (λ k. stolen_now (m ++ k ∷ [])) (λ k. s.total (m ++ k ∷ [])) (λ k. s.total (m ++ k ∷ [])) 0 1 x.deeds kept_all in
         let two = same_onward (λ k. stolen (m ++ k ∷ [])) (λ k. stolen_now (m ++ k ∷ [])) (λ k. s.total (m ++ k ∷ [])) (λ k. s.total (m ++ k ∷ [])) (s.own m) (s.own m) 1 x.deeds kept_all in
         omega (arith, paid, one, two)

@@ -10,7 +10,7 @@ ghost use Rattle.cilk_syntax.specs.Trees as trees;
 use crate::expressions::expr;
 use cilk_grammar::marks::{Punct, name, then_one};
 use cilk_grammar::stop::Stop;
-use cilk_syntax::tree::{Assignment, Name, Lvalue};
+use cilk_syntax::tree::{Assignment, Lvalue, Name};
 use cilk_token::token::{Kind, Token};
 use cilk_types::compound::Compound;
 use std::alloc::Global;

@@ -185,8 +185,8 @@ pub told_steps : (code : CodeView) (inputs : List ℤ) (b b1 b2 : Board) (worker
 told_steps code inputs b b1 b2 worker v k is ready went ok (Ok t) q = λ still.
     subst (λ t. EventsAreSteps code inputs b b2 (choices.Run worker) t) (sym q.1)
     (λ touch p name d s sh.
-        let ws = b.workers in
-        let u = held_place ws.items v k (subst (λ z. held_by ws.items z ≡ Some k) is ready.held) in
-        subst (λ z. (s' : State World View) × Chooses p inputs s d (choices.Run z) Did s' d × ShowsBy code p inputs name b2 d s') (sym is)
-        (is_step code p inputs name b b1 b2 d s v k u.0 sh still u.1 u.2 went ok q.0 (q.2 touch)))
+    let ws = b.workers in
+    let u = held_place ws.items v k (subst (λ z. held_by ws.items z ≡ Some k) is ready.held) in
+    subst (λ z. (s' : State World View) × Chooses p inputs s d (choices.Run z) Did s' d × ShowsBy code p inputs name b2 d s') (sym is)
+    (is_step code p inputs name b b1 b2 d s v k u.0 sh still u.1 u.2 went ok q.0 (q.2 touch)))
 told_steps code inputs b b1 b2 worker v k is ready went ok (Err x) q = tt

@@ -16,7 +16,7 @@ use cilk_expressions::expressions::{expr, optional, parenthesized};
 use cilk_grammar::firsts::{begins_statement, may_begin};
 use cilk_grammar::marks::{Punct, name, one, then_one};
 use cilk_grammar::stop::{DEEPEST, Stop};
-use cilk_syntax::tree::{Assignment, Call, Expr, Name, Lvalue, Stmt};
+use cilk_syntax::tree::{Assignment, Call, Expr, Lvalue, Name, Stmt};
 use cilk_token::token::{Kind, Token};
 use cilk_types::invocation::Invocation;
 use std::alloc::Global;

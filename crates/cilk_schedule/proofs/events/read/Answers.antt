@@ -36,6 +36,6 @@ returns-clause-makes c = λ views.
     let l = c.args.cells.now in (
       answered (answers.Value is.0),
       subst (λ e. Acts f l views c.args.frame (asks.Read c.args.place) (answered (answers.Value is.0)) e l views) (sym is.2)
-      (does.reads c.args.place n is.0 (λ scope sees. c.cell_at-cell.ensures scope (subst (λ z. SeesAt z c.args.frame scope) (sym c.as_slice.ensures.value) sees)) is.1),
+          (does.reads c.args.place n is.0 (λ scope sees. c.cell_at-cell.ensures scope (subst (λ z. SeesAt z c.args.frame scope) (sym c.as_slice.ensures.value) sees)) is.1),
       is.3,
     )

@@ -47,7 +47,7 @@ returns-clause-makes c = λ views.
     subst (λ v. MakesEvent f c.write.new.frames.items l m views views c.args.frame (asks.Write c.args.place v) c.write.result) same (
       answered answers.Done,
       subst (λ e. Acts f l views c.args.frame (asks.Write c.args.place x) (answered answers.Done) e m views) (sym c.write.ensures.event)
-      (subst (λ z. Acts f l views c.args.frame (asks.Write c.args.place x) (answered answers.Done) (numbered.Write n x) z views) (sym c.write.ensures.cells)
-      (does.writes c.args.place n x (λ scope sees. c.cell_at-cell.ensures scope (subst (λ z. SeesAt z c.args.frame scope) (sym c.as_slice.ensures.value) sees)))),
+          (subst (λ z. Acts f l views c.args.frame (asks.Write c.args.place x) (answered answers.Done) (numbered.Write n x) z views) (sym c.write.ensures.cells)
+          (does.writes c.args.place n x (λ scope sees. c.cell_at-cell.ensures scope (subst (λ z. SeesAt z c.args.frame scope) (sym c.as_slice.ensures.value) sees)))),
       c.write.ensures.frames,
     )

@@ -50,7 +50,7 @@ returns-clause-makes c = λ views.
     subst (λ v. MakesEvent f c.write.new.frames.items l m views views c.args.frame (asks.Result v) c.write.result) same (
       answered answers.Done,
       subst (λ e. Acts f l views c.args.frame (asks.Result x) (answered answers.Done) e m views) (sym c.write.ensures.event)
-      (subst (λ z. Acts f l views c.args.frame (asks.Result x) (answered answers.Done) (numbered.Write n x) z views) (sym c.write.ensures.cells)
-      (does.gives n x c.index.result.now at c.in-Some.is)),
+          (subst (λ z. Acts f l views c.args.frame (asks.Result x) (answered answers.Done) (numbered.Write n x) z views) (sym c.write.ensures.cells)
+          (does.gives n x c.index.result.now at c.in-Some.is)),
       c.write.ensures.frames,
     )

@@ -171,7 +171,7 @@ returns-in-Create-clause-touched c =
     let at = get_there b.workers.items c.args.worker u c.index_mut.ensures.value c.requires.works in
     if_ok c.create.result c.create.ensures.makes
     (λ e h it. touched_views b _ c.args.worker c.args.place e u c.create.new.views at refl refl refl
-        (subst (λ k. MakesEvent b.frames.items c.create.new.frames.items b.cells.items b.cells.items u.views c.create.new.views c.args.place k e) (sym is) (h b.cells.items)))
+    (subst (λ k. MakesEvent b.frames.items c.create.new.frames.items b.cells.items b.cells.items u.views c.create.new.views c.args.place k e) (sym is) (h b.cells.items)))
 
 pub returns-in-Update-clause-touched : goal.returns-in-Update-clause-touched
 returns-in-Update-clause-touched c =
@@ -183,7 +183,7 @@ returns-in-Update-clause-touched c =
     let at = get_there b.workers.items c.args.worker u c.index_mut-in-Update.ensures.value c.requires.works in
     if_ok c.update.result c.update.ensures.makes
     (λ e h it. touched_views b _ c.args.worker c.args.place e u c.update.new.views at refl refl refl
-        (subst (λ k. MakesEvent b.frames.items c.update.new.frames.items b.cells.items b.cells.items u.views c.update.new.views c.args.place k e) (sym is) (h b.cells.items)))
+    (subst (λ k. MakesEvent b.frames.items c.update.new.frames.items b.cells.items b.cells.items u.views c.update.new.views c.args.place k e) (sym is) (h b.cells.items)))
 
 pub returns-in-Set-clause-touched : goal.returns-in-Set-clause-touched
 returns-in-Set-clause-touched c =
@@ -195,7 +195,7 @@ returns-in-Set-clause-touched c =
     let at = get_there b.workers.items c.args.worker u c.index_mut-in-Set.ensures.value c.requires.works in
     if_ok c.set.result c.set.ensures.makes
     (λ e h it. touched_views b _ c.args.worker c.args.place e u c.set.new.views at refl refl refl
-        (subst (λ k. MakesEvent b.frames.items c.set.new.frames.items b.cells.items b.cells.items u.views c.set.new.views c.args.place k e) (sym is) (h b.cells.items)))
+    (subst (λ k. MakesEvent b.frames.items c.set.new.frames.items b.cells.items b.cells.items u.views c.set.new.views c.args.place k e) (sym is) (h b.cells.items)))
 
 pub returns-in-Value-clause-touched : goal.returns-in-Value-clause-touched
 returns-in-Value-clause-touched c =
@@ -205,7 +205,7 @@ returns-in-Value-clause-touched c =
     let at = get_there b.workers.items c.args.worker u c.index_mut-in-Value.ensures.value c.requires.works in
     if_ok c.value.result c.value.ensures.makes
     (λ e h it. touched_views b _ c.args.worker c.args.place e u c.value.new.views at refl refl refl
-        (subst (λ k. MakesEvent b.frames.items c.value.new.frames.items b.cells.items b.cells.items u.views c.value.new.views c.args.place k e) (sym is) (h b.cells.items)))
+    (subst (λ k. MakesEvent b.frames.items c.value.new.frames.items b.cells.items b.cells.items u.views c.value.new.views c.args.place k e) (sym is) (h b.cells.items)))
 
 pub returns-in-Print-clause-touched : goal.returns-in-Print-clause-touched
 returns-in-Print-clause-touched c =
@@ -217,4 +217,4 @@ returns-in-Print-clause-touched c =
     let at = get_there b.workers.items c.args.worker u c.index_mut-in-Print.ensures.value c.requires.works in
     if_ok c.print.result c.print.ensures.makes
     (λ e h it. touched_views b _ c.args.worker c.args.place e u c.print.new.views at refl refl refl
-        (subst (λ k. MakesEvent b.frames.items c.print.new.frames.items b.cells.items b.cells.items u.views c.print.new.views c.args.place k e) (sym is) (h b.cells.items)))
+    (subst (λ k. MakesEvent b.frames.items c.print.new.frames.items b.cells.items b.cells.items u.views c.print.new.views c.args.place k e) (sym is) (h b.cells.items)))

@@ -24,17 +24,21 @@ returns-clause-runs c = λ inputs t.
     runs_on c.args.code.now inputs c.make.new.board c.args.frame (made.0 inputs turn) here _ _ c.note-board.ensures.frames refl c.note-board.ensures.journal refl low
 
 pub returns-clause-wrote : goal.returns-clause-wrote
-returns-clause-wrote c = (c.in_ok-event.event, refl, λ it.
-    let b = c.args.board.now in
-    let t = c.in_ok-event.ensures.touched it in
-    record {
-      made = c.make.new.board;
-      touched = record { worker = t.worker; views = t.views; at = t.at; makes = t.makes; workers = t.workers; offered = t.offered; outcome = t.outcome };
-      frames = c.note-board.ensures.frames;
-      ticks = λ a at. c.note-board.ensures.ticks a at ∙ ap (λ n. n + (let x = a.cursor in x.took - x.counted)) c.make.ensures.rest.ticks;
-      journal = c.note-board.ensures.journal ∙ ap (λ l. l ++ (record { frame = c.args.frame; event = c.in_ok-event.event }) ∷ []) (ap (λ z. z.items) c.make.ensures.rest.journal ∙ c.in_ok-reserve.ensures.items);
-      cells = refl;
-      workers = refl;
-      offered = refl;
-      outcome = refl;
-    })
+returns-clause-wrote c = (
+  c.in_ok-event.event,
+  refl,
+  λ it.
+      let b = c.args.board.now in
+      let t = c.in_ok-event.ensures.touched it in
+      record {
+        made = c.make.new.board;
+        touched = record { worker = t.worker; views = t.views; at = t.at; makes = t.makes; workers = t.workers; offered = t.offered; outcome = t.outcome };
+        frames = c.note-board.ensures.frames;
+        ticks = λ a at. c.note-board.ensures.ticks a at ∙ ap (λ n. n + (let x = a.cursor in x.took - x.counted)) c.make.ensures.rest.ticks;
+        journal = c.note-board.ensures.journal ∙ ap (λ l. l ++ (record { frame = c.args.frame; event = c.in_ok-event.event }) ∷ []) (ap (λ z. z.items) c.make.ensures.rest.journal ∙ c.in_ok-reserve.ensures.items);
+        cells = refl;
+        workers = refl;
+        offered = refl;
+        outcome = refl;
+      },
+)
