@@ -14,8 +14,6 @@ mod messages;
 #[cfg(test)]
 mod names;
 #[cfg(test)]
-mod play;
-#[cfg(test)]
 mod repeats;
 #[cfg(test)]
 mod served;

@@ -9,14 +9,13 @@ use std::alloc::Global;
 use std::io;
 use std::io::{ErrorKind, Read, Write};
 
-/// A program text, an input text, a certificate's and a script's, by these paths, and no other file. It counts the reads. After so many
+/// A program text, an input text and a certificate's, by these paths, and no other file. It counts the reads. After so many
 /// parts each further one fails.
 #[derive(Drop)]
 pub struct Folder<'a> {
     program: &'a [u8],
     input: &'a [u8],
     certificate: &'a [u8],
-    script: &'a [u8],
     parts: u64,
     pub reads: u64,
     failures: u64,
@@ -31,7 +30,6 @@ impl<'a> Folder<'a> {
             program,
             input,
             certificate,
-            script: b"",
             parts: u64::MAX,
             reads: 0,
             failures: 0,
@@ -49,7 +47,6 @@ impl<'a> Folder<'a> {
             "program" => Ok(self.program),
             "input" => Ok(self.input),
             "certificate" => Ok(self.certificate),
-            "script" => Ok(self.script),
             _ => {
                 self.failures += 1;
                 Err(FileFault::Device)
@@ -205,13 +202,6 @@ pub fn checked_in_parts(alloc: Global, program: &[u8], certificate: &[u8], parts
     let mut files = Folder::new(program, b"", certificate);
     files.parts = parts;
     served(alloc, &words, files, &mut Broken)
-}
-
-/// A call with these words, over a folder with the program, the input and the script.
-pub fn played(alloc: Global, words: &[&str], program: &[u8], input: &[u8], script: &[u8]) -> Ended {
-    let mut files = Folder::new(program, input, b"");
-    files.script = script;
-    served(alloc, words, files, &mut Broken)
 }
 
 /// A call with these words, over a folder of which nothing was read yet, and with standard input.
