@@ -17,7 +17,7 @@ import sys
 import tempfile
 
 TOP = os.path.dirname(os.path.dirname(os.path.realpath(__file__)))
-LIMIT = 150.0  # minutes of wall time
+LIMIT = 140.0  # minutes of wall time
 MARGIN = 1.15  # how much longer a busy machine takes than the table says
 MINUTES_A_LINE = 0.001  # of the proof of a crate that the table doesn't know yet
 MEMORY = 2_500_000  # kilobytes of a process of the gate

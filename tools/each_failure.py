@@ -3,7 +3,8 @@
 
 tools/each_failure.py [PROGRAM]     the program, by default crates/cilk/out/cilk
 
-The commands are `certify` and `check` of a chain of spawns (fib(10), accepted) and of a view-read race (refused). Each run has one
+The commands are `certify` and `check` of a chain of spawns (fib(10), accepted) and of a view-read race (refused), and `play` of three programs
+with 2 workers and all rounds. Each run has one
 call that fails: the Nth allocation, or all from the Nth on; the Nth open, read, seek or write; the Nth read or write that moves one
 byte of several. It must end with the answer of a run in which nothing fails, or say `no memory`, `cannot read FILE` or `cannot write`
 with that one's status, where a beginning of the answer may have gone out. The calls are counted and failed by a small library that
@@ -100,6 +101,11 @@ int fib(int n) { if (n < 2) { return n; } int x; int y; x = cilk_spawn fib(n - 1
 
 RACE = "int cilk_reducer(add) r; void f() { update(r, 1); } int main() { int x; cilk_spawn f(); x = value(r); cilk_sync; return x; }"
 
+LIST = "int cilk_reducer(append) l; int main() { cilk_for (int i = 0; i < 5; i++) { update(l, i); } return value(l); }"
+
+LOCAL = """int f(int n) { int cilk_reducer(add) s; cilk_for (int i = 0; i < n; i++) { update(s, i); } return value(s); }
+int main() { int x; int y; x = cilk_spawn f(4); y = cilk_spawn f(5); cilk_sync; return x + y; }"""
+
 
 def run(program, words, folder, **settings):
     """What the program shows: its status and the bytes on both streams; and how many calls of each sort it made."""
@@ -152,7 +158,7 @@ def main():
     program = os.path.realpath(sys.argv[1] if sys.argv[1:] else f"{TOP}/crates/cilk/out/cilk")
     wrong = 0
     with tempfile.TemporaryDirectory() as folder:
-        for name, text in [("fails.c", LIBRARY), ("fib.c", FIB), ("race.c", RACE)]:
+        for name, text in [("fails.c", LIBRARY), ("fib.c", FIB), ("race.c", RACE), ("list.c", LIST), ("local.c", LOCAL), ("all", "all\n")]:
             with open(f"{folder}/{name}", "w", encoding="ascii") as it:
                 it.write(text)
         cc = os.environ.get("CC") or "cc"
@@ -163,6 +169,8 @@ def main():
                 it.write(made[1])
             wrong += turns(program, ["certify", f"{name}.c"], folder)
             wrong += turns(program, ["check", f"{name}.c", f"{name}.cert"], folder)
+        for name in ["fib", "list", "local"]:
+            wrong += turns(program, ["play", f"{name}.c", "all", "--workers", "2"], folder)
     print(f"{wrong} wrong")
     return 1 if wrong else 0
 

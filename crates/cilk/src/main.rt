@@ -2,9 +2,9 @@
 //! is the program's.
 #![tactic(auto)]
 
+use cilk_report::serve_explained;
 use cilk_tool::disk::Disk;
 use cilk_tool::reply::{NO_MEMORY, NO_MEMORY_LINE, WRONG};
-use cilk_tool::serve;
 use std::alloc::{AllocError, Global};
 use std::io::ErrorKind;
 use std::process::ExitCode;
@@ -26,7 +26,7 @@ fn as_texts<'a>(alloc: Global, words: &'a [String]) -> Result<Vec<&'a str>, Allo
 fn run(rt: &HostRuntime) -> io::Result<u8> {
     let words = arguments(rt)?;
     let words = as_texts(rt.alloc(), words.as_slice())?;
-    let status = serve(
+    let status = serve_explained(
         rt.alloc(),
         words.as_slice(),
         &mut Disk::new(rt),

@@ -710,6 +710,15 @@ module _ (code : CodeView) (p : Source) (inputs : List ℤ) (name : ℕ → Name
               joins = joins_are;
               going = r.going;
               over = r.over;
+              first = λ a at. let r = base_was 0 a at in subst (λ z. length p.openings ≤ z) (sym r.2) (o.first r.0 r.1);
+              ascend = λ i j a z at at' less.
+                  let f = base_was i a at in
+                  let g = base_was j z at' in
+                  let old = o.ascend i j f.0 g.0 f.1 g.1 less in
+                  let e = sizes (name i) in
+                  let u = f.2 in
+                  let x = g.2 in
+                  omega (arith, old, e, u, x);
             }
 
         spent_as : s'.totals TickTotal ≡ b'.ticks
@@ -725,15 +734,6 @@ module _ (code : CodeView) (p : Source) (inputs : List ℤ) (name : ℕ → Name
               unwritten = λ n q none. memory_at (Own n q) ∙ y.unwritten n q (absent_back n none);
               bare = λ n z q kind none there. bare_by n z q kind (absent_back n none) (λ g. there (absent_on z g)) (same_name (name k) z) refl;
               memory = λ x n is. ap (λ l. slice_get l n) c.cells ∙ y.memory x n (cell_back x n is) ∙ ap (λ u. Some u) (sym (memory_at x));
-              first = λ a at. let r = base_was 0 a at in subst (λ z. length p.openings ≤ z) (sym r.2) (y.first r.0 r.1);
-              ascend = λ i j a z at at' less.
-                  let f = base_was i a at in
-                  let g = base_was j z at' in
-                  let old = y.ascend i j f.0 g.0 f.1 g.1 less in
-                  let e = sizes (name i) in
-                  let u = f.2 in
-                  let x = g.2 in
-                  omega (arith, old, e, u, x);
               within = λ j a at.
                   let f = base_was j a at in
                   let old = y.within j f.0 f.1 in

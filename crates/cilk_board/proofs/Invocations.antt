@@ -112,13 +112,13 @@ module _ (code : CodeView) (p : Source) (inputs : List ℤ) (name : ℕ → Name
     fresh_now = ap (λ n. s.frames (n ++ suc (started frame.deeds) ∷ [])) (renamed_low k low) ∙ fresh
 
     abbrev desk : Desk
-    desk = invoked.desk_now code p inputs renamed b b' d s s' w k how callee x.lays shows x.asked h t m last_name fresh_now child_sits
+    desk = invoked.desk_now code p inputs renamed b b' d s s' w k how callee x.lays shows x.asked h t m last_name fresh_now counted child_sits
 
     chosen : Chooses p inputs s d (Run (suc w)) Did s' desk
-    chosen = invoked.settles code p inputs renamed b b' d s s' w k how callee x.lays shows x.asked h t m last_name fresh_now child_sits
+    chosen = invoked.settles code p inputs renamed b b' d s s' w k how callee x.lays shows x.asked h t m last_name fresh_now counted child_sits
 
     shown_after : ShowsBy code p inputs renamed b' desk s'
-    shown_after = invoked.shown_then code p inputs renamed b b' d s s' w k how callee x.lays shows x.asked h t m last_name fresh_now child_sits
+    shown_after = invoked.shown_then code p inputs renamed b b' d s s' w k how callee x.lays shows x.asked h t m last_name fresh_now counted child_sits
 
   pub goes_to_child : (s' : State World View) × (d' : Desk) × Chooses p inputs s d (Run (suc w)) Did s' d' × ShowsBy code p inputs renamed b' d' s'
   goes_to_child =

@@ -59,6 +59,7 @@ use Rattle.cilk_board.specs.Desks.{Desk, BlockIsOver, IsIn, Did, Chooses, Settle
 use Rattle.cilk_board.specs.Histories.{DidAsAsked}
 use Rattle.cilk_board.specs.Invocations.{GoesToChild, left_at, newly_offered, offering}
 use Rattle.cilk_board.specs.Numbered.{AreNamed, IsAbsent, size_of, IsInstance, IsDeed, AreDeeds, events_of}
+use Rattle.cilk_board.specs.Ordinals.{AreCounted}
 use Rattle.cilk_board.specs.Seats.{changed, counted, seated, started_at}
 use Rattle.cilk_board.specs.Steps.{HasCome}
 use Rattle.cilk_board.proofs.Altered as altering
@@ -72,6 +73,7 @@ use Rattle.cilk_board.proofs.Grown.{Grows, grown}
 use Rattle.cilk_board.proofs.Kept.{events_more, deeds_more}
 use Rattle.cilk_board.proofs.Onward.{name_off}
 use Rattle.cilk_board.proofs.Placed.{get_some}
+use Rattle.cilk_board.proofs.NewNames.{WasStarted, all_started, named_more}
 use Rattle.cilk_board.proofs.Plain.{get_low, length_more, lays_same}
 use Rattle.cilk_board.proofs.Ready as ready
 use Rattle.cilk_board.proofs.Starting.{carries_more, last_there, more_length, sizes_more}
@@ -83,7 +85,7 @@ module _ (code : CodeView) (p : Source) (inputs : List ℤ) (name : ℕ → Name
     (m : Makes World View monoid_of (Next p inputs) (costs p inputs) s (name k) s')
     (last_name : (let f = b.frames in let g = (let o = sh.sits k h.seat h.sits in o.frame) in name (length f.items) ≡ name k ++ suc (started g.deeds) ∷ []))
     (fresh : (let g = (let o = sh.sits k h.seat h.sits in o.frame) in s.frames (name k ++ suc (started g.deeds) ∷ []) ≡ None))
-    (child_sits : (let f = b.frames in Sits code p inputs name b' s' (length f.items) t.child)) where
+    (counts : AreCounted s.frames) (child_sits : (let f = b.frames in Sits code p inputs name b' s' (length f.items) t.child)) where
   abbrev old_seats : List (Activation Seat)
   old_seats = let f = b.frames in f.items
 
@@ -698,47 +700,6 @@ module _ (code : CodeView) (p : Source) (inputs : List ℤ) (name : ℕ → Name
         present = λ n is none. o.present n is (absent_back n none);
       }
 
-  -- ---- what is told
-
-  abbrev IsNamed : ℕ → Activation Seat → Type 0
-  IsNamed j x = let y = x.cursor in (y.parent < suc j) × (name (suc j) ≡ name y.parent ++ y.ordinal ∷ [])
-
-  named_now : AreNamed new_seats name
-  named_now = record { root = named.root; child = λ j x at. by j x (which (suc j) x at); apart = apart_now }
-    where
-      ordinal_is : suc (started past) ≡ came.children + 1
-      ordinal_is = let o = sh.sits k h.seat h.sits in let n = o.children in let e = came_children in omega (arith, n, e)
-
-      by : (j : ℕ) (x : Activation Seat) → Which (suc j) x → IsNamed j x
-      by j x (parent_is same is) = subst (λ z. IsNamed j z) is (named.child j h.seat (ap (λ i. slice_get old_seats i) (sym same) ∙ h.sits))
-      by j x (new_is same is) =
-          let c = child_seat in
-          let l = low in
-          let at : (k < suc j) × (name (suc j) ≡ name k ++ (came.children + 1) ∷ []) = (omega (arith, l, same), ap name (sym same) ∙ last_name ∙ ap (λ q. name k ++ q ∷ []) ordinal_is) in
-          subst (λ z. IsNamed j z) is (subst (λ (y : Seat). (y.parent < suc j) × (name (suc j) ≡ name y.parent ++ y.ordinal ∷ [])) (sym c.1) at)
-      by j x (stays ne at') = named.child j x at'
-
-      is_last : (j : ℕ) → j < length new_seats → last ≤ j → j ≡ last
-      is_last j less least = let e = one_more in omega (arith, less, least, e)
-
-      mixed : (i j : ℕ) → i < last → j ≡ last → name i ≡ name j → ⊥
-      mixed i j less is q = kid_absent i less (q ∙ ap name is ∙ last_name)
-
-      apart_now : (i j : ℕ) → i < length new_seats → j < length new_seats → name i ≡ name j → i ≡ j
-      apart_now i j li lj q =
-          ⊎_elim (λ a. ⊎_elim (λ c. named.apart i j a c q) (λ c. absurd (mixed i j a (is_last j lj c) q)) (cases_lt j last)) (λ a. ⊎_elim (λ c. absurd (mixed j i c (is_last i li a) (sym q))) (λ c. is_last i li a ∙ sym (is_last j lj c)) (cases_lt j last)) (cases_lt i last)
-
-  tells_is : Tells code p inputs name b' s'
-  tells_is =
-      let o = sh.tells in record {
-        named = named_now;
-        here = λ j a at. let z = seats_sit j a at in (z.frame, z.here, z.written);
-        absent = λ n none. else_at n (λ q. absent_back n none k low q) (λ q. none last last_low (last_name ∙ q)) ∙ o.absent n (absent_back n none);
-        joins = λ n q. ap (λ l. times (n ++ q ∷ []) l) (m.joins ∙ ap₂ (λ a (f : Frame World). joined_by a (name k) f.deeds ++ s.joins) ask_is frame_is) ∙ o.joins n q ∙ forked.joined_same p s s' (name k) frame how child_is here fresh going made n q;
-        going = λ z g. o.going h.was_open (forked.end_before p s s' (name k) frame how child_is here fresh going made [] g);
-        over = λ z at. let no : None ≡ Some z = sym h.was_open ∙ sym t.outcome ∙ at in let f : ⊥ = cc in absurd f;
-      }
-
   -- ---- cells
 
   abbrev cells : List ℤ
@@ -753,9 +714,50 @@ module _ (code : CodeView) (p : Source) (inputs : List ℤ) (name : ℕ → Name
   child_base : (let a = t.child in a.base) ≡ length cells
   child_base = let i = t.is_child in i.base_is
 
+  -- ---- what is told
+
+  named_now : AreNamed new_seats name
+  named_now =
+      let c = child_seat in
+      let o = sh.sits k h.seat h.sits in
+      named_more old_seats new_seats name t.child k (started past) named low one_more was_started (ap (λ (y : Seat). y.parent) c.1) (ap (λ (y : Seat). y.ordinal) c.1 ∙ sym ordinal_is) last_name kid_absent
+      (all_started code p inputs name b s sh.tells counts k h.seat h.sits frame here o.children o.last)
+    where
+      ordinal_is : suc (started past) ≡ came.children + 1
+      ordinal_is = let o = sh.sits k h.seat h.sits in let n = o.children in let e = came_children in omega (arith, n, e)
+
+      was_started : (j : ℕ) (a : Activation Seat) → slice_get new_seats j ≡ Some a → WasStarted old_seats j a ⊎ ((last ≡ j) × (t.child ≡ a))
+      was_started j a at = by (which j a at)
+        where
+          by : Which j a → WasStarted old_seats j a ⊎ ((last ≡ j) × (t.child ≡ a))
+          by (parent_is same is) =
+              inl (
+              record {
+                seat = h.seat;
+                at = ap (λ i. slice_get old_seats i) (sym same) ∙ h.sits;
+                parent = ap (λ (z : Activation Seat). let y = z.cursor in y.parent) (sym is);
+                ordinal = ap (λ (z : Activation Seat). let y = z.cursor in y.ordinal) (sym is);
+              }
+              )
+          by (new_is same is) = inr (same, is)
+          by (stays ne at') = inl (record { seat = a; at = at'; parent = refl; ordinal = refl })
+
   grows : Grows p name old_seats new_seats cells new_cells s s'
   grows =
-      grown p name old_seats new_seats t.child cells new_cells s s' kid (cells_of p callee) base_was one_more last_name kid_absent size_off size_kid child_base cells_are memory_same (λ q. sh.unwritten kid q kid_absent) sh.memory sh.ascend sh.within
+      grown p name old_seats new_seats t.child cells new_cells s s' kid (cells_of p callee) base_was one_more last_name kid_absent size_off size_kid child_base cells_are memory_same (λ q. sh.unwritten kid q kid_absent) sh.memory (let o = sh.tells in o.ascend) sh.within
+
+  tells_is : Tells code p inputs name b' s'
+  tells_is =
+      let o = sh.tells in record {
+        named = named_now;
+        here = λ j a at. let z = seats_sit j a at in (z.frame, z.here, z.written);
+        absent = λ n none. else_at n (λ q. absent_back n none k low q) (λ q. none last last_low (last_name ∙ q)) ∙ o.absent n (absent_back n none);
+        joins = λ n q. ap (λ l. times (n ++ q ∷ []) l) (m.joins ∙ ap₂ (λ a (f : Frame World). joined_by a (name k) f.deeds ++ s.joins) ask_is frame_is) ∙ o.joins n q ∙ forked.joined_same p s s' (name k) frame how child_is here fresh going made n q;
+        going = λ z g. o.going h.was_open (forked.end_before p s s' (name k) frame how child_is here fresh going made [] g);
+        over = λ z at. let no : None ≡ Some z = sym h.was_open ∙ sym t.outcome ∙ at in let f : ⊥ = cc in absurd f;
+        first = λ a at. ⊎_elim (λ f. subst (λ z. length p.openings ≤ z) (sym f.2) (o.first f.0 f.1)) (λ f. let l = low in let is = f.0 in absurd (omega (arith, l, is))) (base_was 0 a at);
+        ascend = let g = grows in g.ascend;
+      }
 
   -- ---- the whole
 
@@ -773,9 +775,6 @@ module _ (code : CodeView) (p : Source) (inputs : List ℤ) (name : ℕ → Name
         unwritten = λ n q none. memory_same (Own n q) ∙ sh.unwritten n q (absent_back n none);
         bare = λ n z q kind none there. bare_by n z q kind (absent_back n none) there (same_name kid z) refl;
         memory = let g = grows in g.memory;
-        first = λ a at.
-            ⊎_elim (λ f. subst (λ z. length p.openings ≤ z) (sym f.2) (sh.first f.0 f.1)) (λ f. let l = low in let is = f.0 in absurd (omega (arith, l, is))) (base_was 0 a at);
-        ascend = let g = grows in g.ascend;
         within = let g = grows in g.within;
         holds = still_holds;
         desk = desk_is;

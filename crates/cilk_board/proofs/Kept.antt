@@ -5,7 +5,7 @@
 -- - `named_changed`, `absent_changed`, `present_changed`: names;
 -- - `cell_changed`, `instance_changed`, `deeds_changed`: numbers of cells and reducers, and the deeds of frames;
 -- - `events_more`, `deeds_more`: one event more.
-use Rattle.std.proofs.Common.{◌≡◌, ◌<◌, ◌⊎◌, inl, inr, ⊎_elim, ℕ, zero, suc, nat_eq, Bool, true, false, cond, List, [], ◌∷◌, ◌++◌, slice_get, Option, Some, None, refl, sym, ap, ap₂, ◌∙◌, subst}
+use Rattle.std.proofs.Common.{◌≡◌, ◌<◌, ◌⊎◌, inl, inr, ⊎_elim, ℕ, zero, suc, nat_eq, Bool, true, false, cond, List, [], ◌∷◌, ◌++◌, length, slice_get, Option, Some, None, refl, sym, ap, ap₂, ◌∙◌, subst}
 use Rattle.cilk_types.specs.declared.event.Event.{Event}
 use Rattle.cilk_types.specs.declared.event.Instance as numbered
 use Rattle.cilk_types.specs.declared.invocation.Invocation.TheVariants.{Call, Spawn}
@@ -20,9 +20,10 @@ use Rattle.cilk_worlds.specs.Worlds.{World}
 use Rattle.cilk_board.specs.declared.seat.JournalEntry.{JournalEntry}
 use Rattle.cilk_board.specs.declared.seat.Seat.{Seat}
 use Rattle.cilk_board.specs.Events.{SeesAt}
-use Rattle.cilk_board.specs.Numbered.{AreNamed, IsAbsent, size_of, IsCell, IsInstance, IsMarked, IsDeed, AreDeeds, events_of}
+use Rattle.cilk_board.specs.Numbered.{AreNamed, children_among, parent_at, IsAbsent, size_of, IsCell, IsInstance, IsMarked, IsDeed, AreDeeds, events_of}
 use Rattle.cilk_board.specs.Seats.{changed}
 use Rattle.cilk_board.proofs.Changing.{changed_length}
+use Rattle.cilk_board.proofs.Siblings.{among_same}
 
 module _ {C : Type 0} (f : C → C) where
   pub changed_get : (frames : List (Activation C)) (k j : ℕ) (a : Activation C) → slice_get frames j ≡ Some a → (y : C) × (slice_get (changed f frames k) j ≡ Some (record a { cursor = y }))
@@ -58,8 +59,19 @@ module _ {C : Type 0} (f : C → C) where
   pub sees_changed : (frames : List (Activation C)) (k j : ℕ) (scope : Scope ℕ numbered.Instance) → SeesAt frames j scope → SeesAt (changed f frames k) j scope
   sees_changed frames k j scope h = let g = changed_get frames k j h.0 h.1 in (record h.0 { cursor = g.0 }, g.1, scope_changed frames k h.0 g.0 scope h.2)
 
+-- who started each frame
+parents_of : (f : Seat → Seat) → ((x : Seat) → (let y = f x in y.parent ≡ x.parent)) → (frames : List (Activation Seat)) (k j : ℕ) → parent_at (changed f frames k) j ≡ parent_at frames j
+parents_of f same [] k j = refl
+parents_of f same (x ∷ frames) zero zero = ap (λ n. Some n) (same x.cursor)
+parents_of f same (x ∷ frames) zero (suc j) = refl
+parents_of f same (x ∷ frames) (suc k) zero = refl
+parents_of f same (x ∷ frames) (suc k) (suc j) = parents_of f same frames k j
+
 module _ (f : Seat → Seat) (frames : List (Activation Seat)) (k : ℕ) (name : ℕ → Name) where
   -- ---- names
+
+  pub parents_changed : ((x : Seat) → (let y = f x in y.parent ≡ x.parent)) → (j : ℕ) → parent_at (changed f frames k) j ≡ parent_at frames j
+  parents_changed same j = parents_of f same frames k j
 
   pub named_changed : ((x : Seat) → (let y = f x in (y.parent ≡ x.parent) × (y.ordinal ≡ x.ordinal))) → AreNamed frames name → AreNamed (changed f frames k) name
   named_changed same h = record {
@@ -71,6 +83,15 @@ module _ (f : Seat → Seat) (frames : List (Activation Seat)) (k : ℕ) (name :
         let x = a.cursor in
         ⊎_elim (λ e. subst (λ (y : Seat). (y.parent < suc j) × (name (suc j) ≡ name y.parent ++ y.ordinal ∷ [])) (sym e) old)
         (λ e. let s = same x in subst (λ (y : Seat). (y.parent < suc j) × (name (suc j) ≡ name y.parent ++ y.ordinal ∷ [])) (sym e) (subst (λ n. n < suc j) (sym s.0) old.0, old.1 ∙ ap₂ (λ p q. name p ++ q ∷ []) (sym s.0) (sym s.1))) g.3;
+    ordinal = λ j b at.
+        let g = changed_from f frames k (suc j) b at in
+        let a = g.0 in
+        let old = h.ordinal j a g.1 in
+        let x = a.cursor in
+        let IsCounted : Seat → Type 0 = (λ (y : Seat). y.ordinal ≡ suc (length (children_among (changed f frames k) y.parent (suc j)))) in
+        let now : IsCounted x = old ∙ ap (λ (l : List ℕ). suc (length l)) (sym (among_same frames (changed f frames k) (λ i. parents_changed (λ z. let s = same z in s.0) i) x.parent (suc j))) in
+        ⊎_elim (λ e. subst IsCounted (sym e) now)
+        (λ e. let s = same x in subst IsCounted (sym e) (s.1 ∙ now ∙ ap (λ m. suc (length (children_among (changed f frames k) m (suc j)))) (sym s.0))) g.3;
     apart = λ i j low low' e. h.apart i j (subst (λ n. i < n) (changed_length f frames k) low) (subst (λ n. j < n) (changed_length f frames k) low') e;
   }
 

@@ -22,6 +22,7 @@ pub mod Invoked
 pub mod Kept
 pub mod Limits
 pub mod NewBoards
+pub mod NewNames
 pub mod Nexts
 pub mod Noted
 pub mod Onward
@@ -42,6 +43,7 @@ pub mod Retiring
 pub mod Returning
 pub mod RunsEnd
 pub mod Seeing
+pub mod Siblings
 pub mod Spawned
 pub mod Stages
 pub mod Starting

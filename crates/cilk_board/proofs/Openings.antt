@@ -247,6 +247,7 @@ module _ (code : CodeView) (p : Source) (inputs : List ℤ) (well : IsTrue (is_w
     named = record {
       root = refl;
       child = λ k x at. let r = only (suc k) x at in let z = r.0 in absurd (omega (arith, z));
+      ordinal = λ k x at. let r = only (suc k) x at in let z = r.0 in absurd (omega (arith, z));
       apart = λ j k lt lt' e. below_one j lt ∙ sym (below_one k lt');
     };
     here = λ k x at. (frame, here, subst (λ es. AreDeeds p seats name s k [] es) (sym (ap (λ l. events_of k l) h.journal)) tt);
@@ -254,6 +255,8 @@ module _ (code : CodeView) (p : Source) (inputs : List ℤ) (well : IsTrue (is_w
     joins = nothing_joined;
     going = λ z g. subst (λ ds. HasEnd ds) no_deeds g;
     over = λ z at. let no : None ≡ Some z = sym h.outcome ∙ at in let f : ⊥ = cc in absurd f;
+    first = λ x at. let r = only 0 x at in subst (λ (a : Activation Seat). length p.openings ≤ a.base) r.1 (omega arith);
+    ascend = λ i j x y at at' less. let f = only i x at in let g = only j y at' in let u = f.0 in let v = g.0 in absurd (omega (arith, u, v, less));
   }
 
   memory : (c : Cell) (n : ℕ) → IsCell p seats name s c n → (let l = b.cells in slice_get l.items n ≡ Some (s.memory c))
@@ -276,8 +279,6 @@ module _ (code : CodeView) (p : Source) (inputs : List ℤ) (well : IsTrue (is_w
     unwritten = λ n q none. ap (λ m. m (Own n q)) o.1;
     bare = λ n m q kind none there. bare_at m q kind n there (same_name [] m) refl;
     memory = memory;
-    first = λ x at. let r = only 0 x at in subst (λ (a : Activation Seat). length p.openings ≤ a.base) r.1 (omega arith);
-    ascend = λ i j x y at at' less. let f = only i x at in let g = only j y at' in let u = f.0 in let v = g.0 in absurd (omega (arith, u, v, less));
     within = λ k x at. let r = only k x at in let l = b.cells in subst (λ (a : Activation Seat). a.base + size_of p (s.frames []) ≤ length l.items) r.1 (let e = size_is in let c = h.count in omega (arith, e, c));
     holds = holds;
     desk = desk;

@@ -6,6 +6,7 @@
 -- - `own_more`, `made`, `stolen_then`: children after an event, and after a steal;
 -- - `parents_outlive`: the law.
 use Rattle.std.proofs.Common.{◌≡◌, ◌⊎◌, inl, inr, ⊎_elim, ◌≤◌, ℕ, suc, Bool, true, false, true≢false, cond, ℤ, List, [], ◌∷◌, ◌++◌, Option, Some, None, refl, sym, ap, ap₂, ◌∙◌, subst, append_assoc, arith}
+use Rattle.std.proofs.lemmas.List.{append-nil}
 use Rattle.cilk_types.specs.declared.invocation.Invocation.{Invocation}
 use Rattle.cilk_types.specs.declared.invocation.Invocation.TheVariants.{Spawn}
 use Rattle.cilk_program.specs.declared.ask.Ask as language
@@ -14,7 +15,7 @@ use Rattle.cilk_program.specs.declared.ask.Callee.{Callee}
 use Rattle.cilk_program.specs.Syntax.{Source}
 use Rattle.cilk_runs.specs.Machine.{Frame, Frames, State, Stop, Makes, Steals, Steps, after_deed, begun, deed_of, deeds_at, started}
 use Rattle.cilk_runs.specs.Monoids.{numbers_of}
-use Rattle.cilk_runs.specs.Progress.{AfterChild, AfterEvent, AfterSteal, AtBegin, GoesOn, HasEnded, HasNoSync, MayAsk, child_after}
+use Rattle.cilk_runs.specs.Progress.{Answers, AfterChild, AfterEvent, AfterSteal, AtBegin, GoesOn, HasEnded, HasNoSync, MayAsk, child_after}
 use Rattle.cilk_runs.specs.Runs.{Name, same_name, Cell, Instance, Ask, Read, Write, Invoke, Sync, End, Pass, Fail, Syncs, Deed, Does, Invokes}
 use Rattle.cilk_runs.proofs.Basics.{nil_snoc, same_name-refl, same_name-eq, snoc_one}
 use Rattle.cilk_runs.proofs.Progress.{progress}
@@ -23,9 +24,9 @@ use Rattle.cilk_worlds.specs.Reducers.{View, monoid_of}
 use Rattle.cilk_worlds.specs.Steps.{IsFirst, Next, OneStep}
 use Rattle.cilk_worlds.specs.Worlds.{World, Sight, child_world, first_world, world_of}
 use Rattle.cilk_worlds.proofs.Kept.{ended_more}
-use Rattle.cilk_board.specs.Histories.{DidAsAsked}
+use Rattle.cilk_board.specs.Histories.{AreAnswered, DidAsAsked, IsAnswered}
 use Rattle.cilk_board.specs.Ordinals.{AreCounted}
-use Rattle.cilk_board.specs.Parents.{AreStarted, GoesBeside, NamesAreKept, OutliveChildren, ParentsOutlive}
+use Rattle.cilk_board.specs.Parents.{AreStarted, ChildrenAreNamed, GoesBeside, NamesAreKept, OutliveChildren, ParentsOutlive}
 use Rattle.cilk_board.proofs.Carries.{ended_on}
 use Rattle.cilk_board.proofs.Histories.{does_as_asked}
 use Rattle.cilk_board.proofs.Onward.{name_off}
@@ -223,8 +224,25 @@ module _ (p : Source) (inputs : List ℤ) where
               (subst (λ (x : Frame World). (sight : Sight) × (let w = x.what in w ≡ world_of p (n ++ suc (started f.deeds) ∷ []) sight w.callee)) (sym is)
               (w.sight, kid ∙ ap (λ z. world_of p (n ++ suc (started f.deeds) ∷ []) w.sight z) (sym (ap (λ (z : World). z.callee) kid))))
 
+  -- a deed that stands behind others answers what was asked for after them
+  answered_behind : (w : World) (past before : List (Deed World)) (d : Deed World) (after : List (Deed World)) → AreAnswered p inputs w past (before ++ d ∷ after) → IsAnswered p inputs w (past ++ before) d
+  answered_behind w past [] d after h = subst (λ l. IsAnswered p inputs w l d) (sym (append-nil past)) h.0
+  answered_behind w past (e ∷ before) d after h = subst (λ l. IsAnswered p inputs w l d) (append_assoc past (e ∷ []) before) (answered_behind w (past ++ e ∷ []) before d after h.1)
+
+  invokes_answers : (a : Ask World) (how : Invocation) (what : World) → Answers (Invokes how what) a → a ≡ Invoke how what
+  invokes_answers a how what h = h
+
+  children_named : (s : State World View) → DidAsAsked p inputs s → AreStarted p s → ChildrenAreNamed s
+  children_named s asked names m f before how what after here deeds =
+      let g = answered_behind f.what [] before (Invokes how what) after (subst (λ l. AreAnswered p inputs f.what [] l) deeds (asked m f here)) in
+      let r = next_goes f.what before g.0 g.1 in
+      let y = r.1 in
+      let c = named_invoke p f.what (suc (started before)) y.0 how what (y.1 ∙ invokes_answers g.0 how what g.2) in
+      let a = names m f here in
+      ap (λ (z : World). z.name) c.1 ∙ ap (λ z. z ++ suc (started before) ∷ []) (ap (λ (z : World). z.name) a.1)
+
   pub names_are_kept : NamesAreKept p inputs
-  names_are_kept = record { opens = names_open; keeps = names_keep; reached = λ ns s r. steps_so ns r.0 s (names_open r.0 r.1) r.2 }
+  names_are_kept = record { opens = names_open; keeps = names_keep; reached = λ ns s r. steps_so ns r.0 s (names_open r.0 r.1) r.2; children = children_named }
     where
       steps_so : (ns : List Name) (s s' : State World View) → AreStarted p s → Steps World View monoid_of (Next p inputs) (costs p inputs) ns s s' → AreStarted p s'
       steps_so [] s s' h e = subst (AreStarted p) (sym e) h

@@ -185,6 +185,7 @@ module _ (code : CodeView) (p : Source) (inputs : List ℤ) (b : Board) (s : Sta
           let low = low_of (suc k) x at in
           let less = r.0 in
           (r.0, same (suc k) low ∙ r.1 ∙ ap (λ m. m ++ y.ordinal ∷ []) (also y.parent (omega (arith, low, less))));
+      ordinal = n.ordinal;
       apart = λ j k lj lk e. n.apart j k lj lk (sym (same j lj) ∙ e ∙ same k lk);
     }
 
@@ -197,6 +198,8 @@ module _ (code : CodeView) (p : Source) (inputs : List ℤ) (b : Board) (s : Sta
           joins = o.joins;
           going = o.going;
           over = o.over;
+          first = o.first;
+          ascend = λ j k x y at at' less. subst (λ n. x.base + size_of p (s.frames n) ≤ y.base) (also j (low_of j x at)) (o.ascend j k x y at at' less);
         }
 
     pub shown_as : 0 < length seats → ShowsBy code p inputs name' b d s
@@ -208,8 +211,6 @@ module _ (code : CodeView) (p : Source) (inputs : List ℤ) (b : Board) (s : Sta
       unwritten = λ n q none. sh.unwritten n q (absent_back n none);
       bare = λ n m q kind none there. sh.bare n m q kind (absent_back n none) (λ g. there (absent_as p seats s name name' same m g));
       memory = λ c n is. sh.memory c n (cell_as p seats s name' name also c n is);
-      first = sh.first;
-      ascend = λ j k x y at at' less. subst (λ n. x.base + size_of p (s.frames n) ≤ y.base) (also j (low_of j x at)) (sh.ascend j k x y at at' less);
       within = λ k x at. subst (λ n. let l = b.cells in x.base + size_of p (s.frames n) ≤ length l.items) (also k (low_of k x at)) (sh.within k x at);
       holds = λ w k u at has. holds_as w k u (sh.holds w k u at has);
       desk = desk_as;

@@ -125,11 +125,12 @@ module _ (code : CodeView) (p : Source) (inputs : List ℤ) (name : ℕ → Name
 
   -- frames' cells lie past the global ones
   past_globals : (k : ℕ) (x : Activation Seat) → slice_get frames k ≡ Some x → length p.openings ≤ x.base
-  past_globals zero x h = sh.first x h
+  past_globals zero x h = let t = sh.tells in t.first x h
   past_globals (suc k) x h =
       let first = first_there frames k x h in
-      let low = sh.first first.0 first.1 in
-      let up = sh.ascend 0 (suc k) first.0 x first.1 h (omega arith) in
+      let t = sh.tells in
+      let low = t.first first.0 first.1 in
+      let up = t.ascend 0 (suc k) first.0 x first.1 h (omega arith) in
       omega (arith, low, up)
     where
       first_there : (list : List (Activation Seat)) (j : ℕ) (y : Activation Seat) → slice_get list (suc j) ≡ Some y → (z : Activation Seat) × (slice_get list 0 ≡ Some z)
@@ -138,7 +139,7 @@ module _ (code : CodeView) (p : Source) (inputs : List ℤ) (name : ℕ → Name
 
   -- two frames' cells have different numbers
   blocks_apart : (j k : ℕ) (x y : Activation Seat) (q r n : ℕ) → slice_get frames j ≡ Some x → slice_get frames k ≡ Some y → n ≡ x.base + q → q < size_of p (s.frames (name j)) → n ≡ y.base + r → j < k → ⊥
-  blocks_apart j k x y q r n h g e low e' less = let up = sh.ascend j k x y h g less in omega (arith, up, e, e', low)
+  blocks_apart j k x y q r n h g e low e' less = let t = sh.tells in let up = t.ascend j k x y h g less in omega (arith, up, e, e', low)
 
   -- and a number one cell
   pub one_cell : (c c' : Cell) (n : ℕ) → Has c n → Has c' n → c ≡ c'

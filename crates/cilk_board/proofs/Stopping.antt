@@ -7,7 +7,7 @@
 -- - `skips_are_shown`: choices that can't be made.
 use Rattle.std.proofs.Common.{◌≡◌, inl, inr, ⊎_elim, ◌+◌, ◌-◌, ◌<◌, ◌≤◌, ℕ, zero, suc, Bool, true, false, true≢false, cond, if◌then◌else◌, ℤ, List, [], ◌∷◌, ◌++◌, length, map, slice_get, sum, Option, Some, None, refl, sym, ap, ap₂, ◌∙◌, subst, arith, length-append}
 use Rattle.std.specs.Option.{is_some, option_map}
-use Rattle.std.proofs.lemmas.Bool.{ltb-false, ltb-true}
+use Rattle.std.proofs.lemmas.Bool.{cases_lt, ltb-false, ltb-true}
 use Rattle.std.proofs.lemmas.List.Sums.{sum_by-cons}
 use Rattle.std.proofs.lemmas.Option.{slice_get-map, slice_get_past}
 use Rattle.cilk_types.specs.declared.fault.Fault.{Fault}
@@ -39,7 +39,7 @@ use Rattle.cilk_board.specs.Asking.{refusal}
 use Rattle.cilk_board.specs.Boards.{IsDue, IsWhere, ShowsBy, Tells, hand_of}
 use Rattle.cilk_board.specs.Desks.{BlockIsOver, Chooses, Desk, Skipped, all_offered, skips}
 use Rattle.cilk_board.specs.Noting.{HasFrame}
-use Rattle.cilk_board.specs.Numbered.{AreDeeds, events_of}
+use Rattle.cilk_board.specs.Numbered.{AreDeeds, children_among, events_of, parent_at}
 use Rattle.cilk_board.specs.Seats.{changed}
 use Rattle.cilk_board.specs.Stopping.{IsRefused, SkipsAreShown, StandAsBefore, StopsAreShown, TellingsStay, latest}
 use Rattle.cilk_board.specs.Workers.{frame_in, held_by, is_free, is_idle, offers}
@@ -51,6 +51,7 @@ use Rattle.cilk_board.proofs.Nexts.{named_next}
 use Rattle.cilk_board.proofs.Placed.{get_some}
 use Rattle.cilk_board.proofs.Plain.{get_low}
 use Rattle.cilk_board.proofs.Refused.{refused_is}
+use Rattle.cilk_board.proofs.Siblings.{among_same}
 use Rattle.cilk_board.proofs.Stepped.{kept_by}
 
 -- ---- what is told
@@ -80,6 +81,24 @@ module _ (code : CodeView) (p : Source) (inputs : List ℤ) where
     written : (k : ℕ) → (let e = b'.journal in events_of k e.items) ≡ (let e = b.journal in events_of k e.items)
     written k = ap (λ l. events_of k l) journal
 
+    base_is : (a z : Activation Seat) → a ≡ record z { cursor = a.cursor } → a.base ≡ z.base
+    base_is a z e = ap (λ (y : Activation Seat). y.base) e
+
+    parents : (j : ℕ) → parent_at new j ≡ parent_at old j
+    parents j = ⊎_elim there past (cases_lt j (length new))
+      where
+        P : Option (Activation Seat) → Option ℕ
+        P o = option_map (λ (a : Activation Seat). let x = a.cursor in x.parent) o
+
+        there : j < length new → parent_at new j ≡ parent_at old j
+        there low =
+            let z = get_some new j low in
+            let r = same.each j z.0 z.1 in
+            ap P z.1 ∙ ap (λ n. Some n) r.3.0 ∙ sym (ap P r.1)
+
+        past : length new ≤ j → parent_at new j ≡ parent_at old j
+        past far = ap P (slice_get_past new j far) ∙ sym (ap P (slice_get_past old j (subst (λ n. n ≤ j) same.as_many far)))
+
     told : Tells code p inputs name b' halted
     told =
         let was = t.named in record {
@@ -89,6 +108,9 @@ module _ (code : CodeView) (p : Source) (inputs : List ℤ) where
                 let r = same.each (suc k) a at in
                 let z = was.child k r.0 r.1 in
                 (subst (λ n. n < suc k) (sym r.3.0) z.0, z.1 ∙ ap₂ (λ n q. name n ++ q ∷ []) (sym r.3.0) (sym r.3.1));
+            ordinal = λ k a at.
+                let r = same.each (suc k) a at in
+                r.3.1 ∙ was.ordinal k r.0 r.1 ∙ ap (λ n. suc (length (children_among old n (suc k)))) (sym r.3.0) ∙ ap (λ (l : List ℕ). suc (length l)) (sym (among_same old new parents (let x = a.cursor in x.parent) (suc k)));
             apart = λ i j low low' e. was.apart i j (subst (λ n. i < n) same.as_many low) (subst (λ n. j < n) same.as_many low') e;
           };
           here = λ k a at.
@@ -100,6 +122,14 @@ module _ (code : CodeView) (p : Source) (inputs : List ℤ) where
           joins = t.joins;
           going = λ e. t.going (sym outcome ∙ e);
           over = λ o e. t.over o (sym outcome ∙ e);
+          first = λ a at. let r = same.each 0 a at in subst (λ z. length p.openings ≤ z) (sym (base_is a r.0 r.2)) (t.first r.0 r.1);
+          ascend = λ i j x y at at' less.
+              let f = same.each i x at in
+              let g = same.each j y at' in
+              let e = base_is x f.0 f.2 in
+              let u = base_is y g.0 g.2 in
+              let was_so = t.ascend i j f.0 g.0 f.1 g.1 less in
+              omega (arith, was_so, e, u);
         }
 
   pub tellings_stay : TellingsStay code p inputs

@@ -513,6 +513,11 @@ module _ (code : CodeView) (p : Source) (inputs : List ℤ) (name : ℕ → Name
         joins = λ n q. joins_are n q (o.joins n q);
         going = λ z h. o.going t.was_open (more_deeds (λ ds. HasEnd ds) end_before [] h);
         over = λ z at. let no : None ≡ Some z = sym t.is_open ∙ at in let f : ⊥ = cc in absurd f;
+        first = λ a at. let r = was 0 a at in subst (λ z. length p.openings ≤ z) (sym r.base) (o.first r.before r.there);
+        ascend = λ i j x y at at' less.
+            let f = was i x at in
+            let g = was j y at' in
+            subst (λ z. z + size_of p (s'.frames (name i)) ≤ y.base) (sym f.base) (subst (λ z. (let a = f.before in a.base) + z ≤ y.base) (sizes (name i)) (subst (λ z. (let a = f.before in a.base) + size_of p (s.frames (name i)) ≤ z) (sym g.base) (o.ascend i j f.before g.before f.there g.there less)));
       }
 
   -- ---- the whole
@@ -526,11 +531,6 @@ module _ (code : CodeView) (p : Source) (inputs : List ℤ) (name : ℕ → Name
     unwritten = λ n q none. t.unwritten n q (absent_back n none) ∙ sh.unwritten n q (absent_back n none);
     bare = λ n m q kind none there. bare_by n m q kind (absent_back n none) (λ h. there (absent_on m h)) (same_name (name k) m) refl;
     memory = λ c n is. t.memory c n (cell_back c n is);
-    first = λ a at. let r = was 0 a at in subst (λ z. length p.openings ≤ z) (sym r.base) (sh.first r.before r.there);
-    ascend = λ i j x y at at' less.
-        let f = was i x at in
-        let g = was j y at' in
-        subst (λ z. z + size_of p (s'.frames (name i)) ≤ y.base) (sym f.base) (subst (λ z. (let a = f.before in a.base) + z ≤ y.base) (sizes (name i)) (subst (λ z. (let a = f.before in a.base) + size_of p (s.frames (name i)) ≤ z) (sym g.base) (sh.ascend i j f.before g.before f.there g.there less)));
     within = λ j x at.
         let f = was j x at in
         let l = b'.cells in

@@ -552,6 +552,9 @@ module _ (code : CodeView) (p : Source) (inputs : List ℤ) (name : ℕ → Name
 
   -- ---- what is told
 
+  base_was : (j : ℕ) (a : Activation Seat) → slice_get new_seats j ≡ Some a → (z : Activation Seat) × (slice_get old_seats j ≡ Some z) × (a.base ≡ z.base)
+  base_was j a at = let r = carries.carried_back old_seats new_seats on same_length j a at in (r.0, r.1, ap (λ (z : Activation Seat). z.base) r.2)
+
   tells_is : Tells code p inputs name b' s
   tells_is =
       let o = sh.tells in
@@ -564,10 +567,15 @@ module _ (code : CodeView) (p : Source) (inputs : List ℤ) (name : ℕ → Name
         joins = o.joins;
         going = λ z. o.going h.was_open;
         over = λ z at. let no : None ≡ Some z = sym h.was_open ∙ sym h.outcome ∙ at in let f : ⊥ = cc in absurd f;
+        first = λ a at. let r = base_was 0 a at in subst (λ z. length p.openings ≤ z) (sym r.2) (o.first r.0 r.1);
+        ascend = λ i j x y at at' less.
+            let f = base_was i x at in
+            let g = base_was j y at' in
+            let old = o.ascend i j f.0 g.0 f.1 g.1 less in
+            let u = f.2 in
+            let v = g.2 in
+            omega (arith, old, u, v);
       }
-
-  base_was : (j : ℕ) (a : Activation Seat) → slice_get new_seats j ≡ Some a → (z : Activation Seat) × (slice_get old_seats j ≡ Some z) × (a.base ≡ z.base)
-  base_was j a at = let r = carries.carried_back old_seats new_seats on same_length j a at in (r.0, r.1, ap (λ (z : Activation Seat). z.base) r.2)
 
   shown_after : ShowsBy code p inputs name b' desk_now s
   shown_after = record {
@@ -578,14 +586,6 @@ module _ (code : CodeView) (p : Source) (inputs : List ℤ) (name : ℕ → Name
     unwritten = λ n q none. sh.unwritten n q (absent_back n none);
     bare = λ n m q kind none there. sh.bare n m q kind (absent_back n none) (λ g. there (absent_on m g));
     memory = λ c n is. ap (λ l. slice_get l n) h.cells ∙ sh.memory c n (cell_back c n is);
-    first = λ a at. let r = base_was 0 a at in subst (λ z. length p.openings ≤ z) (sym r.2) (sh.first r.0 r.1);
-    ascend = λ i j x y at at' less.
-        let f = base_was i x at in
-        let g = base_was j y at' in
-        let old = sh.ascend i j f.0 g.0 f.1 g.1 less in
-        let u = f.2 in
-        let v = g.2 in
-        omega (arith, old, u, v);
     within = λ j x at.
         let f = base_was j x at in
         let old = sh.within j f.0 f.1 in

@@ -195,7 +195,8 @@ module _ (code : CodeView) (p : Source) (inputs : List ℤ) where
     -- Each frame that waits is there.
     pub present : (n : Name) → IsIn n d.waiting → (let f = b.frames in IsAbsent f.items name n) → ⊥
 
-  -- What is left to be seen of a board after a stop too: frames with what they did, the joins, and the outcome once the first frame has ended.
+  -- What is left to be seen of a board after a stop too: frames with what they did, the joins, the outcome once the first frame has ended, and
+  -- how frames' blocks of cells lie, past the global ones and each past those of earlier frames.
   pub record Tells (name : ℕ → Name) (b : Board) (s : State World View) : Type 0 where
     pub named : let f = b.frames in AreNamed f.items name
     pub here : (k : ℕ) (x : Activation Seat) → (let f = b.frames in slice_get f.items k ≡ Some x) → (f : Frame World) × (s.frames (name k) ≡ Some f) × (let e = b.journal in let l = b.frames in AreDeeds p l.items name s k f.deeds (events_of k e.items))
@@ -203,6 +204,8 @@ module _ (code : CodeView) (p : Source) (inputs : List ℤ) where
     pub joins : (n : Name) (q : ℕ) → times (n ++ q ∷ []) s.joins ≡ joined_at 1 q (deeds_at (s.frames n))
     pub going : b.outcome ≡ None → ¬ (HasEnd (deeds_at (s.frames [])))
     pub over : (o : Outcome) → b.outcome ≡ Some o → HasEnd (deeds_at (s.frames [])) × (o ≡ outcome_in p s)
+    pub first : (x : Activation Seat) → (let f = b.frames in slice_get f.items 0 ≡ Some x) → length p.openings ≤ x.base
+    pub ascend : (j k : ℕ) (x y : Activation Seat) → (let f = b.frames in slice_get f.items j ≡ Some x) → (let f = b.frames in slice_get f.items k ≡ Some y) → j < k → x.base + size_of p (s.frames (name j)) ≤ y.base
 
   -- The board shows this state, by these names.
   pub record ShowsBy (name : ℕ → Name) (b : Board) (d : Desk) (s : State World View) : Type 0 where
@@ -213,10 +216,8 @@ module _ (code : CodeView) (p : Source) (inputs : List ℤ) where
     pub unstolen : (n : Name) → IsAbsent (seats name b s) name n → s.stolen n ≡ false
     pub unwritten : (n : Name) (q : ℕ) → IsAbsent (seats name b s) name n → s.memory (Own n q) ≡ pos 0
     pub bare : (n m : Name) (q : ℕ) (kind : MonoidKind) → IsAbsent (seats name b s) name n → (IsAbsent (seats name b s) name m → ⊥) → s.piece m (Reducer n q kind) ≡ unit_of monoid_of (Reducer n q kind)
-    -- The cells, and where frames' blocks lie among them.
+    -- The cells, within which frames' blocks lie.
     pub memory : (c : Cell) (n : ℕ) → IsCell p (seats name b s) name s c n → (let l = b.cells in slice_get l.items n ≡ Some (s.memory c))
-    pub first : (x : Activation Seat) → slice_get (seats name b s) 0 ≡ Some x → length p.openings ≤ x.base
-    pub ascend : (j k : ℕ) (x y : Activation Seat) → slice_get (seats name b s) j ≡ Some x → slice_get (seats name b s) k ≡ Some y → j < k → x.base + size_of p (s.frames (name j)) ≤ y.base
     pub within : (k : ℕ) (x : Activation Seat) → slice_get (seats name b s) k ≡ Some x → (let l = b.cells in x.base + size_of p (s.frames (name k)) ≤ length l.items)
     -- The workers.
     pub holds : (w k : ℕ) (u : Worker) → (let l = b.workers in slice_get l.items w ≡ Some u) → u.frame ≡ Some k → Holds name b s w u k

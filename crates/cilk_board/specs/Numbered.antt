@@ -1,5 +1,6 @@
 -- The numbers that a board gives to frames, cells and reducers, which the free machine knows by names.
-use Rattle.std.specs.Prelude.{◌≡◌, ◌+◌, ◌<◌, ℕ, suc, nat_eq, cond, List, [], ◌∷◌, ◌++◌, length, map, slice_get, Option, Some, None}
+use Rattle.std.specs.Prelude.{◌≡◌, ◌+◌, ◌<◌, ℕ, zero, suc, nat_eq, cond, List, [], ◌∷◌, ◌++◌, length, map, slice_get, Option, Some, None}
+use Rattle.std.specs.Option.{option_map}
 use Rattle.cilk_types.specs.declared.event.Event.{Event}
 use Rattle.cilk_types.specs.declared.event.Event.TheVariants as events
 use Rattle.cilk_types.specs.declared.event.Instance as numbered
@@ -15,11 +16,27 @@ use Rattle.cilk_worlds.specs.Worlds.{World, Reducers, Sight, global_named}
 use Rattle.cilk_board.specs.declared.seat.JournalEntry.{JournalEntry}
 use Rattle.cilk_board.specs.declared.seat.Seat.{Seat}
 
+-- the place of the frame that started the one at this place, if one stands there
+abbrev pub parent_at : List (Activation Seat) → ℕ → Option ℕ
+parent_at frames n = option_map (λ (a : Activation Seat). let x = a.cursor in x.parent) (slice_get frames n)
+
+-- this place, where the frame there was started by frame k; the first frame was by none
+abbrev pub child_at : Option ℕ → ℕ → ℕ → List ℕ
+child_at None k n = []
+child_at (Some m) k zero = []
+child_at (Some m) k (suc n) = cond (nat_eq m k) (suc n ∷ []) []
+
+-- the places of the frames that frame k started, in order, among the first so many
+abbrev pub children_among : List (Activation Seat) → ℕ → ℕ → List ℕ
+children_among frames k zero = []
+children_among frames k (suc n) = children_among frames k n ++ child_at (parent_at frames n) k n
+
 -- The frames of a board in the order in which they began, and the names that they have: the first is the root, each other is known by an
--- earlier one, its parent, and its ordinal there, and two have two names.
+-- earlier one, its parent, and its ordinal there, which counts the frames that its parent has started from 1 on, and two have two names.
 pub record AreNamed (frames : List (Activation Seat)) (name : ℕ → Name) : Type 0 where
   pub root : name 0 ≡ []
   pub child : (k : ℕ) (x : Activation Seat) → slice_get frames (suc k) ≡ Some x → (let s = x.cursor in (s.parent < suc k) × (name (suc k) ≡ name s.parent ++ s.ordinal ∷ []))
+  pub ordinal : (k : ℕ) (x : Activation Seat) → slice_get frames (suc k) ≡ Some x → (let s = x.cursor in s.ordinal ≡ suc (length (children_among frames s.parent (suc k))))
   pub apart : (j k : ℕ) → j < length frames → k < length frames → name j ≡ name k → j ≡ k
 
 -- no frame of the board has this name

@@ -36,6 +36,11 @@ pub record OutliveChildren (s : State World View) : Type 0 where
 abbrev pub AreStarted : Source → State World View → Type 0
 AreStarted p s = (n : Name) (f : Frame World) → s.frames n ≡ Some f → (sight : Sight) × (let w = f.what in w ≡ world_of p n sight w.callee)
 
+-- each child was started under its parent's name and its ordinal
+abbrev pub ChildrenAreNamed : State World View → Type 0
+ChildrenAreNamed s =
+    (m : Name) (f : Frame World) (before : List (Deed World)) (how : Invocation) (what : World) (after : List (Deed World)) → s.frames m ≡ Some f → f.deeds ≡ before ++ Invokes how what ∷ after → what.name ≡ child_after m before
+
 module _ (p : Source) (inputs : List ℤ) where
   -- Frames outlive their children, in each state that steps lead to.
   pub record ParentsOutlive : Type 0 where
@@ -48,3 +53,4 @@ module _ (p : Source) (inputs : List ℤ) where
     pub opens : (s : State World View) → IsFirst p inputs s → AreStarted p s
     pub keeps : (s s' : State World View) (n : Name) → AreStarted p s → OneStep p inputs s n s' → AreStarted p s'
     pub reached : (ns : List Name) (s : State World View) → Reaches p inputs ns s → AreStarted p s
+    pub children : (s : State World View) → DidAsAsked p inputs s → AreStarted p s → ChildrenAreNamed s

@@ -43,7 +43,7 @@ pub fn offer(own: &mut Worker, how: Invocation, frame: u32) -> Result<(), AllocE
 
 /// The frame begins that the one at the place of the list has started, with so many cells: the worker goes on with it, and the starter
 /// waits for it or offers its continuation. The event, which is still to be written down. Where memory is refused, frames, journal,
-/// ticks and outcome are as they were.
+/// ticks, outcome and stop are as they were.
 pub fn begin(
     board: &mut Board,
     worker: u32,
@@ -63,6 +63,7 @@ pub fn begin(
     ensures journal { board.new.journal ≡ board.old.journal }
     ensures ticks { board.new.ticks ≡ board.old.ticks }
     ensures outcome { board.new.outcome ≡ board.old.outcome }
+    ensures stopped { board.new.stopped ≡ board.old.stopped }
 {
     let place = board.frames.len() as u32;
     offer(&mut board.workers[worker as usize], how, frame)?;

@@ -53,7 +53,8 @@ pub fn bring(
     key: u32,
 ) -> Result<bool, AllocError>
     requires { (l : _) × (seat.old.join ≡ Some l) × MayArrive (shown l.value) key false }
-    ensures { IfOk result (λ passes. Brings seat.old key views.old passes seat.new views.new) }
+    ensures brings { IfOk result (λ passes. Brings seat.old key views.old passes seat.new views.new) }
+    ensures same { seat.new ≡ record seat.old { join = seat.new.join } }
 {
     match &mut seat.join {
         Some(join) => arrive(alloc, join, views, key, false),

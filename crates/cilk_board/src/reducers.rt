@@ -1,6 +1,6 @@
 //! Events that touch views.
 
-ghost use Rattle.std.specs.Prelude.{◌≡◌, ◌<◌, ℕ, Some, length, IfOk, OnOk};
+ghost use Rattle.std.specs.Prelude.{◌≡◌, ◌<◌, ℕ, Some, length, IfOk, OnErr, OnOk};
 ghost use Rattle.cilk_types.specs.declared.event.Event.TheVariants as events;
 ghost use Rattle.cilk_types.specs.declared.event.Instance.{Instance};
 ghost use Rattle.cilk_monoid.specs.Kinds.{structure_of};
@@ -48,6 +48,7 @@ pub fn create(
     ensures event { IfOk result (λ e. e ≡ events.Create instance) }
     ensures views { OnOk result (ChangesIn views.old views.new kind instance (Some (structure_of kind).unit)) }
     ensures frames { OnOk result (frames.new.items ≡ changed (answered answers.Done) frames.old.items frame) }
+    ensures same { OnErr result (frames.new.items ≡ frames.old.items) }
 {
     views.create(alloc, instance, kind)?;
     answer(frames, frame, Answer::Done);
@@ -68,6 +69,7 @@ pub fn update(
     ensures event { IfOk result (λ e. e ≡ events.Update instance value) }
     ensures views { OnOk result (ChangesIn views.old views.new kind instance (Some ((structure_of kind).combine (value_in views.old kind instance) ((structure_of kind).single value)))) }
     ensures frames { OnOk result (frames.new.items ≡ changed (answered answers.Done) frames.old.items frame) }
+    ensures same { OnErr result (frames.new.items ≡ frames.old.items) }
 {
     views.update(alloc, instance, kind, value)?;
     answer(frames, frame, Answer::Done);
@@ -88,6 +90,7 @@ pub fn set(
     ensures event { IfOk result (λ e. e ≡ events.Set instance value) }
     ensures views { OnOk result (ChangesIn views.old views.new kind instance (Some ((structure_of kind).single value))) }
     ensures frames { OnOk result (frames.new.items ≡ changed (answered answers.Done) frames.old.items frame) }
+    ensures same { OnErr result (frames.new.items ≡ frames.old.items) }
 {
     views.set(alloc, instance, kind, value)?;
     answer(frames, frame, Answer::Done);
@@ -107,6 +110,7 @@ pub fn value(
     ensures event { IfOk result (λ e. e ≡ events.Value instance ((structure_of kind).number (value_in views.old kind instance))) }
     ensures views { OnOk result (ChangesIn views.old views.new kind instance (Some (value_in views.old kind instance))) }
     ensures frames { OnOk result (frames.new.items ≡ changed (answered (answers.Value ((structure_of kind).number (value_in views.old kind instance)))) frames.old.items frame) }
+    ensures same { OnErr result (frames.new.items ≡ frames.old.items) }
 {
     let value = views.value(alloc, instance, kind)?;
     answer(frames, frame, Answer::Value(value));
@@ -125,6 +129,7 @@ pub fn print(
     ensures event { IfOk result (λ e. e ≡ events.Print value) }
     ensures views { OnOk result (ChangesIn views.old views.new MonoidKind.Append output (Some ((structure_of MonoidKind.Append).combine (value_in views.old MonoidKind.Append output) ((structure_of MonoidKind.Append).single value)))) }
     ensures frames { OnOk result (frames.new.items ≡ changed (answered answers.Done) frames.old.items frame) }
+    ensures same { OnErr result (frames.new.items ≡ frames.old.items) }
 {
     views.print(alloc, value)?;
     answer(frames, frame, Answer::Done);

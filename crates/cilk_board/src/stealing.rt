@@ -1,6 +1,6 @@
 //! A child whose continuation is stolen.
 
-ghost use Rattle.std.specs.Prelude.{OnOk};
+ghost use Rattle.std.specs.Prelude.{◌≡◌, OnOk};
 ghost use Rattle.cilk_join.specs.Joins.{IsOpen};
 ghost use Rattle.cilk_board.specs.Events.{AwaitsLast, block_in};
 
@@ -11,7 +11,8 @@ use std::alloc::{AllocError, Global};
 /// The piece of the frame's last child is awaited at its block.
 pub fn await_last(alloc: Global, seat: &mut Seat) -> Result<(), AllocError>
     requires { IsOpen (block_in seat.old.join) seat.old.children }
-    ensures { OnOk result (AwaitsLast seat.old seat.new) }
+    ensures awaits { OnOk result (AwaitsLast seat.old seat.new) }
+    ensures same { seat.new ≡ record seat.old { join = seat.new.join } }
 {
     let key = seat.children;
     match &mut seat.join {

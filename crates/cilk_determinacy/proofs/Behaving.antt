@@ -39,7 +39,7 @@ last_of (d ∷ e ∷ past) = longer (last_of (e ∷ past))
 
 -- ---- events
 
-inner_asks : (p : Source) (w : World) (k : ℕ) (a : language.Ask) (v : ℤ) → IsInner a → ask_of (named_event p w a v) ≡ named_ask p w k a
+pub inner_asks : (p : Source) (w : World) (k : ℕ) (a : language.Ask) (v : ℤ) → IsInner a → ask_of (named_event p w a v) ≡ named_ask p w k a
 inner_asks p w k asks.Begin v i = refl
 inner_asks p w k (asks.Read x) v i = refl
 inner_asks p w k (asks.Write x y) v i = refl
@@ -55,7 +55,7 @@ inner_asks p w k (asks.Result y) v i = refl
 inner_asks p w k (asks.End y) v i = absurd i
 inner_asks p w k (asks.Fault f) v i = absurd i
 
-inner_answers : (p : Source) (w : World) (fr : Frame) (m : Memory) (a : language.Ask) → answer_of (Does (named_event p w a (answer_to fr m a))) ≡ answer_to fr m a
+pub inner_answers : (p : Source) (w : World) (fr : Frame) (m : Memory) (a : language.Ask) → answer_of (Does (named_event p w a (answer_to fr m a))) ≡ answer_to fr m a
 inner_answers p w fr m asks.Begin = refl
 inner_answers p w fr m (asks.Read x) = refl
 inner_answers p w fr m (asks.Write x y) = refl
@@ -87,7 +87,7 @@ inner_ends p w (asks.Result y) v i = refl
 inner_ends p w (asks.End y) v i = absurd i
 inner_ends p w (asks.Fault f) v i = absurd i
 
-inner_goes : (a : language.Ask) → IsInner a → is_out a ≡ false
+pub inner_goes : (a : language.Ask) → IsInner a → is_out a ≡ false
 inner_goes asks.Begin i = refl
 inner_goes (asks.Read x) i = refl
 inner_goes (asks.Write x y) i = refl

@@ -40,7 +40,7 @@ pub length_word : (n : ℕ) → n ≤ 1000000 → IsWord (pos n)
 length_word n h = record { sfits = omega (arith, h) }
 
 -- the number of a view
-number_word : (k : MonoidKind) (v : ViewValue) → IsMember k v → size_of v ≤ 1000000 → IsWord ((structure_of k).number v)
+pub number_word : (k : MonoidKind) (v : ViewValue) → IsMember k v → size_of v ≤ 1000000 → IsWord ((structure_of k).number v)
 number_word Add (Number z) h s = h
 number_word Add (Elements zs) h s = absurd h
 number_word Add (Map a b) h s = absurd h
@@ -58,7 +58,7 @@ number_word Affine (Elements zs) h s = absurd h
 number_word Affine (Map a b) h s = h.1
 
 -- an update makes a list longer by one at most
-update_size : (k : MonoidKind) (v : ViewValue) (x : ℤ) → size_of ((structure_of k).combine v ((structure_of k).single x)) ≤ suc (size_of v)
+pub update_size : (k : MonoidKind) (v : ViewValue) (x : ℤ) → size_of ((structure_of k).combine v ((structure_of k).single x)) ≤ suc (size_of v)
 update_size Add (Number z) x = omega arith
 update_size Add (Elements zs) x = omega arith
 update_size Add (Map a b) x = omega arith
@@ -75,14 +75,14 @@ update_size Affine (Number z) x = omega arith
 update_size Affine (Elements zs) x = omega arith
 update_size Affine (Map a b) x = omega arith
 
-single_size : (k : MonoidKind) (x : ℤ) → size_of ((structure_of k).single x) ≤ 1
+pub single_size : (k : MonoidKind) (x : ℤ) → size_of ((structure_of k).single x) ≤ 1
 single_size Add x = omega arith
 single_size Least x = omega arith
 single_size Greatest x = omega arith
 single_size Append x = omega arith
 single_size Affine x = omega arith
 
-unit_size : (k : MonoidKind) → size_of ((structure_of k).unit) ≤ 0
+pub unit_size : (k : MonoidKind) → size_of ((structure_of k).unit) ≤ 0
 unit_size Add = omega arith
 unit_size Least = omega arith
 unit_size Greatest = omega arith

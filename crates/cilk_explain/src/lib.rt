@@ -13,8 +13,13 @@
 //! Nothing here judges a text: the places come from whoever did.
 #![tactic(auto)]
 
+mod at_hand;
+pub mod excerpt;
+mod faults;
 pub mod hints;
 pub mod place;
 pub mod reasons;
+mod refusals;
 pub mod report;
+pub mod tokens;
 mod words;

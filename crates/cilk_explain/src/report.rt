@@ -1,87 +1,215 @@
 //! The text of an explanation.
 
-use crate::hints::{hint, misspelt};
-use crate::place::{Location, between, line_at, locate};
-use crate::reasons::{Reason, reason_of};
-use crate::words::{is_name, word_at};
+use crate::at_hand::at_hand;
+use crate::excerpt::push_excerpt;
+use crate::hints::{hint, misspelt_near, near_name};
+use crate::place::{Location, locate};
+use crate::reasons::{Example, NUMBERS, Reason, reason_of};
+use crate::tokens::Tokens;
 use std::alloc::{AllocError, Global};
+
+/// A place of a text that is refused.
+#[derive(Clone, Copy, Debug)]
+pub struct Finding<'a> {
+    /// The name of the file.
+    pub file: &'a str,
+    pub text: &'a [u8],
+    /// The number of the fault.
+    pub number: u16,
+    /// The byte, from 0.
+    pub at: usize,
+}
+
+/// What the grammar has where a token is refused.
+#[derive(Clone, Copy, Debug)]
+pub struct Wanted<'a> {
+    /// In words; empty where that isn't known.
+    pub words: &'a str,
+    /// Whether a semicolon is among it.
+    pub semicolon: bool,
+}
 
 /// What `explain NUMBER` writes; nothing where the tool has no such number.
 pub fn of_number(alloc: Global, number: u16) -> Result<Option<String>, AllocError> {
-    let Some(reason) = reason_of(number) else {
-        return Ok(None);
-    };
+    match reason_of(number) {
+        Some(reason) => Ok(Some(of_reason(alloc, &reason)?)),
+        None => Ok(None),
+    }
+}
+
+fn of_reason(alloc: Global, reason: &Reason) -> Result<String, AllocError> {
     let Reason {
         number,
         title,
         meaning,
+        line,
         example,
+        place,
         cure,
-    } = reason;
-    let text = format!(in alloc;
-        "{number}: {title}\n\n{meaning}\n\nFor example:\n\n    {example}\n\n{cure}\n"
-    )?;
-    Ok(Some(text))
+    } = *reason;
+    let example = match example {
+        Example::Program(text) if number > 300 => {
+            format!(in alloc;
+                "The program\n\n    {text}\n\nand the certificate of its run are answered by the line"
+            )?
+        }
+        Example::Program(text) => {
+            format!(in alloc; "The program\n\n    {text}\n\nis answered by the line")?
+        }
+        Example::Edit(edit) => {
+            format!(in alloc;
+                "The certificate of `examples/race.c`, with {edit}, is answered by the line"
+            )?
+        }
+        Example::Words(words) => format!(in alloc; "For example {words}: the answer is the line")?,
+    };
+    format!(in alloc;
+        "{number}: {title}\n\n{meaning}\n\n{example}\n\n    {line}\n\nThe place is read as: {place}.\n\n{cure}\n"
+    )
 }
 
-/// What stands behind the line of a fault of a text: its line and column, the line with a mark below the place, and a hint
-/// where there is one.
+/// What `explain` writes: each number with its title.
+pub fn of_all(alloc: Global) -> Result<String, AllocError> {
+    let mut text = String::new(alloc);
+    for number in NUMBERS {
+        let title = title_of(number);
+        let line = format!(in alloc; "{number}  {title}\n")?;
+        text.push_str(line.as_str())?;
+    }
+    Ok(text)
+}
+
+/// What stands behind the line of a fault of a text: its line and column, the line with a mark below the place, what stands
+/// there, and a hint.
 pub fn of_text(
     alloc: Global,
-    file: &str,
-    text: &[u8],
-    number: u16,
-    at: usize,
-) -> Result<Vec<u8>, AllocError> {
+    finding: &Finding<'_>,
+    wanted: &Wanted<'_>,
+) -> Result<String, AllocError> {
+    let Finding {
+        file,
+        text,
+        number,
+        at,
+    } = *finding;
     let Location { line, column } = locate(text, at);
-    let title = match reason_of(number) {
-        Some(reason) => reason.title,
-        None => "",
-    };
-    let head = format!(in alloc; "{file}:{line}:{column}: error {number}: {title}\n")?;
-    let mut report = head.as_bytes().to_vec(alloc)?;
-    push_line(&mut report, text, at)?;
-    push_hint(&mut report, text, number, at)?;
+    let title = title_of(number);
+    let mut report = format!(in alloc; "{file}:{line}:{column}: error {number}: {title}\n")?;
+    push_excerpt(alloc, &mut report, text, at)?;
+    let tokens = Tokens::new(alloc, text)?;
+    let found = at_hand(alloc, &tokens, number, at, wanted.words)?;
+    push_line(&mut report, "reason", found.as_str())?;
+    let advice = advice(alloc, &tokens, number, at, wanted)?;
+    push_line(&mut report, "hint", advice.as_str())?;
     Ok(report)
 }
 
-// The line of a place, with a mark below the place.
-fn push_line(report: &mut Vec<u8>, text: &[u8], at: usize) -> Result<(), AllocError> {
-    let (line, first) = line_at(text, at);
-    report.extend_from_slice(line)?;
-    report.push(b'\n')?;
-    for byte in between(text, first, at) {
-        match *byte {
-            b'\t' => report.push(b'\t')?,
-            0x80..=0xBF => {}
-            _ => report.push(b' ')?,
-        }
-    }
-    report.extend_from_slice(b"^\n")
+/// What stands behind the line of a refusal that isn't of a byte: of a line, an event or a run.
+pub fn of_line(
+    alloc: Global,
+    file: &str,
+    line: Option<u64>,
+    number: u16,
+) -> Result<String, AllocError> {
+    let Some(
+        Reason {
+            title,
+            meaning,
+            cure,
+            ..
+        },
+    ) = reason_of(number)
+    else {
+        return Ok(String::new(alloc));
+    };
+    let mut report = match line {
+        Some(line) => format!(in alloc; "{file}:{line}:1: error {number}: {title}\n")?,
+        None => format!(in alloc; "{file}: error {number}: {title}\n")?,
+    };
+    push_line(&mut report, "reason", meaning)?;
+    push_line(&mut report, "hint", cure)?;
+    Ok(report)
 }
 
-// The hint, where there is one.
-fn push_hint(report: &mut Vec<u8>, text: &[u8], number: u16, at: usize) -> Result<(), AllocError> {
-    let word = word_at(text, at);
-    if let Some(hint) = hint(text, number, at) {
-        return push_note(report, hint.as_bytes());
+/// What stands behind the line of a script that is refused.
+pub fn of_script(alloc: Global, file: &str, line: usize) -> Result<String, AllocError> {
+    let mut report = format!(in alloc;
+        "{file}:{line}:1: error: no line of a script, or too many choices\n"
+    )?;
+    push_line(&mut report, "reason", SCRIPT_LINES)?;
+    push_line(&mut report, "hint", SCRIPT_LIMITS)?;
+    Ok(report)
+}
+
+const SCRIPT_LINES: &str =
+    "a line is `run W`, `run W N`, `steal W K` or `all`, with plain numbers of at most 1,000,000, W and N from 1; or it is empty, or begins with `#`";
+
+const SCRIPT_LIMITS: &str =
+    "a script has at most 1,048,576 bytes and 16,000,000 choices (`docs/SCRIPTS.md`)";
+
+fn title_of(number: u16) -> &'static str {
+    match reason_of(number) {
+        Some(reason) => reason.title,
+        None => "",
     }
-    if is_name(word) && (number == 103 || number == 111) {
-        if let Some(reserved) = misspelt(word) {
-            report.extend_from_slice(b"hint: perhaps `")?;
-            report.extend_from_slice(reserved.as_bytes())?;
-            return report.extend_from_slice(b"`\n");
+}
+
+// A line of the report, where there is something to say.
+fn push_line(report: &mut String, what: &str, text: &str) -> Result<(), AllocError> {
+    if text.is_empty() {
+        return Ok(());
+    }
+    report.push_str(what)?;
+    report.push_str(": ")?;
+    report.push_str(text)?;
+    report.push('\n')
+}
+
+// What to write in place of what is refused.
+fn advice(
+    alloc: Global,
+    tokens: &Tokens<'_>,
+    number: u16,
+    at: usize,
+    wanted: &Wanted<'_>,
+) -> Result<String, AllocError> {
+    let token = tokens.number_at(at);
+    if let Some(hint) = hint(tokens, number, at) {
+        return String::from_str(alloc, hint);
+    }
+    if number == 103 {
+        if let Some(reserved) = misspelt_near(tokens, token) {
+            return format!(in alloc; "perhaps `{reserved}` is meant");
+        }
+        if let Some(line) = unended_line(tokens, token, wanted) {
+            return format!(in alloc; "a `;` may be missing at the end of line {line}");
+        }
+    }
+    if number == 111 {
+        if let Some(reserved) = misspelt_near(tokens, token) {
+            return format!(in alloc; "perhaps `{reserved}` is meant");
+        }
+        if let Some(name) = near_name(tokens, token) {
+            let name = String::from_utf8_lossy(alloc, name)?;
+            return format!(in alloc; "perhaps `{name}` is meant");
         }
     }
     match reason_of(number) {
-        Some(reason) => push_note(report, reason.cure.as_bytes()),
-        None => Ok(()),
+        Some(reason) => String::from_str(alloc, reason.cure),
+        None => Ok(String::new(alloc)),
     }
 }
 
-fn push_note(report: &mut Vec<u8>, note: &[u8]) -> Result<(), AllocError> {
-    report.extend_from_slice(b"hint: ")?;
-    report.extend_from_slice(note)?;
-    report.push(b'\n')?;
-    Ok(())
+// The line of the token ahead, where that isn't the line of this one and a semicolon could stand between.
+fn unended_line(tokens: &Tokens<'_>, token: usize, wanted: &Wanted<'_>) -> Option<usize> {
+    if !wanted.semicolon {
+        return None;
+    }
+    let ahead = locate(tokens.text, tokens.place(token.checked_sub(1)?));
+    let here = locate(tokens.text, tokens.place(token));
+    if ahead.line < here.line {
+        Some(ahead.line)
+    } else {
+        None
+    }
 }

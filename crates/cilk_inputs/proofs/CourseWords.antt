@@ -1,16 +1,15 @@
 -- What the events of a course read, write and put into views is words, where the plan's are: `course_words`.
-use Rattle.std.proofs.Common.{◌≡◌, ◌≤◌, ◌+◌, ℕ, suc, ℤ, pos, Bool, true, false, cond, List, [], ◌∷◌, ◌++◌, length, Option, Some, None, refl, sym, subst, arith, length-append}
+use Rattle.std.proofs.Common.{◌≡◌, ◌≤◌, ◌+◌, ℕ, suc, ℤ, Bool, true, false, cond, List, [], ◌∷◌, ◌++◌, length, Option, Some, None, refl, sym, subst, arith, length-append}
 use Rattle.cilk_types.specs.Word.{IsWord}
 use Rattle.cilk_types.specs.declared.invocation.Invocation.{Invocation}
 use Rattle.cilk_monoid.specs.declared.kind.MonoidKind.{MonoidKind}
-use Rattle.cilk_monoid.specs.declared.kind.MonoidKind.TheVariants.{Add, Least, Greatest, Append, Affine}
-use Rattle.cilk_monoid.specs.Kinds.{structure_of, size_of, IsMember}
-use Rattle.cilk_monoid.specs.Values.{ViewValue, Number, Elements, Map}
+use Rattle.cilk_monoid.specs.Kinds.{structure_of, size_of}
+use Rattle.cilk_monoid.specs.Values.{ViewValue}
 use Rattle.cilk_program.specs.declared.ask.Ask as language
 use Rattle.cilk_program.specs.declared.ask.Ask.TheVariants as asks
 use Rattle.cilk_program.specs.Syntax.{Source}
 use Rattle.cilk_types.specs.declared.limits.TheConstants.{MAX_TICKS}
-use Rattle.cilk_runs.specs.Runs.{Cell, same_cell, Instance, same_instance, Output, has_instance, Wish, Begin, Resume, Create, Update, Set, Value, Print, Ask, Read, Write, Invoke, Sync, End, Pass, Fail, Begins, Resumes, Creates, Updates, Sets, Values, Prints, Event, Reads, Writes, Syncs, Ends, Passes, Deed, Does, Invokes, Run, ask_of}
+use Rattle.cilk_runs.specs.Runs.{Cell, same_cell, Instance, same_instance, Output, has_instance, Begin, Resume, Create, Update, Set, Value, Print, Ask, Read, Write, Invoke, Sync, End, Pass, Fail, Begins, Resumes, Creates, Updates, Sets, Values, Prints, Event, Reads, Writes, Syncs, Ends, Passes, Deed, Does, Invokes, Run, ask_of}
 use Rattle.cilk_runs.specs.Runs as runs
 use Rattle.cilk_runs.specs.Machine.{started, put}
 use Rattle.cilk_runs.specs.Monoids.{on_view}
@@ -25,62 +24,8 @@ use Rattle.cilk_worlds.proofs.Kept.{answers_more}
 use Rattle.cilk_worlds.proofs.Views.{are_multiplied}
 use Rattle.cilk_determinacy.specs.Words.{AreWords, HasWords, InputsAreWords}
 use Rattle.cilk_determinacy.proofs.Worded.{zero_word, AskWords, CalleeWords, asks_words}
-use Rattle.cilk_determinacy.proofs.Wordy.{more_words}
+use Rattle.cilk_determinacy.proofs.Wordy.{more_words, number_word, update_size, single_size, unit_size}
 use Rattle.cilk_inputs.specs.Courses.{Course, stop, act, child, run_of, all_asked, IsMadeFor, IsStartedFor, IsCourse}
-
--- ---- sizes of views
-
-update_size : (k : MonoidKind) (v : ViewValue) (x : ℤ) → size_of ((structure_of k).combine v ((structure_of k).single x)) ≤ suc (size_of v)
-update_size Add (Number z) x = omega arith
-update_size Add (Elements zs) x = omega arith
-update_size Add (Map a b) x = omega arith
-update_size Least (Number z) x = omega arith
-update_size Least (Elements zs) x = omega arith
-update_size Least (Map a b) x = omega arith
-update_size Greatest (Number z) x = omega arith
-update_size Greatest (Elements zs) x = omega arith
-update_size Greatest (Map a b) x = omega arith
-update_size Append (Number z) x = omega arith
-update_size Append (Elements zs) x = let e = length-append zs (x ∷ []) in omega (arith, e)
-update_size Append (Map a b) x = omega arith
-update_size Affine (Number z) x = omega arith
-update_size Affine (Elements zs) x = omega arith
-update_size Affine (Map a b) x = omega arith
-
-single_size : (k : MonoidKind) (x : ℤ) → size_of ((structure_of k).single x) ≤ 1
-single_size Add x = omega arith
-single_size Least x = omega arith
-single_size Greatest x = omega arith
-single_size Append x = omega arith
-single_size Affine x = omega arith
-
-unit_size : (k : MonoidKind) → size_of ((structure_of k).unit) ≤ 0
-unit_size Add = omega arith
-unit_size Least = omega arith
-unit_size Greatest = omega arith
-unit_size Append = omega arith
-unit_size Affine = omega arith
-
-length_word : (n : ℕ) → n ≤ 1000000 → IsWord (pos n)
-length_word n h = record { sfits = omega (arith, h) }
-
--- the number of a view
-number_word : (k : MonoidKind) (v : ViewValue) → IsMember k v → size_of v ≤ 1000000 → IsWord ((structure_of k).number v)
-number_word Add (Number z) h s = h
-number_word Add (Elements zs) h s = absurd h
-number_word Add (Map a b) h s = absurd h
-number_word Least (Number z) h s = h
-number_word Least (Elements zs) h s = absurd h
-number_word Least (Map a b) h s = absurd h
-number_word Greatest (Number z) h s = h
-number_word Greatest (Elements zs) h s = absurd h
-number_word Greatest (Map a b) h s = absurd h
-number_word Append (Number z) h s = absurd h
-number_word Append (Elements zs) h s = length_word (length zs) s
-number_word Append (Map a b) h s = absurd h
-number_word Affine (Number z) h s = absurd h
-number_word Affine (Elements zs) h s = absurd h
-number_word Affine (Map a b) h s = h.1
 
 -- a view of the language, no longer than this
 record IsViewed (k : MonoidKind) (v : View) (n : ℕ) : Type 0 where

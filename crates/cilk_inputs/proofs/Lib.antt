@@ -11,6 +11,7 @@ pub mod NoFault
 pub mod OneCourse
 pub mod OneRun
 pub mod Owned
+pub mod Points
 pub mod RunsEnd
 pub mod StoryValues
 pub mod Worked

@@ -17,7 +17,7 @@ use Rattle.cilk_program.specs.declared.ask.Callee.{Callee}
 use Rattle.cilk_program.specs.Behaviour.{OpenAsk, asks_for, frame_asks}
 use Rattle.cilk_program.specs.Syntax.{Source}
 use Rattle.cilk_program.specs.SerialRun as serial
-use Rattle.cilk_program.specs.SerialRun.{Memory, Frame, cells_of, next_frame, begun, counted, with_store, stored, answer_to, event_of, full, crowded, refused, IsInner, Ending, Finished, Stopped, Serial, Made, Ended, Went, Broke, Refused}
+use Rattle.cilk_program.specs.SerialRun.{Memory, Frame, cells_of, next_frame, begun, counted, with_store, stored, answer_to, full, crowded, refused, IsInner, Ending, Finished, Stopped, Serial, Made, Ended, Went, Broke, Refused}
 use Rattle.cilk_program.specs.WellNamed.{is_well_named}
 use Rattle.cilk_meaning.specs.Numbering.{Counts, counts_of, counts_after, entered}
 use Rattle.cilk_meaning.specs.Ticks.{IsWithin}
@@ -42,7 +42,7 @@ use Rattle.cilk_worlds.proofs.Kept.{but_last_more, answers_more, ended_more}
 use Rattle.cilk_determinacy.specs.Nested.{named_event, named_from}
 use Rattle.cilk_determinacy.specs.Numbers.{cell_number, instance_number}
 use Rattle.cilk_determinacy.specs.Theorem.{SetWords}
-use Rattle.cilk_determinacy.proofs.Behaving.{At, run_holds}
+use Rattle.cilk_determinacy.proofs.Behaving.{At, run_holds, inner_asks, inner_answers, inner_goes}
 use Rattle.cilk_determinacy.proofs.Remembered.{act_follows, run_remembers}
 use Rattle.cilk_determinacy.proofs.Standing.{Standing, asked_there, standing_act, standing_child, standing_past}
 use Rattle.cilk_determinacy.proofs.Stores.{Same}
@@ -53,56 +53,23 @@ use Rattle.cilk_inputs.proofs.OneRun.{invoked}
 
 -- ---- asks by names
 
-inner_asks : (p : Source) (w : World) (k : ℕ) (a : language.Ask) (v : ℤ) → IsInner a → ask_of (named_event p w a v) ≡ named_ask p w k a
-inner_asks p w k asks.Begin v i = refl
-inner_asks p w k (asks.Read x) v i = refl
-inner_asks p w k (asks.Write x y) v i = refl
-inner_asks p w k (asks.Create r) v i = refl
-inner_asks p w k (asks.Update r y) v i = refl
-inner_asks p w k (asks.Set r y) v i = refl
-inner_asks p w k (asks.Value r) v i = refl
-inner_asks p w k (asks.Print y) v i = refl
-inner_asks p w k (asks.Invoke how callee) v i = absurd i
-inner_asks p w k asks.Resume v i = refl
-inner_asks p w k asks.Sync v i = refl
-inner_asks p w k (asks.Result y) v i = refl
-inner_asks p w k (asks.End y) v i = absurd i
-inner_asks p w k (asks.Fault f) v i = absurd i
+inner_ends : (p : Source) (w : World) (a : language.Ask) (v : ℤ) → IsInner a → is_end (Does (named_event p w a v)) ≡ false
+inner_ends p w asks.Begin v i = refl
+inner_ends p w (asks.Read x) v i = refl
+inner_ends p w (asks.Write x y) v i = refl
+inner_ends p w (asks.Create r) v i = refl
+inner_ends p w (asks.Update r y) v i = refl
+inner_ends p w (asks.Set r y) v i = refl
+inner_ends p w (asks.Value r) v i = refl
+inner_ends p w (asks.Print y) v i = refl
+inner_ends p w (asks.Invoke how callee) v i = absurd i
+inner_ends p w asks.Resume v i = refl
+inner_ends p w asks.Sync v i = refl
+inner_ends p w (asks.Result y) v i = refl
+inner_ends p w (asks.End y) v i = absurd i
+inner_ends p w (asks.Fault f) v i = absurd i
 
-inner_answers : (p : Source) (w : World) (fr : Frame) (m : Memory) (a : language.Ask)
-    → answer_of (Does (named_event p w a (answer_to fr m a))) ≡ answer_to fr m a
-inner_answers p w fr m asks.Begin = refl
-inner_answers p w fr m (asks.Read x) = refl
-inner_answers p w fr m (asks.Write x y) = refl
-inner_answers p w fr m (asks.Create r) = refl
-inner_answers p w fr m (asks.Update r y) = refl
-inner_answers p w fr m (asks.Set r y) = refl
-inner_answers p w fr m (asks.Value r) = refl
-inner_answers p w fr m (asks.Print y) = refl
-inner_answers p w fr m (asks.Invoke how callee) = refl
-inner_answers p w fr m asks.Resume = refl
-inner_answers p w fr m asks.Sync = refl
-inner_answers p w fr m (asks.Result y) = refl
-inner_answers p w fr m (asks.End y) = refl
-inner_answers p w fr m (asks.Fault f) = refl
-
-inner_goes : (p : Source) (w : World) (a : language.Ask) (v : ℤ) → IsInner a → (is_end (Does (named_event p w a v)) ≡ false) × (is_out a ≡ false)
-inner_goes p w asks.Begin v i = (refl, refl)
-inner_goes p w (asks.Read x) v i = (refl, refl)
-inner_goes p w (asks.Write x y) v i = (refl, refl)
-inner_goes p w (asks.Create r) v i = (refl, refl)
-inner_goes p w (asks.Update r y) v i = (refl, refl)
-inner_goes p w (asks.Set r y) v i = (refl, refl)
-inner_goes p w (asks.Value r) v i = (refl, refl)
-inner_goes p w (asks.Print y) v i = (refl, refl)
-inner_goes p w (asks.Invoke how callee) v i = absurd i
-inner_goes p w asks.Resume v i = (refl, refl)
-inner_goes p w asks.Sync v i = (refl, refl)
-inner_goes p w (asks.Result y) v i = (refl, refl)
-inner_goes p w (asks.End y) v i = absurd i
-inner_goes p w (asks.Fault f) v i = absurd i
-
-failed : (e : Happens) (f : Fault) (a : Ask World) → a ≡ runs.Fail f → a ≡ ask_of e → ⊥
+pub failed : (e : Happens) (f : Fault) (a : Ask World) → a ≡ runs.Fail f → a ≡ ask_of e → ⊥
 failed (Reads c x) f a g q = cc
 failed (Writes c x) f a g q = cc
 failed Syncs f a g q = cc
@@ -242,7 +209,7 @@ module _ (p : Source) (inputs : List ℤ) where
       record {
         callee = at.callee;
         answers = answers_more past (Does e) ∙ ap₂ (λ hs v. hs ++ v ∷ []) at.answers (inner_answers p w fr m a);
-        going = ended_more past (Does e) at.going ∙ (inner_goes p w a (answer_to fr m a) inner).0;
+        going = ended_more past (Does e) at.going ∙ inner_ends p w a (answer_to fr m a) inner;
         ordinal = ap suc (started_does past e) ∙ at.ordinal;
       }
 
@@ -449,14 +416,14 @@ module _ (p : Source) (inputs : List ℤ) where
         → EndsAs end (named_from p w (suc j) r) u
     goes_along (Made {fr = fr} {start = start} {history = history} {m = m} {r = r} {es = es} {end = end} a left q inner ok rest) w past j at standing words memory views same stop h = absurd (stopped_early w fr past history (suc j) at h.behaves)
     goes_along (Made {fr = fr} {start = start} {history = history} {m = m} {r = r} {es = es} {end = end} a left q inner ok rest) w past j at standing words memory views same (child k x d u) h =
-        let asked = asking w fr past history (suc j) a start left at q (inner_goes p w a (answer_to fr m a) inner).1 h.full in
+        let asked = asking w fr past history (suc j) a start left at q (inner_goes a inner) h.full in
         let ask = same_some (Ask World) (next p inputs w past) _ _ asked.asks h.behaves.0 in
         absurd (invoked (named_event p w a (answer_to fr m a)) k x (inner_asks p w (suc j) a (answer_to fr m a) inner ∙ ask))
     goes_along (Made {fr = fr} {start = start} {history = history} {m = m} {r = r} {es = es} {end = end} a left q inner ok rest) w past j at standing words memory views same (act e u) h =
         let x = named_event p w a (answer_to fr m a) in
         let there = asked_there p inputs well whole w fr history start left a standing.stands q in
         let f = act_follows p whole w fr standing.stands m memory views same a there inner words.0 in
-        let asked = asking w fr past history (suc j) a start left at q (inner_goes p w a (answer_to fr m a) inner).1 h.full in
+        let asked = asking w fr past history (suc j) a start left at q (inner_goes a inner) h.full in
         let ask : ask_of e ≡ ask_of x = same_some (Ask World) (next p inputs w past) _ _ h.behaves.0 asked.asks ∙ sym (inner_asks p w (suc j) a (answer_to fr m a) inner) in
         let one : e ≡ x = same_event monoid_of memory views e x ask h.reads.0 f.right h.values.0 f.view_right in
         let on = subst (λ (z : Happens). Goes w (past ++ Does z ∷ []) u (λ c. put z c (memory c)) (λ i. on_view (monoid_of i) i z (views i)) start (with_store m (stored p fr m a))) one

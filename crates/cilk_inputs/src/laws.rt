@@ -9,6 +9,7 @@ ghost use Rattle.cilk_inputs.specs.Ends.{InputsRunAlong, NamedRunsAreSerial, Run
 ghost use Rattle.cilk_inputs.specs.Frames.{AskedCoursesAreSerialRuns, ProgramsHaveOneCourse, SerialRunsAreTheirCourses};
 ghost use Rattle.cilk_inputs.specs.Lists.{AskedStoriesAreOfAskedCourses, CoursesAreAlongPlans, InputsThatDepartNowhere};
 ghost use Rattle.cilk_inputs.specs.Owned.{EventsAreInTheirFrames};
+ghost use Rattle.cilk_inputs.specs.Points.{StoriesAreAskedByPositions};
 ghost use Rattle.cilk_inputs.specs.Stories.{OwnStory, StoriesAlongHaveValues};
 ghost use Rattle.cilk_inputs.specs.Worked.{WorkedStories};
 ghost use Rattle.cilk_monoid.specs.Laws.{MonoidStructure};
@@ -98,6 +99,12 @@ pub fn inputs_run_along()
 /// At the language: in the list of a serial run's events each event is in the frame that makes it by names, by that frame's number.
 pub fn events_are_in_their_frames()
     ensures { EventsAreInTheirFrames }
+{}
+
+/// At the language, on all inputs, by positions: what a frame has done so far along the story tells whether it asks for the next event, and
+/// with which values; the frame's next event, a child's first, and the caller's next behind a child's `end` stand where the plan has them.
+pub fn stories_are_asked_by_positions()
+    ensures { StoriesAreAskedByPositions }
 {}
 
 /// A worked program along the plan of its run on one input: the story on that and on two others, which depart.

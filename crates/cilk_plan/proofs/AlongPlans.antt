@@ -302,7 +302,8 @@ module _ (s : Story) (o : IsOrderly s) (begins : IsAsked s 1) (nowhere : Departs
 
   asked_here : (p : ℕ) → 1 ≤ p → p ≤ length s.events → AllBelow p → (t : Bool) → slice_index_or s.asked (p - 1) false ≡ t → IsAsked s p
   asked_here p low within below true is = is
-  asked_here p low within below false is = absurd (nowhere p (low, within) (record {
+  asked_here p low within below false is = absurd (nowhere p (record {
+    place = (low, within);
     reached = reached p within below;
     differs = λ h. (let z : false ≡ true = sym is ∙ h in cc z);
   }))

@@ -1,7 +1,9 @@
 pub mod AlongPlans
+pub mod Continuing
 pub mod Framed
 pub mod Passing
 pub mod Passed
 pub mod Resuming
+pub mod Starts
 pub mod Stories
 pub mod Worked

@@ -18,7 +18,7 @@ StoriesAlongAreOrderly = (plan s : Story) → IsOrderly plan → IsAlong plan s 
 
 -- the run departs from the story at no position
 abbrev pub DepartsNowhere : Story → Type 0
-DepartsNowhere s = (p : ℕ) → IsPosition s.events p → Departs s p → ⊥
+DepartsNowhere s = (p : ℕ) → Departs s p → ⊥
 
 -- Where a run departs nowhere, it follows its story at each position.
 abbrev pub FollowsWhereItDepartsNowhere : Type 0

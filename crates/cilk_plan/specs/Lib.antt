@@ -1,8 +1,10 @@
 pub mod Along
+pub mod Blocks
 pub mod Earliest
 pub mod Frames
 pub mod Kinds
 pub mod Passes
 pub mod Planned
 pub mod Resumptions
+pub mod Strands
 pub mod Worked

@@ -113,7 +113,7 @@ pub(crate) fn earliest(alloc: Global, trace: &Trace) -> Result<Vec<Option<Pos>>,
     ensures { IfOk result (λ v. v.items ≡ all_earliest trace.now) }
 {
     let mut pass = Pass::new(alloc);
-    let mut column = Vec::new(alloc);
+    let mut column = Vec::with_capacity(alloc, trace.len())?;
     for event in trace.as_slice() {
         let at = column.len() as Pos + 1;
         let first = pass.meet(Mark::of(event), at)?;

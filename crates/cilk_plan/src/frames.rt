@@ -12,7 +12,7 @@ pub(crate) fn frames(alloc: Global, trace: &Trace) -> Result<Vec<FrameNo>, Alloc
     requires { BeginsAFrame trace.now }
     ensures { IfOk result (λ v. AreFrames trace.now v.items) }
 {
-    let mut frames = Vec::new(alloc);
+    let mut frames = Vec::with_capacity(alloc, trace.len())?;
     let mut frame = 0;
     for event in trace.as_slice() {
         frame = entered(frame, event);

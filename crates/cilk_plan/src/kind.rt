@@ -60,7 +60,7 @@ pub fn without_value(event: &Event) -> Kind
 pub(crate) fn kinds(alloc: Global, trace: &Trace) -> Result<Vec<Kind>, AllocError>
     ensures { IfOk result (λ v. v.items ≡ map kind_of trace.now) }
 {
-    let mut kinds = Vec::new(alloc);
+    let mut kinds = Vec::with_capacity(alloc, trace.len())?;
     for event in trace.as_slice() {
         kinds.push(without_value(event))?;
     }

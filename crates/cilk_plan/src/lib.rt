@@ -6,8 +6,10 @@
 #![tactic(auto)]
 
 pub mod along;
+pub mod blocks;
 pub mod earliest;
 pub mod frames;
 pub mod kind;
 pub mod laws;
 pub mod plan;
+pub mod strands;

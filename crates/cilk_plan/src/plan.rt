@@ -129,7 +129,7 @@ impl Plan {
     {
         self.laws();
         let count = self.count();
-        let mut column = Vec::new(alloc);
+        let mut column = Vec::with_capacity(alloc, count + 1)?;
         column.resize(count + 1, None)?;
         for behind in 0..count {
             let at = behind as Pos + 1;

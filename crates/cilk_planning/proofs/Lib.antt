@@ -1,3 +1,4 @@
 pub mod Having
 pub mod Naming
+pub mod Noting
 pub mod Telling

@@ -35,7 +35,7 @@ fn opening(alloc: Global, globals: &[i64], events: &[Event]) -> Result<Vec<i64>,
     } else {
         named
     };
-    let mut values = Vec::new(alloc);
+    let mut values = Vec::with_capacity(alloc, count)?;
     values.extend_from_slice(globals)?;
     values.resize(count, 0)?;
     Ok(values)

@@ -1,1 +1,4 @@
 pub mod Following
+pub mod Keeping
+pub mod OneEnd
+pub mod Whole

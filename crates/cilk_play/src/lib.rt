@@ -9,6 +9,7 @@
 #![tactic(auto)]
 
 mod fault;
+pub mod laws;
 mod player;
 
 pub use fault::PlayFault;

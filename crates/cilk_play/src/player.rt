@@ -1,8 +1,8 @@
 //! A script's choices are made, one after another.
 
-ghost use Rattle.std.specs.Prelude.{◌≡◌, ℕ, ◌∷◌, [], IfOk, IfErr, OnOk};
-ghost use Rattle.cilk_board.specs.declared.board.Board.{Board};
-ghost use Rattle.cilk_play.specs.Playing.{Choose, Done, Ends, ComesToFault, Follows, IsFault, IsFaultOf, IsGoing, Plays, Rounds, Turn, task_of, tasks_of, turns};
+ghost use Rattle.std.specs.Prelude.{◌≡◌, ◌<◌, ℕ, ◌∷◌, [], IfOk, IfErr, OnOk};
+ghost use Rattle.cilk_play.specs.Playing.{Choose, ComesToFault, Ends, FailsAsSettled, IsFault, IsFaultOf, IsGoing, IsLeft, Leads, LeavesAsSettled};
+ghost use Rattle.cilk_play.specs.Playing.{Rounds, Turn, task_of, tasks_of, turns};
 ghost use Rattle.cilk_program.specs.Sources.{source};
 
 use crate::fault::PlayFault;
@@ -20,7 +20,9 @@ use std::alloc::Global;
 pub const MAX_ROUNDS: u32 = 4_000_000;
 
 /// Makes the choices of a script's steps, one after another, by a machine with so many workers: what the run leaves, or none
-/// where it hasn't ended. A stop ends the script. Beside what the machine takes, the time is linear in the choices.
+/// where it hasn't ended. A stop ends the script. So it answers the one end that the script has by the rules of the free machine, or a want
+/// of memory. Of a program that one serial run settles, what is left is what that run leaves, and no strand stops by a fault. Beside what the
+/// machine takes, the time is linear in the choices.
 pub fn play(
     alloc: Global,
     program: &Program,
@@ -28,8 +30,10 @@ pub fn play(
     workers: u32,
     steps: &[Step],
 ) -> Result<Option<Outcome>, PlayFault>
-    ensures left { IfOk result (λ o. (b : Board) × (o ≡ b.outcome) × Ends (source program.now) input.now workers steps.now (Done b)) }
-    ensures fault { IfErr result (λ f. IsFault (Ends (source program.now) input.now workers steps.now) f) }
+    ensures left { IfOk result (λ o. 0 < workers → IsLeft (source program.now) input.now workers steps.now o) }
+    ensures fault { IfErr result (λ f. 0 < workers → IsFault (Ends (source program.now) input.now workers steps.now) f) }
+    ensures settled { IfOk result (λ left. 0 < workers → LeavesAsSettled (source program.now) input.now left) }
+    ensures no_stop { IfErr result (λ f. 0 < workers → FailsAsSettled (source program.now) input.now f) }
 {
     let code = lower(alloc, program)?;
     let mut machine = Machine::new(alloc, &code, input, workers)?;
@@ -45,8 +49,8 @@ fn make_all(
     steps: &[Step],
 ) -> Result<(), PlayFault>
     requires { IsGoing machine.old }
-    ensures made { OnOk result (Plays workers (tasks_of steps.now) machine.old.board (Done machine.new.board)) }
-    ensures fault { IfErr result (λ f. IsFault (Plays workers (tasks_of steps.now) machine.old.board) f) }
+    ensures made { OnOk result (Leads workers (tasks_of steps.now) machine.old [] machine.new) }
+    ensures fault { IfErr result (λ f. ComesToFault workers (tasks_of steps.now) machine.old f) }
 {
     let mut choices = Choices::new(steps);
     'choices: while let Some(next) = choices.next() {
@@ -59,8 +63,8 @@ fn make_all(
 fn make(alloc: Global, machine: &mut Machine<'_>, workers: u32, next: Next) -> Result<(), PlayFault>
     requires { IsGoing machine.old }
     ensures going { OnOk result (IsGoing machine.new) }
-    ensures made { OnOk result (Follows workers (task_of next ∷ []) machine.old.board [] machine.new.board) }
-    ensures fault { IfErr result (λ f. ComesToFault workers (task_of next ∷ []) machine.old.board f) }
+    ensures made { OnOk result (Leads workers (task_of next ∷ []) machine.old [] machine.new) }
+    ensures fault { IfErr result (λ f. ComesToFault workers (task_of next ∷ []) machine.old f) }
 {
     match next {
         Next::Run(worker) => choose(alloc, machine, Choice::Run(worker)),
@@ -74,8 +78,8 @@ fn make(alloc: Global, machine: &mut Machine<'_>, workers: u32, next: Next) -> R
 fn rounds(alloc: Global, machine: &mut Machine<'_>, workers: u32) -> Result<(), PlayFault>
     requires { IsGoing machine.old }
     ensures going { OnOk result (IsGoing machine.new) }
-    ensures made { OnOk result (Follows workers (Rounds MAX_ROUNDS ∷ []) machine.old.board [] machine.new.board) }
-    ensures fault { IfErr result (λ f. ComesToFault workers (Rounds MAX_ROUNDS ∷ []) machine.old.board f) }
+    ensures made { OnOk result (Leads workers (Rounds MAX_ROUNDS ∷ []) machine.old [] machine.new) }
+    ensures fault { IfErr result (λ f. ComesToFault workers (Rounds MAX_ROUNDS ∷ []) machine.old f) }
 {
     'rounds: for _made in 0..MAX_ROUNDS {
         if machine.ended() {
@@ -90,8 +94,8 @@ fn rounds(alloc: Global, machine: &mut Machine<'_>, workers: u32) -> Result<(), 
 fn round(alloc: Global, machine: &mut Machine<'_>, workers: u32) -> Result<(), PlayFault>
     requires { IsGoing machine.old }
     ensures going { OnOk result (IsGoing machine.new) }
-    ensures made { OnOk result (Follows workers (turns 1 workers) machine.old.board [] machine.new.board) }
-    ensures fault { IfErr result (λ f. ComesToFault workers (turns 1 workers) machine.old.board f) }
+    ensures made { OnOk result (Leads workers (turns 1 workers) machine.old [] machine.new) }
+    ensures fault { IfErr result (λ f. ComesToFault workers (turns 1 workers) machine.old f) }
 {
     'turns: for number in 0..workers {
         turn(alloc, machine, number + 1)?;
@@ -103,8 +107,8 @@ fn round(alloc: Global, machine: &mut Machine<'_>, workers: u32) -> Result<(), P
 fn turn(alloc: Global, machine: &mut Machine<'_>, worker: u32) -> Result<(), PlayFault>
     requires { IsGoing machine.old }
     ensures going { OnOk result (IsGoing machine.new) }
-    ensures made { OnOk result ((workers : ℕ) → Follows workers (Turn worker ∷ []) machine.old.board [] machine.new.board) }
-    ensures fault { IfErr result (λ f. (workers : ℕ) → ComesToFault workers (Turn worker ∷ []) machine.old.board f) }
+    ensures made { OnOk result ((workers : ℕ) → Leads workers (Turn worker ∷ []) machine.old [] machine.new) }
+    ensures fault { IfErr result (λ f. (workers : ℕ) → ComesToFault workers (Turn worker ∷ []) machine.old f) }
 {
     let choice = if machine.holds(worker) {
         Choice::Run(worker)
@@ -118,8 +122,8 @@ fn turn(alloc: Global, machine: &mut Machine<'_>, worker: u32) -> Result<(), Pla
 fn choose(alloc: Global, machine: &mut Machine<'_>, choice: Choice) -> Result<(), PlayFault>
     requires { IsGoing machine.old }
     ensures going { OnOk result (IsGoing machine.new) }
-    ensures made { OnOk result ((workers : ℕ) → Follows workers (Choose choice ∷ []) machine.old.board [] machine.new.board) }
-    ensures fault { IfErr result (λ f. (workers : ℕ) → ComesToFault workers (Choose choice ∷ []) machine.old.board f) }
+    ensures made { OnOk result ((workers : ℕ) → Leads workers (Choose choice ∷ []) machine.old [] machine.new) }
+    ensures fault { IfErr result (λ f. (workers : ℕ) → ComesToFault workers (Choose choice ∷ []) machine.old f) }
 {
     match machine.choose(alloc, choice) {
         Ok(_told) => Ok(()),

@@ -2,8 +2,7 @@
 --
 -- - `settles`: the board is sound after it;
 -- - `ticks`: no ticks are taken or counted.
-use Rattle.std.proofs.Common.{◌≡◌, ◌+◌, ◌<◌, ◌≤◌, ℕ, ℤ, List, length, None, Result, Ok, Err, OnOk, refl, sym, ap, subst, arith}
-use Rattle.cilk_types.specs.declared.limits.TheConstants.{MAX_EVENTS}
+use Rattle.std.proofs.Common.{◌≡◌, ◌+◌, ◌<◌, ℕ, List, length, None, Result, Ok, Err, OnOk, refl, sym, subst, arith}
 use Rattle.cilk_program.specs.declared.ask.Ask.{Ask}
 use Rattle.cilk_program.specs.declared.ask.Ask.TheVariants as asks
 use Rattle.cilk_frames.specs.Following.{Fits, HasAnswer, owed_for}

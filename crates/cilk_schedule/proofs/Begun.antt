@@ -2,9 +2,9 @@
 --
 -- - `begun`: one that another starts;
 -- - `opened`: the first.
-use Rattle.std.proofs.Common.{◌≡◌, ◌+◌, ◌<◌, ◌≤◌, ◌^◌, ℕ, zero, suc, IsTrue, ℤ, List, [], ◌∷◌, ◌++◌, length, slice_get, Option, Some, None, refl, sym, ap, ◌∙◌, subst, arith}
+use Rattle.std.proofs.Common.{◌≡◌, ◌+◌, ◌<◌, ◌≤◌, ℕ, suc, ℤ, List, [], ◌∷◌, ◌++◌, length, slice_get, Some, None, refl, sym, ap, ◌∙◌, subst, arith}
 use Rattle.cilk_types.specs.declared.invocation.Invocation.{Invocation}
-use Rattle.cilk_types.specs.declared.limits.TheConstants.{MAX_CELLS, MAX_EVENTS, MAX_FRAMES, MAX_TICKS}
+use Rattle.cilk_types.specs.declared.limits.TheConstants.{MAX_CELLS, MAX_EVENTS, MAX_FRAMES}
 use Rattle.cilk_program.specs.declared.ask.Ask.TheVariants as asks
 use Rattle.cilk_program.specs.declared.ask.Callee.{Callee}
 use Rattle.cilk_program.specs.declared.ask.Callee.TheVariants as callees
@@ -20,7 +20,7 @@ use Rattle.cilk_activations.specs.Sight.{HasScope}
 use Rattle.cilk_activations.specs.declared.activation.Activation.{Activation}
 use Rattle.cilk_activations.proofs.Links.{sees_more as scope_more}
 use Rattle.cilk_frames.specs.declared.cursor.Answer.TheVariants.{Done}
-use Rattle.cilk_serial.specs.Scoped.{IsThere, MayBegin, Sees}
+use Rattle.cilk_serial.specs.Scoped.{MayBegin, Sees}
 use Rattle.cilk_serial.proofs.Sights.{child_sees}
 use Rattle.cilk_board.specs.Invoking.{IsChild, creator_of}
 use Rattle.cilk_board.specs.Seats.{changed, seated, started_at}
@@ -30,7 +30,7 @@ use Rattle.cilk_board.specs.declared.seat.Status.{Status}
 use Rattle.cilk_board.proofs.Changing.{changed_length}
 use Rattle.cilk_board.proofs.Placed.{get_some}
 use Rattle.cilk_schedule.specs.Sound.{Comes, Counts, FitsDue, IsCodeOf, Lives, Rests, Sound, frame_of}
-use Rattle.cilk_schedule.proofs.Sounds.{changed_sound, push_get, push_last, push_length, pushed, lives_changed}
+use Rattle.cilk_schedule.proofs.Sounds.{changed_sound, push_get, push_length, pushed, lives_changed}
 
 some_is : {A : Type 0} (x y : A) → Some x ≡ Some y → x ≡ y
 some_is x y e = cc

@@ -3,10 +3,10 @@
 -- - `ready`: a frame that rests can go on;
 -- - `came`: then it has come to an ask, and what that names is there;
 -- - `cell_there`, `reducer_there`, `result_there`: what an ask names.
-use Rattle.std.proofs.Common.{◌≡◌, ◌+◌, ◌-◌, ◌<◌, ◌≤◌, ◌^◌, ℕ, zero, suc, IsTrue, ℤ, List, [], ◌∷◌, ◌++◌, length, slice_get, Option, Some, None, refl, sym, ap, ◌∙◌, subst, arith}
+use Rattle.std.proofs.Common.{◌≡◌, ◌+◌, ◌-◌, ◌<◌, ◌≤◌, ◌^◌, ℕ, ℤ, List, [], ◌∷◌, ◌++◌, length, slice_get, Some, None, refl, sym, ap, ◌∙◌, subst, arith}
 use Rattle.cilk_types.specs.declared.event.Instance.{Instance}
-use Rattle.cilk_types.specs.declared.limits.TheConstants.{MAX_CELLS, MAX_EVENTS, MAX_FRAMES, MAX_TICKS}
-use Rattle.cilk_program.specs.Behaviour.{OpenAsk, asks_for, frame_asks}
+use Rattle.cilk_types.specs.declared.limits.TheConstants.{MAX_TICKS}
+use Rattle.cilk_program.specs.Behaviour.{OpenAsk, asks_for}
 use Rattle.cilk_program.specs.declared.ask.Ask.{Ask}
 use Rattle.cilk_program.specs.declared.ask.Ask.TheVariants as asks
 use Rattle.cilk_program.specs.Inside.{AskIsThere}

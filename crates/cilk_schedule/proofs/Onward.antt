@@ -4,8 +4,8 @@
 -- - `is_turn`: no fault stands in place of its event;
 -- - `few_uncounted`: its ticks are few;
 -- - `runs_on`, `runs_quiet`: its event is written down; a change that is quiet.
-use Rattle.std.proofs.Common.{◌≡◌, ◌+◌, ◌-◌, ◌<◌, ◌≤◌, ◌^◌, ℕ, ℤ, List, [], ◌∷◌, ◌++◌, length, slice_get, Option, Some, None, refl, sym, ap, ◌∙◌, subst, arith}
-use Rattle.cilk_types.specs.declared.limits.TheConstants.{MAX_CELLS, MAX_EVENTS, MAX_FRAMES, MAX_TICKS}
+use Rattle.std.proofs.Common.{◌≡◌, ◌+◌, ◌<◌, ◌≤◌, ◌^◌, ℕ, ℤ, List, [], ◌∷◌, ◌++◌, length, slice_get, Some, None, refl, sym, ap, subst, arith}
+use Rattle.cilk_types.specs.declared.limits.TheConstants.{MAX_TICKS}
 use Rattle.cilk_program.specs.declared.ask.Ask.{Ask}
 use Rattle.cilk_program.specs.declared.ask.Ask.TheVariants as asks
 use Rattle.cilk_lower.specs.Code.{CodeView}
@@ -17,7 +17,7 @@ use Rattle.cilk_board.specs.declared.board.Board.{Board}
 use Rattle.cilk_board.specs.declared.seat.JournalEntry.{JournalEntry}
 use Rattle.cilk_board.specs.declared.seat.Seat.{Seat}
 use Rattle.cilk_board.proofs.Changing.{changed_length}
-use Rattle.cilk_schedule.specs.Sound.{IsAsked, IsMade, IsQuiet, IsTurn, Runs, SameTicks, Sound}
+use Rattle.cilk_schedule.specs.Sound.{IsAsked, IsMade, IsQuiet, IsTurn, Runs, Sound}
 use Rattle.cilk_schedule.proofs.Coming.{came, ready}
 use Rattle.cilk_schedule.proofs.Sounds.{IsStill, push_length, still_keeps}
 use Rattle.cilk_schedule.proofs.Workers.{inside}

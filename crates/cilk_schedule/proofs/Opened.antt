@@ -2,18 +2,15 @@
 --
 -- - `few_cells`: global cells and the first frame's are within their limit;
 -- - `opened`: with the first frame alone.
-use Rattle.std.proofs.Common.{◌≡◌, ◌+◌, ◌<◌, ◌≤◌, ◌^◌, ℕ, zero, suc, IsTrue, ℤ, List, [], ◌∷◌, length, slice_get, Option, Some, None, refl, sym, ap, ◌∙◌, subst, arith}
+use Rattle.std.proofs.Common.{◌≡◌, ◌+◌, ◌≤◌, ℕ, zero, suc, IsTrue, ℤ, List, [], ◌∷◌, length, slice_get, Some, None, sym, ap, ◌∙◌, subst, arith}
 use Rattle.cilk_types.specs.declared.invocation.Invocation.{Invocation}
-use Rattle.cilk_types.specs.declared.limits.TheConstants.{MAX_CELLS, MAX_EVENTS, MAX_FRAMES, MAX_TICKS}
-use Rattle.cilk_types.specs.declared.event.Instance.{Instance}
+use Rattle.cilk_types.specs.declared.limits.TheConstants.{MAX_CELLS}
 use Rattle.cilk_program.specs.declared.ask.Ask.TheVariants as asks
 use Rattle.cilk_program.specs.declared.ask.Callee.TheVariants as callees
-use Rattle.cilk_program.specs.Scopes.{Scope}
 use Rattle.cilk_program.specs.SerialRun.{cells_of, home_of}
 use Rattle.cilk_program.specs.Syntax.{Source}
 use Rattle.cilk_program.specs.WellNamed.{is_well_named}
 use Rattle.cilk_meaning.proofs.Naming.{well_named_parts}
-use Rattle.cilk_program.specs.SerialRun.{root_frame}
 use Rattle.cilk_lower.specs.Code.{CodeView}
 use Rattle.cilk_lower.specs.Layout.{function_frame}
 use Rattle.cilk_frames.specs.Cursor.{CursorView}

@@ -2,7 +2,7 @@
 --
 -- - `moved`, `marked`, `robs`: where it is, its block has passed, the continuation beside it was stolen;
 -- - `joins`: what lies at its block.
-use Rattle.std.proofs.Common.{◌≡◌, ◌<◌, ◌≤◌, ℕ, List, length, Option, slice_index_or, slice_set, refl, sym, ◌∙◌, subst}
+use Rattle.std.proofs.Common.{◌≡◌, ◌<◌, ℕ, List, length, slice_index_or, slice_set, refl, sym, ◌∙◌, subst}
 use Rattle.cilk_activations.specs.declared.activation.Activation.{Activation}
 use Rattle.cilk_board.specs.Seats.{changed, moved_to, passed, robbed}
 use Rattle.cilk_board.specs.declared.seat.Seat.{Seat}
@@ -10,7 +10,7 @@ use Rattle.cilk_board.specs.declared.seat.Status.{Status}
 use Rattle.cilk_board.proofs.Changing.{changed_at, changed_known}
 use Rattle.cilk_board.proofs.Placed.{get_there}
 use Rattle.cilk_schedule.specs.Sound.{IsQuiet}
-use Rattle.cilk_schedule.proofs.Sounds.{IsStill, quiet}
+use Rattle.cilk_schedule.proofs.Sounds.{quiet}
 
 pub moved : (t : Status) (frames frames' : List (Activation Seat)) (k : ℕ) → k < length frames → frames' ≡ changed (moved_to t) frames k → IsQuiet frames frames'
 moved t frames frames' k there is = subst (λ l. IsQuiet frames l) (sym is) (quiet (moved_to t) (record {

@@ -7,7 +7,7 @@
 -- - `pushed`: one frame more.
 use Rattle.std.proofs.Common.{◌≡◌, ◌+◌, ◌<◌, ◌≤◌, ℕ, zero, suc, nat_eq, eqb-true, Bool, true, false, ℤ, List, [], ◌∷◌, ◌++◌, length, slice_get, Option, Some, None, refl, sym, ap, ◌∙◌, subst, arith, ◌⊎◌, inl, inr}
 use Rattle.std.proofs.lemmas.Bool.{eqb-false}
-use Rattle.cilk_types.specs.declared.limits.TheConstants.{MAX_CELLS, MAX_EVENTS, MAX_FRAMES, MAX_TICKS}
+use Rattle.cilk_types.specs.declared.limits.TheConstants.{MAX_CELLS, MAX_EVENTS, MAX_FRAMES}
 use Rattle.cilk_program.specs.declared.ask.Ask.{Ask}
 use Rattle.cilk_program.specs.declared.ask.Ask.TheVariants as asks
 use Rattle.cilk_program.specs.declared.ask.Callee.{Callee}
@@ -24,10 +24,9 @@ use Rattle.cilk_activations.proofs.Links.{sees_more as scope_more}
 use Rattle.cilk_serial.specs.Scoped.{Any, Below, IsThere, MayBegin, ResultFits, Sees}
 use Rattle.cilk_board.specs.Seats.{changed}
 use Rattle.cilk_board.specs.declared.seat.Due.{Due}
-use Rattle.cilk_board.specs.declared.seat.Due.TheVariants as due
 use Rattle.cilk_board.specs.declared.seat.Seat.{Seat}
 use Rattle.cilk_board.proofs.Changing.{changed_here, changed_length, changed_off}
-use Rattle.cilk_board.proofs.Kept.{changed_get, scope_changed}
+use Rattle.cilk_board.proofs.Kept.{scope_changed}
 use Rattle.cilk_board.proofs.Placed.{get_some}
 use Rattle.cilk_schedule.specs.Sound.{Comes, Counts, FitsDue, IsQuiet, Keeps, Lives, Rests, SameTicks, Sound, frame_of}
 

@@ -2,7 +2,8 @@
 --
 -- - `keeps_ticks`: it takes and counts no ticks;
 -- - `made`, `touched_still`, `touched_views`: it is made;
--- - `is_step`: from what the functions change, by numbers, to the law of the event.
+-- - `is_step`: from what the functions change, by numbers, to the law of the event;
+-- - `held_place`: the worker that has a frame.
 use Rattle.std.proofs.Common.{◌≡◌, ◌⊎◌, ◌+◌, ◌-◌, ℕ, suc, ℤ, List, [], ◌∷◌, ◌++◌, length, slice_get, slice_set, Option, Some, None, refl, sym, ap, ◌∙◌, subst, arith, ◌<◌, Result, Ok, Err, IfOk, OnOk, inl, inr}
 use Rattle.cilk_types.specs.declared.event.Event as numbered
 use Rattle.cilk_types.specs.declared.event.Event.TheVariants as events
@@ -23,8 +24,8 @@ use Rattle.cilk_runs.specs.Machine.{State}
 use Rattle.cilk_runs.specs.Runs.{Name}
 use Rattle.cilk_worlds.specs.Reducers.{View}
 use Rattle.cilk_worlds.specs.Worlds.{World}
-use Rattle.cilk_board.specs.Acting.{IsShown, MeansCell, MeansReducer}
-use Rattle.cilk_board.specs.Asking.{WentOn, refusal}
+use Rattle.cilk_board.specs.Acting.{IsShown}
+use Rattle.cilk_board.specs.Asking.{refusal}
 use Rattle.cilk_board.specs.Boards.{ShowsBy}
 use Rattle.cilk_board.specs.Desks.{Desk, Chooses, Did}
 use Rattle.cilk_board.specs.Workers.{frame_in, held_by}
@@ -35,7 +36,7 @@ use Rattle.cilk_board.specs.declared.choice.Told.TheVariants as told
 use Rattle.cilk_schedule.specs.Choices.{IsReadyAt}
 use Rattle.cilk_board.specs.Events.{SeesAt}
 use Rattle.cilk_board.specs.Noting.{HasFrame}
-use Rattle.cilk_board.specs.Seats.{answered, changed, counted, stranded}
+use Rattle.cilk_board.specs.Seats.{answered, changed, stranded}
 use Rattle.cilk_board.specs.Steps.{HasCome, IsDone, Notes}
 use Rattle.cilk_board.specs.declared.board.Board.{Board}
 use Rattle.cilk_board.specs.declared.seat.Seat.{Seat}
@@ -173,7 +174,7 @@ pub touched_views : (b b' : Board) (w k : ℕ) (event : numbered.Event) (u : Wor
 touched_views b b' w k event u views at workers offered outcome makes = record { worker = u; views = views; at = at; makes = makes; workers = inr workers; offered = offered; outcome = outcome }
 
 -- the worker that has a frame, by its place
-held_place : (ws : List Worker) (v k : ℕ) → held_by ws (suc v) ≡ Some k → (u : Worker) × (slice_get ws v ≡ Some u) × (u.frame ≡ Some k)
+pub held_place : (ws : List Worker) (v k : ℕ) → held_by ws (suc v) ≡ Some k → (u : Worker) × (slice_get ws v ≡ Some u) × (u.frame ≡ Some k)
 held_place ws v k h = by (slice_get ws v) refl h
   where
     by : (o : Option Worker) → slice_get ws v ≡ o → frame_in o ≡ Some k → (u : Worker) × (slice_get ws v ≡ Some u) × (u.frame ≡ Some k)

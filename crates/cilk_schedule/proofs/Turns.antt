@@ -6,9 +6,11 @@
 -- - `begun_made`, `begun_ticks`: it starts another;
 -- - `few_children`, `few_strands_behind`, `waits_runs`: it comes to a sync, and waits there;
 -- - `few_places`, `few_numbers`, `can_start`, `few_strands`, `function_may`, `turns_may`: what these want.
-use Rattle.std.proofs.Common.{◌≡◌, ◌+◌, ◌<◌, ◌≤◌, ◌^◌, ℕ, ℤ, List, [], ◌∷◌, ◌++◌, length, slice_get, Option, Some, None, refl, sym, ap, ◌∙◌, subst, arith}
-use Rattle.cilk_types.specs.declared.limits.TheConstants.{MAX_CELLS, MAX_EVENTS, MAX_FRAMES, MAX_TICKS}
+use Rattle.std.proofs.Common.{◌≡◌, ◌+◌, ◌<◌, ◌≤◌, ◌^◌, ℕ, ℤ, pos, List, [], ◌∷◌, ◌++◌, length, replicate, slice_get, Option, Some, None, refl, sym, ap, ◌∙◌, subst, arith}
+use Rattle.std.proofs.lemmas.List.{length-append, length-replicate}
+use Rattle.cilk_types.specs.declared.limits.TheConstants.{MAX_CELLS, MAX_EVENTS, MAX_FRAMES}
 use Rattle.cilk_types.specs.declared.invocation.Invocation.{Invocation}
+use Rattle.cilk_types.specs.declared.invocation.Invocation.TheVariants.{Call, Spawn}
 use Rattle.cilk_program.specs.declared.ask.Ask.{Ask}
 use Rattle.cilk_program.specs.declared.ask.Ask.TheVariants as asks
 use Rattle.cilk_program.specs.declared.ask.Callee.{Callee}
@@ -30,6 +32,7 @@ use Rattle.cilk_activations.specs.Sight.{AreSmall, ResultFits}
 use Rattle.cilk_activations.specs.declared.activation.Activation.{Activation}
 use Rattle.cilk_board.specs.Events.{SeesAt}
 use Rattle.cilk_board.specs.Asking.{refusal}
+use Rattle.cilk_board.specs.Invocations.{ChildBegins, left_at, newly_offered}
 use Rattle.cilk_board.specs.Invoking.{IsChild}
 use Rattle.cilk_board.specs.Seats.{changed, finished, stranded, started_at, synced, waiting}
 use Rattle.cilk_board.specs.declared.board.Board.{Board}
@@ -37,7 +40,7 @@ use Rattle.cilk_board.specs.declared.seat.Due.TheVariants as due
 use Rattle.cilk_board.specs.declared.seat.Seat.{Seat}
 use Rattle.cilk_board.proofs.Changing.{changed_length}
 use Rattle.cilk_board.proofs.Placed.{get_some}
-use Rattle.cilk_schedule.specs.Sound.{CanStart, HasBegun, HasCome, IsAsked, IsMade, IsQuiet, IsTurn, Makes, Runs, SameTicks, Settles, Sound, frame_of}
+use Rattle.cilk_schedule.specs.Sound.{HasCome, IsAsked, IsMade, IsQuiet, IsTurn, Runs, SameTicks, Settles, Sound, frame_of}
 use Rattle.cilk_schedule.proofs.Accepted.{few_events, few_frames}
 use Rattle.cilk_schedule.proofs.Begun.{begun}
 use Rattle.cilk_schedule.proofs.Sounds.{IsStep, changed_sound, ended, lives_changed, push_get, same_ticks, same_twice, settled}
@@ -124,18 +127,22 @@ end_ticks frames quiet frames' k still is = same_twice frames quiet frames' stil
 pub push_ticks : (frames : List (Activation Seat)) (child : Activation Seat) → SameTicks frames (frames ++ child ∷ [])
 push_ticks frames child = λ k a at. (a, push_get frames child k a at, (refl, refl))
 
-pub begun_ticks : (b b' : Board) (k : ℕ) (child : Activation Seat) (count : ℕ) → HasBegun b b' k child count → (let f = b.frames in let g = b'.frames in SameTicks f.items g.items)
-begun_ticks b b' k child count h =
+pub begun_ticks : (b b' : Board) (w k : ℕ) (how : Invocation) (child : Activation Seat) (count : ℕ) → ChildBegins b b' w k how child count → (let f = b.frames in let g = b'.frames in SameTicks f.items g.items)
+begun_ticks b b' w k how child count h =
     let f = b.frames in
     let g = b'.frames in
     let more = f.items ++ child ∷ [] in
-    let t = started_at h.status (length f.items) in
+    let t = started_at (left_at how w) (length f.items) in
     same_twice f.items more g.items (push_ticks f.items child) (subst (λ l. SameTicks more l) (sym h.frames) (same_ticks t (λ x. (refl, refl)) more k))
+
+few_offers : (how : Invocation) → newly_offered how ≤ 1
+few_offers Call = omega arith
+few_offers Spawn = omega arith
 
 module _ (code : CodeView) (inputs : List ℤ) (b : Board) (k : ℕ) (t : IsTurn code inputs b k) where
   pub begun_made : (how : Invocation) (callee : Callee) → b.asked ≡ asks.Invoke how callee → (worker base count : ℕ) (child : Activation Seat)
       → (let c = b.cells in base ≡ length c.items) → (let f = b.frames in IsChild code f.items k worker base how callee child) → count ≡ cells_in code.layout callee
-      → (b' : Board) → HasBegun b b' k child count → b'.journal ≡ b.journal → IsMade code inputs b'
+      → (b' : Board) → ChildBegins b b' worker k how child count → b'.journal ≡ b.journal → IsMade code inputs b'
   begun_made how callee is worker base count child base_is child_is count_is b' h same =
       let a = t.asked in
       let e = b.journal in
@@ -143,14 +150,16 @@ module _ (code : CodeView) (inputs : List ℤ) (b : Board) (k : ℕ) (t : IsTurn
       let c = b.cells in
       let d = b'.cells in
       let g = b'.frames in
+      let zeros : List ℤ = replicate count (pos 0) in
+      let cells_are : length d.items ≡ length c.items + count = (let q = ap (λ (l : List ℤ). length l) h.cells in let u = length-append c.items zeros in let v = length-replicate count (pos 0) in omega (arith, q, u, v)) in
       let few = few_frames t.ticks (length e.items) (length f.items) (length c.items) code.layout how callee (subst (λ q. refusal t.ticks (length e.items) (length f.items) (length c.items) code.layout q ≡ None) is t.accepted) in
       let more : length c.items + count ≤ MAX_CELLS = (let q = few.1 in omega (arith, q, count_is)) in
       is_made code inputs b k t b'
-      (subst (λ n. Sound code a.program inputs g.items n (length e.items + 1) None asks.Begin) (sym h.cells)
+      (subst (λ n. Sound code a.program inputs g.items n (length e.items + 1) None asks.Begin) (sym cells_are)
       (subst (λ l. Sound code a.program inputs l (length c.items + count) (length e.items + 1) None asks.Begin) (sym h.frames)
       (begun code a.program inputs a.is_code f.items (length c.items) (length e.items) k worker base how callee child
-      (subst (λ q. Sound code a.program inputs f.items (length c.items) (length e.items) (Some k) q) is a.sound) a.here base_is child_is few.0 count count_is more h.status (many code inputs b k t))))
-      same h.offers
+      (subst (λ q. Sound code a.program inputs f.items (length c.items) (length e.items) (Some k) q) is a.sound) a.here base_is child_is few.0 count count_is more (left_at how worker) (many code inputs b k t))))
+      same (let q = h.offered in let u = few_offers how in omega (arith, q, u))
 
 result_fits : (frame : Frame) (n : ℕ) → n < 2 ^ 32 → (o : Option Place) → scoped.ResultFits frame n o → (let scope = frame.scope in ResultFits scope o)
 result_fits frame n few None h = tt
@@ -176,7 +185,7 @@ module _ (code : CodeView) (inputs : List ℤ) (b : Board) (k : ℕ) (t : IsTurn
       let less = a.offers in
       (omega (arith, few), omega (arith, many, less))
 
-  pub can_start : let f = b.frames in CanStart f.items k
+  pub can_start : (x : Activation Seat) → (let f = b.frames in slice_get f.items k ≡ Some x) → (let y = x.cursor in y.children < 2 ^ 31)
   can_start x at =
       let a = t.asked in
       let s = a.sound in

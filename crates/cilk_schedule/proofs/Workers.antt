@@ -4,7 +4,7 @@
 -- - `is_held`: one that has a frame is there;
 -- - `is_there`: one that is idle is there;
 -- - `there_at`, `same_at`, `some_of`, `holds_true`: what a look-up and a test tell.
-use Rattle.std.proofs.Common.{◌≡◌, ◌<◌, ◌≤◌, ℕ, zero, suc, Bool, true, false, List, [], ◌∷◌, length, slice_get, slice_index_or, nat_lt, IsTrue, Option, Some, None, refl, sym, ap, ◌∙◌, subst, arith}
+use Rattle.std.proofs.Common.{◌≡◌, ◌<◌, ◌≤◌, ℕ, zero, suc, Bool, true, false, List, [], ◌∷◌, length, slice_get, slice_index_or, nat_lt, IsTrue, Option, Some, None, refl, sym, ◌∙◌, arith}
 use Rattle.std.specs.Option.{is_some}
 use Rattle.std.proofs.lemmas.Bool.{ltb-true}
 use Rattle.cilk_board.proofs.Placed.{get_there}

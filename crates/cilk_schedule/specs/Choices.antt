@@ -1,5 +1,5 @@
 -- Which choices a board allows, and what they write down.
-use Rattle.std.specs.Prelude.{◌≡◌, ◌+◌, ◌<◌, ◌≤◌, ℕ, true, List, [], ◌∷◌, ◌++◌, length, slice_get, Option, Some, None, Result, Ok, Err}
+use Rattle.std.specs.Prelude.{◌≡◌, ◌+◌, ◌<◌, ◌≤◌, ℕ, true, List, [], ◌∷◌, ◌++◌, length, slice_get, Some, Result, Ok, Err}
 use Rattle.cilk_frames.specs.Cursor.{CursorView}
 use Rattle.cilk_join.specs.Joins.{IsOpen}
 use Rattle.cilk_activations.specs.declared.activation.Activation.{Activation}

@@ -2,3 +2,10 @@ pub mod Sound
 pub mod Machines
 pub mod Choices
 pub mod Acts
+pub mod Reached
+pub mod Starting
+pub mod Passing
+pub mod Ends
+pub mod Faults
+pub mod Links
+pub mod Deciding

@@ -1,5 +1,5 @@
 -- What a board keeps true, by its own numbers, so that its next choice is safe.
-use Rattle.std.specs.Prelude.{◌≡◌, ◌+◌, ◌-◌, ◌<◌, ◌≤◌, ◌^◌, ℕ, zero, suc, IsTrue, ℤ, List, [], ◌∷◌, ◌++◌, length, slice_get, Option, Some, None}
+use Rattle.std.specs.Prelude.{◌≡◌, ◌+◌, ◌-◌, ◌<◌, ◌≤◌, ℕ, IsTrue, ℤ, List, length, slice_get, Option, Some, None}
 use Rattle.cilk_types.specs.declared.event.Instance.{Instance}
 use Rattle.cilk_types.specs.declared.invocation.Invocation.{Invocation}
 use Rattle.cilk_types.specs.declared.limits.TheConstants.{MAX_CELLS, MAX_EVENTS, MAX_FRAMES, MAX_TICKS}
@@ -27,8 +27,6 @@ use Rattle.cilk_board.specs.declared.board.Board.{Board}
 use Rattle.cilk_board.specs.declared.seat.Due.{Due}
 use Rattle.cilk_board.specs.declared.seat.Due.TheVariants as due
 use Rattle.cilk_board.specs.declared.seat.Seat.{Seat}
-use Rattle.cilk_board.specs.declared.seat.Status.{Status}
-use Rattle.cilk_board.specs.Seats.{changed, started_at}
 
 -- the code of a well-named program, with its layout
 pub record IsCodeOf (p : Source) (code : CodeView) : Type 0 where
@@ -168,22 +166,6 @@ pub record SameShown (b b' : Board) : Type 0 where
   pub outcome : b'.outcome ≡ b.outcome
   pub stopped : b'.stopped ≡ b.stopped
 
--- Another frame with so many cells has begun, which frame k has started.
-pub record HasBegun (b b' : Board) (k : ℕ) (child : Activation Seat) (count : ℕ) : Type 0 where
-  pub status : Status
-  pub frames : let f = b.frames in let g = b'.frames in g.items ≡ changed (started_at status (length f.items)) (f.items ++ child ∷ []) k
-  pub cells : let c = b.cells in let d = b'.cells in length d.items ≡ length c.items + count
-  pub offers : b'.offered ≤ b.offered + 1
-
--- a frame may start one more
-abbrev pub CanStart : List (Activation Seat) → ℕ → Type 0
-CanStart frames k = (a : Activation Seat) → slice_get frames k ≡ Some a → let x = a.cursor in x.children < 2 ^ 31
-
 -- the frame's event is made, and no ticks are taken or counted
 abbrev pub Makes : CodeView → Board → Board → ℕ → Type 0
 Makes code b b' k = ((inputs : List ℤ) → IsTurn code inputs b k → IsMade code inputs b') × (let f = b.frames in let g = b'.frames in SameTicks f.items g.items)
-
--- the number of a frame's latest strand, which is 1 before its begin
-abbrev pub strand_in : ℕ → ℕ
-strand_in zero = 1
-strand_in (suc n) = suc n

@@ -1,11 +1,18 @@
 //! Pieces that arrive at a block, and syncs.
 
-ghost use Rattle.std.specs.Prelude.{◌≡◌, ◌<◌, ◌^◌, ℤ, List, Some, length, slice_get, IfOk, OnOk};
+ghost use Rattle.std.specs.Prelude.{◌≡◌, ◌<◌, ◌^◌, false, ℤ, List, Some, length, slice_get, IfOk, OnErr, OnOk};
+ghost use Rattle.cilk_types.specs.declared.event.Event.TheVariants as events;
 ghost use Rattle.cilk_program.specs.declared.ask.Ask.TheVariants as asks;
 ghost use Rattle.cilk_lower.specs.Code.{CodeView};
 ghost use Rattle.cilk_activations.specs.declared.activation.Activation.{Activation};
+ghost use Rattle.cilk_join.specs.Joins.{MayArrive};
+ghost use Rattle.cilk_board.specs.Events.{block_in};
+ghost use Rattle.cilk_board.specs.Parts.{freed, must_wait};
+ghost use Rattle.cilk_board.specs.Stopping.{StandAsBefore};
+ghost use Rattle.cilk_board.specs.Workers.{altered};
 ghost use Rattle.cilk_board.specs.declared.seat.Seat.{Seat};
 ghost use Rattle.cilk_schedule.specs.Acts.{IsTouch};
+ghost use Rattle.cilk_schedule.specs.Passing.{ComesTo, GoesBehind, OwnComes, PieceComes, StaysAt, WhereOwnIsDue, WhereOwnMayCome};
 ghost use Rattle.cilk_schedule.specs.Sound.{IsAsked, IsQuiet, IsTurn, Makes, Runs, SameRest};
 
 use cilk_activations::activation::Activation;
@@ -20,6 +27,7 @@ use std::alloc::{AllocError, Global};
 /// Whether the sync that a frame asks for has to wait for a stolen child, with the frame's own piece still to come.
 pub fn must_wait(frames: &[Activation<Seat>], frame: usize) -> bool
     requires { frame < length frames.now }
+    ensures { (a : Activation Seat) → slice_get frames.now frame ≡ Some a → result ≡ must_wait a.cursor }
 {
     let seat = &frames[frame].cursor;
     if seat.merged {
@@ -44,6 +52,8 @@ pub fn wait_at(
     ensures runs { OnOk result ((code : CodeView) (inputs : List ℤ) → IsAsked code inputs board.old frame → Runs code inputs board.new) }
     ensures rest { SameRest board.old board.new }
     ensures outcome { board.new.outcome ≡ board.old.outcome }
+    ensures stands { OnErr result (StandAsBefore board.old.frames.items board.new.frames.items) }
+    ensures stays { OnOk result (WhereOwnIsDue board.old.frames.items frame (StaysAt board.old board.new worker frame)) }
 {
     let _waits = bring_own(alloc, &mut board.frames, &mut board.workers, worker, frame)?;
     wait(&mut board.frames, frame);
@@ -64,7 +74,10 @@ pub fn sync(
     ensures made { OnOk result ((code : CodeView) → Makes code board.old board.new frame) }
     ensures rest { SameRest board.old board.new }
     ensures outcome { board.new.outcome ≡ board.old.outcome }
+    ensures stands { OnErr result (StandAsBefore board.old.frames.items board.new.frames.items) }
     ensures event { IfOk result (λ e. IsTouch e → ⊥) }
+    ensures kind { IfOk result (λ e. e ≡ events.Sync) }
+    ensures behind { OnOk result (WhereOwnMayCome board.old.frames.items frame (GoesBehind board.old board.new worker frame)) }
 {
     bring_once(alloc, &mut board.frames, &mut board.workers, worker, frame)?;
     begin_block(&mut board.frames, frame);
@@ -82,7 +95,9 @@ fn bring_once(
     requires here { frame < length frames.old.items }
     requires works { worker < length workers.old.items }
     requires few { (a : Activation Seat) → slice_get frames.old.items frame ≡ Some a → a.cursor.children < 2 ^ 31 }
-    ensures { OnOk result (IsQuiet frames.old.items frames.new.items) }
+    ensures quiet { OnOk result (IsQuiet frames.old.items frames.new.items) }
+    ensures stands { OnErr result (StandAsBefore frames.old.items frames.new.items) }
+    ensures own { OnOk result (WhereOwnMayCome frames.old.items frame (OwnComes frames.old.items frames.new.items workers.old.items workers.new.items worker frame)) }
 {
     if frames[frame].cursor.merged {
         return Ok(());
@@ -103,7 +118,9 @@ fn bring_own(
     requires works { worker < length workers.old.items }
     requires few { (a : Activation Seat) → slice_get frames.old.items frame ≡ Some a → a.cursor.children < 2 ^ 31 }
     ensures frames { OnOk result (IsQuiet frames.old.items frames.new.items) }
+    ensures stands { OnErr result (StandAsBefore frames.old.items frames.new.items) }
     ensures workers { length workers.new.items ≡ length workers.old.items }
+    ensures own { OnOk result (WhereOwnIsDue frames.old.items frame (OwnComes frames.old.items frames.new.items workers.old.items workers.new.items worker frame)) }
 {
     let key = frames[frame].cursor.children + 1;
     bring(alloc, frames, workers, worker, frame, key, true)
@@ -123,7 +140,10 @@ pub fn bring(
     requires here { frame < length frames.old.items }
     requires works { worker < length workers.old.items }
     ensures frames { OnOk result (IsQuiet frames.old.items frames.new.items) }
+    ensures stands { OnErr result (StandAsBefore frames.old.items frames.new.items) }
     ensures workers { length workers.new.items ≡ length workers.old.items }
+    ensures brings { IfOk result (λ passes. (a : Activation Seat) → slice_get frames.old.items frame ≡ Some a → MayArrive (block_in a.cursor.join) key last
+        → PieceComes frames.old.items frames.new.items workers.old.items workers.new.items worker frame key last passes) }
 {
     let views = &mut workers[worker].views;
     bring_to(alloc, &mut frames[frame].cursor, views, key, last)
@@ -137,7 +157,8 @@ fn bring_to(
     key: u32,
     last: bool,
 ) -> Result<bool, AllocError>
-    ensures { seat.new ≡ record seat.old { join = seat.new.join } }
+    ensures same { seat.new ≡ record seat.old { join = seat.new.join } }
+    ensures comes { IfOk result (λ passes. MayArrive (block_in seat.old.join) key last → ComesTo seat.old key last views.old passes seat.new views.new) }
 {
     let Some(join) = &mut seat.join else {
         return Ok(false);
@@ -152,7 +173,8 @@ fn bring_to(
 /// The worker is idle.
 pub fn leave(workers: &mut Vec<Worker>, worker: usize)
     requires { worker < length workers.old.items }
-    ensures { length workers.new.items ≡ length workers.old.items }
+    ensures count { length workers.new.items ≡ length workers.old.items }
+    ensures has { workers.new.items ≡ altered freed workers.old.items worker }
 {
     workers[worker].frame = None;
 }

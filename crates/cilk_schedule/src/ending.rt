@@ -1,18 +1,28 @@
 //! A frame ends.
 
-ghost use Rattle.std.specs.Prelude.{◌≡◌, ◌<◌, ◌^◌, ◌≤◌, ℕ, ℤ, List, Some, length, slice_get, IfOk, OnErr, OnOk};
+ghost use Rattle.std.specs.Prelude.{◌≡◌, ◌<◌, ◌≤◌, ◌^◌, ℕ, ℤ, List, true, false, Some, length, slice_get, IfOk, OnErr, OnOk};
+ghost use Rattle.cilk_types.specs.declared.event.Event.TheVariants as events;
 ghost use Rattle.cilk_program.specs.declared.ask.Ask.TheVariants as asks;
+ghost use Rattle.cilk_lower.specs.Code.{CodeView};
 ghost use Rattle.cilk_lower.specs.Layout.{function_frame};
 ghost use Rattle.cilk_activations.specs.declared.activation.Activation.{Activation};
+ghost use Rattle.cilk_board.specs.EndParts.{Brings, Seeks};
+ghost use Rattle.cilk_board.specs.Ending.{RetiresOwn};
+ghost use Rattle.cilk_board.specs.Parts.{working};
+ghost use Rattle.cilk_board.specs.Seats.{changed, moved_to};
+ghost use Rattle.cilk_board.specs.Stopping.{StandAsBefore};
+ghost use Rattle.cilk_board.specs.Workers.{altered};
 ghost use Rattle.cilk_board.specs.declared.seat.Seat.{Seat};
+ghost use Rattle.cilk_board.specs.declared.seat.Status.TheVariants.{Held};
 ghost use Rattle.cilk_schedule.specs.Acts.{IsTouch};
+ghost use Rattle.cilk_schedule.specs.Ends.{PartsTo, EndsFrame, IsOfferedAmong, MayBring};
 ghost use Rattle.cilk_schedule.specs.Sound.{IsQuiet, IsTurn, Makes, SameRest};
 
-use crate::arrivals::{bring, leave};
+use crate::arrivals::leave;
 use cilk_activations::activation::Activation;
 use cilk_board::board::Board;
-use cilk_board::offers::withdraw;
-use cilk_board::outcome::{outcome, retire};
+use cilk_board::ending::{bring, retire_own, take_back};
+use cilk_board::outcome::outcome;
 use cilk_board::seat::{Seat, Status, Worker};
 use cilk_board::seats::{finish, move_to, pass};
 use cilk_hypermap::hypermap::Hypermap;
@@ -37,115 +47,185 @@ pub fn end(
     ensures made { OnOk result (Makes code.now board.old board.new frame) }
     ensures rest { SameRest board.old board.new }
     ensures outcome { OnErr result (board.new.outcome ≡ board.old.outcome) }
+    ensures stands { OnErr result (StandAsBefore board.old.frames.items board.new.frames.items) }
     ensures event { IfOk result (λ e. IsTouch e → ⊥) }
+    ensures kind { IfOk result (λ e. e ≡ events.End) }
+    ensures ends { OnOk result (EndsFrame code.now board.old board.new worker frame) }
 {
     let views = &mut board.workers[worker].views;
-    retire_own(code, board.frames.as_slice(), views, frame);
-    if frame == 0 {
-        let views = &mut board.workers[worker].views;
-        let left = outcome(alloc, code.layout(), board.cells.as_slice(), views, value)?;
-        board.outcome = Some(left);
-        leave(&mut board.workers, worker);
-        finish(&mut board.frames, frame);
-        return Ok(Event::End);
-    }
-    let withdrawn = hand_on(alloc, &mut board.frames, &mut board.workers, worker, frame)?;
-    board.offered = board.offered.saturating_sub(withdrawn);
+    retire_at(code, board.frames.as_slice(), views, frame);
+    depart(alloc, code, board, worker, frame, value)?;
     finish(&mut board.frames, frame);
     Ok(Event::End)
 }
 
-// The worker of a frame that ends goes on with its parent, or its piece comes to the parent's block. How many continuations are no
-// longer offered.
-fn hand_on(
-    alloc: Global,
-    frames: &mut Vec<Activation<Seat>>,
-    workers: &mut Vec<Worker>,
-    worker: usize,
-    frame: usize,
-) -> Result<usize, AllocError>
-    requires here { frame < length frames.old.items }
-    requires works { worker < length workers.old.items }
-    requires low { worker < 2 ^ 32 }
-    requires parent { (a : Activation Seat) → slice_get frames.old.items frame ≡ Some a → a.cursor.parent < length frames.old.items }
-    ensures { OnOk result (IsQuiet frames.old.items frames.new.items) }
-{
-    if frames[frame].cursor.stolen {
-        hand_in(alloc, frames, workers, worker, frame)?;
-        return Ok(0);
-    }
-    let found = go_back(frames, workers, worker, frame);
-    Ok(if found { 1 } else { 0 })
-}
-
-// The reducers that the frame created are retired.
-fn retire_own(code: &Code, frames: &[Activation<Seat>], views: &mut Hypermap, frame: usize)
+// The views lose the reducers that the frame created.
+fn retire_at(code: &Code, frames: &[Activation<Seat>], views: &mut Hypermap, frame: usize)
     requires here { frame < length frames.now }
     requires low { (a : Activation Seat) → slice_get frames.now frame ≡ Some a → a.first < 65536 }
     requires few { (a : Activation Seat) → slice_get frames.now frame ≡ Some a → (k : ℕ) → a.creator ≡ Some k → let f = function_frame code.now.layout k in length f.reducers ≤ 64 }
+    ensures { (a : Activation Seat) → slice_get frames.now frame ≡ Some a → RetiresOwn code.now.layout a views.old views.new }
 {
-    let top = &frames[frame];
-    let Some(creator) = top.creator else { return };
-    let kinds = code.layout().function_reducers(creator);
-    retire(views, top.number, top.first, kinds);
+    retire_own(code.layout(), &frames[frame], views);
+}
+
+// The worker parts from a frame that ends: the run is over, or it goes on with the parent, or the piece comes to the parent's block.
+fn depart(
+    alloc: Global,
+    code: &Code,
+    board: &mut Board,
+    worker: usize,
+    frame: usize,
+    value: i64,
+) -> Result<(), AllocError>
+    requires here { frame < length board.old.frames.items }
+    requires works { worker < length board.old.workers.items }
+    requires low { worker < 2 ^ 32 }
+    requires parent { (a : Activation Seat) → slice_get board.old.frames.items frame ≡ Some a → a.cursor.parent < length board.old.frames.items }
+    requires globals { length code.now.layout.openings ≤ length board.old.cells.items }
+    requires few { length code.now.layout.reducers ≤ 64 }
+    ensures quiet { OnOk result (IsQuiet board.old.frames.items board.new.frames.items) }
+    ensures cells { board.new.cells ≡ board.old.cells }
+    ensures rest { SameRest board.old board.new }
+    ensures outcome { OnErr result (board.new.outcome ≡ board.old.outcome) }
+    ensures stands { OnErr result (StandAsBefore board.old.frames.items board.new.frames.items) }
+    ensures fewer { board.new.offered ≤ board.old.offered }
+    ensures departs { OnOk result (PartsTo code.now board.old board.new worker frame value) }
+{
+    if frame == 0 {
+        return leave_run(alloc, code, board, worker, value);
+    }
+    if board.frames[frame].cursor.stolen {
+        return hand_in(alloc, board, worker, frame);
+    }
+    go_back(board, worker, frame);
+    Ok(())
+}
+
+// The first frame leaves the outcome, and the worker is idle.
+fn leave_run(
+    alloc: Global,
+    code: &Code,
+    board: &mut Board,
+    worker: usize,
+    value: i64,
+) -> Result<(), AllocError>
+    requires works { worker < length board.old.workers.items }
+    requires globals { length code.now.layout.openings ≤ length board.old.cells.items }
+    requires few { length code.now.layout.reducers ≤ 64 }
+    ensures frames { board.new.frames ≡ board.old.frames }
+    ensures cells { board.new.cells ≡ board.old.cells }
+    ensures rest { SameRest board.old board.new }
+    ensures outcome { OnErr result (board.new.outcome ≡ board.old.outcome) }
+    ensures offered { board.new.offered ≡ board.old.offered }
+    ensures departs { OnOk result (PartsTo code.now board.old board.new worker 0 value) }
+{
+    let views = &mut board.workers[worker].views;
+    let left = outcome(alloc, code.layout(), board.cells.as_slice(), views, value)?;
+    board.outcome = Some(left);
+    leave(&mut board.workers, worker);
+    Ok(())
 }
 
 // The piece of a stolen child comes to its parent's block. The worker goes on with the parent, if the block passes, and else is
 // idle.
-fn hand_in(
-    alloc: Global,
-    frames: &mut Vec<Activation<Seat>>,
-    workers: &mut Vec<Worker>,
-    worker: usize,
-    frame: usize,
-) -> Result<(), AllocError>
-    requires here { frame < length frames.old.items }
-    requires works { worker < length workers.old.items }
+fn hand_in(alloc: Global, board: &mut Board, worker: usize, frame: usize) -> Result<(), AllocError>
+    requires child { 0 < frame }
+    requires here { frame < length board.old.frames.items }
+    requires works { worker < length board.old.workers.items }
     requires low { worker < 2 ^ 32 }
-    requires parent { (a : Activation Seat) → slice_get frames.old.items frame ≡ Some a → a.cursor.parent < length frames.old.items }
-    ensures { OnOk result (IsQuiet frames.old.items frames.new.items) }
+    requires parent { (a : Activation Seat) → slice_get board.old.frames.items frame ≡ Some a → a.cursor.parent < length board.old.frames.items }
+    requires stolen { (a : Activation Seat) → slice_get board.old.frames.items frame ≡ Some a → a.cursor.stolen ≡ true }
+    ensures quiet { OnOk result (IsQuiet board.old.frames.items board.new.frames.items) }
+    ensures cells { board.new.cells ≡ board.old.cells }
+    ensures rest { SameRest board.old board.new }
+    ensures outcome { board.new.outcome ≡ board.old.outcome }
+    ensures stands { OnErr result (StandAsBefore board.old.frames.items board.new.frames.items) }
+    ensures offered { board.new.offered ≡ board.old.offered }
+    ensures departs { OnOk result ((code : CodeView) (v : ℤ) → PartsTo code board.old board.new worker frame v) }
 {
-    let parent = frames[frame].cursor.parent;
-    let key = frames[frame].cursor.ordinal;
-    let passes = bring(alloc, frames, workers, worker, parent as usize, key, false)?;
-    if passes {
-        pass(frames, parent as usize);
-        hold(frames, workers, worker, parent);
+    let child = &board.frames[frame].cursor;
+    let (parent, key) = (child.parent, child.ordinal);
+    let seat = &mut board.frames[parent as usize].cursor;
+    let views = &mut board.workers[worker].views;
+    if bring_awaited(alloc, seat, views, key)? {
+        pass(&mut board.frames, parent as usize);
+        hold(&mut board.frames, &mut board.workers, worker, parent);
     } else {
-        leave(workers, worker);
+        leave(&mut board.workers, worker);
     }
     Ok(())
 }
 
-// The worker goes on with the frame that waits for this one. Whether the continuation of that was offered.
-fn go_back(
-    frames: &mut Vec<Activation<Seat>>,
-    workers: &mut Vec<Worker>,
-    worker: usize,
-    frame: usize,
-) -> bool
-    requires here { frame < length frames.old.items }
-    requires works { worker < length workers.old.items }
-    requires low { worker < 2 ^ 32 }
-    requires parent { (a : Activation Seat) → slice_get frames.old.items frame ≡ Some a → a.cursor.parent < length frames.old.items }
-    ensures { IsQuiet frames.old.items frames.new.items }
+// The piece of a stolen child comes to a block with this key, where it is awaited. Whether the block passes: then the views are the
+// whole block's. Where memory is refused, they are lost.
+fn bring_awaited(
+    alloc: Global,
+    seat: &mut Seat,
+    views: &mut Hypermap,
+    key: u32,
+) -> Result<bool, AllocError>
+    ensures brings { IfOk result (λ passes. MayBring seat.old key → Brings seat.old key views.old passes seat.new views.new) }
+    ensures same { seat.new ≡ record seat.old { join = seat.new.join } }
 {
-    let parent = frames[frame].cursor.parent;
-    let found = match frames[parent as usize].cursor.status {
-        Status::Offered(other) => take_back(workers, other as usize, parent),
-        _ => false,
-    };
-    hold(frames, workers, worker, parent);
-    found
+    if !may_bring(seat, key) {
+        return Ok(false);
+    }
+    bring(alloc, seat, views, key)
 }
 
-// A frame's continuation is no longer offered by this worker. Whether it was.
-fn take_back(workers: &mut Vec<Worker>, worker: usize, frame: u32) -> bool
-    ensures { length workers.new.items ≡ length workers.old.items }
+// Whether the piece of a stolen child may come to a block with this key.
+fn may_bring(seat: &Seat, key: u32) -> bool
+    ensures yes { result ≡ true → MayBring seat.now key }
+    ensures no { MayBring seat.now key → result ≡ true }
 {
-    match workers.get_mut(worker) {
-        Some(worker) => withdraw(&mut worker.offered, frame),
+    match &seat.join {
+        Some(join) => join.awaits(key) || join.fresh(key),
         None => false,
+    }
+}
+
+// The worker goes on with the frame that waits for this one, whose continuation is no longer offered.
+fn go_back(board: &mut Board, worker: usize, frame: usize)
+    requires child { 0 < frame }
+    requires here { frame < length board.old.frames.items }
+    requires works { worker < length board.old.workers.items }
+    requires low { worker < 2 ^ 32 }
+    requires parent { (a : Activation Seat) → slice_get board.old.frames.items frame ≡ Some a → a.cursor.parent < length board.old.frames.items }
+    requires kept { (a : Activation Seat) → slice_get board.old.frames.items frame ≡ Some a → a.cursor.stolen ≡ false }
+    ensures quiet { IsQuiet board.old.frames.items board.new.frames.items }
+    ensures cells { board.new.cells ≡ board.old.cells }
+    ensures rest { SameRest board.old board.new }
+    ensures outcome { board.new.outcome ≡ board.old.outcome }
+    ensures fewer { board.new.offered ≤ board.old.offered }
+    ensures departs { (code : CodeView) (v : ℤ) → PartsTo code board.old board.new worker frame v }
+{
+    let parent = board.frames[frame].cursor.parent;
+    let status = board.frames[parent as usize].cursor.status;
+    board.offered = reclaim(&mut board.workers, board.offered, status, parent);
+    hold(&mut board.frames, &mut board.workers, worker, parent);
+}
+
+// The continuation of a frame is no longer offered by the worker that its status names. How many are offered then.
+fn reclaim(workers: &mut Vec<Worker>, offered: usize, status: Status, frame: u32) -> usize
+    ensures same { length workers.new.items ≡ length workers.old.items }
+    ensures fewer { result ≤ offered }
+    ensures seeks { IsOfferedAmong status (length workers.old.items) → Seeks frame status workers.old.items workers.new.items offered result }
+{
+    if !offered_among(status, workers.len()) {
+        return offered;
+    }
+    take_back(workers, offered, status, frame)
+}
+
+// Whether the worker that offers a continuation, where one does, is one of so many.
+fn offered_among(status: Status, count: usize) -> bool
+    ensures yes { result ≡ true → IsOfferedAmong status count }
+    ensures no { IsOfferedAmong status count → result ≡ true }
+{
+    match status {
+        Status::Offered(worker) => (worker as usize) < count,
+        _ => true,
     }
 }
 
@@ -159,7 +239,9 @@ pub fn hold(
     requires here { frame < length frames.old.items }
     requires works { worker < length workers.old.items }
     requires low { worker < 2 ^ 32 }
-    ensures { IsQuiet frames.old.items frames.new.items }
+    ensures quiet { IsQuiet frames.old.items frames.new.items }
+    ensures held { frames.new.items ≡ changed (moved_to (Held worker)) frames.old.items frame }
+    ensures has { workers.new.items ≡ altered (working frame) workers.old.items worker }
 {
     let status = Status::Held(worker as u32);
     move_to(frames, frame as usize, status);

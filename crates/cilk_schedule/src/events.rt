@@ -1,6 +1,6 @@
 //! Events of cells and reducers, as a frame asks for them.
 
-ghost use Rattle.std.specs.Prelude.{◌<◌, ℕ, ℤ, List, length, IfOk, OnOk};
+ghost use Rattle.std.specs.Prelude.{◌≡◌, ◌<◌, ℕ, ℤ, List, length, IfOk, OnErr, OnOk};
 ghost use Rattle.cilk_program.specs.declared.ask.Ask.TheVariants as asks;
 ghost use Rattle.cilk_hypermap.specs.declared.hypermap.Hypermap.{Hypermap};
 ghost use Rattle.cilk_schedule.specs.Acts.{MakesEvent};
@@ -78,6 +78,7 @@ pub fn create(
     ensures settles { OnOk result ((cells : ℕ) → Settles frames.old.items frames.new.items cells cells frame (asks.Create reducer)) }
     ensures ticks { OnOk result (SameTicks frames.old.items frames.new.items) }
     ensures makes { IfOk result (λ e. (cells : List ℤ) → MakesEvent frames.old.items frames.new.items cells cells views.old views.new frame (asks.Create reducer) e) }
+    ensures same { OnErr result (frames.new.items ≡ frames.old.items) }
 {
     let instance = instance_at(frames.as_slice(), frame, reducer.place);
     reducers::create(alloc, frames, views, frame, instance, reducer.kind)
@@ -97,6 +98,7 @@ pub fn update(
     ensures settles { OnOk result ((cells : ℕ) → Settles frames.old.items frames.new.items cells cells frame (asks.Update reducer word)) }
     ensures ticks { OnOk result (SameTicks frames.old.items frames.new.items) }
     ensures makes { IfOk result (λ e. (cells : List ℤ) → MakesEvent frames.old.items frames.new.items cells cells views.old views.new frame (asks.Update reducer word) e) }
+    ensures same { OnErr result (frames.new.items ≡ frames.old.items) }
 {
     let instance = instance_at(frames.as_slice(), frame, reducer.place);
     reducers::update(alloc, frames, views, frame, instance, reducer.kind, word)
@@ -116,6 +118,7 @@ pub fn set(
     ensures settles { OnOk result ((cells : ℕ) → Settles frames.old.items frames.new.items cells cells frame (asks.Set reducer word)) }
     ensures ticks { OnOk result (SameTicks frames.old.items frames.new.items) }
     ensures makes { IfOk result (λ e. (cells : List ℤ) → MakesEvent frames.old.items frames.new.items cells cells views.old views.new frame (asks.Set reducer word) e) }
+    ensures same { OnErr result (frames.new.items ≡ frames.old.items) }
 {
     let instance = instance_at(frames.as_slice(), frame, reducer.place);
     reducers::set(alloc, frames, views, frame, instance, reducer.kind, word)
@@ -134,6 +137,7 @@ pub fn value(
     ensures settles { OnOk result ((cells : ℕ) → Settles frames.old.items frames.new.items cells cells frame (asks.Value reducer)) }
     ensures ticks { OnOk result (SameTicks frames.old.items frames.new.items) }
     ensures makes { IfOk result (λ e. (cells : List ℤ) → MakesEvent frames.old.items frames.new.items cells cells views.old views.new frame (asks.Value reducer) e) }
+    ensures same { OnErr result (frames.new.items ≡ frames.old.items) }
 {
     let instance = instance_at(frames.as_slice(), frame, reducer.place);
     reducers::value(alloc, frames, views, frame, instance, reducer.kind)
@@ -151,6 +155,7 @@ pub fn print(
     ensures settles { OnOk result ((cells : ℕ) → Settles frames.old.items frames.new.items cells cells frame (asks.Print word)) }
     ensures ticks { OnOk result (SameTicks frames.old.items frames.new.items) }
     ensures makes { IfOk result (λ e. (cells : List ℤ) → MakesEvent frames.old.items frames.new.items cells cells views.old views.new frame (asks.Print word) e) }
+    ensures same { OnErr result (frames.new.items ≡ frames.old.items) }
 {
     reducers::print(alloc, frames, views, frame, word)
 }

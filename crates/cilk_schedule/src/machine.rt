@@ -1,6 +1,6 @@
 //! A machine: a program's code, its input, and workers that are told one choice after another.
 
-ghost use Rattle.std.specs.Prelude.{◌≡◌, ◌≢◌, ◌-◌, ◌≤◌, ◌++◌, ◌∷◌, [], ℕ, List, length, reverse, Err, None, Ok, Some, IfOk, IfErr};
+ghost use Rattle.std.specs.Prelude.{◌≡◌, ◌≢◌, ◌-◌, ◌<◌, ◌≤◌, ◌++◌, ◌∷◌, [], ℕ, List, length, reverse, Err, None, Ok, Some, IfOk, IfErr};
 ghost use Rattle.std.specs.Option.{is_some};
 ghost use Rattle.cilk_types.specs.declared.fault.Fault.{Fault};
 ghost use Rattle.cilk_board.specs.Workers.{held_by};
@@ -10,8 +10,15 @@ ghost use Rattle.cilk_board.specs.declared.choice.Strand.{Strand};
 ghost use Rattle.cilk_board.specs.declared.choice.Told.TheVariants as told;
 ghost use Rattle.cilk_schedule.specs.Acts.{EventsAreSteps};
 ghost use Rattle.cilk_schedule.specs.Choices.{CanChoose, Writes};
+ghost use Rattle.cilk_schedule.specs.Faults.{FaultsAreStops, HasFault, HasStopped, KeepsTold, NamesStop, StopsFrom};
+ghost use Rattle.cilk_schedule.specs.Links.{links_in, links_of};
 ghost use Rattle.cilk_schedule.specs.Machines.{OrdinalsUp};
-ghost use Rattle.cilk_schedule.specs.Sound.{IsCode, Runs};
+ghost use Rattle.cilk_schedule.specs.Reached.{HasOpened, HasReached, LeadsOn};
+ghost use Rattle.cilk_schedule.specs.Sound.{IsCode, IsCodeOf, Runs};
+ghost use Rattle.cilk_program.specs.Syntax.{Source};
+ghost use Rattle.cilk_schedule.specs.Ends.{EndsAreSteps};
+ghost use Rattle.cilk_schedule.specs.Starting.{StartsAreSteps};
+ghost use Rattle.cilk_schedule.specs.Passing.{SkipsAreSteps, StealsAreSteps, SyncsAreSteps, WaitsAreSteps};
 
 use crate::naming::path;
 use crate::opening::open;
@@ -46,13 +53,15 @@ impl<'a> Machine<'a> {
         ensures runs { IfOk result (λ m. Runs m.code.now m.input.now m.board) }
         ensures workers { IfOk result (λ m. length m.board.workers.items ≡ workers) }
         ensures running { IfOk result (λ m. (m.board.stopped ≡ None) × (m.board.outcome ≡ None)) }
+        ensures opened { IfOk result (λ m. 0 < workers → (p : Source) → IsCodeOf p code.now → HasOpened code.now p input.now m.board (workers - 1)) }
     {
         let board = open(alloc, code, workers)?;
         Ok(Machine { code, input, board })
     }
 
     /// Makes a choice. A choice that can't be made is skipped and changes nothing. Once a choice has stopped the run, each
-    /// further one answers the same stop.
+    /// further one answers the same stop. Where steps of the free machine lead to a state that the board shows, so they do behind the
+    /// choice: each choice is one step, or none. After a stop the board still tells what it told before the choice.
     pub fn choose(&mut self, alloc: Global, choice: Choice) -> Result<Told, Stop>
         requires { self.old.board.stopped ≡ None → Runs self.old.code.now self.old.input.now self.old.board }
         ensures runs { self.new.board.stopped ≡ None → Runs self.new.code.now self.new.input.now self.new.board }
@@ -66,6 +75,17 @@ impl<'a> Machine<'a> {
         ensures vain { self.old.board.stopped ≡ None → (CanChoose self.old.board choice → ⊥) → result ≡ Ok told.Skipped }
         ensures journal { Writes result self.old.board.journal.items self.new.board.journal.items }
         ensures steps { IfOk result (λ t. EventsAreSteps self.old.code.now self.old.input.now self.old.board self.new.board choice t) }
+        ensures starts { IfOk result (λ t. StartsAreSteps self.old.code.now self.old.input.now self.old.board self.new.board choice t) }
+        ensures thieves { IfOk result (λ t. StealsAreSteps self.old.code.now self.old.input.now self.old.board self.new.board choice t) }
+        ensures waits { IfOk result (λ t. WaitsAreSteps self.old.code.now self.old.input.now self.old.board self.new.board choice t) }
+        ensures syncs { IfOk result (λ t. SyncsAreSteps self.old.code.now self.old.input.now self.old.board self.new.board choice t) }
+        ensures skips { IfOk result (λ t. SkipsAreSteps self.old.code.now self.old.input.now self.old.board self.new.board choice t) }
+        ensures reached { IfOk result (λ t. (p : Source) → IsCodeOf p self.old.code.now → LeadsOn self.old.code.now p self.old.input.now self.old.board self.new.board choice t) }
+        ensures ends { IfOk result (λ t. EndsAreSteps self.old.code.now self.old.input.now self.old.board self.new.board choice t) }
+        ensures faults { IfErr result (λ stop. self.old.board.stopped ≡ None → FaultsAreStops self.old.code.now self.old.input.now self.old.board self.new.board choice stop) }
+        ensures halted { IfErr result (λ stop. self.old.board.stopped ≡ None → (p : Source) → IsCodeOf p self.old.code.now → HasReached self.old.code.now p self.old.input.now self.old.board → HasStopped self.old.code.now p self.old.input.now self.new.board stop) }
+        ensures stops { IfErr result (λ stop. self.old.board.stopped ≡ None → (p : Source) → IsCodeOf p self.old.code.now → (h : HasReached self.old.code.now p self.old.input.now self.old.board) → StopsFrom self.old.code.now p self.old.input.now self.old.board h self.new.board choice stop) }
+        ensures kept { IfErr result (λ stop. self.old.board.stopped ≡ None → KeepsTold self.old.board self.new.board) }
     {
         choose(alloc, self.code, self.input, &mut self.board, choice)
     }
@@ -93,7 +113,8 @@ impl<'a> Machine<'a> {
 
     /// What the run shows so far. After a stop it shows the run before the choice that stopped it.
     pub fn shown(&self, alloc: Global) -> Result<Shown, AllocError>
-        ensures { IfOk result (λ shown. shown.outcome ≡ self.now.board.outcome) }
+        ensures outcome { IfOk result (λ shown. shown.outcome ≡ self.now.board.outcome) }
+        ensures links { IfOk result (λ shown. links_in shown.frames.items ≡ links_of self.now.board.frames.items) }
     {
         show(alloc, &self.board, self.code.layout().openings.len())
     }
@@ -115,6 +136,7 @@ impl<'a> Machine<'a> {
     pub fn name(&self, alloc: Global, stop: Stop) -> Result<Vec<u32>, AllocError>
         ensures memory { stop ≡ stops.Memory → IfOk result (λ name. name.items ≡ []) }
         ensures name { (fault : Fault) (strand : Strand) (up : List ℕ) → stop ≡ stops.At fault strand → OrdinalsUp self.now.board.frames.items (strand.frame - 1) up → length up ≤ length self.now.board.frames.items → IfOk result (λ name. name.items ≡ reverse up ++ strand.number ∷ []) }
+        ensures strand { (p : Source) (fault : Fault) (strand : Strand) → stop ≡ stops.At fault strand → (h : HasFault self.now.code.now p self.now.input.now self.now.board fault strand) → IfOk result (λ name. NamesStop h.state name.items) }
     {
         let Stop::At { fault: _, strand } = stop else {
             return Ok(Vec::new(alloc));

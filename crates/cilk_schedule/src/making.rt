@@ -1,7 +1,13 @@
 //! What a frame asks for is done.
 
 ghost use Rattle.std.specs.Prelude.{◌≡◌, ◌<◌, ◌^◌, ℤ, List, length, IfOk, OnErr, OnOk};
+ghost use Rattle.cilk_types.specs.declared.event.Event.TheVariants as events;
+ghost use Rattle.cilk_program.specs.declared.ask.Ask.TheVariants as asks;
+ghost use Rattle.cilk_board.specs.Stopping.{StandAsBefore};
 ghost use Rattle.cilk_schedule.specs.Acts.{IsTouch, Touched};
+ghost use Rattle.cilk_schedule.specs.Ends.{EndsFrame};
+ghost use Rattle.cilk_schedule.specs.Starting.{IsStart, Started};
+ghost use Rattle.cilk_schedule.specs.Passing.{GoesBehind, WhereOwnMayCome};
 ghost use Rattle.cilk_schedule.specs.Sound.{IsTurn, Makes, SameRest};
 
 use crate::arrivals::sync;
@@ -29,7 +35,11 @@ pub fn make(
     ensures made { OnOk result (Makes code.now board.old board.new place) }
     ensures rest { SameRest board.old board.new }
     ensures outcome { OnErr result (board.new.outcome ≡ board.old.outcome) }
+    ensures stands { OnErr result (StandAsBefore board.old.frames.items board.new.frames.items) }
     ensures touched { IfOk result (λ e. IsTouch e → Touched board.old board.new worker place e) }
+    ensures starts { IfOk result (λ e. IsStart e → Started code.now board.old board.new worker place e) }
+    ensures syncs { IfOk result (λ e. e ≡ events.Sync → (board.old.asked ≡ asks.Sync) × WhereOwnMayCome board.old.frames.items place (GoesBehind board.old board.new worker place)) }
+    ensures ends { IfOk result (λ e. e ≡ events.End → EndsFrame code.now board.old board.new worker place) }
 {
     let frame = place as usize;
     let Some(brief) = board.asked.brief() else {

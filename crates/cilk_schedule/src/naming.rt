@@ -1,6 +1,11 @@
-//! Events by names that no schedule changes.
+//! Events by the places of frames in the order in which they began, and the paths of frames, which no schedule changes.
 
-ghost use Rattle.std.specs.Prelude.{◌≡◌, ◌≤◌, ℕ, List, length, reverse, IfOk};
+ghost use Rattle.std.specs.Prelude.{◌≡◌, ◌<◌, ◌≤◌, ℕ, suc, List, length, reverse, slice_get, Some, IfOk};
+ghost use Rattle.cilk_activations.specs.declared.activation.Activation.{Activation};
+ghost use Rattle.cilk_board.specs.Numbered.{AreNamed};
+ghost use Rattle.cilk_board.specs.declared.seat.Seat.{Seat};
+ghost use Rattle.cilk_runs.specs.Runs.{Name};
+ghost use Rattle.cilk_schedule.specs.declared.naming.ReducerName.TheVariants as reducers;
 ghost use Rattle.cilk_schedule.specs.Machines.{OrdinalsUp};
 
 use cilk_activations::activation::Activation;
@@ -84,7 +89,9 @@ pub fn named(frames: &[Activation<Seat>], globals: usize, event: Event) -> Shown
 }
 
 // The ordinal of the frame with this number; 0 where there is none.
-fn ordinal(frames: &[Activation<Seat>], number: FrameNo) -> u32 {
+fn ordinal(frames: &[Activation<Seat>], number: FrameNo) -> u32
+    ensures { (k : ℕ) (x : Activation Seat) → number ≡ suc k → slice_get frames.now k ≡ Some x → result ≡ (let a = x.cursor in a.ordinal) }
+{
     let Some(place) = number.checked_sub(1) else {
         return 0;
     };
@@ -111,7 +118,10 @@ fn named_cell(frames: &[Activation<Seat>], globals: usize, cell: Cell) -> CellNa
 }
 
 // A reducer by its frame's place, and its own from 0.
-fn named_reducer(instance: Instance) -> ReducerName {
+fn named_reducer(instance: Instance) -> ReducerName
+    ensures output { instance.frame ≡ 0 → result ≡ reducers.Output }
+    ensures own { (k q : ℕ) → instance.frame ≡ suc k → instance.place ≡ suc q → result ≡ reducers.Own k q }
+{
     if instance.frame == 0 {
         return ReducerName::Output;
     }
@@ -127,7 +137,8 @@ pub fn path(
     frames: &[Activation<Seat>],
     frame: usize,
 ) -> Result<Vec<u32>, AllocError>
-    ensures { (up : List ℕ) → OrdinalsUp frames.now frame up → length up ≤ length frames.now → IfOk result (λ list. list.items ≡ reverse up) }
+    ensures up { (up : List ℕ) → OrdinalsUp frames.now frame up → length up ≤ length frames.now → IfOk result (λ list. list.items ≡ reverse up) }
+    ensures name { (name : ℕ → Name) → AreNamed frames.now name → frame < length frames.now → IfOk result (λ list. list.items ≡ name frame) }
 {
     let mut path = Vec::new(alloc);
     let mut place = frame;

@@ -1,9 +1,14 @@
 //! The state of a machine as it opens.
 
-ghost use Rattle.std.specs.Prelude.{◌≡◌, ◌+◌, ◌≤◌, ◌<◌, ℤ, List, None, length, IfOk, OnOk};
-ghost use Rattle.cilk_schedule.specs.Sound.{IsCode, Runs};
+ghost use Rattle.std.specs.Prelude.{◌≡◌, ◌+◌, ◌-◌, ◌≤◌, ◌<◌, ◌++◌, ℕ, ℤ, pos, List, None, Some, length, replicate, slice_get, IfOk, OnOk};
+ghost use Rattle.cilk_board.specs.Parts.{OpensAs};
+ghost use Rattle.cilk_board.specs.declared.seat.Worker as seat;
+ghost use Rattle.cilk_program.specs.Syntax.{Source};
+ghost use Rattle.cilk_schedule.specs.Reached.{HasOpened};
+ghost use Rattle.cilk_schedule.specs.Sound.{IsCode, IsCodeOf, Runs};
 
 use cilk_activations::beginnings::root;
+use cilk_board::beginning::add_cells;
 use cilk_board::board::Board;
 use cilk_board::seat::{Seat, Worker};
 use cilk_frames::asked::AskSlot;
@@ -20,6 +25,7 @@ pub fn open(alloc: Global, code: &Code, workers: u32) -> Result<Board, AllocErro
     ensures runs { IfOk result (λ b. (inputs : List ℤ) → Runs code.now inputs b) }
     ensures workers { IfOk result (λ b. length b.workers.items ≡ workers) }
     ensures running { IfOk result (λ b. (b.stopped ≡ None) × (b.outcome ≡ None)) }
+    ensures opened { IfOk result (λ b. 0 < workers → (p : Source) (inputs : List ℤ) → IsCodeOf p code.now → HasOpened code.now p inputs b (workers - 1)) }
 {
     let layout = code.layout();
     let mut cells = Vec::from_slice(alloc, layout.openings.as_slice())?;
@@ -42,27 +48,25 @@ pub fn open(alloc: Global, code: &Code, workers: u32) -> Result<Board, AllocErro
     })
 }
 
-/// So many cells more, which hold 0.
-pub fn add_cells(cells: &mut Vec<i64>, count: u32) -> Result<(), AllocError>
-    ensures { OnOk result (length cells.new.items ≡ length cells.old.items + count) }
-{
-    'each: for _ in 0..count {
-        cells.push(0)?;
-    }
-    Ok(())
-}
-
 // The first holds the first frame.
 fn first_workers(alloc: Global, count: u32) -> Result<Vec<Worker>, AllocError>
-    ensures { IfOk result (λ list. length list.items ≡ count) }
+    ensures count { IfOk result (λ list. length list.items ≡ count) }
+    ensures opens { IfOk result (λ list. (v : ℕ) (u : seat.Worker) → slice_get list.items v ≡ Some u → OpensAs v u) }
 {
     let mut workers = Vec::new(alloc);
     'each: for number in 0..count {
-        workers.push(Worker {
-            frame: if number == 0 { Some(0) } else { None },
-            views: Hypermap::new(alloc),
-            offered: VecDeque::new(alloc),
-        })?;
+        workers.push(first_worker(alloc, number))?;
     }
     Ok(workers)
+}
+
+// The worker at this place.
+fn first_worker(alloc: Global, place: u32) -> Worker
+    ensures { OpensAs place result }
+{
+    Worker {
+        frame: if place == 0 { Some(0) } else { None },
+        views: Hypermap::new(alloc),
+        offered: VecDeque::new(alloc),
+    }
 }

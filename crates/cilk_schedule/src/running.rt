@@ -1,19 +1,26 @@
 //! A choice, and a worker that goes on with the frame that it holds.
 
-ghost use Rattle.std.specs.Prelude.{◌≡◌, ◌≢◌, ◌+◌, ◌-◌, ◌<◌, ◌≤◌, ◌^◌, ℕ, ℤ, List, Err, None, Ok, Some, length, slice_get, IfOk, IfErr, IsTrue, MatchOption};
+ghost use Rattle.std.specs.Prelude.{◌≡◌, ◌≢◌, ◌+◌, ◌-◌, ◌<◌, ◌≤◌, ◌^◌, ℕ, ℤ, true, false, List, Err, None, Ok, Some, length, slice_get, IfOk, IfErr, IsTrue, MatchOption};
 ghost use Rattle.cilk_program.specs.declared.ask.Ask.TheVariants as asks;
 ghost use Rattle.cilk_activations.specs.declared.activation.Activation.{Activation};
 ghost use Rattle.cilk_board.specs.declared.choice.Act.{Act};
 ghost use Rattle.cilk_board.specs.declared.choice.Stop.{Stop};
 ghost use Rattle.cilk_board.specs.declared.choice.Stop.TheVariants as stops;
 ghost use Rattle.cilk_board.specs.Asking.{refusal};
+ghost use Rattle.cilk_board.specs.Parts.{must_wait};
 ghost use Rattle.cilk_board.specs.declared.choice.Told.TheVariants as told;
 ghost use Rattle.cilk_board.specs.declared.seat.Seat.{Seat};
 ghost use Rattle.cilk_types.specs.declared.event.Event.{Event};
+ghost use Rattle.cilk_types.specs.declared.event.Event.TheVariants as events;
 ghost use Rattle.cilk_board.specs.declared.choice.Choice.TheVariants as choices;
 ghost use Rattle.cilk_schedule.specs.Acts.{EventsAreSteps, IsTouch, WentTo, Wrote};
 ghost use Rattle.cilk_schedule.specs.Choices.{CanChoose, IsReadyAt, Writes};
-ghost use Rattle.cilk_schedule.specs.Sound.{IsAccepted, IsAsked, Runs, SameShown, strand_in};
+ghost use Rattle.cilk_schedule.specs.Passing.{SkipsAreSteps, StealsAreSteps, SyncsAreSteps, WaitsAreSteps, WroteSync};
+ghost use Rattle.cilk_schedule.specs.Ends.{EndsAreSteps, TellsEnd};
+ghost use Rattle.cilk_schedule.specs.Faults.{FaultsAreStops, KeepsTold};
+ghost use Rattle.cilk_schedule.specs.Starting.{StartsAreSteps, TellsStart};
+ghost use Rattle.cilk_schedule.specs.Sound.{IsAccepted, IsAsked, Runs, SameShown};
+ghost use Rattle.cilk_board.specs.Stopping.{latest};
 
 use crate::arrivals::{must_wait, wait_at};
 use crate::making::make;
@@ -51,6 +58,14 @@ pub fn choose(
     ensures vain { board.old.stopped ≡ None → (CanChoose board.old choice → ⊥) → result ≡ Ok told.Skipped }
     ensures journal { Writes result board.old.journal.items board.new.journal.items }
     ensures steps { IfOk result (λ t. EventsAreSteps code.now input.now board.old board.new choice t) }
+    ensures starts { IfOk result (λ t. StartsAreSteps code.now input.now board.old board.new choice t) }
+    ensures thieves { IfOk result (λ t. StealsAreSteps code.now input.now board.old board.new choice t) }
+    ensures waits { IfOk result (λ t. WaitsAreSteps code.now input.now board.old board.new choice t) }
+    ensures syncs { IfOk result (λ t. SyncsAreSteps code.now input.now board.old board.new choice t) }
+    ensures skips { IfOk result (λ t. SkipsAreSteps code.now input.now board.old board.new choice t) }
+    ensures ends { IfOk result (λ t. EndsAreSteps code.now input.now board.old board.new choice t) }
+    ensures faults { IfErr result (λ stop. board.old.stopped ≡ None → FaultsAreStops code.now input.now board.old board.new choice stop) }
+    ensures kept { IfErr result (λ stop. board.old.stopped ≡ None → KeepsTold board.old board.new) }
 {
     if let Some(stop) = board.stopped {
         return Err(stop);
@@ -84,13 +99,20 @@ fn run(
     ensures vain { ((k : ℕ) → IsReadyAt board.old worker k → ⊥) → result ≡ Ok told.Skipped }
     ensures journal { Writes result board.old.journal.items board.new.journal.items }
     ensures steps { IfOk result (λ t. board.old.outcome ≡ None → EventsAreSteps code.now input.now board.old board.new (choices.Run worker) t) }
+    ensures starts { IfOk result (λ t. board.old.outcome ≡ None → StartsAreSteps code.now input.now board.old board.new (choices.Run worker) t) }
+    ensures thieves { IfOk result (λ t. StealsAreSteps code.now input.now board.old board.new (choices.Run worker) t) }
+    ensures waits { IfOk result (λ t. board.old.outcome ≡ None → WaitsAreSteps code.now input.now board.old board.new (choices.Run worker) t) }
+    ensures syncs { IfOk result (λ t. board.old.outcome ≡ None → SyncsAreSteps code.now input.now board.old board.new (choices.Run worker) t) }
+    ensures ends { IfOk result (λ t. board.old.outcome ≡ None → EndsAreSteps code.now input.now board.old board.new (choices.Run worker) t) }
+    ensures faults { IfErr result (λ stop. FaultsAreStops code.now input.now board.old board.new (choices.Run worker) stop) }
+    ensures kept { IfErr result (λ stop. KeepsTold board.old board.new) }
 {
     let Some(frame) = ready(board, worker) else {
         return Ok(Told::Skipped);
     };
     let worker = worker as usize - 1;
     come(code, input, board, frame);
-    if at_sync(&board.asked) && must_wait(board.frames.as_slice(), frame as usize) {
+    if stays_behind(board, frame as usize) {
         wait_at(alloc, board, worker, frame as usize)?;
         return Ok(Told::Waits);
     }
@@ -133,7 +155,13 @@ fn act(
     ensures did { IfOk result (λ t. (act : Act) × (t ≡ told.Did act)) }
     ensures journal { Writes result board.old.journal.items board.new.journal.items }
     ensures stopped { board.new.stopped ≡ board.old.stopped }
+    ensures synced { IfOk result (λ t. (e : Event) × (t ≡ told.Did (record { frame = frame + 1; event = e }))
+        × (e ≡ events.Sync → WroteSync board.old board.new worker frame)) }
     ensures wrote { IfOk result (λ t. (e : Event) × (t ≡ told.Did (record { frame = frame + 1; event = e })) × (IsTouch e → Wrote board.old board.new worker frame e)) }
+    ensures starts { IfOk result (λ t. TellsStart code.now board.old board.new worker frame t) }
+    ensures ends { IfOk result (λ t. TellsEnd code.now board.old board.new worker frame t) }
+    ensures memory { IfErr result (λ stop. stop ≡ stops.Memory) }
+    ensures kept { IfErr result (λ stop. KeepsTold board.old board.new) }
 {
     board.journal.reserve(1)?;
     let event = make(alloc, code, board, worker, frame)?;
@@ -162,9 +190,21 @@ fn ready(board: &Board, worker: u32) -> Option<u32>
     Some(frame)
 }
 
+// Whether the frame has come to a sync at which it has to wait.
+fn stays_behind(board: &Board, frame: usize) -> bool
+    requires { frame < length board.now.frames.items }
+    ensures waits { IsTrue result → (board.now.asked ≡ asks.Sync)
+        × ((a : Activation Seat) → slice_get board.now.frames.items frame ≡ Some a → must_wait a.cursor ≡ true) }
+    ensures passes { result ≡ false → board.now.asked ≡ asks.Sync
+        → (a : Activation Seat) → slice_get board.now.frames.items frame ≡ Some a → must_wait a.cursor ≡ false }
+{
+    at_sync(&board.asked) && must_wait(board.frames.as_slice(), frame)
+}
+
 // Whether a sync is asked for.
 fn at_sync(asked: &AskSlot) -> bool
-    ensures { IsTrue result → asked.now ≡ asks.Sync }
+    ensures is { IsTrue result → asked.now ≡ asks.Sync }
+    ensures told { asked.now ≡ asks.Sync → result ≡ true }
 {
     match asked.brief() {
         Some(Brief::Sync) => true,
@@ -196,7 +236,7 @@ fn refused(code: &Code, board: &Board, frame: usize) -> Option<Fault>
 fn stop_at(frames: &[Activation<Seat>], frame: u32, fault: Fault) -> Stop
     requires here { frame < length frames.now }
     requires few { length frames.now < 2 ^ 31 }
-    ensures { (a : Activation Seat) → slice_get frames.now frame ≡ Some a → result ≡ stops.At fault (record { frame = frame + 1; number = strand_in a.cursor.strands }) }
+    ensures { (a : Activation Seat) → slice_get frames.now frame ≡ Some a → result ≡ stops.At fault (record { frame = frame + 1; number = latest a.cursor.strands }) }
 {
     let strands = frames[frame as usize].cursor.strands;
     Stop::At {

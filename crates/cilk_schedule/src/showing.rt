@@ -1,6 +1,9 @@
 //! What a run shows: the events of each frame by names that no schedule changes, which children were joined, and the outcome.
 
-ghost use Rattle.std.specs.Prelude.{◌≡◌, length, IfOk};
+ghost use Rattle.std.specs.Prelude.{◌≡◌, length, slice_get, IfOk, OnOk};
+ghost use Rattle.std.specs.Option.{option_map};
+ghost use Rattle.cilk_schedule.specs.Links.{links_in, links_of};
+ghost use Rattle.cilk_schedule.specs.declared.showing.ShownFrame.{ShownFrame};
 
 use crate::naming::{ShownEvent, named};
 use cilk_activations::activation::Activation;
@@ -43,12 +46,16 @@ impl Shown {
     }
 
     /// How many frames have begun. They have places from 0 on, in the order in which they began.
-    pub fn frames(&self) -> usize {
+    pub fn frames(&self) -> usize
+        ensures { result ≡ length self.now.frames.items }
+    {
         self.frames.len()
     }
 
     /// The link of the frame at a place, if there is one.
-    pub fn link(&self, place: u32) -> Option<Link> {
+    pub fn link(&self, place: u32) -> Option<Link>
+        ensures { result ≡ option_map (λ (f : ShownFrame). f.link) (slice_get self.now.frames.items place) }
+    {
         let frame = self.frames.get(place as usize)?;
         Some(frame.link)
     }
@@ -92,7 +99,8 @@ impl Shown {
 /// What a board shows. The first so many cells are global. The time is linear in frames and events, but for the search for a
 /// cell's frame.
 pub fn show(alloc: Global, board: &Board, globals: usize) -> Result<Shown, AllocError>
-    ensures { IfOk result (λ shown. shown.outcome ≡ board.now.outcome) }
+    ensures outcome { IfOk result (λ shown. shown.outcome ≡ board.now.outcome) }
+    ensures links { IfOk result (λ shown. links_in shown.frames.items ≡ links_of board.now.frames.items) }
 {
     let mut frames = links(alloc, board.frames.as_slice())?;
     let mut joined = unjoined(alloc, board.frames.len())?;
@@ -117,7 +125,9 @@ pub fn show(alloc: Global, board: &Board, globals: usize) -> Result<Shown, Alloc
 }
 
 // The frames' links, with no events yet.
-fn links(alloc: Global, frames: &[Activation<Seat>]) -> Result<Vec<ShownFrame>, AllocError> {
+fn links(alloc: Global, frames: &[Activation<Seat>]) -> Result<Vec<ShownFrame>, AllocError>
+    ensures { IfOk result (λ list. links_in list.items ≡ links_of frames.now) }
+{
     let mut list = Vec::with_capacity(alloc, frames.len())?;
     'each: for frame in frames {
         let link = Link {
@@ -136,7 +146,9 @@ fn links(alloc: Global, frames: &[Activation<Seat>]) -> Result<Vec<ShownFrame>, 
 }
 
 // The next frame is a child of the one that its link names, but for the first frame, which has no ordinal.
-fn add_child(list: &mut Vec<ShownFrame>, link: Link) -> Result<(), AllocError> {
+fn add_child(list: &mut Vec<ShownFrame>, link: Link) -> Result<(), AllocError>
+    ensures { OnOk result (links_in list.new.items ≡ links_in list.old.items) }
+{
     if link.ordinal == 0 {
         return Ok(());
     }
@@ -163,7 +175,9 @@ fn place(
     list: &mut Vec<ShownFrame>,
     joined: &mut Vec<bool>,
     entry: JournalEntry,
-) -> Result<(), AllocError> {
+) -> Result<(), AllocError>
+    ensures { OnOk result (links_in list.new.items ≡ links_in list.old.items) }
+{
     let Some(frame) = list.get_mut(entry.frame as usize) else {
         return Ok(());
     };

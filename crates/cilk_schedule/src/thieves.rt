@@ -1,14 +1,20 @@
 //! Workers that take continuations.
 
-ghost use Rattle.std.specs.Prelude.{◌≡◌, ◌<◌, ◌≤◌, ◌⊎◌, ℕ, ℤ, true, List, None, Ok, Some, length, slice_get, IfOk, IsTrue, MatchOption, OnOk};
+ghost use Rattle.std.specs.Prelude.{◌≡◌, ◌<◌, ◌≤◌, ◌⊎◌, ℕ, ℤ, true, List, None, Ok, Some, length, slice_get, IfErr, IfOk, IfSome, IsTrue, MatchOption, OnErr, OnOk};
 ghost use Rattle.cilk_join.specs.Joins.{IsOpen};
 ghost use Rattle.cilk_lower.specs.Code.{CodeView};
 ghost use Rattle.cilk_activations.specs.declared.activation.Activation.{Activation};
 ghost use Rattle.cilk_board.specs.Events.{block_in};
+ghost use Rattle.cilk_board.specs.Stopping.{StandAsBefore};
 ghost use Rattle.cilk_board.specs.Workers.{IsLocated, offers};
+ghost use Rattle.cilk_board.specs.declared.choice.Choice.TheVariants as choices;
+ghost use Rattle.cilk_board.specs.declared.choice.Stop.TheVariants as stops;
 ghost use Rattle.cilk_board.specs.declared.choice.Told.TheVariants as told;
 ghost use Rattle.cilk_board.specs.declared.seat.Seat.{Seat};
+ghost use Rattle.cilk_board.specs.declared.seat.Worker.{Worker};
 ghost use Rattle.cilk_schedule.specs.Choices.{CanSteal};
+ghost use Rattle.cilk_schedule.specs.Faults.{KeepsTold};
+ghost use Rattle.cilk_schedule.specs.Passing.{HasNoView, OffersLess, Robs, StealsAreSteps};
 ghost use Rattle.cilk_schedule.specs.Sound.{IsQuiet, Runs};
 
 use crate::ending::hold;
@@ -34,6 +40,10 @@ pub fn steal(alloc: Global, board: &mut Board, worker: u32, place: usize) -> Res
     ensures kind { IfOk result (λ t. (t ≡ told.Stole) ⊎ (t ≡ told.Skipped)) }
     ensures made { (k : ℕ) → CanSteal board.old worker place k → result ≡ Ok told.Skipped → ⊥ }
     ensures vain { ((k : ℕ) → CanSteal board.old worker place k → ⊥) → result ≡ Ok told.Skipped }
+    ensures thieves { IfOk result (λ t. board.old.outcome ≡ None → (code : CodeView) (inputs : List ℤ)
+        → StealsAreSteps code inputs board.old board.new (choices.Steal worker place) t) }
+    ensures memory { IfErr result (λ stop. stop ≡ stops.Memory) }
+    ensures kept { IfErr result (λ stop. KeepsTold board.old board.new) }
 {
     let Some(found) = find(board, worker, place) else {
         return Ok(Told::Skipped);
@@ -57,7 +67,8 @@ struct Offer {
 
 // The continuation at this place among all, if the worker is idle and may take it.
 fn find(board: &Board, worker: u32, place: usize) -> Option<Offer>
-    ensures { MatchOption result ((k : ℕ) → CanSteal board.now worker place k → ⊥) (λ found. CanSteal board.now worker place found.frame) }
+    ensures can { MatchOption result ((k : ℕ) → CanSteal board.now worker place k → ⊥) (λ found. CanSteal board.now worker place found.frame) }
+    ensures stands { IfSome result (λ found. (g : IsLocated board.now.workers.items place found.victim found.index) × (g.1 ≡ found.frame)) }
 {
     if !is_idle(board.workers.as_slice(), worker) || place >= board.offered {
         return None;
@@ -81,7 +92,9 @@ fn rob_at(alloc: Global, frames: &mut Vec<Activation<Seat>>, frame: usize) -> Re
     requires here { frame < length frames.old.items }
     requires opens { (a : Activation Seat) → slice_get frames.old.items frame ≡ Some a → IsOpen (block_in a.cursor.join) a.cursor.children }
     requires last { (a : Activation Seat) → slice_get frames.old.items frame ≡ Some a → a.cursor.last < length frames.old.items }
-    ensures { OnOk result (IsQuiet frames.old.items frames.new.items) }
+    ensures quiet { OnOk result (IsQuiet frames.old.items frames.new.items) }
+    ensures robs { OnOk result (Robs frames.old.items frames.new.items frame) }
+    ensures stands { OnErr result (StandAsBefore frames.old.items frames.new.items) }
 {
     let child = frames[frame].cursor.last;
     await_last(alloc, &mut frames[frame].cursor)?;
@@ -116,16 +129,18 @@ fn may_steal(frames: &[Activation<Seat>], frame: usize) -> bool
 // The worker has no views.
 fn clear(alloc: Global, workers: &mut Vec<Worker>, worker: usize)
     requires { worker < length workers.old.items }
-    ensures { length workers.new.items ≡ length workers.old.items }
+    ensures count { length workers.new.items ≡ length workers.old.items }
+    ensures views { HasNoView workers.old.items workers.new.items worker }
 {
     workers[worker].views = Hypermap::new(alloc);
 }
 
 // A worker no longer offers the continuation at a place of its list.
 fn withdraw_at(workers: &mut Vec<Worker>, worker: usize, index: usize)
-    ensures { length workers.new.items ≡ length workers.old.items }
+    requires here { worker < length workers.old.items }
+    requires stands { (u : Worker) → slice_get workers.old.items worker ≡ Some u → index < length u.offered.items }
+    ensures count { length workers.new.items ≡ length workers.old.items }
+    ensures less { OffersLess workers.old.items workers.new.items worker index }
 {
-    if let Some(worker) = workers.get_mut(worker) {
-        let _frame = worker.offered.remove(index);
-    }
+    let _frame = workers[worker].offered.remove(index);
 }

@@ -1,2 +1,3 @@
 pub mod Choices
 pub mod Scripts
+pub mod OneScript

@@ -507,8 +507,9 @@ reached s law v a p sits some_done no_resume other q b = sits.known (p - 1) (ome
     ahead q (through {e = e} b there) = inr (subst (λ j. Before s q j) (near e there) b)
 
 -- where the run departs
-pub departing : (s : Story) (law : IsOrderly s) (v : View) (a p : ℕ) → Sits s v a p → a < p → ((k : ℕ) → what s p ≢ resume k) → (IsAsked s p → ⊥) → Departs s p
-departing s law v a p sits some_done no_resume differs = record {
+pub departing : (s : Story) (law : IsOrderly s) (v : View) (a p : ℕ) → Sits s v a p → a < p → ((k : ℕ) → what s p ≢ resume k) → p ≤ length s.events → (IsAsked s p → ⊥) → Departs s p
+departing s law v a p sits some_done no_resume within differs = record {
+  place = (omega arith, within);
   reached = record {
     sync = λ _ e near. sits.known e (omega arith) (omega arith);
     other = λ other q b. reached s law v a p sits some_done no_resume other q b;

@@ -13,13 +13,21 @@ use std::alloc::{AllocError, Global};
 pub(crate) fn first_words(alloc: Global, plan: &Plan) -> Result<Vec<u64>, AllocError>
     ensures { IfOk result (λ v. v.items ≡ map word plan.now.opening ++ replicate (length plan.now.events + 1) 0) }
 {
-    let mut words = Vec::new(alloc);
+    let mut words = Vec::with_capacity(alloc, count(plan))?;
     for value in plan.opening() {
         words.push(value.cast_unsigned())?;
     }
     let zeros = Vec::from_elem(alloc, 0, plan.count() + 1)?;
     words.extend_from_slice(zeros.as_slice())?;
     Ok(words)
+}
+
+// How many words the run of a plan has.
+fn count(plan: &Plan) -> usize
+    ensures { result ≡ length plan.now.opening + (length plan.now.events + 1) }
+{
+    plan.laws();
+    plan.opening().len() + plan.count() + 1
 }
 
 /// The values of the first words, one for each cell.

@@ -458,10 +458,11 @@ impl Segment {
         let _from = self.from;
     }
 
-    /// Where the frame doesn't ask for the next event, the run departs from the plan there: that position.
+    /// Where there is a next event that the frame doesn't ask for, the run departs from the plan there: that position.
     pub fn departs(&self, yard: &Yard) -> Pos
         requires yard { OfYard yard.now self.now }
         requires next { IsAhead self.now }
+        requires within { self.now.upto ≤ length self.now.story.events }
         requires differs { IsAsked self.now.story self.now.upto → ⊥ }
         ensures place { result ≡ self.now.upto }
         ensures departs { Departs self.now.story result }

@@ -1,6 +1,7 @@
 -- A story on an input: how far its frames ask for its events.
 use Rattle.std.specs.Prelude.{◌≡◌, ◌≢◌, ℕ, ◌+◌, ◌-◌, ◌⊎◌, true, false, Some, slice_index_or}
 use Rattle.cilk_types.specs.declared.event.Event.TheVariants.{Sync}
+use Rattle.cilk_tree.specs.Before.{IsPosition}
 use Rattle.cilk_story.specs.declared.story.Story.{Story}
 use Rattle.cilk_story.specs.Word.{event, Before}
 
@@ -19,5 +20,6 @@ pub record IsReached (s : Story) (p : ℕ) : Type 0 where
 
 -- the run departs from the story at the position
 pub record Departs (s : Story) (p : ℕ) : Type 0 where
+  pub place : IsPosition s.events p
   pub reached : IsReached s p
   pub differs : IsAsked s p → ⊥

@@ -1,3 +1,3 @@
 pub mod Checked
 pub mod OtherRuns
-pub mod TwoGets
+pub mod Own

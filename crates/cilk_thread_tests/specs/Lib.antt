@@ -1,3 +1,2 @@
 pub mod Others
 pub mod Settings
-pub mod Worked

@@ -1,11 +1,15 @@
-//! Where runs on other inputs depart from the plan of a run: at the first event that is of another kind, or that a fault replaces.
+//! Where runs on other inputs depart from the plan of a run: at the first event that is of another kind, or that a fault replaces; what the
+//! frames of a run run.
 
 use crate::others::{squares, turns};
-use crate::worked::trace;
+use crate::texts::{GETS, SQUARES, TURNS, accepted};
 use cilk_names::resolve::resolve;
 use cilk_parser::parse::parse;
 use cilk_plan::kind::without_value;
-use cilk_program::program::Program;
+use cilk_planning::bodies::bodies;
+use cilk_planning::planning::plan;
+use cilk_planning::yards::yard;
+use cilk_program::program::{Body, Program};
 use cilk_serial::fault::RunFault;
 use cilk_serial::run::run;
 use cilk_types::event::Pos;
@@ -16,15 +20,6 @@ use cilk_types::word_list::WordList;
 use std::alloc::Global;
 use std::process::Abort;
 use std::test::Fail;
-
-const SQUARES: &str =
-    "int a[4]; int main() { cilk_for (int i = 0; i < 4; i++) { a[i] = input(i) * input(i); } return a[0] + a[3]; }";
-
-const TURNS: &str =
-    "int a[7]; int main() { int n = input(0); cilk_for (int i = 0; i < n; i++) { a[i] = i; } return a[6]; }";
-
-const GETS: &str =
-    "int g = 7; int get() { return g; } int main() { int x; int y; x = cilk_spawn get(); y = cilk_spawn get(); cilk_sync; return x + y; }";
 
 fn program_of(rt: &impl Abort, alloc: Global, text: &str) -> Program {
     let Ok(tree) = parse(alloc, text.as_bytes()) else {
@@ -64,6 +59,15 @@ const INPUTS: [(&str, &[i64], &[i64], Result<i64, Pos>); 4] = [
     (SQUARES, &[1, 2, 3, 4], &[5, 6, 7], Err(46)),
     (TURNS, &[1], &[0], Err(4)),
     (TURNS, &[1], &[7], Err(6)),
+];
+
+// A program's text, the input of its plan, and another input.
+const YARDS: [(&str, &str, &[i64]); 5] = [
+    (SQUARES, "1 2 3 4", &[5, 6, 7, 8]),
+    (SQUARES, "1 2 3 4", &[5, 6, 7]),
+    (TURNS, "1", &[0]),
+    (TURNS, "1", &[7]),
+    (GETS, "", &[]),
 ];
 
 #[test]
@@ -108,21 +112,36 @@ fn is_run_of(rt: &impl Abort, alloc: Global, text: &str, input: &[i64], events: 
 #[test]
 fn worked_runs_are_those_of_programs(rt: HostRuntime) -> Result<(), Fail> {
     let alloc = rt.alloc();
-    is_run_of(&rt, alloc, GETS, &[], &trace(alloc)?);
-    is_run_of(
-        &rt,
-        alloc,
-        SQUARES,
-        &[1, 2, 3, 4],
-        &squares(alloc, 1, 4, 9, 16)?,
-    );
-    is_run_of(
-        &rt,
-        alloc,
-        SQUARES,
-        &[5, 6, 7, 8],
-        &squares(alloc, 25, 36, 49, 64)?,
-    );
+    let own = squares(alloc, 1, 4, 9, 16)?;
+    is_run_of(&rt, alloc, SQUARES, &[1, 2, 3, 4], &own);
+    let other = squares(alloc, 25, 36, 49, 64)?;
+    is_run_of(&rt, alloc, SQUARES, &[5, 6, 7, 8], &other);
     is_run_of(&rt, alloc, TURNS, &[1], &turns(alloc, 1)?);
+    Ok(())
+}
+
+#[test]
+fn yards_are_made_on_other_inputs(rt: HostRuntime) -> Result<(), Fail> {
+    let alloc = rt.alloc();
+    for (text, input, other) in YARDS {
+        let accepted = accepted(&rt, alloc, text, input);
+        let plan = plan(alloc, &accepted)?;
+        let other = input_of(&rt, alloc, other);
+        let (yard, mut segment) = yard(alloc, &accepted, &plan, &other)?;
+        assert!(rt; segment.from() == 1 && segment.upto() == 2);
+        assert!(rt; !yard.ended(&mut segment));
+    }
+    Ok(())
+}
+
+#[test]
+fn frames_run_functions_and_loops(rt: HostRuntime) -> Result<(), Fail> {
+    let alloc = rt.alloc();
+    let gets = bodies(alloc, &accepted(&rt, alloc, GETS, ""))?;
+    let get = Body::Function(0);
+    assert_eq!(rt; gets.as_slice(), [Body::Function(1), get, get].as_slice());
+    let turns = bodies(alloc, &accepted(&rt, alloc, TURNS, "1"))?;
+    let main = Body::Function(0);
+    assert_eq!(rt; turns.as_slice(), [main, Body::Loop(0)].as_slice());
     Ok(())
 }

@@ -1,8 +1,9 @@
 //! Tests of a yard with two real threads, and of plans on other inputs.
 //!
-//! [`worked`] has a worked run and its plan, [`steps`] makes a segment's next event as that run does, and [`two_threads`] forces an
-//! order of the events of two threads by messages, each of which is waited for at most ten seconds. [`inputs`] has runs on other inputs, and
-//! where they depart from a plan; [`others`] has two of those programs' runs as stories, and [`other_inputs`] makes them on a yard.
+//! [`texts`] makes accepted programs from texts, and [`settings`] their plans and yards. [`steps`] makes a segment's next event as the
+//! yard's run does, and [`two_threads`] forces an order of the events of two threads by messages, each of which is waited for at most ten
+//! seconds. [`inputs`] has runs on other inputs, and where they depart from a plan; [`others`] has two programs' runs on other inputs as
+//! stories, and [`other_inputs`] makes them on a yard.
 #![tactic(auto)]
 
 #[cfg(test)]
@@ -12,6 +13,6 @@ mod other_inputs;
 pub mod others;
 pub mod settings;
 pub mod steps;
+pub mod texts;
 #[cfg(test)]
 mod two_threads;
-pub mod worked;

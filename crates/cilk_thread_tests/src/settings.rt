@@ -1,6 +1,6 @@
-//! The worked programs on other inputs than those of their plans.
+//! Worked programs from their texts: on their own inputs, and on others than those of their plans.
 
-ghost use Rattle.std.specs.Prelude.{◌≡◌, ◌∷◌, [], pos, IfOk};
+ghost use Rattle.std.specs.Prelude.{◌≡◌, ◌∷◌, [], pos, true, replicate, IfOk};
 ghost use Rattle.cilk_shared.specs.Values.{OfYard};
 ghost use Rattle.cilk_thread_tests.specs.Others.{four, three};
 ghost use Rattle.cilk_thread_tests.specs.Settings.{AreOf};
@@ -8,12 +8,16 @@ ghost use Rattle.cilk_thread_tests.specs.Settings.{AreOf};
 use crate::others::{
     asked_up_to, squares, squares_plan, squares_yard, turns, turns_plan, turns_yard,
 };
+use crate::texts::accepted;
 use cilk_plan::plan::Plan;
+use cilk_planning::planning::plan;
+use cilk_planning::yards::yard;
 use cilk_shared::yard::{Segment, Yard};
 use cilk_types::input::Input;
 use cilk_types::trace::Trace;
 use cilk_types::word_list::WordList;
 use std::alloc::{AllocError, Global};
+use std::process::Abort;
 
 /// A yard, its first segment, the plan that its story is along, that story's events, and which of them it asks for.
 #[derive(Drop)]
@@ -23,6 +27,46 @@ pub struct Setting {
     pub segment: Segment,
     pub events: Trace,
     pub asked: Vec<bool>,
+}
+
+/// The program of a text along its plan, on its own input: it asks for each event.
+pub fn on_its_own<R: Abort>(
+    rt: &R,
+    alloc: Global,
+    text: &str,
+    numbers: &str,
+) -> Result<Setting, AllocError>
+    ensures segment { IfOk result (λ s. OfYard s.yard s.segment) }
+    ensures run { IfOk result (λ s. AreOf s.yard.story s.plan s.events s.asked.items) }
+{
+    let accepted = accepted(rt, alloc, text, numbers);
+    let plan = plan(alloc, &accepted)?;
+    let (yard, segment) = yard(alloc, &accepted, &plan, accepted.input())?;
+    let events = copied(alloc, accepted.trace())?;
+    let asked = all_asked(alloc, events.len())?;
+    Ok(Setting {
+        plan,
+        yard,
+        segment,
+        events,
+        asked,
+    })
+}
+
+// The same events once more.
+fn copied(alloc: Global, trace: &Trace) -> Result<Trace, AllocError>
+    ensures { IfOk result (λ copy. copy ≡ trace.now) }
+{
+    let mut events = Vec::new(alloc);
+    events.extend_from_slice(trace.as_slice())?;
+    Ok(Trace::new(events))
+}
+
+// So many events, each of which is asked for.
+fn all_asked(alloc: Global, count: usize) -> Result<Vec<bool>, AllocError>
+    ensures { IfOk result (λ asked. asked.items ≡ replicate count true) }
+{
+    Vec::from_elem(alloc, true, count)
 }
 
 /// The first program on 5 6 7 8, along its run on 1 2 3 4.

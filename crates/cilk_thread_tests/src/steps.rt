@@ -45,7 +45,8 @@ pub fn step(
     ensures { OfYard yard.now segment.new }
 {
     let at = segment.upto();
-    if segment.from() >= at || yard_resumes(yard, plan, at) {
+    let has_next = segment.from() < at && at as usize <= events.len();
+    if !has_next || yard_resumes(yard, plan, at) {
         Done::Nothing
     } else if is_asked(yard, asked, at) {
         made(yard, plan, events, segment)

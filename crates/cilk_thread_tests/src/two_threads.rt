@@ -4,8 +4,9 @@ ghost use Rattle.std.specs.Prelude.{◌≡◌};
 ghost use Rattle.cilk_shared.specs.Values.{OfYard};
 ghost use Rattle.cilk_thread_tests.specs.Settings.{AreOf};
 
+use crate::settings::{Setting, on_its_own};
 use crate::steps::{Done, last_values, step, take};
-use crate::worked::{all_asked, is_of_the_run, plan, trace, yard};
+use crate::texts::GETS;
 use cilk_plan::plan::Plan;
 use cilk_shared::yard::{Segment, Yard};
 use cilk_types::event::{Event, Pos};
@@ -134,13 +135,15 @@ fn ends_with<R: Abort>(
 #[test]
 fn a_thief_takes_the_rest(rt: HostRuntime) -> Result<(), Fail> {
     let alloc = rt.alloc();
-    let trace = trace(alloc)?;
-    let plan = plan(alloc, &trace)?;
-    let events = trace.as_slice();
-    let asked = all_asked(alloc)?;
+    let Setting {
+        plan,
+        yard,
+        segment,
+        events,
+        asked,
+    } = on_its_own(&rt, alloc, GETS, "")?;
+    let events = events.as_slice();
     let asked = asked.as_slice();
-    let (yard, segment) = yard(alloc, &plan)?;
-    is_of_the_run(&yard, &plan, events, asked);
     let (first, second) = yard.apart(segment);
     let (give_ticket, get_ticket) = bounded(alloc, 1)?;
     let (tell_taken, hear_taken) = bounded(alloc, 1)?;
@@ -176,13 +179,15 @@ fn a_thief_takes_the_rest(rt: HostRuntime) -> Result<(), Fail> {
 #[test]
 fn nobody_takes_the_rest(rt: HostRuntime) -> Result<(), Fail> {
     let alloc = rt.alloc();
-    let trace = trace(alloc)?;
-    let plan = plan(alloc, &trace)?;
-    let events = trace.as_slice();
-    let asked = all_asked(alloc)?;
+    let Setting {
+        plan,
+        yard,
+        mut segment,
+        events,
+        asked,
+    } = on_its_own(&rt, alloc, GETS, "")?;
+    let events = events.as_slice();
     let asked = asked.as_slice();
-    let (yard, mut segment) = yard(alloc, &plan)?;
-    is_of_the_run(&yard, &plan, events, asked);
     make_up_to(&rt, &yard, &plan, events, asked, &mut segment, 9);
     assert!(rt; take(&yard, asked, &mut segment, 4));
     make_up_to(&rt, &yard, &plan, events, asked, &mut segment, 16);

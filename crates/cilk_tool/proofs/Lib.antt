@@ -5,3 +5,5 @@ pub mod OneShown
 pub mod Reading
 pub mod Replying
 pub mod Writing
+pub mod Workers
+pub mod OnePlayed

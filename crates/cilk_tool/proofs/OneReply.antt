@@ -2,10 +2,9 @@
 --
 -- `given_once`, `input_once`: the texts are one. `one_refusal`, `one_input_refusal`: a text has one first fault.
 -- `same_given`, `one_refused`, `not_refused`: the texts mean one program and one input, or have one first fault, and
--- not both. `one_judged`, `one_run`, `one_certify`, `one_check`: a command has one reply. `one_refused_text`, `one_play`: so has a script,
--- where a text that is judged ahead of it is refused.
+-- not both. `one_judged`, `one_run`, `one_certify`, `one_check`, `one_play`: a command has one reply.
 -- `one_reply`: and so have words.
-use Rattle.std.proofs.Common.{◌≡◌, ℕ, ℤ, List, take, Option, Some, None, inl, inr, refl, sym, ap, ◌∙◌, subst}
+use Rattle.std.proofs.Common.{◌≡◌, ◌<◌, ℕ, ℤ, List, take, Option, Some, None, refl, sym, ap, ◌∙◌, subst}
 use Rattle.std.specs.Prelude.{◌≢◌, IfSome, IsSome}
 use Rattle.cilk_texts.specs.declared.fault.TextFault.{TextFault}
 use Rattle.cilk_texts.specs.declared.fault.TextFault.TheVariants as text_faults
@@ -18,14 +17,16 @@ use Rattle.cilk_judge.specs.declared.fault.ProgramFault.{ProgramFault}
 use Rattle.cilk_judge.specs.declared.fault.ProgramFault.TheVariants as program_faults
 use Rattle.cilk_judge.proofs.OneMeaning.{one_meaning}
 use Rattle.cilk_tool.specs.declared.streams.TheConstants.{MAX_READ}
-use Rattle.cilk_tool.specs.OneReply.{HasOneReply, IsDecided, IsKnown, IsKnownInput, IsOfTexts}
+use Rattle.cilk_tool.specs.OneReply.{HasOneReply, IsKnown, IsKnownInput, IsOfTexts}
 use Rattle.cilk_tool.specs.Files.{Failures}
 use Rattle.cilk_tool.specs.Replies.{BadInput, BadProgram, BadWords, NoMemory, Reply, Text, Unreadable}
 use Rattle.cilk_tool.specs.Serving.{AreGiven, CertifyReply, CheckReply, GivesInput, GivesProgram, InputFileFails, InputRefused, InputUnread, Judged, JudgedReply, NoneGiven, OriginFails, PlayReply, ProgramRefused, ProgramUnread, RunReply, Unjudged, WordsFail, Surroundings}
-use Rattle.cilk_tool.specs.Shown.{CertifyShows, CheckShows, InputFails, PlayShows, ProgramFails, RunShows, TextShows, input_fault_view, program_fault_view}
+use Rattle.cilk_tool.specs.Shown.{CertifyShows, CheckShows, InputFails, PlayShows, ProgramFails, RunShows, input_fault_view, program_fault_view}
 use Rattle.cilk_tool.specs.Words.{Requested, File, Origin, Standard, order_in}
 use Rattle.cilk_tool.specs.Words as words
 use Rattle.cilk_tool.proofs.OneShown.{certifies_once, checks_once, shows_once}
+use Rattle.cilk_tool.proofs.OnePlayed.{plays_once}
+use Rattle.cilk_tool.proofs.Workers.{HasWorkers, has_workers}
 
 held : (o : Option Text) (f : Text → Text) (x y : Text) → IsSome o → IfSome o (λ all. x ≡ f all)
     → IfSome o (λ all. y ≡ f all) → x ≡ y
@@ -178,47 +179,27 @@ one_check w program certificate input r q x y z h k v u =
     (record { program_is = i; input_is = j }) r q)
     w (File program) input r q x y h k v u
 
--- where a reply is shown of no program and input, a text is refused, and a command over both has one reply
-one_refused_text : (IsShown : Meant → List ℤ → Reply → Type 0) (w : Surroundings) (program : Origin) (input : Option Text) (r q : Reply)
-    → IsKnown w program → IsKnownInput w input → ((m : Meant) (inputs : List ℤ) → IsShown m inputs r → ⊥)
-    → JudgedReply IsShown w program input r → JudgedReply IsShown w program input q → IsOfTexts r → IsOfTexts q → r ≡ q
-one_refused_text IsShown w program input r q x y none (Unjudged h) (Unjudged k) v u =
-    one_refused w program input r q x y v u (refused w program input r v h) (refused w program input q u k)
-one_refused_text IsShown w program input r q x y none (Unjudged h) (Judged m inputs given k) v u =
-    absurd (not_refused w program input m inputs r x y v given (refused w program input r v h))
-one_refused_text IsShown w program input r q x y none (Judged m inputs given h) k v u = absurd (none m inputs h)
-
--- no script shows a fault of these texts
-shows_no_program : (workers n place : ℕ) (text : Text) (m : Meant) (inputs : List ℤ) → TextShows workers text m inputs (BadProgram n place) → ⊥
-shows_no_program workers n place text m inputs h = elim h [ inl k ↦ k | inr k ↦ k.2 ]
-
-shows_no_input : (workers n place : ℕ) (text : Text) (m : Meant) (inputs : List ℤ) → TextShows workers text m inputs (BadInput n place) → ⊥
-shows_no_input workers n place text m inputs h = elim h [ inl k ↦ k | inr k ↦ k.2 ]
-
-one_play : (w : Surroundings) (program script : Text) (workers : ℕ) (input : Option Text) (r q : Reply) → IsKnown w (File program)
-    → IsKnownInput w input → PlayReply w program script workers input r → PlayReply w program script workers input q → IsOfTexts r → IsOfTexts q
-    → IsDecided (Some (words.Play program script workers input)) r → r ≡ q
-one_play w program script workers input (BadProgram n place) q x y h k v u d =
-    one_refused_text (PlayShows script (w.files script) w.failed w.failed' workers) w (File program) input (BadProgram n place) q x y
-    (λ m inputs s. shows_no_program workers n place s.0 m inputs s.2) h k v u
-one_play w program script workers input (BadInput n place) q x y h k v u d =
-    one_refused_text (PlayShows script (w.files script) w.failed w.failed' workers) w (File program) input (BadInput n place) q x y
-    (λ m inputs s. shows_no_input workers n place s.0 m inputs s.2) h k v u
-one_play w program script workers input _ q x y h k v u d = absurd d
+one_play : (w : Surroundings) (program script : Text) (workers : ℕ) (input : Option Text) (r q : Reply) → 0 < workers → IsKnown w (File program)
+    → IsKnownInput w input → IsKnown w (File script) → PlayReply w program script workers input r → PlayReply w program script workers input q
+    → IsOfTexts r → IsOfTexts q → r ≡ q
+one_play w program script workers input r q some x y z h k v u =
+    one_judged (PlayShows script (w.files script) w.failed w.failed' workers)
+    (λ m inputs text numbers i j r q. plays_once script (w.files script) w.failed w.failed' workers some m inputs z r q)
+    w (File program) input r q x y h k v u
 
 bad_words : (r : Reply) → WordsFail r → IsOfTexts r → r ≡ BadWords
 bad_words BadWords h v = refl
 bad_words NoMemory h v = absurd v
 bad_words _ h v = absurd h
 
-one_answered : (w : Surroundings) (asked : Option Requested) → HasOneReply w asked
-one_answered w None x r q h k v u d = bad_words r h v ∙ sym (bad_words q k u)
-one_answered w (Some (words.Run program input)) x r q h k v u d = one_run w program input r q x.0 x.1 h k v u
-one_answered w (Some (words.Certify program input)) x r q h k v u d = one_certify w program input r q x.0 x.1 h k v u
-one_answered w (Some (words.Check program certificate input)) x r q h k v u d =
+one_answered : (w : Surroundings) (asked : Option Requested) → HasWorkers asked → HasOneReply w asked
+one_answered w None some x r q h k v u = bad_words r h v ∙ sym (bad_words q k u)
+one_answered w (Some (words.Run program input)) some x r q h k v u = one_run w program input r q x.0 x.1 h k v u
+one_answered w (Some (words.Certify program input)) some x r q h k v u = one_certify w program input r q x.0 x.1 h k v u
+one_answered w (Some (words.Check program certificate input)) some x r q h k v u =
     one_check w program certificate input r q x.0 x.1 x.2 h k v u
-one_answered w (Some (words.Play program script workers input)) x r q h k v u d =
-    one_play w program script workers input r q x.0 x.1 h k v u d
+one_answered w (Some (words.Play program script workers input)) some x r q h k v u =
+    one_play w program script workers input r q some x.0 x.1 x.2 h k v u
 
 pub one_reply : (w : Surroundings) (line : List Text) → HasOneReply w (order_in line)
-one_reply w line = one_answered w (order_in line)
+one_reply w line = one_answered w (order_in line) (has_workers line)

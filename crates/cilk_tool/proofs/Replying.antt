@@ -9,7 +9,7 @@
 -- `fault_shown`: a fault of a script's steps. `steps_shown`, `steps_fail`: what the steps of a script's text show. `script_unread`, `text_played`: a script that isn't read, and what its text shows. `played_ok`, `played_err`: the answer to a
 -- wish to play it, and its failure.
 use Rattle.std.proofs.Common.{◌≡◌, ℕ, List, [], Bool, true, false, Option, Some, None, option_map, drop, length, refl, sym, ap, subst, inl, inr, ◌∙◌, arith}
-use Rattle.std.specs.Prelude.{◌≢◌, IsTrue, IsFalse, Result, Ok, Err, IfOk, IfErr, IsErrAnd, ℤ}
+use Rattle.std.specs.Prelude.{◌≢◌, ◌<◌, IsTrue, IsFalse, Result, Ok, Err, IfOk, IfErr, IsErrAnd, ℤ}
 use Rattle.std.specs.Io.KnownBytes.{Appends}
 use Rattle.std.proofs.lemmas.List.{append-nil}
 use Rattle.cilk_checker.specs.Answers.{IsRefusedText, IsUnaccepted}
@@ -28,7 +28,7 @@ use Rattle.cilk_tool.specs.Serving.{Answers, AreGiven, FileFails, GivesInput, Gi
 use Rattle.cilk_script.specs.Scripts.{IsScript}
 use Rattle.cilk_script.specs.declared.script.Step.{Step}
 use Rattle.cilk_tool.specs.Shown.{CheckShows, InputFails, PlayShows, ProgramFails, StepsShow, TextShows, play_fault_view}
-use Rattle.cilk_play.specs.Playing.{Ends, IsFault}
+use Rattle.cilk_play.specs.Playing.{Ends, FailsAsSettled, IsFault}
 use Rattle.cilk_play.specs.declared.fault.PlayFault.{PlayFault}
 use Rattle.cilk_play.specs.declared.fault.PlayFault.TheVariants as play_faults
 use Rattle.cilk_tool.specs.Streams.{AppendsFront, AppendsPart}
@@ -203,16 +203,16 @@ refused_whole p inputs known known' at n m u f e d k h =
     subst (λ (x : Option Text). IsRefusedText p inputs x f) whole
     (subst (λ (x : Unaccepted). IsUnaccepted p inputs (option_map (drop at) known') n m x) k h)
 
-told_of : (workers : ℕ) (steps : List Step) (q : Meant) (inputs : List ℤ) (f : PlayFault) → IsFault (Ends q.source inputs workers steps) f
+told_of : (workers : ℕ) (steps : List Step) (q : Meant) (inputs : List ℤ) (f : PlayFault) → (0 < workers → IsFault (Ends q.source inputs workers steps) f) → (0 < workers → FailsAsSettled q.source inputs f)
     → StepsShow workers steps q inputs (play_fault_view f)
-told_of workers steps q inputs play_faults.Memory h = tt
-told_of workers steps q inputs (play_faults.Line at) h = h
-told_of workers steps q inputs (play_faults.Stop fault name) h = (fault, h.0, h.1, refl, h.3, h.2)
+told_of workers steps q inputs play_faults.Memory h never = tt
+told_of workers steps q inputs (play_faults.Line at) h never = h
+told_of workers steps q inputs (play_faults.Stop fault name) h never = (fault, refl, h, never)
 
 -- a fault that is told of a script's steps
-pub fault_shown : (workers : ℕ) (steps : List Step) (q : Meant) (inputs : List ℤ) (f : PlayFault) (r : Reply) → IsFault (Ends q.source inputs workers steps) f
+pub fault_shown : (workers : ℕ) (steps : List Step) (q : Meant) (inputs : List ℤ) (f : PlayFault) (r : Reply) → (0 < workers → IsFault (Ends q.source inputs workers steps) f) → (0 < workers → FailsAsSettled q.source inputs f)
     → r ≡ play_fault_view f → StepsShow workers steps q inputs r
-fault_shown workers steps q inputs f r h e = subst (λ x. StepsShow workers steps q inputs x) (sym e) (told_of workers steps q inputs f h)
+fault_shown workers steps q inputs f r h never e = subst (λ x. StepsShow workers steps q inputs x) (sym e) (told_of workers steps q inputs f h never)
 
 -- what the steps of a script's text show
 pub steps_shown : {T : Type 0} (x : Result Answer T) (workers : ℕ) (text : Text) (steps slice : List Step) (q : Meant) (inputs : List ℤ) → IsScript text steps

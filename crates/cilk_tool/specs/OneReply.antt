@@ -1,6 +1,6 @@
 -- One command, one reply.
 use Rattle.std.specs.Prelude.{◌≡◌, Option, Some, None, IsSome}
-use Rattle.cilk_tool.specs.Replies.{BadInput, BadProgram, NoMemory, Reply, Text, Unreadable}
+use Rattle.cilk_tool.specs.Replies.{NoMemory, Reply, Text, Unreadable}
 use Rattle.cilk_tool.specs.Serving.{Answers, Surroundings}
 use Rattle.cilk_tool.specs.Words.{Requested, Certify, Check, File, Origin, Play, Run, Standard}
 
@@ -30,15 +30,7 @@ IsOfTexts NoMemory = ⊥
 IsOfTexts (Unreadable name) = ⊥
 IsOfTexts _ = Unit {0}
 
--- A reply that nothing but the texts and the serial run decide: of a script's run these are faults of the two texts that are
--- judged ahead of it.
-abbrev pub IsDecided : Option Requested → Reply → Type 0
-IsDecided (Some (Play program script workers input)) (BadProgram number place) = Unit {0}
-IsDecided (Some (Play program script workers input)) (BadInput number place) = Unit {0}
-IsDecided (Some (Play program script workers input)) _ = ⊥
-IsDecided _ r = Unit {0}
-
 -- where the texts are known, what is asked has one reply that follows from them
 abbrev pub HasOneReply : Surroundings → Option Requested → Type 0
 HasOneReply w asked =
-    AreKnown w asked → (r r' : Reply) → Answers w asked r → Answers w asked r' → IsOfTexts r → IsOfTexts r' → IsDecided asked r → r ≡ r'
+    AreKnown w asked → (r r' : Reply) → Answers w asked r → Answers w asked r' → IsOfTexts r → IsOfTexts r' → r ≡ r'

@@ -1,5 +1,5 @@
 -- What is shown of a text with a fault, of a run, of a certificate, and of a script.
-use Rattle.std.specs.Prelude.{◌≡◌, ◌≢◌, ◌⊎◌, ℕ, ℤ, List, Option, Some, None}
+use Rattle.std.specs.Prelude.{◌≡◌, ◌≢◌, ◌⊎◌, ◌<◌, ℕ, ℤ, List, Option, Some, None}
 use Rattle.cilk_types.specs.Fault as run_faults
 use Rattle.cilk_types.specs.declared.event.Event.{Event}
 use Rattle.cilk_types.specs.declared.fault.Fault.{Fault}
@@ -22,14 +22,12 @@ use Rattle.cilk_checker.specs.Answers.{IsCertified, IsRefusedText}
 use Rattle.cilk_checker.specs.Numbers.{fields_of, number_of}
 use Rattle.cilk_checker.specs.declared.refusal.Refusal.{Refusal}
 use Rattle.cilk_checker.specs.declared.refusal.Refusal.TheVariants as refusals
-use Rattle.cilk_board.specs.declared.board.Board.{Board}
-use Rattle.cilk_board.specs.declared.choice.Stop.TheVariants.{At}
-use Rattle.cilk_board.specs.declared.choice.Strand.{Strand}
 use Rattle.cilk_script.specs.Scripts.{IsNoScript, IsScript}
 use Rattle.cilk_script.specs.declared.script.Step.{Step}
+use Rattle.cilk_determinacy.specs.Settled.{IsSettled}
 use Rattle.cilk_play.specs.declared.fault.PlayFault.{PlayFault}
 use Rattle.cilk_play.specs.declared.fault.PlayFault.TheVariants as play_faults
-use Rattle.cilk_play.specs.Playing.{Done, Ends, IsNameIn, Passed, Stopped}
+use Rattle.cilk_play.specs.Playing.{Ends, IsLeft, LeavesAsSettled, Passed, StopsBy}
 use Rattle.cilk_tool.specs.Files.{Failures, HasFailed, IsHeld}
 use Rattle.cilk_tool.specs.Replies.{Accepted, BadInput, BadProgram, BadScript, Certified, Ended, Faulted, FaultedIn, NoMemory, NotEnded, Refused, Reply, Text, Unreadable, places_of}
 
@@ -92,16 +90,16 @@ ScriptFails text (BadScript at) = IsNoScript text at
 ScriptFails text NoMemory = Unit {0}
 ScriptFails text _ = ⊥
 
--- what is shown of the steps of a script, with so many workers: what the machine to which they lead has left, that it hasn't
--- ended, the line whose choices go past the limit, or the fault of the choice that stopped it, with its strand
+-- What is shown of the steps of a script, with so many workers, of which there is one or more: the one end that they have. That is what the run
+-- has left, that it hasn't ended, the line whose choices go past the limit, or the fault of the choice that stopped it, with its strand. Where one
+-- serial run settles every parallel one, an outcome is that run's, and no fault comes.
 abbrev pub StepsShow : ℕ → List Step → Meant → List ℤ → Reply → Type 0
-StepsShow workers steps m inputs (Ended names o) =
-    (names ≡ m.names) × ((b : Board) × (b.outcome ≡ Some o) × Ends m.source inputs workers steps (Done b))
-StepsShow workers steps m inputs NotEnded = (b : Board) × (b.outcome ≡ None) × Ends m.source inputs workers steps (Done b)
-StepsShow workers steps m inputs (BadScript at) = Ends m.source inputs workers steps (Passed at)
+StepsShow workers steps m inputs (Ended names o) = (names ≡ m.names) × (0 < workers → IsLeft m.source inputs workers steps (Some o)) × (0 < workers → LeavesAsSettled m.source inputs (Some o))
+StepsShow workers steps m inputs NotEnded = 0 < workers → IsLeft m.source inputs workers steps None
+StepsShow workers steps m inputs (BadScript at) = 0 < workers → Ends m.source inputs workers steps (Passed at)
 StepsShow workers steps m inputs (FaultedIn number name) =
-    (fault : Fault) × (strand : Strand) × (b : Board) × (number ≡ run_faults.number_of fault) × IsNameIn b strand name
-    × Ends m.source inputs workers steps (Stopped (At fault strand) b)
+    (fault : Fault) × (number ≡ run_faults.number_of fault) × (0 < workers → StopsBy (Ends m.source inputs workers steps) fault name)
+    × (0 < workers → (outcome : Outcome) → IsSettled m.source inputs outcome → ⊥)
 StepsShow workers steps m inputs NoMemory = Unit {0}
 StepsShow workers steps m inputs _ = ⊥
 

@@ -10,7 +10,6 @@ ghost use Rattle.cilk_tool.specs.declared.streams.TheConstants.{MAX_READ};
 ghost use Rattle.cilk_tool.specs.declared.words.TheConstants.{MAX_WORKERS};
 
 /// Two replies to the same words, files and input that are no want of memory and blame no device are equal.
-#[tactic(auto, using(crate::proofs::OneReply::one_reply))]
 pub fn reply_is_one()
     ensures { (w : Surroundings) (words : List Text) → HasOneReply w (order_in words) }
 {}

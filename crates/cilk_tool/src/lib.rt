@@ -22,4 +22,4 @@ mod serving;
 pub mod streams;
 pub mod words;
 
-pub use serving::{Served, serve, serve_and_tell};
+pub use serving::{Served, carry_out, complain, serve, serve_and_tell, show, tell};

@@ -5,7 +5,7 @@ ghost use Rattle.cilk_tool.specs.OneReply.{HasOneReply};
 ghost use Rattle.cilk_tool.specs.Replies.{Reply, answer_view, failure_view, status_of};
 ghost use Rattle.cilk_tool.specs.Serving.{Answers, IsOrNoMemory, Serves, Shows, ShowsError, world};
 ghost use Rattle.cilk_tool.specs.Streams.{AppendsFront};
-ghost use Rattle.cilk_tool.specs.Words.{order_in, texts};
+ghost use Rattle.cilk_tool.specs.Words.{order_in, order_view, texts};
 
 use crate::files::Files;
 use crate::reply::{Answer, Failure, NO_MEMORY, NO_MEMORY_LINE, WRONG};
@@ -14,6 +14,42 @@ use crate::streams::send;
 use crate::words::{Order, WordsFault, read};
 use std::alloc::Global;
 use std::io::{Read, Write};
+
+/// Does what an order asks for.
+pub fn carry_out<'a, F: Files, R: Read>(
+    alloc: Global,
+    order: Order<'a>,
+    files: &mut F,
+    input: &mut R,
+) -> Result<Answer, Failure<'a>>
+    requires { (F.failed files.old).count < 18446744073709551615 }
+    ensures answer { IfOk result (λ a. Answers (world (F.holds files.old) (R.remaining input.old) (F.failed files.old) (F.failed files.new))
+        (Some (order_view order.entry)) (answer_view a)) }
+    ensures failure { IfErr result (λ e. Answers (world (F.holds files.old) (R.remaining input.old) (F.failed files.old) (F.failed files.new))
+        (Some (order_view order.entry)) (failure_view e)) }
+{
+    match order {
+        Order::Run {
+            program,
+            input: numbers,
+        } => run(alloc, program, numbers, files, input),
+        Order::Certify {
+            program,
+            input: numbers,
+        } => certify(alloc, program, numbers, files, input),
+        Order::Check {
+            program,
+            certificate,
+            input: numbers,
+        } => check(alloc, program, certificate, numbers, files, input),
+        Order::Play {
+            program,
+            script,
+            workers,
+            input: numbers,
+        } => play(alloc, program, script, workers, numbers, files, input),
+    }
+}
 
 /// Does what the words ask for.
 fn answer<'a, F: Files, R: Read>(
@@ -29,33 +65,7 @@ fn answer<'a, F: Files, R: Read>(
         (order_in (texts words.entry.now)) (failure_view e)) }
 {
     match read(alloc, words) {
-        Ok(
-            Order::Run {
-                program,
-                input: numbers,
-            },
-        ) => run(alloc, program, numbers, files, input),
-        Ok(
-            Order::Certify {
-                program,
-                input: numbers,
-            },
-        ) => certify(alloc, program, numbers, files, input),
-        Ok(
-            Order::Check {
-                program,
-                certificate,
-                input: numbers,
-            },
-        ) => check(alloc, program, certificate, numbers, files, input),
-        Ok(
-            Order::Play {
-                program,
-                script,
-                workers,
-                input: numbers,
-            },
-        ) => play(alloc, program, script, workers, numbers, files, input),
+        Ok(order) => carry_out(alloc, order, files, input),
         Err(WordsFault::Usage(text)) => Err(Failure::Words(text)),
         Err(WordsFault::Memory) => Err(Failure::Memory),
     }
@@ -71,14 +81,14 @@ pub struct Served {
 }
 
 /// Writes to standard error, and says whether all of it went out.
-fn tell<E: Write>(err: &mut E, text: &[u8]) -> bool
+pub fn tell<E: Write>(err: &mut E, text: &[u8]) -> bool
     ensures { AppendsFront result (E.contents err.old) (E.contents err.new) text.now }
 {
     send(err, text)
 }
 
 /// Shows a failure.
-fn complain<E: Write>(alloc: Global, failure: &Failure<'_>, err: &mut E) -> Served
+pub fn complain<E: Write>(alloc: Global, failure: &Failure<'_>, err: &mut E) -> Served
     ensures { (r : Reply) × IsOrNoMemory (failure_view failure.now) r × (result.status ≡ status_of r)
         × ShowsError r result.told (E.contents err.old) (E.contents err.new) }
 {
@@ -95,7 +105,7 @@ fn complain<E: Write>(alloc: Global, failure: &Failure<'_>, err: &mut E) -> Serv
 }
 
 /// Shows an answer.
-fn show<O: Write, E: Write>(alloc: Global, answer: &Answer, out: &mut O, err: &mut E) -> Served
+pub fn show<O: Write, E: Write>(alloc: Global, answer: &Answer, out: &mut O, err: &mut E) -> Served
     ensures { (r : Reply) × IsOrNoMemory (answer_view answer.now) r × Shows r result.status result.told
         (O.contents out.old) (O.contents out.new) (E.contents err.old) (E.contents err.new) }
 {

@@ -1,7 +1,7 @@
 //! Each limit, by the last that passes and the first that is refused.
 
-use crate::repeats::{Numbered, numbered, repeated};
-use crate::served::{Broken, Drip, Ended, shown};
+use cilk_served::repeats::{Numbered, numbered, repeated};
+use cilk_served::served::{Broken, Drip, Ended, shown};
 use std::alloc::{AllocError, Global};
 use std::process::Abort;
 

@@ -3,6 +3,7 @@
 use cilk_cert_text::fault::CertFault;
 use cilk_lexer::lexer::{Bad, LexFault};
 use cilk_names::fault::{NameFault, NameNumber};
+use cilk_play::PlayFault;
 use cilk_serial::fault::RunFault;
 use cilk_texts::fault::{TextFault, TextNumber};
 use cilk_tool::files::FileFault;
@@ -140,6 +141,25 @@ fn faults_of_runs(rt: HostRuntime) -> Result<(), AllocError> {
     }
     assert_eq!(rt;
         format!(in alloc; "{}", RunFault::Memory)?.as_str(),
+        "no memory"
+    );
+    Ok(())
+}
+
+#[test]
+fn faults_of_scripts(rt: HostRuntime) -> Result<(), AllocError> {
+    let alloc = rt.alloc();
+    let line = PlayFault::Line(7);
+    assert_eq!(rt;
+        format!(in alloc; "{line}")?.as_str(),
+        "too many choices at line 7"
+    );
+    let fault = Fault::DivisionByZero;
+    let name = Vec::new(alloc);
+    let stop = PlayFault::Stop { fault, name };
+    assert_eq!(rt; format!(in alloc; "{stop}")?.as_str(), "division by zero");
+    assert_eq!(rt;
+        format!(in alloc; "{}", PlayFault::Memory)?.as_str(),
         "no memory"
     );
     Ok(())

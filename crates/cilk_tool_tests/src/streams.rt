@@ -1,6 +1,6 @@
 //! Words, files and streams: which are read, and how a fault of a device shows.
 
-use crate::served::{Broken, Ended, Torn, served_over, short_writer, shown, status_of};
+use cilk_served::served::{Broken, Ended, Torn, served_over, short_writer, shown, status_of};
 use std::alloc::Global;
 
 /// A program text that prints two lines.

@@ -1,6 +1,6 @@
 //! Worked programs through `serve`: what each shows, and its status.
 
-use crate::served::{Broken, shown};
+use cilk_served::served::{Broken, shown};
 use std::alloc::Global;
 use std::process::Abort;
 

@@ -1,7 +1,23 @@
-use Rattle.std.proofs.Common.{◌∷◌, subst, sym}
-use Rattle.cilk_play.specs.Playing.{Passed, Passes, Plays, task_of}
+use Rattle.std.proofs.Common.{◌∷◌, [], ℕ, subst, sym}
+use Rattle.cilk_board.specs.declared.choice.Choice.TheVariants as choices
+use Rattle.cilk_play.specs.Playing.{Choose, ComesToFault, Leads, task_of}
+use Rattle.cilk_play.specs.declared.fault.PlayFault.TheVariants as faults
+use Rattle.cilk_play.proofs.Following.{on_ok}
+use Rattle.cilk_play.proofs.Keeping.{passes}
 use Rattle.cilk_play.proofs.player.make.Goals as goal
 
+pub returns-in-Run-clause-made : goal.returns-in-Run-clause-made
+returns-in-Run-clause-made c =
+    on_ok c.choose.result ((workers : ℕ) → Leads workers (Choose (choices.Run c.in-Run.worker) ∷ []) c.args.machine.now [] c.choose.new.machine)
+    (Leads c.args.workers (task_of c.args.next ∷ []) c.args.machine.now [] c.choose.new.machine)
+    (λ made. subst (λ n. Leads c.args.workers (task_of n ∷ []) c.args.machine.now [] c.choose.new.machine) (sym c.in-Run.is) (made c.args.workers)) c.choose.ensures.made
+
+pub returns-in-Steal-clause-made : goal.returns-in-Steal-clause-made
+returns-in-Steal-clause-made c =
+    on_ok c.choose-in-Steal.result ((workers : ℕ) → Leads workers (Choose (choices.Steal c.in-Steal.worker c.in-Steal.place) ∷ []) c.args.machine.now [] c.choose-in-Steal.new.machine)
+    (Leads c.args.workers (task_of c.args.next ∷ []) c.args.machine.now [] c.choose-in-Steal.new.machine)
+    (λ made. subst (λ n. Leads c.args.workers (task_of n ∷ []) c.args.machine.now [] c.choose-in-Steal.new.machine) (sym c.in-Steal.is) (made c.args.workers)) c.choose-in-Steal.ensures.made
+
 pub returns-in-Past-clause-fault : goal.returns-in-Past-clause-fault
-returns-in-Past-clause-fault c = λ rest.
-    subst (λ n. Plays c.args.workers (task_of n ∷ rest) c.args.machine.now.board (Passed c.in-Past.line)) (sym c.in-Past.is) Passes
+returns-in-Past-clause-fault c =
+    subst (λ n. ComesToFault c.args.workers (task_of n ∷ []) c.args.machine.now (faults.Line c.in-Past.line)) (sym c.in-Past.is) (passes c.args.workers c.in-Past.line c.args.machine.now)

@@ -1,4 +1,4 @@
-use Rattle.std.proofs.Common.{◌≡◌, ◌+◌, ◌<◌, ◌≤◌, ◌^◌, ℕ, List, length, slice_get, Some, refl, sym, ap, ◌∙◌, subst, arith}
+use Rattle.std.proofs.Common.{length, refl}
 use Rattle.cilk_program.specs.declared.ask.Ask.TheVariants as asks
 use Rattle.cilk_schedule.proofs.Turns.{block_settles, block_ticks, few_strands_behind, settles_made}
 use Rattle.cilk_schedule.proofs.arrivals.sync.Goals as goal
@@ -7,11 +7,11 @@ pub begin_block-requires-clause-few : goal.begin_block-requires-clause-few
 begin_block-requires-clause-few c = λ a at.
     let t = c.requires.turn in
     let turn = t.2 in
-    few_strands_behind t.0 t.1 c.args.board.now c.args.frame turn.asked c.bring_once.new.frames.items c.in_ok-bring_once.ensures a at
+    few_strands_behind t.0 t.1 c.args.board.now c.args.frame turn.asked c.bring_once.new.frames.items c.in_ok-bring_once.ensures.quiet a at
 
 pub returns-clause-made : goal.returns-clause-made
 returns-clause-made c =
-    let still = c.in_ok-bring_once.ensures in
+    let still = c.in_ok-bring_once.ensures.quiet in
     let f = c.args.board.now.frames.items in
     let q = c.bring_once.new.frames.items in
     let g = c.begin_block.new.frames.items in

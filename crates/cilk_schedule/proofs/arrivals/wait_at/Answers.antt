@@ -1,5 +1,5 @@
-use Rattle.std.proofs.Common.{◌≡◌, ◌+◌, ◌<◌, ◌≤◌, ◌^◌, ℕ, List, length, slice_get, Some, refl, sym, ap, ◌∙◌, subst, arith}
-use Rattle.cilk_schedule.proofs.Turns.{few_children, waits_runs}
+use Rattle.std.proofs.Common.{refl}
+use Rattle.cilk_schedule.proofs.Turns.{waits_runs}
 use Rattle.cilk_schedule.proofs.arrivals.wait_at.Goals as goal
 
 pub returns-clause-runs : goal.returns-clause-runs

@@ -1,25 +1,58 @@
-use Rattle.std.proofs.Common.{◌≡◌, ◌+◌, ◌<◌, ◌≤◌, ◌^◌, ℕ, List, length, slice_get, Some, Ok, Err, OnOk, refl, sym, ap, ◌∙◌, subst, arith}
+use Rattle.std.proofs.Common.{rules, ◌≡◌, ℤ, to_z, of_z, w64, slice_get, slice_set, refl, sym, ap, ◌∙◌, subst}
+use Rattle.std.proofs.lemmas.List.{length-set}
 use Rattle.cilk_program.specs.declared.ask.Ask.TheVariants as asks
-use Rattle.cilk_schedule.proofs.Sounds.{quiet_none}
+use Rattle.cilk_board.proofs.CellEvents.{written_here}
+use Rattle.cilk_board.proofs.Placed.{get_some, get_there}
+use Rattle.cilk_board.proofs.Viewing.{viewing_at}
+use Rattle.cilk_schedule.specs.Ends.{PartsFrom, FindsParent}
 use Rattle.cilk_schedule.proofs.Turns.{end_ticks, ends_made}
 use Rattle.cilk_schedule.proofs.ending.end.Goals as goal
 
 pub returns-clause-made : goal.returns-clause-made
 returns-clause-made c =
     let f = c.args.board.now.frames.items in
-    let q = c.hand_on.new.frames.items in
-    let g = c.finish-2.new.frames.items in
-    let still = c.in_ok-withdrawn.ensures in
-    let less = c.saturating_sub-board.ensures in (
-      λ inputs t. ends_made c.args.code.now inputs c.args.board.now c.args.frame t (asks.End c.args.value) c.requires.ends _ q still c.finish-2.ensures refl refl (omega (arith, less)),
-      end_ticks f q g c.args.frame still c.finish-2.ensures,
+    let q = c.depart.new.board.frames.items in
+    let g = c.finish.new.frames.items in
+    let still = c.in_ok-depart.ensures.quiet in (
+      λ inputs t. ends_made c.args.code.now inputs c.args.board.now c.args.frame t (asks.End c.args.value) c.requires.ends _ q still c.finish.ensures c.depart.ensures.cells c.depart.ensures.rest.journal c.depart.ensures.fewer,
+      end_ticks f q g c.args.frame still c.finish.ensures,
     )
 
-pub returns-then-frame-eq0-clause-made : goal.returns-then-frame-eq0-clause-made
-returns-then-frame-eq0-clause-made c =
-    let f = c.args.board.now.frames.items in
-    let g = c.finish.new.frames.items in
-    let still = quiet_none f in (
-      λ inputs t. ends_made c.args.code.now inputs c.args.board.now c.args.frame t (asks.End c.args.value) c.requires.ends _ f still c.finish.ensures refl refl (omega arith),
-      end_ticks f f g c.args.frame still c.finish.ensures,
-    )
+pub returns-clause-ends : goal.returns-clause-ends
+returns-clause-ends c = (
+  c.args.value,
+  c.requires.ends,
+  λ finds.
+      let b = c.args.board.now in
+      let f = b.frames.items in
+      let l = b.workers.items in
+      let u = c.index_mut.result.now in
+      let views = c.retire_at.new.views in
+      let v = record u { views = views } in
+      let q = c.requires.turn in
+      let t = q.1.asked in
+      let top = get_some f c.args.frame t.here in
+      let seen = slice_set l c.args.worker v in
+      let more = length-set l c.args.worker v in
+      let w : ℤ = to_z w64 (of_z w64 c.args.value) in
+      let same : w ≡ c.args.value = search rules in
+      let departs = c.in_ok-depart.ensures.departs v (subst (λ n. FindsParent f n c.args.frame) (sym more) finds) (written_here l c.args.worker v c.requires.works) in
+      record {
+        worker = u;
+        top = top.0;
+        views = views;
+        departed = c.depart.new.board;
+        at = get_there l c.args.worker u c.index_mut.ensures.value c.requires.works;
+        sits = top.1;
+        retires = c.retire_at.ensures top.0 (ap (λ z. slice_get z c.args.frame) c.as_slice.ensures.value ∙ top.1);
+        departs = subst (λ ws. PartsFrom c.args.code.now f b.cells.items ws b.offered b.outcome views c.depart.new.board c.args.worker c.args.frame c.args.value) (viewing_at views l c.args.worker u c.index_mut.ensures.value c.requires.works)
+            (subst (λ z. PartsFrom c.args.code.now f b.cells.items seen b.offered b.outcome views c.depart.new.board c.args.worker c.args.frame z) same departs);
+        frames = c.finish.ensures;
+        workers = refl;
+        offered = refl;
+        outcome = refl;
+        cells = c.depart.ensures.cells;
+        journal = ap (λ z. z.items) c.depart.ensures.rest.journal;
+        ticks = c.depart.ensures.rest.ticks;
+      },
+)

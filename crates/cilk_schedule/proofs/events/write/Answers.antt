@@ -1,20 +1,15 @@
-use Rattle.std.proofs.Common.{◌≡◌, ◌<◌, ℕ, List, length, Some, sym, ap, ◌∙◌, subst, refl, arith}
+use Rattle.std.proofs.Common.{◌≡◌, ◌<◌, length, sym, ap, ◌∙◌, subst}
 use Rattle.std.proofs.Common.{ℤ, to_z, of_z, w64, rules}
-use Rattle.cilk_types.specs.Word.{IsWord}
 use Rattle.std.proofs.lemmas.List.{length-set}
 use Rattle.cilk_program.specs.declared.ask.Ask.TheVariants as asks
 use Rattle.cilk_frames.specs.declared.cursor.Answer.TheVariants as answers
-use Rattle.cilk_activations.specs.declared.activation.Activation.{Activation}
 use Rattle.cilk_board.specs.Events.{SeesAt}
-use Rattle.cilk_board.specs.Seats.{answered, changed}
-use Rattle.cilk_board.specs.declared.seat.Seat.{Seat}
-use Rattle.cilk_schedule.specs.Sound.{SameTicks, Settles}
-use Rattle.cilk_schedule.proofs.Answering.{on_ok, settles, ticks}
-use Rattle.cilk_schedule.proofs.Coming.{cell_there, reducer_small, result_there, sees_there}
+use Rattle.cilk_board.specs.Seats.{answered}
+use Rattle.cilk_schedule.proofs.Answering.{settles, ticks}
+use Rattle.cilk_schedule.proofs.Coming.{cell_there}
 use Rattle.cilk_types.specs.declared.event.Event.TheVariants as numbered
 use Rattle.cilk_schedule.specs.Acts as does
 use Rattle.cilk_schedule.specs.Acts.{Acts, MakesEvent}
-use Rattle.cilk_schedule.proofs.Stepping.{made}
 use Rattle.cilk_schedule.proofs.events.write.Goals as goal
 
 pub cell_at-cell-requires-clause-sees : goal.cell_at-cell-requires-clause-sees

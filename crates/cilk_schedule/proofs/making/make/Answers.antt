@@ -1,4 +1,4 @@
-use Rattle.std.proofs.Common.{◌≡◌, ◌+◌, ◌<◌, ◌≤◌, ◌^◌, ℕ, ℤ, List, length, slice_get, Some, Ok, Err, OnOk, refl, sym, ap, ◌∙◌, subst, arith, rules, to_z, of_z, w64}
+use Rattle.std.proofs.Common.{◌≡◌, ◌+◌, ℤ, length, refl, sym, ap, ◌∙◌, subst, rules, to_z, of_z, w64}
 use Rattle.cilk_program.specs.declared.ask.Ask.TheVariants as asks
 use Rattle.cilk_frames.specs.AskSlot.{in_full}
 use Rattle.cilk_schedule.specs.Sound.{HasCome, Settles}
@@ -8,9 +8,13 @@ use Rattle.cilk_types.specs.declared.event.Event.TheVariants as events
 use Rattle.cilk_board.specs.Seats.{stranded}
 use Rattle.cilk_schedule.specs.Acts as does
 use Rattle.cilk_schedule.specs.Acts.{Acts, MakesEvent}
+use Rattle.cilk_schedule.proofs.Started.{makes_start, if_both}
 use Rattle.cilk_schedule.proofs.Stepping.{if_ok, touched_still, touched_views}
-use Rattle.cilk_board.proofs.Placed.{get_there}
+use Rattle.cilk_board.proofs.Placed.{get_some, get_there}
 use Rattle.cilk_schedule.proofs.making.make.Goals as goal
+use Rattle.cilk_schedule.proofs.Syncing.{none_of}
+use Rattle.cilk_schedule.proofs.Departing.{makes_end}
+use Rattle.cilk_schedule.proofs.Standing.{on_err_same}
 
 pub write-requires-clause-comes : goal.write-requires-clause-comes
 write-requires-clause-comes c =
@@ -218,3 +222,105 @@ returns-in-Print-clause-touched c =
     if_ok c.print.result c.print.ensures.makes
     (λ e h it. touched_views b _ c.args.worker c.args.place e u c.print.new.views at refl refl refl
     (subst (λ k. MakesEvent b.frames.items c.print.new.frames.items b.cells.items b.cells.items u.views c.print.new.views c.args.place k e) (sym is) (h b.cells.items)))
+
+pub returns-in-Read-clause-starts : goal.returns-in-Read-clause-starts
+returns-in-Read-clause-starts c = λ it. let u = get_some c.args.board.now.workers.items c.args.worker c.requires.works in absurd (makes_start _ _ _ _ _ _ _ _ _ (c.read.ensures.makes (let x = u.0 in x.views)) it)
+
+pub returns-in-Write-clause-starts : goal.returns-in-Write-clause-starts
+returns-in-Write-clause-starts c = λ it. let u = get_some c.args.board.now.workers.items c.args.worker c.requires.works in absurd (makes_start _ _ _ _ _ _ _ _ _ (c.write.ensures.makes (let x = u.0 in x.views)) it)
+
+pub returns-in-Result-clause-starts : goal.returns-in-Result-clause-starts
+returns-in-Result-clause-starts c = λ it. let u = get_some c.args.board.now.workers.items c.args.worker c.requires.works in absurd (makes_start _ _ _ _ _ _ _ _ _ (c.write_result.ensures.makes (let x = u.0 in x.views)) it)
+
+pub returns-in-Create-clause-starts : goal.returns-in-Create-clause-starts
+returns-in-Create-clause-starts c = if_ok c.create.result c.create.ensures.makes (λ e h it. absurd (makes_start _ _ _ _ _ _ _ _ _ (h c.args.board.now.cells.items) it))
+
+pub returns-in-Update-clause-starts : goal.returns-in-Update-clause-starts
+returns-in-Update-clause-starts c = if_ok c.update.result c.update.ensures.makes (λ e h it. absurd (makes_start _ _ _ _ _ _ _ _ _ (h c.args.board.now.cells.items) it))
+
+pub returns-in-Set-clause-starts : goal.returns-in-Set-clause-starts
+returns-in-Set-clause-starts c = if_ok c.set.result c.set.ensures.makes (λ e h it. absurd (makes_start _ _ _ _ _ _ _ _ _ (h c.args.board.now.cells.items) it))
+
+pub returns-in-Value-clause-starts : goal.returns-in-Value-clause-starts
+returns-in-Value-clause-starts c = if_ok c.value.result c.value.ensures.makes (λ e h it. absurd (makes_start _ _ _ _ _ _ _ _ _ (h c.args.board.now.cells.items) it))
+
+pub returns-in-Print-clause-starts : goal.returns-in-Print-clause-starts
+returns-in-Print-clause-starts c = if_ok c.print.result c.print.ensures.makes (λ e h it. absurd (makes_start _ _ _ _ _ _ _ _ _ (h c.args.board.now.cells.items) it))
+
+pub returns-in-Read-clause-syncs : goal.returns-in-Read-clause-syncs
+returns-in-Read-clause-syncs c = λ it.
+    let u = get_some c.args.board.now.workers.items c.args.worker c.requires.works in
+    absurd (none_of _ _ _ _ _ _ c.args.place (asks.Read c.in-Read.cell) c.read.result (c.read.ensures.makes (let w = u.0 in w.views)) it)
+
+pub returns-in-Write-clause-syncs : goal.returns-in-Write-clause-syncs
+returns-in-Write-clause-syncs c = λ it.
+    let u = get_some c.args.board.now.workers.items c.args.worker c.requires.works in
+    absurd (none_of _ _ _ _ _ _ c.args.place (asks.Write c.in-Write.cell _) c.write.result (c.write.ensures.makes (let w = u.0 in w.views)) it)
+
+pub returns-in-Result-clause-syncs : goal.returns-in-Result-clause-syncs
+returns-in-Result-clause-syncs c = λ it.
+    let u = get_some c.args.board.now.workers.items c.args.worker c.requires.works in
+    absurd (none_of _ _ _ _ _ _ c.args.place (asks.Result _) c.write_result.result (c.write_result.ensures.makes (let w = u.0 in w.views)) it)
+
+pub returns-in-Create-clause-syncs : goal.returns-in-Create-clause-syncs
+returns-in-Create-clause-syncs c = if_ok c.create.result c.create.ensures.makes (λ e h it. absurd (none_of _ _ _ _ _ _ c.args.place (asks.Create c.in-Create.reducer) e (h c.args.board.now.cells.items) it))
+
+pub returns-in-Update-clause-syncs : goal.returns-in-Update-clause-syncs
+returns-in-Update-clause-syncs c = if_ok c.update.result c.update.ensures.makes (λ e h it. absurd (none_of _ _ _ _ _ _ c.args.place (asks.Update c.in-Update.reducer _) e (h c.args.board.now.cells.items) it))
+
+pub returns-in-Set-clause-syncs : goal.returns-in-Set-clause-syncs
+returns-in-Set-clause-syncs c = if_ok c.set.result c.set.ensures.makes (λ e h it. absurd (none_of _ _ _ _ _ _ c.args.place (asks.Set c.in-Set.reducer _) e (h c.args.board.now.cells.items) it))
+
+pub returns-in-Value-clause-syncs : goal.returns-in-Value-clause-syncs
+returns-in-Value-clause-syncs c = if_ok c.value.result c.value.ensures.makes (λ e h it. absurd (none_of _ _ _ _ _ _ c.args.place (asks.Value c.in-Value.reducer) e (h c.args.board.now.cells.items) it))
+
+pub returns-in-Print-clause-syncs : goal.returns-in-Print-clause-syncs
+returns-in-Print-clause-syncs c = if_ok c.print.result c.print.ensures.makes (λ e h it. absurd (none_of _ _ _ _ _ _ c.args.place (asks.Print _) e (h c.args.board.now.cells.items) it))
+
+pub returns-in-Read-clause-ends : goal.returns-in-Read-clause-ends
+returns-in-Read-clause-ends c = λ is. let u = get_some c.args.board.now.workers.items c.args.worker c.requires.works in absurd (makes_end _ _ _ _ _ _ _ _ _ (c.read.ensures.makes (let x = u.0 in x.views)) is)
+
+pub returns-in-Write-clause-ends : goal.returns-in-Write-clause-ends
+returns-in-Write-clause-ends c = λ is. let u = get_some c.args.board.now.workers.items c.args.worker c.requires.works in absurd (makes_end _ _ _ _ _ _ _ _ _ (c.write.ensures.makes (let x = u.0 in x.views)) is)
+
+pub returns-in-Result-clause-ends : goal.returns-in-Result-clause-ends
+returns-in-Result-clause-ends c = λ is. let u = get_some c.args.board.now.workers.items c.args.worker c.requires.works in absurd (makes_end _ _ _ _ _ _ _ _ _ (c.write_result.ensures.makes (let x = u.0 in x.views)) is)
+
+pub returns-in-Create-clause-ends : goal.returns-in-Create-clause-ends
+returns-in-Create-clause-ends c = if_ok c.create.result c.create.ensures.makes (λ e h is. absurd (makes_end _ _ _ _ _ _ _ _ _ (h c.args.board.now.cells.items) is))
+
+pub returns-in-Update-clause-ends : goal.returns-in-Update-clause-ends
+returns-in-Update-clause-ends c = if_ok c.update.result c.update.ensures.makes (λ e h is. absurd (makes_end _ _ _ _ _ _ _ _ _ (h c.args.board.now.cells.items) is))
+
+pub returns-in-Set-clause-ends : goal.returns-in-Set-clause-ends
+returns-in-Set-clause-ends c = if_ok c.set.result c.set.ensures.makes (λ e h is. absurd (makes_end _ _ _ _ _ _ _ _ _ (h c.args.board.now.cells.items) is))
+
+pub returns-in-Value-clause-ends : goal.returns-in-Value-clause-ends
+returns-in-Value-clause-ends c = if_ok c.value.result c.value.ensures.makes (λ e h is. absurd (makes_end _ _ _ _ _ _ _ _ _ (h c.args.board.now.cells.items) is))
+
+pub returns-in-Print-clause-ends : goal.returns-in-Print-clause-ends
+returns-in-Print-clause-ends c = if_ok c.print.result c.print.ensures.makes (λ e h is. absurd (makes_end _ _ _ _ _ _ _ _ _ (h c.args.board.now.cells.items) is))
+
+pub returns-in-End-clause-ends : goal.returns-in-End-clause-ends
+returns-in-End-clause-ends c = if_both _ _ _ c.end.result c.end.ensures.kind c.end.ensures.ends (λ e is h it. h)
+
+pub returns-in-Create-clause-stands : goal.returns-in-Create-clause-stands
+returns-in-Create-clause-stands c = on_err_same c.create.result _ _ c.create.ensures.same
+
+pub returns-in-Update-clause-stands : goal.returns-in-Update-clause-stands
+returns-in-Update-clause-stands c = on_err_same c.update.result _ _ c.update.ensures.same
+
+pub returns-in-Set-clause-stands : goal.returns-in-Set-clause-stands
+returns-in-Set-clause-stands c = on_err_same c.set.result _ _ c.set.ensures.same
+
+pub returns-in-Value-clause-stands : goal.returns-in-Value-clause-stands
+returns-in-Value-clause-stands c = on_err_same c.value.result _ _ c.value.ensures.same
+
+pub returns-in-Print-clause-stands : goal.returns-in-Print-clause-stands
+returns-in-Print-clause-stands c = on_err_same c.print.result _ _ c.print.ensures.same
+
+pub returns-in-Turns-clause-stands : goal.returns-in-Turns-clause-stands
+returns-in-Turns-clause-stands c = on_err_same c.start_turns.result _ _ c.start_turns.ensures.same
+
+pub returns-in_default-clause-stands : goal.returns-in_default-clause-stands
+returns-in_default-clause-stands c = on_err_same c.start_function.result _ _ c.start_function.ensures.same

@@ -1,5 +1,10 @@
-use Rattle.std.proofs.Common.{◌≡◌, ◌+◌, length}
+use Rattle.std.proofs.Common.{◌≡◌, ℕ, length, slice_get, Some}
+use Rattle.cilk_board.specs.Parts.{OpensAs}
+use Rattle.cilk_board.specs.declared.seat.Worker.{Worker}
 use Rattle.cilk_schedule.proofs.opening.first_workers.Given as goal
 
 abbrev pub invariant-each : goal.invariant-each
-invariant-each l = length l.workers.items ≡ l.number
+invariant-each l = record {
+  count : length l.workers.items ≡ l.number;
+  opens : (v : ℕ) (u : Worker) → slice_get l.workers.items v ≡ Some u → OpensAs v u;
+}

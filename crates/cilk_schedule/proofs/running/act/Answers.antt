@@ -1,9 +1,9 @@
-use Rattle.std.proofs.Common.{◌≡◌, ◌+◌, ◌-◌, ◌<◌, ◌≤◌, ◌^◌, ℕ, true, false, List, [], ◌∷◌, ◌++◌, length, slice_get, Option, Some, None, Ok, Err, OnOk, refl, sym, ap, ◌∙◌, subst, arith, rules, reverse}
+use Rattle.std.proofs.Common.{◌≡◌, ◌+◌, ◌-◌, ◌≤◌, ℕ, [], ◌∷◌, ◌++◌, length, refl, ap, ◌∙◌, arith, rules}
 use Rattle.cilk_types.specs.declared.limits.TheConstants.{MAX_TICKS}
 use Rattle.cilk_schedule.proofs.Onward.{is_turn, runs_on}
+use Rattle.cilk_schedule.proofs.Standing.{if_err_always, kept_by, stand_same}
 use Rattle.cilk_schedule.proofs.Workers.{inside}
 use Rattle.cilk_schedule.proofs.Accepted as accepted
-use Rattle.cilk_schedule.specs.Acts.{Touched, Wrote}
 use Rattle.cilk_schedule.proofs.running.act.Goals as goal
 
 pub returns-clause-runs : goal.returns-clause-runs
@@ -42,3 +42,114 @@ returns-clause-wrote c = (
         outcome = refl;
       },
 )
+
+pub returns-clause-starts : goal.returns-clause-starts
+returns-clause-starts c = (
+  c.in_ok-event.event,
+  refl,
+  λ it.
+      let t = c.in_ok-event.ensures.starts it in
+      let g = t.begins in
+      record {
+        made = c.make.new.board;
+        starts = record {
+          how = t.how;
+          callee = t.callee;
+          child = t.child;
+          asked = t.asked;
+          is_child = t.is_child;
+          begins = record {
+            before = g.before;
+            after = g.after;
+            at = g.at;
+            hands = g.hands;
+            workers = g.workers;
+            frames = g.frames;
+            cells = g.cells;
+            offered = g.offered;
+            journal = g.journal ∙ c.in_ok-reserve.ensures.items;
+            ticks = g.ticks;
+            outcome = g.outcome;
+          };
+          event_is = t.event_is;
+        };
+        noted = record { frames = c.note-board.ensures.frames; journal = c.note-board.ensures.journal; ticks = c.note-board.ensures.ticks; cells = refl; workers = refl; offered = refl; outcome = refl };
+      },
+)
+
+pub returns-clause-synced : goal.returns-clause-synced
+returns-clause-synced c = (
+  c.in_ok-event.event,
+  refl,
+  λ it.
+      let b = c.args.board.now in
+      let m = c.in_ok-event.ensures.syncs it in
+      record {
+        made = c.make.new.board;
+        asked = m.0;
+        behind = λ a at may. let t = m.1 a at may in record { arrived = t.arrived; comes = t.comes; frames = t.frames; cells = t.cells; offered = t.offered; outcome = t.outcome };
+        journal = ap (λ z. z.items) c.make.ensures.rest.journal ∙ c.in_ok-reserve.ensures.items;
+        ticks = c.make.ensures.rest.ticks;
+        noted = record {
+          frames = c.note-board.ensures.frames;
+          journal = c.note-board.ensures.journal ∙ ap (λ e. let l = c.make.new.board.journal in l.items ++ (record { frame = c.args.frame; event = e }) ∷ []) it;
+          ticks = c.note-board.ensures.ticks;
+          cells = refl;
+          workers = refl;
+          offered = refl;
+          outcome = refl;
+        };
+      },
+)
+
+pub returns-clause-ends : goal.returns-clause-ends
+returns-clause-ends c = (
+  c.in_ok-event.event,
+  refl,
+  λ it. record {
+    made = c.make.new.board;
+    ends = (let q = c.in_ok-event.ensures.ends it in (
+      q.0,
+      q.1,
+      λ finds.
+          let t = q.2 finds in
+          record {
+            worker = t.worker;
+            top = t.top;
+            views = t.views;
+            departed = t.departed;
+            at = t.at;
+            sits = t.sits;
+            retires = t.retires;
+            departs = t.departs;
+            frames = t.frames;
+            workers = t.workers;
+            offered = t.offered;
+            outcome = t.outcome;
+            cells = t.cells;
+            journal = t.journal ∙ c.in_ok-reserve.ensures.items;
+            ticks = t.ticks;
+          },
+    ));
+    noted = record {
+      frames = c.note-board.ensures.frames;
+      journal = c.note-board.ensures.journal ∙ ap (λ e. c.make.new.board.journal.items ++ (record { frame = c.args.frame; event = e }) ∷ []) it;
+      ticks = c.note-board.ensures.ticks;
+      cells = refl;
+      workers = refl;
+      offered = refl;
+      outcome = refl;
+    };
+  },
+)
+
+pub returns-in_err-reserve-clause-kept : goal.returns-in_err-reserve-clause-kept
+returns-in_err-reserve-clause-kept c =
+    let b = c.args.board.now in
+    let same : c.reserve.new.self.items ≡ b.journal.items = search rules in
+    if_err_always _ _ (kept_by b (record b { journal = c.reserve.new.self }) (stand_same _ _ refl) same refl)
+
+pub returns-in_err-event-clause-kept : goal.returns-in_err-event-clause-kept
+returns-in_err-event-clause-kept c =
+    if_err_always _ _
+    (kept_by c.args.board.now c.make.new.board c.in_err-event.ensures.stands (ap (λ z. z.items) c.make.ensures.rest.journal ∙ c.in_ok-reserve.ensures.items) c.in_err-event.ensures.outcome)

@@ -1,4 +1,4 @@
-use Rattle.std.proofs.Common.{◌≡◌, ◌+◌, ◌<◌, ◌∙◌, ap, slice_get, length, arith}
+use Rattle.std.proofs.Common.{◌∙◌, ap, slice_get, arith}
 use Rattle.cilk_board.proofs.Placed.{get_some}
 use Rattle.cilk_schedule.proofs.running.refused.Goals as goal
 

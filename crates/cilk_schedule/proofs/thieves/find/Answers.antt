@@ -1,18 +1,18 @@
-use Rattle.std.proofs.Common.{◌≡◌, ◌+◌, ◌-◌, ◌<◌, ◌≤◌, ◌^◌, ℕ, true, false, List, [], ◌∷◌, ◌++◌, length, slice_get, Option, Some, None, Ok, Err, OnOk, refl, sym, ap, ◌∙◌, subst, arith, rules, reverse}
+use Rattle.std.proofs.Common.{◌≡◌, true, false, slice_get, Some, None, sym, ap, ◌∙◌, subst}
 use Rattle.cilk_board.specs.Workers.{IsLocated, is_idle, offers}
 use Rattle.cilk_schedule.proofs.Workers.{same_at}
 use Rattle.cilk_schedule.proofs.thieves.find.Goals as goal
 
-pub returns-in_default : goal.returns-in_default
-returns-in_default c = λ k h.
+pub returns-in_default-clause-can : goal.returns-in_default-clause-can
+returns-in_default-clause-can c = λ k h.
     let ws = c.args.board.now.workers.items in
     let l = subst (λ l. IsLocated l c.args.place c.in_ok-victim.victim c.in_ok-victim.index) (c.as_slice-2.ensures.value ∙ sym c.as_slice-3.ensures.value) c.in_ok-victim.ensures in
     let told : slice_get (offers ws) c.args.place ≡ c.offered_at.result = ap (λ l. slice_get (offers l) c.args.place) (sym c.as_slice-3.ensures.value) ∙ sym (c.offered_at.ensures c.args.place l) in
     let no : None ≡ Some k = sym c.in_default.is ∙ sym told ∙ h.offered in
     cc
 
-pub returns-then-not-may_steal : goal.returns-then-not-may_steal
-returns-then-not-may_steal c = λ k h.
+pub returns-then-not-may_steal-clause-can : goal.returns-then-not-may_steal-clause-can
+returns-then-not-may_steal-clause-can c = λ k h.
     let ws = c.args.board.now.workers.items in
     let l = subst (λ l. IsLocated l c.args.place c.in_ok-victim.victim c.in_ok-victim.index) (c.as_slice-2.ensures.value ∙ sym c.as_slice-3.ensures.value) c.in_ok-victim.ensures in
     let told : slice_get (offers ws) c.args.place ≡ c.offered_at.result = ap (λ l. slice_get (offers l) c.args.place) (sym c.as_slice-3.ensures.value) ∙ sym (c.offered_at.ensures c.args.place l) in
@@ -22,8 +22,8 @@ returns-then-not-may_steal c = λ k h.
     let no : true ≡ false = sym yes ∙ c.if-not-may_steal.true in
     cc
 
-pub returns : goal.returns
-returns c =
+pub returns-clause-can : goal.returns-clause-can
+returns-clause-can c =
     let ws = c.args.board.now.workers.items in
     let l = subst (λ l. IsLocated l c.args.place c.in_ok-victim.victim c.in_ok-victim.index) (c.as_slice-2.ensures.value ∙ sym c.as_slice-3.ensures.value) c.in_ok-victim.ensures in
     let told : slice_get (offers ws) c.args.place ≡ c.offered_at.result = ap (λ l. slice_get (offers l) c.args.place) (sym c.as_slice-3.ensures.value) ∙ sym (c.offered_at.ensures c.args.place l) in
@@ -36,3 +36,11 @@ returns c =
       sits = subst (λ l. slice_get l c.in-Some.frame ≡ Some y.0) c.as_slice-4.ensures.value y.1;
       opens = y.2;
     }
+
+pub returns-clause-stands : goal.returns-clause-stands
+returns-clause-stands c =
+    let ws = c.args.board.now.workers.items in
+    let l = subst (λ l. IsLocated l c.args.place c.in_ok-victim.victim c.in_ok-victim.index) (c.as_slice-2.ensures.value ∙ sym c.as_slice-3.ensures.value) c.in_ok-victim.ensures in
+    let told : slice_get (offers ws) c.args.place ≡ c.offered_at.result = ap (λ l. slice_get (offers l) c.args.place) (sym c.as_slice-3.ensures.value) ∙ sym (c.offered_at.ensures c.args.place l) in
+    let here : IsLocated ws c.args.place c.in_ok-victim.victim c.in_ok-victim.index = subst (λ l. IsLocated l c.args.place c.in_ok-victim.victim c.in_ok-victim.index) c.as_slice-2.ensures.value c.in_ok-victim.ensures in
+    (here, same_at (offers ws) c.args.place here.1 c.in-Some.frame here.4 (told ∙ c.in-Some.is))

@@ -1,4 +1,4 @@
-use Rattle.std.proofs.Common.{◌≡◌, ◌<◌, ◌≤◌, nat_lt, sym, subst, refl, arith}
+use Rattle.std.proofs.Common.{nat_lt, sym, subst, refl, arith}
 use Rattle.std.proofs.lemmas.Bool.{ltb-true}
 use Rattle.cilk_join.specs.Joins.{IsOpen}
 use Rattle.cilk_join.specs.Waits.{shown}

@@ -14,7 +14,7 @@ loop-behind-init c =
     let n : ℕ = c.count-count.result + 1 in
     let h = c.in_ok-resize.ensures in
     let long : length column ≡ n = sym c.resize.new.self.ok.0 ∙ h.len in
-    let none = c.new-column.ensures.len in
+    let none = c.in_ok-column.ensures.len in
     resumed_first c.args.self.now c.laws.ensures.order column (long ∙ ap (λ (k : ℕ). k + 1) c.count-count.ensures.events)
     (λ k. dite (dec_lt k n) (λ (lt : k < n). h.by_index.1 k None refl (omega (arith, none)) lt) (λ past. get_or_past column k None (omega (arith, long, past))))
 

@@ -1,4 +1,4 @@
-use Rattle.std.proofs.Common.{◌≡◌, ap, sym, ◌∙◌, subst}
+use Rattle.std.proofs.Common.{◌≡◌, ◌≤◌, length, ap, sym, ◌∙◌, subst}
 use Rattle.cilk_story.specs.declared.story.Story.{Story}
 use Rattle.cilk_story.specs.Orders.{IsOrderly}
 use Rattle.cilk_story.specs.Runs.{IsAsked, Departs}
@@ -14,4 +14,5 @@ returns-clause-departs c =
     let next = along IsAhead c.self.view_is c.requires.next in
     subst (λ (x : SegmentValue). Departs x.story c.self.inside.upto) c.self.view_is
     (departing s law c.self.inside.seat.me.0 c.self.inside.from c.self.inside.upto c.self.invariant.1 next.0 next.1
+    (along (λ (x : SegmentValue). x.upto ≤ length x.story.events) c.self.view_is c.requires.within)
     (along (λ (x : SegmentValue). IsAsked x.story x.upto → ⊥) c.self.view_is c.requires.differs))

@@ -1,0 +1,146 @@
+-- The laws of `Going`, of a chain's course and of that of a call's argument.
+use Rattle.std.proofs.Common.{◌≡◌, ◌≢◌, ◌<◌, ℕ, ◌+◌, ℤ, List, [], ◌∷◌, ◌++◌, reverse, length, sym, ◌∙◌, subst, arith}
+use Rattle.cilk_types.specs.declared.event.Event.TheVariants as events
+use Rattle.cilk_types.specs.declared.invocation.Invocation.{Invocation}
+use Rattle.cilk_program.specs.declared.ask.Ask.{Ask}
+use Rattle.cilk_program.specs.declared.ask.Ask.TheVariants as asks
+use Rattle.cilk_program.specs.declared.ask.Callee.{Callee}
+use Rattle.cilk_program.specs.declared.ask.Callee.TheVariants as callees
+use Rattle.cilk_program.specs.Inside.{CalleeIsFit}
+use Rattle.cilk_program.specs.Sources.{source}
+use Rattle.cilk_program.specs.Syntax.{Source}
+use Rattle.cilk_lower.specs.Behaves.{Behaves}
+use Rattle.cilk_lower.specs.Code.{CodeView}
+use Rattle.cilk_frames.specs.Cursor.{CursorView}
+use Rattle.cilk_frames.specs.declared.cursor.Answer.{Answer}
+use Rattle.cilk_frames.specs.declared.cursor.Answer.TheVariants.{Done}
+use Rattle.cilk_frames.specs.Following.{Fits, Runs, Stands, owed_for, word_in}
+use Rattle.cilk_story.specs.declared.story.Story.{Story}
+use Rattle.cilk_story.specs.Word.{resume, what}
+use Rattle.cilk_chains.specs.declared.level.Level.{Level}
+use Rattle.cilk_chains.specs.Asking.{Calls, Follows, IsAnswered, IsNextAsk, Spawns, HasAsked}
+use Rattle.cilk_chains.specs.Chains.{ChainValue, standing}
+use Rattle.cilk_chains.specs.Courses.{CourseValue, IsCourse, setting_of}
+use Rattle.cilk_chains.specs.Standing.{IsTheOutermost, Linked, Rest, Stand}
+use Rattle.cilk_chains.proofs.Going as going
+use Rattle.cilk_chains.proofs.Resuming.{resumed}
+
+-- the story of a chain's course
+abbrev pub story_of : CourseValue → Story
+story_of c = let y = c.yard in y.story
+
+-- a fact of a position of a story, of the chain at hand
+pub of_chain : (P : Story → ℕ → Type 0) (u : CourseValue) (at : ℕ) (v : ChainValue) → standing u at ≡ v → P (let c = v.of in let y = c.yard in y.story) v.at → P (story_of u) at
+of_chain P u at v is h = subst (λ (z : ChainValue). P (let c = z.of in let y = c.yard in y.story) z.at) (sym is) h
+
+-- a frame that is begun by an ask
+pub begun_by : (code code' : CodeView) (inputs : List ℤ) (a : Ask) (first : Invocation) (what : Callee) (cursor cursor' : CursorView) → a ≡ asks.Invoke first what → code' ≡ code → cursor' ≡ cursor
+    → ((p : Source) (inputs : List ℤ) → Behaves p code' → CalleeIsFit p what → Stands code' inputs p what cursor [] 0)
+    → (p : Source) (how : Invocation) (callee : Callee) → a ≡ asks.Invoke how callee → Behaves p code → CalleeIsFit p callee → Stands code inputs p callee cursor' [] 0
+begun_by code code' inputs a first what cursor cursor' asked code_is cursor_is stands p how callee is behaves fit =
+    let same : what ≡ callee = inner first how what callee (sym asked ∙ is) in
+    subst (λ (k : Callee). Stands code inputs p k cursor' [] 0) same
+    (subst (λ (z : CursorView). Stands code inputs p what z [] 0) (sym cursor_is)
+    (subst (λ (z : CodeView). Stands z inputs p what cursor [] 0) code_is
+    (stands p inputs (subst (Behaves p) (sym code_is) behaves) (subst (CalleeIsFit p) (sym same) fit))))
+  where
+    inner : (j k : Invocation) (x y : Callee) → asks.Invoke j x ≡ asks.Invoke k y → x ≡ y
+    inner j k x y q = cc q
+
+abbrev pub HasStepped : CourseValue → Level → Answer → Ask → Level → Type 0
+HasStepped c l a k l' = (p : Source) (callee : Callee) (history : List ℤ) → Stands c.code c.inputs p callee l.cursor history l.took → HasAsked c.code c.inputs p callee (history ++ word_in a ∷ []) k l'
+
+abbrev pub IsBegun : CourseValue → Ask → Level → Type 0
+IsBegun c k l = (p : Source) (how : Invocation) (callee : Callee) → k ≡ asks.Invoke how callee → Behaves p c.code → CalleeIsFit p callee → Stands c.code c.inputs p callee l.cursor [] 0
+
+module _ (u v : CourseValue) (same : u ≡ v) (at : ℕ) (k : Ask) (l : Level) (below : List Level) (S : Stand u at k l below) where
+  owed : (a : Answer) → IsAnswered (story_of u) at a → Runs u.code u.inputs l.cursor × Fits (let c = l.cursor in c.owed) a
+  owed a q = let t = S.2 in going.owed (setting_of u S.0) S.1 at k l t.asks a q
+
+  pub owes_fit : (a : Answer) → IsAnswered (story_of u) at a → Fits (let c = l.cursor in c.owed) a
+  owes_fit a q = (owed a q).1
+
+  pub runs : (a : Answer) → IsAnswered (story_of u) at a → Runs v.code v.inputs l.cursor
+  runs a q = subst (λ (z : CourseValue). Runs z.code z.inputs l.cursor) same (owed a q).0
+
+  pub small : (n : ℕ) (e : _) → Follows (story_of u) at e → length (let y = story_of u in y.events) < n → at + 1 < n
+  small n e f less = let more = f.more in omega (arith, more, less)
+
+  pub answered : (a : Answer) (k' : Ask) (l' : Level) → IsAnswered (story_of u) at a → HasStepped v l a k' l' → Stand u (at + 1) k' l' below
+  answered a k' l' q step =
+      (S.0, S.1, going.answered_on (setting_of u S.0) S.1 at k k' l l' below a S.2 q (subst (λ (z : CourseValue). HasStepped z l a k' l') (sym same) step))
+
+  new_level : (c : Level) → IsBegun v k c → (let z = c.cursor in z.owed ≡ owed_for asks.Begin) → c.took ≡ 0
+      → (how : Invocation) (callee : Callee) → k ≡ asks.Invoke how callee → CalleeIsFit (source u.program) callee → going.IsNew (setting_of u S.0) S.1 c callee
+  new_level c begun owes took how callee is fit =
+      let prog = S.1 in
+      (subst (λ (z : CourseValue). IsBegun z k c) (sym same) begun (source u.program) how callee is prog.behaves fit, owes, took)
+
+  pub call_begins : Calls (story_of u) at → (how : Invocation) × (callee : Callee) × (callee ≢ callees.Root) × (k ≡ asks.Invoke how callee)
+  call_begins q = going.call_begins (setting_of u S.0) S.1 at k l below S.2 q.0 q.1
+
+  pub spawn_begins : (next : ℕ) → Spawns (story_of u) at next → (how : Invocation) × (callee : Callee) × (callee ≢ callees.Root) × (k ≡ asks.Invoke how callee)
+  spawn_begins next q = going.spawn_begins (setting_of u S.0) S.1 at k l below S.2 q.0.0 q.0.1
+
+  pub called : (c : Level) → Calls (story_of u) at → IsBegun v k c → (let z = c.cursor in z.owed ≡ owed_for asks.Begin) → c.took ≡ 0 → Stand u (at + 1) asks.Begin c (below ++ l ∷ [])
+  called c q begun owes took =
+      (S.0, S.1, going.called_on (setting_of u S.0) S.1 at k l c below S.2 q.0 q.1 (λ callee is fit. new_level c begun owes took _ callee is fit))
+
+  parted : (c : Level) (next : ℕ) → Spawns (story_of u) at next → IsBegun v k c → (let z = c.cursor in z.owed ≡ owed_for asks.Begin) → c.took ≡ 0
+      → going.Parted (setting_of u S.0) S.1 at next c l below
+  parted c next q begun owes took =
+      going.spawned_on (setting_of u S.0) S.1 at k l c below S.2 q.0.0 next q.0.1 (λ callee is fit. new_level c begun owes took _ callee is fit)
+      (λ i x place is. resumed (setting_of u S.0) S.1 i next x (subst (λ n. what (story_of u) next ≡ resume n) (sym place) q.1) is)
+
+  pub spawned_child : (c : Level) (next : ℕ) → Spawns (story_of u) at next → IsBegun v k c → (let z = c.cursor in z.owed ≡ owed_for asks.Begin) → c.took ≡ 0 → Stand u (at + 1) asks.Begin c []
+  spawned_child c next q begun owes took = (S.0, S.1, (parted c next q begun owes took).child)
+
+  pub spawned_parent : (c : Level) (next : ℕ) → Spawns (story_of u) at next → IsBegun v k c → (let z = c.cursor in z.owed ≡ owed_for asks.Begin) → c.took ≡ 0 → Rest u next l below
+  spawned_parent c next q begun owes took = (S.0, S.1, (parted c next q begun owes took).parent)
+
+  pub ended : (top : Level) (new : List Level) → Follows (story_of u) at events.End → below ≡ new ++ top ∷ [] → Rest u (at + 1) top new
+  ended top new f popped = (S.0, S.1, going.ended_on (setting_of u S.0) S.1 at k l top below new S.2 f popped)
+
+  pub outermost : below ≡ [] → IsTheOutermost u at
+  outermost none =
+      let t = S.2 in
+      let A = t.asks in
+      record {
+        run = S.0;
+        of_program = S.1;
+        behind = A.behind;
+        place = A.place;
+        point = A.point;
+        is = A.is;
+        outermost = subst (λ z. Linked (setting_of u S.0) (let x = A.point in x.since) (reverse z)) none t.callers;
+      }
+
+  pub next_ask : IsNextAsk u at k
+  next_ask =
+      let t = S.2 in
+      let A = t.asks in
+      let s = setting_of u S.0 in
+      record {
+        run = S.0;
+        of_program = S.1;
+        behind = A.behind;
+        place = A.place;
+        point = A.point;
+        is = A.is;
+        asks = sym (going.asked_ask s S.1 at k l A);
+        made = λ asked. going.made_event s S.1 at k l A asked;
+      }
+
+module _ (u v : CourseValue) (same : u ≡ v) (at : ℕ) (l : Level) (below : List Level) (S : Rest u at l below) where
+  pub rest_fits : Fits (let c = l.cursor in c.owed) Done
+  rest_fits = (going.rest_owed (setting_of u S.0) S.1 at l below S.2).1
+
+  pub rest_runs : Runs v.code v.inputs l.cursor
+  rest_runs = subst (λ (z : CourseValue). Runs z.code z.inputs l.cursor) same (going.rest_owed (setting_of u S.0) S.1 at l below S.2).0
+
+  pub woken : (k' : Ask) (l' : Level) → HasStepped v l Done k' l' → Stand u at k' l' below
+  woken k' l' step = (S.0, S.1, going.woken (setting_of u S.0) S.1 at k' l l' below S.2 (subst (λ (z : CourseValue). HasStepped z l Done k' l') (sym same) step))
+
+pub rooted : (u : CourseValue) → IsCourse u → (c : Level) → ((p : Source) → Behaves p u.code → Stands u.code u.inputs p callees.Root c.cursor [] 0)
+    → (let z = c.cursor in z.owed ≡ owed_for asks.Begin) → c.took ≡ 0 → Stand u 1 asks.Begin c []
+rooted u h c stands owes took = let prog = h.1 in (h.0, prog, going.rooted (setting_of u h.0) prog c (stands (source u.program) prog.behaves) owes took)

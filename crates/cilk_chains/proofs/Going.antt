@@ -1,0 +1,424 @@
+-- Frames of a course go on.
+--
+-- - `Laws`: what holds at each position of a course;
+-- - `answered_on`: after the answer to its event the frame at hand stands at the next position;
+-- - `begun_asks`, `called_on`, `spawned_on`: a child begins there, and its caller waits;
+-- - `ended_on`: a frame ends, and its caller is next;
+-- - `woken`: a frame that rests goes on.
+use Rattle.std.proofs.Common.{◌≡◌, ◌≢◌, ◌<◌, inl, inr, ℕ, zero, suc, ◌+◌, ◌-◌, ℤ, pos, List, [], ◌∷◌, ◌++◌, reverse, length, Some, None, slice_get, refl, sym, ap, ◌∙◌, subst, arith}
+use Rattle.std.specs.Option.{option_map}
+use Rattle.std.proofs.lemmas.List.{reverse-append}
+use Rattle.std.proofs.lemmas.Option.{slice_get-map}
+use Rattle.cilk_types.specs.declared.event.Event.{Event}
+use Rattle.cilk_types.specs.declared.event.Event.TheVariants as events
+use Rattle.cilk_types.specs.declared.invocation.Invocation.{Invocation}
+use Rattle.cilk_types.specs.declared.invocation.Invocation.TheVariants.{Call, Spawn}
+use Rattle.cilk_types.specs.declared.limits.TheConstants.{MAX_TICKS}
+use Rattle.cilk_program.specs.declared.ask.Ask.{Ask}
+use Rattle.cilk_program.specs.declared.ask.Ask.TheVariants as asks
+use Rattle.cilk_program.specs.declared.ask.Callee.{Callee}
+use Rattle.cilk_program.specs.declared.ask.Callee.TheVariants as callees
+use Rattle.cilk_program.specs.declared.program.Body.{Body}
+use Rattle.cilk_program.specs.Behaviour.{OpenAsk, asks_for}
+use Rattle.cilk_program.specs.Inside.{AskIsThere, CalleeIsFit, CalleeIsThere, body_of}
+use Rattle.cilk_program.specs.Syntax.{Source}
+use Rattle.cilk_meaning.proofs.Asked.{asks_there}
+use Rattle.cilk_lower.specs.declared.code.Owed.TheVariants.{Nothing}
+use Rattle.cilk_frames.specs.declared.cursor.Answer.{Answer}
+use Rattle.cilk_frames.specs.declared.cursor.Answer.TheVariants.{Done}
+use Rattle.cilk_frames.specs.Following.{Fits, HasAnswer, Runs, Stands, owed_for, word_in}
+use Rattle.cilk_plan.specs.Kinds.{kind_of}
+use Rattle.cilk_plan.specs.Planned.{planned}
+use Rattle.cilk_runs.specs.Runs.{Deed, Invokes}
+use Rattle.cilk_runs.specs.Machine.{started}
+use Rattle.cilk_story.specs.declared.story.Story.{Story}
+use Rattle.cilk_story.specs.Runs.{IsAsked}
+use Rattle.cilk_story.specs.Word.{event}
+use Rattle.cilk_worlds.specs.Machine.{answer_of, answers_of, asked_after, next}
+use Rattle.cilk_worlds.specs.Worlds.{World, child_world, first_world}
+use Rattle.cilk_worlds.proofs.Kept.{answers_more}
+use Rattle.cilk_determinacy.specs.Numbers.{cell_number, instance_number}
+use Rattle.cilk_inputs.specs.Frames.{same_frame}
+use Rattle.cilk_inputs.specs.Points.{Point, points_on, IsPoint, IsTold, IsAskedBy, IsEventOf, IsLater, IsFirst, IsReturn, AreTold, answer_in}
+use Rattle.cilk_inputs.proofs.Points.{asked_by_positions}
+use Rattle.cilk_chains.specs.declared.level.Level.{Level}
+use Rattle.cilk_chains.specs.Asking.{Follows, IsAnswered, HasAsked}
+use Rattle.cilk_chains.specs.Courses.{Setting, IsOfProgram, point_at}
+use Rattle.cilk_chains.specs.Standing.{Asks, Waits, Linked, StandsAt, RestsAt}
+use Rattle.cilk_chains.proofs.OfKind.{some_inner, IsOfKind, made, goes_on, kind_there, ask_for, fitting}
+
+pub got : {A : Type 0} (xs : List A) (k : ℕ) → k < length xs → (x : A) × (slice_get xs k ≡ Some x)
+got [] k less = absurd (omega (arith, less))
+got (x ∷ xs) zero less = (x, refl)
+got (x ∷ xs) (suc k) less = got xs k (omega (arith, less))
+
+child_fit : (p : Source) (b : Body) (callee : Callee) → CalleeIsThere p b callee → (callee ≢ callees.Root) × CalleeIsFit p callee
+child_fit p b callees.Root h = absurd h
+child_fit p b (callees.Function c) h = (λ q. cc q, h.0)
+child_fit p b (callees.Loop l) h = (λ q. cc q, h.0)
+
+module _ (s : Setting) (h : IsOfProgram s) where
+  abbrev story : Story
+  story = s.story
+
+  told : AreTold s.program s.run s.inputs h.events s.story
+  told = subst (λ (z : Story). AreTold s.program s.run s.inputs h.events z) (sym h.told) (asked_by_positions s.program h.own s.inputs s.run h.events story.opening h.is)
+
+  pub here : (i : ℕ) (x : Point World) → point_at s i ≡ Some x
+      → IsPoint (next s.program s.inputs) (same_frame s.program) (point_at s) i x × IsTold s.program s.run s.inputs h.events s.story i x
+  unfolding point_at
+  here i x is = told.each i x is
+
+  long : length (points_on s.program s.inputs s.run) ≡ length story.events
+  long = told.all
+
+  pub following : (i : ℕ) → i < length story.events → (y : Point World) × (point_at s i ≡ Some y)
+  unfolding point_at
+  following i less = got (points_on s.program s.inputs s.run) i (let q = long in omega (arith, less, q))
+
+  pub within : (i : ℕ) (x : Point World) → point_at s i ≡ Some x → i < length story.events
+  unfolding point_at
+  within i x is = let q = long in let less = slice_get_inside (points_on s.program s.inputs s.run) i x is in omega (arith, q, less)
+    where
+      slice_get_inside : {A : Type 0} (xs : List A) (k : ℕ) (x : A) → slice_get xs k ≡ Some x → k < length xs
+      slice_get_inside [] k x q = absurd (let z : None ≡ Some x = q in cc z)
+      slice_get_inside (y ∷ xs) zero x q = omega arith
+      slice_get_inside (y ∷ xs) (suc k) x q = let less = slice_get_inside xs k x q in omega (arith, less)
+
+  pub first : (x : Point World) → point_at s 0 ≡ Some x → (x.frame ≡ first_world s.program) × (x.past ≡ []) × (x.since ≡ 0)
+  unfolding point_at
+  first x is = told.begins x is
+
+  -- the plan's event is of the story's kind
+  pub plan_event : (i : ℕ) (e : Event) → event story (suc i) ≡ Some e → (p : Event) × (slice_get h.events i ≡ Some p) × (kind_of p ≡ kind_of e)
+  plan_event i e there =
+      let back : suc i - 1 ≡ i = omega arith in
+      let at : slice_get story.events i ≡ Some e = ap (slice_get story.events) (sym back) ∙ there in
+      let kinds : option_map kind_of (slice_get h.events i) ≡ Some (kind_of e) =
+      sym (slice_get-map kind_of h.events i) ∙ ap (λ l. slice_get l i) (sym h.along.kinds) ∙ slice_get-map kind_of story.events i ∙ ap (option_map kind_of) at in
+      kind_there (slice_get h.events i) (kind_of e) kinds
+
+  -- the plan's deed of an event of the plan
+  pub plan_deed : (i : ℕ) (x : Point World) (p : Event) → point_at s i ≡ Some x → slice_get h.events i ≡ Some p → IsOfKind (kind_of p) x.planned
+  plan_deed i x p is there = let tell = (here i x is).1 in made (cell_number s.program s.run) (instance_number s.program s.run) x.planned p (tell.plan p there)
+
+  -- the plan's deed is of the event's kind
+  pub planned_kind : (i : ℕ) (x : Point World) (e : Event) → point_at s i ≡ Some x → event story (suc i) ≡ Some e → IsOfKind (kind_of e) x.planned
+  planned_kind i x e is there =
+      let found = plan_event i e there in
+      subst (λ k. IsOfKind k x.planned) found.2 (plan_deed i x found.0 is found.1)
+
+  module _ (at : ℕ) (k : Ask) (l : Level) (A : Asks s at k l) where
+    abbrev x : Point World
+    x = A.point
+
+    abbrev w : World
+    w = x.frame
+
+    pub asked_ask : (asked_after s.program s.inputs w x.past).ask ≡ k
+    asked_ask = ap (λ (q : OpenAsk). q.ask) A.asked.asks
+
+    tell : IsTold s.program s.run s.inputs h.events s.story A.behind x
+    tell = (here A.behind x A.is).1
+
+    module _ (e : Event) (asked : IsAsked story at) (is : event story at ≡ Some e) where
+      here_is : tell.here ≡ e
+      here_is = some_inner tell.here e (sym tell.is ∙ ap (event story) A.place ∙ is)
+
+      pub asked_by : IsAskedBy s.program s.run s.inputs x e
+      asked_by = subst (IsAskedBy s.program s.run s.inputs x) here_is (tell.asks (subst (IsAsked story) (sym A.place) asked))
+
+      pub event_is : IsEventOf s.program s.run w k e
+      event_is = subst (λ z. IsEventOf s.program s.run w z e) asked_ask asked_by.event
+
+      pub deed_kind : IsOfKind (kind_of e) x.planned
+      deed_kind = planned_kind A.behind x e A.is (ap (event story) A.place ∙ is)
+
+      answer_is : answer_of x.deed ≡ answer_in e
+      answer_is = tell.answers ∙ ap answer_in here_is
+
+    pub made_event : IsAsked story at → (e : Event) × (event story at ≡ Some e) × IsEventOf s.program s.run w k e
+    made_event asked =
+        let is : event story at ≡ Some tell.here = ap (event story) (sym A.place) ∙ tell.is in
+        (tell.here, is, event_is tell.here asked is)
+
+    -- the answer that it is owed
+    pub owed : (a : Answer) → IsAnswered story at a → Runs s.code s.inputs l.cursor × Fits (let v = l.cursor in v.owed) a
+    owed a q =
+        let f = q.1 in
+        let fit = fitting s.program s.run w k q.0 a (event_is q.0 f.asked f.is) q.2 in
+        ((_, A.asked.stands fit.has), subst (λ o. Fits o a) (sym (A.asked.owes fit.has)) fit.fits)
+
+  -- a frame's next event, where it has this history
+  later_asks : (x y : Point World) (a : ℤ) (k : Ask) (l : Level) → IsLater x y → a ≡ answer_of x.deed
+      → (let w = x.frame in HasAsked s.code s.inputs s.program w.callee (answers_of x.past ++ a ∷ []) k l)
+      → (let w = y.frame in HasAsked s.code s.inputs s.program w.callee (answers_of y.past) k l)
+  later_asks x y a k l later is asked =
+      let history : answers_of x.past ++ a ∷ [] ≡ answers_of y.past =
+      ap (λ v. answers_of x.past ++ v ∷ []) is ∙ sym (answers_more x.past x.deed) ∙ ap answers_of (sym later.past) in
+      subst (λ (v : World). HasAsked s.code s.inputs s.program v.callee (answers_of y.past) k l) (sym later.frame)
+      (let w = x.frame in subst (λ z. HasAsked s.code s.inputs s.program w.callee z k l) history asked)
+
+  -- what a step does to a frame
+  abbrev pub Stepped : Level → Answer → Ask → Level → Type 0
+  Stepped l a k l' = (p : Source) (callee : Callee) (history : List ℤ) → Stands s.code s.inputs p callee l.cursor history l.took
+      → HasAsked s.code s.inputs p callee (history ++ word_in a ∷ []) k l'
+
+  pub answered_on : (at : ℕ) (k k' : Ask) (l l' : Level) (below : List Level) (a : Answer) → StandsAt s at k l below → IsAnswered story at a → Stepped l a k' l'
+      → StandsAt s (at + 1) k' l' below
+  answered_on at k k' l l' below a S q step =
+      let A = S.asks in
+      let f = q.1 in
+      let place = A.place in
+      let less = f.more in
+      let y = following (suc A.behind) (omega (arith, place, less)) in
+      let go = goes_on q.0 a (let x = A.point in x.planned) q.2 (deed_kind at k l A q.0 f.asked f.is) in
+      let later : IsLater A.point y.0 = (here A.behind A.point A.is).0.goes go.0 go.1 go.2 y.0 y.1 in
+      let fit = fitting s.program s.run (let x = A.point in x.frame) k q.0 a (event_is at k l A q.0 f.asked f.is) q.2 in
+      let answer = answer_is at k l A q.0 f.asked f.is in
+      record {
+        asks = record {
+          behind = suc A.behind;
+          place = omega (arith, place);
+          point = y.0;
+          is = y.1;
+          fit = subst (λ (v : World). CalleeIsFit s.program v.callee) (sym later.frame) A.fit;
+          asked = later_asks A.point y.0 (word_in a) k' l' later (fit.word ∙ sym answer) (step s.program _ _ (A.asked.stands fit.has));
+        };
+        callers = subst (λ n. Linked s n (reverse below)) (sym later.since) S.callers;
+      }
+
+  -- ---- a child begins
+
+  -- the first ask of a frame
+  first_asked : (callee : Callee) (c : Level) (past : List (Deed World)) → past ≡ [] → c.took ≡ 0 → Stands s.code s.inputs s.program callee c.cursor [] 0
+      → (let v = c.cursor in v.owed ≡ owed_for asks.Begin) → HasAsked s.code s.inputs s.program callee (answers_of past) asks.Begin c
+  first_asked callee c past none took stands owes =
+      subst (λ z. HasAsked s.code s.inputs s.program callee (answers_of z) asks.Begin c) (sym none) (record {
+        asks = ap (λ n. asks_for asks.Begin (MAX_TICKS - n)) (sym took);
+        stands = λ has. subst (λ n. Stands s.code s.inputs s.program callee c.cursor [] n) (sym took) stands;
+        owes = λ has. owes;
+        small = let z = took in omega (arith, z);
+      })
+
+  pub record Begun (at : ℕ) (A : Point World) (i : ℕ) (how : Invocation) (c : Level) : Type 0 where
+    pub asks : Asks s (at + 1) asks.Begin c
+    pub since : let y = asks.point in y.since ≡ suc i
+    pub deed : let y = asks.point in A.deed ≡ Invokes how y.frame
+
+  -- what is begun by an ask
+  pub there : (at : ℕ) (k : Ask) (l : Level) (A : Asks s at k l) (how : Invocation) (callee : Callee) → k ≡ asks.Invoke how callee → (callee ≢ callees.Root) × CalleeIsFit s.program callee
+  there at k l A how callee is =
+      let x = A.point in
+      let w = x.frame in
+      child_fit s.program (body_of s.program w.callee) callee
+      (subst (AskIsThere s.program w.callee) (asked_ask at k l A ∙ is) (asks_there s.program h.is.named w.callee A.fit s.inputs (answers_of x.past) MAX_TICKS))
+
+  -- a level as it begins
+  abbrev pub IsNew : Level → Callee → Type 0
+  IsNew c callee = Stands s.code s.inputs s.program callee c.cursor [] 0 × (let v = c.cursor in v.owed ≡ owed_for asks.Begin) × (c.took ≡ 0)
+
+  begun_asks : (at : ℕ) (k : Ask) (l c : Level) (A : Asks s at k l) (how : Invocation) (callee : Callee) (e : Event) (w : World) → k ≡ asks.Invoke how callee
+      → Follows story at e → (let x = A.point in x.planned ≡ Invokes how w) → IsNew c callee → Begun at A.point A.behind how c
+  begun_asks at k l c A how callee e w is f planned new =
+      let x = A.point in
+      let place = A.place in
+      let less = f.more in
+      let y = following (suc A.behind) (omega (arith, place, less)) in
+      let begun : IsFirst A.behind x how y.0 = (here A.behind x A.is).0.starts how w planned y.0 y.1 in
+      let by = asked_by at k l A e f.asked f.is in
+      let made_child : x.deed ≡ Invokes how (child_world s.program x.frame (suc (started x.past)) callee) = by.starts how callee (asked_ask at k l A ∙ is) in
+      let frame : child_world s.program x.frame (suc (started x.past)) callee ≡ (let z = y.0 in z.frame) = invoked how _ _ (sym made_child ∙ begun.started) in
+      let same : callee ≡ (let z = y.0 in let v = z.frame in v.callee) = ap (λ (v : World). v.callee) frame in
+      record {
+        asks = record {
+          behind = suc A.behind;
+          place = omega (arith, place);
+          point = y.0;
+          is = y.1;
+          fit = subst (CalleeIsFit s.program) same (there at k l A how callee is).1;
+          asked = subst (λ z. HasAsked s.code s.inputs s.program z (answers_of (let z = y.0 in z.past)) asks.Begin c) same (first_asked callee c (let z = y.0 in z.past) begun.past new.2 new.0 new.1);
+        };
+        since = begun.since;
+        deed = begun.started;
+      }
+    where
+      invoked : (how : Invocation) (v w : World) → Invokes how v ≡ Invokes how w → v ≡ w
+      invoked how v w q = cc q
+
+  -- an invocation is answered with nothing
+  invoked_owes : (k : Ask) (how : Invocation) (callee : Callee) → k ≡ asks.Invoke how callee → HasAnswer k × (owed_for k ≡ Nothing)
+  invoked_owes k how callee is = (subst HasAnswer (sym is) tt, ap owed_for is)
+
+  -- the caller waits
+  waits_for : (at : ℕ) (k : Ask) (l c : Level) (A : Asks s at k l) (how : Invocation) (callee : Callee) → k ≡ asks.Invoke how callee → (B : Begun at A.point A.behind how c)
+      → Waits s (let b = B.asks in let y = b.point in y.since) l
+  waits_for at k l c A how callee is B =
+      let owes = invoked_owes k how callee is in
+      record {
+        behind = A.behind;
+        place = sym B.since;
+        point = A.point;
+        is = A.is;
+        how = how;
+        child = (let b = B.asks in let y = b.point in y.frame);
+        started = B.deed;
+        fit = A.fit;
+        stands = A.asked.stands owes.0;
+        owes = A.asked.owes owes.0 ∙ owes.1;
+        small = A.asked.small;
+      }
+
+  pub called_on : (at : ℕ) (k : Ask) (l c : Level) (below : List Level) (S : StandsAt s at k l below) (f : ℕ) → Follows story at (events.Call f)
+      → ((callee : Callee) → k ≡ asks.Invoke Call callee → CalleeIsFit s.program callee → IsNew c callee) → StandsAt s (at + 1) asks.Begin c (below ++ l ∷ [])
+  unfolding waits_for
+  called_on at k l c below S f F new =
+      let A = S.asks in
+      let callee = ask_for s.program s.run (let x = A.point in x.frame) k (events.Call f) (event_is at k l A (events.Call f) F.asked F.is) in
+      let deed = deed_kind at k l A (events.Call f) F.asked F.is in
+      let B = begun_asks at k l c A Call callee.0 (events.Call f) deed.0 callee.1 F deed.1 (new callee.0 callee.1 (there at k l A Call callee.0 callee.1).1) in
+      record {
+        asks = B.asks;
+        callers = subst (Linked s _) (sym (reverse-append below (l ∷ []))) (waits_for at k l c A Call callee.0 callee.1 B, S.callers);
+      }
+
+  -- what the ask begins
+  pub call_begins : (at : ℕ) (k : Ask) (l : Level) (below : List Level) → StandsAt s at k l below → (f : ℕ) → Follows story at (events.Call f)
+      → (how : Invocation) × (callee : Callee) × (callee ≢ callees.Root) × (k ≡ asks.Invoke how callee)
+  call_begins at k l below S f F =
+      let A = S.asks in
+      let callee = ask_for s.program s.run (let x = A.point in x.frame) k (events.Call f) (event_is at k l A (events.Call f) F.asked F.is) in
+      (Call, callee.0, (there at k l A Call callee.0 callee.1).0, callee.1)
+
+  pub spawn_begins : (at : ℕ) (k : Ask) (l : Level) (below : List Level) → StandsAt s at k l below → (f : ℕ) → Follows story at (events.Spawn f)
+      → (how : Invocation) × (callee : Callee) × (callee ≢ callees.Root) × (k ≡ asks.Invoke how callee)
+  spawn_begins at k l below S f F =
+      let A = S.asks in
+      let callee = ask_for s.program s.run (let x = A.point in x.frame) k (events.Spawn f) (event_is at k l A (events.Spawn f) F.asked F.is) in
+      (Spawn, callee.0, (there at k l A Spawn callee.0 callee.1).0, callee.1)
+
+  pub record Parted (at : ℕ) (next : ℕ) (c l : Level) (below : List Level) : Type 0 where
+    pub child : StandsAt s (at + 1) asks.Begin c []
+    pub parent : RestsAt s next l below
+
+  -- where a spawn's continuation stands: the parent's next event
+  abbrev pub IsResumed : ℕ → Point World → Type 0
+  IsResumed next x = (j : ℕ) × (suc j ≡ next) × (y : Point World) × (point_at s j ≡ Some y) × IsLater x y
+
+  pub spawned_on : (at : ℕ) (k : Ask) (l c : Level) (below : List Level) (S : StandsAt s at k l below) (f next : ℕ) → Follows story at (events.Spawn f)
+      → ((callee : Callee) → k ≡ asks.Invoke Spawn callee → CalleeIsFit s.program callee → IsNew c callee)
+      → ((i : ℕ) (x : Point World) → suc i ≡ at → point_at s i ≡ Some x → IsResumed next x) → Parted at next c l below
+  spawned_on at k l c below S f next F new resumed =
+      let A = S.asks in
+      let callee = ask_for s.program s.run (let x = A.point in x.frame) k (events.Spawn f) (event_is at k l A (events.Spawn f) F.asked F.is) in
+      let deed = deed_kind at k l A (events.Spawn f) F.asked F.is in
+      let B = begun_asks at k l c A Spawn callee.0 (events.Spawn f) deed.0 callee.1 F deed.1 (new callee.0 callee.1 (there at k l A Spawn callee.0 callee.1).1) in
+      let z = resumed A.behind A.point A.place A.is in
+      let owes = invoked_owes k Spawn callee.0 callee.1 in
+      record {
+        child = record {
+          asks = B.asks;
+          callers = inr (record { behind = A.behind; place = sym B.since; point = A.point; is = A.is; child = (let b = B.asks in let y = b.point in y.frame); started = B.deed });
+        };
+        parent = record {
+          rests = record {
+            behind = z.0;
+            place = z.1;
+            point = z.2;
+            is = z.3;
+            fit = subst (λ (v : World). CalleeIsFit s.program v.callee) (sym z.4.frame) A.fit;
+            before = (let x = A.point in x.past);
+            last = (let x = A.point in x.deed);
+            past = z.4.past;
+            answer = ap answer_of B.deed;
+            stands = subst (λ (v : World). Stands s.code s.inputs s.program v.callee l.cursor (answers_of (let x = A.point in x.past)) l.took) (sym z.4.frame) (A.asked.stands owes.0);
+            owes = A.asked.owes owes.0 ∙ owes.1;
+            small = A.asked.small;
+          };
+          callers = subst (λ n. Linked s n (reverse below)) (sym z.4.since) S.callers;
+        };
+      }
+
+  -- ---- a frame ends
+
+  -- what is left of the callers without the innermost
+  abbrev pub Caller : ℕ → Level → List Level → Type 0
+  Caller at top below = RestsAt s (at + 1) top below
+
+  pub ended_on : (at : ℕ) (k : Ask) (l top : Level) (old new : List Level) → StandsAt s at k l old → Follows story at events.End → old ≡ new ++ top ∷ [] → RestsAt s (at + 1) top new
+  ended_on at k l top old new S F popped =
+      let A = S.asks in
+      let x = A.point in
+      let place = A.place in
+      let less = F.more in
+      let y = following (suc A.behind) (omega (arith, place, less)) in
+      let deed = deed_kind at k l A events.End F.asked F.is in
+      let back : IsReturn (point_at s) x y.0 = (here A.behind x A.is).0.returns deed.0 deed.1 deed.2 y.0 y.1 in
+      let callers : Linked s x.since (top ∷ reverse new) = subst (Linked s x.since) (ap reverse popped ∙ reverse-append new (top ∷ [])) S.callers in
+      let waits : Waits s x.since top = callers.0 in
+      let one = back.before in
+      let two = waits.place in
+      let spot : back.place ≡ waits.behind = omega (arith, one, two) in
+      let same : back.caller ≡ waits.point = some_inner back.caller waits.point (sym back.is ∙ ap (point_at s) spot ∙ waits.is) in
+      let later : IsLater waits.point y.0 = subst (λ z. IsLater z y.0) same back.goes_on in
+      record {
+        rests = record {
+          behind = suc A.behind;
+          place = omega (arith, place);
+          point = y.0;
+          is = y.1;
+          fit = subst (λ (v : World). CalleeIsFit s.program v.callee) (sym later.frame) waits.fit;
+          before = (let z = waits.point in z.past);
+          last = (let z = waits.point in z.deed);
+          past = later.past;
+          answer = ap answer_of waits.started;
+          stands = subst (λ (v : World). Stands s.code s.inputs s.program v.callee top.cursor (answers_of (let z = waits.point in z.past)) top.took) (sym later.frame) waits.stands;
+          owes = waits.owes;
+          small = waits.small;
+        };
+        callers = subst (λ n. Linked s n (reverse new)) (sym later.since) callers.1;
+      }
+
+  -- ---- a frame that rests goes on
+
+  pub woken : (at : ℕ) (k' : Ask) (l l' : Level) (below : List Level) → RestsAt s at l below → Stepped l Done k' l' → StandsAt s at k' l' below
+  woken at k' l l' below S step =
+      let R = S.rests in
+      let x = R.point in
+      let w = x.frame in
+      let history : answers_of R.before ++ pos 0 ∷ [] ≡ answers_of x.past =
+      ap (λ v. answers_of R.before ++ v ∷ []) (sym R.answer) ∙ sym (answers_more R.before R.last) ∙ ap answers_of (sym R.past) in
+      record {
+        asks = record {
+          behind = R.behind;
+          place = R.place;
+          point = R.point;
+          is = R.is;
+          fit = R.fit;
+          asked = subst (λ z. HasAsked s.code s.inputs s.program w.callee z k' l') history (step s.program _ _ R.stands);
+        };
+        callers = S.callers;
+      }
+
+  pub rest_owed : (at : ℕ) (l : Level) (below : List Level) → RestsAt s at l below → Runs s.code s.inputs l.cursor × Fits (let v = l.cursor in v.owed) Done
+  rest_owed at l below S = let R = S.rests in ((_, R.stands), subst (λ o. Fits o Done) (sym R.owes) tt)
+
+  -- ---- the root's frame
+
+  pub rooted : (c : Level) → Stands s.code s.inputs s.program callees.Root c.cursor [] 0 → (let v = c.cursor in v.owed ≡ owed_for asks.Begin) → c.took ≡ 0 → StandsAt s 1 asks.Begin c []
+  rooted c stands owes took =
+      let some = h.orderly.root.1 in
+      let x = following 0 (omega (arith, some)) in
+      let is = first x.0 x.1 in
+      let same : callees.Root ≡ (let z = x.0 in let v = z.frame in v.callee) = ap (λ (v : World). v.callee) (sym is.0) in
+      record {
+        asks = record {
+          behind = 0;
+          place = refl;
+          point = x.0;
+          is = x.1;
+          fit = subst (CalleeIsFit s.program) same tt;
+          asked = subst (λ z. HasAsked s.code s.inputs s.program z (answers_of (let z = x.0 in z.past)) asks.Begin c) same (first_asked callees.Root c (let z = x.0 in z.past) is.1 took stands owes);
+        };
+        callers = inl is.2;
+      }

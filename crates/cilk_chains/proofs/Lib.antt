@@ -1,0 +1,4 @@
+pub mod OfKind
+pub mod Going
+pub mod Resuming
+pub mod Along

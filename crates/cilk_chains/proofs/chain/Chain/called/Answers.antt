@@ -1,0 +1,28 @@
+use Rattle.std.proofs.Common.{◌+◌, List, [], ◌∷◌, ◌++◌, ◌∙◌, sym, ap, subst}
+use Rattle.cilk_program.specs.declared.ask.Ask.{Ask}
+use Rattle.cilk_program.specs.declared.ask.Ask.TheVariants.{Begin}
+use Rattle.cilk_chains.specs.declared.level.Level.{Level}
+use Rattle.cilk_chains.specs.Asking.{Calls}
+use Rattle.cilk_chains.specs.Chains.{ChainValue}
+use Rattle.cilk_chains.specs.Standing.{Stand}
+use Rattle.cilk_chains.proofs.Along as along
+use Rattle.cilk_chains.proofs.chain.Chain.called.Goals as goal
+
+pub invariant_of-result : goal.invariant_of-result
+invariant_of-result c = subst (λ (xs : List Level). Stand c.self.inside.of.value c.self.inside.at c.self.inside.asked c.self.inside.top xs) (sym c.reserve.ensures.items) c.self.invariant
+
+pub begun-requires : goal.begun-requires
+begun-requires c =
+    let same = ap (λ (v : ChainValue). v.of) c.self.view_is ∙ sym c.requires.course in
+    along.call_begins c.self.inside.of.value c.args.course.now same c.self.inside.at c.self.inside.asked c.self.inside.top c.self.inside.below.items c.self.invariant (along.of_chain Calls c.self.inside.of.value c.self.inside.at c.args.self c.self.view_is c.requires.calls)
+
+pub invariant_of-result-in_default-begun : goal.invariant_of-result-in_default-begun
+invariant_of-result-in_default-begun c = subst (λ (xs : List Level). Stand c.self.inside.of.value c.self.inside.at c.self.inside.asked c.self.inside.top xs) (sym c.reserve.ensures.items) c.self.invariant
+
+pub invariant_of-result-2 : goal.invariant_of-result-2
+invariant_of-result-2 c =
+    let same = ap (λ (v : ChainValue). v.of) c.self.view_is ∙ sym c.requires.course in
+    let items = c.push_reserved.ensures.items ∙ ap (λ (xs : List Level). xs ++ c.self.inside.top ∷ []) c.reserve.ensures.items in
+    subst (λ (k : Ask). Stand c.self.inside.of.value (c.self.inside.at + 1) k c.in-Ok-begun.child c.push_reserved.new.self.items) (sym c.new.ensures)
+    (subst (λ (xs : List Level). Stand c.self.inside.of.value (c.self.inside.at + 1) Begin c.in-Ok-begun.child xs) (sym items)
+    (along.called c.self.inside.of.value c.args.course.now same c.self.inside.at c.self.inside.asked c.self.inside.top c.self.inside.below.items c.self.invariant c.in-Ok-begun.child (along.of_chain Calls c.self.inside.of.value c.self.inside.at c.args.self c.self.view_is c.requires.calls) c.in-Ok-begun.ensures.stands c.in-Ok-begun.ensures.owes c.in-Ok-begun.ensures.took))

@@ -1,0 +1,28 @@
+use Rattle.std.proofs.Common.{◌+◌, List, ◌∙◌, sym, ap, subst}
+use Rattle.cilk_program.specs.declared.ask.Ask.{Ask}
+use Rattle.cilk_program.specs.declared.ask.Ask.TheVariants.{Begin}
+use Rattle.cilk_chains.specs.declared.level.Level.{Level}
+use Rattle.cilk_chains.specs.Asking.{Spawns}
+use Rattle.cilk_chains.specs.Chains.{ChainValue}
+use Rattle.cilk_chains.specs.Courses.{CourseValue}
+use Rattle.cilk_chains.specs.Standing.{Stand}
+use Rattle.cilk_chains.proofs.Along as along
+use Rattle.cilk_chains.proofs.chain.Chain.spawned.Goals as goal
+
+pub begun-requires : goal.begun-requires
+begun-requires c =
+    let same = ap (λ (v : ChainValue). v.of) c.self.view_is ∙ sym c.requires.course in
+    along.spawn_begins c.self.inside.of.value c.args.course.now same c.self.inside.at c.self.inside.asked c.self.inside.top c.self.inside.below.items c.self.invariant c.args.next (along.of_chain (λ s at. Spawns s at c.args.next) c.self.inside.of.value c.self.inside.at c.args.self c.self.view_is c.requires.spawns)
+
+pub invariant_of-first : goal.invariant_of-first
+invariant_of-first c =
+    let same = ap (λ (v : ChainValue). v.of) c.self.view_is ∙ sym c.requires.course in
+    subst (λ (u : CourseValue). Stand u (c.self.inside.at + 1) c.new.result c.in-Ok.child c.new-2.result.items) (same ∙ sym c.of.ensures)
+    (subst (λ (k : Ask). Stand c.self.inside.of.value (c.self.inside.at + 1) k c.in-Ok.child c.new-2.result.items) (sym c.new.ensures)
+    (subst (λ (xs : List Level). Stand c.self.inside.of.value (c.self.inside.at + 1) Begin c.in-Ok.child xs) (sym c.new-2.ensures.items)
+    (along.spawned_child c.self.inside.of.value c.args.course.now same c.self.inside.at c.self.inside.asked c.self.inside.top c.self.inside.below.items c.self.invariant c.in-Ok.child c.args.next (along.of_chain (λ s at. Spawns s at c.args.next) c.self.inside.of.value c.self.inside.at c.args.self c.self.view_is c.requires.spawns) c.in-Ok.ensures.stands c.in-Ok.ensures.owes c.in-Ok.ensures.took)))
+
+pub invariant_of-rest : goal.invariant_of-rest
+invariant_of-rest c =
+    let same = ap (λ (v : ChainValue). v.of) c.self.view_is ∙ sym c.requires.course in
+    along.spawned_parent c.self.inside.of.value c.args.course.now same c.self.inside.at c.self.inside.asked c.self.inside.top c.self.inside.below.items c.self.invariant c.in-Ok.child c.args.next (along.of_chain (λ s at. Spawns s at c.args.next) c.self.inside.of.value c.self.inside.at c.args.self c.self.view_is c.requires.spawns) c.in-Ok.ensures.stands c.in-Ok.ensures.owes c.in-Ok.ensures.took

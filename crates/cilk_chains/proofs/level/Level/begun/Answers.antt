@@ -1,0 +1,14 @@
+use Rattle.std.proofs.Common.{◌∙◌, ap}
+use Rattle.cilk_frames.specs.AskSlot.{in_full}
+use Rattle.cilk_program.specs.declared.ask.Callee.TheVariants as callees
+use Rattle.cilk_chains.proofs.Along.{begun_by}
+use Rattle.cilk_chains.proofs.level.Level.begun.Goals as goal
+use Rattle.cilk_chains.proofs.level.Level.begun.Goals.{in-None+in_ok-cursor-in-None, in-Some-Turns+in_ok-cursor-in-Some-Turns}
+
+pub returns-clause-stands : goal.returns-clause-stands
+returns-clause-stands c = elim c.match-brief.branch [
+  | in-None+in_ok-cursor-in-None w ↦ begun_by c.args.course.now.code _ c.args.course.now.inputs c.args.asked.now w.invocation.result.0 (callees.Function w.invocation.result.1.now) _ c.match-brief.cursor
+      w.invocation.ensures c.code-code.ensures w.cursor-is w.in_ok-cursor-in-None.ensures.stands
+  | in-Some-Turns+in_ok-cursor-in-Some-Turns w ↦ begun_by c.args.course.now.code _ c.args.course.now.inputs c.args.asked.now _ (callees.Loop w.in-Some-Turns.part) _ c.match-brief.cursor
+      (w.in-Some-Turns.ensures ∙ ap in_full w.in-Some-Turns.field-0-is) c.code-code.ensures w.cursor-is w.in_ok-cursor-in-Some-Turns.ensures.stands
+]

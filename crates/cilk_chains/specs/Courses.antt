@@ -1,0 +1,69 @@
+-- The course of a plan's run on some inputs: the story that it makes, and the frame at hand at each event of it.
+use Rattle.std.specs.Prelude.{◌≡◌, ℕ, ℤ, List, Option, slice_get, refl}
+use Rattle.std.specs.Coded.{Coded, code_by, coded×, coded_list, coded_ℤ}
+use Rattle.cilk_types.specs.declared.event.Event.{Event}
+use Rattle.cilk_program.specs.contracts.program.Program as program
+use Rattle.cilk_program.specs.declared.program.Program.{Program}
+use Rattle.cilk_program.specs.SerialRun.{Transcript}
+use Rattle.cilk_program.specs.Sources.{source}
+use Rattle.cilk_program.specs.Syntax.{Source}
+use Rattle.cilk_lower.specs.Behaves.{Behaves}
+use Rattle.cilk_lower.specs.Code.{CodeView}
+use Rattle.cilk_lower.specs.contracts.code.Code as code
+use Rattle.cilk_story.specs.declared.story.Story.{Story}
+use Rattle.cilk_story.specs.Orders.{IsOrderly}
+use Rattle.cilk_plan.specs.Along.{IsAlong}
+use Rattle.cilk_plan.specs.Planned.{planned}
+use Rattle.cilk_shared.specs.Values.{YardValue}
+use Rattle.cilk_shared.specs.contracts.yard.Yard as yard
+use Rattle.cilk_worlds.specs.Worlds.{World}
+use Rattle.cilk_inputs.specs.Points.{Point, points_on}
+use Rattle.cilk_inputs.specs.Stories.{story_on, IsPlannedRun}
+
+-- what contracts see of a course: the yard with its story, the program and its code, and the inputs
+pub record CourseValue : Type 0 where
+  pub yard : YardValue
+  pub program : Program
+  pub code : CodeView
+  pub inputs : List ℤ
+
+abbrev pub course_with : YardValue → Program → CodeView → List ℤ → CourseValue
+course_with y p k is = record { yard = y; program = p; code = k; inputs = is }
+
+-- it is stored as the tuple of its fields
+abbrev pub course_code : Coded CourseValue
+course_code =
+    code_by (YardValue × (Program × (CodeView × List ℤ)))
+    (coded× yard.the_row.coded (coded× program.the_row.coded (coded× code.the_row.coded (coded_list coded_ℤ))))
+    (λ v. (v.yard, (v.program, (v.code, v.inputs))))
+    (λ t. record { yard = t.0; program = t.1.0; code = t.1.1.0; inputs = t.1.1.1 }) (λ v. refl)
+
+-- a course, with the serial run of the program of which there is a plan
+pub record Setting : Type 0 where
+  pub program : Source
+  pub code : CodeView
+  pub inputs : List ℤ
+  pub run : Transcript
+  pub story : Story
+
+abbrev pub setting_of : CourseValue → Transcript → Setting
+setting_of c r = let y = c.yard in record { program = source c.program; code = c.code; inputs = c.inputs; run = r; story = y.story }
+
+-- the frame at hand at the event behind so many, and all that the frame has done before
+unfoldable pub point_at : Setting → ℕ → Option (Point World)
+point_at s behind = slice_get (points_on s.program s.inputs s.run) behind
+
+-- The code asks what the program asks; the plan is that of the program's serial run on some inputs; and the story is what the program makes of
+-- it on the inputs at hand.
+pub record IsOfProgram (s : Setting) : Type 0 where
+  pub behaves : Behaves s.program s.code
+  pub own : List ℤ
+  pub events : List Event
+  pub is : let t = s.story in IsPlannedRun s.program own s.run events t.opening
+  pub told : let t = s.story in s.story ≡ story_on s.program s.inputs s.run events t.opening
+  pub orderly : IsOrderly s.story
+  pub along : let t = s.story in IsAlong (planned events t.opening) s.story
+
+-- there is such a run
+abbrev pub IsCourse : CourseValue → Type 0
+IsCourse c = (run : Transcript) × IsOfProgram (setting_of c run)

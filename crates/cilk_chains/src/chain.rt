@@ -1,0 +1,309 @@
+//! Frames that go on at a position of a run.
+
+ghost use Rattle.std.specs.Prelude.{◌≡◌, ◌≢◌, ◌+◌, ◌<◌, length, IfOk, MatchOption, MatchResult};
+ghost use Rattle.cilk_types.specs.declared.event.Event.TheVariants.{End};
+ghost use Rattle.cilk_story.specs.Word.{resume, what};
+ghost use Rattle.cilk_chains.specs.Chains.{standing, task_of};
+
+use crate::course::Course;
+use crate::level::Level;
+use cilk_frames::asked::AskSlot;
+use cilk_frames::cursor::Answer;
+use cilk_types::event::Pos;
+use std::alloc::{AllocError, Global};
+use std::marker::Model;
+use std::snapshot::Snapshot;
+
+/// A frame that has asked for an event, and its callers up to the nearest frame that was spawned.
+#[derive(Drop)]
+pub struct Chain {
+    of: Snapshot<Course>,
+    at: Pos,
+    asked: AskSlot,
+    top: Level,
+    below: Vec<Level>,
+}
+
+impl Model for Chain {
+    ghost use Rattle.cilk_chains.specs.Chains.{ChainValue, chain_code, standing};
+    ghost use Rattle.cilk_chains.specs.Standing.{Stand};
+
+    ghost Value = { ChainValue };
+
+    ghost coded = { chain_code };
+
+    ghost view = { λ c. standing c.of.value c.at };
+
+    ghost invariant = { λ c. Stand c.of.value c.at c.asked c.top c.below.items };
+}
+
+/// A frame that has yet to go on once its child, called or spawned, is left, and its callers up to the nearest frame
+/// that was spawned.
+#[derive(Drop)]
+pub struct Rest {
+    of: Snapshot<Course>,
+    at: Pos,
+    top: Level,
+    below: Vec<Level>,
+}
+
+impl Model for Rest {
+    ghost use Rattle.cilk_chains.specs.Chains.{ChainValue, chain_code, standing};
+    ghost use Rattle.cilk_chains.specs.Standing.{Rest};
+
+    ghost Value = { ChainValue };
+
+    ghost coded = { chain_code };
+
+    ghost view = { λ c. standing c.of.value c.at };
+
+    ghost invariant = { λ c. Rest c.of.value c.at c.top c.below.items };
+}
+
+impl Chain {
+    ghost use Rattle.std.specs.Prelude.{Some};
+    ghost use Rattle.cilk_chains.specs.Asking.{Calls, Follows, IsAnswered, IsNextAsk, Spawns};
+    ghost use Rattle.cilk_chains.specs.Standing.{IsTheOutermost};
+
+    /// The root's frame, before it begins.
+    pub fn root(alloc: Global, course: &Course) -> Result<Chain, AllocError>
+        ensures { IfOk result (λ c. c ≡ standing course.now 1) }
+    {
+        course.laws();
+        let top = Level::root(alloc, course)?;
+        Ok(Chain {
+            of: Snapshot::of(course),
+            at: 1,
+            asked: AskSlot::new(),
+            top,
+            below: Vec::new(alloc),
+        })
+    }
+
+    /// The position at which the frame goes on.
+    pub fn at(&self) -> Pos
+        ensures { result ≡ self.now.at }
+    {
+        let Chain { at, .. } = self;
+        *at
+    }
+
+    /// What the frame asks for next. Where the run follows its story, it is the story's event.
+    pub fn ask(&self) -> &AskSlot
+        ensures { IsNextAsk self.now.of self.now.at result.now }
+    {
+        &self.asked
+    }
+
+    /// The frame goes on with the answer to its event.
+    pub fn answered(self, course: &Course, answer: Answer) -> Chain
+        requires course { course.now ≡ self.of }
+        requires answer { IsAnswered self.of.yard.story self.at answer }
+        ensures { result ≡ standing self.of (self.at + 1) }
+    {
+        let Chain {
+            of,
+            at,
+            mut asked,
+            mut top,
+            below,
+        } = self;
+        top.step(course, answer, &mut asked);
+        Chain {
+            of,
+            at: at + 1,
+            asked,
+            top,
+            below,
+        }
+    }
+
+    /// The frame that is called begins, and its caller waits. Without memory the chain comes back.
+    pub fn called(self, alloc: Global, course: &Course) -> Result<Chain, Chain>
+        requires course { course.now ≡ self.of }
+        requires calls { Calls self.of.yard.story self.at }
+        ensures { MatchResult result (λ c. c ≡ standing self.of (self.at + 1)) (λ c. c ≡ self) }
+    {
+        let Chain {
+            of,
+            at,
+            asked,
+            top,
+            mut below,
+        } = self;
+        let Ok(()) = below.reserve(1) else {
+            return Err(Chain {
+                of,
+                at,
+                asked,
+                top,
+                below,
+            });
+        };
+        let Ok(child) = Level::begun(alloc, course, &asked) else {
+            return Err(Chain {
+                of,
+                at,
+                asked,
+                top,
+                below,
+            });
+        };
+        below.push_reserved(top);
+        Ok(Chain {
+            of,
+            at: at + 1,
+            asked: AskSlot::new(),
+            top: child,
+            below,
+        })
+    }
+
+    /// The frame that is spawned begins, alone, and its parent with its callers rests until it goes on at `next`.
+    /// Without memory the chain comes back.
+    pub fn spawned(self, alloc: Global, course: &Course, next: Pos) -> Result<(Chain, Rest), Chain>
+        requires course { course.now ≡ self.of }
+        requires spawns { Spawns self.of.yard.story self.at next }
+        ensures { MatchResult result (λ r. (r.0 ≡ standing self.of (self.at + 1)) × (r.1 ≡ standing self.of next))
+            (λ c. c ≡ self) }
+    {
+        let Chain {
+            of,
+            at,
+            asked,
+            top,
+            below,
+        } = self;
+        let Ok(child) = Level::begun(alloc, course, &asked) else {
+            return Err(Chain {
+                of,
+                at,
+                asked,
+                top,
+                below,
+            });
+        };
+        let first = Chain {
+            of: Snapshot::of(course),
+            at: at + 1,
+            asked: AskSlot::new(),
+            top: child,
+            below: Vec::new(alloc),
+        };
+        let rest = Rest {
+            of,
+            at: next,
+            top,
+            below,
+        };
+        Ok((first, rest))
+    }
+
+    /// The frame ends, and its caller has yet to go on. There is none where it was spawned, or is the root's.
+    pub fn ended(self, course: &Course) -> Option<Rest>
+        requires course { course.now ≡ self.of }
+        requires end { Follows self.of.yard.story self.at End }
+        ensures { MatchOption result (IsTheOutermost self.of self.at) (λ r. r ≡ standing self.of (self.at + 1)) }
+    {
+        let Chain {
+            of,
+            at,
+            asked: _,
+            top: _,
+            mut below,
+        } = self;
+        let top = below.pop()?;
+        Some(Rest {
+            of,
+            at: at + 1,
+            top,
+            below,
+        })
+    }
+}
+
+impl Rest {
+    /// The position at which the frame goes on.
+    pub fn at(&self) -> Pos
+        ensures { result ≡ self.now.at }
+    {
+        self.at
+    }
+
+    /// The frame goes on.
+    pub fn wake(self, course: &Course) -> Chain
+        requires { course.now ≡ self.of }
+        ensures { result ≡ self }
+    {
+        let Rest {
+            of,
+            at,
+            mut top,
+            below,
+        } = self;
+        let mut asked = AskSlot::new();
+        top.step(course, Answer::Done, &mut asked);
+        Chain {
+            of,
+            at,
+            asked,
+            top,
+            below,
+        }
+    }
+}
+
+/// A continuation to be taken: its ticket, and the frames that go on there.
+#[derive(Drop)]
+pub struct Task {
+    ticket: Pos,
+    rest: Rest,
+}
+
+impl Model for Task {
+    ghost use Rattle.std.specs.Prelude.{◌≡◌};
+    ghost use Rattle.cilk_story.specs.Word.{resume, what};
+    ghost use Rattle.cilk_chains.specs.Chains.{TaskValue, task_code, task_of};
+
+    ghost Value = { TaskValue };
+
+    ghost coded = { task_code };
+
+    ghost view = { λ t. task_of t.ticket t.rest };
+
+    ghost invariant = { λ t. what t.rest.of.yard.story t.rest.at ≡ resume t.ticket };
+}
+
+impl Task {
+    /// The continuation after the spawn at `ticket`, where its frame goes on with its `resume`.
+    pub fn new(ticket: Pos, rest: Rest) -> Task
+        requires { what rest.of.yard.story rest.at ≡ resume ticket }
+        ensures { result ≡ task_of ticket rest }
+    {
+        Task { ticket, rest }
+    }
+
+    /// The ticket.
+    pub fn ticket(&self) -> Pos
+        ensures { result ≡ self.now.ticket }
+    {
+        self.ticket
+    }
+
+    /// The position of the continuation.
+    pub fn at(&self) -> Pos
+        ensures place { result ≡ self.now.at }
+        ensures resumption { what self.now.of.yard.story result ≡ resume self.now.ticket }
+    {
+        self.rest.at()
+    }
+
+    /// The frames that go on there.
+    pub fn rest(self) -> Rest
+        ensures rest { result ≡ standing self.of self.at }
+        ensures resumption { what self.of.yard.story self.at ≡ resume self.ticket }
+    {
+        let Task { ticket: _, rest } = self;
+        rest
+    }
+}

@@ -1,0 +1,57 @@
+//! A program with its input, and the map of its text.
+
+use cilk_lexer::lexer::lex;
+use cilk_names::resolve::resolve;
+use cilk_parser::input::parse_input;
+use cilk_parser::parse::parse;
+use cilk_places::items::map_of;
+use cilk_places::map::TextMap;
+use cilk_program::program::Program;
+use cilk_texts::fault::TextFault;
+use cilk_types::input::Input;
+use std::alloc::{AllocError, Global};
+
+/// A program and its input, with the name of the program's file, its text and the map of that.
+#[derive(Drop)]
+pub struct Case<'a> {
+    pub alloc: Global,
+    pub file: &'a str,
+    pub text: &'a [u8],
+    pub program: Program,
+    pub input: Input,
+    pub map: TextMap,
+}
+
+impl<'a> Case<'a> {
+    /// The case of two texts; none where one of them has a fault.
+    pub fn of(
+        alloc: Global,
+        file: &'a str,
+        text: &'a [u8],
+        input: &[u8],
+    ) -> Result<Option<Case<'a>>, AllocError> {
+        let tree = match parse(alloc, text) {
+            Ok(tree) => tree,
+            Err(TextFault::Memory) => return Err(AllocError),
+            Err(_) => return Ok(None),
+        };
+        let Ok(input) = parse_input(alloc, input) else {
+            return Ok(None);
+        };
+        let Ok(program) = resolve(alloc, &tree) else {
+            return Ok(None);
+        };
+        let Ok(tokens) = lex(alloc, text) else {
+            return Ok(None);
+        };
+        let map = map_of(alloc, &tree, tokens.as_slice())?;
+        Ok(Some(Case {
+            alloc,
+            file,
+            text,
+            program,
+            input,
+            map,
+        }))
+    }
+}

@@ -1,0 +1,176 @@
+//! Why a fault stops a run, and where.
+
+use crate::case::Case;
+use crate::naming::word;
+use crate::notes::{push_line, push_place};
+use crate::paths::{chain, push_path};
+use crate::runs::Run;
+use cilk_explain::reasons::reason_of;
+use cilk_places::map::GlobalName;
+use cilk_places::replay::{Replay, StepNote, StopNote};
+use cilk_program::program::Body;
+use cilk_types::event::Event;
+use cilk_types::fault::Fault;
+use cilk_types::limits::MAX_EVENTS;
+use std::alloc::AllocError;
+
+// The most printed numbers that are told.
+const TOLD: usize = 20;
+
+// The depth from which a recursion is told to be one.
+const DEEP: usize = 1000;
+
+/// What stands behind the line of a fault of a run: where it stands, what was divided or indexed, the way from there up to `main`, how
+/// far the run came, and what to write instead. Nothing where the case's run ends by itself.
+pub fn of_fault(case: &Case<'_>) -> Result<String, AllocError> {
+    let mut report = String::new(case.alloc);
+    let Some(run) = Run::of(case)? else {
+        return Ok(report);
+    };
+    let (Some(fault), Some(stop)) = (run.fault, run.replay.stop) else {
+        return Ok(report);
+    };
+    push_head(case, &run, &mut report, fault, stop.step)?;
+    push_line(
+        &mut report,
+        "reason",
+        reason(case, &run, fault, &stop)?.as_str(),
+    )?;
+    let frames = chain(case.alloc, &run, stop.step.frame, None)?;
+    push_path(case, &run, &mut report, frames.as_slice())?;
+    push_line(&mut report, "so far", so_far(case, &run)?.as_str())?;
+    let cure = cure(case, &run, fault, stop.step, frames.len())?;
+    push_line(&mut report, "hint", cure.as_str())?;
+    Ok(report)
+}
+
+// The place of the fault, with its number and title.
+fn push_head(
+    case: &Case<'_>,
+    run: &Run,
+    report: &mut String,
+    fault: Fault,
+    step: StepNote,
+) -> Result<(), AllocError> {
+    let alloc = case.alloc;
+    let number = fault.number();
+    let title = match reason_of(number) {
+        Some(reason) => reason.title,
+        None => "",
+    };
+    let at = match run.replay.spot(&case.map, step) {
+        Some(spot) => spot.at,
+        None => 0,
+    };
+    let what = format!(in alloc; "error {number}: {title}")?;
+    push_place(case, report, at, what.as_str())
+}
+
+// What was divided, indexed or asked for, or which limit the run met.
+fn reason(case: &Case<'_>, run: &Run, fault: Fault, stop: &StopNote) -> Result<String, AllocError> {
+    let alloc = case.alloc;
+    let StopNote { left, right, .. } = *stop;
+    match fault {
+        Fault::DivisionByZero => format!(in alloc; "{left} is divided by 0"),
+        Fault::IndexOutside => outside(case, left, right),
+        Fault::InputOutside => {
+            let count = case.input.count();
+            format!(in alloc;
+                "the input has {count} numbers, counted from 0, and number {right} is asked for"
+            )
+        }
+        Fault::TooManyEvents if run.trace.len() >= MAX_EVENTS as usize => String::from_str(
+            alloc,
+            "the run has made 1,000,000 events, the most that there may be",
+        ),
+        Fault::TooManyEvents => String::from_str(
+            alloc,
+            "the run has taken 16,000,000 ticks, the most that there may be",
+        ),
+        Fault::TooManyFrames => String::from_str(
+            alloc,
+            "the run has begun 65,536 frames, the most that there may be",
+        ),
+        Fault::TooManyCells => String::from_str(
+            alloc,
+            "the globals and the variables of the frames so far, with those of one frame more, are over 1,048,576 cells",
+        ),
+    }
+}
+
+// An array by its first cell, and the index that it hasn't.
+fn outside(case: &Case<'_>, first: i64, index: i64) -> Result<String, AllocError> {
+    let alloc = case.alloc;
+    let Ok(first) = usize::try_from(first) else {
+        return Ok(String::new(alloc));
+    };
+    match case.map.array(first) {
+        Some(
+            GlobalName {
+                name,
+                length: Some(length),
+                ..
+            },
+        ) => {
+            let name = word(case, name)?;
+            let name = name.as_str();
+            let last = length.saturating_sub(1);
+            format!(in alloc;
+                "`{name}` has {length} elements, `{name}[0]` to `{name}[{last}]`, and the index is {index}"
+            )
+        }
+        _ => Ok(String::new(alloc)),
+    }
+}
+
+// How far the run came, and what it printed.
+fn so_far(case: &Case<'_>, run: &Run) -> Result<String, AllocError> {
+    let alloc = case.alloc;
+    let Replay { frames, ticks, .. } = &run.replay;
+    let events = run.trace.len();
+    let frames = frames.len();
+    let mut text = format!(in alloc; "{events} events, {ticks} ticks, {frames} frames")?;
+    let mut printed: usize = 0;
+    for event in run.trace.as_slice() {
+        if let Event::Print { value } = event {
+            if printed < TOLD {
+                text.push_str(if printed == 0 { "; printed " } else { ", " })?;
+                text.push_str(format!(in alloc; "{value}")?.as_str())?;
+            }
+            printed = printed.saturating_add(1);
+        }
+    }
+    if printed > TOLD {
+        let more = printed.saturating_sub(TOLD);
+        text.push_str(format!(in alloc; " and {more} numbers more")?.as_str())?;
+    }
+    Ok(text)
+}
+
+// What to write instead.
+fn cure(
+    case: &Case<'_>,
+    run: &Run,
+    fault: Fault,
+    step: StepNote,
+    depth: usize,
+) -> Result<String, AllocError> {
+    let is_loop = match run.replay.frames.get(step.frame) {
+        Some(note) => matches!(note.body, Body::Loop(_)),
+        None => false,
+    };
+    let cure = match fault {
+        Fault::TooManyFrames if is_loop => BLOCKS,
+        Fault::TooManyFrames | Fault::TooManyCells if depth > DEEP => RECURSION,
+        _ => match reason_of(fault.number()) {
+            Some(reason) => reason.cure,
+            None => "",
+        },
+    };
+    String::from_str(case.alloc, cure)
+}
+
+const BLOCKS: &str =
+    "a `cilk_for` of n turns begins 2 n - 1 frames: let each turn do a block of turns, `cilk_for (int b = 0; b < n / 64; b++) { for (int i = 64 * b; i < 64 * b + 64; i++) { .. } }`";
+
+const RECURSION: &str = "is there a condition that ends this recursion, and does it hold once?";

@@ -1,0 +1,153 @@
+//! The way from a frame up to the one with which the run began.
+
+use crate::case::Case;
+use crate::naming::{body_name, word};
+use crate::notes::place_of;
+use crate::runs::Run;
+use cilk_places::map::BodyMap;
+use cilk_places::replay::{FrameNote, StepNote};
+use cilk_program::program::Body;
+use cilk_types::invocation::Invocation;
+use std::alloc::{AllocError, Global};
+
+// How many frames of a long way are told, next to where it begins and where it ends.
+const NEAR: usize = 8;
+
+const FAR: usize = 4;
+
+/// Whether a frame halves the turns of its loop.
+pub fn halves(note: &FrameNote) -> bool {
+    matches!(note.body, Body::Loop(_)) && note.high.saturating_sub(note.low) > 1
+}
+
+/// The frames from one up to another, without the other, and without those that only halve turns above it.
+pub fn chain(
+    alloc: Global,
+    run: &Run,
+    frame: usize,
+    top: Option<usize>,
+) -> Result<Vec<usize>, AllocError> {
+    let mut chain = Vec::new(alloc);
+    let mut at = frame;
+    for _level in 0..run.replay.frames.len() {
+        let Some(note) = run.replay.frames.get(at) else {
+            break;
+        };
+        if Some(at) == top {
+            break;
+        }
+        if at == frame || !halves(note) {
+            chain.push(at)?;
+        }
+        if at == 0 {
+            break;
+        }
+        at = note.parent;
+    }
+    Ok(chain)
+}
+
+/// A line for each of these frames: what it runs, and where it was invoked.
+pub fn push_path(
+    case: &Case<'_>,
+    run: &Run,
+    report: &mut String,
+    chain: &[usize],
+) -> Result<(), AllocError> {
+    let alloc = case.alloc;
+    let count = chain.len();
+    let last = count.saturating_sub(FAR);
+    for (level, frame) in chain.iter().enumerate() {
+        if count > NEAR + FAR && level >= NEAR && level < last {
+            if level == NEAR {
+                let more = last.saturating_sub(NEAR);
+                report.push_str(format!(in alloc; "  and {more} frames more\n")?.as_str())?;
+            }
+        } else {
+            push_frame(case, run, report, *frame)?;
+        }
+    }
+    Ok(())
+}
+
+fn push_frame(
+    case: &Case<'_>,
+    run: &Run,
+    report: &mut String,
+    frame: usize,
+) -> Result<(), AllocError> {
+    let Some(note) = run.replay.frames.get(frame) else {
+        return Ok(());
+    };
+    report.push_str("  in ")?;
+    match note.body {
+        Body::Function(_) => push_function(case, run, report, frame, note)?,
+        Body::Loop(_) => push_turns(case, report, note)?,
+    }
+    report.push('\n')
+}
+
+fn push_function(
+    case: &Case<'_>,
+    run: &Run,
+    report: &mut String,
+    frame: usize,
+    note: &FrameNote,
+) -> Result<(), AllocError> {
+    let alloc = case.alloc;
+    let name = body_name(case, note.body)?;
+    let name = name.as_str();
+    report.push_str(format!(in alloc; "`{name}`")?.as_str())?;
+    if frame == 0 {
+        return Ok(());
+    }
+    report.push_str(match note.how {
+        Invocation::Call => ", called at ",
+        Invocation::Spawn => ", spawned at ",
+    })?;
+    report.push_str(place_of(case, invoked_at(case, run, note))?.as_str())
+}
+
+/// Where the text invokes a frame.
+pub fn invoked_at(case: &Case<'_>, run: &Run, note: &FrameNote) -> usize {
+    let step = StepNote {
+        frame: note.parent,
+        instruction: note.instruction,
+    };
+    match run.replay.spot(&case.map, step) {
+        Some(spot) => spot.at,
+        None => 0,
+    }
+}
+
+fn push_turns(case: &Case<'_>, report: &mut String, note: &FrameNote) -> Result<(), AllocError> {
+    let alloc = case.alloc;
+    let turns = turns_of(case, note)?;
+    let turns = turns.as_str();
+    let Some(map) = case.map.body(note.body) else {
+        return Ok(());
+    };
+    let place = place_of(case, map.name.at)?;
+    let place = place.as_str();
+    report.push_str(format!(in alloc; "{turns} of the `cilk_for` at {place}")?.as_str())
+}
+
+/// The turn of a frame, or its turns, by the loop's variable.
+pub fn turns_of(case: &Case<'_>, note: &FrameNote) -> Result<String, AllocError> {
+    let alloc = case.alloc;
+    let variable = match case.map.body(note.body) {
+        Some(BodyMap { cells, .. }) => match cells.first() {
+            Some(name) => word(case, *name)?,
+            None => String::new(alloc),
+        },
+        None => String::new(alloc),
+    };
+    let variable = variable.as_str();
+    let low = note.low;
+    if halves(note) {
+        let last = note.high.saturating_sub(1);
+        format!(in alloc; "turns `{variable}` = {low} to {last}")
+    } else {
+        format!(in alloc; "turn `{variable}` = {low}")
+    }
+}

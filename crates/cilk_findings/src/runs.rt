@@ -1,0 +1,50 @@
+//! The run of a case, with its notes.
+
+use crate::case::Case;
+use cilk_lower::lower::lower;
+use cilk_places::replay::{Replay, follow};
+use cilk_serial::serial_run::SerialRun;
+use cilk_types::event::Event;
+use cilk_types::fault::Fault;
+use cilk_types::trace::Trace;
+use std::alloc::AllocError;
+
+/// A run: its events, the fault that stops it, if one does, and its notes.
+#[derive(Drop)]
+pub struct Run {
+    pub trace: Trace,
+    pub fault: Option<Fault>,
+    pub replay: Replay,
+}
+
+impl Run {
+    /// The run of a case. None where its notes don't fit its events.
+    pub fn of(case: &Case<'_>) -> Result<Option<Run>, AllocError> {
+        let alloc = case.alloc;
+        let code = lower(alloc, &case.program)?;
+        let mut serial = SerialRun::new(alloc, &case.program, &code, &case.input)?;
+        let fault = serial.complete()?;
+        let trace = serial.into_trace();
+        let noted = follow(
+            alloc,
+            &case.map,
+            &case.program,
+            &code,
+            &case.input,
+            trace.as_slice(),
+        )?;
+        match noted {
+            Some(replay) if replay.stop.is_some() == fault.is_some() => Ok(Some(Run {
+                trace,
+                fault,
+                replay,
+            })),
+            _ => Ok(None),
+        }
+    }
+
+    /// An event, counted from 0.
+    pub fn event(&self, index: usize) -> Option<Event> {
+        self.trace.as_slice().get(index).copied()
+    }
+}

@@ -1,0 +1,129 @@
+//! A schedule that makes the later of two accesses first, and what it leaves.
+
+use crate::case::Case;
+use crate::notes::push_line;
+use cilk_play::{PlayFault, play};
+use cilk_script::script::read;
+use cilk_serial::run::run;
+use cilk_types::outcome::{Final, Outcome};
+use std::alloc::{AllocError, Global};
+
+/// A schedule of two workers: the first makes so many events, up to a spawn; the second takes the continuation at this place, and
+/// makes so many; then the first makes those of the child.
+#[derive(Clone, Copy, Debug)]
+pub struct Schedule {
+    pub ahead: usize,
+    pub place: usize,
+    pub behind: usize,
+    pub child: usize,
+}
+
+impl Schedule {
+    /// The script that makes it, for `play`.
+    pub fn script(&self, case: &Case<'_>) -> Result<String, AllocError> {
+        let alloc = case.alloc;
+        let Schedule {
+            ahead,
+            place,
+            behind,
+            child,
+        } = *self;
+        format!(in alloc; "run 1 {ahead}\nsteal 2 {place}\nrun 2 {behind}\nrun 1 {child}\nall\n")
+    }
+}
+
+/// What a schedule leaves, in words, and its script. It is played first, and nothing is told of one that `play` refuses.
+pub fn push_schedule(
+    case: &Case<'_>,
+    report: &mut String,
+    schedule: &Schedule,
+) -> Result<(), AllocError> {
+    let alloc = case.alloc;
+    let script = schedule.script(case)?;
+    let Ok(steps) = read(alloc, script.as_bytes()) else {
+        return Ok(());
+    };
+    let told = match play(alloc, &case.program, &case.input, 2, steps.as_slice()) {
+        Ok(Some(outcome)) => left(case, &outcome)?,
+        Ok(None) => return Ok(()),
+        Err(fault) => match stopped(alloc, &fault)? {
+            Some(told) => told,
+            None => return Ok(()),
+        },
+    };
+    push_line(report, "schedule", told.as_str())?;
+    for line in script.as_str().lines() {
+        report.push_str("  ")?;
+        report.push_str(line)?;
+        report.push('\n')?;
+    }
+    Ok(())
+}
+
+// What is told of a script that stops.
+fn stopped(alloc: Global, fault: &PlayFault) -> Result<Option<String>, AllocError> {
+    match fault {
+        PlayFault::Stop { fault, name: _ } => {
+            let number = fault.number();
+            Ok(Some(format!(in alloc;
+                "by this script for `play` the run stops by fault {number}"
+            )?))
+        }
+        PlayFault::Memory => Err(AllocError),
+        PlayFault::Line(_line) => Ok(None),
+    }
+}
+
+// How an outcome differs from that of `run`.
+fn left(case: &Case<'_>, outcome: &Outcome) -> Result<String, AllocError> {
+    let alloc = case.alloc;
+    let Ok((serial, _trace)) = run(alloc, &case.program, &case.input) else {
+        return Ok(String::new(alloc));
+    };
+    let result = outcome.result;
+    let wanted = serial.result;
+    if result != wanted {
+        return format!(in alloc;
+            "this script for `play` leaves the result {result}, where `run` shows {wanted}"
+        );
+    }
+    if outcome.output.as_slice() != serial.output.as_slice() {
+        return String::from_str(
+            alloc,
+            "this script for `play` prints other numbers than `run`",
+        );
+    }
+    if !are_same(outcome.reducers.as_slice(), serial.reducers.as_slice()) {
+        return String::from_str(
+            alloc,
+            "this script for `play` leaves another value in a reducer than `run`",
+        );
+    }
+    if outcome.globals.as_slice() != serial.globals.as_slice() {
+        return String::from_str(
+            alloc,
+            "this script for `play` leaves other values in global variables than `run`, and shows the same",
+        );
+    }
+    String::from_str(
+        alloc,
+        "this script for `play` makes the later access first; what it leaves is the same here",
+    )
+}
+
+fn are_same(one: &[Final], other: &[Final]) -> bool {
+    if one.len() != other.len() {
+        return false;
+    }
+    for (left, right) in one.iter().zip(other.iter()) {
+        let same = match (left, right) {
+            (Final::Number(left), Final::Number(right)) => left == right,
+            (Final::List(left), Final::List(right)) => left.as_slice() == right.as_slice(),
+            _ => false,
+        };
+        if !same {
+            return false;
+        }
+    }
+    true
+}

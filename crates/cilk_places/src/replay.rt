@@ -1,0 +1,122 @@
+//! A run made once more along its events, with a note of where each step stands.
+
+use crate::map::{BodyMap, Spot, TextMap};
+use crate::player::Player;
+use cilk_lower::code::Code;
+use cilk_program::program::{Body, Program};
+use cilk_types::event::Event;
+use cilk_types::input::Input;
+use cilk_types::invocation::Invocation;
+use std::alloc::{AllocError, Global};
+
+/// A frame of the run. Frames, events and instructions count from 0 here.
+#[derive(Clone, Copy, Debug)]
+pub struct FrameNote {
+    /// What it runs, and, of a loop, its turns from `low` up to but without `high`.
+    pub body: Body,
+    pub low: i64,
+    pub high: i64,
+    pub how: Invocation,
+    /// The frame that invoked it, with the instruction and the event by which it did; its own for the first frame.
+    pub parent: usize,
+    pub instruction: usize,
+    pub begun: usize,
+    /// Its last event, once that is made.
+    pub ended: Option<usize>,
+    /// Its first cell.
+    pub cell: usize,
+}
+
+/// The frame and the instruction of an event.
+#[derive(Clone, Copy, Debug)]
+pub struct StepNote {
+    pub frame: usize,
+    pub instruction: usize,
+}
+
+/// Where a run stops without an end, and the last two operands there, the right one second.
+#[derive(Clone, Copy, Debug)]
+pub struct StopNote {
+    pub step: StepNote,
+    pub left: i64,
+    pub right: i64,
+}
+
+/// The notes of a run: each frame's, each event's, the ticks that it took, and where it stops, if it doesn't end.
+#[derive(Drop, Debug)]
+pub struct Replay {
+    pub frames: Vec<FrameNote>,
+    pub steps: Vec<StepNote>,
+    pub ticks: u32,
+    pub stop: Option<StopNote>,
+}
+
+/// Goes over a run whose events these are. None where they don't follow from the code.
+pub fn follow(
+    alloc: Global,
+    map: &TextMap,
+    program: &Program,
+    code: &Code,
+    input: &Input,
+    events: &[Event],
+) -> Result<Option<Replay>, AllocError> {
+    let mut player = Player::new(alloc, map, program, code, input, events);
+    player.open()?;
+    for _turn in 0..MAX_MOVES {
+        match player.advance()? {
+            Moved::On => {}
+            Moved::Over => return Ok(Some(player.into_replay(None))),
+            Moved::Stops => {
+                let stop = player.stop();
+                return Ok(Some(player.into_replay(Some(stop))));
+            }
+            Moved::Lost => return Ok(None),
+        }
+    }
+    Ok(None)
+}
+
+// More instructions than a run within its limits can make.
+const MAX_MOVES: u64 = 1_000_000_000;
+
+/// What came of an instruction.
+#[derive(Clone, Copy, PartialEq, Eq, Debug)]
+pub enum Moved {
+    /// The run goes on.
+    On,
+    /// The first frame has ended.
+    Over,
+    /// The run can't go on, or no event is left.
+    Stops,
+    /// The event at hand isn't what the instruction asks for.
+    Lost,
+}
+
+impl Replay {
+    /// A body's instruction where a step was made, as the text has it.
+    pub fn spot(&self, map: &TextMap, step: StepNote) -> Option<Spot> {
+        let frame = self.frames.get(step.frame)?;
+        let body: &BodyMap = map.body(frame.body)?;
+        body.spots.get(step.instruction).copied()
+    }
+
+    /// The byte of the text from which an event comes.
+    pub fn place(&self, map: &TextMap, event: usize) -> Option<usize> {
+        let step = self.steps.get(event)?;
+        let spot = self.spot(map, *step)?;
+        Some(spot.at)
+    }
+
+    /// The frame that has a cell, and which of its cells that is.
+    pub fn owner(&self, cell: usize) -> Option<(usize, usize)> {
+        let mut found = None;
+        let mut number: usize = 0;
+        for frame in &self.frames {
+            if frame.cell <= cell {
+                found = Some((number, cell.saturating_sub(frame.cell)));
+            }
+            number = number.saturating_add(1);
+        }
+        found
+    }
+}

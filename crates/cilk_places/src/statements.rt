@@ -1,0 +1,262 @@
+//! The instructions of statements.
+
+use crate::map::BodyMap;
+use crate::walker::Walker;
+use cilk_syntax::tree::{
+    Assignment, Beginning, Bounds, Expr, Local, LocalInitializer, Name, Reducer, Stmt,
+};
+use cilk_types::invocation::Invocation;
+use std::alloc::AllocError;
+use std::mem;
+
+impl Walker<'_> {
+    /// Statements, one after the other.
+    #[cycle(statements)]
+    pub fn row(&mut self, row: &[Stmt]) -> Result<(), AllocError> {
+        for tree in row {
+            self.statement(tree)?;
+        }
+        Ok(())
+    }
+
+    #[cycle(statements)]
+    fn statement(&mut self, tree: &Stmt) -> Result<(), AllocError> {
+        match tree {
+            Stmt::Empty => {
+                let at = self.take();
+                self.put(at)
+            }
+            Stmt::Block(row) => {
+                let at = self.take();
+                self.put(at)?;
+                self.row(row)?;
+                self.take();
+                Ok(())
+            }
+            Stmt::Declare(locals) => self.declaration(locals),
+            Stmt::Reducer(reducer) => self.reducer(*reducer),
+            Stmt::Assign(_) | Stmt::Invoke(_, _) | Stmt::AssignCall(_, _, _) | Stmt::Sync => {
+                self.simple(tree)
+            }
+            Stmt::If(test, body) => {
+                self.test(test)?;
+                self.statement(body)
+            }
+            Stmt::IfElse(test, first, second) => {
+                self.test(test)?;
+                self.statement(first)?;
+                let at = self.take();
+                self.put(at)?;
+                self.statement(second)
+            }
+            Stmt::While(test, body) => {
+                let at = self.test(test)?;
+                self.statement(body)?;
+                self.put(at)
+            }
+            Stmt::For(beginning, test, step, body) => {
+                let at = self.head(beginning)?;
+                self.turn_test(at, test)?;
+                let ahead = mem::replace(&mut self.body.spots, Vec::new(self.alloc));
+                self.turn_step(step)?;
+                let step = mem::replace(&mut self.body.spots, ahead);
+                self.statement(body)?;
+                self.body.spots.extend_from_slice(step.as_slice())?;
+                self.put(at)
+            }
+            Stmt::ParallelFor(bounds, body) => {
+                let outside = self.enter(bounds)?;
+                self.statement(body)?;
+                self.leave(outside)
+            }
+            Stmt::Return(_, value) => self.returned(value),
+            Stmt::Print(value) => {
+                let at = self.take();
+                self.put(at)?;
+                self.take();
+                self.expression(value)?;
+                self.pass(2);
+                self.put(at)
+            }
+            Stmt::Update(_, value) | Stmt::Set(_, value) => self.updated(value),
+        }
+    }
+
+    // A statement of one line that takes no other and declares nothing.
+    fn simple(&mut self, tree: &Stmt) -> Result<(), AllocError> {
+        match tree {
+            Stmt::Assign(assignment) => {
+                let at = self.here();
+                self.assignment(at, assignment)?;
+            }
+            Stmt::Invoke(how, call) => {
+                let at = self.here();
+                self.put(at)?;
+                self.call(*how, call, false)?;
+            }
+            Stmt::AssignCall(_, how, call) => {
+                let at = self.take();
+                self.put(at)?;
+                self.take();
+                self.call(*how, call, true)?;
+            }
+            _ => {
+                let at = self.take();
+                self.put_times(at, 2)?;
+            }
+        }
+        self.take();
+        Ok(())
+    }
+
+    // The variables of a declaration.
+    fn declaration(&mut self, locals: &[Local]) -> Result<(), AllocError> {
+        let at = self.take();
+        self.put(at)?;
+        for (number, local) in locals.iter().enumerate() {
+            if number > 0 {
+                self.take();
+            }
+            self.local(local)?;
+        }
+        self.take();
+        Ok(())
+    }
+
+    fn local(&mut self, local: &Local) -> Result<(), AllocError> {
+        self.body.cells.push(local.name)?;
+        let at = self.take();
+        match &local.initializer {
+            LocalInitializer::Absent => self.put(at),
+            LocalInitializer::Value(value) => {
+                self.take();
+                self.expression(value)?;
+                self.put(at)
+            }
+            LocalInitializer::Invoke(how, call) => {
+                self.take();
+                self.call(*how, call, true)
+            }
+        }
+    }
+
+    // `int cilk_reducer(KIND) NAME;`
+    fn reducer(&mut self, reducer: Reducer) -> Result<(), AllocError> {
+        self.pass(7);
+        self.put(reducer.name.at)
+    }
+
+    // `WORD (TEST)`, and the jump behind it. The place of the word is the result.
+    fn test(&mut self, test: &Expr) -> Result<usize, AllocError> {
+        let at = self.take();
+        self.put(at)?;
+        self.take();
+        self.expression(test)?;
+        self.take();
+        self.put(at)?;
+        Ok(at)
+    }
+
+    // `for (BEGINNING;`. The place of the word is the result.
+    fn head(&mut self, beginning: &Option<Beginning>) -> Result<usize, AllocError> {
+        let at = self.take();
+        self.put(at)?;
+        self.take();
+        match beginning {
+            Some(Beginning::Declares(name, value)) => {
+                self.body.cells.push(*name)?;
+                self.take();
+                self.put(name.at)?;
+                self.pass(2);
+                self.expression(value)?;
+                self.put(name.at)?;
+            }
+            Some(Beginning::Assigns(assignment)) => {
+                let at = self.here();
+                self.assignment(at, assignment)?;
+            }
+            None => {}
+        }
+        self.take();
+        Ok(at)
+    }
+
+    // `TEST;`, and the jump behind it.
+    fn turn_test(&mut self, at: usize, test: &Option<Box<Expr>>) -> Result<(), AllocError> {
+        if let Some(test) = test {
+            self.expression(test)?;
+            self.put(at)?;
+        }
+        self.take();
+        Ok(())
+    }
+
+    // `STEP)`.
+    fn turn_step(&mut self, step: &Option<Assignment>) -> Result<(), AllocError> {
+        if let Some(assignment) = step {
+            let at = self.here();
+            self.assignment(at, assignment)?;
+        }
+        self.take();
+        Ok(())
+    }
+
+    // The head of a `cilk_for`, and what a frame of its turns begins with. The body around it is the result, with the
+    // loop's number and place.
+    fn enter(&mut self, bounds: &Bounds) -> Result<(BodyMap, usize), AllocError> {
+        let at = self.take();
+        self.put(at)?;
+        self.pass(4);
+        self.expression(&bounds.low)?;
+        self.pass(3);
+        self.expression(&bounds.high)?;
+        self.pass_close();
+        self.put_times(at, 2)?;
+        let name = Name {
+            at,
+            end: at.saturating_add(8),
+        };
+        let number = self.loops.len();
+        self.loops.push(BodyMap::new(self.alloc, name))?;
+        let inside = BodyMap::new(self.alloc, name);
+        let outside = mem::replace(&mut self.body, inside);
+        self.body.cells.push(bounds.variable)?;
+        self.put_times(at, 2)?;
+        Ok((outside, number))
+    }
+
+    // What such a frame ends with, and how it halves its turns.
+    fn leave(&mut self, outside: (BodyMap, usize)) -> Result<(), AllocError> {
+        let (body, number) = outside;
+        let at = self.body.name.at;
+        self.put_times(at, 10)?;
+        let inside = mem::replace(&mut self.body, body);
+        if let Some(place) = self.loops.get_mut(number) {
+            *place = inside;
+        }
+        Ok(())
+    }
+
+    fn returned(&mut self, value: &Option<Box<Expr>>) -> Result<(), AllocError> {
+        let at = self.take();
+        self.put(at)?;
+        if let Some(value) = value {
+            self.expression(value)?;
+            self.put(at)?;
+        }
+        self.take();
+        self.put_times(at, 3)
+    }
+
+    // `WORD (NAME, VALUE);`
+    fn updated(&mut self, value: &Expr) -> Result<(), AllocError> {
+        let at = self.take();
+        self.put(at)?;
+        self.take();
+        let name = self.take();
+        self.take();
+        self.expression(value)?;
+        self.pass(2);
+        self.put(name)
+    }
+}

@@ -1,0 +1,83 @@
+//! The continuations of a run's spawns, and the blocks that they are in, in one pass from the run's end.
+
+ghost use Rattle.std.specs.Prelude.{◌≡◌, ◌≢◌, ◌↔◌, ◌<◌, ◌^◌, Some, None, slice_index_or, IfOk, OnOk};
+ghost use Rattle.cilk_plan.specs.declared.blocks.Continuation.{Continuation};
+ghost use Rattle.cilk_plan.specs.declared.kind.Kind.TheVariants.{Sync};
+ghost use Rattle.cilk_plan.specs.Blocks.{AreContinuations, IsPut};
+
+use crate::kind::{Asked, Kind};
+use crate::plan::Plan;
+use cilk_types::event::{FrameNo, Pos};
+use std::alloc::{AllocError, Global};
+
+/// What follows a spawn in its frame: the position of the `resume` by which it goes on, and that of the `sync` that ends its block.
+#[derive(Clone, Copy, PartialEq, Eq, Debug)]
+pub struct Continuation {
+    pub resume: Pos,
+    pub sync: Pos,
+}
+
+/// For each position at which a spawn stands, its continuation. Cost and memory: linear in the events.
+pub fn continuations(alloc: Global, plan: &Plan) -> Result<Vec<Option<Continuation>>, AllocError>
+    ensures { IfOk result (λ column. AreContinuations plan.now column.items) }
+{
+    plan.laws();
+    let resumptions = plan.resumptions(alloc)?;
+    let count = plan.count();
+    let mut ahead = Vec::new(alloc);
+    let mut column = Vec::with_capacity(alloc, count + 1)?;
+    column.resize(count + 1, None)?;
+    for met in 0..count {
+        let at = (count - met) as Pos;
+        if let Asked::Next { frame, kind } = plan.next(at - 1) {
+            let resume = position_in(&resumptions, at as usize);
+            let sync = position_in(&ahead, frame as usize);
+            column[at as usize] = both(resume, sync);
+            meet(&mut ahead, frame, kind, at)?;
+        }
+    }
+    Ok(column)
+}
+
+// The position at a place, if there is one.
+fn position_in(column: &Vec<Option<Pos>>, place: usize) -> Option<Pos>
+    ensures { result ≡ slice_index_or column.now.items place None }
+{
+    match column.get(place) {
+        Some(position) => *position,
+        None => None,
+    }
+}
+
+// A continuation that has both.
+fn both(resume: Option<Pos>, sync: Option<Pos>) -> Option<Continuation>
+    ensures { (c : Continuation) → (result ≡ Some c) ↔ ((resume ≡ Some c.resume) × (sync ≡ Some c.sync)) }
+{
+    match (resume, sync) {
+        (Some(resume), Some(sync)) => Some(Continuation { resume, sync }),
+        _ => None,
+    }
+}
+
+// For each frame the next `sync`, ahead of an event of a frame.
+fn meet(ahead: &mut Vec<Option<Pos>>, frame: FrameNo, kind: Kind, at: Pos) -> Result<(), AllocError>
+    ensures sync { OnOk result (kind ≡ Sync → IsPut ahead.old.items frame at ahead.new.items) }
+    ensures other { OnOk result (kind ≢ Sync → ahead.new.items ≡ ahead.old.items) }
+{
+    match kind {
+        Kind::Sync => put(ahead, frame as usize, at),
+        _ => Ok(()),
+    }
+}
+
+// Puts a position at a place.
+fn put(column: &mut Vec<Option<Pos>>, place: usize, at: Pos) -> Result<(), AllocError>
+    requires { place < 2 ^ 32 }
+    ensures { OnOk result (IsPut column.old.items place at column.new.items) }
+{
+    if place >= column.len() {
+        column.resize(place + 1, None)?;
+    }
+    column[place] = Some(at);
+    Ok(())
+}

@@ -1,0 +1,3 @@
+pub mod Counts
+pub mod Keys
+pub mod Moves

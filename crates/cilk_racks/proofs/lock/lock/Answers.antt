@@ -1,0 +1,5 @@
+use Rattle.cilk_racks.proofs.Keys.{locks}
+use Rattle.cilk_racks.proofs.lock.lock.Goals as goal
+
+pub pop_as-requires-clause-rule : goal.pop_as-requires-clause-rule
+pop_as-requires-clause-rule g c = (locks g.N.Naming.run _ c.args.sync _ c.loop.invariant.1, λ _ _ _ _. tt)

@@ -1,0 +1,5 @@
+use Rattle.cilk_racks.proofs.Moves.{takes}
+use Rattle.cilk_racks.proofs.rack.Picker.oldest.Goals as goal
+
+pub steal_as-requires-clause-takes : goal.steal_as-requires-clause-takes
+steal_as-requires-clause-takes g c = takes g.N.Naming.run _ c.args.self.now.guest _

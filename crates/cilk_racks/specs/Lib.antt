@@ -1,0 +1,5 @@
+pub mod Held
+pub mod Locks
+pub mod Namings
+pub mod Racks
+pub mod Spawns

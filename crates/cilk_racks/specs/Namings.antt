@@ -1,0 +1,10 @@
+-- The name of no run.
+use Rattle.std.specs.Prelude.{[]}
+use Rattle.cilk_boxes.specs.Rows.{RunValue}
+
+abbrev pub no_run : RunValue
+no_run = record {
+  of = record { words = 0; slots = 0; views_name = 0; atom = 0; block = 0; offset = 0; slot_names = [] };
+  story = record { events = []; preceding = []; opening = []; asked = [] };
+  reducers = record { frames = [] };
+}

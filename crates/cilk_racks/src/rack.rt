@@ -1,0 +1,167 @@
+//! A worker's tasks. Its owner takes the newest, and others the oldest.
+
+ghost use Rattle.std.specs.Prelude.{◌≡◌, ◌+◌, ◌≤◌, ◌<◌, ◌^◌, true, false, [], ◌∷◌, ◌++◌, IfOk, IfSome, MatchResult, MatchOption};
+ghost use Rattle.crossbeam_deque.specs.Handles.{view, IsPassOf, worker_deque, worker_flavor, worker_port, worker_view, worker_capacity, worker_index, stealer_deque, SameWorker};
+ghost use Rattle.cilk_racks.specs.Racks.{Of, offers};
+
+use crate::naming::Naming;
+use cilk_pieces::chain::Task;
+use crossbeam_deque::protocol::{Outcome, Protocol};
+use crossbeam_deque::{Pass, Steal, Stealer, Worker};
+use std::alloc::{AllocError, Global};
+use std::collections::LinkedList;
+use std::marker::PhantomData;
+
+/// What a pass knows: the owner's, the tasks that were offered and not given back. No value of it is made.
+pub struct Offers {
+    pub owner: bool,
+    pub waiting: LinkedList<Task>,
+}
+
+/// The rule of a rack.
+pub struct OfRun<N: Naming> {
+    of: PhantomData<N>,
+}
+
+impl<N: Naming> Protocol<Task, Offers> for OfRun<N> {
+    ghost use Rattle.std.specs.Prelude.{true, false, []};
+    ghost use Rattle.cilk_racks.specs.Racks.{offers, Racked};
+
+    ghost holds = { λ items views. Racked N.run items views };
+
+    ghost first = { offers true [] };
+
+    ghost guest = { offers false [] };
+}
+
+/// A task is put behind the others.
+pub struct Offered;
+
+impl Outcome<Task, Offers> for Offered {
+    ghost then = { λ v xs w. w ≡ offers v.owner (v.waiting ++ xs) };
+}
+
+/// The task that was offered last comes back.
+pub struct GivenBack<N: Naming> {
+    of: PhantomData<N>,
+}
+
+impl<N: Naming> Outcome<Task, Offers> for GivenBack<N> {
+    ghost use Rattle.std.specs.Prelude.{◌≡◌, ◌++◌, All};
+    ghost use Rattle.cilk_racks.specs.Racks.{Of};
+
+    ghost then = { λ v xs w. (w.owner ≡ v.owner) × (v.waiting ≡ w.waiting ++ xs) × All (Of N.run) xs };
+}
+
+/// The oldest task is taken.
+pub struct Taken<N: Naming> {
+    of: PhantomData<N>,
+}
+
+impl<N: Naming> Outcome<Task, Offers> for Taken<N> {
+    ghost use Rattle.std.specs.Prelude.{◌≡◌, All};
+    ghost use Rattle.cilk_racks.specs.Racks.{Of};
+
+    ghost then = { λ v xs w. (w ≡ v) × All (Of N.run) xs };
+}
+
+/// A worker's own end.
+#[derive(Drop)]
+pub struct Rack<N: Naming> {
+    worker: Worker<Task, Global, Offers, OfRun<N>>,
+    ghost lifo: { worker_flavor worker ≡ 1 },
+    ghost first: { worker_port worker ≡ 0 },
+    ghost owner: { (worker_view worker).owner ≡ true },
+}
+
+/// Another worker's end.
+#[derive(Drop)]
+pub struct Picker<N: Naming> {
+    stealer: Stealer<Task, Global, Offers, OfRun<N>>,
+    pass: Pass<Task, Offers>,
+    ghost tied: { IsPassOf (stealer_deque stealer) pass },
+    ghost guest: { (view pass).owner ≡ false },
+}
+
+impl<N: Naming> Rack<N> {
+    ghost use Rattle.cilk_racks.specs.Held.{IsOffered, waiting, room, offered};
+
+    /// A rack without tasks, with room for this many offers: as many as the plan has spawns ([`crate::spawns::spawns`]).
+    pub fn new(alloc: Global, spawns: usize) -> Result<Rack<N>, AllocError>
+        ensures { IfOk result (λ r. (waiting r ≡ []) × (offered r ≡ 0) × (spawns ≤ room r)) }
+    {
+        let worker = Worker::lifo_as(alloc, spawns)?;
+        Ok(Rack { worker })
+    }
+
+    /// Puts a task behind the others. It comes back only after as many offers as the rack has room for.
+    pub fn offer(&mut self, task: Task) -> Result<(), Task>
+        requires { Of N.run task }
+        ensures rule { IsOffered self.old task result self.new }
+        ensures room { room self.old ≤ room self.new }
+    {
+        self.worker.push_as::<Offered>(task)
+    }
+
+    /// The task that was offered last and not given back, or `None` where none was left.
+    pub fn newest(&mut self) -> Option<Task>
+        ensures { MatchOption result (waiting self.new ≡ waiting self.old) (λ t. (waiting self.old ≡ waiting self.new ++ t ∷ []) × Of N.run t) }
+    {
+        self.worker.pop_as::<GivenBack<N>>()
+    }
+
+    /// Another worker's end.
+    pub fn picker(&self) -> Result<Picker<N>, AllocError> {
+        let stealer = self.worker.stealer()?;
+        let pass = stealer.pass();
+        Ok(Picker { stealer, pass })
+    }
+}
+
+/// The deque of a rack.
+pub type Tasks<N> = Worker<Task, Global, Offers, OfRun<N>>;
+
+/// The other end of a rack's deque.
+pub type Takes<N> = Stealer<Task, Global, Offers, OfRun<N>>;
+
+impl<N: Naming> Rack<N> {
+    /// The deque alone, to be sent to a thread.
+    pub fn parted(self) -> Tasks<N>
+        ensures { (worker_flavor result ≡ 1) × (worker_port result ≡ 0) × ((worker_view result).owner ≡ true) }
+    {
+        self.worker
+    }
+
+    /// The rack of such a deque.
+    pub fn of(worker: Tasks<N>) -> Rack<N>
+        requires { (worker_flavor worker ≡ 1) × (worker_port worker ≡ 0) × ((worker_view worker).owner ≡ true) }
+    {
+        Rack { worker }
+    }
+}
+
+impl<N: Naming> Picker<N> {
+    /// The deque's other end and its pass, to be sent to a thread.
+    pub fn parted(self) -> (Takes<N>, Pass<Task, Offers>)
+        ensures { IsPassOf (stealer_deque result.0) result.1 × ((view result.1).owner ≡ false) }
+    {
+        (self.stealer, self.pass)
+    }
+
+    /// The picker of such an end.
+    pub fn of(stealer: Takes<N>, pass: Pass<Task, Offers>) -> Picker<N>
+        requires { IsPassOf (stealer_deque stealer) pass × ((view pass).owner ≡ false) }
+    {
+        Picker { stealer, pass }
+    }
+
+    /// The oldest task, or `None` where none was had.
+    pub fn oldest(&mut self) -> Option<Task>
+        ensures { IfSome result (λ t. Of N.run t) }
+    {
+        match self.stealer.steal_as::<Taken<N>>(&mut self.pass) {
+            Steal::Success(task) => Some(task),
+            Steal::Empty | Steal::Retry => None,
+        }
+    }
+}

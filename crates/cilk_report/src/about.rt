@@ -1,0 +1,51 @@
+//! Words about the tool itself: what a number means, and the version.
+
+use crate::help::VERSION;
+use cilk_explain::report::{of_all, of_number};
+use cilk_lexer::lexer::{all_digits, value_of};
+use std::alloc::{AllocError, Global};
+
+/// What is answered to words about the tool.
+#[derive(Drop)]
+pub enum About {
+    /// The words aren't about the tool.
+    Other,
+    /// A text for standard output.
+    Text(String),
+    /// What is wrong with the words.
+    Wrong(String),
+}
+
+/// What is answered to these words, if they are about the tool.
+pub fn answer_about(alloc: Global, words: &[&str]) -> Result<About, AllocError> {
+    match words {
+        ["--version" | "-V"] => Ok(About::Text(String::from_str(alloc, VERSION)?)),
+        ["explain"] => Ok(About::Text(of_all(alloc)?)),
+        ["explain", word] if !word.starts_with("-") => explained(alloc, word),
+        _ => Ok(About::Other),
+    }
+}
+
+// What the number of a word means.
+fn explained(alloc: Global, word: &str) -> Result<About, AllocError> {
+    if let Some(number) = number_of(word) {
+        if let Some(text) = of_number(alloc, number)? {
+            return Ok(About::Text(text));
+        }
+    }
+    let wrong = format!(in alloc;
+        "error: nothing is refused by `{word}`: the numbers are 101 to 106, 111 to 119, 121, 122, 201 to 206 and 301 to 312\n"
+    )?;
+    Ok(About::Wrong(wrong))
+}
+
+// The number that a word spells.
+fn number_of(word: &str) -> Option<u16> {
+    if !all_digits(word.as_bytes()) {
+        return None;
+    }
+    match value_of(word.as_bytes()) {
+        Some(value) if value <= 65535 => Some(value as u16),
+        _ => None,
+    }
+}

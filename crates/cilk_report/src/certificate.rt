@@ -1,0 +1,71 @@
+//! Which line of a certificate a refusal is about.
+
+use cilk_checker::refusal::Refusal;
+use cilk_lexer::lexer::{all_digits, value_of};
+use cilk_tool::files::Files;
+
+/// How many events, frames and strands a certificate says that it has.
+#[derive(Clone, Copy, Debug)]
+struct Sizes {
+    events: u64,
+    frames: u64,
+    strands: u64,
+}
+
+/// The line, from 1, if it is known: the file is read again up to the sizes.
+pub fn line_of<F: Files>(path: &str, refusal: Refusal, files: &mut F) -> Option<u64> {
+    if let Refusal::Malformed { line } | Refusal::Truncated { line } = refusal {
+        return Some(u64::from(line));
+    }
+    let Sizes {
+        events,
+        frames,
+        strands,
+    } = sizes_of(path, files)?;
+    let ahead = frames.saturating_add(2);
+    match refusal {
+        Refusal::Frame { frame } => Some(frame.saturating_add(2)),
+        Refusal::Strand { strand } | Refusal::Hebrew { strand } | Refusal::Class { strand } => Some(
+            ahead.saturating_add(strand),
+        ),
+        Refusal::Event { at } | Refusal::ReadSource { at } => {
+            Some(ahead.saturating_add(strands).saturating_add(at))
+        }
+        Refusal::Result => Some(
+            ahead
+                .saturating_add(strands)
+                .saturating_add(events)
+                .saturating_add(1),
+        ),
+        _ => None,
+    }
+}
+
+// The sizes in the second line of a certificate.
+fn sizes_of<F: Files>(path: &str, files: &mut F) -> Option<Sizes> {
+    if files.failures() == u64::MAX {
+        return None;
+    }
+    let mut front = [0u8; 256];
+    let count = files.part(path, 0, &mut front).ok()?;
+    let text = str::from_utf8(front.get(..count)?).ok()?;
+    let line = text.lines().nth(1)?;
+    let mut words = line.split_whitespace().skip(1);
+    let events = number_of(words.next()?)?;
+    let frames = number_of(words.next()?)?;
+    let strands = number_of(words.next()?)?;
+    Some(Sizes {
+        events,
+        frames,
+        strands,
+    })
+}
+
+// The number that a word spells.
+fn number_of(word: &str) -> Option<u64> {
+    if all_digits(word.as_bytes()) {
+        value_of(word.as_bytes())
+    } else {
+        None
+    }
+}

@@ -1,0 +1,28 @@
+//! The tool for people: what `cilk_tool` shows, and behind it, where the words ask for that, where a fault stands, why, and what
+//! to write in its place.
+//!
+//! [`serve_explained`] is what the program calls. Words that ask something of [`cilk_tool::serve`] are served as it serves them.
+//! The word `--explain` among them changes nothing of that: the same line comes first, on the same stream, with the same status,
+//! and behind it an explanation comes on standard error:
+//!
+//! ```text
+//! program 103 at 61
+//! fib.c:3:13: error 103: no text of the language goes on like this
+//!   return fib(n - 1) + fib(n - 2);
+//!             ^
+//! reason: found `(`, wanted `;` or an operator
+//! hint: a call stands alone or as the whole right side of a variable's assignment: `x = f(a);`
+//! ```
+//!
+//! Other words are about the tool itself: `explain 103`, `--version`; and help stands behind clap's text for words that are none.
+#![tactic(auto)]
+
+mod about;
+mod certificate;
+mod explaining;
+mod flags;
+mod help;
+mod serving;
+mod wanted;
+
+pub use serving::serve_explained;

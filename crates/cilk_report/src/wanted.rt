@@ -1,0 +1,136 @@
+//! What the grammar has at a place: each token is put there, and the parser says whether it goes on.
+
+use cilk_parser::parse::parse;
+use cilk_texts::fault::{TextFault, TextNumber};
+use cilk_types::limits::MAX_TEXT;
+use std::alloc::{AllocError, Global};
+
+/// What can stand at a place, in words, and whether a semicolon is among it.
+#[derive(Drop)]
+pub struct Expected {
+    pub words: String,
+    pub semicolon: bool,
+}
+
+// The tokens that are told one by one where they can stand, but for those that a group has.
+const MARKS: &str = "`)` `}` `]` `,` `else` `cilk_reducer`";
+
+// Those that begin a statement or an expression as well.
+const BEGINNINGS: &str = "`(` `{` `[` `++` `int` `void` `cilk_spawn`";
+
+/// A text up to a place, behind which tokens are tried.
+#[derive(Drop)]
+struct Trial {
+    alloc: Global,
+    text: Vec<u8>,
+    at: usize,
+}
+
+impl Trial {
+    // Whether the grammar has this token behind the text.
+    fn takes(&mut self, token: &str) -> Result<bool, AllocError> {
+        self.text.truncate(self.at);
+        self.text.push(b' ')?;
+        self.text.extend_from_slice(token.as_bytes())?;
+        match parse(self.alloc, self.text.as_slice()) {
+            Err(TextFault::Memory) => Err(AllocError),
+            Err(TextFault::At(TextNumber::Unexpected, place)) => Ok(
+                place > self.at.saturating_add(1),
+            ),
+            _ => Ok(true),
+        }
+    }
+}
+
+/// What the grammar has at a byte of a text whose tokens ahead of it are taken.
+pub fn expected_at(alloc: Global, text: &[u8], at: usize) -> Result<Expected, AllocError> {
+    let front = match text.get(..at) {
+        Some(front) if front.len() < MAX_TEXT - 32 => front,
+        _ => {
+            return Ok(Expected {
+                words: String::new(alloc),
+                semicolon: false,
+            });
+        }
+    };
+    let mut trial = Trial {
+        alloc,
+        text: front.to_vec(alloc)?,
+        at,
+    };
+    let semicolon = trial.takes(";")?;
+    let listed = list(alloc, &mut trial, semicolon)?;
+    Ok(Expected {
+        words: joined(alloc, listed.as_slice())?,
+        semicolon,
+    })
+}
+
+// What can stand there: groups first, then single tokens.
+fn list(
+    alloc: Global,
+    trial: &mut Trial,
+    semicolon: bool,
+) -> Result<Vec<&'static str>, AllocError> {
+    let mut listed: Vec<&'static str> = Vec::new(alloc);
+    let is_statement = trial.takes("while")?;
+    let has_name = trial.takes("x")?;
+    let has_number = trial.takes("0")?;
+    match (has_name, has_number) {
+        _ if is_statement => listed.push("a statement")?,
+        (true, true) => listed.push("an expression")?,
+        (true, false) => listed.push("a name")?,
+        (false, true) => listed.push("a number")?,
+        (false, false) => {}
+    }
+    if semicolon && !is_statement {
+        listed.push("`;`")?;
+    }
+    push_tokens(trial, &mut listed, MARKS)?;
+    if !is_statement && !has_number {
+        push_behind(trial, &mut listed)?;
+    }
+    Ok(listed)
+}
+
+// What can stand behind a name or an expression, or where a declaration begins.
+fn push_behind(trial: &mut Trial, listed: &mut Vec<&'static str>) -> Result<(), AllocError> {
+    if trial.takes("%")? {
+        listed.push("an operator")?;
+    } else if trial.takes("<")? {
+        listed.push("`<`")?;
+    }
+    if trial.takes("*=")? {
+        listed.push("an assignment")?;
+    } else if trial.takes("=")? {
+        listed.push("`=`")?;
+    }
+    push_tokens(trial, listed, BEGINNINGS)
+}
+
+// Those of the tokens that can stand there.
+fn push_tokens(
+    trial: &mut Trial,
+    listed: &mut Vec<&'static str>,
+    tokens: &'static str,
+) -> Result<(), AllocError> {
+    for token in tokens.split_whitespace() {
+        if trial.takes(token.trim_matches('`'))? {
+            listed.push(token)?;
+        }
+    }
+    Ok(())
+}
+
+// A list in words: commas, and `or` ahead of the last one.
+fn joined(alloc: Global, listed: &[&str]) -> Result<String, AllocError> {
+    let mut words = String::new(alloc);
+    for (place, item) in listed.iter().enumerate() {
+        if place > 0 {
+            let is_last = place.saturating_add(1) == listed.len();
+            words.push_str(if is_last { " or " } else { ", " })?;
+        }
+        words.push_str(item)?;
+    }
+    Ok(words)
+}

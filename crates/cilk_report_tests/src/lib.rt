@@ -1,0 +1,7 @@
+//! Tests of what the tool says for people.
+#![tactic(auto)]
+
+#[cfg(test)]
+mod explained;
+#[cfg(test)]
+mod folder;

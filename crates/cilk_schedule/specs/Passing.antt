@@ -1,0 +1,163 @@
+-- Continuations that thieves take, frames that wait at a sync, and syncs: what functions change by numbers, and that these choices are steps of
+-- the free machine.
+use Rattle.std.specs.Prelude.{◌≡◌, ◌+◌, ℕ, Bool, true, false, ℤ, List, remove, slice_get, Some, None}
+use Rattle.cilk_types.specs.declared.event.Event.TheVariants as events
+use Rattle.cilk_types.specs.declared.event.Instance.{Instance}
+use Rattle.cilk_program.specs.declared.ask.Ask.TheVariants as asks
+use Rattle.cilk_program.specs.Syntax.{Source}
+use Rattle.cilk_lower.specs.Code.{CodeView}
+use Rattle.cilk_activations.specs.declared.activation.Activation.{Activation}
+use Rattle.cilk_hypermap.specs.Hypermap.{EachKind, view_in}
+use Rattle.cilk_hypermap.specs.declared.hypermap.Hypermap.{Hypermap}
+use Rattle.cilk_join.specs.Joins.{MayArrive}
+use Rattle.cilk_join.specs.Products.{product}
+use Rattle.cilk_join.specs.Waits.{shown}
+use Rattle.cilk_runs.specs.Machine.{State}
+use Rattle.cilk_runs.specs.Runs.{Name}
+use Rattle.cilk_worlds.specs.Reducers.{View}
+use Rattle.cilk_worlds.specs.Worlds.{World}
+use Rattle.cilk_board.specs.Acting.{IsShown}
+use Rattle.cilk_board.specs.Boards.{ShowsBy}
+use Rattle.cilk_board.specs.Desks.{Desk, Chooses, Did, Skipped, Stole, Waited}
+use Rattle.cilk_board.specs.Events.{Arrives, AwaitsLast, block_in}
+use Rattle.cilk_board.specs.GoneOn.{HaveGoneOn}
+use Rattle.cilk_board.specs.Invocations.{IsNoted}
+use Rattle.cilk_board.specs.Parts.{BringsOwn, freed}
+use Rattle.cilk_board.specs.Seats.{changed, robbed, synced, waiting}
+use Rattle.cilk_board.specs.Workers.{altered, viewing}
+use Rattle.cilk_board.specs.declared.board.Board.{Board}
+use Rattle.cilk_board.specs.declared.choice.Choice.{Choice}
+use Rattle.cilk_board.specs.declared.choice.Told.{Told}
+use Rattle.cilk_board.specs.declared.choice.Told.TheVariants as told
+use Rattle.cilk_board.specs.declared.seat.Seat.{Seat}
+use Rattle.cilk_board.specs.declared.seat.Worker.{Worker}
+
+-- The piece of the last child of the frame at place k is awaited at its block, and that child is marked.
+pub record Robs (frames frames' : List (Activation Seat)) (k : ℕ) : Type 0 where
+  pub seat : Activation Seat
+  pub awaiting : Seat
+  pub sits : slice_get frames k ≡ Some seat
+  pub awaits : let x = seat.cursor in AwaitsLast x awaiting
+  pub frames_are : frames' ≡ changed robbed (changed (λ _. awaiting) frames k) awaiting.last
+
+-- The worker at this place no longer offers the continuation at that place of its list.
+pub record OffersLess (workers workers' : List Worker) (victim at : ℕ) : Type 0 where
+  pub owner : Worker
+  pub without : Worker
+  pub owns : slice_get workers victim ≡ Some owner
+  pub same : without ≡ record owner { offered = without.offered }
+  pub items : let o = owner.offered in let l = without.offered in l.items ≡ remove o.items at
+  pub workers_are : workers' ≡ altered (λ _. without) workers victim
+
+-- the worker at this place has no view
+abbrev pub HasNoView : List Worker → List Worker → ℕ → Type 0
+HasNoView workers workers' w = (views : Hypermap) × EachKind (λ q. (j : Instance) → view_in views q j ≡ None) × (workers' ≡ viewing views workers w)
+
+-- The piece that a frame brings to its own block may arrive there, where the block hasn't passed.
+abbrev pub MayBringOwn : Seat → Type 0
+MayBringOwn x = x.merged ≡ false → MayArrive (block_in x.join) (x.children + 1) true
+
+-- What is kept of a frame, and these views, where they come to its block with this key: no continuation of it was stolen, or they arrive. Whether it
+-- passes.
+pub data ComesTo (x : Seat) (key : ℕ) (last : Bool) (old : Hypermap) (passes : Bool) (x' : Seat) (new : Hypermap) : Type 0 where
+  Unstolen : x.join ≡ None → x' ≡ x → new ≡ old → passes ≡ false → ComesTo x key last old passes x' new
+  Arrived : (l l' : _) → x.join ≡ Some l → x' ≡ record x { join = Some l' }
+      → Arrives (shown l.value) key last (product old) passes (shown l'.value) new → ComesTo x key last old passes x' new
+
+-- The views of the worker at place w come so to the block of the frame at place k.
+pub record PieceComes (frames frames' : List (Activation Seat)) (workers workers' : List Worker) (w k key : ℕ) (last passes : Bool) : Type 0 where
+  pub seat : Activation Seat
+  pub worker : Worker
+  pub brought : Seat
+  pub views : Hypermap
+  pub sits : slice_get frames k ≡ Some seat
+  pub at : slice_get workers w ≡ Some worker
+  pub comes : let x = seat.cursor in ComesTo x key last worker.views passes brought views
+  pub frames_are : frames' ≡ changed (λ _. brought) frames k
+  pub workers_are : workers' ≡ viewing views workers w
+
+-- The own piece of the frame at place k, which the worker at place w has, comes to the frame's block.
+pub record OwnComes (frames frames' : List (Activation Seat)) (workers workers' : List Worker) (w k : ℕ) : Type 0 where
+  pub seat : Activation Seat
+  pub worker : Worker
+  pub brought : Seat
+  pub views : Hypermap
+  pub sits : slice_get frames k ≡ Some seat
+  pub at : slice_get workers w ≡ Some worker
+  pub brings : let x = seat.cursor in BringsOwn x worker.views brought views
+  pub frames_are : frames' ≡ changed (λ _. brought) frames k
+  pub workers_are : workers' ≡ viewing views workers w
+
+-- The frame waits, and the worker has none.
+pub record StaysAt (b b' : Board) (w k : ℕ) : Type 0 where
+  pub arrived : List (Activation Seat)
+  pub viewed : List Worker
+  pub comes : let f = b.frames in let l = b.workers in OwnComes f.items arrived l.items viewed w k
+  pub frames : let f = b'.frames in f.items ≡ changed waiting arrived k
+  pub workers : let l = b'.workers in l.items ≡ altered freed viewed w
+  pub offered : b'.offered ≡ b.offered
+  pub cells : b'.cells ≡ b.cells
+  pub journal : b'.journal ≡ b.journal
+  pub ticks : b'.ticks ≡ b.ticks
+  pub outcome : b'.outcome ≡ b.outcome
+
+-- The frame goes on behind its sync, with another block. The event is still to be written down.
+pub record GoesBehind (b b' : Board) (w k : ℕ) : Type 0 where
+  pub arrived : List (Activation Seat)
+  pub comes : let f = b.frames in let l = b.workers in let m = b'.workers in OwnComes f.items arrived l.items m.items w k
+  pub frames : let f = b'.frames in f.items ≡ changed synced arrived k
+  pub cells : b'.cells ≡ b.cells
+  pub offered : b'.offered ≡ b.offered
+  pub outcome : b'.outcome ≡ b.outcome
+
+-- what comes of the frame at place k, where its own piece may come to its block; and where that hasn't passed
+abbrev pub WhereOwnMayCome : List (Activation Seat) → ℕ → Type 0 → Type 0
+WhereOwnMayCome frames k P = (a : Activation Seat) → slice_get frames k ≡ Some a → MayBringOwn a.cursor → P
+
+abbrev pub WhereOwnIsDue : List (Activation Seat) → ℕ → Type 0 → Type 0
+WhereOwnIsDue frames k P = (a : Activation Seat) → slice_get frames k ≡ Some a → (let x = a.cursor in x.merged ≡ false) → MayBringOwn a.cursor → P
+
+-- It makes its sync: the event is written down, and its ticks are counted.
+pub record WroteSync (b b' : Board) (w k : ℕ) : Type 0 where
+  pub made : Board
+  pub asked : b.asked ≡ asks.Sync
+  pub behind : let f = b.frames in WhereOwnMayCome f.items k (GoesBehind b made w k)
+  pub journal : let e = b.journal in let l = made.journal in l.items ≡ e.items
+  pub ticks : made.ticks ≡ b.ticks
+  pub noted : IsNoted made b' k events.Sync
+
+-- A thief's choice is a step of the free machine: a board that showed a state shows what comes of it.
+abbrev pub StealsAreSteps : CodeView → List ℤ → Board → Board → Choice → Told → Type 0
+StealsAreSteps code inputs b b' c (told.Did act) = Unit {0}
+StealsAreSteps code inputs b b' c told.Stole =
+    (p : Source) (name : ℕ → Name) (d : Desk) (s : State World View) → IsShown code p inputs name b d s
+    → (s' : State World View) × (d' : Desk) × Chooses p inputs s d c Stole s' d' × ShowsBy code p inputs name b' d' s'
+StealsAreSteps code inputs b b' c told.Waits = Unit {0}
+StealsAreSteps code inputs b b' c told.Skipped = Unit {0}
+
+-- A choice by which a frame waits at its sync makes no step: a board that showed a state shows it still, with the worker idle.
+abbrev pub WaitsAreSteps : CodeView → List ℤ → Board → Board → Choice → Told → Type 0
+WaitsAreSteps code inputs b b' c (told.Did act) = Unit {0}
+WaitsAreSteps code inputs b b' c told.Stole = Unit {0}
+WaitsAreSteps code inputs b b' c told.Waits =
+    (p : Source) (name : ℕ → Name) (d : Desk) (s : State World View) → IsShown code p inputs name b d s
+    → (d' : Desk) × Chooses p inputs s d c Waited s d' × ShowsBy code p inputs name b' d' s
+WaitsAreSteps code inputs b b' c told.Skipped = Unit {0}
+
+-- A sync is a step of the free machine, in each state that steps or choices lead to.
+abbrev pub SyncsAreSteps : CodeView → List ℤ → Board → Board → Choice → Told → Type 0
+SyncsAreSteps code inputs b b' c (told.Did act) =
+    act.event ≡ events.Sync → (p : Source) (name : ℕ → Name) (d : Desk) (s : State World View) → IsShown code p inputs name b d s → HaveGoneOn s
+    → (s' : State World View) × Chooses p inputs s d c Did s' d × ShowsBy code p inputs name b' d s'
+SyncsAreSteps code inputs b b' c told.Stole = Unit {0}
+SyncsAreSteps code inputs b b' c told.Waits = Unit {0}
+SyncsAreSteps code inputs b b' c told.Skipped = Unit {0}
+
+-- A choice that is skipped can't be made, and changes nothing.
+abbrev pub SkipsAreSteps : CodeView → List ℤ → Board → Board → Choice → Told → Type 0
+SkipsAreSteps code inputs b b' c (told.Did act) = Unit {0}
+SkipsAreSteps code inputs b b' c told.Stole = Unit {0}
+SkipsAreSteps code inputs b b' c told.Waits = Unit {0}
+SkipsAreSteps code inputs b b' c told.Skipped =
+    (p : Source) (name : ℕ → Name) (d : Desk) (s : State World View) → IsShown code p inputs name b d s
+    → Chooses p inputs s d c Skipped s d × ShowsBy code p inputs name b' d s

@@ -1,0 +1,72 @@
+-- A worker's frame starts another: by numbers, and as a step of the free machine.
+use Rattle.std.specs.Prelude.{◌≡◌, ◌+◌, ◌<◌, ℕ, suc, ℤ, List, length}
+use Rattle.cilk_types.specs.declared.event.Event as numbered
+use Rattle.cilk_types.specs.declared.event.Event.TheVariants as events
+use Rattle.cilk_types.specs.declared.invocation.Invocation.{Invocation}
+use Rattle.cilk_program.specs.SerialRun.{invocation}
+use Rattle.cilk_program.specs.Syntax.{Source}
+use Rattle.cilk_program.specs.declared.ask.Ask.TheVariants as asks
+use Rattle.cilk_program.specs.declared.ask.Callee.{Callee}
+use Rattle.cilk_lower.specs.Code.{CodeView}
+use Rattle.cilk_lower.specs.Layout.{cells_in}
+use Rattle.cilk_activations.specs.declared.activation.Activation.{Activation}
+use Rattle.cilk_runs.specs.Machine.{State}
+use Rattle.cilk_runs.specs.Runs.{Name}
+use Rattle.cilk_worlds.specs.Reducers.{View}
+use Rattle.cilk_worlds.specs.Worlds.{World}
+use Rattle.cilk_board.specs.Desks.{Desk, Chooses, Did}
+use Rattle.cilk_board.specs.Invocations.{ChildBegins, IsNoted}
+use Rattle.cilk_board.specs.Invoking.{IsChild}
+use Rattle.cilk_board.specs.declared.board.Board.{Board}
+use Rattle.cilk_board.specs.declared.choice.Choice.{Choice}
+use Rattle.cilk_board.specs.declared.choice.Told.{Told}
+use Rattle.cilk_board.specs.declared.choice.Told.TheVariants as told
+use Rattle.cilk_board.specs.declared.seat.Seat.{Seat}
+use Rattle.cilk_schedule.specs.Reached.{IsReached}
+
+-- the event starts a frame
+abbrev pub IsStart : numbered.Event → Type 0
+IsStart (events.Begin k) = ⊥
+IsStart (events.Read n v) = ⊥
+IsStart (events.Write n v) = ⊥
+IsStart (events.Create j) = ⊥
+IsStart (events.Update j v) = ⊥
+IsStart (events.Set j v) = ⊥
+IsStart (events.Value j v) = ⊥
+IsStart (events.Print v) = ⊥
+IsStart (events.Resume k) = ⊥
+IsStart (events.Call k) = Unit {0}
+IsStart (events.Spawn k) = Unit {0}
+IsStart events.Sync = ⊥
+IsStart events.End = ⊥
+
+-- The frame at place k, which worker w has, has come to an invocation, and the other has begun: its cells lie behind all others, and the worker
+-- has it. The event is still to be written down.
+pub record Started (code : CodeView) (b b' : Board) (w k : ℕ) (event : numbered.Event) : Type 0 where
+  pub how : Invocation
+  pub callee : Callee
+  pub child : Activation Seat
+  pub asked : b.asked ≡ asks.Invoke how callee
+  pub is_child : let f = b.frames in let c = b.cells in IsChild code f.items k w (length c.items) how callee child
+  pub begins : ChildBegins b b' w k how child (cells_in code.layout callee)
+  pub event_is : let f = b.frames in event ≡ invocation how (suc (length f.items))
+
+-- It is written down, and the ticks of the frame that started the other are counted.
+pub record WroteStart (code : CodeView) (b b' : Board) (w k : ℕ) (event : numbered.Event) : Type 0 where
+  pub made : Board
+  pub starts : Started code b made w k event
+  pub noted : IsNoted made b' k event
+
+-- what is told is an event of that frame, which starts another where it is such an event
+abbrev pub TellsStart : CodeView → Board → Board → ℕ → ℕ → Told → Type 0
+TellsStart code b b' w k t = (e : numbered.Event) × (t ≡ told.Did (record { frame = k + 1; event = e })) × (IsStart e → WroteStart code b b' w k e)
+
+-- The choice is a step of the free machine, where it starts a frame: a board that showed a state shows what comes of it, by the names that frames
+-- had and the new one's.
+abbrev pub StartsAreSteps : CodeView → List ℤ → Board → Board → Choice → Told → Type 0
+StartsAreSteps code inputs b b' c (told.Did act) =
+    IsStart act.event → (p : Source) (name : ℕ → Name) (d : Desk) (s : State World View) → IsReached code p inputs name b d s
+    → (name' : ℕ → Name) × (s' : State World View) × (d' : Desk) × Chooses p inputs s d c Did s' d' × IsReached code p inputs name' b' d' s' × ((j : ℕ) → (let f = b.frames in j < length f.items) → name' j ≡ name j)
+StartsAreSteps code inputs b b' c told.Stole = Unit {0}
+StartsAreSteps code inputs b b' c told.Waits = Unit {0}
+StartsAreSteps code inputs b b' c told.Skipped = Unit {0}

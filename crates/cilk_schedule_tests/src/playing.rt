@@ -1,0 +1,129 @@
+//! Worked programs, and how they are played.
+
+ghost use Rattle.cilk_schedule.specs.Sound.{IsCode};
+
+use cilk_board::choice::{Choice, Stop};
+use cilk_judge::judge::program;
+use cilk_lower::code::Code;
+use cilk_lower::lower::lower;
+use cilk_schedule::machine::{Machine, play};
+use cilk_schedule::showing::Shown;
+use cilk_types::input::Input;
+use cilk_types::outcome::Outcome;
+use cilk_types::word_list::WordList;
+use std::alloc::Global;
+use std::process::Abort;
+
+pub fn code_of(rt: &impl Abort, alloc: Global, text: &str) -> Code
+    ensures { IsCode result }
+{
+    let Ok(program) = program(alloc, text.as_bytes()) else {
+        panic!(rt; "no program: {text}");
+    };
+    let Ok(code) = lower(alloc, &program) else {
+        panic!(rt; "no memory");
+    };
+    code
+}
+
+pub fn no_input(alloc: Global) -> Input {
+    Input::new(WordList::new(alloc))
+}
+
+pub fn run(rt: &impl Abort, choices: &mut Vec<Choice>, worker: u32, count: u32) {
+    for _ in 0..count {
+        let Ok(()) = choices.push(Choice::Run(worker)) else {
+            panic!(rt; "no memory");
+        };
+    }
+}
+
+pub fn steal(rt: &impl Abort, choices: &mut Vec<Choice>, worker: u32, place: usize) {
+    let Ok(()) = choices.push(Choice::Steal(worker, place)) else {
+        panic!(rt; "no memory");
+    };
+}
+
+pub fn played(
+    rt: &impl Abort,
+    alloc: Global,
+    code: &Code,
+    workers: u32,
+    choices: &[Choice],
+) -> Shown
+    requires { IsCode code.now }
+{
+    match play(alloc, code, &no_input(alloc), workers, choices) {
+        Ok(shown) => shown,
+        Err((stop, name)) => panic!(rt; "{stop:?} {name:?}"),
+    }
+}
+
+// Rounds of all workers until the run has ended.
+pub fn all(rt: &impl Abort, alloc: Global, code: &Code, workers: u32) -> Shown
+    requires { IsCode code.now }
+{
+    let input = no_input(alloc);
+    let Ok(mut machine) = Machine::new(alloc, code, &input, workers) else {
+        panic!(rt; "no memory");
+    };
+    'rounds: for _ in 0..4_000_000 {
+        if machine.ended() {
+            break;
+        }
+        'each: for number in 0..workers {
+            let worker = number + 1;
+            let choice = if machine.holds(worker) {
+                Choice::Run(worker)
+            } else {
+                Choice::Steal(worker, 0)
+            };
+            match machine.choose(alloc, choice) {
+                Ok(_) => {}
+                Err(stop) => panic!(rt; "{stop:?}"),
+            }
+        }
+    }
+    assert!(rt; machine.ended());
+    assert_eq!(rt; machine.offered(), 0);
+    match machine.shown(alloc) {
+        Ok(shown) => shown,
+        Err(_) => panic!(rt; "no memory"),
+    }
+}
+
+pub fn outcome_of<'a>(rt: &impl Abort, shown: &'a Shown) -> &'a Outcome {
+    match shown.outcome() {
+        Some(outcome) => outcome,
+        None => panic!(rt; "not ended"),
+    }
+}
+
+pub const FIB: &str =
+    "int fib(int n) { if (n < 2) { return n; } int x; int y; x = cilk_spawn fib(n - 1); y = fib(n - 2); cilk_sync; \
+    return x + y; } int main() { int r; r = fib(10); return r; }";
+
+pub const RACE: &str =
+    "int one() { return 1; } int main() { int x; int y; x = cilk_spawn one(); y = x; cilk_sync; return y; }";
+
+pub const SUM: &str =
+    "int cilk_reducer(add) s; int main() { cilk_for (int i = 1; i < 101; i++) { update(s, i); } return value(s); }";
+
+pub const LIST: &str =
+    "int cilk_reducer(append) l; int main() { cilk_for (int i = 0; i < 5; i++) { update(l, i); } return value(l); }";
+
+pub const LOCAL: &str =
+    "int f(int n) { int cilk_reducer(add) s; cilk_for (int i = 0; i < n; i++) { update(s, i); } return value(s); } \
+    int main() { int x; int y; x = cilk_spawn f(4); y = cilk_spawn f(5); cilk_sync; return x + y; }";
+
+pub const DIVIDE: &str =
+    "int d(int k) { return 6 / k; } int main() { int x; int y; x = cilk_spawn d(2); y = cilk_spawn d(0); \
+    cilk_sync; return x + y; }";
+
+pub const PRINTS: &str =
+    "void p(int n) { print(n); } int main() { cilk_spawn p(1); cilk_spawn p(2); cilk_spawn p(3); cilk_sync; return \
+    0; }";
+
+pub const GIVEN: &str =
+    "void put(int cilk_reducer(append) l, int x) { update(l, x); } int main() { int cilk_reducer(append) a; \
+    cilk_spawn put(a, 1); cilk_spawn put(a, 2); cilk_sync; return value(a); }";

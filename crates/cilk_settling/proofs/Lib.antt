@@ -1,0 +1,9 @@
+mod AlongSettled
+mod Between
+mod Found
+mod Lasting
+mod Leaving
+mod Opened
+mod Places
+mod Settled
+mod Tabled

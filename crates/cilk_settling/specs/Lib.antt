@@ -1,0 +1,4 @@
+pub mod Accepted
+pub mod Finals
+pub mod Laws
+pub mod Tables

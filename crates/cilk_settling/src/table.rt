@@ -1,0 +1,66 @@
+//! The table of an accepted run's reducers.
+
+ghost use Rattle.std.specs.Prelude.{◌≡◌, IfOk};
+ghost use Rattle.cilk_pieces.specs.Reducers.{HasFew};
+ghost use Rattle.cilk_planning.specs.Bodies.{AreBodies};
+ghost use Rattle.cilk_program.specs.declared.ask.Callee.TheVariants.{Root};
+ghost use Rattle.cilk_program.specs.Sources.{source};
+ghost use Rattle.cilk_settling.specs.Accepted.{IsTableOf, reducers_in};
+ghost use Rattle.cilk_settling.specs.Tables.{reducers_of};
+
+use cilk_checker::accepted::Accepted;
+use cilk_pieces::reducers::{FrameReducers, Reducers};
+use cilk_program::program::{Body, Program};
+use cilk_types::sequence::Sequence;
+use std::alloc::{AllocError, Global};
+
+/// The reducers that each frame of an accepted run creates, from the body that each runs, as [`cilk_planning::bodies::bodies`] gives it.
+/// The reducers of the run are settled along its plan, on any input. Cost and memory: linear in the frames and their reducers.
+pub fn reducers(alloc: Global, accepted: &Accepted, bodies: &[Body]) -> Result<Reducers, AllocError>
+    requires { AreBodies accepted.now bodies.now }
+    ensures table { IfOk result (λ r. IsTableOf accepted.now r) }
+    ensures few { IfOk result (λ r. HasFew r) }
+{
+    let program = accepted.program();
+    let mut frames = Vec::new(alloc);
+    frames.push(of_root(alloc, program)?)?;
+    'each: for place in 1..bodies.len() {
+        frames.push(of_body(alloc, program, bodies[place])?)?;
+    }
+    Ok(Reducers {
+        frames: Sequence::new(frames),
+    })
+}
+
+// Those of the first frame: the global ones, then its own.
+fn of_root(alloc: Global, program: &Program) -> Result<FrameReducers, AllocError>
+    ensures { IfOk result (λ o. o ≡ reducers_of (source program.now) Root) }
+{
+    let mut kinds = Vec::new(alloc);
+    'globals: for number in 0..program.reducers.len() {
+        kinds.push(program.reducers[number].kind)?;
+    }
+    if let Some(main) = program.functions.get(program.main as usize) {
+        kinds.extend_from_slice(main.reducers.as_slice())?;
+    }
+    Ok(FrameReducers {
+        kinds: Sequence::new(kinds),
+        outlive: program.reducers.len() as u32,
+    })
+}
+
+// Those of any other frame with this body.
+fn of_body(alloc: Global, program: &Program, body: Body) -> Result<FrameReducers, AllocError>
+    ensures { IfOk result (λ o. o ≡ reducers_in (source program.now) body) }
+{
+    let mut kinds = Vec::new(alloc);
+    if let Body::Function(number) = body {
+        if let Some(function) = program.functions.get(number as usize) {
+            kinds.extend_from_slice(function.reducers.as_slice())?;
+        }
+    }
+    Ok(FrameReducers {
+        kinds: Sequence::new(kinds),
+        outlive: 0,
+    })
+}

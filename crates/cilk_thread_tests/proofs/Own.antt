@@ -1,0 +1,22 @@
+-- A program on its own input: `own_are_of`.
+use Rattle.std.proofs.Common.{◌≡◌, true, Bool, List, [], ◌∷◌, length, replicate, refl, sym, ap, ◌∙◌}
+use Rattle.cilk_types.specs.declared.event.Event.{Event}
+use Rattle.cilk_story.specs.declared.story.Story.{Story}
+use Rattle.cilk_plan.specs.Along.{IsAlong}
+use Rattle.cilk_plan.specs.Planned.{planned, all_asked}
+use Rattle.cilk_checker.specs.Determinate.{AcceptedRun}
+use Rattle.cilk_planning.specs.Plans.{IsPlanOf}
+use Rattle.cilk_thread_tests.specs.Settings.{AreOf}
+
+all_of : (es : List Event) → replicate (length es) true ≡ all_asked es
+all_of [] = refl
+all_of (e ∷ es) = ap (λ (bs : List Bool). true ∷ bs) (all_of es)
+
+pub own_are_of : (a : AcceptedRun) (plan s : Story) (es : List Event) (asked : List Bool) → IsPlanOf a plan → IsAlong plan s → s ≡ plan
+    → es ≡ a.trace → asked ≡ replicate (length es) true → AreOf s plan es asked
+own_are_of a plan s es asked is along same events all =
+    let whole : s ≡ planned a.trace plan.opening = same ∙ is.story in record {
+      along = along;
+      events = events ∙ sym (ap (λ (x : Story). x.events) whole);
+      asks = all ∙ all_of es ∙ ap all_asked events ∙ sym (ap (λ (x : Story). x.asked) whole);
+    }

@@ -1,0 +1,125 @@
+#!/usr/bin/env python3
+"""docs/REFUSALS.md and `cilk explain` say the same of each number.
+
+refusals.py            compares the rows of docs/REFUSALS.md with crates/cilk_explain; where the program is built (./cilk, or CILK),
+                       each example that is a whole program is run, and has to be answered by its line; and the forms of docs/EDITORS.md
+                       have to match what `--explain` writes
+refusals.py --write    writes the rows anew from the crate
+
+Its status is 0 where all agrees.
+"""
+
+import os
+import re
+import subprocess
+import sys
+import tempfile
+
+TOP = os.path.dirname(os.path.dirname(os.path.realpath(__file__)))
+DOCUMENT = f"{TOP}/docs/REFUSALS.md"
+PROGRAM = os.environ.get("CILK", f"{TOP}/crates/cilk/out/cilk")
+TEXT = r'"((?:[^"\\]|\\.)*)"'
+REASON = re.compile(
+    rf"(\d+) => Reason \{{\s*number,\s*title: {TEXT},\s*meaning: {TEXT},\s*line: {TEXT},\s*"
+    rf"example: Example::(\w+)\(\s*{TEXT},?\s*\),\s*place: {TEXT},\s*cure: {TEXT},\s*\}}"
+)
+ROW = re.compile(r"\| `(?:program|input|fault|refused) (\d+)(?!\d| in )[^`]*` \| .* \| .* \|$")
+
+
+def unescaped(text):
+    text = re.sub(r"\\u\{([0-9a-f]+)\}", lambda found: chr(int(found[1], 16)), text)
+    return re.sub(r"\\(.)", r"\1", text)
+
+
+def reasons():
+    """Each number with the line, the kind and text of its example, and how the place is read."""
+    found = {}
+    for name in ("faults", "refusals"):
+        with open(f"{TOP}/crates/cilk_explain/src/{name}.rt", encoding="utf-8") as file:
+            for each in REASON.finditer(file.read()):
+                number, _title, _meaning, line, kind, example, place, _cure = each.groups()
+                found[int(number)] = (unescaped(line), kind, unescaped(example), unescaped(place))
+    return found
+
+
+def row(reason):
+    line, kind, example, place = reason
+    return f"| `{line}` | {f'`{example}`' if kind == 'Program' else example} | {place} |"
+
+
+def rewritten(document, known):
+    """The document with each row as the crate has it, and the numbers of its rows."""
+    lines, numbers = [], []
+    for line in document.split("\n"):
+        found = ROW.match(line)
+        if found:
+            numbers.append(int(found[1]))
+            line = row(known[int(found[1])]) if int(found[1]) in known else line
+        lines.append(line)
+    return "\n".join(lines), numbers
+
+
+def answers(words):
+    done = subprocess.run([PROGRAM, *words], capture_output=True, text=True, check=False)
+    return done.stdout, done.stderr
+
+
+def provoked(text, number, folder):
+    """The line that the program says of a text, or of the certificate of its run."""
+    path = f"{folder}/example.c"
+    with open(path, "w", encoding="utf-8") as file:
+        file.write(text)
+    if number < 300:
+        return answers(["run", path])[1]
+    with open(f"{folder}/certificate", "w", encoding="utf-8") as file:
+        file.write(answers(["certify", path])[0])
+    return answers(["check", path, f"{folder}/certificate"])[0]
+
+
+def forms():
+    """The regular expressions of docs/EDITORS.md, by the word ahead of each."""
+    with open(f"{TOP}/docs/EDITORS.md", encoding="utf-8") as file:
+        return re.findall(r'"regexp": "((?:[^"\\]|\\.)*)"', file.read())
+
+
+def wrong_examples(known):
+    wrong = []
+    with tempfile.TemporaryDirectory() as folder:
+        for number, (line, kind, example, _place) in sorted(known.items()):
+            if kind == "Program":
+                said = provoked(example, number, folder).split("\n")[0]
+                if said != line:
+                    wrong.append(f"{number}: the example is answered by `{said}`, not by `{line}`")
+        with open(f"{folder}/fault.c", "w", encoding="utf-8") as file:
+            file.write("int x;\nint main() { x = 1 return x; }\n")
+        said = answers(["run", f"{folder}/fault.c", "--explain"])[1].split("\n")
+        for form in forms():
+            found = re.match(form.replace("\\\\", "\\"), said[1])
+            if not found or found.group(1, 2, 3) != (f"{folder}/fault.c", "2", "20"):
+                wrong.append(f"docs/EDITORS.md: `{form}` doesn't match `{said[1]}`")
+    return wrong
+
+
+def main():
+    known = reasons()
+    with open(DOCUMENT, encoding="utf-8") as file:
+        document = file.read()
+    text, numbers = rewritten(document, known)
+    if sys.argv[1:] == ["--write"]:
+        with open(DOCUMENT, "w", encoding="utf-8") as file:
+            file.write(text)
+        return 0
+    wrong = [] if sorted(numbers) == sorted(known) else [f"the numbers differ: {sorted(set(numbers) ^ set(known))}"]
+    for here, there in zip(document.split("\n"), text.split("\n")):
+        if here != there:
+            wrong.append(f"docs/REFUSALS.md has\n  {here}\nand the crate\n  {there}")
+    if os.access(PROGRAM, os.X_OK):
+        wrong += wrong_examples(known)
+    else:
+        print("the program isn't built: its answers to the examples weren't compared")
+    print("\n".join(wrong) if wrong else f"{len(known)} numbers agree")
+    return 1 if wrong else 0
+
+
+if __name__ == "__main__":
+    sys.exit(main())
