@@ -13,6 +13,7 @@ mod other_inputs;
 pub mod others;
 pub mod settings;
 pub mod steps;
-pub mod texts;
+#[cfg(test)]
+mod texts;
 #[cfg(test)]
 mod two_threads;

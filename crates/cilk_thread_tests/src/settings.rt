@@ -8,7 +8,7 @@ ghost use Rattle.cilk_thread_tests.specs.Settings.{AreOf};
 use crate::others::{
     asked_up_to, squares, squares_plan, squares_yard, turns, turns_plan, turns_yard,
 };
-use crate::texts::accepted;
+use cilk_checker::accepted::Accepted;
 use cilk_plan::plan::Plan;
 use cilk_planning::planning::plan;
 use cilk_planning::yards::yard;
@@ -17,7 +17,6 @@ use cilk_types::input::Input;
 use cilk_types::trace::Trace;
 use cilk_types::word_list::WordList;
 use std::alloc::{AllocError, Global};
-use std::process::Abort;
 
 /// A yard, its first segment, the plan that its story is along, that story's events, and which of them it asks for.
 #[derive(Drop)]
@@ -29,19 +28,13 @@ pub struct Setting {
     pub asked: Vec<bool>,
 }
 
-/// The program of a text along its plan, on its own input: it asks for each event.
-pub fn on_its_own<R: Abort>(
-    rt: &R,
-    alloc: Global,
-    text: &str,
-    numbers: &str,
-) -> Result<Setting, AllocError>
+/// An accepted program along its plan, on its own input: it asks for each event.
+pub fn on_its_own(alloc: Global, accepted: &Accepted) -> Result<Setting, AllocError>
     ensures segment { IfOk result (λ s. OfYard s.yard s.segment) }
     ensures run { IfOk result (λ s. AreOf s.yard.story s.plan s.events s.asked.items) }
 {
-    let accepted = accepted(rt, alloc, text, numbers);
-    let plan = plan(alloc, &accepted)?;
-    let (yard, segment) = yard(alloc, &accepted, &plan, accepted.input())?;
+    let plan = plan(alloc, accepted)?;
+    let (yard, segment) = yard(alloc, accepted, &plan, accepted.input())?;
     let events = copied(alloc, accepted.trace())?;
     let asked = all_asked(alloc, events.len())?;
     Ok(Setting {

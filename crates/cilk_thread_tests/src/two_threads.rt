@@ -6,7 +6,7 @@ ghost use Rattle.cilk_thread_tests.specs.Settings.{AreOf};
 
 use crate::settings::{Setting, on_its_own};
 use crate::steps::{Done, last_values, step, take};
-use crate::texts::GETS;
+use crate::texts::{GETS, accepted};
 use cilk_plan::plan::Plan;
 use cilk_shared::yard::{Segment, Yard};
 use cilk_types::event::{Event, Pos};
@@ -141,7 +141,7 @@ fn a_thief_takes_the_rest(rt: HostRuntime) -> Result<(), Fail> {
         segment,
         events,
         asked,
-    } = on_its_own(&rt, alloc, GETS, "")?;
+    } = on_its_own(alloc, &accepted(&rt, alloc, GETS, ""))?;
     let events = events.as_slice();
     let asked = asked.as_slice();
     let (first, second) = yard.apart(segment);
@@ -185,7 +185,7 @@ fn nobody_takes_the_rest(rt: HostRuntime) -> Result<(), Fail> {
         mut segment,
         events,
         asked,
-    } = on_its_own(&rt, alloc, GETS, "")?;
+    } = on_its_own(alloc, &accepted(&rt, alloc, GETS, ""))?;
     let events = events.as_slice();
     let asked = asked.as_slice();
     make_up_to(&rt, &yard, &plan, events, asked, &mut segment, 9);
