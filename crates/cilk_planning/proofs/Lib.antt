@@ -1,4 +1,7 @@
+pub mod Beginning
 pub mod Having
 pub mod Naming
 pub mod Noting
+pub mod Standing
 pub mod Telling
+pub mod Whole

@@ -1,16 +1,27 @@
 -- The plan of an accepted run.
-use Rattle.std.specs.Prelude.{◌≡◌, ℕ, ◌<◌, ℤ, ◌≤◌, pos, List, length, Some, slice_get, slice_index_or}
+use Rattle.std.specs.Prelude.{◌≡◌, ℕ, ◌<◌, ℤ, ◌≤◌, pos, List, length, Some, slice_get, slice_index_or, refl}
 use Rattle.cilk_types.specs.declared.event.Event.{Event}
 use Rattle.cilk_types.specs.declared.event.Event.TheVariants.{Read, Write}
 use Rattle.cilk_program.specs.SerialRun.{Transcript}
 use Rattle.cilk_program.specs.Sources.{source}
 use Rattle.cilk_meaning.specs.Answered.{opening_cells}
 use Rattle.cilk_tree.specs.Before.{IsPosition}
-use Rattle.cilk_checker.specs.Determinate.{AcceptedRun}
+use Rattle.cilk_checker.specs.Determinate.{AcceptedRun, run_code}
+use Rattle.cilk_story.specs.contracts.story.Story as story
+use Rattle.std.specs.Coded.{Coded, code_by, coded×}
 use Rattle.cilk_story.specs.declared.story.Story.{Story}
 use Rattle.cilk_story.specs.Runs.{IsAsked}
 use Rattle.cilk_plan.specs.Planned.{planned}
 use Rattle.cilk_inputs.specs.Stories.{story_on, IsPlannedRun}
+
+-- an accepted run, and its story
+pub record WholePlan : Type 0 where
+  pub run : AcceptedRun
+  pub story : Story
+
+-- it is stored as the pair of both
+abbrev pub whole_code : Coded WholePlan
+whole_code = code_by (AcceptedRun × Story) (coded× run_code story.the_row.coded) (λ v. (v.run, v.story)) (λ t. record { run = t.0; story = t.1 }) (λ v. refl)
 
 -- the cell that an event reads or writes is below n
 abbrev pub Names : ℕ → Event → Type 0

@@ -1,7 +1,16 @@
-//! The plan of an accepted run, [`planning::plan`], what its frames run, [`bodies::bodies`], and the yard of its program on an input,
-//! [`yards::yard`].
+//! The plan of an accepted program's run, which is all that its workers get, and the yard of the program on an input.
+//!
+//! [`program_plan::plan`] makes the plan: program, code and input, the plan of the run's events, what each frame runs and where its cells
+//! lie, the continuation and the block of each spawn, and where strands begin. [`yards::yard`] makes the words that workers share, on the
+//! run's own input or another.
+//!
+//! ```text
+//! let plan = plan(alloc, &accepted)?;
+//! let (yard, segment) = yard(alloc, &accepted, plan.events(), &input)?;
+//! ```
 #![tactic(auto)]
 
-pub mod bodies;
+pub mod frames;
 pub mod planning;
+pub mod program_plan;
 pub mod yards;

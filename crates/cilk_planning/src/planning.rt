@@ -1,4 +1,4 @@
-//! The plan of an accepted run.
+//! The plan of an accepted run's events.
 
 ghost use Rattle.std.specs.Prelude.{◌≡◌, ◌^◌, ◌≤◌, ℕ, length, pos, slice_index_or, IfOk};
 ghost use Rattle.cilk_planning.specs.Plans.{AllNamed, IsPlanOf, Names};
@@ -8,9 +8,9 @@ use cilk_plan::plan::Plan;
 use cilk_types::event::Event;
 use std::alloc::{AllocError, Global};
 
-/// The plan of an accepted run: it is the story of the program's serial run on its input, in which each event is asked for, and its
+/// The plan of an accepted run's events: it is the story of the program's serial run on its input, in which each event is asked for, and its
 /// cells are those of the run. Cost and memory: linear in the run.
-pub fn plan(alloc: Global, accepted: &Accepted) -> Result<Plan, AllocError>
+pub fn events(alloc: Global, accepted: &Accepted) -> Result<Plan, AllocError>
     ensures { IfOk result (λ plan. IsPlanOf accepted.now plan) }
 {
     let trace = accepted.trace();

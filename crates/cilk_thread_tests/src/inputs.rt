@@ -5,14 +5,15 @@ use crate::others::{squares, turns};
 use crate::texts::{GETS, SQUARES, TURNS, accepted};
 use cilk_names::resolve::resolve;
 use cilk_parser::parse::parse;
+use cilk_plan::blocks::Continuation;
 use cilk_plan::kind::without_value;
-use cilk_planning::bodies::bodies;
-use cilk_planning::planning::plan;
+use cilk_planning::planning::events;
+use cilk_planning::program_plan::{ProgramPlan, plan};
 use cilk_planning::yards::yard;
 use cilk_program::program::{Body, Program};
 use cilk_serial::fault::RunFault;
 use cilk_serial::run::run;
-use cilk_types::event::Pos;
+use cilk_types::event::{Cell, FrameNo, Pos};
 use cilk_types::input::Input;
 use cilk_types::limits::MAX_INPUTS;
 use cilk_types::trace::Trace;
@@ -125,7 +126,7 @@ fn yards_are_made_on_other_inputs(rt: HostRuntime) -> Result<(), Fail> {
     let alloc = rt.alloc();
     for (text, input, other) in YARDS {
         let accepted = accepted(&rt, alloc, text, input);
-        let plan = plan(alloc, &accepted)?;
+        let plan = events(alloc, &accepted)?;
         let other = input_of(&rt, alloc, other);
         let (yard, mut segment) = yard(alloc, &accepted, &plan, &other)?;
         assert!(rt; segment.from() == 1 && segment.upto() == 2);
@@ -134,14 +135,62 @@ fn yards_are_made_on_other_inputs(rt: HostRuntime) -> Result<(), Fail> {
     Ok(())
 }
 
+// What the frames run, by their numbers from 1, and the numbers of their first cells; no other frame is there.
+fn has_frames(rt: &impl Abort, plan: &ProgramPlan, frames: &[(Body, Cell)]) {
+    let mut number: FrameNo = 0;
+    for (body, first_cell) in frames {
+        number = number.saturating_add(1);
+        let Some(frame) = plan.frame(number) else {
+            panic!(rt; "no frame {number}");
+        };
+        assert_eq!(rt; frame.body, *body);
+        assert_eq!(rt; frame.first_cell, *first_cell);
+    }
+    assert!(rt; plan.frame(0).is_none() && plan.frame(number.saturating_add(1)).is_none());
+}
+
 #[test]
 fn frames_run_functions_and_loops(rt: HostRuntime) -> Result<(), Fail> {
     let alloc = rt.alloc();
-    let gets = bodies(alloc, &accepted(&rt, alloc, GETS, ""))?;
+    let gets = accepted(&rt, alloc, GETS, "");
     let get = Body::Function(0);
-    assert_eq!(rt; gets.as_slice(), [Body::Function(1), get, get].as_slice());
-    let turns = bodies(alloc, &accepted(&rt, alloc, TURNS, "1"))?;
-    let main = Body::Function(0);
-    assert_eq!(rt; turns.as_slice(), [main, Body::Loop(0)].as_slice());
+    has_frames(
+        &rt,
+        &plan(alloc, &gets)?,
+        &[(Body::Function(1), 1), (get, 3), (get, 3)],
+    );
+    let turns = accepted(&rt, alloc, TURNS, "1");
+    has_frames(
+        &rt,
+        &plan(alloc, &turns)?,
+        &[(Body::Function(0), 7), (Body::Loop(0), 8)],
+    );
+    Ok(())
+}
+
+#[test]
+fn spawns_have_continuations_and_strands_begin(rt: HostRuntime) -> Result<(), Fail> {
+    let alloc = rt.alloc();
+    let gets = accepted(&rt, alloc, GETS, "");
+    let plan = plan(alloc, &gets)?;
+    assert_eq!(rt;
+        plan.continuation(4),
+        Some(Continuation {
+            resume: 10,
+            sync: 18
+        })
+    );
+    assert_eq!(rt;
+        plan.continuation(11),
+        Some(Continuation {
+            resume: 17,
+            sync: 18
+        })
+    );
+    assert_eq!(rt; plan.continuation(18), None);
+    assert!(rt;
+        plan.strand(1) == Some(1) && plan.strand(2) == Some(5) && plan.strand(3) == Some(7)
+    );
+    assert!(rt; plan.strand(0).is_none() && plan.strand(100).is_none());
     Ok(())
 }

@@ -10,7 +10,7 @@ use crate::others::{
 };
 use cilk_checker::accepted::Accepted;
 use cilk_plan::plan::Plan;
-use cilk_planning::planning::plan;
+use cilk_planning::planning::events;
 use cilk_planning::yards::yard;
 use cilk_shared::yard::{Segment, Yard};
 use cilk_types::input::Input;
@@ -33,7 +33,7 @@ pub fn on_its_own(alloc: Global, accepted: &Accepted) -> Result<Setting, AllocEr
     ensures segment { IfOk result (λ s. OfYard s.yard s.segment) }
     ensures run { IfOk result (λ s. AreOf s.yard.story s.plan s.events s.asked.items) }
 {
-    let plan = plan(alloc, accepted)?;
+    let plan = events(alloc, accepted)?;
     let (yard, segment) = yard(alloc, accepted, &plan, accepted.input())?;
     let events = copied(alloc, accepted.trace())?;
     let asked = all_asked(alloc, events.len())?;

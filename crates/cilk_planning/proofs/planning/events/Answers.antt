@@ -9,7 +9,7 @@ use Rattle.cilk_story.specs.Runs.{IsAsked}
 use Rattle.cilk_plan.specs.Planned.{planned, HasPlan}
 use Rattle.cilk_planning.specs.Plans.{AllNamed, IsPlanOf}
 use Rattle.cilk_planning.proofs.Having.{has_plan, opens_so}
-use Rattle.cilk_planning.proofs.planning.plan.Goals as goal
+use Rattle.cilk_planning.proofs.planning.events.Goals as goal
 
 pub of-requires : goal.of-requires
 of-requires c =

@@ -1,0 +1,27 @@
+-- What the plan of a program's run tells: `continuation_at`, `strand_at`.
+use Rattle.std.proofs.Common.{◌≡◌, ◌↔◌, ℕ, ◌+◌, ◌-◌, ◌≤◌, List, Option, Some, None, slice_get, slice_index_or, sym, ap, ◌∙◌, subst, arith}
+use Rattle.cilk_types.specs.declared.event.Event.{Event}
+use Rattle.cilk_story.specs.declared.story.Story.{Story}
+use Rattle.cilk_plan.specs.declared.blocks.Continuation.{Continuation}
+use Rattle.cilk_plan.specs.Blocks.{AreContinuations, IsContinuationOf}
+use Rattle.cilk_plan.specs.Strands.{AreStarts, BeginsStrand}
+use Rattle.cilk_checker.specs.Determinate.{AcceptedRun}
+use Rattle.cilk_planning.specs.Plans.{IsPlanOf, WholePlan}
+
+abbrev whole : AcceptedRun → Story → WholePlan
+whole a s = record { run = a; story = s }
+
+pub continuation_at : (w : WholePlan) (a : AcceptedRun) (s : Story) (column : List (Option Continuation)) (k : ℕ) (result : Option Continuation) → whole a s ≡ w
+    → AreContinuations s column → result ≡ slice_index_or column k None → (c : Continuation) → (result ≡ Some c) ↔ IsContinuationOf w.story k c
+continuation_at w a s column k result same are is c =
+    subst (λ (v : WholePlan). (result ≡ Some c) ↔ IsContinuationOf v.story k c) same (λ e. (are k c).0 (sym is ∙ e), λ h. is ∙ (are k c).1 h)
+
+pub strand_at : (w : WholePlan) (a : AcceptedRun) (s : Story) (starts : List ℕ) (n : ℕ) (result : Option ℕ) → whole a s ≡ w → IsPlanOf a s
+    → AreStarts a.trace starts → 1 ≤ n → result ≡ slice_get starts (n - 1) → (p : ℕ) → (result ≡ Some p) ↔ ((1 ≤ n) × BeginsStrand w.story.events n p)
+strand_at w a s starts n result same plan are low is p =
+    let events : a.trace ≡ s.events = sym (ap (λ (x : Story). x.events) plan.story) in
+    let place : n - 1 + 1 ≡ n = omega (arith, low) in
+    subst (λ (v : WholePlan). (result ≡ Some p) ↔ ((1 ≤ n) × BeginsStrand v.story.events n p)) same (
+      λ e. (low, subst (λ (es : List Event). BeginsStrand es n p) events (subst (λ (k : ℕ). BeginsStrand a.trace k p) place ((are (n - 1) p).0 (sym is ∙ e)))),
+      λ h. is ∙ (are (n - 1) p).1 (subst (λ (k : ℕ). BeginsStrand a.trace k p) (sym place) (subst (λ (es : List Event). BeginsStrand es n p) (sym events) h.1)),
+    )

@@ -1,0 +1,170 @@
+//! All that a worker may know of the run of an accepted program that it runs again.
+
+ghost use Rattle.std.specs.Prelude.{◌≡◌, ◌↔◌, ◌≤◌, ℕ, Some, None, slice_get, slice_index_or, IfOk};
+ghost use Rattle.cilk_checker.specs.Determinate.{HasDeterminateRun};
+ghost use Rattle.cilk_lower.specs.Behaves.{Behaves};
+ghost use Rattle.cilk_lower.specs.Layout.{LaysOut};
+ghost use Rattle.cilk_lower.specs.Rooms.{RoomsFit};
+ghost use Rattle.cilk_plan.specs.Blocks.{IsContinuationOf};
+ghost use Rattle.cilk_plan.specs.Strands.{BeginsStrand};
+ghost use Rattle.cilk_plan.specs.declared.blocks.Continuation.{Continuation};
+ghost use Rattle.cilk_program.specs.Sources.{source};
+ghost use Rattle.cilk_planning.specs.Frames.{IsFrameOf};
+ghost use Rattle.cilk_planning.specs.Plans.{IsPlanOf};
+
+use crate::frames::{PlannedFrame, frames};
+use crate::planning::events;
+use cilk_checker::accepted::Accepted;
+use cilk_lower::code::Code;
+use cilk_lower::lower::lower;
+use cilk_plan::blocks::{Continuation, continuations};
+use cilk_plan::plan::Plan;
+use cilk_plan::strands::starts;
+use cilk_program::program::Program;
+use cilk_types::event::{FrameNo, Pos, StrandNo};
+use cilk_types::input::Input;
+use std::alloc::{AllocError, Global};
+use std::marker::Model;
+use std::snapshot::Snapshot;
+
+/// The plan of a program's run: the program, its code and the run's input; the plan of its events; what each frame runs, and where its
+/// cells lie; the continuation of each spawn, and where each strand begins. It has no value of any event and no outcome, so a worker knows
+/// only what it loads or computes. To a contract it is the accepted run and its story.
+#[derive(Drop)]
+pub struct ProgramPlan<'a> {
+    program: &'a Program,
+    input: &'a Input,
+    code: Code,
+    events: Plan,
+    frames: Vec<PlannedFrame>,
+    continuations: Vec<Option<Continuation>>,
+    starts: Vec<Pos>,
+    accepted: Snapshot<Accepted>,
+}
+
+impl<'a> Model for ProgramPlan<'a> {
+    ghost use Rattle.std.specs.Prelude.{◌≡◌};
+    ghost use Rattle.cilk_checker.specs.Determinate.{HasDeterminateRun};
+    ghost use Rattle.cilk_lower.specs.Behaves.{Behaves};
+    ghost use Rattle.cilk_lower.specs.Layout.{LaysOut};
+    ghost use Rattle.cilk_lower.specs.Rooms.{RoomsFit};
+    ghost use Rattle.cilk_plan.specs.Blocks.{AreContinuations};
+    ghost use Rattle.cilk_plan.specs.Strands.{AreStarts};
+    ghost use Rattle.cilk_program.specs.Sources.{source};
+    ghost use Rattle.cilk_planning.specs.Frames.{AreFramesOf};
+    ghost use Rattle.cilk_planning.specs.Plans.{IsPlanOf, WholePlan, whole_code};
+
+    ghost Value = { WholePlan };
+
+    ghost coded = { whole_code };
+
+    ghost view = { λ p. record { run = p.accepted.value; story = p.events } };
+
+    ghost invariant = { λ p. HasDeterminateRun p.accepted.value × (p.program.now ≡ p.accepted.value.program) × (p.input.now ≡ p.accepted.value.input) × Behaves (source p.accepted.value.program) p.code × RoomsFit (source p.accepted.value.program) p.code × LaysOut (source p.accepted.value.program) p.code.layout × IsPlanOf p.accepted.value p.events × AreFramesOf p.accepted.value p.frames.items × AreContinuations p.events p.continuations.items × AreStarts p.accepted.value.trace p.starts.items };
+}
+
+/// The plan of an accepted program's run. Cost: linear in the run's ticks; memory: linear in its events.
+pub fn plan<'a>(alloc: Global, accepted: &'a Accepted) -> Result<ProgramPlan<'a>, AllocError>
+    ensures { IfOk result (λ plan. plan.run ≡ accepted.now) }
+{
+    let program = accepted.program();
+    let code = lower(alloc, program)?;
+    let frames = frames(alloc, accepted, &code)?;
+    let events = events(alloc, accepted)?;
+    let continuations = continuations(alloc, &events)?;
+    let starts = starts(alloc, accepted.trace())?;
+    Ok(ProgramPlan {
+        program,
+        input: accepted.input(),
+        code,
+        events,
+        frames,
+        continuations,
+        starts,
+        accepted: Snapshot::of(accepted),
+    })
+}
+
+impl<'a> ProgramPlan<'a> {
+    /// The run is determinate: of no other order of its events does another state come.
+    pub fn laws(&self)
+        ensures determinate { HasDeterminateRun self.now.run }
+        ensures plan { IsPlanOf self.now.run self.now.story }
+    {
+        let _events = self.events.count();
+    }
+
+    pub fn program(&self) -> &Program
+        ensures { result.now ≡ self.now.run.program }
+    {
+        self.program
+    }
+
+    /// The input of the run.
+    pub fn input(&self) -> &Input
+        ensures { result.now ≡ self.now.run.input }
+    {
+        self.input
+    }
+
+    /// The program's code.
+    pub fn code(&self) -> &Code
+        ensures asks { Behaves (source self.now.run.program) result.now }
+        ensures rooms { RoomsFit (source self.now.run.program) result.now }
+        ensures layout { LaysOut (source self.now.run.program) result.now.layout }
+    {
+        &self.code
+    }
+
+    /// The plan of the run's events: their kinds, with cells and reducers, whose frames they are in, and how the cells open.
+    pub fn events(&self) -> &Plan
+        ensures story { result.now ≡ self.now.story }
+        ensures plan { IsPlanOf self.now.run self.now.story }
+    {
+        &self.events
+    }
+
+    /// What the frame with a number runs, and where its cells lie; none where the run has no such frame.
+    pub fn frame(&self, number: FrameNo) -> Option<PlannedFrame>
+        ensures { IsFrameOf self.now.run number result }
+    {
+        match number {
+            0 => None,
+            _ => self.frames.get(number as usize - 1).copied(),
+        }
+    }
+
+    /// The continuation of the spawn at a position; none where no spawn stands there.
+    pub fn continuation(&self, spawn: Pos) -> Option<Continuation>
+        ensures { (c : Continuation) → (result ≡ Some c) ↔ IsContinuationOf self.now.story spawn c }
+    {
+        continuation_in(&self.continuations, spawn as usize)
+    }
+
+    /// The position of a strand's first event; none where the run has no such strand. Strands are numbered from 1.
+    pub fn strand(&self, number: StrandNo) -> Option<Pos>
+        ensures { (p : ℕ) → (result ≡ Some p) ↔ ((1 ≤ number) × BeginsStrand self.now.story.events number p) }
+    {
+        if number == 0 {
+            return None;
+        }
+        start_in(&self.starts, number as usize - 1)
+    }
+}
+
+// The continuation at a place, if there is one.
+fn continuation_in(column: &Vec<Option<Continuation>>, place: usize) -> Option<Continuation>
+    ensures { result ≡ slice_index_or column.now.items place None }
+{
+    match column.get(place) {
+        Some(continuation) => *continuation,
+        None => None,
+    }
+}
+
+// The position at a place, if there is one.
+fn start_in(starts: &Vec<Pos>, place: usize) -> Option<Pos>
+    ensures { result ≡ slice_get starts.now.items place }
+{
+    starts.get(place).copied()
+}
