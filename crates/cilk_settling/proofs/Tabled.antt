@@ -1,12 +1,12 @@
 -- The table of an accepted run's reducers: `table_of`, `few_each`.
 --
--- - `IsBegun`, `begun_at`: where a frame is begun in a run's events, and what it runs;
+-- - `numbered_past`: frames are numbered in the order in which they begin;
 -- - `frames_told`: the table has the reducers of each frame;
 -- - `kinds_told`: and each reducer's monoid.
 use Rattle.std.proofs.Common.{◌≡◌, ◌≢◌, ◌⊎◌, inl, inr, ℕ, zero, suc, ◌+◌, ◌-◌, ◌^◌, ◌<◌, ◌≤◌, ℤ, eqb, Bool, true, false, cond, ◌&&◌, IsTrue, List, [], ◌∷◌, ◌++◌, length, slice_get, slice_index_or, get_or, map, take, unwrap_or, Option, Some, None, refl, sym, ap, ◌∙◌, subst, arith, length-append}
 use Rattle.std.proofs.lemmas.Bool.{false≢true, cases_lt, ne_eqb}
 use Rattle.std.proofs.lemmas.Option.{slice_get_past, slice_get_within, slice_get-get_or, slice_get-map, get_or_from_slice_get}
-use Rattle.std.proofs.lemmas.List.{take_more, map-append}
+use Rattle.std.proofs.lemmas.List.{take_more, length-map, map-append}
 use Rattle.std.specs.Option.{option_map}
 use mathlib.Core.Logic.{dite}
 use native.Mathlib.Decide.{ℕ_discrete}
@@ -55,7 +55,9 @@ use Rattle.cilk_worlds.specs.Reducers.{kind_of}
 use Rattle.cilk_determinacy.specs.Numbers.{frame_number, all_reducers, child_runs, frame_runs, instance_number, HasInstance}
 use Rattle.cilk_determinacy.proofs.Numbers.{frame_is}
 use Rattle.cilk_checker.specs.Determinate.{AcceptedRun, HasDeterminateRun}
-use Rattle.cilk_planning.specs.Bodies.{AreBodies, place_begun}
+use Rattle.cilk_planning.specs.declared.frames.PlannedFrame.{PlannedFrame}
+use Rattle.cilk_planning.specs.Frames.{frames_of, AreFramesOf}
+use Rattle.cilk_planning.proofs.Standing.{frames_stand}
 use Rattle.cilk_planning.specs.Plans.{IsPlanOf}
 use Rattle.cilk_settling.specs.Accepted.{IsTableOf, reducers_in}
 use Rattle.cilk_settling.specs.Tables.{reducers_of, AreReducersOf, HaveTheirKinds}
@@ -63,7 +65,7 @@ use Rattle.cilk_settling.proofs.AlongSettled.{along_settled}
 use Rattle.cilk_settling.proofs.Opened.{StartsNoRoot, runs_start_no_root}
 use Rattle.cilk_settling.proofs.Settled.{first_mark, runs_settled}
 
--- ---- where a frame is begun
+-- ---- how frames are numbered
 
 counts_frames : (p : Source) (r : Transcript) (n : Counts) → (let m = counts_after p r n in m.frames) ≡ n.frames + length (begun_in r)
 counts_frames p stop n = let z : n.frames ≡ n.frames + 0 = omega arith in z
@@ -74,15 +76,6 @@ counts_frames p (child how callee u r) n =
     let l = length-append (begun_in u) (begun_in r) in
     omega (arith, x, y, l)
 
--- among the events of a run from some point on, where so many frames have begun
-record IsBegun (es : List Event) (callees : List Callee) (frames : ℕ) (block : Block) (callee : Callee) : Type 0 where
-  ordinal : ℕ
-  number : block.number ≡ suc (frames + ordinal)
-  callee_at : slice_get callees ordinal ≡ Some callee
-  place : ℕ
-  how : Invocation
-  event_at : slice_get es place ≡ Some (invocation how block.number)
-
 module _ (p : Source) where
   same_block : (b c : Block) → Some b ≡ Some c → b ≡ c
   same_block b c h = cc h
@@ -90,54 +83,20 @@ module _ (p : Source) where
   same_callee : (b c : Callee) → Some b ≡ Some c → b ≡ c
   same_callee b c h = cc h
 
-  begun_later : (e : Event) (es : List Event) (cs : List Callee) (n : ℕ) (block : Block) (callee : Callee) → IsBegun es cs n block callee → IsBegun (e ∷ es) cs n block callee
-  begun_later e es cs n block callee h = record { ordinal = h.ordinal; number = h.number; callee_at = h.callee_at; place = suc h.place; how = h.how; event_at = h.event_at }
-
-  begun_inside : (e : Event) (es more : List Event) (c : Callee) (cs others : List Callee) (n m : ℕ) (block : Block) (callee : Callee) → m ≡ suc n → IsBegun es cs m block callee → IsBegun (e ∷ (es ++ more)) (c ∷ (cs ++ others)) n block callee
-  begun_inside e es more c cs others n m block callee next h =
-      let number = h.number in
-      record {
-        ordinal = suc h.ordinal;
-        number = omega (arith, number, next);
-        callee_at = nth_left cs others h.ordinal (slice_get_within cs h.ordinal callee h.callee_at) ∙ h.callee_at;
-        place = suc h.place;
-        how = h.how;
-        event_at = nth_left es more h.place (slice_get_within es h.place _ h.event_at) ∙ h.event_at;
-      }
-
-  begun_past : (e : Event) (es more : List Event) (c : Callee) (cs others : List Callee) (n m : ℕ) (block : Block) (callee : Callee) → m ≡ suc n + length cs → IsBegun more others m block callee → IsBegun (e ∷ (es ++ more)) (c ∷ (cs ++ others)) n block callee
-  begun_past e es more c cs others n m block callee next h =
-      let number = h.number in
-      record {
-        ordinal = suc (length cs + h.ordinal);
-        number = omega (arith, number, next);
-        callee_at = nth_right cs others h.ordinal ∙ h.callee_at;
-        place = suc (length es + h.place);
-        how = h.how;
-        event_at = nth_right es more h.place ∙ h.event_at;
-      }
-
-  begun_at : (r : Transcript) (fr : Frame) (n : Counts) (k : ℕ) (path : List ℕ) (block : Block) (callee : Callee) → child_at p r n k path ≡ Some block → child_runs r k path ≡ Some callee
-      → IsBegun (events_of p fr n r) (begun_in r) n.frames block callee
-  begun_at stop fr n k path block callee found ran = let z : None ≡ Some block = found in absurd (cc z)
-  begun_at (act a v r) fr n k path block callee found ran = begun_later _ (events_of p fr n r) (begun_in r) n.frames block callee (begun_at r fr n k path block callee found ran)
-  begun_at (child how c u r) fr n zero [] block callee found ran =
-      let b : block_of p c n ≡ block = same_block (block_of p c n) block found in
-      let number : block.number ≡ suc n.frames = ap (λ (x : Block). x.number) (sym b) in
-      record {
-        ordinal = 0;
-        number = omega (arith, number);
-        callee_at = ran;
-        place = 0;
-        how = how;
-        event_at = ap (λ (m : ℕ). Some (invocation how m)) (sym number);
-      }
-  begun_at (child how c u r) fr n zero (j ∷ path) block callee found ran =
-      begun_inside _ (events_of p (frame_of p fr.scope n c) (entered p c n) u) (events_of p fr (counts_after p u (entered p c n)) r) c (begun_in u) (begun_in r) n.frames (suc n.frames) block callee refl
-      (begun_at u (frame_of p fr.scope n c) (entered p c n) j path block callee found ran)
-  begun_at (child how c u r) fr n (suc k) path block callee found ran =
-      begun_past _ (events_of p (frame_of p fr.scope n c) (entered p c n) u) (events_of p fr (counts_after p u (entered p c n)) r) c (begun_in u) (begun_in r) n.frames _ block callee (counts_frames p u (entered p c n))
-      (begun_at r fr (counts_after p u (entered p c n)) k path block callee found ran)
+  -- the frames that a run begins are numbered past those that are there
+  numbered_past : (r : Transcript) (n : Counts) (k : ℕ) (path : List ℕ) (block : Block) → child_at p r n k path ≡ Some block → n.frames < block.number
+  numbered_past stop n k path block found = let z : None ≡ Some block = found in absurd (cc z)
+  numbered_past (act a v r) n k path block found = numbered_past r n k path block found
+  numbered_past (child how c u r) n zero [] block found =
+      let number : block.number ≡ suc n.frames = ap (λ (x : Block). x.number) (sym (same_block (block_of p c n) block found)) in
+      omega (arith, number)
+  numbered_past (child how c u r) n zero (j ∷ path) block found =
+      let past : suc n.frames < block.number = numbered_past u (entered p c n) j path block found in
+      omega (arith, past)
+  numbered_past (child how c u r) n (suc k) path block found =
+      let past = numbered_past r (counts_after p u (entered p c n)) k path block found in
+      let more = counts_frames p u (entered p c n) in
+      omega (arith, past, more)
 
   no_root_at : (r : Transcript) → StartsNoRoot r → (k : ℕ) (path : List ℕ) → child_runs r k path ≡ Some callees.Root → ⊥
   no_root_at stop h k path ran = let z : None ≡ Some callees.Root = ran in absurd (cc z)
@@ -158,30 +117,33 @@ in_body p callees.Root h = absurd (h refl)
 in_body p (callees.Function c) h = refl
 in_body p (callees.Loop l) h = refl
 
-placed : (how : Invocation) (n k : ℕ) → n ≡ suc k → place_begun (invocation how n) ≡ Some k
-placed Call n k e = let z : n - 1 ≡ k = omega (arith, e) in ap Some z
-placed Spawn n k e = let z : n - 1 ≡ k = omega (arith, e) in ap Some z
-
 own_at : (frames : List FrameReducers) (n k : ℕ) (o : FrameReducers) → n ≡ suc k → slice_get frames k ≡ Some o → own (record { frames = frames }) n ≡ o
 own_at frames n k o e is =
     let z : n - 1 ≡ k = omega (arith, e) in
     ap (λ (j : ℕ). slice_index_or frames j (record { kinds = []; outlive = 0 })) z ∙ get_or_from_slice_get frames k o (record { kinds = []; outlive = 0 }) is
 
-frames_told : (a : AcceptedRun) → IsTrue (is_well_named (source a.program)) → (bodies : List Body) (frames : List FrameReducers) → AreBodies a bodies → AreReducersIn (source a.program) bodies frames
+-- what planned frames run
+pub bodies_in : List PlannedFrame → List Body
+bodies_in = map (λ (f : PlannedFrame). f.body)
+
+frames_told : (a : AcceptedRun) → IsTrue (is_well_named (source a.program)) → (planned : List PlannedFrame) (frames : List FrameReducers) → AreFramesOf a planned → AreReducersIn (source a.program) (bodies_in planned) frames
     → (run : Transcript) → IsSerialRun (source a.program) a.input run a.trace (Leaves a.outcome) → AreReducersOf (source a.program) run (record { frames = frames })
-frames_told a well bodies frames are laid run serial [] block callee found ran =
+frames_told a well planned frames are laid run serial [] block callee found ran =
     let p = source a.program in
     let b : block_of p callees.Root (unbegun p) ≡ block = same_block p (block_of p callees.Root (unbegun p)) block found in
     let number : block.number ≡ suc 0 = ap (λ (x : Block). x.number) (sym b) in
     own_at frames block.number 0 (reducers_of p callees.Root) number laid.root ∙ ap (reducers_of p) (same_callee p callees.Root callee ran)
-frames_told a well bodies frames are laid run serial (k ∷ path) block callee found ran =
+frames_told a well planned frames are laid run serial (k ∷ path) block callee found ran =
     let p = source a.program in
-    let h = begun_at p run (frame_of p [] (unbegun p) callees.Root) (entered p callees.Root (unbegun p)) k path block callee found ran in
-    let number = h.number in
-    let z : block.number ≡ suc (suc h.ordinal) = omega (arith, number) in
-    let body = are.each run serial h.place (suc h.ordinal) (invocation h.how block.number) callee
-    (ap (λ (l : List Event). slice_get l h.place) (run_events p a.input run a.trace (Leaves a.outcome) serial) ∙ h.event_at) (placed h.how block.number (suc h.ordinal) z) h.callee_at in
-    own_at frames block.number (suc h.ordinal) (reducers_in p (body_of p callee)) z (laid.others h.ordinal (body_of p callee) body)
+    let past : 1 < block.number = numbered_past p run (entered p callees.Root (unbegun p)) k path block found in
+    let i = block.number - 2 in
+    let place : block.number - 1 ≡ suc i = omega (arith, past) in
+    let number : block.number ≡ suc (suc i) = omega (arith, past) in
+    let stands : slice_get planned (suc i) ≡ Some (record { body = body_of p callee; first_cell = block.first }) =
+    ap (λ (l : List PlannedFrame). slice_get l (suc i)) (are run serial) ∙ ap (slice_get (frames_of p run)) (sym place) ∙ frames_stand p run (k ∷ path) block callee found ran in
+    let body : slice_get (bodies_in planned) (suc i) ≡ Some (body_of p callee) =
+    slice_get-map (λ (f : PlannedFrame). f.body) planned (suc i) ∙ ap (option_map (λ (f : PlannedFrame). f.body)) stands in
+    own_at frames block.number (suc i) (reducers_in p (body_of p callee)) number (laid.others i (body_of p callee) body)
     ∙ in_body p callee (λ e. no_root_at p run (runs_start_no_root p a.input run a.trace (Leaves a.outcome) well serial) k path (ran ∙ ap Some e))
 
 -- ---- monoids
@@ -269,7 +231,7 @@ laid_next p bodies place frames frames' o body h at is small more = subst (LaidS
     same_body : (a b : Body) → Some a ≡ Some b → a ≡ b
     same_body a b h = cc h
 
-pub laid_all : (p : Source) (bodies : List Body) (place : ℕ) (frames : List FrameReducers) → LaidSoFar p bodies place frames → length bodies ≤ place → AreReducersIn p bodies frames
+laid_all : (p : Source) (bodies : List Body) (place : ℕ) (frames : List FrameReducers) → LaidSoFar p bodies place frames → length bodies ≤ place → AreReducersIn p bodies frames
 laid_all p bodies place frames h all = record {
   root = h.root;
   others = λ k body there. let less = slice_get_within bodies (suc k) body there in h.others k body (omega (arith, less, all)) there;
@@ -304,13 +266,18 @@ laid_begin q p same well bodies frames o is root =
     let here : o ≡ reducers_of (source p) callees.Root = root ∙ ap (λ (x : Program). reducers_of (source x) callees.Root) same in
     laid_first (source p) bodies frames o is here (subst (λ (o : FrameReducers). length o.kinds ≤ 128) (sym here) (few_root (source p) well))
 
-pub laid_step : (q p : Program) → q ≡ p → IsTrue (is_well_named (source p)) → (bodies : List Body) (place : ℕ) (frames frames' : List FrameReducers) (o : FrameReducers) (d : Body) → LaidSoFar (source p) bodies place frames → place < length bodies
-    → o ≡ reducers_in (source q) (get_or bodies place d) → frames' ≡ frames ++ o ∷ [] → LaidSoFar (source p) bodies (place + 1) frames'
-laid_step q p same well bodies place frames frames' o d h less own_is more =
-    let body = get_or bodies place d in
-    let here : o ≡ reducers_in (source p) (get_or bodies place d) = own_is ∙ ap (λ (x : Program). reducers_in (source x) (get_or bodies place d)) same in
-    laid_next (source p) bodies place frames frames' o body h (slice_get-get_or bodies place d less) here
-    (subst (λ (o : FrameReducers). length o.kinds ≤ 128) (sym here) (few_in (source p) well body)) more
+pub laid_step : (q p : Program) → q ≡ p → IsTrue (is_well_named (source p)) → (planned : List PlannedFrame) (place : ℕ) (frames frames' : List FrameReducers) (o : FrameReducers) (d : PlannedFrame)
+    → LaidSoFar (source p) (bodies_in planned) place frames → place < length planned → o ≡ reducers_in (source q) (let f = get_or planned place d in f.body) → frames' ≡ frames ++ o ∷ []
+    → LaidSoFar (source p) (bodies_in planned) (place + 1) frames'
+laid_step q p same well planned place frames frames' o d h less own_is more =
+    let f = get_or planned place d in
+    let here : o ≡ reducers_in (source p) f.body = own_is ∙ ap (λ (x : Program). reducers_in (source x) f.body) same in
+    laid_next (source p) (bodies_in planned) place frames frames' o f.body h
+    (slice_get-map (λ (x : PlannedFrame). x.body) planned place ∙ ap (option_map (λ (x : PlannedFrame). x.body)) (slice_get-get_or planned place d less)) here
+    (subst (λ (o : FrameReducers). length o.kinds ≤ 128) (sym here) (few_in (source p) well f.body)) more
+
+pub laid_whole : (p : Source) (planned : List PlannedFrame) (place : ℕ) (frames : List FrameReducers) → LaidSoFar p (bodies_in planned) place frames → length planned ≤ place → AreReducersIn p (bodies_in planned) frames
+laid_whole p planned place frames h all = let long = length-map (λ (f : PlannedFrame). f.body) planned in laid_all p (bodies_in planned) place frames h (omega (arith, long, all))
 
 -- of a program of the code
 pub globals_next : (rs : List GlobalReducer) (n : ℕ) (g : GlobalReducer) (kinds kinds' : List MonoidKind) → n < length rs → g ≡ get_or rs n g → kinds ≡ map (λ (r : GlobalReducer). r.kind) (take n rs) → kinds' ≡ kinds ++ g.kind ∷ []
@@ -338,9 +305,9 @@ a_begin : (o : Option Event) → mark_at o ≡ mark.Begin → (f : ℕ) × (opti
 a_begin (Some (events.Begin f)) e = (f, refl)
 a_begin o e = absurd (cc e)
 
-pub table_of : (a : AcceptedRun) → HasDeterminateRun a → IsTrue (is_well_named (source a.program)) → (bodies : List Body) (list : List FrameReducers) → AreBodies a bodies → AreReducersIn (source a.program) bodies list
+pub table_of : (a : AcceptedRun) → HasDeterminateRun a → IsTrue (is_well_named (source a.program)) → (planned_frames : List PlannedFrame) (list : List FrameReducers) → AreFramesOf a planned_frames → AreReducersIn (source a.program) (bodies_in planned_frames) list
     → IsTableOf a (record { frames = list })
-table_of a is well bodies list are laid = record {
+table_of a is well planned_frames list are laid = record {
   frames = told;
   kinds = λ run serial. kinds_told (source a.program) run (record { frames = list }) (told run serial);
   settled = λ plan s of_run along. along_settled plan s (record { frames = list }) along (subst (λ (z : Story). AreSettled z (record { frames = list })) (sym of_run.story) (in_run plan.opening));
@@ -350,7 +317,7 @@ table_of a is well bodies list are laid = record {
 }
   where
     told : (run : Transcript) → IsSerialRun (source a.program) a.input run a.trace (Leaves a.outcome) → AreReducersOf (source a.program) run (record { frames = list })
-    told = frames_told a well bodies list are laid
+    told = frames_told a well planned_frames list are laid
 
     in_run : (opening : List ℤ) → AreSettled (planned a.trace opening) (record { frames = list })
     in_run opening =

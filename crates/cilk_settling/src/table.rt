@@ -2,7 +2,7 @@
 
 ghost use Rattle.std.specs.Prelude.{◌≡◌, IfOk};
 ghost use Rattle.cilk_pieces.specs.Reducers.{HasFew};
-ghost use Rattle.cilk_planning.specs.Bodies.{AreBodies};
+ghost use Rattle.cilk_planning.specs.Frames.{AreFramesOf};
 ghost use Rattle.cilk_program.specs.declared.ask.Callee.TheVariants.{Root};
 ghost use Rattle.cilk_program.specs.Sources.{source};
 ghost use Rattle.cilk_settling.specs.Accepted.{IsTableOf, reducers_in};
@@ -10,22 +10,27 @@ ghost use Rattle.cilk_settling.specs.Tables.{reducers_of};
 
 use cilk_checker::accepted::Accepted;
 use cilk_pieces::reducers::{FrameReducers, Reducers};
+use cilk_planning::frames::PlannedFrame;
 use cilk_program::program::{Body, Program};
 use cilk_types::sequence::Sequence;
 use std::alloc::{AllocError, Global};
 
-/// The reducers that each frame of an accepted run creates, from the body that each runs, as [`cilk_planning::bodies::bodies`] gives it.
+/// The reducers that each frame of an accepted run creates, from what each runs, as [`cilk_planning::frames::frames`] gives it.
 /// The reducers of the run are settled along its plan, on any input. Cost and memory: linear in the frames and their reducers.
-pub fn reducers(alloc: Global, accepted: &Accepted, bodies: &[Body]) -> Result<Reducers, AllocError>
-    requires { AreBodies accepted.now bodies.now }
+pub fn reducers(
+    alloc: Global,
+    accepted: &Accepted,
+    planned: &[PlannedFrame],
+) -> Result<Reducers, AllocError>
+    requires { AreFramesOf accepted.now planned.now }
     ensures table { IfOk result (λ r. IsTableOf accepted.now r) }
     ensures few { IfOk result (λ r. HasFew r) }
 {
     let program = accepted.program();
     let mut frames = Vec::new(alloc);
     frames.push(of_root(alloc, program)?)?;
-    'each: for place in 1..bodies.len() {
-        frames.push(of_body(alloc, program, bodies[place])?)?;
+    'each: for place in 1..planned.len() {
+        frames.push(of_body(alloc, program, planned[place].body)?)?;
     }
     Ok(Reducers {
         frames: Sequence::new(frames),
