@@ -123,26 +123,26 @@ own_at frames n k o e is =
     ap (λ (j : ℕ). slice_index_or frames j (record { kinds = []; outlive = 0 })) z ∙ get_or_from_slice_get frames k o (record { kinds = []; outlive = 0 }) is
 
 -- what planned frames run
-pub bodies_in : List PlannedFrame → List Body
+abbrev pub bodies_in : List PlannedFrame → List Body
 bodies_in = map (λ (f : PlannedFrame). f.body)
 
-frames_told : (a : AcceptedRun) → IsTrue (is_well_named (source a.program)) → (planned : List PlannedFrame) (frames : List FrameReducers) → AreFramesOf a planned → AreReducersIn (source a.program) (bodies_in planned) frames
+frames_told : (a : AcceptedRun) → IsTrue (is_well_named (source a.program)) → (placed : List PlannedFrame) (frames : List FrameReducers) → AreFramesOf a placed → AreReducersIn (source a.program) (bodies_in placed) frames
     → (run : Transcript) → IsSerialRun (source a.program) a.input run a.trace (Leaves a.outcome) → AreReducersOf (source a.program) run (record { frames = frames })
-frames_told a well planned frames are laid run serial [] block callee found ran =
+frames_told a well placed frames are laid run serial [] block callee found ran =
     let p = source a.program in
     let b : block_of p callees.Root (unbegun p) ≡ block = same_block p (block_of p callees.Root (unbegun p)) block found in
     let number : block.number ≡ suc 0 = ap (λ (x : Block). x.number) (sym b) in
     own_at frames block.number 0 (reducers_of p callees.Root) number laid.root ∙ ap (reducers_of p) (same_callee p callees.Root callee ran)
-frames_told a well planned frames are laid run serial (k ∷ path) block callee found ran =
+frames_told a well placed frames are laid run serial (k ∷ path) block callee found ran =
     let p = source a.program in
     let past : 1 < block.number = numbered_past p run (entered p callees.Root (unbegun p)) k path block found in
     let i = block.number - 2 in
     let place : block.number - 1 ≡ suc i = omega (arith, past) in
     let number : block.number ≡ suc (suc i) = omega (arith, past) in
-    let stands : slice_get planned (suc i) ≡ Some (record { body = body_of p callee; first_cell = block.first }) =
+    let stands : slice_get placed (suc i) ≡ Some (record { body = body_of p callee; first_cell = block.first }) =
     ap (λ (l : List PlannedFrame). slice_get l (suc i)) (are run serial) ∙ ap (slice_get (frames_of p run)) (sym place) ∙ frames_stand p run (k ∷ path) block callee found ran in
-    let body : slice_get (bodies_in planned) (suc i) ≡ Some (body_of p callee) =
-    slice_get-map (λ (f : PlannedFrame). f.body) planned (suc i) ∙ ap (option_map (λ (f : PlannedFrame). f.body)) stands in
+    let body : slice_get (bodies_in placed) (suc i) ≡ Some (body_of p callee) =
+    slice_get-map (λ (f : PlannedFrame). f.body) placed (suc i) ∙ ap (option_map (λ (f : PlannedFrame). f.body)) stands in
     own_at frames block.number (suc i) (reducers_in p (body_of p callee)) number (laid.others i (body_of p callee) body)
     ∙ in_body p callee (λ e. no_root_at p run (runs_start_no_root p a.input run a.trace (Leaves a.outcome) well serial) k path (ran ∙ ap Some e))
 
@@ -266,18 +266,18 @@ laid_begin q p same well bodies frames o is root =
     let here : o ≡ reducers_of (source p) callees.Root = root ∙ ap (λ (x : Program). reducers_of (source x) callees.Root) same in
     laid_first (source p) bodies frames o is here (subst (λ (o : FrameReducers). length o.kinds ≤ 128) (sym here) (few_root (source p) well))
 
-pub laid_step : (q p : Program) → q ≡ p → IsTrue (is_well_named (source p)) → (planned : List PlannedFrame) (place : ℕ) (frames frames' : List FrameReducers) (o : FrameReducers) (d : PlannedFrame)
-    → LaidSoFar (source p) (bodies_in planned) place frames → place < length planned → o ≡ reducers_in (source q) (let f = get_or planned place d in f.body) → frames' ≡ frames ++ o ∷ []
-    → LaidSoFar (source p) (bodies_in planned) (place + 1) frames'
-laid_step q p same well planned place frames frames' o d h less own_is more =
-    let f = get_or planned place d in
+pub laid_step : (q p : Program) → q ≡ p → IsTrue (is_well_named (source p)) → (placed : List PlannedFrame) (place : ℕ) (frames frames' : List FrameReducers) (o : FrameReducers) (d : PlannedFrame)
+    → LaidSoFar (source p) (bodies_in placed) place frames → place < length placed → o ≡ reducers_in (source q) (let f = get_or placed place d in f.body) → frames' ≡ frames ++ o ∷ []
+    → LaidSoFar (source p) (bodies_in placed) (place + 1) frames'
+laid_step q p same well placed place frames frames' o d h less own_is more =
+    let f = get_or placed place d in
     let here : o ≡ reducers_in (source p) f.body = own_is ∙ ap (λ (x : Program). reducers_in (source x) f.body) same in
-    laid_next (source p) (bodies_in planned) place frames frames' o f.body h
-    (slice_get-map (λ (x : PlannedFrame). x.body) planned place ∙ ap (option_map (λ (x : PlannedFrame). x.body)) (slice_get-get_or planned place d less)) here
+    laid_next (source p) (bodies_in placed) place frames frames' o f.body h
+    (slice_get-map (λ (x : PlannedFrame). x.body) placed place ∙ ap (option_map (λ (x : PlannedFrame). x.body)) (slice_get-get_or placed place d less)) here
     (subst (λ (o : FrameReducers). length o.kinds ≤ 128) (sym here) (few_in (source p) well f.body)) more
 
-pub laid_whole : (p : Source) (planned : List PlannedFrame) (place : ℕ) (frames : List FrameReducers) → LaidSoFar p (bodies_in planned) place frames → length planned ≤ place → AreReducersIn p (bodies_in planned) frames
-laid_whole p planned place frames h all = let long = length-map (λ (f : PlannedFrame). f.body) planned in laid_all p (bodies_in planned) place frames h (omega (arith, long, all))
+pub laid_whole : (p : Source) (placed : List PlannedFrame) (place : ℕ) (frames : List FrameReducers) → LaidSoFar p (bodies_in placed) place frames → length placed ≤ place → AreReducersIn p (bodies_in placed) frames
+laid_whole p placed place frames h all = let long = length-map placed (λ (f : PlannedFrame). f.body) in laid_all p (bodies_in placed) place frames h (omega (arith, long, all))
 
 -- of a program of the code
 pub globals_next : (rs : List GlobalReducer) (n : ℕ) (g : GlobalReducer) (kinds kinds' : List MonoidKind) → n < length rs → g ≡ get_or rs n g → kinds ≡ map (λ (r : GlobalReducer). r.kind) (take n rs) → kinds' ≡ kinds ++ g.kind ∷ []
@@ -305,9 +305,9 @@ a_begin : (o : Option Event) → mark_at o ≡ mark.Begin → (f : ℕ) × (opti
 a_begin (Some (events.Begin f)) e = (f, refl)
 a_begin o e = absurd (cc e)
 
-pub table_of : (a : AcceptedRun) → HasDeterminateRun a → IsTrue (is_well_named (source a.program)) → (planned_frames : List PlannedFrame) (list : List FrameReducers) → AreFramesOf a planned_frames → AreReducersIn (source a.program) (bodies_in planned_frames) list
+pub table_of : (a : AcceptedRun) → HasDeterminateRun a → IsTrue (is_well_named (source a.program)) → (placed : List PlannedFrame) (list : List FrameReducers) → AreFramesOf a placed → AreReducersIn (source a.program) (bodies_in placed) list
     → IsTableOf a (record { frames = list })
-table_of a is well planned_frames list are laid = record {
+table_of a is well placed list are laid = record {
   frames = told;
   kinds = λ run serial. kinds_told (source a.program) run (record { frames = list }) (told run serial);
   settled = λ plan s of_run along. along_settled plan s (record { frames = list }) along (subst (λ (z : Story). AreSettled z (record { frames = list })) (sym of_run.story) (in_run plan.opening));
@@ -317,7 +317,7 @@ table_of a is well planned_frames list are laid = record {
 }
   where
     told : (run : Transcript) → IsSerialRun (source a.program) a.input run a.trace (Leaves a.outcome) → AreReducersOf (source a.program) run (record { frames = list })
-    told = frames_told a well planned_frames list are laid
+    told = frames_told a well placed list are laid
 
     in_run : (opening : List ℤ) → AreSettled (planned a.trace opening) (record { frames = list })
     in_run opening =
