@@ -28,3 +28,4 @@ pub mod DecidingSteps
 pub mod DecidingDesks
 pub mod Deciding
 pub mod DecidingNames
+pub mod Played

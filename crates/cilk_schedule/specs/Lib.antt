@@ -9,3 +9,4 @@ pub mod Ends
 pub mod Faults
 pub mod Links
 pub mod Deciding
+pub mod Played

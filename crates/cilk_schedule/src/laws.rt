@@ -4,6 +4,7 @@ ghost use Rattle.std.specs.Prelude.{ℤ, List};
 ghost use Rattle.cilk_lower.specs.Code.{CodeView};
 ghost use Rattle.cilk_program.specs.Syntax.{Source};
 ghost use Rattle.cilk_schedule.specs.Deciding.{ChoicesDecide};
+ghost use Rattle.cilk_schedule.specs.Played.{ListsDecide};
 ghost use Rattle.cilk_schedule.specs.Reached.{ChoicesLeadOn};
 
 /// What holds of each state of the free machine that steps lead to goes on to hold after a choice: so a board that shows what comes of
@@ -16,4 +17,10 @@ pub fn choices_lead_on()
 /// haven't begun, or it stops the run in one strand by one fault, and not both.
 pub fn choices_decide()
     ensures { (p : Source) (inputs : List ℤ) → ChoicesDecide p inputs }
+{}
+
+/// A list of choices has one end: it leads to one state and one desk, up to the views of frames that haven't begun, or it stops the run
+/// in one strand by one fault, and not both. Steps of the free machine lead there.
+pub fn lists_decide()
+    ensures { (p : Source) (inputs : List ℤ) → ListsDecide p inputs }
 {}

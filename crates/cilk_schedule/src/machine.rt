@@ -1,6 +1,6 @@
 //! A machine: a program's code, its input, and workers that are told one choice after another.
 
-ghost use Rattle.std.specs.Prelude.{◌≡◌, ◌≢◌, ◌-◌, ◌<◌, ◌≤◌, ◌++◌, ◌∷◌, [], ℕ, List, length, reverse, Err, None, Ok, Some, IfOk, IfErr};
+ghost use Rattle.std.specs.Prelude.{◌≡◌, ◌≢◌, ◌⊎◌, ◌-◌, ◌<◌, ◌≤◌, ◌++◌, ◌∷◌, [], ℕ, List, length, reverse, Err, None, Ok, Some, IfOk, IfErr, OnOk};
 ghost use Rattle.std.specs.Option.{is_some};
 ghost use Rattle.cilk_types.specs.declared.fault.Fault.{Fault};
 ghost use Rattle.cilk_board.specs.Workers.{held_by};
@@ -13,6 +13,7 @@ ghost use Rattle.cilk_schedule.specs.Choices.{CanChoose, Writes};
 ghost use Rattle.cilk_schedule.specs.Faults.{FaultsAreStops, HasFault, HasStopped, KeepsTold, NamesStop, StopsFrom};
 ghost use Rattle.cilk_schedule.specs.Links.{links_in, links_of};
 ghost use Rattle.cilk_schedule.specs.Machines.{OrdinalsUp};
+ghost use Rattle.cilk_schedule.specs.Played.{HaltAt, IsPlayed, IsStop, IsUnstopped, LeadOn};
 ghost use Rattle.cilk_schedule.specs.Reached.{HasOpened, HasReached, LeadsOn};
 ghost use Rattle.cilk_schedule.specs.Sound.{IsCode, IsCodeOf, Runs};
 ghost use Rattle.cilk_program.specs.Syntax.{Source};
@@ -148,8 +149,10 @@ impl<'a> Machine<'a> {
     }
 }
 
-/// Makes these choices one after another. A stop comes with the name of its strand; where that finds no memory, the stop is
-/// the want of memory.
+/// Makes these choices one after another. What is shown is the state of the free machine to which they lead; or one of them stops the run,
+/// where those before it lead. A stop comes with the name of its strand; where that finds no memory, as where a choice finds none, the
+/// stop is the want of memory, without a name. A list of choices has one end ([`crate::laws::lists_decide`]), so a run that is shown
+/// and one that a fault stops are told of that end.
 pub fn play(
     alloc: Global,
     code: &Code,
@@ -158,15 +161,15 @@ pub fn play(
     choices: &[Choice],
 ) -> Result<Shown, (Stop, Vec<u32>)>
     requires { IsCode code.now }
-    ensures { IfErr result (λ e. e.0 ≡ stops.Memory → e.1.items ≡ []) }
+    ensures played { IfOk result (λ shown. 0 < workers → (p : Source) → IsCodeOf p code.now → IsPlayed p input.now workers choices.now shown) }
+    ensures stopped { IfErr result (λ e. 0 < workers → (p : Source) → IsCodeOf p code.now → IsStop p input.now workers choices.now e.0 e.1.items) }
+    ensures unnamed { IfErr result (λ e. e.0 ≡ stops.Memory → e.1.items ≡ []) }
 {
     let Ok(mut machine) = Machine::new(alloc, code, input, workers) else {
         return Err((Stop::Memory, Vec::new(alloc)));
     };
-    'each: for choice in choices {
-        if let Err(stop) = machine.choose(alloc, *choice) {
-            return Err(named(alloc, &machine, stop));
-        }
+    if let Err(stop) = choose_all(alloc, &mut machine, choices) {
+        return Err(named(alloc, &machine, stop));
     }
     match machine.shown(alloc) {
         Ok(shown) => Ok(shown),
@@ -174,9 +177,25 @@ pub fn play(
     }
 }
 
+// These choices are made one after another, until one stops the run.
+fn choose_all(alloc: Global, machine: &mut Machine<'_>, choices: &[Choice]) -> Result<(), Stop>
+    requires { IsUnstopped machine.old }
+    ensures led { OnOk result (LeadOn choices.now machine.old machine.new) }
+    ensures halted { IfErr result (λ stop. HaltAt choices.now machine.old machine.new stop) }
+{
+    'each: for choice in choices {
+        if let Err(stop) = machine.choose(alloc, *choice) {
+            return Err(stop);
+        }
+    }
+    Ok(())
+}
+
 // A stop with the name of its strand.
-fn named(alloc: Global, machine: &Machine, stop: Stop) -> (Stop, Vec<u32>)
-    ensures { result.0 ≡ stops.Memory → result.1.items ≡ [] }
+fn named(alloc: Global, machine: &Machine<'_>, stop: Stop) -> (Stop, Vec<u32>)
+    ensures unnamed { result.0 ≡ stops.Memory → result.1.items ≡ [] }
+    ensures same { (result.0 ≡ stop) ⊎ (result.0 ≡ stops.Memory) }
+    ensures named { (p : Source) (fault : Fault) (strand : Strand) → result.0 ≡ stops.At fault strand → (h : HasFault machine.now.code.now p machine.now.input.now machine.now.board fault strand) → NamesStop h.state result.1.items }
 {
     match machine.name(alloc, stop) {
         Ok(name) => (stop, name),

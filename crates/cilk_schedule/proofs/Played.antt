@@ -1,0 +1,247 @@
+-- A list of choices.
+--
+-- - `lead_on`, `stop_behind`: one more choice behind those that were made;
+-- - `lists_decide`: a list has one end;
+-- - `moved`, `at_moved`: of a machine with the same code and input;
+-- - `lead_same`, `lead_more`, `halt_more`: what a machine's choices lead to;
+-- - `opened_at`: the board of a new machine shows the opening state;
+-- - `leaves_by`, `shows_state`: what is shown of a state that a board tells;
+-- - `played_by`, `stopped_by`: of a whole list.
+use Rattle.std.proofs.Common.{◌≡◌, ◌⊎◌, inl, inr, ◌-◌, ◌<◌, ℕ, suc, ℤ, List, [], ◌∷◌, ◌++◌, length, map, slice_get, Option, Some, None, refl, sym, ap, ◌∙◌, subst, Bor, MatchOption}
+use Rattle.std.specs.Option.{option_map}
+use Rattle.std.proofs.lemmas.List.{length-map}
+use Rattle.std.proofs.lemmas.Option.{slice_get-map}
+use Rattle.cilk_types.specs.declared.outcome.Outcome.{Outcome}
+use Rattle.cilk_program.specs.Syntax.{Source}
+use Rattle.cilk_lower.specs.Code.{CodeView}
+use Rattle.cilk_activations.specs.declared.activation.Activation.{Activation}
+use Rattle.cilk_runs.specs.Machine.{State}
+use Rattle.cilk_runs.specs.Runs.{Name}
+use Rattle.cilk_worlds.specs.Reducers.{View}
+use Rattle.cilk_worlds.specs.Steps.{IsFirst, Reaches}
+use Rattle.cilk_worlds.specs.Worlds.{World}
+use Rattle.cilk_board.specs.Boards.{Tells}
+use Rattle.cilk_board.specs.Desks.{Chooses, Comes, Desk, StopsAt}
+use Rattle.cilk_board.specs.Openings.{first_desk}
+use Rattle.cilk_board.specs.declared.board.Board.{Board}
+use Rattle.cilk_board.specs.declared.choice.Choice.{Choice}
+use Rattle.cilk_board.specs.declared.choice.Stop.{Stop}
+use Rattle.cilk_board.specs.declared.choice.Stop.TheVariants as stops
+use Rattle.cilk_board.specs.declared.choice.Told.{Told}
+use Rattle.cilk_board.specs.declared.seat.Seat.{Seat}
+use Rattle.cilk_board.proofs.Placed.{get_some}
+use Rattle.cilk_schedule.specs.Deciding.{Agree, IsGoing}
+use Rattle.cilk_schedule.specs.Faults.{HasFault, NamesStop, StopsFrom}
+use Rattle.cilk_schedule.specs.Links.{link_of, links_in, links_of}
+use Rattle.cilk_schedule.specs.Played.{ChoicesLead, ChoicesStop, HaltAt, IsAt, IsPlayed, IsStop, LeadOn, Leaves, ListsDecide, ShowsState, StopFrom}
+use Rattle.cilk_schedule.specs.Reached.{HasOpened, HasReached, LeadsOn, comes_of}
+use Rattle.cilk_schedule.specs.Sound.{IsCodeOf}
+use Rattle.cilk_schedule.specs.declared.machine.Machine.{Machine}
+use Rattle.cilk_schedule.specs.declared.showing.Link.{Link}
+use Rattle.cilk_schedule.specs.declared.showing.Shown.{Shown}
+use Rattle.cilk_schedule.specs.declared.showing.ShownFrame.{ShownFrame}
+use Rattle.cilk_schedule.proofs.Deciding.{choices_decide}
+
+-- ---- one after another
+
+module _ (p : Source) (inputs : List ℤ) where
+  pub lead_on : (done : List Choice) (choice : Choice) (told : Comes) (s t u : State World View) (d e f : Desk) → ChoicesLead p inputs done s d t e → Chooses p inputs t e choice told u f → ChoicesLead p inputs (done ++ choice ∷ []) s d u f
+  lead_on [] choice told s t u d e f (same, at) h =
+      (told, u, f, subst (λ z. Chooses p inputs z d choice told u f) same (subst (λ z. Chooses p inputs t z choice told u f) at h), (refl, refl))
+  lead_on (c ∷ done) choice told s t u d e f (x, z, g, one, more) h = (x, z, g, one, lead_on done choice told z t u g e f more h)
+
+  pub stop_behind : (done rest : List Choice) (choice : Choice) (s t u : State World View) (d e : Desk) → ChoicesLead p inputs done s d t e → StopsAt p inputs t e choice u → ChoicesStop p inputs (done ++ choice ∷ rest) s d u
+  stop_behind [] rest choice s t u d e (same, at) h = inl (subst (λ z. StopsAt p inputs z d choice u) same (subst (λ z. StopsAt p inputs t z choice u) at h))
+  stop_behind (c ∷ done) rest choice s t u d e (x, z, g, one, more) h = inr (x, z, g, one, stop_behind done rest choice z t u g e more h)
+
+  -- ---- a list has one end
+
+  goes_by : (choices : List Choice) (s s' : State World View) (d d' : Desk) → IsGoing p inputs s → ChoicesLead p inputs choices s d s' d' → IsGoing p inputs s'
+  goes_by [] s s' d d' going (same, at) = subst (λ z. IsGoing p inputs z) (sym same) going
+  goes_by (c ∷ choices) s s' d d' going (x, t, e, one, more) = let law = choices_decide p inputs in goes_by choices t s' e d' (law.goes_on s t d e c x going one) more
+
+  halts_by : (choices : List Choice) (s s' : State World View) (d : Desk) → IsGoing p inputs s → ChoicesStop p inputs choices s d s' → (ns : List Name) × Reaches p inputs ns s'
+  halts_by [] s s' d going h = absurd h
+  halts_by (c ∷ choices) s s' d going (inl h) = let law = choices_decide p inputs in law.halts s s' d c going h
+  halts_by (c ∷ choices) s s' d going (inr (x, t, e, one, more)) = let law = choices_decide p inputs in halts_by choices t s' e (law.goes_on s t d e c x going one) more
+
+  leads_by : (choices : List Choice) (s t s' t' : State World View) (d d' d'' : Desk) → IsGoing p inputs s → Agree s t → ChoicesLead p inputs choices s d s' d' → ChoicesLead p inputs choices t d t' d'' → (d'' ≡ d') × Agree s' t'
+  leads_by [] s t s' t' d d' d'' going agree (same, at) (same', at') =
+      (at' ∙ sym at, subst (λ z. Agree z t') (sym same) (subst (λ z. Agree s z) (sym same') agree))
+  leads_by (c ∷ choices) s t s' t' d d' d'' going agree (x, u, e, one, more) (y, v, f, other, rest) =
+      let law = choices_decide p inputs in
+      let r = law.leads s t u v d e f c x y going agree one other in
+      leads_by choices u v s' t' e d' d'' (law.goes_on s u d e c x going one) r.2 more (subst (λ z. ChoicesLead p inputs choices v z t' d'') r.1 rest)
+
+  stops_by : (choices : List Choice) (s t s' t' : State World View) (d : Desk) → IsGoing p inputs s → Agree s t → ChoicesStop p inputs choices s d s' → ChoicesStop p inputs choices t d t' → t'.stopped ≡ s'.stopped
+  stops_by [] s t s' t' d going agree h k = absurd h
+  stops_by (c ∷ choices) s t s' t' d going agree (inl h) (inl k) = let law = choices_decide p inputs in law.stops s t s' t' d c going agree h k
+  stops_by (c ∷ choices) s t s' t' d going agree (inl h) (inr (y, v, f, other, rest)) = let law = choices_decide p inputs in absurd (law.apart s t s' v d f c y going agree h other)
+  stops_by (c ∷ choices) s t s' t' d going agree (inr (x, u, e, one, more)) (inl k) = let law = choices_decide p inputs in absurd (law.leads_apart s t u t' d e c x going agree one k)
+  stops_by (c ∷ choices) s t s' t' d going agree (inr (x, u, e, one, more)) (inr (y, v, f, other, rest)) =
+      let law = choices_decide p inputs in
+      let r = law.leads s t u v d e f c x y going agree one other in
+      stops_by choices u v s' t' e (law.goes_on s u d e c x going one) r.2 more (subst (λ z. ChoicesStop p inputs choices v z t') r.1 rest)
+
+  apart_by : (choices : List Choice) (s t s' t' : State World View) (d d' : Desk) → IsGoing p inputs s → Agree s t → ChoicesStop p inputs choices s d s' → ChoicesLead p inputs choices t d t' d' → ⊥
+  apart_by [] s t s' t' d d' going agree h k = h
+  apart_by (c ∷ choices) s t s' t' d d' going agree (inl h) (y, v, f, other, rest) = let law = choices_decide p inputs in law.apart s t s' v d f c y going agree h other
+  apart_by (c ∷ choices) s t s' t' d d' going agree (inr (x, u, e, one, more)) (y, v, f, other, rest) =
+      let law = choices_decide p inputs in
+      let r = law.leads s t u v d e f c x y going agree one other in
+      apart_by choices u v s' t' e d' (law.goes_on s u d e c x going one) r.2 more (subst (λ z. ChoicesLead p inputs choices v z t' d') r.1 rest)
+
+  pub lists_decide : ListsDecide p inputs
+  lists_decide = record { goes_on = goes_by; halts = halts_by; leads = leads_by; stops = stops_by; apart = apart_by }
+
+-- ---- a machine
+
+-- what holds of the code and the input of one machine holds of those of another, which are the same
+pub moved : (c c' : Bor CodeView) (i i' : Bor (List ℤ)) → c' ≡ c → i' ≡ i → (P : CodeView → List ℤ → Type 0) → P c.now i.now → P c'.now i'.now
+moved c c' i i' e d P x = subst (λ (z : Bor CodeView). P z.now i'.now) (sym e) (subst (λ (y : Bor (List ℤ)). P c.now y.now) (sym d) x)
+
+-- a state and a desk that a board shows
+pub at_moved : (c c' : Bor CodeView) (i i' : Bor (List ℤ)) → c' ≡ c → i' ≡ i → (p : Source) (b : Board) (Q : State World View → Desk → Type 0) → (h : HasReached c.now p i.now b) × Q h.state h.desk → (h' : HasReached c'.now p i'.now b) × Q h'.state h'.desk
+at_moved c c' i i' e d p b Q r = moved c c' i i' e d (λ x y. (h : HasReached x p y b) × Q h.state h.desk) r
+
+pub lead_same : (m : Machine) → LeadOn [] m m
+lead_same m = record { code = refl; input = refl; reached = λ p is h. (h, (refl, refl)) }
+
+module _ (done : List Choice) (choice : Choice) (l m m' : Machine) (first : LeadOn done l m) (same_code : m'.code ≡ m.code) (same_input : m'.input ≡ m.input) where
+  code_on : (p : Source) → IsCodeOf p (let c = l.code in c.now) → IsCodeOf p (let c = m.code in c.now)
+  code_on p is = subst (λ (x : Bor CodeView). IsCodeOf p x.now) (sym first.code) is
+
+  pub lead_more : (t : Told) → ((p : Source) → IsCodeOf p (let c = m.code in c.now) → LeadsOn (let c = m.code in c.now) p (let i = m.input in i.now) m.board m'.board choice t) → LeadOn (done ++ choice ∷ []) l m'
+  lead_more t led = record {
+    code = same_code ∙ first.code;
+    input = same_input ∙ first.input;
+    reached = λ p is h.
+        let i = l.input in
+        let a = first.reached p is h in
+        let x = a.0 in
+        let r = led p (code_on p is) x in
+        let y = r.0 in
+        at_moved m.code m'.code m.input m'.input same_code same_input p m'.board (λ s d. ChoicesLead p i.now (done ++ choice ∷ []) h.state h.desk s d)
+        (y, lead_on p i.now done choice (comes_of t) h.state x.state y.state h.desk x.desk y.desk a.1 (subst (λ (z : Bor (List ℤ)). Chooses p z.now x.state x.desk choice (comes_of t) y.state y.desk) first.input r.1));
+  }
+
+  abbrev Stops : Stop → Type 0
+  Stops stop = (p : Source) → IsCodeOf p (let c = m.code in c.now) → (h : IsAt m p) → StopsFrom (let c = m.code in c.now) p (let i = m.input in i.now) m.board h m'.board choice stop
+
+  -- the choices before it lead to where it stops the run
+  stops_from : (rest : List Choice) (stop : Stop) → Stops stop → (p : Source) → IsCodeOf p (let c = l.code in c.now) → (h : IsAt l p) → StopFrom (let c = m'.code in c.now) p (let i = m'.input in i.now) (done ++ choice ∷ rest) h.state h.desk m'.board stop
+  stops_from rest (stops.At fault strand) halts p is h =
+      let i = l.input in
+      let a = first.reached p is h in
+      let x = a.0 in
+      let r = halts p (code_on p is) x in
+      let f = r.0 in
+      moved m.code m'.code m.input m'.input same_code same_input (λ y z. (g : HasFault y p z m'.board fault strand) × ChoicesStop p z (done ++ choice ∷ rest) h.state h.desk g.state) (
+        f,
+        subst (λ (z : Bor (List ℤ)). ChoicesStop p z.now (done ++ choice ∷ rest) h.state h.desk f.state) (sym first.input)
+            (stop_behind p i.now done rest choice h.state x.state f.state h.desk x.desk a.1 (subst (λ (z : Bor (List ℤ)). StopsAt p z.now x.state x.desk choice f.state) first.input r.1)),
+      )
+  stops_from rest stops.Memory halts p is h = tt
+
+  pub halt_more : (rest : List Choice) (stop : Stop) → Stops stop → HaltAt (done ++ choice ∷ rest) l m' stop
+  halt_more rest stop halts = record { code = same_code ∙ first.code; input = same_input ∙ first.input; halted = stops_from rest stop halts }
+
+-- ---- what is shown
+
+pub leaves_by : (code : CodeView) (p : Source) (inputs : List ℤ) (name : ℕ → Name) (b : Board) (s : State World View) → Tells code p inputs name b s → (left : Option Outcome) → b.outcome ≡ left → Leaves p s left
+leaves_by code p inputs name b s t None e = t.going e
+leaves_by code p inputs name b s t (Some o) e = t.over o e
+
+some_is : {A : Type 0} (x y : A) → Some x ≡ Some y → x ≡ y
+some_is x y e = cc
+
+module _ (code : CodeView) (p : Source) (inputs : List ℤ) (name : ℕ → Name) (b : Board) (s : State World View) (t : Tells code p inputs name b s) (shown : Shown) (outcome : shown.outcome ≡ b.outcome)
+    (links : (let l = shown.frames in let f = b.frames in links_in l.items ≡ links_of f.items)) where
+  many : (let l = shown.frames in let f = b.frames in length l.items ≡ length f.items)
+  many =
+      let l = shown.frames in
+      let f = b.frames in
+      sym (length-map l.items (λ (x : ShownFrame). x.link)) ∙ ap (λ (z : List Link). length z) links ∙ length-map f.items link_of
+
+  -- the frame that stands at a place on the board has the link that is shown
+  linked : (k : ℕ) (x : ShownFrame) → (let l = shown.frames in slice_get l.items k ≡ Some x) → (a : Activation Seat) × (let f = b.frames in slice_get f.items k ≡ Some a) × (x.link ≡ link_of a)
+  linked k x at =
+      let l = shown.frames in
+      let f = b.frames in
+      by (slice_get f.items k) refl
+      (sym (slice_get-map link_of f.items k) ∙ ap (λ (z : List Link). slice_get z k) (sym links) ∙ slice_get-map (λ (y : ShownFrame). y.link) l.items k ∙ ap (λ (o : Option ShownFrame). option_map (λ (y : ShownFrame). y.link) o) at)
+    where
+      by : (o : Option (Activation Seat)) → (let f = b.frames in slice_get f.items k ≡ o) → option_map link_of o ≡ Some x.link → (a : Activation Seat) × (let f = b.frames in slice_get f.items k ≡ Some a) × (x.link ≡ link_of a)
+      by None e h = let no : None ≡ Some x.link = h in cc
+      by (Some a) e h = (a, e, sym (some_is (link_of a) x.link h))
+
+  pub shows_state : ShowsState p name s shown
+  shows_state = record {
+    root = let n = t.named in n.root;
+    child = λ k x at.
+        let n = t.named in
+        let r = linked (suc k) x at in
+        subst (λ (z : Link). (z.parent < suc k) × (name (suc k) ≡ name z.parent ++ z.ordinal ∷ [])) (sym r.2) (n.child k r.0 r.1);
+    apart = λ j k lj lk e. let n = t.named in n.apart j k (subst (λ z. j < z) many lj) (subst (λ z. k < z) many lk) e;
+    begun = λ k low.
+        let f = b.frames in
+        let a = get_some f.items k (subst (λ z. k < z) many low) in
+        let h = t.here k a.0 a.1 in
+        (h.0, h.1);
+    absent = λ n none. t.absent n (λ k low. none k (subst (λ z. k < z) (sym many) low));
+    left = leaves_by code p inputs name b s t shown.outcome (sym outcome);
+  }
+
+-- ---- a whole list
+
+module _ (code : CodeView) (p : Source) (inputs : List ℤ) (workers : ℕ) (m : Machine) where
+  pub opened_at : (let c = m.code in c.now ≡ code) → (let i = m.input in i.now ≡ inputs) → HasOpened code p inputs m.board (workers - 1) → (h : IsAt m p) × (IsFirst p inputs h.state × (h.desk ≡ first_desk (workers - 1)))
+  opened_at e d o =
+      let i = m.input in
+      subst (λ (x : CodeView). (h : HasReached x p i.now m.board) × (IsFirst p inputs h.state × (h.desk ≡ first_desk (workers - 1)))) (sym e)
+      (subst (λ (y : List ℤ). (h : HasReached code p y m.board) × (IsFirst p inputs h.state × (h.desk ≡ first_desk (workers - 1)))) (sym d)
+      (record { steps = []; state = o.state; reaches = (o.state, o.first, refl); name = λ n. []; desk = first_desk (workers - 1); shows = o.shows }, (o.first, refl)))
+
+  pub played_by : (choices : List Choice) (m' : Machine) (shown : Shown) → IsCodeOf p code → (let c = m.code in c.now ≡ code) → (let i = m.input in i.now ≡ inputs) → HasOpened code p inputs m.board (workers - 1) → LeadOn choices m m'
+      → (let b = m'.board in shown.outcome ≡ b.outcome) → (let l = shown.frames in let b = m'.board in let f = b.frames in links_in l.items ≡ links_of f.items) → IsPlayed p inputs workers choices shown
+  played_by choices m' shown is e d o led outcome links =
+      let i = m.input in
+      let c' = m'.code in
+      let i' = m'.input in
+      let a = opened_at e d o in
+      let h = a.0 in
+      let r = led.reached p (subst (λ (x : CodeView). IsCodeOf p x) (sym e) is) h in
+      let x = r.0 in
+      let y = x.shows in
+      record {
+        first = h.state;
+        opens = a.1.0;
+        state = x.state;
+        desk = x.desk;
+        led = subst (λ z. ChoicesLead p inputs choices h.state z x.state x.desk) a.1.1 (subst (λ (z : List ℤ). ChoicesLead p z choices h.state h.desk x.state x.desk) d r.1);
+        name = x.name;
+        shows = shows_state c'.now p i'.now x.name m'.board x.state y.tells shown outcome links;
+      }
+
+  -- a stop that is told with its strand's name
+  pub stopped_by : (choices : List Choice) (m' : Machine) (stop : Stop) (list : List ℕ) → IsCodeOf p code → (let c = m.code in c.now ≡ code) → (let i = m.input in i.now ≡ inputs) → HasOpened code p inputs m.board (workers - 1)
+      → HaltAt choices m m' stop → (stop ≡ stops.Memory → list ≡ [])
+      → ((q : Source) (fault : _) (strand : _) → stop ≡ stops.At fault strand → (h : HasFault (let c = m'.code in c.now) q (let i = m'.input in i.now) m'.board fault strand) → NamesStop h.state list) → IsStop p inputs workers choices stop list
+  stopped_by choices m' (stops.At fault strand) list is e d o halt no_name names =
+      let i = m.input in
+      let i' = m'.input in
+      let a = opened_at e d o in
+      let h = a.0 in
+      let r = halt.halted p (subst (λ (x : CodeView). IsCodeOf p x) (sym e) is) h in
+      let f = r.0 in
+      let at = f.is_stopped in
+      let same : i'.now ≡ inputs = ap (λ (z : Bor (List ℤ)). z.now) halt.input ∙ d in (
+        h.state,
+        f.state,
+        f.name at.place,
+        a.1.0,
+        subst (λ z. ChoicesStop p inputs choices h.state z f.state) a.1.1 (subst (λ (z : List ℤ). ChoicesStop p z choices h.state h.desk f.state) same r.1),
+        at.stopped,
+        subst (λ z. MatchOption z (list ≡ []) (λ s. list ≡ s.frame ++ s.strand ∷ [])) at.stopped (names p fault strand refl f),
+      )
+  stopped_by choices m' stops.Memory list is e d o halt no_name names = no_name refl

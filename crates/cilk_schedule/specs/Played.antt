@@ -1,0 +1,104 @@
+-- A list of choices: where they lead, one after another, how they stop the run, and what is shown of it.
+use Rattle.std.specs.Prelude.{◌≡◌, ◌⊎◌, ◌-◌, ◌<◌, ℕ, suc, ℤ, List, [], ◌∷◌, ◌++◌, length, slice_get, Option, Some, None}
+use Rattle.cilk_types.specs.declared.outcome.Outcome.{Outcome}
+use Rattle.cilk_program.specs.Syntax.{Source}
+use Rattle.cilk_lower.specs.Code.{CodeView}
+use Rattle.cilk_runs.specs.Machine.{Frame, State}
+use Rattle.cilk_runs.specs.Runs.{Name}
+use Rattle.cilk_worlds.specs.Reducers.{View}
+use Rattle.cilk_worlds.specs.Steps.{IsFirst, Reaches, outcome_in}
+use Rattle.cilk_worlds.specs.Worlds.{World}
+use Rattle.cilk_board.specs.Desks.{Chooses, Comes, Desk, IsOver, StopsAt}
+use Rattle.cilk_board.specs.Openings.{first_desk}
+use Rattle.cilk_board.specs.declared.board.Board.{Board}
+use Rattle.cilk_board.specs.declared.choice.Choice.{Choice}
+use Rattle.cilk_board.specs.declared.choice.Stop.{Stop}
+use Rattle.cilk_board.specs.declared.choice.Stop.TheVariants as stops
+use Rattle.cilk_schedule.specs.Deciding.{Agree, IsGoing}
+use Rattle.cilk_schedule.specs.Faults.{HasFault}
+use Rattle.cilk_schedule.specs.Reached.{HasReached}
+use Rattle.cilk_schedule.specs.Sound.{IsCodeOf, Runs}
+use Rattle.cilk_schedule.specs.declared.machine.Machine.{Machine}
+use Rattle.cilk_schedule.specs.declared.showing.Shown.{Shown}
+use Rattle.cilk_schedule.specs.declared.showing.ShownFrame.{ShownFrame}
+
+module _ (p : Source) (inputs : List ℤ) where
+  -- These choices, one after another, lead from a state and a desk of the free machine to these.
+  abbrev pub ChoicesLead : List Choice → State World View → Desk → State World View → Desk → Type 0
+  ChoicesLead [] s d s' d' = (s' ≡ s) × (d' ≡ d)
+  ChoicesLead (choice ∷ choices) s d s' d' = (told : Comes) × (t : State World View) × (e : Desk) × Chooses p inputs s d choice told t e × ChoicesLead choices t e s' d'
+
+  -- One of these choices stops the run in this state, and those before it lead there.
+  abbrev pub ChoicesStop : List Choice → State World View → Desk → State World View → Type 0
+  ChoicesStop [] s d s' = ⊥
+  ChoicesStop (choice ∷ choices) s d s' =
+      StopsAt p inputs s d choice s' ⊎ ((told : Comes) × (t : State World View) × (e : Desk) × Chooses p inputs s d choice told t e × ChoicesStop choices t e s')
+
+  -- A list of choices has one end: it leads to one state and one desk, up to the views of frames that haven't begun, or it stops the run in one
+  -- strand by one fault, and not both. Steps of the free machine lead there.
+  pub record ListsDecide : Type 0 where
+    pub goes_on : (choices : List Choice) (s s' : State World View) (d d' : Desk) → IsGoing p inputs s → ChoicesLead choices s d s' d' → IsGoing p inputs s'
+    pub halts : (choices : List Choice) (s s' : State World View) (d : Desk) → IsGoing p inputs s → ChoicesStop choices s d s' → (ns : List Name) × Reaches p inputs ns s'
+    pub leads : (choices : List Choice) (s t s' t' : State World View) (d d' d'' : Desk) → IsGoing p inputs s → Agree s t → ChoicesLead choices s d s' d' → ChoicesLead choices t d t' d'' → (d'' ≡ d') × Agree s' t'
+    pub stops : (choices : List Choice) (s t s' t' : State World View) (d : Desk) → IsGoing p inputs s → Agree s t → ChoicesStop choices s d s' → ChoicesStop choices t d t' → t'.stopped ≡ s'.stopped
+    pub apart : (choices : List Choice) (s t s' t' : State World View) (d d' : Desk) → IsGoing p inputs s → Agree s t → ChoicesStop choices s d s' → ChoicesLead choices t d t' d' → ⊥
+
+-- what a state leaves: an outcome, once the first frame has ended
+abbrev pub Leaves : Source → State World View → Option Outcome → Type 0
+Leaves p s None = ¬ (IsOver s)
+Leaves p s (Some o) = IsOver s × (o ≡ outcome_in p s)
+
+-- What is shown of a state, by the names of frames: each frame that has begun, in the order in which they began, the first the root and each other
+-- known by an earlier one, its parent, and its ordinal there; and the outcome.
+pub record ShowsState (p : Source) (name : ℕ → Name) (s : State World View) (shown : Shown) : Type 0 where
+  pub root : name 0 ≡ []
+  pub child : (k : ℕ) (f : ShownFrame) → (let l = shown.frames in slice_get l.items (suc k) ≡ Some f) → let x = f.link in (x.parent < suc k) × (name (suc k) ≡ name x.parent ++ x.ordinal ∷ [])
+  pub apart : (j k : ℕ) → (let l = shown.frames in j < length l.items) → (let l = shown.frames in k < length l.items) → name j ≡ name k → j ≡ k
+  pub begun : (k : ℕ) → (let l = shown.frames in k < length l.items) → (f : Frame World) × (s.frames (name k) ≡ Some f)
+  pub absent : (n : Name) → ((k : ℕ) → (let l = shown.frames in k < length l.items) → name k ≡ n → ⊥) → s.frames n ≡ None
+  pub left : Leaves p s shown.outcome
+
+-- What is shown is the state to which the choices lead from the opening one, in which the first of so many workers has the first frame.
+pub record IsPlayed (p : Source) (inputs : List ℤ) (workers : ℕ) (choices : List Choice) (shown : Shown) : Type 0 where
+  pub first : State World View
+  pub opens : IsFirst p inputs first
+  pub state : State World View
+  pub desk : Desk
+  pub led : ChoicesLead p inputs choices first (first_desk (workers - 1)) state desk
+  pub name : ℕ → Name
+  pub shows : ShowsState p name state shown
+
+-- The choices stop the run from the opening state by this fault, in the strand of this name: its frame's name, and then its number in its frame. A
+-- want of memory has no name.
+abbrev pub IsStop : Source → List ℤ → ℕ → List Choice → Stop → List ℕ → Type 0
+IsStop p inputs workers choices (stops.At fault strand) list =
+    (first : State World View) × (s : State World View) × (n : Name) × IsFirst p inputs first × ChoicesStop p inputs choices first (first_desk (workers - 1)) s × (s.stopped ≡ Some (record { frame = n; strand = strand.number; fault = fault }))
+    × (list ≡ n ++ strand.number ∷ [])
+IsStop p inputs workers choices stops.Memory list = list ≡ []
+
+-- ---- of a machine
+
+-- nothing has stopped it
+abbrev pub IsUnstopped : Machine → Type 0
+IsUnstopped m = (let b = m.board in b.stopped ≡ None) × Runs (let c = m.code in c.now) (let i = m.input in i.now) m.board
+
+-- steps lead to a state that its board shows
+abbrev pub IsAt : Machine → Source → Type 0
+IsAt m p = HasReached (let c = m.code in c.now) p (let i = m.input in i.now) m.board
+
+-- From each state that its board showed these choices lead to one that it shows.
+pub record LeadOn (choices : List Choice) (m m' : Machine) : Type 0 where
+  pub code : m'.code ≡ m.code
+  pub input : m'.input ≡ m.input
+  pub reached : (p : Source) → IsCodeOf p (let c = m.code in c.now) → (h : IsAt m p) → (h' : IsAt m' p) × ChoicesLead p (let i = m.input in i.now) choices h.state h.desk h'.state h'.desk
+
+-- the choices stop the run, from a state that was shown, at one that the board tells
+abbrev pub StopFrom : (code : CodeView) (p : Source) (inputs : List ℤ) → List Choice → State World View → Desk → Board → Stop → Type 0
+StopFrom code p inputs choices s d b (stops.At fault strand) = (f : HasFault code p inputs b fault strand) × ChoicesStop p inputs choices s d f.state
+StopFrom code p inputs choices s d b stops.Memory = Unit {0}
+
+-- From each state that its board showed these choices stop the run.
+pub record HaltAt (choices : List Choice) (m m' : Machine) (stop : Stop) : Type 0 where
+  pub code : m'.code ≡ m.code
+  pub input : m'.input ≡ m.input
+  pub halted : (p : Source) → IsCodeOf p (let c = m.code in c.now) → (h : IsAt m p) → StopFrom (let c = m'.code in c.now) p (let i = m'.input in i.now) choices h.state h.desk m'.board stop
