@@ -1,7 +1,6 @@
 -- A machine that goes on, and the states that its board shows.
 --
 -- - `leads_same`, `leads_on`, `leads_ahead`, `comes_later`, `comes_ahead`: one after the other;
--- - `at_moved`: of a machine with the same code and input;
 -- - `leads_chosen`, `refused_at`: a choice is made, or stops the run;
 -- - `leads_turned`, `comes_turned`, `leads_turn`, `comes_turn`: turns; `over_rounds`, `begun_rounds`, `done_rounds`: rounds;
 -- - `passes`: a line's choices would go past the limit.
@@ -29,12 +28,14 @@ use Rattle.cilk_board.specs.declared.choice.Told.{Told}
 use Rattle.cilk_board.specs.declared.seat.Worker.{Worker}
 use Rattle.cilk_schedule.specs.Faults.{FaultsAreStops, IsStoppedBy}
 use Rattle.cilk_schedule.specs.Machines.{OrdinalsUp}
+use Rattle.cilk_schedule.specs.Played.{IsAt}
 use Rattle.cilk_schedule.specs.Reached.{HasReached, LeadsOn, comes_of}
 use Rattle.cilk_schedule.specs.Sound.{IsCodeOf}
 use Rattle.cilk_schedule.specs.declared.machine.Machine.{Machine}
 use Rattle.cilk_schedule.proofs.DecidingNames.{leads_up}
 use Rattle.cilk_schedule.proofs.Leading.{reached_of}
-use Rattle.cilk_play.specs.Playing.{Choose, ComesToFault, Follows, IsAt, IsFault, IsFaultOf, IsNameIn, Leads, Pass, Passes, Plays, Rounds, Task, Turn, has_frame, is_busy, turn_of, turns}
+use Rattle.cilk_schedule.proofs.Played.{at_moved}
+use Rattle.cilk_play.specs.Playing.{Choose, ComesToFault, Follows, IsFault, IsFaultOf, IsNameIn, Leads, Pass, Passes, Plays, Rounds, Task, Turn, has_frame, is_busy, turn_of, turns}
 use Rattle.cilk_play.specs.declared.fault.PlayFault.{PlayFault}
 use Rattle.cilk_play.specs.declared.fault.PlayFault.TheVariants as faults
 use Rattle.cilk_play.proofs.Following.{all_ahead, all_fail_ahead, chosen, fails_later, follows_on, refused, round_begins, rounds_ended, rounds_enough, turn_fails, turned, turns_more}
@@ -86,12 +87,6 @@ pub comes_ahead : (workers : ℕ) (tasks behind : List Task) (m : Machine) (f : 
 comes_ahead workers tasks behind m f h = λ p is r. let i = m.input in all_fail_ahead p i.now workers tasks behind r.state r.desk f (h p is r)
 
 -- ---- a choice
-
--- a state and a desk that a board shows, of the same code and input
-pub at_moved : (c c' : Bor CodeView) (i i' : Bor (List ℤ)) → c' ≡ c → i' ≡ i → (p : Source) (b : Board) (Q : State World View → Desk → Type 0) → (h : HasReached c.now p i.now b) × Q h.state h.desk → (h' : HasReached c'.now p i'.now b) × Q h'.state h'.desk
-at_moved c c' i i' e d p b Q r =
-    subst (λ (x : Bor CodeView). (h : HasReached x.now p i'.now b) × Q h.state h.desk) (sym e)
-    (subst (λ (y : Bor (List ℤ)). (h : HasReached c.now p y.now b) × Q h.state h.desk) (sym d) r)
 
 pub leads_chosen : (workers : ℕ) (m m' : Machine) (choice : Choice) (t : Told) → m'.code ≡ m.code → m'.input ≡ m.input
     → ((p : Source) → IsCodeOf p (let c = m.code in c.now) → LeadsOn (let c = m.code in c.now) p (let i = m.input in i.now) m.board m'.board choice t) → Leads workers (Choose choice ∷ []) m [] m'

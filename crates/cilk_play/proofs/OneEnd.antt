@@ -20,9 +20,10 @@ use Rattle.cilk_board.specs.Openings.{first_desk}
 use Rattle.cilk_determinacy.specs.Settled.{IsSettled}
 use Rattle.cilk_schedule.specs.Deciding.{Agree}
 use Rattle.cilk_schedule.specs.Deciding as deciding
+use Rattle.cilk_schedule.specs.Played.{Leaves}
 use Rattle.cilk_schedule.proofs.Deciding.{choices_decide}
 use Rattle.cilk_script.specs.declared.script.Step.{Step}
-use Rattle.cilk_play.specs.Playing.{Chosen, Done, End, Ended, Ends, Enough, FailsAsSettled, Finished, IsFault, IsLeft, Leaves, LeavesAsSettled, Passed, Passes, Plays, Round, SameEnd, ScriptsHaveOneEnd, Stopped, Stops, StopsBy, Task, Turns, tasks_of}
+use Rattle.cilk_play.specs.Playing.{Chosen, Done, End, Ended, Ends, Enough, FailsAsSettled, Finished, IsFault, IsLeft, LeavesAsSettled, Passed, Passes, Plays, Round, SameEnd, ScriptsHaveOneEnd, Stopped, Stops, StopsBy, Task, Turns, tasks_of}
 use Rattle.cilk_play.specs.declared.fault.PlayFault.{PlayFault}
 use Rattle.cilk_play.specs.declared.fault.PlayFault.TheVariants as faults
 

@@ -1,6 +1,5 @@
 -- A whole script, from a new machine on.
 --
--- - `opened_at`: the board of a new machine shows the opening state;
 -- - `left_by`, `failed_by`: what a script leaves, and the fault that it comes to.
 use Rattle.std.proofs.Common.{◌≡◌, ◌-◌, ℕ, ℤ, List, [], ◌∷◌, Option, Some, None, refl, sym, ◌∙◌, subst}
 use Rattle.cilk_types.specs.declared.outcome.Outcome.{Outcome}
@@ -12,28 +11,18 @@ use Rattle.cilk_board.specs.declared.board.Board.{Board}
 use Rattle.cilk_schedule.specs.Reached.{HasOpened, HasReached}
 use Rattle.cilk_schedule.specs.Sound.{IsCodeOf}
 use Rattle.cilk_schedule.specs.declared.machine.Machine.{Machine}
+use Rattle.cilk_schedule.proofs.Played.{leaves_by, opened_at}
 use Rattle.cilk_script.specs.declared.script.Step.{Step}
-use Rattle.cilk_play.specs.Playing.{ComesToFault, Done, Ends, IsAt, IsFault, IsLeft, Leads, Leaves, Plays, tasks_of}
+use Rattle.cilk_play.specs.Playing.{ComesToFault, Done, Ends, IsFault, IsLeft, Leads, Plays, tasks_of}
 use Rattle.cilk_play.specs.declared.fault.PlayFault.{PlayFault}
 use Rattle.cilk_play.proofs.Following.{fault_of, led, led_to_fault}
 
-leaves_by : (code : CodeView) (p : Source) (inputs : List ℤ) (b : Board) (h : HasReached code p inputs b) (left : Option Outcome) → b.outcome ≡ left → Leaves p h.state left
-leaves_by code p inputs b h None e = let x = h.shows in let t = x.tells in t.going e
-leaves_by code p inputs b h (Some o) e = let x = h.shows in let t = x.tells in t.over o e
-
 module _ (code : CodeView) (p : Source) (inputs : List ℤ) (workers : ℕ) (steps : List Step) (m : Machine) where
-  opened_at : (let c = m.code in c.now ≡ code) → (let i = m.input in i.now ≡ inputs) → HasOpened code p inputs m.board (workers - 1) → (h : IsAt m p) × (IsFirst p inputs h.state × (h.desk ≡ first_desk (workers - 1)))
-  opened_at e d o =
-      let i = m.input in
-      subst (λ (x : CodeView). (h : HasReached x p i.now m.board) × (IsFirst p inputs h.state × (h.desk ≡ first_desk (workers - 1)))) (sym e)
-      (subst (λ (y : List ℤ). (h : HasReached code p y m.board) × (IsFirst p inputs h.state × (h.desk ≡ first_desk (workers - 1)))) (sym d)
-      (record { steps = []; state = o.state; reaches = (o.state, o.first, refl); name = λ n. []; desk = first_desk (workers - 1); shows = o.shows }, (o.first, refl)))
-
   pub left_by : (m' : Machine) (left : Option Outcome) → IsCodeOf p code → (let c = m.code in c.now ≡ code) → (let i = m.input in i.now ≡ inputs) → HasOpened code p inputs m.board (workers - 1) → Leads workers (tasks_of steps) m [] m'
       → left ≡ (let b = m'.board in b.outcome) → IsLeft p inputs workers steps left
   left_by m' left is e d o l at =
       let i = m.input in
-      let a = opened_at e d o in
+      let a = opened_at code p inputs workers m e d o in
       let h = a.0 in
       let r = l.reached p (subst (λ (x : CodeView). IsCodeOf p x) (sym e) is) h in
       let x = r.0 in
@@ -47,13 +36,13 @@ module _ (code : CodeView) (p : Source) (inputs : List ℤ) (workers : ℕ) (ste
           a.1.0,
           subst (λ z. Plays p inputs workers (tasks_of steps) h.state z (Done x.state x.desk)) a.1.1 (subst (λ (y : List ℤ). Plays p y workers (tasks_of steps) h.state h.desk (Done x.state x.desk)) d plays),
         ),
-        leaves_by c'.now p i'.now m'.board x left (sym at),
+        (let y = x.shows in leaves_by c'.now p i'.now x.name m'.board x.state y.tells left (sym at)),
       )
 
   pub failed_by : (f : PlayFault) → IsCodeOf p code → (let c = m.code in c.now ≡ code) → (let i = m.input in i.now ≡ inputs) → HasOpened code p inputs m.board (workers - 1) → ComesToFault workers (tasks_of steps) m f → IsFault (Ends p inputs workers steps) f
   failed_by f is e d o k =
       let i = m.input in
-      let a = opened_at e d o in
+      let a = opened_at code p inputs workers m e d o in
       let h = a.0 in
       let q = led_to_fault p i.now workers (tasks_of steps) h.state h.desk f (k p (subst (λ (x : CodeView). IsCodeOf p x) (sym e) is) h) in
       fault_of (Plays p i.now workers (tasks_of steps) h.state h.desk) (Ends p inputs workers steps) f

@@ -20,8 +20,9 @@ use Rattle.cilk_board.specs.declared.choice.Stop.TheVariants as stops
 use Rattle.cilk_board.specs.declared.choice.Strand.{Strand}
 use Rattle.cilk_schedule.specs.Deciding.{Agree}
 use Rattle.cilk_schedule.specs.Machines.{OrdinalsUp}
+use Rattle.cilk_schedule.specs.Played.{IsAt, Leaves}
 use Rattle.cilk_schedule.specs.Reached.{HasReached}
-use Rattle.cilk_schedule.specs.Sound.{IsCodeOf, Runs}
+use Rattle.cilk_schedule.specs.Sound.{IsCodeOf}
 use Rattle.cilk_schedule.specs.declared.machine.Machine.{Machine}
 use Rattle.cilk_determinacy.specs.Settled.{IsSettled}
 use Rattle.cilk_determinacy.specs.Theorem.{IsAsSerial}
@@ -107,11 +108,6 @@ module _ (p : Source) (inputs : List ℤ) where
   abbrev pub ScriptsHaveOneEnd : Type 0
   ScriptsHaveOneEnd = (workers : ℕ) (steps : List Step) (e e' : End) → Ends workers steps e → Ends workers steps e' → SameEnd e e'
 
--- what a state leaves: an outcome, once the first frame has ended
-abbrev pub Leaves : Source → State World View → Option Outcome → Type 0
-Leaves p s None = ¬ (IsOver s)
-Leaves p s (Some o) = IsOver s × (o ≡ outcome_in p s)
-
 -- what the steps of a script leave, all of which are done
 abbrev pub IsLeft : Source → List ℤ → ℕ → List Step → Option Outcome → Type 0
 IsLeft p inputs workers steps left = (s : State World View) × (d : Desk) × Ends p inputs workers steps (Done s d) × Leaves p s left
@@ -138,17 +134,9 @@ IsFaultOf b stop (faults.Line line) = ⊥
 IsFaultOf b stop (faults.Stop fault name) = (strand : Strand) × (stop ≡ stops.At fault strand) × IsNameIn b strand (let n = name in n.items)
 IsFaultOf b stop faults.Memory = Unit {0}
 
--- a machine that hasn't stopped
-abbrev pub IsGoing : Machine → Type 0
-IsGoing m = (let b = m.board in b.stopped ≡ None) × Runs (let c = m.code in c.now) (let i = m.input in i.now) m.board
-
 -- these tasks come down to those, from another state and desk on
 abbrev pub Follows : Source → List ℤ → ℕ → List Task → State World View → Desk → List Task → State World View → Desk → Type 0
 Follows p inputs workers tasks s d left s' d' = (rest : List Task) (e : End) → Plays p inputs workers (left ++ rest) s' d' e → Plays p inputs workers (tasks ++ rest) s d e
-
--- steps lead to a state that the machine's board shows
-abbrev pub IsAt : Machine → Source → Type 0
-IsAt m p = HasReached (let c = m.code in c.now) p (let i = m.input in i.now) m.board
 
 -- The machine has its code and its input, and from each state that its board showed these tasks come down to those, from a state on that it shows.
 pub record Leads (workers : ℕ) (tasks : List Task) (m : Machine) (left : List Task) (m' : Machine) : Type 0 where

@@ -1,9 +1,10 @@
 //! A script's choices are made, one after another.
 
 ghost use Rattle.std.specs.Prelude.{◌≡◌, ◌<◌, ℕ, ◌∷◌, [], IfOk, IfErr, OnOk};
-ghost use Rattle.cilk_play.specs.Playing.{Choose, ComesToFault, Ends, FailsAsSettled, IsFault, IsFaultOf, IsGoing, IsLeft, Leads, LeavesAsSettled};
+ghost use Rattle.cilk_play.specs.Playing.{Choose, ComesToFault, Ends, FailsAsSettled, IsFault, IsFaultOf, IsLeft, Leads, LeavesAsSettled};
 ghost use Rattle.cilk_play.specs.Playing.{Rounds, Turn, task_of, tasks_of, turns};
 ghost use Rattle.cilk_program.specs.Sources.{source};
+ghost use Rattle.cilk_schedule.specs.Played.{IsUnstopped};
 
 use crate::fault::PlayFault;
 use cilk_board::choice::{Choice, Stop};
@@ -48,7 +49,7 @@ fn make_all(
     workers: u32,
     steps: &[Step],
 ) -> Result<(), PlayFault>
-    requires { IsGoing machine.old }
+    requires { IsUnstopped machine.old }
     ensures made { OnOk result (Leads workers (tasks_of steps.now) machine.old [] machine.new) }
     ensures fault { IfErr result (λ f. ComesToFault workers (tasks_of steps.now) machine.old f) }
 {
@@ -61,8 +62,8 @@ fn make_all(
 
 // What comes next of a script.
 fn make(alloc: Global, machine: &mut Machine<'_>, workers: u32, next: Next) -> Result<(), PlayFault>
-    requires { IsGoing machine.old }
-    ensures going { OnOk result (IsGoing machine.new) }
+    requires { IsUnstopped machine.old }
+    ensures going { OnOk result (IsUnstopped machine.new) }
     ensures made { OnOk result (Leads workers (task_of next ∷ []) machine.old [] machine.new) }
     ensures fault { IfErr result (λ f. ComesToFault workers (task_of next ∷ []) machine.old f) }
 {
@@ -76,8 +77,8 @@ fn make(alloc: Global, machine: &mut Machine<'_>, workers: u32, next: Next) -> R
 
 // Rounds of all workers until the run has ended.
 fn rounds(alloc: Global, machine: &mut Machine<'_>, workers: u32) -> Result<(), PlayFault>
-    requires { IsGoing machine.old }
-    ensures going { OnOk result (IsGoing machine.new) }
+    requires { IsUnstopped machine.old }
+    ensures going { OnOk result (IsUnstopped machine.new) }
     ensures made { OnOk result (Leads workers (Rounds MAX_ROUNDS ∷ []) machine.old [] machine.new) }
     ensures fault { IfErr result (λ f. ComesToFault workers (Rounds MAX_ROUNDS ∷ []) machine.old f) }
 {
@@ -92,8 +93,8 @@ fn rounds(alloc: Global, machine: &mut Machine<'_>, workers: u32) -> Result<(), 
 
 // One round: each worker's turn, from the first on.
 fn round(alloc: Global, machine: &mut Machine<'_>, workers: u32) -> Result<(), PlayFault>
-    requires { IsGoing machine.old }
-    ensures going { OnOk result (IsGoing machine.new) }
+    requires { IsUnstopped machine.old }
+    ensures going { OnOk result (IsUnstopped machine.new) }
     ensures made { OnOk result (Leads workers (turns 1 workers) machine.old [] machine.new) }
     ensures fault { IfErr result (λ f. ComesToFault workers (turns 1 workers) machine.old f) }
 {
@@ -105,8 +106,8 @@ fn round(alloc: Global, machine: &mut Machine<'_>, workers: u32) -> Result<(), P
 
 // A worker's turn: it goes on with its frame, or takes the first continuation that is offered.
 fn turn(alloc: Global, machine: &mut Machine<'_>, worker: u32) -> Result<(), PlayFault>
-    requires { IsGoing machine.old }
-    ensures going { OnOk result (IsGoing machine.new) }
+    requires { IsUnstopped machine.old }
+    ensures going { OnOk result (IsUnstopped machine.new) }
     ensures made { OnOk result ((workers : ℕ) → Leads workers (Turn worker ∷ []) machine.old [] machine.new) }
     ensures fault { IfErr result (λ f. (workers : ℕ) → ComesToFault workers (Turn worker ∷ []) machine.old f) }
 {
@@ -120,8 +121,8 @@ fn turn(alloc: Global, machine: &mut Machine<'_>, worker: u32) -> Result<(), Pla
 
 // A choice. A stop is told with the name of its strand.
 fn choose(alloc: Global, machine: &mut Machine<'_>, choice: Choice) -> Result<(), PlayFault>
-    requires { IsGoing machine.old }
-    ensures going { OnOk result (IsGoing machine.new) }
+    requires { IsUnstopped machine.old }
+    ensures going { OnOk result (IsUnstopped machine.new) }
     ensures made { OnOk result ((workers : ℕ) → Leads workers (Choose choice ∷ []) machine.old [] machine.new) }
     ensures fault { IfErr result (λ f. (workers : ℕ) → ComesToFault workers (Choose choice ∷ []) machine.old f) }
 {

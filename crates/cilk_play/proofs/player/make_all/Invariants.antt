@@ -1,12 +1,13 @@
 use Rattle.std.proofs.Common.{length}
 use Rattle.std.specs.Prelude.{map}
 use Rattle.cilk_script.specs.Choices.{choices_left}
-use Rattle.cilk_play.specs.Playing.{IsGoing, Leads, task_of, tasks_of}
+use Rattle.cilk_schedule.specs.Played.{IsUnstopped}
+use Rattle.cilk_play.specs.Playing.{Leads, task_of, tasks_of}
 use Rattle.cilk_play.proofs.player.make_all.Given as goal
 
 abbrev pub invariant-choices : goal.invariant-choices
 invariant-choices l = record {
-  going : IsGoing l.machine;
+  going : IsUnstopped l.machine;
   led : Leads l.workers (tasks_of l.steps) l.fn.machine (map task_of (choices_left l.choices)) l.machine;
 }
 
