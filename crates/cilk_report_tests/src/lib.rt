@@ -5,3 +5,7 @@
 mod explained;
 #[cfg(test)]
 mod folder;
+#[cfg(test)]
+mod numbers;
+#[cfg(test)]
+mod told;
