@@ -1,0 +1,7 @@
+pub mod Joined
+pub mod Links
+pub mod Linked
+pub mod Owners
+pub mod Paths
+pub mod Places
+pub mod Shows
