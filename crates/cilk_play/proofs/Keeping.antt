@@ -5,7 +5,7 @@
 -- - `leads_turned`, `comes_turned`, `leads_turn`, `comes_turn`: turns; `over_rounds`, `begun_rounds`, `done_rounds`: rounds;
 -- - `passes`: a line's choices would go past the limit.
 use Rattle.std.proofs.Common.{◌≡◌, ◌+◌, ◌-◌, ◌≤◌, ◌<◌, ℕ, zero, suc, Bool, true, false, true≢false, ℤ, List, [], ◌∷◌, ◌++◌, length, map, slice_get, Option, Some, None, refl, sym, ap, ◌∙◌, subst, arith, Bor}
-use Rattle.std.specs.Prelude.{if◌then◌else◌, reverse}
+use Rattle.std.specs.Prelude.{if◌then◌else◌}
 use Rattle.std.specs.Option.{is_some, option_map}
 use Rattle.std.proofs.lemmas.Option.{slice_get-map}
 use Rattle.cilk_types.specs.declared.outcome.Outcome.{Outcome}
@@ -27,12 +27,10 @@ use Rattle.cilk_board.specs.declared.choice.Strand.{Strand}
 use Rattle.cilk_board.specs.declared.choice.Told.{Told}
 use Rattle.cilk_board.specs.declared.seat.Worker.{Worker}
 use Rattle.cilk_schedule.specs.Faults.{FaultsAreStops, IsStoppedBy}
-use Rattle.cilk_schedule.specs.Machines.{OrdinalsUp}
 use Rattle.cilk_schedule.specs.Played.{IsAt}
 use Rattle.cilk_schedule.specs.Reached.{HasReached, LeadsOn, comes_of}
 use Rattle.cilk_schedule.specs.Sound.{IsCodeOf}
 use Rattle.cilk_schedule.specs.declared.machine.Machine.{Machine}
-use Rattle.cilk_schedule.proofs.DecidingNames.{leads_up}
 use Rattle.cilk_schedule.proofs.Leading.{reached_of}
 use Rattle.cilk_schedule.proofs.Played.{at_moved}
 use Rattle.cilk_play.specs.Playing.{Choose, ComesToFault, Follows, IsFault, IsFaultOf, IsNameIn, Leads, Pass, Passes, Plays, Rounds, Task, Turn, has_frame, is_busy, turn_of, turns}
@@ -109,16 +107,7 @@ module _ (workers : ℕ) (m m' : Machine) (choice : Choice) (stop : stopping.Sto
   -- the name of the strand, by the board
   name_is : (code : CodeView) (p : Source) (inputs : List ℤ) (name : ℕ → Name) (fault : _) (strand : Strand) (s : State World View) (told : List ℕ) → (q : IsStoppedBy code p inputs name m'.board fault strand s) → IsNameIn m'.board strand told
       → told ≡ name q.place ++ strand.number ∷ []
-  name_is code p inputs name fault strand s told q is =
-      let b = m'.board in
-      let f = b.frames in
-      let t = q.tells in
-      let way = leads_up f.items name t.named q.place q.here in
-      let few = way.3 in
-      let low = q.here in
-      let at = q.frame in
-      let same : q.place ≡ strand.frame - 1 = omega (arith, at) in
-      is way.0 (subst (λ k. OrdinalsUp f.items k way.0) same way.1) (omega (arith, few, low)) ∙ ap (λ l. l ++ strand.number ∷ []) way.2
+  name_is code p inputs name fault strand s told q is = let t = q.tells in is name q.place q.frame t.named q.here
 
   pub refused_at : (f : PlayFault) → Faults stop → IsFaultOf m'.board stop f → ComesToFault workers (Choose choice ∷ []) m f
   refused_at (faults.Line line) h k = absurd k

@@ -1,5 +1,5 @@
 -- What a script makes of a program's run.
-use Rattle.std.specs.Prelude.{◌≡◌, ◌-◌, ◌≤◌, ℕ, zero, suc, ℤ, Bool, true, false, if◌then◌else◌, List, [], ◌∷◌, ◌++◌, length, map, reverse, slice_get, None, Some, Option, IfSome}
+use Rattle.std.specs.Prelude.{◌≡◌, ◌-◌, ◌<◌, ℕ, zero, suc, ℤ, Bool, true, false, if◌then◌else◌, List, [], ◌∷◌, ◌++◌, length, map, slice_get, None, Some, Option, IfSome}
 use Rattle.std.specs.Option.{is_some}
 use Rattle.cilk_types.specs.declared.fault.Fault.{Fault}
 use Rattle.cilk_types.specs.declared.outcome.Outcome.{Outcome}
@@ -19,7 +19,7 @@ use Rattle.cilk_board.specs.declared.choice.Stop as stopping
 use Rattle.cilk_board.specs.declared.choice.Stop.TheVariants as stops
 use Rattle.cilk_board.specs.declared.choice.Strand.{Strand}
 use Rattle.cilk_schedule.specs.Deciding.{Agree}
-use Rattle.cilk_schedule.specs.Machines.{OrdinalsUp}
+use Rattle.cilk_board.specs.Numbered.{AreNamed}
 use Rattle.cilk_schedule.specs.Played.{IsAt, Leaves}
 use Rattle.cilk_schedule.specs.Reached.{HasReached}
 use Rattle.cilk_schedule.specs.Sound.{IsCodeOf}
@@ -122,11 +122,11 @@ IsFault IsEnd (faults.Line line) = IsEnd (Passed line)
 IsFault IsEnd (faults.Stop fault name) = StopsBy IsEnd fault (let n = name in n.items)
 IsFault IsEnd faults.Memory = Unit {0}
 
--- A strand's name by what a board keeps of frames: the ordinals up from its frame, backwards, and then the strand's number.
+-- A strand's name by the names that a board's frames have: its frame's, and then the strand's number.
 abbrev pub IsNameIn : Board → Strand → List ℕ → Type 0
 IsNameIn b strand name =
-    (up : List ℕ) → OrdinalsUp (let f = b.frames in f.items) (strand.frame - 1) up → length up ≤ length (let f = b.frames in f.items)
-    → name ≡ reverse up ++ strand.number ∷ []
+    (names : ℕ → Name) (place : ℕ) → strand.frame ≡ suc place → AreNamed (let f = b.frames in f.items) names → place < length (let f = b.frames in f.items)
+    → name ≡ names place ++ strand.number ∷ []
 
 -- a fault tells of this stop at a board
 abbrev pub IsFaultOf : Board → stopping.Stop → PlayFault → Type 0

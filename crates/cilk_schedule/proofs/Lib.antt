@@ -8,7 +8,6 @@ pub mod Workers
 pub mod Accepted
 pub mod Turns
 pub mod Onward
-pub mod Paths
 pub mod Stepping
 pub mod FirstBoards
 pub mod Reaching
@@ -21,11 +20,9 @@ pub mod Parting
 pub mod Departing
 pub mod Leading
 pub mod Faults
-pub mod Links
 pub mod Standing
-pub mod Upward
 pub mod DecidingSteps
 pub mod DecidingDesks
 pub mod Deciding
-pub mod DecidingNames
 pub mod Played
+pub mod Shown

@@ -5,16 +5,12 @@
 -- - `moved`, `at_moved`: of a machine with the same code and input;
 -- - `lead_same`, `lead_more`, `halt_more`: what a machine's choices lead to;
 -- - `opened_at`: the board of a new machine shows the opening state;
--- - `leaves_by`, `shows_state`: what is shown of a state that a board tells;
+-- - `leaves_by`: what a state leaves that a board tells;
 -- - `played_by`, `stopped_by`: of a whole list.
 use Rattle.std.proofs.Common.{◌≡◌, ◌⊎◌, inl, inr, ◌-◌, ◌<◌, ℕ, suc, ℤ, List, [], ◌∷◌, ◌++◌, length, map, slice_get, Option, Some, None, refl, sym, ap, ◌∙◌, subst, Bor, MatchOption}
-use Rattle.std.specs.Option.{option_map}
-use Rattle.std.proofs.lemmas.List.{length-map}
-use Rattle.std.proofs.lemmas.Option.{slice_get-map}
 use Rattle.cilk_types.specs.declared.outcome.Outcome.{Outcome}
 use Rattle.cilk_program.specs.Syntax.{Source}
 use Rattle.cilk_lower.specs.Code.{CodeView}
-use Rattle.cilk_activations.specs.declared.activation.Activation.{Activation}
 use Rattle.cilk_runs.specs.Machine.{State}
 use Rattle.cilk_runs.specs.Runs.{Name}
 use Rattle.cilk_worlds.specs.Reducers.{View}
@@ -28,18 +24,14 @@ use Rattle.cilk_board.specs.declared.choice.Choice.{Choice}
 use Rattle.cilk_board.specs.declared.choice.Stop.{Stop}
 use Rattle.cilk_board.specs.declared.choice.Stop.TheVariants as stops
 use Rattle.cilk_board.specs.declared.choice.Told.{Told}
-use Rattle.cilk_board.specs.declared.seat.Seat.{Seat}
-use Rattle.cilk_board.proofs.Placed.{get_some}
+use Rattle.cilk_shown.specs.declared.showing.Shown.{Shown}
 use Rattle.cilk_schedule.specs.Deciding.{Agree, IsGoing}
 use Rattle.cilk_schedule.specs.Faults.{HasFault, NamesStop, StopsFrom}
-use Rattle.cilk_schedule.specs.Links.{link_of, links_in, links_of}
-use Rattle.cilk_schedule.specs.Played.{ChoicesLead, ChoicesStop, HaltAt, IsAt, IsPlayed, IsStop, LeadOn, Leaves, ListsDecide, ShowsState, StopFrom}
+use Rattle.cilk_schedule.specs.Played.{ChoicesLead, ChoicesStop, HaltAt, IsAt, IsPlayed, IsStop, LeadOn, Leaves, ListsDecide, StopFrom}
 use Rattle.cilk_schedule.specs.Reached.{HasOpened, HasReached, LeadsOn, comes_of}
+use Rattle.cilk_schedule.specs.Shown.{ShowsReached}
 use Rattle.cilk_schedule.specs.Sound.{IsCodeOf}
 use Rattle.cilk_schedule.specs.declared.machine.Machine.{Machine}
-use Rattle.cilk_schedule.specs.declared.showing.Link.{Link}
-use Rattle.cilk_schedule.specs.declared.showing.Shown.{Shown}
-use Rattle.cilk_schedule.specs.declared.showing.ShownFrame.{ShownFrame}
 use Rattle.cilk_schedule.proofs.Deciding.{choices_decide}
 
 -- ---- one after another
@@ -146,51 +138,11 @@ module _ (done : List Choice) (choice : Choice) (l m m' : Machine) (first : Lead
   pub halt_more : (rest : List Choice) (stop : Stop) → Stops stop → HaltAt (done ++ choice ∷ rest) l m' stop
   halt_more rest stop halts = record { code = same_code ∙ first.code; input = same_input ∙ first.input; halted = stops_from rest stop halts }
 
--- ---- what is shown
+-- ---- what is left
 
 pub leaves_by : (code : CodeView) (p : Source) (inputs : List ℤ) (name : ℕ → Name) (b : Board) (s : State World View) → Tells code p inputs name b s → (left : Option Outcome) → b.outcome ≡ left → Leaves p s left
 leaves_by code p inputs name b s t None e = t.going e
 leaves_by code p inputs name b s t (Some o) e = t.over o e
-
-some_is : {A : Type 0} (x y : A) → Some x ≡ Some y → x ≡ y
-some_is x y e = cc
-
-module _ (code : CodeView) (p : Source) (inputs : List ℤ) (name : ℕ → Name) (b : Board) (s : State World View) (t : Tells code p inputs name b s) (shown : Shown) (outcome : shown.outcome ≡ b.outcome)
-    (links : (let l = shown.frames in let f = b.frames in links_in l.items ≡ links_of f.items)) where
-  many : (let l = shown.frames in let f = b.frames in length l.items ≡ length f.items)
-  many =
-      let l = shown.frames in
-      let f = b.frames in
-      sym (length-map l.items (λ (x : ShownFrame). x.link)) ∙ ap (λ (z : List Link). length z) links ∙ length-map f.items link_of
-
-  -- the frame that stands at a place on the board has the link that is shown
-  linked : (k : ℕ) (x : ShownFrame) → (let l = shown.frames in slice_get l.items k ≡ Some x) → (a : Activation Seat) × (let f = b.frames in slice_get f.items k ≡ Some a) × (x.link ≡ link_of a)
-  linked k x at =
-      let l = shown.frames in
-      let f = b.frames in
-      by (slice_get f.items k) refl
-      (sym (slice_get-map link_of f.items k) ∙ ap (λ (z : List Link). slice_get z k) (sym links) ∙ slice_get-map (λ (y : ShownFrame). y.link) l.items k ∙ ap (λ (o : Option ShownFrame). option_map (λ (y : ShownFrame). y.link) o) at)
-    where
-      by : (o : Option (Activation Seat)) → (let f = b.frames in slice_get f.items k ≡ o) → option_map link_of o ≡ Some x.link → (a : Activation Seat) × (let f = b.frames in slice_get f.items k ≡ Some a) × (x.link ≡ link_of a)
-      by None e h = let no : None ≡ Some x.link = h in cc
-      by (Some a) e h = (a, e, sym (some_is (link_of a) x.link h))
-
-  pub shows_state : ShowsState p name s shown
-  shows_state = record {
-    root = let n = t.named in n.root;
-    child = λ k x at.
-        let n = t.named in
-        let r = linked (suc k) x at in
-        subst (λ (z : Link). (z.parent < suc k) × (name (suc k) ≡ name z.parent ++ z.ordinal ∷ [])) (sym r.2) (n.child k r.0 r.1);
-    apart = λ j k lj lk e. let n = t.named in n.apart j k (subst (λ z. j < z) many lj) (subst (λ z. k < z) many lk) e;
-    begun = λ k low.
-        let f = b.frames in
-        let a = get_some f.items k (subst (λ z. k < z) many low) in
-        let h = t.here k a.0 a.1 in
-        (h.0, h.1);
-    absent = λ n none. t.absent n (λ k low. none k (subst (λ z. k < z) (sym many) low));
-    left = leaves_by code p inputs name b s t shown.outcome (sym outcome);
-  }
 
 -- ---- a whole list
 
@@ -203,14 +155,13 @@ module _ (code : CodeView) (p : Source) (inputs : List ℤ) (workers : ℕ) (m :
       (record { steps = []; state = o.state; reaches = (o.state, o.first, refl); name = λ n. []; desk = first_desk (workers - 1); shows = o.shows }, (o.first, refl)))
 
   pub played_by : (choices : List Choice) (m' : Machine) (shown : Shown) → IsCodeOf p code → (let c = m.code in c.now ≡ code) → (let i = m.input in i.now ≡ inputs) → HasOpened code p inputs m.board (workers - 1) → LeadOn choices m m'
-      → (let b = m'.board in shown.outcome ≡ b.outcome) → (let l = shown.frames in let b = m'.board in let f = b.frames in links_in l.items ≡ links_of f.items) → IsPlayed p inputs workers choices shown
-  played_by choices m' shown is e d o led outcome links =
+      → ShowsReached (let c = m'.code in c.now) (let i = m'.input in i.now) m'.board shown → IsPlayed p inputs workers choices shown
+  played_by choices m' shown is e d o led run =
       let i = m.input in
-      let c' = m'.code in
-      let i' = m'.input in
       let a = opened_at e d o in
       let h = a.0 in
-      let r = led.reached p (subst (λ (x : CodeView). IsCodeOf p x) (sym e) is) h in
+      let of_code = subst (λ (x : CodeView). IsCodeOf p x) (sym e) is in
+      let r = led.reached p of_code h in
       let x = r.0 in
       let y = x.shows in
       record {
@@ -220,7 +171,7 @@ module _ (code : CodeView) (p : Source) (inputs : List ℤ) (workers : ℕ) (m :
         desk = x.desk;
         led = subst (λ z. ChoicesLead p inputs choices h.state z x.state x.desk) a.1.1 (subst (λ (z : List ℤ). ChoicesLead p z choices h.state h.desk x.state x.desk) d r.1);
         name = x.name;
-        shows = shows_state c'.now p i'.now x.name m'.board x.state y.tells shown outcome links;
+        shows = run p x.steps x.name x.state (subst (λ (c : Bor CodeView). IsCodeOf p c.now) (sym led.code) of_code) x.reaches y.tells;
       }
 
   -- a stop that is told with its strand's name

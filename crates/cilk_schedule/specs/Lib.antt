@@ -1,5 +1,4 @@
 pub mod Sound
-pub mod Machines
 pub mod Choices
 pub mod Acts
 pub mod Reached
@@ -7,6 +6,6 @@ pub mod Starting
 pub mod Passing
 pub mod Ends
 pub mod Faults
-pub mod Links
 pub mod Deciding
 pub mod Played
+pub mod Shown

@@ -1,9 +1,9 @@
 -- A list of choices: where they lead, one after another, how they stop the run, and what is shown of it.
-use Rattle.std.specs.Prelude.{◌≡◌, ◌⊎◌, ◌-◌, ◌<◌, ℕ, suc, ℤ, List, [], ◌∷◌, ◌++◌, length, slice_get, Option, Some, None}
+use Rattle.std.specs.Prelude.{◌≡◌, ◌⊎◌, ◌-◌, ℕ, ℤ, List, [], ◌∷◌, ◌++◌, Option, Some, None}
 use Rattle.cilk_types.specs.declared.outcome.Outcome.{Outcome}
 use Rattle.cilk_program.specs.Syntax.{Source}
 use Rattle.cilk_lower.specs.Code.{CodeView}
-use Rattle.cilk_runs.specs.Machine.{Frame, State}
+use Rattle.cilk_runs.specs.Machine.{State}
 use Rattle.cilk_runs.specs.Runs.{Name}
 use Rattle.cilk_worlds.specs.Reducers.{View}
 use Rattle.cilk_worlds.specs.Steps.{IsFirst, Reaches, outcome_in}
@@ -14,13 +14,13 @@ use Rattle.cilk_board.specs.declared.board.Board.{Board}
 use Rattle.cilk_board.specs.declared.choice.Choice.{Choice}
 use Rattle.cilk_board.specs.declared.choice.Stop.{Stop}
 use Rattle.cilk_board.specs.declared.choice.Stop.TheVariants as stops
+use Rattle.cilk_shown.specs.Showing.{ShowsRun}
+use Rattle.cilk_shown.specs.declared.showing.Shown.{Shown}
 use Rattle.cilk_schedule.specs.Deciding.{Agree, IsGoing}
 use Rattle.cilk_schedule.specs.Faults.{HasFault}
 use Rattle.cilk_schedule.specs.Reached.{HasReached}
 use Rattle.cilk_schedule.specs.Sound.{IsCodeOf, Runs}
 use Rattle.cilk_schedule.specs.declared.machine.Machine.{Machine}
-use Rattle.cilk_schedule.specs.declared.showing.Shown.{Shown}
-use Rattle.cilk_schedule.specs.declared.showing.ShownFrame.{ShownFrame}
 
 module _ (p : Source) (inputs : List ℤ) where
   -- These choices, one after another, lead from a state and a desk of the free machine to these.
@@ -48,16 +48,6 @@ abbrev pub Leaves : Source → State World View → Option Outcome → Type 0
 Leaves p s None = ¬ (IsOver s)
 Leaves p s (Some o) = IsOver s × (o ≡ outcome_in p s)
 
--- What is shown of a state, by the names of frames: each frame that has begun, in the order in which they began, the first the root and each other
--- known by an earlier one, its parent, and its ordinal there; and the outcome.
-pub record ShowsState (p : Source) (name : ℕ → Name) (s : State World View) (shown : Shown) : Type 0 where
-  pub root : name 0 ≡ []
-  pub child : (k : ℕ) (f : ShownFrame) → (let l = shown.frames in slice_get l.items (suc k) ≡ Some f) → let x = f.link in (x.parent < suc k) × (name (suc k) ≡ name x.parent ++ x.ordinal ∷ [])
-  pub apart : (j k : ℕ) → (let l = shown.frames in j < length l.items) → (let l = shown.frames in k < length l.items) → name j ≡ name k → j ≡ k
-  pub begun : (k : ℕ) → (let l = shown.frames in k < length l.items) → (f : Frame World) × (s.frames (name k) ≡ Some f)
-  pub absent : (n : Name) → ((k : ℕ) → (let l = shown.frames in k < length l.items) → name k ≡ n → ⊥) → s.frames n ≡ None
-  pub left : Leaves p s shown.outcome
-
 -- What is shown is the state to which the choices lead from the opening one, in which the first of so many workers has the first frame.
 pub record IsPlayed (p : Source) (inputs : List ℤ) (workers : ℕ) (choices : List Choice) (shown : Shown) : Type 0 where
   pub first : State World View
@@ -66,7 +56,7 @@ pub record IsPlayed (p : Source) (inputs : List ℤ) (workers : ℕ) (choices : 
   pub desk : Desk
   pub led : ChoicesLead p inputs choices first (first_desk (workers - 1)) state desk
   pub name : ℕ → Name
-  pub shows : ShowsState p name state shown
+  pub shows : ShowsRun p name state shown
 
 -- The choices stop the run from the opening state by this fault, in the strand of this name: its frame's name, and then its number in its frame. A
 -- want of memory has no name.

@@ -3,7 +3,7 @@
 //! A [`machine::Machine`] has a program's code, an input and some workers. The first worker holds the first frame. A choice lets a
 //! worker go on with the frame that it holds, or take a continuation that another one offers (work stealing: Frigo, Leiserson and
 //! Randall 1998). What comes of it is an event, a steal, a wait at a sync, or nothing; or the run stops for good. [`machine::play`]
-//! makes a list of choices, and [`showing::Shown`] has what a run shows by frames: no schedule changes a frame's path.
+//! makes a list of choices, and [`cilk_shown::showing::Shown`] has what a run shows by frames: no schedule changes a frame's path.
 //!
 //! ```text
 //! let mut machine = Machine::new(alloc, &code, &input, 2)?;     // worker 1 holds the first frame
@@ -21,9 +21,7 @@ mod events;
 pub mod laws;
 pub mod machine;
 mod making;
-pub mod naming;
 mod opening;
 mod running;
-pub mod showing;
 mod starting;
 mod thieves;

@@ -1,8 +1,10 @@
 //! A machine: a program's code, its input, and workers that are told one choice after another.
 
-ghost use Rattle.std.specs.Prelude.{◌≡◌, ◌≢◌, ◌⊎◌, ◌-◌, ◌<◌, ◌≤◌, ◌++◌, ◌∷◌, [], ℕ, List, length, reverse, Err, None, Ok, Some, IfOk, IfErr, OnOk};
+ghost use Rattle.std.specs.Prelude.{◌≡◌, ◌≢◌, ◌⊎◌, ◌-◌, ◌<◌, ◌++◌, ◌∷◌, [], ℕ, suc, length, Err, None, Ok, Some, IfOk, IfErr, OnOk};
 ghost use Rattle.std.specs.Option.{is_some};
 ghost use Rattle.cilk_types.specs.declared.fault.Fault.{Fault};
+ghost use Rattle.cilk_runs.specs.Runs.{Name};
+ghost use Rattle.cilk_board.specs.Numbered.{AreNamed};
 ghost use Rattle.cilk_board.specs.Workers.{held_by};
 ghost use Rattle.cilk_board.specs.declared.choice.Stop.{Stop};
 ghost use Rattle.cilk_board.specs.declared.choice.Stop.TheVariants as stops;
@@ -11,24 +13,23 @@ ghost use Rattle.cilk_board.specs.declared.choice.Told.TheVariants as told;
 ghost use Rattle.cilk_schedule.specs.Acts.{EventsAreSteps};
 ghost use Rattle.cilk_schedule.specs.Choices.{CanChoose, Writes};
 ghost use Rattle.cilk_schedule.specs.Faults.{FaultsAreStops, HasFault, HasStopped, KeepsTold, NamesStop, StopsFrom};
-ghost use Rattle.cilk_schedule.specs.Links.{links_in, links_of};
-ghost use Rattle.cilk_schedule.specs.Machines.{OrdinalsUp};
 ghost use Rattle.cilk_schedule.specs.Played.{HaltAt, IsPlayed, IsStop, IsUnstopped, LeadOn};
 ghost use Rattle.cilk_schedule.specs.Reached.{HasOpened, HasReached, LeadsOn};
+ghost use Rattle.cilk_schedule.specs.Shown.{ShowsReached};
 ghost use Rattle.cilk_schedule.specs.Sound.{IsCode, IsCodeOf, Runs};
 ghost use Rattle.cilk_program.specs.Syntax.{Source};
 ghost use Rattle.cilk_schedule.specs.Ends.{EndsAreSteps};
 ghost use Rattle.cilk_schedule.specs.Starting.{StartsAreSteps};
 ghost use Rattle.cilk_schedule.specs.Passing.{SkipsAreSteps, StealsAreSteps, SyncsAreSteps, WaitsAreSteps};
 
-use crate::naming::path;
 use crate::opening::open;
 use crate::running::choose;
-use crate::showing::{Shown, show};
 use cilk_board::board::Board;
 use cilk_board::choice::{Choice, Stop, Told};
 use cilk_board::workers::held_by;
 use cilk_lower::code::Code;
+use cilk_shown::naming::path;
+use cilk_shown::showing::{Shown, show};
 use cilk_types::input::Input;
 use cilk_types::outcome::Outcome;
 use std::alloc::{AllocError, Global};
@@ -112,10 +113,11 @@ impl<'a> Machine<'a> {
         self.board.outcome.is_some()
     }
 
-    /// What the run shows so far. After a stop it shows the run before the choice that stopped it.
+    /// What the run shows so far: what its frames did, by names that no schedule changes, which of them were joined, and the outcome.
+    /// After a stop it shows the run before the choice that stopped it.
     pub fn shown(&self, alloc: Global) -> Result<Shown, AllocError>
         ensures outcome { IfOk result (λ shown. shown.outcome ≡ self.now.board.outcome) }
-        ensures links { IfOk result (λ shown. links_in shown.frames.items ≡ links_of self.now.board.frames.items) }
+        ensures run { IfOk result (ShowsReached self.now.code.now self.now.input.now self.now.board) }
     {
         show(alloc, &self.board, self.code.layout().openings.len())
     }
@@ -136,7 +138,8 @@ impl<'a> Machine<'a> {
     /// number in its frame. Nothing, where memory was refused.
     pub fn name(&self, alloc: Global, stop: Stop) -> Result<Vec<u32>, AllocError>
         ensures memory { stop ≡ stops.Memory → IfOk result (λ name. name.items ≡ []) }
-        ensures name { (fault : Fault) (strand : Strand) (up : List ℕ) → stop ≡ stops.At fault strand → OrdinalsUp self.now.board.frames.items (strand.frame - 1) up → length up ≤ length self.now.board.frames.items → IfOk result (λ name. name.items ≡ reverse up ++ strand.number ∷ []) }
+        ensures name { (fault : Fault) (strand : Strand) (names : ℕ → Name) (place : ℕ) → stop ≡ stops.At fault strand → strand.frame ≡ suc place → AreNamed self.now.board.frames.items names → place < length self.now.board.frames.items
+            → IfOk result (λ name. name.items ≡ names place ++ strand.number ∷ []) }
         ensures strand { (p : Source) (fault : Fault) (strand : Strand) → stop ≡ stops.At fault strand → (h : HasFault self.now.code.now p self.now.input.now self.now.board fault strand) → IfOk result (λ name. NamesStop h.state name.items) }
     {
         let Stop::At { fault: _, strand } = stop else {

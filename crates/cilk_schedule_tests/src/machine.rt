@@ -6,7 +6,7 @@ use crate::playing::{
 };
 use cilk_board::choice::Stop;
 use cilk_schedule::machine::play;
-use cilk_schedule::naming::ShownEvent;
+use cilk_shown::naming::ShownEvent;
 use cilk_types::fault::Fault;
 use cilk_types::outcome::{Final, Outcome};
 

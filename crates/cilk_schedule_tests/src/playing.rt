@@ -7,7 +7,7 @@ use cilk_judge::judge::program;
 use cilk_lower::code::Code;
 use cilk_lower::lower::lower;
 use cilk_schedule::machine::{Machine, play};
-use cilk_schedule::showing::Shown;
+use cilk_shown::showing::Shown;
 use cilk_types::input::Input;
 use cilk_types::outcome::Outcome;
 use cilk_types::word_list::WordList;

@@ -16,5 +16,4 @@ returns-in-Err-clause-stopped c = λ some p is.
 pub returns-in-Ok-shown-clause-played : goal.returns-in-Ok-shown-clause-played
 returns-in-Ok-shown-clause-played c = λ some p is.
     let made = c.in-Ok.ensures in
-    played_by c.args.code.now p c.args.input.now c.args.workers c.in-Ok.machine c.args.choices.now c.choose_all.new.machine c.in-Ok-shown.shown is made.of.0 made.of.1 (made.opened some p is) c.in_default-choose_all.ensures.led
-    c.in-Ok-shown.ensures.outcome c.in-Ok-shown.ensures.links
+    played_by c.args.code.now p c.args.input.now c.args.workers c.in-Ok.machine c.args.choices.now c.choose_all.new.machine c.in-Ok-shown.shown is made.of.0 made.of.1 (made.opened some p is) c.in_default-choose_all.ensures.led c.in-Ok-shown.ensures.run
