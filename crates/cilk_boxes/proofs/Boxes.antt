@@ -5,7 +5,8 @@
 -- - `passing`: the block's piece comes out.
 use Rattle.std.proofs.Common.{◌≡◌, ℕ, nat_eq, Bool, if◌then◌else◌, true, false, true≢false, List, [], ◌∷◌, Option, Some, None, inl, inr, refl, sym, ap, ◌∙◌, subst}
 use Rattle.cilk_pieces.specs.Pieces.{PieceValue}
-use Rattle.cilk_pieces.specs.Chains.{ChainValue}
+use Rattle.cilk_chains.specs.Chains.{ChainValue}
+use Rattle.cilk_chains.specs.Courses.{CourseValue}
 use Rattle.cilk_boxes.specs.Rows.{Run, Wait, Rows, row, rows, between, placed, placed_in, is_empty, IsGoodRun}
 use Rattle.cilk_boxes.specs.declared.join.Boxed.TheVariants.{Passes}
 use Rattle.cilk_boxes.specs.Answers.{Answers}
@@ -37,7 +38,7 @@ closes_last run [] k x s absent end = end
 closes_last run (w ∷ ws) k x s absent end = let there = closes_last w.run ws k x s absent.1 end in rw absent.0 there
 
 -- after an arrival
-pub closed_on : (j : BoxValue) (k : ℕ) (x : PieceValue) (old new : Option ChainValue) → IsClosed j.rows j.sync old → j.closed ≡ is_some old → MayArrive j k x new → IsClosed (placed_in j.rows k x) j.sync (later old new)
+pub closed_on : (j : BoxValue) (k : ℕ) (x : PieceValue) (old new : Option ChainValue) → IsClosed j.rows j.course j.sync old → j.closed ≡ is_some old → MayArrive j k x new → IsClosed (placed_in j.rows k x) j.course j.sync (later old new)
 closed_on j k x None None h is comes = tt
 closed_on j k x (Some c) None h is (inl stands) = (h.0, h.1, closes_on (let r = j.rows in let w = r.row in w.run) (let r = j.rows in let w = r.row in w.waits) k x j.sync stands h.2)
 closed_on j k x (Some c) None h is (inr fresh) = absurd (true≢false (sym is ∙ fresh.0))
@@ -51,19 +52,19 @@ upto_is : (run : Run) (p : PieceValue) (s : ℕ) → run ≡ Some p → IsUpTo r
 upto_is run p s is h = subst (λ (o : Run). IsUpTo o s) is h
 
 -- the fields of a box
-abbrev pub box_of : Rows → ℕ → ℕ → ℕ → Option ChainValue → BoxValue
-box_of j s stolen arrived chain = record { rows = j; sync = s; stolen = stolen; arrived = arrived; closed = is_some chain }
+abbrev pub box_of : Rows → CourseValue → ℕ → ℕ → ℕ → Option ChainValue → BoxValue
+box_of j u s stolen arrived chain = record { rows = j; course = u; sync = s; stolen = stolen; arrived = arrived; closed = is_some chain }
 
 -- the one run comes out, with the chain
-pub passing : (j j' : Rows) (s stolen arrived : ℕ) (chain chain' : Option ChainValue) (c : ChainValue) (p : PieceValue) → IsClosed j s chain → (let r = j.row in is_empty r.waits ≡ true) → chain ≡ Some c → chain' ≡ None
-    → Some p ≡ (let r = j.row in r.run) → j' ≡ rows j.of (row None (let r = j.row in r.waits)) → IsGoodRun j.of (Some p) → Answers (box_of j s stolen arrived chain) (Passes p c) (box_of j' s stolen arrived chain')
-passing j j' s stolen arrived chain chain' c p closed empty is gone out new good =
+pub passing : (j j' : Rows) (u : CourseValue) (s stolen arrived : ℕ) (chain chain' : Option ChainValue) (c : ChainValue) (p : PieceValue) → IsClosed j u s chain → (let r = j.row in is_empty r.waits ≡ true) → chain ≡ Some c → chain' ≡ None
+    → Some p ≡ (let r = j.row in r.run) → j' ≡ rows j.of (row None (let r = j.row in r.waits)) → IsGoodRun j.of (Some p) → Answers (box_of j u s stolen arrived chain) (Passes p c) (box_of j' u s stolen arrived chain')
+passing j j' u s stolen arrived chain chain' c p closed empty is gone out new good =
     let none : (let r = j.row in r.waits ≡ []) = empty_waits (let r = j.row in r.waits) empty in
-    let here : IsClosed j s (Some c) = subst (λ (o : Option ChainValue). IsClosed j s o) is closed in
+    let here : IsClosed j u s (Some c) = subst (λ (o : Option ChainValue). IsClosed j u s o) is closed in
     let upto : IsUpTo (let r = j.row in r.run) s = subst (λ (ws : List Wait). Closes (let r = j.row in r.run) ws s) none here.2 in (
       ap (λ (o : Option ChainValue). if is_some o then (let r = j.row in is_empty r.waits) else false) is ∙ empty,
       (sym out, good, here.0),
       upto_is (let r = j.row in r.run) p s (sym out) upto,
       here.1,
-      (λ i. box_of ((new ∙ ap (λ (ws : List Wait). rows j.of (row None ws)) none) i) s stolen arrived (gone i)),
+      (λ i. box_of ((new ∙ ap (λ (ws : List Wait). rows j.of (row None ws)) none) i) u s stolen arrived (gone i)),
     )

@@ -1,13 +1,15 @@
 -- What waits at a sync block.
 use Rattle.std.specs.Prelude.{◌≡◌, ◌<◌, ◌≤◌, ◌⊎◌, ℕ, nat_eq, nat_lt, Bool, true, false, if◌then◌else◌, List, [], ◌∷◌, Option, Some, None}
 use Rattle.cilk_pieces.specs.Pieces.{PieceValue}
-use Rattle.cilk_pieces.specs.Chains.{ChainValue}
-use Rattle.cilk_boxes.specs.Rows.{Run, RunValue, Wait, Rows, row, rows, yard_of, placed_in, awaiting, end_in, is_empty}
+use Rattle.cilk_chains.specs.Chains.{ChainValue}
+use Rattle.cilk_chains.specs.Courses.{CourseValue}
+use Rattle.cilk_boxes.specs.Rows.{Run, RunValue, Wait, Rows, row, rows, placed_in, awaiting, end_in, is_empty}
 
--- the rows; the block's sync; the greatest key that was stolen, and the greatest that has arrived, 0 where there is none; and
+-- the rows; the course of the run; the block's sync; the greatest key that was stolen, and the greatest that has arrived, 0 where there is none; and
 -- whether the sync's own piece has arrived
 pub record BoxValue : Type 0 where
   pub rows : Rows
+  pub course : CourseValue
   pub sync : ℕ
   pub stolen : ℕ
   pub arrived : ℕ
@@ -22,8 +24,8 @@ abbrev pub later : Option ChainValue → Option ChainValue → Option ChainValue
 later c None = c
 later c (Some d) = Some d
 
-abbrev pub opening : RunValue → ℕ → BoxValue
-opening y s = record { rows = rows y (row None []); sync = s; stolen = 0; arrived = 0; closed = false }
+abbrev pub opening : RunValue → CourseValue → ℕ → BoxValue
+opening y c s = record { rows = rows y (row None []); course = c; sync = s; stolen = 0; arrived = 0; closed = false }
 
 -- the key is among the awaited ones
 abbrev pub Stands : List Wait → ℕ → Type 0
@@ -50,9 +52,9 @@ Closes run [] s = IsUpTo run s
 Closes run (w ∷ ws) s = Closes w.run ws s
 
 -- the sync's chain, once it is there: it stands at the sync, where the last run ends
-abbrev pub IsClosed : Rows → ℕ → Option ChainValue → Type 0
-IsClosed j s None = Unit {0}
-IsClosed j s (Some c) = (c.of ≡ yard_of j.of) × (c.at ≡ s) × (let r = j.row in Closes r.run r.waits s)
+abbrev pub IsClosed : Rows → CourseValue → ℕ → Option ChainValue → Type 0
+IsClosed j u s None = Unit {0}
+IsClosed j u s (Some c) = (c.of ≡ u) × (c.at ≡ s) × (let r = j.row in Closes r.run r.waits s)
 
 -- k is above every key that was stolen or has arrived, and the sync's piece hasn't arrived
 abbrev pub IsFresh : BoxValue → ℕ → Type 0
@@ -66,7 +68,7 @@ IsOpen j k a = (j.closed ≡ false) × (j.stolen < k) × (j.arrived ≤ k) × (e
 -- a child's piece comes by an awaited key, or a fresh one; the sync's own piece, with its chain, by a fresh one, and it ends at the sync
 abbrev pub MayArrive : BoxValue → ℕ → PieceValue → Option ChainValue → Type 0
 MayArrive j k x None = (let r = j.rows in let w = r.row in Stands w.waits k) ⊎ IsFresh j k
-MayArrive j k x (Some c) = IsFresh j k × (let r = j.rows in let w = r.row in (c.of ≡ yard_of r.of) × (c.at ≡ j.sync) × (x.upto ≡ j.sync) × IsAbsent w.waits k)
+MayArrive j k x (Some c) = IsFresh j k × (let r = j.rows in let w = r.row in (c.of ≡ j.course) × (c.at ≡ j.sync) × (x.upto ≡ j.sync) × IsAbsent w.waits k)
 
 -- after k was stolen: it is awaited, unless it has arrived
 abbrev pub stolen_at : BoxValue → ℕ → ℕ → BoxValue

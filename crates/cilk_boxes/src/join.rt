@@ -10,13 +10,15 @@ ghost use Rattle.cilk_boxes.specs.Boxes.{is_some, later, opening, Comes, IsFresh
 ghost use Rattle.cilk_boxes.specs.Answers.{Answers};
 
 use crate::runs::Runs;
-use cilk_pieces::chain::Chain;
+use cilk_chains::chain::Chain;
+use cilk_chains::course::Course;
 use cilk_pieces::piece::Piece;
 use cilk_pieces::reducers::Reducers;
 use cilk_shared::yard::Yard;
 use cilk_types::event::Pos;
 use std::alloc::{AllocError, Global};
 use std::marker::Model;
+use std::snapshot::Snapshot;
 
 /// What an arrival comes to.
 #[derive(Drop)]
@@ -30,6 +32,7 @@ pub enum Boxed {
 /// What waits at a sync block.
 #[derive(Drop)]
 pub struct JoinBox {
+    course: Snapshot<Course>,
     sync: Pos,
     runs: Runs,
     stolen: Pos,
@@ -41,13 +44,17 @@ impl Model for JoinBox {
     ghost use Rattle.std.specs.Prelude.{◌≡◌, Some};
     ghost use Rattle.cilk_types.specs.declared.event.Event.TheVariants.{Sync};
     ghost use Rattle.cilk_story.specs.Word.{event};
+    ghost use Rattle.std.specs.Coded.{codes};
+    ghost use Rattle.cilk_chains.specs.Courses.{course_code};
     ghost use Rattle.cilk_boxes.specs.Boxes.{BoxValue, IsClosed, is_some};
 
     ghost Value = { BoxValue };
 
-    ghost view = { λ b. record { rows = b.runs; sync = b.sync; stolen = b.stolen; arrived = b.arrived; closed = is_some b.chain } };
+    ghost coded = { Prim.hlevel (codes, course_code) };
 
-    ghost invariant = { λ b. IsClosed b.runs b.sync b.chain × (event b.runs.of.story b.sync ≡ Some Sync) };
+    ghost view = { λ b. record { rows = b.runs; course = b.course.value; sync = b.sync; stolen = b.stolen; arrived = b.arrived; closed = is_some b.chain } };
+
+    ghost invariant = { λ b. IsClosed b.runs b.course.value b.sync b.chain × (event b.runs.of.story b.sync ≡ Some Sync) };
 }
 
 // The greater of two keys.
@@ -69,11 +76,18 @@ fn settle(chain: &mut Option<Chain>, other: Option<Chain>)
 
 impl JoinBox {
     /// Nothing was stolen, and nothing has arrived.
-    pub fn new(alloc: Global, yard: &Yard, reducers: &Reducers, sync: Pos) -> JoinBox
+    pub fn new(
+        alloc: Global,
+        yard: &Yard,
+        reducers: &Reducers,
+        course: &Course,
+        sync: Pos,
+    ) -> JoinBox
         requires { event yard.now.story sync ≡ Some Sync }
-        ensures { result ≡ opening (run_of yard.now reducers.now) sync }
+        ensures { result ≡ opening (run_of yard.now reducers.now) course.now sync }
     {
         JoinBox {
+            course: Snapshot::of(course),
             sync,
             runs: Runs::new(alloc, yard, reducers),
             stolen: 0,

@@ -7,7 +7,7 @@
 //! out the one piece of the whole block, and the chain with which a worker goes on.
 //!
 //! ```text
-//! let mut found = JoinBox::new(alloc, &yard, &reducers, sync);
+//! let mut found = JoinBox::new(alloc, &yard, &reducers, &course, sync);
 //! if found.open(key, goes_on) {
 //!     found.steal(key, goes_on)?;                      // a thief goes on at `goes_on`, beside the child spawned at `key`
 //! }

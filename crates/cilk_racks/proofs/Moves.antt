@@ -8,19 +8,19 @@ use mathlib.Core.Option.{some, some-ne-none, some-injective}
 use lib.ListN.{get_elem?}
 use Rattle.atomic_table.proofs.Lists.{at_set, at_snoc}
 use Rattle.crossbeam_deque.specs.Tasks.{Pushes, Takes, Pops, Admits}
-use Rattle.cilk_boxes.specs.Rows.{RunValue}
-use Rattle.cilk_pieces.specs.declared.chain.Task.{Task}
+use Rattle.cilk_chains.specs.Courses.{CourseValue}
+use Rattle.cilk_chains.specs.declared.chain.Task.{Task}
 use Rattle.cilk_racks.specs.declared.rack.Offers.{Offers}
 use Rattle.cilk_racks.specs.Racks.{Of, offers, EndsWith, Racked}
 
-all_one : (y : RunValue) (t : Task) → Of y t → All (Of y) (t ∷ [])
+all_one : (y : CourseValue → Type 0) (t : Task) → Of y t → All (Of y) (t ∷ [])
 all_one y t is zero d lt = is
 all_one y t is (suc k) d lt = absurd (omega arith)
 
-all_front : (y : RunValue) (xs ys : List Task) → All (Of y) (xs ++ ys) → All (Of y) xs
+all_front : (y : CourseValue → Type 0) (xs ys : List Task) → All (Of y) (xs ++ ys) → All (Of y) xs
 all_front y xs ys h k d lt = subst (Of y) (get_or_append_left xs ys d k lt) (h k d (omega (arith, length-append xs ys)))
 
-all_back : (y : RunValue) (xs ys : List Task) → All (Of y) (xs ++ ys) → All (Of y) ys
+all_back : (y : CourseValue → Type 0) (xs ys : List Task) → All (Of y) (xs ++ ys) → All (Of y) ys
 all_back y xs ys h k d lt = subst (Of y) (get_or-append-add xs ys k d) (h (length xs + k) d (omega (arith, length-append xs ys)))
 
 -- what the rule says of one view
@@ -34,7 +34,7 @@ fits_set old items views port w others mine j u e =
     (λ (x : (j ≢ port) × (get_elem? views j ≡ some u)). others j u x.0 x.1)
     (at_set views port j w u e)
 
-pub begins : (y : RunValue) → Racked y [] (offers true [] ∷ [])
+pub begins : (y : CourseValue → Type 0) → Racked y [] (offers true [] ∷ [])
 begins y = ((λ k d lt. absurd (omega arith)), one)
   where
     one : (port : ℕ) (v : Offers) → get_elem? (offers true [] ∷ []) port ≡ some v → Fits [] port v
@@ -42,7 +42,7 @@ begins y = ((λ k d lt. absurd (omega arith)), one)
     one (suc port) v e _ = absurd (some-ne-none v (sym e))
 
 -- the owner is at 0
-pub pushes : (y : RunValue) (v : Offers) (t : Task) → v.owner ≡ true → Of y t → (port : ℕ) → port ≡ 0 → Pushes (Racked y) port v (t ∷ []) (λ w. w ≡ offers v.owner (v.waiting ++ t ∷ []))
+pub pushes : (y : CourseValue → Type 0) (v : Offers) (t : Task) → v.owner ≡ true → Of y t → (port : ℕ) → port ≡ 0 → Pushes (Racked y) port v (t ∷ []) (λ w. w ≡ offers v.owner (v.waiting ++ t ∷ []))
 pushes y v t owner is port here items views h at =
     let w : Offers = offers v.owner (v.waiting ++ t ∷ []) in
     let mine = h.1 port v at owner in (
@@ -56,7 +56,7 @@ pushes y v t owner is port here items views h at =
       refl,
     )
 
-pub pops : (y : RunValue) (v : Offers) → v.owner ≡ true → (port : ℕ) → port ≡ 0 → Pops (Racked y) port v (λ xs w. (w.owner ≡ v.owner) × (v.waiting ≡ w.waiting ++ xs) × All (Of y) xs)
+pub pops : (y : CourseValue → Type 0) (v : Offers) → v.owner ≡ true → (port : ℕ) → port ≡ 0 → Pops (Racked y) port v (λ xs w. (w.owner ≡ v.owner) × (v.waiting ≡ w.waiting ++ xs) × All (Of y) xs)
 pops y v owner port here x items views h at =
     let mine = h.1 port v at owner in
     let w : Offers = offers v.owner (mine.1.0 ++ items) in (
@@ -70,7 +70,7 @@ pops y v owner port here x items views h at =
       (refl, mine.1.1 ∙ sym (append_assoc mine.1.0 items (x ∷ [])), all_back y items (x ∷ []) h.0),
     )
 
-pub takes : (y : RunValue) (v : Offers) → v.owner ≡ false → (port : ℕ) → Takes (Racked y) port v 1 (λ xs w. (w ≡ v) × All (Of y) xs)
+pub takes : (y : CourseValue → Type 0) (v : Offers) → v.owner ≡ false → (port : ℕ) → Takes (Racked y) port v 1 (λ xs w. (w ≡ v) × All (Of y) xs)
 takes y v guest port xs items views _ _ h at = (
   v,
   (
@@ -82,7 +82,7 @@ takes y v guest port xs items views _ _ h at = (
   (refl, all_front y xs items h.0),
 )
 
-pub admits : (y : RunValue) → Admits (Racked y) (offers false [])
+pub admits : (y : CourseValue → Type 0) → Admits (Racked y) (offers false [])
 admits y items views h = (
   h.0,
   λ port v e o. ⊎_elim

@@ -1,7 +1,7 @@
 -- What contracts see of a rack.
 use Rattle.std.specs.Prelude.{◌≡◌, ℕ, ◌+◌, ◌≤◌, List, [], ◌∷◌, ◌++◌, Result, MatchResult}
 use Rattle.crossbeam_deque.specs.Handles.{worker_view, worker_capacity, worker_index}
-use Rattle.cilk_pieces.specs.declared.chain.Task.{Task}
+use Rattle.cilk_chains.specs.declared.chain.Task.{Task}
 use Rattle.cilk_racks.specs.declared.rack.Rack.{Rack}
 
 module _ {N : Type 0} where

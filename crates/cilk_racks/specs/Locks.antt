@@ -3,6 +3,7 @@ use Rattle.std.specs.Prelude.{◌≡◌, ℕ, ◌⊎◌, true, false, List, [], 
 use mathlib.Core.Option.{some}
 use lib.ListN.{get_elem?}
 use Rattle.cilk_boxes.specs.Rows.{RunValue}
+use Rattle.cilk_chains.specs.Courses.{CourseValue}
 use Rattle.cilk_boxes.specs.declared.join.JoinBox.{JoinBox}
 use Rattle.cilk_racks.specs.declared.lock.Block.{Block}
 
@@ -13,10 +14,10 @@ abbrev pub fresh : Block
 fresh = record { known = false; sync = 0 }
 
 -- the box is of the run, and of the block whose sync stands at b
-abbrev pub IsBox : RunValue → ℕ → JoinBox → Type 0
-IsBox y b x = (let r = x.rows in r.of ≡ y) × (x.sync ≡ b)
+abbrev pub IsBox : RunValue → (CourseValue → Type 0) → ℕ → JoinBox → Type 0
+IsBox y course b x = (let r = x.rows in r.of ≡ y) × (x.sync ≡ b) × course x.course
 
-abbrev pub Boxed : RunValue → List JoinBox → List Block → Type 0
-Boxed y items views =
+abbrev pub Boxed : RunValue → (CourseValue → Type 0) → List JoinBox → List Block → Type 0
+Boxed y course items views =
     ((items ≡ []) × (views ≡ fresh ∷ []))
-    ⊎ ((b : ℕ) × All (IsBox y b) items × ((port : ℕ) (v : Block) → get_elem? views port ≡ some v → v ≡ knower b))
+    ⊎ ((b : ℕ) × All (IsBox y course b) items × ((port : ℕ) (v : Block) → get_elem? views port ≡ some v → v ≡ knower b))

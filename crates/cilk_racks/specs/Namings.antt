@@ -1,6 +1,7 @@
 -- The name of no run.
 use Rattle.std.specs.Prelude.{[]}
 use Rattle.cilk_boxes.specs.Rows.{RunValue}
+use Rattle.cilk_chains.specs.Courses.{CourseValue}
 
 abbrev pub no_run : RunValue
 no_run = record {
@@ -8,3 +9,6 @@ no_run = record {
   story = record { events = []; preceding = []; opening = []; asked = [] };
   reducers = record { frames = [] };
 }
+
+abbrev pub no_course : CourseValue → Type 0
+no_course c = ⊥

@@ -2,12 +2,12 @@
 use Rattle.std.specs.Prelude.{◌≡◌, ℕ, Bool, true, List, ◌++◌, All}
 use mathlib.Core.Option.{some}
 use lib.ListN.{get_elem?}
-use Rattle.cilk_boxes.specs.Rows.{RunValue, yard_of}
-use Rattle.cilk_pieces.specs.declared.chain.Task.{Task}
+use Rattle.cilk_chains.specs.Courses.{CourseValue}
+use Rattle.cilk_chains.specs.declared.chain.Task.{Task}
 use Rattle.cilk_racks.specs.declared.rack.Offers.{Offers}
 
-abbrev pub Of : RunValue → Task → Type 0
-Of y t = t.of ≡ yard_of y
+abbrev pub Of : (CourseValue → Type 0) → Task → Type 0
+Of course t = course t.of
 
 abbrev pub offers : Bool → List Task → Offers
 offers owner waiting = record { owner = owner; waiting = waiting }
@@ -16,6 +16,6 @@ offers owner waiting = record { owner = owner; waiting = waiting }
 abbrev pub EndsWith : List Task → List Task → Type 0
 EndsWith waiting items = (front : List Task) × (waiting ≡ front ++ items)
 
-abbrev pub Racked : RunValue → List Task → List Offers → Type 0
+abbrev pub Racked : (CourseValue → Type 0) → List Task → List Offers → Type 0
 Racked y items views =
     All (Of y) items × ((port : ℕ) (v : Offers) → get_elem? views port ≡ some v → v.owner ≡ true → (port ≡ 0) × EndsWith v.waiting items)

@@ -30,7 +30,7 @@ pub struct OfBlock<N: Naming> {
 impl<N: Naming> Protocol<JoinBox, Block> for OfBlock<N> {
     ghost use Rattle.cilk_racks.specs.Locks.{fresh, Boxed};
 
-    ghost holds = { λ items views. Boxed N.run items views };
+    ghost holds = { λ items views. Boxed N.run N.course items views };
 
     ghost first = { fresh };
 }
@@ -70,7 +70,7 @@ impl<N: Naming> Outcome<JoinBox, Block> for Locks<N> {
     ghost use Rattle.std.specs.Prelude.{◌≡◌};
     ghost use Rattle.cilk_racks.specs.Locks.{IsBox};
 
-    ghost then = { λ v x w. (w ≡ v) × IsBox N.run v.sync x };
+    ghost then = { λ v x w. (w ≡ v) × IsBox N.run N.course v.sync x };
 }
 
 impl<N: Naming> Lesson<JoinBox, Block> for Locks<N> {
@@ -100,7 +100,7 @@ pub fn closed<N: Naming, R: Wait>(
     alloc: Global,
     first: JoinBox,
 ) -> Result<(Lock<N>, Key), AllocError>
-    requires { IsBox N.run first.sync first }
+    requires { IsBox N.run N.course first.sync first }
     ensures { IfOk result (λ r. IsPassOf r.0 r.1 × (view r.1 ≡ knower first.sync)) }
 {
     let (lock, mut key) = Lock::<N>::ruled(alloc, 1)?;
@@ -124,7 +124,7 @@ pub fn wait<R: Wait>(rt: &R)
 pub fn lock<N: Naming, R: Wait>(rt: &R, lock: &Lock<N>, key: &mut Key, sync: Pos) -> JoinBox
     requires { IsPassOf lock.now key.old × (view key.old ≡ knower sync) }
     ensures key { IsPassOf lock.now key.new × (view key.new ≡ knower sync) }
-    ensures found { IsBox N.run sync result }
+    ensures found { IsBox N.run N.course sync result }
 {
     for _ in rt.forever() {
         if let Some(found) = lock.pop_as::<Locks<N>, R>(rt, key) {
@@ -138,7 +138,7 @@ pub fn lock<N: Naming, R: Wait>(rt: &R, lock: &Lock<N>, key: &mut Key, sync: Pos
 /// Puts the box back.
 pub fn free<N: Naming, R: Wait>(rt: &R, lock: &Lock<N>, key: &mut Key, sync: Pos, back: JoinBox)
     requires key { IsPassOf lock.now key.old × (view key.old ≡ knower sync) }
-    requires back { IsBox N.run sync back }
+    requires back { IsBox N.run N.course sync back }
     ensures { IsPassOf lock.now key.new × (view key.new ≡ knower sync) }
 {
     if lock.push_as::<Frees, R>(rt, key, back).is_err() {

@@ -5,7 +5,7 @@ ghost use Rattle.crossbeam_deque.specs.Handles.{view, IsPassOf, worker_deque, wo
 ghost use Rattle.cilk_racks.specs.Racks.{Of, offers};
 
 use crate::naming::Naming;
-use cilk_pieces::chain::Task;
+use cilk_chains::chain::Task;
 use crossbeam_deque::protocol::{Outcome, Protocol};
 use crossbeam_deque::{Pass, Steal, Stealer, Worker};
 use std::alloc::{AllocError, Global};
@@ -27,7 +27,7 @@ impl<N: Naming> Protocol<Task, Offers> for OfRun<N> {
     ghost use Rattle.std.specs.Prelude.{true, false, []};
     ghost use Rattle.cilk_racks.specs.Racks.{offers, Racked};
 
-    ghost holds = { λ items views. Racked N.run items views };
+    ghost holds = { λ items views. Racked N.course items views };
 
     ghost first = { offers true [] };
 
@@ -50,7 +50,7 @@ impl<N: Naming> Outcome<Task, Offers> for GivenBack<N> {
     ghost use Rattle.std.specs.Prelude.{◌≡◌, ◌++◌, All};
     ghost use Rattle.cilk_racks.specs.Racks.{Of};
 
-    ghost then = { λ v xs w. (w.owner ≡ v.owner) × (v.waiting ≡ w.waiting ++ xs) × All (Of N.run) xs };
+    ghost then = { λ v xs w. (w.owner ≡ v.owner) × (v.waiting ≡ w.waiting ++ xs) × All (Of N.course) xs };
 }
 
 /// The oldest task is taken.
@@ -62,7 +62,7 @@ impl<N: Naming> Outcome<Task, Offers> for Taken<N> {
     ghost use Rattle.std.specs.Prelude.{◌≡◌, All};
     ghost use Rattle.cilk_racks.specs.Racks.{Of};
 
-    ghost then = { λ v xs w. (w ≡ v) × All (Of N.run) xs };
+    ghost then = { λ v xs w. (w ≡ v) × All (Of N.course) xs };
 }
 
 /// A worker's own end.
@@ -96,7 +96,7 @@ impl<N: Naming> Rack<N> {
 
     /// Puts a task behind the others. It comes back only after as many offers as the rack has room for.
     pub fn offer(&mut self, task: Task) -> Result<(), Task>
-        requires { Of N.run task }
+        requires { Of N.course task }
         ensures rule { IsOffered self.old task result self.new }
         ensures room { room self.old ≤ room self.new }
     {
@@ -105,7 +105,7 @@ impl<N: Naming> Rack<N> {
 
     /// The task that was offered last and not given back, or `None` where none was left.
     pub fn newest(&mut self) -> Option<Task>
-        ensures { MatchOption result (waiting self.new ≡ waiting self.old) (λ t. (waiting self.old ≡ waiting self.new ++ t ∷ []) × Of N.run t) }
+        ensures { MatchOption result (waiting self.new ≡ waiting self.old) (λ t. (waiting self.old ≡ waiting self.new ++ t ∷ []) × Of N.course t) }
     {
         self.worker.pop_as::<GivenBack<N>>()
     }
@@ -157,7 +157,7 @@ impl<N: Naming> Picker<N> {
 
     /// The oldest task, or `None` where none was had.
     pub fn oldest(&mut self) -> Option<Task>
-        ensures { IfSome result (λ t. Of N.run t) }
+        ensures { IfSome result (λ t. Of N.course t) }
     {
         match self.stealer.steal_as::<Taken<N>>(&mut self.pass) {
             Steal::Success(task) => Some(task),

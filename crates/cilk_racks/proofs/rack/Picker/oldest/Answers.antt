@@ -2,4 +2,4 @@ use Rattle.cilk_racks.proofs.Moves.{takes}
 use Rattle.cilk_racks.proofs.rack.Picker.oldest.Goals as goal
 
 pub steal_as-requires-clause-takes : goal.steal_as-requires-clause-takes
-steal_as-requires-clause-takes g c = takes g.N.Naming.run _ c.args.self.now.guest _
+steal_as-requires-clause-takes g c = takes g.N.Naming.course _ c.args.self.now.guest _
