@@ -1,5 +1,5 @@
 -- The laws of `Going`, of a chain's course and of that of a call's argument.
-use Rattle.std.proofs.Common.{◌≡◌, ◌≢◌, ◌<◌, ℕ, ◌+◌, ℤ, List, [], ◌∷◌, ◌++◌, reverse, length, sym, ◌∙◌, subst, arith}
+use Rattle.std.proofs.Common.{◌≡◌, ◌≢◌, ◌<◌, ℕ, ◌+◌, ℤ, List, [], ◌∷◌, ◌++◌, reverse, length, Some, sym, ◌∙◌, subst, arith}
 use Rattle.cilk_types.specs.declared.event.Event.TheVariants as events
 use Rattle.cilk_types.specs.declared.invocation.Invocation.{Invocation}
 use Rattle.cilk_program.specs.declared.ask.Ask.{Ask}
@@ -16,13 +16,18 @@ use Rattle.cilk_frames.specs.declared.cursor.Answer.{Answer}
 use Rattle.cilk_frames.specs.declared.cursor.Answer.TheVariants.{Done}
 use Rattle.cilk_frames.specs.Following.{Fits, Runs, Stands, owed_for, word_in}
 use Rattle.cilk_story.specs.declared.story.Story.{Story}
-use Rattle.cilk_story.specs.Word.{resume, what}
+use Rattle.cilk_story.specs.Runs.{IsAsked}
+use Rattle.cilk_story.specs.Word.{event, resume, what}
+use Rattle.cilk_plan.specs.declared.kind.Kind.{Kind}
+use Rattle.cilk_plan.specs.Kinds.{kind_of_event}
 use Rattle.cilk_chains.specs.declared.level.Level.{Level}
 use Rattle.cilk_chains.specs.Asking.{Calls, Follows, IsAnswered, IsNextAsk, Spawns, HasAsked}
 use Rattle.cilk_chains.specs.Chains.{ChainValue, standing}
 use Rattle.cilk_chains.specs.Courses.{CourseValue, IsCourse, setting_of}
 use Rattle.cilk_chains.specs.Standing.{IsTheOutermost, Linked, Rest, Stand}
+use Rattle.cilk_chains.specs.Sorts.{NamesNothing, sort_asked, sort_of}
 use Rattle.cilk_chains.proofs.Going as going
+use Rattle.cilk_chains.proofs.Looking as looking
 use Rattle.cilk_chains.proofs.Resuming.{resumed}
 
 -- the story of a chain's course
@@ -114,6 +119,13 @@ module _ (u v : CourseValue) (same : u ≡ v) (at : ℕ) (k : Ask) (l : Level) (
         is = A.is;
         outermost = subst (λ z. Linked (setting_of u S.0) (let x = A.point in x.since) (reverse z)) none t.callers;
       }
+
+  module _ (kind : Kind) (is : kind_of_event (event (story_of u) at) ≡ Some kind) where
+    pub asked_there : sort_asked k ≡ sort_of kind → NamesNothing (sort_asked k) → IsAsked (story_of u) at
+    asked_there same sure = let t = S.2 in looking.asked_there (setting_of u S.0) S.1 at k l t.asks kind is same sure
+
+    pub differs_there : (sort_asked k ≡ sort_of kind → ⊥) → IsAsked (story_of u) at → ⊥
+    differs_there other asked = let t = S.2 in looking.differs_there (setting_of u S.0) S.1 at k l t.asks kind is other asked
 
   pub next_ask : IsNextAsk u at k
   next_ask =

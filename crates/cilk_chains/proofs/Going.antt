@@ -5,7 +5,7 @@
 -- - `begun_asks`, `called_on`, `spawned_on`: a child begins there, and its caller waits;
 -- - `ended_on`: a frame ends, and its caller is next;
 -- - `woken`: a frame that rests goes on.
-use Rattle.std.proofs.Common.{◌≡◌, ◌≢◌, ◌<◌, inl, inr, ℕ, zero, suc, ◌+◌, ◌-◌, ℤ, pos, List, [], ◌∷◌, ◌++◌, reverse, length, Some, None, slice_get, refl, sym, ap, ◌∙◌, subst, arith}
+use Rattle.std.proofs.Common.{◌≡◌, ◌≢◌, ◌<◌, inl, inr, ℕ, zero, suc, ◌+◌, ◌-◌, ℤ, pos, false, List, [], ◌∷◌, ◌++◌, reverse, length, Some, None, slice_get, refl, sym, ap, ◌∙◌, subst, arith}
 use Rattle.std.specs.Option.{option_map}
 use Rattle.std.proofs.lemmas.List.{reverse-append}
 use Rattle.std.proofs.lemmas.Option.{slice_get-map}
@@ -34,7 +34,7 @@ use Rattle.cilk_runs.specs.Machine.{started}
 use Rattle.cilk_story.specs.declared.story.Story.{Story}
 use Rattle.cilk_story.specs.Runs.{IsAsked}
 use Rattle.cilk_story.specs.Word.{event}
-use Rattle.cilk_worlds.specs.Machine.{answer_of, answers_of, asked_after, next}
+use Rattle.cilk_worlds.specs.Machine.{answer_of, answers_of, asked_after, has_ended, is_end, named_ask, next}
 use Rattle.cilk_worlds.specs.Worlds.{World, child_world, first_world}
 use Rattle.cilk_worlds.proofs.Kept.{answers_more}
 use Rattle.cilk_determinacy.specs.Numbers.{cell_number, instance_number}
@@ -46,6 +46,7 @@ use Rattle.cilk_chains.specs.Asking.{Follows, IsAnswered, HasAsked}
 use Rattle.cilk_chains.specs.Courses.{Setting, IsOfProgram, point_at}
 use Rattle.cilk_chains.specs.Standing.{Asks, Waits, Linked, StandsAt, RestsAt}
 use Rattle.cilk_chains.proofs.OfKind.{some_inner, IsOfKind, made, goes_on, kind_there, ask_for, fitting}
+use Rattle.cilk_chains.proofs.Unended.{ended_more, not_end, unended}
 
 pub got : {A : Type 0} (xs : List A) (k : ℕ) → k < length xs → (x : A) × (slice_get xs k ≡ Some x)
 got [] k less = absurd (omega (arith, less))
@@ -118,7 +119,7 @@ module _ (s : Setting) (h : IsOfProgram s) where
     pub asked_ask : (asked_after s.program s.inputs w x.past).ask ≡ k
     asked_ask = ap (λ (q : OpenAsk). q.ask) A.asked.asks
 
-    tell : IsTold s.program s.run s.inputs h.events s.story A.behind x
+    pub tell : IsTold s.program s.run s.inputs h.events s.story A.behind x
     tell = (here A.behind x A.is).1
 
     module _ (e : Event) (asked : IsAsked story at) (is : event story at ≡ Some e) where
@@ -141,6 +142,14 @@ module _ (s : Setting) (h : IsOfProgram s) where
     made_event asked =
         let is : event story at ≡ Some tell.here = ap (event story) (sym A.place) ∙ tell.is in
         (tell.here, is, event_is tell.here asked is)
+
+    -- what it does is no end
+    pub deed_goes : IsAsked story at → HasAnswer k → is_end (let z = A.point in z.deed) ≡ false
+    deed_goes asked has =
+        let n = suc (started x.past) in
+        let yes = tell.asked.0 (subst (IsAsked story) (sym A.place) asked) in
+        let on = unended (has_ended x.past) (named_ask s.program w n (asked_after s.program s.inputs w x.past).ask) _ ((here A.behind x A.is).0.asks yes) in
+        not_end s.program w n k x.deed (ap (named_ask s.program w n) (sym asked_ask) ∙ on.1) has
 
     -- the answer that it is owed
     pub owed : (a : Answer) → IsAnswered story at a → Runs s.code s.inputs l.cursor × Fits (let v = l.cursor in v.owed) a
@@ -182,6 +191,7 @@ module _ (s : Setting) (h : IsOfProgram s) where
           place = omega (arith, place);
           point = y.0;
           is = y.1;
+          goes_on = ap has_ended later.past ∙ ended_more (let x = A.point in x.past) (let x = A.point in x.deed) A.goes_on (deed_goes at k l A f.asked fit.has);
           fit = subst (λ (v : World). CalleeIsFit s.program v.callee) (sym later.frame) A.fit;
           asked = later_asks A.point y.0 (word_in a) k' l' later (fit.word ∙ sym answer) (step s.program _ _ (A.asked.stands fit.has));
         };
@@ -236,6 +246,7 @@ module _ (s : Setting) (h : IsOfProgram s) where
           place = omega (arith, place);
           point = y.0;
           is = y.1;
+          goes_on = ap has_ended begun.past;
           fit = subst (CalleeIsFit s.program) same (there at k l A how callee is).1;
           asked = subst (λ z. HasAsked s.code s.inputs s.program z (answers_of (let z = y.0 in z.past)) asks.Begin c) same (first_asked callee c (let z = y.0 in z.past) begun.past new.2 new.0 new.1);
         };
@@ -260,6 +271,7 @@ module _ (s : Setting) (h : IsOfProgram s) where
         place = sym B.since;
         point = A.point;
         is = A.is;
+        goes_on = A.goes_on;
         how = how;
         child = (let b = B.asks in let y = b.point in y.frame);
         started = B.deed;
@@ -326,6 +338,7 @@ module _ (s : Setting) (h : IsOfProgram s) where
             place = z.1;
             point = z.2;
             is = z.3;
+            goes_on = ap has_ended z.4.past ∙ ended_more (let x = A.point in x.past) (let x = A.point in x.deed) A.goes_on (ap is_end B.deed);
             fit = subst (λ (v : World). CalleeIsFit s.program v.callee) (sym z.4.frame) A.fit;
             before = (let x = A.point in x.past);
             last = (let x = A.point in x.deed);
@@ -367,6 +380,7 @@ module _ (s : Setting) (h : IsOfProgram s) where
           place = omega (arith, place);
           point = y.0;
           is = y.1;
+          goes_on = ap has_ended later.past ∙ ended_more (let z = waits.point in z.past) (let z = waits.point in z.deed) waits.goes_on (ap is_end waits.started);
           fit = subst (λ (v : World). CalleeIsFit s.program v.callee) (sym later.frame) waits.fit;
           before = (let z = waits.point in z.past);
           last = (let z = waits.point in z.deed);
@@ -394,6 +408,7 @@ module _ (s : Setting) (h : IsOfProgram s) where
           place = R.place;
           point = R.point;
           is = R.is;
+          goes_on = R.goes_on;
           fit = R.fit;
           asked = subst (λ z. HasAsked s.code s.inputs s.program w.callee z k' l') history (step s.program _ _ R.stands);
         };
@@ -417,6 +432,7 @@ module _ (s : Setting) (h : IsOfProgram s) where
           place = refl;
           point = x.0;
           is = x.1;
+          goes_on = ap has_ended is.1;
           fit = subst (CalleeIsFit s.program) same tt;
           asked = subst (λ z. HasAsked s.code s.inputs s.program z (answers_of (let z = x.0 in z.past)) asks.Begin c) same (first_asked callees.Root c (let z = x.0 in z.past) is.1 took stands owes);
         };

@@ -1,4 +1,6 @@
+pub mod Unended
 pub mod OfKind
 pub mod Going
 pub mod Resuming
+pub mod Looking
 pub mod Along

@@ -1,4 +1,5 @@
 pub mod Asking
 pub mod Chains
 pub mod Courses
+pub mod Sorts
 pub mod Standing

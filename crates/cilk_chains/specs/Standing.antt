@@ -1,5 +1,5 @@
 -- Frames that stand at a position of a course: the one at hand, and its callers.
-use Rattle.std.specs.Prelude.{◌≡◌, ◌⊎◌, ◌≤◌, ℕ, suc, pos, List, [], ◌∷◌, ◌++◌, reverse, Some}
+use Rattle.std.specs.Prelude.{◌≡◌, ◌⊎◌, ◌≤◌, ℕ, suc, pos, false, List, [], ◌∷◌, ◌++◌, reverse, Some}
 use Rattle.cilk_types.specs.declared.invocation.Invocation.{Invocation}
 use Rattle.cilk_types.specs.declared.invocation.Invocation.TheVariants.{Spawn}
 use Rattle.cilk_types.specs.declared.limits.TheConstants.{MAX_TICKS}
@@ -9,7 +9,7 @@ use Rattle.cilk_program.specs.SerialRun.{Transcript}
 use Rattle.cilk_lower.specs.declared.code.Owed.TheVariants.{Nothing}
 use Rattle.cilk_frames.specs.Following.{Stands}
 use Rattle.cilk_runs.specs.Runs.{Deed, Invokes}
-use Rattle.cilk_worlds.specs.Machine.{answer_of, answers_of}
+use Rattle.cilk_worlds.specs.Machine.{answer_of, answers_of, has_ended}
 use Rattle.cilk_worlds.specs.Worlds.{World}
 use Rattle.cilk_inputs.specs.Points.{Point}
 use Rattle.cilk_chains.specs.declared.level.Level.{Level}
@@ -22,6 +22,7 @@ pub record Asks (c : Setting) (at : ℕ) (k : Ask) (l : Level) : Type 0 where
   pub place : suc behind ≡ at
   pub point : Point World
   pub is : point_at c behind ≡ Some point
+  pub goes_on : has_ended point.past ≡ false
   pub fit : let w = point.frame in CalleeIsFit c.program w.callee
   pub asked : let w = point.frame in HasAsked c.code c.inputs c.program w.callee (answers_of point.past) k l
 
@@ -31,6 +32,7 @@ pub record Rests (c : Setting) (at : ℕ) (l : Level) : Type 0 where
   pub place : suc behind ≡ at
   pub point : Point World
   pub is : point_at c behind ≡ Some point
+  pub goes_on : has_ended point.past ≡ false
   pub fit : let w = point.frame in CalleeIsFit c.program w.callee
   pub before : List (Deed World)
   pub last : Deed World
@@ -46,6 +48,7 @@ pub record Waits (c : Setting) (since : ℕ) (l : Level) : Type 0 where
   pub place : suc behind ≡ since
   pub point : Point World
   pub is : point_at c behind ≡ Some point
+  pub goes_on : has_ended point.past ≡ false
   pub how : Invocation
   pub child : World
   pub started : point.deed ≡ Invokes how child

@@ -7,8 +7,11 @@ ghost use Rattle.cilk_chains.specs.Chains.{standing, task_of};
 
 use crate::course::Course;
 use crate::level::Level;
+use crate::looked::Looked;
+use crate::sort::{Sort, asked_sort, kind_sort};
 use cilk_frames::asked::AskSlot;
 use cilk_frames::cursor::Answer;
+use cilk_plan::kind::Kind;
 use cilk_types::event::Pos;
 use std::alloc::{AllocError, Global};
 use std::marker::Model;
@@ -62,6 +65,9 @@ impl Model for Rest {
 
 impl Chain {
     ghost use Rattle.std.specs.Prelude.{Some};
+    ghost use Rattle.cilk_plan.specs.Kinds.{kind_of_event};
+    ghost use Rattle.cilk_story.specs.Word.{event};
+    ghost use Rattle.cilk_chains.specs.Sorts.{Says};
     ghost use Rattle.cilk_chains.specs.Asking.{Calls, Follows, IsAnswered, IsNextAsk, Spawns};
     ghost use Rattle.cilk_chains.specs.Standing.{IsTheOutermost};
 
@@ -93,6 +99,21 @@ impl Chain {
         ensures { IsNextAsk self.now.of self.now.at result.now }
     {
         &self.asked
+    }
+
+    /// Whether the frame asks for the plan's event at its position, whose kind is this.
+    pub fn look(&self, kind: Kind) -> Looked
+        requires { kind_of_event (event self.now.of.yard.story self.now.at) ≡ Some kind }
+        ensures { Says self.now.of.yard.story self.now.at result }
+    {
+        let asked = asked_sort(&self.asked);
+        if asked != kind_sort(kind) {
+            return Looked::Differs;
+        }
+        match asked {
+            Sort::Begin | Sort::Resume | Sort::Sync | Sort::End | Sort::Print => Looked::Asked,
+            _ => Looked::Unknown,
+        }
     }
 
     /// The frame goes on with the answer to its event.

@@ -24,3 +24,5 @@
 pub mod chain;
 pub mod course;
 pub mod level;
+pub mod looked;
+pub mod sort;

@@ -1,0 +1,12 @@
+//! What a look at a plan's next event says.
+
+/// Whether the frame at hand asks for the plan's next event.
+#[derive(Clone, Copy, PartialEq, Eq, Debug)]
+pub enum Looked {
+    /// It does.
+    Asked,
+    /// It asks for something else: the run departs from the plan.
+    Differs,
+    /// It asks for an event of this sort, whose cell, reducer or child would have to be compared.
+    Unknown,
+}
