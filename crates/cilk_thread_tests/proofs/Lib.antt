@@ -1,3 +1,4 @@
 pub mod Checked
 pub mod OtherRuns
 pub mod Own
+pub mod Programs

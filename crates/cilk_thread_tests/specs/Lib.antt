@@ -1,2 +1,4 @@
 pub mod Others
+pub mod Programs
 pub mod Settings
+pub mod Squared

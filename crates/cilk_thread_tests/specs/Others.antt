@@ -1,7 +1,7 @@
 -- Worked programs whose runs read an input.
 -- squares: int a[4]; int main() { cilk_for (int i = 0; i < 4; i++) { a[i] = input(i) * input(i); } return a[0] + a[3]; }
 -- turns: int a[7]; int main() { int n = input(0); cilk_for (int i = 0; i < n; i++) { a[i] = i; } return a[6]; }
-use Rattle.std.specs.Prelude.{ℕ, zero, suc, ◌-◌, ℤ, pos, ◌*ℤ◌, true, false, List, [], ◌∷◌, ◌++◌, length, replicate}
+use Rattle.std.specs.Prelude.{ℕ, zero, suc, ℤ, pos, ◌*ℤ◌, Bool, true, false, List, [], ◌∷◌, ◌++◌, replicate}
 use Rattle.cilk_types.specs.declared.event.Event.{Event}
 use Rattle.cilk_types.specs.declared.event.Event.TheVariants.{Begin, Call, Spawn, Resume, Sync, End, Read, Write}
 use Rattle.cilk_story.specs.declared.story.Story.{Story}
@@ -32,10 +32,13 @@ turns n =
 abbrev pub turns_opening : List ℤ
 turns_opening = replicate 9 (pos 0)
 
--- what a run makes of the plan of these events: with the values of those, and it asks for the first n
-abbrev pub asked_up_to : ℕ → List Event → List Event → List ℤ → Story
-asked_up_to n es values opening =
-    record { events = values; preceding = predecessors_in es; opening = opening; asked = replicate n true ++ replicate (length values - n) false }
+-- the first n events are asked for, then m aren't, and then k are
+abbrev pub but_for : ℕ → ℕ → ℕ → List Bool
+but_for n m k = (replicate n true ++ replicate m false) ++ replicate k true
+
+-- what a run makes of the plan of these events: with the values of those, and it asks for these
+abbrev pub made_of : List Bool → List Event → List Event → List ℤ → Story
+made_of asked es values opening = record { events = values; preceding = predecessors_in es; opening = opening; asked = asked }
 
 abbrev pub squares_plan : Story
 squares_plan = planned (squares (pos 1) (pos 4) (pos 9) (pos 16)) squares_opening
@@ -46,20 +49,21 @@ four = pos 5 ∷ pos 6 ∷ pos 7 ∷ pos 8 ∷ []
 abbrev pub three : List ℤ
 three = pos 5 ∷ pos 6 ∷ pos 7 ∷ []
 
--- the first program's runs along its plan on four numbers, and on three, where it has no fourth one to square
+-- The first program's runs along its plan on four numbers, and on three, where it has no fourth one to square: the frame of that turn asks for
+-- none of its last events, and the cell keeps the plan's value.
 abbrev pub squares_on : List ℤ → Story
-squares_on (a ∷ b ∷ c ∷ d ∷ xs) = asked_up_to 60 (squares (pos 1) (pos 4) (pos 9) (pos 16)) (squares (a *ℤ a) (b *ℤ b) (c *ℤ c) (d *ℤ d)) squares_opening
-squares_on (a ∷ b ∷ c ∷ []) = asked_up_to 45 (squares (pos 1) (pos 4) (pos 9) (pos 16)) (squares (a *ℤ a) (b *ℤ b) (c *ℤ c) (pos 0)) squares_opening
+squares_on (a ∷ b ∷ c ∷ d ∷ xs) = made_of (but_for 60 0 0) (squares (pos 1) (pos 4) (pos 9) (pos 16)) (squares (a *ℤ a) (b *ℤ b) (c *ℤ c) (d *ℤ d)) squares_opening
+squares_on (a ∷ b ∷ c ∷ []) = made_of (but_for 45 4 11) (squares (pos 1) (pos 4) (pos 9) (pos 16)) (squares (a *ℤ a) (b *ℤ b) (c *ℤ c) (pos 16)) squares_opening
 squares_on _ = squares_plan
 
 abbrev pub turns_plan : Story
 turns_plan = planned (turns (pos 1)) turns_opening
 
--- The second program's runs along its plan: on 1, where it is the plan's own run, on less, where it begins no turn, and on more, where it
--- spawns one.
+-- The second program's runs along its plan: on 1, where it is the plan's own run; on 0, where it calls no turn, so that its own asks come
+-- earlier than the plan's; and on more, where the frame of all turns spawns half of them, and has as many asks as that of one.
 abbrev pub turns_on : List ℤ → Story
-turns_on (pos zero ∷ xs) = asked_up_to 3 (turns (pos 1)) (turns (pos 0)) turns_opening
-turns_on (pos (suc (suc n)) ∷ xs) = asked_up_to 5 (turns (pos 1)) (turns (pos (suc (suc n)))) turns_opening
+turns_on (pos zero ∷ xs) = made_of (but_for 3 1 7 ++ but_for 0 3 1) (turns (pos 1)) (turns (pos 0)) turns_opening
+turns_on (pos (suc (suc n)) ∷ xs) = made_of (but_for 5 4 6) (turns (pos 1)) (turns (pos (suc (suc n)))) turns_opening
 turns_on _ = turns_plan
 
 -- both programs have a plan

@@ -1,9 +1,10 @@
 //! Worked programs whose runs read an input: their plans, and what they make of them on other inputs.
 
-ghost use Rattle.std.specs.Prelude.{◌≡◌, ◌⊎◌, ◌++◌, ◌∷◌, [], pos, true, false, replicate, IfOk};
+ghost use Rattle.std.specs.Prelude.{◌≡◌, ◌⊎◌, ◌++◌, ◌∷◌, [], pos, IfOk};
 ghost use Rattle.cilk_plan.specs.Along.{IsAlong};
 ghost use Rattle.cilk_shared.specs.Values.{OfYard};
-ghost use Rattle.cilk_thread_tests.specs.Others.{four, squares, squares_on, squares_plan, three, turns, turns_on, turns_plan, SquaresHavePlan, TurnsHavePlan};
+ghost use Rattle.cilk_thread_tests.specs.Others.{but_for, four, squares, squares_on, squares_plan, three, turns, turns_on, turns_plan, SquaresHavePlan, TurnsHavePlan};
+ghost use Rattle.cilk_thread_tests.specs.Programs.{StoriesAreOfPrograms};
 
 use cilk_plan::plan::Plan;
 use cilk_shared::yard::{Segment, Yard};
@@ -16,6 +17,11 @@ use std::alloc::{AllocError, Global};
 pub fn both_have_plans()
     ensures squares { SquaresHavePlan }
     ensures turns { TurnsHavePlan }
+{}
+
+/// The stories of both programs are those of their definition, on their own inputs and on the others.
+pub fn stories_are_of_programs()
+    ensures { StoriesAreOfPrograms }
 {}
 
 /// The events of the first program's run on four numbers with these squares.
@@ -157,12 +163,29 @@ pub fn turns_yard(alloc: Global, plan: &Plan, input: &Input) -> Result<(Yard, Se
     Yard::new(alloc, plan, input)
 }
 
-/// Of so many events, that the first ones are asked for, and the rest aren't.
-pub fn asked_up_to(alloc: Global, last: Pos, rest: Pos) -> Result<Vec<bool>, AllocError>
-    ensures { IfOk result (λ asked. asked.items ≡ replicate last true ++ replicate rest false) }
+/// Of so many events, that the first ones are asked for, then others aren't, and then the rest is.
+pub fn asked_but_for(
+    alloc: Global,
+    first: Pos,
+    others: Pos,
+    rest: Pos,
+) -> Result<Vec<bool>, AllocError>
+    ensures { IfOk result (λ asked. asked.items ≡ but_for first others rest) }
 {
-    let mut asked = Vec::from_elem(alloc, true, last as usize)?;
-    let others = Vec::from_elem(alloc, false, rest as usize)?;
+    let mut asked = Vec::from_elem(alloc, true, first as usize)?;
+    let others = Vec::from_elem(alloc, false, others as usize)?;
+    let rest = Vec::from_elem(alloc, true, rest as usize)?;
     asked.extend_from_slice(others.as_slice())?;
+    asked.extend_from_slice(rest.as_slice())?;
+    Ok(asked)
+}
+
+/// Of the events of the second program's plan, those that its run on 0 asks for.
+pub fn asked_on_none(alloc: Global) -> Result<Vec<bool>, AllocError>
+    ensures { IfOk result (λ asked. asked.items ≡ but_for 3 1 7 ++ but_for 0 3 1) }
+{
+    let mut asked = asked_but_for(alloc, 3, 1, 7)?;
+    let last = asked_but_for(alloc, 0, 3, 1)?;
+    asked.extend_from_slice(last.as_slice())?;
     Ok(asked)
 }

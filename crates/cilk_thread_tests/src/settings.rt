@@ -6,7 +6,8 @@ ghost use Rattle.cilk_thread_tests.specs.Others.{four, three};
 ghost use Rattle.cilk_thread_tests.specs.Settings.{AreOf};
 
 use crate::others::{
-    asked_up_to, squares, squares_plan, squares_yard, turns, turns_plan, turns_yard,
+    asked_but_for, asked_on_none, squares, squares_plan, squares_yard, turns, turns_plan,
+    turns_yard,
 };
 use cilk_checker::accepted::Accepted;
 use cilk_plan::plan::Plan;
@@ -70,7 +71,7 @@ pub fn squares_on_four(alloc: Global) -> Result<Setting, AllocError>
     let plan = squares_plan(alloc)?;
     let (yard, segment) = squares_yard(alloc, &plan, &four_numbers(alloc)?)?;
     let events = squares(alloc, 25, 36, 49, 64)?;
-    let asked = asked_up_to(alloc, 60, 0)?;
+    let asked = asked_but_for(alloc, 60, 0, 0)?;
     Ok(Setting {
         plan,
         yard,
@@ -80,15 +81,15 @@ pub fn squares_on_four(alloc: Global) -> Result<Setting, AllocError>
     })
 }
 
-/// The first program on 5 6 7, along the same run: it asks for no event past the 45th.
+/// The first program on 5 6 7, along the same run: the frame of the last turn asks for none of its events past the 45th.
 pub fn squares_on_three(alloc: Global) -> Result<Setting, AllocError>
     ensures segment { IfOk result (λ s. OfYard s.yard s.segment) }
     ensures run { IfOk result (λ s. AreOf s.yard.story s.plan s.events s.asked.items) }
 {
     let plan = squares_plan(alloc)?;
     let (yard, segment) = squares_yard(alloc, &plan, &three_numbers(alloc)?)?;
-    let events = squares(alloc, 25, 36, 49, 0)?;
-    let asked = asked_up_to(alloc, 45, 15)?;
+    let events = squares(alloc, 25, 36, 49, 16)?;
+    let asked = asked_but_for(alloc, 45, 4, 11)?;
     Ok(Setting {
         plan,
         yard,
@@ -106,7 +107,7 @@ pub fn turns_on_none(alloc: Global) -> Result<Setting, AllocError>
     let plan = turns_plan(alloc)?;
     let (yard, segment) = turns_yard(alloc, &plan, &number(alloc, 0)?)?;
     let events = turns(alloc, 0)?;
-    let asked = asked_up_to(alloc, 3, 12)?;
+    let asked = asked_on_none(alloc)?;
     Ok(Setting {
         plan,
         yard,
@@ -124,7 +125,7 @@ pub fn turns_on_seven(alloc: Global) -> Result<Setting, AllocError>
     let plan = turns_plan(alloc)?;
     let (yard, segment) = turns_yard(alloc, &plan, &number(alloc, 7)?)?;
     let events = turns(alloc, 7)?;
-    let asked = asked_up_to(alloc, 5, 10)?;
+    let asked = asked_but_for(alloc, 5, 4, 6)?;
     Ok(Setting {
         plan,
         yard,
