@@ -2,12 +2,9 @@
 //!
 //! [`texts`] makes accepted programs from texts, and [`settings`] their plans and yards. [`steps`] makes a segment's next event as the
 //! yard's run does, and [`two_threads`] forces an order of the events of two threads by messages, each of which is waited for at most ten
-//! seconds. [`inputs`] has runs on other inputs, and where they depart from a plan; [`others`] has two programs' runs on other inputs as
-//! stories, and [`other_inputs`] makes them on a yard.
+//! seconds. [`others`] has two programs' runs on other inputs as stories, and [`other_inputs`] makes them on a yard.
 #![tactic(auto)]
 
-#[cfg(test)]
-mod inputs;
 #[cfg(test)]
 mod other_inputs;
 pub mod others;
