@@ -50,7 +50,22 @@ const SUM: &str =
 
 const GIVEN: &str =
     "void put(int cilk_reducer(append) l, int x) { update(l, x); } int main() { int cilk_reducer(append) a; \
+    cilk_spawn put(a, 1); cilk_spawn put(a, 2); cilk_sync; return value(a); }";
+
+const PRINTED: &str =
+    "void put(int cilk_reducer(append) l, int x) { update(l, x); } int main() { int cilk_reducer(append) a; \
     cilk_spawn put(a, 1); cilk_spawn put(a, 2); cilk_sync; print(value(a)); return value(a); }";
+
+const NINES: &str =
+    "int cilk_reducer(affine) d; int main() { cilk_for (int i = 0; i < 20; i++) { update(d, 9); } return value(d); }";
+
+const WRAPPED: &str =
+    "int cilk_reducer(add) s; void u(int k) { update(s, k); } int main() { cilk_spawn u(9223372036854775807); \
+    cilk_spawn u(1); cilk_spawn u(1); cilk_sync; return value(s); }";
+
+const HEADED: &str =
+    "#include <cilk/cilk.h>\nint fib(int n) { if (n < 2) { return n; } int x; int y; x = cilk_spawn fib(n - 1); \
+    y = fib(n - 2); cilk_sync; return x + y; } int main() { int r; r = fib(10); return r; }";
 
 const STEALS_OF_A_LIST: &str =
     "run 1 5\nsteal 2 0\nrun 2 4\nsteal 3 0\nrun 3 4\nsteal 4 0\nrun 4 10\nrun 3 10\nrun 2 10\nrun 1 2\nsteal 5 \
@@ -59,10 +74,32 @@ const STEALS_OF_A_LIST: &str =
 const STEALS_OF_PRINTS: &str =
     "run 1 2\nsteal 2 0\nrun 2 2\nsteal 3 0\nrun 3 2\nsteal 4 0\nrun 4 2\nrun 3 6\nrun 2 6\nrun 1 9\n";
 
+/// A program, and what it leaves where each of 1, 2, 4 or 64 workers has a turn in each round.
+const ROUNDS: &[(&str, &str)] = &[
+    (FIB, "result 55\n"),
+    (HEADED, "result 55\n"),
+    (EMPTY, "result 0\n"),
+    (LIST, "reducer l 0 1 2 3 4\nresult 5\n"),
+    (LOCAL, "result 16\n"),
+    (DIGITS, "reducer d 1234\nresult 1234\n"),
+    (
+        NINES,
+        "reducer d 7766279631452241919\nresult 7766279631452241919\n",
+    ),
+    (SUM, "reducer s 5050\nresult 5050\n"),
+    (
+        WRAPPED,
+        "reducer s -9223372036854775807\nresult -9223372036854775807\n",
+    ),
+    (GIVEN, "result 2\n"),
+    (PRINTED, "2\nresult 2\n"),
+    (PRINTS, "1\n2\n3\nresult 0\n"),
+];
+
 const RUNS: &[Case] = &[
-    (FIB, "1", "all", 0, "result 55\n", ""),
     (FIB, "4", "all\n", 0, "result 55\n", ""),
     (FIB, "64", "all\r\nall", 0, "result 55\n", ""),
+    (EMPTY, "2", "steal 2 0\nrun 1 2\nrun 1 9", 0, "result 0\n", ""),
     (EARLY_READ, "2", "run 1 15", 0, "result 1\n", ""),
     (
         EARLY_READ,
@@ -80,18 +117,7 @@ const RUNS: &[Case] = &[
         "reducer l 0 1 2 3 4\nresult 5\n",
         "",
     ),
-    (LIST, "2", "all", 0, "reducer l 0 1 2 3 4\nresult 5\n", ""),
     (PRINTS, "4", STEALS_OF_PRINTS, 0, "1\n2\n3\nresult 0\n", ""),
-    (LOCAL, "2", "all", 0, "result 16\n", ""),
-    (DIGITS, "1", "all", 0, "reducer d 1234\nresult 1234\n", ""),
-    (DIGITS, "2", "all", 0, "reducer d 1234\nresult 1234\n", ""),
-    (DIGITS, "64", "all", 0, "reducer d 1234\nresult 1234\n", ""),
-    (SUM, "1", "all", 0, "reducer s 5050\nresult 5050\n", ""),
-    (SUM, "2", "all", 0, "reducer s 5050\nresult 5050\n", ""),
-    (SUM, "64", "all", 0, "reducer s 5050\nresult 5050\n", ""),
-    (GIVEN, "1", "all", 0, "2\nresult 2\n", ""),
-    (GIVEN, "2", "all", 0, "2\nresult 2\n", ""),
-    (GIVEN, "64", "all", 0, "2\nresult 2\n", ""),
 ];
 
 const UNENDED: &[Case] = &[
@@ -105,6 +131,8 @@ const UNENDED: &[Case] = &[
 
 const STOPS: &[Case] = &[
     (DIVISION, "1", "run 1 20", 3, "", "fault 201 in r.2:1\n"),
+    (DIVISION, "2", "run 1 20", 3, "", "fault 201 in r.2:1\n"),
+    (DIVISION, "64", "run 1 20", 3, "", "fault 201 in r.2:1\n"),
     (DIVISION, "2", "all", 3, "", "fault 201 in r.2:1\n"),
     (CALLED, "2", "all", 3, "", "fault 203 in r.3.1:2\n"),
     (
@@ -147,6 +175,25 @@ fn is_shown(alloc: Global, case: &Case) -> bool {
 fn scripts_that_end_the_run(rt: HostRuntime) {
     for case in RUNS {
         assert!(rt; is_shown(rt.alloc(), case), "{} {}", case.0, case.2);
+    }
+}
+
+// What each number of workers leaves by rounds of all.
+fn is_left(alloc: Global, program: &str, out: &str) -> bool {
+    for workers in ["1", "2", "4", "64"] {
+        let words = ["play", "program", "script", "--workers", workers];
+        let ended = played(alloc, &words, program.as_bytes(), b"", b"all");
+        if !ended.is(0, out, "") {
+            return false;
+        }
+    }
+    true
+}
+
+#[test]
+fn rounds_of_all_workers(rt: HostRuntime) {
+    for (program, out) in ROUNDS {
+        assert!(rt; is_left(rt.alloc(), program, out), "{program}");
     }
 }
 

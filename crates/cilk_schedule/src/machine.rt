@@ -113,7 +113,7 @@ impl<'a> Machine<'a> {
         self.board.outcome.is_some()
     }
 
-    /// What the run shows so far: what its frames did, by names that no schedule changes, which of them were joined, and the outcome.
+    /// What the run shows so far: what its frames did, by paths that no schedule changes, which of them were joined, and the outcome.
     /// After a stop it shows the run before the choice that stopped it.
     pub fn shown(&self, alloc: Global) -> Result<Shown, AllocError>
         ensures outcome { IfOk result (λ shown. shown.outcome ≡ self.now.board.outcome) }

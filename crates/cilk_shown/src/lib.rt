@@ -1,4 +1,4 @@
-//! What a run of a stepwise machine shows: the events of each frame, by names that no schedule changes, the joins and the outcome.
+//! What a run of a stepwise machine shows: the events of each frame, which is asked for by its path, the joins and the outcome.
 //!
 //! A [`cilk_board::board::Board`] has frames, cells and reducers by numbers that the run gives as frames begin. A frame's
 //! path has an ordinal for each frame from the first one's child down to it; on each schedule it is the same.
