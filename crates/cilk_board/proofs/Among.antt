@@ -4,7 +4,7 @@
 -- - `stolen_among`: the continuations beside them were stolen;
 -- - `stolen_apart`, `among_low`: none is listed twice, and the last is the greatest;
 -- - `in_less`, `in_rest`, `not_in`: names without one.
-use Rattle.std.proofs.Common.{◌≡◌, inl, inr, ⊎_elim, ◌+◌, ◌<◌, ◌≤◌, ℕ, suc, nat_eq, eqb-true, Bool, true, false, true≢false, cond, List, [], ◌∷◌, ◌++◌, Option, refl, sym, ap, ◌∙◌, subst, arith}
+use Rattle.std.proofs.Common.{◌≡◌, inl, inr, ⊎_elim, ◌<◌, ◌≤◌, ℕ, suc, nat_eq, eqb-true, Bool, true, false, true≢false, cond, List, [], ◌∷◌, ◌++◌, Option, refl, sym, ap, ◌∙◌, subst, arith}
 use Rattle.std.proofs.lemmas.Bool.{cases_Bool}
 use Rattle.cilk_types.specs.declared.invocation.Invocation.TheVariants.{Call, Spawn}
 use Rattle.cilk_monoid.specs.Values.{ViewValue}

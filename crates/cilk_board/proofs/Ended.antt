@@ -6,7 +6,7 @@
 -- - `keeps_stays`, `where_else`, `other`, `itself`, `holds_at`: blocks, seats and workers;
 -- - `waits_as`, `desk_kept`: the desk;
 -- - `shown_after`: the whole.
-use Rattle.std.proofs.Common.{◌≡◌, ◌⊎◌, inl, inr, ⊎_elim, ◌+◌, ◌<◌, ◌≤◌, ℕ, suc, nat_eq, eq-eqb, eqb-true, Bool, true, false, true≢false, cond, ℤ, List, [], ◌∷◌, ◌++◌, length, map, set, slice_get, sum, Option, Some, None, refl, sym, ap, ap₂, ◌∙◌, subst, arith}
+use Rattle.std.proofs.Common.{◌≡◌, inl, inr, ⊎_elim, ◌+◌, ◌<◌, ◌≤◌, ℕ, suc, nat_eq, eq-eqb, eqb-true, Bool, true, false, true≢false, cond, ℤ, List, [], ◌∷◌, ◌++◌, length, map, set, slice_get, sum, Option, Some, None, refl, sym, ap, ap₂, ◌∙◌, subst, arith}
 use Rattle.std.proofs.lemmas.Bool.{cases_Bool}
 use Rattle.cilk_types.specs.declared.event.Event.TheVariants as events
 use Rattle.cilk_types.specs.declared.event.Instance as numbered

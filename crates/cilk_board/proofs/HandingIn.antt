@@ -16,7 +16,7 @@ use Rattle.cilk_program.specs.Syntax.{Source}
 use Rattle.cilk_lower.specs.Code.{CodeView}
 use Rattle.cilk_activations.specs.declared.activation.Activation.{Activation}
 use Rattle.cilk_hypermap.specs.Hypermap.{value_in}
-use Rattle.cilk_join.specs.Joins.{JoinView, arrived_at, passed as passed_block, passes}
+use Rattle.cilk_join.specs.Joins.{JoinView, arrived_at, passed as passed_block}
 use Rattle.cilk_join.specs.Products.{Product, product}
 use Rattle.cilk_join.specs.Rows.{Row, Stands, Wait, is_empty}
 use Rattle.cilk_join.specs.Waits.{shown}

@@ -1,9 +1,10 @@
 -- Places in lists, and the continuations that workers offer.
 --
--- - `there_is`: what stands at a place;
+-- - `there_is`, `get_there`, `there_at`: what stands at a place, and what a look-up tells of it;
 -- - `get_some`, `get_first`, `get_second`: a place in a list, and in two;
 -- - `offers_at`, `located`, `passed_by`: the continuations from one worker on.
-use Rattle.std.proofs.Common.{◌≡◌, ◌-◌, ◌<◌, ◌≤◌, ℕ, zero, suc, List, [], ◌∷◌, ◌++◌, length, drop, slice_get, slice_index_or, Some, None, refl, sym, ap, ◌∙◌, arith}
+use Rattle.std.proofs.Common.{◌≡◌, ◌-◌, ◌<◌, ◌≤◌, ℕ, zero, suc, true, List, [], ◌∷◌, ◌++◌, length, drop, slice_get, slice_index_or, nat_lt, Some, None, refl, sym, ap, ◌∙◌, arith}
+use Rattle.std.proofs.lemmas.Bool.{ltb-true}
 use Rattle.cilk_board.specs.declared.seat.Worker.{Worker}
 use Rattle.cilk_board.specs.Workers.{IsLocated, offers}
 
@@ -16,6 +17,9 @@ pub get_there : {A : Type 0} (xs : List A) (k : ℕ) (d : A) → d ≡ slice_ind
 get_there [] k d e h = absurd (omega (arith, h))
 get_there (x ∷ xs) zero d e h = ap Some (sym e)
 get_there (x ∷ xs) (suc k) d e h = get_there xs k d e (omega (arith, h))
+
+pub there_at : {A : Type 0} (xs : List A) (k : ℕ) (d : A) → true ≡ nat_lt k (length xs) → d ≡ slice_index_or xs k d → slice_get xs k ≡ Some d
+there_at xs k d less is = get_there xs k d is (ltb-true k (length xs) (sym less))
 
 pub get_first : {A : Type 0} (xs ys : List A) (i : ℕ) → i < length xs → slice_get (xs ++ ys) i ≡ slice_get xs i
 get_first [] ys i h = absurd (omega (arith, h))

@@ -212,7 +212,7 @@ module _ (code : CodeView) (p : Source) (inputs : List ℤ) (name : ℕ → Name
     where
       found_by : (victim : ℕ) (owner free : Worker) (found : Bool) → parent.status ≡ Offered victim → slice_get old_workers victim ≡ Some owner → free.frame ≡ owner.frame → free.views ≡ owner.views
           → (let o = owner.offered in let l = free.offered in Withdraws o.items up found l.items) → g.others ≡ altered (λ _. free) old_workers victim → b'.offered ≡ cond found (b.offered - 1) b.offered → Taken
-      found_by victim owner free true e at f x (place, is, gone, later) o n = freed victim place owner free e at is f x gone o n
+      found_by victim owner free true e at f x (place, is, gone) o n = freed victim place owner free e at is f x gone o n
       found_by victim owner free false e at f x (none, same) o n = by (let z = waits in z.awaits)
         where
           by : Awaits → Taken

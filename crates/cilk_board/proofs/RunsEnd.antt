@@ -3,7 +3,7 @@
 -- - `no_snoc`, `result_end`: names, and what an end gives;
 -- - `outcome_is`: what the run leaves;
 -- - `runs_end`: the law.
-use Rattle.std.proofs.Common.{◌≡◌, ⊎_elim, ◌+◌, ℕ, suc, true, false, true≢false, ℤ, List, [], ◌∷◌, ◌++◌, length, slice_get, Some, None, refl, sym, ap, ◌∙◌, subst}
+use Rattle.std.proofs.Common.{◌≡◌, ⊎_elim, ℕ, suc, false, true≢false, ℤ, List, [], ◌∷◌, ◌++◌, length, slice_get, Some, None, refl, sym, ap, ◌∙◌, subst}
 use Rattle.cilk_types.specs.declared.event.Instance as numbered
 use Rattle.cilk_program.specs.declared.ask.Ask.TheVariants as asks
 use Rattle.cilk_program.specs.SerialRun.{global_reducer}

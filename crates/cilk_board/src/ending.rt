@@ -28,13 +28,19 @@ pub fn retire_own(layout: &Layout, top: &Activation<Seat>, views: &mut Hypermap)
 }
 
 /// The continuation of the frame at a place, which is where its status says, is no longer offered. How many are offered then.
-pub fn take_back(workers: &mut Vec<Worker>, offered: usize, status: Status, frame: u32) -> usize
+pub fn take_back(
+    workers: &mut Vec<Worker>,
+    frames: &[Activation<Seat>],
+    offered: usize,
+    status: Status,
+    frame: u32,
+) -> usize
     requires { (v : ℕ) → status ≡ Offered v → v < length workers.old.items }
     ensures { Seeks frame status workers.old.items workers.new.items offered result }
 {
     match status {
         Status::Offered(other) => {
-            if withdraw(&mut workers[other as usize].offered, frame) {
+            if withdraw(&mut workers[other as usize].offered, frames, frame) {
                 offered.saturating_sub(1)
             } else {
                 offered

@@ -1,9 +1,10 @@
 //! Continuations that are offered.
 
-ghost use Rattle.std.specs.Prelude.{◌≡◌, None, Some, length, slice_get, MatchOption};
+ghost use Rattle.std.specs.Prelude.{◌≡◌, ℕ, None, Some, slice_get, MatchOption};
 ghost use Rattle.cilk_board.specs.Workers.{IsLocated, Withdraws, offers};
 
-use crate::seat::Worker;
+use crate::seat::{Seat, Worker};
+use cilk_activations::activation::Activation;
 use std::collections::VecDeque;
 
 /// The worker that offers the continuation at a place among all, and its place in that worker's list; none behind the last.
@@ -21,17 +22,55 @@ pub fn locate(workers: &[Worker], place: usize) -> Option<(usize, usize)>
     None
 }
 
-/// A frame goes from a list, sought from the newest on. Whether it was there.
-pub fn withdraw(offered: &mut VecDeque<u32>, frame: u32) -> bool
+/// A frame goes from a list. Whether it was there. Where frames in the list come in the order of their last children, it is found by halving.
+pub fn withdraw(offered: &mut VecDeque<u32>, frames: &[Activation<Seat>], frame: u32) -> bool
     ensures { Withdraws offered.old.items frame result offered.new.items }
 {
+    match seek(offered, frames, frame) {
+        Some(place) => {
+            let _frame = offered.remove(place);
+            true
+        }
+        None => false,
+    }
+}
+
+// The place of a frame in a list, if it is there.
+//
+// A frame is offered when it has started its last child, the newest frame of all then, and starts no other while it is offered. So each
+// worker's list is in the order of last children, and the first look finds what is there; the search that follows is for other lists.
+fn seek(offered: &VecDeque<u32>, frames: &[Activation<Seat>], frame: u32) -> Option<usize>
+    ensures { MatchOption result ((at : ℕ) → slice_get offered.now.items at ≡ Some frame → ⊥) (λ at. slice_get offered.now.items at ≡ Some frame) }
+{
+    let likely = likely_place(offered, frames, frame);
+    if likely < offered.len() && offered[likely] == frame {
+        return Some(likely);
+    }
     let mut place = offered.len();
     'each: while place > 0 {
         place -= 1;
         if offered[place] == frame {
-            let _frame = offered.remove(place);
-            return true;
+            return Some(place);
         }
     }
-    false
+    None
+}
+
+// Where a frame stands in a list that is in the order of last children: mostly it is the newest.
+fn likely_place(offered: &VecDeque<u32>, frames: &[Activation<Seat>], frame: u32) -> usize {
+    match offered.back() {
+        Some(newest) if *newest == frame => offered.len().saturating_sub(1),
+        _ => {
+            let last = last_child(frames, frame);
+            offered.partition_point(|other| last_child(frames, *other) < last)
+        }
+    }
+}
+
+// The place of the last child of a frame, as far as there is one.
+fn last_child(frames: &[Activation<Seat>], frame: u32) -> u32 {
+    match frames.get(frame as usize) {
+        Some(frame) => frame.cursor.last,
+        None => 0,
+    }
 }

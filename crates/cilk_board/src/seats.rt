@@ -37,8 +37,7 @@ pub fn begin_block(frames: &mut Vec<Activation<Seat>>, frame: usize)
     let seat = &mut frames[frame].cursor;
     seat.join = None;
     seat.merged = false;
-    seat.strands += 1;
-    seat.due = Due::Answer(Answer::Done);
+    begin_strand(frames, frame);
 }
 
 /// The frame is somewhere else.

@@ -3,11 +3,9 @@
 -- - `inside`: a place where something stands;
 -- - `is_held`: one that has a frame is there;
 -- - `is_there`: one that is idle is there;
--- - `there_at`, `same_at`, `some_of`, `holds_true`: what a look-up and a test tell.
-use Rattle.std.proofs.Common.{◌≡◌, ◌<◌, ◌≤◌, ℕ, zero, suc, Bool, true, false, List, [], ◌∷◌, length, slice_get, slice_index_or, nat_lt, IsTrue, Option, Some, None, refl, sym, ◌∙◌, arith}
+-- - `same_at`, `some_of`, `holds_true`: what a look-up and a test tell.
+use Rattle.std.proofs.Common.{◌≡◌, ◌<◌, ◌≤◌, ℕ, zero, suc, Bool, true, false, List, [], ◌∷◌, length, slice_get, IsTrue, Option, Some, None, refl, sym, ◌∙◌, arith}
 use Rattle.std.specs.Option.{is_some}
-use Rattle.std.proofs.lemmas.Bool.{ltb-true}
-use Rattle.cilk_board.proofs.Placed.{get_there}
 use Rattle.cilk_board.specs.Workers.{frame_in, held_by, is_free, is_idle}
 use Rattle.cilk_board.specs.declared.seat.Worker.{Worker}
 
@@ -31,9 +29,6 @@ is_there ws (suc w) h = by (slice_get ws w) refl h
     by : (o : Option Worker) → slice_get ws w ≡ o → is_free o ≡ true → (0 < suc w) × (suc w ≤ length ws)
     by None e q = let z : false ≡ true = q in cc
     by (Some u) e q = let less = inside ws w u e in (omega arith, omega (arith, less))
-
-pub there_at : {A : Type 0} (xs : List A) (k : ℕ) (d : A) → true ≡ nat_lt k (length xs) → d ≡ slice_index_or xs k d → slice_get xs k ≡ Some d
-there_at xs k d less is = get_there xs k d is (ltb-true k (length xs) (sym less))
 
 pub some_of : {A : Type 0} (o : Option A) → is_some o ≡ true → (x : A) × (o ≡ Some x)
 some_of None h = let e : false ≡ true = h in cc

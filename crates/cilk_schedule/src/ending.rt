@@ -202,12 +202,19 @@ fn go_back(board: &mut Board, worker: usize, frame: usize)
 {
     let parent = board.frames[frame].cursor.parent;
     let status = board.frames[parent as usize].cursor.status;
-    board.offered = reclaim(&mut board.workers, board.offered, status, parent);
+    let frames = board.frames.as_slice();
+    board.offered = reclaim(&mut board.workers, frames, board.offered, status, parent);
     hold(&mut board.frames, &mut board.workers, worker, parent);
 }
 
 // The continuation of a frame is no longer offered by the worker that its status names. How many are offered then.
-fn reclaim(workers: &mut Vec<Worker>, offered: usize, status: Status, frame: u32) -> usize
+fn reclaim(
+    workers: &mut Vec<Worker>,
+    frames: &[Activation<Seat>],
+    offered: usize,
+    status: Status,
+    frame: u32,
+) -> usize
     ensures same { length workers.new.items ≡ length workers.old.items }
     ensures fewer { result ≤ offered }
     ensures seeks { IsOfferedAmong status (length workers.old.items) → Seeks frame status workers.old.items workers.new.items offered result }
@@ -215,7 +222,7 @@ fn reclaim(workers: &mut Vec<Worker>, offered: usize, status: Status, frame: u32
     if !offered_among(status, workers.len()) {
         return offered;
     }
-    take_back(workers, offered, status, frame)
+    take_back(workers, frames, offered, status, frame)
 }
 
 // Whether the worker that offers a continuation, where one does, is one of so many.

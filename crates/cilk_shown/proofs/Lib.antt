@@ -3,5 +3,4 @@ pub mod Links
 pub mod Linked
 pub mod Owners
 pub mod Paths
-pub mod Places
 pub mod Shows

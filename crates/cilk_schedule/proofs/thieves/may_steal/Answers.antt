@@ -3,7 +3,8 @@ use Rattle.std.proofs.lemmas.Bool.{ltb-true}
 use Rattle.cilk_join.specs.Joins.{IsOpen}
 use Rattle.cilk_join.specs.Waits.{shown}
 use Rattle.cilk_board.specs.Events.{block_in}
-use Rattle.cilk_schedule.proofs.Workers.{holds_true, there_at}
+use Rattle.cilk_board.proofs.Placed.{there_at}
+use Rattle.cilk_schedule.proofs.Workers.{holds_true}
 use Rattle.cilk_schedule.proofs.thieves.may_steal.Goals as goal
 
 pub returns-in-Some-join-clause-yes : goal.returns-in-Some-join-clause-yes

@@ -4,7 +4,7 @@ use Rattle.cilk_activations.specs.declared.activation.Activation.{Activation}
 use Rattle.cilk_board.specs.declared.seat.Seat.{Seat}
 use Rattle.cilk_shown.specs.declared.naming.CellName.TheVariants as cells
 use Rattle.cilk_shown.proofs.Owners.{parted, past_is}
-use Rattle.cilk_shown.proofs.Places.{there_at}
+use Rattle.cilk_board.proofs.Placed.{there_at}
 use Rattle.cilk_shown.proofs.naming.named_cell.Goals as goal
 
 pub returns-in-Some : goal.returns-in-Some

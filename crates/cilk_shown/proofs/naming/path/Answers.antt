@@ -1,7 +1,7 @@
 use Rattle.std.proofs.Common.{◌≡◌, ◌+◌, ◌<◌, [], length, sym, ◌∙◌, subst, arith, reverse, rules}
 use Rattle.std.proofs.lemmas.Bool.{ltb-false}
 use Rattle.cilk_shown.proofs.Paths.{IsOnWay, begins, ended, onward}
-use Rattle.cilk_shown.proofs.Places.{there_at}
+use Rattle.cilk_board.proofs.Placed.{there_at}
 use Rattle.cilk_shown.proofs.naming.path.Goals.{else-each-test, then-each-test+then-place-eq0, then-each-test+else-place-eq0+in_default}
 use Rattle.cilk_shown.proofs.naming.path.Goals as goal
 

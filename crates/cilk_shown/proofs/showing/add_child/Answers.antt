@@ -1,7 +1,7 @@
 use Rattle.std.proofs.Common.{◌≡◌, ◌++◌, ◌∷◌, [], length, refl, sym, ap, ◌∙◌, arith, rules}
 use Rattle.std.proofs.lemmas.Bool.{ltb-false}
 use Rattle.cilk_shown.proofs.Linked.{child_added, child_nowhere}
-use Rattle.cilk_shown.proofs.Places.{there_at}
+use Rattle.cilk_board.proofs.Placed.{there_at}
 use Rattle.cilk_shown.proofs.showing.add_child.Goals as goal
 
 pub returns-in_ok-push : goal.returns-in_ok-push

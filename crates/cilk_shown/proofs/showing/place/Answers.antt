@@ -1,7 +1,7 @@
 use Rattle.std.proofs.Common.{length, refl, sym, arith}
 use Rattle.std.proofs.lemmas.Bool.{ltb-false}
 use Rattle.cilk_shown.proofs.Linked.{event_added, event_nowhere}
-use Rattle.cilk_shown.proofs.Places.{there_at}
+use Rattle.cilk_board.proofs.Placed.{there_at}
 use Rattle.cilk_shown.proofs.showing.place.Goals as goal
 
 pub returns-in_default : goal.returns-in_default

@@ -1,7 +1,7 @@
 use Rattle.std.proofs.Common.{◌≡◌, ◌<◌, ◌≤◌, ◌++◌, ◌∷◌, [], ℕ, suc, MatchOption, length, slice_get, sym, ap, ◌∙◌, subst, arith}
 use Rattle.std.proofs.lemmas.Bool.{ltb-false}
 use Rattle.cilk_board.proofs.Plain.{get_low}
-use Rattle.cilk_shown.proofs.Places.{there_at}
+use Rattle.cilk_board.proofs.Placed.{there_at}
 use Rattle.cilk_shown.proofs.showing.Shown.child.Goals as goal
 
 pub returns-in_err-frame : goal.returns-in_err-frame

@@ -3,7 +3,7 @@ use Rattle.std.proofs.lemmas.Bool.{ltb-false}
 use Rattle.cilk_runs.specs.Machine.{Frame}
 use Rattle.cilk_worlds.specs.Worlds.{World}
 use Rattle.cilk_shown.specs.Showing.{AreShown}
-use Rattle.cilk_shown.proofs.Places.{there_at}
+use Rattle.cilk_board.proofs.Placed.{there_at}
 use Rattle.cilk_shown.proofs.showing.Shown.events.Goals as goal
 
 pub returns-in_err-place : goal.returns-in_err-place

@@ -1,5 +1,5 @@
 use Rattle.std.proofs.Common.{slice_get, sym, ap, ◌∙◌}
-use Rattle.cilk_shown.proofs.Places.{there_at}
+use Rattle.cilk_board.proofs.Placed.{there_at}
 use Rattle.cilk_shown.proofs.Shows.{link_named}
 use Rattle.cilk_shown.proofs.showing.Shown.link.Goals as goal
 
