@@ -4,7 +4,7 @@
 -- - `refused_stops`: from what the functions answer, by numbers, to the law of stops;
 -- - `memory_stops`, `halted`: a want of memory, and a board that keeps why it stopped;
 -- - `one_after`, `stops_reach`, `if_err_reaches`, `if_err_halts`: steps lead to the state that was stopped.
-use Rattle.std.proofs.Common.{◌≡◌, ◌+◌, ◌-◌, ◌∷◌, ◌++◌, [], ℕ, zero, suc, nat_eq, eqb-true, Bool, true, false, cond, ℤ, List, length, slice_get, Option, Some, Result, Ok, Err, IfErr, refl, sym, ap, ◌∙◌, subst, arith, inr}
+use Rattle.std.proofs.Common.{◌≡◌, ◌+◌, ◌-◌, ◌∷◌, ◌++◌, [], ℕ, zero, suc, false, ℤ, List, length, slice_get, Option, Some, Result, Ok, Err, IfErr, refl, sym, ap, ◌∙◌, subst, arith, inr}
 use Rattle.cilk_types.specs.declared.fault.Fault.{Fault}
 use Rattle.cilk_program.specs.Syntax.{Source}
 use Rattle.cilk_program.specs.declared.ask.Ask.{Ask}

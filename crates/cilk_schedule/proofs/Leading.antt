@@ -3,7 +3,7 @@
 -- - `reached_of`: what holds of each state that steps lead to;
 -- - `led_by`, `events_reach`: by an event;
 -- - `choices_reach`, `if_ok_reaches`: whatever is told of the choice.
-use Rattle.std.proofs.Common.{◌≡◌, ℕ, ℤ, List, refl, subst, sym}
+use Rattle.std.proofs.Common.{ℕ, ℤ, List, refl}
 use Rattle.std.specs.Prelude.{Result, Ok, Err, IfOk}
 use Rattle.cilk_board.specs.declared.choice.Stop.{Stop}
 use Rattle.cilk_types.specs.declared.event.Event.{Event}

@@ -7,7 +7,7 @@
 -- - `opened_at`: the board of a new machine shows the opening state;
 -- - `leaves_by`: what a state leaves that a board tells;
 -- - `played_by`, `stopped_by`: of a whole list.
-use Rattle.std.proofs.Common.{◌≡◌, ◌⊎◌, inl, inr, ◌-◌, ◌<◌, ℕ, suc, ℤ, List, [], ◌∷◌, ◌++◌, length, map, slice_get, Option, Some, None, refl, sym, ap, ◌∙◌, subst, Bor, MatchOption}
+use Rattle.std.proofs.Common.{◌≡◌, inl, inr, ◌-◌, ℕ, ℤ, List, [], ◌∷◌, ◌++◌, Option, Some, None, refl, sym, ap, ◌∙◌, subst, Bor, MatchOption}
 use Rattle.cilk_types.specs.declared.outcome.Outcome.{Outcome}
 use Rattle.cilk_program.specs.Syntax.{Source}
 use Rattle.cilk_lower.specs.Code.{CodeView}
