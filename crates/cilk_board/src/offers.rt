@@ -22,7 +22,7 @@ pub fn locate(workers: &[Worker], place: usize) -> Option<(usize, usize)>
     None
 }
 
-/// A frame goes from a list. Whether it was there. Where frames in the list come in the order of their last children, it is found by halving.
+/// A frame goes from a list, found by halving where that is in the order of last children. Whether it was there.
 pub fn withdraw(offered: &mut VecDeque<u32>, frames: &[Activation<Seat>], frame: u32) -> bool
     ensures { Withdraws offered.old.items frame result offered.new.items }
 {
@@ -37,8 +37,9 @@ pub fn withdraw(offered: &mut VecDeque<u32>, frames: &[Activation<Seat>], frame:
 
 // The place of a frame in a list, if it is there.
 //
-// A frame is offered when it has started its last child, the newest frame of all then, and starts no other while it is offered. So each
-// worker's list is in the order of last children, and the first look finds what is there; the search that follows is for other lists.
+// A frame is offered when it has started its last child, the newest frame of all then, and starts no other while it is
+// offered. So each worker's list is in the order of last children, and the first look finds what is there; the search
+// behind it is for other lists.
 fn seek(offered: &VecDeque<u32>, frames: &[Activation<Seat>], frame: u32) -> Option<usize>
     ensures { MatchOption result ((at : ℕ) → slice_get offered.now.items at ≡ Some frame → ⊥) (λ at. slice_get offered.now.items at ≡ Some frame) }
 {
