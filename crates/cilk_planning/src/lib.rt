@@ -11,6 +11,7 @@
 #![tactic(auto)]
 
 pub mod frames;
+pub mod laws;
 pub mod planning;
 pub mod program_plan;
 pub mod yards;

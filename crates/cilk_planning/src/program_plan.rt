@@ -9,10 +9,12 @@ ghost use Rattle.cilk_plan.specs.Blocks.{IsContinuationOf};
 ghost use Rattle.cilk_plan.specs.Strands.{BeginsStrand};
 ghost use Rattle.cilk_plan.specs.declared.blocks.Continuation.{Continuation};
 ghost use Rattle.cilk_program.specs.Sources.{source};
+ghost use Rattle.cilk_planning.specs.Continuations.{SpawnsHaveContinuations};
 ghost use Rattle.cilk_planning.specs.Frames.{IsFrameOf};
 ghost use Rattle.cilk_planning.specs.Plans.{IsPlanOf};
 
 use crate::frames::{PlannedFrame, frames};
+use crate::laws::plans_have_continuations;
 use crate::planning::events;
 use cilk_checker::accepted::Accepted;
 use cilk_lower::code::Code;
@@ -86,12 +88,15 @@ pub fn plan<'a>(alloc: Global, accepted: &'a Accepted) -> Result<ProgramPlan<'a>
 }
 
 impl<'a> ProgramPlan<'a> {
-    /// The run is determinate: of no other order of its events does another state come.
+    /// The run is determinate: of no other order of its events does another state come. Each spawn has one continuation: one `resume`, and
+    /// the `sync` that ends its block.
     pub fn laws(&self)
         ensures determinate { HasDeterminateRun self.now.run }
         ensures plan { IsPlanOf self.now.run self.now.story }
+        ensures continuations { SpawnsHaveContinuations self.now.story }
     {
-        let _events = self.events.count();
+        plans_have_continuations();
+        self.events.laws();
     }
 
     pub fn program(&self) -> &Program
