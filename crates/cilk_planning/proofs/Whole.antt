@@ -1,11 +1,14 @@
--- What the plan of a program's run tells: `continuation_at`, `strand_at`.
-use Rattle.std.proofs.Common.{◌≡◌, ◌↔◌, ℕ, ◌+◌, ◌-◌, ◌≤◌, List, Option, Some, None, slice_get, slice_index_or, sym, ap, ◌∙◌, subst, arith}
+-- What the plan of a program's run tells: `continuation_at`, `continuation_there`, `strand_at`.
+use Rattle.std.proofs.Common.{◌≡◌, ◌↔◌, ℕ, ◌+◌, ◌-◌, ◌≤◌, List, Option, Some, None, IsSome, slice_get, slice_index_or, refl, sym, ap, ◌∙◌, subst, arith}
 use Rattle.cilk_types.specs.declared.event.Event.{Event}
 use Rattle.cilk_story.specs.declared.story.Story.{Story}
+use Rattle.cilk_story.specs.Orders.{IsOrderly}
+use Rattle.cilk_story.specs.Word.{spawn, what}
 use Rattle.cilk_plan.specs.declared.blocks.Continuation.{Continuation}
 use Rattle.cilk_plan.specs.Blocks.{AreContinuations, IsContinuationOf}
 use Rattle.cilk_plan.specs.Strands.{AreStarts, BeginsStrand}
 use Rattle.cilk_checker.specs.Determinate.{AcceptedRun}
+use Rattle.cilk_planning.specs.Continuations.{SpawnsHaveContinuations}
 use Rattle.cilk_planning.specs.Plans.{IsPlanOf, WholePlan}
 
 abbrev whole : AcceptedRun → Story → WholePlan
@@ -15,6 +18,17 @@ pub continuation_at : (w : WholePlan) (a : AcceptedRun) (s : Story) (column : Li
     → AreContinuations s column → result ≡ slice_index_or column k None → (c : Continuation) → (result ≡ Some c) ↔ IsContinuationOf w.story k c
 continuation_at w a s column k result same are is c =
     subst (λ (v : WholePlan). (result ≡ Some c) ↔ IsContinuationOf v.story k c) same (λ e. (are k c).0 (sym is ∙ e), λ h. is ∙ (are k c).1 h)
+
+some_told : (result : Option Continuation) (P : Type 0) → ((c : Continuation) → result ≡ Some c → P) → IsSome result → P
+some_told None P told h = absurd (cc h)
+some_told (Some c) P told h = told c refl
+
+pub continuation_there : (s : Story) (k : ℕ) (result : Option Continuation) → IsOrderly s → SpawnsHaveContinuations s → ((c : Continuation) → (result ≡ Some c) ↔ IsContinuationOf s k c)
+    → IsSome result ↔ (what s k ≡ spawn)
+continuation_there s k result law each exact = (
+  some_told result (what s k ≡ spawn) (λ c is. (law.resumed c.resume k ((exact c).0 is).resumes).0),
+  λ h. let one = each k h in subst IsSome (sym ((exact one.continuation).1 one.is)) refl,
+)
 
 pub strand_at : (w : WholePlan) (a : AcceptedRun) (s : Story) (starts : List ℕ) (n : ℕ) (result : Option ℕ) → whole a s ≡ w → IsPlanOf a s
     → AreStarts a.trace starts → 1 ≤ n → result ≡ slice_get starts (n - 1) → (p : ℕ) → (result ≡ Some p) ↔ ((1 ≤ n) × BeginsStrand w.story.events n p)

@@ -6,7 +6,7 @@
 //!
 //! ```text
 //! let plan = plan(alloc, &accepted)?;
-//! let (yard, segment) = yard(alloc, &accepted, plan.events(), &input)?;
+//! let (yard, segment) = yard(alloc, &plan, &input)?;
 //! ```
 #![tactic(auto)]
 

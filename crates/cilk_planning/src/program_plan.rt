@@ -1,6 +1,6 @@
 //! All that a worker may know of the run of an accepted program that it runs again.
 
-ghost use Rattle.std.specs.Prelude.{◌≡◌, ◌↔◌, ◌≤◌, ℕ, Some, None, slice_get, slice_index_or, IfOk};
+ghost use Rattle.std.specs.Prelude.{◌≡◌, ◌↔◌, ◌≤◌, ℕ, Some, None, slice_get, slice_index_or, IfOk, IsSome};
 ghost use Rattle.cilk_checker.specs.Determinate.{HasDeterminateRun};
 ghost use Rattle.cilk_lower.specs.Behaves.{Behaves};
 ghost use Rattle.cilk_lower.specs.Layout.{LaysOut};
@@ -9,6 +9,8 @@ ghost use Rattle.cilk_plan.specs.Blocks.{IsContinuationOf};
 ghost use Rattle.cilk_plan.specs.Strands.{BeginsStrand};
 ghost use Rattle.cilk_plan.specs.declared.blocks.Continuation.{Continuation};
 ghost use Rattle.cilk_program.specs.Sources.{source};
+ghost use Rattle.cilk_story.specs.Orders.{IsOrderly};
+ghost use Rattle.cilk_story.specs.Word.{spawn, what};
 ghost use Rattle.cilk_planning.specs.Continuations.{SpawnsHaveContinuations};
 ghost use Rattle.cilk_planning.specs.Frames.{IsFrameOf};
 ghost use Rattle.cilk_planning.specs.Plans.{IsPlanOf};
@@ -93,6 +95,7 @@ impl<'a> ProgramPlan<'a> {
     pub fn laws(&self)
         ensures determinate { HasDeterminateRun self.now.run }
         ensures plan { IsPlanOf self.now.run self.now.story }
+        ensures order { IsOrderly self.now.story }
         ensures continuations { SpawnsHaveContinuations self.now.story }
     {
         plans_have_continuations();
@@ -129,6 +132,13 @@ impl<'a> ProgramPlan<'a> {
         &self.events
     }
 
+    /// The plan of the run's events alone.
+    pub fn into_events(self) -> Plan
+        ensures { result ≡ self.entry.story }
+    {
+        self.events
+    }
+
     /// What the frame with a number runs, and where its cells lie; none where the run has no such frame.
     pub fn frame(&self, number: FrameNo) -> Option<PlannedFrame>
         ensures { IsFrameOf self.now.run number result }
@@ -140,10 +150,12 @@ impl<'a> ProgramPlan<'a> {
     }
 
     /// The continuation of the spawn at a position; none where no spawn stands there.
-    pub fn continuation(&self, spawn: Pos) -> Option<Continuation>
-        ensures { (c : Continuation) → (result ≡ Some c) ↔ IsContinuationOf self.now.story spawn c }
+    pub fn continuation(&self, at: Pos) -> Option<Continuation>
+        ensures exact { (c : Continuation) → (result ≡ Some c) ↔ IsContinuationOf self.now.story at c }
+        ensures there { IsSome result ↔ (what self.now.story at ≡ spawn) }
     {
-        continuation_in(&self.continuations, spawn as usize)
+        self.laws();
+        continuation_in(&self.continuations, at as usize)
     }
 
     /// The position of a strand's first event; none where the run has no such strand. Strands are numbered from 1.

@@ -2,13 +2,14 @@
 
 ghost use Rattle.std.specs.Prelude.{◌≡◌, ℤ, List, IfOk};
 ghost use Rattle.std.specs.Borrow.{ftrue};
+ghost use Rattle.cilk_checker.specs.Determinate.{AcceptedRun};
 ghost use Rattle.cilk_plan.specs.Along.{IsAlong};
-ghost use Rattle.cilk_planning.specs.Plans.{HasStoryOn, IsPlanOf, IsStoryOn};
+ghost use Rattle.cilk_planning.specs.Plans.{HasStoryOn, IsStoryOn};
 ghost use Rattle.cilk_shared.specs.Values.{OfYard};
 ghost use Rattle.cilk_story.specs.declared.story.Story.{Story};
 ghost use Rattle.cilk_story.specs.Values.{HasValues};
 
-use cilk_checker::accepted::Accepted;
+use crate::program_plan::ProgramPlan;
 use cilk_determinacy::words::{inputs_are_words, programs_are_of_words};
 use cilk_inputs::laws::{own_story, stories_along_have_values};
 use cilk_plan::plan::Plan;
@@ -28,41 +29,48 @@ impl Model for Told {
 }
 
 impl Told {
-    // The story that the accepted program makes of its plan on this input.
-    fn of(accepted: &Accepted, plan: &Plan, input: &Input) -> Told
-        requires { HasStoryOn accepted.now plan.now.opening input.now }
-        ensures { IsStoryOn accepted.now plan.now.opening input.now result.story }
+    // The story that the program of this run makes of its plan on this input.
+    fn of(plan: &Plan, input: &Input) -> Told
+        ghost run: { AcceptedRun }
+        requires { HasStoryOn run plan.now.opening input.now }
+        ensures { IsStoryOn run plan.now.opening input.now result.story }
     {
-        let _ = accepted;
         let _ = plan;
         let _ = input;
         Told {}
     }
 }
 
-/// The yard of an accepted program along its plan on an input, its own or another, and the segment of its first event. The yard's story
-/// is what the program makes of the plan on this input: its frames' asks, and the values that stand in its cells. On the accepted run's
-/// own input it is the plan.
+/// The yard of a program's plan on an input, its own or another, and the segment of its first event. The yard's story is what the program
+/// makes of the plan on this input: its frames' asks, and the values that stand in its cells. On the input of the plan's run it is the
+/// plan's.
 pub fn yard(
     alloc: Global,
-    accepted: &Accepted,
-    plan: &Plan,
+    plan: &ProgramPlan,
     input: &Input,
 ) -> Result<(Yard, Segment), AllocError>
-    requires { IsPlanOf accepted.now plan.now }
-    ensures story { IfOk result (λ r. IsStoryOn accepted.now plan.now.opening input.now r.0.story) }
-    ensures along { IfOk result (λ r. IsAlong plan.now r.0.story) }
-    ensures own { IfOk result (λ r. input.now ≡ accepted.now.input → r.0.story ≡ plan.now) }
+    ensures story { IfOk result (λ r. IsStoryOn plan.now.run plan.now.story.opening input.now r.0.story) }
+    ensures along { IfOk result (λ r. IsAlong plan.now.story r.0.story) }
+    ensures own { IfOk result (λ r. input.now ≡ plan.now.run.input → r.0.story ≡ plan.now.story) }
     ensures segment { IfOk result (λ r. OfYard r.0 r.1 × (r.1.from ≡ 1) × (r.1.upto ≡ 2)) }
 {
     stories_along_have_values();
     own_story();
-    programs_are_of_words(accepted.program());
-    inputs_are_words(accepted.input());
+    plan.laws();
+    programs_are_of_words(plan.program());
+    inputs_are_words(plan.input());
     inputs_are_words(input);
-    let _events = accepted.trace().len();
-    let told = Told::of(accepted, plan, input);
-    yard_of(alloc, plan, input, &told)
+    let told = tell(plan, input);
+    yard_of(alloc, plan.events(), input, &told)
+}
+
+// The story that the program of this run makes of its plan on this input.
+fn tell(plan: &ProgramPlan, input: &Input) -> Told
+    ghost run: { AcceptedRun }
+    requires { HasStoryOn run plan.now.story.opening input.now }
+    ensures { IsStoryOn run plan.now.story.opening input.now result.story }
+{
+    Told::of(plan.events(), input)
 }
 
 // The yard of a story.
