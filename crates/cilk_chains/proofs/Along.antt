@@ -1,5 +1,5 @@
 -- The laws of `Going`, of a chain's course and of that of a call's argument.
-use Rattle.std.proofs.Common.{◌≡◌, ◌≢◌, ◌<◌, ℕ, ◌+◌, ℤ, List, [], ◌∷◌, ◌++◌, reverse, length, Some, sym, ◌∙◌, subst, arith}
+use Rattle.std.proofs.Common.{◌≡◌, ◌≢◌, ◌<◌, ℕ, ◌+◌, ℤ, List, [], ◌∷◌, ◌++◌, reverse, length, Option, Some, sym, ◌∙◌, subst, arith}
 use Rattle.cilk_types.specs.declared.event.Event.TheVariants as events
 use Rattle.cilk_types.specs.declared.invocation.Invocation.{Invocation}
 use Rattle.cilk_program.specs.declared.ask.Ask.{Ask}
@@ -21,13 +21,18 @@ use Rattle.cilk_story.specs.Word.{event, resume, what}
 use Rattle.cilk_plan.specs.declared.kind.Kind.{Kind}
 use Rattle.cilk_plan.specs.Kinds.{kind_of_event}
 use Rattle.cilk_chains.specs.declared.level.Level.{Level}
-use Rattle.cilk_chains.specs.Asking.{Calls, Follows, IsAnswered, IsNextAsk, Spawns, HasAsked}
+use Rattle.cilk_chains.specs.Asking.{BeginsNext, Calls, Follows, IsAnswered, IsNextAsk, Spawns, HasAsked}
 use Rattle.cilk_chains.specs.Chains.{ChainValue, standing}
-use Rattle.cilk_chains.specs.Courses.{CourseValue, IsCourse, setting_of}
+use Rattle.cilk_chains.specs.declared.sight.CellBlock.{CellBlock}
+use Rattle.cilk_chains.specs.Courses.{CourseValue, IsBlockOf, IsCourse, IsSightIn, setting_of}
 use Rattle.cilk_chains.specs.Standing.{IsTheOutermost, Linked, Rest, Stand}
-use Rattle.cilk_chains.specs.Sorts.{NamesNothing, sort_asked, sort_of}
+use Rattle.cilk_chains.specs.Sights.{LooksAt, cell_asked, found_global}
+use Rattle.cilk_chains.specs.declared.looked.Looked.{Looked}
+use Rattle.cilk_chains.specs.declared.looked.Looked.TheVariants.{Asked, Differs, Unknown}
+use Rattle.cilk_chains.specs.Sorts.{NamesNothing, Says, sort_asked, sort_of}
 use Rattle.cilk_chains.proofs.Going as going
 use Rattle.cilk_chains.proofs.Looking as looking
+use Rattle.cilk_chains.proofs.Looking.{IsOfCell}
 use Rattle.cilk_chains.proofs.Resuming.{resumed}
 
 -- the story of a chain's course
@@ -71,15 +76,36 @@ module _ (u v : CourseValue) (same : u ≡ v) (at : ℕ) (k : Ask) (l : Level) (
   pub small : (n : ℕ) (e : _) → Follows (story_of u) at e → length (let y = story_of u in y.events) < n → at + 1 < n
   small n e f less = let more = f.more in omega (arith, more, less)
 
-  pub answered : (a : Answer) (k' : Ask) (l' : Level) → IsAnswered (story_of u) at a → HasStepped v l a k' l' → Stand u (at + 1) k' l' below
-  answered a k' l' q step =
-      (S.0, S.1, going.answered_on (setting_of u S.0) S.1 at k k' l l' below a S.2 q (subst (λ (z : CourseValue). HasStepped z l a k' l') (sym same) step))
+  pub answered : (a : Answer) (k' : Ask) (l' : Level) → IsAnswered (story_of u) at a → l'.sight ≡ l.sight → HasStepped v l a k' l' → Stand u (at + 1) k' l' below
+  answered a k' l' q sight step =
+      (S.0, S.1, going.answered_on (setting_of u S.0) S.1 at k k' l l' below a S.2 q sight (subst (λ (z : CourseValue). HasStepped z l a k' l') (sym same) step))
 
-  new_level : (c : Level) → IsBegun v k c → (let z = c.cursor in z.owed ≡ owed_for asks.Begin) → c.took ≡ 0
-      → (how : Invocation) (callee : Callee) → k ≡ asks.Invoke how callee → CalleeIsFit (source u.program) callee → going.IsNew (setting_of u S.0) S.1 c callee
-  new_level c begun owes took how callee is fit =
-      let prog = S.1 in
-      (subst (λ (z : CourseValue). IsBegun z k c) (sym same) begun (source u.program) how callee is prog.behaves fit, owes, took)
+  -- what is known of a child's level
+  pub record IsChild (c : Level) : Type 0 where
+    pub number : ℕ
+    pub block : CellBlock
+    pub begins : BeginsNext (story_of u) at number
+    pub lies : IsBlockOf v number block
+    pub begun : IsBegun v k c
+    pub owes : let z = c.cursor in z.owed ≡ owed_for asks.Begin
+    pub took : c.took ≡ 0
+    pub sight : (how : Invocation) (callee : Callee) → k ≡ asks.Invoke how callee → IsSightIn v callee block l.sight c.sight
+
+  new_level : (c : Level) → IsChild c
+      → (how : Invocation) (callee : Callee) → k ≡ asks.Invoke how callee → CalleeIsFit (source u.program) callee → going.IsNew (setting_of u S.0) S.1 at l c callee
+  new_level c new how callee is fit =
+      let prog = S.1 in (
+        subst (λ (z : CourseValue). IsBegun z k c) (sym same) new.begun (source u.program) how callee is prog.behaves fit,
+        new.owes,
+        new.took,
+        record {
+          number = new.number;
+          block = new.block;
+          begins = new.begins;
+          lies = λ path b found q. subst (λ (z : CourseValue). IsBlockOf z new.number new.block) (sym same) new.lies S.0 path b S.1 found q;
+          sight = subst (λ (z : CourseValue). IsSightIn z callee new.block l.sight c.sight) (sym same) (new.sight how callee is);
+        },
+      )
 
   pub call_begins : Calls (story_of u) at → (how : Invocation) × (callee : Callee) × (callee ≢ callees.Root) × (k ≡ asks.Invoke how callee)
   call_begins q = going.call_begins (setting_of u S.0) S.1 at k l below S.2 q.0 q.1
@@ -87,21 +113,20 @@ module _ (u v : CourseValue) (same : u ≡ v) (at : ℕ) (k : Ask) (l : Level) (
   pub spawn_begins : (next : ℕ) → Spawns (story_of u) at next → (how : Invocation) × (callee : Callee) × (callee ≢ callees.Root) × (k ≡ asks.Invoke how callee)
   spawn_begins next q = going.spawn_begins (setting_of u S.0) S.1 at k l below S.2 q.0.0 q.0.1
 
-  pub called : (c : Level) → Calls (story_of u) at → IsBegun v k c → (let z = c.cursor in z.owed ≡ owed_for asks.Begin) → c.took ≡ 0 → Stand u (at + 1) asks.Begin c (below ++ l ∷ [])
-  called c q begun owes took =
-      (S.0, S.1, going.called_on (setting_of u S.0) S.1 at k l c below S.2 q.0 q.1 (λ callee is fit. new_level c begun owes took _ callee is fit))
+  pub called : (c : Level) → Calls (story_of u) at → IsChild c → Stand u (at + 1) asks.Begin c (below ++ l ∷ [])
+  called c q new =
+      (S.0, S.1, going.called_on (setting_of u S.0) S.1 at k l c below S.2 q.0 q.1 (λ callee is fit. new_level c new _ callee is fit))
 
-  parted : (c : Level) (next : ℕ) → Spawns (story_of u) at next → IsBegun v k c → (let z = c.cursor in z.owed ≡ owed_for asks.Begin) → c.took ≡ 0
-      → going.Parted (setting_of u S.0) S.1 at next c l below
-  parted c next q begun owes took =
-      going.spawned_on (setting_of u S.0) S.1 at k l c below S.2 q.0.0 next q.0.1 (λ callee is fit. new_level c begun owes took _ callee is fit)
+  parted : (c : Level) (next : ℕ) → Spawns (story_of u) at next → IsChild c → going.Parted (setting_of u S.0) S.1 at next c l below
+  parted c next q new =
+      going.spawned_on (setting_of u S.0) S.1 at k l c below S.2 q.0.0 next q.0.1 (λ callee is fit. new_level c new _ callee is fit)
       (λ i x place is. resumed (setting_of u S.0) S.1 i next x (subst (λ n. what (story_of u) next ≡ resume n) (sym place) q.1) is)
 
-  pub spawned_child : (c : Level) (next : ℕ) → Spawns (story_of u) at next → IsBegun v k c → (let z = c.cursor in z.owed ≡ owed_for asks.Begin) → c.took ≡ 0 → Stand u (at + 1) asks.Begin c []
-  spawned_child c next q begun owes took = (S.0, S.1, (parted c next q begun owes took).child)
+  pub spawned_child : (c : Level) (next : ℕ) → Spawns (story_of u) at next → IsChild c → Stand u (at + 1) asks.Begin c []
+  spawned_child c next q new = (S.0, S.1, (parted c next q new).child)
 
-  pub spawned_parent : (c : Level) (next : ℕ) → Spawns (story_of u) at next → IsBegun v k c → (let z = c.cursor in z.owed ≡ owed_for asks.Begin) → c.took ≡ 0 → Rest u next l below
-  spawned_parent c next q begun owes took = (S.0, S.1, (parted c next q begun owes took).parent)
+  pub spawned_parent : (c : Level) (next : ℕ) → Spawns (story_of u) at next → IsChild c → Rest u next l below
+  spawned_parent c next q new = (S.0, S.1, (parted c next q new).parent)
 
   pub ended : (top : Level) (new : List Level) → Follows (story_of u) at events.End → below ≡ new ++ top ∷ [] → Rest u (at + 1) top new
   ended top new f popped = (S.0, S.1, going.ended_on (setting_of u S.0) S.1 at k l top below new S.2 f popped)
@@ -127,6 +152,18 @@ module _ (u v : CourseValue) (same : u ≡ v) (at : ℕ) (k : Ask) (l : Level) (
     pub differs_there : (sort_asked k ≡ sort_of kind → ⊥) → IsAsked (story_of u) at → ⊥
     differs_there other asked = let t = S.2 in looking.differs_there (setting_of u S.0) S.1 at k l t.asks kind is other asked
 
+    module _ (c : ℕ) (of_cell : IsOfCell c kind) (alike : sort_asked k ≡ sort_of kind) where
+      cell_there : (let p = source u.program in cell_asked (length p.openings) l.sight k ≡ Some c) → IsAsked (story_of u) at
+      cell_there q = let t = S.2 in looking.cell_there (setting_of u S.0) S.1 at k l t.asks kind is c of_cell alike q
+
+      cell_differs : ((let p = source u.program in cell_asked (length p.openings) l.sight k ≡ Some c) → ⊥) → IsAsked (story_of u) at → ⊥
+      cell_differs other asked = let t = S.2 in looking.cell_differs (setting_of u S.0) S.1 at k l t.asks kind is c of_cell alike other asked
+
+      pub looks : (found : Option ℕ) (says : Looked) → found ≡ (let p = source u.program in cell_asked (length p.openings) l.sight k) → LooksAt found c says → Says (story_of u) at kind says
+      looks found Asked q h = cell_there (sym q ∙ h)
+      looks found Differs q h = cell_differs (λ z. h (q ∙ z))
+      looks found Unknown q h = absurd h
+
   pub next_ask : IsNextAsk u at k
   next_ask =
       let t = S.2 in
@@ -150,9 +187,15 @@ module _ (u v : CourseValue) (same : u ≡ v) (at : ℕ) (l : Level) (below : Li
   pub rest_runs : Runs v.code v.inputs l.cursor
   rest_runs = subst (λ (z : CourseValue). Runs z.code z.inputs l.cursor) same (going.rest_owed (setting_of u S.0) S.1 at l below S.2).0
 
-  pub woken : (k' : Ask) (l' : Level) → HasStepped v l Done k' l' → Stand u at k' l' below
-  woken k' l' step = (S.0, S.1, going.woken (setting_of u S.0) S.1 at k' l l' below S.2 (subst (λ (z : CourseValue). HasStepped z l Done k' l') (sym same) step))
+  pub woken : (k' : Ask) (l' : Level) → l'.sight ≡ l.sight → HasStepped v l Done k' l' → Stand u at k' l' below
+  woken k' l' sight step = (S.0, S.1, going.woken (setting_of u S.0) S.1 at k' l l' below S.2 sight (subst (λ (z : CourseValue). HasStepped z l Done k' l') (sym same) step))
 
-pub rooted : (u : CourseValue) → IsCourse u → (c : Level) → ((p : Source) → Behaves p u.code → Stands u.code u.inputs p callees.Root c.cursor [] 0)
-    → (let z = c.cursor in z.owed ≡ owed_for asks.Begin) → c.took ≡ 0 → Stand u 1 asks.Begin c []
-rooted u h c stands owes took = let prog = h.1 in (h.0, prog, going.rooted (setting_of u h.0) prog c (stands (source u.program) prog.behaves) owes took)
+pub rooted : (u : CourseValue) → IsCourse u → (c : Level) (block : CellBlock) → ((p : Source) → Behaves p u.code → Stands u.code u.inputs p callees.Root c.cursor [] 0)
+    → (let z = c.cursor in z.owed ≡ owed_for asks.Begin) → c.took ≡ 0 → IsBlockOf u 1 block → (let t = c.sight in (t.homes.items ≡ block ∷ []) × (let p = source u.program in t.result ≡ found_global (length p.openings) 0)) → Stand u 1 asks.Begin c []
+rooted u h c block stands owes took lies sight =
+    let prog = h.1 in (
+      h.0,
+      prog,
+      going.rooted (setting_of u h.0) prog c (stands (source u.program) prog.behaves) owes took
+          (record { block = block; lies = λ path b found q. lies h.0 path b prog found q; homes = sight.0; none = sight.1 }),
+    )

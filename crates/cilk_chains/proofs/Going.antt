@@ -1,6 +1,7 @@
 -- Frames of a course go on.
 --
 -- - `Laws`: what holds at each position of a course;
+-- - `frame_here`, `begin_number`, `known`: the frames, cells and reducers there are the run's;
 -- - `answered_on`: after the answer to its event the frame at hand stands at the next position;
 -- - `begun_asks`, `called_on`, `spawned_on`: a child begins there, and its caller waits;
 -- - `ended_on`: a frame ends, and its caller is next;
@@ -14,6 +15,17 @@ use Rattle.cilk_types.specs.declared.event.Event.TheVariants as events
 use Rattle.cilk_types.specs.declared.invocation.Invocation.{Invocation}
 use Rattle.cilk_types.specs.declared.invocation.Invocation.TheVariants.{Call, Spawn}
 use Rattle.cilk_types.specs.declared.limits.TheConstants.{MAX_TICKS}
+use Rattle.cilk_plan.specs.declared.kind.Kind.TheVariants as kinds
+use Rattle.cilk_program.specs.Outcomes.{Leaves}
+use Rattle.cilk_program.specs.SerialRun.{Transcript}
+use Rattle.cilk_meaning.specs.Numbering.{Block, block_of, frame_at, unbegun}
+use Rattle.cilk_runs.specs.Monoids.{unit_of}
+use Rattle.cilk_worlds.specs.Reducers.{View, monoid_of}
+use Rattle.cilk_determinacy.specs.Nested.{named}
+use Rattle.cilk_determinacy.proofs.Numbered.{events_numbered}
+use Rattle.cilk_determinacy.proofs.Numbers.{frame_is}
+use Rattle.cilk_determinacy.proofs.Sights.{root_here}
+use Rattle.cilk_inputs.proofs.CourseFrames.{programs_have_one}
 use Rattle.cilk_program.specs.declared.ask.Ask.{Ask}
 use Rattle.cilk_program.specs.declared.ask.Ask.TheVariants as asks
 use Rattle.cilk_program.specs.declared.ask.Callee.{Callee}
@@ -34,24 +46,37 @@ use Rattle.cilk_runs.specs.Machine.{started}
 use Rattle.cilk_story.specs.declared.story.Story.{Story}
 use Rattle.cilk_story.specs.Runs.{IsAsked}
 use Rattle.cilk_story.specs.Word.{event}
-use Rattle.cilk_worlds.specs.Machine.{answer_of, answers_of, asked_after, has_ended, is_end, named_ask, next}
+use Rattle.cilk_worlds.specs.Machine.{answer_of, answers_of, asked_after, has_ended, is_end, named_ask, next, opening_values}
 use Rattle.cilk_worlds.specs.Worlds.{World, child_world, first_world}
 use Rattle.cilk_worlds.proofs.Kept.{answers_more}
-use Rattle.cilk_determinacy.specs.Numbers.{cell_number, instance_number}
-use Rattle.cilk_inputs.specs.Frames.{same_frame}
+use Rattle.cilk_determinacy.specs.Numbers.{AreNumbered, IsHere, cell_number, frame_number, instance_number}
+use Rattle.cilk_inputs.specs.Frames.{course_on, same_frame}
 use Rattle.cilk_inputs.specs.Points.{Point, points_on, IsPoint, IsTold, IsAskedBy, IsEventOf, IsLater, IsFirst, IsReturn, AreTold, answer_in}
 use Rattle.cilk_inputs.proofs.Points.{asked_by_positions}
 use Rattle.cilk_chains.specs.declared.level.Level.{Level}
+use Rattle.cilk_chains.specs.declared.sight.CellBlock.{CellBlock}
+use Rattle.cilk_chains.specs.declared.sight.Sight.{Sight}
+use Rattle.cilk_chains.specs.Sights.{IsSightOf, Sees, cells_of_block, found_global}
 use Rattle.cilk_chains.specs.Asking.{Follows, IsAnswered, HasAsked}
 use Rattle.cilk_chains.specs.Courses.{Setting, IsOfProgram, point_at}
 use Rattle.cilk_chains.specs.Standing.{Asks, Waits, Linked, StandsAt, RestsAt}
 use Rattle.cilk_chains.proofs.OfKind.{some_inner, IsOfKind, made, goes_on, kind_there, ask_for, fitting}
+use Rattle.cilk_chains.proofs.Named.{IsKnown, all_known, begun_by, known_at, maker_here}
+use Rattle.cilk_chains.proofs.Seeing.{child_sees, root_sees}
 use Rattle.cilk_chains.proofs.Unended.{ended_more, not_end, unended}
 
 pub got : {A : Type 0} (xs : List A) (k : ℕ) → k < length xs → (x : A) × (slice_get xs k ≡ Some x)
 got [] k less = absurd (omega (arith, less))
 got (x ∷ xs) zero less = (x, refl)
 got (x ∷ xs) (suc k) less = got xs k (omega (arith, less))
+
+kind_begins : (e : Event) (f : ℕ) → kind_of e ≡ kinds.Begin f → e ≡ events.Begin f
+kind_begins (events.Begin g) f q = ap events.Begin (let z : g ≡ f = cc q in z)
+kind_begins e f q = absurd (cc q)
+
+-- the same frame, of which the same is known
+same_sight : (p : Source) (r : Transcript) (w w' : World) (a b : Sight) → w' ≡ w → b ≡ a → Sees p r w a → Sees p r w' b
+same_sight p r w w' a b frame sight h = subst (λ (z : World). Sees p r z b) (sym frame) (subst (Sees p r w) (sym sight) h)
 
 child_fit : (p : Source) (b : Body) (callee : Callee) → CalleeIsThere p b callee → (callee ≢ callees.Root) × CalleeIsFit p callee
 child_fit p b callees.Root h = absurd h
@@ -63,7 +88,7 @@ module _ (s : Setting) (h : IsOfProgram s) where
   story = s.story
 
   told : AreTold s.program s.run s.inputs h.events s.story
-  told = subst (λ (z : Story). AreTold s.program s.run s.inputs h.events z) (sym h.told) (asked_by_positions s.program h.own s.inputs s.run h.events story.opening h.is)
+  told = subst (λ (z : Story). AreTold s.program s.run s.inputs h.events z) (sym h.told) (asked_by_positions s.program s.own s.inputs s.run h.events story.opening h.is)
 
   pub here : (i : ℕ) (x : Point World) → point_at s i ≡ Some x
       → IsPoint (next s.program s.inputs) (same_frame s.program) (point_at s) i x × IsTold s.program s.run s.inputs h.events s.story i x
@@ -98,6 +123,29 @@ module _ (s : Setting) (h : IsOfProgram s) where
       let kinds : option_map kind_of (slice_get h.events i) ≡ Some (kind_of e) =
       sym (slice_get-map kind_of h.events i) ∙ ap (λ l. slice_get l i) (sym h.along.kinds) ∙ slice_get-map kind_of story.events i ∙ ap (option_map kind_of) at in
       kind_there (slice_get h.events i) (kind_of e) kinds
+
+  -- ---- names of the plan's run
+
+  numbered : AreNumbered s.program s.run h.events
+  numbered = events_numbered s.program s.own s.run h.events (Leaves h.is.outcome) h.is.named h.is.runs
+
+  frame_here : (i : ℕ) (x : Point World) → point_at s i ≡ Some x → (let w = x.frame in IsHere s.program s.run w.name)
+  frame_here i x is =
+      let t = (here i x is).1 in
+      maker_here s.program s.run [] (named s.program s.run) i (let w = x.frame in w.name) (root_here s.program s.run) numbered.here t.owner
+
+  begin_number : (i : ℕ) (x : Point World) (f : ℕ) → point_at s i ≡ Some x → event story (suc i) ≡ Some (events.Begin f) → (let w = x.frame in f ≡ frame_number s.program s.run w.name)
+  begin_number i x f is there =
+      let t = (here i x is).1 in
+      let e = plan_event i (events.Begin f) there in
+      begun_by s.program s.run [] (named s.program s.run) i e.0 (let w = x.frame in w.name) f (ap (λ l. slice_get l i) (sym numbered.events) ∙ e.1) t.owner (kind_begins e.0 f e.2)
+
+  pub known : (i : ℕ) (x : Point World) → point_at s i ≡ Some x → IsKnown s.program s.run x
+  unfolding point_at
+  known i x is =
+      known_at s.program s.run (points_on s.program s.inputs s.run) i x
+      (all_known s.program s.run View monoid_of (next s.program s.inputs) (first_world s.program) [] (opening_values s.program s.inputs) (unit_of monoid_of) 0 0 (named s.program s.run) (course_on s.program s.inputs (named s.program s.run))
+      numbered.here (programs_have_one s.program s.inputs (named s.program s.run)).0) is
 
   -- the plan's deed of an event of the plan
   pub plan_deed : (i : ℕ) (x : Point World) (p : Event) → point_at s i ≡ Some x → slice_get h.events i ≡ Some p → IsOfKind (kind_of p) x.planned
@@ -173,9 +221,9 @@ module _ (s : Setting) (h : IsOfProgram s) where
   Stepped l a k l' = (p : Source) (callee : Callee) (history : List ℤ) → Stands s.code s.inputs p callee l.cursor history l.took
       → HasAsked s.code s.inputs p callee (history ++ word_in a ∷ []) k l'
 
-  pub answered_on : (at : ℕ) (k k' : Ask) (l l' : Level) (below : List Level) (a : Answer) → StandsAt s at k l below → IsAnswered story at a → Stepped l a k' l'
+  pub answered_on : (at : ℕ) (k k' : Ask) (l l' : Level) (below : List Level) (a : Answer) → StandsAt s at k l below → IsAnswered story at a → l'.sight ≡ l.sight → Stepped l a k' l'
       → StandsAt s (at + 1) k' l' below
-  answered_on at k k' l l' below a S q step =
+  answered_on at k k' l l' below a S q sight step =
       let A = S.asks in
       let f = q.1 in
       let place = A.place in
@@ -193,6 +241,7 @@ module _ (s : Setting) (h : IsOfProgram s) where
           is = y.1;
           goes_on = ap has_ended later.past ∙ ended_more (let x = A.point in x.past) (let x = A.point in x.deed) A.goes_on (deed_goes at k l A f.asked fit.has);
           fit = subst (λ (v : World). CalleeIsFit s.program v.callee) (sym later.frame) A.fit;
+          sees = same_sight s.program s.run _ _ l.sight l'.sight later.frame sight A.sees;
           asked = later_asks A.point y.0 (word_in a) k' l' later (fit.word ∙ sym answer) (step s.program _ _ (A.asked.stands fit.has));
         };
         callers = subst (λ n. Linked s n (reverse below)) (sym later.since) S.callers;
@@ -224,12 +273,31 @@ module _ (s : Setting) (h : IsOfProgram s) where
       child_fit s.program (body_of s.program w.callee) callee
       (subst (AskIsThere s.program w.callee) (asked_ask at k l A ∙ is) (asks_there s.program h.is.named w.callee A.fit s.inputs (answers_of x.past) MAX_TICKS))
 
+  -- where the cells of the frame lie that begins right behind a position, whose caller sees this
+  pub record Placed (at : ℕ) (caller new : Sight) (callee : Callee) : Type 0 where
+    pub number : ℕ
+    pub block : CellBlock
+    pub begins : event story (at + 1) ≡ Some (events.Begin number)
+    pub lies : (path : List ℕ) (b : Block) → frame_at s.program s.run path ≡ Some b → b.number ≡ number → block ≡ cells_of_block b
+    pub sight : IsSightOf (let p = s.program in length p.openings) callee block caller new
+
   -- a level as it begins
-  abbrev pub IsNew : Level → Callee → Type 0
-  IsNew c callee = Stands s.code s.inputs s.program callee c.cursor [] 0 × (let v = c.cursor in v.owed ≡ owed_for asks.Begin) × (c.took ≡ 0)
+  abbrev pub IsNew : ℕ → Level → Level → Callee → Type 0
+  IsNew at l c callee =
+      Stands s.code s.inputs s.program callee c.cursor [] 0 × (let v = c.cursor in v.owed ≡ owed_for asks.Begin) × (c.took ≡ 0) × Placed at l.sight c.sight callee
+
+  -- the child's sight
+  placed_sees : (at i : ℕ) (w : World) (k : ℕ) (callee : Callee) (y : Point World) (caller sight : Sight) → suc i ≡ at + 1 → point_at s i ≡ Some y → child_world s.program w k callee ≡ y.frame
+      → Sees s.program s.run w caller → Placed at caller sight callee → Sees s.program s.run y.frame sight
+  placed_sees at i w k callee y caller sight place is frame sees P =
+      let name : (let v = y.frame in v.name) ≡ w.name ++ k ∷ [] = sym (ap (λ (v : World). v.name) frame) in
+      let its = subst (IsHere s.program s.run) name (frame_here i y is) in
+      let number = begin_number i y P.number is (ap (event story) place ∙ P.begins) ∙ ap (frame_number s.program s.run) name ∙ frame_is s.program s.run (w.name ++ k ∷ []) its in
+      subst (λ (v : World). Sees s.program s.run v sight) frame
+      (child_sees s.program s.run w caller sees k callee its P.block sight (P.lies its.path its.block its.found (sym number)) P.sight)
 
   begun_asks : (at : ℕ) (k : Ask) (l c : Level) (A : Asks s at k l) (how : Invocation) (callee : Callee) (e : Event) (w : World) → k ≡ asks.Invoke how callee
-      → Follows story at e → (let x = A.point in x.planned ≡ Invokes how w) → IsNew c callee → Begun at A.point A.behind how c
+      → Follows story at e → (let x = A.point in x.planned ≡ Invokes how w) → IsNew at l c callee → Begun at A.point A.behind how c
   begun_asks at k l c A how callee e w is f planned new =
       let x = A.point in
       let place = A.place in
@@ -248,6 +316,7 @@ module _ (s : Setting) (h : IsOfProgram s) where
           is = y.1;
           goes_on = ap has_ended begun.past;
           fit = subst (CalleeIsFit s.program) same (there at k l A how callee is).1;
+          sees = placed_sees at (suc A.behind) x.frame (suc (started x.past)) callee y.0 l.sight c.sight (omega (arith, place)) y.1 frame A.sees new.3;
           asked = subst (λ z. HasAsked s.code s.inputs s.program z (answers_of (let z = y.0 in z.past)) asks.Begin c) same (first_asked callee c (let z = y.0 in z.past) begun.past new.2 new.0 new.1);
         };
         since = begun.since;
@@ -276,13 +345,14 @@ module _ (s : Setting) (h : IsOfProgram s) where
         child = (let b = B.asks in let y = b.point in y.frame);
         started = B.deed;
         fit = A.fit;
+        sees = A.sees;
         stands = A.asked.stands owes.0;
         owes = A.asked.owes owes.0 ∙ owes.1;
         small = A.asked.small;
       }
 
   pub called_on : (at : ℕ) (k : Ask) (l c : Level) (below : List Level) (S : StandsAt s at k l below) (f : ℕ) → Follows story at (events.Call f)
-      → ((callee : Callee) → k ≡ asks.Invoke Call callee → CalleeIsFit s.program callee → IsNew c callee) → StandsAt s (at + 1) asks.Begin c (below ++ l ∷ [])
+      → ((callee : Callee) → k ≡ asks.Invoke Call callee → CalleeIsFit s.program callee → IsNew at l c callee) → StandsAt s (at + 1) asks.Begin c (below ++ l ∷ [])
   unfolding waits_for
   called_on at k l c below S f F new =
       let A = S.asks in
@@ -318,7 +388,7 @@ module _ (s : Setting) (h : IsOfProgram s) where
   IsResumed next x = (j : ℕ) × (suc j ≡ next) × (y : Point World) × (point_at s j ≡ Some y) × IsLater x y
 
   pub spawned_on : (at : ℕ) (k : Ask) (l c : Level) (below : List Level) (S : StandsAt s at k l below) (f next : ℕ) → Follows story at (events.Spawn f)
-      → ((callee : Callee) → k ≡ asks.Invoke Spawn callee → CalleeIsFit s.program callee → IsNew c callee)
+      → ((callee : Callee) → k ≡ asks.Invoke Spawn callee → CalleeIsFit s.program callee → IsNew at l c callee)
       → ((i : ℕ) (x : Point World) → suc i ≡ at → point_at s i ≡ Some x → IsResumed next x) → Parted at next c l below
   spawned_on at k l c below S f next F new resumed =
       let A = S.asks in
@@ -340,6 +410,7 @@ module _ (s : Setting) (h : IsOfProgram s) where
             is = z.3;
             goes_on = ap has_ended z.4.past ∙ ended_more (let x = A.point in x.past) (let x = A.point in x.deed) A.goes_on (ap is_end B.deed);
             fit = subst (λ (v : World). CalleeIsFit s.program v.callee) (sym z.4.frame) A.fit;
+            sees = subst (λ (v : World). Sees s.program s.run v l.sight) (sym z.4.frame) A.sees;
             before = (let x = A.point in x.past);
             last = (let x = A.point in x.deed);
             past = z.4.past;
@@ -382,6 +453,7 @@ module _ (s : Setting) (h : IsOfProgram s) where
           is = y.1;
           goes_on = ap has_ended later.past ∙ ended_more (let z = waits.point in z.past) (let z = waits.point in z.deed) waits.goes_on (ap is_end waits.started);
           fit = subst (λ (v : World). CalleeIsFit s.program v.callee) (sym later.frame) waits.fit;
+          sees = subst (λ (v : World). Sees s.program s.run v top.sight) (sym later.frame) waits.sees;
           before = (let z = waits.point in z.past);
           last = (let z = waits.point in z.deed);
           past = later.past;
@@ -395,8 +467,8 @@ module _ (s : Setting) (h : IsOfProgram s) where
 
   -- ---- a frame that rests goes on
 
-  pub woken : (at : ℕ) (k' : Ask) (l l' : Level) (below : List Level) → RestsAt s at l below → Stepped l Done k' l' → StandsAt s at k' l' below
-  woken at k' l l' below S step =
+  pub woken : (at : ℕ) (k' : Ask) (l l' : Level) (below : List Level) → RestsAt s at l below → l'.sight ≡ l.sight → Stepped l Done k' l' → StandsAt s at k' l' below
+  woken at k' l l' below S sight step =
       let R = S.rests in
       let x = R.point in
       let w = x.frame in
@@ -410,6 +482,7 @@ module _ (s : Setting) (h : IsOfProgram s) where
           is = R.is;
           goes_on = R.goes_on;
           fit = R.fit;
+          sees = subst (Sees s.program s.run x.frame) (sym sight) R.sees;
           asked = subst (λ z. HasAsked s.code s.inputs s.program w.callee z k' l') history (step s.program _ _ R.stands);
         };
         callers = S.callers;
@@ -420,8 +493,16 @@ module _ (s : Setting) (h : IsOfProgram s) where
 
   -- ---- the root's frame
 
-  pub rooted : (c : Level) → Stands s.code s.inputs s.program callees.Root c.cursor [] 0 → (let v = c.cursor in v.owed ≡ owed_for asks.Begin) → c.took ≡ 0 → StandsAt s 1 asks.Begin c []
-  rooted c stands owes took =
+  -- the root's own cells
+  pub record RootPlaced (sight : Sight) : Type 0 where
+    pub block : CellBlock
+    pub lies : (path : List ℕ) (b : Block) → frame_at s.program s.run path ≡ Some b → b.number ≡ 1 → block ≡ cells_of_block b
+    pub homes : sight.homes.items ≡ block ∷ []
+    pub none : sight.result ≡ found_global (let p = s.program in length p.openings) 0
+
+  pub rooted : (c : Level) → Stands s.code s.inputs s.program callees.Root c.cursor [] 0 → (let v = c.cursor in v.owed ≡ owed_for asks.Begin) → c.took ≡ 0 → RootPlaced c.sight
+      → StandsAt s 1 asks.Begin c []
+  rooted c stands owes took R =
       let some = h.orderly.root.1 in
       let x = following 0 (omega (arith, some)) in
       let is = first x.0 x.1 in
@@ -434,6 +515,8 @@ module _ (s : Setting) (h : IsOfProgram s) where
           is = x.1;
           goes_on = ap has_ended is.1;
           fit = subst (CalleeIsFit s.program) same tt;
+          sees = subst (λ (v : World). Sees s.program s.run v c.sight) (sym is.0)
+              (root_sees s.program s.run (root_here s.program s.run) R.block c.sight (R.lies [] (block_of s.program callees.Root (unbegun s.program)) refl refl) R.homes R.none);
           asked = subst (λ z. HasAsked s.code s.inputs s.program z (answers_of (let z = x.0 in z.past)) asks.Begin c) same (first_asked callees.Root c (let z = x.0 in z.past) is.1 took stands owes);
         };
         callers = inl is.2;

@@ -1,6 +1,12 @@
--- Whether a frame asks for the plan's next event: `asked_there`, `differs_there`.
-use Rattle.std.proofs.Common.{◌≡◌, ℕ, suc, ℤ, Bool, cond, List, Option, None, Some, refl, sym, ap, ◌∙◌, subst}
+-- Whether a frame asks for the plan's next event.
+--
+-- - `asked_there`, `differs_there`: by the event's sort;
+-- - `cell_there`, `cell_differs`: by the cell that it reads or writes.
+use Rattle.std.proofs.Common.{◌≡◌, ℕ, suc, ℤ, Bool, cond, List, length, Option, None, Some, refl, sym, ap, ◌∙◌, subst}
 use Rattle.cilk_types.specs.declared.event.Event.{Event}
+use Rattle.cilk_types.specs.declared.event.Event.TheVariants as events
+use Rattle.cilk_program.specs.declared.syntax.Place.{Place}
+use Rattle.cilk_plan.specs.declared.kind.Kind.TheVariants as kinds
 use Rattle.cilk_types.specs.declared.event.Instance as numbered
 use Rattle.cilk_types.specs.declared.invocation.Invocation.TheVariants as invocations
 use Rattle.cilk_program.specs.declared.ask.Ask as language
@@ -10,13 +16,14 @@ use Rattle.cilk_program.specs.Syntax.{Source}
 use Rattle.cilk_plan.specs.declared.kind.Kind.{Kind}
 use Rattle.cilk_plan.specs.Kinds.{kind_of, kind_of_event}
 use Rattle.cilk_runs.specs.Machine.{started}
-use Rattle.cilk_runs.specs.Runs.{Cell, Instance, Ask, Deed, Does, Invokes, Reads, Writes, Syncs, Ends, Passes, Begins, Resumes, Creates, Updates, Sets, Values, Prints}
+use Rattle.cilk_runs.specs.Runs.{Cell, Instance, Ask, Write, Deed, Does, Invokes, Reads, Writes, Syncs, Ends, Passes, Begins, Resumes, Creates, Updates, Sets, Values, Prints}
 use Rattle.cilk_runs.specs.Traces.{IsWritten}
 use Rattle.cilk_story.specs.Runs.{IsAsked}
 use Rattle.cilk_story.specs.Word.{event}
-use Rattle.cilk_worlds.specs.Machine.{asked_after, named_ask, next, retired_by}
-use Rattle.cilk_worlds.specs.Worlds.{World}
-use Rattle.cilk_determinacy.specs.Numbers.{cell_number, instance_number}
+use Rattle.cilk_worlds.specs.Machine.{asked_after, has_ended, named_ask, next, retired_by}
+use Rattle.cilk_worlds.specs.Worlds.{World, cell_seen}
+use Rattle.cilk_determinacy.specs.Numbers.{HasCell, cell_number, instance_number}
+use Rattle.cilk_determinacy.proofs.Numbers.{cells_one}
 use Rattle.cilk_inputs.specs.Frames.{same_frame}
 use Rattle.cilk_inputs.specs.Points.{Point, IsEventOf, IsLikeDeed, asked_for}
 use Rattle.cilk_chains.specs.declared.level.Level.{Level}
@@ -25,7 +32,11 @@ use Rattle.cilk_chains.specs.declared.sort.Sort.TheVariants as sorts
 use Rattle.cilk_chains.specs.Courses.{Setting, IsOfProgram}
 use Rattle.cilk_chains.specs.Sorts.{NamesNothing, sort_asked, sort_of}
 use Rattle.cilk_chains.specs.Standing.{Asks}
-use Rattle.cilk_chains.proofs.Going.{here, plan_event, asked_ask, tell, event_is}
+use Rattle.cilk_chains.specs.Sights.{IsNumberOf, cell_asked}
+use Rattle.cilk_chains.proofs.Going.{here, known, plan_event, asked_ask, tell, event_is}
+use Rattle.cilk_chains.proofs.Named.{DeedIsHere}
+use Rattle.cilk_chains.proofs.Seeing.{AsksForCell, asked_cell, cell_found}
+use Rattle.cilk_chains.proofs.Unended.{unended}
 
 kind_inside : (o : Option Event) (k : Kind) → kind_of_event o ≡ Some k → (e : Event) × (o ≡ Some e) × (kind_of e ≡ k)
 kind_inside None k q = absurd (cc q)
@@ -136,6 +147,105 @@ module _ (p : Source) (w : World) where
   makes n (asks.Invoke invocations.Spawn callee) d sure q = absurd sure
   makes n k d sure q = absurd sure
 
+-- ---- events of cells
+
+-- an event of this cell
+abbrev pub IsOfCell : ℕ → Kind → Type 0
+IsOfCell c (kinds.Read d) = d ≡ c
+IsOfCell c (kinds.Write d) = d ≡ c
+IsOfCell c k = ⊥
+
+is_read : (d : Deed World) → sort_done d ≡ sorts.Read → (c : Cell) × (v : ℤ) × (d ≡ Does (Reads c v))
+is_read (Does (Reads c v)) q = (c, v, refl)
+is_read (Does (Passes Begins)) q = absurd (cc q)
+is_read (Invokes invocations.Call w) q = absurd (cc q)
+is_read (Invokes invocations.Spawn w) q = absurd (cc q)
+is_read d q = absurd (cc q)
+
+is_write : (d : Deed World) → sort_done d ≡ sorts.Write → (c : Cell) × (v : ℤ) × (d ≡ Does (Writes c v))
+is_write (Does (Writes c v)) q = (c, v, refl)
+is_write (Does (Passes Begins)) q = absurd (cc q)
+is_write (Invokes invocations.Call w) q = absurd (cc q)
+is_write (Invokes invocations.Spawn w) q = absurd (cc q)
+is_write d q = absurd (cc q)
+
+module _ (p : Source) (r : Transcript) (w : World) (n : ℕ) where
+  -- the plan's deed and an ask of its sort: the deed's cell is the run's, and the ask comes to the deed where it names that cell, and there alone
+  record OfCell (k : language.Ask) (d : Deed World) (c : ℕ) : Type 0 where
+    there : Cell
+    has : HasCell p r there
+    number : cell_number p r there ≡ c
+    makes : there ≡ asked_cell p r w k → IsMade p w n k d
+    meets : (m : Deed World) → IsLikeDeed (same_frame p) d m → named_ask p w n k ≡ asked_for m → asked_cell p r w k ≡ there
+
+  of_read : (x : Place) (a : Cell) (v : ℤ) (e : Event) (c : ℕ) → e ≡ events.Read (cell_number p r a) v → HasCell p r a → IsOfCell c (kind_of e) → OfCell (asks.Read x) (Does (Reads a v)) c
+  of_read x a v e c written has cell = record {
+    there = a;
+    has = has;
+    number = subst (λ (z : Event). IsOfCell c (kind_of z)) written cell;
+    makes = λ q. (Does (Reads (cell_seen w x) v), q, refl);
+    meets = met;
+  }
+    where
+      met : (m : Deed World) → IsLikeDeed (same_frame p) (Does (Reads a v)) m → named_ask p w n (asks.Read x) ≡ asked_for m → cell_seen w x ≡ a
+      met (Does (Reads b u)) like q = let z : cell_seen w x ≡ b = cc q in z ∙ sym like
+      met (Invokes j u) like q = absurd like
+      met m like q = absurd like
+
+  of_write : (k : language.Ask) (y : ℤ) → named_ask p w n k ≡ Write (asked_cell p r w k) y → (a : Cell) (v : ℤ) (e : Event) (c : ℕ) → e ≡ events.Write (cell_number p r a) v → HasCell p r a → IsOfCell c (kind_of e)
+      → OfCell k (Does (Writes a v)) c
+  of_write k y names a v e c written has cell = record {
+    there = a;
+    has = has;
+    number = subst (λ (z : Event). IsOfCell c (kind_of z)) written cell;
+    makes = λ q. (Does (Writes (asked_cell p r w k) y), q, names);
+    meets = met;
+  }
+    where
+      met : (m : Deed World) → IsLikeDeed (same_frame p) (Does (Writes a v)) m → named_ask p w n k ≡ asked_for m → asked_cell p r w k ≡ a
+      met (Does (Writes b u)) like q = let f : Write (asked_cell p r w k) y ≡ Write b u = sym names ∙ q in let z : asked_cell p r w k ≡ b = cc f in z ∙ sym like
+      met (Invokes j u) like q = absurd like
+      met m like q = absurd like
+
+  abbrev Written : Deed World → Event → Type 0
+  Written = IsWritten (cell_number p r) (instance_number p r)
+
+  of_cell : (k : language.Ask) (d : Deed World) (e : Event) (c : ℕ) → AsksForCell p r k → sort_done d ≡ sort_asked k → Written d e → DeedIsHere p r d → IsOfCell c (kind_of e) → OfCell k d c
+  of_cell (asks.Read x) d e c u q written here cell =
+      let f = is_read d q in
+      subst (λ (z : Deed World). OfCell (asks.Read x) z c) (sym f.2) (of_read x f.0 f.1 e c (subst (λ (z : Deed World). Written z e) f.2 written) (subst (DeedIsHere p r) f.2 here) cell)
+  of_cell (asks.Write x v) d e c u q written here cell =
+      let f = is_write d q in
+      subst (λ (z : Deed World). OfCell (asks.Write x v) z c) (sym f.2)
+      (of_write (asks.Write x v) v refl f.0 f.1 e c (subst (λ (z : Deed World). Written z e) f.2 written) (subst (DeedIsHere p r) f.2 here) cell)
+  of_cell (asks.Result v) d e c u q written here cell =
+      let f = is_write d q in
+      subst (λ (z : Deed World). OfCell (asks.Result v) z c) (sym f.2)
+      (of_write (asks.Result v) v refl f.0 f.1 e c (subst (λ (z : Deed World). Written z e) f.2 written) (subst (DeedIsHere p r) f.2 here) cell)
+  of_cell k d e c u q written here cell = absurd u
+
+  -- an ask of the sort of an event of a cell names a cell
+  names_cell : (k : language.Ask) (kind : Kind) (c : ℕ) → IsOfCell c kind → sort_asked k ≡ sort_of kind → AsksForCell p r k
+  names_cell k (kinds.Read d) c of q = by k q
+    where
+      by : (k : language.Ask) → sort_asked k ≡ sorts.Read → AsksForCell p r k
+      by (asks.Read x) q = tt
+      by (asks.Write x v) q = tt
+      by (asks.Result v) q = tt
+      by (asks.Invoke invocations.Call callee) q = absurd (cc q)
+      by (asks.Invoke invocations.Spawn callee) q = absurd (cc q)
+      by k q = absurd (cc q)
+  names_cell k (kinds.Write d) c of q = by k q
+    where
+      by : (k : language.Ask) → sort_asked k ≡ sorts.Write → AsksForCell p r k
+      by (asks.Read x) q = tt
+      by (asks.Write x v) q = tt
+      by (asks.Result v) q = tt
+      by (asks.Invoke invocations.Call callee) q = absurd (cc q)
+      by (asks.Invoke invocations.Spawn callee) q = absurd (cc q)
+      by k q = absurd (cc q)
+  names_cell k kind c of q = absurd of
+
 module _ (s : Setting) (h : IsOfProgram s) (at : ℕ) (k : language.Ask) (l : Level) (A : Asks s at k l) where
   abbrev x : Point World
   x = A.point
@@ -167,3 +277,38 @@ module _ (s : Setting) (h : IsOfProgram s) (at : ℕ) (k : language.Ask) (l : Le
     differs_there other asked =
         let e = kind_inside (event s.story at) kind is in
         other (sym (event_sort s.program s.run x.frame k e.0 (event_is s h at k l A e.0 asked e.1)) ∙ ap sort_of e.2)
+
+    module _ (c : ℕ) (of : IsOfCell c kind) (alike : sort_asked k ≡ sort_of kind) where
+      cells_deed : OfCell s.program s.run x.frame (suc (started x.past)) k x.planned c
+      cells_deed =
+          let e = kind_inside (event s.story at) kind is in
+          let found = plan_event s h A.behind e.0 (ap (event s.story) A.place ∙ e.1) in
+          let t = tell s h at k l A in
+          of_cell s.program s.run x.frame (suc (started x.past)) k x.planned found.0 c (names_cell s.program s.run x.frame (suc (started x.past)) k kind c of alike) (planned_sort ∙ sym alike)
+          (t.plan found.0 found.1) (let z = known s h A.behind x A.is in z.here) (subst (IsOfCell c) (sym (found.2 ∙ e.2)) of)
+
+      number_is : IsNumberOf s.program s.run (asked_cell s.program s.run x.frame k) (let p = s.program in cell_asked (length p.openings) l.sight k)
+      number_is = cell_found s.program s.run x.frame l.sight A.sees k (names_cell s.program s.run x.frame (suc (started x.past)) k kind c of alike)
+
+      pub cell_there : (let p = s.program in cell_asked (length p.openings) l.sight k ≡ Some c) → IsAsked s.story at
+      cell_there q =
+          let D = cells_deed in
+          let N = subst (IsNumberOf s.program s.run (asked_cell s.program s.run x.frame k)) q number_is in
+          asked_by_deed (D.makes (cells_one s.program s.run D.there (asked_cell s.program s.run x.frame k) D.has N.0 (D.number ∙ sym N.1)))
+
+      -- the cell that is asked for is the plan's
+      met : IsAsked s.story at → (let D = cells_deed in asked_cell s.program s.run x.frame k ≡ D.there)
+      met asked =
+          let n = suc (started x.past) in
+          let t = tell s h at k l A in
+          let yes = t.asked.0 (subst (IsAsked s.story) (sym A.place) asked) in
+          let on = unended (has_ended x.past) (named_ask s.program x.frame n (asked_after s.program s.inputs x.frame x.past).ask) _ ((here s h A.behind x A.is).0.asks yes) in
+          let D = cells_deed in
+          D.meets x.deed (let z = known s h A.behind x A.is in z.like) (ap (named_ask s.program x.frame n) (sym (asked_ask s h at k l A)) ∙ on.1)
+
+      pub cell_differs : ((let p = s.program in cell_asked (length p.openings) l.sight k ≡ Some c) → ⊥) → IsAsked s.story at → ⊥
+      cell_differs other asked = by (let p = s.program in cell_asked (length p.openings) l.sight k) refl number_is
+        where
+          by : (o : Option ℕ) → (let p = s.program in cell_asked (length p.openings) l.sight k ≡ o) → IsNumberOf s.program s.run (asked_cell s.program s.run x.frame k) o → ⊥
+          by None q N = let D = cells_deed in N (subst (HasCell s.program s.run) (sym (met asked)) D.has)
+          by (Some m) q N = let D = cells_deed in other (q ∙ ap Some (sym N.1 ∙ ap (cell_number s.program s.run) (met asked) ∙ D.number))

@@ -261,7 +261,7 @@ module _ (s : Setting) (h : IsOfProgram s) where
 
   good_all : IsGood all
   good_all =
-      let n = serial_numbered s.program h.own s.run h.events h.is.outcome h.is.named h.is.runs in
+      let n = serial_numbered s.program s.own s.run h.events h.is.outcome h.is.named h.is.runs in
       let tree = shape_of (named s.program s.run) in
       subst IsGood (sym n.spells) (subst IsGood (append-nil (shapes.marks tree)) (good_shape tree [] tt))
 

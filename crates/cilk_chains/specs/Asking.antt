@@ -1,5 +1,5 @@
 -- What a frame asks for, and the events and answers that fit it.
-use Rattle.std.specs.Prelude.{◌≡◌, ◌-◌, ◌<◌, ◌≤◌, ℕ, suc, ℤ, List, length, Some}
+use Rattle.std.specs.Prelude.{◌≡◌, ◌+◌, ◌-◌, ◌<◌, ◌≤◌, ℕ, suc, ℤ, List, length, Some}
 use Rattle.cilk_types.specs.declared.event.Event.{Event}
 use Rattle.cilk_types.specs.declared.event.Event.TheVariants as events
 use Rattle.cilk_types.specs.declared.limits.TheConstants.{MAX_TICKS}
@@ -76,6 +76,10 @@ IsAnswered s at a = (e : Event) × Follows s at e × IsAnswerTo e a
 -- it calls a child
 abbrev pub Calls : Story → ℕ → Type 0
 Calls s at = (f : ℕ) × Follows s at (events.Call f)
+
+-- the frame with this number is begun right behind
+abbrev pub BeginsNext : Story → ℕ → ℕ → Type 0
+BeginsNext s at frame = event s (at + 1) ≡ Some (events.Begin frame)
 
 -- it spawns a child, and goes on at `next`
 abbrev pub Spawns : Story → ℕ → ℕ → Type 0

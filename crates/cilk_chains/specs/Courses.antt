@@ -1,9 +1,10 @@
 -- The course of a plan's run on some inputs: the story that it makes, and the frame at hand at each event of it.
-use Rattle.std.specs.Prelude.{◌≡◌, ℕ, ℤ, List, Option, slice_get, refl}
+use Rattle.std.specs.Prelude.{◌≡◌, ℕ, ℤ, List, length, Option, Some, slice_get, refl}
 use Rattle.std.specs.Coded.{Coded, code_by, coded×, coded_list, coded_ℤ}
 use Rattle.cilk_types.specs.declared.event.Event.{Event}
 use Rattle.cilk_program.specs.contracts.program.Program as program
 use Rattle.cilk_program.specs.declared.program.Program.{Program}
+use Rattle.cilk_program.specs.declared.ask.Callee.{Callee}
 use Rattle.cilk_program.specs.SerialRun.{Transcript}
 use Rattle.cilk_program.specs.Sources.{source}
 use Rattle.cilk_program.specs.Syntax.{Source}
@@ -19,47 +20,52 @@ use Rattle.cilk_shared.specs.contracts.yard.Yard as yard
 use Rattle.cilk_worlds.specs.Worlds.{World}
 use Rattle.cilk_inputs.specs.Points.{Point, points_on}
 use Rattle.cilk_inputs.specs.Stories.{story_on, IsPlannedRun}
+use Rattle.cilk_meaning.specs.Numbering.{Block, frame_at}
+use Rattle.cilk_chains.specs.declared.sight.CellBlock.{CellBlock}
+use Rattle.cilk_chains.specs.declared.sight.Sight.{Sight}
+use Rattle.cilk_chains.specs.Sights.{AreBlocks, IsSightOf, cells_of_block}
 
--- what contracts see of a course: the yard with its story, the program and its code, and the inputs
+-- what contracts see of a course: the yard with its story, the program and its code, the inputs of the plan's run, and the inputs at hand
 pub record CourseValue : Type 0 where
   pub yard : YardValue
   pub program : Program
   pub code : CodeView
+  pub own : List ℤ
   pub inputs : List ℤ
 
-abbrev pub course_with : YardValue → Program → CodeView → List ℤ → CourseValue
-course_with y p k is = record { yard = y; program = p; code = k; inputs = is }
+abbrev pub course_with : YardValue → Program → CodeView → List ℤ → List ℤ → CourseValue
+course_with y p k own is = record { yard = y; program = p; code = k; own = own; inputs = is }
 
 -- it is stored as the tuple of its fields
 abbrev pub course_code : Coded CourseValue
 course_code =
-    code_by (YardValue × (Program × (CodeView × List ℤ)))
-    (coded× yard.the_row.coded (coded× program.the_row.coded (coded× code.the_row.coded (coded_list coded_ℤ))))
-    (λ v. (v.yard, (v.program, (v.code, v.inputs))))
-    (λ t. record { yard = t.0; program = t.1.0; code = t.1.1.0; inputs = t.1.1.1 }) (λ v. refl)
+    code_by (YardValue × (Program × (CodeView × (List ℤ × List ℤ))))
+    (coded× yard.the_row.coded (coded× program.the_row.coded (coded× code.the_row.coded (coded× (coded_list coded_ℤ) (coded_list coded_ℤ)))))
+    (λ v. (v.yard, (v.program, (v.code, (v.own, v.inputs)))))
+    (λ t. record { yard = t.0; program = t.1.0; code = t.1.1.0; own = t.1.1.1.0; inputs = t.1.1.1.1 }) (λ v. refl)
 
 -- a course, with the serial run of the program of which there is a plan
 pub record Setting : Type 0 where
   pub program : Source
   pub code : CodeView
+  pub own : List ℤ
   pub inputs : List ℤ
   pub run : Transcript
   pub story : Story
 
 abbrev pub setting_of : CourseValue → Transcript → Setting
-setting_of c r = let y = c.yard in record { program = source c.program; code = c.code; inputs = c.inputs; run = r; story = y.story }
+setting_of c r = let y = c.yard in record { program = source c.program; code = c.code; own = c.own; inputs = c.inputs; run = r; story = y.story }
 
 -- the frame at hand at the event behind so many, and all that the frame has done before
 unfoldable pub point_at : Setting → ℕ → Option (Point World)
 point_at s behind = slice_get (points_on s.program s.inputs s.run) behind
 
--- The code asks what the program asks; the plan is that of the program's serial run on some inputs; and the story is what the program makes of
+-- The code asks what the program asks; the plan is that of the program's serial run on its inputs; and the story is what the program makes of
 -- it on the inputs at hand.
 pub record IsOfProgram (s : Setting) : Type 0 where
   pub behaves : Behaves s.program s.code
-  pub own : List ℤ
   pub events : List Event
-  pub is : let t = s.story in IsPlannedRun s.program own s.run events t.opening
+  pub is : let t = s.story in IsPlannedRun s.program s.own s.run events t.opening
   pub told : let t = s.story in s.story ≡ story_on s.program s.inputs s.run events t.opening
   pub orderly : IsOrderly s.story
   pub along : let t = s.story in IsAlong (planned events t.opening) s.story
@@ -67,3 +73,16 @@ pub record IsOfProgram (s : Setting) : Type 0 where
 -- there is such a run
 abbrev pub IsCourse : CourseValue → Type 0
 IsCourse c = (run : Transcript) × IsOfProgram (setting_of c run)
+
+-- where the cells of its frames lie, by their numbers
+abbrev pub AreBlocksOf : CourseValue → List CellBlock → Type 0
+AreBlocksOf c blocks = (run : Transcript) → IsOfProgram (setting_of c run) → AreBlocks (source c.program) run blocks
+
+-- of the frame with a number, if the run has it
+abbrev pub IsBlockOf : CourseValue → ℕ → CellBlock → Type 0
+IsBlockOf c number block =
+    (run : Transcript) (path : List ℕ) (b : Block) → IsOfProgram (setting_of c run) → frame_at (source c.program) run path ≡ Some b → b.number ≡ number → block ≡ cells_of_block b
+
+-- what the frame sees that a frame of it begins
+abbrev pub IsSightIn : CourseValue → Callee → CellBlock → Sight → Sight → Type 0
+IsSightIn c callee block caller s = let p = source c.program in IsSightOf (length p.openings) callee block caller s

@@ -57,8 +57,18 @@ NamesNothing End = Unit {0}
 NamesNothing Print = Unit {0}
 NamesNothing _ = ⊥
 
--- what a look at the event at a position says
-abbrev pub Says : Story → ℕ → Looked → Type 0
-Says s at Asked = IsAsked s at
-Says s at Differs = IsAsked s at → ⊥
-Says s at Unknown = Unit {0}
+-- a look at events of this kind may leave it open whether the frame asks for them
+abbrev pub MayBeUnknown : Kind → Type 0
+MayBeUnknown (kinds.Spawn f) = Unit {0}
+MayBeUnknown (kinds.Call f) = Unit {0}
+MayBeUnknown (kinds.Create i) = Unit {0}
+MayBeUnknown (kinds.Update i) = Unit {0}
+MayBeUnknown (kinds.Set i) = Unit {0}
+MayBeUnknown (kinds.Value i) = Unit {0}
+MayBeUnknown k = ⊥
+
+-- what a look at the event of this kind at a position says
+abbrev pub Says : Story → ℕ → Kind → Looked → Type 0
+Says s at k Asked = IsAsked s at
+Says s at k Differs = IsAsked s at → ⊥
+Says s at k Unknown = MayBeUnknown k

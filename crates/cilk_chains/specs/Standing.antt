@@ -14,6 +14,7 @@ use Rattle.cilk_worlds.specs.Worlds.{World}
 use Rattle.cilk_inputs.specs.Points.{Point}
 use Rattle.cilk_chains.specs.declared.level.Level.{Level}
 use Rattle.cilk_chains.specs.Asking.{HasAsked}
+use Rattle.cilk_chains.specs.Sights.{Sees}
 use Rattle.cilk_chains.specs.Courses.{CourseValue, IsOfProgram, Setting, setting_of, point_at}
 
 -- the frame at hand at a position has asked for this, after the answers that it had so far in the story
@@ -24,6 +25,7 @@ pub record Asks (c : Setting) (at : ℕ) (k : Ask) (l : Level) : Type 0 where
   pub is : point_at c behind ≡ Some point
   pub goes_on : has_ended point.past ≡ false
   pub fit : let w = point.frame in CalleeIsFit c.program w.callee
+  pub sees : Sees c.program c.run point.frame l.sight
   pub asked : let w = point.frame in HasAsked c.code c.inputs c.program w.callee (answers_of point.past) k l
 
 -- The frame at hand at a position has had all answers but the last, which is 0, and hasn't gone on with that.
@@ -34,6 +36,7 @@ pub record Rests (c : Setting) (at : ℕ) (l : Level) : Type 0 where
   pub is : point_at c behind ≡ Some point
   pub goes_on : has_ended point.past ≡ false
   pub fit : let w = point.frame in CalleeIsFit c.program w.callee
+  pub sees : Sees c.program c.run point.frame l.sight
   pub before : List (Deed World)
   pub last : Deed World
   pub past : point.past ≡ before ++ last ∷ []
@@ -53,6 +56,7 @@ pub record Waits (c : Setting) (since : ℕ) (l : Level) : Type 0 where
   pub child : World
   pub started : point.deed ≡ Invokes how child
   pub fit : let w = point.frame in CalleeIsFit c.program w.callee
+  pub sees : Sees c.program c.run point.frame l.sight
   pub stands : let w = point.frame in Stands c.code c.inputs c.program w.callee l.cursor (answers_of point.past) l.took
   pub owes : let v = l.cursor in v.owed ≡ Nothing
   pub small : l.took ≤ MAX_TICKS

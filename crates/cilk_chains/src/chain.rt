@@ -8,11 +8,12 @@ ghost use Rattle.cilk_chains.specs.Chains.{standing, task_of};
 use crate::course::Course;
 use crate::level::Level;
 use crate::looked::Looked;
-use crate::sort::{Sort, asked_sort, kind_sort};
+use crate::sight::{cell_asked, look_at_cell};
+use crate::sort::{asked_sort, kind_sort};
 use cilk_frames::asked::AskSlot;
 use cilk_frames::cursor::Answer;
 use cilk_plan::kind::Kind;
-use cilk_types::event::Pos;
+use cilk_types::event::{FrameNo, Pos};
 use std::alloc::{AllocError, Global};
 use std::marker::Model;
 use std::snapshot::Snapshot;
@@ -68,7 +69,7 @@ impl Chain {
     ghost use Rattle.cilk_plan.specs.Kinds.{kind_of_event};
     ghost use Rattle.cilk_story.specs.Word.{event};
     ghost use Rattle.cilk_chains.specs.Sorts.{Says};
-    ghost use Rattle.cilk_chains.specs.Asking.{Calls, Follows, IsAnswered, IsNextAsk, Spawns};
+    ghost use Rattle.cilk_chains.specs.Asking.{BeginsNext, Calls, Follows, IsAnswered, IsNextAsk, Spawns};
     ghost use Rattle.cilk_chains.specs.Standing.{IsTheOutermost};
 
     /// The root's frame, before it begins.
@@ -76,7 +77,7 @@ impl Chain {
         ensures { IfOk result (λ c. c ≡ standing course.now 1) }
     {
         course.laws();
-        let top = Level::root(alloc, course)?;
+        let top = Level::root(alloc, course, course.block(1))?;
         Ok(Chain {
             of: Snapshot::of(course),
             at: 1,
@@ -102,16 +103,22 @@ impl Chain {
     }
 
     /// Whether the frame asks for the plan's event at its position, whose kind is this.
-    pub fn look(&self, kind: Kind) -> Looked
-        requires { kind_of_event (event self.now.of.yard.story self.now.at) ≡ Some kind }
-        ensures { Says self.now.of.yard.story self.now.at result }
+    pub fn look(&self, course: &Course, kind: Kind) -> Looked
+        requires course { course.now ≡ self.now.of }
+        requires kind { kind_of_event (event self.now.of.yard.story self.now.at) ≡ Some kind }
+        ensures { Says self.now.of.yard.story self.now.at kind result }
     {
-        let asked = asked_sort(&self.asked);
-        if asked != kind_sort(kind) {
+        if asked_sort(&self.asked) != kind_sort(kind) {
             return Looked::Differs;
         }
-        match asked {
-            Sort::Begin | Sort::Resume | Sort::Sync | Sort::End | Sort::Print => Looked::Asked,
+        match kind {
+            Kind::Read { cell } | Kind::Write { cell } => look_at_cell(
+                cell_asked(course.globals(), &self.top.sight, &self.asked),
+                cell,
+            ),
+            Kind::Begin { .. } | Kind::Resume { .. } | Kind::Sync | Kind::End | Kind::Print => {
+                Looked::Asked
+            }
             _ => Looked::Unknown,
         }
     }
@@ -139,10 +146,12 @@ impl Chain {
         }
     }
 
-    /// The frame that is called begins, and its caller waits. Without memory the chain comes back.
-    pub fn called(self, alloc: Global, course: &Course) -> Result<Chain, Chain>
+    /// The frame that is called begins, and its caller waits. `frame` is its number, which stands in its `begin`. Without
+    /// memory the chain comes back.
+    pub fn called(self, alloc: Global, course: &Course, frame: FrameNo) -> Result<Chain, Chain>
         requires course { course.now ≡ self.of }
         requires calls { Calls self.of.yard.story self.at }
+        requires begins { BeginsNext self.of.yard.story self.at frame }
         ensures { MatchResult result (λ c. c ≡ standing self.of (self.at + 1)) (λ c. c ≡ self) }
     {
         let Chain {
@@ -161,7 +170,8 @@ impl Chain {
                 below,
             });
         };
-        let Ok(child) = Level::begun(alloc, course, &asked) else {
+        let block = course.block(frame);
+        let Ok(child) = Level::begun(alloc, course, &asked, block, &top.sight) else {
             return Err(Chain {
                 of,
                 at,
@@ -181,10 +191,17 @@ impl Chain {
     }
 
     /// The frame that is spawned begins, alone, and its parent with its callers rests until it goes on at `next`.
-    /// Without memory the chain comes back.
-    pub fn spawned(self, alloc: Global, course: &Course, next: Pos) -> Result<(Chain, Rest), Chain>
+    /// `frame` is the child's number, which stands in its `begin`. Without memory the chain comes back.
+    pub fn spawned(
+        self,
+        alloc: Global,
+        course: &Course,
+        frame: FrameNo,
+        next: Pos,
+    ) -> Result<(Chain, Rest), Chain>
         requires course { course.now ≡ self.of }
         requires spawns { Spawns self.of.yard.story self.at next }
+        requires begins { BeginsNext self.of.yard.story self.at frame }
         ensures { MatchResult result (λ r. (r.0 ≡ standing self.of (self.at + 1)) × (r.1 ≡ standing self.of next))
             (λ c. c ≡ self) }
     {
@@ -195,7 +212,8 @@ impl Chain {
             top,
             below,
         } = self;
-        let Ok(child) = Level::begun(alloc, course, &asked) else {
+        let block = course.block(frame);
+        let Ok(child) = Level::begun(alloc, course, &asked, block, &top.sight) else {
             return Err(Chain {
                 of,
                 at,

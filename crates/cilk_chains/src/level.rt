@@ -1,17 +1,20 @@
 //! One frame of a chain.
 
-ghost use Rattle.std.specs.Prelude.{◌≡◌, ◌≢◌, ◌≤◌, ◌∷◌, ◌++◌, [], ℤ, List, IfOk};
+ghost use Rattle.std.specs.Prelude.{◌≡◌, ◌≢◌, ◌≤◌, ◌∷◌, ◌++◌, [], ℤ, List, IfOk, length};
 ghost use Rattle.cilk_types.specs.declared.limits.TheConstants.{MAX_TICKS};
 ghost use Rattle.cilk_types.specs.declared.invocation.Invocation.{Invocation};
 ghost use Rattle.cilk_program.specs.declared.ask.Ask.TheVariants as asks;
 ghost use Rattle.cilk_program.specs.declared.ask.Callee.{Callee};
 ghost use Rattle.cilk_program.specs.declared.ask.Callee.TheVariants.{Root};
 ghost use Rattle.cilk_program.specs.Inside.{CalleeIsFit};
+ghost use Rattle.cilk_program.specs.Sources.{source};
 ghost use Rattle.cilk_program.specs.Syntax.{Source};
 ghost use Rattle.cilk_lower.specs.Behaves.{Behaves};
 ghost use Rattle.cilk_frames.specs.Following.{Fits, Runs, Stands, owed_for, word_in};
+ghost use Rattle.cilk_chains.specs.Sights.{found_global};
 
 use crate::course::Course;
+use crate::sight::{CellBlock, Sight};
 use cilk_frames::asked::AskSlot;
 use cilk_frames::brief::Brief;
 use cilk_frames::cursor::{Answer, Cursor};
@@ -19,37 +22,54 @@ use cilk_frames::stepping::step_into;
 use cilk_types::limits::MAX_TICKS;
 use std::alloc::{AllocError, Global};
 
-/// A frame: where it stands in its code, and the ticks that it took. It counts them as if it had all those of a run
+/// A frame: where it stands in its code, the ticks that it took, and the cells that it sees. It counts them as if it had all those of a run
 /// for itself.
 #[derive(Drop)]
 pub struct Level {
     pub cursor: Cursor,
     pub took: u32,
+    pub sight: Sight,
 }
 
 impl Level {
     ghost use Rattle.cilk_chains.specs.Asking.{HasAsked};
+    ghost use Rattle.cilk_chains.specs.Courses.{IsSightIn};
 
     /// The root's frame before it begins.
-    pub fn root(alloc: Global, course: &Course) -> Result<Level, AllocError>
+    pub fn root(alloc: Global, course: &Course, block: CellBlock) -> Result<Level, AllocError>
         ensures stands { IfOk result (λ l. (p : Source) → Behaves p course.now.code
             → Stands course.now.code course.now.inputs p Root l.cursor [] 0) }
         ensures owes { IfOk result (λ l. l.cursor.owed ≡ owed_for asks.Begin) }
         ensures took { IfOk result (λ l. l.took ≡ 0) }
+        ensures homes { IfOk result (λ l. l.sight.homes.items ≡ block ∷ []) }
+        ensures result { let p = source course.now.program in IfOk result (λ l. l.sight.result ≡ found_global (length p.openings) 0) }
     {
         let cursor = Cursor::root(alloc, course.code())?;
-        let level = Level { cursor, took: 0 };
+        let sight = Sight::root(alloc, course.globals(), block)?;
+        let level = Level {
+            cursor,
+            took: 0,
+            sight,
+        };
         Ok(level)
     }
 
-    /// The frame that an ask begins, before it begins.
-    pub fn begun(alloc: Global, course: &Course, asked: &AskSlot) -> Result<Level, AllocError>
+    /// The frame that a frame asks for, before it begins. Its own cells lie in `block`.
+    pub fn begun(
+        alloc: Global,
+        course: &Course,
+        asked: &AskSlot,
+        block: CellBlock,
+        caller: &Sight,
+    ) -> Result<Level, AllocError>
         requires { (how : Invocation) × (callee : Callee) × (callee ≢ Root) × (asked.now ≡ asks.Invoke how callee) }
         ensures stands { IfOk result (λ l. (p : Source) (how : Invocation) (callee : Callee)
             → asked.now ≡ asks.Invoke how callee → Behaves p course.now.code → CalleeIsFit p callee
             → Stands course.now.code course.now.inputs p callee l.cursor [] 0) }
         ensures owes { IfOk result (λ l. l.cursor.owed ≡ owed_for asks.Begin) }
         ensures took { IfOk result (λ l. l.took ≡ 0) }
+        ensures sight { IfOk result (λ l. (how : Invocation) (callee : Callee) → asked.now ≡ asks.Invoke how callee
+            → IsSightIn course.now callee block caller.now l.sight) }
     {
         let code = course.code();
         let cursor = match asked.brief() {
@@ -57,7 +77,12 @@ impl Level {
             Some(Brief::Turns(_, part)) => Cursor::turns(alloc, code, part)?,
             Some(_) => unreachable!(),
         };
-        Ok(Level { cursor, took: 0 })
+        let sight = Sight::begun(alloc, course.globals(), block, caller, asked)?;
+        Ok(Level {
+            cursor,
+            took: 0,
+            sight,
+        })
     }
 
     /// The frame goes on with the answer to its last ask, to the next one.
@@ -65,7 +90,8 @@ impl Level {
         requires runs { Runs course.now.code course.now.inputs self.old.cursor }
         requires fits { Fits self.old.cursor.owed answer }
         requires small { self.old.took ≤ MAX_TICKS }
-        ensures { (p : Source) (callee : Callee) (history : List ℤ)
+        ensures sight { self.new.sight ≡ self.old.sight }
+        ensures asks { (p : Source) (callee : Callee) (history : List ℤ)
             → Stands course.now.code course.now.inputs p callee self.old.cursor history self.old.took
             → HasAsked course.now.code course.now.inputs p callee (history ++ word_in answer ∷ []) asked.new self.new }
     {

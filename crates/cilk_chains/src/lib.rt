@@ -25,4 +25,5 @@ pub mod chain;
 pub mod course;
 pub mod level;
 pub mod looked;
+pub mod sight;
 pub mod sort;

@@ -17,4 +17,4 @@ step-requires-clause-fits c =
 pub invariant_of-result : goal.invariant_of-result
 invariant_of-result c =
     let same = ap (λ (v : ChainValue). v.of) c.self.view_is ∙ sym c.requires.course in
-    along.answered c.self.inside.of.value c.args.course.now same c.self.inside.at c.self.inside.asked c.self.inside.top c.self.inside.below.items c.self.invariant c.args.answer c.step.new.asked c.step.new.self (along.of_chain (λ s at. IsAnswered s at c.args.answer) c.self.inside.of.value c.self.inside.at c.args.self c.self.view_is c.requires.answer) c.step.ensures
+    along.answered c.self.inside.of.value c.args.course.now same c.self.inside.at c.self.inside.asked c.self.inside.top c.self.inside.below.items c.self.invariant c.args.answer c.step.new.asked c.step.new.self (along.of_chain (λ s at. IsAnswered s at c.args.answer) c.self.inside.of.value c.self.inside.at c.args.self c.self.view_is c.requires.answer) c.step.ensures.sight c.step.ensures.asks

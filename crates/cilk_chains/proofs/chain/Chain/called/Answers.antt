@@ -2,7 +2,7 @@ use Rattle.std.proofs.Common.{◌+◌, List, [], ◌∷◌, ◌++◌, ◌∙◌,
 use Rattle.cilk_program.specs.declared.ask.Ask.{Ask}
 use Rattle.cilk_program.specs.declared.ask.Ask.TheVariants.{Begin}
 use Rattle.cilk_chains.specs.declared.level.Level.{Level}
-use Rattle.cilk_chains.specs.Asking.{Calls}
+use Rattle.cilk_chains.specs.Asking.{BeginsNext, Calls}
 use Rattle.cilk_chains.specs.Chains.{ChainValue}
 use Rattle.cilk_chains.specs.Standing.{Stand}
 use Rattle.cilk_chains.proofs.Along as along
@@ -25,4 +25,14 @@ invariant_of-result-2 c =
     let items = c.push_reserved.ensures.items ∙ ap (λ (xs : List Level). xs ++ c.self.inside.top ∷ []) c.reserve.ensures.items in
     subst (λ (k : Ask). Stand c.self.inside.of.value (c.self.inside.at + 1) k c.in-Ok-begun.child c.push_reserved.new.self.items) (sym c.new.ensures)
     (subst (λ (xs : List Level). Stand c.self.inside.of.value (c.self.inside.at + 1) Begin c.in-Ok-begun.child xs) (sym items)
-    (along.called c.self.inside.of.value c.args.course.now same c.self.inside.at c.self.inside.asked c.self.inside.top c.self.inside.below.items c.self.invariant c.in-Ok-begun.child (along.of_chain Calls c.self.inside.of.value c.self.inside.at c.args.self c.self.view_is c.requires.calls) c.in-Ok-begun.ensures.stands c.in-Ok-begun.ensures.owes c.in-Ok-begun.ensures.took))
+    (along.called c.self.inside.of.value c.args.course.now same c.self.inside.at c.self.inside.asked c.self.inside.top c.self.inside.below.items c.self.invariant c.in-Ok-begun.child (along.of_chain Calls c.self.inside.of.value c.self.inside.at c.args.self c.self.view_is c.requires.calls)
+    (record {
+      number = c.args.frame;
+      block = c.block-block.result;
+      begins = along.of_chain (λ s at. BeginsNext s at c.args.frame) c.self.inside.of.value c.self.inside.at c.args.self c.self.view_is c.requires.begins;
+      lies = c.block-block.ensures;
+      begun = c.in-Ok-begun.ensures.stands;
+      owes = c.in-Ok-begun.ensures.owes;
+      took = c.in-Ok-begun.ensures.took;
+      sight = c.in-Ok-begun.ensures.sight;
+    })))

@@ -1,39 +1,61 @@
-use Rattle.std.proofs.Common.{◌≡◌, ◌⊎◌, inl, inr, Some, rules, refl, sym, ◌∙◌, subst}
+use Rattle.std.proofs.Common.{◌≡◌, ◌⊎◌, inl, inr, ℕ, List, length, Some, rules, refl, sym, ap, ◌∙◌, subst}
 use denote.Enum.Bare.{differs_true, differs_false}
+use Rattle.cilk_plan.specs.declared.kind.Kind.{Kind}
+use Rattle.cilk_plan.specs.declared.kind.Kind.TheVariants as kinds
 use Rattle.cilk_plan.specs.Kinds.{kind_of_event}
+use Rattle.cilk_program.specs.Sources.{source}
 use Rattle.cilk_story.specs.Runs.{IsAsked}
 use Rattle.cilk_story.specs.Word.{event}
 use Rattle.cilk_chains.specs.contracts.sort.Sort.{the_type}
-use Rattle.cilk_chains.specs.declared.sort.Sort.{Sort}
-use Rattle.cilk_chains.specs.declared.sort.Sort.TheVariants.{Begin, Resume, Sync, End, Print}
 use Rattle.cilk_chains.specs.Chains.{ChainValue}
-use Rattle.cilk_chains.specs.Sorts.{NamesNothing}
+use Rattle.cilk_chains.specs.Courses.{CourseValue}
+use Rattle.cilk_chains.specs.Sights.{cell_asked}
+use Rattle.cilk_chains.specs.Sorts.{NamesNothing, Says, sort_of}
 use Rattle.cilk_chains.proofs.Along as along
+use Rattle.cilk_chains.proofs.Looking.{IsOfCell}
 use Rattle.cilk_chains.proofs.chain.Chain.look.Goals as goal
-
-named_by : (x y : Sort) → x ≡ y → NamesNothing y → NamesNothing x
-named_by x y q h = subst NamesNothing (sym q) h
-
-names_nothing : (x : Sort) → (x ≡ Begin) ⊎ (x ≡ Resume) ⊎ (x ≡ Sync) ⊎ (x ≡ End) ⊎ (x ≡ Print) → NamesNothing x
-names_nothing x (inl q) = named_by x Begin q tt
-names_nothing x (inr (inl q)) = named_by x Resume q tt
-names_nothing x (inr (inr (inl q))) = named_by x Sync q tt
-names_nothing x (inr (inr (inr (inl q)))) = named_by x End q tt
-names_nothing x (inr (inr (inr (inr q)))) = named_by x Print q tt
 
 pub returns-then-ne : goal.returns-then-ne
 returns-then-ne c =
     let i = c.self.inside in
     subst (λ (z : ChainValue). IsAsked (along.story_of z.of) z.at → ⊥) c.self.view_is
     (along.differs_there i.of.value i.of.value refl i.at i.asked i.top i.below.items c.self.invariant c.args.kind
-    (along.of_chain (λ s at. kind_of_event (event s at) ≡ Some c.args.kind) i.of.value i.at c.args.self.now c.self.view_is c.requires)
-    (λ q. differs_true the_type c.asked_sort-asked.result c.kind_sort.result (sym c.ne.ensures ∙ c.if-ne.true) (c.asked_sort-asked.ensures ∙ q ∙ sym c.kind_sort.ensures)))
+    (along.of_chain (λ s at. kind_of_event (event s at) ≡ Some c.args.kind) i.of.value i.at c.args.self.now c.self.view_is c.requires.kind)
+    (λ q. differs_true the_type c.asked_sort.result c.kind_sort.result (sym c.ne.ensures ∙ c.if-ne.true) (c.asked_sort.ensures ∙ q ∙ sym c.kind_sort.ensures)))
+
+of_cell : (k : Kind) (cell : ℕ) → (k ≡ kinds.Read cell) ⊎ (k ≡ kinds.Write cell) → IsOfCell cell k
+of_cell k cell (inl q) = subst (IsOfCell cell) (sym q) refl
+of_cell k cell (inr q) = subst (IsOfCell cell) (sym q) refl
+
+pub returns-in-Read : goal.returns-in-Read
+returns-in-Read c =
+    let i = c.self.inside in
+    let same = ap (λ (v : ChainValue). v.of) c.self.view_is ∙ sym c.requires.course in
+    subst (λ (z : ChainValue). Says (along.story_of z.of) z.at c.args.kind c.look_at_cell.result) c.self.view_is
+    (along.looks i.of.value i.of.value refl i.at i.asked i.top i.below.items c.self.invariant c.args.kind
+    (along.of_chain (λ s at. kind_of_event (event s at) ≡ Some c.args.kind) i.of.value i.at c.args.self.now c.self.view_is c.requires.kind)
+    c.in-Read.cell (of_cell c.args.kind c.in-Read.cell c.in-Read.is)
+    (sym c.asked_sort.ensures ∙ differs_false the_type (search rules) c.asked_sort.result c.kind_sort.result (sym c.ne.ensures ∙ c.if-ne.false) ∙ c.kind_sort.ensures)
+    c.cell_asked.result c.look_at_cell.result
+    (c.cell_asked.ensures ∙ ap (λ (n : ℕ). cell_asked n i.top.sight i.asked) (c.globals.ensures ∙ ap (λ (z : CourseValue). let p = source z.program in length p.openings) (sym same)))
+    c.look_at_cell.ensures)
+
+nothing : (k j : Kind) → k ≡ j → NamesNothing (sort_of j) → NamesNothing (sort_of k)
+nothing k j q h = subst (λ (z : Kind). NamesNothing (sort_of z)) (sym q) h
+
+names_nothing : (k : Kind) → ((x : ℕ) × (k ≡ kinds.Begin x)) ⊎ ((x : ℕ) × (k ≡ kinds.Resume x)) ⊎ (k ≡ kinds.Sync) ⊎ (k ≡ kinds.End) ⊎ (k ≡ kinds.Print) → NamesNothing (sort_of k)
+names_nothing k (inl (x, q)) = nothing k (kinds.Begin x) q tt
+names_nothing k (inr (inl (x, q))) = nothing k (kinds.Resume x) q tt
+names_nothing k (inr (inr (inl q))) = nothing k kinds.Sync q tt
+names_nothing k (inr (inr (inr (inl q)))) = nothing k kinds.End q tt
+names_nothing k (inr (inr (inr (inr q)))) = nothing k kinds.Print q tt
 
 pub returns-in-Begin : goal.returns-in-Begin
 returns-in-Begin c =
     let i = c.self.inside in
     subst (λ (z : ChainValue). IsAsked (along.story_of z.of) z.at) c.self.view_is
     (along.asked_there i.of.value i.of.value refl i.at i.asked i.top i.below.items c.self.invariant c.args.kind
-    (along.of_chain (λ s at. kind_of_event (event s at) ≡ Some c.args.kind) i.of.value i.at c.args.self.now c.self.view_is c.requires)
-    (sym c.asked_sort-asked.ensures ∙ differs_false the_type (search rules) c.asked_sort-asked.result c.kind_sort.result (sym c.ne.ensures ∙ c.if-ne.false) ∙ c.kind_sort.ensures)
-    (subst NamesNothing c.asked_sort-asked.ensures (names_nothing c.asked_sort-asked.result c.in-Begin.is)))
+    (along.of_chain (λ s at. kind_of_event (event s at) ≡ Some c.args.kind) i.of.value i.at c.args.self.now c.self.view_is c.requires.kind)
+    (sym c.asked_sort.ensures ∙ differs_false the_type (search rules) c.asked_sort.result c.kind_sort.result (sym c.ne.ensures ∙ c.if-ne.false) ∙ c.kind_sort.ensures)
+    (subst NamesNothing (sym (differs_false the_type (search rules) c.asked_sort.result c.kind_sort.result (sym c.ne.ensures ∙ c.if-ne.false) ∙ c.kind_sort.ensures) ∙ c.asked_sort.ensures)
+    (names_nothing c.args.kind c.in-Begin.is)))

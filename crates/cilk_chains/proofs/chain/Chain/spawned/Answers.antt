@@ -2,7 +2,7 @@ use Rattle.std.proofs.Common.{◌+◌, List, ◌∙◌, sym, ap, subst}
 use Rattle.cilk_program.specs.declared.ask.Ask.{Ask}
 use Rattle.cilk_program.specs.declared.ask.Ask.TheVariants.{Begin}
 use Rattle.cilk_chains.specs.declared.level.Level.{Level}
-use Rattle.cilk_chains.specs.Asking.{Spawns}
+use Rattle.cilk_chains.specs.Asking.{BeginsNext, Spawns}
 use Rattle.cilk_chains.specs.Chains.{ChainValue}
 use Rattle.cilk_chains.specs.Courses.{CourseValue}
 use Rattle.cilk_chains.specs.Standing.{Stand}
@@ -20,9 +20,29 @@ invariant_of-first c =
     subst (λ (u : CourseValue). Stand u (c.self.inside.at + 1) c.new.result c.in-Ok.child c.new-2.result.items) (same ∙ sym c.of.ensures)
     (subst (λ (k : Ask). Stand c.self.inside.of.value (c.self.inside.at + 1) k c.in-Ok.child c.new-2.result.items) (sym c.new.ensures)
     (subst (λ (xs : List Level). Stand c.self.inside.of.value (c.self.inside.at + 1) Begin c.in-Ok.child xs) (sym c.new-2.ensures.items)
-    (along.spawned_child c.self.inside.of.value c.args.course.now same c.self.inside.at c.self.inside.asked c.self.inside.top c.self.inside.below.items c.self.invariant c.in-Ok.child c.args.next (along.of_chain (λ s at. Spawns s at c.args.next) c.self.inside.of.value c.self.inside.at c.args.self c.self.view_is c.requires.spawns) c.in-Ok.ensures.stands c.in-Ok.ensures.owes c.in-Ok.ensures.took)))
+    (along.spawned_child c.self.inside.of.value c.args.course.now same c.self.inside.at c.self.inside.asked c.self.inside.top c.self.inside.below.items c.self.invariant c.in-Ok.child c.args.next (along.of_chain (λ s at. Spawns s at c.args.next) c.self.inside.of.value c.self.inside.at c.args.self c.self.view_is c.requires.spawns)
+    (record {
+      number = c.args.frame;
+      block = c.block-block.result;
+      begins = along.of_chain (λ s at. BeginsNext s at c.args.frame) c.self.inside.of.value c.self.inside.at c.args.self c.self.view_is c.requires.begins;
+      lies = c.block-block.ensures;
+      begun = c.in-Ok.ensures.stands;
+      owes = c.in-Ok.ensures.owes;
+      took = c.in-Ok.ensures.took;
+      sight = c.in-Ok.ensures.sight;
+    }))))
 
 pub invariant_of-rest : goal.invariant_of-rest
 invariant_of-rest c =
     let same = ap (λ (v : ChainValue). v.of) c.self.view_is ∙ sym c.requires.course in
-    along.spawned_parent c.self.inside.of.value c.args.course.now same c.self.inside.at c.self.inside.asked c.self.inside.top c.self.inside.below.items c.self.invariant c.in-Ok.child c.args.next (along.of_chain (λ s at. Spawns s at c.args.next) c.self.inside.of.value c.self.inside.at c.args.self c.self.view_is c.requires.spawns) c.in-Ok.ensures.stands c.in-Ok.ensures.owes c.in-Ok.ensures.took
+    along.spawned_parent c.self.inside.of.value c.args.course.now same c.self.inside.at c.self.inside.asked c.self.inside.top c.self.inside.below.items c.self.invariant c.in-Ok.child c.args.next (along.of_chain (λ s at. Spawns s at c.args.next) c.self.inside.of.value c.self.inside.at c.args.self c.self.view_is c.requires.spawns)
+    (record {
+      number = c.args.frame;
+      block = c.block-block.result;
+      begins = along.of_chain (λ s at. BeginsNext s at c.args.frame) c.self.inside.of.value c.self.inside.at c.args.self c.self.view_is c.requires.begins;
+      lies = c.block-block.ensures;
+      begun = c.in-Ok.ensures.stands;
+      owes = c.in-Ok.ensures.owes;
+      took = c.in-Ok.ensures.took;
+      sight = c.in-Ok.ensures.sight;
+    })

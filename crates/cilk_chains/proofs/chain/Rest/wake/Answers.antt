@@ -16,4 +16,4 @@ step-requires-clause-fits c =
 pub invariant_of-result : goal.invariant_of-result
 invariant_of-result c =
     let same = ap (λ (v : ChainValue). v.of) c.self.view_is ∙ sym c.requires in
-    along.woken c.self.inside.of.value c.args.course.now same c.self.inside.at c.self.inside.top c.self.inside.below.items c.self.invariant c.step.new.asked c.step.new.self c.step.ensures
+    along.woken c.self.inside.of.value c.args.course.now same c.self.inside.at c.self.inside.top c.self.inside.below.items c.self.invariant c.step.new.asked c.step.new.self c.step.ensures.sight c.step.ensures.asks
