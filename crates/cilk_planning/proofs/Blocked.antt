@@ -11,7 +11,6 @@ use mathlib.Core.Logic.{dite}
 use native.Mathlib.Decide.{ℕ_discrete, dec_lt}
 use Rattle.cilk_types.specs.declared.event.Event.{Event}
 use Rattle.cilk_types.specs.declared.event.Event.TheVariants as events
-use Rattle.cilk_types.specs.declared.invocation.Invocation.TheVariants.{Call, Spawn}
 use Rattle.cilk_program.specs.Outcomes.{Leaves}
 use Rattle.cilk_program.specs.SerialRun.{Transcript}
 use Rattle.cilk_program.specs.Sources.{source}
@@ -20,11 +19,9 @@ use Rattle.cilk_meaning.proofs.Closings.{runs_end}
 use Rattle.cilk_tree.specs.declared.mark.Mark.TheVariants as mark
 use Rattle.cilk_tree.specs.Races.{event_at}
 use Rattle.cilk_story.specs.declared.story.Story.{Story}
-use Rattle.cilk_story.specs.Orders.{IsOrderly}
-use Rattle.cilk_story.specs.Word.{event, after, spawn, what}
+use Rattle.cilk_story.specs.Word.{event, after}
 use Rattle.cilk_story.proofs.Events.{mark_at, spawn_mark}
-use Rattle.cilk_plan.specs.declared.blocks.Continuation.{Continuation}
-use Rattle.cilk_plan.specs.Blocks.{SyncsAt, IsNextSync, EndsBlockOf, IsContinuationOf}
+use Rattle.cilk_plan.specs.Blocks.{SyncsAt, IsNextSync, EndsBlockOf}
 use Rattle.cilk_plan.specs.Frames.{IsInFrame, AreFrames}
 use Rattle.cilk_plan.proofs.Continuing.{one_frame}
 use Rattle.cilk_plan.proofs.Framed.{begins}
@@ -33,15 +30,13 @@ use Rattle.cilk_runs.specs.Runs as runs
 use Rattle.cilk_runs.specs.Serial.{SyncAhead}
 use Rattle.cilk_worlds.specs.Worlds.{World, first_world}
 use Rattle.cilk_determinacy.specs.Nested.{named}
-use Rattle.cilk_determinacy.specs.Numbers.{frame_number, start_event, numbered_event, numbered_events}
+use Rattle.cilk_determinacy.specs.Numbers.{frame_number, numbered_event, numbered_events}
 use Rattle.cilk_determinacy.proofs.Numbered.{events_numbered}
 use Rattle.cilk_determinacy.proofs.Shapes.{IsSynced, synced}
 use Rattle.cilk_determinacy.proofs.Strands.{spell_one_shape}
 use Rattle.cilk_inputs.specs.Owned.{makers, maker_numbers}
 use Rattle.cilk_inputs.proofs.Owned.{in_their_frames}
-use Rattle.cilk_checker.specs.Determinate.{AcceptedRun, HasDeterminateRun}
-use Rattle.cilk_planning.specs.Continuations.{BlocksOfSpawnsEnd, HasContinuation, PlansHaveContinuations}
-use Rattle.cilk_planning.specs.Plans.{IsPlanOf}
+use Rattle.cilk_planning.specs.Continuations.{BlocksOfSpawnsEnd, PlansHaveContinuations}
 
 -- ---- events and their makers, side by side
 
@@ -230,9 +225,9 @@ blocks_end p inputs r es outcome well run (suc k) n is =
     let g : ℕ = get_or (map number ms) k 0 in
     let same : get_or (map number ms) b.place 0 ≡ g = number_at number ms b.place ∙ ap (number_or number) b.made ∙ sym (number_at number ms k) in
     let syncs : SyncsAt es g (b.place + 1) =
-        (ap (λ (j : ℕ). slice_get es j) (one_behind b.place) ∙ b.sync, subst (IsInFrame es (b.place + 1)) same (owned.each.each b.place within)) in
+    (ap (λ (j : ℕ). slice_get es j) (one_behind b.place) ∙ b.sync, subst (IsInFrame es (b.place + 1)) same (owned.each.each b.place within)) in
     let next = first_sync es (maker_numbers p r) owned.each g (suc k) (b.place + 1) (b.place - suc k) (suc (suc k)) (omega (arith, l)) (omega arith) syncs
-        (λ x lt lt' h. absurd (omega (arith, lt, lt'))) in
+    (λ x lt lt' h. absurd (omega (arith, lt, lt'))) in
     let one : k + 1 ≡ suc k = omega arith in
     (next.0, (g, subst (λ (j : ℕ). IsInFrame es j g) one (owned.each.each k here), next.1))
 

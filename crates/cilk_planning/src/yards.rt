@@ -44,11 +44,7 @@ impl Told {
 /// The yard of a program's plan on an input, its own or another, and the segment of its first event. The yard's story is what the program
 /// makes of the plan on this input: its frames' asks, and the values that stand in its cells. On the input of the plan's run it is the
 /// plan's.
-pub fn yard(
-    alloc: Global,
-    plan: &ProgramPlan,
-    input: &Input,
-) -> Result<(Yard, Segment), AllocError>
+pub fn yard(alloc: Global, plan: &ProgramPlan, input: &Input) -> Result<(Yard, Segment), AllocError>
     ensures story { IfOk result (λ r. IsStoryOn plan.now.run plan.now.story.opening input.now r.0.story) }
     ensures along { IfOk result (λ r. IsAlong plan.now.story r.0.story) }
     ensures own { IfOk result (λ r. input.now ≡ plan.now.run.input → r.0.story ≡ plan.now.story) }
