@@ -19,4 +19,5 @@
 #![tactic(auto)]
 
 pub mod join;
+pub mod laws;
 mod merging;
