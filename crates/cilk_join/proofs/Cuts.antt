@@ -29,25 +29,25 @@ are_members : (k : MonoidKind) (i : Instance) (ps : List Piece) → AllByRecursi
 are_members k i ps = members_of (structure_of k) (IsMember k) (lawful k) (λ (p : Piece). value_in p.views k i) (λ p. member p.views k i) ps
 
 -- a piece between others, left first
-beside : (as : List Piece) (p : Piece) (bs : List Piece) → times (times (product_of as) (product p.views)) (product_of bs) ≡ product_of (as ++ p ∷ bs)
-beside as p bs = same_product _ _ (λ k i.
+beside : (xs : List Piece) (p : Piece) (ys : List Piece) → times (times (product_of xs) (product p.views)) (product_of ys) ≡ product_of (xs ++ p ∷ ys)
+beside xs p ys = same_product _ _ (λ k i.
     let value : Piece → ViewValue = λ p. value_in p.views k i in
     let M = structure_of k in
     let laws = lawful k in
-    laws.associative (monoid.product M (map value as)) (value p) (monoid.product M (map value bs)) (product_member M (IsMember k) laws (map value as) (are_members k i as)) (member p.views k i) (product_member M (IsMember k) laws (map value bs) (are_members k i bs))
-    ∙ sym (product-append M (IsMember k) laws (map value as) (map value (p ∷ bs)) (are_members k i as) (are_members k i (p ∷ bs)))
-    ∙ ap (monoid.product M) (sym (map-append value as (p ∷ bs))))
+    laws.associative (monoid.product M (map value xs)) (value p) (monoid.product M (map value ys)) (product_member M (IsMember k) laws (map value xs) (are_members k i xs)) (member p.views k i) (product_member M (IsMember k) laws (map value ys) (are_members k i ys))
+    ∙ sym (product-append M (IsMember k) laws (map value xs) (map value (p ∷ ys)) (are_members k i xs) (are_members k i (p ∷ ys)))
+    ∙ ap (monoid.product M) (sym (map-append value xs (p ∷ ys))))
 
 over_unit : (ps : List Piece) → or_unit nothing times (run_over ps) ≡ product_of ps
 over_unit [] = refl
 over_unit (p ∷ ps) = refl
 
-over_some : (as : List Piece) (p : Piece) (bs : List Piece) → run_over (as ++ p ∷ bs) ≡ Some (product_of (as ++ p ∷ bs))
-over_some [] p bs = refl
-over_some (a ∷ as) p bs = refl
+over_some : (xs : List Piece) (p : Piece) (ys : List Piece) → run_over (xs ++ p ∷ ys) ≡ Some (product_of (xs ++ p ∷ ys))
+over_some [] p ys = refl
+over_some (a ∷ xs) p ys = refl
 
-between_is : (as : List Piece) (p : Piece) (bs : List Piece) → Some (between (run_over as) (product p.views) (run_over bs)) ≡ run_over (as ++ p ∷ bs)
-between_is as p bs = ap Some (ap₂ (λ a b. times (times a (product p.views)) b) (over_unit as) (over_unit bs) ∙ beside as p bs) ∙ sym (over_some as p bs)
+between_is : (xs : List Piece) (p : Piece) (ys : List Piece) → Some (between (run_over xs) (product p.views) (run_over ys)) ≡ run_over (xs ++ p ∷ ys)
+between_is xs p ys = ap Some (ap₂ (λ a b. times (times a (product p.views)) b) (over_unit xs) (over_unit ys) ∙ beside xs p ys) ∙ sym (over_some xs p ys)
 
 -- ---- pieces below a key, and above it
 
@@ -117,13 +117,13 @@ above_less j k (p ∷ ps) le h = ((let l : k < p.key = h.0 in omega (arith, l, l
 below_below : (j k : ℕ) (ps : List Piece) → j < k → below j (below k ps) ≡ below j ps
 below_below j k [] h = refl
 below_below j k (p ∷ ps) h = ⊎_elim
-    (λ l. ap (below j) (below_one k p ps l) ∙ by (or_not p.key j))
+    (λ l. ap (below j) (below_one k p ps l) ∙ by (below_below j k ps h) (or_not p.key j))
     (λ g. ap (below j) (below_less_one k p ps g) ∙ below_below j k ps h ∙ sym (below_less_one j p ps (omega (arith, g, h)))) (or_not p.key k)
   where
-    by : (p.key < j) ⊎ (j ≤ p.key) → below j (p ∷ below k ps) ≡ below j (p ∷ ps)
-    by o = ⊎_elim
-        (λ l. below_one j p (below k ps) l ∙ ap (λ qs. p ∷ qs) (below_below j k ps h) ∙ sym (below_one j p ps l))
-        (λ g. below_less_one j p (below k ps) g ∙ below_below j k ps h ∙ sym (below_less_one j p ps g)) o
+    by : below j (below k ps) ≡ below j ps → (p.key < j) ⊎ (j ≤ p.key) → below j (p ∷ below k ps) ≡ below j (p ∷ ps)
+    by same o = ⊎_elim
+        (λ l. below_one j p (below k ps) l ∙ ap (λ qs. p ∷ qs) same ∙ sym (below_one j p ps l))
+        (λ g. below_less_one j p (below k ps) g ∙ same ∙ sym (below_less_one j p ps g)) o
 
 -- those above the greater of two keys
 above_above : (j k : ℕ) (ps : List Piece) → j < k → above j (above k ps) ≡ above k (above j ps)
@@ -142,41 +142,41 @@ above_above j k (p ∷ ps) h = ⊎_elim
 above_below : (j k : ℕ) (ps : List Piece) → j < k → above j (below k ps) ≡ below k (above j ps)
 above_below j k [] h = refl
 above_below j k (p ∷ ps) h = ⊎_elim
-    (λ l. ap (above j) (below_one k p ps l) ∙ by (or_not j p.key) l)
+    (λ l. ap (above j) (below_one k p ps l) ∙ by (above_below j k ps h) (or_not j p.key) l)
     (λ g. let m : j < p.key = omega (arith, g, h) in
       ap (above j) (below_less_one k p ps g) ∙ above_below j k ps h ∙ sym (below_less_one k p (above j ps) g) ∙ ap (below k) (sym (above_one j p ps m))) (or_not p.key k)
   where
-    by : (j < p.key) ⊎ (p.key ≤ j) → p.key < k → above j (p ∷ below k ps) ≡ below k (above j (p ∷ ps))
-    by o l = ⊎_elim
-        (λ m. above_one j p (below k ps) m ∙ ap (λ qs. p ∷ qs) (above_below j k ps h) ∙ sym (below_one k p (above j ps) l) ∙ ap (below k) (sym (above_one j p ps m)))
-        (λ g. above_less_one j p (below k ps) g ∙ above_below j k ps h ∙ ap (below k) (sym (above_less_one j p ps g))) o
+    by : above j (below k ps) ≡ below k (above j ps) → (j < p.key) ⊎ (p.key ≤ j) → p.key < k → above j (p ∷ below k ps) ≡ below k (above j (p ∷ ps))
+    by same o l = ⊎_elim
+        (λ m. above_one j p (below k ps) m ∙ ap (λ qs. p ∷ qs) same ∙ sym (below_one k p (above j ps) l) ∙ ap (below k) (sym (above_one j p ps m)))
+        (λ g. above_less_one j p (below k ps) g ∙ same ∙ ap (below k) (sym (above_less_one j p ps g))) o
 
 -- ---- a piece among the others
 
 abbrev pub among : Piece → List Piece → List Piece
 among p ps = below p.key ps ++ p ∷ above p.key ps
 
-pub below_append : (k : ℕ) (as bs : List Piece) → below k (as ++ bs) ≡ below k as ++ below k bs
-below_append k as bs = filter-append (λ (p : Piece). nat_lt p.key k) as bs
+pub below_append : (k : ℕ) (xs ys : List Piece) → below k (xs ++ ys) ≡ below k xs ++ below k ys
+below_append k xs ys = filter-append (λ (p : Piece). nat_lt p.key k) xs ys
 
-pub above_append : (k : ℕ) (as bs : List Piece) → above k (as ++ bs) ≡ above k as ++ above k bs
-above_append k as bs = filter-append (λ (p : Piece). nat_lt k p.key) as bs
+pub above_append : (k : ℕ) (xs ys : List Piece) → above k (xs ++ ys) ≡ above k xs ++ above k ys
+above_append k xs ys = filter-append (λ (p : Piece). nat_lt k p.key) xs ys
 
-append_none : (as : List Piece) → as ++ [] ≡ as
+append_none : (xs : List Piece) → xs ++ [] ≡ xs
 append_none [] = refl
-append_none (a ∷ as) = ap (λ bs. a ∷ bs) (append_none as)
+append_none (a ∷ xs) = ap (λ ys. a ∷ ys) (append_none xs)
 
 -- a lower key parts the others alone
 below_among : (j : ℕ) (p : Piece) (ps : List Piece) → j < p.key → below j (among p ps) ≡ below j ps
 below_among j p ps h =
     below_append j (below p.key ps) (p ∷ above p.key ps)
-    ∙ ap₂ (λ as bs. as ++ bs) (below_below j p.key ps h) (below_less_one j p (above p.key ps) (omega (arith, h)) ∙ below_none j (above p.key ps) (above_less j p.key (above p.key ps) (omega (arith, h)) (are_above p.key ps)))
+    ∙ ap₂ (λ xs ys. xs ++ ys) (below_below j p.key ps h) (below_less_one j p (above p.key ps) (omega (arith, h)) ∙ below_none j (above p.key ps) (above_less j p.key (above p.key ps) (omega (arith, h)) (are_above p.key ps)))
     ∙ append_none (below j ps)
 
 above_among : (j : ℕ) (p : Piece) (ps : List Piece) → j < p.key → above j (among p ps) ≡ among p (above j ps)
 above_among j p ps h =
     above_append j (below p.key ps) (p ∷ above p.key ps)
-    ∙ ap₂ (λ as bs. as ++ bs) (above_below j p.key ps h) (above_one j p (above p.key ps) h ∙ ap (λ qs. p ∷ qs) (above_above j p.key ps h))
+    ∙ ap₂ (λ xs ys. xs ++ ys) (above_below j p.key ps h) (above_one j p (above p.key ps) h ∙ ap (λ qs. p ∷ qs) (above_above j p.key ps h))
 
 -- ---- rows
 
@@ -198,15 +198,15 @@ abbrev runs_ahead : Option Product → Product → Row Product → Row Product
 runs_ahead left x r = row (Some (between left x r.run)) r.waits
 
 -- pieces below all keys, ahead of the others
-cut_beside : (as : List Piece) (p : Piece) (ks : List ℕ) (bs : List Piece) → AllBelow p.key as → AllByRecursion (λ j. p.key < j) ks
-    → runs_ahead (run_over as) (product p.views) (cut ks bs) ≡ cut ks (as ++ p ∷ bs)
-cut_beside as p [] bs low high = ap (λ r. row r []) (between_is as p bs)
-cut_beside as p (k ∷ ks) bs low high =
+cut_beside : (xs : List Piece) (p : Piece) (ks : List ℕ) (ys : List Piece) → AllBelow p.key xs → AllByRecursion (λ j. p.key < j) ks
+    → runs_ahead (run_over xs) (product p.views) (cut ks ys) ≡ cut ks (xs ++ p ∷ ys)
+cut_beside xs p [] ys low high = ap (λ r. row r []) (between_is xs p ys)
+cut_beside xs p (k ∷ ks) ys low high =
     let h : p.key < k = high.0 in
-    let low' : AllBelow k as = below_more p.key k as (omega (arith, h)) low in
-    let below_is : below k (as ++ p ∷ bs) ≡ as ++ p ∷ below k bs = below_append k as (p ∷ bs) ∙ ap₂ (λ as bs. as ++ bs) (below_all k as low') (below_one k p bs h) in
-    let above_is : above k (as ++ p ∷ bs) ≡ above k bs = above_append k as (p ∷ bs) ∙ ap₂ (λ as bs. as ++ bs) (above_none k as low') (above_less_one k p bs (omega (arith, h))) in
-    ap₂ (λ r ps. ahead r k (cut ks ps)) (between_is as p (below k bs) ∙ ap run_over (sym below_is)) (sym above_is)
+    let low' : AllBelow k xs = below_more p.key k xs (omega (arith, h)) low in
+    let below_is : below k (xs ++ p ∷ ys) ≡ xs ++ p ∷ below k ys = below_append k xs (p ∷ ys) ∙ ap₂ (λ xs ys. xs ++ ys) (below_all k xs low') (below_one k p ys h) in
+    let above_is : above k (xs ++ p ∷ ys) ≡ above k ys = above_append k xs (p ∷ ys) ∙ ap₂ (λ xs ys. xs ++ ys) (above_none k xs low') (above_less_one k p ys (omega (arith, h))) in
+    ap₂ (λ r ps. ahead r k (cut ks ps)) (between_is xs p (below k ys) ∙ ap run_over (sym below_is)) (sym above_is)
 
 -- a key that is among these, or behind all of them and all pieces
 abbrev pub Comes : ℕ → List ℕ → List Piece → Type 0
@@ -240,7 +240,7 @@ placed_cut p [] ps up h =
     between_last
     where
       parts : among p ps ≡ ps ++ p ∷ []
-      parts = ap₂ (λ as bs. as ++ p ∷ bs) (below_all p.key ps h) (above_none p.key ps h)
+      parts = ap₂ (λ xs ys. xs ++ p ∷ ys) (below_all p.key ps h) (above_none p.key ps h)
       between_last : placed_in (cut [] ps) p.key (product p.views) ≡ cut [] (among p ps)
       between_last = ap (λ r. row r []) (between_is ps p []) ∙ ap (cut []) (sym parts)
 placed_cut p (j ∷ js) ps up h = ⊎_elim
@@ -252,7 +252,7 @@ placed_cut p (j ∷ js) ps up h = ⊎_elim
     (λ g. let l : j < p.key = g.0 in
       placed_later (run_over (below j ps)) (let r = cut js (above j ps) in wait j r.run) (let r = cut js (above j ps) in r.waits) p.key (product p.views) (differs j p.key l)
       ∙ ap (ahead (run_over (below j ps)) j) (placed_cut p js (above j ps) up.1 g.1)
-      ∙ ap₂ (λ as bs. ahead (run_over as) j (cut (dropped p.key js) bs)) (sym (below_among j p ps l)) (sym (above_among j p ps l))
+      ∙ ap₂ (λ xs ys. ahead (run_over xs) j (cut (dropped p.key js) ys)) (sym (below_among j p ps l)) (sym (above_among j p ps l))
       ∙ ap (λ ks. cut ks (among p ps)) (sym (dropped_later p.key j js (differs j p.key l)))) h
 
 -- ---- runs
