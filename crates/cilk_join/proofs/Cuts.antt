@@ -38,7 +38,7 @@ beside xs p ys = same_product _ _ (λ k i.
     ∙ sym (product-append M (IsMember k) laws (map value xs) (map value (p ∷ ys)) (are_members k i xs) (are_members k i (p ∷ ys)))
     ∙ ap (monoid.product M) (sym (map-append value xs (p ∷ ys))))
 
-over_unit : (ps : List Piece) → or_unit nothing times (run_over ps) ≡ product_of ps
+pub over_unit : (ps : List Piece) → or_unit nothing times (run_over ps) ≡ product_of ps
 over_unit [] = refl
 over_unit (p ∷ ps) = refl
 
@@ -162,7 +162,7 @@ below_append k xs ys = filter-append (λ (p : Piece). nat_lt p.key k) xs ys
 pub above_append : (k : ℕ) (xs ys : List Piece) → above k (xs ++ ys) ≡ above k xs ++ above k ys
 above_append k xs ys = filter-append (λ (p : Piece). nat_lt k p.key) xs ys
 
-append_none : (xs : List Piece) → xs ++ [] ≡ xs
+pub append_none : (xs : List Piece) → xs ++ [] ≡ xs
 append_none [] = refl
 append_none (a ∷ xs) = ap (λ ys. a ∷ ys) (append_none xs)
 
