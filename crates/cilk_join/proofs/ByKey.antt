@@ -73,9 +73,9 @@ dropped_rises k (j ∷ js) up = ⊎_elim
 pub rises_snoc : (ks : List ℕ) (k : ℕ) → Rises ks → ((i : ℕ) → Stands ks i → i < k) → Rises (ks ++ k ∷ [])
 rises_snoc [] k up low = (tt, tt)
 rises_snoc (j ∷ js) k up low = (
-    from_stand (λ i. j < i) (js ++ k ∷ []) (λ i s. ⊎_elim (λ a. all_stand (λ i. j < i) js i up.0 a) (λ b. ⊎_elim (λ e. subst (λ i. j < i) e (low j (inl refl))) (λ n. absurd n) b) (in_both js (k ∷ []) i s)),
-    rises_snoc js k up.1 (λ i s. low i (inr s)),
-  )
+  from_stand (λ i. j < i) (js ++ k ∷ []) (λ i s. ⊎_elim (λ a. all_stand (λ i. j < i) js i up.0 a) (λ b. ⊎_elim (λ e. subst (λ i. j < i) e (low j (inl refl))) (λ n. absurd n) b) (in_both js (k ∷ []) i s)),
+  rises_snoc js k up.1 (λ i s. low i (inr s)),
+)
 
 is_sorted : (ks : List ℕ) → Rises ks → IsStrictlySortedBy nat_cmp ks
 unfolding IsStrictlySortedBy
@@ -165,9 +165,9 @@ split k [] up out = refl
 split k (p ∷ ps) up out = ⊎_elim
     (λ l. ap₂ (λ xs ys. xs ++ ys) (below_one k p ps l) (above_less_one k p ps (omega (arith, l))) ∙ ap (λ qs. p ∷ qs) (split k ps up.1 (λ s. out (inr s))))
     (λ g. ⊎_elim
-      (λ m. let high : AllAbove k ps = above_less k p.key ps g up.0 in
-        ap₂ (λ xs ys. xs ++ ys) (below_less_one k p ps g ∙ below_none k ps high) (above_one k p ps m ∙ ap (λ qs. p ∷ qs) (above_all k ps high)))
-      (λ m. let e : p.key ≡ k = omega (arith, g, m) in absurd (out (inl e))) (or_not k p.key)) (or_not p.key k)
+    (λ m. let high : AllAbove k ps = above_less k p.key ps g up.0 in
+    ap₂ (λ xs ys. xs ++ ys) (below_less_one k p ps g ∙ below_none k ps high) (above_one k p ps m ∙ ap (λ qs. p ∷ qs) (above_all k ps high)))
+    (λ m. let e : p.key ≡ k = omega (arith, g, m) in absurd (out (inl e))) (or_not k p.key)) (or_not p.key k)
 
 pub sorted : (ps : List Piece) → Once ps → Up (by_key ps) × IsPermutation ps (by_key ps)
 sorted [] once = (tt, IsPermutation-refl [])
@@ -179,6 +179,6 @@ sorted (p ∷ ps) once =
     let all : low ++ high ≡ qs = split p.key qs h.0 (λ s. once.0 (stands_sorted ps p.key s)) in (
       up_join low p high (up_filter _ qs h.0) (are_below p.key qs) (are_above p.key qs) (up_filter _ qs h.0),
       IsPermutation-trans (p ∷ ps) (p ∷ (low ++ high)) (low ++ p ∷ high)
-        (subst (λ rs. IsPermutation (p ∷ ps) (p ∷ rs)) (sym all) (IsPermutation-cons p ps qs h.1))
-        (IsPermutation-sym (low ++ p ∷ high) (p ∷ (low ++ high)) (IsPermutation-middle low p high)),
+          (subst (λ rs. IsPermutation (p ∷ ps) (p ∷ rs)) (sym all) (IsPermutation-cons p ps qs h.1))
+          (IsPermutation-sym (low ++ p ∷ high) (p ∷ (low ++ high)) (IsPermutation-middle low p high)),
     )

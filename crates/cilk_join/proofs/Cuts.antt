@@ -24,7 +24,6 @@ use Rattle.cilk_join.proofs.Products.{same_product, member}
 
 -- ---- products of pieces
 
-
 are_members : (k : MonoidKind) (i : Instance) (ps : List Piece) → AllByRecursion (IsMember k) (map (λ (p : Piece). value_in p.views k i) ps)
 are_members k i ps = members_of (structure_of k) (IsMember k) (lawful k) (λ (p : Piece). value_in p.views k i) (λ p. member p.views k i) ps
 
@@ -130,7 +129,7 @@ above_above : (j k : ℕ) (ps : List Piece) → j < k → above j (above k ps) �
 above_above j k [] h = refl
 above_above j k (p ∷ ps) h = ⊎_elim
     (λ l. let m : j < p.key = omega (arith, l, h) in
-      ap (above j) (above_one k p ps l) ∙ above_one j p (above k ps) m ∙ ap (λ qs. p ∷ qs) (above_above j k ps h) ∙ sym (above_one k p (above j ps) l) ∙ ap (above k) (sym (above_one j p ps m)))
+    ap (above j) (above_one k p ps l) ∙ above_one j p (above k ps) m ∙ ap (λ qs. p ∷ qs) (above_above j k ps h) ∙ sym (above_one k p (above j ps) l) ∙ ap (above k) (sym (above_one j p ps m)))
     (λ g. ap (above j) (above_less_one k p ps g) ∙ above_above j k ps h ∙ by (or_not j p.key) g) (or_not k p.key)
   where
     by : (j < p.key) ⊎ (p.key ≤ j) → p.key ≤ k → above k (above j ps) ≡ above k (above j (p ∷ ps))
@@ -144,7 +143,7 @@ above_below j k [] h = refl
 above_below j k (p ∷ ps) h = ⊎_elim
     (λ l. ap (above j) (below_one k p ps l) ∙ by (above_below j k ps h) (or_not j p.key) l)
     (λ g. let m : j < p.key = omega (arith, g, h) in
-      ap (above j) (below_less_one k p ps g) ∙ above_below j k ps h ∙ sym (below_less_one k p (above j ps) g) ∙ ap (below k) (sym (above_one j p ps m))) (or_not p.key k)
+    ap (above j) (below_less_one k p ps g) ∙ above_below j k ps h ∙ sym (below_less_one k p (above j ps) g) ∙ ap (below k) (sym (above_one j p ps m))) (or_not p.key k)
   where
     by : above j (below k ps) ≡ below k (above j ps) → (j < p.key) ⊎ (p.key ≤ j) → p.key < k → above j (p ∷ below k ps) ≡ below k (above j (p ∷ ps))
     by same o l = ⊎_elim
@@ -238,22 +237,23 @@ placed_in r k x = placed nothing times r.run r.waits k x
 pub placed_cut : (p : Piece) (ks : List ℕ) (ps : List Piece) → Rises ks → Comes p.key ks ps → placed_in (cut ks ps) p.key (product p.views) ≡ cut (dropped p.key ks) (among p ps)
 placed_cut p [] ps up h =
     between_last
-    where
-      parts : among p ps ≡ ps ++ p ∷ []
-      parts = ap₂ (λ xs ys. xs ++ p ∷ ys) (below_all p.key ps h) (above_none p.key ps h)
-      between_last : placed_in (cut [] ps) p.key (product p.views) ≡ cut [] (among p ps)
-      between_last = ap (λ r. row r []) (between_is ps p []) ∙ ap (cut []) (sym parts)
+  where
+    parts : among p ps ≡ ps ++ p ∷ []
+    parts = ap₂ (λ xs ys. xs ++ p ∷ ys) (below_all p.key ps h) (above_none p.key ps h)
+
+    between_last : placed_in (cut [] ps) p.key (product p.views) ≡ cut [] (among p ps)
+    between_last = ap (λ r. row r []) (between_is ps p []) ∙ ap (cut []) (sym parts)
 placed_cut p (j ∷ js) ps up h = ⊎_elim
     (λ e. let low : AllByRecursion (λ i. p.key < i) js = subst (λ k. AllByRecursion (λ i. k < i) js) e up.0 in
-      placed_here (run_over (below j ps)) (let r = cut js (above j ps) in wait j r.run) (let r = cut js (above j ps) in r.waits) p.key (product p.views) (eq-eqb j p.key e)
-      ∙ ap (λ k. runs_ahead (run_over (below k ps)) (product p.views) (cut js (above k ps))) e
-      ∙ cut_beside (below p.key ps) p js (above p.key ps) (are_below p.key ps) low
-      ∙ ap (λ ks. cut ks (among p ps)) (sym (dropped_here p.key j js e)))
+    placed_here (run_over (below j ps)) (let r = cut js (above j ps) in wait j r.run) (let r = cut js (above j ps) in r.waits) p.key (product p.views) (eq-eqb j p.key e)
+    ∙ ap (λ k. runs_ahead (run_over (below k ps)) (product p.views) (cut js (above k ps))) e
+    ∙ cut_beside (below p.key ps) p js (above p.key ps) (are_below p.key ps) low
+    ∙ ap (λ ks. cut ks (among p ps)) (sym (dropped_here p.key j js e)))
     (λ g. let l : j < p.key = g.0 in
-      placed_later (run_over (below j ps)) (let r = cut js (above j ps) in wait j r.run) (let r = cut js (above j ps) in r.waits) p.key (product p.views) (differs j p.key l)
-      ∙ ap (ahead (run_over (below j ps)) j) (placed_cut p js (above j ps) up.1 g.1)
-      ∙ ap₂ (λ xs ys. ahead (run_over xs) j (cut (dropped p.key js) ys)) (sym (below_among j p ps l)) (sym (above_among j p ps l))
-      ∙ ap (λ ks. cut ks (among p ps)) (sym (dropped_later p.key j js (differs j p.key l)))) h
+    placed_later (run_over (below j ps)) (let r = cut js (above j ps) in wait j r.run) (let r = cut js (above j ps) in r.waits) p.key (product p.views) (differs j p.key l)
+    ∙ ap (ahead (run_over (below j ps)) j) (placed_cut p js (above j ps) up.1 g.1)
+    ∙ ap₂ (λ xs ys. ahead (run_over xs) j (cut (dropped p.key js) ys)) (sym (below_among j p ps l)) (sym (above_among j p ps l))
+    ∙ ap (λ ks. cut ks (among p ps)) (sym (dropped_later p.key j js (differs j p.key l)))) h
 
 -- ---- runs
 

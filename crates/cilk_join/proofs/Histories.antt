@@ -33,7 +33,6 @@ pub record Holds (j : JoinView) (stolen : List ℕ) (ps : List Piece) (Own : Pie
   pub closed : j.closed ≡ true → (p : Piece) × Own p
   pub once : Once ps
 
-
 pub opens : Holds opening [] [] (λ p. ⊥)
 opens = record {
   row_is = refl;
@@ -71,12 +70,12 @@ module _ (j : JoinView) (stolen : List ℕ) (ps : List Piece) (Own : Piece → T
   low_pieces : (k : ℕ) → j.arrived < k → AllBelow k (by_key ps)
   low_pieces k l = from_keys k (by_key ps) (λ i s. let a : i ≤ j.arrived = h.arrived_low i (stands_sorted ps i s) in omega (arith, a, l))
 
-  module _ (k : ℕ) (open : IsOpen j k) where
+  module _ (k : ℕ) (may : IsOpen j k) where
     not_closed : {X : Type 0} → j.closed ≡ true → X
-    not_closed q = let o : j.closed ≡ false = open.0 in let f : ⊥ = cc in absurd f
+    not_closed q = let o : j.closed ≡ false = may.0 in let f : ⊥ = cc in absurd f
 
     low_stolen : (i : ℕ) → Stands (k ∷ stolen) i → i ≤ k
-    low_stolen i s = let l : j.stolen < k = open.1 in ⊎_elim (λ e. omega (arith, e)) (λ t. let a : i ≤ j.stolen = h.stolen_low i t in omega (arith, a, l)) s
+    low_stolen i s = let l : j.stolen < k = may.1 in ⊎_elim (λ e. omega (arith, e)) (λ t. let a : i ≤ j.stolen = h.stolen_low i t in omega (arith, a, l)) s
 
     -- its piece has arrived
     steals_there : j.arrived ≡ k → Holds (record j { stolen = k }) (k ∷ stolen) ps Own
@@ -94,14 +93,13 @@ module _ (j : JoinView) (stolen : List ℕ) (ps : List Piece) (Own : Piece → T
     }
       where
         arrived_there : Stands (keys_of ps) j.arrived
-        arrived_there = let l : j.stolen < k = open.1 in ⊎_elim (λ z. let f : ⊥ = omega (arith, z, e, l) in absurd f) (λ s. s) h.arrived_is
-
+        arrived_there = let l : j.stolen < k = may.1 in ⊎_elim (λ z. let f : ⊥ = omega (arith, z, e, l) in absurd f) (λ s. s) h.arrived_is
 
     -- it is awaited
     steals_awaited : j.arrived < k → Holds (let r = j.row in record j { row = row r.run (r.waits ++ wait k None ∷ []); stolen = k }) (k ∷ stolen) ps Own
     steals_awaited l = record {
       row_is = ap (λ (r : Row Product). row r.run (r.waits ++ wait k None ∷ [])) h.row_is ∙ cut_snoc (keys_in j) (by_key ps) k (low_pieces k l) ∙ ap (λ ks. cut ks (by_key ps)) (sym (keys_snoc (waits_of j) k));
-      rises = subst Rises (sym (keys_snoc (waits_of j) k)) (rises_snoc (keys_in j) k h.rises (λ i s. let a : i ≤ j.stolen = low_awaited i s in let b : j.stolen < k = open.1 in omega (arith, a, b)));
+      rises = subst Rises (sym (keys_snoc (waits_of j) k)) (rises_snoc (keys_in j) k h.rises (λ i s. let a : i ≤ j.stolen = low_awaited i s in let b : j.stolen < k = may.1 in omega (arith, a, b)));
       stolen_low = low_stolen;
       arrived_low = h.arrived_low;
       arrived_is = h.arrived_is;
@@ -126,7 +124,7 @@ module _ (j : JoinView) (stolen : List ℕ) (ps : List Piece) (Own : Piece → T
         (λ n. subst (λ v. Holds v (k ∷ stolen) ps Own) (sym (same_view false n)) (steals_awaited (less n))) (same_or_not j.arrived k)
       where
         less : nat_eq j.arrived k ≡ false → j.arrived < k
-        less n = ⊎_elim (λ l. l) (λ g. let low : j.arrived ≤ k = open.2 in let e : j.arrived ≡ k = omega (arith, g, low) in let t : nat_eq j.arrived k ≡ true = eq-eqb j.arrived k e in let f : ⊥ = cc in absurd f) (or_not j.arrived k)
+        less n = ⊎_elim (λ l. l) (λ g. let low : j.arrived ≤ k = may.2 in let e : j.arrived ≡ k = omega (arith, g, low) in let t : nat_eq j.arrived k ≡ true = eq-eqb j.arrived k e in let f : ⊥ = cc in absurd f) (or_not j.arrived k)
 
   -- ---- an arrival
 
@@ -152,11 +150,11 @@ module _ (j : JoinView) (stolen : List ℕ) (ps : List Piece) (Own : Piece → T
 
     comes_awaited : (ks : List ℕ) (qs : List Piece) → Rises ks → Stands ks p.key → Comes p.key ks qs
     comes_awaited [] qs up s = absurd s
-    comes_awaited (i ∷ is) qs up s = ⊎_elim (λ e. inl e) (λ t. inr (all_stand (λ m. i < m) is p.key up.0 t, comes_awaited is (above i qs) up.1 t)) s
+    comes_awaited (i ∷ more) qs up s = ⊎_elim (λ e. inl e) (λ t. inr (all_stand (λ m. i < m) more p.key up.0 t, comes_awaited more (above i qs) up.1 t)) s
 
     comes_fresh : (ks : List ℕ) (qs : List Piece) → ((i : ℕ) → Stands ks i → i < p.key) → AllBelow p.key qs → Comes p.key ks qs
     comes_fresh [] qs low all = all
-    comes_fresh (i ∷ is) qs low all = inr (low i (inl refl), comes_fresh is (above i qs) (λ m s. low m (inr s)) (all_filter (λ q. q.key < p.key) _ qs all))
+    comes_fresh (i ∷ more) qs low all = inr (low i (inl refl), comes_fresh more (above i qs) (λ m s. low m (inr s)) (all_filter (λ q. q.key < p.key) _ qs all))
 
     comes : Comes p.key (keys_in j) (by_key ps)
     comes = ⊎_elim
@@ -181,8 +179,8 @@ module _ (j : JoinView) (stolen : List ℕ) (ps : List Piece) (Own : Piece → T
     stays_last q xs l e =
         ap (among p) e
         ∙ ap₂ (λ ys zs. ys ++ p ∷ zs)
-          (below_append p.key xs (q ∷ []) ∙ ap (λ ys. below p.key xs ++ ys) (below_less_one p.key q [] (omega (arith, l))) ∙ append_none (below p.key xs))
-          (above_append p.key xs (q ∷ []) ∙ ap (λ ys. above p.key xs ++ ys) (above_one p.key q [] l))
+        (below_append p.key xs (q ∷ []) ∙ ap (λ ys. below p.key xs ++ ys) (below_less_one p.key q [] (omega (arith, l))) ∙ append_none (below p.key xs))
+        (above_append p.key xs (q ∷ []) ∙ ap (λ ys. above p.key xs ++ ys) (above_one p.key q [] l))
         ∙ sym (append_assoc (below p.key xs) (p ∷ above p.key xs) (q ∷ []))
 
     abbrev OwnNow : Piece → Type 0
@@ -199,9 +197,9 @@ module _ (j : JoinView) (stolen : List ℕ) (ps : List Piece) (Own : Piece → T
         let c : j.closed ≡ true = w.0 in
         let l : j.stolen < q.key = w.1 in
         ⊎_elim
-          (λ a. let m : p.key ≤ j.stolen = low_awaited p.key a.1 in
-            (stays_closed last j.closed c, l, (below p.key w.2.0 ++ p ∷ above p.key w.2.0, stays_last q w.2.0 (omega (arith, l, m)) w.2.1)))
-          (λ f. let o : j.closed ≡ false = f.0 in let f : ⊥ = cc in absurd f) may
+        (λ a. let m : p.key ≤ j.stolen = low_awaited p.key a.1 in
+        (stays_closed last j.closed c, l, (below p.key w.2.0 ++ p ∷ above p.key w.2.0, stays_last q w.2.0 (omega (arith, l, m)) w.2.1)))
+        (λ f. let o : j.closed ≡ false = f.0 in let f : ⊥ = cc in absurd f) may
 
     closed_now : (b : Bool) → last ≡ b → (let a = after in a.closed ≡ true) → (q : Piece) × OwnNow q
     closed_now true e c = (p, inl (refl, e))
@@ -225,9 +223,9 @@ module _ (j : JoinView) (stolen : List ℕ) (ps : List Piece) (Own : Piece → T
           (a.0, λ t. ⊎_elim (λ e. dropped_gone p.key (keys_in j) h.rises (subst (Stands (dropped p.key (keys_in j))) (sym e) d)) (λ u. a.1 u) t);
       there = λ i s. ⊎_elim
           (λ a. ⊎_elim
-            (λ e. inr (inl (sym e)))
-            (λ n. inl (subst (λ ks. Stands ks i) (sym keys_are) (dropped_other p.key (keys_in j) i a (λ e. let q : nat_eq i p.key ≡ true = eq-eqb i p.key e in let f : ⊥ = cc in f))))
-            (same_or_not i p.key))
+          (λ e. inr (inl (sym e)))
+          (λ n. inl (subst (λ ks. Stands ks i) (sym keys_are) (dropped_other p.key (keys_in j) i a (λ e. let q : nat_eq i p.key ≡ true = eq-eqb i p.key e in let f : ⊥ = cc in f))))
+          (same_or_not i p.key))
           (λ b. inr (inr b)) (h.there i s);
       own = λ q o. ⊎_elim (λ e. own_here q e.0 e.1) (λ b. own_before q b) o;
       closed = closed_now last refl;

@@ -82,7 +82,8 @@ impl Join {
         !self.awaited.is_empty()
     }
 
-    /// The number of runs of arrived keys, which is the number of pieces kept: at most one more than the keys awaited.
+    /// The number of runs of arrived keys, which is the number of pieces kept: at most one more than the keys awaited
+    /// ([`crate::laws::rows_are_of_pieces`]).
     pub fn parts(&self) -> usize
         ensures { result ≡ parts_in (shown self.now) }
     {
@@ -174,7 +175,8 @@ impl Join {
 
     /// A piece arrives: a child's at its end, or the sync's own, which is the last. It is merged at once with the runs beside it,
     /// left first, and across no awaited key. Where memory is refused, the piece comes back with the same values and nothing
-    /// changes.
+    /// changes. Whatever the order of steals and arrivals, the block passes exactly where the sync's piece and that of each
+    /// stolen child have arrived, with the product by ascending key ([`crate::laws::passes_with_all`]).
     pub fn arrive(
         &mut self,
         alloc: Global,
