@@ -1,7 +1,8 @@
 #!/usr/bin/env python3
 """Refuses each allocation, and fails each open, read and write, of the built program in turn, and looks at what it answers.
 
-tools/each_failure.py [PROGRAM]     the program, by default crates/cilk/out/cilk
+tools/each_failure.py [PROGRAM]             the program, by default crates/cilk/out/cilk
+tools/each_failure.py --choices [TESTS]     the built tests of schedules, by default crates/cilk_schedule_tests/out/cilk_schedule_tests_tests
 
 The commands are `certify` and `check` of a chain of spawns (fib(10), accepted) and of a view-read race (refused), and `play` of three programs
 with 2 workers and all rounds. Each run has one
@@ -9,6 +10,11 @@ call that fails: the Nth allocation, or all from the Nth on; the Nth open, read,
 byte of several. It must end with the answer of a run in which nothing fails, or say `no memory`, `cannot read FILE` or `cannot write`
 with that one's status, where a beginning of the answer may have gone out. The calls are counted and failed by a small library that
 `cc` makes and that the program is run with (LD_PRELOAD), so it needs a C compiler and glibc. Run by hand.
+
+With `--choices` the test `refused::rows_by_two_workers` of `cilk_schedule_tests` is run instead, with each allocation refused in turn: the
+list by a parallel loop and the local reducers, by rounds of 2 workers. It passes where each run ends with its result, or stops for want of
+memory, three more choices give the same stop, and each frame that is shown then has the first events that it has in the serial run.
+It says so where memory was refused ahead of the choices or behind them; any other end is wrong. `rt test` builds these tests.
 """
 
 import os
@@ -17,6 +23,8 @@ import sys
 import tempfile
 
 TOP = os.path.dirname(os.path.dirname(os.path.realpath(__file__)))
+PROGRAM = f"{TOP}/crates/cilk/out/cilk"
+TESTS = f"{TOP}/crates/cilk_schedule_tests/out/cilk_schedule_tests_tests"
 
 LIBRARY = r"""
 #define _GNU_SOURCE
@@ -154,23 +162,60 @@ def turns(program, words, folder):
     return wrong
 
 
-def main():
-    program = os.path.realpath(sys.argv[1] if sys.argv[1:] else f"{TOP}/crates/cilk/out/cilk")
+def make_library(folder):
+    """The library that counts calls and fails them."""
+    with open(f"{folder}/fails.c", "w", encoding="ascii") as it:
+        it.write(LIBRARY)
+    cc = os.environ.get("CC") or "cc"
+    subprocess.run([cc, "-O1", "-shared", "-fPIC", "-o", f"{folder}/fails.so", f"{folder}/fails.c", "-ldl"], check=True)
+
+
+def commands(program, folder):
+    """Fails each call of `certify`, `check` and `play` in turn, and gives how many answers weren't fair."""
     wrong = 0
+    for name, text in [("fib.c", FIB), ("race.c", RACE), ("list.c", LIST), ("local.c", LOCAL), ("all", "all\n")]:
+        with open(f"{folder}/{name}", "w", encoding="ascii") as it:
+            it.write(text)
+    for name in ["fib", "race"]:
+        made, _ = run(program, ["certify", f"{name}.c"], folder)
+        with open(f"{folder}/{name}.cert", "wb") as it:
+            it.write(made[1])
+        wrong += turns(program, ["certify", f"{name}.c"], folder)
+        wrong += turns(program, ["check", f"{name}.c", f"{name}.cert"], folder)
+    for name in ["fib", "list", "local"]:
+        wrong += turns(program, ["play", f"{name}.c", "all", "--workers", "2"], folder)
+    return wrong
+
+
+def choices(tests, folder):
+    """Refuses each allocation of the test of refused choices in turn, and gives how often it ended otherwise than it may."""
+    words = ["refused::rows_by_two_workers"]
+    whole, (allocs, _, _) = run(tests, words, folder)
+    if whole[0] != 0:
+        print(f"with ample memory: {whole}")
+        return 1
+    stopped = outside = wrong = 0
+    for n in range(1, allocs + 1):
+        (status, out, err), _ = run(tests, words, folder, FAIL_ALLOC=n)
+        if status == 0:
+            stopped += 1
+        elif b"no memory ahead of the run, or to look at it" in out + err:
+            outside += 1
+        else:
+            wrong += 1
+            print(f"FAIL_ALLOC={n}: {status} {out[-200:]} {err[-200:]}")
+    print(f"{allocs} allocations: {stopped} in the choices, after which all was as it has to be, {outside} ahead of them or behind them, {wrong} wrong")
+    return wrong
+
+
+def main():
+    words = sys.argv[1:]
     with tempfile.TemporaryDirectory() as folder:
-        for name, text in [("fails.c", LIBRARY), ("fib.c", FIB), ("race.c", RACE), ("list.c", LIST), ("local.c", LOCAL), ("all", "all\n")]:
-            with open(f"{folder}/{name}", "w", encoding="ascii") as it:
-                it.write(text)
-        cc = os.environ.get("CC") or "cc"
-        subprocess.run([cc, "-O1", "-shared", "-fPIC", "-o", f"{folder}/fails.so", f"{folder}/fails.c", "-ldl"], check=True)
-        for name in ["fib", "race"]:
-            made, _ = run(program, ["certify", f"{name}.c"], folder)
-            with open(f"{folder}/{name}.cert", "wb") as it:
-                it.write(made[1])
-            wrong += turns(program, ["certify", f"{name}.c"], folder)
-            wrong += turns(program, ["check", f"{name}.c", f"{name}.cert"], folder)
-        for name in ["fib", "list", "local"]:
-            wrong += turns(program, ["play", f"{name}.c", "all", "--workers", "2"], folder)
+        make_library(folder)
+        if words[:1] == ["--choices"]:
+            wrong = choices(os.path.realpath(words[1] if words[1:] else TESTS), folder)
+        else:
+            wrong = commands(os.path.realpath(words[0] if words else PROGRAM), folder)
     print(f"{wrong} wrong")
     return 1 if wrong else 0
 

@@ -1,4 +1,4 @@
-//! Examples of programs without a race, as texts.
+//! Examples of programs, as texts.
 
 pub const REDUCERS: &str =
     "int cilk_reducer(add) total; int cilk_reducer(append) seen; void visit(int cilk_reducer(max) greatest, int n) \
@@ -37,3 +37,15 @@ pub const MONOIDS: &str =
     cilk_reducer(append) list; int cilk_reducer(affine) digits; int main() { set(sum, 100); cilk_for (int i = 1; i \
     < 5; i++) { update(sum, i); update(least, 10 - i); update(greatest, 10 - i); update(list, i * i); \
     update(digits, i); } print(value(list)); return value(sum); }";
+
+pub const FIRST: &str = "int main() { return 0; }";
+
+pub const INPUTS: &str =
+    "int i; int sum; int main() { while (i < input_count()) { sum = sum + input(i); i = i + 1; } return sum; }";
+
+pub const EARLY_VALUE: &str =
+    "int cilk_reducer(add) sum; void one() { update(sum, 1); } int main() { cilk_spawn one(); int x = value(sum); \
+    cilk_sync; return x; }";
+
+// What the program with an input is given.
+pub const INPUTS_INPUT: &str = "1 2 3";

@@ -6,6 +6,12 @@ mod chance;
 #[cfg(test)]
 mod examples;
 #[cfg(test)]
+mod gallery;
+#[cfg(test)]
 mod machine;
 #[cfg(test)]
 mod playing;
+#[cfg(test)]
+mod refused;
+#[cfg(test)]
+mod settled;

@@ -1,6 +1,7 @@
 //! Worked programs, and how they are played.
 
-ghost use Rattle.cilk_schedule.specs.Sound.{IsCode};
+ghost use Rattle.std.specs.Prelude.{◌≡◌, None};
+ghost use Rattle.cilk_schedule.specs.Sound.{IsCode, Runs};
 
 use cilk_board::choice::{Choice, Stop};
 use cilk_judge::judge::program;
@@ -30,36 +31,71 @@ pub fn no_input(alloc: Global) -> Input {
     Input::new(WordList::new(alloc))
 }
 
-pub fn run(rt: &impl Abort, choices: &mut Vec<Choice>, worker: u32, count: u32) {
-    for _ in 0..count {
-        let Ok(()) = choices.push(Choice::Run(worker)) else {
-            panic!(rt; "no memory");
-        };
+/// Lines of a script: a worker makes so many choices of going on with its frame, or takes the continuation at a place.
+#[derive(Clone, Copy)]
+pub enum Line {
+    Run(u32, u32),
+    Steal(u32, usize),
+}
+
+/// The choices of these lines, one after another.
+pub fn script(rt: &impl Abort, alloc: Global, lines: &[Line]) -> Vec<Choice> {
+    let mut choices = Vec::new(alloc);
+    for line in lines {
+        let (choice, count) = choice_of(*line);
+        for _ in 0..count {
+            let Ok(()) = choices.push(choice) else {
+                panic!(rt; "no memory");
+            };
+        }
+    }
+    choices
+}
+
+// The choice of a line, and how often it is made.
+fn choice_of(line: Line) -> (Choice, u32) {
+    match line {
+        Line::Run(worker, count) => (Choice::Run(worker), count),
+        Line::Steal(worker, place) => (Choice::Steal(worker, place), 1),
     }
 }
 
-pub fn steal(rt: &impl Abort, choices: &mut Vec<Choice>, worker: u32, place: usize) {
-    let Ok(()) = choices.push(Choice::Steal(worker, place)) else {
-        panic!(rt; "no memory");
-    };
-}
-
-pub fn played(
-    rt: &impl Abort,
-    alloc: Global,
-    code: &Code,
-    workers: u32,
-    choices: &[Choice],
-) -> Shown
+/// What is shown behind the choices of these lines.
+pub fn played(rt: &impl Abort, alloc: Global, code: &Code, workers: u32, lines: &[Line]) -> Shown
     requires { IsCode code.now }
 {
-    match play(alloc, code, &no_input(alloc), workers, choices) {
+    let choices = script(rt, alloc, lines);
+    match play(alloc, code, &no_input(alloc), workers, choices.as_slice()) {
         Ok(shown) => shown,
         Err((stop, name)) => panic!(rt; "{stop:?} {name:?}"),
     }
 }
 
-// Rounds of all workers until the run has ended.
+/// Rounds of so many workers until the run has ended.
+pub fn rounds(alloc: Global, machine: &mut Machine<'_>, workers: u32) -> Result<(), Stop>
+    requires { machine.old.board.stopped ≡ None → Runs machine.old.code.now machine.old.input.now machine.old.board }
+    ensures { machine.new.board.stopped ≡ None → Runs machine.new.code.now machine.new.input.now machine.new.board }
+{
+    'choices: for number in 0..4_000_000u32 {
+        if machine.ended() {
+            break;
+        }
+        let worker = number.checked_rem(workers).unwrap_or(0).saturating_add(1);
+        machine.choose(alloc, turn(machine, worker))?;
+    }
+    Ok(())
+}
+
+// A worker goes on with its frame, or takes the first continuation that is offered.
+fn turn(machine: &Machine<'_>, worker: u32) -> Choice {
+    if machine.holds(worker) {
+        Choice::Run(worker)
+    } else {
+        Choice::Steal(worker, 0)
+    }
+}
+
+/// What is shown behind rounds of so many workers, which end the run.
 pub fn all(rt: &impl Abort, alloc: Global, code: &Code, workers: u32) -> Shown
     requires { IsCode code.now }
 {
@@ -67,29 +103,14 @@ pub fn all(rt: &impl Abort, alloc: Global, code: &Code, workers: u32) -> Shown
     let Ok(mut machine) = Machine::new(alloc, code, &input, workers) else {
         panic!(rt; "no memory");
     };
-    'rounds: for _ in 0..4_000_000 {
-        if machine.ended() {
-            break;
-        }
-        'each: for number in 0..workers {
-            let worker = number + 1;
-            let choice = if machine.holds(worker) {
-                Choice::Run(worker)
-            } else {
-                Choice::Steal(worker, 0)
-            };
-            match machine.choose(alloc, choice) {
-                Ok(_) => {}
-                Err(stop) => panic!(rt; "{stop:?}"),
-            }
-        }
+    if let Err(stop) = rounds(alloc, &mut machine, workers) {
+        panic!(rt; "{stop:?}");
     }
-    assert!(rt; machine.ended());
-    assert_eq!(rt; machine.offered(), 0);
-    match machine.shown(alloc) {
-        Ok(shown) => shown,
-        Err(_) => panic!(rt; "no memory"),
-    }
+    assert!(rt; machine.ended() && machine.offered() == 0);
+    let Ok(shown) = machine.shown(alloc) else {
+        panic!(rt; "no memory");
+    };
+    shown
 }
 
 pub fn outcome_of<'a>(rt: &impl Abort, shown: &'a Shown) -> &'a Outcome {
