@@ -70,7 +70,7 @@ fn names(alloc: Global, reducers: &[GlobalReducer]) -> Result<Sequence<Sequence<
 }
 
 /// What is shown of a run that stops.
-fn stopped<'a>(fault: &RunFault) -> Failure<'a>
+pub fn stopped<'a>(fault: &RunFault) -> Failure<'a>
     ensures { failure_view result ≡ run_fault_view fault.now }
 {
     match fault {

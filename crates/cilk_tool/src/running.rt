@@ -93,7 +93,7 @@ fn read_input<'a, F: Files>(
 }
 
 /// A program and its input. Each text is read and judged before the next is read.
-fn given<'a, F: Files, R: Read>(
+pub fn given<'a, F: Files, R: Read>(
     alloc: Global,
     program: Origin<'a>,
     input: Option<&'a str>,
