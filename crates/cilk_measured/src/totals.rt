@@ -1,0 +1,36 @@
+//! The totals of a run, from files to numbers.
+
+ghost use Rattle.std.specs.Prelude.{◌≡◌, ◌<◌, IfErr, IfOk, option_map};
+ghost use Rattle.cilk_measured.specs.Measured.{AreTotalsOf};
+ghost use Rattle.cilk_tool.specs.Replies.{failure_view};
+ghost use Rattle.cilk_tool.specs.Serving.{RunReply, world};
+ghost use Rattle.cilk_tool.specs.Words.{origin_view};
+
+use cilk_measure::totals::{Totals, measure};
+use cilk_tool::files::Files;
+use cilk_tool::reply::Failure;
+use cilk_tool::words::Origin;
+use cilk_tool::{given, stopped};
+use std::alloc::Global;
+use std::io::Read;
+
+/// The totals of a program's run on its input. What fails is what `run` shows.
+pub fn totals_of<'a, F: Files, R: Read>(
+    alloc: Global,
+    program: Origin<'a>,
+    numbers: Option<&'a str>,
+    files: &mut F,
+    input: &mut R,
+) -> Result<Totals, Failure<'a>>
+    requires { (F.failed files.old).count < 18446744073709551615 }
+    ensures totals { IfOk result (λ t. AreTotalsOf (world (F.holds files.old) (R.remaining input.old) (F.failed files.old) (F.failed files.new))
+        (origin_view program.entry) (option_map (λ p. p.now) numbers.entry) t) }
+    ensures failure { IfErr result (λ e. RunReply (world (F.holds files.old) (R.remaining input.old) (F.failed files.old) (F.failed files.new))
+        (origin_view program.entry) (option_map (λ p. p.now) numbers.entry) (failure_view e)) }
+{
+    let (program, numbers) = given(alloc, program, numbers, files, input)?;
+    match measure(alloc, &program, &numbers) {
+        Ok((totals, _trace)) => Ok(totals),
+        Err(fault) => Err(stopped(&fault)),
+    }
+}
