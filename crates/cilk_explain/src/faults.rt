@@ -259,7 +259,7 @@ pub fn run_limit(number: u16) -> Option<Reason> {
             line: "fault 205 at 131072",
             example: Example::Program("void f() { f(); } int main() { f(); return 0; }"),
             place: "too many frames, in place of this call or spawn",
-            cure: "Let each turn of a `cilk_for` do a block of turns by a serial loop, and call instead of spawn where little is left to do (`docs/FROM-CILK.md`, \"Many turns, in blocks\").",
+            cure: "Let each turn of a `cilk_for` do a block of turns by a serial loop (`docs/FROM-CILK.md`, \"Many turns, in blocks\"), and a loop do what is left where that is little: a call takes a frame as a spawn does.",
         },
         206 => Reason {
             number,
