@@ -171,6 +171,6 @@ fn cure(
 }
 
 const BLOCKS: &str =
-    "a `cilk_for` of n turns begins 2 n - 1 frames: let each turn do a block of turns, `cilk_for (int b = 0; b < n / 64; b++) { for (int i = 64 * b; i < 64 * b + 64; i++) { .. } }`";
+    "a `cilk_for` of n turns begins 2 n - 1 frames: let each turn do a block of turns, `cilk_for (int b = 0; b < (n + 63) / 64; b++) { for (int i = 64 * b; i < n && i < 64 * b + 64; i++) { .. } }`";
 
 const RECURSION: &str = "is there a condition that ends this recursion, and does it hold once?";

@@ -20,3 +20,4 @@ mod paths;
 pub mod races;
 pub mod runs;
 pub mod schedules;
+mod statements;

@@ -6,6 +6,7 @@ use crate::notes::{place_of, push_line, push_place};
 use crate::paths::{chain, halves, invoked_at, push_path, turns_of};
 use crate::runs::Run;
 use crate::schedules::{Schedule, push_schedule};
+use crate::statements::parting_at;
 use cilk_explain::reasons::reason_of;
 use cilk_places::replay::{FrameNote, StepNote};
 use cilk_program::program::Body;
@@ -13,13 +14,12 @@ use cilk_types::event::Event;
 use cilk_types::invocation::Invocation;
 use std::alloc::AllocError;
 
-/// Two events that race, counted from 0: the frames that they are in, the one that both ways up have in common, and the child
-/// of that one that runs beside what follows it.
+/// What races, by its frames: that of the later event, counted from 0, and the one beside it, which is the earlier event's, or, where a reducer
+/// is read or set, a child that may still update it; the frame that both ways up have in common, and its child that runs beside what follows.
 #[derive(Clone, Copy, Debug)]
 struct Pair {
-    earlier: usize,
     later: usize,
-    first: usize,
+    beside: usize,
     second: usize,
     common: usize,
     child: usize,
@@ -40,41 +40,21 @@ pub fn of_race(
     let earlier = (earlier as usize).saturating_sub(1);
     let later = (later as usize).saturating_sub(1);
     push_accesses(case, &run, &mut report, number, earlier, later)?;
-    let found = if number == 311 {
-        of_accesses(&run, earlier, later)
+    if number == 311 {
+        if let Some(pair) = of_accesses(&run, earlier, later) {
+            let headings = ["the earlier one", "the later one"];
+            push_pair(case, &run, &mut report, &pair, headings)?;
+        }
+    } else if let Some(pair) = of_views(case, &run, earlier, later)? {
+        push_pair(
+            case,
+            &run,
+            &mut report,
+            &pair,
+            ["beside it", "the way to it"],
+        )?;
     } else {
-        of_views(case, &run, earlier, later)?
-    };
-    if let Some(pair) = found {
-        let beside = if number == 311 {
-            pair.first
-        } else {
-            pair.child
-        };
-        push_way(
-            case,
-            &run,
-            &mut report,
-            "the earlier one",
-            beside,
-            Some(pair.common),
-        )?;
-        push_way(
-            case,
-            &run,
-            &mut report,
-            "the later one",
-            pair.second,
-            Some(pair.common),
-        )?;
-        push_way(case, &run, &mut report, "both", pair.common, None)?;
-        push_parallel(case, &run, &mut report, &pair)?;
-        push_parting(case, &run, &mut report, &pair)?;
-        let schedule = schedule_of(&run, &pair);
-        push_schedule(case, &mut report, &schedule)?;
-    } else if let Some(frame) = frame_of(&run, later) {
-        push_way(case, &run, &mut report, "the later one", frame, None)?;
-        push_line(&mut report, "parallel", BESIDE)?;
+        push_first_child(case, &run, &mut report, earlier, later)?;
     }
     if let Some(reason) = reason_of(number) {
         push_line(&mut report, "hint", reason.cure)?;
@@ -82,8 +62,74 @@ pub fn of_race(
     Ok(report)
 }
 
-const BESIDE: &str =
-    "the reducer is read or set in a spawned child, or in a turn of a `cilk_for`, beside which others may still update it";
+// The two ways up to the frame in common, below these headings; what lets the two run in parallel, what parts them, and a schedule.
+fn push_pair(
+    case: &Case<'_>,
+    run: &Run,
+    report: &mut String,
+    pair: &Pair,
+    headings: [&str; 2],
+) -> Result<(), AllocError> {
+    let [earlier, later] = headings;
+    let Pair {
+        beside,
+        second,
+        common,
+        ..
+    } = *pair;
+    push_way(case, run, report, earlier, beside, Some(common))?;
+    push_way(case, run, report, later, second, Some(common))?;
+    push_way(case, run, report, "both", common, None)?;
+    push_parallel(case, run, report, pair)?;
+    push_parting(case, run, report, pair)?;
+    push_schedule(case, report, &schedule_of(run, pair))
+}
+
+// A reducer that is read or set beside no child that was spawned ahead of it: so it is in a spawned child itself, and what follows that
+// child's spawn may update the reducer beside it.
+fn push_first_child(
+    case: &Case<'_>,
+    run: &Run,
+    report: &mut String,
+    created: usize,
+    used: usize,
+) -> Result<(), AllocError> {
+    let alloc = case.alloc;
+    let (Some(first), Some(second)) = (frame_of(run, created), frame_of(run, used)) else {
+        return Ok(());
+    };
+    push_way(case, run, report, "the way to it", second, None)?;
+    let mut at = second;
+    for _level in 0..run.replay.frames.len() {
+        let Some(note) = run.replay.frames.get(at) else {
+            break;
+        };
+        if at == first {
+            break;
+        }
+        if note.how == Invocation::Spawn {
+            let text = if let Body::Loop(_) = note.body {
+                String::from_str(
+                    alloc,
+                    "the turns of a `cilk_for` run in parallel, and a later one may update the reducer beside this",
+                )?
+            } else {
+                let spawn = place_of(case, invoked_at(case, run, note))?;
+                let spawn = spawn.as_str();
+                format!(in alloc;
+                    "the spawn at {spawn} lets what follows it update the reducer beside its child"
+                )?
+            };
+            push_line(report, "parallel", text.as_str())?;
+            break;
+        }
+        at = note.parent;
+    }
+    push_line(report, "schedule", IN_SERIES)
+}
+
+const IN_SERIES: &str =
+    "none is told: in each, all that is ahead of this one in the serial run comes before it";
 
 // The later access as the error, and the earlier one as a note.
 fn push_accesses(
@@ -105,16 +151,33 @@ fn push_accesses(
     let name = accessed(case, run, &after)?;
     let name = name.as_str();
     let done = done_by(&after);
-    let what = format!(in alloc; "error {number}: {title}: {name} is {done} here")?;
+    let giver = giver_of(case, run, later)?;
+    let giver = giver.as_str();
+    let what = format!(in alloc; "error {number}: {title}: {name} is {done} here{giver}")?;
     push_place(case, report, place(case, run, later), what.as_str())?;
     let done = done_by(&before);
+    let giver = giver_of(case, run, earlier)?;
+    let giver = giver.as_str();
     let beside = if number == 311 {
         ", and nothing orders the two"
     } else {
         ""
     };
-    let what = format!(in alloc; "note: {name} is {done} here{beside}")?;
+    let what = format!(in alloc; "note: {name} is {done} here{giver}{beside}")?;
     push_place(case, report, place(case, run, earlier), what.as_str())
+}
+
+// Whose result an event writes, where it does: a child's, as the last thing that the child does.
+fn giver_of(case: &Case<'_>, run: &Run, index: usize) -> Result<String, AllocError> {
+    let alloc = case.alloc;
+    match frame_of(run, index) {
+        Some(frame) if run.gives_result(index) => {
+            let function = function_of(case, run, frame)?;
+            let function = function.as_str();
+            format!(in alloc; ", with the result of `{function}`")
+        }
+        _ => Ok(String::new(alloc)),
+    }
 }
 
 // Where an event stands; a creation stands where its reducer is declared.
@@ -176,9 +239,8 @@ fn of_accesses(run: &Run, earlier: usize, later: usize) -> Option<Pair> {
         let common = above(run, child)?;
         if is_within(run, second, common) {
             return Some(Pair {
-                earlier,
                 later,
-                first,
+                beside: first,
                 second,
                 common,
                 child,
@@ -204,9 +266,8 @@ fn of_views(
     for _level in 0..run.replay.frames.len() {
         if let Some(Some(child)) = beside.get(common).copied() {
             return Ok(Some(Pair {
-                earlier,
                 later,
-                first,
+                beside: child,
                 second,
                 common,
                 child,
@@ -310,7 +371,7 @@ fn push_parting(
         return Ok(());
     };
     let text = if halves(common) {
-        let one = turn_below(case, run, pair.first, pair.common)?;
+        let one = turn_below(case, run, pair.beside, pair.common)?;
         let other = turn_below(case, run, pair.second, pair.common)?;
         let one = one.as_str();
         let other = other.as_str();
@@ -319,7 +380,11 @@ fn push_parting(
         )?
     } else {
         let at = leaving(case, run, pair);
-        let place = place_of(case, at)?;
+        let spawn = match run.replay.frames.get(pair.child) {
+            Some(child) => invoked_at(case, run, child),
+            None => 0,
+        };
+        let place = place_of(case, parting_at(case, spawn, at)?)?;
         let place = place.as_str();
         let function = function_of(case, run, pair.common)?;
         let function = function.as_str();
@@ -328,7 +393,7 @@ fn push_parting(
     push_line(report, "parted by", text.as_str())
 }
 
-// The turn of a loop in which a frame stands, below one that halves its turns.
+// The turn of a loop, or its turns, in which a frame stands, below one that halves them.
 fn turn_below(
     case: &Case<'_>,
     run: &Run,
@@ -340,16 +405,23 @@ fn turn_below(
         None => return Ok(String::new(case.alloc)),
     };
     let mut at = frame;
+    let mut turn = frame;
     for _level in 0..run.replay.frames.len() {
         let Some(note) = run.replay.frames.get(at) else {
             break;
         };
-        if note.body == body && !halves(note) {
-            return turns_of(case, note);
+        if at == common {
+            break;
+        }
+        if note.body == body && (at == frame || !halves(note)) {
+            turn = at;
         }
         at = note.parent;
     }
-    Ok(String::new(case.alloc))
+    match run.replay.frames.get(turn) {
+        Some(note) => turns_of(case, note),
+        None => Ok(String::new(case.alloc)),
+    }
 }
 
 // Where the later way leaves the frame in common.

@@ -1,17 +1,20 @@
 //! The run of a case, with its notes.
 
 use crate::case::Case;
+use cilk_lower::code::{Code, Instr};
 use cilk_lower::lower::lower;
-use cilk_places::replay::{Replay, follow};
+use cilk_places::replay::{FrameNote, Replay, StepNote, follow};
+use cilk_program::program::Body;
 use cilk_serial::serial_run::SerialRun;
 use cilk_types::event::Event;
 use cilk_types::fault::Fault;
 use cilk_types::trace::Trace;
 use std::alloc::AllocError;
 
-/// A run: its events, the fault that stops it, if one does, and its notes.
+/// A run: its code, its events, the fault that stops it, if one does, and its notes.
 #[derive(Drop)]
 pub struct Run {
+    code: Code,
     pub trace: Trace,
     pub fault: Option<Fault>,
     pub replay: Replay,
@@ -35,12 +38,34 @@ impl Run {
         )?;
         match noted {
             Some(replay) if replay.stop.is_some() == fault.is_some() => Ok(Some(Run {
+                code,
                 trace,
                 fault,
                 replay,
             })),
             _ => Ok(None),
         }
+    }
+
+    /// Whether an event, counted from 0, is a child's result.
+    pub fn gives_result(&self, index: usize) -> bool {
+        let Some(StepNote { frame, instruction }) = self.replay.steps.get(index).copied() else {
+            return false;
+        };
+        let Some(
+            FrameNote {
+                body: Body::Function(number),
+                ..
+            },
+        ) = self.replay.frames.get(frame)
+        else {
+            return false;
+        };
+        let first = self.code.function_entry(*number).place;
+        matches!(
+            self.code.instrs().get(first.saturating_add(instruction)),
+            Some(Instr::GiveResult)
+        )
     }
 
     /// An event, counted from 0.

@@ -46,7 +46,7 @@ const RACES: [Told; 4] = [
             both:\n  \
             in `main`\n\
             parallel: the spawn at program:13:3 lets its child run beside what follows it\n\
-            parted by: a `cilk_sync;` in `main` ahead of program:14:7\n\
+            parted by: a `cilk_sync;` in `main` ahead of program:14:3\n\
             schedule: this script for `play` leaves the result 0, where `run` shows 7\n  \
             run 1 3\n  \
             steal 2 0\n  \
@@ -108,12 +108,12 @@ const RACES: [Told; 4] = [
             program:1:23: note: the reducer `total` is created here\n\
             int cilk_reducer(add) total;\n                      \
             ^\n\
-            the earlier one:\n  \
+            beside it:\n  \
             in `f`, spawned at program:4:3\n\
             both:\n  \
             in `main`\n\
             parallel: the spawn at program:4:3 lets its child run beside what follows it\n\
-            parted by: a `cilk_sync;` in `main` ahead of program:5:15\n\
+            parted by: a `cilk_sync;` in `main` ahead of program:5:3\n\
             schedule: this script for `play` prints other numbers than `run`\n  \
             run 1 3\n  \
             steal 2 0\n  \

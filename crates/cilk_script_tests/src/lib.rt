@@ -2,6 +2,8 @@
 #![tactic(auto)]
 
 #[cfg(test)]
+mod brought;
+#[cfg(test)]
 mod choices;
 #[cfg(test)]
 mod explanations;
