@@ -17,7 +17,7 @@ use std::alloc::AllocError;
 // The most printed numbers that are told.
 const TOLD: usize = 20;
 
-// The depth from which a recursion is told to be one.
+// The depth from which a recursion is told to be one, also where it has fewer than half of the frames.
 const DEEP: usize = 1000;
 
 /// What stands behind the line of a fault of a run: where it stands, what was divided or indexed, the way from there up to `main`, how
@@ -159,9 +159,10 @@ fn cure(
         Some(note) => matches!(note.body, Body::Loop(_)),
         None => false,
     };
+    let is_deep = depth > DEEP || depth.saturating_mul(2) > run.replay.frames.len();
     let cure = match fault {
         Fault::TooManyFrames if is_loop => BLOCKS,
-        Fault::TooManyFrames | Fault::TooManyCells if depth > DEEP => RECURSION,
+        Fault::TooManyFrames | Fault::TooManyCells if is_deep => RECURSION,
         _ => match reason_of(fault.number()) {
             Some(reason) => reason.cure,
             None => "",

@@ -1,8 +1,10 @@
-//! Tests of what is told of races, as whole texts, and of the scripts that are told with them, each played.
+//! Tests of what is told of races and of limits, as whole texts, and of the scripts that are told of races, each played.
 #![tactic(auto)]
 
 #[cfg(test)]
 mod children;
+#[cfg(test)]
+mod limits;
 #[cfg(test)]
 mod race;
 #[cfg(test)]
