@@ -1,7 +1,7 @@
 //! Yards of worked programs on their own inputs and on others.
 
 use crate::texts::{GETS, SQUARES, TURNS, accepted, input_of};
-use cilk_planning::planning::events;
+use cilk_planning::program_plan::plan;
 use cilk_planning::yards::yard;
 use std::alloc::Global;
 use std::process::Abort;
@@ -10,10 +10,10 @@ use std::process::Abort;
 fn has_yard(rt: &impl Abort, alloc: Global, text: &str, own: &str, other: &str) {
     let accepted = accepted(rt, alloc, text, own);
     let input = input_of(rt, alloc, other);
-    let Ok(plan) = events(alloc, &accepted) else {
+    let Ok(plan) = plan(alloc, &accepted) else {
         panic!(rt; "no memory");
     };
-    let Ok((yard, mut segment)) = yard(alloc, &accepted, &plan, &input) else {
+    let Ok((yard, mut segment)) = yard(alloc, &plan, &input) else {
         panic!(rt; "no memory");
     };
     assert!(rt; segment.upto() == 2 && !yard.ended(&mut segment));

@@ -1,5 +1,5 @@
--- A program on its own input: `own_are_of`.
-use Rattle.std.proofs.Common.{◌≡◌, true, Bool, List, [], ◌∷◌, length, replicate, refl, sym, ap, ◌∙◌}
+-- A program on its own input: `own_are_of`, and of a plan that is moved out of a program's: `own_are_of_whole`.
+use Rattle.std.proofs.Common.{ℤ, ◌≡◌, true, Bool, List, [], ◌∷◌, length, replicate, refl, sym, ap, ◌∙◌, subst}
 use Rattle.cilk_types.specs.declared.event.Event.{Event}
 use Rattle.cilk_story.specs.declared.story.Story.{Story}
 use Rattle.cilk_plan.specs.Along.{IsAlong}
@@ -20,3 +20,8 @@ own_are_of a plan s es asked is along same events all =
       events = events ∙ sym (ap (λ (x : Story). x.events) whole);
       asks = all ∙ all_of es ∙ ap all_asked events ∙ sym (ap (λ (x : Story). x.asked) whole);
     }
+
+pub own_are_of_whole : (a b : AcceptedRun) (plan out s : Story) (es : List Event) (asked : List Bool) (i : List ℤ) → b ≡ a → out ≡ plan → IsPlanOf b plan
+    → IsAlong plan s → (i ≡ b.input → s ≡ plan) → i ≡ a.input → es ≡ a.trace → asked ≡ replicate (length es) true → AreOf s out es asked
+own_are_of_whole a b plan out s es asked i same moved is along own input events all = subst (λ (x : Story). AreOf s x es asked) (sym moved) (own_are_of b plan s
+    es asked is along (own (input ∙ sym (ap (λ (x : AcceptedRun). x.input) same))) (events ∙ sym (ap (λ (x : AcceptedRun). x.trace) same)) all)

@@ -11,7 +11,7 @@ use crate::others::{
 };
 use cilk_checker::accepted::Accepted;
 use cilk_plan::plan::Plan;
-use cilk_planning::planning::events;
+use cilk_planning::program_plan::plan;
 use cilk_planning::yards::yard;
 use cilk_shared::yard::{Segment, Yard};
 use cilk_types::input::Input;
@@ -34,12 +34,13 @@ pub fn on_its_own(alloc: Global, accepted: &Accepted) -> Result<Setting, AllocEr
     ensures segment { IfOk result (λ s. OfYard s.yard s.segment) }
     ensures run { IfOk result (λ s. AreOf s.yard.story s.plan s.events s.asked.items) }
 {
-    let plan = events(alloc, accepted)?;
-    let (yard, segment) = yard(alloc, accepted, &plan, accepted.input())?;
+    let whole = plan(alloc, accepted)?;
+    let (yard, segment) = yard(alloc, &whole, accepted.input())?;
     let events = copied(alloc, accepted.trace())?;
     let asked = all_asked(alloc, events.len())?;
+    whole.laws();
     Ok(Setting {
-        plan,
+        plan: whole.into_events(),
         yard,
         segment,
         events,
