@@ -75,7 +75,7 @@ const STEALS_OF_PRINTS: &str =
     "run 1 2\nsteal 2 0\nrun 2 2\nsteal 3 0\nrun 3 2\nsteal 4 0\nrun 4 2\nrun 3 6\nrun 2 6\nrun 1 9\n";
 
 /// A program, and what it leaves where each of 1, 2, 4 or 64 workers has a turn in each round.
-const ROUNDS: &[(&str, &str)] = &[
+const ROUNDS: &[(&'static str, &'static str)] = &[
     (FIB, "result 55\n"),
     (HEADED, "result 55\n"),
     (EMPTY, "result 0\n"),
@@ -99,7 +99,14 @@ const ROUNDS: &[(&str, &str)] = &[
 const RUNS: &[Case] = &[
     (FIB, "4", "all\n", 0, "result 55\n", ""),
     (FIB, "64", "all\r\nall", 0, "result 55\n", ""),
-    (EMPTY, "2", "steal 2 0\nrun 1 2\nrun 1 9", 0, "result 0\n", ""),
+    (
+        EMPTY,
+        "2",
+        "steal 2 0\nrun 1 2\nrun 1 9",
+        0,
+        "result 0\n",
+        "",
+    ),
     (EARLY_READ, "2", "run 1 15", 0, "result 1\n", ""),
     (
         EARLY_READ,
@@ -179,7 +186,8 @@ fn scripts_that_end_the_run(rt: HostRuntime) {
 }
 
 // What each number of workers leaves by rounds of all.
-fn is_left(alloc: Global, program: &str, out: &str) -> bool {
+fn is_left(alloc: Global, case: &(&'static str, &'static str)) -> bool {
+    let (program, out) = *case;
     for workers in ["1", "2", "4", "64"] {
         let words = ["play", "program", "script", "--workers", workers];
         let ended = played(alloc, &words, program.as_bytes(), b"", b"all");
@@ -192,8 +200,8 @@ fn is_left(alloc: Global, program: &str, out: &str) -> bool {
 
 #[test]
 fn rounds_of_all_workers(rt: HostRuntime) {
-    for (program, out) in ROUNDS {
-        assert!(rt; is_left(rt.alloc(), program, out), "{program}");
+    for case in ROUNDS {
+        assert!(rt; is_left(rt.alloc(), case), "{}", case.0);
     }
 }
 
