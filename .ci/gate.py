@@ -1,23 +1,30 @@
 """The gate of a landing: `rt ci`, or as much of it as the time holds.
 
-Where the whole gate fits in LIMIT minutes on this machine, by the processor minutes in docs/GATE.md, this is `rt ci`.
-Where it doesn't, each crate is proved from nothing, and each test and program is run, all the same. Of the edits that
-must be refused it then tries those of the crates whose text, or the text of a crate below them, has changed since the
-commit in .ci/whole (the last one that passed the whole gate), and a share of the others that moves on with each
-commit, as many as the time holds. It prints what it left out, and its last line is `N passed, M failed, K skipped`.
+Where the whole gate surely fits, by the processor minutes in docs/GATE.md and by how fast this machine is now, this is
+`rt ci`. Where it may not, it goes in rounds, each an `rt ci` over what the rounds before have passed, which `rt` keeps:
+the first proves each crate from nothing and runs each test and program, with no edit that must be refused; the next ones try
+as many of the edits as the time holds: first those of the crates whose text, or the text of a crate below them, has changed
+since the commit in .ci/whole (the last one that passed the whole gate), and then a share of the others that moves on with
+each commit. A round that would go past DEADLINE is given up, and the one before it counts. It prints what it left out, and
+its last line is `N passed, M failed, K skipped`.
 
-`.ci/run --plan [PROCESSORS]` prints what it would do, and does nothing.
+`.ci/run --plan [PROCESSORS]` prints what it would do at the table's speed, and does nothing.
 """
 
 import os
 import re
 import shutil
+import signal
 import subprocess
 import sys
 import tempfile
+import threading
+import time
 
 TOP = os.path.dirname(os.path.dirname(os.path.realpath(__file__)))
-LIMIT = 140.0  # minutes of wall time
+LIMIT = 140.0  # minutes of wall time that the whole gate is to take at the most
+DEADLINE = 168.0  # minutes of wall time after which no round goes on
+AGAIN = 6.0  # minutes that each round takes for what it runs again, by the table's speed
 MARGIN = 1.15  # how much longer a busy machine takes than the table says
 MINUTES_A_LINE = 0.001  # of the proof of a crate that the table doesn't know yet
 MEMORY = 2_500_000  # kilobytes of a process of the gate
@@ -109,9 +116,10 @@ def processors():
     return count
 
 
-def slowness(minutes):
-    """How much slower this machine is than the one that docs/GATE.md was measured on."""
-    with tempfile.TemporaryDirectory(prefix="gate-speed-") as room:
+def slowness(minutes, lanes):
+    """How much slower this machine is now, by the clock and on all its processors, than the one that docs/GATE.md was measured on."""
+
+    def once(room):
         os.makedirs(f"{room}/crates")
         shutil.copytree(
             f"{TOP}/crates/{SPEED_CRATE}", f"{room}/crates/{SPEED_CRATE}", ignore=shutil.ignore_patterns("out")
@@ -119,14 +127,19 @@ def slowness(minutes):
         with open(f"{TOP}/crates.txt", encoding="utf-8") as listed, open(f"{room}/crates.txt", "w", encoding="utf-8") as it:
             it.writelines(line for line in listed if line.startswith(f"{SPEED_CRATE}:"))
         subprocess.run(["git", "init", "-q", room], check=False)
-        before = os.times()
         quiet = {"stdin": subprocess.DEVNULL, "stdout": subprocess.DEVNULL, "stderr": subprocess.DEVNULL}
-        ran = subprocess.run(["rt", "check", "--jobs", "1"], cwd=f"{room}/crates/{SPEED_CRATE}", check=False, **quiet)
-        after = os.times()
-        if ran.returncode:
-            return 1.0
-    took = (after.children_user - before.children_user + after.children_system - before.children_system) / 60
-    return max(took / minutes, 1.0) if minutes else 1.0
+        # (a verdict takes nothing from what earlier checks on this machine kept)
+        subprocess.run(["rt", "verdict", "--jobs", "1"], cwd=f"{room}/crates/{SPEED_CRATE}", check=False, **quiet)
+
+    with tempfile.TemporaryDirectory(prefix="gate-speed-") as room:
+        before = time.monotonic()
+        threads = [threading.Thread(target=once, args=(f"{room}/{at}",)) for at in range(lanes)]
+        for it in threads:
+            it.start()
+        for it in threads:
+            it.join()
+        took = (time.monotonic() - before) / 60
+    return max(took / minutes, 0.5) if minutes else 1.0
 
 
 def longest_chain(named, cost, chosen):
@@ -157,18 +170,25 @@ def changed(named):
     return {it for it in named if it in own or all_below(it, named) & text}
 
 
-def chosen_edits(named, cost, lanes):
-    """The crates whose edits are tried where not all fit: first those that changed, and each group in a moving order."""
+def in_turn(named):
+    """The crates with edits, in the order in which these are tried: first those that changed, and each group in a moving order."""
     told = subprocess.run(["git", "rev-list", "--count", "HEAD"], cwd=TOP, check=False, capture_output=True, text=True)
     turn = int(told.stdout) if told.stdout.strip().isdigit() else 0
     with_edits = [it for it in named if edits_of(it)]
     first = turn % len(with_edits) if with_edits else 0
     order = with_edits[first:] + with_edits[:first]
     anew = changed(named)
-    chosen = set()
-    for name in [it for it in order if it in anew] + [it for it in order if it not in anew]:
-        if wall(named, cost, chosen | {name}, lanes) <= LIMIT:
+    return [it for it in order if it in anew] + [it for it in order if it not in anew]
+
+
+def chosen_edits(order, cost, lanes, tried, minutes):
+    """The crates whose edits are tried: those that were, and as many more as so many minutes hold."""
+    chosen, work = set(tried), 0.0
+    for name in order:
+        edits = cost[name][2]
+        if name not in chosen and MARGIN * max((work + edits) / lanes, edits) <= minutes:
             chosen.add(name)
+            work += edits
     return chosen
 
 
@@ -177,33 +197,76 @@ def whole_gate():
     os.execvp("rt", ["rt", "ci"])
 
 
-def partial_gate(skipped):
-    """`rt ci` on a copy of the repository that lacks the edits of these crates."""
-    left_out = [f"{name}/{edit}" for name in skipped for edit in edits_of(name)]
-    print(f"the whole gate doesn't fit in {LIMIT:.0f} minutes here: {len(left_out)} edits are left out", flush=True)
-    for it in left_out:
-        print(f"left out: {it}", flush=True)
+def copy_without(skipped, room):
+    """A copy of the repository that lacks the edits of these crates."""
+    listed = subprocess.run(["git", "ls-files", "-co", "--exclude-standard", "-z"], cwd=TOP, check=True, capture_output=True)
+    for path in filter(None, listed.stdout.decode().split("\0")):
+        parts = path.split("/")
+        if parts[0] == "crates" and parts[2:3] == ["must-fail"] and parts[1] in skipped:
+            continue
+        if os.path.isfile(f"{TOP}/{path}"):
+            os.makedirs(os.path.dirname(f"{room}/{path}"), exist_ok=True)
+            shutil.copy(f"{TOP}/{path}", f"{room}/{path}")
+    subprocess.run(["git", "init", "-q", room], check=False)
+
+
+def one_round(skipped, seconds):
+    """`rt ci` without the edits of these crates, for so many seconds at the most: its status and its last line, or None."""
     with tempfile.TemporaryDirectory(prefix="gate-") as room:
-        listed = subprocess.run(
-            ["git", "ls-files", "-co", "--exclude-standard", "-z"], cwd=TOP, check=True, capture_output=True
+        copy_without(skipped, room)
+        last, given_up = "", threading.Event()
+        gate = subprocess.Popen(
+            ["rt", "ci"], cwd=room, stdout=subprocess.PIPE, text=True, errors="replace", start_new_session=True
         )
-        for path in filter(None, listed.stdout.decode().split("\0")):
-            parts = path.split("/")
-            if parts[0] == "crates" and parts[2:3] == ["must-fail"] and parts[1] in skipped:
-                continue
-            if os.path.isfile(f"{TOP}/{path}"):
-                os.makedirs(os.path.dirname(f"{room}/{path}"), exist_ok=True)
-                shutil.copy(f"{TOP}/{path}", f"{room}/{path}")
-        subprocess.run(["git", "init", "-q", room], check=False)
-        last = ""
-        with subprocess.Popen(["rt", "ci"], cwd=room, stdout=subprocess.PIPE, text=True, errors="replace") as gate:
+
+        def give_up():
+            given_up.set()
+            os.killpg(gate.pid, signal.SIGTERM)
+
+        clock = threading.Timer(max(seconds, 1.0), give_up)
+        clock.start()
+        with gate:
             for line in gate.stdout:
                 if last:
                     print(last, flush=True)
                 last = line.rstrip("\n")
-    counts = LAST_LINE.match(last)
-    print(f"{last}, {len(left_out)} skipped" if counts else f"{last}\n0 passed, 1 failed, {len(left_out)} skipped")
-    return gate.returncode if counts else gate.returncode or 1
+        clock.cancel()
+    return None if given_up.is_set() else (gate.returncode, last)
+
+
+def rounds(named, cost, slower, lanes, started):
+    """The gate in rounds; its status. `slower` is how slow this machine was as it began."""
+    passed, first, tried, order = None, 0.0, set(), in_turn(named)
+    while True:
+        spent = (time.monotonic() - started) / 60
+        if passed is not None:
+            slower = max(slower, first / max(wall(named, cost, set(), lanes), 1.0))
+            slow = {name: [slower * it for it in three] for name, three in cost.items()}
+            chosen = chosen_edits(order, slow, lanes, tried, DEADLINE - spent - AGAIN * slower)
+            if chosen == tried:
+                break
+            tried = chosen
+        skipped = [it for it in order if it not in tried]
+        print(f"{spent:.0f} minutes: a round with the edits of {len(tried)} of {len(order)} crates", flush=True)
+        ended = one_round(skipped, (DEADLINE - spent) * 60)
+        if ended is None:
+            print("this round is given up for want of time", flush=True)
+            break
+        if ended[0] or not LAST_LINE.match(ended[1]):
+            print(ended[1] if LAST_LINE.match(ended[1]) else f"{ended[1]}\n0 passed, 1 failed")
+            return ended[0] or 1
+        if passed is None:
+            first = (time.monotonic() - started) / 60
+        passed = (ended[1], skipped)
+    if passed is None:
+        print("0 passed, 1 failed")
+        return 1
+    last, skipped = passed
+    left_out = [f"{name}/{edit}" for name in skipped for edit in edits_of(name)]
+    for it in left_out:
+        print(f"left out: {it}", flush=True)
+    print(f"{last}, {len(left_out)} skipped" if left_out else last)
+    return 0
 
 
 def main(words):
@@ -211,26 +274,22 @@ def main(words):
     if not shutil.which("rt"):
         print("the command `rt` isn't here (README.md, 'What is needed')\n0 passed, 1 failed")
         return 1
+    started = time.monotonic()
     named = crates()
     cost = times(named)
-    planned = words[:1] == ["--plan"]
-    lanes = int(words[1]) if len(words) > 1 else processors()
     everything = set(named)
-    if not planned and wall(named, cost, everything, lanes) > LIMIT / 3:
-        slower = slowness(cost[SPEED_CRATE][0])
-        cost = {name: [slower * it for it in three] for name, three in cost.items()}
-    if planned:
+    if words[:1] == ["--plan"]:
+        lanes = int(words[1]) if len(words) > 1 else processors()
         total = sum(map(sum, cost.values()))
-        chain = longest_chain(named, cost, everything)
-        print(f"{total:.0f} processor minutes, longest chain {chain:.0f}; {lanes} processors")
-        print(f"about {wall(named, cost, everything, lanes):.0f} minutes for the whole gate")
-    if wall(named, cost, everything, lanes) <= LIMIT:
-        return print("the whole gate") if planned else whole_gate()
-    chosen = chosen_edits(named, cost, lanes)
-    skipped = [it for it in named if edits_of(it) and it not in chosen]
-    if planned:
-        return print(f"left out: the edits of {' '.join(skipped)}")
-    return partial_gate(skipped)
+        print(f"{total:.0f} processor minutes, longest chain {longest_chain(named, cost, everything):.0f}; {lanes} processors")
+        print(f"about {wall(named, cost, everything, lanes):.0f} minutes for the whole gate, {wall(named, cost, set(), lanes):.0f} without edits")
+        return 0
+    lanes = processors()
+    slower = slowness(cost[SPEED_CRATE][0], lanes)
+    print(f"{lanes} processors; this machine takes {slower:.1f} times as long as the table says", flush=True)
+    if slower * wall(named, cost, everything, lanes) <= LIMIT:
+        return whole_gate()
+    return rounds(named, cost, slower, lanes, started)
 
 
 if __name__ == "__main__":
