@@ -44,6 +44,7 @@ pub mod Returning
 pub mod RunsEnd
 pub mod Seeing
 pub mod Siblings
+pub mod Slots
 pub mod Spawned
 pub mod Stages
 pub mod Starting
@@ -54,6 +55,7 @@ pub mod Synced
 pub mod Taking
 pub mod Thieves
 pub mod Touched
+pub mod Trees
 pub mod Under
 pub mod Viewed
 pub mod Viewing

@@ -26,8 +26,8 @@ pub fn add_cells(cells: &mut Vec<i64>, count: u32) -> Result<(), AllocError>
     Ok(())
 }
 
-/// The worker offers the continuation of a frame that starts another, its newest, where that is a spawn.
-pub fn offer(own: &mut Worker, how: Invocation, frame: u32) -> Result<(), AllocError>
+/// The worker offers the continuation of a frame that starts a child, its newest, where that is a spawn.
+pub fn offer(own: &mut Worker, how: Invocation, frame: u32, child: u32) -> Result<(), AllocError>
     ensures offers { OnOk result (own.new.offered.items ≡ offering how frame own.old.offered.items) }
     ensures frame { own.new.frame ≡ own.old.frame }
     ensures views { own.new.views ≡ own.old.views }
@@ -35,7 +35,7 @@ pub fn offer(own: &mut Worker, how: Invocation, frame: u32) -> Result<(), AllocE
     match how {
         Invocation::Call => Ok(()),
         Invocation::Spawn => {
-            own.offered.push_back(frame)?;
+            own.offered.push(frame, child)?;
             Ok(())
         }
     }
@@ -66,7 +66,7 @@ pub fn begin(
     ensures stopped { board.new.stopped ≡ board.old.stopped }
 {
     let place = board.frames.len() as u32;
-    offer(&mut board.workers[worker as usize], how, frame)?;
+    offer(&mut board.workers[worker as usize], how, frame, place)?;
     add_cells(&mut board.cells, count)?;
     board.frames.push(child)?;
     board.workers[worker as usize].frame = Some(place);

@@ -3,12 +3,12 @@
 ghost use Rattle.std.specs.Prelude.{◌≡◌};
 ghost use Rattle.cilk_board.specs.Seats.{seated};
 
+use crate::offer_list::Offers;
 use cilk_frames::cursor::{Answer, Cursor};
 use cilk_hypermap::hypermap::Hypermap;
 use cilk_join::join::Join;
 use cilk_types::event::Event;
 use cilk_types::invocation::Invocation;
-use std::collections::VecDeque;
 
 /// Where a frame is. Workers count from 0 here.
 #[derive(Clone, Copy)]
@@ -89,7 +89,7 @@ impl Seat {
 pub struct Worker {
     pub frame: Option<u32>,
     pub views: Hypermap,
-    pub offered: VecDeque<u32>,
+    pub offered: Offers,
 }
 
 /// An event, and the place of the frame that made it.

@@ -10,6 +10,7 @@ ghost use Rattle.cilk_schedule.specs.Sound.{IsCode, IsCodeOf, Runs};
 use cilk_activations::beginnings::root;
 use cilk_board::beginning::add_cells;
 use cilk_board::board::Board;
+use cilk_board::offer_list::Offers;
 use cilk_board::seat::{Seat, Worker};
 use cilk_frames::asked::AskSlot;
 use cilk_frames::cursor::Cursor;
@@ -17,7 +18,6 @@ use cilk_hypermap::hypermap::Hypermap;
 use cilk_lower::code::Code;
 use cilk_types::invocation::Invocation;
 use std::alloc::{AllocError, Global};
-use std::collections::VecDeque;
 
 /// The first worker holds the first frame, and the others are idle.
 pub fn open(alloc: Global, code: &Code, workers: u32) -> Result<Board, AllocError>
@@ -67,6 +67,6 @@ fn first_worker(alloc: Global, place: u32) -> Worker
     Worker {
         frame: if place == 0 { Some(0) } else { None },
         views: Hypermap::new(alloc),
-        offered: VecDeque::new(alloc),
+        offered: Offers::new(alloc),
     }
 }

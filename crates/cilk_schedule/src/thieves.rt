@@ -107,8 +107,7 @@ fn offered_at(workers: &[Worker], worker: usize, index: usize) -> Option<u32>
     ensures { (place : ℕ) → IsLocated workers.now place worker index → result ≡ slice_get (offers workers.now) place }
 {
     let worker = workers.get(worker)?;
-    let frame = worker.offered.get(index)?;
-    Some(*frame)
+    worker.offered.get(index)
 }
 
 // Whether a continuation of the frame may be stolen, beside its last child.
@@ -142,5 +141,5 @@ fn withdraw_at(workers: &mut Vec<Worker>, worker: usize, index: usize)
     ensures count { length workers.new.items ≡ length workers.old.items }
     ensures less { OffersLess workers.old.items workers.new.items worker index }
 {
-    let _frame = workers[worker].offered.remove(index);
+    workers[worker].offered.remove(index);
 }
