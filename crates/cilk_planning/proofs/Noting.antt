@@ -23,7 +23,7 @@ use Rattle.cilk_serial.specs.declared.serial_run.Stage.TheVariants.{Going}
 use Rattle.cilk_serial.specs.SoFar.{RunView, IsIntact, Comes, BeginsNext, begun_in, callees_of, callee_at}
 use Rattle.cilk_checker.specs.Determinate.{AcceptedRun, HasDeterminateRun}
 use Rattle.cilk_planning.specs.declared.frames.PlannedFrame.{PlannedFrame}
-use Rattle.cilk_planning.specs.Frames.{frames_from, AreFramesOf, IsPartOf}
+use Rattle.cilk_planning.specs.Frames.{frame_begun, frames_from, AreFramesOf, IsPartOf}
 use Rattle.cilk_planning.proofs.Beginning.{begun_after, frames_after, IsNext, order_at, after_next, after_low, after_grows, cells_after, cells_append, fits_at, run_in_order, run_fits}
 
 first_of : (l m : List Event) → take (length l) (l ++ m) ≡ l
@@ -69,9 +69,9 @@ take_next [] k c is = absurd (let z : None ≡ Some c = is in cc z)
 take_next (x ∷ l) zero c is = let z : Some x ≡ Some c = is in let same : x ≡ c = cc z in ap (λ (y : Callee). y ∷ []) same
 take_next (x ∷ l) (suc k) c is = ap (λ (z : List Callee). x ∷ z) (take_next l k c is)
 
-frames_append : (p : Source) (n : ℕ) (xs : List Callee) (c : Callee) → frames_from p n (xs ++ c ∷ []) ≡ frames_from p n xs ++ record { body = body_of p c; first_cell = cells_after p n xs } ∷ []
+frames_append : (p : Source) (n : ℕ) (xs : List Callee) (c : Callee) → frames_from p n (xs ++ c ∷ []) ≡ frames_from p n xs ++ frame_begun p (cells_after p n xs) c ∷ []
 frames_append p n [] c = refl
-frames_append p n (x ∷ xs) c = ap (λ (z : List PlannedFrame). record { body = body_of p x; first_cell = n } ∷ z) (frames_append p (n + cells_of p x) xs c)
+frames_append p n (x ∷ xs) c = ap (λ (z : List PlannedFrame). frame_begun p n x ∷ z) (frames_append p (n + cells_of p x) xs c)
 
 -- how many frames have begun behind the first i events
 abbrev pub frames_by : AcceptedRun → ℕ → ℕ
@@ -93,7 +93,7 @@ none_yet [] = refl
 none_yet (e ∷ es) = refl
 
 pub noted_first : (a : AcceptedRun) (frames : List PlannedFrame) (cells : ℕ)
-    → frames ≡ record { body = body_of (source a.program) Root; first_cell = length (source a.program).openings } ∷ []
+    → frames ≡ frame_begun (source a.program) (length (source a.program).openings) Root ∷ []
     → cells ≡ length (source a.program).openings + cells_of (source a.program) Root → NotedSoFar a 0 frames cells
 noted_first a frames cells is many = record {
   noted = λ run serial. is ∙ ap (frames_from (source a.program) (length (source a.program).openings)) (sym (first run));
@@ -152,12 +152,12 @@ module _ (a : AcceptedRun) (i : ℕ) (e : Event) (es : List Event) (callee : Opt
           (so_far.cells run serial)
 
   pub noted_some : (frames frames' : List PlannedFrame) (cells cells' : ℕ) (c : Callee) → NotedSoFar a i frames cells → callee ≡ Some c
-      → frames' ≡ frames ++ record { body = body_of (source a.program) c; first_cell = cells } ∷ [] → cells' ≡ cells + cells_of (source a.program) c
+      → frames' ≡ frames ++ frame_begun (source a.program) cells c ∷ [] → cells' ≡ cells + cells_of (source a.program) c
       → NotedSoFar a (suc i) frames' cells'
   noted_some frames frames' cells cells' c so_far some more count = record {
     noted = λ run serial. more
-        ∙ (ap (λ (n : ℕ). frames ++ record { body = body_of (source a.program) c; first_cell = n } ∷ []) (so_far.cells run serial)
-        ∙ (ap (λ (l : List PlannedFrame). l ++ record { body = body_of (source a.program) c; first_cell = cells_after (source a.program) (length (source a.program).openings) (take (frames_by a i) (callees_of run)) } ∷ []) (so_far.noted run serial)
+        ∙ (ap (λ (n : ℕ). frames ++ frame_begun (source a.program) n c ∷ []) (so_far.cells run serial)
+        ∙ (ap (λ (l : List PlannedFrame). l ++ frame_begun (source a.program) (cells_after (source a.program) (length (source a.program).openings) (take (frames_by a i) (callees_of run))) c ∷ []) (so_far.noted run serial)
         ∙ (sym (frames_append (source a.program) (length (source a.program).openings) (take (frames_by a i) (callees_of run)) c)
         ∙ ap (frames_from (source a.program) (length (source a.program).openings)) (sym (longer run serial)))));
     cells = λ run serial. count
@@ -206,13 +206,14 @@ begins_here a v callee part h =
 -- ---- as the loop has it
 
 pub noted_start : (a : AcceptedRun) (prog : Program) → prog ≡ a.program → (l : Layout) → LaysOut (source a.program) l → (frames : List PlannedFrame) (globals cells : ℕ)
-    → globals ≡ length prog.globals → frames ≡ record { body = body_of (source prog) Root; first_cell = globals } ∷ [] → cells ≡ globals + cells_in l Root → NotedSoFar a 0 frames cells
+    → globals ≡ length prog.globals → frames ≡ record { body = body_of (source prog) Root; first_cell = globals; cells = cells_in l Root } ∷ [] → cells ≡ globals + cells_in l Root → NotedSoFar a 0 frames cells
 noted_start a prog same l laid frames globals cells many is more =
     let here : globals ≡ length (source a.program).openings = many ∙ ap (λ (p : Program). length p.globals) same in
     let of_root = laid.cells Root in
     noted_first a frames cells
-    (is ∙ (ap (λ (p : Program). record { body = body_of (source p) Root; first_cell = globals } ∷ []) same
-    ∙ ap (λ (n : ℕ). record { body = body_of (source a.program) Root; first_cell = n } ∷ []) here))
+    (is ∙ (ap (λ (p : Program). record { body = body_of (source p) Root; first_cell = globals; cells = cells_in l Root } ∷ []) same
+    ∙ (ap (λ (n : ℕ). record { body = body_of (source a.program) Root; first_cell = n; cells = cells_in l Root } ∷ []) here
+    ∙ ap (λ (n : ℕ). record { body = body_of (source a.program) Root; first_cell = length (source a.program).openings; cells = n } ∷ []) of_root)))
     (omega (arith, more, here, of_root))
 
 module _ (a : AcceptedRun) (is : HasDeterminateRun a) (v : RunView) (part : IsPartOf a v) (i : ℕ) (made : length v.events ≡ i) (less : i < length a.trace)
@@ -227,12 +228,13 @@ module _ (a : AcceptedRun) (is : HasDeterminateRun a) (v : RunView) (part : IsPa
   small_room c some = let fits = room a i (get_or a.trace i events.Sync) v.events callee here made (begins_here a v callee part begins) is frames cells c so_far some in omega (arith, fits)
 
   pub noted_more : (prog : Program) → prog ≡ a.program → (l : Layout) → LaysOut (source a.program) l → (frames' : List PlannedFrame) (cells' : ℕ) (c : Callee) → callee ≡ Some c
-      → frames' ≡ frames ++ record { body = body_of (source prog) c; first_cell = cells } ∷ [] → cells' ≡ cells + cells_in l c → NotedSoFar a (i + 1) frames' cells'
+      → frames' ≡ frames ++ record { body = body_of (source prog) c; first_cell = cells; cells = cells_in l c } ∷ [] → cells' ≡ cells + cells_in l c → NotedSoFar a (i + 1) frames' cells'
   noted_more prog same l laid frames' cells' c some longer more =
       let of_callee = laid.cells c in
       subst (λ (k : ℕ). NotedSoFar a k frames' cells') (sym next_one)
       (noted_some a i (get_or a.trace i events.Sync) v.events callee here made (begins_here a v callee part begins) frames frames' cells cells' c so_far some
-      (longer ∙ ap (λ (p : Program). frames ++ record { body = body_of (source p) c; first_cell = cells } ∷ []) same) (omega (arith, more, of_callee)))
+      (longer ∙ (ap (λ (p : Program). frames ++ record { body = body_of (source p) c; first_cell = cells; cells = cells_in l c } ∷ []) same
+      ∙ ap (λ (n : ℕ). frames ++ record { body = body_of (source a.program) c; first_cell = cells; cells = n } ∷ []) of_callee)) (omega (arith, more, of_callee)))
 
   pub noted_same : callee ≡ None → NotedSoFar a (i + 1) frames cells
   noted_same none =

@@ -9,19 +9,19 @@ use Rattle.cilk_meaning.specs.Numbering.{Counts, unbegun, entered, counts_after,
 use Rattle.cilk_serial.specs.SoFar.{begun_in, callees_of}
 use Rattle.cilk_determinacy.specs.Numbers.{child_runs}
 use Rattle.cilk_planning.specs.declared.frames.PlannedFrame.{PlannedFrame}
-use Rattle.cilk_planning.specs.Frames.{frames_from, frames_of, FramesStandAtTheirNumbers}
+use Rattle.cilk_planning.specs.Frames.{frame_begun, frames_from, frames_of, FramesStandAtTheirNumbers}
 use Rattle.cilk_planning.proofs.Beginning.{cells_after, counted_frames, counted_cells}
 
-abbrev planned_frame : Source → Callee → ℕ → PlannedFrame
-planned_frame p callee first = record { body = body_of p callee; first_cell = first }
+abbrev planned_frame : Source → Callee → Block → PlannedFrame
+planned_frame p callee b = record { body = body_of p callee; first_cell = b.first; cells = b.cells }
 
 -- the list has the frame where it begins so many frames behind n
 abbrev Stands : Source → ℕ → ℕ → List Callee → Block → Callee → Type 0
-Stands p n cells cs b callee = (k : ℕ) × (b.number ≡ suc (n + k)) × (slice_get (frames_from p cells cs) k ≡ Some (planned_frame p callee b.first))
+Stands p n cells cs b callee = (k : ℕ) × (b.number ≡ suc (n + k)) × (slice_get (frames_from p cells cs) k ≡ Some (planned_frame p callee b))
 
 frames_beside : (p : Source) (n : ℕ) (xs ys : List Callee) → frames_from p n (xs ++ ys) ≡ frames_from p n xs ++ frames_from p (cells_after p n xs) ys
 frames_beside p n [] ys = refl
-frames_beside p n (x ∷ xs) ys = ap (λ (l : List PlannedFrame). planned_frame p x n ∷ l) (frames_beside p (n + cells_of p x) xs ys)
+frames_beside p n (x ∷ xs) ys = ap (λ (l : List PlannedFrame). frame_begun p n x ∷ l) (frames_beside p (n + cells_of p x) xs ys)
 
 frames_long : (p : Source) (n : ℕ) (xs : List Callee) → length (frames_from p n xs) ≡ length xs
 frames_long p n [] = refl
@@ -41,7 +41,7 @@ stand_left : (p : Source) (n cells : ℕ) (xs ys : List Callee) (b : Block) (cal
 stand_left p n cells xs ys b callee h = (
   h.0,
   h.1,
-  ap (λ (l : List PlannedFrame). slice_get l h.0) (frames_beside p cells xs ys) ∙ get_left (frames_from p cells xs) (frames_from p (cells_after p cells xs) ys) h.0 (planned_frame p callee b.first) h.2,
+  ap (λ (l : List PlannedFrame). slice_get l h.0) (frames_beside p cells xs ys) ∙ get_left (frames_from p cells xs) (frames_from p (cells_after p cells xs) ys) h.0 (planned_frame p callee b) h.2,
 )
 
 stand_right : (p : Source) (n m cells cells' : ℕ) (xs ys : List Callee) (b : Block) (callee : Callee) → m ≡ n + length xs → cells' ≡ cells_after p cells xs
@@ -52,8 +52,8 @@ stand_right p n m cells cells' xs ys b callee many more h =
       length xs + h.0,
       omega (arith, number, many),
       ap (λ (l : List PlannedFrame). slice_get l (length xs + h.0)) (frames_beside p cells xs ys)
-          ∙ get_right (frames_from p cells xs) (frames_from p (cells_after p cells xs) ys) h.0 (length xs + h.0) (planned_frame p callee b.first)
-          (subst (λ (c : ℕ). slice_get (frames_from p c ys) h.0 ≡ Some (planned_frame p callee b.first)) more h.2) (omega (arith, long)),
+          ∙ get_right (frames_from p cells xs) (frames_from p (cells_after p cells xs) ys) h.0 (length xs + h.0) (planned_frame p callee b)
+          (subst (λ (c : ℕ). slice_get (frames_from p c ys) h.0 ≡ Some (planned_frame p callee b)) more h.2) (omega (arith, long)),
     )
 
 stand_more : (p : Source) (n cells : ℕ) (c : Callee) (cs : List Callee) (b : Block) (callee : Callee) → Stands p (suc n) (cells + cells_of p c) cs b callee → Stands p n cells (c ∷ cs) b callee
@@ -81,7 +81,7 @@ children_stand p (child how c u r) n (suc k) path b callee is runs =
     (children_stand p r m k path b callee is runs))
 
 at_number : (p : Source) (r : Transcript) (b : Block) (callee : Callee) → Stands p 0 (length p.openings) (callees_of r) b callee
-    → slice_get (frames_of p r) (b.number - 1) ≡ Some (planned_frame p callee b.first)
+    → slice_get (frames_of p r) (b.number - 1) ≡ Some (planned_frame p callee b)
 at_number p r b callee h = let number = h.1 in let place : b.number - 1 ≡ h.0 = omega (arith, number) in ap (slice_get (frames_of p r)) place ∙ h.2
 
 pub frames_stand : FramesStandAtTheirNumbers

@@ -12,10 +12,14 @@ use Rattle.cilk_determinacy.specs.Numbers.{frame_runs}
 use Rattle.cilk_checker.specs.Determinate.{AcceptedRun}
 use Rattle.cilk_planning.specs.declared.frames.PlannedFrame.{PlannedFrame}
 
+-- one that begins where so many cells are there
+abbrev pub frame_begun : Source → ℕ → Callee → PlannedFrame
+frame_begun p cells c = record { body = body_of p c; first_cell = cells; cells = cells_of p c }
+
 -- of frames that begin one after the other, where so many cells are there
 abbrev pub frames_from : Source → ℕ → List Callee → List PlannedFrame
 frames_from p cells [] = []
-frames_from p cells (c ∷ cs) = record { body = body_of p c; first_cell = cells } ∷ frames_from p (cells + cells_of p c) cs
+frames_from p cells (c ∷ cs) = frame_begun p cells c ∷ frames_from p (cells + cells_of p c) cs
 
 -- of a run, in the order of the frames' numbers: the globals' cells come first, then those of each frame as frames begin
 abbrev pub frames_of : Source → Transcript → List PlannedFrame
@@ -35,11 +39,11 @@ abbrev pub IsFrameOf : AcceptedRun → ℕ → Option PlannedFrame → Type 0
 IsFrameOf a number frame =
     (run : Transcript) → IsSerialRun (source a.program) a.input run a.trace (Leaves a.outcome) → frame ≡ frame_numbered (frames_of (source a.program) run) number
 
--- By names: a frame stands at its number, from 1, with what it runs and the number of its first cell.
+-- By names: a frame stands at its number, from 1, with what it runs, the number of its first cell, and how many it has.
 abbrev pub FramesStandAtTheirNumbers : Type 0
 FramesStandAtTheirNumbers =
     (p : Source) (r : Transcript) (path : List ℕ) (b : Block) (callee : Callee) → frame_at p r path ≡ Some b → frame_runs r path ≡ Some callee
-    → slice_get (frames_of p r) (b.number - 1) ≡ Some (record { body = body_of p callee; first_cell = b.first })
+    → slice_get (frames_of p r) (b.number - 1) ≡ Some (record { body = body_of p callee; first_cell = b.first; cells = b.cells })
 
 -- a run that is being made has made the first events of the accepted run
 pub record IsPartOf (a : AcceptedRun) (v : RunView) : Type 0 where

@@ -16,11 +16,12 @@ use cilk_serial::serial_run::SerialRun;
 use cilk_types::event::Cell;
 use std::alloc::{AllocError, Global};
 
-/// What a frame runs, and the number of its first cell: its cells lie there, one after the other.
+/// What a frame runs, the number of its first cell, and how many it has: they lie there, one after the other.
 #[derive(Clone, Copy, Debug)]
 pub struct PlannedFrame {
     pub body: Body,
     pub first_cell: Cell,
+    pub cells: u32,
 }
 
 /// The frames of an accepted run, in the order of their numbers. The run is made once more, by its program's code. Cost: linear in the
@@ -57,14 +58,16 @@ fn begin(
     callee: &Callee,
 ) -> Result<u64, AllocError>
     requires { cells < 2 ^ 32 }
-    ensures frame { OnOk result (frames.new.items ≡ frames.old.items ++ record { body = body_of (source program.now) callee.now; first_cell = cells } ∷ []) }
+    ensures frame { OnOk result (frames.new.items ≡ frames.old.items ++ record { body = body_of (source program.now) callee.now; first_cell = cells; cells = cells_in layout.now callee.now } ∷ []) }
     ensures cells { IfOk result (λ more. more ≡ cells + cells_in layout.now callee.now) }
 {
+    let own = layout.cells(callee);
     frames.push(PlannedFrame {
         body: body(program, callee),
         first_cell: cells as Cell,
+        cells: own,
     })?;
-    Ok(cells + u64::from(layout.cells(callee)))
+    Ok(cells + u64::from(own))
 }
 
 // Makes the next event of a run that has made the accepted run's first ones.

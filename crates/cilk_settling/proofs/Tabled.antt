@@ -139,7 +139,7 @@ frames_told a well placed frames are laid run serial (k ∷ path) block callee f
     let i = block.number - 2 in
     let place : block.number - 1 ≡ suc i = omega (arith, past) in
     let number : block.number ≡ suc (suc i) = omega (arith, past) in
-    let stands : slice_get placed (suc i) ≡ Some (record { body = body_of p callee; first_cell = block.first }) =
+    let stands : slice_get placed (suc i) ≡ Some (record { body = body_of p callee; first_cell = block.first; cells = block.cells }) =
     ap (λ (l : List PlannedFrame). slice_get l (suc i)) (are run serial) ∙ ap (slice_get (frames_of p run)) (sym place) ∙ frames_stand p run (k ∷ path) block callee found ran in
     let body : slice_get (bodies_in placed) (suc i) ≡ Some (body_of p callee) =
     slice_get-map (λ (f : PlannedFrame). f.body) placed (suc i) ∙ ap (option_map (λ (f : PlannedFrame). f.body)) stands in

@@ -1,6 +1,6 @@
 use Rattle.std.proofs.Common.{ℕ, ◌+◌, ◌<◌, List, [], ◌∷◌, ◌++◌, length, ap, sym, ◌∙◌, subst, arith}
 use Rattle.std.proofs.Common.{Vec, Global}
-use Rattle.cilk_lower.specs.Layout.{LaysOut}
+use Rattle.cilk_lower.specs.Layout.{LaysOut, cells_in}
 use Rattle.cilk_program.specs.declared.ask.Callee.TheVariants.{Root}
 use Rattle.cilk_program.specs.Inside.{body_of}
 use Rattle.cilk_program.specs.Sources.{source}
@@ -18,7 +18,7 @@ loop-made-init c =
       made = first.1;
       noted = noted_start a c.program-program.result.now c.program-program.ensures.value c.layout.result.now (subst (LaysOut (source a.program)) (sym c.layout.ensures) c.requires.layout)
           c.begin.new.frames.items c.len-globals.result c.in_ok-cells.cells c.len-globals.ensures
-          (c.in_ok-cells.ensures.frame ∙ ap (λ (l : List PlannedFrame). l ++ record { body = body_of (source c.program-program.result.now) Root; first_cell = c.len-globals.result } ∷ []) c.new-frames.ensures.items) c.in_ok-cells.ensures.cells;
+          (c.in_ok-cells.ensures.frame ∙ ap (λ (l : List PlannedFrame). l ++ record { body = body_of (source c.program-program.result.now) Root; first_cell = c.len-globals.result; cells = cells_in c.layout.result.now Root } ∷ []) c.new-frames.ensures.items) c.in_ok-cells.ensures.cells;
       program = c.program-program.ensures.value;
     }
 
