@@ -1,14 +1,17 @@
 -- The laws of `Going`, of a chain's course and of that of a call's argument.
-use Rattle.std.proofs.Common.{◌≡◌, ◌≢◌, ◌<◌, ℕ, ◌+◌, ℤ, List, [], ◌∷◌, ◌++◌, reverse, length, Option, Some, sym, ◌∙◌, subst, arith}
+use Rattle.std.proofs.Common.{◌≡◌, ◌≢◌, ◌<◌, ℕ, ◌+◌, ℤ, true, false, List, [], ◌∷◌, ◌++◌, reverse, length, Option, Some, sym, ap, ◌∙◌, subst, arith}
 use Rattle.cilk_types.specs.declared.event.Event.TheVariants as events
+use Rattle.cilk_types.specs.declared.event.Instance as numbered
 use Rattle.cilk_types.specs.declared.invocation.Invocation.{Invocation}
 use Rattle.cilk_program.specs.declared.ask.Ask.{Ask}
 use Rattle.cilk_program.specs.declared.ask.Ask.TheVariants as asks
 use Rattle.cilk_program.specs.declared.ask.Callee.{Callee}
 use Rattle.cilk_program.specs.declared.ask.Callee.TheVariants as callees
+use Rattle.cilk_program.specs.declared.program.Body.{Body}
 use Rattle.cilk_program.specs.Inside.{CalleeIsFit}
 use Rattle.cilk_program.specs.Sources.{source}
 use Rattle.cilk_program.specs.Syntax.{Source}
+use Rattle.cilk_inputs.specs.Frames.{same_body}
 use Rattle.cilk_lower.specs.Behaves.{Behaves}
 use Rattle.cilk_lower.specs.Code.{CodeView}
 use Rattle.cilk_frames.specs.Cursor.{CursorView}
@@ -23,16 +26,19 @@ use Rattle.cilk_plan.specs.Kinds.{kind_of_event}
 use Rattle.cilk_chains.specs.declared.level.Level.{Level}
 use Rattle.cilk_chains.specs.Asking.{BeginsNext, Calls, Follows, IsAnswered, IsNextAsk, Spawns, HasAsked}
 use Rattle.cilk_chains.specs.Chains.{ChainValue, standing}
-use Rattle.cilk_chains.specs.declared.sight.CellBlock.{CellBlock}
-use Rattle.cilk_chains.specs.Courses.{CourseValue, IsBlockOf, IsCourse, IsSightIn, setting_of}
+use Rattle.cilk_chains.specs.declared.home.Home.{Home}
+use Rattle.cilk_chains.specs.Children.{LooksAtBody, body_asked}
+use Rattle.cilk_chains.specs.Courses.{CourseValue, IsBlockOf, IsBodyOf, IsCourse, IsSightIn, setting_of}
 use Rattle.cilk_chains.specs.Standing.{IsTheOutermost, Linked, Rest, Stand}
+use Rattle.cilk_chains.specs.declared.home.ReducerNumber.{ReducerNumber}
+use Rattle.cilk_chains.specs.Reducing.{LooksAtReducer, as_instance, reducer_asked}
 use Rattle.cilk_chains.specs.Sights.{LooksAt, cell_asked, found_global}
 use Rattle.cilk_chains.specs.declared.looked.Looked.{Looked}
-use Rattle.cilk_chains.specs.declared.looked.Looked.TheVariants.{Asked, Differs, Unknown}
+use Rattle.cilk_chains.specs.declared.looked.Looked.TheVariants.{Asked, Differs}
 use Rattle.cilk_chains.specs.Sorts.{NamesNothing, Says, sort_asked, sort_of}
 use Rattle.cilk_chains.proofs.Going as going
 use Rattle.cilk_chains.proofs.Looking as looking
-use Rattle.cilk_chains.proofs.Looking.{IsOfCell}
+use Rattle.cilk_chains.proofs.Looking.{IsOfCell, IsOfChild, IsOfReducer}
 use Rattle.cilk_chains.proofs.Resuming.{resumed}
 
 -- the story of a chain's course
@@ -83,13 +89,15 @@ module _ (u v : CourseValue) (same : u ≡ v) (at : ℕ) (k : Ask) (l : Level) (
   -- what is known of a child's level
   pub record IsChild (c : Level) : Type 0 where
     pub number : ℕ
-    pub block : CellBlock
+    pub home : Home
     pub begins : BeginsNext (story_of u) at number
-    pub lies : IsBlockOf v number block
+    pub lies : IsBlockOf v number home.block
+    pub frame : home.frame ≡ number
+    pub before : home.before ≡ 0
     pub begun : IsBegun v k c
     pub owes : let z = c.cursor in z.owed ≡ owed_for asks.Begin
     pub took : c.took ≡ 0
-    pub sight : (how : Invocation) (callee : Callee) → k ≡ asks.Invoke how callee → IsSightIn v callee block l.sight c.sight
+    pub sight : (how : Invocation) (callee : Callee) → k ≡ asks.Invoke how callee → IsSightIn v callee home l.sight c.sight
 
   new_level : (c : Level) → IsChild c
       → (how : Invocation) (callee : Callee) → k ≡ asks.Invoke how callee → CalleeIsFit (source u.program) callee → going.IsNew (setting_of u S.0) S.1 at l c callee
@@ -100,10 +108,12 @@ module _ (u v : CourseValue) (same : u ≡ v) (at : ℕ) (k : Ask) (l : Level) (
         new.took,
         record {
           number = new.number;
-          block = new.block;
+          home = new.home;
           begins = new.begins;
-          lies = λ path b found q. subst (λ (z : CourseValue). IsBlockOf z new.number new.block) (sym same) new.lies S.0 path b S.1 found q;
-          sight = subst (λ (z : CourseValue). IsSightIn z callee new.block l.sight c.sight) (sym same) (new.sight how callee is);
+          lies = λ path b found q. subst (λ (z : CourseValue). IsBlockOf z new.number (let m = new.home in m.block)) (sym same) new.lies S.0 path b S.1 found q;
+          frame = new.frame;
+          before = new.before;
+          sight = subst (λ (z : CourseValue). IsSightIn z callee new.home l.sight c.sight) (sym same) (new.sight how callee is);
         },
       )
 
@@ -162,7 +172,18 @@ module _ (u v : CourseValue) (same : u ≡ v) (at : ℕ) (k : Ask) (l : Level) (
       pub looks : (found : Option ℕ) (says : Looked) → found ≡ (let p = source u.program in cell_asked (length p.openings) l.sight k) → LooksAt found c says → Says (story_of u) at kind says
       looks found Asked q h = cell_there (sym q ∙ h)
       looks found Differs q h = cell_differs (λ z. h (q ∙ z))
-      looks found Unknown q h = absurd h
+
+    module _ (f : ℕ) (of_child : IsOfChild f kind) (alike : sort_asked k ≡ sort_of kind) (body : Body) (runs : IsBodyOf u f body) where
+      pub looks_at_child : (a : Body) (says : Looked) → a ≡ body_asked k → LooksAtBody body a says → Says (story_of u) at kind says
+      looks_at_child a Asked q same =
+          let t = S.2 in looking.child_there (setting_of u S.0) S.1 at k l t.asks kind is f of_child alike body (λ path b callee found it number. runs S.0 path b callee S.1 found it number) (subst (λ z. same_body body z ≡ true) q same)
+      looks_at_child a Differs q same =
+          let t = S.2 in looking.child_differs (setting_of u S.0) S.1 at k l t.asks kind is f of_child alike body (λ path b callee found it number. runs S.0 path b callee S.1 found it number) (subst (λ z. same_body body z ≡ false) q same)
+
+    module _ (i : numbered.Instance) (of_reducer : IsOfReducer i kind) (alike : sort_asked k ≡ sort_of kind) where
+      pub looks_at_reducer : (found : ReducerNumber) (says : Looked) → found ≡ reducer_asked l.sight.homes.items l.sight.given.items k → LooksAtReducer found i says → Says (story_of u) at kind says
+      looks_at_reducer found Asked q h = let t = S.2 in looking.reducer_there (setting_of u S.0) S.1 at k l t.asks kind is i of_reducer alike (ap as_instance (sym q) ∙ h)
+      looks_at_reducer found Differs q h = let t = S.2 in looking.reducer_differs (setting_of u S.0) S.1 at k l t.asks kind is i of_reducer alike (λ z. h (ap as_instance q ∙ z))
 
   pub next_ask : IsNextAsk u at k
   next_ask =
@@ -190,12 +211,13 @@ module _ (u v : CourseValue) (same : u ≡ v) (at : ℕ) (l : Level) (below : Li
   pub woken : (k' : Ask) (l' : Level) → l'.sight ≡ l.sight → HasStepped v l Done k' l' → Stand u at k' l' below
   woken k' l' sight step = (S.0, S.1, going.woken (setting_of u S.0) S.1 at k' l l' below S.2 sight (subst (λ (z : CourseValue). HasStepped z l Done k' l') (sym same) step))
 
-pub rooted : (u : CourseValue) → IsCourse u → (c : Level) (block : CellBlock) → ((p : Source) → Behaves p u.code → Stands u.code u.inputs p callees.Root c.cursor [] 0)
-    → (let z = c.cursor in z.owed ≡ owed_for asks.Begin) → c.took ≡ 0 → IsBlockOf u 1 block → (let t = c.sight in (t.homes.items ≡ block ∷ []) × (let p = source u.program in t.result ≡ found_global (length p.openings) 0)) → Stand u 1 asks.Begin c []
-rooted u h c block stands owes took lies sight =
+pub rooted : (u : CourseValue) → IsCourse u → (c : Level) (home : Home) → ((p : Source) → Behaves p u.code → Stands u.code u.inputs p callees.Root c.cursor [] 0)
+    → (let z = c.cursor in z.owed ≡ owed_for asks.Begin) → c.took ≡ 0 → IsBlockOf u 1 home.block → home.frame ≡ 1 → (let p = source u.program in home.before ≡ length p.reducers)
+    → (let t = c.sight in (t.homes.items ≡ home ∷ []) × (t.given.items ≡ []) × (let p = source u.program in t.result ≡ found_global (length p.openings) 0)) → Stand u 1 asks.Begin c []
+rooted u h c home stands owes took lies frame before sight =
     let prog = h.1 in (
       h.0,
       prog,
       going.rooted (setting_of u h.0) prog c (stands (source u.program) prog.behaves) owes took
-          (record { block = block; lies = λ path b found q. lies h.0 path b prog found q; homes = sight.0; none = sight.1 }),
+          (record { home = home; lies = λ path b found q. lies h.0 path b prog found q; frame = frame; before = before; homes = sight.0; given = sight.1; none = sight.2 }),
     )

@@ -6,7 +6,7 @@
 -- - `begun_asks`, `called_on`, `spawned_on`: a child begins there, and its caller waits;
 -- - `ended_on`: a frame ends, and its caller is next;
 -- - `woken`: a frame that rests goes on.
-use Rattle.std.proofs.Common.{◌≡◌, ◌≢◌, ◌<◌, inl, inr, ℕ, zero, suc, ◌+◌, ◌-◌, ℤ, pos, false, List, [], ◌∷◌, ◌++◌, reverse, length, Some, None, slice_get, refl, sym, ap, ◌∙◌, subst, arith}
+use Rattle.std.proofs.Common.{◌≡◌, ◌≢◌, ◌<◌, inl, inr, ℕ, zero, suc, ◌+◌, ◌-◌, ℤ, pos, true, false, List, [], ◌∷◌, ◌++◌, reverse, length, Some, None, slice_get, refl, sym, ap, ◌∙◌, subst, arith}
 use Rattle.std.specs.Option.{option_map}
 use Rattle.std.proofs.lemmas.List.{reverse-append}
 use Rattle.std.proofs.lemmas.Option.{slice_get-map}
@@ -25,6 +25,7 @@ use Rattle.cilk_determinacy.specs.Nested.{named}
 use Rattle.cilk_determinacy.proofs.Numbered.{events_numbered}
 use Rattle.cilk_determinacy.proofs.Numbers.{frame_is}
 use Rattle.cilk_determinacy.proofs.Sights.{root_here}
+use Rattle.cilk_determinacy.proofs.Standing.{standing_root}
 use Rattle.cilk_inputs.proofs.CourseFrames.{programs_have_one}
 use Rattle.cilk_program.specs.declared.ask.Ask.{Ask}
 use Rattle.cilk_program.specs.declared.ask.Ask.TheVariants as asks
@@ -35,6 +36,7 @@ use Rattle.cilk_program.specs.Behaviour.{OpenAsk, asks_for}
 use Rattle.cilk_program.specs.Inside.{AskIsThere, CalleeIsFit, CalleeIsThere, body_of}
 use Rattle.cilk_program.specs.Syntax.{Source}
 use Rattle.cilk_meaning.proofs.Asked.{asks_there}
+use Rattle.cilk_meaning.proofs.Visible.{can_invoke}
 use Rattle.cilk_lower.specs.declared.code.Owed.TheVariants.{Nothing}
 use Rattle.cilk_frames.specs.declared.cursor.Answer.{Answer}
 use Rattle.cilk_frames.specs.declared.cursor.Answer.TheVariants.{Done}
@@ -49,19 +51,20 @@ use Rattle.cilk_story.specs.Word.{event}
 use Rattle.cilk_worlds.specs.Machine.{answer_of, answers_of, asked_after, has_ended, is_end, named_ask, next, opening_values}
 use Rattle.cilk_worlds.specs.Worlds.{World, child_world, first_world}
 use Rattle.cilk_worlds.proofs.Kept.{answers_more}
-use Rattle.cilk_determinacy.specs.Numbers.{AreNumbered, IsHere, cell_number, frame_number, instance_number}
-use Rattle.cilk_inputs.specs.Frames.{course_on, same_frame}
-use Rattle.cilk_inputs.specs.Points.{Point, points_on, IsPoint, IsTold, IsAskedBy, IsEventOf, IsLater, IsFirst, IsReturn, AreTold, answer_in}
+use Rattle.cilk_determinacy.specs.Numbers.{AreNumbered, IsHere, cell_number, frame_number, instance_number, numbered_events}
+use Rattle.cilk_inputs.specs.Frames.{course_on, same_body, same_frame}
+use Rattle.cilk_inputs.specs.Points.{Point, points_on, IsPoint, IsTold, IsAskedBy, IsEventOf, IsLikeDeed, IsLater, IsFirst, IsReturn, AreTold, answer_in}
 use Rattle.cilk_inputs.proofs.Points.{asked_by_positions}
 use Rattle.cilk_chains.specs.declared.level.Level.{Level}
-use Rattle.cilk_chains.specs.declared.sight.CellBlock.{CellBlock}
+use Rattle.cilk_chains.specs.declared.home.Home.{Home}
 use Rattle.cilk_chains.specs.declared.sight.Sight.{Sight}
 use Rattle.cilk_chains.specs.Sights.{IsSightOf, Sees, cells_of_block, found_global}
 use Rattle.cilk_chains.specs.Asking.{Follows, IsAnswered, HasAsked}
 use Rattle.cilk_chains.specs.Courses.{Setting, IsOfProgram, point_at}
 use Rattle.cilk_chains.specs.Standing.{Asks, Waits, Linked, StandsAt, RestsAt}
 use Rattle.cilk_chains.proofs.OfKind.{some_inner, IsOfKind, made, goes_on, kind_there, ask_for, fitting}
-use Rattle.cilk_chains.proofs.Named.{IsKnown, all_known, begun_by, known_at, maker_here}
+use Rattle.cilk_chains.proofs.Children.{AreChildren, IsChild, IsStarted, StartsAs, serial_children}
+use Rattle.cilk_chains.proofs.Named.{IsKnown, all_known, all_start, begun_by, known_at, like_body, maker_here, start_at}
 use Rattle.cilk_chains.proofs.Seeing.{child_sees, root_sees}
 use Rattle.cilk_chains.proofs.Unended.{ended_more, not_end, unended}
 
@@ -140,12 +143,27 @@ module _ (s : Setting) (h : IsOfProgram s) where
       let e = plan_event i (events.Begin f) there in
       begun_by s.program s.run [] (named s.program s.run) i e.0 (let w = x.frame in w.name) f (ap (λ l. slice_get l i) (sym numbered.events) ∙ e.1) t.owner (kind_begins e.0 f e.2)
 
+  -- the children that it starts
+  children : AreChildren s.program s.run [] 1 (named s.program s.run)
+  children =
+      let d = h.is.runs in
+      serial_children s.program s.run s.own h.is.named d.1 (first_world s.program) 0 (standing_root s.program s.own h.is.named s.run)
+
   pub known : (i : ℕ) (x : Point World) → point_at s i ≡ Some x → IsKnown s.program s.run x
   unfolding point_at
   known i x is =
       known_at s.program s.run (points_on s.program s.inputs s.run) i x
       (all_known s.program s.run View monoid_of (next s.program s.inputs) (first_world s.program) [] (opening_values s.program s.inputs) (unit_of monoid_of) 0 0 (named s.program s.run) (course_on s.program s.inputs (named s.program s.run))
-      numbered.here (programs_have_one s.program s.inputs (named s.program s.run)).0) is
+      numbered.here children (programs_have_one s.program s.inputs (named s.program s.run)).0) is
+
+  -- the event that starts a child has its number
+  pub starts_as : (i : ℕ) (x : Point World) (e : Event) → point_at s i ≡ Some x → slice_get h.events i ≡ Some e → StartsAs s.program s.run e x.planned
+  unfolding point_at
+  starts_as i x e is there =
+      start_at s.program s.run View monoid_of (next s.program s.inputs) (numbered_events s.program s.run [] (named s.program s.run)) (points_on s.program s.inputs s.run) i e x
+      (all_start s.program s.run View monoid_of (next s.program s.inputs) [] (first_world s.program) [] (opening_values s.program s.inputs) (unit_of monoid_of) 0 0 (named s.program s.run) (course_on s.program s.inputs (named s.program s.run))
+      (programs_have_one s.program s.inputs (named s.program s.run)).0)
+      (ap (λ l. slice_get l i) (sym numbered.events) ∙ there) is
 
   -- the plan's deed of an event of the plan
   pub plan_deed : (i : ℕ) (x : Point World) (p : Event) → point_at s i ≡ Some x → slice_get h.events i ≡ Some p → IsOfKind (kind_of p) x.planned
@@ -265,36 +283,77 @@ module _ (s : Setting) (h : IsOfProgram s) where
     pub since : let y = asks.point in y.since ≡ suc i
     pub deed : let y = asks.point in A.deed ≡ Invokes how y.frame
 
+  -- what is asked for is there
+  pub ask_there : (at : ℕ) (k : Ask) (l : Level) (A : Asks s at k l) → (let x = A.point in let w = x.frame in AskIsThere s.program w.callee k)
+  ask_there at k l A =
+      let x = A.point in
+      let w = x.frame in
+      subst (AskIsThere s.program w.callee) (asked_ask at k l A) (asks_there s.program h.is.named w.callee A.fit s.inputs (answers_of x.past) MAX_TICKS)
+
   -- what is begun by an ask
   pub there : (at : ℕ) (k : Ask) (l : Level) (A : Asks s at k l) (how : Invocation) (callee : Callee) → k ≡ asks.Invoke how callee → (callee ≢ callees.Root) × CalleeIsFit s.program callee
   there at k l A how callee is =
       let x = A.point in
       let w = x.frame in
-      child_fit s.program (body_of s.program w.callee) callee
-      (subst (AskIsThere s.program w.callee) (asked_ask at k l A ∙ is) (asks_there s.program h.is.named w.callee A.fit s.inputs (answers_of x.past) MAX_TICKS))
+      child_fit s.program (body_of s.program w.callee) callee (subst (AskIsThere s.program w.callee) is (ask_there at k l A))
 
-  -- where the cells of the frame lie that begins right behind a position, whose caller sees this
+  -- what the frame has that begins right behind a position, whose caller sees this
   pub record Placed (at : ℕ) (caller new : Sight) (callee : Callee) : Type 0 where
     pub number : ℕ
-    pub block : CellBlock
+    pub home : Home
     pub begins : event story (at + 1) ≡ Some (events.Begin number)
-    pub lies : (path : List ℕ) (b : Block) → frame_at s.program s.run path ≡ Some b → b.number ≡ number → block ≡ cells_of_block b
-    pub sight : IsSightOf (let p = s.program in length p.openings) callee block caller new
+    pub lies : (path : List ℕ) (b : Block) → frame_at s.program s.run path ≡ Some b → b.number ≡ number → home.block ≡ cells_of_block b
+    pub frame : home.frame ≡ number
+    pub before : home.before ≡ 0
+    pub sight : IsSightOf (let p = s.program in length p.openings) callee home caller new
 
   -- a level as it begins
   abbrev pub IsNew : ℕ → Level → Level → Callee → Type 0
   IsNew at l c callee =
       Stands s.code s.inputs s.program callee c.cursor [] 0 × (let v = c.cursor in v.owed ≡ owed_for asks.Begin) × (c.took ≡ 0) × Placed at l.sight c.sight callee
 
+  -- the plan's child, which runs the same
+  record Alike (x : Point World) (callee : Callee) : Type 0 where
+    planned : World
+    child : IsChild s.program s.run (let w = x.frame in w.name) (suc (started x.past)) planned
+    same : same_body (body_of s.program planned.callee) (body_of s.program callee) ≡ true
+
+  alike : (i : ℕ) (x : Point World) (how : Invocation) (v : World) (callee : Callee) → point_at s i ≡ Some x → x.planned ≡ Invokes how v
+      → x.deed ≡ Invokes how (child_world s.program x.frame (suc (started x.past)) callee) → Alike x callee
+  alike i x how v callee is planned deed =
+      let know = known i x is in
+      let c = child_world s.program x.frame (suc (started x.past)) callee in
+      let like = subst (IsLikeDeed (same_frame s.program) (Invokes how v)) deed (subst (λ (d : Deed World). IsLikeDeed (same_frame s.program) d x.deed) planned know.like) in
+      record {
+        planned = v;
+        child = subst (IsStarted s.program s.run (let w = x.frame in w.name) (suc (started x.past))) planned know.starts;
+        same = like_body s.program v c like.1;
+      }
+
   -- the child's sight
-  placed_sees : (at i : ℕ) (w : World) (k : ℕ) (callee : Callee) (y : Point World) (caller sight : Sight) → suc i ≡ at + 1 → point_at s i ≡ Some y → child_world s.program w k callee ≡ y.frame
-      → Sees s.program s.run w caller → Placed at caller sight callee → Sees s.program s.run y.frame sight
-  placed_sees at i w k callee y caller sight place is frame sees P =
-      let name : (let v = y.frame in v.name) ≡ w.name ++ k ∷ [] = sym (ap (λ (v : World). v.name) frame) in
+  placed_sees : (at i : ℕ) (k : Ask) (l : Level) (A : Asks s at k l) (how : Invocation) (callee : Callee) (y : Point World) (sight : Sight) → k ≡ asks.Invoke how callee → suc i ≡ at + 1 → point_at s i ≡ Some y
+      → (let x = A.point in child_world s.program x.frame (suc (started x.past)) callee ≡ y.frame) → Alike A.point callee → Placed at l.sight sight callee → Sees s.program s.run y.frame sight
+  placed_sees at i k l A how callee y sight asked place is frame like P =
+      let x = A.point in
+      let w = x.frame in
+      let n = suc (started x.past) in
+      let name : (let v = y.frame in v.name) ≡ w.name ++ n ∷ [] = sym (ap (λ (v : World). v.name) frame) in
       let its = subst (IsHere s.program s.run) name (frame_here i y is) in
-      let number = begin_number i y P.number is (ap (event story) place ∙ P.begins) ∙ ap (frame_number s.program s.run) name ∙ frame_is s.program s.run (w.name ++ k ∷ []) its in
+      let number = begin_number i y P.number is (ap (event story) place ∙ P.begins) ∙ ap (frame_number s.program s.run) name ∙ frame_is s.program s.run (w.name ++ n ∷ []) its in
       subst (λ (v : World). Sees s.program s.run v sight) frame
-      (child_sees s.program s.run w caller sees k callee its P.block sight (P.lies its.path its.block its.found (sym number)) P.sight)
+      (child_sees s.program s.run w l.sight A.sees n callee P.home sight (record {
+        well = h.is.named;
+        other = (there at k l A how callee asked).0;
+        there = subst (AskIsThere s.program w.callee) asked (ask_there at k l A);
+        can = can_invoke s.program s.inputs w.callee (answers_of x.past) MAX_TICKS (MAX_TICKS - l.took) how callee (A.asked.asks ∙ ap (λ (z : Ask). asks_for z (MAX_TICKS - l.took)) asked);
+        planned = like.planned;
+        child = like.child;
+        same = like.same;
+        here = its;
+        block = P.lies its.path its.block its.found (sym number);
+        frame = sym number ∙ sym P.frame;
+        before = P.before;
+      }) P.sight)
 
   begun_asks : (at : ℕ) (k : Ask) (l c : Level) (A : Asks s at k l) (how : Invocation) (callee : Callee) (e : Event) (w : World) → k ≡ asks.Invoke how callee
       → Follows story at e → (let x = A.point in x.planned ≡ Invokes how w) → IsNew at l c callee → Begun at A.point A.behind how c
@@ -316,7 +375,7 @@ module _ (s : Setting) (h : IsOfProgram s) where
           is = y.1;
           goes_on = ap has_ended begun.past;
           fit = subst (CalleeIsFit s.program) same (there at k l A how callee is).1;
-          sees = placed_sees at (suc A.behind) x.frame (suc (started x.past)) callee y.0 l.sight c.sight (omega (arith, place)) y.1 frame A.sees new.3;
+          sees = placed_sees at (suc A.behind) k l A how callee y.0 c.sight is (omega (arith, place)) y.1 frame (alike A.behind x how w callee A.is planned made_child) new.3;
           asked = subst (λ z. HasAsked s.code s.inputs s.program z (answers_of (let z = y.0 in z.past)) asks.Begin c) same (first_asked callee c (let z = y.0 in z.past) begun.past new.2 new.0 new.1);
         };
         since = begun.since;
@@ -493,11 +552,14 @@ module _ (s : Setting) (h : IsOfProgram s) where
 
   -- ---- the root's frame
 
-  -- the root's own cells
+  -- what the root's frame has and sees
   pub record RootPlaced (sight : Sight) : Type 0 where
-    pub block : CellBlock
-    pub lies : (path : List ℕ) (b : Block) → frame_at s.program s.run path ≡ Some b → b.number ≡ 1 → block ≡ cells_of_block b
-    pub homes : sight.homes.items ≡ block ∷ []
+    pub home : Home
+    pub lies : (path : List ℕ) (b : Block) → frame_at s.program s.run path ≡ Some b → b.number ≡ 1 → home.block ≡ cells_of_block b
+    pub frame : home.frame ≡ 1
+    pub before : home.before ≡ (let p = s.program in length p.reducers)
+    pub homes : sight.homes.items ≡ home ∷ []
+    pub given : sight.given.items ≡ []
     pub none : sight.result ≡ found_global (let p = s.program in length p.openings) 0
 
   pub rooted : (c : Level) → Stands s.code s.inputs s.program callees.Root c.cursor [] 0 → (let v = c.cursor in v.owed ≡ owed_for asks.Begin) → c.took ≡ 0 → RootPlaced c.sight
@@ -516,7 +578,7 @@ module _ (s : Setting) (h : IsOfProgram s) where
           goes_on = ap has_ended is.1;
           fit = subst (CalleeIsFit s.program) same tt;
           sees = subst (λ (v : World). Sees s.program s.run v c.sight) (sym is.0)
-              (root_sees s.program s.run (root_here s.program s.run) R.block c.sight (R.lies [] (block_of s.program callees.Root (unbegun s.program)) refl refl) R.homes R.none);
+              (root_sees s.program s.run h.is.named (root_here s.program s.run) R.home c.sight (R.lies [] (block_of s.program callees.Root (unbegun s.program)) refl refl) (sym R.frame) R.before R.homes R.given R.none);
           asked = subst (λ z. HasAsked s.code s.inputs s.program z (answers_of (let z = x.0 in z.past)) asks.Begin c) same (first_asked callees.Root c (let z = x.0 in z.past) is.1 took stands owes);
         };
         callers = inl is.2;

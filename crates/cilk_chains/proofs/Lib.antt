@@ -1,8 +1,10 @@
 pub mod Unended
 pub mod OfKind
+pub mod Children
 pub mod Named
 pub mod Seeing
 pub mod Going
 pub mod Resuming
 pub mod Looking
 pub mod Along
+pub mod Giving

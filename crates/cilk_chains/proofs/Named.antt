@@ -2,30 +2,43 @@
 --
 -- - `maker_here`: the frame that makes an event;
 -- - `begun_by`: a frame begins with its number;
--- - `known`: what the plan does at a point is the run's, and what the course does there is of its kind.
-use Rattle.std.proofs.Common.{◌≡◌, ℕ, zero, suc, ◌+◌, ℤ, Bool, true, List, [], ◌∷◌, ◌++◌, length, Option, Some, None, slice_get, refl, sym, ap, ◌∙◌, subst}
+-- - `known_at`: what the plan does at a point is the run's, and what the course does there is of its kind;
+-- - `start_at`: the event that starts a child has its number.
+use Rattle.std.proofs.Common.{◌≡◌, ℕ, zero, suc, ◌+◌, ℤ, true, List, [], ◌∷◌, ◌++◌, length, Option, Some, None, slice_get, refl, sym, ap, ◌∙◌, subst}
+use Rattle.std.proofs.lemmas.Bool.{and_parts}
 use Rattle.cilk_types.specs.declared.event.Event.{Event}
 use Rattle.cilk_types.specs.declared.event.Event.TheVariants as events
 use Rattle.cilk_types.specs.declared.invocation.Invocation.{Invocation}
 use Rattle.cilk_types.specs.declared.invocation.Invocation.TheVariants.{Call, Spawn}
 use Rattle.cilk_monoid.specs.Laws.{MonoidStructure}
+use Rattle.cilk_program.specs.Inside.{body_of}
 use Rattle.cilk_program.specs.SerialRun.{Transcript}
 use Rattle.cilk_program.specs.Syntax.{Source}
-use Rattle.cilk_runs.specs.Machine.{put}
+use Rattle.cilk_runs.specs.Machine.{put, started}
 use Rattle.cilk_runs.specs.Monoids.{on_view}
-use Rattle.cilk_runs.specs.Runs.{Name, Cell, Instance, Ask, Reads, Writes, Syncs, Ends, Passes, Begins, Resumes, Creates, Updates, Sets, Values, Prints, Deed, Does, Invokes, Run}
+use Rattle.cilk_runs.specs.Runs.{Name, same_name, Cell, Instance, Ask, Reads, Writes, Syncs, Ends, Passes, Begins, Resumes, Creates, Updates, Sets, Values, Prints, Deed, Does, Invokes, Run}
 use Rattle.cilk_runs.specs.Runs as runs
 use Rattle.cilk_runs.specs.Serial.{value_after}
 use Rattle.cilk_runs.specs.Views.{view_after}
+use Rattle.cilk_runs.proofs.Basics.{same_name-eq}
+use Rattle.cilk_runs.proofs.Started.{started_does, started_invokes}
 use Rattle.cilk_worlds.specs.Worlds.{World}
 use Rattle.cilk_determinacy.specs.Numbers.{frame_number, start_event, numbered_event, numbered_events, IsHere, EventIsHere, AreHere}
 use Rattle.cilk_inputs.specs.Courses.{Course, stop, act, child, run_of, asked_in, IsCourse}
-use Rattle.cilk_inputs.specs.Frames.{same_frame}
+use Rattle.cilk_inputs.specs.Frames.{same_body, same_frame}
 use Rattle.cilk_inputs.specs.Owned.{makers}
 use Rattle.cilk_inputs.specs.Points.{Point, points, IsLikeDeed}
+use Rattle.cilk_chains.proofs.Children.{AreChildren, IsStarted, StartsAs}
 
 some_inner : {A : Type 0} (x y : A) → Some x ≡ Some y → x ≡ y
 some_inner x y h = cc
+
+-- frames that are alike have one name, and run one body
+pub like_name : (p : Source) (v w : World) → same_frame p v w ≡ true → v.name ≡ w.name
+like_name p v w h = same_name-eq v.name w.name (and_parts (same_name v.name w.name) (same_body (body_of p v.callee) (body_of p w.callee)) h).0
+
+pub like_body : (p : Source) (v w : World) → same_frame p v w ≡ true → same_body (body_of p v.callee) (body_of p w.callee) ≡ true
+like_body p v w h = (and_parts (same_name v.name w.name) (same_body (body_of p v.callee) (body_of p w.callee)) h).1
 
 module _ (p : Source) (r : Transcript) where
   -- ---- the frames that make events
@@ -109,6 +122,7 @@ module _ (p : Source) (r : Transcript) where
   pub record IsKnown (x : Point World) : Type 0 where
     pub here : DeedIsHere x.planned
     pub like : IsLikeDeed (same_frame p) x.planned x.deed
+    pub starts : let w = x.frame in IsStarted p r w.name (suc (started x.past)) x.planned
 
   abbrev AllKnown : List (Point World) → Type 0
   AllKnown [] = Unit {0}
@@ -125,16 +139,52 @@ module _ (p : Source) (r : Transcript) where
 
   module _ (V : Type 0) (M : Instance → MonoidStructure V) (next : World → List (Deed World) → Option (Ask World)) where
     pub all_known : (w : World) (past : List (Deed World)) (memory : Cell → ℤ) (views : Instance → V) (b o : ℕ) (t : Run World) (c : Course World) → AreHere p r t
-        → IsCourse World V M next (same_frame p) w past memory views t c → AllKnown (points w past b o t c)
-    all_known w past memory views b o runs.stop stop here h = tt
-    all_known w past memory views b o (runs.act e t) (act a e' t') here h = (
-      record { here = here.0; like = h.0.like },
-      all_known w (past ++ Does e' ∷ []) (λ y. put e' y (memory y)) (λ j. on_view (M j) j e' (views j)) b (suc o) t t' here.1 h.1,
+        → AreChildren p r w.name (suc (started past)) t → IsCourse World V M next (same_frame p) w past memory views t c → AllKnown (points w past b o t c)
+    all_known w past memory views b o runs.stop stop here kids h = tt
+    all_known w past memory views b o (runs.act e t) (act a e' t') here kids h = (
+      record { here = here.0; like = h.0.like; starts = tt },
+      all_known w (past ++ Does e' ∷ []) (λ y. put e' y (memory y)) (λ j. on_view (M j) j e' (views j)) b (suc o) t t' here.1
+          (subst (λ n. AreChildren p r w.name (suc n) t) (sym (started_does past e')) kids) h.1,
     )
-    all_known w past memory views b o (runs.child k v u t) (child a k' v' u' t') here h = (
-      record { here = here.0; like = (h.0.how, h.0.fits) },
+    all_known w past memory views b o (runs.child k v u t) (child a k' v' u' t') here kids h = (
+      record { here = here.0; like = (h.0.how, h.0.fits); starts = kids.0 },
       known_append (points v' [] (suc o) (suc o) u u') (points w (past ++ Invokes k' v' ∷ []) b (suc o + length (asked_in u')) t t')
-          (all_known v' [] memory views (suc o) (suc o) u u' here.1 h.1)
-          (all_known w (past ++ Invokes k' v' ∷ []) (λ y. value_after (run_of u') y (memory y)) (λ j. view_after (M j) j (run_of u') (views j)) b (suc o + length (asked_in u')) t t' here.2 h.2),
+          (all_known v' [] memory views (suc o) (suc o) u u' here.1 (subst (λ n. AreChildren p r n 1 u) (like_name p v v' h.0.fits) kids.1) h.1)
+          (all_known w (past ++ Invokes k' v' ∷ []) (λ y. value_after (run_of u') y (memory y)) (λ j. view_after (M j) j (run_of u') (views j)) b (suc o + length (asked_in u')) t t' here.2
+          (subst (λ n. AreChildren p r w.name (suc n) t) (sym (started_invokes past k' v')) kids.2) h.2),
     )
-    all_known w past memory views b o t c here h = absurd h
+    all_known w past memory views b o t c here kids h = absurd h
+
+    -- ---- the events that start children
+
+    abbrev AllStart : List Event → List (Point World) → Type 0
+    AllStart [] [] = Unit {0}
+    AllStart (e ∷ es) (x ∷ xs) = StartsAs p r e x.planned × AllStart es xs
+    AllStart _ _ = ⊥
+
+    start_append : (es es' : List Event) (xs xs' : List (Point World)) → AllStart es xs → AllStart es' xs' → AllStart (es ++ es') (xs ++ xs')
+    start_append [] es' [] xs' a b = b
+    start_append [] es' (x ∷ xs) xs' a b = absurd a
+    start_append (e ∷ es) es' [] xs' a b = absurd a
+    start_append (e ∷ es) es' (x ∷ xs) xs' a b = (a.0, start_append es es' xs xs' a.1 b)
+
+    pub start_at : (es : List Event) (xs : List (Point World)) (i : ℕ) (e : Event) (x : Point World) → AllStart es xs → slice_get es i ≡ Some e → slice_get xs i ≡ Some x → StartsAs p r e x.planned
+    start_at [] xs i e x a p q = absurd (let z : None ≡ Some e = p in cc z)
+    start_at (d ∷ es) [] i e x a p q = absurd a
+    start_at (d ∷ es) (y ∷ xs) zero e x a is at = subst (λ (z : Event). StartsAs p r z x.planned) (some_inner d e is) (subst (λ (z : Point World). StartsAs p r d z.planned) (some_inner y x at) a.0)
+    start_at (d ∷ es) (y ∷ xs) (suc i) e x a is at = start_at es xs i e x a.1 is at
+
+    pub all_start : (name : Name) (w : World) (past : List (Deed World)) (memory : Cell → ℤ) (views : Instance → V) (b o : ℕ) (t : Run World) (c : Course World)
+        → IsCourse World V M next (same_frame p) w past memory views t c → AllStart (numbered_events p r name t) (points w past b o t c)
+    all_start name w past memory views b o runs.stop stop h = tt
+    all_start name w past memory views b o (runs.act e t) (act a e' t') h = (
+      tt,
+      all_start name w (past ++ Does e' ∷ []) (λ y. put e' y (memory y)) (λ j. on_view (M j) j e' (views j)) b (suc o) t t' h.1,
+    )
+    all_start name w past memory views b o (runs.child k v u t) (child a k' v' u' t') h = (
+      refl,
+      start_append (numbered_events p r v.name u) (numbered_events p r name t) (points v' [] (suc o) (suc o) u u') (points w (past ++ Invokes k' v' ∷ []) b (suc o + length (asked_in u')) t t')
+          (all_start v.name v' [] memory views (suc o) (suc o) u u' h.1)
+          (all_start name w (past ++ Invokes k' v' ∷ []) (λ y. value_after (run_of u') y (memory y)) (λ j. view_after (M j) j (run_of u') (views j)) b (suc o + length (asked_in u')) t t' h.2),
+    )
+    all_start name w past memory views b o t c h = absurd h

@@ -1,5 +1,5 @@
 -- The course of a plan's run on some inputs: the story that it makes, and the frame at hand at each event of it.
-use Rattle.std.specs.Prelude.{◌≡◌, ℕ, ℤ, List, length, Option, Some, slice_get, refl}
+use Rattle.std.specs.Prelude.{◌≡◌, ◌-◌, ℕ, ℤ, List, length, Option, Some, slice_get, refl}
 use Rattle.std.specs.Coded.{Coded, code_by, coded×, coded_list, coded_ℤ}
 use Rattle.cilk_types.specs.declared.event.Event.{Event}
 use Rattle.cilk_program.specs.contracts.program.Program as program
@@ -21,9 +21,14 @@ use Rattle.cilk_worlds.specs.Worlds.{World}
 use Rattle.cilk_inputs.specs.Points.{Point, points_on}
 use Rattle.cilk_inputs.specs.Stories.{story_on, IsPlannedRun}
 use Rattle.cilk_meaning.specs.Numbering.{Block, frame_at}
-use Rattle.cilk_chains.specs.declared.sight.CellBlock.{CellBlock}
+use Rattle.cilk_program.specs.declared.program.Body.{Body}
+use Rattle.cilk_program.specs.Inside.{body_of}
+use Rattle.cilk_determinacy.specs.Numbers.{frame_runs}
+use Rattle.cilk_chains.specs.declared.course.FrameHome.{FrameHome}
+use Rattle.cilk_chains.specs.declared.home.CellBlock.{CellBlock}
+use Rattle.cilk_chains.specs.declared.home.Home.{Home}
 use Rattle.cilk_chains.specs.declared.sight.Sight.{Sight}
-use Rattle.cilk_chains.specs.Sights.{AreBlocks, IsSightOf, cells_of_block}
+use Rattle.cilk_chains.specs.Sights.{IsSightOf, cells_of_block}
 
 -- what contracts see of a course: the yard with its story, the program and its code, the inputs of the plan's run, and the inputs at hand
 pub record CourseValue : Type 0 where
@@ -74,15 +79,36 @@ pub record IsOfProgram (s : Setting) : Type 0 where
 abbrev pub IsCourse : CourseValue → Type 0
 IsCourse c = (run : Transcript) × IsOfProgram (setting_of c run)
 
--- where the cells of its frames lie, by their numbers
-abbrev pub AreBlocksOf : CourseValue → List CellBlock → Type 0
-AreBlocksOf c blocks = (run : Transcript) → IsOfProgram (setting_of c run) → AreBlocks (source c.program) run blocks
+-- what a frame of a run runs, and where its cells lie
+abbrev pub home_of : Source → Callee → Block → FrameHome
+home_of p callee b = record { body = body_of p callee; block = cells_of_block b }
 
--- of the frame with a number, if the run has it
+-- each frame of a run stands at its number, from 1
+abbrev pub AreHomes : Source → Transcript → List FrameHome → Type 0
+AreHomes p r homes =
+    (path : List ℕ) (b : Block) (callee : Callee) → frame_at p r path ≡ Some b → frame_runs r path ≡ Some callee → slice_get homes (b.number - 1) ≡ Some (home_of p callee b)
+
+-- of the course
+abbrev pub AreHomesOf : CourseValue → List FrameHome → Type 0
+AreHomesOf c homes = (run : Transcript) → IsOfProgram (setting_of c run) → AreHomes (source c.program) run homes
+
+-- the frame with a number, if the run has it
+abbrev pub IsHomeOf : CourseValue → ℕ → FrameHome → Type 0
+IsHomeOf c number home =
+    (run : Transcript) (path : List ℕ) (b : Block) (callee : Callee) → IsOfProgram (setting_of c run) → frame_at (source c.program) run path ≡ Some b
+    → frame_runs run path ≡ Some callee → b.number ≡ number → home ≡ home_of (source c.program) callee b
+
+-- where its cells lie
 abbrev pub IsBlockOf : CourseValue → ℕ → CellBlock → Type 0
 IsBlockOf c number block =
     (run : Transcript) (path : List ℕ) (b : Block) → IsOfProgram (setting_of c run) → frame_at (source c.program) run path ≡ Some b → b.number ≡ number → block ≡ cells_of_block b
 
+-- what it runs
+abbrev pub IsBodyOf : CourseValue → ℕ → Body → Type 0
+IsBodyOf c number body =
+    (run : Transcript) (path : List ℕ) (b : Block) (callee : Callee) → IsOfProgram (setting_of c run) → frame_at (source c.program) run path ≡ Some b
+    → frame_runs run path ≡ Some callee → b.number ≡ number → body ≡ body_of (source c.program) callee
+
 -- what the frame sees that a frame of it begins
-abbrev pub IsSightIn : CourseValue → Callee → CellBlock → Sight → Sight → Type 0
-IsSightIn c callee block caller s = let p = source c.program in IsSightOf (length p.openings) callee block caller s
+abbrev pub IsSightIn : CourseValue → Callee → Home → Sight → Sight → Type 0
+IsSightIn c callee home caller s = let p = source c.program in IsSightOf (length p.openings) callee home caller s

@@ -1,6 +1,9 @@
 pub mod Asking
 pub mod Chains
+pub mod Children
 pub mod Courses
+pub mod Given
+pub mod Reducing
 pub mod Sights
 pub mod Sorts
 pub mod Standing

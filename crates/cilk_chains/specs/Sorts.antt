@@ -9,7 +9,7 @@ use Rattle.cilk_story.specs.declared.story.Story.{Story}
 use Rattle.cilk_story.specs.Runs.{IsAsked}
 use Rattle.std.specs.Prelude.{ℕ}
 use Rattle.cilk_chains.specs.declared.looked.Looked.{Looked}
-use Rattle.cilk_chains.specs.declared.looked.Looked.TheVariants.{Asked, Differs, Unknown}
+use Rattle.cilk_chains.specs.declared.looked.Looked.TheVariants.{Asked, Differs}
 use Rattle.cilk_chains.specs.declared.sort.Sort.{Sort}
 use Rattle.cilk_chains.specs.declared.sort.Sort.TheVariants.{Begin, Spawn, Call, Resume, Sync, End, Read, Write, Create, Update, Set, Value, Print, Nothing}
 
@@ -57,18 +57,7 @@ NamesNothing End = Unit {0}
 NamesNothing Print = Unit {0}
 NamesNothing _ = ⊥
 
--- a look at events of this kind may leave it open whether the frame asks for them
-abbrev pub MayBeUnknown : Kind → Type 0
-MayBeUnknown (kinds.Spawn f) = Unit {0}
-MayBeUnknown (kinds.Call f) = Unit {0}
-MayBeUnknown (kinds.Create i) = Unit {0}
-MayBeUnknown (kinds.Update i) = Unit {0}
-MayBeUnknown (kinds.Set i) = Unit {0}
-MayBeUnknown (kinds.Value i) = Unit {0}
-MayBeUnknown k = ⊥
-
 -- what a look at the event of this kind at a position says
 abbrev pub Says : Story → ℕ → Kind → Looked → Type 0
 Says s at k Asked = IsAsked s at
 Says s at k Differs = IsAsked s at → ⊥
-Says s at k Unknown = MayBeUnknown k

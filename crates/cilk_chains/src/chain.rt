@@ -5,11 +5,14 @@ ghost use Rattle.cilk_types.specs.declared.event.Event.TheVariants.{End};
 ghost use Rattle.cilk_story.specs.Word.{resume, what};
 ghost use Rattle.cilk_chains.specs.Chains.{standing, task_of};
 
+use crate::child::{body_asked, look_at_body};
 use crate::course::Course;
 use crate::level::Level;
 use crate::looked::Looked;
+use crate::reducer::{look_at_reducer, reducer_asked};
 use crate::sight::{cell_asked, look_at_cell};
 use crate::sort::{asked_sort, kind_sort};
+use crate::word::word_asked;
 use cilk_frames::asked::AskSlot;
 use cilk_frames::cursor::Answer;
 use cilk_plan::kind::Kind;
@@ -68,6 +71,7 @@ impl Chain {
     ghost use Rattle.std.specs.Prelude.{Some};
     ghost use Rattle.cilk_plan.specs.Kinds.{kind_of_event};
     ghost use Rattle.cilk_story.specs.Word.{event};
+    ghost use Rattle.cilk_chains.specs.Given.{GivesWord};
     ghost use Rattle.cilk_chains.specs.Sorts.{Says};
     ghost use Rattle.cilk_chains.specs.Asking.{BeginsNext, Calls, Follows, IsAnswered, IsNextAsk, Spawns};
     ghost use Rattle.cilk_chains.specs.Standing.{IsTheOutermost};
@@ -77,7 +81,7 @@ impl Chain {
         ensures { IfOk result (λ c. c ≡ standing course.now 1) }
     {
         course.laws();
-        let top = Level::root(alloc, course, course.block(1))?;
+        let top = Level::root(alloc, course, course.root())?;
         Ok(Chain {
             of: Snapshot::of(course),
             at: 1,
@@ -102,6 +106,13 @@ impl Chain {
         &self.asked
     }
 
+    /// The word that the frame gives with its event: what it writes, updates, sets or prints; 0 with any other.
+    pub fn word(&self) -> i64
+        ensures { GivesWord self.now.of.yard.story self.now.at result }
+    {
+        word_asked(self.ask())
+    }
+
     /// Whether the frame asks for the plan's event at its position, whose kind is this.
     pub fn look(&self, course: &Course, kind: Kind) -> Looked
         requires course { course.now ≡ self.now.of }
@@ -119,7 +130,16 @@ impl Chain {
             Kind::Begin { .. } | Kind::Resume { .. } | Kind::Sync | Kind::End | Kind::Print => {
                 Looked::Asked
             }
-            _ => Looked::Unknown,
+            Kind::Spawn { child } | Kind::Call { child } => {
+                look_at_body(course.body(child), body_asked(&self.asked))
+            }
+            Kind::Create { instance }
+            | Kind::Update { instance }
+            | Kind::Set { instance }
+            | Kind::Value { instance } => look_at_reducer(
+                reducer_asked(&self.top.sight.homes, &self.top.sight.given, &self.asked),
+                instance,
+            ),
         }
     }
 
@@ -170,8 +190,8 @@ impl Chain {
                 below,
             });
         };
-        let block = course.block(frame);
-        let Ok(child) = Level::begun(alloc, course, &asked, block, &top.sight) else {
+        let home = course.child(frame);
+        let Ok(child) = Level::begun(alloc, course, &asked, home, &top.sight) else {
             return Err(Chain {
                 of,
                 at,
@@ -212,8 +232,8 @@ impl Chain {
             top,
             below,
         } = self;
-        let block = course.block(frame);
-        let Ok(child) = Level::begun(alloc, course, &asked, block, &top.sight) else {
+        let home = course.child(frame);
+        let Ok(child) = Level::begun(alloc, course, &asked, home, &top.sight) else {
             return Err(Chain {
                 of,
                 at,

@@ -3,19 +3,26 @@
 ghost use Rattle.std.specs.Prelude.{◌≡◌, length, slice_get, unwrap_or};
 ghost use Rattle.cilk_program.specs.Sources.{source};
 ghost use Rattle.cilk_program.specs.Syntax.{Source};
-ghost use Rattle.cilk_chains.specs.Courses.{AreBlocksOf, IsBlockOf, IsCourse, course_with};
+ghost use Rattle.cilk_chains.specs.Courses.{AreHomesOf, IsBlockOf, IsBodyOf, IsCourse, IsHomeOf, course_with};
 
-use crate::sight::CellBlock;
+use crate::home::{CellBlock, Home};
 use cilk_lower::code::Code;
-use cilk_program::program::Program;
+use cilk_program::program::{Body, Program};
 use cilk_shared::yard::Yard;
 use cilk_types::event::FrameNo;
 use cilk_types::input::Input;
 use std::marker::Model;
 use std::snapshot::Snapshot;
 
-/// The code of a program and an input for it, along the plan of one of the program's runs; and where that run has the
-/// cells of each frame.
+/// What a frame of a plan's run runs, and where its cells lie.
+#[derive(Clone, Copy, Debug)]
+pub struct FrameHome {
+    pub body: Body,
+    pub block: CellBlock,
+}
+
+/// The code of a program and an input for it, along the plan of one of the program's runs; and what that run's frames run,
+/// and where their cells lie.
 #[derive(Drop)]
 pub struct Course {
     yard: Snapshot<Yard>,
@@ -24,14 +31,15 @@ pub struct Course {
     code: Code,
     input: Input,
     globals: usize,
-    blocks: Vec<CellBlock>,
+    reducers: u32,
+    homes: Vec<FrameHome>,
 }
 
 impl Model for Course {
     ghost use Rattle.std.specs.Prelude.{◌≡◌, length};
     ghost use Rattle.cilk_program.specs.Sources.{source};
     ghost use Rattle.cilk_program.specs.Syntax.{Source};
-    ghost use Rattle.cilk_chains.specs.Courses.{AreBlocksOf, CourseValue, IsCourse, course_code, course_with};
+    ghost use Rattle.cilk_chains.specs.Courses.{AreHomesOf, CourseValue, IsCourse, course_code, course_with};
 
     ghost Value = { CourseValue };
 
@@ -41,22 +49,23 @@ impl Model for Course {
 
     ghost invariant = { λ c. IsCourse (course_with c.yard.value c.program.value c.code c.own.value c.input)
         × (c.globals ≡ (let p = source c.program.value in length p.openings))
-        × AreBlocksOf (course_with c.yard.value c.program.value c.code c.own.value c.input) c.blocks.items };
+        × (c.reducers ≡ (let p = source c.program.value in length p.reducers))
+        × AreHomesOf (course_with c.yard.value c.program.value c.code c.own.value c.input) c.homes.items };
 }
 
 impl Course {
     /// The code of a program and an input, where the yard's story is what the program makes on it of the plan of its
-    /// serial run on its own input. `blocks` has the cells of each frame of that run, in the order of their numbers.
+    /// serial run on its own input. `homes` has each frame of that run, in the order of their numbers.
     pub fn new(
         yard: &Yard,
         program: &Program,
         own: &Input,
         code: Code,
         input: Input,
-        blocks: Vec<CellBlock>,
+        homes: Vec<FrameHome>,
     ) -> Course
         requires course { IsCourse (course_with yard.now program.now code own.now input) }
-        requires blocks { AreBlocksOf (course_with yard.now program.now code own.now input) blocks.items }
+        requires homes { AreHomesOf (course_with yard.now program.now code own.now input) homes.items }
         ensures { result ≡ course_with yard.now program.now code own.now input }
     {
         Course {
@@ -66,7 +75,8 @@ impl Course {
             code,
             input,
             globals: program.globals.len(),
-            blocks,
+            reducers: program.reducers.len() as u32,
+            homes,
         }
     }
 
@@ -77,15 +87,55 @@ impl Course {
         self.globals
     }
 
+    /// What the root's frame has: the first number is its own, and it creates the global reducers ahead of its others.
+    pub fn root(&self) -> Home
+        ensures block { IsBlockOf self.now 1 result.block }
+        ensures frame { result.frame ≡ 1 }
+        ensures before { let p = source self.now.program in result.before ≡ length p.reducers }
+    {
+        Home {
+            block: self.block(1),
+            frame: 1,
+            before: self.reducers,
+        }
+    }
+
+    /// What the frame with a number has that a frame begins, if the plan's run has that frame.
+    pub fn child(&self, frame: FrameNo) -> Home
+        ensures block { IsBlockOf self.now frame result.block }
+        ensures frame { result.frame ≡ frame }
+        ensures before { result.before ≡ 0 }
+    {
+        Home {
+            block: self.block(frame),
+            frame,
+            before: 0,
+        }
+    }
+
     /// Where the cells of the frame with a number lie, if the plan's run has that frame.
     pub fn block(&self, frame: FrameNo) -> CellBlock
         ensures { IsBlockOf self.now frame result }
     {
-        block_at(
-            &self.blocks,
-            frame.saturating_sub(1),
-            CellBlock { first: 0, cells: 0 },
-        )
+        self.home(frame).block
+    }
+
+    /// What the frame with a number runs, if the plan's run has that frame.
+    pub fn body(&self, frame: FrameNo) -> Body
+        ensures { IsBodyOf self.now frame result }
+    {
+        self.home(frame).body
+    }
+
+    /// Both.
+    pub fn home(&self, frame: FrameNo) -> FrameHome
+        ensures { IsHomeOf self.now frame result }
+    {
+        let none = FrameHome {
+            body: Body::Function(0),
+            block: CellBlock { first: 0, cells: 0 },
+        };
+        home_at(&self.homes, frame.saturating_sub(1), none)
     }
 
     /// The program's code.
@@ -110,11 +160,11 @@ impl Course {
     }
 }
 
-fn block_at(blocks: &[CellBlock], place: u32, other: CellBlock) -> CellBlock
-    ensures { result ≡ unwrap_or (slice_get blocks.now place) other }
+fn home_at(homes: &[FrameHome], place: u32, other: FrameHome) -> FrameHome
+    ensures { result ≡ unwrap_or (slice_get homes.now place) other }
 {
-    match blocks.get(place as usize) {
-        Some(block) => *block,
+    match homes.get(place as usize) {
+        Some(home) => *home,
         None => other,
     }
 }

@@ -14,7 +14,8 @@ ghost use Rattle.cilk_frames.specs.Following.{Fits, Runs, Stands, owed_for, word
 ghost use Rattle.cilk_chains.specs.Sights.{found_global};
 
 use crate::course::Course;
-use crate::sight::{CellBlock, Sight};
+use crate::home::Home;
+use crate::sight::Sight;
 use cilk_frames::asked::AskSlot;
 use cilk_frames::brief::Brief;
 use cilk_frames::cursor::{Answer, Cursor};
@@ -22,7 +23,7 @@ use cilk_frames::stepping::step_into;
 use cilk_types::limits::MAX_TICKS;
 use std::alloc::{AllocError, Global};
 
-/// A frame: where it stands in its code, the ticks that it took, and the cells that it sees. It counts them as if it had all those of a run
+/// A frame: where it stands in its code, the ticks that it took, and the cells and reducers that it sees. It counts them as if it had all those of a run
 /// for itself.
 #[derive(Drop)]
 pub struct Level {
@@ -36,16 +37,17 @@ impl Level {
     ghost use Rattle.cilk_chains.specs.Courses.{IsSightIn};
 
     /// The root's frame before it begins.
-    pub fn root(alloc: Global, course: &Course, block: CellBlock) -> Result<Level, AllocError>
+    pub fn root(alloc: Global, course: &Course, home: Home) -> Result<Level, AllocError>
         ensures stands { IfOk result (λ l. (p : Source) → Behaves p course.now.code
             → Stands course.now.code course.now.inputs p Root l.cursor [] 0) }
         ensures owes { IfOk result (λ l. l.cursor.owed ≡ owed_for asks.Begin) }
         ensures took { IfOk result (λ l. l.took ≡ 0) }
-        ensures homes { IfOk result (λ l. l.sight.homes.items ≡ block ∷ []) }
+        ensures homes { IfOk result (λ l. l.sight.homes.items ≡ home ∷ []) }
+        ensures given { IfOk result (λ l. l.sight.given.items ≡ []) }
         ensures result { let p = source course.now.program in IfOk result (λ l. l.sight.result ≡ found_global (length p.openings) 0) }
     {
         let cursor = Cursor::root(alloc, course.code())?;
-        let sight = Sight::root(alloc, course.globals(), block)?;
+        let sight = Sight::root(alloc, course.globals(), home)?;
         let level = Level {
             cursor,
             took: 0,
@@ -54,12 +56,12 @@ impl Level {
         Ok(level)
     }
 
-    /// The frame that a frame asks for, before it begins. Its own cells lie in `block`.
+    /// The frame that a frame asks for, before it begins, which has this itself.
     pub fn begun(
         alloc: Global,
         course: &Course,
         asked: &AskSlot,
-        block: CellBlock,
+        home: Home,
         caller: &Sight,
     ) -> Result<Level, AllocError>
         requires { (how : Invocation) × (callee : Callee) × (callee ≢ Root) × (asked.now ≡ asks.Invoke how callee) }
@@ -69,7 +71,7 @@ impl Level {
         ensures owes { IfOk result (λ l. l.cursor.owed ≡ owed_for asks.Begin) }
         ensures took { IfOk result (λ l. l.took ≡ 0) }
         ensures sight { IfOk result (λ l. (how : Invocation) (callee : Callee) → asked.now ≡ asks.Invoke how callee
-            → IsSightIn course.now callee block caller.now l.sight) }
+            → IsSightIn course.now callee home caller.now l.sight) }
     {
         let code = course.code();
         let cursor = match asked.brief() {
@@ -77,7 +79,7 @@ impl Level {
             Some(Brief::Turns(_, part)) => Cursor::turns(alloc, code, part)?,
             Some(_) => unreachable!(),
         };
-        let sight = Sight::begun(alloc, course.globals(), block, caller, asked)?;
+        let sight = Sight::begun(alloc, course.globals(), home, caller, asked)?;
         Ok(Level {
             cursor,
             took: 0,

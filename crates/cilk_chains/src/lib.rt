@@ -22,8 +22,12 @@
 #![tactic(auto)]
 
 pub mod chain;
+pub mod child;
 pub mod course;
+pub mod home;
 pub mod level;
 pub mod looked;
+pub mod reducer;
 pub mod sight;
 pub mod sort;
+pub mod word;

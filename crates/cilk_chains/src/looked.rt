@@ -7,6 +7,4 @@ pub enum Looked {
     Asked,
     /// It asks for something else: the run departs from the plan.
     Differs,
-    /// It asks for an event of this sort, whose cell, reducer or child would have to be compared.
-    Unknown,
 }

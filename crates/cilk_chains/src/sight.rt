@@ -1,4 +1,4 @@
-//! Where the cells lie that a frame sees, by the numbers that a plan's run gives to cells.
+//! The cells and reducers that a frame sees, by the numbers that a plan's run gives to them.
 
 ghost use Rattle.std.specs.Prelude.{◌≡◌, ◌≢◌, ◌∷◌, [], IfOk, drop};
 ghost use Rattle.cilk_types.specs.declared.invocation.Invocation.{Invocation};
@@ -7,96 +7,111 @@ ghost use Rattle.cilk_program.specs.declared.ask.Callee.{Callee};
 ghost use Rattle.cilk_program.specs.declared.ask.Callee.TheVariants.{Root};
 ghost use Rattle.cilk_chains.specs.Sights.{IsSightOf, LooksAt, cell_asked, found_global, found_in, found_inside, number_taking};
 
+use crate::home::{CellBlock, Home, ReducerNumber};
 use crate::looked::Looked;
+use crate::reducer::{given_outer, given_to};
 use cilk_frames::asked::AskSlot;
 use cilk_frames::brief::Brief;
 use cilk_program::syntax::Place;
 use cilk_types::event::Cell;
 use std::alloc::{AllocError, Global};
 
-/// Where the cells of a frame lie: one behind the other, from the first on.
-#[derive(Clone, Copy, Debug)]
-pub struct CellBlock {
-    pub first: Cell,
-    pub cells: u32,
-}
-
-/// The cells that a frame sees: its own, then by its static links those of the frames round it; and the number of the
-/// cell that its result goes to. A cell that the plan's run doesn't have has no number.
+/// What a frame sees: what it has itself, then by its static links what the frames round it have; the reducers that the
+/// function was given whose body it runs or stands in; and the number of the cell that its result goes to. A cell that
+/// the plan's run doesn't have has no number.
 #[derive(Drop)]
 pub struct Sight {
-    pub homes: Vec<CellBlock>,
+    pub homes: Vec<Home>,
+    pub given: Vec<ReducerNumber>,
     pub result: Option<u64>,
 }
 
 impl Sight {
     /// What the root's frame sees.
-    pub fn root(alloc: Global, globals: usize, block: CellBlock) -> Result<Sight, AllocError>
-        ensures homes { IfOk result (λ s. s.homes.items ≡ block ∷ []) }
+    pub fn root(alloc: Global, globals: usize, home: Home) -> Result<Sight, AllocError>
+        ensures homes { IfOk result (λ s. s.homes.items ≡ home ∷ []) }
+        ensures given { IfOk result (λ s. s.given.items ≡ []) }
         ensures result { IfOk result (λ s. s.result ≡ found_global globals 0) }
     {
-        let homes = blocks(alloc, block, &[])?;
+        let homes = homes(alloc, home, &[])?;
         let result = global(globals, 0);
-        Ok(Sight { homes, result })
+        Ok(Sight {
+            homes,
+            given: Vec::new(alloc),
+            result,
+        })
     }
 
-    /// What the frame sees that a frame asks for, whose own cells lie in `block`.
+    /// What the frame sees that a frame asks for, which has this itself.
     pub fn begun(
         alloc: Global,
         globals: usize,
-        block: CellBlock,
+        home: Home,
         caller: &Sight,
         asked: &AskSlot,
     ) -> Result<Sight, AllocError>
         requires { (how : Invocation) × (callee : Callee) × (callee ≢ Root) × (asked.now ≡ Invoke how callee) }
         ensures { IfOk result (λ s. (how : Invocation) (callee : Callee) → asked.now ≡ Invoke how callee
-            → IsSightOf globals callee block caller.now s) }
+            → IsSightOf globals callee home caller.now s) }
     {
         match asked.brief() {
             None => {
-                let result = taking(globals, &caller.homes, asked.invocation().1.result);
-                let homes = blocks(alloc, block, &[])?;
-                Ok(Sight { homes, result })
+                let call = asked.invocation().1;
+                let result = taking(globals, &caller.homes, call.result);
+                let given = given_to(
+                    alloc,
+                    &caller.homes,
+                    &caller.given,
+                    call.reducers.as_slice(),
+                )?;
+                let homes = homes(alloc, home, &[])?;
+                Ok(Sight {
+                    homes,
+                    given,
+                    result,
+                })
             }
             Some(Brief::Turns(_, part)) => {
                 let result = global(globals, 0);
-                let homes = blocks(alloc, block, outer(&caller.homes, part.up))?;
-                Ok(Sight { homes, result })
+                let outer = outer(&caller.homes, part.up);
+                let given = given_outer(alloc, outer, &caller.given)?;
+                let homes = homes(alloc, home, outer)?;
+                Ok(Sight {
+                    homes,
+                    given,
+                    result,
+                })
             }
             Some(_) => unreachable!(),
         }
     }
 }
 
-// A frame's own cells, and those round it.
-fn blocks(
-    alloc: Global,
-    block: CellBlock,
-    outer: &[CellBlock],
-) -> Result<Vec<CellBlock>, AllocError>
-    ensures { IfOk result (λ v. v.items ≡ block ∷ outer.now) }
+// What a frame has itself, and what those round it have.
+fn homes(alloc: Global, home: Home, outer: &[Home]) -> Result<Vec<Home>, AllocError>
+    ensures { IfOk result (λ v. v.items ≡ home ∷ outer.now) }
 {
-    let mut blocks = Vec::new(alloc);
-    blocks.push(block)?;
-    blocks.extend_from_slice(outer)?;
-    Ok(blocks)
+    let mut homes = Vec::new(alloc);
+    homes.push(home)?;
+    homes.extend_from_slice(outer)?;
+    Ok(homes)
 }
 
 // What lies so many static links up.
-fn outer(homes: &[CellBlock], up: u32) -> &[CellBlock]
+fn outer(homes: &[Home], up: u32) -> &[Home]
     ensures { result.now ≡ drop up homes.now }
 {
     homes.get(up as usize..).unwrap_or(&[])
 }
 
 // The number of the cell that a place means.
-fn number(globals: usize, homes: &[CellBlock], place: Place) -> Option<u64>
+fn number(globals: usize, homes: &[Home], place: Place) -> Option<u64>
     ensures { result ≡ found_in globals homes.now place }
 {
     match place {
         Place::Global(number) => global(globals, number),
         Place::Local(up, number) => match homes.get(up as usize) {
-            Some(home) => inside(*home, number),
+            Some(home) => inside(home.block, number),
             None => global(globals, number),
         },
     }
@@ -112,18 +127,18 @@ fn global(globals: usize, number: u32) -> Option<u64>
     }
 }
 
-fn inside(home: CellBlock, number: u32) -> Option<u64>
-    ensures { result ≡ found_inside home number }
+fn inside(block: CellBlock, number: u32) -> Option<u64>
+    ensures { result ≡ found_inside block number }
 {
-    if number < home.cells {
-        Some(u64::from(home.first) + u64::from(number))
+    if number < block.cells {
+        Some(u64::from(block.first) + u64::from(number))
     } else {
         None
     }
 }
 
 // The number of the cell that takes a result.
-fn taking(globals: usize, homes: &[CellBlock], place: Option<Place>) -> Option<u64>
+fn taking(globals: usize, homes: &[Home], place: Option<Place>) -> Option<u64>
     ensures { result ≡ number_taking globals homes.now place }
 {
     match place {

@@ -28,9 +28,11 @@ invariant_of-result-2 c =
     (along.called c.self.inside.of.value c.args.course.now same c.self.inside.at c.self.inside.asked c.self.inside.top c.self.inside.below.items c.self.invariant c.in-Ok-begun.child (along.of_chain Calls c.self.inside.of.value c.self.inside.at c.args.self c.self.view_is c.requires.calls)
     (record {
       number = c.args.frame;
-      block = c.block-block.result;
+      home = c.child-home.result;
       begins = along.of_chain (λ s at. BeginsNext s at c.args.frame) c.self.inside.of.value c.self.inside.at c.args.self c.self.view_is c.requires.begins;
-      lies = c.block-block.ensures;
+      lies = c.child-home.ensures.block;
+      frame = c.child-home.ensures.frame;
+      before = c.child-home.ensures.before;
       begun = c.in-Ok-begun.ensures.stands;
       owes = c.in-Ok-begun.ensures.owes;
       took = c.in-Ok-begun.ensures.took;

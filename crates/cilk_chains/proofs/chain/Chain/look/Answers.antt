@@ -1,5 +1,6 @@
-use Rattle.std.proofs.Common.{◌≡◌, ◌⊎◌, inl, inr, ℕ, List, length, Some, rules, refl, sym, ap, ◌∙◌, subst}
+use Rattle.std.proofs.Common.{◌≡◌, ◌⊎◌, inl, inr, ℕ, List, length, Some, rules, refl, sym, ap, ap₂, ◌∙◌, subst}
 use denote.Enum.Bare.{differs_true, differs_false}
+use Rattle.cilk_types.specs.declared.event.Instance.{Instance}
 use Rattle.cilk_plan.specs.declared.kind.Kind.{Kind}
 use Rattle.cilk_plan.specs.declared.kind.Kind.TheVariants as kinds
 use Rattle.cilk_plan.specs.Kinds.{kind_of_event}
@@ -8,11 +9,14 @@ use Rattle.cilk_story.specs.Runs.{IsAsked}
 use Rattle.cilk_story.specs.Word.{event}
 use Rattle.cilk_chains.specs.contracts.sort.Sort.{the_type}
 use Rattle.cilk_chains.specs.Chains.{ChainValue}
-use Rattle.cilk_chains.specs.Courses.{CourseValue}
+use Rattle.cilk_chains.specs.Courses.{CourseValue, IsBodyOf}
+use Rattle.cilk_chains.specs.declared.home.Home.{Home}
+use Rattle.cilk_chains.specs.declared.home.ReducerNumber.{ReducerNumber}
+use Rattle.cilk_chains.specs.Reducing.{reducer_asked}
 use Rattle.cilk_chains.specs.Sights.{cell_asked}
 use Rattle.cilk_chains.specs.Sorts.{NamesNothing, Says, sort_of}
 use Rattle.cilk_chains.proofs.Along as along
-use Rattle.cilk_chains.proofs.Looking.{IsOfCell}
+use Rattle.cilk_chains.proofs.Looking.{IsOfCell, IsOfChild, IsOfReducer}
 use Rattle.cilk_chains.proofs.chain.Chain.look.Goals as goal
 
 pub returns-then-ne : goal.returns-then-ne
@@ -39,6 +43,39 @@ returns-in-Read c =
     c.cell_asked.result c.look_at_cell.result
     (c.cell_asked.ensures ∙ ap (λ (n : ℕ). cell_asked n i.top.sight i.asked) (c.globals.ensures ∙ ap (λ (z : CourseValue). let p = source z.program in length p.openings) (sym same)))
     c.look_at_cell.ensures)
+
+of_child : (k : Kind) (f : ℕ) → (k ≡ kinds.Spawn f) ⊎ (k ≡ kinds.Call f) → IsOfChild f k
+of_child k f (inl q) = subst (IsOfChild f) (sym q) refl
+of_child k f (inr q) = subst (IsOfChild f) (sym q) refl
+
+pub returns-in-Spawn : goal.returns-in-Spawn
+returns-in-Spawn c =
+    let i = c.self.inside in
+    let same = ap (λ (v : ChainValue). v.of) c.self.view_is ∙ sym c.requires.course in
+    subst (λ (z : ChainValue). Says (along.story_of z.of) z.at c.args.kind c.look_at_body.result) c.self.view_is
+    (along.looks_at_child i.of.value i.of.value refl i.at i.asked i.top i.below.items c.self.invariant c.args.kind
+    (along.of_chain (λ s at. kind_of_event (event s at) ≡ Some c.args.kind) i.of.value i.at c.args.self.now c.self.view_is c.requires.kind)
+    c.in-Spawn.child (of_child c.args.kind c.in-Spawn.child c.in-Spawn.is)
+    (sym c.asked_sort.ensures ∙ differs_false the_type (search rules) c.asked_sort.result c.kind_sort.result (sym c.ne.ensures ∙ c.if-ne.false) ∙ c.kind_sort.ensures)
+    c.body.result (subst (λ (z : CourseValue). IsBodyOf z c.in-Spawn.child c.body.result) (sym same) c.body.ensures)
+    c.body_asked.result c.look_at_body.result c.body_asked.ensures c.look_at_body.ensures)
+
+of_reducer : (k : Kind) (i : Instance) → (k ≡ kinds.Create i) ⊎ (k ≡ kinds.Update i) ⊎ (k ≡ kinds.Set i) ⊎ (k ≡ kinds.Value i) → IsOfReducer i k
+of_reducer k i (inl q) = subst (IsOfReducer i) (sym q) refl
+of_reducer k i (inr (inl q)) = subst (IsOfReducer i) (sym q) refl
+of_reducer k i (inr (inr (inl q))) = subst (IsOfReducer i) (sym q) refl
+of_reducer k i (inr (inr (inr q))) = subst (IsOfReducer i) (sym q) refl
+
+pub returns-in-Create : goal.returns-in-Create
+returns-in-Create c =
+    let i = c.self.inside in
+    subst (λ (z : ChainValue). Says (along.story_of z.of) z.at c.args.kind c.look_at_reducer.result) c.self.view_is
+    (along.looks_at_reducer i.of.value i.of.value refl i.at i.asked i.top i.below.items c.self.invariant c.args.kind
+    (along.of_chain (λ s at. kind_of_event (event s at) ≡ Some c.args.kind) i.of.value i.at c.args.self.now c.self.view_is c.requires.kind)
+    c.in-Create.instance (of_reducer c.args.kind c.in-Create.instance c.in-Create.is)
+    (sym c.asked_sort.ensures ∙ differs_false the_type (search rules) c.asked_sort.result c.kind_sort.result (sym c.ne.ensures ∙ c.if-ne.false) ∙ c.kind_sort.ensures)
+    c.reducer_asked.result c.look_at_reducer.result
+    (c.reducer_asked.ensures ∙ ap₂ (λ (h : List Home) (g : List ReducerNumber). reducer_asked h g i.asked) c.deref.ensures.value c.deref-in-Create.ensures.value) c.look_at_reducer.ensures)
 
 nothing : (k j : Kind) → k ≡ j → NamesNothing (sort_of j) → NamesNothing (sort_of k)
 nothing k j q h = subst (λ (z : Kind). NamesNothing (sort_of z)) (sym q) h

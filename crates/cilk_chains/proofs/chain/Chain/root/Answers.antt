@@ -12,4 +12,5 @@ invariant_of-result c =
     subst (λ (u : CourseValue). Stand u 1 c.new.result c.in_ok-top.top c.new-2.result.items) (sym c.of.ensures)
     (subst (λ (k : Ask). Stand c.args.course.now 1 k c.in_ok-top.top c.new-2.result.items) (sym c.new.ensures)
     (subst (λ (xs : List Level). Stand c.args.course.now 1 Begin c.in_ok-top.top xs) (sym c.new-2.ensures.items)
-    (along.rooted c.args.course.now c.laws.ensures c.in_ok-top.top c.block.result c.in_ok-top.ensures.stands c.in_ok-top.ensures.owes c.in_ok-top.ensures.took c.block.ensures (c.in_ok-top.ensures.homes, c.in_ok-top.ensures.result))))
+    (along.rooted c.args.course.now c.laws.ensures c.in_ok-top.top c.root.result c.in_ok-top.ensures.stands c.in_ok-top.ensures.owes c.in_ok-top.ensures.took c.root.ensures.block c.root.ensures.frame c.root.ensures.before
+    (c.in_ok-top.ensures.homes, c.in_ok-top.ensures.given, c.in_ok-top.ensures.result))))

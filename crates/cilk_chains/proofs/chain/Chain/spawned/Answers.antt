@@ -23,9 +23,11 @@ invariant_of-first c =
     (along.spawned_child c.self.inside.of.value c.args.course.now same c.self.inside.at c.self.inside.asked c.self.inside.top c.self.inside.below.items c.self.invariant c.in-Ok.child c.args.next (along.of_chain (λ s at. Spawns s at c.args.next) c.self.inside.of.value c.self.inside.at c.args.self c.self.view_is c.requires.spawns)
     (record {
       number = c.args.frame;
-      block = c.block-block.result;
+      home = c.child-home.result;
       begins = along.of_chain (λ s at. BeginsNext s at c.args.frame) c.self.inside.of.value c.self.inside.at c.args.self c.self.view_is c.requires.begins;
-      lies = c.block-block.ensures;
+      lies = c.child-home.ensures.block;
+      frame = c.child-home.ensures.frame;
+      before = c.child-home.ensures.before;
       begun = c.in-Ok.ensures.stands;
       owes = c.in-Ok.ensures.owes;
       took = c.in-Ok.ensures.took;
@@ -38,9 +40,11 @@ invariant_of-rest c =
     along.spawned_parent c.self.inside.of.value c.args.course.now same c.self.inside.at c.self.inside.asked c.self.inside.top c.self.inside.below.items c.self.invariant c.in-Ok.child c.args.next (along.of_chain (λ s at. Spawns s at c.args.next) c.self.inside.of.value c.self.inside.at c.args.self c.self.view_is c.requires.spawns)
     (record {
       number = c.args.frame;
-      block = c.block-block.result;
+      home = c.child-home.result;
       begins = along.of_chain (λ s at. BeginsNext s at c.args.frame) c.self.inside.of.value c.self.inside.at c.args.self c.self.view_is c.requires.begins;
-      lies = c.block-block.ensures;
+      lies = c.child-home.ensures.block;
+      frame = c.child-home.ensures.frame;
+      before = c.child-home.ensures.before;
       begun = c.in-Ok.ensures.stands;
       owes = c.in-Ok.ensures.owes;
       took = c.in-Ok.ensures.took;

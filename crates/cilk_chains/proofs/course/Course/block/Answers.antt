@@ -1,9 +1,5 @@
-use Rattle.cilk_chains.specs.Courses.{course_with}
-use Rattle.cilk_chains.proofs.Seeing.{lies_at}
+use Rattle.cilk_chains.proofs.Seeing.{block_in}
 use Rattle.cilk_chains.proofs.course.Course.block.Goals as goal
 
 pub returns : goal.returns
-returns c =
-    let i = c.self.inside in
-    lies_at (course_with i.yard.value i.program.value i.code i.own.value i.input) c.args.self.now i.blocks.items c.deref.result.now c.args.frame c.saturating_sub.result _ c.block_at.result
-    c.self.view_is c.deref.ensures.value c.self.invariant.2 c.saturating_sub.ensures c.block_at.ensures
+returns c = block_in c.args.self.now c.args.frame c.home.result c.home.ensures

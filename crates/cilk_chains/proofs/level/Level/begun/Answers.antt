@@ -15,4 +15,4 @@ returns-clause-stands c = elim c.match-brief.branch [
 ]
 
 pub returns-clause-sight : goal.returns-clause-sight
-returns-clause-sight c = λ how callee is. subst (λ (n : ℕ). IsSightOf n callee c.args.block c.args.caller.now c.in_ok-sight.sight) c.globals.ensures (c.in_ok-sight.ensures how callee is)
+returns-clause-sight c = λ how callee is. subst (λ (n : ℕ). IsSightOf n callee c.args.home c.args.caller.now c.in_ok-sight.sight) c.globals.ensures (c.in_ok-sight.ensures how callee is)

@@ -1,0 +1,7 @@
+use Rattle.std.proofs.Common.{◌≡◌, map, take}
+use Rattle.cilk_program.specs.declared.syntax.Reducer.{Reducer}
+use Rattle.cilk_chains.specs.Reducing.{reducer_in}
+use Rattle.cilk_chains.proofs.reducer.given_to.Given as goal
+
+abbrev pub invariant-each : goal.invariant-each
+invariant-each l = l.numbers.items ≡ map (λ (r : Reducer). reducer_in l.homes l.given r.place) (take l.reducer-index l.reducers)
