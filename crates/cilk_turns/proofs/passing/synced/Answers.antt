@@ -1,0 +1,29 @@
+use Rattle.std.proofs.Common.{◌≡◌, Some, subst}
+use Rattle.cilk_pieces.specs.Reducers.{frame_in}
+use Rattle.cilk_plan.specs.Kinds.{kind_of_event}
+use Rattle.cilk_plan.specs.declared.kind.Kind.TheVariants.{Sync}
+use Rattle.cilk_shared.specs.Values.{MayPass}
+use Rattle.cilk_story.specs.Runs.{IsAsked}
+use Rattle.cilk_story.specs.Word.{event}
+use Rattle.cilk_turns.proofs.Due.{answered_done, of_story}
+use Rattle.cilk_turns.proofs.OfKind.{quiet}
+use Rattle.cilk_turns.proofs.passing.synced.Goals as goal
+
+pub pass-requires-clause-next : goal.pass-requires-clause-next
+pass-requires-clause-next c =
+    let due = c.requires.due in
+    let works = due.works in
+    let p = c.args.work.piece in
+    let may = c.may_pass.ensures.0 c.if-not-may_pass.false in
+    (subst MayPass c.segment.ensures may, of_story (λ s. IsAsked s p.upto) c.args.shared.now.run p works.good.0 due.asked)
+
+pub pass-requires-clause-quiet : goal.pass-requires-clause-quiet
+pass-requires-clause-quiet c =
+    let due = c.requires.due in
+    let works = due.works in
+    let p = c.args.work.piece in
+    quiet p.reducers (frame_in p.story.events p.upto) (event p.story p.upto) Sync
+    (of_story (λ s. kind_of_event (event s p.upto) ≡ Some Sync) c.args.shared.now.run p works.good.0 due.kind_is) tt
+
+pub answered-chain-requires-clause-answer : goal.answered-chain-requires-clause-answer
+answered-chain-requires-clause-answer c = answered_done c.args.shared.now c.args.work Sync c.requires.due c.requires.more c.course.ensures.yard tt

@@ -1,0 +1,22 @@
+use Rattle.std.proofs.Common.{◌≡◌, Some, inl, inr, refl, sym, subst}
+use Rattle.cilk_types.specs.declared.event.Event.TheVariants as events
+use Rattle.cilk_plan.specs.declared.kind.Kind.TheVariants as kinds
+use Rattle.cilk_plan.specs.Kinds.{kind_of_event}
+use Rattle.cilk_story.specs.Word.{event, what}
+use Rattle.cilk_turns.specs.Shared.{story_in}
+use Rattle.cilk_turns.proofs.OfKind.{has_number, no_sync, quiet, silent_done, silent_quiet, what_end, what_plain, with_number}
+use Rattle.cilk_turns.proofs.Due.{answered, answered_done, can_pass, can_take, chain_follows, here, of_story, on_chain, passes, taken_on}
+use Rattle.cilk_turns.proofs.reducing.created.Goals as goal
+
+pub create-requires-clause-next : goal.create-requires-clause-next
+create-requires-clause-next c =
+    let y = c.args.shared.now in
+    let p = c.args.work.piece in
+    let due = c.requires.due in
+    let works = due.works in
+    let is = due.kind_is in
+    passes y p (events.Create c.args.instance) works.good (can_pass y p works.good c.laws.ensures.order due.asked c.requires.more (what_plain (story_in y) p.upto (kinds.Create c.args.instance) is tt) (no_sync (event (story_in y) p.upto) (kinds.Create c.args.instance) is (λ q. cc q)))
+    (here y c.args.work (kinds.Create c.args.instance) due c.requires.more c.laws.ensures.same).1
+
+pub answered-chain-requires-clause-answer : goal.answered-chain-requires-clause-answer
+answered-chain-requires-clause-answer c = answered_done c.args.shared.now c.args.work (kinds.Create c.args.instance) c.requires.due c.requires.more c.laws.ensures.same tt

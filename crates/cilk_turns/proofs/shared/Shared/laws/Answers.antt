@@ -1,0 +1,9 @@
+use Rattle.std.proofs.Common.{subst}
+use Rattle.cilk_turns.specs.Shared.{HasCells, HasNumbers, SharedValue, story_in}
+use Rattle.cilk_turns.proofs.shared.Shared.laws.Goals as goal
+
+pub returns-clause-cells : goal.returns-clause-cells
+returns-clause-cells c = subst (λ (y : SharedValue). HasCells (story_in y)) c.self.view_is c.self.invariant.3
+
+pub returns-clause-numbers : goal.returns-clause-numbers
+returns-clause-numbers c = subst (λ (y : SharedValue). HasNumbers (story_in y) (let r = y.run in r.reducers)) c.self.view_is c.self.invariant.4

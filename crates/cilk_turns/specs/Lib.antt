@@ -1,0 +1,4 @@
+pub mod Asks
+pub mod Begun
+pub mod Shared
+pub mod Turns

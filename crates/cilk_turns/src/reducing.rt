@@ -1,0 +1,122 @@
+//! Events of reducers, and of the ordered output.
+
+ghost use Rattle.std.specs.Prelude.{◌≡◌};
+ghost use Rattle.cilk_pieces.specs.Reducers.{kind_in};
+ghost use Rattle.cilk_plan.specs.declared.kind.Kind.TheVariants as kinds;
+ghost use Rattle.cilk_turns.specs.Turns.{HasMore, IsDue, Turned};
+
+use crate::asking::number_asked;
+use crate::shared::Shared;
+use crate::work::{Turn, Work};
+use cilk_frames::cursor::Answer;
+use cilk_monoid::kind::MonoidKind;
+use cilk_pieces::reducers::Reducers;
+use cilk_types::event::Instance;
+use std::alloc::Global;
+
+// The monoid of a reducer.
+fn kind_in(reducers: &Reducers, instance: Instance) -> MonoidKind
+    ensures { result ≡ kind_in reducers.now instance }
+{
+    if instance.frame == 0 && instance.place == 0 {
+        return MonoidKind::Append;
+    }
+    let Some(own) = reducers
+        .frames
+        .as_slice()
+        .get(instance.frame.saturating_sub(1) as usize)
+    else {
+        return MonoidKind::Append;
+    };
+    match own
+        .kinds
+        .as_slice()
+        .get(instance.place.saturating_sub(1) as usize)
+    {
+        Some(kind) => *kind,
+        None => MonoidKind::Append,
+    }
+}
+
+/// A reducer begins.
+pub(crate) fn created(alloc: Global, shared: &Shared<'_>, work: Work, instance: Instance) -> Turn
+    requires due { IsDue shared.now work (kinds.Create instance) }
+    requires more { HasMore shared.now work }
+    ensures { Turned shared.now work.piece.from result }
+{
+    let Work { mut piece, chain } = work;
+    shared.laws();
+    let kind = kind_in(shared.reducers(), instance);
+    let Ok(()) = piece.create(alloc, shared.yard(), instance, kind) else {
+        return Turn::Stopped;
+    };
+    let chain = chain.answered(shared.course(), Answer::Done);
+    Turn::Goes(Work { piece, chain })
+}
+
+/// A reducer is updated.
+pub(crate) fn updated(alloc: Global, shared: &Shared<'_>, work: Work, instance: Instance) -> Turn
+    requires due { IsDue shared.now work (kinds.Update instance) }
+    requires more { HasMore shared.now work }
+    ensures { Turned shared.now work.piece.from result }
+{
+    let Work { mut piece, chain } = work;
+    shared.laws();
+    let number = number_asked(&chain);
+    let kind = kind_in(shared.reducers(), instance);
+    let Ok(()) = piece.update(alloc, shared.yard(), instance, kind, number) else {
+        return Turn::Stopped;
+    };
+    let chain = chain.answered(shared.course(), Answer::Done);
+    Turn::Goes(Work { piece, chain })
+}
+
+/// A reducer is set.
+pub(crate) fn set(alloc: Global, shared: &Shared<'_>, work: Work, instance: Instance) -> Turn
+    requires due { IsDue shared.now work (kinds.Set instance) }
+    requires more { HasMore shared.now work }
+    ensures { Turned shared.now work.piece.from result }
+{
+    let Work { mut piece, chain } = work;
+    shared.laws();
+    let number = number_asked(&chain);
+    let kind = kind_in(shared.reducers(), instance);
+    let Ok(()) = piece.set(alloc, shared.yard(), instance, kind, number) else {
+        return Turn::Stopped;
+    };
+    let chain = chain.answered(shared.course(), Answer::Done);
+    Turn::Goes(Work { piece, chain })
+}
+
+/// A reducer is read: the frame is answered the number of its view.
+pub(crate) fn valued(alloc: Global, shared: &Shared<'_>, work: Work, instance: Instance) -> Turn
+    requires due { IsDue shared.now work (kinds.Value instance) }
+    requires more { HasMore shared.now work }
+    ensures { Turned shared.now work.piece.from result }
+{
+    let Work { mut piece, chain } = work;
+    shared.laws();
+    piece.segment().follows(shared.yard());
+    let kind = kind_in(shared.reducers(), instance);
+    let Ok(number) = piece.value(alloc, shared.yard(), instance, kind) else {
+        return Turn::Stopped;
+    };
+    let chain = chain.answered(shared.course(), Answer::Value(number));
+    Turn::Goes(Work { piece, chain })
+}
+
+/// A number is printed.
+pub(crate) fn printed(alloc: Global, shared: &Shared<'_>, work: Work) -> Turn
+    requires due { IsDue shared.now work kinds.Print }
+    requires more { HasMore shared.now work }
+    ensures { Turned shared.now work.piece.from result }
+{
+    let Work { mut piece, chain } = work;
+    shared.laws();
+    let number = number_asked(&chain);
+    let Ok(()) = piece.print(alloc, shared.yard(), number) else {
+        return Turn::Stopped;
+    };
+    let chain = chain.answered(shared.course(), Answer::Done);
+    Turn::Goes(Work { piece, chain })
+}

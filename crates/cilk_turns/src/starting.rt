@@ -1,0 +1,70 @@
+//! Spawns and calls: a child begins.
+
+ghost use Rattle.std.specs.Prelude.{◌≡◌, ℕ, ◌+◌, ◌<◌, ◌≤◌, Some, length};
+ghost use Rattle.cilk_plan.specs.declared.kind.Kind.TheVariants as kinds;
+ghost use Rattle.cilk_story.specs.Word.{event};
+ghost use Rattle.cilk_turns.specs.Begun.{IsStart};
+ghost use Rattle.cilk_turns.specs.Shared.{story_in};
+ghost use Rattle.cilk_turns.specs.Turns.{HasMore, IsDue, Turned};
+ghost use Rattle.cilk_types.specs.declared.event.Event.TheVariants.{Begin};
+
+use crate::shared::Shared;
+use crate::work::{Turn, Work};
+use cilk_chains::chain::Task;
+use cilk_plan::kind::{Asked, Kind};
+use cilk_types::event::{FrameNo, Pos};
+use std::alloc::Global;
+
+// The number of the frame that begins right behind a spawn or a call.
+fn frame_begun(shared: &Shared<'_>, at: Pos) -> FrameNo
+    requires first { 1 ≤ at }
+    requires start { IsStart (event (story_in shared.now) at) }
+    requires more { at < length (story_in shared.now).events }
+    ensures { event (story_in shared.now) (at + 1) ≡ Some (Begin result) }
+{
+    shared.laws();
+    let Asked::Next { frame: _, kind } = shared.next(at + 1) else {
+        unreachable!();
+    };
+    match kind {
+        Kind::Begin { frame } => frame,
+        _ => unreachable!(),
+    }
+}
+
+/// A child is spawned: the worker goes on with it, and the continuation is offered.
+pub(crate) fn spawned(alloc: Global, shared: &Shared<'_>, work: Work) -> Turn
+    requires due { (child : ℕ) × IsDue shared.now work (kinds.Spawn child) }
+    requires more { HasMore shared.now work }
+    ensures { Turned shared.now work.piece.from result }
+{
+    let Work { mut piece, chain } = work;
+    let at = piece.upto();
+    shared.laws();
+    let Some(next) = shared.yard().resumption(at) else {
+        unreachable!();
+    };
+    let frame = frame_begun(shared, at);
+    let Ok((chain, rest)) = chain.spawned(alloc, shared.course(), frame, next) else {
+        return Turn::Stopped;
+    };
+    let ticket = piece.offer(shared.yard());
+    Turn::Offers(Work { piece, chain }, Task::new(ticket, rest))
+}
+
+/// A child is called.
+pub(crate) fn called(alloc: Global, shared: &Shared<'_>, work: Work) -> Turn
+    requires due { (child : ℕ) × IsDue shared.now work (kinds.Call child) }
+    requires more { HasMore shared.now work }
+    ensures { Turned shared.now work.piece.from result }
+{
+    let Work { mut piece, chain } = work;
+    let at = piece.upto();
+    shared.laws();
+    let frame = frame_begun(shared, at);
+    let Ok(chain) = chain.called(alloc, shared.course(), frame) else {
+        return Turn::Stopped;
+    };
+    piece.pass(shared.yard());
+    Turn::Goes(Work { piece, chain })
+}
