@@ -3,8 +3,8 @@
 -- - `one_frame`: an event is in one frame;
 -- - `next_stays`, `next_here`: a frame's next `sync`, ahead of an event that isn't one of it, and ahead of one;
 -- - `ahead_kept`, `ahead_put`: so for all frames;
--- - `MetSoFar`, `met_first`, `noted`, `met_next`, `met_all`: what the pass has at the run's end, ahead of each event and of all.
-use Rattle.std.proofs.Common.{◌≡◌, ◌≢◌, ◌↔◌, ℕ, zero, suc, ◌+◌, ◌-◌, ◌<◌, ◌≤◌, List, [], ◌∷◌, length, map, get_or, set, Option, Some, None, slice_get, refl, sym, ap, ◌∙◌, subst, arith, get_or-set_same, get_or-set_other, length-set}
+-- - `Stands`, `MetSoFar`, `met_first`, `noted`, `met_next`, `met_all`: what the pass has at the run's end, ahead of each event and of all.
+use Rattle.std.proofs.Common.{◌≡◌, ◌≢◌, ◌↔◌, ◌⊎◌, inl, inr, ℕ, zero, suc, ◌+◌, ◌-◌, ◌<◌, ◌≤◌, List, [], ◌∷◌, length, map, get_or, set, Option, Some, None, IfSome, MatchOption, slice_get, refl, sym, ap, ◌∙◌, subst, arith, get_or-set_same, get_or-set_other, length-set}
 use Rattle.std.proofs.lemmas.Option.{slice_get_within}
 use mathlib.Core.Logic.{dite}
 use native.Mathlib.Decide.{ℕ_discrete, dec_lt}
@@ -19,8 +19,7 @@ use Rattle.cilk_plan.specs.declared.kind.Kind.{Kind}
 use Rattle.cilk_plan.specs.declared.kind.Kind.TheVariants as kinds
 use Rattle.cilk_plan.specs.Frames.{Enters, IsInFrame}
 use Rattle.cilk_plan.specs.Kinds.{kind_of, kind_of_event}
-use Rattle.cilk_plan.specs.Resumptions.{AreResumptions}
-use Rattle.cilk_plan.specs.Blocks.{SyncsAt, IsNextSync, EndsBlockOf, IsContinuationOf, AreContinuations, IsPut}
+use Rattle.cilk_plan.specs.Blocks.{resumed_at, HasResume, SyncsAt, IsNextSync, IsContinuationOf, AreContinuations, IsPut}
 
 one_entry : (o : Option Event) (f g : ℕ) → Enters o f → Enters o g → f ≡ g
 one_entry (Some (events.Begin h)) f g a b = sym a ∙ b
@@ -97,74 +96,181 @@ ahead_next es n m g kind ahead ahead' at has inside is put kept =
 
 -- ---- the column
 
+-- What the column has at k, where the events from behind n on are met: the continuation of a spawn among them; of a spawn ahead whose
+-- `resume` is among them that `resume` alone.
+abbrev pub Stands : Story → ℕ → ℕ → Continuation → Type 0
+Stands s n k c = ((n < k) × IsContinuationOf s k c) ⊎ ((k ≤ n) × (n < c.resume) × (what s c.resume ≡ resume k) × (c.sync ≡ 0))
+
 pub record MetSoFar (s : Story) (n : ℕ) (ahead : List (Option ℕ)) (column : List (Option Continuation)) : Type 0 where
   pub long : length column ≡ length s.events + 1
   pub next : HasNext s.events n ahead
-  pub each : (k : ℕ) (c : Continuation) → (get_or column k None ≡ Some c) ↔ ((n < k) × IsContinuationOf s k c)
+  pub each : (k : ℕ) (c : Continuation) → (get_or column k None ≡ Some c) ↔ Stands s n k c
 
-spawn_inside : (s : Story) → IsOrderly s → (k : ℕ) (c : Continuation) → IsContinuationOf s k c → (1 ≤ k) × (k ≤ length s.events)
-spawn_inside s law k c is = law.inside k (subst IsWord (sym (law.resumed c.resume k is.resumes).0) tt)
+module _ (s : Story) (law : IsOrderly s) where
+  spawn_inside : (k p : ℕ) → what s p ≡ resume k → (1 ≤ k) × (k ≤ length s.events)
+  spawn_inside k p is = law.inside k (subst IsWord (sym (law.resumed p k is).0) tt)
 
-pub met_first : (s : Story) → IsOrderly s → (n : ℕ) (column : List (Option Continuation)) → n ≡ length s.events → length column ≡ length s.events + 1
-    → ((k : ℕ) → get_or column k None ≡ None) → MetSoFar s n [] column
-met_first s law n column at long none = record {
-  long = long;
-  next = λ f p. (
-    λ e. absurd (let c : None ≡ Some p = e in cc c),
-    λ h. absurd (let within = slice_get_within s.events (p - 1) events.Sync h.syncs.0 in let l = h.later in omega (arith, within, l, at)),
-  );
-  each = λ k c. (
-    λ e. absurd (let z : None ≡ Some c = sym (none k) ∙ e in cc z),
-    λ h. absurd (let l = (spawn_inside s law k c h.1).1 in let m = h.0 in omega (arith, l, m, at)),
-  );
-}
+  resume_inside : (k p : ℕ) → what s p ≡ resume k → p ≤ length s.events
+  resume_inside k p is = (law.inside p (subst IsWord (sym is) tt)).1
 
-pub met_next : (s : Story) (n m g : ℕ) (kind : Kind) (ahead ahead' : List (Option ℕ)) (column : List (Option Continuation)) (now : Option Continuation)
-    → n ≡ m + 1 → n ≤ length s.events → MetSoFar s n ahead column → IsInFrame s.events n g → kind_of_event (event s n) ≡ Some kind
-    → ((c : Continuation) → (now ≡ Some c) ↔ ((what s c.resume ≡ resume n) × (get_or ahead g None ≡ Some c.sync)))
-    → (kind ≡ kinds.Sync → IsPut ahead g n ahead') → (kind ≢ kinds.Sync → ahead' ≡ ahead) → MetSoFar s m ahead' (set column n now)
-met_next s n m g kind ahead ahead' column now at within so_far inside is noted put kept =
-    let long = so_far.long in
-    record {
-      long = length-set column n now ∙ so_far.long;
-      next = ahead_next s.events n m g kind ahead ahead' at so_far.next inside is put kept;
-      each = λ k c. dite (ℕ_discrete k n)
-          (λ (here : k ≡ n).
-          let there : get_or (set column n now) k None ≡ now = ap (λ (x : ℕ). get_or (set column n now) x None) here ∙ get_or-set_same column n now None (omega (arith, within, long)) in (
-            λ e. (let told = (noted c).0 (sym there ∙ e) in (
-              omega (arith, here, at),
-              record {
-                resumes = told.0 ∙ ap (λ (x : ℕ). resume x) (sym here);
-                ends = subst (λ (x : ℕ). EndsBlockOf s.events x c.sync) (sym here) (g, inside, (so_far.next g c.sync).0 told.1);
-              },
-            )),
-            λ h. there ∙ (noted c).1 (
-              h.1.resumes ∙ ap (λ (x : ℕ). resume x) here,
-              let block = subst (λ (x : ℕ). EndsBlockOf s.events x c.sync) here h.1.ends in
-                  (so_far.next g c.sync).1 (subst (λ (f : ℕ). IsNextSync s.events f n c.sync) (one_frame s.events n block.0 g block.1 inside) block.2),
-            ),
-          ))
-          (λ (apart : k ≢ n).
-          let same : get_or (set column n now) k None ≡ get_or column k None = get_or-set_other column n k now None apart in (
-            λ e. (let told = (so_far.each k c).0 (sym same ∙ e) in (let l = told.0 in omega (arith, l, at), told.1)),
-            λ h. same ∙ (so_far.each k c).1 (let l = h.0 in omega (arith, l, apart, at), h.1),
-          ));
-    }
+  spawn_ahead : (k p : ℕ) → what s p ≡ resume k → k < p
+  spawn_ahead k p is = law.earlier p k (law.resumed p k is).1
 
--- what is noted of the event at n: its `resume`, where it is a spawn, with the next `sync` of its frame
-pub noted : (s : Story) (n g : ℕ) (resumptions ahead : List (Option ℕ)) (resumed synced : Option ℕ) (now : Option Continuation) → AreResumptions s resumptions
-    → resumed ≡ get_or resumptions n None → synced ≡ get_or ahead g None → ((c : Continuation) → (now ≡ Some c) ↔ ((resumed ≡ Some c.resume) × (synced ≡ Some c.sync)))
-    → (c : Continuation) → (now ≡ Some c) ↔ ((what s c.resume ≡ resume n) × (get_or ahead g None ≡ Some c.sync))
-noted s n g resumptions ahead resumed synced now are first second both c = (
-  λ e. (let h = (both c).0 e in ((are n c.resume).0 (sym first ∙ h.0), sym second ∙ h.1)),
-  λ h. (both c).1 (first ∙ (are n c.resume).1 h.0, second ∙ h.1),
-)
+  pub met_first : (n : ℕ) (column : List (Option Continuation)) → n ≡ length s.events → length column ≡ length s.events + 1
+      → ((k : ℕ) → get_or column k None ≡ None) → MetSoFar s n [] column
+  met_first n column at long none = record {
+    long = long;
+    next = λ f p. (
+      λ e. absurd (let c : None ≡ Some p = e in cc c),
+      λ h. absurd (let within = slice_get_within s.events (p - 1) events.Sync h.syncs.0 in let l = h.later in omega (arith, within, l, at)),
+    );
+    each = λ k c. (
+      λ e. absurd (let z : None ≡ Some c = sym (none k) ∙ e in cc z),
+      λ h. absurd (elim h [
+        | inl behind ↦ (let l = (spawn_inside k c.resume behind.1.resumes).1 in let m = behind.0 in omega (arith, l, m, at))
+        | inr ahead ↦ (let l = resume_inside k c.resume ahead.2 in let m = ahead.1 in omega (arith, l, m, at))
+      ]),
+    );
+  }
 
-pub met_all : (s : Story) → IsOrderly s → (n : ℕ) (ahead : List (Option ℕ)) (column : List (Option Continuation)) → n ≡ 0 → MetSoFar s n ahead column → AreContinuations s column
-met_all s law n ahead column none so_far k c = (
-  λ e. ((so_far.each k c).0 e).1,
-  λ h. (so_far.each k c).1 (let l = (spawn_inside s law k c h).0 in omega (arith, l, none), h),
-)
+  -- where the event at n resumes what a spawn left, the place of that spawn is in the column
+  pub noted_within : (n : ℕ) (spawned : Option ℕ) (long : ℕ) → long ≡ length s.events + 1
+      → ((k : ℕ) → (spawned ≡ Some k) ↔ (what s n ≡ resume k)) → IfSome spawned (λ k. k < long)
+  noted_within n None long all is = tt
+  noted_within n (Some k) long all is = let l = (spawn_inside k n ((is k).0 refl)).1 in omega (arith, l, all)
+
+  -- what stands at n: its `resume`, where it is a spawn, with the next `sync` of its frame
+  pub noted : (n g : ℕ) (ahead : List (Option ℕ)) (column : List (Option Continuation)) (resumed synced : Option ℕ) (now : Option Continuation) → MetSoFar s n ahead column
+      → ((p : ℕ) → (resumed ≡ Some p) ↔ HasResume column n p) → synced ≡ get_or ahead g None
+      → ((c : Continuation) → (now ≡ Some c) ↔ ((resumed ≡ Some c.resume) × (synced ≡ Some c.sync)))
+      → (c : Continuation) → (now ≡ Some c) ↔ ((what s c.resume ≡ resume n) × (get_or ahead g None ≡ Some c.sync))
+  noted n g ahead column resumed synced now so_far first second both c = (
+    λ e. (let h = (both c).0 e in
+        let found = (first c.resume).0 h.0 in
+        let stands : Stands s n n found.0 = (so_far.each n found.0).0 found.1 in
+        let there : what s found.0.resume ≡ resume n = elim stands [
+          | inl behind ↦ absurd (let l = behind.0 in omega (arith, l))
+          | inr waits ↦ waits.2
+        ] in
+        (ap (λ (p : ℕ). what s p) (sym found.2) ∙ there, sym second ∙ h.1)),
+    λ h. (both c).1 (
+      (first c.resume).1 (
+        resumed_at c.resume,
+        (so_far.each n (resumed_at c.resume)).1 (inr (omega arith, spawn_ahead n c.resume h.0, h.0, refl)),
+        refl,
+      ),
+      second ∙ h.1,
+    ),
+  )
+
+  -- of a spawn whose place is neither n nor that of what n resumes nothing changes
+  stands_on : (n m k : ℕ) (c : Continuation) → n ≡ m + 1 → k ≢ n → (what s n ≡ resume k → ⊥) → Stands s n k c ↔ Stands s m k c
+  stands_on n m k c at apart other = (
+    λ h. elim h [
+      | inl behind ↦ inl (let l = behind.0 in omega (arith, l, at), behind.1)
+      | inr waits ↦ inr (let l = waits.0 in omega (arith, l, at, apart), let l = waits.1 in omega (arith, l, at), waits.2, waits.3)
+    ],
+    λ h. elim h [
+      | inl behind ↦ inl (let l = behind.0 in omega (arith, l, at, apart), behind.1)
+      | inr waits ↦ (
+          let later : c.resume ≢ n = (λ same. other (ap (λ (p : ℕ). what s p) (sym same) ∙ waits.2)) in
+          inr (let l = waits.0 in omega (arith, l, at), let l = waits.1 in omega (arith, l, at, later), waits.2, waits.3))
+    ],
+  )
+
+  -- at n itself
+  stands_here : (n m g : ℕ) (ahead : List (Option ℕ)) (c : Continuation) (now : Option Continuation) → n ≡ m + 1 → IsInFrame s.events n g → HasNext s.events n ahead
+      → ((c : Continuation) → (now ≡ Some c) ↔ ((what s c.resume ≡ resume n) × (get_or ahead g None ≡ Some c.sync)))
+      → (now ≡ Some c) ↔ Stands s m n c
+  stands_here n m g ahead c now at inside next noted = (
+    λ e. (let told = (noted c).0 e in inl (omega (arith, at), record { resumes = told.0; ends = (g, inside, (next g c.sync).0 told.1) })),
+    λ h. elim h [
+      | inl behind ↦ (let block = behind.1.ends in
+          (noted c).1 (behind.1.resumes, (next g c.sync).1 (subst (λ (f : ℕ). IsNextSync s.events f n c.sync) (one_frame s.events n block.0 g block.1 inside) block.2)))
+      | inr waits ↦ absurd (let l = waits.0 in omega (arith, l, at))
+    ],
+  )
+
+  -- at the spawn that n resumes
+  stands_there : (n m k : ℕ) (c : Continuation) → n ≡ m + 1 → what s n ≡ resume k → (Some (resumed_at n) ≡ Some c) ↔ Stands s m k c
+  stands_there n m k c at is = (
+    λ e. (let same : resumed_at n ≡ c = cc e in
+        let first : Stands s m k (resumed_at n) = inr (let l = spawn_ahead k n is in omega (arith, l, at), omega (arith, at), is, refl) in
+        subst (Stands s m k) same first),
+    λ h. elim h [
+      | inl behind ↦ absurd (let l = spawn_ahead k n is in let m = behind.0 in omega (arith, l, m, at))
+      | inr waits ↦ (let here : n ≡ c.resume = law.once n c.resume k is waits.2 in
+          ap (λ (p : ℕ). Some (resumed_at p)) here ∙ ap (λ (p : ℕ). Some (record { resume = c.resume; sync = p })) (sym waits.3))
+    ],
+  )
+
+  met_each : (n m g : ℕ) (ahead : List (Option ℕ)) (column column' : List (Option Continuation)) (now : Option Continuation) (spawned : Option ℕ)
+      → n ≡ m + 1 → n ≤ length s.events → MetSoFar s n ahead column → IsInFrame s.events n g
+      → ((c : Continuation) → (now ≡ Some c) ↔ ((what s c.resume ≡ resume n) × (get_or ahead g None ≡ Some c.sync)))
+      → ((k : ℕ) → (spawned ≡ Some k) ↔ (what s n ≡ resume k))
+      → MatchOption spawned (column' ≡ set column n now) (λ k. column' ≡ set (set column n now) k (Some (resumed_at n)))
+      → (k : ℕ) (c : Continuation) → (get_or column' k None ≡ Some c) ↔ Stands s m k c
+  met_each n m g ahead column column' now None at within so_far inside noted is put k c =
+      let long = so_far.long in
+      let other : (j : ℕ) → what s n ≡ resume j → ⊥ = (λ j h. let e : None ≡ Some j = (is j).1 h in cc e) in
+      dite (ℕ_discrete k n)
+      (λ (here : k ≡ n).
+      let there : get_or column' k None ≡ now = ap (λ (v : List (Option Continuation)). get_or v k None) put ∙ ap (λ (x : ℕ). get_or (set column n now) x None) here ∙ get_or-set_same column n now None (omega (arith, within, long)) in
+      let step = stands_here n m g ahead c now at inside so_far.next noted in
+      (λ e. subst (λ (x : ℕ). Stands s m x c) (sym here) (step.0 (sym there ∙ e)), λ h. there ∙ step.1 (subst (λ (x : ℕ). Stands s m x c) here h)))
+      (λ (apart : k ≢ n).
+      let same : get_or column' k None ≡ get_or column k None = ap (λ (v : List (Option Continuation)). get_or v k None) put ∙ get_or-set_other column n k now None apart in
+      let step = stands_on n m k c at apart (other k) in
+      (λ e. step.0 ((so_far.each k c).0 (sym same ∙ e)), λ h. same ∙ (so_far.each k c).1 (step.1 h)))
+  met_each n m g ahead column column' now (Some j) at within so_far inside noted is put k c =
+      let long = so_far.long in
+      let resumed : what s n ≡ resume j = (is j).0 refl in
+      let less = spawn_ahead j n resumed in
+      let wide : length (set column n now) ≡ length column = length-set column n now in
+      dite (ℕ_discrete k j)
+      (λ (there : k ≡ j).
+      let put_there : get_or column' k None ≡ Some (resumed_at n) =
+      ap (λ (v : List (Option Continuation)). get_or v k None) put ∙ ap (λ (x : ℕ). get_or (set (set column n now) j (Some (resumed_at n))) x None) there ∙ get_or-set_same (set column n now) j (Some (resumed_at n)) None (omega (arith, within, long, less, wide)) in
+      let step = stands_there n m k c at (resumed ∙ ap (λ (x : ℕ). resume x) (sym there)) in
+      (λ e. step.0 (sym put_there ∙ e), λ h. put_there ∙ step.1 h))
+      (λ (other : k ≢ j).
+      let kept : get_or column' k None ≡ get_or (set column n now) k None = ap (λ (v : List (Option Continuation)). get_or v k None) put ∙ get_or-set_other (set column n now) j k (Some (resumed_at n)) None other in
+      dite (ℕ_discrete k n)
+      (λ (here : k ≡ n).
+      let there : get_or column' k None ≡ now = kept ∙ ap (λ (x : ℕ). get_or (set column n now) x None) here ∙ get_or-set_same column n now None (omega (arith, within, long)) in
+      let step = stands_here n m g ahead c now at inside so_far.next noted in
+      (λ e. subst (λ (x : ℕ). Stands s m x c) (sym here) (step.0 (sym there ∙ e)), λ h. there ∙ step.1 (subst (λ (x : ℕ). Stands s m x c) here h)))
+      (λ (apart : k ≢ n).
+      let same : get_or column' k None ≡ get_or column k None = kept ∙ get_or-set_other column n k now None apart in
+      let step = stands_on n m k c at apart (λ h. other (let e : resume k ≡ resume j = sym h ∙ resumed in cc e)) in
+      (λ e. step.0 ((so_far.each k c).0 (sym same ∙ e)), λ h. same ∙ (so_far.each k c).1 (step.1 h))))
+
+  met_long : (n : ℕ) (column column' : List (Option Continuation)) (now : Option Continuation) (spawned : Option ℕ) → length column ≡ length s.events + 1
+      → MatchOption spawned (column' ≡ set column n now) (λ k. column' ≡ set (set column n now) k (Some (resumed_at n))) → length column' ≡ length s.events + 1
+  met_long n column column' now None long put = ap length put ∙ length-set column n now ∙ long
+  met_long n column column' now (Some k) long put = ap length put ∙ length-set (set column n now) k (Some (resumed_at n)) ∙ length-set column n now ∙ long
+
+  pub met_next : (n m g : ℕ) (kind : Kind) (ahead ahead' : List (Option ℕ)) (column column' : List (Option Continuation)) (now : Option Continuation) (spawned : Option ℕ)
+      → n ≡ m + 1 → n ≤ length s.events → MetSoFar s n ahead column → IsInFrame s.events n g → kind_of_event (event s n) ≡ Some kind
+      → ((c : Continuation) → (now ≡ Some c) ↔ ((what s c.resume ≡ resume n) × (get_or ahead g None ≡ Some c.sync)))
+      → ((k : ℕ) → (spawned ≡ Some k) ↔ (what s n ≡ resume k))
+      → MatchOption spawned (column' ≡ set column n now) (λ k. column' ≡ set (set column n now) k (Some (resumed_at n)))
+      → (kind ≡ kinds.Sync → IsPut ahead g n ahead') → (kind ≢ kinds.Sync → ahead' ≡ ahead) → MetSoFar s m ahead' column'
+  met_next n m g kind ahead ahead' column column' now spawned at within so_far inside is noted resumed noting put kept = record {
+    long = met_long n column column' now spawned so_far.long noting;
+    next = ahead_next s.events n m g kind ahead ahead' at so_far.next inside is put kept;
+    each = met_each n m g ahead column column' now spawned at within so_far inside noted resumed noting;
+  }
+
+  pub met_all : (n : ℕ) (ahead : List (Option ℕ)) (column : List (Option Continuation)) → n ≡ 0 → MetSoFar s n ahead column → AreContinuations s column
+  met_all n ahead column none so_far k c = (
+    λ e. (let stands : Stands s n k c = (so_far.each k c).0 e in
+        elim stands [
+          | inl behind ↦ behind.1
+          | inr waits ↦ absurd (let l = (spawn_inside k c.resume waits.2).0 in let m = waits.0 in omega (arith, l, m, none))
+        ]),
+    λ h. (so_far.each k c).1 (inl (let l = (spawn_inside k c.resume h.resumes).0 in omega (arith, l, none), h)),
+  )
 
 pub kind_there : (es : List Event) (k : ℕ) → slice_get (map kind_of es) k ≡ kind_of_event (slice_get es k)
 kind_there [] k = refl

@@ -36,3 +36,11 @@ AreContinuations s column = (k : ℕ) (c : Continuation) → (slice_index_or col
 pub record IsPut (old : List (Option ℕ)) (frame p : ℕ) (new : List (Option ℕ)) : Type 0 where
   pub here : slice_index_or new frame None ≡ Some p
   pub others : (f : ℕ) → f ≢ frame → slice_index_or new f None ≡ slice_index_or old f None
+
+-- a `resume` whose block's `sync` isn't known
+abbrev pub resumed_at : ℕ → Continuation
+resumed_at p = record { resume = p; sync = 0 }
+
+-- the column has a continuation at the place that begins with this `resume`
+abbrev pub HasResume : List (Option Continuation) → ℕ → ℕ → Type 0
+HasResume column k p = (c : Continuation) × (slice_index_or column k None ≡ Some c) × (c.resume ≡ p)

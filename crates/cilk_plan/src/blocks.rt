@@ -1,9 +1,9 @@
 //! The continuations of a run's spawns, and the blocks that they are in, in one pass from the run's end.
 
-ghost use Rattle.std.specs.Prelude.{◌≡◌, ◌≢◌, ◌↔◌, ◌<◌, ◌^◌, Some, None, slice_index_or, IfOk, OnOk};
+ghost use Rattle.std.specs.Prelude.{◌≡◌, ◌≢◌, ◌↔◌, ◌<◌, ◌^◌, ℕ, Some, None, length, slice_index_or, slice_set, IfOk, IfSome, MatchOption, OnOk};
 ghost use Rattle.cilk_plan.specs.declared.blocks.Continuation.{Continuation};
 ghost use Rattle.cilk_plan.specs.declared.kind.Kind.TheVariants.{Sync};
-ghost use Rattle.cilk_plan.specs.Blocks.{AreContinuations, IsPut};
+ghost use Rattle.cilk_plan.specs.Blocks.{resumed_at, AreContinuations, HasResume, IsPut};
 
 use crate::kind::{Asked, Kind};
 use crate::plan::Plan;
@@ -22,7 +22,6 @@ pub fn continuations(alloc: Global, plan: &Plan) -> Result<Vec<Option<Continuati
     ensures { IfOk result (λ column. AreContinuations plan.now column.items) }
 {
     plan.laws();
-    let resumptions = plan.resumptions(alloc)?;
     let count = plan.count();
     let mut ahead = Vec::new(alloc);
     let mut column = Vec::with_capacity(alloc, count + 1)?;
@@ -30,13 +29,37 @@ pub fn continuations(alloc: Global, plan: &Plan) -> Result<Vec<Option<Continuati
     for met in 0..count {
         let at = (count - met) as Pos;
         if let Asked::Next { frame, kind } = plan.next(at - 1) {
-            let resume = position_in(&resumptions, at as usize);
+            let resume = resume_in(&column, at as usize);
             let sync = position_in(&ahead, frame as usize);
             column[at as usize] = both(resume, sync);
+            note(&mut column, plan.resumed_by(at), at);
             meet(&mut ahead, frame, kind, at)?;
         }
     }
     Ok(column)
+}
+
+// The `resume` that was noted at a place, if one was.
+fn resume_in(column: &Vec<Option<Continuation>>, place: usize) -> Option<Pos>
+    ensures { (p : ℕ) → (result ≡ Some p) ↔ HasResume column.now.items place p }
+{
+    match column.get(place) {
+        Some(Some(noted)) => Some(noted.resume),
+        _ => None,
+    }
+}
+
+// Where an event resumes what a spawn left, notes it at the spawn, whose `sync` isn't known yet.
+fn note(column: &mut Vec<Option<Continuation>>, spawned: Option<Pos>, at: Pos)
+    requires { IfSome spawned (λ place. place < length column.old.items) }
+    ensures { MatchOption spawned (column.new.items ≡ column.old.items) (λ place. column.new.items ≡ slice_set column.old.items place (Some (resumed_at at))) }
+{
+    if let Some(place) = spawned {
+        column[place as usize] = Some(Continuation {
+            resume: at,
+            sync: 0,
+        });
+    }
 }
 
 // The position at a place, if there is one.

@@ -7,6 +7,7 @@ ghost use Rattle.cilk_thread_tests.specs.Settings.{AreOf};
 use crate::settings::{Setting, squares_on_four, squares_on_three, turns_on_none, turns_on_seven};
 use crate::steps::{Done, last_values, step, take};
 use cilk_plan::plan::Plan;
+use cilk_shared::taken::Taken;
 use cilk_shared::yard::{Segment, Yard};
 use cilk_types::event::{Event, Pos};
 use std::process::Abort;
@@ -44,10 +45,9 @@ fn next(yard: &Yard, plan: &Plan, events: &[Event], asked: &[bool], segment: &mu
     let Some(ticket) = plan.resumed_by(segment.upto()) else {
         return step(yard, plan, events, asked, segment);
     };
-    if take(yard, asked, segment, ticket) {
-        Done::Passed
-    } else {
-        Done::Nothing
+    match take(yard, asked, segment, ticket) {
+        Some(Taken::Yes) => Done::Passed,
+        _ => Done::Nothing,
     }
 }
 

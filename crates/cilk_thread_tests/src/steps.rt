@@ -1,10 +1,10 @@
 //! A segment's next event, made as a yard's story has it.
 
-ghost use Rattle.std.specs.Prelude.{◌≡◌, ◌↔◌, ℕ, ◌<◌, length, IsTrue};
+ghost use Rattle.std.specs.Prelude.{◌≡◌, ◌↔◌, ℕ, ◌<◌, length, IfSome, IsSome, IsTrue};
 ghost use Rattle.cilk_story.specs.Runs.{IsAsked};
 ghost use Rattle.cilk_story.specs.Word.{event, resume, what};
 ghost use Rattle.cilk_plan.specs.Along.{IsAlong};
-ghost use Rattle.cilk_shared.specs.Values.{OfYard};
+ghost use Rattle.cilk_shared.specs.Values.{CanTake, IsTaken, OfYard};
 ghost use Rattle.cilk_thread_tests.specs.Settings.{AreOf};
 
 use cilk_plan::plan::Plan;
@@ -100,21 +100,24 @@ fn passed(yard: &Yard, plan: &Plan, segment: &mut Segment) -> Done
     }
 }
 
-/// Takes the continuation after the spawn at a position, for a segment that is empty or that ends right before the `resume`: whether it
-/// was taken now.
-pub fn take(yard: &Yard, asked: &[bool], segment: &mut Segment, ticket: Pos) -> bool
+/// Takes the continuation after the spawn at a position, for a segment that is empty or that ends right before the `resume`: what the yard
+/// answers. None where the yard isn't asked, and then its `take` couldn't be called, or no spawn stands there.
+pub fn take(yard: &Yard, asked: &[bool], segment: &mut Segment, ticket: Pos) -> Option<Taken>
     requires yard { OfYard yard.now segment.old }
     requires asked { asked.now ≡ yard.now.story.asked }
-    ensures { OfYard yard.now segment.new }
+    ensures yard { OfYard yard.now segment.new }
+    ensures tried { IfSome result (λ taken. IsTaken yard.now segment.old ticket segment.new taken) }
+    ensures untried { (p : ℕ) → what yard.now.story p ≡ resume ticket → CanTake yard.now segment.old ticket → IsSome result }
 {
-    let Some(at) = yard.resumption(ticket) else {
-        return false;
-    };
+    let at = yard.resumption(ticket)?;
     let goes_on = segment.from() < segment.upto();
     if goes_on && segment.upto() != at {
-        return false;
+        return None;
     }
-    is_asked(yard, asked, at) && yard.take(segment, ticket) == Taken::Yes
+    if !is_asked(yard, asked, at) {
+        return None;
+    }
+    Some(yard.take(segment, ticket))
 }
 
 /// The cells' values after the run, where the segment has all of it and there is memory for them.

@@ -8,6 +8,7 @@ use crate::settings::{Setting, on_its_own};
 use crate::steps::{Done, last_values, step, take};
 use crate::texts::{GETS, accepted};
 use cilk_plan::plan::Plan;
+use cilk_shared::taken::Taken;
 use cilk_shared::yard::{Segment, Yard};
 use cilk_types::event::{Event, Pos};
 use crossbeam_channel::{Receiver, Sender, bounded};
@@ -70,7 +71,7 @@ fn makes_the_child<R: Abort + Wait + Clock>(
     let read = make_up_to(rt, yard, plan, events, asked, &mut segment, 6);
     assert_eq!(rt; read, Done::Loaded(7));
     make_up_to(rt, yard, plan, events, asked, &mut segment, 9);
-    assert!(rt; !take(yard, asked, &mut segment, ticket));
+    assert_eq!(rt; take(yard, asked, &mut segment, ticket), Some(Taken::No));
     segment
 }
 
@@ -92,7 +93,7 @@ fn takes_the_rest<R: Abort + Wait + Clock>(
     let Ok(ticket) = tickets.recv_timeout(rt, Duration::from_secs(PATIENCE)) else {
         panic!(rt; "no ticket");
     };
-    assert!(rt; take(yard, asked, &mut segment, ticket));
+    assert_eq!(rt; take(yard, asked, &mut segment, ticket), Some(Taken::Yes));
     assert!(rt; taken.send(rt, true).is_ok());
     let Done::Offered(own) = make_up_to(rt, yard, plan, events, asked, &mut segment, 11) else {
         panic!(rt; "no offer");
@@ -100,7 +101,7 @@ fn takes_the_rest<R: Abort + Wait + Clock>(
     let read = make_up_to(rt, yard, plan, events, asked, &mut segment, 13);
     assert_eq!(rt; read, Done::Loaded(7));
     make_up_to(rt, yard, plan, events, asked, &mut segment, 16);
-    assert!(rt; take(yard, asked, &mut segment, own));
+    assert_eq!(rt; take(yard, asked, &mut segment, own), Some(Taken::Yes));
     segment
 }
 
@@ -189,9 +190,9 @@ fn nobody_takes_the_rest(rt: HostRuntime) -> Result<(), Fail> {
     let events = events.as_slice();
     let asked = asked.as_slice();
     make_up_to(&rt, &yard, &plan, events, asked, &mut segment, 9);
-    assert!(rt; take(&yard, asked, &mut segment, 4));
+    assert_eq!(rt; take(&yard, asked, &mut segment, 4), Some(Taken::Yes));
     make_up_to(&rt, &yard, &plan, events, asked, &mut segment, 16);
-    assert!(rt; take(&yard, asked, &mut segment, 11));
+    assert_eq!(rt; take(&yard, asked, &mut segment, 11), Some(Taken::Yes));
     ends_with(&rt, alloc, yard, &plan, events, asked, segment);
     Ok(())
 }
