@@ -35,7 +35,8 @@ pub fn first(alloc: Global, shared: &Shared<'_>, piece: Piece) -> Result<Work, A
     Ok(Work { piece, chain })
 }
 
-// The frame asks for something else than the plan has.
+// The frame asks for something else than the plan has. Behind a spawn that it asked for a frame asks for its `resume`, so the turn doesn't
+// stop there; that isn't proved.
 fn departed(shared: &Shared<'_>, work: &Work) -> Turn
     requires works { Works shared.now work.now }
     requires within { work.now.piece.upto ≤ length (story_in shared.now).events }
@@ -99,7 +100,6 @@ pub fn act(alloc: Global, shared: &Shared<'_>, work: Work) -> Turn
         Looked::Asked if shared.is_last(at) => finished(shared, work, frame),
         Looked::Asked => made(alloc, shared, work, frame, kind),
         Looked::Differs => departed(shared, &work),
-        Looked::Unknown => Turn::Stopped,
     }
 }
 
