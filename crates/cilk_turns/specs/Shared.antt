@@ -1,0 +1,29 @@
+-- What contracts see of what the workers of a run share.
+use Rattle.std.specs.Prelude.{◌≡◌, ◌≤◌, ℕ, length, Some}
+use Rattle.cilk_boxes.specs.Rows.{RunValue, run_of}
+use Rattle.cilk_chains.specs.Courses.{CourseValue}
+use Rattle.cilk_pieces.specs.declared.reducers.Reducers.{Reducers}
+use Rattle.cilk_plan.specs.Frames.{IsInFrame}
+use Rattle.cilk_plan.specs.Kinds.{kind_of_event}
+use Rattle.cilk_plan.specs.declared.kind.Asked.{Asked}
+use Rattle.cilk_plan.specs.declared.kind.Asked.TheVariants.{Next, Nothing}
+use Rattle.cilk_shared.specs.Values.{YardValue}
+use Rattle.cilk_story.specs.declared.story.Story.{Story}
+use Rattle.cilk_story.specs.Word.{event}
+
+-- a run of the program, and its course
+pub record SharedValue : Type 0 where
+  pub run : RunValue
+  pub course : CourseValue
+
+abbrev pub shared_with : YardValue → Reducers → CourseValue → SharedValue
+shared_with y r c = record { run = run_of y r; course = c }
+
+-- its story
+abbrev pub story_in : SharedValue → Story
+story_in y = let r = y.run in r.story
+
+-- the kind of the event at a position, and whose frame it is in
+abbrev pub IsNext : Story → ℕ → Asked → Type 0
+IsNext s at Nothing = Unit {0}
+IsNext s at (Next frame kind) = (kind_of_event (event s at) ≡ Some kind) × IsInFrame s.events at frame × (1 ≤ at) × (at ≤ length s.events)

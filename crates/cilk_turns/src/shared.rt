@@ -1,0 +1,120 @@
+//! What the workers of a run share.
+
+ghost use Rattle.std.specs.Prelude.{◌≡◌, ◌↔◌, ℕ, Some, length, IsTrue};
+ghost use Rattle.cilk_boxes.specs.Rows.{run_of, yard_of};
+ghost use Rattle.cilk_pieces.specs.Reducers.{HasFew};
+ghost use Rattle.cilk_plan.specs.Along.{IsAlong};
+ghost use Rattle.cilk_story.specs.Word.{resume, what};
+ghost use Rattle.cilk_turns.specs.Shared.{IsNext, shared_with, story_in};
+
+use cilk_chains::course::Course;
+use cilk_pieces::laws::frames_are_along;
+use cilk_pieces::reducers::Reducers;
+use cilk_plan::kind::Asked;
+use cilk_plan::plan::Plan;
+use cilk_shared::yard::Yard;
+use cilk_types::event::{Cell, Pos};
+use std::marker::Model;
+
+/// A run's yard, the plan that it goes along, the reducers of its frames, and its course.
+#[derive(Drop)]
+pub struct Shared<'a> {
+    yard: &'a Yard,
+    plan: &'a Plan,
+    reducers: &'a Reducers,
+    course: &'a Course,
+}
+
+impl<'a> Model for Shared<'a> {
+    ghost use Rattle.std.specs.Prelude.{◌≡◌};
+    ghost use Rattle.std.specs.Coded.{codes};
+    ghost use Rattle.cilk_chains.specs.Courses.{course_code};
+    ghost use Rattle.cilk_pieces.specs.Reducers.{HasFew};
+    ghost use Rattle.cilk_plan.specs.Along.{IsAlong};
+    ghost use Rattle.cilk_turns.specs.Shared.{SharedValue, shared_with};
+
+    ghost Value = { SharedValue };
+
+    ghost coded = { Prim.hlevel (codes, course_code) };
+
+    ghost view = { λ c. shared_with c.yard.now c.reducers.now c.course.now };
+
+    ghost invariant = { λ c. IsAlong c.plan.now c.yard.now.story × HasFew c.reducers.now × (c.course.now.yard ≡ c.yard.now) };
+}
+
+impl<'a> Shared<'a> {
+    /// The run of a yard along a plan.
+    pub fn new(
+        yard: &'a Yard,
+        plan: &'a Plan,
+        reducers: &'a Reducers,
+        course: &'a Course,
+    ) -> Shared<'a>
+        requires along { IsAlong plan.now yard.now.story }
+        requires few { HasFew reducers.now }
+        requires course { course.now.yard ≡ yard.now }
+        ensures { result ≡ shared_with yard.now reducers.now course.now }
+    {
+        Shared {
+            yard,
+            plan,
+            reducers,
+            course,
+        }
+    }
+
+    /// The run's yard.
+    pub fn yard(&self) -> &Yard
+        ensures { result.now ≡ yard_of self.now.run }
+    {
+        self.yard
+    }
+
+    /// The run's plan.
+    pub fn plan(&self) -> &Plan
+        ensures { IsAlong result.now (story_in self.now) }
+    {
+        self.plan
+    }
+
+    /// The reducers of the run's frames.
+    pub fn reducers(&self) -> &Reducers
+        ensures reducers { result.now ≡ self.now.run.reducers }
+        ensures few { HasFew result.now }
+    {
+        self.reducers
+    }
+
+    /// The run's course.
+    pub fn course(&self) -> &Course
+        ensures course { result.now ≡ self.now.course }
+        ensures yard { self.now.course.yard ≡ yard_of self.now.run }
+    {
+        self.course
+    }
+
+    /// The event at a position, and whose it is; nothing where there is none.
+    pub fn next(&self, at: Pos) -> Asked
+        ensures { IsNext (story_in self.now) at result }
+    {
+        frames_are_along();
+        if at == 0 {
+            return Asked::Nothing;
+        }
+        self.plan.next(at - 1)
+    }
+
+    /// Whether the position is that of the last event, the root's `end`.
+    pub fn is_last(&self, at: Pos) -> bool
+        ensures { IsTrue result ↔ (at ≡ length (story_in self.now).events) }
+    {
+        at as usize == self.plan.count()
+    }
+
+    /// The spawn whose continuation the event at a position resumes, where it is the `resume` after a spawn.
+    pub fn resumed_by(&self, at: Pos) -> Option<Pos>
+        ensures { (k : ℕ) → (result ≡ Some k) ↔ (what (story_in self.now) at ≡ resume k) }
+    {
+        self.plan.resumed_by(at)
+    }
+}
