@@ -1,0 +1,4 @@
+pub mod Gates
+pub mod Hands
+pub mod Keys
+pub mod Names

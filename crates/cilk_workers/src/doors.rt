@@ -1,0 +1,170 @@
+//! A worker at a join box.
+
+ghost use Rattle.std.specs.Prelude.{◌≡◌, ◌<◌, ◌≤◌, ℕ, Some, length, slice_get, slice_index, IfSome, MatchOption};
+ghost use Rattle.crossbeam_queue.specs.Passes.{view, IsPassOf};
+ghost use Rattle.cilk_boxes.specs.Rows.{IsGood};
+ghost use Rattle.cilk_chains.specs.Chains.{standing};
+ghost use Rattle.cilk_racks.specs.Locks.{IsBox, knower};
+ghost use Rattle.cilk_workers.specs.Hands.{IsMet};
+ghost use Rattle.cilk_workers.specs.Keys.{AreKeys};
+ghost use Rattle.cilk_workers.specs.Names.{IsName};
+
+use crate::hand::Blocks;
+use cilk_boxes::join::{Boxed, JoinBox};
+use cilk_chains::chain::Chain;
+use cilk_pieces::piece::Piece;
+use cilk_racks::lock::{Key, Lock, free, lock, wait};
+use cilk_racks::naming::Naming;
+use cilk_turns::shared::Shared;
+use cilk_turns::work::Work;
+use cilk_types::event::Pos;
+use std::alloc::Global;
+use std::sync::Wait;
+
+/// A piece that comes to a block: a child's by the position of its spawn, or the `sync`'s own, by that of the `sync` and with its chain.
+#[derive(Drop)]
+pub struct Arrival {
+    pub by: Pos,
+    pub piece: Piece,
+    pub chain: Option<Chain>,
+}
+
+/// What an arrival leads to.
+#[derive(Drop)]
+pub enum Met {
+    /// The block passes, and the worker goes on with its `sync`.
+    Passes(Work),
+    /// The piece waits in the box.
+    Waits,
+    /// There was no memory.
+    Stopped,
+}
+
+// A piece comes to the box in hand.
+fn come<R: Wait>(
+    rt: &R,
+    alloc: Global,
+    shared: &Shared<'_>,
+    found: &mut JoinBox,
+    arrival: Arrival,
+) -> Met
+    requires run { (found.old.rows.of ≡ shared.now.run) × (found.old.course ≡ shared.now.course) }
+    requires good { IsGood shared.now.run arrival.piece }
+    requires chain { IfSome arrival.chain (λ c. c ≡ standing shared.now.course arrival.piece.upto) }
+    ensures met { IsMet shared.now result }
+    ensures same { (found.new.rows.of ≡ found.old.rows.of) × (found.new.course ≡ found.old.course) × (found.new.sync ≡ found.old.sync) }
+{
+    let Arrival { by, piece, chain } = arrival;
+    if !found.fits(by, &piece, chain.is_some()) {
+        wait(rt);
+    }
+    match found.arrive(alloc, shared.yard(), by, piece, chain) {
+        Ok(Boxed::Waits) => Met::Waits,
+        Ok(Boxed::Passes(piece, chain)) => Met::Passes(Work { piece, chain }),
+        Err(_) => Met::Stopped,
+    }
+}
+
+/// A piece arrives at a block.
+pub fn arrive<N: Naming, R: Wait>(
+    rt: &R,
+    alloc: Global,
+    shared: &Shared<'_>,
+    door: &Lock<N>,
+    key: &mut Key,
+    sync: Pos,
+    arrival: Arrival,
+) -> Met
+    requires name { IsName N.run N.course shared.now }
+    requires key { IsPassOf door.now key.old × (view key.old ≡ knower sync) }
+    requires good { IsGood shared.now.run arrival.piece }
+    requires chain { IfSome arrival.chain (λ c. c ≡ standing shared.now.course arrival.piece.upto) }
+    ensures key { IsPassOf door.now key.new × (view key.new ≡ knower sync) }
+    ensures met { IsMet shared.now result }
+{
+    let mut found = lock(rt, door, key, sync);
+    let met = come(rt, alloc, shared, &mut found, arrival);
+    free(rt, door, key, sync, found);
+    met
+}
+
+/// A thief tells the block that it took the continuation after the spawn `child`, which goes on at `goes_on`. False where there was no
+/// memory.
+pub fn steal<N: Naming, R: Wait>(
+    rt: &R,
+    door: &Lock<N>,
+    key: &mut Key,
+    sync: Pos,
+    child: Pos,
+    goes_on: Pos,
+) -> bool
+    requires key { IsPassOf door.now key.old × (view key.old ≡ knower sync) }
+    ensures key { IsPassOf door.now key.new × (view key.new ≡ knower sync) }
+{
+    let mut found = lock(rt, door, key, sync);
+    if !found.open(child, goes_on) {
+        wait(rt);
+    }
+    let done = found.steal(child, goes_on).is_ok();
+    free(rt, door, key, sync, found);
+    done
+}
+
+/// The block of a position, where it has one of so many.
+pub fn block_at(of: &[u32], at: Pos, count: usize) -> Option<usize>
+    ensures { MatchOption result ((b : ℕ) → slice_get of.now at ≡ Some b → count ≤ b) (λ b. (slice_get of.now at ≡ Some b) × (b < count)) }
+{
+    let block = *of.get(at as usize)? as usize;
+    if block < count { Some(block) } else { None }
+}
+
+/// The position of a block's `sync`.
+pub fn position(syncs: &[Pos], block: usize) -> Pos
+    requires { block < length syncs.now }
+    ensures { result ≡ slice_index syncs.now block }
+{
+    syncs[block]
+}
+
+/// A piece arrives at a block by its number.
+pub fn arrive_by<N: Naming, R: Wait>(
+    rt: &R,
+    alloc: Global,
+    shared: &Shared<'_>,
+    blocks: &Blocks<'_, N>,
+    keys: &mut Vec<Key>,
+    block: usize,
+    arrival: Arrival,
+) -> Met
+    requires name { IsName N.run N.course shared.now }
+    requires keys { AreKeys blocks.now.doors.now.items keys.old.items blocks.now.syncs.now }
+    requires block { block < length blocks.now.doors.now.items }
+    requires good { IsGood shared.now.run arrival.piece }
+    requires chain { IfSome arrival.chain (λ c. c ≡ standing shared.now.course arrival.piece.upto) }
+    ensures keys { AreKeys blocks.now.doors.now.items keys.new.items blocks.now.syncs.now }
+    ensures met { IsMet shared.now result }
+{
+    let sync = position(blocks.syncs, block);
+    let door = &blocks.doors[block];
+    let key = &mut keys[block];
+    arrive::<N, R>(rt, alloc, shared, door, key, sync, arrival)
+}
+
+/// A thief tells a block by its number.
+pub fn steal_by<N: Naming, R: Wait>(
+    rt: &R,
+    blocks: &Blocks<'_, N>,
+    keys: &mut Vec<Key>,
+    block: usize,
+    child: Pos,
+    goes_on: Pos,
+) -> bool
+    requires keys { AreKeys blocks.now.doors.now.items keys.old.items blocks.now.syncs.now }
+    requires block { block < length blocks.now.doors.now.items }
+    ensures { AreKeys blocks.now.doors.now.items keys.new.items blocks.now.syncs.now }
+{
+    let sync = position(blocks.syncs, block);
+    let door = &blocks.doors[block];
+    let key = &mut keys[block];
+    steal::<N, R>(rt, door, key, sync, child, goes_on)
+}

@@ -1,0 +1,58 @@
+//! What is told of strands as they begin.
+
+ghost use Rattle.std.specs.Prelude.{◌≡◌, slice_index_or};
+ghost use Rattle.cilk_boxes.specs.Rows.{IsGood};
+ghost use Rattle.cilk_workers.specs.Gates.{AreFirsts, EndsWithFirst};
+
+use cilk_pieces::piece::Piece;
+use cilk_shared::yard::Segment;
+use cilk_turns::shared::Shared;
+use cilk_types::event::{Pos, StrandNo};
+
+/// Is called as each strand begins.
+pub trait Gate {
+    /// The worker has made the first event of the strand, which is the last of the segment.
+    fn at(&self, worker: u32, strand: StrandNo, segment: &Segment)
+        requires { EndsWithFirst segment.now strand };
+}
+
+/// A gate that does nothing.
+#[derive(Clone, Copy)]
+pub struct Open;
+
+impl Gate for Open {
+    fn at(&self, _worker: u32, _strand: StrandNo, _segment: &Segment) {}
+}
+
+/// What a worker tells a gate by: its own number, and for each position the strand that begins there, or 0 where none does.
+#[derive(Drop)]
+pub struct Watch<'a, G: Gate> {
+    pub gate: &'a G,
+    pub worker: u32,
+    pub strands: &'a [StrandNo],
+}
+
+// The strand that begins at a position, or 0.
+fn begun(strands: &[StrandNo], at: Pos) -> StrandNo
+    ensures { result ≡ slice_index_or strands.now at 0 }
+{
+    match strands.get(at as usize) {
+        Some(strand) => *strand,
+        None => 0,
+    }
+}
+
+impl<'a, G: Gate> Watch<'a, G> {
+    /// Tells the gate, where the last event of the piece is the first of a strand and was not there before, when the piece ended at
+    /// `before`.
+    pub fn tell(&self, shared: &Shared<'_>, before: Pos, piece: &Piece)
+        requires strands { AreFirsts shared.now.run.story.events self.now.strands.now }
+        requires piece { IsGood shared.now.run piece.now }
+    {
+        let upto = piece.upto();
+        let strand = begun(self.strands, upto - 1);
+        if strand > 0 && upto != before {
+            self.gate.at(self.worker, strand, piece.segment());
+        }
+    }
+}

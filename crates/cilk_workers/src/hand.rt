@@ -1,0 +1,47 @@
+//! What a worker has between two turns, and how it ends.
+
+use cilk_pieces::piece::Piece;
+use cilk_racks::lock::{Key, Lock};
+use cilk_racks::naming::Naming;
+use cilk_racks::rack::{Picker, Rack};
+use cilk_turns::work::Work;
+use cilk_types::event::Pos;
+
+/// How a worker ends.
+#[derive(Drop)]
+pub enum Finish {
+    /// With the piece of the whole run, and its result.
+    Whole(Piece, i64),
+    /// Where the run departs from its plan.
+    Departed(Pos),
+    /// With nothing: the run has ended elsewhere, or there was no memory.
+    Stopped,
+}
+
+/// What a worker has between two turns.
+#[derive(Drop)]
+pub enum Hand {
+    /// A piece, and where its frame goes on.
+    Holds(Work),
+    /// An empty piece.
+    Idle(Piece),
+    /// The worker has ended.
+    Done(Finish),
+}
+
+/// What the workers share of the join boxes: each block's lock and the position of its `sync`, and for each position its block; where it has
+/// none, a number past the last.
+#[derive(Drop)]
+pub struct Blocks<'a, N: Naming> {
+    pub doors: &'a Vec<Lock<N>>,
+    pub syncs: &'a [Pos],
+    pub of: &'a [u32],
+}
+
+/// What a worker alone uses: its rack, the others' racks, and its key of each block.
+#[derive(Drop)]
+pub struct Tools<N: Naming> {
+    pub rack: Rack<N>,
+    pub pickers: Vec<Picker<N>>,
+    pub keys: Vec<Key>,
+}

@@ -1,0 +1,188 @@
+//! A turn of a worker that holds a piece.
+
+ghost use Rattle.std.specs.Prelude.{◌≡◌, IfSome};
+ghost use Rattle.cilk_boxes.specs.Rows.{IsGood};
+ghost use Rattle.cilk_chains.specs.Chains.{standing};
+ghost use Rattle.cilk_racks.specs.Racks.{Of};
+ghost use Rattle.cilk_turns.specs.Turns.{Works, HasEnded};
+ghost use Rattle.cilk_workers.specs.Gates.{AreFirsts};
+ghost use Rattle.cilk_workers.specs.Hands.{IsHand};
+ghost use Rattle.cilk_workers.specs.Keys.{AreKeys};
+ghost use Rattle.cilk_workers.specs.Names.{IsName};
+
+use crate::doors::{Arrival, Met, arrive_by, block_at};
+use crate::gate::{Gate, Watch};
+use crate::hand::{Blocks, Finish, Hand, Tools};
+use cilk_chains::chain::{Chain, Task};
+use cilk_pieces::piece::Piece;
+use cilk_racks::lock::{Key, wait};
+use cilk_racks::naming::Naming;
+use cilk_racks::rack::Rack;
+use cilk_turns::shared::Shared;
+use cilk_turns::turn::act;
+use cilk_turns::work::{Turn, Work};
+use cilk_types::event::Pos;
+use std::alloc::Global;
+use std::sync::Wait;
+
+// The worker goes on with its own newest task, which is its child's continuation.
+fn own<R: Wait>(rt: &R, shared: &Shared<'_>, piece: Piece, task: Task) -> Hand
+    requires piece { IsGood shared.now.run piece }
+    requires task { task.of ≡ shared.now.course }
+    ensures { IsHand shared.now result }
+{
+    if task.at() != piece.upto() {
+        wait(rt);
+    }
+    let chain = task.rest().wake(shared.course());
+    Hand::Holds(Work { piece, chain })
+}
+
+// A piece arrives at the block of its next position, and the worker goes on with an empty one.
+fn arrived<N: Naming, R: Wait>(
+    rt: &R,
+    alloc: Global,
+    shared: &Shared<'_>,
+    blocks: &Blocks<'_, N>,
+    keys: &mut Vec<Key>,
+    piece: Piece,
+    chain: Option<Chain>,
+) -> Hand
+    requires name { IsName N.run N.course shared.now }
+    requires keys { AreKeys blocks.now.doors.now.items keys.old.items blocks.now.syncs.now }
+    requires piece { IsGood shared.now.run piece }
+    requires chain { IfSome chain (λ c. c ≡ standing shared.now.course piece.upto) }
+    ensures keys { AreKeys blocks.now.doors.now.items keys.new.items blocks.now.syncs.now }
+    ensures hand { IsHand shared.now result }
+{
+    let at = piece.upto();
+    let by = match shared.resumed_by(at) {
+        Some(child) => child,
+        None => at,
+    };
+    let Some(block) = block_at(blocks.of, at, blocks.doors.len()) else {
+        wait(rt);
+        unreachable!()
+    };
+    let (piece, empty) = piece.apart(alloc, shared.yard(), shared.reducers());
+    let arrival = Arrival { by, piece, chain };
+    match arrive_by::<N, R>(rt, alloc, shared, blocks, keys, block, arrival) {
+        Met::Passes(work) => Hand::Holds(work),
+        Met::Waits => Hand::Idle(empty),
+        Met::Stopped => Hand::Done(Finish::Stopped),
+    }
+}
+
+// The worker goes on with the child, and offers the continuation.
+fn offered<N: Naming, R: Wait>(
+    rt: &R,
+    shared: &Shared<'_>,
+    rack: &mut Rack<N>,
+    work: Work,
+    task: Task,
+) -> Hand
+    requires name { IsName N.run N.course shared.now }
+    requires works { Works shared.now work }
+    requires task { task.of ≡ shared.now.course }
+    ensures { IsHand shared.now result }
+{
+    let _ = shared;
+    if rack.offer(task).is_err() {
+        wait(rt);
+    }
+    Hand::Holds(work)
+}
+
+// The run has ended. Its piece has all of the run's events.
+fn whole<R: Wait>(rt: &R, shared: &Shared<'_>, piece: Piece, value: i64) -> Hand
+    requires { HasEnded shared.now piece value }
+    ensures { IsHand shared.now result }
+{
+    let _ = shared;
+    if piece.from() != 1 {
+        wait(rt);
+    }
+    Hand::Done(Finish::Whole(piece, value))
+}
+
+// The worker's own newest task, unless another took what the worker was to go on with.
+fn behind<N: Naming>(rack: &mut Rack<N>, taken: bool) -> Option<Task>
+    ensures { IfSome result (λ t. Of N.course t) }
+{
+    if taken { None } else { rack.newest() }
+}
+
+// A piece whose child has ended, or whose continuation another took, where it has no event more than before. The worker goes on with the
+// child's continuation, or the piece arrives.
+fn ended<N: Naming, R: Wait>(
+    rt: &R,
+    alloc: Global,
+    shared: &Shared<'_>,
+    blocks: &Blocks<'_, N>,
+    tools: &mut Tools<N>,
+    before: Pos,
+    piece: Piece,
+) -> Hand
+    requires name { IsName N.run N.course shared.now }
+    requires keys { AreKeys blocks.now.doors.now.items tools.old.keys.items blocks.now.syncs.now }
+    requires piece { IsGood shared.now.run piece }
+    ensures keys { AreKeys blocks.now.doors.now.items tools.new.keys.items blocks.now.syncs.now }
+    ensures hand { IsHand shared.now result }
+{
+    match behind::<N>(&mut tools.rack, piece.upto() == before) {
+        Some(task) => own(rt, shared, piece, task),
+        None => arrived::<N, R>(rt, alloc, shared, blocks, &mut tools.keys, piece, None),
+    }
+}
+
+/// One turn of a worker that holds a piece and a chain.
+pub fn hold<N: Naming, R: Wait, G: Gate>(
+    rt: &R,
+    alloc: Global,
+    shared: &Shared<'_>,
+    blocks: &Blocks<'_, N>,
+    watch: &Watch<'_, G>,
+    tools: &mut Tools<N>,
+    work: Work,
+) -> Hand
+    requires name { IsName N.run N.course shared.now }
+    requires keys { AreKeys blocks.now.doors.now.items tools.old.keys.items blocks.now.syncs.now }
+    requires strands { AreFirsts shared.now.run.story.events watch.now.strands.now }
+    requires works { Works shared.now work }
+    ensures keys { AreKeys blocks.now.doors.now.items tools.new.keys.items blocks.now.syncs.now }
+    ensures hand { IsHand shared.now result }
+{
+    let before = work.piece.upto();
+    match act(alloc, shared, work) {
+        Turn::Goes(work) => {
+            watch.tell(shared, before, &work.piece);
+            Hand::Holds(work)
+        }
+        Turn::Offers(work, task) => {
+            watch.tell(shared, before, &work.piece);
+            offered(rt, shared, &mut tools.rack, work, task)
+        }
+        Turn::Ended(piece) => {
+            watch.tell(shared, before, &piece);
+            ended::<N, R>(rt, alloc, shared, blocks, tools, before, piece)
+        }
+        Turn::Arrives(work) => {
+            let Work { piece, chain } = work;
+            arrived::<N, R>(
+                rt,
+                alloc,
+                shared,
+                blocks,
+                &mut tools.keys,
+                piece,
+                Some(chain),
+            )
+        }
+        Turn::Finished(piece, value) => {
+            watch.tell(shared, before, &piece);
+            whole(rt, shared, piece, value)
+        }
+        Turn::Departed(at) => Hand::Done(Finish::Departed(at)),
+        Turn::Stopped => Hand::Done(Finish::Stopped),
+    }
+}
