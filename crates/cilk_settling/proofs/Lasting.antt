@@ -64,11 +64,11 @@ use Rattle.cilk_settling.proofs.Places.{nth_left, nth_right}
 use Rattle.cilk_settling.proofs.Tabled.{no_output, kinds_told}
 
 -- ---- by one pass
-abbrev list_from : Reducers → ℕ → List numbers.Event → List ReducerEvent
+abbrev pub list_from : Reducers → ℕ → List numbers.Event → List ReducerEvent
 list_from r g [] = []
 list_from r g (e ∷ es) = of_event r (entered e g) (Some e) ++ list_from r (entered e g) es
 
-abbrev last_from : ℕ → List numbers.Event → ℕ
+abbrev pub last_from : ℕ → List numbers.Event → ℕ
 last_from g [] = g
 last_from g (e ∷ es) = last_from (entered e g) es
 
@@ -89,7 +89,7 @@ entered_last g (d ∷ es) e = entered_last (entered d g) es e
 
 -- ---- of a story's positions
 module _ (s : Story) (r : Reducers) where
-  over_from : (n : ℕ) → n ≤ length s.events → events_from s r 1 n ≡ list_from r 0 (take n s.events)
+  pub over_from : (n : ℕ) → n ≤ length s.events → events_from s r 1 n ≡ list_from r 0 (take n s.events)
   unfolding events_from
   over_from zero le = refl
   over_from (suc n) le =
@@ -165,13 +165,13 @@ alike_none : (r : Reducers) → Alike r [] []
 alike_none r i v other = refl
 
 -- ---- each frame retires its own reducers
-abbrev RetiresOwn : Source → World → Run World → Type 0
+abbrev pub RetiresOwn : Source → World → Run World → Type 0
 RetiresOwn p w stop = Unit {0}
 RetiresOwn p w (act (Ends v gone) t) = (gone ≡ retired_by p w) × RetiresOwn p w t
 RetiresOwn p w (act e t) = RetiresOwn p w t
 RetiresOwn p w (child k x u t) = RetiresOwn p x u × RetiresOwn p w t
 
-retires_own : (p : Source) (w : World) (j : ℕ) (r : serial.Transcript) → RetiresOwn p w (named_from p w j r)
+pub retires_own : (p : Source) (w : World) (j : ℕ) (r : serial.Transcript) → RetiresOwn p w (named_from p w j r)
 retires_own p w j serial.stop = tt
 retires_own p w j (serial.act asks.Begin v r) = retires_own p w j r
 retires_own p w j (serial.act (asks.Read x) v r) = retires_own p w j r
@@ -211,13 +211,13 @@ module _ (p : Source) (run : serial.Transcript) (r : Reducers) (table : AreReduc
       (subst (λ (q : ℕ). Alike r (ends_from f q (length ks)) (retired_all p run (retired_from own_one (suc n) ks))) (sym s) rest)
 
   -- a frame's end
-  record IsOf (w : World) : Type 0 where
-    table_is : own r (frame_number p run w.name) ≡ reducers_of p w.callee
+  pub record IsOf (w : World) : Type 0 where
+    pub table_is : own r (frame_number p run w.name) ≡ reducers_of p w.callee
 
-  of_frame : (w : World) (u : Run World) → IsFrameOf p run w u → IsOf w
+  pub of_frame : (w : World) (u : Run World) → IsFrameOf p run w u → IsOf w
   of_frame w u h = let b = h.here in record { table_is = ap (own r) (frame_is p run w.name b) ∙ table b.path b.block w.callee b.found h.runs }
 
-  many_own : (w : World) → length (all_reducers p w.callee) - before_own p w.callee ≡ length (own_reducers p w.callee)
+  pub many_own : (w : World) → length (all_reducers p w.callee) - before_own p w.callee ≡ length (own_reducers p w.callee)
   many_own w = by w.callee
     where
       front : (l m : List MonoidKind) → length (l ++ m) - length l ≡ length m
@@ -228,7 +228,7 @@ module _ (p : Source) (run : serial.Transcript) (r : Reducers) (table : AreReduc
       by (callees.Function c) = let f = function_at p c.function in let z : length f.reducers - 0 ≡ length f.reducers = omega arith in z
       by (callees.Loop l) = refl
 
-  own_in_all : (w : World) (m : ℕ) (k : MonoidKind) → slice_get (own_reducers p w.callee) m ≡ Some k → slice_get (all_reducers p w.callee) (before_own p w.callee + m) ≡ Some k
+  pub own_in_all : (w : World) (m : ℕ) (k : MonoidKind) → slice_get (own_reducers p w.callee) m ≡ Some k → slice_get (all_reducers p w.callee) (before_own p w.callee + m) ≡ Some k
   own_in_all w m k at = by w.callee at
     where
       by : (c : Callee) → slice_get (own_reducers p c) m ≡ Some k → slice_get (all_reducers p c) (before_own p c + m) ≡ Some k
