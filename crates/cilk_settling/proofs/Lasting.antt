@@ -3,7 +3,7 @@
 -- - `list_from`: the events of reducers in a list of events, by one pass; `over_list`: those of a story's positions are;
 -- - `Alike`: two lists give each reducer the same view; `run_alike`: so do the pass and the run by names;
 -- - `prints_viewed`: the output's view over a list has what it prints.
-use Rattle.std.proofs.Common.{◌≡◌, ◌⊎◌, inl, inr, ⊎_elim, ℕ, zero, suc, ◌+◌, ◌-◌, ◌<◌, ◌≤◌, eqb, ℤ, pos, Bool, true, false, cond, ◌&&◌, IsTrue, List, [], ◌∷◌, ◌++◌, length, take, get_or, slice_get, slice_index_or, Option, Some, None, refl, sym, ap, ap₂, ◌∙◌, subst, arith, append_assoc, append-nil, length-append}
+use Rattle.std.proofs.Common.{◌≡◌, ◌⊎◌, inl, inr, ℕ, zero, suc, ◌+◌, ◌-◌, ◌<◌, ◌≤◌, eqb, ℤ, Bool, true, false, cond, ◌&&◌, List, [], ◌∷◌, ◌++◌, length, take, get_or, slice_get, slice_index_or, Option, Some, None, refl, sym, ap, ap₂, ◌∙◌, subst, arith, append_assoc, append-nil, length-append}
 use Rattle.std.proofs.Math.Seq.{take-length}
 use Rattle.std.proofs.lemmas.List.{take_more}
 use Rattle.std.proofs.lemmas.Bool.{cases_Bool, ne_eqb}
@@ -14,7 +14,6 @@ use Rattle.cilk_types.specs.declared.event.Instance as numbered
 use Rattle.cilk_types.specs.declared.invocation.Invocation.{Invocation}
 use Rattle.cilk_types.specs.declared.invocation.Invocation.TheVariants.{Call, Spawn}
 use Rattle.cilk_types.specs.declared.outcome.Final.{Final}
-use Rattle.cilk_types.specs.declared.outcome.Outcome.{Outcome}
 use Rattle.cilk_monoid.specs.declared.kind.MonoidKind.{MonoidKind}
 use Rattle.cilk_monoid.specs.declared.kind.MonoidKind.TheVariants.{Append}
 use Rattle.cilk_monoid.specs.Kinds.{structure_of, same_kind, final_of}
@@ -23,10 +22,8 @@ use Rattle.cilk_monoid.specs.Laws.{MonoidStructure}
 use Rattle.cilk_monoid.specs.Values.{ViewValue, Elements}
 use Rattle.cilk_monoid.proofs.RangeLaws.{same_from_true, view_after-append}
 use Rattle.cilk_monoid.proofs.SameKinds.{kind_itself}
-use Rattle.cilk_hypermap.specs.declared.hypermap.Hypermap.{Hypermap}
 use Rattle.cilk_hypermap.specs.Hypermap.{value_in}
 use Rattle.cilk_hypermap.specs.Views.{output}
-use Rattle.cilk_program.specs.declared.ask.Ask.{Ask}
 use Rattle.cilk_program.specs.declared.ask.Ask.TheVariants as asks
 use Rattle.cilk_program.specs.declared.ask.Callee.{Callee}
 use Rattle.cilk_program.specs.declared.ask.Callee.TheVariants as callees
@@ -34,14 +31,13 @@ use Rattle.cilk_program.specs.Outcomes.{Leaves}
 use Rattle.cilk_program.specs.SerialRun as serial
 use Rattle.cilk_program.specs.SerialRun.{global_reducer, own_reducers, IsSerialRun}
 use Rattle.cilk_program.specs.Syntax.{Source, main_of, function_at}
-use Rattle.cilk_program.specs.WellNamed.{is_well_named}
 use Rattle.cilk_meaning.specs.Answered.{prints, printed_by}
 use Rattle.cilk_meaning.proofs.Remembered.{runs_leave}
 use Rattle.cilk_story.specs.declared.story.Story.{Story}
 use Rattle.cilk_story.specs.Word.{event}
 use Rattle.cilk_pieces.specs.declared.reducers.FrameReducers.{FrameReducers}
 use Rattle.cilk_pieces.specs.declared.reducers.Reducers.{Reducers}
-use Rattle.cilk_pieces.specs.Reducers.{own, kind_in, ends_from, retired, entered, frame_behind, frame_in, of_event, events_at, events_from, events_over}
+use Rattle.cilk_pieces.specs.Reducers.{own, kind_in, ends_from, retired, entered, frame_behind, frame_in, of_event, events_from, events_over}
 use Rattle.cilk_runs.specs.Runs.{Name, Instance, Output, Reducer, Reads, Writes, Syncs, Ends, Passes, Begins, Resumes, Creates, Updates, Sets, Values, Prints, Run, stop, act, child}
 use Rattle.cilk_runs.specs.Runs as runs
 use Rattle.cilk_runs.specs.Traces.{trace, Due, begin_due, resume_due, neither_due, IsFramed}
@@ -49,7 +45,7 @@ use Rattle.cilk_worlds.specs.Machine.{retired_from, retired_by}
 use Rattle.cilk_worlds.specs.Reducers.{kind_of}
 use Rattle.cilk_worlds.specs.Worlds.{World, first_world, child_world, own_named, before_own}
 use Rattle.cilk_determinacy.specs.Nested.{named, named_from}
-use Rattle.cilk_determinacy.specs.Numbers.{frame_number, instance_number, start_event, numbered_event, numbered_events, all_reducers, HasInstance, EventIsHere, AreHere, AreNumbered}
+use Rattle.cilk_determinacy.specs.Numbers.{frame_number, instance_number, start_event, numbered_event, numbered_events, all_reducers, EventIsHere, AreHere, AreNumbered}
 use Rattle.cilk_determinacy.specs.ReducerEvents as reducer_events
 use Rattle.cilk_determinacy.specs.ReducerEvents.{OfKind, only, view_over, of_instance, retired_all, finals_over}
 use Rattle.cilk_determinacy.proofs.Determinate.{serial_numbered}
@@ -58,7 +54,7 @@ use Rattle.cilk_determinacy.proofs.Numbers.{frame_is}
 use Rattle.cilk_determinacy.proofs.ReducerEvents.{finals_viewed}
 use Rattle.cilk_settling.specs.Tables.{reducers_of, AreReducersOf, HaveTheirKinds}
 use Rattle.cilk_board.specs.Leaving.{finals_of}
-use Rattle.cilk_settling.specs.Finals.{AreLast, WholeViewsAreLast}
+use Rattle.cilk_settling.specs.Finals.{WholeViewsAreLast}
 use Rattle.cilk_settling.proofs.Opened.{IsFrameOf, AllFrames, FramesOpen, frames_open}
 use Rattle.cilk_settling.proofs.Places.{nth_left, nth_right}
 use Rattle.cilk_settling.proofs.Tabled.{no_output, kinds_told}

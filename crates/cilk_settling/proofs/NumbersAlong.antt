@@ -2,35 +2,31 @@
 --
 -- - `starts_there`: each frame that a serial run starts is one that its program has;
 -- - `worded`: what a course puts into views is words.
-use Rattle.std.proofs.Common.{◌≡◌, inl, ℕ, zero, suc, ◌+◌, ◌-◌, ◌<◌, ◌≤◌, ℤ, Bool, true, false, IsTrue, List, [], length, take, Option, Some, slice_get, slice_index_or, refl, sym, ap, ◌∙◌, subst, arith}
+use Rattle.std.proofs.Common.{◌≡◌, inl, ℕ, suc, ◌-◌, ◌≤◌, ℤ, IsTrue, List, [], length, refl, sym, ap, ◌∙◌, subst, arith}
 use Rattle.std.proofs.lemmas.Option.{slice_get_within}
 use Rattle.cilk_types.specs.Word.{IsWord}
 use Rattle.cilk_types.specs.declared.event.Event as numbers
 use Rattle.cilk_types.specs.declared.event.Event.TheVariants as events
-use Rattle.cilk_types.specs.declared.event.Instance as numbered
 use Rattle.cilk_types.specs.declared.limits.TheConstants.{MAX_EVENTS, MAX_TICKS}
 use Rattle.cilk_types.specs.declared.outcome.Outcome.{Outcome}
 use Rattle.cilk_monoid.specs.Kinds.{structure_of}
 use Rattle.cilk_monoid.specs.Ranges.{view_of}
-use Rattle.cilk_program.specs.declared.ask.Callee.TheVariants as callees
 use Rattle.cilk_program.specs.Inside.{body_of, CalleeIsFit}
 use Rattle.cilk_program.specs.Outcomes.{Conclusion, Leaves}
-use Rattle.cilk_program.specs.SerialRun.{Transcript, stop, act, child, Frame, Memory, Ending, Serial, Made, Ended, Went, Broke, Refused, IsSerialRun}
+use Rattle.cilk_program.specs.SerialRun.{Transcript, Frame, Memory, Ending, Serial, Made, Ended, Went, Broke, Refused, IsSerialRun}
 use Rattle.cilk_program.specs.Sources.{source}
 use Rattle.cilk_program.specs.Syntax.{Source}
 use Rattle.cilk_program.specs.WellNamed.{is_well_named}
 use Rattle.cilk_meaning.proofs.Existence.{serial_run_is_short}
 use Rattle.cilk_meaning.proofs.Uniqueness.{serial_run_is_one}
 use Rattle.cilk_story.specs.declared.story.Story.{Story}
-use Rattle.cilk_story.specs.Runs.{IsAsked, IsFollowed}
-use Rattle.cilk_story.specs.Word.{event}
 use Rattle.cilk_pieces.specs.declared.reducers.Reducers.{Reducers}
-use Rattle.cilk_pieces.specs.Reducers.{kind_in, events_from}
+use Rattle.cilk_pieces.specs.Reducers.{kind_in}
 use Rattle.cilk_runs.specs.Monoids.{unit_of}
 use Rattle.cilk_runs.specs.Runs.{Cell, Global, Own, Run}
 use Rattle.cilk_runs.specs.Traces.{trace, begin_due}
 use Rattle.cilk_worlds.specs.Machine.{next, opening_values}
-use Rattle.cilk_worlds.specs.Reducers.{View, monoid_of}
+use Rattle.cilk_worlds.specs.Reducers.{monoid_of}
 use Rattle.cilk_worlds.specs.Worlds.{World, first_world, child_world}
 use Rattle.cilk_determinacy.specs.Nested.{named, named_from}
 use Rattle.cilk_determinacy.specs.Numbers.{cell_number, instance_number, numbered_events, AreNumbered}

@@ -4,23 +4,21 @@
 -- - `IsSameFrame`: a frame of the course and the plan's have one name and one list of own reducers;
 -- - `valued_numbers`: the plan's list with the course's values is the course by numbers;
 -- - `felt_tied`: what an event makes of the views by names and by numbers.
-use Rattle.std.proofs.Common.{◌≡◌, ◌⊎◌, inl, inr, ℕ, zero, suc, ◌+◌, ℤ, eqb, Bool, true, false, cond, IsTrue, List, [], ◌∷◌, ◌++◌, length, slice_get, Option, Some, None, refl, sym, ap, ap₂, ◌∙◌, subst, arith, eqb-true, length-append}
+use Rattle.std.proofs.Common.{◌≡◌, ◌⊎◌, inl, inr, ℕ, suc, ◌+◌, ℤ, eqb, Bool, true, false, cond, IsTrue, List, [], ◌∷◌, ◌++◌, length, slice_get, Option, Some, None, refl, sym, ap, ap₂, ◌∙◌, subst, arith, eqb-true, length-append}
 use Rattle.std.proofs.lemmas.Bool.{and_parts, cases_Bool, false≢true}
 use Rattle.cilk_types.specs.Word.{IsWord}
 use Rattle.cilk_types.specs.declared.event.Event as numbers
 use Rattle.cilk_types.specs.declared.event.Event.TheVariants as events
-use Rattle.cilk_types.specs.declared.event.Instance as numbered
 use Rattle.cilk_types.specs.declared.invocation.Invocation.{Invocation}
 use Rattle.cilk_types.specs.declared.invocation.Invocation.TheVariants.{Call, Spawn}
 use Rattle.cilk_types.specs.declared.limits.TheConstants.{MAX_TICKS}
 use Rattle.cilk_monoid.specs.declared.kind.MonoidKind.{MonoidKind}
-use Rattle.cilk_monoid.specs.Kinds.{structure_of, same_kind, IsMember}
+use Rattle.cilk_monoid.specs.Kinds.{structure_of}
 use Rattle.cilk_monoid.specs.Lawful.{lawful}
 use Rattle.cilk_monoid.specs.Ranges as ranges
 use Rattle.cilk_monoid.specs.Values.{ViewValue}
 use Rattle.cilk_monoid.proofs.RangeLaws.{same_from_true, true_from_same}
 use Rattle.cilk_monoid.proofs.SameKinds.{kind_itself}
-use Rattle.cilk_hypermap.specs.Views.{output}
 use Rattle.cilk_program.specs.declared.ask.Ask as language
 use Rattle.cilk_program.specs.declared.ask.Ask.TheVariants as asks
 use Rattle.cilk_program.specs.declared.ask.Callee.{Callee}
@@ -32,9 +30,8 @@ use Rattle.cilk_program.specs.SerialRun.{own_reducers}
 use Rattle.cilk_program.specs.Syntax.{Source, function_at}
 use Rattle.cilk_program.specs.WellNamed.{is_kind, is_well_named}
 use Rattle.cilk_meaning.proofs.Asked.{asks_there}
-use Rattle.cilk_pieces.specs.declared.reducers.FrameReducers.{FrameReducers}
 use Rattle.cilk_pieces.specs.declared.reducers.Reducers.{Reducers}
-use Rattle.cilk_pieces.specs.Reducers.{own, kind_in, ends_from, retired, entered, of_event}
+use Rattle.cilk_pieces.specs.Reducers.{own, kind_in, ends_from, retired, entered}
 use Rattle.cilk_runs.specs.Runs.{Name, same_name, Instance, Output, Reducer, same_instance, has_instance, Ask, Invoke, End, Event, Reads, Writes, Syncs, Ends, Passes, Granted, Begins, Resumes, Creates, Updates, Sets, Values, Prints, Cell, Deed, Does, Invokes, Run}
 use Rattle.cilk_runs.specs.Runs as runs
 use Rattle.cilk_runs.specs.Machine.{started, put}
@@ -45,19 +42,17 @@ use Rattle.cilk_runs.specs.Views.{view_after, IsViewRight}
 use Rattle.cilk_runs.proofs.Basics.{same_name-eq, same_instance-refl, same_instance-eq}
 use Rattle.cilk_worlds.specs.Machine.{named_ask, answers_of, has_ended, asked_after, next, retired_from, retired_by}
 use Rattle.cilk_worlds.specs.Reducers.{View, value_of, kind_of, monoid_of}
-use Rattle.cilk_worlds.specs.Worlds.{World, child_world, own_named, before_own}
-use Rattle.cilk_determinacy.specs.Nested.{named_from}
+use Rattle.cilk_worlds.specs.Worlds.{World, child_world, before_own}
 use Rattle.cilk_determinacy.specs.Numbers.{all_reducers, frame_number, instance_number, start_event, numbered_event, numbered_events, HasCell, HasInstance, EventIsHere, AreHere, cell_number}
 use Rattle.cilk_determinacy.proofs.Numbers.{one_to_one}
 use Rattle.cilk_inputs.specs.Courses.{Course, stop, act, child, run_of, asked_in, IsLike, IsMadeFor, IsStartedFor, IsCourse}
 use Rattle.cilk_inputs.specs.Frames.{same_body, same_frame}
 use Rattle.cilk_inputs.specs.Lists.{with_value, with_values}
-use Rattle.cilk_inputs.proofs.AskedStories.{long}
 use Rattle.cilk_inputs.proofs.CourseWords.{EventWords, RunWords}
-use Rattle.cilk_settling.specs.Tables.{reducers_of, AreReducersOf, HaveTheirKinds}
+use Rattle.cilk_settling.specs.Tables.{AreReducersOf, HaveTheirKinds}
 use Rattle.cilk_settling.proofs.AskedNumbers.{Held, felt, held_after, held_both, IsNumberOf, AreAskedNumbers, numbers_both}
-use Rattle.cilk_settling.proofs.Lasting.{last_from, RetiresOwn, IsOf, of_frame, many_own, own_in_all}
-use Rattle.cilk_settling.proofs.Opened.{IsFrameOf, AllFrames, there_fit, there_no_root, invoked_there}
+use Rattle.cilk_settling.proofs.Lasting.{last_from, RetiresOwn, of_frame, many_own, own_in_all}
+use Rattle.cilk_settling.proofs.Opened.{IsFrameOf, AllFrames, there_fit, there_no_root}
 use Rattle.cilk_settling.proofs.Tabled.{no_output}
 
 -- ---- what a frame asks for
@@ -265,7 +260,7 @@ module _ (p : Source) (run : serial.Transcript) (r : Reducers) (table : AreReduc
   ends_tied : (name : Name) (b : ℕ) (i : Instance) → HasInstance p run i → (n : ℕ) (ks : List MonoidKind)
       → ((m : ℕ) (k : MonoidKind) → slice_get ks m ≡ Some k → HasInstance p run (Reducer name (b + (n + m)) k)) → (x : View) (y : ViewValue) → value_of (kind_of i) x ≡ y
       → value_of (kind_of i) (cond (has_instance (retired_from (λ (n : ℕ) (k : MonoidKind). Reducer name (b + n) k) n ks) i) ((monoid_of i).unit) x)
-        ≡ ranges.view_after (structure_of (kind_in r (instance_number p run i))) (instance_number p run i) (ends_from (frame_number p run name) (suc (b + n)) (length ks)) y
+      ≡ ranges.view_after (structure_of (kind_in r (instance_number p run i))) (instance_number p run i) (ends_from (frame_number p run name) (suc (b + n)) (length ks)) y
   ends_tied name b i known n [] each x y e = e
   ends_tied name b i known n (k ∷ ks) each x y e =
       let j = instance_number p run i in
@@ -288,7 +283,7 @@ module _ (p : Source) (run : serial.Transcript) (r : Reducers) (table : AreReduc
   frame_tied : (v : World) (u : Run World) → IsFrameOf p run v u → (g : ℕ) → g ≡ frame_number p run v.name → (gone : List Instance) → gone ≡ retired_by p v
       → (i : Instance) → HasInstance p run i → (x : View) (y : ViewValue) → value_of (kind_of i) x ≡ y
       → value_of (kind_of i) (cond (has_instance gone i) ((monoid_of i).unit) x)
-        ≡ ranges.view_after (structure_of (kind_in r (instance_number p run i))) (instance_number p run i) (retired g (own r g)) y
+      ≡ ranges.view_after (structure_of (kind_in r (instance_number p run i))) (instance_number p run i) (retired g (own r g)) y
   frame_tied v u frame g at gone is i known x y e =
       let f = frame_number p run v.name in
       let b = before_own p v.callee in
