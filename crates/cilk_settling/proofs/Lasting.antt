@@ -3,7 +3,7 @@
 -- - `list_from`: the events of reducers in a list of events, by one pass; `over_list`: those of a story's positions are;
 -- - `Alike`: two lists give each reducer the same view; `run_alike`: so do the pass and the run by names;
 -- - `prints_viewed`: the output's view over a list has what it prints.
-use Rattle.std.proofs.Common.{◌≡◌, ◌⊎◌, inl, inr, ⊎_elim, ℕ, zero, suc, ◌+◌, ◌-◌, ◌<◌, ◌≤◌, eqb, ℤ, pos, Bool, true, false, cond, ◌&&◌, IsTrue, List, [], ◌∷◌, ◌++◌, length, take, get_or, slice_get, slice_index_or, Option, Some, None, refl, sym, ap, ap₂, ◌∙◌, subst, arith, append_assoc, append-nil, length-append}
+use Rattle.std.proofs.Common.{◌≡◌, ◌⊎◌, inl, inr, ℕ, zero, suc, ◌+◌, ◌-◌, ◌<◌, ◌≤◌, eqb, ℤ, Bool, true, false, cond, ◌&&◌, List, [], ◌∷◌, ◌++◌, length, take, get_or, slice_get, slice_index_or, Option, Some, None, refl, sym, ap, ap₂, ◌∙◌, subst, arith, append_assoc, append-nil, length-append}
 use Rattle.std.proofs.Math.Seq.{take-length}
 use Rattle.std.proofs.lemmas.List.{take_more}
 use Rattle.std.proofs.lemmas.Bool.{cases_Bool, ne_eqb}
@@ -14,7 +14,6 @@ use Rattle.cilk_types.specs.declared.event.Instance as numbered
 use Rattle.cilk_types.specs.declared.invocation.Invocation.{Invocation}
 use Rattle.cilk_types.specs.declared.invocation.Invocation.TheVariants.{Call, Spawn}
 use Rattle.cilk_types.specs.declared.outcome.Final.{Final}
-use Rattle.cilk_types.specs.declared.outcome.Outcome.{Outcome}
 use Rattle.cilk_monoid.specs.declared.kind.MonoidKind.{MonoidKind}
 use Rattle.cilk_monoid.specs.declared.kind.MonoidKind.TheVariants.{Append}
 use Rattle.cilk_monoid.specs.Kinds.{structure_of, same_kind, final_of}
@@ -23,10 +22,8 @@ use Rattle.cilk_monoid.specs.Laws.{MonoidStructure}
 use Rattle.cilk_monoid.specs.Values.{ViewValue, Elements}
 use Rattle.cilk_monoid.proofs.RangeLaws.{same_from_true, view_after-append}
 use Rattle.cilk_monoid.proofs.SameKinds.{kind_itself}
-use Rattle.cilk_hypermap.specs.declared.hypermap.Hypermap.{Hypermap}
 use Rattle.cilk_hypermap.specs.Hypermap.{value_in}
 use Rattle.cilk_hypermap.specs.Views.{output}
-use Rattle.cilk_program.specs.declared.ask.Ask.{Ask}
 use Rattle.cilk_program.specs.declared.ask.Ask.TheVariants as asks
 use Rattle.cilk_program.specs.declared.ask.Callee.{Callee}
 use Rattle.cilk_program.specs.declared.ask.Callee.TheVariants as callees
@@ -34,14 +31,13 @@ use Rattle.cilk_program.specs.Outcomes.{Leaves}
 use Rattle.cilk_program.specs.SerialRun as serial
 use Rattle.cilk_program.specs.SerialRun.{global_reducer, own_reducers, IsSerialRun}
 use Rattle.cilk_program.specs.Syntax.{Source, main_of, function_at}
-use Rattle.cilk_program.specs.WellNamed.{is_well_named}
 use Rattle.cilk_meaning.specs.Answered.{prints, printed_by}
 use Rattle.cilk_meaning.proofs.Remembered.{runs_leave}
 use Rattle.cilk_story.specs.declared.story.Story.{Story}
 use Rattle.cilk_story.specs.Word.{event}
 use Rattle.cilk_pieces.specs.declared.reducers.FrameReducers.{FrameReducers}
 use Rattle.cilk_pieces.specs.declared.reducers.Reducers.{Reducers}
-use Rattle.cilk_pieces.specs.Reducers.{own, kind_in, ends_from, retired, entered, frame_behind, frame_in, of_event, events_at, events_from, events_over}
+use Rattle.cilk_pieces.specs.Reducers.{own, kind_in, ends_from, retired, entered, frame_behind, frame_in, of_event, events_from, events_over}
 use Rattle.cilk_runs.specs.Runs.{Name, Instance, Output, Reducer, Reads, Writes, Syncs, Ends, Passes, Begins, Resumes, Creates, Updates, Sets, Values, Prints, Run, stop, act, child}
 use Rattle.cilk_runs.specs.Runs as runs
 use Rattle.cilk_runs.specs.Traces.{trace, Due, begin_due, resume_due, neither_due, IsFramed}
@@ -49,7 +45,7 @@ use Rattle.cilk_worlds.specs.Machine.{retired_from, retired_by}
 use Rattle.cilk_worlds.specs.Reducers.{kind_of}
 use Rattle.cilk_worlds.specs.Worlds.{World, first_world, child_world, own_named, before_own}
 use Rattle.cilk_determinacy.specs.Nested.{named, named_from}
-use Rattle.cilk_determinacy.specs.Numbers.{frame_number, instance_number, start_event, numbered_event, numbered_events, all_reducers, HasInstance, EventIsHere, AreHere, AreNumbered}
+use Rattle.cilk_determinacy.specs.Numbers.{frame_number, instance_number, start_event, numbered_event, numbered_events, all_reducers, EventIsHere, AreHere, AreNumbered}
 use Rattle.cilk_determinacy.specs.ReducerEvents as reducer_events
 use Rattle.cilk_determinacy.specs.ReducerEvents.{OfKind, only, view_over, of_instance, retired_all, finals_over}
 use Rattle.cilk_determinacy.proofs.Determinate.{serial_numbered}
@@ -58,17 +54,17 @@ use Rattle.cilk_determinacy.proofs.Numbers.{frame_is}
 use Rattle.cilk_determinacy.proofs.ReducerEvents.{finals_viewed}
 use Rattle.cilk_settling.specs.Tables.{reducers_of, AreReducersOf, HaveTheirKinds}
 use Rattle.cilk_board.specs.Leaving.{finals_of}
-use Rattle.cilk_settling.specs.Finals.{AreLast, WholeViewsAreLast}
+use Rattle.cilk_settling.specs.Finals.{WholeViewsAreLast}
 use Rattle.cilk_settling.proofs.Opened.{IsFrameOf, AllFrames, FramesOpen, frames_open}
 use Rattle.cilk_settling.proofs.Places.{nth_left, nth_right}
 use Rattle.cilk_settling.proofs.Tabled.{no_output, kinds_told}
 
 -- ---- by one pass
-abbrev list_from : Reducers → ℕ → List numbers.Event → List ReducerEvent
+abbrev pub list_from : Reducers → ℕ → List numbers.Event → List ReducerEvent
 list_from r g [] = []
 list_from r g (e ∷ es) = of_event r (entered e g) (Some e) ++ list_from r (entered e g) es
 
-abbrev last_from : ℕ → List numbers.Event → ℕ
+abbrev pub last_from : ℕ → List numbers.Event → ℕ
 last_from g [] = g
 last_from g (e ∷ es) = last_from (entered e g) es
 
@@ -89,7 +85,7 @@ entered_last g (d ∷ es) e = entered_last (entered d g) es e
 
 -- ---- of a story's positions
 module _ (s : Story) (r : Reducers) where
-  over_from : (n : ℕ) → n ≤ length s.events → events_from s r 1 n ≡ list_from r 0 (take n s.events)
+  pub over_from : (n : ℕ) → n ≤ length s.events → events_from s r 1 n ≡ list_from r 0 (take n s.events)
   unfolding events_from
   over_from zero le = refl
   over_from (suc n) le =
@@ -165,13 +161,13 @@ alike_none : (r : Reducers) → Alike r [] []
 alike_none r i v other = refl
 
 -- ---- each frame retires its own reducers
-abbrev RetiresOwn : Source → World → Run World → Type 0
+abbrev pub RetiresOwn : Source → World → Run World → Type 0
 RetiresOwn p w stop = Unit {0}
 RetiresOwn p w (act (Ends v gone) t) = (gone ≡ retired_by p w) × RetiresOwn p w t
 RetiresOwn p w (act e t) = RetiresOwn p w t
 RetiresOwn p w (child k x u t) = RetiresOwn p x u × RetiresOwn p w t
 
-retires_own : (p : Source) (w : World) (j : ℕ) (r : serial.Transcript) → RetiresOwn p w (named_from p w j r)
+pub retires_own : (p : Source) (w : World) (j : ℕ) (r : serial.Transcript) → RetiresOwn p w (named_from p w j r)
 retires_own p w j serial.stop = tt
 retires_own p w j (serial.act asks.Begin v r) = retires_own p w j r
 retires_own p w j (serial.act (asks.Read x) v r) = retires_own p w j r
@@ -211,13 +207,13 @@ module _ (p : Source) (run : serial.Transcript) (r : Reducers) (table : AreReduc
       (subst (λ (q : ℕ). Alike r (ends_from f q (length ks)) (retired_all p run (retired_from own_one (suc n) ks))) (sym s) rest)
 
   -- a frame's end
-  record IsOf (w : World) : Type 0 where
-    table_is : own r (frame_number p run w.name) ≡ reducers_of p w.callee
+  pub record IsOf (w : World) : Type 0 where
+    pub table_is : own r (frame_number p run w.name) ≡ reducers_of p w.callee
 
-  of_frame : (w : World) (u : Run World) → IsFrameOf p run w u → IsOf w
+  pub of_frame : (w : World) (u : Run World) → IsFrameOf p run w u → IsOf w
   of_frame w u h = let b = h.here in record { table_is = ap (own r) (frame_is p run w.name b) ∙ table b.path b.block w.callee b.found h.runs }
 
-  many_own : (w : World) → length (all_reducers p w.callee) - before_own p w.callee ≡ length (own_reducers p w.callee)
+  pub many_own : (w : World) → length (all_reducers p w.callee) - before_own p w.callee ≡ length (own_reducers p w.callee)
   many_own w = by w.callee
     where
       front : (l m : List MonoidKind) → length (l ++ m) - length l ≡ length m
@@ -228,7 +224,7 @@ module _ (p : Source) (run : serial.Transcript) (r : Reducers) (table : AreReduc
       by (callees.Function c) = let f = function_at p c.function in let z : length f.reducers - 0 ≡ length f.reducers = omega arith in z
       by (callees.Loop l) = refl
 
-  own_in_all : (w : World) (m : ℕ) (k : MonoidKind) → slice_get (own_reducers p w.callee) m ≡ Some k → slice_get (all_reducers p w.callee) (before_own p w.callee + m) ≡ Some k
+  pub own_in_all : (w : World) (m : ℕ) (k : MonoidKind) → slice_get (own_reducers p w.callee) m ≡ Some k → slice_get (all_reducers p w.callee) (before_own p w.callee + m) ≡ Some k
   own_in_all w m k at = by w.callee at
     where
       by : (c : Callee) → slice_get (own_reducers p c) m ≡ Some k → slice_get (all_reducers p c) (before_own p c + m) ≡ Some k

@@ -1,21 +1,19 @@
 -- What a whole run leaves, by its cells and its views: `left_is`, `piece_left`.
-use Rattle.std.proofs.Common.{◌≡◌, ℕ, zero, suc, ◌+◌, ◌-◌, ◌<◌, ◌≤◌, ℤ, pos, IsTrue, List, [], ◌∷◌, length, take, slice_index_or, Option, Some, None, refl, sym, ap, ◌∙◌, subst, arith}
+use Rattle.std.proofs.Common.{◌≡◌, ℕ, zero, suc, ◌+◌, ◌<◌, ◌≤◌, ℤ, pos, IsTrue, List, [], ◌∷◌, length, take, slice_index_or, Option, Some, None, refl, sym, ap, ◌∙◌, subst, arith}
 use Rattle.std.proofs.Math.Seq.{take-length}
 use Rattle.std.specs.Option.{option_map}
 use Rattle.cilk_types.specs.declared.event.Event.{Event}
 use Rattle.cilk_types.specs.declared.event.Event.TheVariants.{Write}
-use Rattle.cilk_types.specs.declared.outcome.Final.{Final}
 use Rattle.cilk_types.specs.declared.outcome.Outcome.{Outcome}
 use Rattle.cilk_monoid.specs.declared.kind.MonoidKind.TheVariants.{Append}
 use Rattle.cilk_monoid.specs.Kinds.{final_of}
 use Rattle.cilk_monoid.specs.Values.{ViewValue, Elements}
 use Rattle.cilk_hypermap.specs.declared.hypermap.Hypermap.{Hypermap}
-use Rattle.cilk_hypermap.specs.Hypermap.{view_in, value_in}
+use Rattle.cilk_hypermap.specs.Hypermap.{view_in}
 use Rattle.cilk_hypermap.specs.Ranges.{ShowsRange}
 use Rattle.cilk_hypermap.specs.Views.{output, or_unit}
 use Rattle.cilk_monoid.specs.Kinds.{structure_of}
-use Rattle.cilk_program.specs.Outcomes.{Leaves, cells_from}
-use Rattle.cilk_program.specs.SerialRun.{Transcript, IsSerialRun}
+use Rattle.cilk_program.specs.Outcomes.{cells_from}
 use Rattle.cilk_program.specs.Syntax.{Source}
 use Rattle.cilk_program.specs.WellNamed.{is_well_named}
 use Rattle.cilk_meaning.specs.Answered.{cells_after, opening_cells}

@@ -1,9 +1,12 @@
 mod AlongSettled
+mod AskedNumbers
 mod Between
 mod Found
 mod Lasting
 mod Leaving
+mod NumbersAlong
 mod Opened
 mod Places
 mod Settled
 mod Tabled
+mod ViewsAlong

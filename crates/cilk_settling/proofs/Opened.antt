@@ -140,16 +140,16 @@ StartsNoRoot stop = Unit {0}
 StartsNoRoot (act k v r) = StartsNoRoot r
 StartsNoRoot (child how callee u r) = (callee ≡ callees.Root → ⊥) × StartsNoRoot u × StartsNoRoot r
 
-there_fit : (p : Source) (b : Body) (callee : Callee) → CalleeIsThere p b callee → CalleeIsFit p callee
+pub there_fit : (p : Source) (b : Body) (callee : Callee) → CalleeIsThere p b callee → CalleeIsFit p callee
 there_fit p b callees.Root h = tt
 there_fit p b (callees.Function c) h = h.0
 there_fit p b (callees.Loop l) h = h.0
 
-there_no_root : (p : Source) (b : Body) (callee : Callee) → CalleeIsThere p b callee → callee ≡ callees.Root → ⊥
+pub there_no_root : (p : Source) (b : Body) (callee : Callee) → CalleeIsThere p b callee → callee ≡ callees.Root → ⊥
 there_no_root p b callee h e = subst (CalleeIsThere p b) e h
 
 module _ (p : Source) (inputs : List ℤ) (well : IsTrue (is_well_named p)) where
-  invoked_there : (fr : Frame) (start : ℕ) (history : List ℤ) (how : Invocation) (callee : Callee) (left : ℕ) → CalleeIsFit p fr.callee
+  pub invoked_there : (fr : Frame) (start : ℕ) (history : List ℤ) (how : Invocation) (callee : Callee) (left : ℕ) → CalleeIsFit p fr.callee
       → frame_asks p inputs fr.callee history start ≡ asks_for (asks.Invoke how callee) left → CalleeIsThere p (body_of p fr.callee) callee
   invoked_there fr start history how callee left fit q = subst (λ (o : OpenAsk). AskIsThere p fr.callee o.ask) q (asks_there p well fr.callee fit inputs history start)
 

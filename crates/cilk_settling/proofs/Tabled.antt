@@ -13,8 +13,6 @@ use native.Mathlib.Decide.{ℕ_discrete}
 use Rattle.cilk_settling.proofs.Places.{nth_left, nth_right}
 use Rattle.cilk_types.specs.declared.event.Event.{Event}
 use Rattle.cilk_types.specs.declared.event.Event.TheVariants as events
-use Rattle.cilk_types.specs.declared.invocation.Invocation.{Invocation}
-use Rattle.cilk_types.specs.declared.invocation.Invocation.TheVariants.{Call, Spawn}
 use Rattle.cilk_monoid.specs.declared.kind.MonoidKind.{MonoidKind}
 use Rattle.cilk_monoid.specs.declared.kind.MonoidKind.TheVariants.{Append}
 use Rattle.cilk_monoid.proofs.SameKinds.{same_kind-eq}
@@ -27,15 +25,14 @@ use Rattle.cilk_program.specs.declared.program.Function as declared_functions
 use Rattle.cilk_program.specs.declared.program.GlobalReducer.{GlobalReducer}
 use Rattle.cilk_program.specs.Inside.{body_of}
 use Rattle.cilk_program.specs.Outcomes.{Leaves}
-use Rattle.cilk_program.specs.SerialRun.{Transcript, stop, act, child, Frame, invocation, IsSerialRun}
+use Rattle.cilk_program.specs.SerialRun.{Transcript, stop, act, child, IsSerialRun}
 use Rattle.cilk_program.specs.Sources.{source}
 use Rattle.cilk_program.specs.Programs.{function}
 use Rattle.cilk_program.specs.Syntax.{Source, Function, function_at, main_of, idle}
 use Rattle.cilk_program.specs.WellNamed.{is_kind, is_well_named}
-use Rattle.cilk_meaning.specs.Numbering.{Counts, unbegun, entered, counts_after, frame_of, events_of, Block, block_of, child_at, frame_at}
+use Rattle.cilk_meaning.specs.Numbering.{Counts, unbegun, entered, counts_after, Block, block_of, child_at}
 use Rattle.cilk_meaning.proofs.Naming.{well_named_parts}
-use Rattle.cilk_meaning.proofs.Numbers.{run_events}
-use Rattle.cilk_serial.specs.SoFar.{begun_in, callees_of}
+use Rattle.cilk_serial.specs.SoFar.{begun_in}
 use Rattle.cilk_tree.specs.declared.mark.Mark.TheVariants as mark
 use Rattle.cilk_tree.specs.Races.{event_at}
 use Rattle.cilk_story.specs.declared.story.Story.{Story}
@@ -48,17 +45,15 @@ use Rattle.cilk_plan.specs.Along.{IsAlong}
 use Rattle.cilk_plan.specs.Planned.{planned}
 use Rattle.cilk_pieces.specs.declared.reducers.FrameReducers.{FrameReducers}
 use Rattle.cilk_pieces.specs.declared.reducers.Reducers.{Reducers}
-use Rattle.cilk_pieces.specs.Reducers.{own, kind_in, frame_in, of_event, events_at, HasFew}
+use Rattle.cilk_pieces.specs.Reducers.{own, frame_in, of_event, HasFew}
 use Rattle.cilk_pieces.specs.Settled.{AreSettled}
-use Rattle.cilk_runs.specs.Runs.{Name, Instance, Output, Reducer}
-use Rattle.cilk_worlds.specs.Reducers.{kind_of}
-use Rattle.cilk_determinacy.specs.Numbers.{frame_number, all_reducers, child_runs, frame_runs, instance_number, HasInstance}
+use Rattle.cilk_runs.specs.Runs.{Output, Reducer}
+use Rattle.cilk_determinacy.specs.Numbers.{frame_number, all_reducers, child_runs}
 use Rattle.cilk_determinacy.proofs.Numbers.{frame_is}
 use Rattle.cilk_checker.specs.Determinate.{AcceptedRun, HasDeterminateRun}
 use Rattle.cilk_planning.specs.declared.frames.PlannedFrame.{PlannedFrame}
 use Rattle.cilk_planning.specs.Frames.{frames_of, AreFramesOf}
 use Rattle.cilk_planning.proofs.Standing.{frames_stand}
-use Rattle.cilk_planning.specs.Plans.{IsPlanOf}
 use Rattle.cilk_settling.specs.Accepted.{IsTableOf, reducers_in}
 use Rattle.cilk_settling.specs.Tables.{reducers_of, AreReducersOf, HaveTheirKinds}
 use Rattle.cilk_settling.proofs.AlongSettled.{along_settled}

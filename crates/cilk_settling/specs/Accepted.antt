@@ -1,6 +1,5 @@
 -- The table of an accepted run's reducers.
-use Rattle.std.specs.Prelude.{◌≡◌, ℕ, suc, ◌≤◌, List, [], length, Some, slice_get}
-use Rattle.cilk_program.specs.declared.ask.Callee.TheVariants.{Root}
+use Rattle.std.specs.Prelude.{◌≡◌, []}
 use Rattle.cilk_program.specs.declared.program.Body.{Body}
 use Rattle.cilk_program.specs.declared.program.Body.TheVariants.{Function, Loop}
 use Rattle.cilk_program.specs.Outcomes.{Leaves}
@@ -15,7 +14,7 @@ use Rattle.cilk_pieces.specs.Reducers.{events_at}
 use Rattle.cilk_pieces.specs.Settled.{AreSettled}
 use Rattle.cilk_checker.specs.Determinate.{AcceptedRun}
 use Rattle.cilk_planning.specs.Plans.{IsPlanOf}
-use Rattle.cilk_settling.specs.Tables.{reducers_of, AreReducersOf, HaveTheirKinds}
+use Rattle.cilk_settling.specs.Tables.{AreReducersOf, HaveTheirKinds}
 
 -- The table is that of an accepted run, and the run's reducers are settled along its plan, on any input.
 pub record IsTableOf (a : AcceptedRun) (r : Reducers) : Type 0 where

@@ -1,4 +1,5 @@
 pub mod Accepted
 pub mod Finals
 pub mod Laws
+pub mod Numbers
 pub mod Tables

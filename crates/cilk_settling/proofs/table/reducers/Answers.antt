@@ -1,4 +1,4 @@
-use Rattle.std.proofs.Common.{◌≡◌, ◌+◌, ◌≤◌, ◌<◌, ℕ, List, [], ◌∷◌, ◌++◌, length, sym, ap, ◌∙◌, subst, arith}
+use Rattle.std.proofs.Common.{◌≤◌, ◌<◌, List, [], ◌∷◌, ◌++◌, length, sym, ap, ◌∙◌, subst, arith}
 use Rattle.cilk_program.specs.Sources.{source}
 use Rattle.cilk_pieces.specs.declared.reducers.FrameReducers.{FrameReducers}
 use Rattle.cilk_pieces.specs.Reducers.{HasFew}
