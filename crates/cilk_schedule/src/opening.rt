@@ -10,7 +10,7 @@ ghost use Rattle.cilk_schedule.specs.Sound.{IsCode, IsCodeOf, Runs};
 use cilk_activations::beginnings::root;
 use cilk_board::beginning::add_cells;
 use cilk_board::board::Board;
-use cilk_board::offer_list::Offers;
+use cilk_offers::offer_list::Offers;
 use cilk_board::seat::{Seat, Worker};
 use cilk_frames::asked::AskSlot;
 use cilk_frames::cursor::Cursor;
