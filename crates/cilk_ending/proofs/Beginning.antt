@@ -1,6 +1,6 @@
 -- How a serial run's frames are numbered as they begin, and their cells.
 --
--- - `begun_after`, `frames_after`, `InOrder`: events that begin frames in the order of their numbers; `order_at`, `after_next`, `after_low`: at an event;
+-- - `begun_after`, `frames_after`, `InOrder`: events that begin frames in the order of their numbers; `order_at`, `after_append`, `after_grows`: at an event, and of a list's parts;
 -- - `cells_after`, `CellsFit`, `fits_at`: the cells of frames that begin one after the other;
 -- - `run_in_order`, `run_fits`: so of a serial run.
 use Rattle.std.proofs.Common.{◌≡◌, nat_eq, nat_lt, Bool, true, false, if◌then◌else◌, ℕ, zero, suc, ◌+◌, ◌≤◌, ℤ, List, [], ◌∷◌, ◌++◌, length, take, Option, Some, None, slice_get, refl, sym, ap, ◌∙◌, subst, arith, length-append}
@@ -42,7 +42,7 @@ abbrev pub InOrder : ℕ → List Event → Type 0
 InOrder k [] = Unit {0}
 InOrder k (e ∷ es) = IsNext k e × InOrder (begun_after k e) es
 
-after_append : (k : ℕ) (xs ys : List Event) → frames_after k (xs ++ ys) ≡ frames_after (frames_after k xs) ys
+pub after_append : (k : ℕ) (xs ys : List Event) → frames_after k (xs ++ ys) ≡ frames_after (frames_after k xs) ys
 after_append k [] ys = refl
 after_append k (x ∷ xs) ys = after_append (begun_after k x) xs ys
 
@@ -58,11 +58,6 @@ order_at k [] i e h is = absurd (let z : None ≡ Some e = is in cc z)
 order_at k (x ∷ es) zero e h is = subst (IsNext k) (same_event x e is) h.0
 order_at k (x ∷ es) (suc i) e h is = order_at (begun_after k x) es i e h.1 is
 
-pub after_next : (k : ℕ) (es : List Event) (i : ℕ) (e : Event) → slice_get es i ≡ Some e → frames_after k (take (suc i) es) ≡ begun_after (frames_after k (take i es)) e
-after_next k [] i e is = absurd (let z : None ≡ Some e = is in cc z)
-after_next k (x ∷ es) zero e is = ap (begun_after k) (same_event x e is)
-after_next k (x ∷ es) (suc i) e is = after_next (begun_after k x) es i e is
-
 one_grows : (k : ℕ) (e : Event) → k ≤ begun_after k e
 one_grows k (events.Spawn n) = omega arith
 one_grows k (events.Call n) = omega arith
@@ -71,12 +66,6 @@ one_grows k e = omega arith
 pub after_grows : (k : ℕ) (es : List Event) → k ≤ frames_after k es
 after_grows k [] = omega arith
 after_grows k (e ∷ es) = let h = after_grows (begun_after k e) es in let g = one_grows k e in omega (arith, h, g)
-
-pub after_low : (k : ℕ) (es : List Event) (i : ℕ) → frames_after k (take i es) ≤ frames_after k es
-after_low k [] zero = omega arith
-after_low k [] (suc i) = omega arith
-after_low k (e ∷ es) zero = after_grows k (e ∷ es)
-after_low k (e ∷ es) (suc i) = after_low (begun_after k e) es i
 
 -- ---- cells
 

@@ -2,9 +2,11 @@
 
 ghost use Rattle.std.specs.Prelude.{IfOk};
 ghost use Rattle.cilk_program.specs.Sources.{source};
-ghost use Rattle.cilk_checker.specs.Runs.{EndsWith};
+ghost use Rattle.cilk_ending.specs.Runs.{EndsWith};
 
+use crate::frames::{PlannedFrame, begin};
 use cilk_lower::lower::lower;
+use cilk_program::ask::Callee;
 use cilk_program::program::Program;
 use cilk_serial::serial_run::{Next, SerialRun};
 use cilk_types::fault::Fault;
@@ -16,13 +18,14 @@ use std::alloc::{AllocError, Global};
 /// How a serial run ends.
 #[derive(Drop, Debug)]
 pub enum End {
-    /// By itself, and it leaves this.
-    Left(Outcome),
+    /// By itself: it leaves this, and these are its frames, in the order of their numbers.
+    Left(Outcome, Vec<PlannedFrame>),
     /// By this fault, in place of the event behind the last.
     Stopped(Fault),
 }
 
-/// The end of the program's serial run on this input, and the events up to it. Cost: that of the run.
+/// The end of the program's serial run on this input, and the events up to it. Cost: that of the run; memory: linear in the events and
+/// the frames.
 pub fn run_to_end(
     alloc: Global,
     program: &Program,
@@ -32,12 +35,20 @@ pub fn run_to_end(
 {
     let code = lower(alloc, program)?;
     let mut serial = SerialRun::new(alloc, program, &code, input)?;
+    let mut frames = Vec::new(alloc);
+    let globals = program.globals.len() as u64;
+    let mut cells = begin(&mut frames, globals, program, code.layout(), &Callee::Root)?;
     'each: loop {
+        let callee = serial.callee();
         match serial.next()? {
-            Next::Made(_) => {}
+            Next::Made(_) => {
+                if let Some(callee) = &callee {
+                    cells = begin(&mut frames, cells, program, code.layout(), callee)?;
+                }
+            }
             Next::Ended => {
                 let (outcome, trace) = serial.finish()?;
-                return Ok((End::Left(outcome), trace));
+                return Ok((End::Left(outcome, frames), trace));
             }
             Next::Stops(fault) => return Ok((End::Stopped(fault), serial.into_trace())),
         }

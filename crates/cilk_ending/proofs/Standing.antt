@@ -8,9 +8,9 @@ use Rattle.cilk_program.specs.Syntax.{Source}
 use Rattle.cilk_meaning.specs.Numbering.{Counts, unbegun, entered, counts_after, Block, block_of, child_at}
 use Rattle.cilk_serial.specs.SoFar.{begun_in, callees_of}
 use Rattle.cilk_determinacy.specs.Numbers.{child_runs}
-use Rattle.cilk_planning.specs.declared.frames.PlannedFrame.{PlannedFrame}
-use Rattle.cilk_planning.specs.Frames.{frame_begun, frames_from, frames_of, FramesStandAtTheirNumbers}
-use Rattle.cilk_planning.proofs.Beginning.{cells_after, counted_frames, counted_cells}
+use Rattle.cilk_ending.specs.declared.frames.PlannedFrame.{PlannedFrame}
+use Rattle.cilk_ending.specs.Frames.{frame_begun, frames_from, frames_of, FramesStandAtTheirNumbers}
+use Rattle.cilk_ending.proofs.Beginning.{cells_after, counted_frames, counted_cells}
 
 abbrev planned_frame : Source → Callee → Block → PlannedFrame
 planned_frame p callee b = record { body = body_of p callee; first_cell = b.first; cells = b.cells }
