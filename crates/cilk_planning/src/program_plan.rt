@@ -12,7 +12,7 @@ ghost use Rattle.cilk_program.specs.Sources.{source};
 ghost use Rattle.cilk_story.specs.Orders.{IsOrderly};
 ghost use Rattle.cilk_story.specs.Word.{spawn, what};
 ghost use Rattle.cilk_planning.specs.Continuations.{SpawnsHaveContinuations};
-ghost use Rattle.cilk_planning.specs.Frames.{IsFrameOf};
+ghost use Rattle.cilk_planning.specs.Frames.{AreFramesOf, IsFrameOf};
 ghost use Rattle.cilk_planning.specs.Plans.{IsPlanOf};
 
 use crate::frames::{PlannedFrame, frames};
@@ -137,6 +137,20 @@ impl<'a> ProgramPlan<'a> {
         ensures { result ≡ self.entry.story }
     {
         self.events
+    }
+
+    /// The accepted run, as contracts see it.
+    pub fn accepted(&self) -> &Snapshot<Accepted>
+        ensures { result.now.value ≡ self.now.run }
+    {
+        &self.accepted
+    }
+
+    /// What each frame of the run runs, and where its cells lie, in the order of the frames' numbers.
+    pub fn frames(&self) -> &[PlannedFrame]
+        ensures { AreFramesOf self.now.run result.now }
+    {
+        self.frames.as_slice()
     }
 
     /// What the frame with a number runs, and where its cells lie; none where the run has no such frame.
