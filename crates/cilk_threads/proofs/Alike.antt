@@ -136,9 +136,9 @@ no_root_at (serial.child how x u r) h (suc k) path c ran is = no_root_at r h.2 k
 
 -- a table of the one run's reducers is of the other's
 pub table_along : (p : Source) (run run' : Transcript) (r : Reducers) → SameFrames p run run' → StartsNoRoot run → StartsNoRoot run' → AreReducersOf p run r → AreReducersOf p run' r
-table_along p run run' r same no no' table [] block callee found ran = table [] block callee found ran
-table_along p run run' r same no no' table (k ∷ path) block callee found ran =
+table_along p run run' r same rootless rootless' table [] block callee found ran = table [] block callee found ran
+table_along p run run' r same rootless rootless' table (k ∷ path) block callee found ran =
     let n = entered p callees.Root (unbegun p) in
     let x = like_child p run run' n n same refl k path block callee found ran in
     ap (own r) (sym x.number_is) ∙ table (k ∷ path) x.block x.callee x.is x.runs
-    ∙ sym (in_body p x.callee (no_root_at run no k path x.callee x.runs)) ∙ ap (reducers_in p) x.body_is ∙ in_body p callee (no_root_at run' no' k path callee ran)
+    ∙ sym (in_body p x.callee (no_root_at run rootless k path x.callee x.runs)) ∙ ap (reducers_in p) x.body_is ∙ in_body p callee (no_root_at run' rootless' k path callee ran)

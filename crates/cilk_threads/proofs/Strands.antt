@@ -36,7 +36,7 @@ same_strand (e ∷ es) (f ∷ fs) same (suc p) =
 
 begins_along : (es fs : List Event) → map kind_of es ≡ map kind_of fs → (n p : ℕ) → BeginsStrand es n p → BeginsStrand fs n p
 begins_along es fs same n p h = record {
-  place = (h.place.0, let l : length es ≡ length fs = sym (length-map kind_of es) ∙ ap length same ∙ length-map kind_of fs in let le = h.place.1 in omega (arith, l, le));
+  place = (h.place.0, let l : length es ≡ length fs = sym (length-map es kind_of) ∙ ap length same ∙ length-map fs kind_of in let le = h.place.1 in omega (arith, l, le));
   is = sym (same_strand es fs same p) ∙ h.is;
   first = λ q low less e. h.first q low less (same_strand es fs same q ∙ e);
 }

@@ -1,6 +1,6 @@
 //! Programs run by several workers, as their serial runs.
 
-use crate::texts::{GETS, LIST, PRINTS, SUMS, TURNS, accepted};
+use crate::texts::{GETS, LIST, PRINTS, SQUARES, SUMS, TURNS, accepted};
 use cilk_checker::accepted::Accepted;
 use cilk_crew::run::ThreadFault;
 use cilk_planning::program_plan::{ProgramPlan, plan};
@@ -9,15 +9,21 @@ use cilk_threads::threads::run_threads;
 use cilk_types::event::StrandNo;
 use cilk_types::outcome::{Final, Outcome};
 use cilk_workers::gate::{Gate, Open};
+use crossbeam_channel::{Receiver, Sender, bounded};
 use std::alloc::Global;
 use std::process::Abort;
 use std::sync::Wait;
 use std::sync::atomic::{AtomicU64, Ordering};
 use std::test::Fail;
+use std::thread;
 use std::thread::Threads;
+use std::time::{Clock, Duration};
 
 // How often each program is run by each number of workers.
 const RUNS: u32 = 20;
+
+// How many seconds the runs of a program are waited for.
+const PATIENCE: u64 = 15;
 
 // Counts the strands that have begun.
 struct Begun {
@@ -66,7 +72,7 @@ fn strands(plan: &ProgramPlan<'_>) -> u64 {
     count
 }
 
-// One run by some workers, which leaves what the serial run leaves.
+// One run along a plan by some workers, which leaves what the accepted run on this input leaves.
 fn run_once<R: Abort + Threads + Wait + Sync>(
     rt: &R,
     alloc: Global,
@@ -89,53 +95,113 @@ fn run_once<R: Abort + Threads + Wait + Sync>(
     assert_eq!(rt; begun.strands.load(Ordering::SeqCst), strands(plan));
 }
 
-// Runs a program by 1, 2 and 4 workers.
+// Runs the plan of a program's run on other numbers by 1, 2 and 4 workers, and tells when that has ended.
 fn runs_as_certified<R: Abort + Threads + Wait + Sync>(
     rt: &R,
     alloc: Global,
     text: &str,
     numbers: &str,
+    others: &str,
+    ended: &Sender<bool, Global>,
 ) {
-    let accepted = accepted(rt, alloc, text, numbers);
-    let Ok(plan) = plan(alloc, &accepted) else {
+    let planned = accepted(rt, alloc, text, numbers);
+    let other = accepted(rt, alloc, text, others);
+    let Ok(plan) = plan(alloc, &planned) else {
         panic!(rt; "no memory for the plan");
     };
     for workers in [1, 2, 4] {
         for _ in 0..RUNS {
-            run_once(rt, alloc, &accepted, &plan, workers);
+            run_once(rt, alloc, &other, &plan, workers);
         }
     }
+    assert!(rt; ended.send(rt, true).is_ok());
+}
+
+// Ends the test where the runs don't end.
+fn awaits<R: Abort + Wait + Clock>(rt: &R, ended: &Receiver<bool, Global>) {
+    assert!(rt;
+        ended
+            .recv_timeout(rt, Duration::from_secs(PATIENCE))
+            .is_ok(),
+        "no end in {PATIENCE} seconds"
+    );
+}
+
+// So it runs a program, and ends the test where that takes too long.
+fn runs_in_time<R: Abort + Threads + Wait + Clock + Sync>(
+    rt: &R,
+    alloc: Global,
+    text: &str,
+    numbers: &str,
+    others: &str,
+) {
+    let Ok((tell, hear)) = bounded(alloc, 1) else {
+        panic!(rt; "no memory for a message");
+    };
+    thread::join(
+        rt,
+        || runs_as_certified(rt, alloc, text, numbers, others, &tell),
+        || awaits(rt, &hear),
+    );
+}
+
+// Runs the plan of a program on another input, from which it departs, and tells when that has ended.
+fn departs_and_tells<R: Abort + Threads + Wait + Sync>(
+    rt: &R,
+    alloc: Global,
+    numbers: &str,
+    others: &str,
+    ended: &Sender<bool, Global>,
+) {
+    let certified = accepted(rt, alloc, TURNS, numbers);
+    let other = accepted(rt, alloc, TURNS, others);
+    let Ok(plan) = plan(alloc, &certified) else {
+        panic!(rt; "no memory for the plan");
+    };
+    for workers in [1, 2, 4] {
+        match run_threads(rt, alloc, &plan, other.input(), workers, &Open) {
+            Err(ThreadFault::Departs(_)) => {}
+            _ => panic!(rt; "another input doesn't depart by {workers}"),
+        }
+    }
+    assert!(rt; ended.send(rt, true).is_ok());
 }
 
 #[test]
 fn two_gets(rt: HostRuntime) -> Result<(), Fail> {
-    runs_as_certified(&rt, rt.alloc(), GETS, "");
+    runs_in_time(&rt, rt.alloc(), GETS, "", "");
     Ok(())
 }
 
 #[test]
 fn turns_of_a_loop(rt: HostRuntime) -> Result<(), Fail> {
-    runs_as_certified(&rt, rt.alloc(), TURNS, "0");
-    runs_as_certified(&rt, rt.alloc(), TURNS, "1");
-    runs_as_certified(&rt, rt.alloc(), TURNS, "7");
+    for numbers in ["0", "1", "7"] {
+        runs_in_time(&rt, rt.alloc(), TURNS, numbers, numbers);
+    }
+    Ok(())
+}
+
+#[test]
+fn another_input_goes_along(rt: HostRuntime) -> Result<(), Fail> {
+    runs_in_time(&rt, rt.alloc(), SQUARES, "3 4", "5 -6");
     Ok(())
 }
 
 #[test]
 fn a_list_in_order(rt: HostRuntime) -> Result<(), Fail> {
-    runs_as_certified(&rt, rt.alloc(), LIST, "");
+    runs_in_time(&rt, rt.alloc(), LIST, "", "");
     Ok(())
 }
 
 #[test]
 fn two_sums(rt: HostRuntime) -> Result<(), Fail> {
-    runs_as_certified(&rt, rt.alloc(), SUMS, "");
+    runs_in_time(&rt, rt.alloc(), SUMS, "", "");
     Ok(())
 }
 
 #[test]
 fn prints_in_order(rt: HostRuntime) -> Result<(), Fail> {
-    runs_as_certified(&rt, rt.alloc(), PRINTS, "");
+    runs_in_time(&rt, rt.alloc(), PRINTS, "", "");
     Ok(())
 }
 
@@ -156,14 +222,11 @@ fn numbers_of_workers(rt: HostRuntime) -> Result<(), Fail> {
 #[test]
 fn another_input_departs(rt: HostRuntime) -> Result<(), Fail> {
     let alloc = rt.alloc();
-    let certified = accepted(&rt, alloc, TURNS, "1");
-    let other = accepted(&rt, alloc, TURNS, "7");
-    let plan = plan(alloc, &certified)?;
-    for workers in [1, 2, 4] {
-        match run_threads(&rt, alloc, &plan, other.input(), workers, &Open) {
-            Err(ThreadFault::Departs(_)) => {}
-            _ => panic!(&rt; "another input doesn't depart by {workers}"),
-        }
-    }
+    let (tell, hear) = bounded(alloc, 1)?;
+    thread::join(
+        &rt,
+        || departs_and_tells(&rt, alloc, "1", "7", &tell),
+        || awaits(&rt, &hear),
+    );
     Ok(())
 }

@@ -25,6 +25,10 @@ pub const LIST: &str =
 pub const SUMS: &str =
     "int f(int n) { int cilk_reducer(add) s; cilk_for (int i = 0; i < n; i++) { update(s, i); } return value(s); } int main() { int x; int y; x = cilk_spawn f(4); y = cilk_spawn f(5); cilk_sync; return x + y; }";
 
+/// The squares of two inputs are added, each in a spawned call.
+pub const SQUARES: &str =
+    "int square(int n) { return n * n; } int main() { int x; int y; int a = input(0); int b = input(1); x = cilk_spawn square(a); y = cilk_spawn square(b); cilk_sync; return x + y; }";
+
 /// Three spawned calls print a number each.
 pub const PRINTS: &str =
     "void p(int n) { print(n); } int main() { cilk_spawn p(1); cilk_spawn p(2); cilk_spawn p(3); cilk_sync; return 0; }";
