@@ -1,4 +1,4 @@
--- What workers leave on an input: `left_on`.
+-- What workers leave on an input: `left_on`; on the plan's own: `own_outcome`.
 use Rattle.std.proofs.Common.{◌≡◌, ◌≤◌, ◌<◌, ◌⊎◌, inl, inr, ℕ, ℤ, List, length, refl, sym, ap, ◌∙◌, subst, arith}
 use Rattle.std.proofs.lemmas.Bool.{cases_lt}
 use Rattle.cilk_types.specs.declared.event.Event.{Event}
@@ -87,3 +87,9 @@ module _ (courses : ProgramsHaveOneCourse) (along : InputsRunAlong) (a : Accepte
           (runs_start_no_root p a.input told.run a.trace (Leaves x.outcome) x.named x.runs)
           (runs_start_no_root p inputs run es (Leaves o') x.named serial) own_table)
           (result run o' here)
+
+-- on the plan's own input it is what the accepted run left
+pub own_outcome : (a : AcceptedRun) → HasDeterminateRun a → (inputs : List ℤ) (o : Outcome) → IsOutcomeOn (source a.program) inputs o → inputs ≡ a.input → o ≡ a.outcome
+own_outcome a whole inputs o is same =
+    let own = whole.1.ended.ran in
+    is.only a.outcome (own.run, a.trace, subst (λ (xs : List ℤ). IsSerialRun (source a.program) xs own.run a.trace (Leaves a.outcome)) (sym same) own.serial)

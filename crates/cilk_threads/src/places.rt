@@ -20,7 +20,7 @@ pub struct Places {
 }
 
 /// Those of a program's plan. Cost and memory: linear in its events.
-pub fn places(alloc: Global, plan: &ProgramPlan<'_>) -> Result<Places, AllocError>
+pub fn places_of(alloc: Global, plan: &ProgramPlan<'_>) -> Result<Places, AllocError>
     ensures syncs { IfOk result (λ p. All (λ at. event plan.now.story at ≡ Some Sync) p.syncs.items) }
     ensures strands { IfOk result (λ p. AreFirsts plan.now.story.events p.strands.items) }
 {

@@ -15,7 +15,7 @@ ghost use Rattle.cilk_crew.specs.Faults.{IsCrew};
 ghost use Rattle.cilk_threads.specs.Outcomes.{IsFaultOn, IsOutcomeOn, IsWholeOf};
 
 use cilk_crew::layout::Layout;
-use crate::places::{Places, places};
+use crate::places::{Places, places_of};
 use cilk_crew::run::{MAX_WORKERS, ThreadFault, run};
 use cilk_chains::course::Course;
 use cilk_courses::course::course;
@@ -41,7 +41,8 @@ use std::sync::Wait;
 use std::thread::Threads;
 
 /// Runs an accepted program along its plan by some workers, from 1 to 64, each in a thread of its own; on an input, that of the plan or
-/// another. Ok is what the program leaves on that input. A gate is called as each strand begins. It is not said that it returns.
+/// another. Ok is what the program leaves on that input, and on the plan's own what the accepted run left. A gate is called as each strand
+/// begins. It is not said that it returns.
 pub fn run_threads<R: Threads + Wait + Sync, G: Gate + Sync>(
     rt: &R,
     alloc: Global,
@@ -51,12 +52,14 @@ pub fn run_threads<R: Threads + Wait + Sync, G: Gate + Sync>(
     gate: &G,
 ) -> Result<Outcome, ThreadFault>
     ensures ok { IfOk result (λ o. IsCrew workers × IsOutcomeOn (source plan.now.run.program) input.now o) }
+    ensures own { IfOk result (λ o. input.now ≡ plan.now.run.input → o ≡ plan.now.run.outcome) }
     ensures err { IfErr result (IsFaultOn plan.now input.now workers) }
 {
+    plan.laws();
     if workers == 0 || workers > MAX_WORKERS {
         return Err(ThreadFault::Workers);
     }
-    let Ok(places) = places(alloc, plan) else {
+    let Ok(places) = places_of(alloc, plan) else {
         return Err(ThreadFault::Memory);
     };
     let Ok(table) = plan_reducers(alloc, plan) else {

@@ -1,4 +1,5 @@
-use Rattle.std.proofs.Common.{◌≡◌, ◌≤◌, ◌+◌, ℕ, ℤ, List, [], length, pos, slice_index_or, sym, ap, ◌∙◌, subst}
+use Rattle.std.proofs.Common.{◌≡◌, ◌≤◌, ◌+◌, ℕ, ℤ, List, [], length, pos, slice_index_or, sym, ap, ◌∙◌, subst, w64}
+use Rattle.std.proofs.lemmas.Int.{to_z-of_z}
 use Rattle.cilk_types.specs.declared.outcome.Outcome.{Outcome}
 use Rattle.cilk_lower.specs.Layout.{LaysOut}
 use Rattle.cilk_lower.specs.declared.layout.Layout.{Layout}
@@ -42,5 +43,5 @@ returns c =
     (λ o left.
     left_on c.programs_have_one_course.ensures c.inputs_run_along.ensures a c.laws.ensures.determinate c.args.plan.now.story c.args.yard.story c.args.input.now c.inputs_are_words.ensures c.args.piece.reducers c.args.value o c.laws.ensures.plan
     c.laws.ensures.order c.requires.story c.requires.table (nowhere c.args.yard.story c.laws-2.ensures.order w.followed) w.result
-    (subst (λ (z : Program × Story). IsLeftBy (source z.0) z.1 c.args.piece.reducers c.args.value o) (λ i. (c.program.ensures i, w.good.0.1 i)) left))
+    (subst (λ (z : Program × Story × ℤ). IsLeftBy (source z.0) z.1 c.args.piece.reducers z.2 o) (λ i. (c.program.ensures i, w.good.0.1 i, to_z-of_z w64 c.args.value c.ranges.value i)) left))
     c.outcome.ensures

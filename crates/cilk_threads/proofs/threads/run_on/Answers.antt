@@ -19,45 +19,50 @@ use Rattle.cilk_threads.proofs.Whole.{syncs_along, whole_of, fault_of}
 use Rattle.cilk_threads.proofs.threads.run_on.Goals as goal
 
 pub new-shared-requires-clause-along : goal.new-shared-requires-clause-along
-new-shared-requires-clause-along c = subst (λ (s : Story). IsAlong s c.args.yard.now.story) (sym c.events.ensures.story) c.requires.along
+new-shared-requires-clause-along g c = subst (λ (s : Story). IsAlong s c.args.yard.now.story) (sym c.events.ensures.story) c.requires.along
 
 pub new-shared-requires-clause-cells : goal.new-shared-requires-clause-cells
-new-shared-requires-clause-cells c = cells_along c.args.plan.now.run c.args.plan.now.story c.args.yard.now.story c.laws.ensures.plan c.requires.along
+new-shared-requires-clause-cells g c = cells_along c.args.plan.now.run c.args.plan.now.story c.args.yard.now.story c.laws.ensures.plan c.requires.along
 
 pub new-shared-requires-clause-numbers : goal.new-shared-requires-clause-numbers
-new-shared-requires-clause-numbers c =
+new-shared-requires-clause-numbers g c =
     let w = c.args.plan.now in
     c.accepted_stories_have_numbers.ensures w.run c.args.plan.now.story.opening c.args.input.now c.args.yard.now.story c.args.table.now c.laws.ensures.determinate c.requires.table.0 c.inputs_are_words.ensures c.requires.story
 
 pub new-piece-requires-clause-settled : goal.new-piece-requires-clause-settled
-new-piece-requires-clause-settled c =
+new-piece-requires-clause-settled g c =
     subst (λ (s : Story). AreSettled s c.args.table.now) (sym c.requires.segment.0.1)
     (c.requires.table.0.settled c.args.plan.now.story c.args.yard.now.story c.laws.ensures.plan c.requires.along)
 
 pub new-piece-requires-clause-quiet : goal.new-piece-requires-clause-quiet
-new-piece-requires-clause-quiet c =
+new-piece-requires-clause-quiet g c =
     subst (λ (s : Story). events_at s c.args.table.now 1 ≡ []) (sym c.requires.segment.0.1)
     (c.requires.table.0.quiet c.args.plan.now.story c.args.yard.now.story c.laws.ensures.plan c.requires.along)
 
 pub first-requires : goal.first-requires
-first-requires c =
+first-requires g c =
     let on = c.requires.segment in
-    subst (λ (y : SharedValue). OfRun y.run c.new-piece.result × (c.new-piece.result.from ≡ 1) × (c.new-piece.result.upto ≡ 2)) (sym c.new-shared.ensures)
-    (subst (λ (x : PieceValue). OfRun (run_of c.args.yard.now c.args.table.now) x × (x.from ≡ 1) × (x.upto ≡ 2)) (sym c.new-piece.ensures)
-    ((on.0.0, on.0.1, refl), on.1, on.2))
+    let x = c.new-piece.result in
+    record {
+      piece = subst (λ (y : SharedValue). OfRun y.run x × (x.from ≡ 1) × (x.upto ≡ 2)) (sym c.new-shared.ensures)
+          (subst (λ (z : PieceValue). OfRun (run_of c.args.yard.now c.args.table.now) z × (z.from ≡ 1) × (z.upto ≡ 2)) (sym c.new-piece.ensures)
+          ((on.0.0, on.0.1, refl), on.1, on.2));
+    }
 
 pub run-requires-clause-syncs : goal.run-requires-clause-syncs
-run-requires-clause-syncs c =
+run-requires-clause-syncs g c =
+    λ lives within.
     subst (λ (z : SharedValue × List ℕ). All (λ at. event z.0.run.story at ≡ Some Sync) z.1) (λ i. (sym c.new-shared.ensures i, sym c.as_slice.ensures.value i))
     (syncs_along c.args.plan.now.story c.args.yard.now.story c.requires.along c.args.places.now.syncs.items c.requires.syncs)
 
 pub run-requires-clause-strands : goal.run-requires-clause-strands
-run-requires-clause-strands c =
+run-requires-clause-strands g c =
+    λ lives within.
     subst (λ (z : SharedValue × List ℕ). AreFirsts z.0.run.story.events z.1) (λ i. (sym c.new-shared.ensures i, sym c.as_slice-3.ensures.value i))
     (firsts_along c.args.plan.now.story.events c.args.yard.now.story.events (sym c.requires.along.kinds) c.args.places.now.strands.items c.requires.strands)
 
 pub returns-clause-ok : goal.returns-clause-ok
-returns-clause-ok c =
+returns-clause-ok g c =
     IfOk-weaker c.run.result _ _
     (λ r h.
     whole_of c.args.yard.now c.args.table.now c.in-Ok.course (source c.args.plan.now.run.program) c.args.input.now c.new-shared.result r.0 r.1 c.new-shared.ensures
@@ -65,10 +70,9 @@ returns-clause-ok c =
     c.run.ensures.ok
 
 pub returns-clause-err : goal.returns-clause-err
-returns-clause-err c =
-    MatchResult-weaker c.run.result
+returns-clause-err g c =
+    MatchResult-weaker c.run.result c.run.ensures.err
     (λ r t. t)
     (λ f h.
     fault_of c.args.plan.now c.args.input.now c.args.workers c.args.yard.now.story f c.requires.story
     (subst (λ (y : SharedValue). IsTrueFault y.run.story c.args.workers f) c.new-shared.ensures h))
-    c.run.ensures.err
