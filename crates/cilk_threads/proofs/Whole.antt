@@ -1,6 +1,7 @@
--- What a crew's end says of a program's plan: `syncs_along`, `whole_of`, `fault_of`.
-use Rattle.std.proofs.Common.{◌≡◌, ℕ, ℤ, ◌<◌, List, length, sym, subst}
+-- What a crew's end says of a program's plan: `syncs_along`, `whole_of`, `fault_of`. On its own input it departs nowhere: `stays`.
+use Rattle.std.proofs.Common.{◌≡◌, ℕ, ℤ, ◌<◌, List, length, sym, ap, ◌∙◌, subst}
 use Rattle.std.specs.Prelude.{All, Some}
+use Rattle.cilk_types.specs.declared.event.Event.{Event}
 use Rattle.cilk_types.specs.declared.event.Event.TheVariants.{Sync}
 use Rattle.cilk_types.specs.declared.outcome.Outcome.{Outcome}
 use Rattle.cilk_program.specs.Outcomes.{Leaves}
@@ -8,19 +9,24 @@ use Rattle.cilk_program.specs.SerialRun.{Transcript, IsSerialRun}
 use Rattle.cilk_program.specs.Sources.{source}
 use Rattle.cilk_program.specs.Syntax.{Source}
 use Rattle.cilk_story.specs.declared.story.Story.{Story}
+use Rattle.cilk_story.specs.Runs.{Departs, IsAsked}
 use Rattle.cilk_story.specs.Word.{event}
+use Rattle.cilk_tree.specs.Before.{IsPosition}
 use Rattle.cilk_plan.specs.Along.{IsAlong}
 use Rattle.cilk_shared.specs.Values.{YardValue}
 use Rattle.cilk_pieces.specs.Pieces.{PieceValue}
 use Rattle.cilk_pieces.specs.declared.reducers.Reducers.{Reducers}
 use Rattle.cilk_chains.specs.Courses.{CourseValue}
-use Rattle.cilk_planning.specs.Plans.{WholePlan, IsStoryOn}
+use Rattle.cilk_checker.specs.Determinate.{AcceptedRun}
+use Rattle.cilk_inputs.specs.Stories.{OwnStory}
+use Rattle.cilk_planning.specs.Plans.{WholePlan, IsPlanOf, IsStoryOn}
+use Rattle.cilk_planning.proofs.Telling.{own_is_the_plan}
 use Rattle.cilk_turns.specs.Shared.{SharedValue, shared_with}
 use Rattle.cilk_workers.specs.Hands.{IsWhole}
 use Rattle.cilk_crew.specs.declared.run.ThreadFault.{ThreadFault}
 use Rattle.cilk_crew.specs.declared.run.ThreadFault.TheVariants as faults
 use Rattle.cilk_crew.specs.Faults.{IsTrueFault}
-use Rattle.cilk_threads.specs.Outcomes.{IsFaultOn, IsWholeOf}
+use Rattle.cilk_threads.specs.Outcomes.{IsFaultOn, IsWholeOf, NamesNoPosition}
 use Rattle.cilk_threads.proofs.Placed.{sync_along}
 
 -- a `sync` of the plan is one of each story along it
@@ -47,3 +53,15 @@ pub fault_of : (w : WholePlan) (inputs : List ℤ) (n : ℕ) (s : Story) (f : Th
 fault_of w inputs n s faults.Memory told h = h
 fault_of w inputs n s faults.Workers told h = h
 fault_of w inputs n s (faults.Departs p) told h = (h.0, (s, told, h.1))
+
+-- on the plan's own input its story departs nowhere
+goes_along : OwnStory → (a : AcceptedRun) (plan s : Story) (inputs : List ℤ) → IsPlanOf a plan → IsStoryOn a plan.opening inputs s → inputs ≡ a.input → (p : ℕ) → Departs s p → ⊥
+goes_along law a plan s inputs is told same p h =
+    let own : s ≡ plan = own_is_the_plan law a plan is inputs s told same in
+    let events : s.events ≡ a.trace = ap (λ (t : Story). t.events) (own ∙ is.story) in
+    h.differs (subst (λ (t : Story). IsAsked t p) (sym own) (is.asked p (subst (λ (es : List Event). IsPosition es p) events h.place)))
+
+pub stays : OwnStory → (w : WholePlan) (inputs : List ℤ) (n : ℕ) (f : ThreadFault) → IsPlanOf w.run w.story → IsFaultOn w inputs n f → (let a = w.run in inputs ≡ a.input) → NamesNoPosition f
+stays law w inputs n faults.Memory is h same = tt
+stays law w inputs n faults.Workers is h same = tt
+stays law w inputs n (faults.Departs p) is h same = goes_along law w.run w.story h.1.0 inputs is h.1.1 same p h.1.2

@@ -54,3 +54,9 @@ abbrev pub IsFaultOn : WholePlan → List ℤ → ℕ → ThreadFault → Type 0
 IsFaultOn w inputs n faults.Memory = IsCrew n
 IsFaultOn w inputs n faults.Workers = IsCrew n → ⊥
 IsFaultOn w inputs n (faults.Departs p) = IsCrew n × DepartsOn w inputs p
+
+-- the fault names no position
+abbrev pub NamesNoPosition : ThreadFault → Type 0
+NamesNoPosition faults.Memory = Unit {0}
+NamesNoPosition faults.Workers = Unit {0}
+NamesNoPosition (faults.Departs p) = ⊥

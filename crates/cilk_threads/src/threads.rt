@@ -12,7 +12,7 @@ ghost use Rattle.cilk_story.specs.Word.{event};
 ghost use Rattle.cilk_types.specs.declared.event.Event.TheVariants.{Sync};
 ghost use Rattle.cilk_workers.specs.Gates.{AreFirsts};
 ghost use Rattle.cilk_crew.specs.Faults.{IsCrew};
-ghost use Rattle.cilk_threads.specs.Outcomes.{IsFaultOn, IsOutcomeOn, IsWholeOf};
+ghost use Rattle.cilk_threads.specs.Outcomes.{IsFaultOn, IsOutcomeOn, IsWholeOf, NamesNoPosition};
 
 use cilk_crew::layout::Layout;
 use crate::places::{Places, places_of};
@@ -20,7 +20,7 @@ use cilk_crew::run::{MAX_WORKERS, ThreadFault, run};
 use cilk_chains::course::Course;
 use cilk_courses::course::course;
 use cilk_determinacy::words::inputs_are_words;
-use cilk_inputs::laws::{inputs_run_along, programs_have_one_course};
+use cilk_inputs::laws::{inputs_run_along, own_story, programs_have_one_course};
 use cilk_pieces::piece::Piece;
 use cilk_pieces::reducers::Reducers;
 use cilk_planning::program_plan::ProgramPlan;
@@ -41,8 +41,8 @@ use std::sync::Wait;
 use std::thread::Threads;
 
 /// Runs an accepted program along its plan by some workers, from 1 to 64, each in a thread of its own; on an input, that of the plan or
-/// another. Ok is what the program leaves on that input, and on the plan's own what the accepted run left. A gate is called as each strand
-/// begins. It is not said that it returns.
+/// another. Ok is what the program leaves on that input, and on the plan's own what the accepted run left. A run on the plan's own input
+/// departs from it nowhere. A gate is called as each strand begins. It is not said that it returns.
 pub fn run_threads<R: Threads + Wait + Sync, G: Gate + Sync>(
     rt: &R,
     alloc: Global,
@@ -54,7 +54,9 @@ pub fn run_threads<R: Threads + Wait + Sync, G: Gate + Sync>(
     ensures ok { IfOk result (λ o. IsCrew workers × IsOutcomeOn (source plan.now.run.program) input.now o) }
     ensures own { IfOk result (λ o. input.now ≡ plan.now.run.input → o ≡ plan.now.run.outcome) }
     ensures err { IfErr result (IsFaultOn plan.now input.now workers) }
+    ensures stays { IfErr result (λ f. input.now ≡ plan.now.run.input → NamesNoPosition f) }
 {
+    own_story();
     plan.laws();
     if workers == 0 || workers > MAX_WORKERS {
         return Err(ThreadFault::Workers);
