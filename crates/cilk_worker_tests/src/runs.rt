@@ -26,6 +26,7 @@ const RUNS: u32 = 20;
 const PATIENCE: u64 = 15;
 
 // Counts the strands that have begun.
+#[derive(Drop)]
 struct Begun {
     strands: AtomicU64,
 }
