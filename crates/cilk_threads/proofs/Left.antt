@@ -1,9 +1,9 @@
 -- What workers leave on an input: `left_on`; on the plan's own: `own_outcome`.
-use Rattle.std.proofs.Common.{◌≡◌, ◌≤◌, ◌<◌, ◌⊎◌, inl, inr, ℕ, ℤ, List, length, refl, sym, ap, ◌∙◌, subst, arith}
+use Rattle.std.proofs.Common.{◌≡◌, ◌≤◌, ◌<◌, ◌⊎◌, inl, inr, ℕ, ℤ, List, length, sym, subst, arith}
 use Rattle.std.proofs.lemmas.Bool.{cases_lt}
 use Rattle.cilk_types.specs.declared.event.Event.{Event}
 use Rattle.cilk_types.specs.declared.outcome.Outcome.{Outcome}
-use Rattle.cilk_program.specs.Outcomes.{Conclusion, Leaves}
+use Rattle.cilk_program.specs.Outcomes.{Leaves}
 use Rattle.cilk_program.specs.SerialRun.{Transcript, IsSerialRun}
 use Rattle.cilk_program.specs.Sources.{source}
 use Rattle.cilk_program.specs.Syntax.{Source}
@@ -13,7 +13,6 @@ use Rattle.cilk_story.specs.declared.story.Story.{Story}
 use Rattle.cilk_story.specs.Orders.{IsOrderly}
 use Rattle.cilk_story.specs.Runs.{IsAsked, IsFollowed}
 use Rattle.cilk_plan.specs.Along.{DepartsNowhere}
-use Rattle.cilk_plan.specs.Planned.{planned}
 use Rattle.cilk_tree.specs.Before.{IsPosition}
 use Rattle.cilk_pieces.specs.declared.reducers.Reducers.{Reducers}
 use Rattle.cilk_determinacy.specs.Nested.{named}
@@ -21,7 +20,6 @@ use Rattle.cilk_determinacy.specs.Words.{InputsAreWords}
 use Rattle.cilk_inputs.specs.Courses.{run_of}
 use Rattle.cilk_inputs.specs.Ends.{RunsAsCourse, InputsRunAlong}
 use Rattle.cilk_inputs.specs.Frames.{course_on, ProgramsHaveOneCourse}
-use Rattle.cilk_inputs.specs.Stories.{story_on}
 use Rattle.cilk_checker.specs.Determinate.{AcceptedRun, HasDeterminateRun}
 use Rattle.cilk_planning.specs.Plans.{IsPlanOf, IsStoryOn}
 use Rattle.cilk_settling.specs.Accepted.{IsTableOf}

@@ -1,11 +1,10 @@
 -- What a crew's end says of a program's plan: `syncs_along`, `whole_of`, `fault_of`. On its own input it departs nowhere: `stays`.
-use Rattle.std.proofs.Common.{◌≡◌, ℕ, ℤ, ◌<◌, List, length, sym, ap, ◌∙◌, subst}
+use Rattle.std.proofs.Common.{◌≡◌, ℕ, ℤ, List, sym, ap, ◌∙◌, subst}
 use Rattle.std.specs.Prelude.{All, Some}
 use Rattle.cilk_types.specs.declared.event.Event.{Event}
 use Rattle.cilk_types.specs.declared.event.Event.TheVariants.{Sync}
-use Rattle.cilk_types.specs.declared.outcome.Outcome.{Outcome}
 use Rattle.cilk_program.specs.Outcomes.{Leaves}
-use Rattle.cilk_program.specs.SerialRun.{Transcript, IsSerialRun}
+use Rattle.cilk_program.specs.SerialRun.{IsSerialRun}
 use Rattle.cilk_program.specs.Sources.{source}
 use Rattle.cilk_program.specs.Syntax.{Source}
 use Rattle.cilk_story.specs.declared.story.Story.{Story}

@@ -5,7 +5,6 @@ use Rattle.cilk_types.specs.declared.limits.TheConstants.{MAX_TICKS}
 use Rattle.cilk_types.specs.declared.outcome.Outcome.{Outcome}
 use Rattle.cilk_program.specs.Outcomes.{Leaves}
 use Rattle.cilk_program.specs.SerialRun.{Transcript, IsSerialRun}
-use Rattle.cilk_program.specs.Sources.{source}
 use Rattle.cilk_program.specs.Syntax.{Source}
 use Rattle.cilk_story.specs.declared.story.Story.{Story}
 use Rattle.cilk_story.specs.Runs.{Departs, IsFollowed}
@@ -18,7 +17,6 @@ use Rattle.cilk_runs.specs.Runs.{Run}
 use Rattle.cilk_worlds.specs.Machine.{costs}
 use Rattle.cilk_worlds.specs.Worlds.{World, first_world}
 use Rattle.cilk_inputs.specs.Frames.{IsSerialRunOn}
-use Rattle.cilk_checker.specs.Determinate.{AcceptedRun}
 use Rattle.cilk_planning.specs.Plans.{WholePlan, IsStoryOn}
 use Rattle.cilk_crew.specs.declared.run.ThreadFault.{ThreadFault}
 use Rattle.cilk_crew.specs.declared.run.ThreadFault.TheVariants as faults

@@ -14,11 +14,11 @@ ghost use Rattle.cilk_workers.specs.Gates.{AreFirsts};
 ghost use Rattle.cilk_crew.specs.Faults.{IsCrew};
 ghost use Rattle.cilk_threads.specs.Outcomes.{IsFaultOn, IsOutcomeOn, IsWholeOf, NamesNoPosition};
 
-use cilk_crew::layout::Layout;
 use crate::places::{Places, places_of};
-use cilk_crew::run::{MAX_WORKERS, ThreadFault, run};
 use cilk_chains::course::Course;
 use cilk_courses::course::course;
+use cilk_crew::layout::Layout;
+use cilk_crew::run::{MAX_WORKERS, ThreadFault, run};
 use cilk_determinacy::words::inputs_are_words;
 use cilk_inputs::laws::{inputs_run_along, own_story, programs_have_one_course};
 use cilk_pieces::piece::Piece;

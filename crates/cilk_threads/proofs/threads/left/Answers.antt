@@ -1,6 +1,5 @@
-use Rattle.std.proofs.Common.{◌≡◌, ◌≤◌, ◌+◌, ℕ, ℤ, List, [], length, pos, slice_index_or, sym, ap, ◌∙◌, subst, w64}
+use Rattle.std.proofs.Common.{◌≡◌, ◌≤◌, ◌+◌, ℤ, List, [], length, pos, slice_index_or, sym, ap, ◌∙◌, subst, w64}
 use Rattle.std.proofs.lemmas.Int.{to_z-of_z}
-use Rattle.cilk_types.specs.declared.outcome.Outcome.{Outcome}
 use Rattle.cilk_lower.specs.Layout.{LaysOut}
 use Rattle.cilk_lower.specs.declared.layout.Layout.{Layout}
 use Rattle.cilk_program.specs.declared.program.Program.{Program}
@@ -9,7 +8,6 @@ use Rattle.cilk_meaning.specs.Answered.{opening_cells}
 use Rattle.cilk_story.specs.declared.story.Story.{Story}
 use Rattle.cilk_planning.proofs.Telling.{for_ok}
 use Rattle.cilk_settling.specs.Finals.{IsLeftBy}
-use Rattle.cilk_threads.specs.Outcomes.{IsOutcomeOn}
 use Rattle.cilk_threads.proofs.Left.{left_on, nowhere}
 use Rattle.cilk_threads.proofs.threads.left.Goals as goal
 

@@ -1,4 +1,4 @@
-use Rattle.std.proofs.Common.{◌≡◌, ◌≤◌, ℕ, ℤ, List, [], length, Some, refl, sym, ap, ◌∙◌, subst}
+use Rattle.std.proofs.Common.{◌≡◌, ℕ, List, [], Some, refl, sym, ap, subst}
 use Rattle.std.specs.Prelude.{All}
 use Rattle.std.proofs.lemmas.Result.{IfOk-weaker, MatchResult-weaker}
 use Rattle.cilk_types.specs.declared.event.Event.TheVariants.{Sync}
@@ -10,7 +10,7 @@ use Rattle.cilk_pieces.specs.Pieces.{PieceValue}
 use Rattle.cilk_pieces.specs.Reducers.{events_at}
 use Rattle.cilk_pieces.specs.Settled.{AreSettled}
 use Rattle.cilk_boxes.specs.Rows.{OfRun, run_of}
-use Rattle.cilk_turns.specs.Shared.{SharedValue, shared_with}
+use Rattle.cilk_turns.specs.Shared.{SharedValue}
 use Rattle.cilk_workers.specs.Gates.{AreFirsts}
 use Rattle.cilk_crew.specs.Faults.{IsTrueFault}
 use Rattle.cilk_threads.proofs.Cells.{cells_along}
