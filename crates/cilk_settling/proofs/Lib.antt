@@ -5,7 +5,7 @@ mod Found
 mod Lasting
 mod Leaving
 mod NumbersAlong
-mod Opened
+pub mod Opened
 mod Places
 mod Settled
 mod Tabled

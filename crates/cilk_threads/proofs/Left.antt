@@ -1,0 +1,93 @@
+-- What workers leave on an input: `left_on`; on the plan's own: `own_outcome`.
+use Rattle.std.proofs.Common.{◌≡◌, ◌≤◌, ◌<◌, ◌⊎◌, inl, inr, ℕ, ℤ, List, length, sym, subst, arith}
+use Rattle.std.proofs.lemmas.Bool.{cases_lt}
+use Rattle.cilk_types.specs.declared.event.Event.{Event}
+use Rattle.cilk_types.specs.declared.outcome.Outcome.{Outcome}
+use Rattle.cilk_program.specs.Outcomes.{Leaves}
+use Rattle.cilk_program.specs.SerialRun.{Transcript, IsSerialRun}
+use Rattle.cilk_program.specs.Sources.{source}
+use Rattle.cilk_program.specs.Syntax.{Source}
+use Rattle.cilk_types.specs.declared.limits.TheConstants.{MAX_EVENTS, MAX_TICKS}
+use Rattle.cilk_meaning.proofs.Uniqueness.{serial_run_is_one}
+use Rattle.cilk_story.specs.declared.story.Story.{Story}
+use Rattle.cilk_story.specs.Orders.{IsOrderly}
+use Rattle.cilk_story.specs.Runs.{IsAsked, IsFollowed}
+use Rattle.cilk_plan.specs.Along.{DepartsNowhere}
+use Rattle.cilk_tree.specs.Before.{IsPosition}
+use Rattle.cilk_pieces.specs.declared.reducers.Reducers.{Reducers}
+use Rattle.cilk_determinacy.specs.Nested.{named}
+use Rattle.cilk_determinacy.specs.Words.{InputsAreWords}
+use Rattle.cilk_inputs.specs.Courses.{run_of}
+use Rattle.cilk_inputs.specs.Ends.{RunsAsCourse, InputsRunAlong}
+use Rattle.cilk_inputs.specs.Frames.{course_on, ProgramsHaveOneCourse}
+use Rattle.cilk_checker.specs.Determinate.{AcceptedRun, HasDeterminateRun}
+use Rattle.cilk_planning.specs.Plans.{IsPlanOf, IsStoryOn}
+use Rattle.cilk_settling.specs.Accepted.{IsTableOf}
+use Rattle.cilk_settling.specs.Finals.{IsLeftBy}
+use Rattle.cilk_settling.specs.Tables.{AreReducersOf}
+use Rattle.cilk_settling.proofs.Opened.{runs_start_no_root}
+use Rattle.cilk_threads.specs.Outcomes.{LeavesOn, IsOutcomeOn}
+use Rattle.cilk_threads.proofs.Alike.{same_frames, table_along}
+
+-- where the last event is followed, each is asked for
+all_asked : (s : Story) → IsOrderly s → IsFollowed s (length s.events) → (p : ℕ) → IsPosition s.events p → IsAsked s p
+all_asked s order followed p (low, high) = by (cases_lt p (length s.events))
+  where
+    by : (p < length s.events) ⊎ (length s.events ≤ p) → IsAsked s p
+    by (inl less) = followed p (inr (order.all p low less))
+    by (inr more) = followed p (inl (omega (arith, high, more)))
+
+pub nowhere : (s : Story) → IsOrderly s → IsFollowed s (length s.events) → DepartsNowhere s
+nowhere s order followed p h = h.differs (all_asked s order followed p h.place)
+
+same_outcome : (o o' : Outcome) → Leaves o ≡ Leaves o' → o ≡ o'
+same_outcome o o' h = cc h
+
+one_outcome : (p : Source) (inputs : List ℤ) (r r' : Transcript) (es es' : List Event) (o o' : Outcome) → IsSerialRun p inputs r es (Leaves o) → IsSerialRun p inputs r' es' (Leaves o') → o ≡ o'
+one_outcome p inputs r r' es es' o o' h h' = let e = serial_run_is_one p inputs MAX_TICKS MAX_EVENTS r r' es es' (Leaves o) (Leaves o') h h' in same_outcome o o' e.2
+
+module _ (courses : ProgramsHaveOneCourse) (along : InputsRunAlong) (a : AcceptedRun) (whole : HasDeterminateRun a) (plan s : Story) (inputs : List ℤ) (words : InputsAreWords inputs) where
+  runs_as : IsPlanOf a plan → IsOrderly plan → (told : IsStoryOn a plan.opening inputs s) → DepartsNowhere s
+      → RunsAsCourse (source a.program) inputs (run_of (course_on (source a.program) inputs (named (source a.program) told.run))) s
+  runs_as is order told departs =
+      subst (RunsAsCourse (source a.program) inputs (run_of (course_on (source a.program) inputs (named (source a.program) told.run)))) (sym told.is)
+      (along (source a.program) a.input inputs told.run a.trace plan.opening told.of_run words (subst IsOrderly is.story order) (subst DepartsNowhere told.is departs))
+
+  -- the outcome that is made of the whole piece is that of each serial run
+  pub left_on : (r : Reducers) (value : ℤ) (o : Outcome) → IsPlanOf a plan → IsOrderly plan → IsStoryOn a plan.opening inputs s → IsTableOf a r → DepartsNowhere s
+      → ((run : Transcript) (o' : Outcome) → IsSerialRun (source a.program) inputs run s.events (Leaves o') → o'.result ≡ value)
+      → IsLeftBy (source a.program) s r value o → IsOutcomeOn (source a.program) inputs o
+  left_on r value o is order told table departs result left = record {
+    run = run_of (course_on (source a.program) inputs (named (source a.program) told.run));
+    serial = ran.course;
+    leaves = λ few. let w = ran.ends few in (w.transcript, w.events, subst (λ (z : Outcome). IsSerialRun (source a.program) inputs w.transcript w.events (Leaves z)) (sym (only w.outcome (w.transcript, w.events, w.serial))) w.serial);
+    only = only;
+  }
+    where
+      ran : RunsAsCourse (source a.program) inputs (run_of (course_on (source a.program) inputs (named (source a.program) told.run))) s
+      ran = runs_as is order told departs
+
+      own_table : AreReducersOf (source a.program) told.run r
+      own_table =
+          let x = told.of_run in
+          let own = whole.1.ended.ran in
+          let same = one_outcome (source a.program) a.input told.run own.run a.trace a.trace x.outcome a.outcome x.runs own.serial in
+          table.frames told.run (subst (λ (z : Outcome). IsSerialRun (source a.program) a.input told.run a.trace (Leaves z)) same x.runs)
+
+      only : (o' : Outcome) → LeavesOn (source a.program) inputs o' → o ≡ o'
+      only o' (run, es, serial) =
+          let p = source a.program in
+          let x = told.of_run in
+          let e = ran.only run es o' serial in
+          let here : IsSerialRun p inputs run s.events (Leaves o') = subst (λ (z : List Event). IsSerialRun p inputs run z (Leaves o')) e.1 serial in
+          left inputs run o' here
+          (table_along p told.run run r (same_frames courses p inputs told.run run e.0)
+          (runs_start_no_root p a.input told.run a.trace (Leaves x.outcome) x.named x.runs)
+          (runs_start_no_root p inputs run es (Leaves o') x.named serial) own_table)
+          (result run o' here)
+
+-- on the plan's own input it is what the accepted run left
+pub own_outcome : (a : AcceptedRun) → HasDeterminateRun a → (inputs : List ℤ) (o : Outcome) → IsOutcomeOn (source a.program) inputs o → inputs ≡ a.input → o ≡ a.outcome
+own_outcome a whole inputs o is same =
+    let own = whole.1.ended.ran in
+    is.only a.outcome (own.run, a.trace, subst (λ (xs : List ℤ). IsSerialRun (source a.program) xs own.run a.trace (Leaves a.outcome)) (sym same) own.serial)

@@ -1,0 +1,6 @@
+pub mod Alike
+pub mod Cells
+pub mod Left
+pub mod Placed
+pub mod Strands
+pub mod Whole

@@ -1,0 +1,66 @@
+-- What a crew's end says of a program's plan: `syncs_along`, `whole_of`, `fault_of`. On its own input it departs nowhere: `stays`.
+use Rattle.std.proofs.Common.{◌≡◌, ℕ, ℤ, List, sym, ap, ◌∙◌, subst}
+use Rattle.std.specs.Prelude.{All, Some}
+use Rattle.cilk_types.specs.declared.event.Event.{Event}
+use Rattle.cilk_types.specs.declared.event.Event.TheVariants.{Sync}
+use Rattle.cilk_program.specs.Outcomes.{Leaves}
+use Rattle.cilk_program.specs.SerialRun.{IsSerialRun}
+use Rattle.cilk_program.specs.Sources.{source}
+use Rattle.cilk_program.specs.Syntax.{Source}
+use Rattle.cilk_story.specs.declared.story.Story.{Story}
+use Rattle.cilk_story.specs.Runs.{Departs, IsAsked}
+use Rattle.cilk_story.specs.Word.{event}
+use Rattle.cilk_tree.specs.Before.{IsPosition}
+use Rattle.cilk_plan.specs.Along.{IsAlong}
+use Rattle.cilk_shared.specs.Values.{YardValue}
+use Rattle.cilk_pieces.specs.Pieces.{PieceValue}
+use Rattle.cilk_pieces.specs.declared.reducers.Reducers.{Reducers}
+use Rattle.cilk_chains.specs.Courses.{CourseValue}
+use Rattle.cilk_checker.specs.Determinate.{AcceptedRun}
+use Rattle.cilk_inputs.specs.Stories.{OwnStory}
+use Rattle.cilk_planning.specs.Plans.{WholePlan, IsPlanOf, IsStoryOn}
+use Rattle.cilk_planning.proofs.Telling.{own_is_the_plan}
+use Rattle.cilk_turns.specs.Shared.{SharedValue, shared_with}
+use Rattle.cilk_workers.specs.Hands.{IsWhole}
+use Rattle.cilk_crew.specs.declared.run.ThreadFault.{ThreadFault}
+use Rattle.cilk_crew.specs.declared.run.ThreadFault.TheVariants as faults
+use Rattle.cilk_crew.specs.Faults.{IsTrueFault}
+use Rattle.cilk_threads.specs.Outcomes.{IsFaultOn, IsWholeOf, NamesNoPosition}
+use Rattle.cilk_threads.proofs.Placed.{sync_along}
+
+-- a `sync` of the plan is one of each story along it
+pub syncs_along : (plan s : Story) → IsAlong plan s → (ats : List ℕ) → All (λ at. event plan at ≡ Some Sync) ats → All (λ at. event s at ≡ Some Sync) ats
+syncs_along plan s along ats h k d lt = sync_along s.events plan.events along.kinds _ (h k d lt)
+
+-- the whole run's piece is that of the yard's events
+pub whole_of : (y : YardValue) (r : Reducers) (c : CourseValue) (p : Source) (inputs : List ℤ) (s : SharedValue) (x : PieceValue) (v : ℤ)
+    → s ≡ shared_with y r c → source c.program ≡ p → c.inputs ≡ inputs → IsWhole s x v → IsWholeOf p inputs y r x v
+whole_of y r c p inputs s x v is program input h = record {
+  good = ended.0.good;
+  begins = ended.1;
+  last = ended.0.last;
+  followed = ended.0.followed;
+  result = λ run o serial.
+      ended.0.result run o (subst (λ (z : Source × List ℤ). IsSerialRun z.0 z.1 run (let t = y.story in t.events) (Leaves o)) (λ i. (sym program i, sym input i)) serial);
+}
+  where
+    ended : IsWhole (shared_with y r c) x v
+    ended = subst (λ (z : SharedValue). IsWhole z x v) is h
+
+-- where the yard's story departs, the story that the program makes of the plan does
+pub fault_of : (w : WholePlan) (inputs : List ℤ) (n : ℕ) (s : Story) (f : ThreadFault) → (let t = w.story in IsStoryOn w.run t.opening inputs s) → IsTrueFault s n f → IsFaultOn w inputs n f
+fault_of w inputs n s faults.Memory told h = h
+fault_of w inputs n s faults.Workers told h = h
+fault_of w inputs n s (faults.Departs p) told h = (h.0, (s, told, h.1))
+
+-- on the plan's own input its story departs nowhere
+goes_along : OwnStory → (a : AcceptedRun) (plan s : Story) (inputs : List ℤ) → IsPlanOf a plan → IsStoryOn a plan.opening inputs s → inputs ≡ a.input → (p : ℕ) → Departs s p → ⊥
+goes_along law a plan s inputs is told same p h =
+    let own : s ≡ plan = own_is_the_plan law a plan is inputs s told same in
+    let events : s.events ≡ a.trace = ap (λ (t : Story). t.events) (own ∙ is.story) in
+    h.differs (subst (λ (t : Story). IsAsked t p) (sym own) (is.asked p (subst (λ (es : List Event). IsPosition es p) events h.place)))
+
+pub stays : OwnStory → (w : WholePlan) (inputs : List ℤ) (n : ℕ) (f : ThreadFault) → IsPlanOf w.run w.story → IsFaultOn w inputs n f → (let a = w.run in inputs ≡ a.input) → NamesNoPosition f
+stays law w inputs n faults.Memory is h same = tt
+stays law w inputs n faults.Workers is h same = tt
+stays law w inputs n (faults.Departs p) is h same = goes_along law w.run w.story h.1.0 inputs is h.1.1 same p h.1.2

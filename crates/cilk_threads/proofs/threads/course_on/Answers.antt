@@ -1,0 +1,12 @@
+use Rattle.std.proofs.Common.{ℤ, List, sym, subst}
+use Rattle.std.proofs.lemmas.Result.{IfOk-weaker}
+use Rattle.cilk_courses.specs.Courses.{IsCourseOn}
+use Rattle.cilk_planning.specs.Plans.{IsStoryOn}
+use Rattle.cilk_threads.proofs.threads.course_on.Goals as goal
+
+pub course-requires : goal.course-requires
+course-requires c = subst (λ (is : List ℤ). IsStoryOn c.args.plan.now.run c.args.plan.now.story.opening is c.args.yard.now.story) (sym c.in_ok-same.ensures) c.requires
+
+pub returns : goal.returns
+returns c =
+    IfOk-weaker c.course.result _ _ (λ r h. subst (λ (is : List ℤ). IsCourseOn c.args.plan.now.run c.args.yard.now is r) c.in_ok-same.ensures h) c.course.ensures

@@ -1,0 +1,78 @@
+use Rattle.std.proofs.Common.{◌≡◌, ℕ, List, [], Some, refl, sym, ap, subst}
+use Rattle.std.specs.Prelude.{All}
+use Rattle.std.proofs.lemmas.Result.{IfOk-weaker, MatchResult-weaker}
+use Rattle.cilk_types.specs.declared.event.Event.TheVariants.{Sync}
+use Rattle.cilk_program.specs.Sources.{source}
+use Rattle.cilk_story.specs.declared.story.Story.{Story}
+use Rattle.cilk_story.specs.Word.{event}
+use Rattle.cilk_plan.specs.Along.{IsAlong}
+use Rattle.cilk_pieces.specs.Pieces.{PieceValue}
+use Rattle.cilk_pieces.specs.Reducers.{events_at}
+use Rattle.cilk_pieces.specs.Settled.{AreSettled}
+use Rattle.cilk_boxes.specs.Rows.{OfRun, run_of}
+use Rattle.cilk_turns.specs.Shared.{SharedValue}
+use Rattle.cilk_workers.specs.Gates.{AreFirsts}
+use Rattle.cilk_crew.specs.Faults.{IsTrueFault}
+use Rattle.cilk_threads.proofs.Cells.{cells_along}
+use Rattle.cilk_threads.proofs.Strands.{firsts_along}
+use Rattle.cilk_threads.proofs.Whole.{syncs_along, whole_of, fault_of}
+use Rattle.cilk_threads.proofs.threads.run_on.Goals as goal
+
+pub new-shared-requires-clause-along : goal.new-shared-requires-clause-along
+new-shared-requires-clause-along g c = subst (λ (s : Story). IsAlong s c.args.yard.now.story) (sym c.events.ensures.story) c.requires.along
+
+pub new-shared-requires-clause-cells : goal.new-shared-requires-clause-cells
+new-shared-requires-clause-cells g c = cells_along c.args.plan.now.run c.args.plan.now.story c.args.yard.now.story c.laws.ensures.plan c.requires.along
+
+pub new-shared-requires-clause-numbers : goal.new-shared-requires-clause-numbers
+new-shared-requires-clause-numbers g c =
+    let w = c.args.plan.now in
+    c.accepted_stories_have_numbers.ensures w.run c.args.plan.now.story.opening c.args.input.now c.args.yard.now.story c.args.table.now c.laws.ensures.determinate c.requires.table.0 c.inputs_are_words.ensures c.requires.story
+
+pub new-piece-requires-clause-settled : goal.new-piece-requires-clause-settled
+new-piece-requires-clause-settled g c =
+    subst (λ (s : Story). AreSettled s c.args.table.now) (sym c.requires.segment.0.1)
+    (c.requires.table.0.settled c.args.plan.now.story c.args.yard.now.story c.laws.ensures.plan c.requires.along)
+
+pub new-piece-requires-clause-quiet : goal.new-piece-requires-clause-quiet
+new-piece-requires-clause-quiet g c =
+    subst (λ (s : Story). events_at s c.args.table.now 1 ≡ []) (sym c.requires.segment.0.1)
+    (c.requires.table.0.quiet c.args.plan.now.story c.args.yard.now.story c.laws.ensures.plan c.requires.along)
+
+pub first-requires : goal.first-requires
+first-requires g c =
+    let on = c.requires.segment in
+    let x = c.new-piece.result in
+    record {
+      piece = subst (λ (y : SharedValue). OfRun y.run x × (x.from ≡ 1) × (x.upto ≡ 2)) (sym c.new-shared.ensures)
+          (subst (λ (z : PieceValue). OfRun (run_of c.args.yard.now c.args.table.now) z × (z.from ≡ 1) × (z.upto ≡ 2)) (sym c.new-piece.ensures)
+          ((on.0.0, on.0.1, refl), on.1, on.2));
+    }
+
+pub run-requires-clause-syncs : goal.run-requires-clause-syncs
+run-requires-clause-syncs g c =
+    λ lives within.
+    subst (λ (z : SharedValue × List ℕ). All (λ at. event z.0.run.story at ≡ Some Sync) z.1) (λ i. (sym c.new-shared.ensures i, sym c.as_slice.ensures.value i))
+    (syncs_along c.args.plan.now.story c.args.yard.now.story c.requires.along c.args.places.now.syncs.items c.requires.syncs)
+
+pub run-requires-clause-strands : goal.run-requires-clause-strands
+run-requires-clause-strands g c =
+    λ lives within.
+    subst (λ (z : SharedValue × List ℕ). AreFirsts z.0.run.story.events z.1) (λ i. (sym c.new-shared.ensures i, sym c.as_slice-3.ensures.value i))
+    (firsts_along c.args.plan.now.story.events c.args.yard.now.story.events (sym c.requires.along.kinds) c.args.places.now.strands.items c.requires.strands)
+
+pub returns-clause-ok : goal.returns-clause-ok
+returns-clause-ok g c =
+    IfOk-weaker c.run.result _ _
+    (λ r h.
+    whole_of c.args.yard.now c.args.table.now c.in-Ok.course (source c.args.plan.now.run.program) c.args.input.now c.new-shared.result r.0 r.1 c.new-shared.ensures
+    (ap source c.in-Ok.ensures.program) c.in-Ok.ensures.inputs h.0)
+    c.run.ensures.ok
+
+pub returns-clause-err : goal.returns-clause-err
+returns-clause-err g c =
+    MatchResult-weaker c.run.result c.run.ensures.err
+    (λ r t. t)
+    (λ f h.
+    fault_of c.args.plan.now c.args.input.now c.args.workers c.args.yard.now.story f c.requires.story
+    (subst (λ (y : SharedValue). IsTrueFault y.run.story c.args.workers f) c.new-shared.ensures h))

@@ -1,0 +1,60 @@
+-- What a run of an accepted program by workers answers, on an input, its own or another.
+use Rattle.std.specs.Prelude.{◌≡◌, ◌≤◌, ◌+◌, ℕ, ℤ, List, length}
+use Rattle.cilk_types.specs.declared.event.Event.{Event}
+use Rattle.cilk_types.specs.declared.limits.TheConstants.{MAX_TICKS}
+use Rattle.cilk_types.specs.declared.outcome.Outcome.{Outcome}
+use Rattle.cilk_program.specs.Outcomes.{Leaves}
+use Rattle.cilk_program.specs.SerialRun.{Transcript, IsSerialRun}
+use Rattle.cilk_program.specs.Syntax.{Source}
+use Rattle.cilk_story.specs.declared.story.Story.{Story}
+use Rattle.cilk_story.specs.Runs.{Departs, IsFollowed}
+use Rattle.cilk_shared.specs.Values.{YardValue}
+use Rattle.cilk_pieces.specs.Pieces.{PieceValue}
+use Rattle.cilk_pieces.specs.declared.reducers.Reducers.{Reducers}
+use Rattle.cilk_boxes.specs.Rows.{IsGood, run_of}
+use Rattle.cilk_runs.specs.Costs.{TickTotal, whole}
+use Rattle.cilk_runs.specs.Runs.{Run}
+use Rattle.cilk_worlds.specs.Machine.{costs}
+use Rattle.cilk_worlds.specs.Worlds.{World, first_world}
+use Rattle.cilk_inputs.specs.Frames.{IsSerialRunOn}
+use Rattle.cilk_planning.specs.Plans.{WholePlan, IsStoryOn}
+use Rattle.cilk_crew.specs.declared.run.ThreadFault.{ThreadFault}
+use Rattle.cilk_crew.specs.declared.run.ThreadFault.TheVariants as faults
+use Rattle.cilk_crew.specs.Faults.{IsCrew}
+
+-- a serial run of the program on these inputs leaves this
+abbrev pub LeavesOn : Source → List ℤ → Outcome → Type 0
+LeavesOn p inputs o = (run : Transcript) × (es : List Event) × IsSerialRun p inputs run es (Leaves o)
+
+-- The program's frames make a run on these inputs, each as if it had all ticks of a run for itself. Where all together take no more ticks
+-- than a run may, it is the program's serial run, which leaves this; and no serial run leaves anything else.
+pub record IsOutcomeOn (p : Source) (inputs : List ℤ) (o : Outcome) : Type 0 where
+  pub run : Run World
+  pub serial : IsSerialRunOn p inputs run
+  pub leaves : whole (costs p inputs) (first_world p) run TickTotal ≤ MAX_TICKS → LeavesOn p inputs o
+  pub only : (o' : Outcome) → LeavesOn p inputs o' → o ≡ o'
+
+-- The piece has all of the yard's events, and the program's frames asked for each of them. Each serial run of the program on these inputs
+-- that makes those events ends with this result.
+pub record IsWholeOf (p : Source) (inputs : List ℤ) (y : YardValue) (r : Reducers) (x : PieceValue) (value : ℤ) : Type 0 where
+  pub good : IsGood (run_of y r) x
+  pub begins : x.from ≡ 1
+  pub last : let s = y.story in x.upto ≡ length s.events + 1
+  pub followed : let s = y.story in IsFollowed s (length s.events)
+  pub result : (run : Transcript) (o : Outcome) → IsSerialRun p inputs run (let s = y.story in s.events) (Leaves o) → o.result ≡ value
+
+-- the story that the program makes of the plan on these inputs departs at the position
+abbrev pub DepartsOn : WholePlan → List ℤ → ℕ → Type 0
+DepartsOn w inputs p = (s : Story) × (let t = w.story in IsStoryOn w.run t.opening inputs s) × Departs s p
+
+-- The number of workers is a fault exactly where it is none; and where the input departs from the plan, it does.
+abbrev pub IsFaultOn : WholePlan → List ℤ → ℕ → ThreadFault → Type 0
+IsFaultOn w inputs n faults.Memory = IsCrew n
+IsFaultOn w inputs n faults.Workers = IsCrew n → ⊥
+IsFaultOn w inputs n (faults.Departs p) = IsCrew n × DepartsOn w inputs p
+
+-- the fault names no position
+abbrev pub NamesNoPosition : ThreadFault → Type 0
+NamesNoPosition faults.Memory = Unit {0}
+NamesNoPosition faults.Workers = Unit {0}
+NamesNoPosition (faults.Departs p) = ⊥

@@ -1,0 +1,17 @@
+//! A run of an accepted program by several workers, each in a thread of its own.
+//!
+//! [`threads::run_threads`] runs a program's plan on an input, that of the plan or another. Its Ok is what the program leaves on that
+//! input. [`places`] finds in the plan where blocks and strands lie.
+//!
+//! ```text
+//! let plan = plan(alloc, &accepted)?;
+//! match run_threads(rt, alloc, &plan, &input, 4, &Open) {
+//!     Ok(outcome) => ..,                               // what the program leaves on the input
+//!     Err(ThreadFault::Departs(at)) => ..,             // the input departs from the plan there
+//!     Err(fault) => ..,
+//! }
+//! ```
+#![tactic(auto)]
+
+pub mod places;
+pub mod threads;

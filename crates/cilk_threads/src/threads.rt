@@ -1,0 +1,183 @@
+//! A run of an accepted program by several workers, on an input.
+
+ghost use Rattle.std.specs.Prelude.{◌≡◌, All, Some, IfOk, IfErr};
+ghost use Rattle.cilk_courses.specs.Courses.{IsCourseOn};
+ghost use Rattle.cilk_pieces.specs.Reducers.{HasFew};
+ghost use Rattle.cilk_plan.specs.Along.{IsAlong};
+ghost use Rattle.cilk_planning.specs.Plans.{IsStoryOn};
+ghost use Rattle.cilk_program.specs.Sources.{source};
+ghost use Rattle.cilk_settling.specs.Accepted.{IsTableOf};
+ghost use Rattle.cilk_shared.specs.Values.{OfYard};
+ghost use Rattle.cilk_story.specs.Word.{event};
+ghost use Rattle.cilk_types.specs.declared.event.Event.TheVariants.{Sync};
+ghost use Rattle.cilk_workers.specs.Gates.{AreFirsts};
+ghost use Rattle.cilk_crew.specs.Faults.{IsCrew};
+ghost use Rattle.cilk_threads.specs.Outcomes.{IsFaultOn, IsOutcomeOn, IsWholeOf, NamesNoPosition};
+
+use crate::places::{Places, places_of};
+use cilk_chains::course::Course;
+use cilk_courses::course::course;
+use cilk_crew::layout::Layout;
+use cilk_crew::run::{MAX_WORKERS, ThreadFault, run};
+use cilk_determinacy::words::inputs_are_words;
+use cilk_inputs::laws::{inputs_run_along, own_story, programs_have_one_course};
+use cilk_pieces::piece::Piece;
+use cilk_pieces::reducers::Reducers;
+use cilk_planning::program_plan::ProgramPlan;
+use cilk_planning::yards::yard;
+use cilk_settling::laws::accepted_stories_have_numbers;
+use cilk_settling::outcome::outcome;
+use cilk_settling::table::plan_reducers;
+use cilk_shared::yard::{Segment, Yard};
+use cilk_turns::shared::Shared;
+use cilk_turns::turn::first;
+use cilk_types::input::Input;
+use cilk_types::limits::MAX_INPUTS;
+use cilk_types::outcome::Outcome;
+use cilk_types::word_list::WordList;
+use cilk_workers::gate::Gate;
+use std::alloc::{AllocError, Global};
+use std::sync::Wait;
+use std::thread::Threads;
+
+/// Runs an accepted program along its plan by some workers, from 1 to 64, each in a thread of its own; on an input, that of the plan or
+/// another. Ok is what the program leaves on that input, and on the plan's own what the accepted run left. A run on the plan's own input
+/// departs from it nowhere. A gate is called as each strand begins. It is not said that it returns.
+pub fn run_threads<R: Threads + Wait + Sync, G: Gate + Sync>(
+    rt: &R,
+    alloc: Global,
+    plan: &ProgramPlan<'_>,
+    input: &Input,
+    workers: u32,
+    gate: &G,
+) -> Result<Outcome, ThreadFault>
+    ensures ok { IfOk result (λ o. IsCrew workers × IsOutcomeOn (source plan.now.run.program) input.now o) }
+    ensures own { IfOk result (λ o. input.now ≡ plan.now.run.input → o ≡ plan.now.run.outcome) }
+    ensures err { IfErr result (IsFaultOn plan.now input.now workers) }
+    ensures stays { IfErr result (λ f. input.now ≡ plan.now.run.input → NamesNoPosition f) }
+{
+    own_story();
+    plan.laws();
+    if workers == 0 || workers > MAX_WORKERS {
+        return Err(ThreadFault::Workers);
+    }
+    let Ok(places) = places_of(alloc, plan) else {
+        return Err(ThreadFault::Memory);
+    };
+    let Ok(table) = plan_reducers(alloc, plan) else {
+        return Err(ThreadFault::Memory);
+    };
+    let Ok((yard, segment)) = yard(alloc, plan, input) else {
+        return Err(ThreadFault::Memory);
+    };
+    match run_on(
+        rt, alloc, plan, input, &places, &table, &yard, segment, workers, gate,
+    ) {
+        Ok((piece, value)) => match left(alloc, plan, input, yard, piece, value) {
+            Ok(outcome) => Ok(outcome),
+            Err(_) => Err(ThreadFault::Memory),
+        },
+        Err(fault) => Err(fault),
+    }
+}
+
+// The piece of the whole run, and its result.
+fn run_on<R: Threads + Wait + Sync, G: Gate + Sync>(
+    rt: &R,
+    alloc: Global,
+    plan: &ProgramPlan<'_>,
+    input: &Input,
+    places: &Places,
+    table: &Reducers,
+    yard: &Yard,
+    segment: Segment,
+    workers: u32,
+    gate: &G,
+) -> Result<(Piece, i64), ThreadFault>
+    requires crew { IsCrew workers }
+    requires syncs { All (λ at. event plan.now.story at ≡ Some Sync) places.now.syncs.items }
+    requires strands { AreFirsts plan.now.story.events places.now.strands.items }
+    requires table { IsTableOf plan.now.run table.now × HasFew table.now }
+    requires story { IsStoryOn plan.now.run plan.now.story.opening input.now yard.now.story }
+    requires along { IsAlong plan.now.story yard.now.story }
+    requires segment { OfYard yard.now segment × (segment.from ≡ 1) × (segment.upto ≡ 2) }
+    ensures ok { IfOk result (λ r. IsWholeOf (source plan.now.run.program) input.now yard.now table.now r.0 r.1) }
+    ensures err { IfErr result (IsFaultOn plan.now input.now workers) }
+{
+    accepted_stories_have_numbers();
+    inputs_are_words(input);
+    plan.laws();
+    let Ok(course) = course_on(alloc, plan, yard, input) else {
+        return Err(ThreadFault::Memory);
+    };
+    let shared = Shared::new(yard, plan.events(), table, &course);
+    let piece = Piece::new(alloc, yard, segment, table);
+    let Ok(work) = first(alloc, &shared, piece) else {
+        return Err(ThreadFault::Memory);
+    };
+    let layout = Layout {
+        syncs: places.syncs.as_slice(),
+        of: places.of.as_slice(),
+        strands: places.strands.as_slice(),
+    };
+    run(rt, alloc, &shared, &layout, gate, work, workers)
+}
+
+// The course of the plan's run on the input.
+fn course_on(
+    alloc: Global,
+    plan: &ProgramPlan<'_>,
+    yard: &Yard,
+    input: &Input,
+) -> Result<Course, AllocError>
+    requires { IsStoryOn plan.now.run plan.now.story.opening input.now yard.now.story }
+    ensures { IfOk result (λ c. IsCourseOn plan.now.run yard.now input.now c) }
+{
+    let same = copied(alloc, input)?;
+    course(alloc, plan, yard, same)
+}
+
+// The same input once more. No input has more numbers than one may have.
+fn copied(alloc: Global, input: &Input) -> Result<Input, AllocError>
+    ensures { IfOk result (λ same. same ≡ input.now) }
+{
+    let given = input.as_slice();
+    if given.len() > MAX_INPUTS {
+        return Err(AllocError);
+    }
+    let mut numbers = WordList::new(alloc);
+    'each: for number in given {
+        numbers.push(*number)?;
+    }
+    Ok(Input::new(numbers))
+}
+
+// What the whole piece leaves.
+fn left(
+    alloc: Global,
+    plan: &ProgramPlan<'_>,
+    input: &Input,
+    yard: Yard,
+    piece: Piece,
+    value: i64,
+) -> Result<Outcome, AllocError>
+    requires table { IsTableOf plan.now.run piece.reducers }
+    requires story { IsStoryOn plan.now.run plan.now.story.opening input.now yard.story }
+    requires along { IsAlong plan.now.story yard.story }
+    requires whole { IsWholeOf (source plan.now.run.program) input.now yard piece.reducers piece value }
+    ensures { IfOk result (λ o. IsOutcomeOn (source plan.now.run.program) input.now o) }
+{
+    programs_have_one_course();
+    inputs_run_along();
+    inputs_are_words(input);
+    plan.laws();
+    yard.laws();
+    outcome(
+        alloc,
+        plan.program(),
+        plan.code().layout(),
+        yard,
+        piece,
+        value,
+    )
+}
