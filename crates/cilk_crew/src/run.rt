@@ -1,0 +1,86 @@
+//! A run of a plan by several workers.
+
+ghost use Rattle.std.specs.Prelude.{◌≡◌, All, Some, IfOk, IfErr};
+ghost use Rattle.cilk_story.specs.Word.{event};
+ghost use Rattle.cilk_turns.specs.Turns.{Works};
+ghost use Rattle.cilk_types.specs.declared.event.Event.TheVariants.{Sync};
+ghost use Rattle.cilk_workers.specs.Gates.{AreFirsts};
+ghost use Rattle.cilk_workers.specs.Hands.{IsFinish, IsWhole};
+ghost use Rattle.cilk_workers.specs.Names.{IsName};
+ghost use Rattle.cilk_crew.specs.Faults.{IsCrew, IsTrueFault};
+
+use crate::crew::crewed;
+use crate::layout::Layout;
+use cilk_pieces::piece::Piece;
+use cilk_racks::naming::Naming;
+use cilk_turns::shared::Shared;
+use cilk_turns::work::Work;
+use cilk_types::event::Pos;
+use cilk_workers::gate::Gate;
+use cilk_workers::hand::Finish;
+use std::alloc::Global;
+use std::marker::Brand;
+use std::sync::Wait;
+use std::thread::Threads;
+
+/// The most workers that may run together.
+pub const MAX_WORKERS: u32 = 64;
+
+/// Why a run has no outcome.
+#[derive(Drop, Debug)]
+pub enum ThreadFault {
+    /// There was no memory, or no thread.
+    Memory,
+    /// The number of workers is not from 1 to 64.
+    Workers,
+    /// The input departs from the plan at this position.
+    Departs(Pos),
+}
+
+// The workers of a run that is named.
+fn run_as<N: Naming + Send + Sync, R: Threads + Wait + Sync, G: Gate + Sync>(
+    rt: &R,
+    alloc: Global,
+    shared: &Shared<'_>,
+    layout: &Layout<'_>,
+    gate: &G,
+    work: Work,
+    workers: u32,
+) -> Result<(Piece, i64), ThreadFault>
+    requires name { IsName N.run N.course shared.now }
+    requires syncs { All (λ at. event shared.now.run.story at ≡ Some Sync) layout.now.syncs.now }
+    requires strands { AreFirsts shared.now.run.story.events layout.now.strands.now }
+    requires works { Works shared.now work }
+    requires crew { IsCrew workers }
+    ensures ok { IfOk result (λ r. IsWhole shared.now r.0 r.1) }
+    ensures err { IfErr result (IsTrueFault shared.now.run.story workers) }
+{
+    match crewed::<N, R, G>(rt, alloc, shared, layout, gate, work, workers) {
+        Ok(Finish::Whole(piece, value)) => Ok((piece, value)),
+        Ok(Finish::Departed(at)) => Err(ThreadFault::Departs(at)),
+        Ok(Finish::Stopped) | Err(_) => Err(ThreadFault::Memory),
+    }
+}
+
+/// Runs the plan by some workers, from what the first has behind the run's first event. Ok is the piece of the
+/// whole run, and its result.
+pub fn run<R: Threads + Wait + Sync, G: Gate + Sync>(
+    rt: &R,
+    alloc: Global,
+    shared: &Shared<'_>,
+    layout: &Layout<'_>,
+    gate: &G,
+    work: Work,
+    workers: u32,
+) -> Result<(Piece, i64), ThreadFault>
+    requires syncs { All (λ at. event shared.now.run.story at ≡ Some Sync) layout.now.syncs.now }
+    requires strands { AreFirsts shared.now.run.story.events layout.now.strands.now }
+    requires works { Works shared.now work }
+    ensures ok { IfOk result (λ r. IsWhole shared.now r.0 r.1 × IsCrew workers) }
+    ensures err { IfErr result (IsTrueFault shared.now.run.story workers) }
+{
+    if workers == 0 || workers > MAX_WORKERS {
+        return Err(ThreadFault::Workers);
+    }
+    run_as::<Brand, R, G>(rt, alloc, shared, layout, gate, work, workers)
+}
