@@ -3,8 +3,9 @@
 -- - `one_frame`: an event is in one frame;
 -- - `next_stays`, `next_here`: a frame's next `sync`, ahead of an event that isn't one of it, and ahead of one;
 -- - `ahead_kept`, `ahead_put`: so for all frames;
--- - `Stands`, `MetSoFar`, `met_first`, `noted`, `met_next`, `met_all`: what the pass has at the run's end, ahead of each event and of all.
-use Rattle.std.proofs.Common.{◌≡◌, ◌≢◌, ◌↔◌, ◌⊎◌, inl, inr, ℕ, zero, suc, ◌+◌, ◌-◌, ◌<◌, ◌≤◌, List, [], ◌∷◌, length, map, get_or, set, Option, Some, None, IfSome, MatchOption, slice_get, refl, sym, ap, ◌∙◌, subst, arith, get_or-set_same, get_or-set_other, length-set}
+-- - `Stands`, `MetSoFar`, `met_first`, `noted`, `met_all`: what the pass has at the run's end, ahead of each event and of all;
+-- - `met_spawn`, `met_resume`, `met_sync`, `met_plain`: ahead of an event of each sort.
+use Rattle.std.proofs.Common.{◌≡◌, ◌≢◌, ◌↔◌, ◌⊎◌, inl, inr, nat_eq, Bool, true, false, if◌then◌else◌, ℕ, zero, suc, ◌+◌, ◌-◌, ◌<◌, ◌≤◌, List, [], ◌∷◌, length, map, get_or, set, Option, Some, None, IfSome, MatchOption, slice_get, refl, sym, ap, ◌∙◌, subst, arith, get_or-set_same, get_or-set_other, length-set}
 use Rattle.std.proofs.lemmas.Option.{slice_get_within}
 use mathlib.Core.Logic.{dite}
 use native.Mathlib.Decide.{ℕ_discrete, dec_lt}
@@ -13,12 +14,14 @@ use Rattle.cilk_types.specs.declared.event.Event.TheVariants as events
 use Rattle.cilk_tree.specs.Races.{event_at}
 use Rattle.cilk_story.specs.declared.story.Story.{Story}
 use Rattle.cilk_story.specs.Orders.{IsOrderly}
-use Rattle.cilk_story.specs.Word.{event, resume, what, IsWord}
+use Rattle.cilk_story.specs.Word.{WordEvent, event, after, plain, spawn, resume, finish, word_event, resumption, is_spawn, what, IsWord}
 use Rattle.cilk_plan.specs.declared.blocks.Continuation.{Continuation}
 use Rattle.cilk_plan.specs.declared.kind.Kind.{Kind}
 use Rattle.cilk_plan.specs.declared.kind.Kind.TheVariants as kinds
 use Rattle.cilk_plan.specs.Frames.{Enters, IsInFrame}
-use Rattle.cilk_plan.specs.Kinds.{kind_of, kind_of_event}
+use Rattle.cilk_plan.specs.declared.kind.Asked.{Asked}
+use Rattle.cilk_plan.specs.declared.kind.Asked.TheVariants.{Next}
+use Rattle.cilk_plan.specs.Kinds.{IsBehind, kind_of, kind_of_event}
 use Rattle.cilk_plan.specs.Blocks.{resumed_at, HasResume, SyncsAt, IsNextSync, IsContinuationOf, AreContinuations, IsPut}
 
 one_entry : (o : Option Event) (f g : ℕ) → Enters o f → Enters o g → f ≡ g
@@ -93,6 +96,37 @@ ahead_next es n m g kinds.Sync ahead ahead' at has inside is put kept = ahead_pu
 ahead_next es n m g kind ahead ahead' at has inside is put kept =
     let other : kind ≢ kinds.Sync = (λ e. cc e) in
     subst (HasNext es m) (sym (kept other)) (ahead_kept es n m ahead at has (not_sync_kind (event_at es n) kind is other))
+
+-- ---- kinds
+
+no_resumption : (es : List Event) (ps : List ℕ) → resumption es ps ≢ spawn
+no_resumption es [] h = cc h
+no_resumption es (q ∷ r ∷ ps) h = cc h
+no_resumption es (q ∷ []) h = by (is_spawn (event_at es q)) h
+  where
+    by : (b : Bool) → (if b then resume q else plain) ≢ spawn
+    by true h = cc h
+    by false h = cc h
+
+ends_none : (b : Bool) (w : WordEvent) → w ≢ plain → w ≢ finish → (if b then finish else plain) ≢ w
+ends_none true w not_plain not_finish h = not_finish (sym h)
+ends_none false w not_plain not_finish h = not_plain (sym h)
+
+not_spawn : (es : List Event) (p : ℕ) (o : Option Event) (ps : List ℕ) (kind : Kind) → kind_of_event o ≡ Some kind → ((f : ℕ) → kind ≢ kinds.Spawn f) → word_event es p o ps ≢ spawn
+not_spawn es p (Some (events.Spawn f)) ps kind is other h = other f (let e : Some (kinds.Spawn f) ≡ Some kind = is in sym (cc e))
+not_spawn es p (Some (events.Resume f)) ps kind is other h = no_resumption es ps h
+not_spawn es p (Some events.End) ps kind is other h = ends_none (nat_eq p (length es)) spawn (λ e. cc e) (λ e. cc e) h
+not_spawn es p o ps kind is other h = cc h
+
+not_resume : (es : List Event) (p : ℕ) (o : Option Event) (ps : List ℕ) (kind : Kind) → kind_of_event o ≡ Some kind → ((f : ℕ) → kind ≢ kinds.Resume f) → (k : ℕ) → word_event es p o ps ≢ resume k
+not_resume es p (Some (events.Resume f)) ps kind is other k h = other f (let e : Some (kinds.Resume f) ≡ Some kind = is in sym (cc e))
+not_resume es p (Some events.End) ps kind is other k h = ends_none (nat_eq p (length es)) (resume k) (λ e. cc e) (λ e. cc e) h
+not_resume es p o ps kind is other k h = cc h
+
+set_none : (l : List (Option Continuation)) (n : ℕ) → get_or l n None ≡ None → set l n None ≡ l
+set_none [] n is = refl
+set_none (x ∷ l) zero is = ap (λ (y : Option Continuation). y ∷ l) (sym is)
+set_none (x ∷ l) (suc n) is = ap (λ (z : List (Option Continuation)). x ∷ z) (set_none l n is)
 
 -- ---- the column
 
@@ -250,7 +284,7 @@ module _ (s : Story) (law : IsOrderly s) where
   met_long n column column' now None long put = ap length put ∙ length-set column n now ∙ long
   met_long n column column' now (Some k) long put = ap length put ∙ length-set (set column n now) k (Some (resumed_at n)) ∙ length-set column n now ∙ long
 
-  pub met_next : (n m g : ℕ) (kind : Kind) (ahead ahead' : List (Option ℕ)) (column column' : List (Option Continuation)) (now : Option Continuation) (spawned : Option ℕ)
+  met_next : (n m g : ℕ) (kind : Kind) (ahead ahead' : List (Option ℕ)) (column column' : List (Option Continuation)) (now : Option Continuation) (spawned : Option ℕ)
       → n ≡ m + 1 → n ≤ length s.events → MetSoFar s n ahead column → IsInFrame s.events n g → kind_of_event (event s n) ≡ Some kind
       → ((c : Continuation) → (now ≡ Some c) ↔ ((what s c.resume ≡ resume n) × (get_or ahead g None ≡ Some c.sync)))
       → ((k : ℕ) → (spawned ≡ Some k) ↔ (what s n ≡ resume k))
@@ -262,6 +296,59 @@ module _ (s : Story) (law : IsOrderly s) where
     each = met_each n m g ahead column column' now spawned at within so_far inside noted resumed noting;
   }
 
+  -- nothing is noted but at spawns
+  unnoted : (n : ℕ) (ahead : List (Option ℕ)) (column : List (Option Continuation)) → MetSoFar s n ahead column → what s n ≢ spawn → (found : Option Continuation) → get_or column n None ≡ found → found ≡ None
+  unnoted n ahead column so_far other None is = refl
+  unnoted n ahead column so_far other (Some c) is = absurd (elim ((so_far.each n c).0 is) [
+    | inl behind ↦ (let l = behind.0 in omega (arith, l))
+    | inr waits ↦ other (law.resumed c.resume n waits.2).0
+  ])
+
+  -- ---- by its kind
+
+  pub met_spawn : (n m g f : ℕ) (ahead : List (Option ℕ)) (column column' : List (Option Continuation)) (now : Option Continuation)
+      → n ≡ m + 1 → n ≤ length s.events → MetSoFar s n ahead column → IsInFrame s.events n g → kind_of_event (event s n) ≡ Some (kinds.Spawn f)
+      → ((c : Continuation) → (now ≡ Some c) ↔ ((what s c.resume ≡ resume n) × (get_or ahead g None ≡ Some c.sync))) → column' ≡ set column n now → MetSoFar s m ahead column'
+  met_spawn n m g f ahead column column' now at within so_far inside is noted put =
+      let other : (k : ℕ) → what s n ≢ resume k = not_resume s.events n (event s n) (after s n) (kinds.Spawn f) is (λ r e. cc e) in
+      met_next n m g (kinds.Spawn f) ahead ahead column column' now None at within so_far inside is noted
+      (λ k. (λ e. absurd (let z : None ≡ Some k = e in cc z), λ h. absurd (other k h))) put (λ e. absurd (let z : kinds.Spawn f ≡ kinds.Sync = e in cc z)) (λ _. refl)
+
+  met_other : (n m g : ℕ) (kind : Kind) (ahead ahead' : List (Option ℕ)) (column column' : List (Option Continuation)) (spawned : Option ℕ)
+      → n ≡ m + 1 → n ≤ length s.events → MetSoFar s n ahead column → IsInFrame s.events n g → kind_of_event (event s n) ≡ Some kind → ((f : ℕ) → kind ≢ kinds.Spawn f)
+      → ((k : ℕ) → (spawned ≡ Some k) ↔ (what s n ≡ resume k)) → MatchOption spawned (column' ≡ column) (λ k. column' ≡ set column k (Some (resumed_at n)))
+      → (kind ≡ kinds.Sync → IsPut ahead g n ahead') → (kind ≢ kinds.Sync → ahead' ≡ ahead) → MetSoFar s m ahead' column'
+  met_other n m g kind ahead ahead' column column' spawned at within so_far inside is none resumed noting put kept =
+      let other : what s n ≢ spawn = not_spawn s.events n (event s n) (after s n) kind is none in
+      let same : set column n None ≡ column = set_none column n (unnoted n ahead column so_far other (get_or column n None) refl) in
+      met_next n m g kind ahead ahead' column column' None spawned at within so_far inside is
+      (λ c. (λ e. absurd (let z : None ≡ Some c = e in cc z), λ h. absurd (other (law.resumed c.resume n h.0).0)))
+      resumed (subst (λ (l : List (Option Continuation)). MatchOption spawned (column' ≡ l) (λ k. column' ≡ set l k (Some (resumed_at n)))) (sym same) noting) put kept
+
+  pub met_resume : (n m g f : ℕ) (ahead : List (Option ℕ)) (column column' : List (Option Continuation)) (spawned : Option ℕ)
+      → n ≡ m + 1 → n ≤ length s.events → MetSoFar s n ahead column → IsInFrame s.events n g → kind_of_event (event s n) ≡ Some (kinds.Resume f)
+      → ((k : ℕ) → (spawned ≡ Some k) ↔ (what s n ≡ resume k)) → MatchOption spawned (column' ≡ column) (λ k. column' ≡ set column k (Some (resumed_at n))) → MetSoFar s m ahead column'
+  met_resume n m g f ahead column column' spawned at within so_far inside is resumed noting =
+      met_other n m g (kinds.Resume f) ahead ahead column column' spawned at within so_far inside is (λ r e. cc e) resumed noting (λ e. absurd (let z : kinds.Resume f ≡ kinds.Sync = e in cc z)) (λ _. refl)
+
+  met_quiet : (n m g : ℕ) (kind : Kind) (ahead ahead' : List (Option ℕ)) (column : List (Option Continuation))
+      → n ≡ m + 1 → n ≤ length s.events → MetSoFar s n ahead column → IsInFrame s.events n g → kind_of_event (event s n) ≡ Some kind → ((f : ℕ) → kind ≢ kinds.Spawn f) → ((f : ℕ) → kind ≢ kinds.Resume f)
+      → (kind ≡ kinds.Sync → IsPut ahead g n ahead') → (kind ≢ kinds.Sync → ahead' ≡ ahead) → MetSoFar s m ahead' column
+  met_quiet n m g kind ahead ahead' column at within so_far inside is no_spawn no_resume put kept =
+      met_other n m g kind ahead ahead' column column None at within so_far inside is no_spawn
+      (λ k. (λ e. absurd (let z : None ≡ Some k = e in cc z), λ h. absurd (not_resume s.events n (event s n) (after s n) kind is no_resume k h))) refl put kept
+
+  pub met_sync : (n m g : ℕ) (ahead ahead' : List (Option ℕ)) (column : List (Option Continuation))
+      → n ≡ m + 1 → n ≤ length s.events → MetSoFar s n ahead column → IsInFrame s.events n g → kind_of_event (event s n) ≡ Some kinds.Sync → IsPut ahead g n ahead' → MetSoFar s m ahead' column
+  met_sync n m g ahead ahead' column at within so_far inside is put =
+      met_quiet n m g kinds.Sync ahead ahead' column at within so_far inside is (λ f e. cc e) (λ f e. cc e) (λ _. put) (λ other. absurd (other refl))
+
+  pub met_plain : (n m g : ℕ) (kind : Kind) (ahead : List (Option ℕ)) (column : List (Option Continuation))
+      → n ≡ m + 1 → n ≤ length s.events → MetSoFar s n ahead column → IsInFrame s.events n g → kind_of_event (event s n) ≡ Some kind
+      → ((f : ℕ) → kind ≢ kinds.Spawn f) → ((f : ℕ) → kind ≢ kinds.Resume f) → kind ≢ kinds.Sync → MetSoFar s m ahead column
+  met_plain n m g kind ahead column at within so_far inside is no_spawn no_resume no_sync =
+      met_quiet n m g kind ahead ahead column at within so_far inside is no_spawn no_resume (λ e. absurd (no_sync e)) (λ _. refl)
+
   pub met_all : (n : ℕ) (ahead : List (Option ℕ)) (column : List (Option Continuation)) → n ≡ 0 → MetSoFar s n ahead column → AreContinuations s column
   met_all n ahead column none so_far k c = (
     λ e. (let stands : Stands s n k c = (so_far.each k c).0 e in
@@ -272,7 +359,14 @@ module _ (s : Story) (law : IsOrderly s) where
     λ h. (so_far.each k c).1 (inl (let l = (spawn_inside k c.resume h.resumes).0 in omega (arith, l, none), h)),
   )
 
-pub kind_there : (es : List Event) (k : ℕ) → slice_get (map kind_of es) k ≡ kind_of_event (slice_get es k)
+kind_there : (es : List Event) (k : ℕ) → slice_get (map kind_of es) k ≡ kind_of_event (slice_get es k)
 kind_there [] k = refl
 kind_there (e ∷ es) zero = refl
 kind_there (e ∷ es) (suc k) = kind_there es k
+
+-- what stands at n, as it is told of what comes behind the events ahead of it
+pub there : (s : Story) (n : ℕ) → n - 1 + 1 ≡ n → (asked : Asked) (frame : ℕ) (kind : Kind) → asked ≡ Next frame kind → IsBehind s (n - 1) asked
+    → (kind_of_event (event s n) ≡ Some kind) × IsInFrame s.events n frame
+there s n here asked frame kind is behind =
+    let told : IsBehind s (n - 1) (Next frame kind) = subst (IsBehind s (n - 1)) is behind in
+    (sym (kind_there s.events (n - 1)) ∙ told.0, subst (λ (p : ℕ). IsInFrame s.events p frame) here told.1)

@@ -1,13 +1,12 @@
 //! The continuations of a run's spawns, and the blocks that they are in, in one pass from the run's end.
 
-ghost use Rattle.std.specs.Prelude.{◌≡◌, ◌≢◌, ◌↔◌, ◌<◌, ◌^◌, ℕ, Some, None, length, slice_index_or, slice_set, IfOk, IfSome, MatchOption, OnOk};
+ghost use Rattle.std.specs.Prelude.{◌≡◌, ◌↔◌, ◌<◌, ◌^◌, ℕ, Some, None, length, slice_index_or, slice_set, IfOk, IfSome, MatchOption, OnOk};
 ghost use Rattle.cilk_plan.specs.declared.blocks.Continuation.{Continuation};
-ghost use Rattle.cilk_plan.specs.declared.kind.Kind.TheVariants.{Sync};
 ghost use Rattle.cilk_plan.specs.Blocks.{resumed_at, AreContinuations, HasResume, IsPut};
 
 use crate::kind::{Asked, Kind};
 use crate::plan::Plan;
-use cilk_types::event::{FrameNo, Pos};
+use cilk_types::event::Pos;
 use std::alloc::{AllocError, Global};
 
 /// What follows a spawn in its frame: the position of the `resume` by which it goes on, and that of the `sync` that ends its block.
@@ -29,11 +28,16 @@ pub fn continuations(alloc: Global, plan: &Plan) -> Result<Vec<Option<Continuati
     for met in 0..count {
         let at = (count - met) as Pos;
         if let Asked::Next { frame, kind } = plan.next(at - 1) {
-            let resume = resume_in(&column, at as usize);
-            let sync = position_in(&ahead, frame as usize);
-            column[at as usize] = both(resume, sync);
-            note(&mut column, plan.resumed_by(at), at);
-            meet(&mut ahead, frame, kind, at)?;
+            match kind {
+                Kind::Spawn { .. } => {
+                    let resume = resume_in(&column, at as usize);
+                    let sync = position_in(&ahead, frame as usize);
+                    column[at as usize] = both(resume, sync);
+                }
+                Kind::Resume { .. } => note(&mut column, plan.resumed_by(at), at),
+                Kind::Sync => put(&mut ahead, frame as usize, at)?,
+                _ => {}
+            }
         }
     }
     Ok(column)
@@ -79,17 +83,6 @@ fn both(resume: Option<Pos>, sync: Option<Pos>) -> Option<Continuation>
     match (resume, sync) {
         (Some(resume), Some(sync)) => Some(Continuation { resume, sync }),
         _ => None,
-    }
-}
-
-// For each frame the next `sync`, ahead of an event of a frame.
-fn meet(ahead: &mut Vec<Option<Pos>>, frame: FrameNo, kind: Kind, at: Pos) -> Result<(), AllocError>
-    ensures sync { OnOk result (kind ≡ Sync → IsPut ahead.old.items frame at ahead.new.items) }
-    ensures other { OnOk result (kind ≢ Sync → ahead.new.items ≡ ahead.old.items) }
-{
-    match kind {
-        Kind::Sync => put(ahead, frame as usize, at),
-        _ => Ok(()),
     }
 }
 

@@ -1,14 +1,12 @@
-use Rattle.std.proofs.Common.{Vec, Global, ◌≡◌, ℕ, ◌+◌, ◌-◌, ◌<◌, List, Option, None, length, refl, sym, ap, ◌∙◌, subst, arith, length-set}
+use Rattle.std.proofs.Common.{Vec, Global, ◌≡◌, ℕ, ◌+◌, ◌-◌, ◌<◌, ◌≤◌, List, Option, Some, None, length, refl, sym, ap, ◌∙◌, subst, arith}
 use Rattle.std.proofs.lemmas.List.{get_or_past}
 use mathlib.Core.Logic.{dite}
 use native.Mathlib.Decide.{dec_lt}
 use Rattle.cilk_story.specs.declared.story.Story.{Story}
 use Rattle.cilk_plan.specs.declared.blocks.Continuation.{Continuation}
-use Rattle.cilk_plan.specs.Frames.{IsInFrame}
-use Rattle.cilk_plan.specs.Kinds.{IsBehind}
-use Rattle.cilk_plan.proofs.Continuing.{MetSoFar, kind_there, noted, met_first, met_next, met_all, noted_within}
+use Rattle.cilk_plan.proofs.Continuing.{MetSoFar, there, noted, met_first, met_spawn, met_resume, met_sync, met_plain, met_all, noted_within}
 use Rattle.cilk_plan.proofs.blocks.continuations.Goals as goal
-use Rattle.cilk_plan.proofs.blocks.continuations.Goals.{in-Next+in_ok-meet, in_default}
+use Rattle.cilk_plan.proofs.blocks.continuations.Goals.{in-Next+in-Spawn, in-Next+in-Resume, in-Next+in-Sync+in_ok-put-in-Sync, in-Next+in_default-kind, in_default}
 
 pub loop-met-init : goal.loop-met-init
 loop-met-init c =
@@ -30,17 +28,32 @@ loop-met-preserved c =
     let test = c.loop-met-test.true in
     let count = c.count-count.ensures.events in
     let here : n - 1 + 1 ≡ n = omega (arith, test) in
+    let at : n ≡ m + 1 = omega (arith, test) in
+    let within : n ≤ length s.events = omega (arith, count) in
     elim c.match-next.branch [
-      | in-Next+in_ok-meet w ↦ (let behind = subst (IsBehind s (n - 1)) w.in-Next.is c.next.ensures in
-          let kind = sym (kind_there s.events (n - 1)) ∙ behind.0 in
-          let inside = subst (λ (p : ℕ). IsInFrame s.events p w.in-Next.frame) here behind.1 in
+      | in-Next+in-Spawn w ↦ (let behind = there s n here c.next.result w.in-Next.frame w.in-Next.kind w.in-Next.is c.next.ensures in
           subst (λ (v : Vec (Option ℕ) Global). MetSoFar s m v.items c.match-next.column.items) (sym w.ahead-is)
-          (subst (λ (v : Vec (Option Continuation) Global). MetSoFar s m w.meet.new.ahead.items v.items) (sym w.column-is)
-          (met_next s c.laws.ensures.order n m w.in-Next.frame w.in-Next.kind c.loop-met.ahead.items w.meet.new.ahead.items c.loop-met.column.items w.note.new.column.items w.both.result w.resumed_by.result
-          (omega (arith, test)) (omega (arith, count)) c.loop-met.invariant inside kind
+          (subst (λ (v : Vec (Option Continuation) Global). MetSoFar s m c.loop-met.ahead.items v.items) (sym w.column-is)
+          (met_spawn s c.laws.ensures.order n m w.in-Next.frame _ c.loop-met.ahead.items c.loop-met.column.items _ w.both.result
+          at within c.loop-met.invariant behind.1 (behind.0 ∙ ap Some w.in-Spawn.is)
           (noted s c.laws.ensures.order n w.in-Next.frame c.loop-met.ahead.items c.loop-met.column.items _ _ w.both.result c.loop-met.invariant w.resume_in-resume.ensures
           w.position_in-sync.ensures w.both.ensures)
-          w.resumed_by.ensures w.note.ensures w.in_ok-meet.ensures.sync w.in_ok-meet.ensures.other)))
+          refl)))
+      | in-Next+in-Resume w ↦ (let behind = there s n here c.next.result w.in-Next.frame w.in-Next.kind w.in-Next.is c.next.ensures in
+          subst (λ (v : Vec (Option ℕ) Global). MetSoFar s m v.items c.match-next.column.items) (sym w.ahead-is)
+          (subst (λ (v : Vec (Option Continuation) Global). MetSoFar s m c.loop-met.ahead.items v.items) (sym w.column-is)
+          (met_resume s c.laws.ensures.order n m w.in-Next.frame _ c.loop-met.ahead.items c.loop-met.column.items w.note.new.column.items w.resumed_by.result
+          at within c.loop-met.invariant behind.1 (behind.0 ∙ ap Some w.in-Resume.is) w.resumed_by.ensures w.note.ensures)))
+      | in-Next+in-Sync+in_ok-put-in-Sync w ↦ (let behind = there s n here c.next.result w.in-Next.frame w.in-Next.kind w.in-Next.is c.next.ensures in
+          subst (λ (v : Vec (Option ℕ) Global). MetSoFar s m v.items c.match-next.column.items) (sym w.ahead-is)
+          (subst (λ (v : Vec (Option Continuation) Global). MetSoFar s m w.put.new.column.items v.items) (sym w.column-is)
+          (met_sync s c.laws.ensures.order n m w.in-Next.frame c.loop-met.ahead.items w.put.new.column.items c.loop-met.column.items
+          at within c.loop-met.invariant behind.1 (behind.0 ∙ ap Some w.in-Sync.is) w.in_ok-put-in-Sync.ensures)))
+      | in-Next+in_default-kind w ↦ (let behind = there s n here c.next.result w.in-Next.frame w.in-Next.kind w.in-Next.is c.next.ensures in
+          subst (λ (v : Vec (Option ℕ) Global). MetSoFar s m v.items c.match-next.column.items) (sym w.ahead-is)
+          (subst (λ (v : Vec (Option Continuation) Global). MetSoFar s m c.loop-met.ahead.items v.items) (sym w.column-is)
+          (met_plain s c.laws.ensures.order n m w.in-Next.frame w.in-Next.kind c.loop-met.ahead.items c.loop-met.column.items
+          at within c.loop-met.invariant behind.1 behind.0 w.in_default-kind.not-Spawn w.in_default-kind.not-Resume w.in_default-kind.not-Sync)))
       | in_default w ↦ absurd (let past = w.in_default.ensures in omega (arith, past, test, count))
     ]
 
@@ -50,4 +63,4 @@ returns c = let past = c.loop-met-test.false in met_all c.args.plan.now c.laws.e
 pub note-requires : goal.note-requires
 note-requires c =
     let n : ℕ = c.count-count.result - c.loop-met.met in
-    noted_within c.args.plan.now c.laws.ensures.order n c.resumed_by.result _ (length-set c.loop-met.column.items n c.both.result ∙ c.loop-met.invariant.long) c.resumed_by.ensures
+    noted_within c.args.plan.now c.laws.ensures.order n c.resumed_by.result _ c.loop-met.invariant.long c.resumed_by.ensures
