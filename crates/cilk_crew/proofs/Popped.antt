@@ -1,5 +1,5 @@
 -- What comes out of a list at its end, and what stays.
-use Rattle.std.proofs.Common.{◌≡◌, ◌<◌, ◌≤◌, ℕ, zero, suc, List, [], ◌∷◌, ◌++◌, length, Option, sym, subst, arith}
+use Rattle.std.proofs.Common.{◌≡◌, zero, suc, List, [], ◌∷◌, ◌++◌, Option, sym, subst, arith}
 use Rattle.std.specs.Prelude.{All, Some, None, IfSome, option_to_list}
 use Rattle.std.proofs.lemmas.List.Elements.{All-append}
 

@@ -1,5 +1,5 @@
 -- Why a run has no outcome.
-use Rattle.std.specs.Prelude.{◌≡◌, ◌<◌, ◌≤◌, ◌⊎◌, ℕ}
+use Rattle.std.specs.Prelude.{◌≤◌, ℕ}
 use Rattle.cilk_story.specs.declared.story.Story.{Story}
 use Rattle.cilk_story.specs.Runs.{Departs}
 use Rattle.cilk_crew.specs.declared.run.ThreadFault.{ThreadFault}

@@ -1,6 +1,7 @@
 //! A crew of workers, each in a thread of its own.
 
 ghost use Rattle.std.specs.Prelude.{◌≡◌, ◌≤◌, All, Some, IfOk, IfSome, MatchOption};
+ghost use Rattle.std.specs.Thread.{IsSend, IsSync};
 ghost use Rattle.cilk_boxes.specs.Rows.{OfRun};
 ghost use Rattle.cilk_story.specs.Word.{event};
 ghost use Rattle.cilk_turns.specs.Turns.{Works};
@@ -187,7 +188,7 @@ fn crew<'a, 'b, N: Naming + Send + Sync, R: Threads + Wait + Sync, G: Gate + Syn
         thread::scope_env(),
         rt,
         |scope| -> Result<Finish, AllocError>
-            requires { IsName N.run N.course shared.now × AreFirsts shared.now.run.story.events layout.now.strands.now × All (IsKit shared.now doors.now.items layout.now.syncs.now) kits.items }
+            requires { IsSync R.row × IsSync G.row × IsSend N.row × IsSync N.row × IsName N.run N.course shared.now × AreFirsts shared.now.run.story.events layout.now.strands.now × All (IsKit shared.now doors.now.items layout.now.syncs.now) kits.items }
             ensures { IfOk result (IsFinish shared.entry.now) }
         {
             let mut kits = kits;
@@ -214,6 +215,7 @@ fn crew<'a, 'b, N: Naming + Send + Sync, R: Threads + Wait + Sync, G: Gate + Syn
                     stop.store(true, Ordering::SeqCst);
                     return Err(AllocError);
                 };
+                // There is room for each handle.
                 handles.push(handle)?;
             }
             Ok(joined(rt, shared, handles))

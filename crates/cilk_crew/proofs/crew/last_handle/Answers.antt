@@ -1,4 +1,3 @@
-use Rattle.std.specs.Prelude.{All}
 use Rattle.std.proofs.Common.{◌≡◌}
 use Rattle.cilk_crew.proofs.Popped.{rest, one}
 use Rattle.cilk_crew.proofs.crew.last_handle.Goals as goal

@@ -1,4 +1,3 @@
-use Rattle.std.specs.Prelude.{All}
 use Rattle.cilk_crew.specs.Kits.{IsKit}
 use Rattle.cilk_crew.proofs.Popped.{rest, one}
 use Rattle.cilk_crew.proofs.crew.last_kit.Goals as goal
