@@ -28,7 +28,8 @@ use Rattle.cilk_board.specs.Parts.{freed, working}
 use Rattle.cilk_board.specs.Seats.{changed, counted, finished, moved_to, passed}
 use Rattle.cilk_board.specs.Steps.{HasCome}
 use Rattle.cilk_board.specs.Waiting.{idling}
-use Rattle.cilk_board.specs.Workers.{Withdraws, altered, holding, viewing}
+use Rattle.cilk_board.specs.Workers.{altered, holding, viewing}
+use Rattle.cilk_offers.specs.OfferLists.{Withdraws}
 use Rattle.cilk_board.proofs.Changing.{changed_here, changed_off, changed_twice}
 use Rattle.cilk_board.proofs.Parts.{altered_viewing}
 use Rattle.cilk_board.proofs.Viewing.{viewing_from}

@@ -44,7 +44,6 @@ pub mod Returning
 pub mod RunsEnd
 pub mod Seeing
 pub mod Siblings
-pub mod Slots
 pub mod Spawned
 pub mod Stages
 pub mod Starting
@@ -55,7 +54,6 @@ pub mod Synced
 pub mod Taking
 pub mod Thieves
 pub mod Touched
-pub mod Trees
 pub mod Under
 pub mod Viewed
 pub mod Viewing

@@ -42,7 +42,8 @@ use Rattle.cilk_board.specs.Numbered.{AreNamed}
 use Rattle.cilk_board.specs.Parents.{AreStarted, OutliveChildren}
 use Rattle.cilk_board.specs.Seats.{changed, counted, finished, moved_to}
 use Rattle.cilk_board.specs.Steps.{HasCome}
-use Rattle.cilk_board.specs.Workers.{Withdraws, altered, holding}
+use Rattle.cilk_board.specs.Workers.{altered, holding}
+use Rattle.cilk_offers.specs.OfferLists.{Withdraws}
 use Rattle.cilk_board.proofs.Altered as altering
 use Rattle.cilk_board.proofs.Carried.{resuming_child}
 use Rattle.cilk_board.proofs.Carries as carries

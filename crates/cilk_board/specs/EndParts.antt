@@ -28,7 +28,8 @@ use Rattle.cilk_board.specs.Parents.{OutliveChildren}
 use Rattle.cilk_board.specs.Parts.{freed, working}
 use Rattle.cilk_board.specs.Seats.{changed, counted, finished, moved_to, passed}
 use Rattle.cilk_board.specs.Steps.{HasCome}
-use Rattle.cilk_board.specs.Workers.{Withdraws, altered, viewing}
+use Rattle.cilk_board.specs.Workers.{altered, viewing}
+use Rattle.cilk_offers.specs.OfferLists.{Withdraws}
 
 -- The frame at place k of these is finished, its ticks are counted, and its end is written down.
 pub record IsFinished (b b' : Board) (k : ℕ) (frames : List (Activation Seat)) : Type 0 where

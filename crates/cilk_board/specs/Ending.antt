@@ -31,7 +31,8 @@ use Rattle.cilk_board.specs.Parents.{AreStarted, OutliveChildren}
 use Rattle.cilk_board.specs.Seats.{changed, counted, finished, moved_to, passed}
 use Rattle.cilk_board.specs.Steps.{HasCome}
 use Rattle.cilk_board.specs.Waiting.{idling}
-use Rattle.cilk_board.specs.Workers.{Withdraws, altered, holding}
+use Rattle.cilk_board.specs.Workers.{altered, holding}
+use Rattle.cilk_offers.specs.OfferLists.{Withdraws}
 
 -- the monoids of the reducers that a frame with this creator made for itself
 abbrev pub created_by : Layout → Option ℕ → List MonoidKind

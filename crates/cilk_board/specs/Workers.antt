@@ -1,5 +1,5 @@
 -- What a board tells of its workers.
-use Rattle.std.specs.Prelude.{◌≡◌, ℕ, zero, suc, Bool, true, false, if◌then◌else◌, List, [], ◌∷◌, ◌++◌, slice_get, remove, Option, Some, None}
+use Rattle.std.specs.Prelude.{◌≡◌, ℕ, zero, suc, Bool, true, false, if◌then◌else◌, List, [], ◌∷◌, ◌++◌, slice_get, Option, Some, None}
 use Rattle.std.specs.Option.{is_some}
 use Rattle.cilk_hypermap.specs.declared.hypermap.Hypermap.{Hypermap}
 use Rattle.cilk_board.specs.declared.seat.Worker.{Worker}
@@ -31,11 +31,6 @@ offers (u ∷ us) = (let o = u.offered in o.items) ++ offers us
 -- the continuation at this place among all is at a place in a worker's list
 abbrev pub IsLocated : List Worker → ℕ → ℕ → ℕ → Type 0
 IsLocated ws place victim at = (u : Worker) × (k : ℕ) × (slice_get ws victim ≡ Some u) × (let o = u.offered in slice_get o.items at ≡ Some k) × (slice_get (offers ws) place ≡ Some k)
-
--- one of this number goes from a list, if there is one
-abbrev pub Withdraws : List ℕ → ℕ → Bool → List ℕ → Type 0
-Withdraws old k true new = (at : ℕ) × (slice_get old at ≡ Some k) × (new ≡ remove old at)
-Withdraws old k false new = ((at : ℕ) → slice_get old at ≡ Some k → ⊥) × (new ≡ old)
 
 -- one worker has other views
 abbrev pub viewing : Hypermap → List Worker → ℕ → List Worker

@@ -1,11 +1,12 @@
 //! Continuations that are offered, by all workers.
 
 ghost use Rattle.std.specs.Prelude.{◌≡◌, ℕ, None, slice_get, MatchOption};
-ghost use Rattle.cilk_board.specs.Workers.{IsLocated, Withdraws, offers};
+ghost use Rattle.cilk_board.specs.Workers.{IsLocated, offers};
+ghost use Rattle.cilk_offers.specs.OfferLists.{Withdraws};
 
-use crate::offer_list::Offers;
 use crate::seat::{Seat, Worker};
 use cilk_activations::activation::Activation;
+use cilk_offers::offer_list::Offers;
 
 /// The worker that offers the continuation at a place among all, and its place in that worker's list; none behind the last.
 pub fn locate(workers: &[Worker], place: usize) -> Option<(usize, usize)>

@@ -3,10 +3,10 @@
 ghost use Rattle.std.specs.Prelude.{◌≡◌};
 ghost use Rattle.cilk_board.specs.Seats.{seated};
 
-use crate::offer_list::Offers;
 use cilk_frames::cursor::{Answer, Cursor};
 use cilk_hypermap::hypermap::Hypermap;
 use cilk_join::join::Join;
+use cilk_offers::offer_list::Offers;
 use cilk_types::event::Event;
 use cilk_types::invocation::Invocation;
 

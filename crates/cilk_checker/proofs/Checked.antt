@@ -5,8 +5,9 @@
 -- - `given_refused`, `refused_at_end`, `refused_before`: what is found in a certificate is a true refusal;
 -- - `certified`: a run with a right certificate and no race is determinate;
 -- - `told_true`: that a text wasn't heard to its end is told truly;
--- - `ran_at`, `stops_at`: how a run has ended, of the events that a column has.
+-- - `ran_at`, `frames_at`, `stops_at`: how a run has ended, of the events that a column has.
 use Rattle.std.proofs.Common.{◌≡◌, inl, inr, ℕ, ℤ, List, Option, IsTrue, sym, subst}
+use Rattle.std.proofs.Common.{Vec, Global}
 use Rattle.cilk_types.specs.declared.event.Event.{Event}
 use Rattle.cilk_types.specs.declared.fault.Fault.{Fault}
 use Rattle.cilk_types.specs.declared.outcome.Outcome.{Outcome}
@@ -34,10 +35,12 @@ use Rattle.cilk_checker.specs.Answers.{IsCertified, IsRefusedText, IsUnaccepted}
 use Rattle.cilk_checker.specs.Told.{told}
 use Rattle.cilk_checker.specs.Determinate.{IsDeterminateRun}
 use Rattle.cilk_checker.specs.Refusals.{Ended, IsClean, IsFound, IsFoundBefore, IsRefused}
-use Rattle.cilk_checker.specs.Runs.{EndsWith}
 use Rattle.cilk_checker.specs.Stops.{GivesCertificate, IsStop}
-use Rattle.cilk_checker.specs.declared.ending.End.{End}
-use Rattle.cilk_checker.specs.declared.ending.End.TheVariants.{Left, Stopped}
+use Rattle.cilk_ending.specs.declared.ending.End.{End}
+use Rattle.cilk_ending.specs.declared.ending.End.TheVariants.{Left, Stopped}
+use Rattle.cilk_ending.specs.declared.frames.PlannedFrame.{PlannedFrame}
+use Rattle.cilk_ending.specs.Frames.{AreFramesIn}
+use Rattle.cilk_ending.specs.Runs.{EndsWith}
 
 -- ---- runs
 
@@ -113,8 +116,17 @@ told_true p inputs known failed failed' stops.Unread h = h
 
 -- ---- how a run has ended
 
-pub ran_at : (p : Source) (inputs : List ℤ) (end : End) (o : Outcome) (es es' : List Event) → end ≡ Left o → EndsWith p inputs end es → es' ≡ es → Ran p inputs o es'
-ran_at p inputs end o es es' is ends same = subst (λ (l : List Event). Ran p inputs o l) (sym same) (subst (λ (e : End). EndsWith p inputs e es) is ends)
+pub ran_at : (p : Source) (inputs : List ℤ) (end : End) (o : Outcome) (frames : Vec PlannedFrame Global) (es es' : List Event) → end ≡ Left o frames → EndsWith p inputs end es → es' ≡ es
+    → Ran p inputs o es'
+ran_at p inputs end o frames es es' is ends same =
+    let left : EndsWith p inputs (Left o frames) es = subst (λ (e : End). EndsWith p inputs e es) is ends in
+    subst (λ (l : List Event). Ran p inputs o l) (sym same) left.0
+
+pub frames_at : (p : Source) (inputs : List ℤ) (end : End) (o : Outcome) (frames : Vec PlannedFrame Global) (es es' : List Event) → end ≡ Left o frames → EndsWith p inputs end es → es' ≡ es
+    → AreFramesIn p inputs es' o frames.items
+frames_at p inputs end o frames es es' is ends same =
+    let left : EndsWith p inputs (Left o frames) es = subst (λ (e : End). EndsWith p inputs e es) is ends in
+    subst (λ (l : List Event). AreFramesIn p inputs l o frames.items) (sym same) left.1
 
 pub stops_at : (p : Source) (inputs : List ℤ) (end : End) (f : Fault) (es es' : List Event) → end ≡ Stopped f → EndsWith p inputs end es → es' ≡ es → StopsAfter p inputs es' f
 stops_at p inputs end f es es' is ends same = subst (λ (l : List Event). StopsAfter p inputs l f) (sym same) (subst (λ (e : End). EndsWith p inputs e es) is ends)

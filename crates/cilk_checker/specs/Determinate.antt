@@ -14,6 +14,8 @@ use Rattle.cilk_tree.specs.Tree.{tree}
 use Rattle.cilk_tree.specs.Races.{HasNoRace}
 use Rattle.cilk_peers.specs.ViewRaces.{HasNoViewRace}
 use Rattle.cilk_determinacy.specs.Settled.{AlwaysAsSerial}
+use Rattle.cilk_ending.specs.declared.frames.PlannedFrame.{PlannedFrame}
+use Rattle.cilk_ending.specs.Frames.{AreFramesIn}
 use Rattle.cilk_checker.specs.Refusals.{Ended}
 
 -- These are the events and the outcome of the program's serial run, no two positions race in either way, and whatever steps
@@ -41,3 +43,7 @@ run_code =
 -- its run is determinate
 abbrev pub HasDeterminateRun : AcceptedRun → Type 0
 HasDeterminateRun a = (s : Shape) × IsDeterminateRun (source a.program) a.input s a.trace a.outcome
+
+-- these are its frames, in the order of their numbers
+abbrev pub AreFramesOf : AcceptedRun → List PlannedFrame → Type 0
+AreFramesOf a frames = AreFramesIn (source a.program) a.input a.trace a.outcome frames

@@ -5,7 +5,6 @@ pub mod Firsts
 pub mod Numbers
 pub mod OneVerdict
 pub mod Refusals
-pub mod Runs
 pub mod Stops
 pub mod Tallies
 pub mod Texts

@@ -1,15 +1,16 @@
 //! A program whose certificate was accepted.
 
 ghost use Rattle.std.specs.Prelude.{◌≡◌};
-ghost use Rattle.cilk_checker.specs.Determinate.{HasDeterminateRun};
+ghost use Rattle.cilk_checker.specs.Determinate.{AreFramesOf, HasDeterminateRun};
 
+use cilk_ending::frames::PlannedFrame;
 use cilk_program::program::Program;
 use cilk_types::input::Input;
 use cilk_types::outcome::Outcome;
 use cilk_types::trace::Trace;
 use std::marker::Model;
 
-/// A program and its input, the events of its serial run, and what that run leaves. The program is determinate on this input: after every
+/// A program and its input, the events of its serial run, what that run leaves, and what its frames run. The program is determinate on this input: after every
 /// list of steps of the free machine the state is a part of that serial run, and once the run has ended, what it leaves is this.
 #[derive(Drop)]
 pub struct Accepted {
@@ -17,10 +18,11 @@ pub struct Accepted {
     input: Input,
     trace: Trace,
     outcome: Outcome,
+    frames: Vec<PlannedFrame>,
 }
 
 impl Model for Accepted {
-    ghost use Rattle.cilk_checker.specs.Determinate.{AcceptedRun, HasDeterminateRun, run_code};
+    ghost use Rattle.cilk_checker.specs.Determinate.{AcceptedRun, AreFramesOf, HasDeterminateRun, run_code};
 
     ghost Value = { AcceptedRun };
 
@@ -28,13 +30,20 @@ impl Model for Accepted {
 
     ghost view = { λ a. record { program = a.program; input = a.input; trace = a.trace; outcome = a.outcome } };
 
-    ghost invariant = { λ a. HasDeterminateRun (record { program = a.program; input = a.input; trace = a.trace; outcome = a.outcome }) };
+    ghost invariant = { λ a. HasDeterminateRun (record { program = a.program; input = a.input; trace = a.trace; outcome = a.outcome }) × AreFramesOf (record { program = a.program; input = a.input; trace = a.trace; outcome = a.outcome }) a.frames.items };
 }
 
 impl Accepted {
     /// A program whose run is determinate on its input.
-    pub(crate) fn new(program: Program, input: Input, trace: Trace, outcome: Outcome) -> Accepted
-        requires { HasDeterminateRun (record { program = program; input = input; trace = trace; outcome = outcome }) }
+    pub(crate) fn new(
+        program: Program,
+        input: Input,
+        trace: Trace,
+        outcome: Outcome,
+        frames: Vec<PlannedFrame>,
+    ) -> Accepted
+        requires determinate { HasDeterminateRun (record { program = program; input = input; trace = trace; outcome = outcome }) }
+        requires frames { AreFramesOf (record { program = program; input = input; trace = trace; outcome = outcome }) frames.items }
         ensures { result ≡ record { program = program; input = input; trace = trace; outcome = outcome } }
     {
         Accepted {
@@ -42,6 +51,7 @@ impl Accepted {
             input,
             trace,
             outcome,
+            frames,
         }
     }
 
@@ -73,5 +83,12 @@ impl Accepted {
         ensures determinate { HasDeterminateRun self.now }
     {
         &self.outcome
+    }
+
+    /// What each frame of the serial run runs, and where its cells lie, in the order of the frames' numbers.
+    pub fn frames(&self) -> &[PlannedFrame]
+        ensures { AreFramesOf self.now result.now }
+    {
+        self.frames.as_slice()
     }
 }

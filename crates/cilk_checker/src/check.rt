@@ -6,11 +6,11 @@ ghost use Rattle.cilk_checker.specs.Answers.{IsCertified, IsUnaccepted};
 
 use crate::accepted::Accepted;
 use crate::compare::{ended, stopped};
-use crate::ending::{End, run_to_end};
 use crate::passes::{events_of, right_of};
 use crate::refusal::Unaccepted;
 use crate::source::Source;
 use cilk_determinacy::settle::serial_runs_settle;
+use cilk_ending::ending::{End, run_to_end};
 use cilk_program::program::Program;
 use cilk_types::input::Input;
 use std::alloc::Global;
@@ -43,11 +43,12 @@ pub fn check_run<S: Source>(
             let refusal = stopped(alloc, &right, source)?;
             Err(Unaccepted::Refusal(refusal))
         }
-        End::Left(outcome) => {
+        End::Left(outcome, frames) => {
             let right = right_of(alloc, trace)?;
             ended(alloc, &right, &outcome, source)?;
             serial_runs_settle(&program, &input);
-            Ok(Accepted::new(program, input, right.into_trace(), outcome))
+            let trace = right.into_trace();
+            Ok(Accepted::new(program, input, trace, outcome, frames))
         }
     }
 }

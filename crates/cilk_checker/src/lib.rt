@@ -20,7 +20,6 @@
 pub mod accepted;
 pub mod check;
 pub mod compare;
-pub mod ending;
 pub mod first;
 pub mod hearing;
 pub mod laws;

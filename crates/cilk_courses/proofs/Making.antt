@@ -19,8 +19,9 @@ use Rattle.cilk_inputs.specs.Stories.{story_on, IsPlannedRun, StoriesAlongHaveVa
 use Rattle.cilk_chains.specs.declared.course.FrameHome.{FrameHome}
 use Rattle.cilk_chains.specs.Courses.{AreHomesOf, IsCourse, course_with}
 use Rattle.cilk_checker.specs.Determinate.{AcceptedRun, HasDeterminateRun}
-use Rattle.cilk_planning.specs.declared.frames.PlannedFrame.{PlannedFrame}
-use Rattle.cilk_planning.specs.Frames.{FramesStandAtTheirNumbers, IsFrameOf, frame_numbered, frames_of}
+use Rattle.cilk_ending.specs.declared.frames.PlannedFrame.{PlannedFrame}
+use Rattle.cilk_ending.specs.Frames.{FramesStandAtTheirNumbers, frames_of}
+use Rattle.cilk_planning.specs.Frames.{IsFrameOf, frame_numbered}
 use Rattle.cilk_planning.specs.Plans.{IsPlanOf, IsStoryOn}
 use Rattle.cilk_planning.proofs.Telling.{along_it}
 use Rattle.cilk_courses.specs.Courses.{AreHomesIn, home_in}

@@ -7,8 +7,8 @@ use Rattle.cilk_shared.specs.Values.{YardValue}
 use Rattle.cilk_chains.specs.declared.course.FrameHome.{FrameHome}
 use Rattle.cilk_chains.specs.Courses.{CourseValue}
 use Rattle.cilk_checker.specs.Determinate.{AcceptedRun}
-use Rattle.cilk_planning.specs.declared.frames.PlannedFrame.{PlannedFrame}
-use Rattle.cilk_planning.specs.Frames.{frames_of}
+use Rattle.cilk_ending.specs.declared.frames.PlannedFrame.{PlannedFrame}
+use Rattle.cilk_ending.specs.Frames.{frames_of}
 
 -- along the yard's story, of the accepted run's program, on these inputs
 pub record IsCourseOn (a : AcceptedRun) (y : YardValue) (input : List ℤ) (c : CourseValue) : Type 0 where

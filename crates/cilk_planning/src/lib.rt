@@ -1,7 +1,7 @@
 //! The plan of an accepted program's run, which is all that its workers get, and the yard of the program on an input.
 //!
 //! [`program_plan::plan`] makes the plan: program, code and input, the plan of the run's events, what each frame runs and where its cells
-//! lie, the continuation and the block of each spawn, and where strands begin. [`yards::yard`] makes the words that workers share, on the
+//! lie (as the accepted run has it), the continuation and the block of each spawn, and where strands begin. [`yards::yard`] makes the words that workers share, on the
 //! run's own input or another.
 //!
 //! ```text
@@ -10,7 +10,6 @@
 //! ```
 #![tactic(auto)]
 
-pub mod frames;
 pub mod laws;
 pub mod planning;
 pub mod program_plan;

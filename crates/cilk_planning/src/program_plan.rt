@@ -1,7 +1,7 @@
 //! All that a worker may know of the run of an accepted program that it runs again.
 
 ghost use Rattle.std.specs.Prelude.{◌≡◌, ◌↔◌, ◌≤◌, ℕ, Some, None, slice_get, slice_index_or, IfOk, IsSome};
-ghost use Rattle.cilk_checker.specs.Determinate.{HasDeterminateRun};
+ghost use Rattle.cilk_checker.specs.Determinate.{AreFramesOf, HasDeterminateRun};
 ghost use Rattle.cilk_lower.specs.Behaves.{Behaves};
 ghost use Rattle.cilk_lower.specs.Layout.{LaysOut};
 ghost use Rattle.cilk_lower.specs.Rooms.{RoomsFit};
@@ -15,10 +15,10 @@ ghost use Rattle.cilk_planning.specs.Continuations.{SpawnsHaveContinuations};
 ghost use Rattle.cilk_planning.specs.Frames.{IsFrameOf};
 ghost use Rattle.cilk_planning.specs.Plans.{IsPlanOf};
 
-use crate::frames::{PlannedFrame, frames};
 use crate::laws::plans_have_continuations;
 use crate::planning::events;
 use cilk_checker::accepted::Accepted;
+use cilk_ending::frames::PlannedFrame;
 use cilk_lower::code::Code;
 use cilk_lower::lower::lower;
 use cilk_plan::blocks::{Continuation, continuations};
@@ -40,7 +40,7 @@ pub struct ProgramPlan<'a> {
     input: &'a Input,
     code: Code,
     events: Plan,
-    frames: Vec<PlannedFrame>,
+    frames: &'a [PlannedFrame],
     continuations: Vec<Option<Continuation>>,
     starts: Vec<Pos>,
     accepted: Snapshot<Accepted>,
@@ -48,14 +48,13 @@ pub struct ProgramPlan<'a> {
 
 impl<'a> Model for ProgramPlan<'a> {
     ghost use Rattle.std.specs.Prelude.{◌≡◌};
-    ghost use Rattle.cilk_checker.specs.Determinate.{HasDeterminateRun};
+    ghost use Rattle.cilk_checker.specs.Determinate.{AreFramesOf, HasDeterminateRun};
     ghost use Rattle.cilk_lower.specs.Behaves.{Behaves};
     ghost use Rattle.cilk_lower.specs.Layout.{LaysOut};
     ghost use Rattle.cilk_lower.specs.Rooms.{RoomsFit};
     ghost use Rattle.cilk_plan.specs.Blocks.{AreContinuations};
     ghost use Rattle.cilk_plan.specs.Strands.{AreStarts};
     ghost use Rattle.cilk_program.specs.Sources.{source};
-    ghost use Rattle.cilk_planning.specs.Frames.{AreFramesOf};
     ghost use Rattle.cilk_planning.specs.Plans.{IsPlanOf, WholePlan, whole_code};
 
     ghost Value = { WholePlan };
@@ -64,16 +63,15 @@ impl<'a> Model for ProgramPlan<'a> {
 
     ghost view = { λ p. record { run = p.accepted.value; story = p.events } };
 
-    ghost invariant = { λ p. HasDeterminateRun p.accepted.value × (p.program.now ≡ p.accepted.value.program) × (p.input.now ≡ p.accepted.value.input) × Behaves (source p.accepted.value.program) p.code × RoomsFit (source p.accepted.value.program) p.code × LaysOut (source p.accepted.value.program) p.code.layout × IsPlanOf p.accepted.value p.events × AreFramesOf p.accepted.value p.frames.items × AreContinuations p.events p.continuations.items × AreStarts p.accepted.value.trace p.starts.items };
+    ghost invariant = { λ p. HasDeterminateRun p.accepted.value × (p.program.now ≡ p.accepted.value.program) × (p.input.now ≡ p.accepted.value.input) × Behaves (source p.accepted.value.program) p.code × RoomsFit (source p.accepted.value.program) p.code × LaysOut (source p.accepted.value.program) p.code.layout × IsPlanOf p.accepted.value p.events × AreFramesOf p.accepted.value p.frames.now × AreContinuations p.events p.continuations.items × AreStarts p.accepted.value.trace p.starts.items };
 }
 
-/// The plan of an accepted program's run. Cost: linear in the run's ticks; memory: linear in its events.
+/// The plan of an accepted program's run. Cost and memory: linear in the run's events and the program.
 pub fn plan<'a>(alloc: Global, accepted: &'a Accepted) -> Result<ProgramPlan<'a>, AllocError>
     ensures { IfOk result (λ plan. plan.run ≡ accepted.now) }
 {
     let program = accepted.program();
     let code = lower(alloc, program)?;
-    let frames = frames(alloc, accepted, &code)?;
     let events = events(alloc, accepted)?;
     let continuations = continuations(alloc, &events)?;
     let starts = starts(alloc, accepted.trace())?;
@@ -82,7 +80,7 @@ pub fn plan<'a>(alloc: Global, accepted: &'a Accepted) -> Result<ProgramPlan<'a>
         input: accepted.input(),
         code,
         events,
-        frames,
+        frames: accepted.frames(),
         continuations,
         starts,
         accepted: Snapshot::of(accepted),
@@ -137,6 +135,20 @@ impl<'a> ProgramPlan<'a> {
         ensures { result ≡ self.entry.story }
     {
         self.events
+    }
+
+    /// The accepted run, as contracts see it.
+    pub fn accepted(&self) -> &Snapshot<Accepted>
+        ensures { result.now.value ≡ self.now.run }
+    {
+        &self.accepted
+    }
+
+    /// What each frame of the run runs, and where its cells lie, in the order of the frames' numbers.
+    pub fn frames(&self) -> &[PlannedFrame]
+        ensures { AreFramesOf self.now.run result.now }
+    {
+        self.frames
     }
 
     /// What the frame with a number runs, and where its cells lie; none where the run has no such frame.

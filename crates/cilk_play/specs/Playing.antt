@@ -3,6 +3,7 @@ use Rattle.std.specs.Prelude.{◌≡◌, ◌-◌, ◌<◌, ℕ, zero, suc, ℤ, 
 use Rattle.std.specs.Option.{is_some}
 use Rattle.cilk_types.specs.declared.fault.Fault.{Fault}
 use Rattle.cilk_types.specs.declared.outcome.Outcome.{Outcome}
+use Rattle.cilk_program.specs.SerialRun.{Transcript}
 use Rattle.cilk_program.specs.Syntax.{Source}
 use Rattle.cilk_lower.specs.Code.{CodeView}
 use Rattle.cilk_runs.specs.Machine.{State, Stop}
@@ -21,10 +22,10 @@ use Rattle.cilk_board.specs.declared.choice.Strand.{Strand}
 use Rattle.cilk_schedule.specs.Deciding.{Agree}
 use Rattle.cilk_board.specs.Numbered.{AreNamed}
 use Rattle.cilk_schedule.specs.Played.{IsAt, Leaves}
-use Rattle.cilk_schedule.specs.Reached.{HasReached}
+use Rattle.cilk_schedule.specs.Reached.{HasOpened, HasReached}
 use Rattle.cilk_schedule.specs.Sound.{IsCodeOf}
 use Rattle.cilk_schedule.specs.declared.machine.Machine.{Machine}
-use Rattle.cilk_determinacy.specs.Settled.{IsSettled}
+use Rattle.cilk_determinacy.specs.Settled.{AlwaysAsSerial, IsSettled}
 use Rattle.cilk_determinacy.specs.Theorem.{IsAsSerial}
 use Rattle.cilk_script.specs.Choices.{choices_within}
 use Rattle.cilk_script.specs.declared.choices.Next.{Next}
@@ -162,7 +163,11 @@ IsNoStop faults.Memory = Unit {0}
 abbrev pub FailsAsSettled : Source → List ℤ → PlayFault → Type 0
 FailsAsSettled p inputs f = (outcome : Outcome) → IsSettled p inputs outcome → IsNoStop f
 
--- Where one serial run settles every parallel one, each state that a board shows, and to which steps lead, is as that run.
+-- Where whatever steps are made the state is as one serial run, so is each state that a board shows, and to which steps lead.
 abbrev pub SettlesEachState : Type 0
 SettlesEachState =
-    (code : CodeView) (p : Source) (inputs : List ℤ) (b : Board) (outcome : Outcome) (h : HasReached code p inputs b) (settled : IsSettled p inputs outcome) → IsAsSerial p inputs settled.run outcome h.state
+    (code : CodeView) (p : Source) (inputs : List ℤ) (b : Board) (run : Transcript) (outcome : Outcome) (h : HasReached code p inputs b) → AlwaysAsSerial p inputs run outcome → IsAsSerial p inputs run outcome h.state
+
+-- a board that shows the opening state shows one to which steps lead
+abbrev pub OpeningsAreReached : Type 0
+OpeningsAreReached = (code : CodeView) (p : Source) (inputs : List ℤ) (b : Board) (idle : ℕ) → HasOpened code p inputs b idle → HasReached code p inputs b

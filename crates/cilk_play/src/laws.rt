@@ -2,7 +2,7 @@
 //! the law.
 
 ghost use Rattle.std.specs.Prelude.{◌≡◌, ℤ, List};
-ghost use Rattle.cilk_play.specs.Playing.{ScriptsHaveOneEnd, SettlesEachState};
+ghost use Rattle.cilk_play.specs.Playing.{OpeningsAreReached, ScriptsHaveOneEnd, SettlesEachState};
 ghost use Rattle.cilk_program.specs.Syntax.{Source};
 ghost use Rattle.cilk_play.specs.declared.player.TheConstants.{MAX_ROUNDS};
 
@@ -17,8 +17,14 @@ pub fn script_has_one_end()
     ensures { (p : Source) (inputs : List ℤ) → ScriptsHaveOneEnd p inputs }
 {}
 
-/// Where one serial run settles every parallel one, each state that a machine has come to is as that run: a consistent cut of it, which nothing
-/// has stopped, with each frame's events the first of its serial ones, with the same values.
+/// A new machine shows a state to which steps of the free machine lead, none yet; `Machine::choose` keeps that there is such a state.
+pub fn openings_are_reached()
+    ensures { OpeningsAreReached }
+{}
+
+/// Where whatever steps are made the state is as one serial run, as of a program that `check` accepts and of one that `settle` settles, each state
+/// that a machine has come to is as that run: a consistent cut of it, which nothing has stopped, with each frame's events the first of its serial
+/// ones, with the same values.
 pub fn each_state_is_settled()
     ensures { SettlesEachState }
 {}

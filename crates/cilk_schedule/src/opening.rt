@@ -10,12 +10,12 @@ ghost use Rattle.cilk_schedule.specs.Sound.{IsCode, IsCodeOf, Runs};
 use cilk_activations::beginnings::root;
 use cilk_board::beginning::add_cells;
 use cilk_board::board::Board;
-use cilk_board::offer_list::Offers;
 use cilk_board::seat::{Seat, Worker};
 use cilk_frames::asked::AskSlot;
 use cilk_frames::cursor::Cursor;
 use cilk_hypermap::hypermap::Hypermap;
 use cilk_lower::code::Code;
+use cilk_offers::offer_list::Offers;
 use cilk_types::invocation::Invocation;
 use std::alloc::{AllocError, Global};
 

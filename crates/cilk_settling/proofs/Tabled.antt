@@ -50,10 +50,10 @@ use Rattle.cilk_pieces.specs.Settled.{AreSettled}
 use Rattle.cilk_runs.specs.Runs.{Output, Reducer}
 use Rattle.cilk_determinacy.specs.Numbers.{frame_number, all_reducers, child_runs}
 use Rattle.cilk_determinacy.proofs.Numbers.{frame_is}
-use Rattle.cilk_checker.specs.Determinate.{AcceptedRun, HasDeterminateRun}
-use Rattle.cilk_planning.specs.declared.frames.PlannedFrame.{PlannedFrame}
-use Rattle.cilk_planning.specs.Frames.{frames_of, AreFramesOf}
-use Rattle.cilk_planning.proofs.Standing.{frames_stand}
+use Rattle.cilk_checker.specs.Determinate.{AcceptedRun, AreFramesOf, HasDeterminateRun}
+use Rattle.cilk_ending.specs.declared.frames.PlannedFrame.{PlannedFrame}
+use Rattle.cilk_ending.specs.Frames.{frames_of}
+use Rattle.cilk_ending.proofs.Standing.{frames_stand}
 use Rattle.cilk_settling.specs.Accepted.{IsTableOf, reducers_in}
 use Rattle.cilk_settling.specs.Tables.{reducers_of, AreReducersOf, HaveTheirKinds}
 use Rattle.cilk_settling.proofs.AlongSettled.{along_settled}

@@ -1,32 +1,55 @@
 //! The table of an accepted run's reducers.
 
 ghost use Rattle.std.specs.Prelude.{◌≡◌, IfOk};
+ghost use Rattle.cilk_checker.specs.Determinate.{AreFramesOf, HasDeterminateRun};
 ghost use Rattle.cilk_pieces.specs.Reducers.{HasFew};
-ghost use Rattle.cilk_planning.specs.Frames.{AreFramesOf};
 ghost use Rattle.cilk_program.specs.declared.ask.Callee.TheVariants.{Root};
 ghost use Rattle.cilk_program.specs.Sources.{source};
 ghost use Rattle.cilk_settling.specs.Accepted.{IsTableOf, reducers_in};
 ghost use Rattle.cilk_settling.specs.Tables.{reducers_of};
 
 use cilk_checker::accepted::Accepted;
+use cilk_ending::frames::PlannedFrame;
 use cilk_pieces::reducers::{FrameReducers, Reducers};
-use cilk_planning::frames::PlannedFrame;
+use cilk_planning::program_plan::ProgramPlan;
 use cilk_program::program::{Body, Program};
 use cilk_types::sequence::Sequence;
 use std::alloc::{AllocError, Global};
+use std::snapshot::Snapshot;
 
-/// The reducers that each frame of an accepted run creates, from what each runs, as [`cilk_planning::frames::frames`] gives it.
-/// The reducers of the run are settled along its plan, on any input. Cost and memory: linear in the frames and their reducers.
-pub fn reducers(
-    alloc: Global,
-    accepted: &Accepted,
-    planned: &[PlannedFrame],
-) -> Result<Reducers, AllocError>
-    requires { AreFramesOf accepted.now planned.now }
+/// The reducers that each frame of an accepted run creates. The reducers of the run are settled along its plan, on any input. Cost and
+/// memory: linear in the frames and their reducers.
+pub fn reducers(alloc: Global, accepted: &Accepted) -> Result<Reducers, AllocError>
     ensures table { IfOk result (λ r. IsTableOf accepted.now r) }
     ensures few { IfOk result (λ r. HasFew r) }
 {
-    let program = accepted.program();
+    let run = Snapshot::of(accepted);
+    laid(alloc, &run, accepted.program(), accepted.frames())
+}
+
+/// The same by a program's plan.
+pub fn plan_reducers(alloc: Global, plan: &ProgramPlan<'_>) -> Result<Reducers, AllocError>
+    ensures table { IfOk result (λ r. IsTableOf plan.now.run r) }
+    ensures few { IfOk result (λ r. HasFew r) }
+{
+    plan.laws();
+    laid(alloc, plan.accepted(), plan.program(), plan.frames())
+}
+
+// The table of a run of the program with these frames.
+fn laid(
+    alloc: Global,
+    run: &Snapshot<Accepted>,
+    program: &Program,
+    planned: &[PlannedFrame],
+) -> Result<Reducers, AllocError>
+    requires program { program.now ≡ run.now.value.program }
+    requires determinate { HasDeterminateRun run.now.value }
+    requires frames { AreFramesOf run.now.value planned.now }
+    ensures table { IfOk result (λ r. IsTableOf run.now.value r) }
+    ensures few { IfOk result (λ r. HasFew r) }
+{
+    let _ = run;
     let mut frames = Vec::new(alloc);
     frames.push(of_root(alloc, program)?)?;
     'each: for place in 1..planned.len() {

@@ -58,7 +58,10 @@ pub fn input<'a>(alloc: Global, text: &[u8]) -> Result<Input, Failure<'a>>
 }
 
 /// The names of reducers, in order.
-fn names(alloc: Global, reducers: &[GlobalReducer]) -> Result<Sequence<Sequence<u8>>, AllocError>
+pub fn names(
+    alloc: Global,
+    reducers: &[GlobalReducer],
+) -> Result<Sequence<Sequence<u8>>, AllocError>
     ensures { IfOk result (λ names. names ≡ map (λ r. r.name) reducers.now) }
 {
     let mut names = Vec::new(alloc);

@@ -22,6 +22,6 @@ mod serving;
 pub mod streams;
 pub mod words;
 
-pub use judge::stopped;
-pub use running::given;
+pub use judge::{input, names, stopped};
+pub use running::{given, read_file, refused};
 pub use serving::{Served, carry_out, complain, serve, serve_and_tell, show, tell};

@@ -25,7 +25,7 @@ use std::alloc::Global;
 use std::io::Read;
 
 /// The text of a file.
-fn read_file<'a, F: Files>(
+pub fn read_file<'a, F: Files>(
     alloc: Global,
     path: &'a str,
     files: &mut F,
@@ -154,7 +154,7 @@ pub fn certify<'a, F: Files, R: Read>(
 }
 
 /// What is shown of a refusal.
-fn refused<'a>(refusal: Refusal) -> Result<Answer, Failure<'a>>
+pub fn refused<'a>(refusal: Refusal) -> Result<Answer, Failure<'a>>
     ensures answer { IfOk result (λ a. (refusal ≢ refusals.Memory) × (answer_view a ≡ Refused (number_of refusal) (places_of (fields_of refusal)))) }
     ensures failure { IfErr result (λ e. failure_view e ≡ NoMemory) }
 {

@@ -196,7 +196,7 @@ fn worker_count(digits: &[u8]) -> Option<u32>
 }
 
 /// How many workers there are, by the word that may name them.
-fn workers_in(word: Option<&str>) -> Option<u32>
+pub fn workers_in(word: Option<&str>) -> Option<u32>
     ensures { result ≡ workers_in (option_map (λ w. w.now) word.entry) }
 {
     match word {
@@ -235,7 +235,7 @@ fn order_of<'a>(matches: &ArgMatches<'a>) -> Option<Order<'a>>
 }
 
 /// What is shown in place of an order.
-fn refusal(alloc: Global, error: &Error) -> WordsFault
+pub fn refusal(alloc: Global, error: &Error) -> WordsFault
     ensures { IsRefusal (kind_of error.now) result }
 {
     match error.kind() {

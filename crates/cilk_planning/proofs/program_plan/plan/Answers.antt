@@ -7,26 +7,16 @@ use Rattle.cilk_plan.specs.Blocks.{AreContinuations}
 use Rattle.cilk_plan.specs.Strands.{AreStarts}
 use Rattle.cilk_program.specs.declared.program.Program.{Program}
 use Rattle.cilk_program.specs.Sources.{source}
-use Rattle.cilk_checker.specs.Determinate.{AcceptedRun, HasDeterminateRun}
-use Rattle.cilk_planning.specs.Frames.{AreFramesOf}
+use Rattle.cilk_checker.specs.Determinate.{AcceptedRun, AreFramesOf, HasDeterminateRun}
 use Rattle.cilk_planning.specs.Plans.{IsPlanOf}
 use Rattle.cilk_planning.proofs.program_plan.plan.Goals as goal
-
-pub frames-requires : goal.frames-requires
-frames-requires c =
-    let same = c.program-program.ensures.value in
-    let code = c.in_ok-code.code in
-    record {
-      asks = subst (λ (p : Program). Behaves (source p) code) same c.in_ok-code.ensures.asks;
-      layout = subst (λ (p : Program). LaysOut (source p) code.layout) same c.in_ok-code.ensures.layout;
-    }
 
 pub invariant_of-result : goal.invariant_of-result
 invariant_of-result c =
     let a = c.args.accepted.now in
     let same = c.program-program.ensures.value in
     let code = c.in_ok-code.code in
-    let Goal : AcceptedRun → Type 0 = λ r. HasDeterminateRun r × (c.program-program.result.now ≡ r.program) × (c.input.result.now ≡ r.input) × Behaves (source r.program) code × RoomsFit (source r.program) code × LaysOut (source r.program) code.layout × IsPlanOf r c.in_ok-events.events × AreFramesOf r c.in_ok-frames.frames.items × AreContinuations c.in_ok-events.events c.in_ok-continuations.continuations.items × AreStarts r.trace c.in_ok-starts.starts.items in
+    let Goal : AcceptedRun → Type 0 = λ r. HasDeterminateRun r × (c.program-program.result.now ≡ r.program) × (c.input.result.now ≡ r.input) × Behaves (source r.program) code × RoomsFit (source r.program) code × LaysOut (source r.program) code.layout × IsPlanOf r c.in_ok-events.events × AreFramesOf r c.frames.result.now × AreContinuations c.in_ok-events.events c.in_ok-continuations.continuations.items × AreStarts r.trace c.in_ok-starts.starts.items in
     let h : Goal a = (
       c.program-program.ensures.determinate,
       same,
@@ -35,7 +25,7 @@ invariant_of-result c =
       subst (λ (p : Program). RoomsFit (source p) code) same c.in_ok-code.ensures.rooms,
       subst (λ (p : Program). LaysOut (source p) code.layout) same c.in_ok-code.ensures.layout,
       c.in_ok-events.ensures,
-      c.in_ok-frames.ensures,
+      c.frames.ensures,
       c.in_ok-continuations.ensures,
       subst (λ (es : List Event). AreStarts es c.in_ok-starts.starts.items) c.trace.ensures.value c.in_ok-starts.ensures,
     ) in

@@ -1,0 +1,61 @@
+use Rattle.std.proofs.Common.{List, [], ◌∷◌, ◌++◌, sym, ap, ◌∙◌, subst}
+use Rattle.cilk_lower.specs.Layout.{LaysOut, cells_in}
+use Rattle.cilk_program.specs.declared.ask.Callee.TheVariants.{Root}
+use Rattle.cilk_program.specs.Inside.{body_of}
+use Rattle.cilk_program.specs.Sources.{source}
+use Rattle.cilk_serial.specs.SoFar.{RunView}
+use Rattle.cilk_ending.specs.declared.frames.PlannedFrame.{PlannedFrame}
+use Rattle.cilk_ending.proofs.Noting.{made_by, noted_more, noted_same, noted_start, noted_whole, small_room, smaller}
+use Rattle.cilk_ending.proofs.ending.run_to_end.Goals as goal
+
+pub each-init : goal.each-init
+each-init c =
+    let prog = c.args.program.now in
+    record {
+      program = ap (λ (v : RunView). v.program) c.in_ok-serial.ensures;
+      inputs = ap (λ (v : RunView). v.inputs) c.in_ok-serial.ensures;
+      noted = noted_start prog c.args.input.now c.layout.result.now (subst (LaysOut (source prog)) (sym c.layout.ensures) c.in_ok-code.ensures.layout)
+          c.in_ok-serial.serial.events (ap (λ (v : RunView). v.events) c.in_ok-serial.ensures) c.begin.new.frames.items c.len-globals.result c.in_ok-cells.cells c.len-globals.ensures
+          (c.in_ok-cells.ensures.frame ∙ ap (λ (l : List PlannedFrame). l ++ record { body = body_of (source prog) Root; first_cell = c.len-globals.result; cells = cells_in c.layout.result.now Root } ∷ []) c.new-frames.ensures.items)
+          c.in_ok-cells.ensures.cells;
+    }
+
+pub begin-requires-in-Some : goal.begin-requires-in-Some
+begin-requires-in-Some c =
+    let made = made_by c.each.serial c.next.new.self c.in_ok-next.field-0 c.in-Made.field-0 c.in-Made.is c.in_ok-next.ensures.ok in
+    small_room c.args.program.now c.args.input.now c.each.serial c.next.new.self c.in-Made.field-0 made c.each.invariant.program c.each.invariant.inputs c.in_ok-next.ensures.intact.0
+    c.callee-callee.result c.callee-callee.ensures c.each.frames.items c.each.cells c.each.invariant.noted c.in-Some.callee c.in-Some.is
+
+pub each-smaller-in-Some : goal.each-smaller-in-Some
+each-smaller-in-Some c = smaller c.each.serial c.next.new.self c.in-Made.field-0 (made_by c.each.serial c.next.new.self c.in_ok-next.field-0 c.in-Made.field-0 c.in-Made.is c.in_ok-next.ensures.ok)
+
+pub each-smaller : goal.each-smaller
+each-smaller c = smaller c.each.serial c.next.new.self c.in-Made.field-0 (made_by c.each.serial c.next.new.self c.in_ok-next.field-0 c.in-Made.field-0 c.in-Made.is c.in_ok-next.ensures.ok)
+
+pub each-preserved-in-Some : goal.each-preserved-in-Some
+each-preserved-in-Some c =
+    let prog = c.args.program.now in
+    let made = made_by c.each.serial c.next.new.self c.in_ok-next.field-0 c.in-Made.field-0 c.in-Made.is c.in_ok-next.ensures.ok in
+    record {
+      program = made.program ∙ c.each.invariant.program;
+      inputs = made.inputs ∙ c.each.invariant.inputs;
+      noted = noted_more prog c.args.input.now c.each.serial c.next.new.self c.in-Made.field-0 made c.each.invariant.program c.each.invariant.inputs c.in_ok-next.ensures.intact.0
+          c.callee-callee.result c.callee-callee.ensures c.each.frames.items c.each.cells c.each.invariant.noted
+          c.layout-in-Some.result.now (subst (LaysOut (source prog)) (sym c.layout-in-Some.ensures) c.in_ok-code.ensures.layout)
+          c.begin-in-Some.new.frames.items c.in_ok-cells-in-Made.cells c.in-Some.callee c.in-Some.is c.in_ok-cells-in-Made.ensures.frame c.in_ok-cells-in-Made.ensures.cells;
+    }
+
+pub each-preserved : goal.each-preserved
+each-preserved c =
+    let made = made_by c.each.serial c.next.new.self c.in_ok-next.field-0 c.in-Made.field-0 c.in-Made.is c.in_ok-next.ensures.ok in
+    record {
+      program = made.program ∙ c.each.invariant.program;
+      inputs = made.inputs ∙ c.each.invariant.inputs;
+      noted = noted_same c.args.program.now c.args.input.now c.each.serial c.next.new.self c.in-Made.field-0 made c.each.invariant.program c.each.invariant.inputs c.in_ok-next.ensures.intact.0
+          c.callee-callee.result c.callee-callee.ensures c.each.frames.items c.each.cells c.each.invariant.noted c.in_default.is;
+    }
+
+pub returns-in-Ended : goal.returns-in-Ended
+returns-in-Ended c =
+    noted_whole c.args.program.now c.args.input.now c.each.serial c.next.new.self c.in_ok-next.field-0 c.in-Ended.is c.in_ok-next.ensures.ok c.each.invariant.program c.each.invariant.inputs
+    c.each.frames.items c.each.cells c.each.invariant.noted c.in_ok-outcome-in-Ended.outcome c.in_ok-outcome-in-Ended.trace c.in_ok-outcome-in-Ended.ensures.ran c.in_ok-outcome-in-Ended.ensures.events

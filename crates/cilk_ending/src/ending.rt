@@ -1,0 +1,56 @@
+//! The serial run up to its end, whatever that is.
+
+ghost use Rattle.std.specs.Prelude.{IfOk};
+ghost use Rattle.cilk_program.specs.Sources.{source};
+ghost use Rattle.cilk_ending.specs.Runs.{EndsWith};
+
+use crate::frames::{PlannedFrame, begin};
+use cilk_lower::lower::lower;
+use cilk_program::ask::Callee;
+use cilk_program::program::Program;
+use cilk_serial::serial_run::{Next, SerialRun};
+use cilk_types::fault::Fault;
+use cilk_types::input::Input;
+use cilk_types::outcome::Outcome;
+use cilk_types::trace::Trace;
+use std::alloc::{AllocError, Global};
+
+/// How a serial run ends.
+#[derive(Drop, Debug)]
+pub enum End {
+    /// By itself: it leaves this, and these are its frames, in the order of their numbers.
+    Left(Outcome, Vec<PlannedFrame>),
+    /// By this fault, in place of the event behind the last.
+    Stopped(Fault),
+}
+
+/// The end of the program's serial run on this input, and the events up to it. Cost: that of the run; memory: linear in the events and
+/// the frames.
+pub fn run_to_end(
+    alloc: Global,
+    program: &Program,
+    input: &Input,
+) -> Result<(End, Trace), AllocError>
+    ensures { IfOk result (λ r. EndsWith (source program.now) input.now r.0 r.1) }
+{
+    let code = lower(alloc, program)?;
+    let mut serial = SerialRun::new(alloc, program, &code, input)?;
+    let mut frames = Vec::new(alloc);
+    let globals = program.globals.len() as u64;
+    let mut cells = begin(&mut frames, globals, program, code.layout(), &Callee::Root)?;
+    'each: loop {
+        let callee = serial.callee();
+        match serial.next()? {
+            Next::Made(_) => {
+                if let Some(callee) = &callee {
+                    cells = begin(&mut frames, cells, program, code.layout(), callee)?;
+                }
+            }
+            Next::Ended => {
+                let (outcome, trace) = serial.finish()?;
+                return Ok((End::Left(outcome, frames), trace));
+            }
+            Next::Stops(fault) => return Ok((End::Stopped(fault), serial.into_trace())),
+        }
+    }
+}

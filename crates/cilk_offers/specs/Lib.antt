@@ -1,0 +1,3 @@
+pub mod OfferLists
+pub mod Slots
+pub mod Tallies
