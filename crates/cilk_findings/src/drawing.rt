@@ -5,7 +5,8 @@ use crate::runs::Run;
 use cilk_measure::dot::dot;
 use cilk_measure::profile::profile;
 use cilk_tree::building::tree_of;
-use std::alloc::AllocError;
+use cilk_types::trace::Trace;
+use std::alloc::{AllocError, Global};
 
 // The picture's size, in its own units.
 const WIDTH: usize = 800;
@@ -15,29 +16,77 @@ const HEIGHT: usize = 300;
 /// How many events could be made at each step of the span, with workers enough, as a picture (SVG). Nothing where the case's run
 /// doesn't end.
 pub fn profile_of(case: &Case<'_>) -> Result<Option<String>, AllocError> {
-    let Some(run) = ended(case)? else {
-        return Ok(None);
-    };
-    let alloc = case.alloc;
-    let steps = profile(alloc, &run.trace)?;
-    let span = steps.len();
+    match ended(case)? {
+        Some(run) => Ok(Some(picture_of(case.alloc, &run.trace)?)),
+        None => Ok(None),
+    }
+}
+
+// The picture of a run's events.
+fn picture_of(alloc: Global, trace: &Trace) -> Result<String, AllocError> {
+    let steps = profile(alloc, trace)?;
+    picture(alloc, steps.as_slice())
+}
+
+// The picture of how many events stand at each step.
+fn picture(alloc: Global, steps: &[u32]) -> Result<String, AllocError> {
+    let most = greatest(steps);
+    let mut text = head(alloc, steps.len(), most)?;
+    push_outline(alloc, &mut text, steps, most)?;
+    push_foot(alloc, &mut text)?;
+    Ok(text)
+}
+
+// The most events of a step, and 1 where there are none.
+fn greatest(steps: &[u32]) -> usize {
     let mut most: usize = 1;
-    for events in &steps {
+    for events in steps {
         most = most.max(*events as usize);
     }
-    let mut text = format!(in alloc;
+    most
+}
+
+fn head(alloc: Global, span: usize, most: usize) -> Result<String, AllocError> {
+    format!(in alloc;
         "<svg xmlns=\"http://www.w3.org/2000/svg\" viewBox=\"0 0 {WIDTH} {HEIGHT}\">\n<title>events that could be made at each of {span} steps, at most {most}</title>\n<path fill=\"#4477aa\" d=\"M0 {HEIGHT}"
-    )?;
+    )
+}
+
+// Where the outline goes up or down, column by column.
+fn push_outline(
+    alloc: Global,
+    text: &mut String,
+    steps: &[u32],
+    most: usize,
+) -> Result<(), AllocError> {
+    let mut top = HEIGHT;
     for column in 0..WIDTH {
-        let events = most_in(steps.as_slice(), column);
-        let top = HEIGHT.saturating_sub(
-            events.saturating_mul(HEIGHT).checked_div(most).unwrap_or(0),
-        );
-        let right = column.saturating_add(1);
-        text.push_str(format!(in alloc; " L{column} {top} L{right} {top}")?.as_str())?;
+        let next = top_of(most_in(steps, column), most);
+        if next != top {
+            push_corner(alloc, text, column, next)?;
+        }
+        top = next;
     }
-    text.push_str(format!(in alloc; " L{WIDTH} {HEIGHT} Z\"/>\n</svg>\n")?.as_str())?;
-    Ok(Some(text))
+    Ok(())
+}
+
+// How far from the top so many events stand.
+fn top_of(events: usize, most: usize) -> usize {
+    let height = events.saturating_mul(HEIGHT).checked_div(most).unwrap_or(0);
+    HEIGHT.saturating_sub(height)
+}
+
+fn push_corner(
+    alloc: Global,
+    text: &mut String,
+    column: usize,
+    top: usize,
+) -> Result<(), AllocError> {
+    text.push_str(format!(in alloc; " H{column} V{top}")?.as_str())
+}
+
+fn push_foot(alloc: Global, text: &mut String) -> Result<(), AllocError> {
+    text.push_str(format!(in alloc; " H{WIDTH} V{HEIGHT} Z\"/>\n</svg>\n")?.as_str())
 }
 
 // The most events of the steps that a column of the picture stands for.

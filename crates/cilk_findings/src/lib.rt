@@ -11,9 +11,9 @@
 #![tactic(auto)]
 
 pub mod case;
+mod cures;
 pub mod drawing;
 pub mod faults;
-pub mod measures;
 mod naming;
 mod notes;
 mod paths;

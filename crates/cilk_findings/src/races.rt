@@ -1,6 +1,7 @@
 //! Two accesses that race, or a reducer's read that a schedule can change.
 
 use crate::case::Case;
+use crate::cures::cure_of;
 use crate::naming::{accessed, function_of, reducer_name};
 use crate::notes::{place_of, push_line, push_place};
 use crate::paths::{chain, halves, invoked_at, push_path, turns_of};
@@ -44,6 +45,7 @@ pub fn of_race(
         if let Some(pair) = of_accesses(&run, earlier, later) {
             let headings = ["the earlier one", "the later one"];
             push_pair(case, &run, &mut report, &pair, headings)?;
+            return with_cure(case, &run, report, later, &pair);
         }
     } else if let Some(pair) = of_views(case, &run, earlier, later)? {
         push_pair(
@@ -56,6 +58,43 @@ pub fn of_race(
     } else {
         push_first_child(case, &run, &mut report, earlier, later)?;
     }
+    with_reason(report, number)
+}
+
+// A report, and behind it the cure of a race of accesses.
+fn with_cure(
+    case: &Case<'_>,
+    run: &Run,
+    report: String,
+    later: usize,
+    pair: &Pair,
+) -> Result<String, AllocError> {
+    let in_turns = match run.replay.frames.get(pair.child) {
+        Some(
+            FrameNote {
+                body: Body::Loop(_),
+                ..
+            },
+        ) => true,
+        _ => false,
+    };
+    let cure = match run.event(later) {
+        Some(event) => cure_of(case, run, &event, in_turns)?,
+        None => None,
+    };
+    let mut report = report;
+    match cure {
+        Some(cure) => {
+            push_line(&mut report, "hint", cure.as_str())?;
+            Ok(report)
+        }
+        None => with_reason(report, 311),
+    }
+}
+
+// A report, and behind it the cure that stands by a number.
+fn with_reason(report: String, number: u16) -> Result<String, AllocError> {
+    let mut report = report;
     if let Some(reason) = reason_of(number) {
         push_line(&mut report, "hint", reason.cure)?;
     }

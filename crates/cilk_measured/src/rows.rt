@@ -3,18 +3,13 @@
 use cilk_explain::place::{Location, locate};
 use cilk_findings::case::Case;
 use cilk_findings::runs::Run;
+use cilk_measure::shares::{Share, shares};
 use cilk_places::map::BodyMap;
 use cilk_program::program::Body;
-use cilk_types::event::Event;
-use std::alloc::AllocError;
+use std::alloc::{AllocError, Global};
 
-/// The frames of a body, and the strands and events that they make themselves.
-#[derive(Clone, Copy, Debug)]
-struct Share {
-    frames: u64,
-    strands: u64,
-    events: u64,
-}
+// What stands above the numbers of a row.
+const HEADINGS: [&str; 5] = ["frames", "strands", "events", "work", "span"];
 
 /// A row of the table.
 #[derive(Drop)]
@@ -28,8 +23,8 @@ struct Row {
 pub struct Details {
     /// The ticks that it took.
     pub ticks: u64,
-    /// By function and loop how often each ran, and how many strands and events it made itself, a line each, below an empty line
-    /// and a head.
+    /// By function and loop what its frames take, a line each, below an empty line and a head: how many frames there are, the strands and events
+    /// that they make themselves, the work from the begins to the ends of these frames, and the largest span of one of them.
     pub bodies: String,
 }
 
@@ -63,20 +58,40 @@ fn push_rows(
         width = width.max(row.name.len());
     }
     text.push('\n')?;
-    push_cells(text, "body", ["frames", "strands", "events"], width, commas)?;
+    push_cells(text, "body", HEADINGS, width, commas)?;
     for row in &rows {
-        let Share {
-            frames,
-            strands,
-            events,
-        } = row.share;
-        let frames = format!(in alloc; "{frames}")?;
-        let strands = format!(in alloc; "{strands}")?;
-        let events = format!(in alloc; "{events}")?;
-        let cells = [frames.as_str(), strands.as_str(), events.as_str()];
-        push_cells(text, row.name.as_str(), cells, width, commas)?;
+        push_row(alloc, text, row, width, commas)?;
     }
     Ok(())
+}
+
+fn push_row(
+    alloc: Global,
+    text: &mut String,
+    row: &Row,
+    width: usize,
+    commas: bool,
+) -> Result<(), AllocError> {
+    let Share {
+        frames,
+        strands,
+        events,
+        work,
+        span,
+    } = row.share;
+    let frames = format!(in alloc; "{frames}")?;
+    let strands = format!(in alloc; "{strands}")?;
+    let events = format!(in alloc; "{events}")?;
+    let work = format!(in alloc; "{work}")?;
+    let span = format!(in alloc; "{span}")?;
+    let cells = [
+        frames.as_str(),
+        strands.as_str(),
+        events.as_str(),
+        work.as_str(),
+        span.as_str(),
+    ];
+    push_cells(text, row.name.as_str(), cells, width, commas)
 }
 
 // A row for each body that ran.
@@ -103,7 +118,7 @@ fn rows_of(case: &Case<'_>, run: &Run) -> Result<Vec<Row>, AllocError> {
 fn push_cells(
     text: &mut String,
     name: &str,
-    cells: [&str; 3],
+    cells: [&str; 5],
     width: usize,
     commas: bool,
 ) -> Result<(), AllocError> {
@@ -148,40 +163,15 @@ fn title_of(case: &Case<'_>, body: Body) -> Result<String, AllocError> {
     format!(in alloc; "{name} at {line}:{column}")
 }
 
-// How many frames run each body, and how many strands and events they make themselves: functions first, then loops.
+// What the frames of each body take: functions first, then loops.
 fn shares_of(case: &Case<'_>, run: &Run) -> Result<Vec<Share>, AllocError> {
-    let none = Share {
-        frames: 0,
-        strands: 0,
-        events: 0,
-    };
     let functions = case.map.functions.len();
-    let mut shares: Vec<Share> = Vec::new(case.alloc);
-    shares.resize(functions.saturating_add(case.map.loops.len()), none)?;
+    let mut members: Vec<usize> = Vec::new(case.alloc);
     for note in &run.replay.frames {
-        if let Some(share) = shares.get_mut(place_in(functions, note.body)) {
-            share.frames = share.frames.saturating_add(1);
-        }
+        members.push(place_in(functions, note.body))?;
     }
-    for (index, step) in run.replay.steps.iter().enumerate() {
-        if let Some(note) = run.replay.frames.get(step.frame) {
-            if let Some(share) = shares.get_mut(place_in(functions, note.body)) {
-                share.events = share.events.saturating_add(1);
-                if begins_strand(run.event(index)) {
-                    share.strands = share.strands.saturating_add(1);
-                }
-            }
-        }
-    }
-    Ok(shares)
-}
-
-// Whether a strand begins with this event.
-fn begins_strand(event: Option<Event>) -> bool {
-    matches!(
-        event,
-        Some(Event::Begin { .. } | Event::Resume { .. } | Event::Sync)
-    )
+    let count = functions.saturating_add(case.map.loops.len());
+    shares(case.alloc, &run.trace, members.as_slice(), count)
 }
 
 // Where a body stands among all.

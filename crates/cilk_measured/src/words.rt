@@ -12,7 +12,8 @@ use std::alloc::{AllocError, Global};
 
 // What is said of words that don't say what to measure.
 const USAGE: &str =
-    "error: these words name no program to measure: `cilk measure PROGRAM [--input FILE] [--csv | --svg | --dot] [--explain]`\n";
+    "error: these words name no program to measure: `cilk measure PROGRAM [--input FILE] [--csv | --svg | --dot] [--explain]`\n\
+    hint: what it shows goes to standard output, a picture too: `cilk measure prog.c --svg > prog.svg`\n";
 
 /// What is shown of words that don't say what to measure.
 pub fn usage_of_measure<'a>(alloc: Global) -> Failure<'a>

@@ -1,2 +1,3 @@
 pub mod Replies
 pub mod Plain
+pub mod Measuring

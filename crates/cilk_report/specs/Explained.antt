@@ -1,12 +1,15 @@
 -- What `serve_explained` shows, beside what `serve` does.
-use Rattle.std.specs.Prelude.{◌≡◌, ◌⊎◌, ◌<◌, ℕ, Bool, not, List, length, filter, Option, None, codes}
+use Rattle.std.specs.Prelude.{◌≡◌, ◌⊎◌, ◌<◌, ℕ, Bool, true, not, List, length, filter, Option, Some, None, codes}
 use Rattle.std.specs.Str.{bytes_eq}
 use Rattle.std.specs.Io.KnownBytes.{Appends}
+use Rattle.cilk_measure.specs.declared.totals.Totals.{Totals}
 use Rattle.cilk_tool.specs.Files.{Failures}
-use Rattle.cilk_tool.specs.Replies.{Text, line}
-use Rattle.cilk_tool.specs.Serving.{Serves, world}
+use Rattle.cilk_tool.specs.Replies.{Ended, NoMemory, Reply, Text, line, status_of}
+use Rattle.cilk_tool.specs.Serving.{RunReply, Serves, ShowsError, WordsFail, world}
 use Rattle.cilk_tool.specs.Streams.{AppendsFront, AppendsPart}
-use Rattle.cilk_tool.specs.Words.{order_in}
+use Rattle.cilk_tool.specs.Words.{Origin, order_in}
+use Rattle.cilk_measured.specs.Measured.{AreTotalsOf, IsMeasureText}
+use Rattle.cilk_measured.specs.Words.{is_measure, measured_run}
 
 -- the word `--explain`
 abbrev pub is_flag : Text → Bool
@@ -20,17 +23,48 @@ unflagged words = filter (λ w. not (is_flag w)) words
 abbrev pub ComesBehind : Option Text → Option Text → Type 0
 ComesBehind old new = (text : Text) × (is_whole : Bool) × AppendsFront is_whole old new text
 
--- a text goes to standard output with status 0; or a write there fails, and standard error says so
+-- the text goes to standard output with status 0; or a write there fails, and standard error says so
+abbrev pub WritesText : Text → ℕ → Option Text → Option Text → Option Text → Option Text → Type 0
+WritesText text status out out' err err' =
+    ((status ≡ 0) × Appends out out' text × (err' ≡ err))
+    ⊎ ((status ≡ 2) × AppendsPart out out' text × ((told : Bool) × AppendsFront told err err' (line (codes "cannot write"))))
+
+-- some text does
 abbrev pub WritesAbout : ℕ → Option Text → Option Text → Option Text → Option Text → Type 0
-WritesAbout status out out' err err' =
-    (text : Text) × (((status ≡ 0) × Appends out out' text × (err' ≡ err))
-    ⊎ ((status ≡ 2) × AppendsPart out out' text × ((told : Bool) × AppendsFront told err err' (line (codes "cannot write")))))
+WritesAbout status out out' err err' = (text : Text) × WritesText text status out out' err err'
 
 -- what `serve` does with these words, and a text on standard error behind it, for which files may be read again
 abbrev pub ServesThenExplains : List Text → (Text → Option Text) → Option Text → Failures → ℕ → Option Text → Option Text → Option Text → Option Text → Type 0
 ServesThenExplains words files input failed status out out' err err' =
     (read : Failures) × (middle : Option Text) × (told : Bool) × Serves words (world files input failed read) status told out out' err middle
     × ComesBehind middle err'
+
+-- a reply that isn't what a run left
+abbrev pub IsNoOutcome : Reply → Type 0
+IsNoOutcome (Ended names outcome) = ⊥
+IsNoOutcome _ = Unit {0}
+
+-- a reply goes to standard error with its status, and a text behind it; nothing goes to standard output
+abbrev pub Complains : Reply → ℕ → Option Text → Option Text → Option Text → Option Text → Type 0
+Complains r status out out' err err' =
+    (out' ≡ out) × (status ≡ status_of r) × (middle : Option Text) × (told : Bool) × ShowsError r told err middle × ComesBehind middle err'
+
+-- What comes of words that measure a run, for which files may be read again.
+pub data Measures (words : List Text) (files : Text → Option Text) (input : Option Text) (failed : Failures)
+    (status : ℕ) (out out' err err' : Option Text) : Type 0 where
+  -- the run ends, and a text with its totals is shown
+  Measured : (read : Failures) (program : Origin) (numbers : Option Text) (t : Totals) (text : Text) → measured_run words ≡ Some (program, numbers)
+      → AreTotalsOf (world files input failed read) program numbers t → IsMeasureText words t text → WritesText text status out out' err err'
+      → Measures words files input failed status out out' err err'
+  -- the texts mean no program and input, or the run stops: what `run` shows of that
+  Unmeasured : (read : Failures) (program : Origin) (numbers : Option Text) (r : Reply) → measured_run words ≡ Some (program, numbers)
+      → RunReply (world files input failed read) program numbers r → IsNoOutcome r → Complains r status out out' err err'
+      → Measures words files input failed status out out' err err'
+  -- the words name no run
+  Unnamed : (r : Reply) → measured_run words ≡ None → WordsFail r → Complains r status out out' err err'
+      → Measures words files input failed status out out' err err'
+  -- memory was refused
+  OutOfMemory : Complains NoMemory status out out' err err' → Measures words files input failed status out out' err err'
 
 -- What comes of a call over what files hold and what standard input gives, with the failed reads before it and at its end.
 pub data ServesExplained (words : List Text) (files : Text → Option Text) (input : Option Text) (failed failed' : Failures)
@@ -41,6 +75,9 @@ pub data ServesExplained (words : List Text) (files : Text → Option Text) (inp
   -- the words ask nothing of `serve`, and have `--explain` among them: what it does with the others, and then a text
   Explained : order_in words ≡ None → length (unflagged words) < length words
       → ServesThenExplains (unflagged words) files input failed status out out' err err'
+      → ServesExplained words files input failed failed' status out out' err err'
+  -- the words ask nothing of `serve`, and measure a run
+  Measuring : order_in words ≡ None → is_measure words ≡ true → Measures words files input failed status out out' err err'
       → ServesExplained words files input failed failed' status out out' err err'
   -- the words ask nothing of `serve`: a text about the tool itself
   About : order_in words ≡ None → WritesAbout status out out' err err'

@@ -7,6 +7,7 @@ use cilk_explain::report::{Finding, Wanted, of_line, of_script, of_text};
 use cilk_findings::case::Case;
 use cilk_findings::faults::of_fault;
 use cilk_findings::races::of_race;
+use cilk_measured::{CaseTexts, case_texts, read_again};
 use cilk_tool::files::Files;
 use cilk_tool::reply::{Answer, Failure};
 use cilk_tool::words::{Order, Origin};
@@ -93,7 +94,7 @@ fn of_refusal<F: Files>(
         _ => None,
     };
     if found.is_some() || number == 310 {
-        if let Some(texts) = case_texts(alloc, order, files)? {
+        if let Some(texts) = texts_of(alloc, order, files)? {
             let report = in_text(alloc, &texts, number, found)?;
             if !report.is_empty() {
                 return Ok(report);
@@ -126,45 +127,14 @@ fn in_text(
     }
 }
 
-/// What an order's program is called, its text, and that of its input.
-#[derive(Drop)]
-struct CaseTexts<'a> {
-    file: &'a str,
-    program: Vec<u8>,
-    input: Vec<u8>,
-}
-
-// The texts of an order's program and its input, where they can be read again: those of files.
-fn case_texts<'a, F: Files>(
+// The texts of an order's program and its input, where they can be read again.
+fn texts_of<'a, F: Files>(
     alloc: Global,
     order: &Order<'a>,
     files: &mut F,
 ) -> Result<Option<CaseTexts<'a>>, AllocError> {
-    let named = files_of(order);
-    let program = match named.program {
-        Origin::Standard => None,
-        Origin::File(path) => read_again(alloc, path, files),
-    };
-    let input = match named.input {
-        Some(path) => read_again(alloc, path, files),
-        None => Some(Vec::new(alloc)),
-    };
-    match (program, input) {
-        (Some(program), Some(input)) => Ok(Some(CaseTexts {
-            file: named.file(),
-            program,
-            input,
-        })),
-        _ => Ok(None),
-    }
-}
-
-// A file once more, if it can be read.
-fn read_again<F: Files>(alloc: Global, path: &str, files: &mut F) -> Option<Vec<u8>> {
-    if files.failures() == u64::MAX {
-        return None;
-    }
-    files.read(alloc, path).ok()
+    let Named { program, input, .. } = files_of(order);
+    case_texts(alloc, program, input, files)
 }
 
 /// What is said behind a failure of an order. The file of a text at fault is read again.
@@ -208,7 +178,7 @@ fn of_stop<F: Files>(
     number: u16,
     files: &mut F,
 ) -> Result<String, AllocError> {
-    if let Some(texts) = case_texts(alloc, order, files)? {
+    if let Some(texts) = texts_of(alloc, order, files)? {
         let report = in_text(alloc, &texts, number, None)?;
         if !report.is_empty() {
             return Ok(report);

@@ -15,6 +15,8 @@ Commands:
   check PROGRAM CERTIFICATE   accept the certificate only where it is right and nothing races: then every parallel
                               run that ends leaves what the serial one leaves; else say which race there is
   play PROGRAM SCRIPT         run the program in parallel, step by step, as a script tells its workers
+  measure PROGRAM             run the program, and show in place of what it leaves what that takes: events, ticks, frames,
+                              strands, work, span and parallelism; and by function and loop
   explain [NUMBER]            what a number of a refusal means, a text that provokes it, and the cure; or all numbers
   --help, --version           this text; the version
   no words at all             run the program on standard input
@@ -24,9 +26,14 @@ Arguments:
   CERTIFICATE     a file that `certify` wrote, of at most 268,435,456 bytes
   SCRIPT          a file with a script, of at most 1,048,576 bytes (docs/SCRIPTS.md)
 
-Options of run, certify, check and play:
+Options of run, certify, check, play and measure:
   --input FILE    the numbers that `input(k)` gives: at most 65,536, with blanks between; without it there are none
   --explain       behind a refusal, on standard error: its line and column, the reason, and what to write instead
+
+Options of measure, which all write to standard output:
+  --csv           the table with commas
+  --svg           in place of the table a picture: how many events could be made at each step, with workers enough
+  --dot           in place of the table the tree of a small run, for Graphviz's `dot`
 
 Option of play:
   --workers N     how many workers there are, 1 to 64; 2 where nothing is said
@@ -60,5 +67,8 @@ pub fn advice(alloc: Global, words: &[&str]) -> Result<String, AllocError> {
 }
 
 fn is_command(word: &str) -> bool {
-    matches!(word, "run" | "certify" | "check" | "play" | "explain")
+    matches!(
+        word,
+        "run" | "certify" | "check" | "play" | "measure" | "explain"
+    )
 }

@@ -1,25 +1,27 @@
 //! From words to a reply that is shown, and explained where the words ask for that.
 
-ghost use Rattle.std.specs.Prelude.{◌≡◌, ◌<◌, None};
-ghost use Rattle.cilk_report.specs.Explained.{ComesBehind, ServesExplained, ServesThenExplains, WritesAbout};
+ghost use Rattle.std.specs.Prelude.{◌≡◌, ◌<◌, None, Some, option_map, true};
+ghost use Rattle.cilk_report.specs.Explained.{ComesBehind, Measures, ServesExplained, ServesThenExplains, WritesText};
+ghost use Rattle.cilk_measured.specs.Words.{is_measure, measured_run, words_of_run};
 ghost use Rattle.cilk_tool.specs.Replies.{failure_view};
 ghost use Rattle.cilk_tool.specs.Serving.{WordsFail};
-ghost use Rattle.cilk_tool.specs.Words.{order_in, texts};
+ghost use Rattle.cilk_tool.specs.Words.{order_in, origin_view, texts};
 
 use crate::about::{About, answer_about};
 use crate::explaining::{of_answer, of_failure};
 use crate::flags::unflagged;
 use crate::help::advice;
+use cilk_measured::{asks, is_measure, run_of, run_words, text_of, totals_of, usage_of_measure};
 use cilk_tool::files::Files;
 use cilk_tool::reply::{Failure, WRONG};
 use cilk_tool::streams::send;
-use cilk_tool::words::{WordsFault, read};
+use cilk_tool::words::{Order, Origin, WordsFault, read};
 use cilk_tool::{Served, carry_out, complain, show, tell};
 use std::alloc::{AllocError, Global};
 use std::io::{Read, Write};
 
 /// Serves the words after the program's own name: as `serve` does, where they ask something of it; with `--explain` among them as it
-/// serves the others, and an explanation follows; and words about the tool are answered.
+/// serves the others, and an explanation follows; `measure` shows the totals of a run; and words about the tool are answered.
 pub fn serve_explained<F: Files, R: Read, O: Write, E: Write>(
     alloc: Global,
     words: &[&str],
@@ -29,7 +31,10 @@ pub fn serve_explained<F: Files, R: Read, O: Write, E: Write>(
     err: &mut E,
 ) -> u8
     requires { (F.failed files.old).count < 18446744073709551615 }
-    ensures { ServesExplained (texts words.now) (F.holds files.old) (R.remaining input.old) (F.failed files.old) (F.failed files.new)
+    ensures served { ServesExplained (texts words.now) (F.holds files.old) (R.remaining input.old) (F.failed files.old) (F.failed files.new)
+        result (O.contents out.old) (O.contents out.new) (E.contents err.old) (E.contents err.new) }
+    ensures measured { order_in (texts words.now) ≡ None → is_measure (texts words.now) ≡ true
+        → Measures (texts words.now) (F.holds files.old) (R.remaining input.old) (F.failed files.old)
         result (O.contents out.old) (O.contents out.new) (E.contents err.old) (E.contents err.new) }
 {
     match read(alloc, words) {
@@ -54,11 +59,36 @@ fn serve_other<F: Files, R: Read, O: Write, E: Write>(
 ) -> u8
     requires room { (F.failed files.old).count < 18446744073709551615 }
     requires other { order_in (texts words.now) ≡ None }
+    ensures served { ServesExplained (texts words.now) (F.holds files.old) (R.remaining input.old) (F.failed files.old) (F.failed files.new)
+        result (O.contents out.old) (O.contents out.new) (E.contents err.old) (E.contents err.new) }
+    ensures measured { is_measure (texts words.now) ≡ true
+        → Measures (texts words.now) (F.holds files.old) (R.remaining input.old) (F.failed files.old)
+        result (O.contents out.old) (O.contents out.new) (E.contents err.old) (E.contents err.new) }
+{
+    if is_measure(words) {
+        serve_measure(alloc, words, files, input, out, err)
+    } else {
+        serve_unmeasured(alloc, words, usage, files, input, out, err)
+    }
+}
+
+/// Serves words that ask nothing of `serve`, and measure nothing.
+fn serve_unmeasured<F: Files, R: Read, O: Write, E: Write>(
+    alloc: Global,
+    words: &[&str],
+    usage: String,
+    files: &mut F,
+    input: &mut R,
+    out: &mut O,
+    err: &mut E,
+) -> u8
+    requires room { (F.failed files.old).count < 18446744073709551615 }
+    requires other { order_in (texts words.now) ≡ None }
     ensures { ServesExplained (texts words.now) (F.holds files.old) (R.remaining input.old) (F.failed files.old) (F.failed files.new)
         result (O.contents out.old) (O.contents out.new) (E.contents err.old) (E.contents err.new) }
 {
     match answer_about(alloc, words) {
-        Ok(About::Text(text)) => tell_about(text.as_bytes(), out, err),
+        Ok(About::Text(text)) => tell_text(text.as_bytes(), out, err),
         Ok(About::Wrong(text)) => complain(alloc, &Failure::Words(text), err).status,
         Ok(About::Other) => match unflagged(alloc, words) {
             Ok(plain) if plain.len() < words.len() => {
@@ -116,6 +146,99 @@ fn serve_flagged<F: Files, R: Read, O: Write, E: Write>(
     }
 }
 
+/// Serves words that measure a run.
+fn serve_measure<F: Files, R: Read, O: Write, E: Write>(
+    alloc: Global,
+    words: &[&str],
+    files: &mut F,
+    input: &mut R,
+    out: &mut O,
+    err: &mut E,
+) -> u8
+    requires { (F.failed files.old).count < 18446744073709551615 }
+    ensures { Measures (texts words.now) (F.holds files.old) (R.remaining input.old) (F.failed files.old)
+        result (O.contents out.old) (O.contents out.new) (E.contents err.old) (E.contents err.new) }
+{
+    match run_words(alloc, words) {
+        Ok(plain) => serve_run(alloc, words, plain.as_slice(), files, input, out, err),
+        Err(_) => complain(alloc, &Failure::Memory, err).status,
+    }
+}
+
+/// Serves words that measure a run, by the words that run it.
+fn serve_run<F: Files, R: Read, O: Write, E: Write>(
+    alloc: Global,
+    words: &[&str],
+    plain: &[&str],
+    files: &mut F,
+    input: &mut R,
+    out: &mut O,
+    err: &mut E,
+) -> u8
+    requires room { (F.failed files.old).count < 18446744073709551615 }
+    requires plain { texts plain.now ≡ words_of_run (texts words.now) }
+    ensures { Measures (texts words.now) (F.holds files.old) (R.remaining input.old) (F.failed files.old)
+        result (O.contents out.old) (O.contents out.new) (E.contents err.old) (E.contents err.new) }
+{
+    match read(alloc, plain) {
+        Ok(order) => match run_of(order) {
+            Some((program, numbers)) => {
+                show_measured(alloc, words, program, numbers, files, input, out, err)
+            }
+            None => complain(alloc, &usage_of_measure(alloc), err).status,
+        },
+        Err(WordsFault::Usage(_)) => complain(alloc, &usage_of_measure(alloc), err).status,
+        Err(WordsFault::Memory) => complain(alloc, &Failure::Memory, err).status,
+    }
+}
+
+/// Shows the totals of the run that words measure; or why there are none, and an explanation where the words ask for one.
+fn show_measured<F: Files, R: Read, O: Write, E: Write>(
+    alloc: Global,
+    words: &[&str],
+    program: Origin<'_>,
+    numbers: Option<&str>,
+    files: &mut F,
+    input: &mut R,
+    out: &mut O,
+    err: &mut E,
+) -> u8
+    requires room { (F.failed files.old).count < 18446744073709551615 }
+    requires named { measured_run (texts words.now) ≡ Some (origin_view program, option_map (λ p. p.now) numbers) }
+    ensures { Measures (texts words.now) (F.holds files.old) (R.remaining input.old) (F.failed files.old)
+        result (O.contents out.old) (O.contents out.new) (E.contents err.old) (E.contents err.new) }
+{
+    let order = Order::Run {
+        program,
+        input: numbers,
+    };
+    match totals_of(alloc, program, numbers, files, input) {
+        Ok(totals) => match text_of(alloc, words, &totals, program, numbers, files) {
+            Ok(text) => tell_text(text.as_slice(), out, err),
+            Err(_) => complain(alloc, &Failure::Memory, err).status,
+        },
+        Err(failure) => {
+            let served = complain(alloc, &failure, err);
+            follow(served, why(alloc, words, &order, &failure, files), err)
+        }
+    }
+}
+
+/// What is said behind a failure, where the words ask for an explanation.
+fn why<F: Files>(
+    alloc: Global,
+    words: &[&str],
+    order: &Order<'_>,
+    failure: &Failure<'_>,
+    files: &mut F,
+) -> Result<String, AllocError> {
+    if asks(words, "--explain") {
+        of_failure(alloc, order, failure, files)
+    } else {
+        Ok(String::new(alloc))
+    }
+}
+
 /// Writes an explanation behind what was shown, where all of that went out.
 fn follow<E: Write>(served: Served, text: Result<String, AllocError>, err: &mut E) -> u8
     ensures status { result ≡ served.status }
@@ -130,9 +253,9 @@ fn follow<E: Write>(served: Served, text: Result<String, AllocError>, err: &mut 
     served.status
 }
 
-/// Writes a text about the tool itself, and answers the status.
-fn tell_about<O: Write, E: Write>(text: &[u8], out: &mut O, err: &mut E) -> u8
-    ensures { WritesAbout result (O.contents out.old) (O.contents out.new) (E.contents err.old) (E.contents err.new) }
+/// Writes a text to standard output, and answers the status.
+fn tell_text<O: Write, E: Write>(text: &[u8], out: &mut O, err: &mut E) -> u8
+    ensures { WritesText text.now result (O.contents out.old) (O.contents out.new) (E.contents err.old) (E.contents err.new) }
 {
     if send(out, text) {
         return 0;

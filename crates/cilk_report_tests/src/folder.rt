@@ -8,6 +8,7 @@ use cilk_tool::files::{FileFault, Files};
 use std::alloc::Global;
 use std::io;
 use std::io::{ErrorKind, Read};
+use std::process::Abort;
 
 /// Texts by these paths, and no other file.
 #[derive(Drop)]
@@ -94,6 +95,24 @@ impl Shown {
             && self.out.as_slice() == out.as_bytes()
             && self.err.as_slice() == err.as_bytes()
     }
+
+    // Whether both streams begin so.
+    fn begins(&self, out: &str, err: &str) -> bool {
+        self.out.starts_with(out.as_bytes()) && self.err.starts_with(err.as_bytes())
+    }
+}
+
+/// What is to be shown, and the status.
+#[derive(Clone, Copy)]
+pub struct Wanted<'a> {
+    pub status: u8,
+    pub out: &'a str,
+    pub err: &'a str,
+}
+
+/// A reply of these.
+pub fn reply<'a>(status: u8, out: &'a str, err: &'a str) -> Wanted<'a> {
+    Wanted { status, out, err }
 }
 
 /// Serves words over a program alone.
@@ -111,6 +130,45 @@ pub fn serve_words_in(
 ) -> Shown {
     let files = Folder::new(program, certificate, script);
     served(alloc, words, files, &mut Broken)
+}
+
+/// Words over a program alone show exactly this.
+pub fn shows(rt: &impl Abort, alloc: Global, words: &[&str], program: &[u8], wanted: Wanted<'_>) {
+    let shown = serve_words(alloc, words, program);
+    let Wanted { status, out, err } = wanted;
+    assert!(rt; shown.is(status, out, err), "{shown:?}");
+}
+
+/// Words over a program, a certificate and a script show exactly this.
+pub fn shows_in(
+    rt: &impl Abort,
+    alloc: Global,
+    words: &[&str],
+    texts: [&[u8]; 3],
+    wanted: Wanted<'_>,
+) {
+    let [program, certificate, script] = texts;
+    let shown = serve_words_in(alloc, words, program, certificate, script);
+    let Wanted { status, out, err } = wanted;
+    assert!(rt; shown.is(status, out, err), "{shown:?}");
+}
+
+/// Words over a program, a certificate and a script have this status, and what they show begins so; a stream of which nothing is said here
+/// may hold anything.
+pub fn begins(
+    rt: &impl Abort,
+    alloc: Global,
+    words: &[&str],
+    texts: [&[u8]; 3],
+    wanted: Wanted<'_>,
+) {
+    let [program, certificate, script] = texts;
+    let shown = serve_words_in(alloc, words, program, certificate, script);
+    let Wanted { status, out, err } = wanted;
+    assert!(rt;
+        shown.status == status && shown.begins(out, err),
+        "{shown:?}"
+    );
 }
 
 /// A call with these words, over a folder of which nothing was read yet, and with standard input.

@@ -6,6 +6,8 @@ mod explained;
 #[cfg(test)]
 mod folder;
 #[cfg(test)]
+mod measured;
+#[cfg(test)]
 mod numbers;
 #[cfg(test)]
 mod told;

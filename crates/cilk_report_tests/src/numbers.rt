@@ -1,8 +1,9 @@
 //! Each number of a refusal: what provokes it is answered by its line and told with a hint, and `explain` describes it.
 
-use crate::folder::{Shown, serve_words, serve_words_in};
+use crate::folder::{Shown, reply, serve_words, serve_words_in, shows, shows_in};
 use cilk_explain::reasons::{Example, NUMBERS, Reason, reason_of};
 use std::alloc::{AllocError, Global};
+use std::process::Abort;
 
 // `examples/race.c`, and the certificate of its run.
 const RACE: &str =
@@ -104,8 +105,14 @@ const EDITS: [Edit; 9] = [
 
 #[test]
 fn the_certificate_is_that_of_the_run(rt: HostRuntime) {
-    let made = serve_words(rt.alloc(), &["certify", "program"], RACE.as_bytes());
-    assert!(rt; made.is(0, CERTIFICATE, ""), "{made:?}");
+    let words = ["certify", "program"];
+    shows(
+        &rt,
+        rt.alloc(),
+        &words,
+        RACE.as_bytes(),
+        reply(0, CERTIFICATE, ""),
+    );
 }
 
 // What is told of a certificate's line.
@@ -122,38 +129,56 @@ fn told_of_a_line(alloc: Global, reason: &Reason, line: u32) -> Result<String, A
     )
 }
 
-#[test]
-fn lines_of_a_certificate_are_told(rt: HostRuntime) -> Result<(), AllocError> {
-    let alloc = rt.alloc();
-    for edit in EDITS {
-        let Edit {
-            number,
-            old,
-            new,
-            line,
-        } = edit;
-        let Some(reason) = reason_of(number) else {
-            panic!(rt; "no reason of {number}");
-        };
-        let certificate = CERTIFICATE.replace(alloc, old, new)?;
-        let words = ["check", "program", "certificate", "--explain"];
-        let answer = serve_words_in(alloc, &words, RACE.as_bytes(), certificate.as_bytes(), b"");
-        let wanted = reason.line;
-        let out = format!(in alloc; "{wanted}\n")?;
-        let err = told_of_a_line(alloc, &reason, line)?;
-        assert!(rt; answer.is(4, out.as_str(), err.as_str()), "{answer:?}");
-    }
+fn reason(rt: &impl Abort, number: u16) -> Reason {
+    let Some(reason) = reason_of(number) else {
+        panic!(rt; "no reason of {number}");
+    };
+    reason
+}
+
+// The line of an edited certificate is told.
+fn is_line_told(rt: &impl Abort, alloc: Global, edit: Edit) -> Result<(), AllocError> {
+    let reason = reason(rt, edit.number);
+    let certificate = CERTIFICATE.replace(alloc, edit.old, edit.new)?;
+    let wanted = reason.line;
+    let out = format!(in alloc; "{wanted}\n")?;
+    let err = told_of_a_line(alloc, &reason, edit.line)?;
+    let words = ["check", "program", "certificate", "--explain"];
+    let texts = [RACE.as_bytes(), certificate.as_bytes(), "".as_bytes()];
+    shows_in(
+        rt,
+        alloc,
+        &words,
+        texts,
+        reply(4, out.as_str(), err.as_str()),
+    );
     Ok(())
 }
 
 #[test]
+fn lines_of_a_certificate_are_told(rt: HostRuntime) -> Result<(), AllocError> {
+    for edit in EDITS {
+        is_line_told(&rt, rt.alloc(), edit)?;
+    }
+    Ok(())
+}
+
+// A division by zero, and a certificate of a run that ends.
+const DIVIDES: &str = "int main(){return 1 % 0;}";
+
+const ENDS: &str = "cilkcert 2\nsize 1 1 1\nframe 1 0 0\nstrand 1 1 1 0\nbegin 1\nresult 0\nend\n";
+
+#[test]
 fn a_run_that_stops_has_no_certificate(rt: HostRuntime) {
-    let program = b"int main(){return 1 % 0;}";
-    let certificate =
-        b"cilkcert 2\nsize 1 1 1\nframe 1 0 0\nstrand 1 1 1 0\nbegin 1\nresult 0\nend\n";
     let words = ["check", "program", "certificate", "--explain"];
-    let answer = serve_words_in(rt.alloc(), &words, program, certificate, b"");
-    assert!(rt; answer.is(4, "refused 310 2\n", STOPPED), "{answer:?}");
+    let texts = [DIVIDES.as_bytes(), ENDS.as_bytes(), "".as_bytes()];
+    shows_in(
+        &rt,
+        rt.alloc(),
+        &words,
+        texts,
+        reply(4, "refused 310 2\n", STOPPED),
+    );
 }
 
 const STOPPED: &str = "program:1:21: error 201: division by zero\n\
@@ -164,36 +189,70 @@ const STOPPED: &str = "program:1:21: error 201: division by zero\n\
     so far: 1 events, 3 ticks, 1 frames\n\
     hint: Ask first: `if (b != 0) { q = a / b; }`.\n";
 
+const RUN: [&str; 3] = ["run", "program", "--explain"];
+
+const WITH_INPUT: [&str; 5] = ["run", "program", "--input", "script", "--explain"];
+
+// What is shown of a program's run.
+fn of_run(alloc: Global, text: &str) -> Shown {
+    serve_words(alloc, &RUN, text.as_bytes())
+}
+
+// What is shown of a run with an input of so many equal parts.
+fn of_input(alloc: Global, part: &str, count: usize) -> Result<Shown, AllocError> {
+    let input = part.repeat(alloc, count)?;
+    let program = "int main(){return 0;}".as_bytes();
+    Ok(serve_words_in(alloc, &WITH_INPUT, program, "".as_bytes(), input.as_bytes()))
+}
+
+// What is shown of blocks that are too deep.
+fn of_depth(alloc: Global) -> Result<Shown, AllocError> {
+    let text = format!(in alloc; "int main(){{{}", "{".repeat(alloc, 66)?)?;
+    Ok(of_run(alloc, text.as_str()))
+}
+
+// What is shown of a text that is too long.
+fn of_length(alloc: Global) -> Result<Shown, AllocError> {
+    let text = " ".repeat(alloc, 262_145)?;
+    Ok(of_run(alloc, text.as_str()))
+}
+
+// What is shown of the check of the certificate of a program's own run.
+fn of_check(alloc: Global, text: &str) -> Shown {
+    let made = serve_words(alloc, &["certify", "program"], text.as_bytes());
+    let words = ["check", "program", "certificate", "--explain"];
+    serve_words_in(
+        alloc,
+        &words,
+        text.as_bytes(),
+        made.out.as_slice(),
+        "".as_bytes(),
+    )
+}
+
 // What comes of what provokes a number, but for edits of a certificate and for the limits of a run.
 fn provoked(alloc: Global, reason: &Reason) -> Result<Option<Shown>, AllocError> {
-    let run = ["run", "program", "--explain"];
-    let with_input = ["run", "program", "--input", "script", "--explain"];
-    let first = b"int main(){return 0;}";
-    let shown = match (reason.number, reason.example) {
-        (104, _) => {
-            let text = format!(in alloc; "int main(){{{}", "{".repeat(alloc, 66)?)?;
-            serve_words(alloc, &run, text.as_bytes())
-        }
-        (106, _) => {
-            let mut text = Vec::new(alloc);
-            text.resize(262_145, b' ')?;
-            serve_words(alloc, &run, text.as_slice())
-        }
-        (121, _) => serve_words_in(alloc, &with_input, first, b"", b"x"),
-        (122, _) => {
-            let input = "0 ".repeat(alloc, 65_537)?;
-            serve_words_in(alloc, &with_input, first, b"", input.as_bytes())
-        }
-        (203, _) => serve_words(alloc, &run, b"int main(){return input(0);}"),
-        (311 | 312, Example::Program(text)) => {
-            let made = serve_words(alloc, &["certify", "program"], text.as_bytes());
-            let words = ["check", "program", "certificate", "--explain"];
-            serve_words_in(alloc, &words, text.as_bytes(), made.out.as_slice(), b"")
-        }
-        (101..=203, Example::Program(text)) => serve_words(alloc, &run, text.as_bytes()),
-        _ => return Ok(None),
+    let shown = match reason.number {
+        104 => of_depth(alloc)?,
+        106 => of_length(alloc)?,
+        121 => of_input(alloc, "x", 1)?,
+        122 => of_input(alloc, "0 ", 65_537)?,
+        203 => of_run(alloc, "int main(){return input(0);}"),
+        _ => return Ok(of_example(alloc, reason)),
     };
     Ok(Some(shown))
+}
+
+// What comes of the program that provokes a number, if one does.
+fn of_example(alloc: Global, reason: &Reason) -> Option<Shown> {
+    let Example::Program(text) = reason.example else {
+        return None;
+    };
+    match reason.number {
+        311 | 312 => Some(of_check(alloc, text)),
+        101..=203 => Some(of_run(alloc, text)),
+        _ => None,
+    }
 }
 
 // Whether a number's line is shown, and told with its title and a hint.
@@ -216,16 +275,21 @@ fn is_told(alloc: Global, shown: &Shown, reason: &Reason) -> Result<bool, AllocE
     Ok(is_shown && err.contains(head.as_str()) && err.contains("\nhint: "))
 }
 
+// Whether a number is provoked, and told then.
+fn is_provoked(rt: &impl Abort, alloc: Global, number: u16) -> Result<bool, AllocError> {
+    let reason = reason(rt, number);
+    let Some(shown) = provoked(alloc, &reason)? else {
+        return Ok(false);
+    };
+    assert!(rt; is_told(alloc, &shown, &reason)?, "{number}: {shown:?}");
+    Ok(true)
+}
+
 #[test]
 fn each_number_is_told(rt: HostRuntime) -> Result<(), AllocError> {
-    let alloc = rt.alloc();
     let mut count: u32 = 0;
     for number in NUMBERS {
-        let Some(reason) = reason_of(number) else {
-            panic!(rt; "no reason of {number}");
-        };
-        if let Some(shown) = provoked(alloc, &reason)? {
-            assert!(rt; is_told(alloc, &shown, &reason)?, "{number}: {shown:?}");
+        if is_provoked(&rt, rt.alloc(), number)? {
             count = count.saturating_add(1);
         }
     }
@@ -233,31 +297,45 @@ fn each_number_is_told(rt: HostRuntime) -> Result<(), AllocError> {
     Ok(())
 }
 
+// The head of what `explain` says of a number.
+fn head_of(alloc: Global, reason: &Reason) -> Result<String, AllocError> {
+    let Reason {
+        number,
+        title,
+        meaning,
+        ..
+    } = *reason;
+    format!(in alloc; "{number}: {title}\n\n{meaning}\n\n")
+}
+
+// The foot of what `explain` says of a number.
+fn foot_of(alloc: Global, reason: &Reason) -> Result<String, AllocError> {
+    let Reason {
+        line,
+        place,
+        cure,
+        ..
+    } = *reason;
+    format!(in alloc; "\n\n    {line}\n\nThe place is read as: {place}.\n\n{cure}\n")
+}
+
+// `explain` describes a number.
+fn is_described(rt: &impl Abort, alloc: Global, number: u16) -> Result<(), AllocError> {
+    let reason = reason(rt, number);
+    let word = format!(in alloc; "{number}")?;
+    let shown = serve_words(alloc, &["explain", word.as_str()], "".as_bytes());
+    let head = head_of(alloc, &reason)?;
+    let foot = foot_of(alloc, &reason)?;
+    assert!(rt; shown.status == 0 && shown.err.is_empty(), "{shown:?}");
+    assert!(rt; shown.out.starts_with(head.as_bytes()), "{shown:?}");
+    assert!(rt; shown.out.ends_with(foot.as_bytes()), "{shown:?}");
+    Ok(())
+}
+
 #[test]
 fn each_number_is_described(rt: HostRuntime) -> Result<(), AllocError> {
-    let alloc = rt.alloc();
     for number in NUMBERS {
-        let Some(reason) = reason_of(number) else {
-            panic!(rt; "no reason of {number}");
-        };
-        let Reason {
-            title,
-            meaning,
-            line,
-            place,
-            cure,
-            ..
-        } = reason;
-        let word = format!(in alloc; "{number}")?;
-        let shown = serve_words(alloc, &["explain", word.as_str()], b"");
-        let head = format!(in alloc; "{number}: {title}\n\n{meaning}\n\n")?;
-        let foot = format!(in alloc;
-            "\n\n    {line}\n\nThe place is read as: {place}.\n\n{cure}\n"
-        )?;
-        assert_eq!(rt; shown.status, 0);
-        assert!(rt; shown.err.is_empty(), "{shown:?}");
-        assert!(rt; shown.out.starts_with(head.as_bytes()), "{shown:?}");
-        assert!(rt; shown.out.ends_with(foot.as_bytes()), "{shown:?}");
+        is_described(&rt, rt.alloc(), number)?;
     }
     Ok(())
 }

@@ -1,0 +1,70 @@
+-- How a reply of `measure` comes about.
+--
+-- `fails`: there are no totals, and why is told. `starved`: a want of memory. `unnamed`: words that name no run. `asked`: words that ask something of `serve` aren't
+-- words that ask nothing. `named`: the run that words measure is the one that the words in its place run.
+use Rattle.std.proofs.Common.{◌≡◌, ℕ, List, Bool, Option, Some, None, refl, sym, ap, subst, inl, inr, ◌∙◌}
+use Rattle.std.proofs.lemmas.Bool.{true≢false}
+use Rattle.std.specs.Prelude.{IsSome}
+use Rattle.cilk_measured.specs.Words.{measured_run, run_of, words_of_run}
+use Rattle.cilk_report.specs.Explained.{Complains, ComesBehind, IsNoOutcome, Measures, OutOfMemory, Unmeasured, Unnamed}
+use Rattle.cilk_tool.specs.Files.{Failures}
+use Rattle.cilk_tool.specs.Replies.{NoMemory, Reply, Text, failure_view, status_of}
+use Rattle.cilk_tool.specs.Serving.{IsOrNoMemory, RunReply, ShowsError, WordsFail, world}
+use Rattle.cilk_tool.specs.Words.{Origin, Requested, order_in}
+use Rattle.cilk_tool.specs.declared.reply.Failure.{Failure}
+use Rattle.cilk_tool.specs.declared.reply.Failure.TheVariants as failures
+
+-- what `complain` says of a failure
+abbrev pub Told : Failure → ℕ → Bool → Option Text → Option Text → Type 0
+Told f status told e m = (r : Reply) × IsOrNoMemory (failure_view f) r × (status ≡ status_of r) × ShowsError r told e m
+
+no_outcome : (f : Failure) → IsNoOutcome (failure_view f)
+no_outcome (failures.Words text) = tt
+no_outcome (failures.Unreadable name) = tt
+no_outcome (failures.Program number place) = tt
+no_outcome (failures.Input number place) = tt
+no_outcome (failures.Run number at) = tt
+no_outcome (failures.Strand number name) = tt
+no_outcome (failures.Script at) = tt
+no_outcome failures.Memory = tt
+
+complains : (r wanted : Reply) (status status' : ℕ) (told : Bool) (o e m e' : Option Text) → r ≡ wanted → status ≡ status_of r → ShowsError r told e m
+    → ComesBehind m e' → status' ≡ status → Complains wanted status' o o e e'
+complains r wanted status status' told o e m e' is s shown behind same =
+    (refl, same ∙ s ∙ ap status_of is, m, told, subst (λ (x : Reply). ShowsError x told e m) is shown, behind)
+
+module _ (words : List Text) (files : Text → Option Text) (input : Option Text) (failed : Failures) where
+  pub fails : (read : Failures) (p : Origin) (i : Option Text) (f : Failure) (status status' : ℕ) (told : Bool) (o e m e' : Option Text)
+      → measured_run words ≡ Some (p, i) → RunReply (world files input failed read) p i (failure_view f) → Told f status told e m
+      → ComesBehind m e' → status' ≡ status → Measures words files input failed status' o o e e'
+  fails read p i f status status' told o e m e' named h shown behind same =
+      elim shown.1 [
+        | inl is ↦ Unmeasured read p i (failure_view f) named h (no_outcome f)
+            (complains shown.0 (failure_view f) status status' told o e m e' is shown.2 shown.3 behind same)
+        | inr is ↦ OutOfMemory (complains shown.0 NoMemory status status' told o e m e' is shown.2 shown.3 behind same)
+      ]
+
+  pub starved : (status status' : ℕ) (told : Bool) (o e m e' : Option Text) → Told failures.Memory status told e m → ComesBehind m e' → status' ≡ status
+      → Measures words files input failed status' o o e e'
+  starved status status' told o e m e' shown behind same =
+      elim shown.1 [
+        | inl is ↦ OutOfMemory (complains shown.0 NoMemory status status' told o e m e' is shown.2 shown.3 behind same)
+        | inr is ↦ OutOfMemory (complains shown.0 NoMemory status status' told o e m e' is shown.2 shown.3 behind same)
+      ]
+
+  pub unnamed : (f : Failure) (status status' : ℕ) (told : Bool) (o e m e' : Option Text) → measured_run words ≡ None → WordsFail (failure_view f)
+      → Told f status told e m → ComesBehind m e' → status' ≡ status → Measures words files input failed status' o o e e'
+  unnamed f status status' told o e m e' named h shown behind same =
+      elim shown.1 [
+        | inl is ↦ Unnamed (failure_view f) named h (complains shown.0 (failure_view f) status status' told o e m e' is shown.2 shown.3 behind same)
+        | inr is ↦ OutOfMemory (complains shown.0 NoMemory status status' told o e m e' is shown.2 shown.3 behind same)
+      ]
+
+-- words that ask something of `serve` don't ask nothing
+pub asked : (asked : Option Requested) (r : Requested) → asked ≡ Some r → asked ≡ None → ⊥
+asked a r some none = true≢false (sym (subst IsSome (sym some ∙ none) refl))
+
+-- the run that words measure is the one that the words in its place run
+pub named : (words plain : List Text) (wanted : Option Requested) (run : Option (Origin × Option Text)) → plain ≡ words_of_run words
+    → order_in plain ≡ wanted → run ≡ run_of wanted → measured_run words ≡ run
+named words plain wanted run same order is = ap (λ ws. run_of (order_in ws)) (sym same) ∙ ap run_of order ∙ sym is

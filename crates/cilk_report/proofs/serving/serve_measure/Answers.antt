@@ -1,0 +1,11 @@
+use Rattle.std.proofs.Common.{ap, refl, ◌∙◌}
+use Rattle.cilk_report.proofs.Measuring.{starved}
+use Rattle.cilk_report.proofs.Replies.{silence}
+use Rattle.cilk_tool.specs.Words.{texts}
+use Rattle.cilk_report.proofs.serving.serve_measure.Goals as goal
+
+pub serve_run-requires-clause-plain : goal.serve_run-requires-clause-plain
+serve_run-requires-clause-plain g c = ap texts c.as_slice.ensures.value ∙ c.in-Ok.ensures
+
+pub returns-in-Err : goal.returns-in-Err
+returns-in-Err g c = starved _ _ _ _ _ _ _ _ _ _ _ c.complain.ensures (silence _) refl

@@ -1,0 +1,21 @@
+use Rattle.std.proofs.Common.{refl, subst, sym}
+use Rattle.cilk_measured.specs.Measured.{IsMeasureText}
+use Rattle.cilk_report.proofs.Measuring.{fails, starved}
+use Rattle.cilk_report.proofs.Replies.{silence}
+use Rattle.cilk_report.specs.Explained.{Measured}
+use Rattle.cilk_tool.specs.Replies.{Text}
+use Rattle.cilk_tool.specs.Words.{texts}
+use Rattle.cilk_report.proofs.serving.show_measured.Goals as goal
+
+pub returns-in-Ok-text_of : goal.returns-in-Ok-text_of
+returns-in-Ok-text_of g c =
+    Measured (g.F.Files.failed c.totals_of.new.files) _ _ c.in-Ok.totals c.as_slice.result.now c.requires.named c.in-Ok.ensures.totals
+    (subst (λ (t : Text). IsMeasureText (texts c.args.words.now) c.in-Ok.totals t) (sym c.as_slice.ensures.value) c.in-Ok-text_of.ensures) c.tell_text.ensures
+
+pub returns-in-Err-text_of : goal.returns-in-Err-text_of
+returns-in-Err-text_of g c = starved _ _ _ _ _ _ _ _ _ _ _ c.complain.ensures (silence _) refl
+
+pub returns-in-Err : goal.returns-in-Err
+returns-in-Err g c =
+    fails _ _ _ _ _ _ _ c.in-Err.failure _ _ _ _ _ _ _ c.requires.named c.in-Err.ensures.failure c.complain-served.ensures c.follow.ensures.follows
+    c.follow.ensures.status
