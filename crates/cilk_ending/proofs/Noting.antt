@@ -2,8 +2,8 @@
 --
 -- - `NotedSoFar`: what the frames run that the first events begin, and how many cells there are then; `noted_first`, `noted_all`: of none and of all events;
 -- - `room`, `noted_some`, `noted_none`: one event more, which begins a frame or none;
--- - `noted_start`, `made_by`, `smaller`, `small_room`, `noted_more`, `noted_same`, `noted_whole`: as the loop over the run's events has them.
-use Rattle.std.proofs.Common.{◌≡◌, ℕ, zero, suc, ◌+◌, ◌-◌, ◌<◌, ◌≤◌, ℤ, List, [], ◌∷◌, ◌++◌, length, take, Option, Some, None, slice_get, refl, sym, ap, ◌∙◌, subst, arith, length-append}
+-- - `noted_start`, `own_there`, `none_there`, `made_by`, `smaller`, `small_room`, `noted_more`, `noted_same`, `noted_whole`: as the loop over the run's events has them.
+use Rattle.std.proofs.Common.{◌≡◌, ℕ, zero, suc, ◌+◌, ◌-◌, ◌<◌, ◌≤◌, ℤ, List, [], ◌∷◌, ◌++◌, length, take, Option, Some, None, slice_get, option_map, refl, sym, ap, ◌∙◌, subst, arith, length-append}
 use Rattle.std.proofs.lemmas.List.{take_all}
 use Rattle.cilk_lower.specs.Layout.{LaysOut, cells_in}
 use Rattle.cilk_lower.specs.declared.layout.Layout.{Layout}
@@ -24,6 +24,7 @@ use Rattle.cilk_serial.specs.declared.serial_run.Next.TheVariants as next
 use Rattle.cilk_serial.specs.Ran.{Ran}
 use Rattle.cilk_serial.specs.SoFar.{RunView, Comes, IsIntact, IsSoFar, EndsNext, MakesNext, BeginsNext, begun_in, callees_of, callee_at}
 use Rattle.cilk_serial.proofs.SoFar.{is_short}
+use Rattle.cilk_ending.specs.declared.frames.Own.{Own}
 use Rattle.cilk_ending.specs.declared.frames.PlannedFrame.{PlannedFrame}
 use Rattle.cilk_ending.specs.Frames.{AreFramesIn, frame_begun, frames_from}
 use Rattle.cilk_ending.proofs.Beginning.{begun_after, frames_after, IsNext, order_at, after_append, after_grows, cells_after, cells_append, fits_at, run_in_order, run_fits}
@@ -185,6 +186,14 @@ noted_start prog inputs l laid es none frames globals cells many is more =
     (is ∙ (ap (λ (n : ℕ). record { body = body_of (source prog) Root; first_cell = n; cells = cells_in l Root } ∷ []) here
     ∙ ap (λ (n : ℕ). record { body = body_of (source prog) Root; first_cell = length (source prog).openings; cells = n } ∷ []) of_root))
     (omega (arith, more, here, of_root)))
+
+pub own_there : (f : Callee → Own) (callee : Option Callee) (found : Option Own) (o : Own) → found ≡ option_map f callee → found ≡ Some o → (d : Callee) × (callee ≡ Some d) × (o ≡ f d)
+own_there f None found o is some = absurd (let z : None ≡ Some o = sym is ∙ some in cc z)
+own_there f (Some d) found o is some = let z : Some (f d) ≡ Some o = sym is ∙ some in let same : f d ≡ o = cc z in (d, refl, sym same)
+
+pub none_there : (f : Callee → Own) (callee : Option Callee) (found : Option Own) → found ≡ option_map f callee → found ≡ None → callee ≡ None
+none_there f None found is none = refl
+none_there f (Some d) found is none = absurd (let z : Some (f d) ≡ None = sym is ∙ none in cc z)
 
 pub made_by : (v v' : RunView) (n : Next) (e : Event) → n ≡ next.Made e → Comes v n v' → MakesNext v e v'
 made_by v v' n e is comes = subst (λ (m : Next). Comes v m v') is comes

@@ -4,7 +4,7 @@ ghost use Rattle.std.specs.Prelude.{IfOk};
 ghost use Rattle.cilk_program.specs.Sources.{source};
 ghost use Rattle.cilk_ending.specs.Runs.{EndsWith};
 
-use crate::frames::{PlannedFrame, begin};
+use crate::frames::{PlannedFrame, begin, of_callee, of_next};
 use cilk_lower::lower::lower;
 use cilk_program::ask::Callee;
 use cilk_program::program::Program;
@@ -37,13 +37,18 @@ pub fn run_to_end(
     let mut serial = SerialRun::new(alloc, program, &code, input)?;
     let mut frames = Vec::new(alloc);
     let globals = program.globals.len() as u64;
-    let mut cells = begin(&mut frames, globals, program, code.layout(), &Callee::Root)?;
+    let layout = code.layout();
+    let mut cells = begin(
+        &mut frames,
+        globals,
+        of_callee(program, layout, &Callee::Root),
+    )?;
     'each: loop {
-        let callee = serial.callee();
+        let next = of_next(&serial, program, layout);
         match serial.next()? {
             Next::Made(_) => {
-                if let Some(callee) = &callee {
-                    cells = begin(&mut frames, cells, program, code.layout(), callee)?;
+                if let Some(own) = next {
+                    cells = begin(&mut frames, cells, own)?;
                 }
             }
             Next::Ended => {

@@ -1,14 +1,14 @@
 //! What the frames of a serial run run, and where their cells lie.
 
 ghost use Rattle.std.specs.Prelude.{◌≡◌, ◌+◌, ◌<◌, ◌^◌, ◌∷◌, ◌++◌, [], IfOk, OnOk};
-ghost use Rattle.cilk_lower.specs.Layout.{cells_in};
 ghost use Rattle.cilk_program.specs.Inside.{body_of};
 ghost use Rattle.cilk_program.specs.Sources.{source};
-ghost use Rattle.cilk_ending.specs.Frames.{FramesStandAtTheirNumbers};
+ghost use Rattle.cilk_ending.specs.Frames.{BeginsOwn, FramesStandAtTheirNumbers, own_of};
 
 use cilk_lower::layout::Layout;
 use cilk_program::ask::Callee;
 use cilk_program::program::{Body, Program};
+use cilk_serial::serial_run::SerialRun;
 use cilk_types::event::Cell;
 use std::alloc::AllocError;
 
@@ -20,25 +20,45 @@ pub struct PlannedFrame {
     pub cells: u32,
 }
 
-/// One frame more, which runs this, where so many cells are there. Gives how many there are then.
-pub(crate) fn begin(
-    frames: &mut Vec<PlannedFrame>,
-    cells: u64,
-    program: &Program,
-    layout: &Layout,
-    callee: &Callee,
-) -> Result<u64, AllocError>
-    requires { cells < 2 ^ 32 }
-    ensures frame { OnOk result (frames.new.items ≡ frames.old.items ++ record { body = body_of (source program.now) callee.now; first_cell = cells; cells = cells_in layout.now callee.now } ∷ []) }
-    ensures cells { IfOk result (λ more. more ≡ cells + cells_in layout.now callee.now) }
+/// What a frame runs, and how many cells it has.
+#[derive(Clone, Copy)]
+pub(crate) struct Own {
+    pub body: Body,
+    pub cells: u32,
+}
+
+/// What the frame of a callee runs, and how many cells it has.
+pub(crate) fn of_callee(program: &Program, layout: &Layout, callee: &Callee) -> Own
+    ensures { result ≡ own_of (source program.now) layout.now callee.now }
 {
-    let own = layout.cells(callee);
-    frames.push(PlannedFrame {
+    Own {
         body: body(program, callee),
+        cells: layout.cells(callee),
+    }
+}
+
+/// The same of the frame that the run's next event begins, if it begins one: to be asked before the event is made.
+pub(crate) fn of_next(serial: &SerialRun, program: &Program, layout: &Layout) -> Option<Own>
+    ensures { BeginsOwn (source program.now) layout.now serial.now result }
+{
+    match serial.callee() {
+        Some(callee) => Some(of_callee(program, layout, &callee)),
+        None => None,
+    }
+}
+
+/// One frame more, where so many cells are there. Gives how many there are then.
+pub(crate) fn begin(frames: &mut Vec<PlannedFrame>, cells: u64, own: Own) -> Result<u64, AllocError>
+    requires { cells < 2 ^ 32 }
+    ensures frame { OnOk result (frames.new.items ≡ frames.old.items ++ record { body = own.body; first_cell = cells; cells = own.cells } ∷ []) }
+    ensures cells { IfOk result (λ more. more ≡ cells + own.cells) }
+{
+    frames.push(PlannedFrame {
+        body: own.body,
         first_cell: cells as Cell,
-        cells: own,
+        cells: own.cells,
     })?;
-    Ok(cells + u64::from(own))
+    Ok(cells + u64::from(own.cells))
 }
 
 fn body(program: &Program, callee: &Callee) -> Body
