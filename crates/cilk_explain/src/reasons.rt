@@ -3,7 +3,9 @@
 use crate::faults::{
     input_text, loop_rule, name_kind, name_known, run_limit, run_operation, text_limit, text_token,
 };
-use crate::refusals::{certificate_event, certificate_frame, certificate_line, certified_run};
+use crate::refusals::{
+    certificate_event, certificate_frame, certificate_line, certified_run, parallel_run,
+};
 
 /// What provokes a number.
 #[derive(Clone, Copy, Debug)]
@@ -35,9 +37,9 @@ pub struct Reason {
 }
 
 /// All numbers.
-pub const NUMBERS: [u16; 35] = [
+pub const NUMBERS: [u16; 36] = [
     101, 102, 103, 104, 105, 106, 111, 112, 113, 114, 115, 116, 117, 118, 119, 121, 122, 201, 202,
-    203, 204, 205, 206, 301, 302, 303, 304, 305, 306, 307, 308, 309, 310, 311, 312,
+    203, 204, 205, 206, 301, 302, 303, 304, 305, 306, 307, 308, 309, 310, 311, 312, 502,
 ];
 
 /// What a number means, if it is one of the tool's. (Functions, and no table: the loader of a program would have to move each text of one.)
@@ -54,6 +56,7 @@ pub fn reason_of(number: u16) -> Option<Reason> {
         301..=303 => certificate_line(number),
         304..=306 => certificate_frame(number),
         307..=309 => certificate_event(number),
-        _ => certified_run(number),
+        310..=312 => certified_run(number),
+        _ => parallel_run(number),
     }
 }

@@ -107,6 +107,24 @@ pub fn certificate_event(number: u16) -> Option<Reason> {
     Some(reason)
 }
 
+/// What an accepted run can have on another input.
+pub fn parallel_run(number: u16) -> Option<Reason> {
+    match number {
+        502 => Some(Reason {
+            number,
+            title: "an input that leaves the plan of the certified run",
+            meaning: "`threads` runs a program by the plan of its certified run; on the numbers of `--on FILE` the program comes to another event at this position, or to a fault.",
+            line: "refused 502 46",
+            example: Example::Words(
+                "`int a[4];int main(){cilk_for(int i=0;i<4;i++){a[i]=input(i)*input(i);}return a[0]+a[3];}` with the certificate of its run on `1 2 3 4`, by `threads` on `5 6 7`",
+            ),
+            place: "the position of the certified run at which the run on the other numbers departs from it",
+            cure: "Certify the program on those numbers, and run it by that certificate.",
+        }),
+        _ => None,
+    }
+}
+
 /// What the run can have that it lists.
 pub fn certified_run(number: u16) -> Option<Reason> {
     let reason = match number {

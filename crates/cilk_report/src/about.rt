@@ -34,7 +34,7 @@ fn explained(alloc: Global, word: &str) -> Result<About, AllocError> {
         }
     }
     let wrong = format!(in alloc;
-        "error: nothing is refused by `{word}`: the numbers are 101 to 106, 111 to 119, 121, 122, 201 to 206 and 301 to 312\n"
+        "error: nothing is refused by `{word}`: the numbers are 101 to 106, 111 to 119, 121, 122, 201 to 206, 301 to 312 and 502\n"
     )?;
     Ok(About::Wrong(wrong))
 }

@@ -14,6 +14,9 @@ Commands:
   certify PROGRAM             write the certificate of that run: its events, frames and strands
   check PROGRAM CERTIFICATE   accept the certificate only where it is right and nothing races: then every parallel
                               run that ends leaves what the serial one leaves; else say which race there is
+  threads PROGRAM CERTIFICATE
+                              check as `check` does, and where the certificate is accepted run the program by work
+                              stealing on real threads: what it leaves is what the serial run leaves
   play PROGRAM SCRIPT         run the program in parallel, step by step, as a script tells its workers
   measure PROGRAM             run the program, and show in place of what it leaves what that takes: events, ticks, frames,
                               strands, work, span and parallelism; and by function and loop
@@ -26,17 +29,21 @@ Arguments:
   CERTIFICATE     a file that `certify` wrote, of at most 268,435,456 bytes
   SCRIPT          a file with a script, of at most 1,048,576 bytes (docs/SCRIPTS.md)
 
-Options of run, certify, check, play and measure:
+Options of run, certify, check, threads, play and measure:
   --input FILE    the numbers that `input(k)` gives: at most 65,536, with blanks between; without it there are none
-  --explain       behind a refusal, on standard error: its line and column, the reason, and what to write instead
+  --explain       behind a refusal, on standard error: its line and column, the reason, and what to write instead;
+                  not with threads, whose refusals `explain` and `check --explain` describe
 
 Options of measure, which all write to standard output:
   --csv           the table with commas
   --svg           in place of the table a picture: how many events could be made at each step, with workers enough
   --dot           in place of the table the tree of a small run, for Graphviz's `dot`
 
-Option of play:
+Option of play and threads:
   --workers N     how many workers there are, 1 to 64; 2 where nothing is said
+
+Option of threads:
+  --on FILE       the numbers that the parallel run is given, where they aren't those of the certified run
 
 Status:
   0 done    2 the words, a file or a text is wrong, or a write failed    3 the run stops by a fault
@@ -69,6 +76,6 @@ pub fn advice(alloc: Global, words: &[&str]) -> Result<String, AllocError> {
 fn is_command(word: &str) -> bool {
     matches!(
         word,
-        "run" | "certify" | "check" | "play" | "measure" | "explain"
+        "run" | "certify" | "check" | "threads" | "play" | "measure" | "explain"
     )
 }

@@ -294,7 +294,7 @@ fn lines_of_other_texts_are_named(rt: HostRuntime) {
         Err(_) => panic!(&rt; "no memory"),
     }
     match of_all(rt.alloc()) {
-        Ok(report) => assert!(&rt; report.as_str().lines().count() == 35),
+        Ok(report) => assert!(&rt; report.as_str().lines().count() == 36),
         Err(_) => panic!(&rt; "no memory"),
     }
 }
@@ -302,9 +302,9 @@ fn lines_of_other_texts_are_named(rt: HostRuntime) {
 #[test]
 fn each_number_has_a_reason(rt: HostRuntime) {
     let alloc = rt.alloc();
-    let numbers: [u16; 35] = [
+    let numbers: [u16; 36] = [
         101, 102, 103, 104, 105, 106, 111, 112, 113, 114, 115, 116, 117, 118, 119, 121, 122, 201,
-        202, 203, 204, 205, 206, 301, 302, 303, 304, 305, 306, 307, 308, 309, 310, 311, 312,
+        202, 203, 204, 205, 206, 301, 302, 303, 304, 305, 306, 307, 308, 309, 310, 311, 312, 502,
     ];
     for number in numbers {
         match of_number(alloc, number) {
@@ -313,7 +313,9 @@ fn each_number_has_a_reason(rt: HostRuntime) {
             Err(_) => panic!(rt; "no memory"),
         }
     }
-    for number in [0, 100, 107, 110, 120, 200, 207, 300, 313, 401, 65535] {
+    for number in [
+        0, 100, 107, 110, 120, 200, 207, 300, 313, 401, 501, 503, 65535,
+    ] {
         assert!(rt; matches!(of_number(alloc, number), Ok(None)));
     }
 }
