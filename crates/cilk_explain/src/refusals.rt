@@ -109,8 +109,8 @@ pub fn certificate_event(number: u16) -> Option<Reason> {
 
 /// What an accepted run can have on another input.
 pub fn parallel_run(number: u16) -> Option<Reason> {
-    match number {
-        502 => Some(Reason {
+    let reason = match number {
+        502 => Reason {
             number,
             title: "an input that leaves the plan of the certified run",
             meaning: "`threads` runs a program by the plan of its certified run; on the numbers of `--on FILE` the program comes to another event at this position, or to a fault.",
@@ -120,9 +120,10 @@ pub fn parallel_run(number: u16) -> Option<Reason> {
             ),
             place: "the position of the certified run at which the run on the other numbers departs from it",
             cure: "Certify the program on those numbers, and run it by that certificate.",
-        }),
-        _ => None,
-    }
+        },
+        _ => return None,
+    };
+    Some(reason)
 }
 
 /// What the run can have that it lists.
