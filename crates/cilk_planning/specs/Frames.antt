@@ -1,5 +1,5 @@
 -- The frames of an accepted run by their numbers.
-use Rattle.std.specs.Prelude.{◌≡◌, ℕ, zero, suc, List, Option, None, slice_get}
+use Rattle.std.specs.Prelude.{◌≡◌, ℕ, zero, suc, ◌+◌, List, [], ◌∷◌, Option, None, slice_get}
 use Rattle.cilk_program.specs.Outcomes.{Leaves}
 use Rattle.cilk_program.specs.SerialRun.{Transcript, IsSerialRun}
 use Rattle.cilk_program.specs.Sources.{source}
@@ -16,3 +16,8 @@ frame_numbered frames (suc n) = slice_get frames n
 abbrev pub IsFrameOf : AcceptedRun → ℕ → Option PlannedFrame → Type 0
 IsFrameOf a number frame =
     (run : Transcript) → IsSerialRun (source a.program) a.input run a.trace (Leaves a.outcome) → frame ≡ frame_numbered (frames_of (source a.program) run) number
+
+-- where the cells of frames end that begin one after the other: behind those of the last one
+abbrev pub end_from : ℕ → List PlannedFrame → ℕ
+end_from n [] = n
+end_from n (f ∷ fs) = end_from (f.first_cell + f.cells) fs
