@@ -19,8 +19,8 @@ load-value-requires-clause-next c =
     in_yard (λ s. (p.from < p.upto × IsAsked s p.upto) × (c.args.cell < length s.opening) × ((v : _) × (event s p.upto ≡ Some (Read c.args.cell v)))) c.args.shared.now _ c.yard.ensures
     ((works.good.1, due.asked), c.laws.ensures.cells p.upto c.args.cell (inl due.kind_is), here c.args.shared.now c.args.work (kinds.Read c.args.cell) due c.requires.more c.laws.ensures.same)
 
-pub answered-chain-requires-clause-answer : goal.answered-chain-requires-clause-answer
-answered-chain-requires-clause-answer c =
+pub answer-requires-clause-answer : goal.answer-requires-clause-answer
+answer-requires-clause-answer c =
     let p = c.args.work.piece in
     let k = c.args.work.chain in
     subst (λ v. IsAnswered k.of.yard.story k.at (Value v)) (sym (to_z-of_z w64 c.load-value.result (record { sfits = c.load-value.type_inv })))

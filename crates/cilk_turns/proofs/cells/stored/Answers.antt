@@ -35,5 +35,5 @@ store-requires-clause-next c =
           ∙ ap (λ v. Some (Write c.args.cell v)) (sym (to_z-of_z w64 n (record { sfits = c.number_asked-number.type_inv }))),
     )
 
-pub answered-chain-requires-clause-answer : goal.answered-chain-requires-clause-answer
-answered-chain-requires-clause-answer c = answered_done c.args.shared.now c.args.work (kinds.Write c.args.cell) c.requires.due c.requires.more c.laws.ensures.same tt
+pub answer-requires-clause-answer : goal.answer-requires-clause-answer
+answer-requires-clause-answer c = answered_done c.args.shared.now c.args.work (kinds.Write c.args.cell) c.requires.due c.requires.more c.laws.ensures.same tt

@@ -17,8 +17,8 @@ end-requires-clause-next c =
     (can_pass y p works.good c.laws.ensures.order due.asked c.requires.more (what_end (story_in y) p.upto is c.requires.more) (no_sync (event (story_in y) p.upto) kinds.End is (λ q. cc q)))
     (here y c.args.work kinds.End due c.requires.more c.laws.ensures.same).1
 
-pub ended-requires-clause-end : goal.ended-requires-clause-end
-ended-requires-clause-end c =
+pub end-requires-clause-end : goal.end-requires-clause-end
+end-requires-clause-end c =
     let y = c.args.shared.now in
     let due = c.requires.due in
     chain_follows y c.args.work kinds.End due c.requires.more c.laws.ensures.same End (here y c.args.work kinds.End due c.requires.more c.laws.ensures.same).1

@@ -21,6 +21,6 @@ pass-requires-clause-quiet c =
     quiet p.reducers (frame_in p.story.events p.upto) (event p.story p.upto) k
     (of_story (λ s. kind_of_event (event s p.upto) ≡ Some k) c.args.shared.now.run p works.good.0 due.kind_is) (silent_quiet k c.requires.due.2)
 
-pub answered-chain-requires-clause-answer : goal.answered-chain-requires-clause-answer
-answered-chain-requires-clause-answer c =
+pub answer-requires-clause-answer : goal.answer-requires-clause-answer
+answer-requires-clause-answer c =
     answered_done c.args.shared.now c.args.work c.requires.due.0 c.requires.due.1 c.requires.more c.laws.ensures.same (silent_done c.requires.due.0 c.requires.due.2)

@@ -25,5 +25,5 @@ pass-requires-clause-quiet c =
     quiet p.reducers (frame_in p.story.events p.upto) (event p.story p.upto) Sync
     (of_story (λ s. kind_of_event (event s p.upto) ≡ Some Sync) c.args.shared.now.run p works.good.0 due.kind_is) tt
 
-pub answered-chain-requires-clause-answer : goal.answered-chain-requires-clause-answer
-answered-chain-requires-clause-answer c = answered_done c.args.shared.now c.args.work Sync c.requires.due c.requires.more c.course.ensures.yard tt
+pub answer-requires-clause-answer : goal.answer-requires-clause-answer
+answer-requires-clause-answer c = answered_done c.args.shared.now c.args.work Sync c.requires.due c.requires.more c.course.ensures.yard tt

@@ -34,5 +34,5 @@ number_asked-number-requires-clause-number c =
     let p = c.args.work.piece in
     on_chain (λ s at. HasNumber (event s at)) c.args.shared.now c.args.work due.works c.laws.ensures.same (has_number (event (story_in c.args.shared.now) p.upto) (kinds.Update c.args.instance) due.kind_is tt)
 
-pub answered-chain-requires-clause-answer : goal.answered-chain-requires-clause-answer
-answered-chain-requires-clause-answer c = answered_done c.args.shared.now c.args.work (kinds.Update c.args.instance) c.requires.due c.requires.more c.laws.ensures.same tt
+pub answer-requires-clause-answer : goal.answer-requires-clause-answer
+answer-requires-clause-answer c = answered_done c.args.shared.now c.args.work (kinds.Update c.args.instance) c.requires.due c.requires.more c.laws.ensures.same tt

@@ -44,8 +44,8 @@ value-requires-clause-next c =
     let e = here y c.args.work k due c.requires.more c.laws.ensures.same in
     (e.0, passes y p (events.Value c.args.instance e.0) works.good (can_pass y p works.good c.laws.ensures.order due.asked c.requires.more (what_plain (story_in y) p.upto k is tt) (no_sync (event (story_in y) p.upto) k is (λ q. cc q))) e.1)
 
-pub answered-chain-requires-clause-answer : goal.answered-chain-requires-clause-answer
-answered-chain-requires-clause-answer c =
+pub answer-requires-clause-answer : goal.answer-requires-clause-answer
+answer-requires-clause-answer c =
     let y = c.args.shared.now in
     let p = c.args.work.piece in
     let due = c.requires.due in

@@ -28,8 +28,8 @@ frame_begun-frame-requires-clause-start c =
     let due = c.requires.due.1 in
     subst (λ (n : ℕ). IsStart (event (story_in y) n)) (sym c.upto-at.ensures) (starts (event (story_in y) p.upto) (kinds.Spawn c.requires.due.0) due.kind_is tt)
 
-pub spawned-requires-clause-spawns : goal.spawned-requires-clause-spawns
-spawned-requires-clause-spawns c =
+pub spawn-requires-clause-spawns : goal.spawn-requires-clause-spawns
+spawn-requires-clause-spawns c =
     let y = c.args.shared.now in
     let p = c.args.work.piece in
     let f = c.requires.due.0 in
@@ -55,5 +55,5 @@ new-requires c =
     let due = c.requires.due.1 in
     let works = due.works in
     let there = subst (λ (z : YardValue). what z.story c.in-Some.next ≡ resume c.upto-at.result) c.yard.ensures ((c.resumption.ensures c.in-Some.next).0 c.in-Some.is) in
-    on_standing (λ s at. what s at ≡ resume c.offer-ticket.result) y c.in-Ok.rest c.in-Some.next (c.in-Ok.ensures.1 ∙ ap (λ (k : ChainValue). standing k.of c.in-Some.next) works.stands) c.laws.ensures.same
+    on_standing (λ s at. what s at ≡ resume c.offer-ticket.result) y c.in-Ok.rest c.in-Some.next (c.in-Ok.ensures.parent ∙ ap (λ (k : ChainValue). standing k.of c.in-Some.next) works.stands) c.laws.ensures.same
     (subst (λ (n : ℕ). what (story_in y) c.in-Some.next ≡ resume n) (c.upto-at.ensures ∙ sym c.offer-ticket.ensures.ticket) there)
