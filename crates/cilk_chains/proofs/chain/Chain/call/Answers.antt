@@ -16,14 +16,15 @@ begun-requires c =
     let same = ap (λ (v : ChainValue). v.of) c.self.view_is ∙ sym c.requires.course in
     along.call_begins c.self.inside.of.value c.args.course.now same c.self.inside.at c.self.inside.asked c.self.inside.top c.self.inside.below.items c.self.invariant (along.of_chain Calls c.self.inside.of.value c.self.inside.at _ c.self.view_is c.requires.calls)
 
-pub invariant_of-self-2 : goal.invariant_of-self-2
-invariant_of-self-2 c = subst (λ (xs : List Level). Stand c.self.inside.of.value c.self.inside.at c.self.inside.asked c.self.inside.top xs) (sym c.reserve.ensures.items) c.self.invariant
+pub invariant_of-self-in_err-child : goal.invariant_of-self-in_err-child
+invariant_of-self-in_err-child c = subst (λ (xs : List Level). Stand c.self.inside.of.value c.self.inside.at c.self.inside.asked c.self.inside.top xs) (sym c.reserve.ensures.items) c.self.invariant
 
-pub invariant_of-self-3 : goal.invariant_of-self-3
-invariant_of-self-3 c =
+pub invariant_of-self-2 : goal.invariant_of-self-2
+invariant_of-self-2 c =
     let same = ap (λ (v : ChainValue). v.of) c.self.view_is ∙ sym c.requires.course in
-    let items = c.push_reserved.ensures.items ∙ ap (λ (xs : List Level). xs ++ c.self.inside.top ∷ []) c.reserve.ensures.items in
-    subst (λ (k : Ask). Stand c.self.inside.of.value (c.self.inside.at + 1) k c.in_ok-child.child c.push_reserved.new.self.items) (sym c.put.ensures)
+    let items = c.push_reserved.ensures.items ∙ ap (λ (xs : List Level). xs ++ c.replace.result ∷ []) c.reserve.ensures.items ∙ ap (λ (l : Level). c.self.inside.below.items ++ l ∷ []) c.replace.ensures.value in
+    subst (λ (l : Level). Stand c.self.inside.of.value (c.self.inside.at + 1) c.put.new.self l c.push_reserved.new.self.items) (sym c.replace.ensures.after)
+    (subst (λ (k : Ask). Stand c.self.inside.of.value (c.self.inside.at + 1) k c.in_ok-child.child c.push_reserved.new.self.items) (sym c.put.ensures)
     (subst (λ (xs : List Level). Stand c.self.inside.of.value (c.self.inside.at + 1) Begin c.in_ok-child.child xs) (sym items)
     (along.called c.self.inside.of.value c.args.course.now same c.self.inside.at c.self.inside.asked c.self.inside.top c.self.inside.below.items c.self.invariant c.in_ok-child.child (along.of_chain Calls c.self.inside.of.value c.self.inside.at _ c.self.view_is c.requires.calls)
     (record {
@@ -37,4 +38,4 @@ invariant_of-self-3 c =
       owes = c.in_ok-child.ensures.owes;
       took = c.in_ok-child.ensures.took;
       sight = c.in_ok-child.ensures.sight;
-    })))
+    }))))
