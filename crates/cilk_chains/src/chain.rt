@@ -1,6 +1,6 @@
 //! Frames that go on at a position of a run.
 
-ghost use Rattle.std.specs.Prelude.{◌≡◌, ◌≢◌, ◌+◌, ◌<◌, length, IfOk, MatchOption, MatchResult};
+ghost use Rattle.std.specs.Prelude.{◌≡◌, ◌≢◌, ◌+◌, ◌<◌, length, false, IfOk, IsTrue, OnErr, OnOk};
 ghost use Rattle.cilk_types.specs.declared.event.Event.TheVariants.{End};
 ghost use Rattle.cilk_story.specs.Word.{resume, what};
 ghost use Rattle.cilk_chains.specs.Chains.{standing, task_of};
@@ -14,11 +14,13 @@ use crate::sight::{cell_asked, look_at_cell};
 use crate::sort::{asked_sort, kind_sort};
 use crate::word::word_asked;
 use cilk_frames::asked::AskSlot;
+use cilk_frames::brief::Brief;
 use cilk_frames::cursor::Answer;
 use cilk_plan::kind::Kind;
 use cilk_types::event::{FrameNo, Pos};
 use std::alloc::{AllocError, Global};
 use std::marker::Model;
+use std::mem;
 use std::snapshot::Snapshot;
 
 /// A frame that has asked for an event, and its callers up to the nearest frame that was spawned.
@@ -144,140 +146,76 @@ impl Chain {
     }
 
     /// The frame goes on with the answer to its event.
-    pub fn answered(self, course: &Course, answer: Answer) -> Chain
-        requires course { course.now ≡ self.of }
-        requires answer { IsAnswered self.of.yard.story self.at answer }
-        ensures { result ≡ standing self.of (self.at + 1) }
+    pub fn answer(&mut self, course: &Course, answer: Answer)
+        requires course { course.now ≡ self.old.of }
+        requires answer { IsAnswered self.old.of.yard.story self.old.at answer }
+        ensures { self.new ≡ standing self.old.of (self.old.at + 1) }
     {
-        let Chain {
-            of,
-            at,
-            mut asked,
-            mut top,
-            below,
-        } = self;
-        top.step(course, answer, &mut asked);
-        Chain {
-            of,
-            at: at + 1,
-            asked,
-            top,
-            below,
-        }
+        self.top.step(course, answer, &mut self.asked);
+        self.at += 1;
     }
 
     /// The frame that is called begins, and its caller waits. `frame` is its number, which stands in its `begin`. Without
-    /// memory the chain comes back.
-    pub fn called(self, alloc: Global, course: &Course, frame: FrameNo) -> Result<Chain, Chain>
-        requires course { course.now ≡ self.of }
-        requires calls { Calls self.of.yard.story self.at }
-        requires begins { BeginsNext self.of.yard.story self.at frame }
-        ensures { MatchResult result (λ c. c ≡ standing self.of (self.at + 1)) (λ c. c ≡ self) }
+    /// memory nothing changes.
+    pub fn call(&mut self, alloc: Global, course: &Course, frame: FrameNo) -> Result<(), AllocError>
+        requires course { course.now ≡ self.old.of }
+        requires calls { Calls self.old.of.yard.story self.old.at }
+        requires begins { BeginsNext self.old.of.yard.story self.old.at frame }
+        ensures ok { OnOk result (self.new ≡ standing self.old.of (self.old.at + 1)) }
+        ensures err { OnErr result (self.new ≡ self.old) }
     {
-        let Chain {
-            of,
-            at,
-            asked,
-            top,
-            mut below,
-        } = self;
-        let Ok(()) = below.reserve(1) else {
-            return Err(Chain {
-                of,
-                at,
-                asked,
-                top,
-                below,
-            });
-        };
+        self.below.reserve(1)?;
         let home = course.child(frame);
-        let Ok(child) = Level::begun(alloc, course, &asked, home, &top.sight) else {
-            return Err(Chain {
-                of,
-                at,
-                asked,
-                top,
-                below,
-            });
-        };
-        below.push_reserved(top);
-        Ok(Chain {
-            of,
-            at: at + 1,
-            asked: AskSlot::new(),
-            top: child,
-            below,
-        })
+        let child = Level::begun(alloc, course, &self.asked, home, &self.top.sight)?;
+        self.below.push_reserved(mem::replace(&mut self.top, child));
+        self.asked.put(Brief::Begin);
+        self.at += 1;
+        Ok(())
     }
 
     /// The frame that is spawned begins, alone, and its parent with its callers rests until it goes on at `next`.
-    /// `frame` is the child's number, which stands in its `begin`. Without memory the chain comes back.
-    pub fn spawned(
-        self,
+    /// `frame` is the child's number, which stands in its `begin`. Without memory nothing changes.
+    pub fn spawn(
+        &mut self,
         alloc: Global,
         course: &Course,
         frame: FrameNo,
         next: Pos,
-    ) -> Result<(Chain, Rest), Chain>
-        requires course { course.now ≡ self.of }
-        requires spawns { Spawns self.of.yard.story self.at next }
-        requires begins { BeginsNext self.of.yard.story self.at frame }
-        ensures { MatchResult result (λ r. (r.0 ≡ standing self.of (self.at + 1)) × (r.1 ≡ standing self.of next))
-            (λ c. c ≡ self) }
+    ) -> Result<Rest, AllocError>
+        requires course { course.now ≡ self.old.of }
+        requires spawns { Spawns self.old.of.yard.story self.old.at next }
+        requires begins { BeginsNext self.old.of.yard.story self.old.at frame }
+        ensures child { OnOk result (self.new ≡ standing self.old.of (self.old.at + 1)) }
+        ensures parent { IfOk result (λ rest. rest ≡ standing self.old.of next) }
+        ensures err { OnErr result (self.new ≡ self.old) }
     {
-        let Chain {
-            of,
-            at,
-            asked,
-            top,
-            below,
-        } = self;
         let home = course.child(frame);
-        let Ok(child) = Level::begun(alloc, course, &asked, home, &top.sight) else {
-            return Err(Chain {
-                of,
-                at,
-                asked,
-                top,
-                below,
-            });
-        };
-        let first = Chain {
-            of: Snapshot::of(course),
-            at: at + 1,
-            asked: AskSlot::new(),
-            top: child,
-            below: Vec::new(alloc),
-        };
+        let child = Level::begun(alloc, course, &self.asked, home, &self.top.sight)?;
         let rest = Rest {
-            of,
+            of: Snapshot::of(course),
             at: next,
-            top,
-            below,
+            top: mem::replace(&mut self.top, child),
+            below: mem::replace(&mut self.below, Vec::new(alloc)),
         };
-        Ok((first, rest))
+        self.asked.put(Brief::Begin);
+        self.at += 1;
+        Ok(rest)
     }
 
-    /// The frame ends, and its caller has yet to go on. There is none where it was spawned, or is the root's.
-    pub fn ended(self, course: &Course) -> Option<Rest>
-        requires course { course.now ≡ self.of }
-        requires end { Follows self.of.yard.story self.at End }
-        ensures { MatchOption result (IsTheOutermost self.of self.at) (λ r. r ≡ standing self.of (self.at + 1)) }
+    /// The frame ends, and its caller goes on. False where there is none, since it was spawned, or is the root's: then nothing changes.
+    pub fn end(&mut self, course: &Course) -> bool
+        requires course { course.now ≡ self.old.of }
+        requires end { Follows self.old.of.yard.story self.old.at End }
+        ensures caller { IsTrue result → self.new ≡ standing self.old.of (self.old.at + 1) }
+        ensures outermost { result ≡ false → (self.new ≡ self.old) × IsTheOutermost self.old.of self.old.at }
     {
-        let Chain {
-            of,
-            at,
-            asked: _,
-            top: _,
-            mut below,
-        } = self;
-        let top = below.pop()?;
-        Some(Rest {
-            of,
-            at: at + 1,
-            top,
-            below,
-        })
+        let Some(caller) = self.below.pop() else {
+            return false;
+        };
+        self.top = caller;
+        self.top.step(course, Answer::Done, &mut self.asked);
+        self.at += 1;
+        true
     }
 }
 
@@ -286,7 +224,8 @@ impl Rest {
     pub fn at(&self) -> Pos
         ensures { result ≡ self.now.at }
     {
-        self.at
+        let Rest { at, .. } = self;
+        *at
     }
 
     /// The frame goes on.

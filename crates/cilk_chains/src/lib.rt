@@ -14,7 +14,7 @@
 //! match chain.ask().brief() {
 //!     Some(Brief::Read(_)) => {
 //!         let value = yard.load(&mut segment, cell);
-//!         chain = chain.answered(&course, Answer::Value(value));
+//!         chain.answer(&course, Answer::Value(value));
 //!     }
 //!     ..
 //! }

@@ -1,4 +1,4 @@
--- Events by their kinds: `same_kind_at`, `sync_there`, `sync_along`, `sync_more`. Where strands begin, in a column: `firsts_none`, `firsts_put`.
+-- Events by their kinds: `same_kind_at`, `sync_along`, `sync_more`. Where strands begin, in a column: `firsts_none`, `firsts_put`.
 use Rattle.std.proofs.Common.{◌≡◌, ◌⊎◌, inl, inr, ℕ, zero, suc, ◌+◌, ◌-◌, ◌<◌, List, [], ◌∷◌, ◌++◌, map, slice_get, slice_index_or, Option, Some, refl, sym, ap, ◌∙◌, subst, arith}
 use Rattle.std.proofs.lemmas.List.Elements.{All-push}
 use Rattle.std.specs.List.{All}
@@ -25,17 +25,12 @@ is_sync : (o : Option Event) → kind_of_event o ≡ Some kinds.Sync → o ≡ S
 is_sync (Some events.Sync) h = refl
 is_sync o h = absurd (cc h)
 
--- an event whose kind is that of a `sync` is one
-pub sync_there : (es : List Event) (n : ℕ) → slice_get (map kind_of es) n ≡ Some kinds.Sync → event_at es (n + 1) ≡ Some events.Sync
-sync_there es n h = let e : n + 1 - 1 ≡ n = omega arith in ap (slice_get es) e ∙ is_sync (slice_get es n) (kind_at es n ∙ h)
-
 pub sync_along : (es fs : List Event) → map kind_of es ≡ map kind_of fs → (p : ℕ) → event_at fs p ≡ Some events.Sync → event_at es p ≡ Some events.Sync
 sync_along es fs same p h = is_sync (event_at es p) (same_kind_at es fs same p ∙ ap kind_of_event h)
 
 -- one `sync` more
-pub sync_more : (es : List Event) (n : ℕ) (old new : List ℕ) → new ≡ old ++ (n + 1) ∷ [] → All (λ at. event_at es at ≡ Some events.Sync) old → slice_get (map kind_of es) n ≡ Some kinds.Sync
-    → All (λ at. event_at es at ≡ Some events.Sync) new
-sync_more es n old new is all h = subst (All (λ at. event_at es at ≡ Some events.Sync)) (sym is) (All-push (λ at. event_at es at ≡ Some events.Sync) old (n + 1) all (sync_there es n h))
+pub sync_more : (es : List Event) (at : ℕ) (old new : List ℕ) → new ≡ old ++ at ∷ [] → All (λ p. event_at es p ≡ Some events.Sync) old → event_at es at ≡ Some events.Sync → All (λ p. event_at es p ≡ Some events.Sync) new
+sync_more es at old new is all h = subst (All (λ p. event_at es p ≡ Some events.Sync)) (sym is) (All-push (λ p. event_at es p ≡ Some events.Sync) old at all h)
 
 -- no strand is there
 pub firsts_none : (es : List Event) (column : List ℕ) → ((p : ℕ) → slice_index_or column p 0 ≡ 0) → AreFirsts es column

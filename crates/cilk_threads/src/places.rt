@@ -5,8 +5,6 @@ ghost use Rattle.cilk_story.specs.Word.{event};
 ghost use Rattle.cilk_types.specs.declared.event.Event.TheVariants.{Sync};
 ghost use Rattle.cilk_workers.specs.Gates.{AreFirsts};
 
-use cilk_plan::kind::{Asked, Kind};
-use cilk_plan::plan::Plan;
 use cilk_planning::program_plan::ProgramPlan;
 use cilk_types::event::{Pos, StrandNo};
 use std::alloc::{AllocError, Global};
@@ -24,37 +22,46 @@ pub fn places_of(alloc: Global, plan: &ProgramPlan<'_>) -> Result<Places, AllocE
     ensures syncs { IfOk result (λ p. All (λ at. event plan.now.story at ≡ Some Sync) p.syncs.items) }
     ensures strands { IfOk result (λ p. AreFirsts plan.now.story.events p.strands.items) }
 {
-    let syncs = syncs(alloc, plan.events())?;
-    let of = blocks(alloc, plan, syncs.as_slice())?;
+    let (syncs, of) = blocks(alloc, plan)?;
     let strands = strands(alloc, plan)?;
     Ok(Places { syncs, of, strands })
 }
 
-// The positions of the plan's `sync`s, in order.
-fn syncs(alloc: Global, plan: &Plan) -> Result<Vec<Pos>, AllocError>
-    ensures { IfOk result (λ v. All (λ at. event plan.now at ≡ Some Sync) v.items) }
+// The positions of the `sync`s that end blocks with spawns; and for each position the place of its block's `sync` among them, where the
+// position is that of the `sync` or of the `resume` after a spawn, else a number past the last. A `sync` that awaits no child has no block:
+// what comes right before it is the event ahead of it, so it always passes.
+fn blocks(alloc: Global, plan: &ProgramPlan<'_>) -> Result<(Vec<Pos>, Vec<u32>), AllocError>
+    ensures { IfOk result (λ r. All (λ at. event plan.now.story at ≡ Some Sync) r.0.items) }
 {
-    let mut all = Vec::new(alloc);
-    'each: for behind in 0..plan.count() {
-        put_sync(plan, behind as Pos, &mut all)?;
+    let count = plan.events().count();
+    let mut of = Vec::with_capacity(alloc, count + 1)?;
+    of.resize(count + 1, u32::MAX)?;
+    let mut syncs = Vec::new(alloc);
+    'each: for spawn in 0..count {
+        put_block(plan, spawn as Pos, &mut syncs, &mut of)?;
     }
-    Ok(all)
+    Ok((syncs, of))
 }
 
-// The position behind so many events comes behind the others, where a `sync` stands there.
-fn put_sync(plan: &Plan, behind: Pos, all: &mut Vec<Pos>) -> Result<(), AllocError>
-    requires few { behind < 2 ^ 31 }
-    requires all { All (λ at. event plan.now at ≡ Some Sync) all.old.items }
-    ensures { OnOk result (All (λ at. event plan.now at ≡ Some Sync) all.new.items) }
+// Where a spawn stands at the position, its block is known from then on, and whose it is that goes on behind the spawn.
+fn put_block(
+    plan: &ProgramPlan<'_>,
+    spawn: Pos,
+    syncs: &mut Vec<Pos>,
+    of: &mut Vec<u32>,
+) -> Result<(), AllocError>
+    requires syncs { All (λ at. event plan.now.story at ≡ Some Sync) syncs.old.items }
+    ensures { OnOk result (All (λ at. event plan.now.story at ≡ Some Sync) syncs.new.items) }
 {
-    let Asked::Next {
-        kind: Kind::Sync,
-        ..
-    } = plan.next(behind)
-    else {
+    let Some(continuation) = plan.continuation(spawn) else {
         return Ok(());
     };
-    all.push(behind + 1)?;
+    if block_of(of, continuation.sync) == u32::MAX {
+        put(of, continuation.sync as usize, syncs.len() as u32);
+        syncs.push(continuation.sync)?;
+    }
+    let block = block_of(of, continuation.sync);
+    put(of, continuation.resume as usize, block);
     Ok(())
 }
 
@@ -100,25 +107,6 @@ fn put_strand(plan: &ProgramPlan<'_>, strand: StrandNo, column: &mut Vec<StrandN
         return;
     };
     put(column, at as usize, strand);
-}
-
-// For each position the place of its block's `sync` among the `sync`s; where it has no block, a number past the last.
-fn blocks(alloc: Global, plan: &ProgramPlan<'_>, syncs: &[Pos]) -> Result<Vec<u32>, AllocError> {
-    let count = plan.events().count();
-    let mut of = Vec::with_capacity(alloc, count + 1)?;
-    of.resize(count + 1, u32::MAX)?;
-    let mut block: u32 = 0;
-    for sync in syncs {
-        put(&mut of, *sync as usize, block);
-        block = block.saturating_add(1);
-    }
-    for spawn in 0..count {
-        if let Some(continuation) = plan.continuation(spawn as Pos) {
-            let block = block_of(&of, continuation.sync);
-            put(&mut of, continuation.resume as usize, block);
-        }
-    }
-    Ok(of)
 }
 
 // The number at a position, or one past all blocks.

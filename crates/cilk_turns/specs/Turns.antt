@@ -35,15 +35,16 @@ pub record HasEnded (y : SharedValue) (p : PieceValue) (value : ℤ) : Type 0 wh
   pub followed : let s = story_in y in IsFollowed s (length s.events)
   pub result : IsResult y value
 
--- A turn of a piece that begins at `from`, which stays: the worker goes on, or has an end; a departure is a true one.
-abbrev pub Turned : SharedValue → ℕ → Turn → Type 0
-Turned y from (Goes w) = Works y w × (let p = w.piece in p.from ≡ from)
-Turned y from (Offers w t) = Works y w × (let p = w.piece in p.from ≡ from) × (t.of ≡ y.course)
-Turned y from (Arrives w) = Works y w × (let p = w.piece in p.from ≡ from)
-Turned y from (Ended p) = IsGood y.run p × (p.from ≡ from)
-Turned y from (Finished p value) = HasEnded y p value × (p.from ≡ from)
-Turned y from (Departed p) = Departs (story_in y) p
-Turned y from Stopped = Unit {0}
+-- What a turn of a piece that begins at `from`, which stays, leads to with what is in the hands then: the worker goes on, or has an end; a
+-- departure is a true one.
+abbrev pub Turned : SharedValue → ℕ → Work → Turn → Type 0
+Turned y from w Goes = Works y w × (let p = w.piece in p.from ≡ from)
+Turned y from w (Offers t) = Works y w × (let p = w.piece in p.from ≡ from) × (t.of ≡ y.course)
+Turned y from w Arrives = Works y w × (let p = w.piece in p.from ≡ from)
+Turned y from w Ended = (let p = w.piece in IsGood y.run p × (p.from ≡ from))
+Turned y from w (Finished value) = (let p = w.piece in HasEnded y p value × (p.from ≡ from))
+Turned y from w (Departed at) = Departs (story_in y) at
+Turned y from w Stopped = Unit {0}
 
 -- The piece's next event is of this kind, and its frame asks for it.
 pub record IsDue (y : SharedValue) (w : Work) (kind : Kind) : Type 0 where

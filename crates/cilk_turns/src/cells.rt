@@ -10,28 +10,26 @@ use cilk_frames::cursor::Answer;
 use cilk_types::event::Cell;
 
 /// A cell is read.
-pub(crate) fn loaded(shared: &Shared<'_>, work: Work, cell: Cell) -> Turn
-    requires due { IsDue shared.now work (kinds.Read cell) }
-    requires more { HasMore shared.now work }
-    ensures { Turned shared.now work.piece.from result }
+pub(crate) fn loaded(shared: &Shared<'_>, work: &mut Work, cell: Cell) -> Turn
+    requires due { IsDue shared.now work.old (kinds.Read cell) }
+    requires more { HasMore shared.now work.old }
+    ensures { Turned shared.now work.old.piece.from work.new result }
 {
-    let Work { mut piece, chain } = work;
     shared.laws();
-    let value = piece.load(shared.yard(), cell);
-    let chain = chain.answered(shared.course(), Answer::Value(value));
-    Turn::Goes(Work { piece, chain })
+    let value = work.piece.load(shared.yard(), cell);
+    work.chain.answer(shared.course(), Answer::Value(value));
+    Turn::Goes
 }
 
 /// A cell is written.
-pub(crate) fn stored(shared: &Shared<'_>, work: Work, cell: Cell) -> Turn
-    requires due { IsDue shared.now work (kinds.Write cell) }
-    requires more { HasMore shared.now work }
-    ensures { Turned shared.now work.piece.from result }
+pub(crate) fn stored(shared: &Shared<'_>, work: &mut Work, cell: Cell) -> Turn
+    requires due { IsDue shared.now work.old (kinds.Write cell) }
+    requires more { HasMore shared.now work.old }
+    ensures { Turned shared.now work.old.piece.from work.new result }
 {
-    let Work { mut piece, chain } = work;
     shared.laws();
-    let number = number_asked(&chain);
-    piece.store(shared.yard(), cell, number);
-    let chain = chain.answered(shared.course(), Answer::Done);
-    Turn::Goes(Work { piece, chain })
+    let number = number_asked(&work.chain);
+    work.piece.store(shared.yard(), cell, number);
+    work.chain.answer(shared.course(), Answer::Done);
+    Turn::Goes
 }

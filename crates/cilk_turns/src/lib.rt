@@ -8,12 +8,12 @@
 //! ```text
 //! let shared = Shared::new(&yard, &plan, &reducers, &course);
 //! let mut work = first(alloc, &shared, piece)?;
-//! match act(alloc, &shared, work) {
-//!     Turn::Goes(work) => ..,                          // the next event is made
-//!     Turn::Offers(work, task) => ..,                  // a spawn: the worker goes on with the child, and others may take the task
-//!     Turn::Arrives(work) => ..,                       // a sync whose block isn't whole: the piece waits for the others
-//!     Turn::Ended(piece) => ..,                        // a child's end, behind which another goes on
-//!     Turn::Finished(piece, value) => ..,              // the root's end, with the run's result
+//! match act(alloc, &shared, &mut work) {
+//!     Turn::Goes => ..,                                // the next event is made
+//!     Turn::Offers(task) => ..,                        // a spawn: the worker goes on with the child, and others may take the task
+//!     Turn::Arrives => ..,                             // a sync whose block isn't whole: the piece waits for the others
+//!     Turn::Ended => ..,                               // a child's end, behind which another goes on
+//!     Turn::Finished(value) => ..,                     // the root's end, with the run's result
 //!     Turn::Departed(at) => ..,                        // the frame asks for another event than the plan has at that position
 //!     Turn::Stopped => ..,                             // no memory
 //! }

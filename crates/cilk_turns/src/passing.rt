@@ -18,84 +18,77 @@ use cilk_shared::taken::Taken;
 use cilk_types::event::{FrameNo, Pos};
 
 /// A `begin`, or the `resume` after a call.
-pub(crate) fn passed(shared: &Shared<'_>, work: Work) -> Turn
-    requires due { (kind : Kind) × IsDue shared.now work kind × IsSilent kind }
-    requires more { HasMore shared.now work }
-    requires plain { what (story_in shared.now) work.piece.upto ≡ plain }
-    requires ordinary { event (story_in shared.now) work.piece.upto ≡ Some Sync → ⊥ }
-    ensures { Turned shared.now work.piece.from result }
+pub(crate) fn passed(shared: &Shared<'_>, work: &mut Work) -> Turn
+    requires due { (kind : Kind) × IsDue shared.now work.old kind × IsSilent kind }
+    requires more { HasMore shared.now work.old }
+    requires plain { what (story_in shared.now) work.old.piece.upto ≡ plain }
+    requires ordinary { event (story_in shared.now) work.old.piece.upto ≡ Some Sync → ⊥ }
+    ensures { Turned shared.now work.old.piece.from work.new result }
 {
-    let Work { mut piece, chain } = work;
     shared.laws();
-    piece.pass(shared.yard());
-    let chain = chain.answered(shared.course(), Answer::Done);
-    Turn::Goes(Work { piece, chain })
+    work.piece.pass(shared.yard());
+    work.chain.answer(shared.course(), Answer::Done);
+    Turn::Goes
 }
 
 /// A `sync`.
-pub(crate) fn synced(shared: &Shared<'_>, work: Work) -> Turn
-    requires due { IsDue shared.now work kinds.Sync }
-    requires more { HasMore shared.now work }
-    ensures { Turned shared.now work.piece.from result }
+pub(crate) fn synced(shared: &Shared<'_>, work: &mut Work) -> Turn
+    requires due { IsDue shared.now work.old kinds.Sync }
+    requires more { HasMore shared.now work.old }
+    ensures { Turned shared.now work.old.piece.from work.new result }
 {
-    let Work { mut piece, chain } = work;
-    if !piece.segment().may_pass(shared.plan()) {
-        return Turn::Arrives(Work { piece, chain });
+    if !work.piece.segment().may_pass(shared.plan()) {
+        return Turn::Arrives;
     }
-    piece.pass(shared.yard());
-    let chain = chain.answered(shared.course(), Answer::Done);
-    Turn::Goes(Work { piece, chain })
+    work.piece.pass(shared.yard());
+    work.chain.answer(shared.course(), Answer::Done);
+    Turn::Goes
 }
 
 /// The `resume` after the spawn at `ticket`.
-pub(crate) fn taken(shared: &Shared<'_>, work: Work, ticket: Pos) -> Turn
-    requires due { (kind : Kind) × IsDue shared.now work kind × IsSilent kind }
-    requires more { HasMore shared.now work }
-    requires resumes { what (story_in shared.now) work.piece.upto ≡ resume ticket }
-    ensures { Turned shared.now work.piece.from result }
+pub(crate) fn taken(shared: &Shared<'_>, work: &mut Work, ticket: Pos) -> Turn
+    requires due { (kind : Kind) × IsDue shared.now work.old kind × IsSilent kind }
+    requires more { HasMore shared.now work.old }
+    requires resumes { what (story_in shared.now) work.old.piece.upto ≡ resume ticket }
+    ensures { Turned shared.now work.old.piece.from work.new result }
 {
-    let Work { mut piece, chain } = work;
     shared.laws();
-    match piece.take(shared.yard(), ticket) {
+    match work.piece.take(shared.yard(), ticket) {
         Taken::Yes => {
-            let chain = chain.answered(shared.course(), Answer::Done);
-            Turn::Goes(Work { piece, chain })
+            work.chain.answer(shared.course(), Answer::Done);
+            Turn::Goes
         }
-        Taken::No => Turn::Ended(piece),
+        Taken::No => Turn::Ended,
     }
 }
 
 /// A child's `end`.
-pub(crate) fn ended(shared: &Shared<'_>, work: Work, frame: FrameNo) -> Turn
-    requires due { IsDue shared.now work kinds.End }
-    requires more { HasMore shared.now work }
-    requires frame { IsInFrame (story_in shared.now).events work.piece.upto frame }
-    ensures { Turned shared.now work.piece.from result }
+pub(crate) fn ended(shared: &Shared<'_>, work: &mut Work, frame: FrameNo) -> Turn
+    requires due { IsDue shared.now work.old kinds.End }
+    requires more { HasMore shared.now work.old }
+    requires frame { IsInFrame (story_in shared.now).events work.old.piece.upto frame }
+    ensures { Turned shared.now work.old.piece.from work.new result }
 {
-    let Work { mut piece, chain } = work;
     shared.laws();
-    piece.end(shared.yard(), shared.reducers(), frame);
-    match chain.ended(shared.course()) {
-        Some(rest) => {
-            let chain = rest.wake(shared.course());
-            Turn::Goes(Work { piece, chain })
-        }
-        None => Turn::Ended(piece),
+    work.piece.end(shared.yard(), shared.reducers(), frame);
+    if work.chain.end(shared.course()) {
+        Turn::Goes
+    } else {
+        Turn::Ended
     }
 }
 
 /// The root's `end`.
-pub(crate) fn finished(shared: &Shared<'_>, work: Work, root: FrameNo) -> Turn
-    requires works { Works shared.now work }
-    requires asked { IsAsked (story_in shared.now) work.piece.upto }
-    requires last { work.piece.upto ≡ length (story_in shared.now).events }
-    requires root { IsInFrame (story_in shared.now).events work.piece.upto root }
-    ensures { Turned shared.now work.piece.from result }
+pub(crate) fn finished(shared: &Shared<'_>, work: &mut Work, root: FrameNo) -> Turn
+    requires works { Works shared.now work.old }
+    requires asked { IsAsked (story_in shared.now) work.old.piece.upto }
+    requires last { work.old.piece.upto ≡ length (story_in shared.now).events }
+    requires root { IsInFrame (story_in shared.now).events work.old.piece.upto root }
+    ensures { Turned shared.now work.old.piece.from work.new result }
 {
-    let Work { mut piece, chain } = work;
     shared.laws();
-    piece.segment().follows(shared.yard());
-    let value = result_asked(&chain);
-    piece.finish(shared.yard(), shared.reducers(), root);
-    Turn::Finished(piece, value)
+    work.piece.segment().follows(shared.yard());
+    let value = result_asked(&work.chain);
+    work.piece.finish(shared.yard(), shared.reducers(), root);
+    Turn::Finished(value)
 }

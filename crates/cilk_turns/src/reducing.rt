@@ -39,84 +39,97 @@ fn kind_in(reducers: &Reducers, instance: Instance) -> MonoidKind
 }
 
 /// A reducer begins.
-pub(crate) fn created(alloc: Global, shared: &Shared<'_>, work: Work, instance: Instance) -> Turn
-    requires due { IsDue shared.now work (kinds.Create instance) }
-    requires more { HasMore shared.now work }
-    ensures { Turned shared.now work.piece.from result }
+pub(crate) fn created(
+    alloc: Global,
+    shared: &Shared<'_>,
+    work: &mut Work,
+    instance: Instance,
+) -> Turn
+    requires due { IsDue shared.now work.old (kinds.Create instance) }
+    requires more { HasMore shared.now work.old }
+    ensures { Turned shared.now work.old.piece.from work.new result }
 {
-    let Work { mut piece, chain } = work;
     shared.laws();
     let kind = kind_in(shared.reducers(), instance);
-    let Ok(()) = piece.create(alloc, shared.yard(), instance, kind) else {
+    let Ok(()) = work.piece.create(alloc, shared.yard(), instance, kind) else {
         return Turn::Stopped;
     };
-    let chain = chain.answered(shared.course(), Answer::Done);
-    Turn::Goes(Work { piece, chain })
+    work.chain.answer(shared.course(), Answer::Done);
+    Turn::Goes
 }
 
 /// A reducer is updated.
-pub(crate) fn updated(alloc: Global, shared: &Shared<'_>, work: Work, instance: Instance) -> Turn
-    requires due { IsDue shared.now work (kinds.Update instance) }
-    requires more { HasMore shared.now work }
-    ensures { Turned shared.now work.piece.from result }
+pub(crate) fn updated(
+    alloc: Global,
+    shared: &Shared<'_>,
+    work: &mut Work,
+    instance: Instance,
+) -> Turn
+    requires due { IsDue shared.now work.old (kinds.Update instance) }
+    requires more { HasMore shared.now work.old }
+    ensures { Turned shared.now work.old.piece.from work.new result }
 {
-    let Work { mut piece, chain } = work;
     shared.laws();
-    let number = number_asked(&chain);
+    let number = number_asked(&work.chain);
     let kind = kind_in(shared.reducers(), instance);
-    let Ok(()) = piece.update(alloc, shared.yard(), instance, kind, number) else {
+    let Ok(()) = work
+        .piece
+        .update(alloc, shared.yard(), instance, kind, number)
+    else {
         return Turn::Stopped;
     };
-    let chain = chain.answered(shared.course(), Answer::Done);
-    Turn::Goes(Work { piece, chain })
+    work.chain.answer(shared.course(), Answer::Done);
+    Turn::Goes
 }
 
 /// A reducer is set.
-pub(crate) fn set(alloc: Global, shared: &Shared<'_>, work: Work, instance: Instance) -> Turn
-    requires due { IsDue shared.now work (kinds.Set instance) }
-    requires more { HasMore shared.now work }
-    ensures { Turned shared.now work.piece.from result }
+pub(crate) fn set(alloc: Global, shared: &Shared<'_>, work: &mut Work, instance: Instance) -> Turn
+    requires due { IsDue shared.now work.old (kinds.Set instance) }
+    requires more { HasMore shared.now work.old }
+    ensures { Turned shared.now work.old.piece.from work.new result }
 {
-    let Work { mut piece, chain } = work;
     shared.laws();
-    let number = number_asked(&chain);
+    let number = number_asked(&work.chain);
     let kind = kind_in(shared.reducers(), instance);
-    let Ok(()) = piece.set(alloc, shared.yard(), instance, kind, number) else {
+    let Ok(()) = work.piece.set(alloc, shared.yard(), instance, kind, number) else {
         return Turn::Stopped;
     };
-    let chain = chain.answered(shared.course(), Answer::Done);
-    Turn::Goes(Work { piece, chain })
+    work.chain.answer(shared.course(), Answer::Done);
+    Turn::Goes
 }
 
 /// A reducer is read: the frame is answered the number of its view.
-pub(crate) fn valued(alloc: Global, shared: &Shared<'_>, work: Work, instance: Instance) -> Turn
-    requires due { IsDue shared.now work (kinds.Value instance) }
-    requires more { HasMore shared.now work }
-    ensures { Turned shared.now work.piece.from result }
+pub(crate) fn valued(
+    alloc: Global,
+    shared: &Shared<'_>,
+    work: &mut Work,
+    instance: Instance,
+) -> Turn
+    requires due { IsDue shared.now work.old (kinds.Value instance) }
+    requires more { HasMore shared.now work.old }
+    ensures { Turned shared.now work.old.piece.from work.new result }
 {
-    let Work { mut piece, chain } = work;
     shared.laws();
-    piece.segment().follows(shared.yard());
+    work.piece.segment().follows(shared.yard());
     let kind = kind_in(shared.reducers(), instance);
-    let Ok(number) = piece.value(alloc, shared.yard(), instance, kind) else {
+    let Ok(number) = work.piece.value(alloc, shared.yard(), instance, kind) else {
         return Turn::Stopped;
     };
-    let chain = chain.answered(shared.course(), Answer::Value(number));
-    Turn::Goes(Work { piece, chain })
+    work.chain.answer(shared.course(), Answer::Value(number));
+    Turn::Goes
 }
 
 /// A number is printed.
-pub(crate) fn printed(alloc: Global, shared: &Shared<'_>, work: Work) -> Turn
-    requires due { IsDue shared.now work kinds.Print }
-    requires more { HasMore shared.now work }
-    ensures { Turned shared.now work.piece.from result }
+pub(crate) fn printed(alloc: Global, shared: &Shared<'_>, work: &mut Work) -> Turn
+    requires due { IsDue shared.now work.old kinds.Print }
+    requires more { HasMore shared.now work.old }
+    ensures { Turned shared.now work.old.piece.from work.new result }
 {
-    let Work { mut piece, chain } = work;
     shared.laws();
-    let number = number_asked(&chain);
-    let Ok(()) = piece.print(alloc, shared.yard(), number) else {
+    let number = number_asked(&work.chain);
+    let Ok(()) = work.piece.print(alloc, shared.yard(), number) else {
         return Turn::Stopped;
     };
-    let chain = chain.answered(shared.course(), Answer::Done);
-    Turn::Goes(Work { piece, chain })
+    work.chain.answer(shared.course(), Answer::Done);
+    Turn::Goes
 }

@@ -33,38 +33,36 @@ fn frame_begun(shared: &Shared<'_>, at: Pos) -> FrameNo
 }
 
 /// A child is spawned: the worker goes on with it, and the continuation is offered.
-pub(crate) fn spawned(alloc: Global, shared: &Shared<'_>, work: Work) -> Turn
-    requires due { (child : ℕ) × IsDue shared.now work (kinds.Spawn child) }
-    requires more { HasMore shared.now work }
-    ensures { Turned shared.now work.piece.from result }
+pub(crate) fn spawned(alloc: Global, shared: &Shared<'_>, work: &mut Work) -> Turn
+    requires due { (child : ℕ) × IsDue shared.now work.old (kinds.Spawn child) }
+    requires more { HasMore shared.now work.old }
+    ensures { Turned shared.now work.old.piece.from work.new result }
 {
-    let Work { mut piece, chain } = work;
-    let at = piece.upto();
+    let at = work.piece.upto();
     shared.laws();
     let Some(next) = shared.yard().resumption(at) else {
         unreachable!();
     };
     let frame = frame_begun(shared, at);
-    let Ok((chain, rest)) = chain.spawned(alloc, shared.course(), frame, next) else {
+    let Ok(rest) = work.chain.spawn(alloc, shared.course(), frame, next) else {
         return Turn::Stopped;
     };
-    let ticket = piece.offer(shared.yard());
-    Turn::Offers(Work { piece, chain }, Task::new(ticket, rest))
+    let ticket = work.piece.offer(shared.yard());
+    Turn::Offers(Task::new(ticket, rest))
 }
 
 /// A child is called.
-pub(crate) fn called(alloc: Global, shared: &Shared<'_>, work: Work) -> Turn
-    requires due { (child : ℕ) × IsDue shared.now work (kinds.Call child) }
-    requires more { HasMore shared.now work }
-    ensures { Turned shared.now work.piece.from result }
+pub(crate) fn called(alloc: Global, shared: &Shared<'_>, work: &mut Work) -> Turn
+    requires due { (child : ℕ) × IsDue shared.now work.old (kinds.Call child) }
+    requires more { HasMore shared.now work.old }
+    ensures { Turned shared.now work.old.piece.from work.new result }
 {
-    let Work { mut piece, chain } = work;
-    let at = piece.upto();
+    let at = work.piece.upto();
     shared.laws();
     let frame = frame_begun(shared, at);
-    let Ok(chain) = chain.called(alloc, shared.course(), frame) else {
+    let Ok(()) = work.chain.call(alloc, shared.course(), frame) else {
         return Turn::Stopped;
     };
-    piece.pass(shared.yard());
-    Turn::Goes(Work { piece, chain })
+    work.piece.pass(shared.yard());
+    Turn::Goes
 }

@@ -30,8 +30,8 @@ pub fn first(alloc: Global, shared: &Shared<'_>, piece: Piece) -> Result<Work, A
     ensures { IfOk result (Works shared.now) }
 {
     shared.laws();
-    let chain = Chain::root(alloc, shared.course())?;
-    let chain = chain.answered(shared.course(), Answer::Done);
+    let mut chain = Chain::root(alloc, shared.course())?;
+    chain.answer(shared.course(), Answer::Done);
     Ok(Work { piece, chain })
 }
 
@@ -41,7 +41,7 @@ fn departed(shared: &Shared<'_>, work: &Work) -> Turn
     requires works { Works shared.now work.now }
     requires within { work.now.piece.upto ≤ length (story_in shared.now).events }
     requires differs { IsAsked (story_in shared.now) work.now.piece.upto → ⊥ }
-    ensures { Turned shared.now work.now.piece.from result }
+    ensures { Turned shared.now work.now.piece.from work.now result }
 {
     if shared.resumed_by(work.piece.upto()).is_some() {
         return Turn::Stopped;
@@ -50,10 +50,10 @@ fn departed(shared: &Shared<'_>, work: &Work) -> Turn
 }
 
 // A `resume`, after a spawn or after a call.
-fn resumed(shared: &Shared<'_>, work: Work) -> Turn
-    requires due { (parent : ℕ) × IsDue shared.now work (kinds.Resume parent) }
-    requires more { HasMore shared.now work }
-    ensures { Turned shared.now work.piece.from result }
+fn resumed(shared: &Shared<'_>, work: &mut Work) -> Turn
+    requires due { (parent : ℕ) × IsDue shared.now work.old (kinds.Resume parent) }
+    requires more { HasMore shared.now work.old }
+    ensures { Turned shared.now work.old.piece.from work.new result }
 {
     match shared.resumed_by(work.piece.upto()) {
         Some(ticket) => taken(shared, work, ticket),
@@ -62,11 +62,11 @@ fn resumed(shared: &Shared<'_>, work: Work) -> Turn
 }
 
 // An event that isn't the run's last.
-fn made(alloc: Global, shared: &Shared<'_>, work: Work, frame: FrameNo, kind: Kind) -> Turn
-    requires due { IsDue shared.now work kind }
-    requires more { HasMore shared.now work }
-    requires frame { IsInFrame (story_in shared.now).events work.piece.upto frame }
-    ensures { Turned shared.now work.piece.from result }
+fn made(alloc: Global, shared: &Shared<'_>, work: &mut Work, frame: FrameNo, kind: Kind) -> Turn
+    requires due { IsDue shared.now work.old kind }
+    requires more { HasMore shared.now work.old }
+    requires frame { IsInFrame (story_in shared.now).events work.old.piece.upto frame }
+    ensures { Turned shared.now work.old.piece.from work.new result }
 {
     match kind {
         Kind::Begin { .. } => passed(shared, work),
@@ -86,9 +86,9 @@ fn made(alloc: Global, shared: &Shared<'_>, work: Work, frame: FrameNo, kind: Ki
 }
 
 /// Makes one event of the run.
-pub fn act(alloc: Global, shared: &Shared<'_>, work: Work) -> Turn
-    requires { Works shared.now work }
-    ensures { Turned shared.now work.piece.from result }
+pub fn act(alloc: Global, shared: &Shared<'_>, work: &mut Work) -> Turn
+    requires { Works shared.now work.old }
+    ensures { Turned shared.now work.old.piece.from work.new result }
 {
     let at = work.piece.upto();
     shared.laws();
@@ -99,7 +99,7 @@ pub fn act(alloc: Global, shared: &Shared<'_>, work: Work) -> Turn
     match work.chain.look(shared.course(), kind) {
         Looked::Asked if shared.is_last(at) => finished(shared, work, frame),
         Looked::Asked => made(alloc, shared, work, frame, kind),
-        Looked::Differs => departed(shared, &work),
+        Looked::Differs => departed(shared, work),
     }
 }
 
@@ -114,14 +114,14 @@ pub fn begin(shared: &Shared<'_>, mut piece: Piece, task: Task) -> Result<Work, 
     let Asked::Next { frame: _, kind } = shared.next(at) else {
         return Err(piece);
     };
-    let chain = task.rest().wake(shared.course());
+    let mut chain = task.rest().wake(shared.course());
     let Looked::Asked = chain.look(shared.course(), kind) else {
         return Err(piece);
     };
     shared.laws();
     match piece.take(shared.yard(), ticket) {
         Taken::Yes => {
-            let chain = chain.answered(shared.course(), Answer::Done);
+            chain.answer(shared.course(), Answer::Done);
             Ok(Work { piece, chain })
         }
         Taken::No => Err(piece),

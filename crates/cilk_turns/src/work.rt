@@ -11,19 +11,19 @@ pub struct Work {
     pub chain: Chain,
 }
 
-/// What a turn leads to.
+/// What a turn leads to, with the worker's piece and chain as the turn leaves them.
 #[derive(Drop)]
 pub enum Turn {
     /// The worker goes on.
-    Goes(Work),
+    Goes,
     /// The worker goes on with a child, and the continuation is offered.
-    Offers(Work, Task),
+    Offers(Task),
     /// The piece stands at a `sync`, and children of its block are elsewhere.
-    Arrives(Work),
-    /// A spawned child has ended, or another took the continuation.
-    Ended(Piece),
+    Arrives,
+    /// A spawned child has ended, or another took the continuation: the worker goes on no further with this chain.
+    Ended,
     /// The root has ended, with this result.
-    Finished(Piece, i64),
+    Finished(i64),
     /// The run departs from the plan there.
     Departed(Pos),
     /// There was no memory.

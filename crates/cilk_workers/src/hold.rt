@@ -1,10 +1,10 @@
-//! A turn of a worker that holds a piece.
+//! Turns of a worker that holds a piece.
 
-ghost use Rattle.std.specs.Prelude.{◌≡◌, IfSome};
+ghost use Rattle.std.specs.Prelude.{◌≡◌, ℕ, IfSome};
 ghost use Rattle.cilk_boxes.specs.Rows.{IsGood};
 ghost use Rattle.cilk_chains.specs.Chains.{standing};
 ghost use Rattle.cilk_racks.specs.Racks.{Of};
-ghost use Rattle.cilk_turns.specs.Turns.{Works, HasEnded};
+ghost use Rattle.cilk_turns.specs.Turns.{HasEnded, Turned, Works};
 ghost use Rattle.cilk_workers.specs.Gates.{AreFirsts};
 ghost use Rattle.cilk_workers.specs.Hands.{IsHand};
 ghost use Rattle.cilk_workers.specs.Keys.{AreKeys};
@@ -135,38 +135,36 @@ fn ended<N: Naming, R: Wait>(
     }
 }
 
-/// One turn of a worker that holds a piece and a chain.
-pub fn hold<N: Naming, R: Wait, G: Gate>(
+// What comes of a turn, but for one behind which the worker goes on with what it has. `before` is where the piece ended ahead of it.
+fn after<N: Naming, R: Wait, G: Gate>(
     rt: &R,
     alloc: Global,
     shared: &Shared<'_>,
     blocks: &Blocks<'_, N>,
     watch: &Watch<'_, G>,
     tools: &mut Tools<N>,
+    before: Pos,
     work: Work,
+    turn: Turn,
 ) -> Hand
     requires name { IsName N.run N.course shared.now }
     requires keys { AreKeys blocks.now.doors.now.items tools.old.keys.items blocks.now.syncs.now }
     requires strands { AreFirsts shared.now.run.story.events watch.now.strands.now }
-    requires works { Works shared.now work }
+    requires turned { (from : ℕ) × Turned shared.now from work turn }
     ensures keys { AreKeys blocks.now.doors.now.items tools.new.keys.items blocks.now.syncs.now }
     ensures hand { IsHand shared.now result }
 {
-    let before = work.piece.upto();
-    match act(alloc, shared, work) {
-        Turn::Goes(work) => {
-            watch.tell(shared, before, &work.piece);
-            Hand::Holds(work)
-        }
-        Turn::Offers(work, task) => {
+    match turn {
+        Turn::Goes => Hand::Holds(work),
+        Turn::Offers(task) => {
             watch.tell(shared, before, &work.piece);
             offered(rt, shared, &mut tools.rack, work, task)
         }
-        Turn::Ended(piece) => {
-            watch.tell(shared, before, &piece);
-            ended::<N, R>(rt, alloc, shared, blocks, tools, before, piece)
+        Turn::Ended => {
+            watch.tell(shared, before, &work.piece);
+            ended::<N, R>(rt, alloc, shared, blocks, tools, before, work.piece)
         }
-        Turn::Arrives(work) => {
+        Turn::Arrives => {
             let Work { piece, chain } = work;
             arrived::<N, R>(
                 rt,
@@ -178,11 +176,45 @@ pub fn hold<N: Naming, R: Wait, G: Gate>(
                 Some(chain),
             )
         }
-        Turn::Finished(piece, value) => {
-            watch.tell(shared, before, &piece);
-            whole(rt, shared, piece, value)
+        Turn::Finished(value) => {
+            watch.tell(shared, before, &work.piece);
+            whole(rt, shared, work.piece, value)
         }
         Turn::Departed(at) => Hand::Done(Finish::Departed(at)),
         Turn::Stopped => Hand::Done(Finish::Stopped),
     }
+}
+
+/// The most turns that a worker takes before it looks at what the others tell.
+const TURNS: u32 = 256;
+
+/// Turns of a worker that holds a piece and a chain, up to one behind which it goes on with something else; but no more than `TURNS`.
+pub fn hold<N: Naming, R: Wait, G: Gate>(
+    rt: &R,
+    alloc: Global,
+    shared: &Shared<'_>,
+    blocks: &Blocks<'_, N>,
+    watch: &Watch<'_, G>,
+    tools: &mut Tools<N>,
+    mut work: Work,
+) -> Hand
+    requires name { IsName N.run N.course shared.now }
+    requires keys { AreKeys blocks.now.doors.now.items tools.old.keys.items blocks.now.syncs.now }
+    requires strands { AreFirsts shared.now.run.story.events watch.now.strands.now }
+    requires works { Works shared.now work }
+    ensures keys { AreKeys blocks.now.doors.now.items tools.new.keys.items blocks.now.syncs.now }
+    ensures hand { IsHand shared.now result }
+{
+    'each: for _ in 0..TURNS {
+        let before = work.piece.upto();
+        match act(alloc, shared, &mut work) {
+            Turn::Goes => watch.tell(shared, before, &work.piece),
+            turn => {
+                return after::<N, R, G>(
+                    rt, alloc, shared, blocks, watch, tools, before, work, turn,
+                );
+            }
+        }
+    }
+    Hand::Holds(work)
 }

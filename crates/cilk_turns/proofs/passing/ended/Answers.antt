@@ -9,16 +9,16 @@ use Rattle.cilk_turns.proofs.passing.ended.Goals as goal
 pub end-requires-clause-next : goal.end-requires-clause-next
 end-requires-clause-next c =
     let y = c.args.shared.now in
-    let p = c.args.work.piece in
+    let p = c.args.work.now.piece in
     let due = c.requires.due in
     let works = due.works in
     let is = due.kind_is in
     passes y p End works.good
     (can_pass y p works.good c.laws.ensures.order due.asked c.requires.more (what_end (story_in y) p.upto is c.requires.more) (no_sync (event (story_in y) p.upto) kinds.End is (λ q. cc q)))
-    (here y c.args.work kinds.End due c.requires.more c.laws.ensures.same).1
+    (here y c.args.work.now kinds.End due c.requires.more c.laws.ensures.same).1
 
-pub ended-requires-clause-end : goal.ended-requires-clause-end
-ended-requires-clause-end c =
+pub end-requires-2-clause-end : goal.end-requires-2-clause-end
+end-requires-2-clause-end c =
     let y = c.args.shared.now in
     let due = c.requires.due in
-    chain_follows y c.args.work kinds.End due c.requires.more c.laws.ensures.same End (here y c.args.work kinds.End due c.requires.more c.laws.ensures.same).1
+    chain_follows y c.args.work.now kinds.End due c.requires.more c.laws.ensures.same End (here y c.args.work.now kinds.End due c.requires.more c.laws.ensures.same).1

@@ -27,42 +27,42 @@ no_resume s at order last k q = let z : finish ≡ resume k = sym (finishes s at
 pub follows-requires-clause-next : goal.follows-requires-clause-next
 follows-requires-clause-next c =
     let y = c.args.shared.now in
-    let p = c.args.work.piece in
+    let p = c.args.work.now.piece in
     let works = c.requires.works in
     ahead y p _ c.segment.ensures works.good (no_resume (story_in y) p.upto c.laws.ensures.order c.requires.last)
 
 pub follows-requires-clause-sync : goal.follows-requires-clause-sync
 follows-requires-clause-sync c =
     let y = c.args.shared.now in
-    let p = c.args.work.piece in
+    let p = c.args.work.now.piece in
     let works = c.requires.works in
     in_segment (λ s at. event s at ≡ Some events.Sync → ⊥) y p _ c.segment.ensures works.good.0 (no_sync (story_in y) p.upto c.laws.ensures.order c.requires.last)
 
 pub follows-requires-clause-asked : goal.follows-requires-clause-asked
 follows-requires-clause-asked c =
     let works = c.requires.works in
-    in_segment (λ s at. IsAsked s at) c.args.shared.now c.args.work.piece _ c.segment.ensures works.good.0 c.requires.asked
+    in_segment (λ s at. IsAsked s at) c.args.shared.now c.args.work.now.piece _ c.segment.ensures works.good.0 c.requires.asked
 
 pub result_asked-value-requires-clause-asked : goal.result_asked-value-requires-clause-asked
-result_asked-value-requires-clause-asked c = on_chain (λ s at. IsAsked s at) c.args.shared.now c.args.work c.requires.works c.laws.ensures.same c.requires.asked
+result_asked-value-requires-clause-asked c = on_chain (λ s at. IsAsked s at) c.args.shared.now c.args.work.now c.requires.works c.laws.ensures.same c.requires.asked
 
 pub result_asked-value-requires-clause-end : goal.result_asked-value-requires-clause-end
 result_asked-value-requires-clause-end c =
     let y = c.args.shared.now in
-    let p = c.args.work.piece in
-    on_chain (λ s at. event s at ≡ Some events.End) y c.args.work c.requires.works c.laws.ensures.same (ends (story_in y) p.upto c.laws.ensures.order c.requires.last)
+    let p = c.args.work.now.piece in
+    on_chain (λ s at. event s at ≡ Some events.End) y c.args.work.now c.requires.works c.laws.ensures.same (ends (story_in y) p.upto c.laws.ensures.order c.requires.last)
 
 pub finish-requires-clause-next : goal.finish-requires-clause-next
 finish-requires-clause-next c =
     let y = c.args.shared.now in
-    let p = c.args.work.piece in
+    let p = c.args.work.now.piece in
     let works = c.requires.works in
     in_yard (λ s. (p.from < p.upto × IsAsked s p.upto) × (what s p.upto ≡ finish)) y _ c.yard-2.ensures ((works.good.1, c.requires.asked), finishes (story_in y) p.upto c.laws.ensures.order c.requires.last)
 
 pub returns : goal.returns
 returns c =
     let y = c.args.shared.now in
-    let p = c.args.work.piece in
+    let p = c.args.work.now.piece in
     let works = c.requires.works in
     let g = grown_good y p _ works.good c.finish.ensures in
     let last = c.requires.last in
@@ -72,7 +72,7 @@ returns c =
         last = g.2 ∙ ap (λ (n : ℕ). n + 1) last;
         followed = followed;
         result = subst (λ v. IsResult y v) (sym (to_z-of_z w64 c.result_asked-value.result (record { sfits = c.result_asked-value.type_inv })))
-            (ended_with y c.args.work.chain p.upto c.result_asked-value.result works.stands c.laws.ensures.same c.result_asked-value.ensures c.laws.ensures.words followed last);
+            (ended_with y c.args.work.now.chain p.upto c.result_asked-value.result works.stands c.laws.ensures.same c.result_asked-value.ensures c.laws.ensures.words followed last);
       },
       g.1,
     )

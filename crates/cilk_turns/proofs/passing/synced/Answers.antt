@@ -13,7 +13,7 @@ pub pass-requires-clause-next : goal.pass-requires-clause-next
 pass-requires-clause-next c =
     let due = c.requires.due in
     let works = due.works in
-    let p = c.args.work.piece in
+    let p = c.args.work.now.piece in
     let may = c.may_pass.ensures.0 c.if-not-may_pass.false in
     (subst MayPass c.segment.ensures may, of_story (λ s. IsAsked s p.upto) c.args.shared.now.run p works.good.0 due.asked)
 
@@ -21,9 +21,9 @@ pub pass-requires-clause-quiet : goal.pass-requires-clause-quiet
 pass-requires-clause-quiet c =
     let due = c.requires.due in
     let works = due.works in
-    let p = c.args.work.piece in
+    let p = c.args.work.now.piece in
     quiet p.reducers (frame_in p.story.events p.upto) (event p.story p.upto) Sync
     (of_story (λ s. kind_of_event (event s p.upto) ≡ Some Sync) c.args.shared.now.run p works.good.0 due.kind_is) tt
 
-pub answered-chain-requires-clause-answer : goal.answered-chain-requires-clause-answer
-answered-chain-requires-clause-answer c = answered_done c.args.shared.now c.args.work Sync c.requires.due c.requires.more c.course.ensures.yard tt
+pub answer-requires-clause-answer : goal.answer-requires-clause-answer
+answer-requires-clause-answer c = answered_done c.args.shared.now c.args.work.now Sync c.requires.due c.requires.more c.course.ensures.yard tt

@@ -7,14 +7,14 @@ pub take-requires-clause-next : goal.take-requires-clause-next
 take-requires-clause-next c =
     let due = c.requires.due.1 in
     let works = due.works in
-    let p = c.args.work.piece in
+    let p = c.args.work.now.piece in
     can_take c.args.shared.now _ p c.args.ticket p.upto c.yard.ensures c.laws.ensures.order due.asked c.requires.resumes (inr (works.good.1, refl))
 
-pub answered-chain-requires-clause-answer : goal.answered-chain-requires-clause-answer
-answered-chain-requires-clause-answer c =
-    answered_done c.args.shared.now c.args.work c.requires.due.0 c.requires.due.1 c.requires.more c.laws.ensures.same (silent_done c.requires.due.0 c.requires.due.2)
+pub answer-requires-clause-answer : goal.answer-requires-clause-answer
+answer-requires-clause-answer c =
+    answered_done c.args.shared.now c.args.work.now c.requires.due.0 c.requires.due.1 c.requires.more c.laws.ensures.same (silent_done c.requires.due.0 c.requires.due.2)
 
 pub returns-in-Yes : goal.returns-in-Yes
 returns-in-Yes c =
     let due = c.requires.due.1 in
-    took c.args.shared.now c.yard.result.now c.args.work c.args.ticket c.take.new.self c.answered-chain.result c.yard.ensures c.laws.ensures.order due.works c.requires.resumes c.in-Yes.ensures c.answered-chain.ensures
+    took c.args.shared.now c.yard.result.now c.args.work.now c.args.ticket c.take.new.self c.answer.new.self c.yard.ensures c.laws.ensures.order due.works c.requires.resumes c.in-Yes.ensures c.answer.ensures

@@ -11,12 +11,12 @@ use Rattle.cilk_turns.proofs.reducing.created.Goals as goal
 pub create-requires-clause-next : goal.create-requires-clause-next
 create-requires-clause-next c =
     let y = c.args.shared.now in
-    let p = c.args.work.piece in
+    let p = c.args.work.now.piece in
     let due = c.requires.due in
     let works = due.works in
     let is = due.kind_is in
     passes y p (events.Create c.args.instance) works.good (can_pass y p works.good c.laws.ensures.order due.asked c.requires.more (what_plain (story_in y) p.upto (kinds.Create c.args.instance) is tt) (no_sync (event (story_in y) p.upto) (kinds.Create c.args.instance) is (λ q. cc q)))
-    (here y c.args.work (kinds.Create c.args.instance) due c.requires.more c.laws.ensures.same).1
+    (here y c.args.work.now (kinds.Create c.args.instance) due c.requires.more c.laws.ensures.same).1
 
-pub answered-chain-requires-clause-answer : goal.answered-chain-requires-clause-answer
-answered-chain-requires-clause-answer c = answered_done c.args.shared.now c.args.work (kinds.Create c.args.instance) c.requires.due c.requires.more c.laws.ensures.same tt
+pub answer-requires-clause-answer : goal.answer-requires-clause-answer
+answer-requires-clause-answer c = answered_done c.args.shared.now c.args.work.now (kinds.Create c.args.instance) c.requires.due c.requires.more c.laws.ensures.same tt

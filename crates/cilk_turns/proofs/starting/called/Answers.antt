@@ -11,7 +11,7 @@ use Rattle.cilk_turns.proofs.starting.called.Goals as goal
 pub pass-requires-clause-next : goal.pass-requires-clause-next
 pass-requires-clause-next c =
     let y = c.args.shared.now in
-    let p = c.args.work.piece in
+    let p = c.args.work.now.piece in
     let k = kinds.Call c.requires.due.0 in
     let due = c.requires.due.1 in
     let works = due.works in
@@ -20,7 +20,7 @@ pass-requires-clause-next c =
 
 pub pass-requires-clause-quiet : goal.pass-requires-clause-quiet
 pass-requires-clause-quiet c =
-    let p = c.args.work.piece in
+    let p = c.args.work.now.piece in
     let k = kinds.Call c.requires.due.0 in
     let due = c.requires.due.1 in
     let works = due.works in

@@ -15,7 +15,7 @@ use Rattle.cilk_turns.proofs.starting.spawned.Goals as goal
 pub unreachable-requires : goal.unreachable-requires
 unreachable-requires c =
     let y = c.args.shared.now in
-    let p = c.args.work.piece in
+    let p = c.args.work.now.piece in
     let due = c.requires.due.1 in
     let r = c.laws.ensures.order.returns p.upto (what_spawn (story_in y) p.upto c.requires.due.0 due.kind_is) in
     c.in_default.not-Some r.0 ((c.resumption.ensures r.0).1 (in_yard (λ s. what s r.0 ≡ resume c.upto-at.result) y _ c.yard.ensures
@@ -24,26 +24,26 @@ unreachable-requires c =
 pub frame_begun-frame-requires-clause-start : goal.frame_begun-frame-requires-clause-start
 frame_begun-frame-requires-clause-start c =
     let y = c.args.shared.now in
-    let p = c.args.work.piece in
+    let p = c.args.work.now.piece in
     let due = c.requires.due.1 in
     subst (λ (n : ℕ). IsStart (event (story_in y) n)) (sym c.upto-at.ensures) (starts (event (story_in y) p.upto) (kinds.Spawn c.requires.due.0) due.kind_is tt)
 
-pub spawned-requires-clause-spawns : goal.spawned-requires-clause-spawns
-spawned-requires-clause-spawns c =
+pub spawn-requires-clause-spawns : goal.spawn-requires-clause-spawns
+spawn-requires-clause-spawns c =
     let y = c.args.shared.now in
-    let p = c.args.work.piece in
+    let p = c.args.work.now.piece in
     let f = c.requires.due.0 in
     let due = c.requires.due.1 in
     let same = c.laws.ensures.same in
     let there = subst (λ (z : YardValue). what z.story c.in-Some.next ≡ resume c.upto-at.result) c.yard.ensures ((c.resumption.ensures c.in-Some.next).0 c.in-Some.is) in (
-      (f, chain_follows y c.args.work (kinds.Spawn f) due c.requires.more same (events.Spawn f) (here y c.args.work (kinds.Spawn f) due c.requires.more same).1),
-      on_chain (λ s at. what s c.in-Some.next ≡ resume at) y c.args.work due.works same (subst (λ (n : ℕ). what (story_in y) c.in-Some.next ≡ resume n) c.upto-at.ensures there),
+      (f, chain_follows y c.args.work.now (kinds.Spawn f) due c.requires.more same (events.Spawn f) (here y c.args.work.now (kinds.Spawn f) due c.requires.more same).1),
+      on_chain (λ s at. what s c.in-Some.next ≡ resume at) y c.args.work.now due.works same (subst (λ (n : ℕ). what (story_in y) c.in-Some.next ≡ resume n) c.upto-at.ensures there),
     )
 
 pub offer-ticket-requires-clause-next : goal.offer-ticket-requires-clause-next
 offer-ticket-requires-clause-next c =
     let y = c.args.shared.now in
-    let p = c.args.work.piece in
+    let p = c.args.work.now.piece in
     let due = c.requires.due.1 in
     let works = due.works in
     in_yard (λ s. (p.from < p.upto × IsAsked s p.upto) × (what s p.upto ≡ spawn)) y _ c.yard-2.ensures
@@ -55,5 +55,5 @@ new-requires c =
     let due = c.requires.due.1 in
     let works = due.works in
     let there = subst (λ (z : YardValue). what z.story c.in-Some.next ≡ resume c.upto-at.result) c.yard.ensures ((c.resumption.ensures c.in-Some.next).0 c.in-Some.is) in
-    on_standing (λ s at. what s at ≡ resume c.offer-ticket.result) y c.in-Ok.rest c.in-Some.next (c.in-Ok.ensures.1 ∙ ap (λ (k : ChainValue). standing k.of c.in-Some.next) works.stands) c.laws.ensures.same
+    on_standing (λ s at. what s at ≡ resume c.offer-ticket.result) y c.in-Ok.rest c.in-Some.next (c.in-Ok.ensures.parent ∙ ap (λ (k : ChainValue). standing k.of c.in-Some.next) works.stands) c.laws.ensures.same
     (subst (λ (n : ℕ). what (story_in y) c.in-Some.next ≡ resume n) (c.upto-at.ensures ∙ sym c.offer-ticket.ensures.ticket) there)

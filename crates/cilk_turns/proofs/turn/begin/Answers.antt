@@ -43,8 +43,8 @@ take-requires-clause-next c =
     can_take y _ c.args.piece c.ticket-ticket.result at c.yard.ensures c.laws.ensures.order (off_standing (λ s p. IsAsked s p) y c.wake-chain.result at stands same c.in-Asked.ensures)
     (resumes y c.args.task at c.ticket-ticket.result c.requires.task same c.at-at.ensures.resumption c.ticket-ticket.ensures) (inl c.requires.piece.1)
 
-pub answered-chain-requires-clause-answer : goal.answered-chain-requires-clause-answer
-answered-chain-requires-clause-answer c =
+pub answer-requires-clause-answer : goal.answer-requires-clause-answer
+answer-requires-clause-answer c =
     let y = c.args.shared.now in
     let at = c.at-at.result in
     let same = c.laws.ensures.same in
@@ -60,6 +60,6 @@ returns-in-Yes c =
     let at = c.at-at.result in
     let same = c.laws.ensures.same in
     let stands = c.wake-chain.ensures ∙ c.rest.ensures.rest ∙ ap₂ standing c.requires.task (sym c.at-at.ensures.place) in
-    began y c.yard.result.now c.args.piece c.ticket-ticket.result at c.take.new.self c.answered-chain.result c.yard.ensures c.laws.ensures.order c.requires.piece.0 c.requires.piece.1
+    began y c.yard.result.now c.args.piece c.ticket-ticket.result at c.take.new.self c.answer.new.self c.yard.ensures c.laws.ensures.order c.requires.piece.0 c.requires.piece.1
     (resumes y c.args.task at c.ticket-ticket.result c.requires.task same c.at-at.ensures.resumption c.ticket-ticket.ensures) c.in-Yes.ensures
-    (c.answered-chain.ensures ∙ ap (λ (k : ChainValue). standing k.of (k.at + 1)) stands)
+    (c.answer.ensures ∙ ap (λ (k : ChainValue). standing k.of (k.at + 1)) stands)

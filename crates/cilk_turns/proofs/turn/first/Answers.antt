@@ -7,8 +7,8 @@ use Rattle.cilk_turns.proofs.Begun.{root_answered}
 use Rattle.cilk_turns.proofs.Due.{on_standing}
 use Rattle.cilk_turns.proofs.turn.first.Goals as goal
 
-pub answered-chain-requires-clause-answer : goal.answered-chain-requires-clause-answer
-answered-chain-requires-clause-answer c =
+pub answer-requires-clause-answer : goal.answer-requires-clause-answer
+answer-requires-clause-answer c =
     let y = c.args.shared.now in
     on_standing (λ s at. IsAnswered s at Done) y c.in_ok-chain.chain 1 (c.in_ok-chain.ensures ∙ ap (λ (u : CourseValue). standing u 1) c.course.ensures.course) c.laws.ensures.same
     (root_answered y c.laws.ensures.course c.laws.ensures.same c.laws.ensures.order c.laws.ensures.values)

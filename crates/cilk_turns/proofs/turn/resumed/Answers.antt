@@ -15,13 +15,13 @@ taken-requires-clause-resumes c =
 pub passed-requires-clause-plain : goal.passed-requires-clause-plain
 passed-requires-clause-plain c =
     let y = c.args.shared.now in
-    let p = c.args.work.piece in
+    let p = c.args.work.now.piece in
     let due = c.requires.due.1 in
     what_resume (story_in y) p.upto c.requires.due.0 due.kind_is
     (λ k q. absent c.resumed_by.result k c.in-None.is ((c.resumed_by.ensures k).1 (subst (λ (n : ℕ). what (story_in y) n ≡ resume k) (sym c.upto.ensures) q)))
 
 pub passed-requires-clause-ordinary : goal.passed-requires-clause-ordinary
 passed-requires-clause-ordinary c =
-    let p = c.args.work.piece in
+    let p = c.args.work.now.piece in
     let due = c.requires.due.1 in
     no_sync (event (story_in c.args.shared.now) p.upto) (kinds.Resume c.requires.due.0) due.kind_is (λ q. cc q)
