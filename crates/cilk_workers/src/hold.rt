@@ -1,10 +1,10 @@
 //! Turns of a worker that holds a piece.
 
-ghost use Rattle.std.specs.Prelude.{◌≡◌, ℕ, IfSome};
+ghost use Rattle.std.specs.Prelude.{◌≡◌, IfSome};
 ghost use Rattle.cilk_boxes.specs.Rows.{IsGood};
 ghost use Rattle.cilk_chains.specs.Chains.{standing};
 ghost use Rattle.cilk_racks.specs.Racks.{Of};
-ghost use Rattle.cilk_turns.specs.Turns.{HasEnded, Turned, Works};
+ghost use Rattle.cilk_turns.specs.Turns.{HasEnded, Works};
 ghost use Rattle.cilk_workers.specs.Gates.{AreFirsts};
 ghost use Rattle.cilk_workers.specs.Hands.{IsHand};
 ghost use Rattle.cilk_workers.specs.Keys.{AreKeys};
@@ -26,16 +26,15 @@ use std::alloc::Global;
 use std::sync::Wait;
 
 // The worker goes on with its own newest task, which is its child's continuation.
-fn own<R: Wait>(rt: &R, shared: &Shared<'_>, piece: Piece, task: Task) -> Hand
-    requires piece { IsGood shared.now.run piece }
+fn own<R: Wait>(rt: &R, shared: &Shared<'_>, work: &mut Work, task: Task)
+    requires piece { IsGood shared.now.run work.old.piece }
     requires task { task.of ≡ shared.now.course }
-    ensures { IsHand shared.now result }
+    ensures { Works shared.now work.new }
 {
-    if task.at() != piece.upto() {
+    if task.at() != work.piece.upto() {
         wait(rt);
     }
-    let chain = task.rest().wake(shared.course());
-    Hand::Holds(Work { piece, chain })
+    work.chain = task.rest().wake(shared.course());
 }
 
 // A piece arrives at the block of its next position, and the worker goes on with an empty one.
@@ -73,24 +72,15 @@ fn arrived<N: Naming, R: Wait>(
     }
 }
 
-// The worker goes on with the child, and offers the continuation.
-fn offered<N: Naming, R: Wait>(
-    rt: &R,
-    shared: &Shared<'_>,
-    rack: &mut Rack<N>,
-    work: Work,
-    task: Task,
-) -> Hand
+// The continuation is offered.
+fn offered<N: Naming, R: Wait>(rt: &R, shared: &Shared<'_>, rack: &mut Rack<N>, task: Task)
     requires name { IsName N.run N.course shared.now }
-    requires works { Works shared.now work }
     requires task { task.of ≡ shared.now.course }
-    ensures { IsHand shared.now result }
 {
     let _ = shared;
     if rack.offer(task).is_err() {
         wait(rt);
     }
-    Hand::Holds(work)
 }
 
 // The run has ended. Its piece has all of the run's events.
@@ -112,83 +102,12 @@ fn behind<N: Naming>(rack: &mut Rack<N>, taken: bool) -> Option<Task>
     if taken { None } else { rack.newest() }
 }
 
-// A piece whose child has ended, or whose continuation another took, where it has no event more than before. The worker goes on with the
-// child's continuation, or the piece arrives.
-fn ended<N: Naming, R: Wait>(
-    rt: &R,
-    alloc: Global,
-    shared: &Shared<'_>,
-    blocks: &Blocks<'_, N>,
-    tools: &mut Tools<N>,
-    before: Pos,
-    piece: Piece,
-) -> Hand
-    requires name { IsName N.run N.course shared.now }
-    requires keys { AreKeys blocks.now.doors.now.items tools.old.keys.items blocks.now.syncs.now }
-    requires piece { IsGood shared.now.run piece }
-    ensures keys { AreKeys blocks.now.doors.now.items tools.new.keys.items blocks.now.syncs.now }
-    ensures hand { IsHand shared.now result }
-{
-    match behind::<N>(&mut tools.rack, piece.upto() == before) {
-        Some(task) => own(rt, shared, piece, task),
-        None => arrived::<N, R>(rt, alloc, shared, blocks, &mut tools.keys, piece, None),
-    }
-}
-
-// What comes of a turn, but for one behind which the worker goes on with what it has. `before` is where the piece ended ahead of it.
-fn after<N: Naming, R: Wait, G: Gate>(
-    rt: &R,
-    alloc: Global,
-    shared: &Shared<'_>,
-    blocks: &Blocks<'_, N>,
-    watch: &Watch<'_, G>,
-    tools: &mut Tools<N>,
-    before: Pos,
-    work: Work,
-    turn: Turn,
-) -> Hand
-    requires name { IsName N.run N.course shared.now }
-    requires keys { AreKeys blocks.now.doors.now.items tools.old.keys.items blocks.now.syncs.now }
-    requires strands { AreFirsts shared.now.run.story.events watch.now.strands.now }
-    requires turned { (from : ℕ) × Turned shared.now from work turn }
-    ensures keys { AreKeys blocks.now.doors.now.items tools.new.keys.items blocks.now.syncs.now }
-    ensures hand { IsHand shared.now result }
-{
-    match turn {
-        Turn::Goes => Hand::Holds(work),
-        Turn::Offers(task) => {
-            watch.tell(shared, before, &work.piece);
-            offered(rt, shared, &mut tools.rack, work, task)
-        }
-        Turn::Ended => {
-            watch.tell(shared, before, &work.piece);
-            ended::<N, R>(rt, alloc, shared, blocks, tools, before, work.piece)
-        }
-        Turn::Arrives => {
-            let Work { piece, chain } = work;
-            arrived::<N, R>(
-                rt,
-                alloc,
-                shared,
-                blocks,
-                &mut tools.keys,
-                piece,
-                Some(chain),
-            )
-        }
-        Turn::Finished(value) => {
-            watch.tell(shared, before, &work.piece);
-            whole(rt, shared, work.piece, value)
-        }
-        Turn::Departed(at) => Hand::Done(Finish::Departed(at)),
-        Turn::Stopped => Hand::Done(Finish::Stopped),
-    }
-}
-
 /// The most turns that a worker takes before it looks at what the others tell.
 const TURNS: u32 = 256;
 
-/// Turns of a worker that holds a piece and a chain, up to one behind which it goes on with something else; but no more than `TURNS`.
+/// Turns of a worker that holds a piece and a chain, as long as it has one to go on with, and no more than `TURNS`. Where a child has ended,
+/// it goes on with that child's continuation, its own newest task; where it has none, or another took the continuation that it was to go on
+/// with, so that it has no event more than before, its piece arrives.
 pub fn hold<N: Naming, R: Wait, G: Gate>(
     rt: &R,
     alloc: Global,
@@ -209,11 +128,38 @@ pub fn hold<N: Naming, R: Wait, G: Gate>(
         let before = work.piece.upto();
         match act(alloc, shared, &mut work) {
             Turn::Goes => watch.tell(shared, before, &work.piece),
-            turn => {
-                return after::<N, R, G>(
-                    rt, alloc, shared, blocks, watch, tools, before, work, turn,
+            Turn::Offers(task) => {
+                watch.tell(shared, before, &work.piece);
+                offered(rt, shared, &mut tools.rack, task);
+            }
+            Turn::Ended => {
+                watch.tell(shared, before, &work.piece);
+                let taken = work.piece.upto() == before;
+                let Some(task) = behind::<N>(&mut tools.rack, taken) else {
+                    let Work { piece, chain: _ } = work;
+                    return arrived::<N, R>(rt, alloc, shared, blocks, &mut tools.keys, piece, None);
+                };
+                own(rt, shared, &mut work, task);
+            }
+            Turn::Arrives => {
+                let Work { piece, chain } = work;
+                return arrived(
+                    rt,
+                    alloc,
+                    shared,
+                    blocks,
+                    &mut tools.keys,
+                    piece,
+                    Some(chain),
                 );
             }
+            Turn::Finished(value) => {
+                watch.tell(shared, before, &work.piece);
+                let Work { piece, chain: _ } = work;
+                return whole(rt, shared, piece, value);
+            }
+            Turn::Departed(at) => return Hand::Done(Finish::Departed(at)),
+            Turn::Stopped => return Hand::Done(Finish::Stopped),
         }
     }
     Hand::Holds(work)
