@@ -1,0 +1,14 @@
+//! Tests of what is told of races and of limits, as whole texts, and of the scripts that are told of races, each
+//! played.
+#![tactic(auto)]
+
+#[cfg(test)]
+mod children;
+#[cfg(test)]
+mod limits;
+#[cfg(test)]
+mod race;
+#[cfg(test)]
+mod turns;
+#[cfg(test)]
+mod views;
