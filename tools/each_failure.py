@@ -5,7 +5,8 @@ tools/each_failure.py [PROGRAM]             the program, by default crates/cilk/
 tools/each_failure.py --choices [TESTS]     the built tests of schedules, by default crates/cilk_schedule_tests/out/cilk_schedule_tests_tests
 
 The commands are `certify` and `check` of a chain of spawns (fib(10), accepted) and of a view-read race (refused), and `play` of three programs
-with 2 workers and all rounds. Each run has one
+with 2 workers and all rounds. `threads` of three programs with 2 workers has its allocations alone refused, up to a run that makes fewer, since
+two of its runs needn't make the same ones; after each a run with ample memory must give the outcome. Each run has one
 call that fails: the Nth allocation, or all from the Nth on; the Nth open, read, seek or write; the Nth read or write that moves one
 byte of several. It must end with the answer of a run in which nothing fails, or say `no memory`, `cannot read FILE` or `cannot write`
 with that one's status, where a beginning of the answer may have gone out. The calls are counted and failed by a small library that
@@ -62,8 +63,8 @@ __attribute__((destructor)) static void end(void) {
 }
 
 static int refused(void) {
-    allocs++;
-    return allocs == fail_alloc || (fail_from && allocs >= fail_from);
+    long number = __atomic_add_fetch(&allocs, 1, __ATOMIC_SEQ_CST);
+    return number == fail_alloc || (fail_from && number >= fail_from);
 }
 
 #define MEMORY(call) do { if (refused()) { errno = ENOMEM; return 0; } return call; } while (0)
@@ -115,6 +116,11 @@ LOCAL = """int f(int n) { int cilk_reducer(add) s; cilk_for (int i = 0; i < n; i
 int main() { int x; int y; x = cilk_spawn f(4); y = cilk_spawn f(5); cilk_sync; return x + y; }"""
 
 
+GETS = "int g = 7; int get() { return g; } int main() { int x; int y; x = cilk_spawn get(); y = cilk_spawn get(); cilk_sync; return x + y; }"
+
+PRINTS = "void p(int n) { print(n); } int main() { cilk_spawn p(1); cilk_spawn p(2); cilk_spawn p(3); cilk_sync; return 0; }"
+
+
 def run(program, words, folder, **settings):
     """What the program shows: its status and the bytes on both streams; and how many calls of each sort it made."""
     counts = f"{folder}/counts"
@@ -162,6 +168,26 @@ def turns(program, words, folder):
     return wrong
 
 
+def by_workers(program, words, folder):
+    """Refuses each allocation of a run on threads in turn, up to a run that makes fewer, and gives how many answers weren't fair."""
+    whole, (allocs, _, _) = run(program, words, folder)
+    wrong, stopped, made = 0, 0, 0
+    for setting in ["FAIL_ALLOC", "FAIL_FROM"]:
+        n = 1
+        while n <= allocs:
+            seen, counted = run(program, words, folder, **{setting: n})
+            again, _ = run(program, words, folder)
+            allocs = counted[0] if counted else allocs
+            is_stopped = seen == (5, b"", b"no memory\n")
+            stopped, made = stopped + is_stopped, made + (seen == whole)
+            if again != whole or not (is_stopped or seen == whole):
+                wrong += 1
+                print(f"{' '.join(words)}: {setting}={n}: {seen[0]} {seen[1][:80]} {seen[2][:80]}; with ample memory {again}")
+            n += 1
+    print(f"{' '.join(words)}: status {whole[0]}; {stopped} runs without memory, {made} with the outcome; {wrong} wrong")
+    return wrong
+
+
 def make_library(folder):
     """The library that counts calls and fails them."""
     with open(f"{folder}/fails.c", "w", encoding="ascii") as it:
@@ -171,9 +197,9 @@ def make_library(folder):
 
 
 def commands(program, folder):
-    """Fails each call of `certify`, `check` and `play` in turn, and gives how many answers weren't fair."""
+    """Fails each call of `certify`, `check`, `play` and `threads` in turn, and gives how many answers weren't fair."""
     wrong = 0
-    for name, text in [("fib.c", FIB), ("race.c", RACE), ("list.c", LIST), ("local.c", LOCAL), ("all", "all\n")]:
+    for name, text in [("fib.c", FIB), ("race.c", RACE), ("list.c", LIST), ("local.c", LOCAL), ("gets.c", GETS), ("prints.c", PRINTS), ("all", "all\n")]:
         with open(f"{folder}/{name}", "w", encoding="ascii") as it:
             it.write(text)
     for name in ["fib", "race"]:
@@ -184,6 +210,11 @@ def commands(program, folder):
         wrong += turns(program, ["check", f"{name}.c", f"{name}.cert"], folder)
     for name in ["fib", "list", "local"]:
         wrong += turns(program, ["play", f"{name}.c", "all", "--workers", "2"], folder)
+    for name in ["gets", "list", "prints"]:
+        made, _ = run(program, ["certify", f"{name}.c"], folder)
+        with open(f"{folder}/{name}.cert", "wb") as it:
+            it.write(made[1])
+        wrong += by_workers(program, ["threads", f"{name}.c", f"{name}.cert", "--workers", "2"], folder)
     return wrong
 
 
