@@ -57,11 +57,25 @@ fn put_block(
         return Ok(());
     };
     if block_of(of, continuation.sync) == u32::MAX {
-        put(of, continuation.sync as usize, syncs.len() as u32);
-        syncs.push(continuation.sync)?;
+        let Ok(block) = u32::try_from(syncs.len()) else {
+            return Err(AllocError);
+        };
+        put(of, continuation.sync as usize, block);
+        add_sync(plan, continuation.sync, syncs)?;
     }
     let block = block_of(of, continuation.sync);
     put(of, continuation.resume as usize, block);
+    Ok(())
+}
+
+// One block more, which ends with the `sync` at a position.
+fn add_sync(plan: &ProgramPlan<'_>, at: Pos, syncs: &mut Vec<Pos>) -> Result<(), AllocError>
+    requires there { event plan.now.story at ≡ Some Sync }
+    requires syncs { All (λ at. event plan.now.story at ≡ Some Sync) syncs.old.items }
+    ensures { OnOk result (All (λ at. event plan.now.story at ≡ Some Sync) syncs.new.items) }
+{
+    let _ = plan;
+    syncs.push(at)?;
     Ok(())
 }
 
