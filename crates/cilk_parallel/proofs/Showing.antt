@@ -1,0 +1,1 @@
+-- How what is shown of `threads` comes about.
