@@ -1,1 +1,59 @@
--- How what is shown of `threads` comes about.
+-- How the reply to `threads` comes about.
+--
+-- - `answered`: what is answered to what the words ask for; `no_words`: to words that ask for nothing;
+-- - `fails`, `ends`: a failure, or an ending, is served; `starved`: a want of memory is.
+use Rattle.std.proofs.Common.{◌≡◌, ℕ, List, [], Bool, Option, Some, None, refl, sym, ap, subst, inl, inr, ◌∙◌}
+use Rattle.std.specs.Io.KnownBytes.{Appends}
+use Rattle.cilk_tool.specs.Replies.{BadWords, NoMemory, Reply, Text, failure_view, out_text, status_of}
+use Rattle.cilk_tool.specs.Serving.{IsOrNoMemory, ProgramUnread, Shows, ShowsError, Surroundings, Unjudged}
+use Rattle.cilk_tool.specs.declared.reply.Failure.{Failure}
+use Rattle.cilk_tool.specs.declared.reply.Failure.TheVariants as failures
+use Rattle.cilk_tool.proofs.Replying.{keeps}
+use Rattle.cilk_parallel.specs.Serving.{Answers, ServesThreads}
+use Rattle.cilk_parallel.specs.Words.{Requested, order_in}
+
+no_memory : (w : Surroundings) (asked : Option Requested) → Answers w asked NoMemory
+no_memory w None = tt
+no_memory w (Some asked) = Unjudged (ProgramUnread tt)
+
+or_no_memory : (w : Surroundings) (asked : Option Requested) (wanted r : Reply) → Answers w asked wanted → IsOrNoMemory wanted r → Answers w asked r
+or_no_memory w asked wanted r h (inl e) = subst (λ (x : Reply). Answers w asked x) (sym e) h
+or_no_memory w asked wanted r h (inr e) = subst (λ (x : Reply). Answers w asked x) (sym e) (no_memory w asked)
+
+-- a failure has nothing for standard output
+silent : (f : Failure) → out_text (failure_view f) ≡ []
+silent (failures.Words text) = refl
+silent (failures.Unreadable name) = refl
+silent (failures.Program number place) = refl
+silent (failures.Input number place) = refl
+silent (failures.Run number at) = refl
+silent (failures.Strand number name) = refl
+silent (failures.Script at) = refl
+silent failures.Memory = refl
+
+still_silent : (f : Failure) (r : Reply) → IsOrNoMemory (failure_view f) r → out_text r ≡ []
+still_silent f r (inl e) = ap out_text e ∙ silent f
+still_silent f r (inr e) = ap out_text e
+
+pub answered : (words : List Text) (w : Surroundings) (asked : Option Requested) (r : Reply) → order_in words ≡ asked → Answers w asked r
+    → Answers w (order_in words) r
+answered words w asked r e h = subst (λ (x : Option Requested). Answers w x r) (sym e) h
+
+pub no_words : (words : List Text) (w : Surroundings) → order_in words ≡ None → Answers w (order_in words) BadWords
+no_words words w e = answered words w None BadWords e tt
+
+module _ (words : List Text) (w : Surroundings) (status : ℕ) (told : Bool) where
+  pub fails : (f : Failure) (o e e' : Option Text) → Answers w (order_in words) (failure_view f)
+      → (r : Reply) × IsOrNoMemory (failure_view f) r × (status ≡ status_of r) × ShowsError r told e e' → ServesThreads words w status told o o e e'
+  fails f o e e' h shown =
+      let r = shown.0 in
+      let out : Appends o o (out_text r) = subst (λ (t : Text). Appends o o t) (sym (still_silent f r shown.1)) (keeps o) in
+      (r, or_no_memory w (order_in words) (failure_view f) r h shown.1, inl (shown.2, out, shown.3))
+
+  pub starved : (o e e' : Option Text)
+      → (r : Reply) × IsOrNoMemory (failure_view failures.Memory) r × (status ≡ status_of r) × ShowsError r told e e' → ServesThreads words w status told o o e e'
+  starved o e e' shown = fails failures.Memory o e e' (no_memory w (order_in words)) shown
+
+  pub ends : (wanted : Reply) (o o' e e' : Option Text) → Answers w (order_in words) wanted
+      → (r : Reply) × IsOrNoMemory wanted r × Shows r status told o o' e e' → ServesThreads words w status told o o' e e'
+  ends wanted o o' e e' h shown = (shown.0, or_no_memory w (order_in words) wanted shown.0 h shown.1, shown.2)

@@ -1,8 +1,7 @@
 -- What is shown of a program that is checked, and run by workers where it is accepted.
 use Rattle.std.specs.Prelude.{◌≡◌, ◌≢◌, ◌⊎◌, ℕ, ℤ, List, [], ◌∷◌, Option, Some, None}
-use Rattle.cilk_program.specs.Sources.{source}
 use Rattle.cilk_texts.specs.Inputs.{IsInput}
-use Rattle.cilk_judge.specs.Judging.{Meant}
+use Rattle.cilk_judge.specs.Judging.{Meant, meant}
 use Rattle.cilk_checker.specs.Answers.{IsCertified}
 use Rattle.cilk_checker.specs.Determinate.{AcceptedRun}
 use Rattle.cilk_crew.specs.Faults.{IsCrew}
@@ -25,7 +24,7 @@ departed = 502
 
 -- the run of a program on these inputs is accepted, by a certificate of whose text so much is known
 pub record IsAcceptedRun (m : Meant) (inputs : List ℤ) (known : Option Text) (a : AcceptedRun) : Type 0 where
-  pub program : source a.program ≡ m.source
+  pub program : meant a.program ≡ m
   pub input : a.input ≡ inputs
   pub certified : IsCertified m.source inputs known a.trace a.outcome
 

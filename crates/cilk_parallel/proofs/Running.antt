@@ -1,0 +1,154 @@
+-- What is shown of an accepted program that workers run.
+--
+-- - `ran`, `unmanned`, `departs`: what workers leave, or why they don't run it;
+-- - `not_read`, `not_right`, `are_given`, `ungiven`: the numbers of another file;
+-- - `runs`, `fails`: what the run on given numbers shows;
+-- - `with_run_ok`, `with_run_err`, `beside`: what is shown of the program whose certificate is accepted, over the files as they were;
+-- - `earlier_ok`, `earlier_err`: the same by what was known before its texts were read; `judged_ok`: the answer to the command.
+use Rattle.std.proofs.Common.{◌≡◌, ℕ, List, [], ◌∷◌, Option, Some, None, option_map, refl, sym, ap, subst, inl, inr, ◌∙◌}
+use Rattle.std.specs.Prelude.{◌≢◌, ℤ, Result, Ok, Err, IfOk, IfErr, map}
+use Rattle.std.specs.Borrow.{Bor}
+use Rattle.std.specs.Option.{unwrap_or}
+use Rattle.cilk_checker.specs.Answers.{IsCertified}
+use Rattle.cilk_checker.specs.Determinate.{AcceptedRun}
+use Rattle.cilk_crew.specs.Faults.{IsCrew}
+use Rattle.cilk_judge.specs.Judging.{Meant, meant}
+use Rattle.cilk_planning.specs.Plans.{IsPlanOf, WholePlan}
+use Rattle.cilk_program.specs.Sources.{source}
+use Rattle.cilk_texts.specs.Inputs.{IsInput}
+use Rattle.cilk_threads.specs.Outcomes.{DepartsOn, IsOutcomeOn}
+use Rattle.cilk_types.specs.declared.outcome.Outcome.{Outcome}
+use Rattle.cilk_tool.specs.Files.{Failures, IsHeld}
+use Rattle.cilk_tool.specs.Replies.{Accepted, Ended, NoMemory, Refused, Reply, Text, answer_view, failure_view}
+use Rattle.cilk_tool.specs.Serving.{AreGiven, FileFails, InputFileFails, Judged, JudgedReply, Surroundings}
+use Rattle.cilk_tool.specs.Shown.{CheckShows, InputFails}
+use Rattle.cilk_tool.specs.Words.{Origin}
+use Rattle.cilk_tool.specs.declared.reply.Failure.{Failure}
+use Rattle.cilk_parallel.specs.Endings.{AreNotGiven, ending_view}
+use Rattle.cilk_parallel.specs.Shown.{AcceptedShow, DepartsFrom, GivesNumbers, IsAcceptedRun, IsUnfailed, IsUnrun, NumbersRefused, NumbersUnread, Ran, RunShows, ThreadsShow, Unaccepted, WithRun, departed, no_crew}
+use Rattle.cilk_parallel.specs.Words.{Requested}
+use Rattle.cilk_parallel.specs.declared.running.Ending.{Ending}
+
+-- the plan of an accepted run is that run's, and where an input departs from the plan, it departs from the run
+module _ (w : WholePlan) (a : AcceptedRun) (of : w.run ≡ a) (numbers : List ℤ) (workers : ℕ) where
+  -- an outcome
+  pub ran : (names : List Text) (o : Outcome) → names ≡ map (λ r. r.name) a.program.reducers.items
+      → IsCrew workers × IsOutcomeOn (source w.run.program) numbers o → (numbers ≡ w.run.input → o ≡ w.run.outcome)
+      → RunShows a (meant a.program) numbers workers (Ended names o)
+  ran names o same ok own =
+      (same, ok.0, subst (λ (b : AcceptedRun). IsOutcomeOn (source b.program) numbers o) of ok.1,
+      subst (λ (b : AcceptedRun). numbers ≡ b.input → o ≡ b.outcome) of own)
+
+  -- the workers aren't 1 to 64
+  pub unmanned : (IsCrew workers → ⊥) → RunShows a (meant a.program) numbers workers (Refused no_crew [])
+  unmanned none = inl (refl, refl, none)
+
+  -- the numbers depart
+  pub departs : (at : ℕ) → IsPlanOf w.run w.story → IsCrew workers × DepartsOn w numbers at → (numbers ≡ w.run.input → ⊥)
+      → RunShows a (meant a.program) numbers workers (Refused departed (at ∷ []))
+  departs at plan h other =
+      inr (refl, subst (λ (b : AcceptedRun). numbers ≢ b.input) of other,
+      (at, refl, subst (λ (b : AcceptedRun). DepartsFrom b numbers at) of (w.story, plan, h.1)))
+
+-- the numbers of a file
+module _ (files : Text → Option Text) (failed failed' : Failures) where
+  pub not_read : (path : Text) (r : Reply) → FileFails failed failed' path r → AreNotGiven files failed failed' path r
+  not_read path r h = inl h
+
+  pub not_right : (path text slice : Text) (r : Reply) → IsHeld (files path) text → slice ≡ text → InputFails slice r → AreNotGiven files failed failed' path r
+  not_right path text slice r held e h = inr (text, held, subst (λ (t : Text). InputFails t r) e h)
+
+  pub are_given : (path text slice : Text) (inputs : List ℤ) → IsHeld (files path) text → slice ≡ text → IsInput slice inputs
+      → GivesNumbers files (Some path) [] inputs
+  are_given path text slice inputs held e h = (text, held, subst (λ (t : Text). IsInput t inputs) e h)
+
+  -- what is shown where they aren't given
+  pub ungiven : (path : Text) (on : Option Text) (workers : ℕ) (a : AcceptedRun) (m : Meant) (r : Reply) → on ≡ Some path
+      → AreNotGiven files failed failed' path r → AcceptedShow files failed failed' on workers a m r
+  ungiven path on workers a m r e (inl h) = NumbersUnread (subst (λ (o : Option Text). InputFileFails failed failed' o r) (sym e) h)
+  ungiven path on workers a m r e (inr h) = NumbersRefused path h.0 e h.1 h.2
+
+  -- what the run shows on numbers that are given
+  pub runs : {T : Type 0} (x : Result Ending T) (on : Option Text) (numbers : List ℤ) (workers : ℕ) (a : AcceptedRun) (m : Meant)
+      → GivesNumbers files on a.input numbers → IfOk x (λ e. RunShows a m numbers workers (ending_view e))
+      → IfOk x (λ e. AcceptedShow files failed failed' on workers a m (ending_view e))
+  runs (Ok e) on numbers workers a m given h = Ran numbers given h
+  runs (Err f) on numbers workers a m given h = tt
+
+  pub fails : {T : Type 0} (x : Result T Failure) (on : Option Text) (numbers : List ℤ) (workers : ℕ) (a : AcceptedRun) (m : Meant)
+      → GivesNumbers files on a.input numbers → IfErr x (λ f. RunShows a m numbers workers (failure_view f))
+      → IfErr x (λ f. AcceptedShow files failed failed' on workers a m (failure_view f))
+  fails (Ok e) on numbers workers a m given h = tt
+  fails (Err f) on numbers workers a m given h = Ran numbers given h
+
+-- numbers that the same files give
+same_numbers : (files files' : Text → Option Text) (on : Option Text) (own numbers : List ℤ)
+    → ((path : Text) → on ≡ Some path → files' path ≡ files path) → GivesNumbers files' on own numbers → GivesNumbers files on own numbers
+same_numbers files files' None own numbers same h = h
+same_numbers files files' (Some path) own numbers same h = (h.0, subst (λ (k : Option Text). IsHeld k h.0) (same path refl) h.1, h.2)
+
+same_accepted : (files files' : Text → Option Text) (failed failed' : Failures) (on : Option Text) (workers : ℕ) (a : AcceptedRun) (m : Meant) (r : Reply)
+    → ((path : Text) → on ≡ Some path → files' path ≡ files path) → AcceptedShow files' failed failed' on workers a m r
+    → AcceptedShow files failed failed' on workers a m r
+same_accepted files files' failed failed' on workers a m r same (NumbersUnread h) = NumbersUnread h
+same_accepted files files' failed failed' on workers a m r same (NumbersRefused path text e held h) =
+    NumbersRefused path text e (subst (λ (k : Option Text). IsHeld k text) (same path e) held) h
+same_accepted files files' failed failed' on workers a m r same (Ran numbers given h) =
+    Ran numbers (same_numbers files files' on a.input numbers same given) h
+
+-- what is shown of an accepted program
+module _ (files files' : Text → Option Text) (failed accepted failed' : Failures) (asked : Requested) (m : Meant) (inputs : List ℤ) (a : AcceptedRun)
+    (is : IsAcceptedRun m inputs (files asked.certificate) a) (unfailed : IsUnfailed failed accepted asked.certificate)
+    (same : (path : Text) → asked.on ≡ Some path → files' path ≡ files path) where
+  with_run : (r : Reply) → AcceptedShow files' accepted failed' asked.on asked.workers a (meant a.program) r → ThreadsShow files failed failed' asked m inputs r
+  with_run r h =
+      WithRun a accepted is unfailed (subst (λ (n : Meant). AcceptedShow files accepted failed' asked.on asked.workers a n r) is.program
+      (same_accepted files files' accepted failed' asked.on asked.workers a (meant a.program) r same h))
+
+  pub with_run_ok : {T : Type 0} (x : Result Ending T) → IfOk x (λ e. AcceptedShow files' accepted failed' asked.on asked.workers a (meant a.program) (ending_view e))
+      → IfOk x (λ e. ThreadsShow files failed failed' asked m inputs (ending_view e))
+  with_run_ok (Ok e) h = with_run (ending_view e) h
+  with_run_ok (Err f) h = tt
+
+  pub with_run_err : {T : Type 0} (x : Result T Failure) → IfErr x (λ f. AcceptedShow files' accepted failed' asked.on asked.workers a (meant a.program) (failure_view f))
+      → IfErr x (λ f. ThreadsShow files failed failed' asked m inputs (failure_view f))
+  with_run_err (Ok e) h = tt
+  with_run_err (Err f) h = with_run (failure_view f) h
+
+-- the other file that is named holds what it held
+pub beside : (files files' : Text → Option Text) (on : Option (Bor Text)) (certificate other : Bor Text) → other ≡ unwrap_or on certificate
+    → files' other.now ≡ files other.now → (path : Text) → option_map (λ p. p.now) on ≡ Some path → files' path ≡ files path
+beside files files' None certificate other e same path h = absurd (cc h)
+beside files files' (Some b) certificate other e same path h =
+    let named : b.now ≡ path = cc h in
+    subst (λ (p : Text). files' p ≡ files p) (ap (λ (p : Bor Text). p.now) e ∙ named) same
+
+-- the same by what was known before the texts of program and input were read
+module _ (files files' : Text → Option Text) (failed before failed' : Failures) (same : (path : Text) → files' path ≡ files path) (unfailed : before ≡ failed) where
+  pub earlier : (asked : Requested) (m : Meant) (inputs : List ℤ) (r : Reply) → ThreadsShow files' before failed' asked m inputs r
+      → ThreadsShow files failed failed' asked m inputs r
+  earlier asked m inputs r (Unaccepted n h) =
+      Unaccepted n (subst (λ (k : Option Text). CheckShows asked.certificate k failed failed' m inputs r) (same asked.certificate)
+      (subst (λ (f : Failures). CheckShows asked.certificate (files' asked.certificate) f failed' m inputs r) unfailed h))
+  earlier asked m inputs r (WithRun a accepted is none h) =
+      WithRun a accepted
+      (record { program = is.program; input = is.input; certified = subst (λ (k : Option Text). IsCertified m.source inputs k a.trace a.outcome) (same asked.certificate) is.certified })
+      (subst (λ (f : Failures). IsUnfailed f accepted asked.certificate) unfailed none)
+      (same_accepted files files' accepted failed' asked.on asked.workers a m r (λ path _. same path) h)
+
+  pub earlier_ok : {T : Type 0} (x : Result Ending T) (asked : Requested) (m : Meant) (inputs : List ℤ)
+      → IfOk x (λ e. ThreadsShow files' before failed' asked m inputs (ending_view e)) → IfOk x (λ e. ThreadsShow files failed failed' asked m inputs (ending_view e))
+  earlier_ok (Ok e) asked m inputs h = earlier asked m inputs (ending_view e) h
+  earlier_ok (Err f) asked m inputs h = tt
+
+  pub earlier_err : {T : Type 0} (x : Result T Failure) (asked : Requested) (m : Meant) (inputs : List ℤ)
+      → IfErr x (λ f. ThreadsShow files' before failed' asked m inputs (failure_view f)) → IfErr x (λ f. ThreadsShow files failed failed' asked m inputs (failure_view f))
+  earlier_err (Ok e) asked m inputs h = tt
+  earlier_err (Err f) asked m inputs h = earlier asked m inputs (failure_view f) h
+
+-- the answer to a command over a program and its input
+pub judged_ok : {T : Type 0} (IsShown : Meant → List ℤ → Reply → Type 0) (x : Result Ending T) (w : Surroundings) (p : Origin)
+    (i : Option Text) (q : Meant) (inputs : List ℤ)
+    → AreGiven w p i q inputs → IfOk x (λ e. IsShown q inputs (ending_view e)) → IfOk x (λ e. JudgedReply IsShown w p i (ending_view e))
+judged_ok IsShown (Ok e) w p i q inputs given h = Judged q inputs given h
+judged_ok IsShown (Err f) w p i q inputs given h = tt
