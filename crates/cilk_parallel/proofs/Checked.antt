@@ -44,9 +44,10 @@ pub stays : (f g : Failures) (files files' : Text → Option Text) (p q o n path
 stays f g files files' p q o n path other here there kept count =
     let same = kept_beside g f q p n o (files' n) (files o) kept in
     let own : q ≡ path = same.path ∙ here in
-    let beside : n ≡ other = same.other ∙ there in
-    (record { count = count; elsewhere = sym (ap g.elsewhere own) ∙ same.first ∙ ap f.elsewhere here },
-    sym (ap files' beside) ∙ same.known ∙ ap files there)
+    let beside : n ≡ other = same.other ∙ there in (
+      record { count = count; elsewhere = sym (ap g.elsewhere own) ∙ same.first ∙ ap f.elsewhere here },
+      sym (ap files' beside) ∙ same.known ∙ ap files there,
+    )
 
 -- a failing device is that of the certificate's file
 pub failed : (f g : Failures) (files files' : Text → Option Text) (p q o n path : Text) → p ≡ path
@@ -70,9 +71,10 @@ accepts_none failures.Memory = λ e. absurd (cc e)
 pub refuses : (a : Answer) (path : Text) (known : Option Text) (failed failed' : Failures) (m : Meant) (inputs : List ℤ) (f : Refusal)
     → (f ≢ refusals.Memory) × (answer_view a ≡ Refused (number_of f) (places_of (fields_of f))) → IsRefusedText m.source inputs known f
     → (answer_view a ≢ Accepted) × CheckShows path known failed failed' m inputs (answer_view a)
-refuses a path known failed failed' m inputs f h text =
-    (λ e. let wrong : Refused (number_of f) (places_of (fields_of f)) ≡ Accepted = sym h.1 ∙ e in absurd (cc wrong),
-    subst (λ (r : Reply). CheckShows path known failed failed' m inputs r) (sym h.1) (f, h.0, refl, refl, text))
+refuses a path known failed failed' m inputs f h text = (
+  λ e. let wrong : Refused (number_of f) (places_of (fields_of f)) ≡ Accepted = sym h.1 ∙ e in absurd (cc wrong),
+  subst (λ (r : Reply). CheckShows path known failed failed' m inputs r) (sym h.1) (f, h.0, refl, refl, text),
+)
 
 -- there was no memory to tell it
 pub starved : (f : Failure) (path : Text) (known : Option Text) (failed failed' : Failures) (m : Meant) (inputs : List ℤ) → failure_view f ≡ NoMemory

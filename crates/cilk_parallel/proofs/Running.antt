@@ -35,9 +35,12 @@ module _ (w : WholePlan) (a : AcceptedRun) (of : w.run ≡ a) (numbers : List �
   pub ran : (names : List Text) (o : Outcome) → names ≡ map (λ r. r.name) a.program.reducers.items
       → IsCrew workers × IsOutcomeOn (source w.run.program) numbers o → (numbers ≡ w.run.input → o ≡ w.run.outcome)
       → RunShows a (meant a.program) numbers workers (Ended names o)
-  ran names o same ok own =
-      (same, ok.0, subst (λ (b : AcceptedRun). IsOutcomeOn (source b.program) numbers o) of ok.1,
-      subst (λ (b : AcceptedRun). numbers ≡ b.input → o ≡ b.outcome) of own)
+  ran names o same ok own = (
+    same,
+    ok.0,
+    subst (λ (b : AcceptedRun). IsOutcomeOn (source b.program) numbers o) of ok.1,
+    subst (λ (b : AcceptedRun). numbers ≡ b.input → o ≡ b.outcome) of own,
+  )
 
   -- the workers aren't 1 to 64
   pub unmanned : (IsCrew workers → ⊥) → RunShows a (meant a.program) numbers workers (Refused no_crew [])
@@ -47,8 +50,11 @@ module _ (w : WholePlan) (a : AcceptedRun) (of : w.run ≡ a) (numbers : List �
   pub departs : (at : ℕ) → IsPlanOf w.run w.story → IsCrew workers × DepartsOn w numbers at → (numbers ≡ w.run.input → ⊥)
       → RunShows a (meant a.program) numbers workers (Refused departed (at ∷ []))
   departs at plan h other =
-      inr (refl, subst (λ (b : AcceptedRun). numbers ≢ b.input) of other,
-      (at, refl, subst (λ (b : AcceptedRun). DepartsFrom b numbers at) of (w.story, plan, h.1)))
+      inr (
+        refl,
+        subst (λ (b : AcceptedRun). numbers ≢ b.input) of other,
+        (at, refl, subst (λ (b : AcceptedRun). DepartsFrom b numbers at) of (w.story, plan, h.1)),
+      )
 
 -- the numbers of a file
 module _ (files : Text → Option Text) (failed failed' : Failures) where

@@ -4,8 +4,8 @@
 -- - `fails`, `ends`: a failure, or an ending, is served; `starved`: a want of memory is.
 use Rattle.std.proofs.Common.{◌≡◌, ℕ, List, [], Bool, Option, Some, None, refl, sym, ap, subst, inl, inr, ◌∙◌}
 use Rattle.std.specs.Io.KnownBytes.{Appends}
-use Rattle.cilk_tool.specs.Replies.{BadWords, NoMemory, Reply, Text, failure_view, out_text, status_of}
-use Rattle.cilk_tool.specs.Serving.{IsOrNoMemory, ProgramUnread, Shows, ShowsError, Surroundings, Unjudged}
+use Rattle.cilk_tool.specs.Replies.{NoMemory, Reply, Text, failure_view, out_text, status_of}
+use Rattle.cilk_tool.specs.Serving.{IsOrNoMemory, ProgramUnread, Shows, ShowsError, Surroundings, Unjudged, WordsFail}
 use Rattle.cilk_tool.specs.declared.reply.Failure.{Failure}
 use Rattle.cilk_tool.specs.declared.reply.Failure.TheVariants as failures
 use Rattle.cilk_tool.proofs.Replying.{keeps}
@@ -39,8 +39,8 @@ pub answered : (words : List Text) (w : Surroundings) (asked : Option Requested)
     → Answers w (order_in words) r
 answered words w asked r e h = subst (λ (x : Option Requested). Answers w x r) (sym e) h
 
-pub no_words : (words : List Text) (w : Surroundings) → order_in words ≡ None → Answers w (order_in words) BadWords
-no_words words w e = answered words w None BadWords e tt
+pub no_words : (words : List Text) (w : Surroundings) (r : Reply) → order_in words ≡ None → WordsFail r → Answers w (order_in words) r
+no_words words w r e h = answered words w None r e h
 
 module _ (words : List Text) (w : Surroundings) (status : ℕ) (told : Bool) where
   pub fails : (f : Failure) (o e e' : Option Text) → Answers w (order_in words) (failure_view f)

@@ -1,8 +1,8 @@
 //! From words to a reply that is shown.
 
 ghost use Rattle.std.specs.Prelude.{◌≡◌, ◌<◌, ◌++◌, IfOk, OnOk, flat_map};
-ghost use Rattle.cilk_tool.specs.Replies.{Refused, Reply, place_text, refused_line};
-ghost use Rattle.cilk_tool.specs.Serving.{IsOrNoMemory, Shows, world};
+ghost use Rattle.cilk_tool.specs.Replies.{Refused, Reply, failure_view, place_text, refused_line};
+ghost use Rattle.cilk_tool.specs.Serving.{IsOrNoMemory, Shows, WordsFail, world};
 ghost use Rattle.cilk_tool.specs.Words.{texts};
 ghost use Rattle.cilk_parallel.specs.Endings.{ending_view, place_of};
 ghost use Rattle.cilk_parallel.specs.Serving.{ServesParallel, ServesThreads, is_threads};
@@ -27,6 +27,9 @@ pub const NO_CREW: u32 = 501;
 
 /// The number of the refusal where an input departs from the plan of the certified run.
 pub const DEPARTED: u32 = 502;
+
+// What stands behind what is said of words that ask for nothing.
+const HINT: &str = "\nhint: `cilk --help` describes `threads` and its options\n";
 
 /// Serves the words after the program's own name: `threads` runs an accepted program by workers on threads, and waits for them; other
 /// words are served as `serve_explained` serves them.
@@ -79,8 +82,19 @@ fn serve_threads<H: Threads + Wait + Sync, F: Files, R: Read, O: Write, E: Write
             Ok(ending) => show_ending(alloc, &ending, out, err),
             Err(failure) => complain(alloc, &failure, err),
         },
-        Err(WordsFault::Usage(usage)) => complain(alloc, &Failure::Words(usage), err),
+        Err(WordsFault::Usage(usage)) => complain(alloc, &advised(usage), err),
         Err(WordsFault::Memory) => complain(alloc, &Failure::Memory, err),
+    }
+}
+
+/// What is shown of words that ask for nothing: why, and what describes them.
+fn advised<'a>(usage: String) -> Failure<'a>
+    ensures { WordsFail (failure_view result) }
+{
+    let mut text = usage;
+    match text.push_str(HINT) {
+        Ok(()) => Failure::Words(text),
+        Err(_) => Failure::Memory,
     }
 }
 
