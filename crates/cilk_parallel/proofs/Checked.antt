@@ -1,15 +1,17 @@
 -- What the check of a certificate comes to.
 --
 -- - `accepts`: it is accepted, with its run;
--- - `stays`: no read failed then, and what another file holds is still known;
--- - `refuses`: why it is refused; `unread`, `starved`: its file can't be read, or there was no memory.
+-- - `stays`: no read failed then, and what another file holds is still known; `unread`: its file can't be read;
+-- - `refuses`: why it is refused; `starved`: there was no memory to tell it.
 use Rattle.std.proofs.Common.{◌≡◌, ℕ, List, ◌∷◌, Option, Some, None, option_map, drop, refl, sym, ap, ap₂, subst, ◌∙◌}
 use Rattle.std.specs.Prelude.{◌≢◌, ◌<◌, ℤ, Result, Ok, Err, IfErr}
-use Rattle.cilk_checker.specs.Answers.{IsCertified, IsRefusedText}
+use Rattle.cilk_checker.specs.Answers.{IsCertified, IsRefusedText, IsUnaccepted}
 use Rattle.cilk_checker.specs.Determinate.{AcceptedRun}
 use Rattle.cilk_checker.specs.Numbers.{fields_of, number_of}
 use Rattle.cilk_checker.specs.declared.refusal.Refusal.{Refusal}
 use Rattle.cilk_checker.specs.declared.refusal.Refusal.TheVariants as refusals
+use Rattle.cilk_checker.specs.declared.refusal.Unaccepted.{Unaccepted}
+use Rattle.cilk_checker.specs.declared.refusal.Unaccepted.TheVariants as unaccepted
 use Rattle.cilk_judge.specs.Judging.{Meant, meant}
 use Rattle.cilk_program.specs.Sources.{source}
 use Rattle.cilk_program.specs.declared.program.Program.{Program}
@@ -38,23 +40,35 @@ accepts p inputs known known' at a e d program input h =
       certified = subst (λ (k : Option Text). IsCertified (source p) inputs k a.trace a.outcome) all h;
     }
 
--- nothing failed, and another file holds what it held
-pub stays : (f g : Failures) (files files' : Text → Option Text) (p q o n path other : Text) → p ≡ path → o ≡ other
-    → kept_of g q n (files' n) ≡ kept_of f p o (files o) → g.count ≡ f.count → IsUnfailed f g path × (files' other ≡ files other)
-stays f g files files' p q o n path other here there kept count =
+unchanged : (f g : Failures) (files files' : Text → Option Text) (p q o n path other : Text) → p ≡ path → o ≡ other
+    → kept_of g q n (files' n) ≡ kept_of f p o (files o) → (g.elsewhere path ≡ f.elsewhere path) × (files' other ≡ files other)
+unchanged f g files files' p q o n path other here there kept =
     let same = kept_beside g f q p n o (files' n) (files o) kept in
     let own : q ≡ path = same.path ∙ here in
-    let beside : n ≡ other = same.other ∙ there in (
-      record { count = count; elsewhere = sym (ap g.elsewhere own) ∙ same.first ∙ ap f.elsewhere here },
-      sym (ap files' beside) ∙ same.known ∙ ap files there,
-    )
+    let beside : n ≡ other = same.other ∙ there in
+    (sym (ap g.elsewhere own) ∙ same.first ∙ ap f.elsewhere here, sym (ap files' beside) ∙ same.known ∙ ap files there)
 
--- a failing device is that of the certificate's file
-pub failed : (f g : Failures) (files files' : Text → Option Text) (p q o n path : Text) → p ≡ path
-    → kept_of g q n (files' n) ≡ kept_of f p o (files o) → f.count < g.count → HasFailed path f g
-failed f g files files' p q o n path here kept count =
-    let same = kept_beside g f q p n o (files' n) (files o) kept in
-    (count, sym (ap g.elsewhere (same.path ∙ here)) ∙ same.first ∙ ap f.elsewhere here)
+-- a source of a certificate, over files that are as they were before
+module _ {F : Type 0} (failed : F → Failures) (holds : F → Text → Option Text) (old made new : F) (p q o n path other : Text) (same : made ≡ old)
+    (here : p ≡ path) (there : o ≡ other) (kept : kept_of (failed new) q n (holds new n) ≡ kept_of (failed made) p o (holds made o)) where
+  left : ((failed new).elsewhere path ≡ (failed old).elsewhere path) × (holds new other ≡ holds old other)
+  left =
+      unchanged (failed old) (failed new) (holds old) (holds new) p q o n path other here there
+      (subst (λ (x : F). kept_of (failed new) q n (holds new n) ≡ kept_of (failed x) p o (holds x o)) same kept)
+
+  -- nothing failed, and another file holds what it held
+  pub stays : (failed new).count ≡ (failed made).count → IsUnfailed (failed old) (failed new) path × (holds new other ≡ holds old other)
+  stays count =
+      (record { count = subst (λ (x : F). (failed new).count ≡ (failed x).count) same count; elsewhere = left.0 }, left.1)
+
+  -- the device that failed is that of the certificate's file
+  pub unread : (known source_known : Option Text) (m : Meant) (inputs : List ℤ) (u : Unaccepted) → u ≡ unaccepted.Unread
+      → IsUnaccepted m.source inputs source_known (failed made).count (failed new).count u
+      → (Unreadable path ≢ Accepted) × CheckShows path known (failed old) (failed new) m inputs (Unreadable path)
+  unread known source_known m inputs u is h =
+      let count : (failed made).count < (failed new).count =
+      subst (λ (x : Unaccepted). IsUnaccepted m.source inputs source_known (failed made).count (failed new).count x) is h in
+      (λ e. absurd (cc e), (refl, (subst (λ (x : F). (failed x).count < (failed new).count) same count, left.0)))
 
 -- a failure isn't an acceptance
 pub accepts_none : (f : Failure) → failure_view f ≢ Accepted

@@ -43,3 +43,8 @@ kept_beside f g p q o n k l e =
     let paths = ahead p q _ _ rest in
     let others = ahead o n _ _ paths.1 in
     record { path = paths.0; other = others.0; first = first; known = known_same k l others.1 }
+
+-- what is kept stays
+pub same_kept : (f g : Failures) (path other : Text) (k l : Option Text) → g.elsewhere path ≡ f.elsewhere path → l ≡ k
+    → kept_of g path other l ≡ kept_of f path other k
+same_kept f g path other k l e d = ap₂ (λ (n : ℕ) (t : Option Text). n ∷ text_ahead path (text_ahead other (numbers_of t))) e d

@@ -16,7 +16,9 @@ use Rattle.cilk_judge.specs.Judging.{Meant, meant}
 use Rattle.cilk_planning.specs.Plans.{IsPlanOf, WholePlan}
 use Rattle.cilk_program.specs.Sources.{source}
 use Rattle.cilk_texts.specs.Inputs.{IsInput}
-use Rattle.cilk_threads.specs.Outcomes.{DepartsOn, IsOutcomeOn}
+use Rattle.cilk_threads.specs.Outcomes.{DepartsOn, IsFaultOn, IsOutcomeOn, NamesNoPosition}
+use Rattle.cilk_crew.specs.declared.run.ThreadFault.{ThreadFault}
+use Rattle.cilk_crew.specs.declared.run.ThreadFault.TheVariants as faults
 use Rattle.cilk_types.specs.declared.outcome.Outcome.{Outcome}
 use Rattle.cilk_tool.specs.Files.{Failures, IsHeld}
 use Rattle.cilk_tool.specs.Replies.{Accepted, Ended, NoMemory, Refused, Reply, Text, answer_view, failure_view}
@@ -47,13 +49,15 @@ module _ (w : WholePlan) (a : AcceptedRun) (of : w.run ≡ a) (numbers : List �
   unmanned none = inl (refl, refl, none)
 
   -- the numbers depart
-  pub departs : (at : ℕ) → IsPlanOf w.run w.story → IsCrew workers × DepartsOn w numbers at → (numbers ≡ w.run.input → ⊥)
-      → RunShows a (meant a.program) numbers workers (Refused departed (at ∷ []))
-  departs at plan h other =
+  pub departs : (f : ThreadFault) (at : ℕ) → f ≡ faults.Departs at → IsPlanOf w.run w.story → IsFaultOn w numbers workers f
+      → (numbers ≡ w.run.input → NamesNoPosition f) → RunShows a (meant a.program) numbers workers (Refused departed (at ∷ []))
+  departs f at is plan h stays =
+      let there : IsCrew workers × DepartsOn w numbers at = subst (λ (x : ThreadFault). IsFaultOn w numbers workers x) is h in
+      let other : numbers ≢ w.run.input = λ e. subst (λ (x : ThreadFault). NamesNoPosition x) is (stays e) in
       inr (
         refl,
         subst (λ (b : AcceptedRun). numbers ≢ b.input) of other,
-        (at, refl, subst (λ (b : AcceptedRun). DepartsFrom b numbers at) of (w.story, plan, h.1)),
+        (at, refl, subst (λ (b : AcceptedRun). DepartsFrom b numbers at) of (w.story, plan, there.1)),
       )
 
 -- the numbers of a file
