@@ -1,11 +1,13 @@
 -- How the reply to `threads` comes about.
 --
 -- - `answered`: what is answered to what the words ask for; `no_words`: to words that ask for nothing;
--- - `fails`, `ends`: a failure, or an ending, is served; `starved`: a want of memory is.
-use Rattle.std.proofs.Common.{◌≡◌, ℕ, List, [], Bool, Option, Some, None, refl, sym, ap, subst, inl, inr, ◌∙◌}
+-- - `fails`, `ends`: a failure, or an ending, is served; `starved`: a want of memory is;
+-- - `sent`, `cut`: a refusal's line goes out, all of it or a beginning.
+use Rattle.std.proofs.Common.{◌≡◌, ℕ, List, [], Bool, true, codes, Option, Some, None, refl, sym, ap, subst, inl, inr, ◌∙◌}
 use Rattle.std.specs.Io.KnownBytes.{Appends}
-use Rattle.cilk_tool.specs.Replies.{NoMemory, Reply, Text, failure_view, out_text, status_of}
+use Rattle.cilk_tool.specs.Replies.{NoMemory, Refused, Reply, Text, failure_view, line, out_text, refused_line, status_of}
 use Rattle.cilk_tool.specs.Serving.{IsOrNoMemory, ProgramUnread, Shows, ShowsError, Surroundings, Unjudged, WordsFail}
+use Rattle.cilk_tool.specs.Streams.{AppendsFront, AppendsPart}
 use Rattle.cilk_tool.specs.declared.reply.Failure.{Failure}
 use Rattle.cilk_tool.specs.declared.reply.Failure.TheVariants as failures
 use Rattle.cilk_tool.proofs.Replying.{keeps}
@@ -57,3 +59,15 @@ module _ (words : List Text) (w : Surroundings) (status : ℕ) (told : Bool) whe
   pub ends : (wanted : Reply) (o o' e e' : Option Text) → Answers w (order_in words) wanted
       → (r : Reply) × IsOrNoMemory wanted r × Shows r status told o o' e e' → ServesThreads words w status told o o' e e'
   ends wanted o o' e e' h shown = (shown.0, or_no_memory w (order_in words) wanted shown.0 h shown.1, shown.2)
+
+-- all of a refusal's line goes out
+pub sent : (number : ℕ) (places : List ℕ) (text : Text) (o o' e : Option Text) → text ≡ refused_line number places → Appends o o' text
+    → (r : Reply) × IsOrNoMemory (Refused number places) r × Shows r 4 true o o' e e
+sent number places text o o' e is out =
+    (Refused number places, inl refl, inl (refl, subst (λ (t : Text). Appends o o' t) is out, ([], refl, keeps e)))
+
+-- a beginning of it does, and it is said that a write failed
+pub cut : (number : ℕ) (places : List ℕ) (text : Text) (told : Bool) (o o' e e' : Option Text) → text ≡ refused_line number places → AppendsPart o o' text
+    → AppendsFront told e e' (line (codes "cannot write")) → (r : Reply) × IsOrNoMemory (Refused number places) r × Shows r 2 told o o' e e'
+cut number places text told o o' e e' is out said =
+    (Refused number places, inl refl, inr (refl, subst (λ (t : Text). AppendsPart o o' t) is out, said))

@@ -32,9 +32,13 @@ on_rule = record (new_rule (codes "on")) { long = Some (codes "on"); action = So
 abbrev pub two_texts_app : App
 two_texts_app = with_rule (with_rule (new_app (codes "threads")) program_rule) certificate_rule
 
--- the same with `[--workers N] [--input FILE] [--on FILE]`
+-- the same with `[--workers N] [--input FILE]`
+abbrev pub checked_app : App
+checked_app = with_rule (with_rule two_texts_app workers_rule) input_rule
+
+-- the same with `[--on FILE]`
 abbrev pub threads_app : App
-threads_app = with_rule (with_rule (with_rule two_texts_app workers_rule) input_rule) on_rule
+threads_app = with_rule checked_app on_rule
 
 abbrev pub parallel_app : App
 parallel_app = with_subcommand empty_app threads_app.top

@@ -26,6 +26,7 @@ use cilk_tool::words::Origin;
 use cilk_tool::{given, input as judge_input, names, read_file, refused};
 use cilk_types::event::Pos;
 use cilk_types::input::Input;
+use cilk_types::outcome::Outcome;
 use cilk_workers::gate::Open;
 use std::alloc::Global;
 use std::io::Read;
@@ -86,6 +87,17 @@ fn numbers<'a, F: Files>(alloc: Global, path: &'a str, files: &mut F) -> Result<
     judge_input(alloc, text.as_slice())
 }
 
+/// What an accepted program left, with the names of its global reducers.
+fn ended<'a>(alloc: Global, accepted: &Accepted, outcome: Outcome) -> Result<Ending, Failure<'a>>
+    ensures answer { IfOk result (λ e. let m = meant accepted.now.program in ending_view e ≡ replies.Ended m.names outcome) }
+    ensures failure { IfErr result (λ e. failure_view e ≡ replies.NoMemory) }
+{
+    Ok(Ending::Answer(Answer::Outcome {
+        names: names(alloc, accepted.program().reducers.as_slice())?,
+        outcome,
+    }))
+}
+
 /// Runs an accepted program by so many workers on these numbers.
 fn run<'a, H: Threads + Wait + Sync>(
     rt: &H,
@@ -100,10 +112,7 @@ fn run<'a, H: Threads + Wait + Sync>(
     let plan = plan(alloc, accepted)?;
     plan.laws();
     match run_threads(rt, alloc, &plan, numbers, workers, &Open) {
-        Ok(outcome) => Ok(Ending::Answer(Answer::Outcome {
-            names: names(alloc, accepted.program().reducers.as_slice())?,
-            outcome,
-        })),
+        Ok(outcome) => ended(alloc, accepted, outcome),
         Err(ThreadFault::Departs(at)) => Ok(Ending::Departed(at)),
         Err(ThreadFault::Workers) => Ok(Ending::Workers),
         Err(ThreadFault::Memory) => Err(Failure::Memory),

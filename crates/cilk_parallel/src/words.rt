@@ -3,7 +3,7 @@
 ghost use Rattle.std.specs.Prelude.{◌≡◌, IfOk, IfErr, Some, option_map};
 ghost use Rattle.clap.specs.Words.{found_of, rows_of, subcommand_rows_of};
 ghost use Rattle.cilk_tool.specs.Words.{HasShape, texts};
-ghost use Rattle.cilk_parallel.specs.Words.{IsWordsFault, order_by, order_in, order_view, parallel_app, texts_in, texts_view, threads_app, threads_with, two_texts_app};
+ghost use Rattle.cilk_parallel.specs.Words.{IsWordsFault, checked_app, order_by, order_in, order_view, parallel_app, texts_in, texts_view, threads_app, threads_with, two_texts_app};
 
 use cilk_tool::words::{WordsFault, refusal, workers_in};
 use clap::{Arg, ArgAction, ArgMatches, Command};
@@ -34,9 +34,9 @@ fn two_texts<'a>(alloc: Global) -> Result<Command<'a>, AllocError>
         .arg(certificate)
 }
 
-/// `threads PROGRAM CERTIFICATE [--workers N] [--input FILE] [--on FILE]`.
-fn threads_command<'a>(alloc: Global) -> Result<Command<'a>, AllocError>
-    ensures { IfOk result (λ c. HasShape c threads_app) }
+/// The same with `[--workers N] [--input FILE]`.
+fn checked_texts<'a>(alloc: Global) -> Result<Command<'a>, AllocError>
+    ensures { IfOk result (λ c. HasShape c checked_app) }
 {
     let workers = Arg::new(alloc, "workers")
         .long("workers")
@@ -44,8 +44,15 @@ fn threads_command<'a>(alloc: Global) -> Result<Command<'a>, AllocError>
     let input = Arg::new(alloc, "input")
         .long("input")
         .action(ArgAction::Set);
+    two_texts(alloc)?.arg(workers)?.arg(input)
+}
+
+/// `threads PROGRAM CERTIFICATE [--workers N] [--input FILE] [--on FILE]`.
+fn threads_command<'a>(alloc: Global) -> Result<Command<'a>, AllocError>
+    ensures { IfOk result (λ c. HasShape c threads_app) }
+{
     let on = Arg::new(alloc, "on").long("on").action(ArgAction::Set);
-    two_texts(alloc)?.arg(workers)?.arg(input)?.arg(on)
+    checked_texts(alloc)?.arg(on)
 }
 
 /// The command, a simple one.

@@ -6,7 +6,7 @@ use Rattle.cilk_parallel.proofs.words.two_paths.Goals as goal
 
 pub returns-in_err-program : goal.returns-in_err-program
 returns-in_err-program c =
-    ap (option_map texts_view) c.from_residual-in_err-program.ensures ∙ sym (no_program (found_of c.args.matches.now) _ c.get_str.ensures c.in_err-program.was)
+    ap (option_map texts_view) c.from_residual.ensures ∙ sym (no_program (found_of c.args.matches.now) _ c.get_str.ensures c.in_err-program.was)
 
 pub returns-in_err-certificate : goal.returns-in_err-certificate
 returns-in_err-certificate c =

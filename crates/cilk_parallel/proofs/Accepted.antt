@@ -1,7 +1,7 @@
 -- What is shown of an accepted program that workers run.
 --
--- - `ran`, `unmanned`, `departs`: what workers leave, or why they don't run it;
--- - `not_read`, `not_right`, `are_given`, `ungiven`: the numbers of another file;
+-- - `departs`: numbers depart from the plan of its run; `ran`, `starved`: workers left something, or memory was refused;
+-- - `own_numbers`, `named_numbers`: the numbers on which it is run; `ungiven`: they aren't given;
 -- - `runs`, `fails`: what the run on given numbers shows;
 -- - `with_run_ok`, `with_run_err`, `beside`: what is shown of the program whose certificate is accepted, over the files as they were;
 -- - `earlier_ok`, `earlier_err`: the same by what was known before its texts were read; `judged_ok`: the answer to the command.
@@ -26,57 +26,67 @@ use Rattle.cilk_tool.specs.Serving.{AreGiven, FileFails, InputFileFails, Judged,
 use Rattle.cilk_tool.specs.Shown.{CheckShows, InputFails}
 use Rattle.cilk_tool.specs.Words.{Origin}
 use Rattle.cilk_tool.specs.declared.reply.Failure.{Failure}
-use Rattle.cilk_parallel.specs.Endings.{AreNotGiven, ending_view}
+use Rattle.cilk_parallel.specs.Endings.{AreNotGiven, IsVerdict, StaysBeside, ending_view}
+use Rattle.cilk_parallel.specs.declared.running.Verdict.{Verdict}
+use Rattle.cilk_parallel.specs.declared.running.Verdict.TheVariants as verdicts
 use Rattle.cilk_parallel.specs.Shown.{AcceptedShow, DepartsFrom, GivesNumbers, IsAcceptedRun, IsUnfailed, IsUnrun, NumbersRefused, NumbersUnread, Ran, RunShows, ThreadsShow, Unaccepted, WithRun, departed, no_crew}
 use Rattle.cilk_parallel.specs.Words.{Requested}
 use Rattle.cilk_parallel.specs.declared.running.Ending.{Ending}
 
--- the plan of an accepted run is that run's, and where an input departs from the plan, it departs from the run
-module _ (w : WholePlan) (a : AcceptedRun) (of : w.run ≡ a) (numbers : List ℤ) (workers : ℕ) where
-  -- an outcome
-  pub ran : (names : List Text) (o : Outcome) → names ≡ map (λ r. r.name) a.program.reducers.items
-      → IsCrew workers × IsOutcomeOn (source w.run.program) numbers o → (numbers ≡ w.run.input → o ≡ w.run.outcome)
-      → RunShows a (meant a.program) numbers workers (Ended names o)
-  ran names o same ok own = (
-    same,
-    ok.0,
-    subst (λ (b : AcceptedRun). IsOutcomeOn (source b.program) numbers o) of ok.1,
-    subst (λ (b : AcceptedRun). numbers ≡ b.input → o ≡ b.outcome) of own,
-  )
+-- where numbers depart from the plan of an accepted run, they depart from the run
+pub departs : (w : WholePlan) (a : AcceptedRun) (numbers : List ℤ) (workers : ℕ) (f : ThreadFault) (at place : ℕ) → w.run ≡ a
+    → f ≡ faults.Departs at → at ≡ place → IsPlanOf w.run w.story → IsFaultOn w numbers workers f → (numbers ≡ w.run.input → NamesNoPosition f)
+    → RunShows a (meant a.program) numbers workers (Refused departed (place ∷ []))
+departs w a numbers workers f at place of is same plan h stays =
+    let there : IsCrew workers × DepartsOn w numbers at = subst (λ (x : ThreadFault). IsFaultOn w numbers workers x) is h in
+    let other : numbers ≢ w.run.input = λ e. subst (λ (x : ThreadFault). NamesNoPosition x) is (stays e) in
+    inr (
+      refl,
+      subst (λ (b : AcceptedRun). numbers ≢ b.input) of other,
+      (at, ap (λ (p : ℕ). p ∷ []) (sym same), subst (λ (b : AcceptedRun). DepartsFrom b numbers at) of (w.story, plan, there.1)),
+    )
 
-  -- the workers aren't 1 to 64
-  pub unmanned : (IsCrew workers → ⊥) → RunShows a (meant a.program) numbers workers (Refused no_crew [])
-  unmanned none = inl (refl, refl, none)
+-- workers left this
+pub ran : {T : Type 0} (w : WholePlan) (a : AcceptedRun) (numbers : List ℤ) (workers : ℕ) (o : Outcome) (x : Result Ending T) → w.run ≡ a
+    → IsCrew workers × IsOutcomeOn (source w.run.program) numbers o → (numbers ≡ w.run.input → o ≡ w.run.outcome)
+    → IfOk x (λ e. let m = meant a.program in ending_view e ≡ Ended m.names o)
+    → IfOk x (λ e. RunShows a (meant a.program) numbers workers (ending_view e))
+ran w a numbers workers o (Err f) of ok own is = tt
+ran w a numbers workers o (Ok e) of ok own is =
+    let shown : RunShows a (meant a.program) numbers workers (let m = meant a.program in Ended m.names o) = (
+      refl,
+      ok.0,
+      subst (λ (b : AcceptedRun). IsOutcomeOn (source b.program) numbers o) of ok.1,
+      subst (λ (b : AcceptedRun). numbers ≡ b.input → o ≡ b.outcome) of own,
+    ) in
+    subst (λ (r : Reply). RunShows a (meant a.program) numbers workers r) (sym is) shown
 
-  -- the numbers depart
-  pub departs : (f : ThreadFault) (at : ℕ) → f ≡ faults.Departs at → IsPlanOf w.run w.story → IsFaultOn w numbers workers f
-      → (numbers ≡ w.run.input → NamesNoPosition f) → RunShows a (meant a.program) numbers workers (Refused departed (at ∷ []))
-  departs f at is plan h stays =
-      let there : IsCrew workers × DepartsOn w numbers at = subst (λ (x : ThreadFault). IsFaultOn w numbers workers x) is h in
-      let other : numbers ≢ w.run.input = λ e. subst (λ (x : ThreadFault). NamesNoPosition x) is (stays e) in
-      inr (
-        refl,
-        subst (λ (b : AcceptedRun). numbers ≢ b.input) of other,
-        (at, refl, subst (λ (b : AcceptedRun). DepartsFrom b numbers at) of (w.story, plan, there.1)),
-      )
+-- memory was refused
+pub starved : {T : Type 0} (a : AcceptedRun) (numbers : List ℤ) (workers : ℕ) (x : Result T Failure) → IfErr x (λ f. failure_view f ≡ NoMemory)
+    → IfErr x (λ f. RunShows a (meant a.program) numbers workers (failure_view f))
+starved a numbers workers (Ok e) h = tt
+starved a numbers workers (Err f) h = subst (λ (r : Reply). RunShows a (meant a.program) numbers workers r) (sym h) tt
+
+-- an accepted run's own numbers, where no file is named
+pub own_numbers : (files : Text → Option Text) (on : Option (Bor Text)) (own numbers : List ℤ) → on ≡ None → numbers ≡ own
+    → GivesNumbers files (option_map (λ p. p.now) on) own numbers
+own_numbers files on own numbers e same =
+    subst (λ (o : Option (Bor Text)). GivesNumbers files (option_map (λ p. p.now) o) own numbers) (sym e) same
+
+-- those of a file that is named
+pub named_numbers : (files : Text → Option Text) (on : Option (Bor Text)) (path : Bor Text) (own numbers : List ℤ) → on ≡ Some path
+    → GivesNumbers files (Some path.now) [] numbers → GivesNumbers files (option_map (λ p. p.now) on) own numbers
+named_numbers files on path own numbers e given =
+    subst (λ (o : Option (Bor Text)). GivesNumbers files (option_map (λ p. p.now) o) own numbers) (sym e) given
 
 -- the numbers of a file
 module _ (files : Text → Option Text) (failed failed' : Failures) where
-  pub not_read : (path : Text) (r : Reply) → FileFails failed failed' path r → AreNotGiven files failed failed' path r
-  not_read path r h = inl h
-
-  pub not_right : (path text slice : Text) (r : Reply) → IsHeld (files path) text → slice ≡ text → InputFails slice r → AreNotGiven files failed failed' path r
-  not_right path text slice r held e h = inr (text, held, subst (λ (t : Text). InputFails t r) e h)
-
-  pub are_given : (path text slice : Text) (inputs : List ℤ) → IsHeld (files path) text → slice ≡ text → IsInput slice inputs
-      → GivesNumbers files (Some path) [] inputs
-  are_given path text slice inputs held e h = (text, held, subst (λ (t : Text). IsInput t inputs) e h)
-
   -- what is shown where they aren't given
-  pub ungiven : (path : Text) (on : Option Text) (workers : ℕ) (a : AcceptedRun) (m : Meant) (r : Reply) → on ≡ Some path
-      → AreNotGiven files failed failed' path r → AcceptedShow files failed failed' on workers a m r
-  ungiven path on workers a m r e (inl h) = NumbersUnread (subst (λ (o : Option Text). InputFileFails failed failed' o r) (sym e) h)
-  ungiven path on workers a m r e (inr h) = NumbersRefused path h.0 e h.1 h.2
+  pub ungiven : (path : Bor Text) (on : Option (Bor Text)) (workers : ℕ) (a : AcceptedRun) (m : Meant) (r : Reply) → on ≡ Some path
+      → AreNotGiven files failed failed' path.now r → AcceptedShow files failed failed' (option_map (λ p. p.now) on) workers a m r
+  ungiven path on workers a m r e (inl h) =
+      NumbersUnread (subst (λ (o : Option (Bor Text)). InputFileFails failed failed' (option_map (λ p. p.now) o) r) (sym e) h)
+  ungiven path on workers a m r e (inr h) = NumbersRefused path.now h.0 (ap (option_map (λ (p : Bor Text). p.now)) e) h.1 h.2
 
   -- what the run shows on numbers that are given
   pub runs : {T : Type 0} (x : Result Ending T) (on : Option Text) (numbers : List ℤ) (workers : ℕ) (a : AcceptedRun) (m : Meant)
@@ -124,6 +134,14 @@ module _ (files files' : Text → Option Text) (failed accepted failed' : Failur
       → IfErr x (λ f. ThreadsShow files failed failed' asked m inputs (failure_view f))
   with_run_err (Ok e) h = tt
   with_run_err (Err f) h = with_run (failure_view f) h
+
+-- a verdict that accepts
+pub accepts : (m : Meant) (inputs : List ℤ) (path : Text) (known other other' : Option Text) (failed accepted : Failures) (v : Verdict) (a : AcceptedRun)
+    → v ≡ verdicts.Accepted a → IsVerdict path known failed accepted m inputs v → StaysBeside failed accepted path other other' v
+    → IsAcceptedRun m inputs known a × IsUnfailed failed accepted path × (other' ≡ other)
+accepts m inputs path known other other' failed accepted v a e is stays =
+    let left : IsUnfailed failed accepted path × (other' ≡ other) = subst (λ (x : Verdict). StaysBeside failed accepted path other other' x) e stays in
+    (subst (λ (x : Verdict). IsVerdict path known failed accepted m inputs x) e is, left.0, left.1)
 
 -- the other file that is named holds what it held
 pub beside : (files files' : Text → Option Text) (on : Option (Bor Text)) (certificate other : Bor Text) → other ≡ unwrap_or on certificate
