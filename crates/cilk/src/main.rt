@@ -1,8 +1,8 @@
 //! The program: its arguments, the files of the system and the standard streams are given to the tool, whose status
-//! is the program's.
+//! is the program's. Only here are threads and waiting given away, which `threads` needs.
 #![tactic(auto)]
 
-use cilk_report::serve_explained;
+use cilk_parallel::serve_parallel;
 use cilk_tool::disk::Disk;
 use cilk_tool::reply::{NO_MEMORY, NO_MEMORY_LINE, WRONG};
 use std::alloc::{AllocError, Global};
@@ -23,31 +23,33 @@ fn as_texts<'a>(alloc: Global, words: &'a [String]) -> Result<Vec<&'a str>, Allo
     words.iter().map(|word| word.as_str()).collect(alloc)
 }
 
-fn run(rt: &HostRuntime) -> io::Result<u8> {
-    let words = arguments(rt)?;
-    let words = as_texts(rt.alloc(), words.as_slice())?;
-    let status = serve_explained(
+/// Where the arguments can't be had, the answer is the one to wrong arguments, or to a want of memory.
+fn refused(rt: &HostRuntime, error: io::Error) -> ExitCode {
+    if error.kind() == ErrorKind::OutOfMemory {
+        let _ = eprint!(rt; "{NO_MEMORY_LINE}");
+        return ExitCode::from(NO_MEMORY);
+    }
+    let _ = eprintln!(rt; "error: an argument is not text");
+    ExitCode::from(WRONG)
+}
+
+fn main(rt: HostRuntime) -> ExitCode {
+    let words = match arguments(&rt) {
+        Ok(words) => words,
+        Err(error) => return refused(&rt, error),
+    };
+    let words = match as_texts(rt.alloc(), words.as_slice()) {
+        Ok(words) => words,
+        Err(error) => return refused(&rt, io::Error::from(error)),
+    };
+    let status = serve_parallel(
+        &rt,
         rt.alloc(),
         words.as_slice(),
-        &mut Disk::new(rt),
+        &mut Disk::new(&rt),
         &mut rt.reader(),
         &mut rt.stdout(),
         &mut rt.stderr(),
     );
-    Ok(status)
-}
-
-/// Where the arguments can't be had, the answer is the one to wrong arguments, or to a want of memory.
-fn main(rt: HostRuntime) -> ExitCode {
-    match run(&rt) {
-        Ok(status) => ExitCode::from(status),
-        Err(error) if error.kind() == ErrorKind::OutOfMemory => {
-            let _ = eprint!(rt; "{NO_MEMORY_LINE}");
-            ExitCode::from(NO_MEMORY)
-        }
-        Err(_) => {
-            let _ = eprintln!(rt; "error: an argument is not text");
-            ExitCode::from(WRONG)
-        }
-    }
+    ExitCode::from(status)
 }

@@ -1,0 +1,37 @@
+-- What `serve_parallel` shows.
+use Rattle.std.specs.Prelude.{◌≡◌, ℕ, Bool, true, false, List, [], ◌∷◌, Option, Some, None, codes}
+use Rattle.std.specs.Str.{bytes_eq}
+use Rattle.cilk_measured.specs.Words.{is_measure}
+use Rattle.cilk_report.specs.Explained.{Measures, ServesExplained}
+use Rattle.cilk_tool.specs.Files.{Failures}
+use Rattle.cilk_tool.specs.Replies.{Reply, Text}
+use Rattle.cilk_tool.specs.Serving.{JudgedReply, Shows, Surroundings, WordsFail, world}
+use Rattle.cilk_tool.specs.Words as tool
+use Rattle.cilk_tool.specs.Words.{File}
+use Rattle.cilk_parallel.specs.Shown.{ThreadsShow}
+use Rattle.cilk_parallel.specs.Words.{Requested, order_in}
+
+-- the first word is `threads`
+abbrev pub is_threads : List Text → Bool
+is_threads [] = false
+is_threads (w ∷ words) = bytes_eq w (codes "threads")
+
+-- what is answered to what the words of `threads` ask for
+abbrev pub Answers : Surroundings → Option Requested → Reply → Type 0
+Answers w None r = WordsFail r
+Answers w (Some asked) r = JudgedReply (ThreadsShow w.files w.failed w.failed' asked) w (File asked.program) asked.input r
+
+-- the words of `threads` are answered by a reply, which is shown
+abbrev pub ServesThreads : List Text → Surroundings → ℕ → (is_whole : Bool) → Option Text → Option Text → Option Text → Option Text → Type 0
+ServesThreads words w status is_whole out out' err err' = (r : Reply) × Answers w (order_in words) r × Shows r status is_whole out out' err err'
+
+-- What comes of a call over what files hold and what standard input gives, with the failed reads before it and at its end.
+pub data ServesParallel (words : List Text) (files : Text → Option Text) (input : Option Text) (failed failed' : Failures)
+    (status : ℕ) (out out' err err' : Option Text) : Type 0 where
+  -- `threads` is asked for
+  Threads : is_threads words ≡ true → (told : Bool) → ServesThreads words (world files input failed failed') status told out out' err err'
+      → ServesParallel words files input failed failed' status out out' err err'
+  -- other words are served as `serve_explained` serves them
+  Others : is_threads words ≡ false → ServesExplained words files input failed failed' status out out' err err'
+      → (tool.order_in words ≡ None → is_measure words ≡ true → Measures words files input failed status out out' err err')
+      → ServesParallel words files input failed failed' status out out' err err'

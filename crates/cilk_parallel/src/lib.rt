@@ -1,0 +1,20 @@
+//! The command `threads`: an accepted program runs by workers on threads.
+//!
+//! [`serve_parallel`] is what the program calls. The words `threads PROGRAM CERTIFICATE` ask for a run in parallel: the program, its
+//! input and the certificate are read and judged as `check` does; what it refuses is refused here. An accepted program then runs by
+//! work stealing (`cilk_threads`), on its own input or on that of `--on FILE`, and its outcome is shown as `run` shows one. Where
+//! another input departs from the plan of the certified run, `refused 502` names the position. All other words are served as
+//! [`cilk_report::serve_explained`] serves them, by functions that start no thread and don't wait.
+//!
+//! ```text
+//! cilk certify fib.c > fib.cert
+//! cilk threads fib.c fib.cert --workers 4
+//! ```
+#![tactic(auto)]
+
+mod running;
+mod serving;
+mod source;
+pub mod words;
+
+pub use serving::serve_parallel;

@@ -1,0 +1,192 @@
+//! The command `threads`: a program is checked, and run by workers where its certificate is accepted.
+
+ghost use Rattle.std.specs.Prelude.{◌≡◌, ◌≢◌, ◌<◌, [], Some, IfOk, IfErr, OnOk, option_map};
+ghost use Rattle.cilk_judge.specs.Judging.{meant};
+ghost use Rattle.cilk_tool.specs.Replies as replies;
+ghost use Rattle.cilk_tool.specs.Replies.{failure_view};
+ghost use Rattle.cilk_tool.specs.Serving.{world};
+ghost use Rattle.cilk_tool.specs.Shown.{CheckShows};
+ghost use Rattle.cilk_parallel.specs.Endings.{AreNotGiven, IsVerdict, StaysBeside, ending_view};
+ghost use Rattle.cilk_parallel.specs.Serving.{Answers};
+ghost use Rattle.cilk_parallel.specs.Shown.{AcceptedShow, GivesNumbers, RunShows, ThreadsShow};
+ghost use Rattle.cilk_parallel.specs.Words.{order_view};
+
+use crate::source::CertificateSource;
+use crate::words::Order;
+use cilk_checker::accepted::Accepted;
+use cilk_checker::check::check_run;
+use cilk_checker::refusal::Unaccepted;
+use cilk_crew::run::ThreadFault;
+use cilk_planning::program_plan::plan;
+use cilk_program::program::Program;
+use cilk_threads::threads::run_threads;
+use cilk_tool::files::Files;
+use cilk_tool::reply::{Answer, Failure};
+use cilk_tool::words::Origin;
+use cilk_tool::{given, input as judge_input, names, read_file, refused};
+use cilk_types::event::Pos;
+use cilk_types::input::Input;
+use cilk_types::outcome::Outcome;
+use cilk_workers::gate::Open;
+use std::alloc::Global;
+use std::io::Read;
+use std::sync::Wait;
+use std::thread::Threads;
+
+/// What the command ends with.
+#[derive(Drop, Debug)]
+pub enum Ending {
+    /// The outcome of a run, or why the certificate is refused.
+    Answer(Answer),
+    /// The number of workers isn't 1 to 64.
+    Workers,
+    /// The input on which the program was to be run departs from the plan of the certified run at this position.
+    Departed(Pos),
+}
+
+/// What the check of a certificate comes to.
+#[derive(Drop)]
+pub enum Verdict {
+    /// It is accepted, with the run that it is of.
+    Accepted(Accepted),
+    /// Why it is refused.
+    Refused(Answer),
+}
+
+/// Checks the certificate in the file of a path. Where it is accepted, what the file of another path holds stays known.
+fn checked<'a, F: Files>(
+    alloc: Global,
+    program: Program,
+    input: Input,
+    path: &'a str,
+    other: &'a str,
+    files: &mut F,
+) -> Result<Verdict, Failure<'a>>
+    requires { (F.failed files.old).count < 18446744073709551615 }
+    ensures verdict { IfOk result (IsVerdict path.entry.now (F.holds files.old path.entry.now) (F.failed files.old) (F.failed files.new) (meant program) input) }
+    ensures failure { IfErr result (λ e. (failure_view e ≢ replies.Accepted) × CheckShows path.entry.now (F.holds files.old path.entry.now)
+        (F.failed files.old) (F.failed files.new) (meant program) input (failure_view e)) }
+    ensures beside { IfOk result (StaysBeside (F.failed files.old) (F.failed files.new) path.entry.now
+        (F.holds files.old other.entry.now) (F.holds files.new other.entry.now)) }
+{
+    let mut source = CertificateSource::new(files, path, other);
+    match check_run(alloc, program, input, &mut source) {
+        Ok(accepted) => Ok(Verdict::Accepted(accepted)),
+        Err(Unaccepted::Unread) => Err(Failure::Unreadable(path)),
+        Err(Unaccepted::Refusal(refusal)) => Ok(Verdict::Refused(refused(refusal)?)),
+    }
+}
+
+/// The numbers of another file.
+fn numbers<'a, F: Files>(alloc: Global, path: &'a str, files: &mut F) -> Result<Input, Failure<'a>>
+    requires { (F.failed files.old).count < 18446744073709551615 }
+    ensures numbers { IfOk result (λ i. GivesNumbers (F.holds files.old) (Some path.entry.now) [] i) }
+    ensures failure { IfErr result (λ e. AreNotGiven (F.holds files.old) (F.failed files.old) (F.failed files.new) path.entry.now (failure_view e)) }
+{
+    let text = read_file(alloc, path, files)?;
+    judge_input(alloc, text.as_slice())
+}
+
+/// What an accepted program left, with the names of its global reducers.
+fn ended<'a>(alloc: Global, accepted: &Accepted, outcome: Outcome) -> Result<Ending, Failure<'a>>
+    ensures answer { IfOk result (λ e. let m = meant accepted.now.program in ending_view e ≡ replies.Ended m.names outcome) }
+    ensures failure { IfErr result (λ e. failure_view e ≡ replies.NoMemory) }
+{
+    Ok(Ending::Answer(Answer::Outcome {
+        names: names(alloc, accepted.program().reducers.as_slice())?,
+        outcome,
+    }))
+}
+
+/// Runs an accepted program by so many workers on these numbers.
+fn run<'a, H: Threads + Wait + Sync>(
+    rt: &H,
+    alloc: Global,
+    accepted: &Accepted,
+    numbers: &Input,
+    workers: u32,
+) -> Result<Ending, Failure<'a>>
+    ensures answer { IfOk result (λ e. RunShows accepted.now (meant accepted.now.program) numbers.now workers (ending_view e)) }
+    ensures failure { IfErr result (λ e. RunShows accepted.now (meant accepted.now.program) numbers.now workers (failure_view e)) }
+{
+    let plan = plan(alloc, accepted)?;
+    plan.laws();
+    match run_threads(rt, alloc, &plan, numbers, workers, &Open) {
+        Ok(outcome) => ended(alloc, accepted, outcome),
+        Err(ThreadFault::Departs(at)) => Ok(Ending::Departed(at)),
+        Err(ThreadFault::Workers) => Ok(Ending::Workers),
+        Err(ThreadFault::Memory) => Err(Failure::Memory),
+    }
+}
+
+/// Runs an accepted program by so many workers, on its own input or on that of a file.
+fn accepted_run<'a, H: Threads + Wait + Sync, F: Files>(
+    rt: &H,
+    alloc: Global,
+    accepted: &Accepted,
+    on: Option<&'a str>,
+    workers: u32,
+    files: &mut F,
+) -> Result<Ending, Failure<'a>>
+    requires { (F.failed files.old).count < 18446744073709551615 }
+    ensures answer { IfOk result (λ e. AcceptedShow (F.holds files.old) (F.failed files.old) (F.failed files.new)
+        (option_map (λ p. p.now) on.entry) workers accepted.now (meant accepted.now.program) (ending_view e)) }
+    ensures failure { IfErr result (λ e. AcceptedShow (F.holds files.old) (F.failed files.old) (F.failed files.new)
+        (option_map (λ p. p.now) on.entry) workers accepted.now (meant accepted.now.program) (failure_view e)) }
+{
+    match on {
+        None => run(rt, alloc, accepted, accepted.input(), workers),
+        Some(path) => {
+            let numbers = numbers(alloc, path, files)?;
+            run(rt, alloc, accepted, &numbers, workers)
+        }
+    }
+}
+
+/// Checks the certificate of a program's run on an input, and runs the program where it is accepted.
+fn judged<'a, H: Threads + Wait + Sync, F: Files>(
+    rt: &H,
+    alloc: Global,
+    program: Program,
+    input: Input,
+    order: &Order<'a>,
+    files: &mut F,
+) -> Result<Ending, Failure<'a>>
+    requires { (F.failed files.old).count < 18446744073709551615 }
+    ensures answer { IfOk result (λ e. ThreadsShow (F.holds files.old) (F.failed files.old) (F.failed files.new) (order_view order.now)
+        (meant program) input (ending_view e)) }
+    ensures failure { IfErr result (λ e. ThreadsShow (F.holds files.old) (F.failed files.old) (F.failed files.new) (order_view order.now)
+        (meant program) input (failure_view e)) }
+{
+    let other = order.on.unwrap_or(order.certificate);
+    match checked(alloc, program, input, order.certificate, other, files)? {
+        Verdict::Accepted(accepted) => {
+            accepted_run(rt, alloc, &accepted, order.on, order.workers, files)
+        }
+        Verdict::Refused(answer) => Ok(Ending::Answer(answer)),
+    }
+}
+
+/// Does what the words of `threads` ask for. The program is read and judged, then its input, then the certificate, then the other input.
+pub fn carry_out<'a, H: Threads + Wait + Sync, F: Files, R: Read>(
+    rt: &H,
+    alloc: Global,
+    order: &Order<'a>,
+    files: &mut F,
+    reader: &mut R,
+) -> Result<Ending, Failure<'a>>
+    requires { (F.failed files.old).count < 18446744073709551615 }
+    ensures answer { IfOk result (λ e. Answers (world (F.holds files.old) (R.remaining reader.old) (F.failed files.old) (F.failed files.new))
+        (Some (order_view order.now)) (ending_view e)) }
+    ensures failure { IfErr result (λ e. Answers (world (F.holds files.old) (R.remaining reader.old) (F.failed files.old) (F.failed files.new))
+        (Some (order_view order.now)) (failure_view e)) }
+{
+    let (program, input) = given(
+        alloc,
+        Origin::File(order.program),
+        order.input,
+        files,
+        reader,
+    )?;
+    judged(rt, alloc, program, input, order, files)
+}

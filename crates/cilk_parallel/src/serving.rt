@@ -1,0 +1,164 @@
+//! From words to a reply that is shown.
+
+ghost use Rattle.std.specs.Prelude.{◌≡◌, ◌<◌, ◌++◌, IfOk, OnOk, flat_map};
+ghost use Rattle.cilk_tool.specs.Replies.{Refused, Reply, failure_view, place_text, refused_line};
+ghost use Rattle.cilk_tool.specs.Serving.{IsOrNoMemory, Shows, WordsFail, world};
+ghost use Rattle.cilk_tool.specs.Words.{texts};
+ghost use Rattle.cilk_parallel.specs.Endings.{ending_view, place_of};
+ghost use Rattle.cilk_parallel.specs.Serving.{ServesParallel, ServesThreads, is_threads};
+
+use crate::running::{Ending, carry_out};
+use crate::words::read;
+use cilk_report::serve_explained;
+use cilk_tool::files::Files;
+use cilk_tool::reply::{Failure, REFUSED, WRONG};
+use cilk_tool::streams::send;
+use cilk_tool::words::WordsFault;
+use cilk_tool::{Served, complain, show, tell};
+use cilk_types::event::Pos;
+use itoa::Buffer;
+use std::alloc::{AllocError, Global};
+use std::io::{Read, Write};
+use std::sync::Wait;
+use std::thread::Threads;
+
+/// The number of the refusal where the workers aren't 1 to 64.
+pub const NO_CREW: u32 = 501;
+
+/// The number of the refusal where an input departs from the plan of the certified run.
+pub const DEPARTED: u32 = 502;
+
+// What stands behind what is said of words that ask for nothing.
+const HINT: &str = "\nhint: `cilk --help` describes `threads` and its options\n";
+
+/// Serves the words after the program's own name: `threads` runs an accepted program by workers on threads, and waits for them; other
+/// words are served as `serve_explained` serves them.
+pub fn serve_parallel<H: Threads + Wait + Sync, F: Files, R: Read, O: Write, E: Write>(
+    rt: &H,
+    alloc: Global,
+    words: &[&str],
+    files: &mut F,
+    input: &mut R,
+    out: &mut O,
+    err: &mut E,
+) -> u8
+    requires { (F.failed files.old).count < 18446744073709551615 }
+    ensures { ServesParallel (texts words.now) (F.holds files.old) (R.remaining input.old) (F.failed files.old) (F.failed files.new)
+        result (O.contents out.old) (O.contents out.new) (E.contents err.old) (E.contents err.new) }
+{
+    if is_threads(words) {
+        serve_threads(rt, alloc, words, files, input, out, err).status
+    } else {
+        serve_explained(alloc, words, files, input, out, err)
+    }
+}
+
+/// Whether the first word is `threads`.
+fn is_threads(words: &[&str]) -> bool
+    ensures { result ≡ is_threads (texts words.now) }
+{
+    match words {
+        [first, ..] => *first == "threads",
+        [] => false,
+    }
+}
+
+/// Serves the words of `threads`.
+fn serve_threads<H: Threads + Wait + Sync, F: Files, R: Read, O: Write, E: Write>(
+    rt: &H,
+    alloc: Global,
+    words: &[&str],
+    files: &mut F,
+    input: &mut R,
+    out: &mut O,
+    err: &mut E,
+) -> Served
+    requires { (F.failed files.old).count < 18446744073709551615 }
+    ensures { ServesThreads (texts words.now) (world (F.holds files.old) (R.remaining input.old) (F.failed files.old) (F.failed files.new))
+        result.status result.told (O.contents out.old) (O.contents out.new) (E.contents err.old) (E.contents err.new) }
+{
+    match read(alloc, words) {
+        Ok(order) => match carry_out(rt, alloc, &order, files, input) {
+            Ok(ending) => show_ending(alloc, &ending, out, err),
+            Err(failure) => complain(alloc, &failure, err),
+        },
+        Err(WordsFault::Usage(usage)) => complain(alloc, &advised(usage), err),
+        Err(WordsFault::Memory) => complain(alloc, &Failure::Memory, err),
+    }
+}
+
+/// What is shown of words that ask for nothing: why, and what describes them.
+fn advised<'a>(usage: String) -> Failure<'a>
+    ensures { WordsFail (failure_view result) }
+{
+    let mut text = usage;
+    match text.push_str(HINT) {
+        Ok(()) => Failure::Words(text),
+        Err(_) => Failure::Memory,
+    }
+}
+
+/// Shows what the command ends with.
+fn show_ending<O: Write, E: Write>(
+    alloc: Global,
+    ending: &Ending,
+    out: &mut O,
+    err: &mut E,
+) -> Served
+    ensures { (r : Reply) × IsOrNoMemory (ending_view ending.now) r × Shows r result.status result.told
+        (O.contents out.old) (O.contents out.new) (E.contents err.old) (E.contents err.new) }
+{
+    match ending {
+        Ending::Answer(answer) => show(alloc, answer, out, err),
+        Ending::Workers => show_refusal(alloc, NO_CREW, None, out, err),
+        Ending::Departed(at) => show_refusal(alloc, DEPARTED, Some(*at), out, err),
+    }
+}
+
+/// Shows a refusal by its number and the place that it names, if it names one.
+fn show_refusal<O: Write, E: Write>(
+    alloc: Global,
+    number: u32,
+    place: Option<Pos>,
+    out: &mut O,
+    err: &mut E,
+) -> Served
+    ensures { (r : Reply) × IsOrNoMemory (Refused number (place_of place)) r × Shows r result.status result.told
+        (O.contents out.old) (O.contents out.new) (E.contents err.old) (E.contents err.new) }
+{
+    match line(alloc, number, place) {
+        Ok(text) if send(out, text.as_slice()) => Served {
+            status: REFUSED,
+            told: true,
+        },
+        Ok(_) => Served {
+            told: tell(err, b"cannot write\n"),
+            status: WRONG,
+        },
+        Err(_) => complain(alloc, &Failure::Memory, err),
+    }
+}
+
+/// The line `refused N`, or `refused N PLACE`.
+fn line(alloc: Global, number: u32, place: Option<Pos>) -> Result<Vec<u8>, AllocError>
+    ensures { IfOk result (λ text. text.items ≡ refused_line number (place_of place)) }
+{
+    let mut buffer = Buffer::new();
+    let mut text = Vec::from_slice(alloc, b"refused ")?;
+    text.extend_from_slice(buffer.format(number).as_bytes())?;
+    push_place(&mut text, place)?;
+    text.push(b'\n')?;
+    Ok(text)
+}
+
+/// Puts a space and a place behind a text, if there is one.
+fn push_place(text: &mut Vec<u8>, place: Option<Pos>) -> Result<(), AllocError>
+    ensures { OnOk result (text.new.items ≡ text.old.items ++ flat_map place_text (place_of place)) }
+{
+    let Some(at) = place else {
+        return Ok(());
+    };
+    let mut buffer = Buffer::new();
+    text.push(b' ')?;
+    text.extend_from_slice(buffer.format(at).as_bytes())
+}

@@ -1,0 +1,118 @@
+//! The words of the command `threads`.
+
+ghost use Rattle.std.specs.Prelude.{◌≡◌, IfOk, IfErr, Some, option_map};
+ghost use Rattle.clap.specs.Words.{found_of, rows_of, subcommand_rows_of};
+ghost use Rattle.cilk_tool.specs.Words.{HasShape, texts};
+ghost use Rattle.cilk_parallel.specs.Words.{IsWordsFault, checked_app, order_by, order_in, order_view, parallel_app, texts_in, texts_view, threads_app, threads_with, two_texts_app};
+
+use cilk_tool::words::{WordsFault, refusal, workers_in};
+use clap::{Arg, ArgAction, ArgMatches, Command};
+use std::alloc::{AllocError, Global};
+
+// What is said of words that clap matches and that still ask for nothing.
+const NO_ORDER: &str = "error: the number of workers is 1 to 64\n";
+
+/// What the words of `threads` ask for: to check the certificate of a program on an input, of a file or the empty one, and
+/// then to run it by so many workers, on that input or on the one of another file.
+#[derive(Clone, Copy, Debug)]
+pub struct Order<'a> {
+    pub program: &'a str,
+    pub certificate: &'a str,
+    pub workers: u32,
+    pub input: Option<&'a str>,
+    pub on: Option<&'a str>,
+}
+
+/// `threads PROGRAM CERTIFICATE`.
+fn two_texts<'a>(alloc: Global) -> Result<Command<'a>, AllocError>
+    ensures { IfOk result (λ c. HasShape c two_texts_app) }
+{
+    let program = Arg::new(alloc, "program").required(true);
+    let certificate = Arg::new(alloc, "certificate").required(true);
+    Command::new(alloc, "threads")
+        .arg(program)?
+        .arg(certificate)
+}
+
+/// The same with `[--workers N] [--input FILE]`.
+fn checked_texts<'a>(alloc: Global) -> Result<Command<'a>, AllocError>
+    ensures { IfOk result (λ c. HasShape c checked_app) }
+{
+    let workers = Arg::new(alloc, "workers")
+        .long("workers")
+        .action(ArgAction::Set);
+    let input = Arg::new(alloc, "input")
+        .long("input")
+        .action(ArgAction::Set);
+    two_texts(alloc)?.arg(workers)?.arg(input)
+}
+
+/// `threads PROGRAM CERTIFICATE [--workers N] [--input FILE] [--on FILE]`.
+fn threads_command<'a>(alloc: Global) -> Result<Command<'a>, AllocError>
+    ensures { IfOk result (λ c. HasShape c threads_app) }
+{
+    let on = Arg::new(alloc, "on").long("on").action(ArgAction::Set);
+    checked_texts(alloc)?.arg(on)
+}
+
+/// The command, a simple one.
+fn command<'a>(alloc: Global) -> Result<Command<'a>, AllocError>
+    ensures { IfOk result (λ c. HasShape c parallel_app) }
+{
+    let threads = threads_command(alloc)?;
+    Command::new(alloc, "cilk")
+        .no_binary_name(true)
+        .subcommand_required(true)
+        .subcommand(threads)
+}
+
+/// The paths of the program and of the certificate that the matches name.
+fn two_paths<'a>(matches: &ArgMatches<'a>) -> Option<(&'a str, &'a str)>
+    ensures { option_map texts_view result ≡ texts_in (rows_of (found_of matches.now)) }
+{
+    let program = matches.get_str("program")?;
+    let certificate = matches.get_str("certificate")?;
+    Some((program, certificate))
+}
+
+/// What the matches of `threads` ask for.
+fn threads_order<'a>(threads: &ArgMatches<'a>) -> Option<Order<'a>>
+    ensures { option_map order_view result ≡ threads_with (rows_of (found_of threads.now)) }
+{
+    let (program, certificate) = two_paths(threads)?;
+    let word = threads.get_str("workers");
+    let workers = workers_in(word)?;
+    let input = threads.get_str("input");
+    let on = threads.get_str("on");
+    Some(Order {
+        program,
+        certificate,
+        workers,
+        input,
+        on,
+    })
+}
+
+/// What the matches ask for.
+fn order_of<'a>(matches: &ArgMatches<'a>) -> Option<Order<'a>>
+    ensures { option_map order_view result ≡ order_by (subcommand_rows_of matches.now) }
+{
+    match matches.subcommand() {
+        Some(("threads", threads)) => threads_order(threads),
+        _ => None,
+    }
+}
+
+/// Reads the words after the program's own name.
+pub fn read<'a>(alloc: Global, words: &'a [&'a str]) -> Result<Order<'a>, WordsFault>
+    ensures order { IfOk result (λ o. order_in (texts words.now) ≡ Some (order_view o)) }
+    ensures fault { IfErr result (λ e. IsWordsFault (texts words.now) e) }
+{
+    match command(alloc)?.try_get_matches_from(words) {
+        Ok(matches) => match order_of(&matches) {
+            Some(order) => Ok(order),
+            None => Err(WordsFault::Usage(String::from_str(alloc, NO_ORDER)?)),
+        },
+        Err(error) => Err(refusal(alloc, &error)),
+    }
+}
