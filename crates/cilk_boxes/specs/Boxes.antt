@@ -3,7 +3,7 @@ use Rattle.std.specs.Prelude.{◌≡◌, ◌<◌, ◌≤◌, ◌⊎◌, ℕ, nat
 use Rattle.cilk_pieces.specs.Pieces.{PieceValue}
 use Rattle.cilk_chains.specs.Chains.{ChainValue}
 use Rattle.cilk_chains.specs.Courses.{CourseValue}
-use Rattle.cilk_boxes.specs.Rows.{Run, RunValue, Wait, Rows, row, rows, placed_in, awaiting, end_in, is_empty}
+use Rattle.cilk_boxes.specs.Rows.{Run, RunValue, Wait, Rows, row, rows, placed_in, awaiting, end_in, is_empty, parts_in}
 
 -- the rows; the course of the run; the block's sync; the greatest key that was stolen, and the greatest that has arrived, 0 where there is none; and
 -- whether the sync's own piece has arrived
@@ -55,6 +55,10 @@ Closes run (w ∷ ws) s = Closes w.run ws s
 abbrev pub IsClosed : Rows → CourseValue → ℕ → Option ChainValue → Type 0
 IsClosed j u s None = Unit {0}
 IsClosed j u s (Some c) = (c.of ≡ u) × (c.at ≡ s) × (let r = j.row in Closes r.run r.waits s)
+
+-- nothing waits in it
+abbrev pub IsUnused : BoxValue → Type 0
+IsUnused j = (j.closed ≡ false) × (parts_in j.rows ≡ 0) × (let r = j.rows in let w = r.row in is_empty w.waits ≡ true)
 
 -- k is above every key that was stolen or has arrived, and the sync's piece hasn't arrived
 abbrev pub IsFresh : BoxValue → ℕ → Type 0

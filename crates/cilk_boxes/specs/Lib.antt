@@ -1,4 +1,5 @@
 pub mod Answers
 pub mod Boxes
 pub mod Rows
+pub mod Shelves
 pub mod Waits

@@ -6,7 +6,7 @@ ghost use Rattle.std.specs.Prelude.{nat_lt, if◌then◌else◌, Some, None, ◌
 ghost use Rattle.cilk_types.specs.declared.event.Event.TheVariants.{Sync};
 ghost use Rattle.cilk_story.specs.Word.{event};
 ghost use Rattle.cilk_boxes.specs.Rows.{FitsIn, IsGood, PiecesLieApart, parts_in, run_of, yard_of};
-ghost use Rattle.cilk_boxes.specs.Boxes.{is_some, later, opening, Comes, IsFresh, IsOpen, MayArrive, stolen_at, arrived_at};
+ghost use Rattle.cilk_boxes.specs.Boxes.{is_some, later, opening, Comes, IsFresh, IsOpen, IsUnused, MayArrive, stolen_at, arrived_at};
 ghost use Rattle.cilk_boxes.specs.Answers.{Answers};
 
 use crate::runs::Runs;
@@ -134,6 +134,13 @@ impl JoinBox {
         ensures { result ≡ parts_in self.now.rows }
     {
         self.runs.parts()
+    }
+
+    /// Whether nothing waits in it: no piece, no awaited key and no chain.
+    pub fn is_empty(&self) -> bool
+        ensures { IsTrue result ↔ IsUnused self.now }
+    {
+        self.chain.is_none() && self.runs.parts() == 0 && self.runs.is_whole()
     }
 
     /// The continuation beside child `key`, which goes on at `goes_on`, was taken by a thief.

@@ -4,10 +4,12 @@
 //! [`join::JoinBox`] keeps one piece for each run of pieces that have arrived with no awaited one between, and merges an arrival at once
 //! with the runs beside it, in the order of the program's run (Frigo, Halpern, Leiserson and Lewin-Berlin 2009). It keeps in its type that its
 //! pieces lie apart, and that the chain, once the block's own piece has come, stands at the `sync`. When all have arrived, it gives
-//! out the one piece of the whole block, and the chain with which a worker goes on.
+//! out the one piece of the whole block, and the chain with which a worker goes on. A [`shelf::Shelf`] keeps the boxes of several blocks, and
+//! only those in which something waits.
 //!
 //! ```text
-//! let mut found = JoinBox::new(alloc, &yard, &reducers, &course, sync);
+//! let mut shelf = Shelf::new(alloc, &yard, &reducers, &course);
+//! let mut found = shelf.take(alloc, &yard, &reducers, &course, sync);
 //! if found.open(key, goes_on) {
 //!     found.steal(key, goes_on)?;                      // a thief goes on at `goes_on`, beside the child spawned at `key`
 //! }
@@ -19,6 +21,7 @@
 //!         Err((piece, chain)) => ..,                   // no memory: both come back
 //!     }
 //! }
+//! shelf.put(found)?;
 //! ```
 #![tactic(auto)]
 
@@ -26,3 +29,4 @@ pub mod awaited;
 pub mod join;
 pub mod merging;
 pub mod runs;
+pub mod shelf;

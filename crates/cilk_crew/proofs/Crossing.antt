@@ -17,6 +17,7 @@ use Rattle.cilk_chains.specs.contracts.chain.Rest as Rest
 use Rattle.cilk_chains.specs.contracts.chain.Task as Task
 use Rattle.cilk_boxes.specs.contracts.runs.Runs as Runs
 use Rattle.cilk_boxes.specs.contracts.join.JoinBox as JoinBox
+use Rattle.cilk_boxes.specs.contracts.shelf.Shelf as Shelf
 
 pub piece_send : IsSend Piece.the_row
 piece_send = search (hypermap.the_field_send, segment.the_send, sendable, crosses) depth 20
@@ -33,8 +34,11 @@ task_send = search (rest_send, sendable, crosses) depth 20
 runs_send : IsSend Runs.the_row
 runs_send = search (piece_send, sendable, crosses) depth 20
 
-pub box_send : IsSend JoinBox.the_row
+box_send : IsSend JoinBox.the_row
 box_send = search (runs_send, chain_send, sendable, crosses) depth 20
+
+pub shelf_send : IsSend Shelf.the_row
+shelf_send = search (box_send, sendable, crosses) depth 20
 
 pub plan_sync : IsSync Plan.the_row
 plan_sync = search (kind.the_field_sync, sendable, crosses) depth 20

@@ -12,8 +12,7 @@ use Rattle.cilk_turns.specs.Shared.{SharedValue}
 use Rattle.cilk_turns.specs.Turns.{Works}
 use Rattle.crossbeam_queue.specs.declared.array_queue.Doing.{Doing}
 use Rattle.crossbeam_queue.specs.declared.array_queue.Slotted.{Slotted}
-use Rattle.cilk_boxes.specs.declared.join.JoinBox.{JoinBox}
-use Rattle.cilk_racks.specs.declared.lock.Block.{Block}
+use Rattle.cilk_boxes.specs.declared.shelf.Shelf.{Shelf}
 use Rattle.cilk_workers.specs.Keys.{AreKeys}
 use Rattle.cilk_crew.specs.declared.kits.Kit.{Kit}
 
@@ -33,5 +32,5 @@ Begins y p (Some c) = Works y (record { piece = p; chain = c })
 
 module _ {N Q A : Type 0} where
   -- a worker begins with its own end of a rack, the other racks' other ends, a key of each lock, and its piece
-  abbrev pub IsKit : SharedValue → List (Slotted (Option JoinBox) (Doing JoinBox Block) Q A) → List ℕ → Kit N → Type 0
-  IsKit y doors syncs k = IsRack k.rack × All IsTake k.takes.items × AreKeys doors k.keys.items syncs × Begins y k.piece k.chain
+  abbrev pub IsKit : SharedValue → List (Slotted (Option Shelf) (Doing Shelf (Unit {0})) Q A) → Kit N → Type 0
+  IsKit y doors k = IsRack k.rack × All IsTake k.takes.items × AreKeys doors k.keys.items × Begins y k.piece k.chain

@@ -3,16 +3,14 @@
 ghost use Rattle.std.specs.Prelude.{◌≡◌, ◌≤◌, All, Some, IfOk, IfSome, MatchOption};
 ghost use Rattle.std.specs.Thread.{IsSend, IsSync};
 ghost use Rattle.cilk_boxes.specs.Rows.{OfRun};
-ghost use Rattle.cilk_story.specs.Word.{event};
 ghost use Rattle.cilk_turns.specs.Turns.{Works};
-ghost use Rattle.cilk_types.specs.declared.event.Event.TheVariants.{Sync};
 ghost use Rattle.cilk_workers.specs.Gates.{AreFirsts};
 ghost use Rattle.cilk_workers.specs.Hands.{IsFinish};
-ghost use Rattle.cilk_workers.specs.Keys.{AreKeys};
+ghost use Rattle.cilk_workers.specs.Keys.{AreKeys, AreSyncs};
 ghost use Rattle.cilk_workers.specs.Names.{IsName};
 ghost use Rattle.cilk_crew.specs.Kits.{Begins, IsKit, IsRack, IsTake};
 
-use crate::kits::{Kit, Take, doors, ends, kits, racks};
+use crate::kits::{Kit, Take, doors, ends, kits, racks, shelves};
 use crate::layout::Layout;
 use cilk_chains::chain::Chain;
 use cilk_pieces::piece::Piece;
@@ -70,7 +68,8 @@ pub fn worker<'a, N: Naming, R: Wait, G: Gate>(
     chain: Option<Chain>,
 ) -> Finish
     requires name { IsName N.run N.course shared.now }
-    requires keys { AreKeys doors.now.items keys.items layout.now.syncs.now }
+    requires keys { AreKeys doors.now.items keys.items }
+    requires syncs { AreSyncs shared.now layout.now.syncs.now }
     requires rack { IsRack rack }
     requires takes { All IsTake takes.items }
     requires strands { AreFirsts shared.now.run.story.events layout.now.strands.now }
@@ -155,16 +154,14 @@ fn joined<'a, 'b, R: Threads>(
 fn last_kit<N: Naming>(
     shared: &Shared<'_>,
     doors: &Vec<Lock<N>>,
-    layout: &Layout<'_>,
     kits: &mut Vec<Kit<N>>,
 ) -> Option<Kit<N>>
-    requires { All (IsKit shared.now doors.now.items layout.now.syncs.now) kits.old.items }
-    ensures rest { All (IsKit shared.now doors.now.items layout.now.syncs.now) kits.new.items }
-    ensures one { IfSome result (IsKit shared.now doors.now.items layout.now.syncs.now) }
+    requires { All (IsKit shared.now doors.now.items) kits.old.items }
+    ensures rest { All (IsKit shared.now doors.now.items) kits.new.items }
+    ensures one { IfSome result (IsKit shared.now doors.now.items) }
 {
     let _ = shared;
     let _ = doors;
-    let _ = layout;
     kits.pop()
 }
 
@@ -181,20 +178,21 @@ fn crew<'a, 'b, N: Naming + Send + Sync, R: Threads + Wait + Sync, G: Gate + Syn
 ) -> Result<Finish, AllocError>
     requires name { IsName N.run N.course shared.now }
     requires strands { AreFirsts shared.now.run.story.events layout.now.strands.now }
-    requires kits { All (IsKit shared.now doors.now.items layout.now.syncs.now) kits.items }
+    requires syncs { AreSyncs shared.now layout.now.syncs.now }
+    requires kits { All (IsKit shared.now doors.now.items) kits.items }
     ensures { IfOk result (IsFinish shared.now) }
 {
     thread::scope(
         thread::scope_env(),
         rt,
         |scope| -> Result<Finish, AllocError>
-            requires { IsSync R.row × IsSync G.row × IsSend N.row × IsSync N.row × IsName N.run N.course shared.now × AreFirsts shared.now.run.story.events layout.now.strands.now × All (IsKit shared.now doors.now.items layout.now.syncs.now) kits.items }
+            requires { IsSync R.row × IsSync G.row × IsSend N.row × IsSync N.row × IsName N.run N.course shared.now × AreFirsts shared.now.run.story.events layout.now.strands.now × AreSyncs shared.now layout.now.syncs.now × All (IsKit shared.now doors.now.items) kits.items }
             ensures { IfOk result (IsFinish shared.entry.now) }
         {
             let mut kits = kits;
             let mut handles = Vec::with_capacity(alloc, kits.len())?;
             'each: for _ in 0..kits.len() {
-                let Some(kit) = last_kit::<N>(shared, doors, layout, &mut kits) else {
+                let Some(kit) = last_kit::<N>(shared, doors, &mut kits) else {
                     break;
                 };
                 let Kit {
@@ -234,25 +232,15 @@ pub fn crewed<N: Naming + Send + Sync, R: Threads + Wait + Sync, G: Gate + Sync>
     count: u32,
 ) -> Result<Finish, AllocError>
     requires name { IsName N.run N.course shared.now }
-    requires syncs { All (λ at. event shared.now.run.story at ≡ Some Sync) layout.now.syncs.now }
+    requires syncs { AreSyncs shared.now layout.now.syncs.now }
     requires strands { AreFirsts shared.now.run.story.events layout.now.strands.now }
     requires works { Works shared.now work }
     ensures { IfOk result (IsFinish shared.now) }
 {
-    let (doors, mut keys) = doors::<N, R>(rt, alloc, shared, layout.syncs)?;
-    let racks = racks::<N>(alloc, shared, count)?;
+    let (doors, mut keys) = doors::<N, R>(rt, alloc, shared, shelves(layout.syncs.len()))?;
+    let racks = racks::<N>(alloc, count)?;
     let ends = ends::<N>(alloc, &racks)?;
-    let kits = kits::<N>(
-        alloc,
-        shared,
-        &doors,
-        layout.syncs,
-        &mut keys,
-        racks,
-        ends,
-        work,
-        count,
-    )?;
+    let kits = kits::<N>(alloc, shared, &doors, &mut keys, racks, ends, work, count)?;
     let stop = AtomicBool::new(false);
     crew::<N, R, G>(rt, alloc, shared, &doors, layout, gate, &stop, kits)
 }

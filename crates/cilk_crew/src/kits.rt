@@ -2,24 +2,19 @@
 
 ghost use Rattle.std.specs.Prelude.{◌≡◌, ◌<◌, ◌≤◌, All, Some, length, IfOk, OnOk, IfSome, MatchOption, true, false};
 ghost use Rattle.cilk_boxes.specs.Rows.{OfRun};
-ghost use Rattle.cilk_story.specs.Word.{event};
 ghost use Rattle.cilk_turns.specs.Turns.{Works};
-ghost use Rattle.cilk_types.specs.declared.event.Event.TheVariants.{Sync};
 ghost use Rattle.cilk_workers.specs.Keys.{AreKeys, IsKeyAt};
 ghost use Rattle.cilk_workers.specs.Names.{IsName};
 ghost use Rattle.cilk_crew.specs.Kits.{Begins, IsKit, IsRack, IsTake};
 
-use cilk_boxes::join::JoinBox;
+use cilk_boxes::shelf::Shelf;
 use cilk_chains::chain::{Chain, Task};
 use cilk_pieces::piece::Piece;
 use cilk_racks::lock::{Key, Lock, another, closed};
 use cilk_racks::naming::Naming;
 use cilk_racks::rack::{Offers, Rack, Takes, Tasks};
-use cilk_racks::spawns::spawns;
 use cilk_turns::shared::Shared;
 use cilk_turns::work::Work;
-use cilk_types::event::Pos;
-use cilk_workers::doors::position;
 use crossbeam_deque::Pass;
 use std::alloc::{AllocError, Global};
 use std::sync::Wait;
@@ -38,28 +33,29 @@ pub struct Kit<N: Naming> {
     pub chain: Option<Chain>,
 }
 
-/// Each block's lock, with its box, and a first key of each.
-#[tactic(auto, using(cilk_workers::proofs::Keys::doors_more, cilk_workers::proofs::Keys::doors_all))]
+/// How many shelves the join boxes of so many blocks lie on: enough that no shelf has more than 64 boxes, and that workers seldom meet at one.
+pub fn shelves(blocks: usize) -> usize
+    ensures { blocks ≤ 64 * result }
+{
+    let few = if blocks < 64 { blocks } else { 64 };
+    few + blocks / 64
+}
+
+/// So many locks, each with an empty shelf, and a first key of each.
+#[tactic(auto, using(cilk_workers::proofs::Keys::doors_more))]
 pub fn doors<N: Naming, R: Wait>(
     rt: &R,
     alloc: Global,
     shared: &Shared<'_>,
-    syncs: &[Pos],
+    count: usize,
 ) -> Result<(Vec<Lock<N>>, Vec<Key>), AllocError>
-    requires name { IsName N.run N.course shared.now }
-    requires syncs { All (λ at. event shared.now.run.story at ≡ Some Sync) syncs.now }
-    ensures { IfOk result (λ r. AreKeys r.0.items r.1.items syncs.now) }
+    requires { IsName N.run N.course shared.now }
+    ensures { IfOk result (λ r. AreKeys r.0.items r.1.items) }
 {
     let mut all = Vec::new(alloc);
     let mut keys = Vec::new(alloc);
-    'each: for at in 0..syncs.len() {
-        let first = JoinBox::new(
-            alloc,
-            shared.yard(),
-            shared.reducers(),
-            shared.course(),
-            syncs[at],
-        );
+    'each: for _ in 0..count {
+        let first = Shelf::new(alloc, shared.yard(), shared.reducers(), shared.course());
         let (door, key) = closed::<N, R>(rt, alloc, first)?;
         all.push(door)?;
         keys.push(key)?;
@@ -67,17 +63,16 @@ pub fn doors<N: Naming, R: Wait>(
     Ok((all, keys))
 }
 
-// The key of a block for one more worker.
-fn one_more<N: Naming>(doors: &Vec<Lock<N>>, syncs: &[Pos], keys: &mut Vec<Key>, at: usize) -> Key
-    requires keys { AreKeys doors.now.items keys.old.items syncs.now }
+// The key of a lock for one more worker.
+fn one_more<N: Naming>(doors: &Vec<Lock<N>>, keys: &mut Vec<Key>, at: usize) -> Key
+    requires keys { AreKeys doors.now.items keys.old.items }
     requires at { at < length doors.now.items }
-    ensures keys { AreKeys doors.now.items keys.new.items syncs.now }
-    ensures one { IsKeyAt doors.now.items syncs.now at result }
+    ensures keys { AreKeys doors.now.items keys.new.items }
+    ensures one { IsKeyAt doors.now.items at result }
 {
-    let sync = position(syncs, at);
     let door = &doors[at];
     let key = &mut keys[at];
-    another(door, key, sync)
+    another(door, key)
 }
 
 /// Keys for one more worker.
@@ -85,16 +80,15 @@ fn one_more<N: Naming>(doors: &Vec<Lock<N>>, syncs: &[Pos], keys: &mut Vec<Key>,
 pub fn more<N: Naming>(
     alloc: Global,
     doors: &Vec<Lock<N>>,
-    syncs: &[Pos],
     keys: &mut Vec<Key>,
 ) -> Result<Vec<Key>, AllocError>
-    requires { AreKeys doors.now.items keys.old.items syncs.now }
-    ensures old { AreKeys doors.now.items keys.new.items syncs.now }
-    ensures new { IfOk result (λ v. AreKeys doors.now.items v.items syncs.now) }
+    requires { AreKeys doors.now.items keys.old.items }
+    ensures old { AreKeys doors.now.items keys.new.items }
+    ensures new { IfOk result (λ v. AreKeys doors.now.items v.items) }
 {
     let mut all = Vec::new(alloc);
     'each: for at in 0..doors.len() {
-        all.push(one_more::<N>(doors, syncs, keys, at))?;
+        all.push(one_more::<N>(doors, keys, at))?;
     }
     Ok(all)
 }
@@ -135,16 +129,14 @@ pub fn takes<N: Naming>(
     Ok(all)
 }
 
+/// The tasks that a rack has room for at first. It grows where a worker has more spawned frames at once.
+const ROOM: usize = 64;
+
 /// A rack for each worker.
-pub fn racks<N: Naming>(
-    alloc: Global,
-    shared: &Shared<'_>,
-    count: u32,
-) -> Result<Vec<Rack<N>>, AllocError> {
-    let room = spawns(shared.plan());
+pub fn racks<N: Naming>(alloc: Global, count: u32) -> Result<Vec<Rack<N>>, AllocError> {
     let mut all = Vec::new(alloc);
     for _ in 0..count {
-        all.push(Rack::<N>::new(alloc, room)?)?;
+        all.push(Rack::<N>::new(alloc, ROOM)?)?;
     }
     Ok(all)
 }
@@ -214,17 +206,15 @@ fn last_ends<N: Naming>(ends: &mut Vec<Vec<Take<N>>>) -> Option<Vec<Take<N>>>
 fn equip<N: Naming>(
     shared: &Shared<'_>,
     doors: &Vec<Lock<N>>,
-    syncs: &[Pos],
     kits: &mut Vec<Kit<N>>,
     kit: Kit<N>,
 ) -> Result<(), AllocError>
-    requires kits { All (IsKit shared.now doors.now.items syncs.now) kits.old.items }
-    requires kit { IsKit shared.now doors.now.items syncs.now kit }
-    ensures { OnOk result (All (IsKit shared.now doors.now.items syncs.now) kits.new.items) }
+    requires kits { All (IsKit shared.now doors.now.items) kits.old.items }
+    requires kit { IsKit shared.now doors.now.items kit }
+    ensures { OnOk result (All (IsKit shared.now doors.now.items) kits.new.items) }
 {
     let _ = shared;
     let _ = doors;
-    let _ = syncs;
     kits.push(kit)?;
     Ok(())
 }
@@ -234,17 +224,16 @@ pub fn kits<N: Naming>(
     alloc: Global,
     shared: &Shared<'_>,
     doors: &Vec<Lock<N>>,
-    syncs: &[Pos],
     keys: &mut Vec<Key>,
     mut racks: Vec<Rack<N>>,
     mut ends: Vec<Vec<Take<N>>>,
     work: Work,
     count: u32,
 ) -> Result<Vec<Kit<N>>, AllocError>
-    requires keys { AreKeys doors.now.items keys.old.items syncs.now }
+    requires keys { AreKeys doors.now.items keys.old.items }
     requires ends { All (λ ts. All IsTake ts.items) ends.items }
     requires work { Works shared.now work }
-    ensures { IfOk result (λ v. All (IsKit shared.now doors.now.items syncs.now) v.items) }
+    ensures { IfOk result (λ v. All (IsKit shared.now doors.now.items) v.items) }
 {
     let (work, mut spare) = parted(alloc, shared, work);
     let mut first = Some(work);
@@ -256,7 +245,7 @@ pub fn kits<N: Naming>(
         let Some(rack) = racks.pop() else {
             break;
         };
-        let keys = more::<N>(alloc, doors, syncs, keys)?;
+        let keys = more::<N>(alloc, doors, keys)?;
         let (piece, chain, rest) = begins(alloc, shared, spare, first);
         spare = rest;
         first = None;
@@ -268,7 +257,7 @@ pub fn kits<N: Naming>(
             piece,
             chain,
         };
-        equip::<N>(shared, doors, syncs, &mut all, kit)?;
+        equip::<N>(shared, doors, &mut all, kit)?;
     }
     Ok(all)
 }

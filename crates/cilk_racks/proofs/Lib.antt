@@ -1,3 +1,2 @@
-pub mod Counts
 pub mod Keys
 pub mod Moves

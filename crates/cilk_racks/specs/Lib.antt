@@ -2,4 +2,3 @@ pub mod Held
 pub mod Locks
 pub mod Namings
 pub mod Racks
-pub mod Spawns

@@ -1,23 +1,13 @@
--- The rule of a join box's queue: the box in it is of one run and one block, which each key knows.
-use Rattle.std.specs.Prelude.{◌≡◌, ℕ, ◌⊎◌, true, false, List, [], ◌∷◌, All}
-use mathlib.Core.Option.{some}
-use lib.ListN.{get_elem?}
+-- The rule of a shelf's queue: the shelf in it is of one run.
+use Rattle.std.specs.Prelude.{◌≡◌, List, All}
 use Rattle.cilk_boxes.specs.Rows.{RunValue}
+use Rattle.cilk_boxes.specs.Shelves.{ShelfValue}
 use Rattle.cilk_chains.specs.Courses.{CourseValue}
-use Rattle.cilk_boxes.specs.declared.join.JoinBox.{JoinBox}
-use Rattle.cilk_racks.specs.declared.lock.Block.{Block}
+use Rattle.cilk_boxes.specs.declared.shelf.Shelf.{Shelf}
 
-abbrev pub knower : ℕ → Block
-knower b = record { known = true; sync = b }
+-- the shelf is of the run
+abbrev pub IsShelf : RunValue → (CourseValue → Type 0) → ShelfValue → Type 0
+IsShelf y course s = (s.of ≡ y) × course s.course
 
-abbrev pub fresh : Block
-fresh = record { known = false; sync = 0 }
-
--- the box is of the run, and of the block whose sync stands at b
-abbrev pub IsBox : RunValue → (CourseValue → Type 0) → ℕ → JoinBox → Type 0
-IsBox y course b x = (let r = x.rows in r.of ≡ y) × (x.sync ≡ b) × course x.course
-
-abbrev pub Boxed : RunValue → (CourseValue → Type 0) → List JoinBox → List Block → Type 0
-Boxed y course items views =
-    ((items ≡ []) × (views ≡ fresh ∷ []))
-    ⊎ ((b : ℕ) × All (IsBox y course b) items × ((port : ℕ) (v : Block) → get_elem? views port ≡ some v → v ≡ knower b))
+abbrev pub Shelved : RunValue → (CourseValue → Type 0) → List Shelf → Type 0
+Shelved y course items = All (IsShelf y course) items

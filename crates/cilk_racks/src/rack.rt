@@ -86,15 +86,15 @@ pub struct Picker<N: Naming> {
 impl<N: Naming> Rack<N> {
     ghost use Rattle.cilk_racks.specs.Held.{IsOffered, waiting, room, offered};
 
-    /// A rack without tasks, with room for this many offers: as many as the plan has spawns ([`crate::spawns::spawns`]).
-    pub fn new(alloc: Global, spawns: usize) -> Result<Rack<N>, AllocError>
-        ensures { IfOk result (λ r. (waiting r ≡ []) × (offered r ≡ 0) × (spawns ≤ room r)) }
+    /// A rack without tasks, with room for this many at first.
+    pub fn new(alloc: Global, first: usize) -> Result<Rack<N>, AllocError>
+        ensures { IfOk result (λ r. (waiting r ≡ []) × (offered r ≡ 0) × (first ≤ room r)) }
     {
-        let worker = Worker::lifo_as(alloc, spawns)?;
+        let worker = Worker::lifo_as(alloc, first)?;
         Ok(Rack { worker })
     }
 
-    /// Puts a task behind the others. It comes back only after as many offers as the rack has room for.
+    /// Puts a task behind the others; the rack grows where there is no room. It comes back where there was no memory for that.
     pub fn offer(&mut self, task: Task) -> Result<(), Task>
         requires { Of N.course task }
         ensures rule { IsOffered self.old task result self.new }

@@ -107,20 +107,23 @@ fn strands(alloc: Global, plan: &ProgramPlan<'_>) -> Result<Vec<StrandNo>, Alloc
     let count = plan.events().count();
     let mut column = zeros(alloc, count + 1)?;
     'each: for strand in 0..count {
-        put_strand(plan, strand as StrandNo + 1, &mut column);
+        if !put_strand(plan, strand as StrandNo + 1, &mut column) {
+            break;
+        }
     }
     Ok(column)
 }
 
-// Where a strand of this number begins, its number.
-fn put_strand(plan: &ProgramPlan<'_>, strand: StrandNo, column: &mut Vec<StrandNo>)
+// Where a strand of this number begins, its number. False where there is none.
+fn put_strand(plan: &ProgramPlan<'_>, strand: StrandNo, column: &mut Vec<StrandNo>) -> bool
     requires { AreFirsts plan.now.story.events column.old.items }
     ensures { AreFirsts plan.now.story.events column.new.items }
 {
     let Some(at) = plan.strand(strand) else {
-        return;
+        return false;
     };
     put(column, at as usize, strand);
+    true
 }
 
 // The number at a position, or one past all blocks.

@@ -1,22 +1,25 @@
--- A worker's keys, one for each block.
-use Rattle.std.specs.Prelude.{◌≡◌, ℕ, List, [], ◌∷◌, Option, slice_index, slice_index_or}
+-- A worker's keys, one for each shelf.
+use Rattle.std.specs.Prelude.{◌≡◌, ℕ, List, [], ◌∷◌, Option, All, Some, slice_index_or}
 use Rattle.crossbeam_queue.specs.declared.array_queue.Doing.{Doing}
 use Rattle.crossbeam_queue.specs.declared.array_queue.Slotted.{Slotted}
-use Rattle.crossbeam_queue.specs.Passes.{Pass, view, IsPassOf}
-use Rattle.cilk_boxes.specs.declared.join.JoinBox.{JoinBox}
-use Rattle.cilk_racks.specs.declared.lock.Block.{Block}
-use Rattle.cilk_racks.specs.Locks.{knower}
+use Rattle.crossbeam_queue.specs.Passes.{Pass, IsPassOf}
+use Rattle.cilk_types.specs.declared.event.Event.TheVariants.{Sync}
+use Rattle.cilk_story.specs.Word.{event}
+use Rattle.cilk_boxes.specs.declared.shelf.Shelf.{Shelf}
+use Rattle.cilk_turns.specs.Shared.{SharedValue, story_in}
+
+-- a `sync` stands at each position
+abbrev pub AreSyncs : SharedValue → List ℕ → Type 0
+AreSyncs y syncs = All (λ at. event (story_in y) at ≡ Some Sync) syncs
 
 module _ {Q A : Type 0} where
-  -- each key is of its lock, and knows the block
-  abbrev pub AreKeys : List (Slotted (Option JoinBox) (Doing JoinBox Block) Q A) → List (Pass JoinBox Block) → List ℕ → Type 0
-  AreKeys [] [] [] = Unit {0}
-  AreKeys [] [] (s ∷ ss) = ⊥
-  AreKeys [] (p ∷ ps) ss = ⊥
-  AreKeys (d ∷ ds) [] ss = ⊥
-  AreKeys (d ∷ ds) (p ∷ ps) [] = ⊥
-  AreKeys (d ∷ ds) (p ∷ ps) (s ∷ ss) = IsPassOf d p × (view p ≡ knower s) × AreKeys ds ps ss
+  -- each key is of its lock
+  abbrev pub AreKeys : List (Slotted (Option Shelf) (Doing Shelf (Unit {0})) Q A) → List (Pass Shelf (Unit {0})) → Type 0
+  AreKeys [] [] = Unit {0}
+  AreKeys [] (p ∷ ps) = ⊥
+  AreKeys (d ∷ ds) [] = ⊥
+  AreKeys (d ∷ ds) (p ∷ ps) = IsPassOf d p × AreKeys ds ps
 
-  -- the key is of the lock at a place, and knows the block there
-  abbrev pub IsKeyAt : List (Slotted (Option JoinBox) (Doing JoinBox Block) Q A) → List ℕ → ℕ → Pass JoinBox Block → Type 0
-  IsKeyAt ds ss i p = (d : Slotted (Option JoinBox) (Doing JoinBox Block) Q A) → d ≡ slice_index_or ds i d → IsPassOf d p × (view p ≡ knower (slice_index ss i))
+  -- the key is of the lock at a place
+  abbrev pub IsKeyAt : List (Slotted (Option Shelf) (Doing Shelf (Unit {0})) Q A) → ℕ → Pass Shelf (Unit {0}) → Type 0
+  IsKeyAt ds i p = (d : Slotted (Option Shelf) (Doing Shelf (Unit {0})) Q A) → d ≡ slice_index_or ds i d → IsPassOf d p

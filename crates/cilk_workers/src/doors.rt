@@ -1,16 +1,21 @@
 //! A worker at a join box.
 
 ghost use Rattle.std.specs.Prelude.{◌≡◌, ◌<◌, ◌≤◌, ℕ, Some, length, slice_get, slice_index, IfSome, MatchOption};
-ghost use Rattle.crossbeam_queue.specs.Passes.{view, IsPassOf};
+ghost use Rattle.cilk_types.specs.declared.event.Event.TheVariants.{Sync};
+ghost use Rattle.crossbeam_queue.specs.Passes.{IsPassOf};
 ghost use Rattle.cilk_boxes.specs.Rows.{IsGood};
+ghost use Rattle.cilk_boxes.specs.Shelves.{LiesOn};
 ghost use Rattle.cilk_chains.specs.Chains.{standing};
-ghost use Rattle.cilk_racks.specs.Locks.{IsBox, knower};
+ghost use Rattle.cilk_racks.specs.Locks.{IsShelf};
+ghost use Rattle.cilk_story.specs.Word.{event};
+ghost use Rattle.cilk_turns.specs.Shared.{story_in};
 ghost use Rattle.cilk_workers.specs.Hands.{IsMet};
-ghost use Rattle.cilk_workers.specs.Keys.{AreKeys};
+ghost use Rattle.cilk_workers.specs.Keys.{AreKeys, AreSyncs};
 ghost use Rattle.cilk_workers.specs.Names.{IsName};
 
 use crate::hand::Blocks;
 use cilk_boxes::join::{Boxed, JoinBox};
+use cilk_boxes::shelf::Shelf;
 use cilk_chains::chain::Chain;
 use cilk_pieces::piece::Piece;
 use cilk_racks::lock::{Key, Lock, free, lock, wait};
@@ -65,7 +70,30 @@ fn come<R: Wait>(
     }
 }
 
-/// A piece arrives at a block.
+// The box of a block comes off its shelf.
+fn taken_from<N: Naming>(
+    alloc: Global,
+    shared: &Shared<'_>,
+    shelf: &mut Shelf,
+    sync: Pos,
+) -> JoinBox
+    requires name { IsName N.run N.course shared.now }
+    requires shelf { IsShelf N.run N.course shelf.old }
+    requires sync { event (story_in shared.now) sync ≡ Some Sync }
+    ensures shelf { shelf.new ≡ shelf.old }
+    ensures of { LiesOn shelf.old result }
+    ensures run { (result.rows.of ≡ shared.now.run) × (result.course ≡ shared.now.course) }
+{
+    shelf.take(
+        alloc,
+        shared.yard(),
+        shared.reducers(),
+        shared.course(),
+        sync,
+    )
+}
+
+/// A piece arrives at the block that ends with the `sync` at a position, whose box lies on the shelf behind this lock.
 pub fn arrive<N: Naming, R: Wait>(
     rt: &R,
     alloc: Global,
@@ -76,38 +104,47 @@ pub fn arrive<N: Naming, R: Wait>(
     arrival: Arrival,
 ) -> Met
     requires name { IsName N.run N.course shared.now }
-    requires key { IsPassOf door.now key.old × (view key.old ≡ knower sync) }
+    requires key { IsPassOf door.now key.old }
+    requires sync { event (story_in shared.now) sync ≡ Some Sync }
     requires good { IsGood shared.now.run arrival.piece }
     requires chain { IfSome arrival.chain (λ c. c ≡ standing shared.now.course arrival.piece.upto) }
-    ensures key { IsPassOf door.now key.new × (view key.new ≡ knower sync) }
+    ensures key { IsPassOf door.now key.new }
     ensures met { IsMet shared.now result }
 {
-    let mut found = lock(rt, door, key, sync);
+    let mut shelf = lock(rt, door, key);
+    let mut found = taken_from::<N>(alloc, shared, &mut shelf, sync);
     let met = come(rt, alloc, shared, &mut found, arrival);
-    free(rt, door, key, sync, found);
-    met
+    let kept = shelf.put(found).is_ok();
+    free(rt, door, key, shelf);
+    if kept { met } else { Met::Stopped }
 }
 
 /// A thief tells the block that it took the continuation after the spawn `child`, which goes on at `goes_on`. False where there was no
 /// memory.
 pub fn steal<N: Naming, R: Wait>(
     rt: &R,
+    alloc: Global,
+    shared: &Shared<'_>,
     door: &Lock<N>,
     key: &mut Key,
     sync: Pos,
     child: Pos,
     goes_on: Pos,
 ) -> bool
-    requires key { IsPassOf door.now key.old × (view key.old ≡ knower sync) }
-    ensures key { IsPassOf door.now key.new × (view key.new ≡ knower sync) }
+    requires name { IsName N.run N.course shared.now }
+    requires key { IsPassOf door.now key.old }
+    requires sync { event (story_in shared.now) sync ≡ Some Sync }
+    ensures { IsPassOf door.now key.new }
 {
-    let mut found = lock(rt, door, key, sync);
+    let mut shelf = lock(rt, door, key);
+    let mut found = taken_from::<N>(alloc, shared, &mut shelf, sync);
     if !found.open(child, goes_on) {
         wait(rt);
     }
-    let done = found.steal(child, goes_on).is_ok();
-    free(rt, door, key, sync, found);
-    done
+    let told = found.steal(child, goes_on).is_ok();
+    let kept = shelf.put(found).is_ok();
+    free(rt, door, key, shelf);
+    told && kept
 }
 
 /// The block of a position, where it has one of so many.
@@ -126,6 +163,17 @@ pub fn position(syncs: &[Pos], block: usize) -> Pos
     syncs[block]
 }
 
+// The shelf of a block, among so many.
+fn shelf_of<R: Wait>(rt: &R, block: usize, shelves: usize) -> usize
+    ensures { result < shelves }
+{
+    if shelves == 0 {
+        wait(rt);
+        unreachable!()
+    }
+    block % shelves
+}
+
 /// A piece arrives at a block by its number.
 pub fn arrive_by<N: Naming, R: Wait>(
     rt: &R,
@@ -137,34 +185,41 @@ pub fn arrive_by<N: Naming, R: Wait>(
     arrival: Arrival,
 ) -> Met
     requires name { IsName N.run N.course shared.now }
-    requires keys { AreKeys blocks.now.doors.now.items keys.old.items blocks.now.syncs.now }
-    requires block { block < length blocks.now.doors.now.items }
+    requires keys { AreKeys blocks.now.doors.now.items keys.old.items }
+    requires syncs { AreSyncs shared.now blocks.now.syncs.now }
+    requires block { block < length blocks.now.syncs.now }
     requires good { IsGood shared.now.run arrival.piece }
     requires chain { IfSome arrival.chain (λ c. c ≡ standing shared.now.course arrival.piece.upto) }
-    ensures keys { AreKeys blocks.now.doors.now.items keys.new.items blocks.now.syncs.now }
+    ensures keys { AreKeys blocks.now.doors.now.items keys.new.items }
     ensures met { IsMet shared.now result }
 {
     let sync = position(blocks.syncs, block);
-    let door = &blocks.doors[block];
-    let key = &mut keys[block];
+    let at = shelf_of(rt, block, blocks.doors.len());
+    let door = &blocks.doors[at];
+    let key = &mut keys[at];
     arrive::<N, R>(rt, alloc, shared, door, key, sync, arrival)
 }
 
 /// A thief tells a block by its number.
 pub fn steal_by<N: Naming, R: Wait>(
     rt: &R,
+    alloc: Global,
+    shared: &Shared<'_>,
     blocks: &Blocks<'_, N>,
     keys: &mut Vec<Key>,
     block: usize,
     child: Pos,
     goes_on: Pos,
 ) -> bool
-    requires keys { AreKeys blocks.now.doors.now.items keys.old.items blocks.now.syncs.now }
-    requires block { block < length blocks.now.doors.now.items }
-    ensures { AreKeys blocks.now.doors.now.items keys.new.items blocks.now.syncs.now }
+    requires name { IsName N.run N.course shared.now }
+    requires keys { AreKeys blocks.now.doors.now.items keys.old.items }
+    requires syncs { AreSyncs shared.now blocks.now.syncs.now }
+    requires block { block < length blocks.now.syncs.now }
+    ensures { AreKeys blocks.now.doors.now.items keys.new.items }
 {
     let sync = position(blocks.syncs, block);
-    let door = &blocks.doors[block];
-    let key = &mut keys[block];
-    steal::<N, R>(rt, door, key, sync, child, goes_on)
+    let at = shelf_of(rt, block, blocks.doors.len());
+    let door = &blocks.doors[at];
+    let key = &mut keys[at];
+    steal::<N, R>(rt, alloc, shared, door, key, sync, child, goes_on)
 }

@@ -29,8 +29,8 @@ pub enum Hand {
     Done(Finish),
 }
 
-/// What the workers share of the join boxes: each block's lock and the position of its `sync`, and for each position its block; where it has
-/// none, a number past the last.
+/// What the workers share of the join boxes: the locks of the shelves on which they lie, each block on that of its number modulo how many
+/// there are; the position of each block's `sync`; and for each position its block; where it has none, a number past the last.
 #[derive(Drop)]
 pub struct Blocks<'a, N: Naming> {
     pub doors: &'a Vec<Lock<N>>,
@@ -38,7 +38,7 @@ pub struct Blocks<'a, N: Naming> {
     pub of: &'a [u32],
 }
 
-/// What a worker alone uses: its rack, the others' racks, and its key of each block.
+/// What a worker alone uses: its rack, the others' racks, and its key of each shelf.
 #[derive(Drop)]
 pub struct Tools<N: Naming> {
     pub rack: Rack<N>,

@@ -7,7 +7,7 @@ ghost use Rattle.cilk_racks.specs.Racks.{Of};
 ghost use Rattle.cilk_turns.specs.Turns.{HasEnded, Works};
 ghost use Rattle.cilk_workers.specs.Gates.{AreFirsts};
 ghost use Rattle.cilk_workers.specs.Hands.{IsHand};
-ghost use Rattle.cilk_workers.specs.Keys.{AreKeys};
+ghost use Rattle.cilk_workers.specs.Keys.{AreKeys, AreSyncs};
 ghost use Rattle.cilk_workers.specs.Names.{IsName};
 
 use crate::doors::{Arrival, Met, arrive_by, block_at};
@@ -48,10 +48,11 @@ fn arrived<N: Naming, R: Wait>(
     chain: Option<Chain>,
 ) -> Hand
     requires name { IsName N.run N.course shared.now }
-    requires keys { AreKeys blocks.now.doors.now.items keys.old.items blocks.now.syncs.now }
+    requires keys { AreKeys blocks.now.doors.now.items keys.old.items }
+    requires syncs { AreSyncs shared.now blocks.now.syncs.now }
     requires piece { IsGood shared.now.run piece }
     requires chain { IfSome chain (λ c. c ≡ standing shared.now.course piece.upto) }
-    ensures keys { AreKeys blocks.now.doors.now.items keys.new.items blocks.now.syncs.now }
+    ensures keys { AreKeys blocks.now.doors.now.items keys.new.items }
     ensures hand { IsHand shared.now result }
 {
     let at = piece.upto();
@@ -59,7 +60,7 @@ fn arrived<N: Naming, R: Wait>(
         Some(child) => child,
         None => at,
     };
-    let Some(block) = block_at(blocks.of, at, blocks.doors.len()) else {
+    let Some(block) = block_at(blocks.of, at, blocks.syncs.len()) else {
         wait(rt);
         unreachable!()
     };
@@ -72,15 +73,13 @@ fn arrived<N: Naming, R: Wait>(
     }
 }
 
-// The continuation is offered.
-fn offered<N: Naming, R: Wait>(rt: &R, shared: &Shared<'_>, rack: &mut Rack<N>, task: Task)
+// The continuation is offered. False where there was no memory.
+fn offered<N: Naming>(shared: &Shared<'_>, rack: &mut Rack<N>, task: Task) -> bool
     requires name { IsName N.run N.course shared.now }
     requires task { task.of ≡ shared.now.course }
 {
     let _ = shared;
-    if rack.offer(task).is_err() {
-        wait(rt);
-    }
+    rack.offer(task).is_ok()
 }
 
 // The run has ended. Its piece has all of the run's events.
@@ -118,10 +117,11 @@ pub fn hold<N: Naming, R: Wait, G: Gate>(
     mut work: Work,
 ) -> Hand
     requires name { IsName N.run N.course shared.now }
-    requires keys { AreKeys blocks.now.doors.now.items tools.old.keys.items blocks.now.syncs.now }
+    requires keys { AreKeys blocks.now.doors.now.items tools.old.keys.items }
+    requires syncs { AreSyncs shared.now blocks.now.syncs.now }
     requires strands { AreFirsts shared.now.run.story.events watch.now.strands.now }
     requires works { Works shared.now work }
-    ensures keys { AreKeys blocks.now.doors.now.items tools.new.keys.items blocks.now.syncs.now }
+    ensures keys { AreKeys blocks.now.doors.now.items tools.new.keys.items }
     ensures hand { IsHand shared.now result }
 {
     'each: for _ in 0..TURNS {
@@ -130,7 +130,9 @@ pub fn hold<N: Naming, R: Wait, G: Gate>(
             Turn::Goes => watch.tell(shared, before, &work.piece),
             Turn::Offers(task) => {
                 watch.tell(shared, before, &work.piece);
-                offered(rt, shared, &mut tools.rack, task);
+                if !offered(shared, &mut tools.rack, task) {
+                    return Hand::Done(Finish::Stopped);
+                }
             }
             Turn::Ended => {
                 watch.tell(shared, before, &work.piece);

@@ -5,7 +5,7 @@ ghost use Rattle.cilk_boxes.specs.Rows.{OfRun};
 ghost use Rattle.cilk_racks.specs.Racks.{Of};
 ghost use Rattle.cilk_workers.specs.Gates.{AreFirsts};
 ghost use Rattle.cilk_workers.specs.Hands.{IsHand};
-ghost use Rattle.cilk_workers.specs.Keys.{AreKeys};
+ghost use Rattle.cilk_workers.specs.Keys.{AreKeys, AreSyncs};
 ghost use Rattle.cilk_workers.specs.Names.{IsName};
 
 use crate::doors::{block_at, steal_by};
@@ -20,6 +20,7 @@ use cilk_turns::shared::Shared;
 use cilk_turns::turn::begin;
 use cilk_types::event::Pos;
 use crossbeam_utils::Backoff;
+use std::alloc::Global;
 use std::sync::Wait;
 
 // The oldest task of another worker, where there is one.
@@ -48,25 +49,29 @@ fn found<N: Naming>(rack: &mut Rack<N>, pickers: &mut Vec<Picker<N>>) -> Option<
 // A thief that goes on at a position tells its block. False where there was no memory.
 fn told<N: Naming, R: Wait>(
     rt: &R,
+    alloc: Global,
     shared: &Shared<'_>,
     blocks: &Blocks<'_, N>,
     keys: &mut Vec<Key>,
     at: Pos,
 ) -> bool
-    requires keys { AreKeys blocks.now.doors.now.items keys.old.items blocks.now.syncs.now }
-    ensures { AreKeys blocks.now.doors.now.items keys.new.items blocks.now.syncs.now }
+    requires name { IsName N.run N.course shared.now }
+    requires keys { AreKeys blocks.now.doors.now.items keys.old.items }
+    requires syncs { AreSyncs shared.now blocks.now.syncs.now }
+    ensures { AreKeys blocks.now.doors.now.items keys.new.items }
 {
-    let block = block_at(blocks.of, at, blocks.doors.len());
+    let block = block_at(blocks.of, at, blocks.syncs.len());
     let (Some(block), Some(child)) = (block, shared.resumed_by(at)) else {
         wait(rt);
         unreachable!()
     };
-    steal_by::<N, R>(rt, blocks, keys, block, child, at)
+    steal_by::<N, R>(rt, alloc, shared, blocks, keys, block, child, at)
 }
 
 /// One turn of a worker that has nothing: its own newest task, or another's oldest. It leaves where it sees that the run has ended.
 pub fn pick<N: Naming, R: Wait, G: Gate>(
     rt: &R,
+    alloc: Global,
     shared: &Shared<'_>,
     blocks: &Blocks<'_, N>,
     watch: &Watch<'_, G>,
@@ -75,10 +80,11 @@ pub fn pick<N: Naming, R: Wait, G: Gate>(
     mut piece: Piece,
 ) -> Hand
     requires name { IsName N.run N.course shared.now }
-    requires keys { AreKeys blocks.now.doors.now.items tools.old.keys.items blocks.now.syncs.now }
+    requires keys { AreKeys blocks.now.doors.now.items tools.old.keys.items }
+    requires syncs { AreSyncs shared.now blocks.now.syncs.now }
     requires strands { AreFirsts shared.now.run.story.events watch.now.strands.now }
     requires piece { OfRun shared.now.run piece × (piece.upto ≤ piece.from) }
-    ensures keys { AreKeys blocks.now.doors.now.items tools.new.keys.items blocks.now.syncs.now }
+    ensures keys { AreKeys blocks.now.doors.now.items tools.new.keys.items }
     ensures hand { IsHand shared.now result }
 {
     let Some(task) = found(&mut tools.rack, &mut tools.pickers) else {
@@ -92,7 +98,14 @@ pub fn pick<N: Naming, R: Wait, G: Gate>(
         Ok(work) => {
             backoff.reset();
             watch.tell(shared, 0, &work.piece);
-            if told::<N, R>(rt, shared, blocks, &mut tools.keys, work.piece.from()) {
+            if told::<N, R>(
+                rt,
+                alloc,
+                shared,
+                blocks,
+                &mut tools.keys,
+                work.piece.from(),
+            ) {
                 Hand::Holds(work)
             } else {
                 Hand::Done(Finish::Stopped)

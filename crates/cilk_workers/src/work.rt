@@ -3,7 +3,7 @@
 ghost use Rattle.std.specs.Prelude.{◌≡◌};
 ghost use Rattle.cilk_workers.specs.Gates.{AreFirsts};
 ghost use Rattle.cilk_workers.specs.Hands.{IsHand, IsFinish};
-ghost use Rattle.cilk_workers.specs.Keys.{AreKeys};
+ghost use Rattle.cilk_workers.specs.Keys.{AreKeys, AreSyncs};
 ghost use Rattle.cilk_workers.specs.Names.{IsName};
 
 use crate::gate::{Gate, Watch};
@@ -29,7 +29,8 @@ pub fn work<N: Naming, R: Wait, G: Gate>(
     hand: Hand,
 ) -> Finish
     requires name { IsName N.run N.course shared.now }
-    requires keys { AreKeys blocks.now.doors.now.items tools.old.keys.items blocks.now.syncs.now }
+    requires keys { AreKeys blocks.now.doors.now.items tools.old.keys.items }
+    requires syncs { AreSyncs shared.now blocks.now.syncs.now }
     requires strands { AreFirsts shared.now.run.story.events watch.now.strands.now }
     requires hand { IsHand shared.now hand }
     ensures { IsFinish shared.now result }
@@ -45,7 +46,9 @@ pub fn work<N: Naming, R: Wait, G: Gate>(
             }
             Hand::Holds(_) | Hand::Idle(_) if stopped => return Finish::Stopped,
             Hand::Holds(work) => hold::<N, R, G>(rt, alloc, shared, blocks, watch, tools, work),
-            Hand::Idle(piece) => pick::<N, R, G>(rt, shared, blocks, watch, tools, &backoff, piece),
+            Hand::Idle(piece) => {
+                pick::<N, R, G>(rt, alloc, shared, blocks, watch, tools, &backoff, piece)
+            },
         };
     }
     unreachable!()

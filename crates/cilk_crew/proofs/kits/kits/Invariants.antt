@@ -8,8 +8,8 @@ use Rattle.cilk_crew.proofs.kits.kits.Given as goal
 
 abbrev pub invariant-each : goal.invariant-each
 invariant-each g l =
-    All (IsKit l.shared l.doors.items l.syncs) l.all.items
-    × AreKeys l.doors.items l.keys.items l.syncs
+    All (IsKit l.shared l.doors.items) l.all.items
+    × AreKeys l.doors.items l.keys.items
     × All (λ ts. All IsTake ts.items) l.ends.items
     × OfRun l.shared.run l.spare
     × (l.spare.upto ≤ l.spare.from)

@@ -3,4 +3,4 @@ use Rattle.cilk_workers.specs.Keys.{AreKeys}
 use Rattle.cilk_crew.proofs.kits.more.Given as goal
 
 abbrev pub invariant-each : goal.invariant-each
-invariant-each g l = AreKeys (take l.at l.doors.items) l.all.items (take l.at l.syncs) × AreKeys l.doors.items l.keys.items l.syncs
+invariant-each g l = AreKeys (take l.at l.doors.items) l.all.items × AreKeys l.doors.items l.keys.items

@@ -2,4 +2,4 @@ use Rattle.cilk_racks.proofs.Keys.{forks}
 use Rattle.cilk_racks.proofs.lock.another.Goals as goal
 
 pub another-requires-clause-rule : goal.another-requires-clause-rule
-another-requires-clause-rule g c = forks g.N.Naming.run g.N.Naming.course _ c.args.sync _ c.requires.1
+another-requires-clause-rule g c = forks g.N.Naming.run g.N.Naming.course _ _

@@ -1,0 +1,112 @@
+//! The join boxes of several sync blocks.
+
+ghost use Rattle.std.specs.Prelude.{◌≡◌, All, IfSome, Some};
+ghost use Rattle.cilk_types.specs.declared.event.Event.TheVariants.{Sync};
+ghost use Rattle.cilk_story.specs.Word.{event};
+ghost use Rattle.cilk_boxes.specs.Rows.{run_of};
+ghost use Rattle.cilk_boxes.specs.Shelves.{shelf, IsBoxOf, LiesOn};
+
+use crate::join::JoinBox;
+use cilk_chains::course::Course;
+use cilk_pieces::reducers::Reducers;
+use cilk_shared::yard::Yard;
+use cilk_types::event::Pos;
+use std::alloc::{AllocError, Global};
+use std::marker::Model;
+use std::snapshot::Snapshot;
+
+/// The boxes of the blocks, among some, in which something waits. The box of another block is as it is at first, and takes no room. To a
+/// contract it is the run whose blocks they are.
+#[derive(Drop)]
+pub struct Shelf {
+    of: Snapshot<Yard>,
+    reducers: Snapshot<Reducers>,
+    course: Snapshot<Course>,
+    boxes: Vec<JoinBox>,
+}
+
+impl Model for Shelf {
+    ghost use Rattle.std.specs.Prelude.{All};
+    ghost use Rattle.std.specs.Coded.{codes};
+    ghost use Rattle.cilk_chains.specs.Courses.{course_code};
+    ghost use Rattle.cilk_boxes.specs.Rows.{run_of};
+    ghost use Rattle.cilk_boxes.specs.Shelves.{LiesOn, ShelfValue, shelf};
+
+    ghost Value = { ShelfValue };
+
+    ghost coded = { Prim.hlevel (codes, course_code) };
+
+    ghost view = { λ s. shelf (run_of s.of.value s.reducers.value) s.course.value };
+
+    ghost invariant = { λ s. All (LiesOn (shelf (run_of s.of.value s.reducers.value) s.course.value)) s.boxes.items };
+}
+
+// The box of a block comes out, where it is there.
+fn taken(
+    yard: &Yard,
+    reducers: &Reducers,
+    course: &Course,
+    boxes: &mut Vec<JoinBox>,
+    sync: Pos,
+) -> Option<JoinBox>
+    requires { All (LiesOn (shelf (run_of yard.now reducers.now) course.now)) boxes.old.items }
+    ensures rest { All (LiesOn (shelf (run_of yard.now reducers.now) course.now)) boxes.new.items }
+    ensures found { IfSome result (IsBoxOf (shelf (run_of yard.now reducers.now) course.now) sync) }
+{
+    let _ = yard;
+    let _ = reducers;
+    let _ = course;
+    'each: for at in 0..boxes.len() {
+        let found = &boxes[at];
+        if found.sync() == sync {
+            return Some(boxes.remove(at));
+        }
+    }
+    None
+}
+
+impl Shelf {
+    /// No box.
+    pub fn new(alloc: Global, yard: &Yard, reducers: &Reducers, course: &Course) -> Shelf
+        ensures { result ≡ shelf (run_of yard.now reducers.now) course.now }
+    {
+        Shelf {
+            of: Snapshot::of(yard),
+            reducers: Snapshot::of(reducers),
+            course: Snapshot::of(course),
+            boxes: Vec::new(alloc),
+        }
+    }
+
+    /// The box of the block that ends with the `sync` at this position comes out.
+    pub fn take(
+        &mut self,
+        alloc: Global,
+        yard: &Yard,
+        reducers: &Reducers,
+        course: &Course,
+        sync: Pos,
+    ) -> JoinBox
+        requires of { self.old ≡ shelf (run_of yard.now reducers.now) course.now }
+        requires sync { event yard.now.story sync ≡ Some Sync }
+        ensures same { self.new ≡ self.old }
+        ensures found { IsBoxOf self.old sync result }
+    {
+        match taken(yard, reducers, course, &mut self.boxes, sync) {
+            Some(found) => found,
+            None => JoinBox::new(alloc, yard, reducers, course, sync),
+        }
+    }
+
+    /// A box is put back. It is forgotten where nothing waits in it any more. Without memory it is lost.
+    pub fn put(&mut self, back: JoinBox) -> Result<(), AllocError>
+        requires { LiesOn self.old back }
+        ensures { self.new ≡ self.old }
+    {
+        if back.is_empty() {
+            return Ok(());
+        }
+        self.boxes.push(back)?;
+        Ok(())
+    }
+}

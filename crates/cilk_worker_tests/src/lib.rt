@@ -1,0 +1,22 @@
+//! Tests of runs by several workers, in real threads.
+//!
+//! [`texts`] makes accepted programs from texts, and [`shown`] tells in lines what a run leaves, or why it has no
+//! outcome. [`cases`] has programs with what they leave, [`runs`] runs each by 1, 2, 4 and 8 workers, as often as a
+//! constant says, and [`holds`] holds strands until others have begun, by a gate of [`gates`]. [`waits`] ends the test
+//! where runs don't end in time.
+#![tactic(auto)]
+
+#[cfg(test)]
+mod cases;
+#[cfg(test)]
+mod gates;
+#[cfg(test)]
+mod holds;
+#[cfg(test)]
+mod runs;
+#[cfg(test)]
+mod shown;
+#[cfg(test)]
+mod texts;
+#[cfg(test)]
+mod waits;

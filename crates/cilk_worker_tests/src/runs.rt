@@ -1,0 +1,189 @@
+//! Programs run by several workers, as their serial runs.
+
+use crate::cases::{ALONG, Case, DEPART, LOOPS, NUMBERS, PARTS, REDUCERS, SPAWNS, UNMANNED};
+use crate::gates::Counting;
+use crate::shown::left;
+use crate::texts::{accepted, input_of, planned};
+use crate::waits::{Job, in_time};
+use cilk_planning::program_plan::ProgramPlan;
+use cilk_types::event::StrandNo;
+use cilk_types::input::Input;
+use std::alloc::Global;
+use std::process::Abort;
+use std::sync::Wait;
+use std::test::Fail;
+use std::thread::Threads;
+
+// The numbers of workers by which a case is run.
+const CREWS: [u32; 4] = [1, 2, 4, 8];
+
+// Numbers of workers that no run has.
+const NO_CREWS: [u32; 2] = [0, 65];
+
+// How often each number of workers runs a case.
+const TIMES: u32 = 100;
+
+/// A case, the numbers of workers that run it, and how often each of them does.
+#[derive(Clone, Copy)]
+pub struct Series {
+    case: Case,
+    crews: &'static [u32],
+    times: u32,
+    // Whether a run begins each strand of the plan.
+    is_whole: bool,
+}
+
+// The runs of a case whose runs end.
+fn whole(case: &Case) -> Series {
+    Series {
+        case: *case,
+        crews: &CREWS,
+        times: TIMES,
+        is_whole: true,
+    }
+}
+
+// The runs of a case whose runs depart.
+fn departing(case: &Case) -> Series {
+    Series {
+        case: *case,
+        crews: &CREWS,
+        times: TIMES,
+        is_whole: false,
+    }
+}
+
+// The runs of a case by numbers of workers that no run has.
+fn unmanned(case: &Case) -> Series {
+    Series {
+        case: *case,
+        crews: &NO_CREWS,
+        times: 1,
+        is_whole: false,
+    }
+}
+
+// How many strands the plan has.
+fn strands(plan: &ProgramPlan<'_>) -> u64 {
+    let mut count: u64 = 0;
+    let mut strand: StrandNo = 1;
+    for _ in 0..plan.events().count() {
+        if plan.strand(strand).is_some() {
+            count = count.saturating_add(1);
+        }
+        strand = strand.saturating_add(1);
+    }
+    count
+}
+
+// One run by some workers leaves what is wanted; how many strands its gate sees.
+fn strands_of_run<R: Abort + Threads + Wait + Sync>(
+    rt: &R,
+    alloc: Global,
+    plan: &ProgramPlan<'_>,
+    input: &Input,
+    workers: u32,
+    wanted: &str,
+) -> u64 {
+    let gate = Counting::new();
+    let Ok(left) = left(rt, alloc, plan, input, workers, &gate) else {
+        panic!(rt; "no memory by {workers}");
+    };
+    assert!(rt; left.as_str() == wanted, "by {workers}: {left}");
+    gate.count()
+}
+
+// The runs by some workers.
+fn runs_by<R: Abort + Threads + Wait + Sync>(
+    rt: &R,
+    alloc: Global,
+    plan: &ProgramPlan<'_>,
+    input: &Input,
+    workers: u32,
+    series: &Series,
+) {
+    let strands = strands(plan);
+    let wanted = series.case.left;
+    for _ in 0..series.times {
+        let begun = strands_of_run(rt, alloc, plan, input, workers, wanted);
+        assert!(rt;
+            begun == strands || !series.is_whole,
+            "{begun} strands by {workers}"
+        );
+    }
+}
+
+/// Runs the plan of the case's program as often as the series says, by each of its numbers of workers.
+pub fn runs<R: Abort + Threads + Wait + Sync>(rt: &R, alloc: Global, series: &Series) {
+    let case = &series.case;
+    let accepted = accepted(rt, alloc, case.text, case.numbers);
+    let plan = planned(rt, alloc, &accepted);
+    let input = input_of(rt, alloc, case.on);
+    for workers in series.crews {
+        runs_by(rt, alloc, &plan, &input, *workers, series);
+    }
+}
+
+#[test]
+fn spawned_calls(rt: HostRuntime) -> Result<(), Fail> {
+    for case in SPAWNS.as_slice() {
+        in_time(&rt, rt.alloc(), &Job::Series(whole(case)));
+    }
+    Ok(())
+}
+
+#[test]
+fn turns_of_loops(rt: HostRuntime) -> Result<(), Fail> {
+    for case in LOOPS.as_slice() {
+        in_time(&rt, rt.alloc(), &Job::Series(whole(case)));
+    }
+    Ok(())
+}
+
+#[test]
+fn numbers_without_spawns(rt: HostRuntime) -> Result<(), Fail> {
+    for case in NUMBERS.as_slice() {
+        in_time(&rt, rt.alloc(), &Job::Series(whole(case)));
+    }
+    Ok(())
+}
+
+#[test]
+fn reducers_of_loops(rt: HostRuntime) -> Result<(), Fail> {
+    for case in REDUCERS.as_slice() {
+        in_time(&rt, rt.alloc(), &Job::Series(whole(case)));
+    }
+    Ok(())
+}
+
+#[test]
+fn reducers_of_spawned_calls(rt: HostRuntime) -> Result<(), Fail> {
+    for case in PARTS.as_slice() {
+        in_time(&rt, rt.alloc(), &Job::Series(whole(case)));
+    }
+    Ok(())
+}
+
+#[test]
+fn other_inputs_go_along(rt: HostRuntime) -> Result<(), Fail> {
+    for case in ALONG.as_slice() {
+        in_time(&rt, rt.alloc(), &Job::Series(whole(case)));
+    }
+    Ok(())
+}
+
+#[test]
+fn other_inputs_depart(rt: HostRuntime) -> Result<(), Fail> {
+    for case in DEPART.as_slice() {
+        in_time(&rt, rt.alloc(), &Job::Series(departing(case)));
+    }
+    Ok(())
+}
+
+#[test]
+fn numbers_of_workers(rt: HostRuntime) -> Result<(), Fail> {
+    for case in UNMANNED.as_slice() {
+        in_time(&rt, rt.alloc(), &Job::Series(unmanned(case)));
+    }
+    Ok(())
+}

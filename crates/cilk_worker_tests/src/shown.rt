@@ -1,0 +1,68 @@
+//! What a run leaves, as lines.
+
+use cilk_crew::run::ThreadFault;
+use cilk_planning::program_plan::ProgramPlan;
+use cilk_threads::threads::run_threads;
+use cilk_types::input::Input;
+use cilk_types::outcome::{Final, Outcome};
+use cilk_workers::gate::Gate;
+use std::alloc::{AllocError, Global};
+use std::sync::Wait;
+use std::thread::Threads;
+
+/// What a run along a plan by some workers leaves, or why it has no outcome.
+pub fn left<R: Threads + Wait + Sync, G: Gate + Sync>(
+    rt: &R,
+    alloc: Global,
+    plan: &ProgramPlan<'_>,
+    input: &Input,
+    workers: u32,
+    gate: &G,
+) -> Result<String, AllocError> {
+    match run_threads(rt, alloc, plan, input, workers, gate) {
+        Ok(outcome) => shown(alloc, &outcome),
+        Err(fault) => told(alloc, &fault),
+    }
+}
+
+fn told(alloc: Global, fault: &ThreadFault) -> Result<String, AllocError> {
+    match fault {
+        ThreadFault::Memory => Err(AllocError),
+        ThreadFault::Workers => format!(in alloc; "no such number of workers\n"),
+        ThreadFault::Departs(at) => format!(in alloc; "departs at {at}\n"),
+    }
+}
+
+// The printed numbers, a line each; the numbers of each global reducer, and those of all global cells, in a line; and
+// the result.
+fn shown(alloc: Global, outcome: &Outcome) -> Result<String, AllocError> {
+    let mut text = String::new(alloc);
+    for number in outcome.output.as_slice() {
+        text.push_str(format!(in alloc; "{number}\n")?.as_str())?;
+    }
+    for last in outcome.reducers.as_slice() {
+        text.push_str(of_reducer(alloc, last)?.as_str())?;
+    }
+    text.push_str(row(alloc, "cells", outcome.globals.as_slice())?.as_str())?;
+    let result = outcome.result;
+    text.push_str(format!(in alloc; "result {result}\n")?.as_str())?;
+    Ok(text)
+}
+
+fn of_reducer(alloc: Global, last: &Final) -> Result<String, AllocError> {
+    match last {
+        Final::Number(number) => row(alloc, "reducer", [*number].as_slice()),
+        Final::List(numbers) => row(alloc, "reducer", numbers.as_slice()),
+    }
+}
+
+// A name and numbers in a line.
+fn row(alloc: Global, name: &str, numbers: &[i64]) -> Result<String, AllocError> {
+    let mut text = String::new(alloc);
+    text.push_str(name)?;
+    for number in numbers {
+        text.push_str(format!(in alloc; " {number}")?.as_str())?;
+    }
+    text.push('\n')?;
+    Ok(text)
+}
