@@ -54,12 +54,20 @@ __attribute__((constructor)) static void begin(void) {
 }
 
 __attribute__((destructor)) static void end(void) {
-    const char *path = getenv("COUNTS");
+    static int told;
+    const char *path = told++ ? 0 : getenv("COUNTS");
     char line[80];
     int file = path ? ((int (*)(const char *, int))dlsym(RTLD_NEXT, "open"))(path, O_WRONLY) : -1;
     if (file < 0) return;
     int size = snprintf(line, sizeof line, "%ld %ld %ld\n", allocs, calls, moves);
     ((ssize_t (*)(int, const void *, size_t))dlsym(RTLD_NEXT, "write"))(file, line, size);
+}
+
+/* A program that ends so runs no destructor. */
+__attribute__((noreturn)) void _exit(int status) {
+    end();
+    ((void (*)(int))dlsym(RTLD_NEXT, "_exit"))(status);
+    __builtin_unreachable();
 }
 
 static int refused(void) {
@@ -170,20 +178,19 @@ def turns(program, words, folder):
 
 def by_workers(program, words, folder):
     """Refuses each allocation of a run on threads in turn, up to a run that makes fewer, and gives how many answers weren't fair."""
-    whole, (allocs, _, _) = run(program, words, folder)
+    whole, _ = run(program, words, folder)
     wrong, stopped, made = 0, 0, 0
     for setting in ["FAIL_ALLOC", "FAIL_FROM"]:
-        n = 1
-        while n <= allocs:
-            seen, counted = run(program, words, folder, **{setting: n})
+        n, met = 0, 0
+        while met >= n:
+            n += 1
+            seen, (met, _, _) = run(program, words, folder, **{setting: n})
             again, _ = run(program, words, folder)
-            allocs = counted[0] if counted else allocs
             is_stopped = seen == (5, b"", b"no memory\n")
             stopped, made = stopped + is_stopped, made + (seen == whole)
             if again != whole or not (is_stopped or seen == whole):
                 wrong += 1
                 print(f"{' '.join(words)}: {setting}={n}: {seen[0]} {seen[1][:80]} {seen[2][:80]}; with ample memory {again}")
-            n += 1
     print(f"{' '.join(words)}: status {whole[0]}; {stopped} runs without memory, {made} with the outcome; {wrong} wrong")
     return wrong
 
