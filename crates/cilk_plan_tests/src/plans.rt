@@ -37,8 +37,8 @@ const GETS_EVENTS: [(FrameNo, Kind); 22] = [
     (1, Kind::End),
 ];
 
-// The positions of that run's events that are steps on shared words.
-const GETS_WORDS: [Pos; 12] = [2, 3, 4, 6, 8, 10, 11, 13, 15, 17, 19, 20];
+// The positions of that run's events that are steps on shared words; the last is the root's `end`.
+const GETS_WORDS: [Pos; 13] = [2, 3, 4, 6, 8, 10, 11, 13, 15, 17, 19, 20, 22];
 
 fn planned<'a>(rt: &impl Abort, alloc: Global, accepted: &'a Accepted) -> ProgramPlan<'a> {
     let Ok(plan) = plan(alloc, accepted) else {
@@ -63,16 +63,16 @@ fn next_of(frame: FrameNo, kind: Kind) -> Asked {
     Asked::Next { frame, kind }
 }
 
-// Whether exactly these events, but for the last, are steps on shared words.
+// Whether exactly these events are steps on shared words, and nothing past the last is one.
 fn has_words(plan: &Plan, words: &[Pos]) -> bool {
     let mut at: Pos = 0;
-    for _ in 1..plan.count() {
+    for _ in 0..plan.count() {
         at = at.saturating_add(1);
         if plan.is_word(at) != words.contains(&at) {
             return false;
         }
     }
-    true
+    !plan.is_word(at.saturating_add(1))
 }
 
 // The position of the earliest event that comes right before one of that run: the spawn before a `resume`, the first child's end before the

@@ -2,7 +2,8 @@
 //!
 //! [`texts`] makes accepted programs from texts, and [`settings`] their plans and yards. [`steps`] makes a segment's next event as the
 //! yard's run does, and [`two_threads`] forces an order of the events of two threads by messages, each of which is waited for at most ten
-//! seconds. [`others`] has two programs' runs on other inputs as stories, and [`other_inputs`] makes them on a yard.
+//! seconds. [`others`] has two programs' runs written out, with those on other inputs as stories; [`written_out`] compares them with the
+//! runs of the programs' texts, and [`other_inputs`] makes them on a yard.
 #![tactic(auto)]
 
 #[cfg(test)]
@@ -14,3 +15,5 @@ pub mod steps;
 mod texts;
 #[cfg(test)]
 mod two_threads;
+#[cfg(test)]
+mod written_out;

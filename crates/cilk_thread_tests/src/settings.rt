@@ -1,4 +1,5 @@
-//! Worked programs from their texts: on their own inputs, and on others than those of their plans.
+//! Plans and yards of worked programs: of an accepted program on its own input, and of two programs whose runs
+//! are written out, on others.
 
 ghost use Rattle.std.specs.Prelude.{◌≡◌, ◌∷◌, [], pos, true, replicate, IfOk};
 ghost use Rattle.cilk_shared.specs.Values.{OfYard};

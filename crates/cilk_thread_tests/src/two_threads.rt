@@ -75,7 +75,8 @@ fn makes_the_child<R: Abort + Wait + Clock>(
     segment
 }
 
-// The thread that takes the rest: it offers again, makes the second child, and takes its own continuation.
+// The thread that takes the rest: it offers again, makes the second child, and takes its own continuation. The `sync`
+// behind that it can't pass, since the first child's `end` is in the other segment.
 fn takes_the_rest<R: Abort + Wait + Clock>(
     rt: &R,
     yard: &Yard,
@@ -102,6 +103,8 @@ fn takes_the_rest<R: Abort + Wait + Clock>(
     assert_eq!(rt; read, Done::Loaded(7));
     make_up_to(rt, yard, plan, events, asked, &mut segment, 16);
     assert_eq!(rt; take(yard, asked, &mut segment, own), Some(Taken::Yes));
+    assert_eq!(rt; segment.upto(), 18);
+    assert!(rt; !segment.may_pass(plan));
     segment
 }
 
