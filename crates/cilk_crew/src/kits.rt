@@ -1,6 +1,6 @@
 //! What each worker of a crew begins with.
 
-ghost use Rattle.std.specs.Prelude.{◌≡◌, ◌<◌, ◌≤◌, All, Some, length, IfOk, OnOk, IfSome, MatchOption, true, false};
+ghost use Rattle.std.specs.Prelude.{◌≡◌, ◌*◌, ◌<◌, ◌≤◌, All, Some, length, IfOk, OnOk, IfSome, MatchOption, true, false};
 ghost use Rattle.cilk_boxes.specs.Rows.{OfRun};
 ghost use Rattle.cilk_turns.specs.Turns.{Works};
 ghost use Rattle.cilk_workers.specs.Keys.{AreKeys, IsKeyAt};

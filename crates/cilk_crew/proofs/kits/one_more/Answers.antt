@@ -12,4 +12,4 @@ pub returns-clause-keys : goal.returns-clause-keys
 returns-clause-keys g c = changed _ _ c.requires.keys c.args.at c.requires.at _ c.another.new.key c.index-door.ensures c.another.ensures.old
 
 pub returns-clause-one : goal.returns-clause-one
-returns-clause-one g c = key_at _ _ c.args.at c.requires.at _ c.another.result c.index-door.ensures c.another.ensures.new
+returns-clause-one g c = key_at _ c.args.at c.requires.at _ c.another.result c.index-door.ensures c.another.ensures.new

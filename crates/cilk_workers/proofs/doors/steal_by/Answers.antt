@@ -1,4 +1,4 @@
-use Rattle.std.proofs.Common.{◌≡◌, ℕ, Some, sym, subst, arith}
+use Rattle.std.proofs.Common.{◌≡◌, ◌<◌, ℕ, Some, length, sym, subst, arith}
 use Rattle.cilk_types.specs.declared.event.Event.TheVariants.{Sync}
 use Rattle.cilk_story.specs.Word.{event}
 use Rattle.cilk_turns.specs.Shared.{story_in}
@@ -6,13 +6,21 @@ use Rattle.cilk_workers.proofs.Keys.{widths, at, changed, number_at}
 use Rattle.cilk_workers.proofs.doors.steal_by.Goals as goal
 
 pub index_mut-key-requires : goal.index_mut-key-requires
-index_mut-key-requires g c = let w = widths _ _ c.requires.keys in omega (arith, w, c.shelf_of-at.ensures)
+index_mut-key-requires g c = let w = widths _ _ c.requires.keys in let n = c.len.ensures in omega (arith, w, n, c.shelf_of-at.ensures)
 
 pub steal-requires-clause-key : goal.steal-requires-clause-key
-steal-requires-clause-key g c = at _ _ c.requires.keys c.shelf_of-at.result c.shelf_of-at.ensures _ _ c.index-door.ensures c.index_mut-key.ensures.value
+steal-requires-clause-key g c =
+    let n = c.len.ensures in
+    let there : c.shelf_of-at.result < length c.args.blocks.now.doors.now.items = omega (arith, n, c.shelf_of-at.ensures) in
+    at _ _ c.requires.keys c.shelf_of-at.result there _ _ c.index-door.ensures c.index_mut-key.ensures.value
 
 pub steal-requires-clause-sync : goal.steal-requires-clause-sync
-steal-requires-clause-sync g c = subst (λ (n : ℕ). event (story_in c.args.shared.now) n ≡ Some Sync) (sym c.position-sync.ensures) (number_at _ _ c.args.block c.requires.syncs c.requires.block)
+steal-requires-clause-sync g c =
+    let y = c.args.shared.now in
+    subst (λ (n : ℕ). event (story_in y) n ≡ Some Sync) (sym c.position-sync.ensures) (number_at (λ (n : ℕ). event (story_in y) n ≡ Some Sync) c.args.blocks.now.syncs.now c.args.block c.requires.syncs c.requires.block)
 
 pub returns : goal.returns
-returns g c = changed _ _ c.requires.keys c.shelf_of-at.result c.shelf_of-at.ensures _ c.steal.new.key c.index-door.ensures c.steal.ensures
+returns g c =
+    let n = c.len.ensures in
+    let there : c.shelf_of-at.result < length c.args.blocks.now.doors.now.items = omega (arith, n, c.shelf_of-at.ensures) in
+    changed _ _ c.requires.keys c.shelf_of-at.result there _ c.steal.new.key c.index-door.ensures c.steal.ensures
