@@ -6,8 +6,6 @@ mod chance;
 #[cfg(test)]
 mod examples;
 #[cfg(test)]
-mod gallery;
-#[cfg(test)]
 mod machine;
 #[cfg(test)]
 mod playing;

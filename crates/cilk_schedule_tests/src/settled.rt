@@ -6,11 +6,11 @@ use crate::examples::{
     COUNTDOWN, EARLY_VALUE, FIRST, INPUTS, INPUTS_INPUT, MONOIDS, OPERATORS, REDUCERS, SPAWNS,
     SQUARES, STATEMENTS, WORDS,
 };
-use crate::gallery::{
+use crate::playing::{FIB, GIVEN, LIST, LOCAL, PRINTS, RACE, SUM};
+use cilk_gallery::{
     BFS, BFS_RACY, COLLATZ, FLOYD_WARSHALL, HEAT, HISTOGRAM, KNAPSACK, KNAPSACK_INPUT, LU,
     MANDELBROT, MATRIX_PRODUCT, MERGE_SORT, PREFIX_SUM, QUEENS, QUICKSORT, SIEVE,
 };
-use crate::playing::{FIB, GIVEN, LIST, LOCAL, PRINTS, RACE, SUM};
 use std::alloc::Global;
 use std::process::Abort;
 

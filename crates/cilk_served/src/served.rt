@@ -19,12 +19,12 @@ pub struct Folder<'a> {
     script: &'a [u8],
     parts: u64,
     pub reads: u64,
-    failures: u64,
+    pub failures: u64,
 }
 
 impl<'a> Folder<'a> {
     /// A folder with these texts, of which nothing was read yet.
-    fn new(
+    pub fn new(
         program: &'a [u8],
         input: &'a [u8],
         certificate: &'a [u8],
