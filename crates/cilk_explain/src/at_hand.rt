@@ -1,6 +1,8 @@
 //! Why a place is refused, with the name or token that stands there.
 
+use crate::misuses::{is_argument, is_in_cilk_for, wants_reducer};
 use crate::place::{Location, locate};
+use crate::sites::enclosing;
 use crate::tokens::{Declared, Tokens};
 use crate::words::word_at;
 use cilk_token::token::Kind;
@@ -78,9 +80,17 @@ fn miscounted(
     let given = tokens.parts_behind(token);
     match tokens.declaration_of(token) {
         Some((_, Declared::Function { parameters, .. })) => {
-            format!(in alloc; "`{name}` wants {parameters} arguments, and is given {given}")
+            let arguments = if parameters == 1 {
+                "argument"
+            } else {
+                "arguments"
+            };
+            format!(in alloc; "`{name}` wants {parameters} {arguments}, and is given {given}")
         }
-        _ => format!(in alloc; "`{name}` is given {given} arguments"),
+        _ => {
+            let arguments = if given == 1 { "argument" } else { "arguments" };
+            format!(in alloc; "`{name}` is given {given} {arguments}")
+        }
     }
 }
 
@@ -97,26 +107,44 @@ fn mistaken(
             _ => format!(in alloc; "a `void` function returns no number"),
         };
     }
+    if is_in_cilk_for(tokens, token) {
+        return in_head(alloc, tokens, token, name);
+    }
     let wrong = match tokens.declaration_of(token) {
         Some((_, declared)) => misused(tokens, token, declared),
-        None => "isn't what is wanted here",
+        None => "is no reducer, which the parameter is",
     };
     format!(in alloc; "`{name}` {wrong}")
 }
 
+// Another name than that of a loop's variable in its head.
+fn in_head(
+    alloc: Global,
+    tokens: &Tokens<'_>,
+    token: usize,
+    name: &str,
+) -> Result<String, AllocError> {
+    let variable = match enclosing(tokens, token) {
+        Some(open) => tokens.word(open.saturating_add(2)),
+        None => &[],
+    };
+    let variable = String::from_utf8_lossy(alloc, variable)?;
+    let variable = variable.as_str();
+    format!(in alloc; "found `{name}`, where `{variable}`, this `cilk_for`'s variable, is wanted")
+}
+
 // What is wrong with the use of a name that is declared as this.
 fn misused(tokens: &Tokens<'_>, token: usize, declared: Declared) -> &'static str {
-    let wants_reducer = matches!(
-        tokens.kind_back(token, 2),
-        Some(Kind::Update | Kind::Set | Kind::Value)
-    );
     match (declared, tokens.kind_behind(token)) {
         (Declared::Reducer, Some(Kind::Open)) => "is a reducer, and can't be called",
         (Declared::Reducer, Some(Kind::OpenBracket)) => "is a reducer, and has no index",
+        (Declared::Reducer, Some(Kind::Comma | Kind::Close)) if is_argument(tokens, token) => {
+            "is a reducer, and the parameter is none of its monoid"
+        }
         (Declared::Reducer, _) => {
             "is a reducer: `value(r)` reads it, `update(r, e)` and `set(r, e)` write it"
         }
-        (_, _) if wants_reducer => "is no reducer",
+        (_, _) if wants_reducer(tokens, token) => "is no reducer",
         (Declared::Array, Some(Kind::Open)) => "is an array, and can't be called",
         (Declared::Array, _) => "is an array, and stands only with an index: `a[i]`",
         (Declared::Function { .. }, Some(Kind::Open)) => {
@@ -125,9 +153,7 @@ fn misused(tokens: &Tokens<'_>, token: usize, declared: Declared) -> &'static st
         (Declared::Function { .. }, _) => "is a function, and can only be called",
         (Declared::Variable, Some(Kind::Open)) => "is a variable, and can't be called",
         (Declared::Variable, Some(Kind::OpenBracket)) => "is no array, and has no index",
-        (Declared::Variable, _) => {
-            "is neither the variable of this `cilk_for` nor a reducer of the parameter's kind"
-        }
+        (Declared::Variable, _) => "is no reducer, which the parameter is",
     }
 }
 

@@ -30,7 +30,7 @@ pub fn text_token(number: u16) -> Option<Reason> {
             line: "program 103 at 19",
             example: Example::Program("int main(){return 0}"),
             place: "the first byte of the token that no text of the language has here, or the text's length where it ends too early",
-            cure: "Look at the token before the place as well: a `;` or `)` may be missing there. Calls inside expressions, other types and `break` are no part of the language (`docs/FROM-CILK.md`).",
+            cure: "Write what is wanted there, or look at what stands ahead of it. Calls inside expressions, other types and `break` are no part of the language (`docs/FROM-CILK.md` has what stands for them).",
         },
         _ => return None,
     };
@@ -56,7 +56,7 @@ pub fn text_limit(number: u16) -> Option<Reason> {
             line: "program 105 at 18",
             example: Example::Program("int main(){return 9223372036854775808;}"),
             place: "the first digit of a number over 9223372036854775807",
-            cure: "The least number is written `-9223372036854775807 - 1`.",
+            cure: "The least number is written `-9223372036854775807 - 1`; where a global is to open with it, `main` sets it. Of what is greater, count in a greater unit, or keep it in two variables, as its billions and the rest.",
         },
         106 => Reason {
             number,
@@ -117,7 +117,7 @@ pub fn name_kind(number: u16) -> Option<Reason> {
             line: "program 114 at 18",
             example: Example::Program("int main(){return main;}"),
             place: "a name of a wrong kind, at the name: an array without index, an index on no array, a function or reducer as a variable, a call of no function, a void call that is assigned, `update`, `set` or `value` of no reducer, an argument that is no reducer of the parameter's monoid (at its first byte), another name in the second or third part of a `cilk_for` head; `return e` in a void function and `return;` in an int function at the `return`",
-            cure: "Arrays: `a[i]`. Reducers: `update(r, e)`, `set(r, e)`, `value(r)`. The call of a `void` function is a statement of its own.",
+            cure: "An element is `a[i]`. A reducer is read by `value(r)`, and written by `update(r, e)` and `set(r, e)`; as an argument it goes to a parameter of the same monoid. A function is called, and the call of a `void` one is a statement of its own. The second and third part of a `cilk_for` head have its own variable. `return e;` stands in an `int` function, `return;` in a `void` one.",
         },
         115 => Reason {
             number,
@@ -172,7 +172,7 @@ pub fn loop_rule(number: u16) -> Option<Reason> {
             line: "program 119 at 4",
             example: Example::Program("int a[0];int main(){return 0;}"),
             place: "over a limit of the program, at the declared name",
-            cure: "Make it smaller: pack what is bounded into the digits of one number, or read parts of the input one after the other.",
+            cure: "An array has at least 1 element. Of what is too many: pack what is bounded into the digits of one number, or read parts of the input one after the other; let a global array stand for many variables, parameters or reducers, and a function of its own for a part of another one.",
         },
         _ => return None,
     };
@@ -250,7 +250,7 @@ pub fn run_limit(number: u16) -> Option<Reason> {
             line: "fault 204 at 1000001",
             example: Example::Program("int main() { while (1) { print(1); } return 0; }"),
             place: "too many events, or too many ticks, in place of this event",
-            cure: "Try a smaller input first. Keep what is read often in fewer variables, or do less for each element.",
+            cure: "See that each loop ends. On a smaller input `measure` shows which function or loop makes the most events: each read and each write of a variable or an element is one. Keep less in variables on the way, or do less for each element.",
         },
         205 => Reason {
             number,
@@ -259,7 +259,7 @@ pub fn run_limit(number: u16) -> Option<Reason> {
             line: "fault 205 at 131072",
             example: Example::Program("void f() { f(); } int main() { f(); return 0; }"),
             place: "too many frames, in place of this call or spawn",
-            cure: "Let each turn of a `cilk_for` do a block of turns by a serial loop (`docs/FROM-CILK.md`, \"Many turns, in blocks\"), and a loop do what is left where that is little: a call takes a frame as a spawn does.",
+            cure: "See that each recursion ends. Let each turn of a `cilk_for` do a block of turns by a serial loop (`docs/FROM-CILK.md`, \"Many turns, in blocks\"), and let a loop do what is left where that is little, in place of a call or a spawn: a frame that has ended counts as well.",
         },
         206 => Reason {
             number,
@@ -270,7 +270,7 @@ pub fn run_limit(number: u16) -> Option<Reason> {
                 "int a[1000000];void f(int x){int y;f(x);}int main(){f(1);return 0;}",
             ),
             place: "too many cells, in place of this call or spawn",
-            cure: "Make global arrays shorter, and let functions that are called often have fewer variables.",
+            cure: "See that each recursion ends. Make global arrays shorter, let functions that are called often have fewer variables and parameters, and call them less often: the cells of a frame that has ended count as well.",
         },
         _ => return None,
     };

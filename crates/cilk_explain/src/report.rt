@@ -2,7 +2,7 @@
 
 use crate::at_hand::at_hand;
 use crate::excerpt::push_excerpt;
-use crate::hints::{hint, misspelt_near, near_name};
+use crate::hints::{Hint, hint_of};
 use crate::place::{Location, locate};
 use crate::reasons::{Example, NUMBERS, Reason, reason_of};
 use crate::tokens::Tokens;
@@ -173,43 +173,36 @@ fn advice(
     at: usize,
     wanted: &Wanted<'_>,
 ) -> Result<String, AllocError> {
-    let token = tokens.number_at(at);
-    if let Some(hint) = hint(tokens, number, at) {
-        return String::from_str(alloc, hint);
-    }
-    if number == 103 {
-        if let Some(reserved) = misspelt_near(tokens, token) {
-            return format!(in alloc; "perhaps `{reserved}` is meant");
-        }
-        if let Some(line) = unended_line(tokens, token, wanted) {
-            return format!(in alloc; "a `;` may be missing at the end of line {line}");
-        }
-    }
-    if number == 111 {
-        if let Some(reserved) = misspelt_near(tokens, token) {
-            return format!(in alloc; "perhaps `{reserved}` is meant");
-        }
-        if let Some(name) = near_name(tokens, token) {
-            let name = String::from_utf8_lossy(alloc, name)?;
-            return format!(in alloc; "perhaps `{name}` is meant");
-        }
-    }
-    match reason_of(number) {
-        Some(reason) => String::from_str(alloc, reason.cure),
-        None => Ok(String::new(alloc)),
+    match hint_of(tokens, number, at, wanted) {
+        Some(hint) => in_words(alloc, tokens, &hint),
+        None => match reason_of(number) {
+            Some(reason) => String::from_str(alloc, reason.cure),
+            None => Ok(String::new(alloc)),
+        },
     }
 }
 
-// The line of the token ahead, where that isn't the line of this one and a semicolon could stand between.
-fn unended_line(tokens: &Tokens<'_>, token: usize, wanted: &Wanted<'_>) -> Option<usize> {
-    if !wanted.semicolon {
-        return None;
-    }
-    let ahead = locate(tokens.text, tokens.place(token.checked_sub(1)?));
-    let here = locate(tokens.text, tokens.place(token));
-    if ahead.line < here.line {
-        Some(ahead.line)
-    } else {
-        None
+// A hint in words.
+fn in_words(alloc: Global, tokens: &Tokens<'_>, hint: &Hint<'_>) -> Result<String, AllocError> {
+    match *hint {
+        Hint::Advice(advice) => String::from_str(alloc, advice),
+        Hint::Reserved(word) => format!(in alloc; "perhaps `{word}` is meant"),
+        Hint::Named(name) => {
+            let name = String::from_utf8_lossy(alloc, name)?;
+            format!(in alloc; "perhaps `{name}` is meant")
+        }
+        Hint::Elsewhere(place) => {
+            let Location { line, column } = locate(tokens.text, place);
+            format!(in alloc;
+                "line {line}, column {column} declares it for what follows in that block alone: declare it ahead of both"
+            )
+        }
+        Hint::EndOfLine { mark, line } => {
+            format!(in alloc; "a `{mark}` may be missing at the end of line {line}")
+        }
+        Hint::AheadOf { mark, word } => {
+            let word = String::from_utf8_lossy(alloc, word)?;
+            format!(in alloc; "a `{mark}` may be missing ahead of `{word}`")
+        }
     }
 }

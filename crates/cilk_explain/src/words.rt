@@ -11,7 +11,8 @@ fn is_blank(byte: u8) -> bool {
     byte == b' ' || (byte >= b'\t' && byte <= b'\r')
 }
 
-fn byte_at(text: &[u8], at: usize) -> u8 {
+/// The byte at a place; 0 where there is none.
+pub fn byte_at(text: &[u8], at: usize) -> u8 {
     match text.get(at) {
         Some(byte) => *byte,
         None => 0,
@@ -55,6 +56,24 @@ pub fn word_before(text: &[u8], at: usize) -> &[u8] {
     match before(text, at) {
         Some(place) => word_at(text, place),
         None => &[],
+    }
+}
+
+/// Where the first word from a place on begins, or the text ends.
+pub fn word_after(text: &[u8], at: usize) -> usize {
+    for place in at..text.len() {
+        if !is_blank(text[place]) {
+            return place;
+        }
+    }
+    text.len()
+}
+
+/// Whether a word is a number.
+pub fn is_number(word: &[u8]) -> bool {
+    match word.first() {
+        Some(byte) => byte.is_ascii_digit(),
+        None => false,
     }
 }
 

@@ -2,7 +2,7 @@
 
 use crate::case::Case;
 use crate::naming::word;
-use crate::notes::{push_line, push_place};
+use crate::notes::{plural, push_line, push_place};
 use crate::paths::{chain, push_path};
 use crate::runs::Run;
 use cilk_explain::reasons::reason_of;
@@ -12,7 +12,7 @@ use cilk_program::program::Body;
 use cilk_types::event::Event;
 use cilk_types::fault::Fault;
 use cilk_types::limits::MAX_EVENTS;
-use std::alloc::AllocError;
+use std::alloc::{AllocError, Global};
 
 // The most printed numbers that are told.
 const TOLD: usize = 20;
@@ -75,8 +75,9 @@ fn reason(case: &Case<'_>, run: &Run, fault: Fault, stop: &StopNote) -> Result<S
         Fault::IndexOutside => outside(case, left, right),
         Fault::InputOutside => {
             let count = case.input.count();
+            let s = plural(count == 1);
             format!(in alloc;
-                "the input has {count} numbers, counted from 0, and number {right} is asked for"
+                "the input has {count} number{s}, counted from 0, and number {right} is asked for"
             )
         }
         Fault::TooManyEvents if run.trace.len() >= MAX_EVENTS as usize => String::from_str(
@@ -115,21 +116,35 @@ fn outside(case: &Case<'_>, first: i64, index: i64) -> Result<String, AllocError
             let name = word(case, name)?;
             let name = name.as_str();
             let last = length.saturating_sub(1);
-            format!(in alloc;
-                "`{name}` has {length} elements, `{name}[0]` to `{name}[{last}]`, and the index is {index}"
-            )
+            if last == 0 {
+                format!(in alloc; "`{name}` has 1 element, `{name}[0]`, and the index is {index}")
+            } else {
+                format!(in alloc;
+                    "`{name}` has {length} elements, `{name}[0]` to `{name}[{last}]`, and the index is {index}"
+                )
+            }
         }
         _ => Ok(String::new(alloc)),
     }
 }
 
-// How far the run came, and what it printed.
-fn so_far(case: &Case<'_>, run: &Run) -> Result<String, AllocError> {
-    let alloc = case.alloc;
+// How far the run came.
+fn reached(alloc: Global, run: &Run) -> Result<String, AllocError> {
     let Replay { frames, ticks, .. } = &run.replay;
     let events = run.trace.len();
     let frames = frames.len();
-    let mut text = format!(in alloc; "{events} events, {ticks} ticks, {frames} frames")?;
+    let (one, two, three) = (
+        plural(events == 1),
+        plural(*ticks == 1),
+        plural(frames == 1),
+    );
+    format!(in alloc; "{events} event{one}, {ticks} tick{two}, {frames} frame{three}")
+}
+
+// How far the run came, and what it printed.
+fn so_far(case: &Case<'_>, run: &Run) -> Result<String, AllocError> {
+    let alloc = case.alloc;
+    let mut text = reached(alloc, run)?;
     let mut printed: usize = 0;
     for event in run.trace.as_slice() {
         if let Event::Print { value } = event {
@@ -142,7 +157,8 @@ fn so_far(case: &Case<'_>, run: &Run) -> Result<String, AllocError> {
     }
     if printed > TOLD {
         let more = printed.saturating_sub(TOLD);
-        text.push_str(format!(in alloc; " and {more} numbers more")?.as_str())?;
+        let s = plural(more == 1);
+        text.push_str(format!(in alloc; " and {more} number{s} more")?.as_str())?;
     }
     Ok(text)
 }

@@ -10,6 +10,7 @@
 //! ```
 #![tactic(auto)]
 
+mod beside;
 pub mod case;
 mod cures;
 pub mod drawing;

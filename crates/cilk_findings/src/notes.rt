@@ -37,3 +37,8 @@ pub fn push_line(report: &mut String, what: &str, text: &str) -> Result<(), Allo
     report.push_str(text)?;
     report.push('\n')
 }
+
+/// The ending of a word that is counted: none of one thing.
+pub fn plural(is_one: bool) -> &'static str {
+    if is_one { "" } else { "s" }
+}

@@ -2,7 +2,7 @@
 
 use crate::case::Case;
 use crate::naming::{body_name, word};
-use crate::notes::place_of;
+use crate::notes::{place_of, plural};
 use crate::runs::Run;
 use cilk_places::map::BodyMap;
 use cilk_places::replay::{FrameNote, StepNote};
@@ -61,7 +61,8 @@ pub fn push_path(
         if count > NEAR + FAR && level >= NEAR && level < last {
             if level == NEAR {
                 let more = last.saturating_sub(NEAR);
-                report.push_str(format!(in alloc; "  and {more} frames more\n")?.as_str())?;
+                let s = plural(more == 1);
+                report.push_str(format!(in alloc; "  and {more} frame{s} more\n")?.as_str())?;
             }
         } else {
             push_frame(case, run, report, *frame)?;

@@ -1,5 +1,6 @@
 //! Two accesses that race, or a reducer's read that a schedule can change.
 
+use crate::beside::{Beside, Change};
 use crate::case::Case;
 use crate::cures::cure_of;
 use crate::naming::{accessed, function_of, reducer_name};
@@ -7,7 +8,7 @@ use crate::notes::{place_of, push_line, push_place};
 use crate::paths::{chain, halves, invoked_at, push_path, turns_of};
 use crate::runs::Run;
 use crate::schedules::{Schedule, push_schedule};
-use crate::statements::parting_at;
+use crate::statements::parted_at;
 use cilk_explain::reasons::reason_of;
 use cilk_places::replay::{FrameNote, StepNote};
 use cilk_program::program::Body;
@@ -290,7 +291,8 @@ fn of_accesses(run: &Run, earlier: usize, later: usize) -> Option<Pair> {
     None
 }
 
-// A read of a reducer, and a child that was spawned ahead of it in its own frame or in one above, and isn't synced.
+// A read of a reducer, and a child that was spawned ahead of it in its own frame or in one above, and isn't synced: the one that updates the
+// reducer, where one does.
 fn of_views(
     case: &Case<'_>,
     run: &Run,
@@ -300,63 +302,47 @@ fn of_views(
     let (Some(first), Some(second)) = (frame_of(run, earlier), frame_of(run, later)) else {
         return Ok(None);
     };
-    let beside = unsynced(case, run, later)?;
-    let mut common = second;
-    for _level in 0..run.replay.frames.len() {
-        if let Some(Some(child)) = beside.get(common).copied() {
-            return Ok(Some(Pair {
+    let beside = Beside::of(case.alloc, run, second, later)?;
+    if let Some(Event::Set { instance, .. } | Event::Value { instance, .. }) = run.event(later) {
+        if let Some(Change { frame, child }) = beside.changing(run, instance) {
+            return Ok(above(run, child).map(|common| Pair {
                 later,
-                beside: child,
+                beside: frame,
                 second,
                 common,
                 child,
             }));
         }
+    }
+    let children = beside.last_children(case.alloc, run)?;
+    Ok(beside_any(run, children.as_slice(), later, first, second))
+}
+
+// A frame's event, and the last child beside it of the nearest frame that has one, from its own up to another.
+fn beside_any(
+    run: &Run,
+    children: &[Option<usize>],
+    later: usize,
+    first: usize,
+    second: usize,
+) -> Option<Pair> {
+    let mut common = second;
+    for _level in 0..run.replay.frames.len() {
+        if let Some(Some(child)) = children.get(common).copied() {
+            return Some(Pair {
+                later,
+                beside: child,
+                second,
+                common,
+                child,
+            });
+        }
         match above(run, common) {
             Some(parent) if common != first => common = parent,
-            _ => return Ok(None),
+            _ => return None,
         }
     }
-    Ok(None)
-}
-
-// Of each frame the last child that it spawned ahead of an event, which has ended and isn't synced there, if there is one.
-fn unsynced(case: &Case<'_>, run: &Run, upto: usize) -> Result<Vec<Option<usize>>, AllocError> {
-    let count = run.replay.frames.len();
-    let mut synced: Vec<usize> = Vec::new(case.alloc);
-    synced.resize(count, 0)?;
-    for (index, event) in run.trace.as_slice().iter().enumerate().take(upto) {
-        if let Event::Sync = event {
-            if let Some(frame) = frame_of(run, index) {
-                put_at(synced.as_mut_slice(), frame, index);
-            }
-        }
-    }
-    let mut beside: Vec<Option<usize>> = Vec::new(case.alloc);
-    beside.resize(count, None)?;
-    for (number, note) in run.replay.frames.iter().enumerate() {
-        let has_ended = match note.ended {
-            Some(end) => end < upto,
-            None => false,
-        };
-        let is_open = match synced.get(note.parent) {
-            Some(sync) => note.begun >= *sync,
-            None => false,
-        };
-        if note.how == Invocation::Spawn && has_ended && is_open {
-            if let Some(slot) = beside.get_mut(note.parent) {
-                *slot = Some(number);
-            }
-        }
-    }
-    Ok(beside)
-}
-
-// Puts a number at a place, where there is one.
-fn put_at(items: &mut [usize], place: usize, item: usize) {
-    if let Some(slot) = items.get_mut(place) {
-        *slot = item;
-    }
+    None
 }
 
 // The way up from a frame to another one, if it isn't that one itself.
@@ -423,11 +409,11 @@ fn push_parting(
             Some(child) => invoked_at(case, run, child),
             None => 0,
         };
-        let place = place_of(case, parting_at(case, spawn, at)?)?;
+        let place = parted_at(case, spawn, at)?;
         let place = place.as_str();
         let function = function_of(case, run, pair.common)?;
         let function = function.as_str();
-        format!(in alloc; "a `cilk_sync;` in `{function}` ahead of {place}")?
+        format!(in alloc; "a `cilk_sync;` in `{function}` {place}")?
     };
     push_line(report, "parted by", text.as_str())
 }

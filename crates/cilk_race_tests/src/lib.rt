@@ -7,6 +7,8 @@ mod children;
 #[cfg(test)]
 mod limits;
 #[cfg(test)]
+mod partings;
+#[cfg(test)]
 mod race;
 #[cfg(test)]
 mod turns;

@@ -97,10 +97,11 @@ const ENDLESS: [Stopped; 2] = [
             ^\n\
             reason: the run has made 1,000,000 events, the most that there may be\n  \
             in `main`\n\
-            so far: 1000000 events, 4000001 ticks, 1 frames; printed 7, 7, 7, 7, 7, 7, 7, 7, 7, 7, \
+            so far: 1000000 events, 4000001 ticks, 1 frame; printed 7, 7, 7, 7, 7, 7, 7, 7, 7, 7, \
             7, 7, 7, 7, 7, 7, 7, 7, 7, 7 and 999979 numbers more\n\
-            hint: Try a smaller input first. Keep what is read often in fewer variables, or do less \
-            for each element.\n",
+            hint: See that each loop ends. On a smaller input `measure` shows which function or loop makes \
+            the most events: each read and each write of a variable or an element is one. Keep less in \
+            variables on the way, or do less for each element.\n",
     },
     Stopped {
         program: "int main() {\n  \
@@ -112,9 +113,10 @@ const ENDLESS: [Stopped; 2] = [
             ^\n\
             reason: the run has taken 16,000,000 ticks, the most that there may be\n  \
             in `main`\n\
-            so far: 1 events, 16000000 ticks, 1 frames\n\
-            hint: Try a smaller input first. Keep what is read often in fewer variables, or do less \
-            for each element.\n",
+            so far: 1 event, 16000000 ticks, 1 frame\n\
+            hint: See that each loop ends. On a smaller input `measure` shows which function or loop makes \
+            the most events: each read and each write of a variable or an element is one. Keep less in \
+            variables on the way, or do less for each element.\n",
     },
 ];
 

@@ -4,7 +4,7 @@ use crate::race::{Race, is_played, is_told};
 use std::alloc::AllocError;
 
 // Each with what `check --explain` shows of it.
-const VIEWS: [Race; 8] = [
+const VIEWS: [Race; 10] = [
     // A read in a function that is called beside a child.
     Race {
         program: "int cilk_reducer(min) least;\n\
@@ -265,6 +265,77 @@ const VIEWS: [Race; 8] = [
             hint: Read and set a reducer ahead of the first spawn, or behind the `cilk_sync`.\n",
         run: "result 123\n",
         played: "result 3\n",
+    },
+    // A read behind two children, of which the first one updates the reducer.
+    Race {
+        program: "int cilk_reducer(add) sum;\n\
+            int n;\n\
+            void add(int k) { update(sum, k); }\n\
+            void note(int k) { n = k; }\n\
+            int main() {\n  \
+            cilk_spawn add(1);\n  \
+            cilk_spawn note(2);\n  \
+            int early = value(sum);\n  \
+            cilk_sync;\n  \
+            return early;\n\
+            }\n",
+        told: "refused 312 2 19\n\
+            program:8:21: error 312: a view-read race: the reducer `sum` is read here\n  \
+            int early = value(sum);\n                    \
+            ^\n\
+            program:1:23: note: the reducer `sum` is created here\n\
+            int cilk_reducer(add) sum;\n                      \
+            ^\n\
+            beside it:\n  \
+            in `add`, spawned at program:6:3\n\
+            both:\n  \
+            in `main`\n\
+            parallel: the spawn at program:6:3 lets its child run beside what follows it\n\
+            parted by: a `cilk_sync;` in `main` ahead of program:8:3\n\
+            schedule: this script for `play` leaves the result 0, where `run` shows 1\n  \
+            run 1 3\n  \
+            steal 2 0\n  \
+            run 2 10\n  \
+            run 1 6\n  \
+            all\n\
+            hint: Read and set a reducer ahead of the first spawn, or behind the `cilk_sync`.\n",
+        run: "result 1\n",
+        played: "result 0\n",
+    },
+    // A read beside a child that calls what updates the reducer.
+    Race {
+        program: "int cilk_reducer(add) sum;\n\
+            void add(int k) { update(sum, k); }\n\
+            void twice(int k) { add(k); add(k); }\n\
+            int main() {\n  \
+            cilk_spawn twice(3);\n  \
+            int early = value(sum);\n  \
+            cilk_sync;\n  \
+            return early;\n\
+            }\n",
+        told: "refused 312 2 27\n\
+            program:6:21: error 312: a view-read race: the reducer `sum` is read here\n  \
+            int early = value(sum);\n                    \
+            ^\n\
+            program:1:23: note: the reducer `sum` is created here\n\
+            int cilk_reducer(add) sum;\n                      \
+            ^\n\
+            beside it:\n  \
+            in `add`, called at program:3:29\n  \
+            in `twice`, spawned at program:5:3\n\
+            both:\n  \
+            in `main`\n\
+            parallel: the spawn at program:5:3 lets its child run beside what follows it\n\
+            parted by: a `cilk_sync;` in `main` ahead of program:6:3\n\
+            schedule: this script for `play` leaves the result 0, where `run` shows 6\n  \
+            run 1 3\n  \
+            steal 2 0\n  \
+            run 2 2\n  \
+            run 1 22\n  \
+            all\n\
+            hint: Read and set a reducer ahead of the first spawn, or behind the `cilk_sync`.\n",
+        run: "result 6\n",
+        played: "result 0\n",
     },
     // A read in the first child: no schedule shows another number.
     Race {

@@ -1,7 +1,7 @@
 -- Words without `--explain`.
 --
--- `plain_texts`: their texts are those of the words, without it. `fewer`: there are fewer of them, where any went.
-use Rattle.std.proofs.Common.{◌≡◌, List, [], ◌∷◌, Bool, true, false, cond, refl, ap, ◌∙◌, sym, suc, length, ◌<◌, arith}
+-- `plain_texts`: their texts are those of the words, without it. `fewer`: there are fewer of them, where any went. `as_many`: else there aren't.
+use Rattle.std.proofs.Common.{◌≡◌, ◌≤◌, List, [], ◌∷◌, Bool, true, false, cond, refl, ap, ◌∙◌, sym, suc, length, ◌<◌, arith}
 use Rattle.std.specs.Prelude.{filter, not}
 use Rattle.std.specs.Borrow.{Bor}
 use Rattle.cilk_tool.specs.Replies.{Text}
@@ -26,6 +26,14 @@ length_texts (w ∷ words) = ap (λ n. suc n) (length_texts words)
 pub fewer : (words plain : List (Bor Text)) → texts plain ≡ unflagged (texts words) → length plain < length words
     → length (unflagged (texts words)) < length (texts words)
 fewer words plain same less =
+    let short : length (unflagged (texts words)) ≡ length plain = ap length (sym same) ∙ length_texts plain in
+    let long : length (texts words) ≡ length words = length_texts words in
+    omega arith
+
+-- there are no fewer where none went
+pub as_many : (words plain : List (Bor Text)) → texts plain ≡ unflagged (texts words) → length words ≤ length plain
+    → length (unflagged (texts words)) < length (texts words) → ⊥
+as_many words plain same kept less =
     let short : length (unflagged (texts words)) ≡ length plain = ap length (sym same) ∙ length_texts plain in
     let long : length (texts words) ≡ length words = length_texts words in
     omega arith

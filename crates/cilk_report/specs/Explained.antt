@@ -1,5 +1,5 @@
 -- What `serve_explained` shows, beside what `serve` does.
-use Rattle.std.specs.Prelude.{◌≡◌, ◌⊎◌, ◌<◌, ℕ, Bool, true, not, List, length, filter, Option, Some, None, codes}
+use Rattle.std.specs.Prelude.{◌≡◌, ◌⊎◌, ◌<◌, ◌==◌, ◌&&◌, ◌||◌, ℕ, Bool, true, false, not, List, [], ◌∷◌, length, filter, Option, Some, None, codes}
 use Rattle.std.specs.Str.{bytes_eq}
 use Rattle.std.specs.Io.KnownBytes.{Appends}
 use Rattle.cilk_measure.specs.declared.totals.Totals.{Totals}
@@ -10,6 +10,8 @@ use Rattle.cilk_tool.specs.Streams.{AppendsFront, AppendsPart}
 use Rattle.cilk_tool.specs.Words.{Origin, order_in}
 use Rattle.cilk_measured.specs.Measured.{AreTotalsOf, IsMeasureText}
 use Rattle.cilk_measured.specs.Words.{is_measure, measured_run}
+use Rattle.cilk_report.specs.declared.about.About.{About as AboutAnswer}
+use Rattle.cilk_report.specs.declared.about.About.TheVariants as answers
 
 -- the word `--explain`
 abbrev pub is_flag : Text → Bool
@@ -18,6 +20,29 @@ is_flag word = bytes_eq word (codes "--explain")
 -- the words but for each `--explain`
 abbrev pub unflagged : List Text → List Text
 unflagged words = filter (λ w. not (is_flag w)) words
+
+-- a word that is an option, or stands for one
+abbrev pub is_option : Text → Bool
+is_option [] = false
+is_option (first ∷ bytes) = first == 45
+
+-- the words ask about the tool itself: for its version, or for what all its numbers mean, or one
+abbrev pub is_about : List Text → Bool
+is_about [] = false
+is_about (word ∷ []) = bytes_eq word (codes "--version") || (bytes_eq word (codes "-V") || bytes_eq word (codes "explain"))
+is_about (word ∷ number ∷ []) = bytes_eq word (codes "explain") && not (is_option number)
+is_about (word ∷ number ∷ more ∷ words) = false
+
+-- an answer that isn't that the words are about something else
+abbrev pub IsAnswer : AboutAnswer → Type 0
+IsAnswer answers.Other = ⊥
+IsAnswer _ = Unit {0}
+
+-- an answer that words about the tool have, and only these
+abbrev pub IsAskedFor : List Text → AboutAnswer → Type 0
+IsAskedFor words answers.Other = is_about words ≡ false
+IsAskedFor words (answers.Text text) = is_about words ≡ true
+IsAskedFor words (answers.Wrong text) = is_about words ≡ true
 
 -- some text comes behind what there is: all of it, or a beginning
 abbrev pub ComesBehind : Option Text → Option Text → Type 0
@@ -79,6 +104,6 @@ pub data ServesExplained (words : List Text) (files : Text → Option Text) (inp
   -- the words ask nothing of `serve`, and measure a run
   Measuring : order_in words ≡ None → is_measure words ≡ true → Measures words files input failed status out out' err err'
       → ServesExplained words files input failed failed' status out out' err err'
-  -- the words ask nothing of `serve`: a text about the tool itself
-  About : order_in words ≡ None → WritesAbout status out out' err err'
+  -- the words ask about the tool itself: a text about it
+  About : order_in words ≡ None → is_about words ≡ true → WritesAbout status out out' err err'
       → ServesExplained words files input failed failed' status out out' err err'

@@ -1,5 +1,9 @@
 //! Words about the tool itself: what a number means, and the version.
 
+ghost use Rattle.std.specs.Prelude.{◌≡◌, IfOk};
+ghost use Rattle.cilk_report.specs.Explained.{IsAnswer, IsAskedFor, is_about, is_option};
+ghost use Rattle.cilk_tool.specs.Words.{texts};
+
 use crate::help::VERSION;
 use cilk_explain::report::{of_all, of_number};
 use cilk_lexer::lexer::{all_digits, value_of};
@@ -16,18 +20,45 @@ pub enum About {
     Wrong(String),
 }
 
-/// What is answered to these words, if they are about the tool.
-pub fn answer_about(alloc: Global, words: &[&str]) -> Result<About, AllocError> {
+/// Whether a word is an option, or stands for one.
+fn is_option(word: &str) -> bool
+    ensures { result ≡ is_option word.now }
+{
+    match word.as_bytes() {
+        [first, ..] => *first == b'-',
+        [] => false,
+    }
+}
+
+/// Whether words ask about the tool itself: for its version, or for what its numbers mean.
+fn is_about(words: &[&str]) -> bool
+    ensures { result ≡ is_about (texts words.now) }
+{
     match words {
-        ["--version" | "-V"] => Ok(About::Text(String::from_str(alloc, VERSION)?)),
+        [word] => *word == "--version" || *word == "-V" || *word == "explain",
+        [word, number] => *word == "explain" && !is_option(number),
+        _ => false,
+    }
+}
+
+/// What is answered to these words, if they are about the tool.
+pub fn answer_about(alloc: Global, words: &[&str]) -> Result<About, AllocError>
+    ensures { IfOk result (λ answer. IsAskedFor (texts words.now) answer) }
+{
+    if !is_about(words) {
+        return Ok(About::Other);
+    }
+    match words {
+        [_, word] => explained(alloc, word),
         ["explain"] => Ok(About::Text(of_all(alloc)?)),
-        ["explain", word] if !word.starts_with("-") => explained(alloc, word),
-        _ => Ok(About::Other),
+        _ => Ok(About::Text(String::from_str(alloc, VERSION)?)),
     }
 }
 
 // What the number of a word means.
-fn explained(alloc: Global, word: &str) -> Result<About, AllocError> {
+fn explained(alloc: Global, word: &str) -> Result<About, AllocError>
+    ensures { IfOk result (λ answer. IsAnswer answer) }
+{
     if let Some(number) = number_of(word) {
         if let Some(text) = of_number(alloc, number)? {
             return Ok(About::Text(text));

@@ -9,7 +9,7 @@ pub const VERSION: &str = "cilk 1.0.0 (Ruqwabi)\n";
 pub const HELP: &str = "
 Runs and checks programs of a small integer C with cilk_spawn, cilk_sync, cilk_for and reducers.
 
-Commands:
+All commands:
   run PROGRAM                 run the program serially: the numbers that it prints, its global reducers, its result
   certify PROGRAM             write the certificate of that run: its events, frames and strands
   check PROGRAM CERTIFICATE   accept the certificate only where it is right and nothing races: then every parallel
@@ -54,6 +54,18 @@ Limits of a run:
 
 Documents, beside the program's sources: README.md, docs/LANGUAGE.md, docs/FROM-CILK.md (what differs from C and
 OpenCilk), docs/REFUSALS.md, docs/CHECKER.md, docs/SCRIPTS.md, docs/EDITORS.md, docs/PROVED.md
+";
+
+/// What is said of words that begin with `explain` and name no number.
+pub const EXPLAIN: &str = "\
+What a number of a refusal means, a text that provokes it, and the cure
+
+Usage: cilk explain [NUMBER]
+
+Arguments:
+  [NUMBER]  101 to 106, 111 to 119, 121, 122, 201 to 206, 301 to 312 or 502; without it each number and what it is
+
+hint: `cilk --help` describes all commands
 ";
 
 /// What stands behind clap's text for these words, which are no order.

@@ -15,6 +15,8 @@
 //! ```
 //!
 //! Other words are about the tool itself: `explain 103`, `--version`; and help stands behind clap's text for words that are none.
+//!
+//! [`unflagged`], [`of_answer`], [`of_failure`] and [`follow`] are the steps of that, for a command whose words are read elsewhere.
 #![tactic(auto)]
 
 mod about;
@@ -25,4 +27,6 @@ mod help;
 mod serving;
 mod wanted;
 
-pub use serving::serve_explained;
+pub use explaining::{of_answer, of_failure};
+pub use flags::unflagged;
+pub use serving::{follow, serve_explained};

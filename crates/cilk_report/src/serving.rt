@@ -1,7 +1,7 @@
 //! From words to a reply that is shown, and explained where the words ask for that.
 
-ghost use Rattle.std.specs.Prelude.{◌≡◌, ◌<◌, None, Some, option_map, true};
-ghost use Rattle.cilk_report.specs.Explained.{ComesBehind, Measures, ServesExplained, ServesThenExplains, WritesText};
+ghost use Rattle.std.specs.Prelude.{◌≡◌, ◌<◌, None, Some, false, length, option_map, true};
+ghost use Rattle.cilk_report.specs.Explained.{ComesBehind, Measures, ServesExplained, ServesThenExplains, WritesText, is_about, unflagged};
 ghost use Rattle.cilk_measured.specs.Words.{is_measure, measured_run, words_of_run};
 ghost use Rattle.cilk_tool.specs.Replies.{failure_view};
 ghost use Rattle.cilk_tool.specs.Serving.{WordsFail};
@@ -10,7 +10,7 @@ ghost use Rattle.cilk_tool.specs.Words.{order_in, origin_view, texts};
 use crate::about::{About, answer_about};
 use crate::explaining::{of_answer, of_failure};
 use crate::flags::unflagged;
-use crate::help::advice;
+use crate::help::{EXPLAIN, advice};
 use cilk_measured::{asks, is_measure, run_of, run_words, text_of, totals_of, usage_of_measure};
 use cilk_tool::files::Files;
 use cilk_tool::reply::{Failure, WRONG};
@@ -35,6 +35,10 @@ pub fn serve_explained<F: Files, R: Read, O: Write, E: Write>(
         result (O.contents out.old) (O.contents out.new) (E.contents err.old) (E.contents err.new) }
     ensures measured { order_in (texts words.now) ≡ None → is_measure (texts words.now) ≡ true
         → Measures (texts words.now) (F.holds files.old) (R.remaining input.old) (F.failed files.old)
+        result (O.contents out.old) (O.contents out.new) (E.contents err.old) (E.contents err.new) }
+    ensures explained { order_in (texts words.now) ≡ None → is_measure (texts words.now) ≡ false → is_about (texts words.now) ≡ false
+        → length (unflagged (texts words.now)) < length (texts words.now)
+        → ServesThenExplains (unflagged (texts words.now)) (F.holds files.old) (R.remaining input.old) (F.failed files.old)
         result (O.contents out.old) (O.contents out.new) (E.contents err.old) (E.contents err.new) }
 {
     match read(alloc, words) {
@@ -64,6 +68,10 @@ fn serve_other<F: Files, R: Read, O: Write, E: Write>(
     ensures measured { is_measure (texts words.now) ≡ true
         → Measures (texts words.now) (F.holds files.old) (R.remaining input.old) (F.failed files.old)
         result (O.contents out.old) (O.contents out.new) (E.contents err.old) (E.contents err.new) }
+    ensures explained { is_measure (texts words.now) ≡ false → is_about (texts words.now) ≡ false
+        → length (unflagged (texts words.now)) < length (texts words.now)
+        → ServesThenExplains (unflagged (texts words.now)) (F.holds files.old) (R.remaining input.old) (F.failed files.old)
+        result (O.contents out.old) (O.contents out.new) (E.contents err.old) (E.contents err.new) }
 {
     if is_measure(words) {
         serve_measure(alloc, words, files, input, out, err)
@@ -84,7 +92,10 @@ fn serve_unmeasured<F: Files, R: Read, O: Write, E: Write>(
 ) -> u8
     requires room { (F.failed files.old).count < 18446744073709551615 }
     requires other { order_in (texts words.now) ≡ None }
-    ensures { ServesExplained (texts words.now) (F.holds files.old) (R.remaining input.old) (F.failed files.old) (F.failed files.new)
+    ensures served { ServesExplained (texts words.now) (F.holds files.old) (R.remaining input.old) (F.failed files.old) (F.failed files.new)
+        result (O.contents out.old) (O.contents out.new) (E.contents err.old) (E.contents err.new) }
+    ensures explained { is_about (texts words.now) ≡ false → length (unflagged (texts words.now)) < length (texts words.now)
+        → ServesThenExplains (unflagged (texts words.now)) (F.holds files.old) (R.remaining input.old) (F.failed files.old)
         result (O.contents out.old) (O.contents out.new) (E.contents err.old) (E.contents err.new) }
 {
     match answer_about(alloc, words) {
@@ -101,7 +112,7 @@ fn serve_unmeasured<F: Files, R: Read, O: Write, E: Write>(
     }
 }
 
-/// What is shown of words that ask for nothing: clap's text, and help behind it.
+/// What is shown of words that ask for nothing: clap's text, and help behind it; of `explain`, which clap doesn't know, its own.
 fn refusal<'a>(alloc: Global, words: &[&str], usage: String) -> Failure<'a>
     ensures { WordsFail (failure_view result) }
 {
@@ -112,6 +123,9 @@ fn refusal<'a>(alloc: Global, words: &[&str], usage: String) -> Failure<'a>
 }
 
 fn advised(alloc: Global, words: &[&str], usage: String) -> Result<String, AllocError> {
+    if matches!(words, ["explain", ..]) {
+        return String::from_str(alloc, EXPLAIN);
+    }
     let mut text = usage;
     text.push_str(advice(alloc, words)?.as_str())?;
     Ok(text)
@@ -240,7 +254,7 @@ fn why<F: Files>(
 }
 
 /// Writes an explanation behind what was shown, where all of that went out.
-fn follow<E: Write>(served: Served, text: Result<String, AllocError>, err: &mut E) -> u8
+pub fn follow<E: Write>(served: Served, text: Result<String, AllocError>, err: &mut E) -> u8
     ensures status { result ≡ served.status }
     ensures follows { ComesBehind (E.contents err.old) (E.contents err.new) }
 {

@@ -91,6 +91,74 @@ fn words_about_the_tool(rt: HostRuntime) {
     answers(&rt, alloc, &["--version"], 0, "cilk ", "");
 }
 
+// What is said of words that begin with `explain` and name no number.
+const EXPLAIN: &str = "What a number of a refusal means, a text that provokes it, and the cure\n\
+    \n\
+    Usage: cilk explain [NUMBER]\n\
+    \n\
+    Arguments:\n  \
+    [NUMBER]  101 to 106, 111 to 119, 121, 122, 201 to 206, 301 to 312 or 502; without it each number and what it is\n\
+    \n\
+    hint: `cilk --help` describes all commands\n";
+
+// What clap says of `run`, and what stands behind that.
+const RUN: &str = "Run a program serially\n\
+    \n\
+    Usage: cilk run [OPTIONS] <program>\n\
+    \n\
+    Arguments:\n  \
+    <program>  \n\
+    \n\
+    Options:\n      \
+    --input <input>  \n  \
+    -h, --help           Print help\n\
+    \n\
+    hint: `cilk --help` describes `run` and its options\n";
+
+// How the help of all commands begins.
+const ALL: &str = "Usage: cilk <COMMAND>\n\
+    \n\
+    Commands:\n  \
+    run      Run a program serially\n  \
+    certify  Write the certificate of a program's serial run\n  \
+    check    Check a certificate, and whether the run that it is of has a race\n  \
+    play     Run a program in parallel, step by step, by a script\n  \
+    help     Print this message or the help of the given subcommand(s)\n\
+    \n\
+    Options:\n  \
+    -h, --help  Print help\n\
+    \n\
+    Runs and checks programs of a small integer C with cilk_spawn, cilk_sync, cilk_for and reducers.\n\
+    \n\
+    All commands:\n";
+
+#[test]
+fn usage_is_told(rt: HostRuntime) {
+    let alloc = rt.alloc();
+    shows(
+        &rt,
+        alloc,
+        &["explain", "--help"],
+        NOTHING.as_bytes(),
+        reply(2, "", EXPLAIN),
+    );
+    shows(
+        &rt,
+        alloc,
+        &["explain", "103", "111"],
+        NOTHING.as_bytes(),
+        reply(2, "", EXPLAIN),
+    );
+    shows(
+        &rt,
+        alloc,
+        &["run", "--help"],
+        NOTHING.as_bytes(),
+        reply(2, "", RUN),
+    );
+    answers(&rt, alloc, &["--help"], 2, "", ALL);
+}
+
 #[test]
 fn a_file_alone_is_hinted_at(rt: HostRuntime) {
     let answer = serve_words(rt.alloc(), &["prog.c"], "".as_bytes());

@@ -186,7 +186,7 @@ const STOPPED: &str = "program:1:21: error 201: division by zero\n\
     ^\n\
     reason: 1 is divided by 0\n  \
     in `main`\n\
-    so far: 1 events, 3 ticks, 1 frames\n\
+    so far: 1 event, 3 ticks, 1 frame\n\
     hint: Ask first: `if (b != 0) { q = a / b; }`.\n";
 
 const RUN: [&str; 3] = ["run", "program", "--explain"];

@@ -239,7 +239,7 @@ const FAULTS: [Told; 3] = [
             ^\n\
             reason: the input has 0 numbers, counted from 0, and number 3 is asked for\n  \
             in `main`\n\
-            so far: 5 events, 13 ticks, 1 frames\n\
+            so far: 5 events, 13 ticks, 1 frame\n\
             hint: Give the numbers by `--input FILE`, or ask `input_count()` first.\n",
     },
 ];

@@ -1,31 +1,7 @@
 //! What texts brought from C and OpenCilk are told, whole.
 
-use cilk_explain::report::{Finding, Wanted, of_text};
-use std::alloc::{AllocError, Global};
-
-/// A text, its fault's number, what stands in it from the fault's place on, and what is told of it.
-#[derive(Clone, Copy)]
-struct Brought {
-    text: &'static str,
-    number: u16,
-    rest: &'static str,
-    told: &'static str,
-}
-
-// What is told of a fault.
-fn told(alloc: Global, brought: &Brought) -> Result<String, AllocError> {
-    let finding = Finding {
-        file: "a.c",
-        text: brought.text.as_bytes(),
-        number: brought.number,
-        at: brought.text.find(brought.rest).unwrap_or(0),
-    };
-    let nothing = Wanted {
-        words: "",
-        semicolon: false,
-    };
-    of_text(alloc, &finding, &nothing)
-}
+use crate::told::{Brought, are_told};
+use std::alloc::AllocError;
 
 const TEXTS: [Brought; 31] = [
     Brought {
@@ -349,9 +325,5 @@ const TEXTS: [Brought; 31] = [
 
 #[test]
 fn brought_texts_are_told(rt: HostRuntime) -> Result<(), AllocError> {
-    for brought in TEXTS {
-        let told = told(rt.alloc(), &brought)?;
-        assert!(rt; told.as_str() == brought.told, "{told}");
-    }
-    Ok(())
+    are_told(&rt, rt.alloc(), TEXTS.as_slice())
 }

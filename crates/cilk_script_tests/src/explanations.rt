@@ -199,10 +199,10 @@ fn common_causes_have_hints(rt: HostRuntime) {
             "there is no `break`",
         ),
         (
-            "int main() { return cout; int count; }",
+            "int main() { return cuont; int count; }",
             111,
             20,
-            "nothing declares `cout`",
+            "nothing declares `cuont`",
             "perhaps `count`",
         ),
         (
@@ -245,7 +245,7 @@ fn common_causes_have_hints(rt: HostRuntime) {
             114,
             20,
             "is a function, and can only be called",
-            "a[i]",
+            "a function is called",
         ),
         (
             "void main() {}",

@@ -21,6 +21,15 @@ pub const MAX_WORKERS: u64 = 64;
 // What is said of words that clap matches and that still ask for nothing.
 const NO_ORDER: &str = "error: the number of workers is 1 to 64\n";
 
+// What clap says of each command.
+const RUN: &str = "Run a program serially";
+
+const CERTIFY: &str = "Write the certificate of a program's serial run";
+
+const CHECK: &str = "Check a certificate, and whether the run that it is of has a race";
+
+const PLAY: &str = "Run a program in parallel, step by step, by a script";
+
 /// Where a program text comes from.
 #[derive(Clone, Copy, PartialEq, Eq, Debug)]
 pub enum Origin<'a> {
@@ -128,13 +137,14 @@ fn play_command<'a>(alloc: Global) -> Result<Command<'a>, AllocError>
 fn command<'a>(alloc: Global) -> Result<Command<'a>, AllocError>
     ensures { IfOk result (λ c. HasShape c cilk_app) }
 {
-    let run = program_command(alloc, "run")?;
-    let certify = program_command(alloc, "certify")?;
-    let check = check_command(alloc)?;
-    let play = play_command(alloc)?;
+    let run = program_command(alloc, "run")?.about(RUN);
+    let certify = program_command(alloc, "certify")?.about(CERTIFY);
+    let check = check_command(alloc)?.about(CHECK);
+    let play = play_command(alloc)?.about(PLAY);
     Command::new(alloc, "cilk")
         .no_binary_name(true)
         .subcommand_required(true)
+        .bin_name("cilk")?
         .subcommand(run)?
         .subcommand(certify)?
         .subcommand(check)?

@@ -32,3 +32,21 @@ returns-in-Err-Memory-clause-served g c = Served c.complain-in-Err-Memory.result
 
 pub returns-in-Err-Memory-clause-measured : goal.returns-in-Err-Memory-clause-measured
 returns-in-Err-Memory-clause-measured g c = λ _ _. measuring.starved _ _ _ _ _ _ _ _ _ _ _ c.complain-in-Err-Memory.ensures (silence _) refl
+
+pub returns-in-Ok-carry_out-clause-explained : goal.returns-in-Ok-carry_out-clause-explained
+returns-in-Ok-carry_out-clause-explained g c = λ empty _ _ _. absurd (measuring.asked _ _ c.in-Ok.ensures.order empty)
+
+pub returns-in-Err-clause-explained : goal.returns-in-Err-clause-explained
+returns-in-Err-clause-explained g c = λ empty _ _ _. absurd (measuring.asked _ _ c.in-Ok.ensures.order empty)
+
+pub returns-in-Err-Usage-clause-explained : goal.returns-in-Err-Usage-clause-explained
+returns-in-Err-Usage-clause-explained g c = λ _. c.serve_other.ensures.explained
+
+pub returns-in-Err-Memory-clause-explained : goal.returns-in-Err-Memory-clause-explained
+returns-in-Err-Memory-clause-explained g c = λ _ _ _ _. (
+  g.F.Files.failed c.args.files.now,
+  g.E.Write.contents c.complain-in-Err-Memory.new.err,
+  c.complain-in-Err-Memory.result.told,
+  starved _ _ _ _ _ _ _ c.complain-in-Err-Memory.ensures,
+  silence _,
+)

@@ -10,8 +10,15 @@ pub returns-then-is_measure-clause-measured : goal.returns-then-is_measure-claus
 returns-then-is_measure-clause-measured g c = λ _. c.serve_measure.ensures
 
 pub returns-else-is_measure-clause-served : goal.returns-else-is_measure-clause-served
-returns-else-is_measure-clause-served g c = c.serve_unmeasured.ensures
+returns-else-is_measure-clause-served g c = c.serve_unmeasured.ensures.served
 
 pub returns-else-is_measure-clause-measured : goal.returns-else-is_measure-clause-measured
 returns-else-is_measure-clause-measured g c =
     λ held. absurd (true≢false (sym held ∙ sym c.is_measure.ensures ∙ c.if-is_measure.false))
+
+pub returns-then-is_measure-clause-explained : goal.returns-then-is_measure-clause-explained
+returns-then-is_measure-clause-explained g c =
+    λ isnt _ _. absurd (true≢false (sym c.if-is_measure.true ∙ c.is_measure.ensures ∙ isnt))
+
+pub returns-else-is_measure-clause-explained : goal.returns-else-is_measure-clause-explained
+returns-else-is_measure-clause-explained g c = λ _. c.serve_unmeasured.ensures.explained
