@@ -1,10 +1,10 @@
 //! The join boxes of several sync blocks.
 
-ghost use Rattle.std.specs.Prelude.{◌≡◌, All, IfSome, Some};
+ghost use Rattle.std.specs.Prelude.{◌≡◌, ◌<◌, ℕ, [], All, IfSome, MatchOption, OnErr, OnOk, Some};
 ghost use Rattle.cilk_types.specs.declared.event.Event.TheVariants.{Sync};
 ghost use Rattle.cilk_story.specs.Word.{event};
 ghost use Rattle.cilk_boxes.specs.Rows.{run_of};
-ghost use Rattle.cilk_boxes.specs.Shelves.{shelf, IsBoxOf, LiesOn};
+ghost use Rattle.cilk_boxes.specs.Shelves.{shelf, ComesOut, HasNone, LiesOn, PutsBack, TakesOff};
 
 use crate::join::JoinBox;
 use cilk_chains::course::Course;
@@ -16,7 +16,7 @@ use std::marker::Model;
 use std::snapshot::Snapshot;
 
 /// The boxes of the blocks, among some, in which something waits. The box of another block is as it is at first, and takes no room. To a
-/// contract it is the run whose blocks they are.
+/// contract it is the run whose blocks they are, and the boxes.
 #[derive(Drop)]
 pub struct Shelf {
     of: Snapshot<Yard>,
@@ -36,9 +36,9 @@ impl Model for Shelf {
 
     ghost coded = { Prim.hlevel (codes, course_code) };
 
-    ghost view = { λ s. shelf (run_of s.of.value s.reducers.value) s.course.value };
+    ghost view = { λ s. shelf (run_of s.of.value s.reducers.value) s.course.value s.boxes.items };
 
-    ghost invariant = { λ s. All (LiesOn (shelf (run_of s.of.value s.reducers.value) s.course.value)) s.boxes.items };
+    ghost invariant = { λ s. All (LiesOn (run_of s.of.value s.reducers.value) s.course.value) s.boxes.items };
 }
 
 // The box of a block comes out, where it is there.
@@ -49,9 +49,10 @@ fn taken(
     boxes: &mut Vec<JoinBox>,
     sync: Pos,
 ) -> Option<JoinBox>
-    requires { All (LiesOn (shelf (run_of yard.now reducers.now) course.now)) boxes.old.items }
-    ensures rest { All (LiesOn (shelf (run_of yard.now reducers.now) course.now)) boxes.new.items }
-    ensures found { IfSome result (IsBoxOf (shelf (run_of yard.now reducers.now) course.now) sync) }
+    requires { All (LiesOn (run_of yard.now reducers.now) course.now) boxes.old.items }
+    ensures rest { All (LiesOn (run_of yard.now reducers.now) course.now) boxes.new.items }
+    ensures found { IfSome result (λ b. LiesOn (run_of yard.now reducers.now) course.now b × (b.sync ≡ sync)) }
+    ensures taken { MatchOption result (HasNone boxes.old.items sync × (boxes.new.items ≡ boxes.old.items)) (λ b. (k : ℕ) × ComesOut boxes.old.items k b boxes.new.items) }
 {
     let _ = yard;
     let _ = reducers;
@@ -68,7 +69,7 @@ fn taken(
 impl Shelf {
     /// No box.
     pub fn new(alloc: Global, yard: &Yard, reducers: &Reducers, course: &Course) -> Shelf
-        ensures { result ≡ shelf (run_of yard.now reducers.now) course.now }
+        ensures { result ≡ shelf (run_of yard.now reducers.now) course.now [] }
     {
         Shelf {
             of: Snapshot::of(yard),
@@ -78,7 +79,7 @@ impl Shelf {
         }
     }
 
-    /// The box of the block that ends with the `sync` at this position comes out.
+    /// The box of the block that ends with the `sync` at this position comes off the shelf.
     pub fn take(
         &mut self,
         alloc: Global,
@@ -87,10 +88,10 @@ impl Shelf {
         course: &Course,
         sync: Pos,
     ) -> JoinBox
-        requires of { self.old ≡ shelf (run_of yard.now reducers.now) course.now }
+        requires of { (self.old.of ≡ run_of yard.now reducers.now) × (self.old.course ≡ course.now) }
         requires sync { event yard.now.story sync ≡ Some Sync }
-        ensures same { self.new ≡ self.old }
-        ensures found { IsBoxOf self.old sync result }
+        ensures found { LiesOn self.old.of self.old.course result × (result.sync ≡ sync) }
+        ensures taken { TakesOff self.old sync result self.new }
     {
         match taken(yard, reducers, course, &mut self.boxes, sync) {
             Some(found) => found,
@@ -100,8 +101,9 @@ impl Shelf {
 
     /// A box is put back. It is forgotten where nothing waits in it any more. Without memory it is lost.
     pub fn put(&mut self, back: JoinBox) -> Result<(), AllocError>
-        requires { LiesOn self.old back }
-        ensures { self.new ≡ self.old }
+        requires { LiesOn self.old.of self.old.course back }
+        ensures ok { OnOk result (PutsBack self.old back self.new) }
+        ensures err { OnErr result (self.new ≡ self.old) }
     {
         if back.is_empty() {
             return Ok(());

@@ -5,6 +5,8 @@ pub mod Named
 pub mod Seeing
 pub mod Going
 pub mod Resuming
+pub mod Behind
+pub mod Resumes
 pub mod Looking
 pub mod Along
 pub mod Giving

@@ -84,7 +84,7 @@ of_mark (events.Set i v) d h = h
 of_mark (events.Value i v) d h = h
 of_mark (events.Print v) d h = h
 
-abbrev mark_in : Kind → Mark
+abbrev pub mark_in : Kind → Mark
 mark_in (kinds.Begin f) = Begin
 mark_in (kinds.Spawn f) = Spawn
 mark_in (kinds.Call f) = Call
@@ -99,7 +99,7 @@ mark_in (kinds.Set i) = Plain
 mark_in (kinds.Value i) = Plain
 mark_in kinds.Print = Plain
 
-mark_is : (e : Event) → mark_of e ≡ mark_in (kind_of e)
+pub mark_is : (e : Event) → mark_of e ≡ mark_in (kind_of e)
 mark_is (events.Begin f) = refl
 mark_is (events.Spawn f) = refl
 mark_is (events.Call f) = refl

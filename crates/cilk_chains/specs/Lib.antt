@@ -4,6 +4,7 @@ pub mod Children
 pub mod Courses
 pub mod Given
 pub mod Reducing
+pub mod Resumes
 pub mod Sights
 pub mod Sorts
 pub mod Standing

@@ -7,7 +7,7 @@ ghost use Rattle.cilk_chains.specs.Chains.{standing, task_of};
 
 use crate::child::{body_asked, look_at_body};
 use crate::course::Course;
-use crate::level::Level;
+use crate::level::{Level, go_on};
 use crate::looked::Looked;
 use crate::reducer::{look_at_reducer, reducer_asked};
 use crate::sight::{cell_asked, look_at_cell};
@@ -29,7 +29,7 @@ pub struct Chain {
     of: Snapshot<Course>,
     at: Pos,
     asked: AskSlot,
-    top: Level,
+    top: Box<Level>,
     below: Vec<Level>,
 }
 
@@ -43,7 +43,7 @@ impl Model for Chain {
 
     ghost view = { λ c. standing c.of.value c.at };
 
-    ghost invariant = { λ c. Stand c.of.value c.at c.asked c.top c.below.items };
+    ghost invariant = { λ c. Stand c.of.value c.at c.asked c.top.value c.below.items };
 }
 
 /// A frame that has yet to go on once its child, called or spawned, is left, and its callers up to the nearest frame
@@ -52,7 +52,7 @@ impl Model for Chain {
 pub struct Rest {
     of: Snapshot<Course>,
     at: Pos,
-    top: Level,
+    top: Box<Level>,
     below: Vec<Level>,
 }
 
@@ -66,7 +66,7 @@ impl Model for Rest {
 
     ghost view = { λ c. standing c.of.value c.at };
 
-    ghost invariant = { λ c. Rest c.of.value c.at c.top c.below.items };
+    ghost invariant = { λ c. Rest c.of.value c.at c.top.value c.below.items };
 }
 
 impl Chain {
@@ -83,7 +83,8 @@ impl Chain {
         ensures { IfOk result (λ c. c ≡ standing course.now 1) }
     {
         course.laws();
-        let top = Level::root(alloc, course, course.root())?;
+        let level = Level::root(alloc, course, course.root())?;
+        let top = Box::new(alloc, level)?;
         Ok(Chain {
             of: Snapshot::of(course),
             at: 1,
@@ -121,12 +122,13 @@ impl Chain {
         requires kind { kind_of_event (event self.now.of.yard.story self.now.at) ≡ Some kind }
         ensures { Says self.now.of.yard.story self.now.at kind result }
     {
+        let level = &*self.top;
         if asked_sort(&self.asked) != kind_sort(kind) {
             return Looked::Differs;
         }
         match kind {
             Kind::Read { cell } | Kind::Write { cell } => look_at_cell(
-                cell_asked(course.globals(), &self.top.sight, &self.asked),
+                cell_asked(course.globals(), &level.sight, &self.asked),
                 cell,
             ),
             Kind::Begin { .. } | Kind::Resume { .. } | Kind::Sync | Kind::End | Kind::Print => {
@@ -139,7 +141,7 @@ impl Chain {
             | Kind::Update { instance }
             | Kind::Set { instance }
             | Kind::Value { instance } => look_at_reducer(
-                reducer_asked(&self.top.sight.homes, &self.top.sight.given, &self.asked),
+                reducer_asked(&level.sight.homes, &level.sight.given, &self.asked),
                 instance,
             ),
         }
@@ -151,7 +153,7 @@ impl Chain {
         requires answer { IsAnswered self.old.of.yard.story self.old.at answer }
         ensures { self.new ≡ standing self.old.of (self.old.at + 1) }
     {
-        self.top.step(course, answer, &mut self.asked);
+        go_on(&mut self.top, course, answer, &mut self.asked);
         self.at += 1;
     }
 
@@ -167,7 +169,8 @@ impl Chain {
         self.below.reserve(1)?;
         let home = course.child(frame);
         let child = Level::begun(alloc, course, &self.asked, home, &self.top.sight)?;
-        self.below.push_reserved(mem::replace(&mut self.top, child));
+        let caller = mem::replace(&mut *self.top, child);
+        self.below.push_reserved(caller);
         self.asked.put(Brief::Begin);
         self.at += 1;
         Ok(())
@@ -190,7 +193,8 @@ impl Chain {
         ensures err { OnErr result (self.new ≡ self.old) }
     {
         let home = course.child(frame);
-        let child = Level::begun(alloc, course, &self.asked, home, &self.top.sight)?;
+        let level = Level::begun(alloc, course, &self.asked, home, &self.top.sight)?;
+        let child = Box::new(alloc, level)?;
         let rest = Rest {
             of: Snapshot::of(course),
             at: next,
@@ -212,8 +216,8 @@ impl Chain {
         let Some(caller) = self.below.pop() else {
             return false;
         };
-        self.top = caller;
-        self.top.step(course, Answer::Done, &mut self.asked);
+        *self.top = caller;
+        go_on(&mut self.top, course, Answer::Done, &mut self.asked);
         self.at += 1;
         true
     }
@@ -240,7 +244,7 @@ impl Rest {
             below,
         } = self;
         let mut asked = AskSlot::new();
-        top.step(course, Answer::Done, &mut asked);
+        go_on(&mut top, course, Answer::Done, &mut asked);
         Chain {
             of,
             at,

@@ -4,6 +4,7 @@ ghost use Rattle.std.specs.Prelude.{◌≡◌, length, slice_get, unwrap_or};
 ghost use Rattle.cilk_program.specs.Sources.{source};
 ghost use Rattle.cilk_program.specs.Syntax.{Source};
 ghost use Rattle.cilk_chains.specs.Courses.{AreHomesOf, IsBlockOf, IsBodyOf, IsCourse, IsHomeOf, course_with};
+ghost use Rattle.cilk_chains.specs.Resumes.{ResumesAreAsked};
 
 use crate::home::{CellBlock, Home};
 use cilk_lower::code::Code;
@@ -157,6 +158,13 @@ impl Course {
         ensures { IsCourse self.now }
     {
         let _input = self.input.count();
+    }
+
+    /// A frame that asks for a spawn asks for the `resume` behind it: the run doesn't depart there.
+    pub fn resumes(&self)
+        ensures { let y = self.now.yard in ResumesAreAsked y.story }
+    {
+        self.laws();
     }
 }
 

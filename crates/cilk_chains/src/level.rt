@@ -11,6 +11,7 @@ ghost use Rattle.cilk_program.specs.Sources.{source};
 ghost use Rattle.cilk_program.specs.Syntax.{Source};
 ghost use Rattle.cilk_lower.specs.Behaves.{Behaves};
 ghost use Rattle.cilk_frames.specs.Following.{Fits, Runs, Stands, owed_for, word_in};
+ghost use Rattle.cilk_chains.specs.Asking.{HasAsked};
 ghost use Rattle.cilk_chains.specs.Sights.{found_global};
 
 use crate::course::Course;
@@ -108,4 +109,17 @@ impl Level {
         );
         self.took = MAX_TICKS - left;
     }
+}
+
+/// A frame on the heap goes on with the answer to its last ask, to the next one.
+pub(crate) fn go_on(frame: &mut Box<Level>, course: &Course, answer: Answer, asked: &mut AskSlot)
+    requires runs { let l = frame.old.value in Runs course.now.code course.now.inputs l.cursor }
+    requires fits { let l = frame.old.value in Fits l.cursor.owed answer }
+    requires small { let l = frame.old.value in l.took ≤ MAX_TICKS }
+    ensures sight { let l = frame.new.value in let o = frame.old.value in l.sight ≡ o.sight }
+    ensures asks { (p : Source) (callee : Callee) (history : List ℤ)
+        → (let o = frame.old.value in Stands course.now.code course.now.inputs p callee o.cursor history o.took)
+        → HasAsked course.now.code course.now.inputs p callee (history ++ word_in answer ∷ []) asked.new frame.new.value }
+{
+    frame.step(course, answer, asked);
 }

@@ -41,7 +41,7 @@ pub fn course(
 fn homes(alloc: Global, plan: &ProgramPlan) -> Result<Vec<FrameHome>, AllocError>
     ensures { IfOk result (λ v. AreHomesIn plan.now.run v.items) }
 {
-    let mut homes = Vec::new(alloc);
+    let mut homes = Vec::with_capacity(alloc, plan.frames().len())?;
     for made in 0..FrameNo::MAX {
         let Some(frame) = plan.frame(made + 1) else {
             return Ok(homes);

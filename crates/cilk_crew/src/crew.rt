@@ -4,7 +4,7 @@ ghost use Rattle.std.specs.Prelude.{◌≡◌, ◌≤◌, All, Some, IfOk, IfSom
 ghost use Rattle.std.specs.Thread.{IsSend, IsSync};
 ghost use Rattle.cilk_boxes.specs.Rows.{OfRun};
 ghost use Rattle.cilk_turns.specs.Turns.{Works};
-ghost use Rattle.cilk_workers.specs.Gates.{AreFirsts};
+ghost use Rattle.cilk_plan.specs.Strands.{AreFirsts};
 ghost use Rattle.cilk_workers.specs.Hands.{IsFinish};
 ghost use Rattle.cilk_workers.specs.Keys.{AreKeys, AreSyncs};
 ghost use Rattle.cilk_workers.specs.Names.{IsName};

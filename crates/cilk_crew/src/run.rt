@@ -4,7 +4,7 @@ ghost use Rattle.std.specs.Prelude.{◌≡◌, All, Some, IfOk, IfErr};
 ghost use Rattle.cilk_story.specs.Word.{event};
 ghost use Rattle.cilk_turns.specs.Turns.{Works};
 ghost use Rattle.cilk_types.specs.declared.event.Event.TheVariants.{Sync};
-ghost use Rattle.cilk_workers.specs.Gates.{AreFirsts};
+ghost use Rattle.cilk_plan.specs.Strands.{AreFirsts};
 ghost use Rattle.cilk_workers.specs.Hands.{IsFinish, IsWhole};
 ghost use Rattle.cilk_workers.specs.Names.{IsName};
 ghost use Rattle.cilk_crew.specs.Faults.{IsCrew, IsTrueFault};

@@ -12,6 +12,7 @@ pub mod OneCourse
 pub mod OneRun
 pub mod Owned
 pub mod Points
+pub mod Resumed
 pub mod RunsEnd
 pub mod StoryValues
 pub mod Worked

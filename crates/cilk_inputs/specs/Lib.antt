@@ -4,5 +4,6 @@ pub mod Frames
 pub mod Lists
 pub mod Owned
 pub mod Points
+pub mod Resumes
 pub mod Stories
 pub mod Worked

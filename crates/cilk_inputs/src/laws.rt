@@ -10,6 +10,7 @@ ghost use Rattle.cilk_inputs.specs.Frames.{AskedCoursesAreSerialRuns, ProgramsHa
 ghost use Rattle.cilk_inputs.specs.Lists.{AskedStoriesAreOfAskedCourses, CoursesAreAlongPlans, InputsThatDepartNowhere};
 ghost use Rattle.cilk_inputs.specs.Owned.{EventsAreInTheirFrames};
 ghost use Rattle.cilk_inputs.specs.Points.{StoriesAreAskedByPositions};
+ghost use Rattle.cilk_inputs.specs.Resumes.{FramesResume};
 ghost use Rattle.cilk_inputs.specs.Stories.{OwnStory, StoriesAlongHaveValues};
 ghost use Rattle.cilk_inputs.specs.Worked.{WorkedStories};
 ghost use Rattle.cilk_monoid.specs.Laws.{MonoidStructure};
@@ -105,6 +106,12 @@ pub fn events_are_in_their_frames()
 /// with which values; the frame's next event, a child's first, and the caller's next behind a child's `end` stand where the plan has them.
 pub fn stories_are_asked_by_positions()
     ensures { StoriesAreAskedByPositions }
+{}
+
+/// At the language: what a frame asks for right behind a child, called or spawned, is its `resume`. So a run that follows a plan up to there
+/// doesn't depart at a `resume`.
+pub fn frames_resume()
+    ensures { FramesResume }
 {}
 
 /// A worked program along the plan of its run on one input: the story on that and on two others, which depart.

@@ -4,7 +4,8 @@
 -- - `next_stays`, `next_here`: a frame's next `sync`, ahead of an event that isn't one of it, and ahead of one;
 -- - `ahead_kept`, `ahead_put`: so for all frames;
 -- - `Stands`, `MetSoFar`, `met_first`, `noted`, `met_all`: what the pass has at the run's end, ahead of each event and of all;
--- - `met_spawn`, `met_resume`, `met_sync`, `met_plain`: ahead of an event of each sort.
+-- - `met_spawn`, `met_resume`, `met_sync`, `met_plain`: ahead of an event of each sort;
+-- - `resumes_none`: an event that is no `resume`, by the column of kinds.
 use Rattle.std.proofs.Common.{◌≡◌, ◌≢◌, ◌↔◌, ◌⊎◌, inl, inr, nat_eq, Bool, true, false, if◌then◌else◌, ℕ, zero, suc, ◌+◌, ◌-◌, ◌<◌, ◌≤◌, List, [], ◌∷◌, length, map, get_or, set, Option, Some, None, IfSome, MatchOption, slice_get, refl, sym, ap, ◌∙◌, subst, arith, get_or-set_same, get_or-set_other, length-set}
 use Rattle.std.proofs.lemmas.Option.{slice_get_within}
 use mathlib.Core.Logic.{dite}
@@ -363,6 +364,15 @@ kind_there : (es : List Event) (k : ℕ) → slice_get (map kind_of es) k ≡ ki
 kind_there [] k = refl
 kind_there (e ∷ es) zero = refl
 kind_there (e ∷ es) (suc k) = kind_there es k
+
+-- where the column of kinds has no `resume`, no spawn's continuation is resumed
+pub resumes_none : (s : Story) (i : ℕ) (column : List Kind) (kind : Kind) → column ≡ map kind_of s.events → slice_get column i ≡ Some kind → ((f : ℕ) → kind ≢ kinds.Resume f)
+    → (k : ℕ) → what s (i + 1) ≡ resume k → ⊥
+resumes_none s i column kind same is other k resumed =
+    let place : i + 1 - 1 ≡ i = omega arith in
+    let here : kind_of_event (event s (i + 1)) ≡ Some kind =
+    ap (λ (n : ℕ). kind_of_event (slice_get s.events n)) place ∙ (sym (kind_there s.events i) ∙ (sym (ap (λ (l : List Kind). slice_get l i) same) ∙ is)) in
+    not_resume s.events (i + 1) (event s (i + 1)) (after s (i + 1)) kind here other k resumed
 
 -- what stands at n, as it is told of what comes behind the events ahead of it
 pub there : (s : Story) (n : ℕ) → n - 1 + 1 ≡ n → (asked : Asked) (frame : ℕ) (kind : Kind) → asked ≡ Next frame kind → IsBehind s (n - 1) asked

@@ -2,7 +2,7 @@
 --
 -- - `resumed_here`, `not_sync`: a `resume` right after a spawn;
 -- - `resume_word`, `is_word_here`: a `resume` that is a step on a word;
--- - `SoFar`, `within`, `resumed_first`, `resumed_next`, `resumed_all`: the column of resumptions at the start, at each event and behind the last.
+-- - `SoFar`, `within`, `resumed_first`, `resumed_next`, `same_column`, `resumed_all`: the column of resumptions at the start, at each event and behind the last.
 use Rattle.std.proofs.Common.{◌≡◌, ◌≢◌, inl, inr, Bool, true, false, ℕ, ◌+◌, ◌<◌, ◌≤◌, List, [], ◌∷◌, length, get_or, set, Option, Some, None, IfSome, IsTrue, MatchOption, ◌↔◌, if◌then◌else◌, refl, sym, ap, ◌∙◌, subst, arith, get_or-set_same, get_or-set_other, length-set}
 use Rattle.std.specs.Prelude.{is_some}
 use mathlib.Core.Logic.{dite}
@@ -67,9 +67,9 @@ is_word_here s at f None b kind is test = (
 is_word_here s at f (Some k) b kind is test = (λ t. word_of_resume s at k ((is k).0 refl), λ w. test)
 
 -- ---- the column
-pub record SoFar (s : Story) (i : ℕ) (column : List (Option ℕ)) : Type 0 where
+pub record SoFar (s : Story) (i : ℕ) (column : List ℕ) : Type 0 where
   pub long : length column ≡ length s.events + 1
-  pub each : (k p : ℕ) → (get_or column k None ≡ Some p) ↔ ((what s p ≡ resume k) × (p ≤ i))
+  pub each : (k p : ℕ) → ((1 ≤ p) × (get_or column k 0 ≡ p)) ↔ ((what s p ≡ resume k) × (p ≤ i))
 
 module _ (s : Story) (law : IsOrderly s) where
   spawn_within : (k p : ℕ) → what s p ≡ resume k → k < length s.events + 1
@@ -79,16 +79,19 @@ module _ (s : Story) (law : IsOrderly s) where
   within at n None long is = tt
   within at n (Some k) long is = let l = spawn_within k at ((is k).0 refl) in omega (arith, l, long)
 
-  pub resumed_first : (column : List (Option ℕ)) → length column ≡ length s.events + 1 → ((k : ℕ) → get_or column k None ≡ None) → SoFar s 0 column
+  is_position : (p k : ℕ) → what s p ≡ resume k → 1 ≤ p
+  is_position p k is = (law.inside p (word_of_resume s p k is)).0
+
+  pub resumed_first : (column : List ℕ) → length column ≡ length s.events + 1 → ((k : ℕ) → get_or column k 0 ≡ 0) → SoFar s 0 column
   resumed_first column long none = record {
     long = long;
     each = λ k p. (
-      λ e. absurd (let c : None ≡ Some p = sym (none k) ∙ e in cc c),
-      λ h. absurd (let l = (law.inside p (word_of_resume s p k h.0)).0 in omega (arith, l, h.1)),
+      λ e. absurd (let z : p ≡ 0 = sym e.1 ∙ none k in omega (arith, z, e.0)),
+      λ h. absurd (let l = is_position p k h.0 in omega (arith, l, h.1)),
     );
   }
 
-  same_column : (i at : ℕ) (column : List (Option ℕ)) → at ≡ i + 1 → SoFar s i column → ((k : ℕ) → what s at ≡ resume k → ⊥) → SoFar s (i + 1) column
+  pub same_column : (i at : ℕ) (column : List ℕ) → at ≡ i + 1 → SoFar s i column → ((k : ℕ) → what s at ≡ resume k → ⊥) → SoFar s (i + 1) column
   same_column i at column next h not = record {
     long = h.long;
     each = λ k p. (
@@ -99,35 +102,37 @@ module _ (s : Story) (law : IsOrderly s) where
     );
   }
 
-  set_column : (i at j : ℕ) (column : List (Option ℕ)) → at ≡ i + 1 → SoFar s i column → what s at ≡ resume j → SoFar s (i + 1) (set column j (Some at))
+  set_column : (i at j : ℕ) (column : List ℕ) → at ≡ i + 1 → SoFar s i column → what s at ≡ resume j → SoFar s (i + 1) (set column j at)
   set_column i at j column next h is =
       let small = spawn_within j at is in
       let long = h.long in
       record {
-        long = length-set column j (Some at) ∙ h.long;
+        long = length-set column j at ∙ h.long;
         each = λ k p. dite (ℕ_discrete k j)
             (λ (here : k ≡ j).
-            let put : get_or (set column j (Some at)) k None ≡ Some at = ap (λ (x : ℕ). get_or (set column j (Some at)) x None) here ∙ get_or-set_same column j (Some at) None (omega arith) in (
-              λ e. let c : Some at ≡ Some p = sym put ∙ e in let same : at ≡ p = cc c in (ap (λ (x : ℕ). what s x) (sym same) ∙ is ∙ ap (λ (x : ℕ). resume x) (sym here), omega arith),
-              λ r. put ∙ ap Some (law.once at p j is (r.0 ∙ ap (λ (x : ℕ). resume x) here)),
+            let put : get_or (set column j at) k 0 ≡ at = ap (λ (x : ℕ). get_or (set column j at) x 0) here ∙ get_or-set_same column j at 0 (omega arith) in (
+              λ e. let same : at ≡ p = sym put ∙ e.1 in (ap (λ (x : ℕ). what s x) (sym same) ∙ is ∙ ap (λ (x : ℕ). resume x) (sym here), omega arith),
+              λ r. (is_position p k r.0, put ∙ law.once at p j is (r.0 ∙ ap (λ (x : ℕ). resume x) here)),
             ))
             (λ (other : k ≢ j).
-            let kept : get_or (set column j (Some at)) k None ≡ get_or column k None = get_or-set_other column j k (Some at) None other in (
-              λ e. let r = (h.each k p).0 (sym kept ∙ e) in (r.0, let l = r.1 in omega (arith, l)),
-              λ r. kept ∙ dite (ℕ_discrete p at)
+            let kept : get_or (set column j at) k 0 ≡ get_or column k 0 = get_or-set_other column j k at 0 other in (
+              λ e. let r = (h.each k p).0 (e.0, sym kept ∙ e.1) in (r.0, let l = r.1 in omega (arith, l)),
+              λ r.
+                  let q : (1 ≤ p) × (get_or column k 0 ≡ p) = dite (ℕ_discrete p at)
                   (λ (same : p ≡ at). absurd (other (let c : resume k ≡ resume j = sym r.0 ∙ (ap (λ (x : ℕ). what s x) same ∙ is) in cc c)))
-                  (λ (apart : p ≢ at). (h.each k p).1 (r.0, let l = r.1 in omega (arith, l))),
+                  (λ (apart : p ≢ at). (h.each k p).1 (r.0, let l = r.1 in omega (arith, l))) in
+                  (q.0, kept ∙ q.1),
             ));
       }
 
-  pub resumed_next : (i at : ℕ) (column column' : List (Option ℕ)) (spawned : Option ℕ) → at ≡ i + 1 → SoFar s i column → ((k : ℕ) → (spawned ≡ Some k) ↔ (what s at ≡ resume k))
-      → MatchOption spawned (column' ≡ column) (λ k. column' ≡ set column k (Some at)) → SoFar s (i + 1) column'
+  pub resumed_next : (i at : ℕ) (column column' : List ℕ) (spawned : Option ℕ) → at ≡ i + 1 → SoFar s i column → ((k : ℕ) → (spawned ≡ Some k) ↔ (what s at ≡ resume k))
+      → MatchOption spawned (column' ≡ column) (λ k. column' ≡ set column k at) → SoFar s (i + 1) column'
   resumed_next i at column column' None next h is noted =
       subst (SoFar s (i + 1)) (sym noted) (same_column i at column next h (λ k w. (let c : None ≡ Some k = (is k).1 w in cc c)))
   resumed_next i at column column' (Some j) next h is noted =
       subst (SoFar s (i + 1)) (sym noted) (set_column i at j column next h ((is j).0 refl))
 
-  pub resumed_all : (i : ℕ) (column : List (Option ℕ)) → SoFar s i column → length s.events ≤ i → AreResumptions s column
+  pub resumed_all : (i : ℕ) (column : List ℕ) → SoFar s i column → length s.events ≤ i → AreResumptions s column
   resumed_all i column h past k p = (
     λ e. ((h.each k p).0 e).0,
     λ w. (h.each k p).1 (w, let l = (law.inside p (word_of_resume s p k w)).1 in omega (arith, l, past)),

@@ -1,5 +1,5 @@
 -- Where strands begin.
-use Rattle.std.specs.Prelude.{◌≡◌, ◌≢◌, ◌↔◌, ◌+◌, ◌<◌, ◌≤◌, ℕ, List, Some, slice_get}
+use Rattle.std.specs.Prelude.{◌≡◌, ◌≢◌, ◌↔◌, ◌+◌, ◌<◌, ◌≤◌, ℕ, List, Some, slice_get, slice_index_or}
 use Rattle.cilk_types.specs.declared.event.Event.{Event}
 use Rattle.cilk_tree.specs.Before.{IsPosition}
 use Rattle.cilk_tree.specs.Races.{strand_at}
@@ -13,3 +13,7 @@ pub record BeginsStrand (es : List Event) (strand p : ℕ) : Type 0 where
 -- for each strand, in the order of their numbers from 1, the position of its first event
 abbrev pub AreStarts : List Event → List ℕ → Type 0
 AreStarts es starts = (k p : ℕ) → (slice_get starts k ≡ Some p) ↔ BeginsStrand es (k + 1) p
+
+-- by each position the strand that begins there, or 0
+abbrev pub AreFirsts : List Event → List ℕ → Type 0
+AreFirsts es strands = (p : ℕ) → 0 < slice_index_or strands p 0 → BeginsStrand es (slice_index_or strands p 0) p

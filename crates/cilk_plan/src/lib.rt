@@ -11,5 +11,6 @@ pub mod earliest;
 pub mod frames;
 pub mod kind;
 pub mod laws;
+mod opening;
 pub mod plan;
 pub mod strands;

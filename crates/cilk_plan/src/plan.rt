@@ -1,12 +1,12 @@
 //! The plan of a run.
 
-ghost use Rattle.std.specs.Prelude.{◌≡◌, ◌↔◌, ℕ, ◌+◌, ◌<◌, ◌≤◌, Option, Some, length, slice_set, IfOk, IfSome, IsTrue, MatchOption};
+ghost use Rattle.std.specs.Prelude.{◌≡◌, ◌↔◌, ℕ, ◌+◌, ◌<◌, ◌≤◌, ◌++◌, Option, Some, length, map, replicate, slice_set, IfOk, IfSome, IsTrue, MatchOption};
 ghost use Rattle.cilk_types.specs.declared.limits.TheConstants.{MAX_EVENTS};
 ghost use Rattle.cilk_tree.specs.Before.{IsPosition};
 ghost use Rattle.cilk_story.specs.Orders.{IsOrderly};
 ghost use Rattle.cilk_story.specs.Runs.{IsAsked};
 ghost use Rattle.cilk_story.specs.Values.{HasValues};
-ghost use Rattle.cilk_story.specs.Word.{after, event, resume, what, IsWord};
+ghost use Rattle.cilk_story.specs.Word.{after, event, resume, what, word, IsWord};
 ghost use Rattle.cilk_plan.specs.Earliest.{earliest as earliest_of};
 ghost use Rattle.cilk_plan.specs.Kinds.{kind_of_event, IsBehind};
 ghost use Rattle.cilk_plan.specs.Planned.{planned, HasOneAhead, HasPlan};
@@ -15,6 +15,7 @@ ghost use Rattle.cilk_plan.specs.Resumptions.{AreResumptions};
 use crate::earliest::earliest;
 use crate::frames::frames;
 use crate::kind::{Asked, Kind, events_of_words, kinds, words};
+use crate::opening::first_words;
 use cilk_types::event::{FrameNo, Pos};
 use cilk_types::trace::Trace;
 use std::alloc::{AllocError, Global};
@@ -25,6 +26,7 @@ use std::snapshot::Snapshot;
 #[derive(Drop)]
 pub struct Plan {
     opening: Vec<i64>,
+    words: Vec<u64>,
     kinds: Vec<Kind>,
     frames: Vec<FrameNo>,
     earliest: Vec<Option<Pos>>,
@@ -32,7 +34,8 @@ pub struct Plan {
 }
 
 impl Model for Plan {
-    ghost use Rattle.std.specs.Prelude.{◌≡◌, ◌≤◌, length, map};
+    ghost use Rattle.std.specs.Prelude.{◌≡◌, ◌≤◌, ◌+◌, ◌++◌, length, map, replicate};
+    ghost use Rattle.cilk_story.specs.Word.{word};
     ghost use Rattle.cilk_plan.specs.Kinds.{kind_of};
     ghost use Rattle.cilk_types.specs.declared.limits.TheConstants.{MAX_EVENTS};
     ghost use Rattle.cilk_story.specs.declared.story.Story.{Story};
@@ -46,7 +49,7 @@ impl Model for Plan {
 
     ghost view = { λ p. planned p.events.value p.opening.items };
 
-    ghost invariant = { λ p. IsOrderly (planned p.events.value p.opening.items) × HasValues (planned p.events.value p.opening.items) × (p.kinds.items ≡ map kind_of p.events.value) × (length p.events.value ≤ MAX_EVENTS) × (p.earliest.items ≡ all_earliest p.events.value) × AreFrames p.events.value p.frames.items };
+    ghost invariant = { λ p. IsOrderly (planned p.events.value p.opening.items) × HasValues (planned p.events.value p.opening.items) × (p.kinds.items ≡ map kind_of p.events.value) × (length p.events.value ≤ MAX_EVENTS) × (p.earliest.items ≡ all_earliest p.events.value) × AreFrames p.events.value p.frames.items × (p.words.items ≡ map word p.opening.items ++ replicate (length p.events.value + 1) 0) };
 }
 
 impl Plan {
@@ -58,11 +61,13 @@ impl Plan {
     {
         words(opening.as_slice());
         events_of_words(trace);
+        let words = first_words(alloc, opening.as_slice(), trace.len())?;
         let kinds = kinds(alloc, trace)?;
         let frames = frames(alloc, trace)?;
         let earliest = earliest(alloc, trace)?;
         Ok(Plan {
             opening,
+            words,
             kinds,
             frames,
             earliest,
@@ -123,17 +128,20 @@ impl Plan {
         }
     }
 
-    /// For each position at which a spawn stands, that of the `resume` after it. Cost and memory: linear in the events.
-    pub fn resumptions(&self, alloc: Global) -> Result<Vec<Option<Pos>>, AllocError>
+    /// For each position at which a spawn stands, that of the `resume` after it; 0, which is no position, for all others. Cost and memory:
+    /// linear in the events.
+    pub fn resumptions(&self, alloc: Global) -> Result<Vec<Pos>, AllocError>
         ensures { IfOk result (λ column. AreResumptions self.now column.items) }
     {
         self.laws();
         let count = self.count();
         let mut column = Vec::with_capacity(alloc, count + 1)?;
-        column.resize(count + 1, None)?;
+        column.resize(count + 1, 0)?;
         for behind in 0..count {
-            let at = behind as Pos + 1;
-            note(&mut column, self.resumed_by(at), at);
+            if let Kind::Resume { .. } = self.kinds[behind] {
+                let at = behind as Pos + 1;
+                note(&mut column, self.resumed_by(at), at);
+            }
         }
         Ok(column)
     }
@@ -160,6 +168,13 @@ impl Plan {
         self.opening.as_slice()
     }
 
+    /// The words of a run as it begins: the cells' opening values in the form of words, then a 0 for the end and for each position.
+    pub fn first_words(&self) -> &[u64]
+        ensures { result.now ≡ map word self.now.opening ++ replicate (length self.now.events + 1) 0 }
+    {
+        self.words.as_slice()
+    }
+
     /// What holds of the plan's story.
     pub fn laws(&self)
         ensures order { IsOrderly self.now }
@@ -171,11 +186,11 @@ impl Plan {
 }
 
 // Where an event resumes what a spawn left, notes it at the spawn.
-fn note(column: &mut Vec<Option<Pos>>, spawned: Option<Pos>, at: Pos)
+fn note(column: &mut Vec<Pos>, spawned: Option<Pos>, at: Pos)
     requires { IfSome spawned (λ place. place < length column.old.items) }
-    ensures { MatchOption spawned (column.new.items ≡ column.old.items) (λ place. column.new.items ≡ slice_set column.old.items place (Some at)) }
+    ensures { MatchOption spawned (column.new.items ≡ column.old.items) (λ place. column.new.items ≡ slice_set column.old.items place at) }
 {
     if let Some(place) = spawned {
-        column[place as usize] = Some(at);
+        column[place as usize] = at;
     }
 }

@@ -1,12 +1,14 @@
--- What the plan of a program's run tells: `continuation_at`, `continuation_there`, `strand_at`.
+-- What the plan of a program's run tells: `continuation_at`, `continuation_there`, `strand_at`, `syncs_told`, `strands_told`.
 use Rattle.std.proofs.Common.{◌≡◌, ◌↔◌, ℕ, ◌+◌, ◌-◌, ◌≤◌, List, Option, Some, None, IsSome, slice_get, slice_index_or, refl, sym, ap, ◌∙◌, subst, arith}
+use Rattle.std.specs.Prelude.{All}
 use Rattle.cilk_types.specs.declared.event.Event.{Event}
+use Rattle.cilk_types.specs.declared.event.Event.TheVariants.{Sync}
 use Rattle.cilk_story.specs.declared.story.Story.{Story}
 use Rattle.cilk_story.specs.Orders.{IsOrderly}
-use Rattle.cilk_story.specs.Word.{spawn, what}
+use Rattle.cilk_story.specs.Word.{event, spawn, what}
 use Rattle.cilk_plan.specs.declared.blocks.Continuation.{Continuation}
 use Rattle.cilk_plan.specs.Blocks.{AreContinuations, IsContinuationOf}
-use Rattle.cilk_plan.specs.Strands.{AreStarts, BeginsStrand}
+use Rattle.cilk_plan.specs.Strands.{AreFirsts, AreStarts, BeginsStrand}
 use Rattle.cilk_checker.specs.Determinate.{AcceptedRun}
 use Rattle.cilk_planning.specs.Continuations.{SpawnsHaveContinuations}
 use Rattle.cilk_planning.specs.Plans.{IsPlanOf, WholePlan}
@@ -39,3 +41,14 @@ strand_at w a s starts n result same plan are low is p =
       λ e. (low, subst (λ (es : List Event). BeginsStrand es n p) events (subst (λ (k : ℕ). BeginsStrand a.trace k p) place ((are (n - 1) p).0 (sym is ∙ e)))),
       λ h. is ∙ (are (n - 1) p).1 (subst (λ (k : ℕ). BeginsStrand a.trace k p) (sym place) (subst (λ (es : List Event). BeginsStrand es n p) (sym events) h.1)),
     )
+
+pub syncs_told : (w : WholePlan) (a : AcceptedRun) (s : Story) (column lent : List ℕ) → whole a s ≡ w → All (λ at. event s at ≡ Some Sync) column → lent ≡ column
+    → All (λ at. event w.story at ≡ Some Sync) lent
+syncs_told w a s column lent same are is =
+    subst (λ (v : WholePlan). All (λ at. event v.story at ≡ Some Sync) lent) same (subst (All (λ at. event s at ≡ Some Sync)) (sym is) are)
+
+pub strands_told : (w : WholePlan) (a : AcceptedRun) (s : Story) (column lent : List ℕ) → whole a s ≡ w → IsPlanOf a s → AreFirsts a.trace column → lent ≡ column
+    → AreFirsts w.story.events lent
+strands_told w a s column lent same plan are is =
+    let events : a.trace ≡ s.events = sym (ap (λ (x : Story). x.events) plan.story) in
+    subst (λ (v : WholePlan). AreFirsts v.story.events lent) same (subst (λ (es : List Event). AreFirsts es lent) events (subst (AreFirsts a.trace) (sym is) are))

@@ -1,21 +1,23 @@
 //! All that a worker may know of the run of an accepted program that it runs again.
 
-ghost use Rattle.std.specs.Prelude.{◌≡◌, ◌↔◌, ◌≤◌, ℕ, Some, None, slice_get, slice_index_or, IfOk, IsSome};
+ghost use Rattle.std.specs.Prelude.{◌≡◌, ◌↔◌, ◌≤◌, ℕ, All, Some, None, slice_get, slice_index_or, IfOk, IsSome};
 ghost use Rattle.cilk_checker.specs.Determinate.{AreFramesOf, HasDeterminateRun};
 ghost use Rattle.cilk_lower.specs.Behaves.{Behaves};
 ghost use Rattle.cilk_lower.specs.Layout.{LaysOut};
 ghost use Rattle.cilk_lower.specs.Rooms.{RoomsFit};
 ghost use Rattle.cilk_plan.specs.Blocks.{IsContinuationOf};
-ghost use Rattle.cilk_plan.specs.Strands.{BeginsStrand};
+ghost use Rattle.cilk_plan.specs.Strands.{AreFirsts, BeginsStrand};
 ghost use Rattle.cilk_plan.specs.declared.blocks.Continuation.{Continuation};
 ghost use Rattle.cilk_program.specs.Sources.{source};
 ghost use Rattle.cilk_story.specs.Orders.{IsOrderly};
-ghost use Rattle.cilk_story.specs.Word.{spawn, what};
+ghost use Rattle.cilk_story.specs.Word.{event, spawn, what};
+ghost use Rattle.cilk_types.specs.declared.event.Event.TheVariants.{Sync};
 ghost use Rattle.cilk_planning.specs.Continuations.{SpawnsHaveContinuations};
 ghost use Rattle.cilk_planning.specs.Frames.{IsFrameOf};
 ghost use Rattle.cilk_planning.specs.Plans.{IsPlanOf};
 
 use crate::laws::plans_have_continuations;
+use crate::places::{blocks, strands};
 use crate::planning::events;
 use cilk_checker::accepted::Accepted;
 use cilk_ending::frames::PlannedFrame;
@@ -43,18 +45,23 @@ pub struct ProgramPlan<'a> {
     frames: &'a [PlannedFrame],
     continuations: Vec<Option<Continuation>>,
     starts: Vec<Pos>,
+    syncs: Vec<Pos>,
+    blocks: Vec<u32>,
+    strands: Vec<StrandNo>,
     accepted: Snapshot<Accepted>,
 }
 
 impl<'a> Model for ProgramPlan<'a> {
-    ghost use Rattle.std.specs.Prelude.{◌≡◌};
+    ghost use Rattle.std.specs.Prelude.{◌≡◌, All, Some};
     ghost use Rattle.cilk_checker.specs.Determinate.{AreFramesOf, HasDeterminateRun};
     ghost use Rattle.cilk_lower.specs.Behaves.{Behaves};
     ghost use Rattle.cilk_lower.specs.Layout.{LaysOut};
     ghost use Rattle.cilk_lower.specs.Rooms.{RoomsFit};
     ghost use Rattle.cilk_plan.specs.Blocks.{AreContinuations};
-    ghost use Rattle.cilk_plan.specs.Strands.{AreStarts};
+    ghost use Rattle.cilk_plan.specs.Strands.{AreFirsts, AreStarts};
     ghost use Rattle.cilk_program.specs.Sources.{source};
+    ghost use Rattle.cilk_story.specs.Word.{event};
+    ghost use Rattle.cilk_types.specs.declared.event.Event.TheVariants.{Sync};
     ghost use Rattle.cilk_planning.specs.Plans.{IsPlanOf, WholePlan, whole_code};
 
     ghost Value = { WholePlan };
@@ -63,7 +70,7 @@ impl<'a> Model for ProgramPlan<'a> {
 
     ghost view = { λ p. record { run = p.accepted.value; story = p.events } };
 
-    ghost invariant = { λ p. HasDeterminateRun p.accepted.value × (p.program.now ≡ p.accepted.value.program) × (p.input.now ≡ p.accepted.value.input) × Behaves (source p.accepted.value.program) p.code × RoomsFit (source p.accepted.value.program) p.code × LaysOut (source p.accepted.value.program) p.code.layout × IsPlanOf p.accepted.value p.events × AreFramesOf p.accepted.value p.frames.now × AreContinuations p.events p.continuations.items × AreStarts p.accepted.value.trace p.starts.items };
+    ghost invariant = { λ p. HasDeterminateRun p.accepted.value × (p.program.now ≡ p.accepted.value.program) × (p.input.now ≡ p.accepted.value.input) × Behaves (source p.accepted.value.program) p.code × RoomsFit (source p.accepted.value.program) p.code × LaysOut (source p.accepted.value.program) p.code.layout × IsPlanOf p.accepted.value p.events × AreFramesOf p.accepted.value p.frames.now × AreContinuations p.events p.continuations.items × AreStarts p.accepted.value.trace p.starts.items × All (λ at. event p.events at ≡ Some Sync) p.syncs.items × AreFirsts p.accepted.value.trace p.strands.items };
 }
 
 /// The plan of an accepted program's run. Cost and memory: linear in the run's events and the program.
@@ -74,7 +81,9 @@ pub fn plan<'a>(alloc: Global, accepted: &'a Accepted) -> Result<ProgramPlan<'a>
     let code = lower(alloc, program)?;
     let events = events(alloc, accepted)?;
     let continuations = continuations(alloc, &events)?;
+    let (syncs, blocks) = blocks(alloc, &events, continuations.as_slice())?;
     let starts = starts(alloc, accepted.trace())?;
+    let strands = strands(alloc, accepted.trace(), starts.as_slice())?;
     Ok(ProgramPlan {
         program,
         input: accepted.input(),
@@ -83,6 +92,9 @@ pub fn plan<'a>(alloc: Global, accepted: &'a Accepted) -> Result<ProgramPlan<'a>
         frames: accepted.frames(),
         continuations,
         starts,
+        syncs,
+        blocks,
+        strands,
         accepted: Snapshot::of(accepted),
     })
 }
@@ -178,6 +190,26 @@ impl<'a> ProgramPlan<'a> {
             return None;
         }
         start_in(&self.starts, number as usize - 1)
+    }
+
+    /// The positions of the `sync`s that end blocks with spawns, which are the run's blocks.
+    pub fn syncs(&self) -> &[Pos]
+        ensures { All (λ at. event self.now.story at ≡ Some Sync) result.now }
+    {
+        self.syncs.as_slice()
+    }
+
+    /// For each position its block, where the position is that of the block's `sync` or of the `resume` after one of its
+    /// spawns; for all others a number past the last.
+    pub fn blocks(&self) -> &[u32] {
+        self.blocks.as_slice()
+    }
+
+    /// For each position the strand that begins there; 0 where none does.
+    pub fn strands(&self) -> &[StrandNo]
+        ensures { AreFirsts self.now.story.events result.now }
+    {
+        self.strands.as_slice()
     }
 }
 

@@ -8,31 +8,17 @@ ghost use Rattle.cilk_program.specs.declared.ask.Callee.TheVariants.{Loop};
 ghost use Rattle.cilk_frames.specs.Following.{child_of};
 
 use cilk_frames::asked::AskSlot;
-use cilk_frames::brief::Brief;
 use cilk_frames::halves::has_one;
-use cilk_program::ask::{Callee, FunctionCall, LoopPart};
+use cilk_program::ask::{Ask, Callee, LoopPart};
 use cilk_program::program::Program;
 
 /// What the frame runs that an ask begins, if it begins one.
 pub fn callee_asked(ask: &AskSlot) -> Option<Callee>
     ensures { result ≡ child_of ask.now }
 {
-    match ask.brief() {
-        None => Some(Callee::Function(copied(ask.invocation().1))),
-        Some(Brief::Turns(_, part)) => Some(Callee::Loop(*part)),
-        Some(_) => None,
-    }
-}
-
-// The same call.
-fn copied(call: &FunctionCall) -> FunctionCall
-    ensures { result ≡ call.now }
-{
-    FunctionCall {
-        function: call.function,
-        words: call.words.copied(),
-        reducers: call.reducers.copied(),
-        result: call.result,
+    match ask.in_full() {
+        Ask::Invoke(_, callee) => Some(callee),
+        _ => None,
     }
 }
 

@@ -50,7 +50,7 @@ fn laid(
     ensures few { IfOk result (λ r. HasFew r) }
 {
     let _ = run;
-    let mut frames = Vec::new(alloc);
+    let mut frames = Vec::with_capacity(alloc, planned.len())?;
     frames.push(of_root(alloc, program)?)?;
     'each: for place in 1..planned.len() {
         frames.push(of_body(alloc, program, planned[place].body)?)?;

@@ -13,7 +13,7 @@ ghost use Rattle.cilk_shared.specs.Rows.{spanned};
 use crate::key::StoryKey;
 use crate::taken::Taken;
 use crate::view::View;
-use crate::words::{first_words, last_values};
+use crate::words::last_values;
 use atomic_table::{Join, Play, Seat, Split, Table, TableRule};
 use cilk_plan::plan::Plan;
 use cilk_types::event::{Cell, Pos};
@@ -86,7 +86,7 @@ impl Join<View> for Halves {
 pub struct Yard {
     table: Table<(), View, StoryKey, Words, Global>,
     cells: usize,
-    resumptions: Vec<Option<Pos>>,
+    resumptions: Vec<Pos>,
 }
 
 impl Model for Yard {
@@ -138,9 +138,8 @@ impl Yard {
         plan.laws();
         let cells = plan.opening().len();
         let resumptions = plan.resumptions(alloc)?;
-        let words = first_words(alloc, plan)?;
         let key = StoryKey::of(input);
-        let (table, seat) = Table::of_words(alloc, words.as_slice(), &key)?;
+        let (table, seat) = Table::of_words(alloc, plan.first_words(), &key)?;
         let yard = Yard {
             table,
             cells,
@@ -231,7 +230,8 @@ impl Yard {
     pub fn resumption(&self, ticket: Pos) -> Option<Pos>
         ensures { (p : ℕ) → (result ≡ Some p) ↔ (what self.now.story p ≡ resume ticket) }
     {
-        entry(self.resumptions.as_slice(), ticket as usize)
+        let at = entry(self.resumptions.as_slice(), ticket as usize);
+        if at == 0 { None } else { Some(at) }
     }
 
     /// Ends the run, where the segment's next event is the root's `end`.
@@ -340,13 +340,13 @@ impl Yard {
     }
 }
 
-// What a column has at a place; nothing past its end.
-fn entry(column: &[Option<Pos>], place: usize) -> Option<Pos>
-    ensures { result ≡ slice_index_or column.now place None }
+// What a column has at a place; 0 past its end.
+fn entry(column: &[Pos], place: usize) -> Pos
+    ensures { result ≡ slice_index_or column.now place 0 }
 {
     match column.get(place) {
         Some(at) => *at,
-        None => None,
+        None => 0,
     }
 }
 
@@ -375,7 +375,7 @@ fn span(from: Pos, upto: Pos, begin: Pos, end: Pos) -> (Pos, Pos)
 impl Segment {
     ghost use Rattle.cilk_story.specs.Runs.{IsAsked, IsFollowed, Departs};
     ghost use Rattle.cilk_story.specs.Word.{event};
-    ghost use Rattle.std.specs.Prelude.{◌≢◌};
+    ghost use Rattle.std.specs.Prelude.{◌≢◌, ◌-◌};
     ghost use Rattle.cilk_types.specs.declared.event.Event.TheVariants.{Sync};
     ghost use Rattle.cilk_shared.specs.Values.{OfYard, CanPass, MayPass, HoldsPreceding, IsAhead, moved_on};
 
@@ -444,6 +444,14 @@ impl Segment {
             return false;
         }
         self.holds_preceding(plan)
+    }
+
+    /// The run follows the plan up to the segment's last event.
+    pub fn has_followed(&self)
+        requires { self.now.from < self.now.upto }
+        ensures { IsFollowed self.now.story (self.now.upto - 1) }
+    {
+        let _from = self.from;
     }
 
     /// Where the frame asks for the next event, and that is no `sync`, the run follows the plan there.

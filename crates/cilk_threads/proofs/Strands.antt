@@ -8,8 +8,7 @@ use Rattle.cilk_tree.specs.Marks.{mark_of, begun_by}
 use Rattle.cilk_plan.specs.declared.kind.Kind.{Kind}
 use Rattle.cilk_plan.specs.declared.kind.Kind.TheVariants as kinds
 use Rattle.cilk_plan.specs.Kinds.{kind_of}
-use Rattle.cilk_plan.specs.Strands.{BeginsStrand}
-use Rattle.cilk_workers.specs.Gates.{AreFirsts}
+use Rattle.cilk_plan.specs.Strands.{AreFirsts, BeginsStrand}
 
 -- how many strands an event of this kind begins
 abbrev begun : Kind → ℕ

@@ -1,7 +1,7 @@
 //! A run of an accepted program by several workers, each in a thread of its own.
 //!
 //! [`threads::run_threads`] runs a program's plan on an input, that of the plan or another. Its Ok is what the program leaves on that
-//! input. [`places`] finds in the plan where blocks and strands lie.
+//! input.
 //!
 //! ```text
 //! let plan = plan(alloc, &accepted)?;
@@ -13,5 +13,4 @@
 //! ```
 #![tactic(auto)]
 
-pub mod places;
 pub mod threads;

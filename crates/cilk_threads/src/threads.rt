@@ -1,6 +1,6 @@
 //! A run of an accepted program by several workers, on an input.
 
-ghost use Rattle.std.specs.Prelude.{◌≡◌, All, Some, IfOk, IfErr};
+ghost use Rattle.std.specs.Prelude.{◌≡◌, IfOk, IfErr};
 ghost use Rattle.cilk_courses.specs.Courses.{IsCourseOn};
 ghost use Rattle.cilk_pieces.specs.Reducers.{HasFew};
 ghost use Rattle.cilk_plan.specs.Along.{IsAlong};
@@ -8,13 +8,9 @@ ghost use Rattle.cilk_planning.specs.Plans.{IsStoryOn};
 ghost use Rattle.cilk_program.specs.Sources.{source};
 ghost use Rattle.cilk_settling.specs.Accepted.{IsTableOf};
 ghost use Rattle.cilk_shared.specs.Values.{OfYard};
-ghost use Rattle.cilk_story.specs.Word.{event};
-ghost use Rattle.cilk_types.specs.declared.event.Event.TheVariants.{Sync};
-ghost use Rattle.cilk_workers.specs.Gates.{AreFirsts};
 ghost use Rattle.cilk_crew.specs.Faults.{IsCrew};
 ghost use Rattle.cilk_threads.specs.Outcomes.{IsFaultOn, IsOutcomeOn, IsWholeOf, NamesNoPosition};
 
-use crate::places::{Places, places_of};
 use cilk_chains::course::Course;
 use cilk_courses::course::course;
 use cilk_crew::layout::Layout;
@@ -61,9 +57,6 @@ pub fn run_threads<R: Threads + Wait + Sync, G: Gate + Sync>(
     if workers == 0 || workers > MAX_WORKERS {
         return Err(ThreadFault::Workers);
     }
-    let Ok(places) = places_of(alloc, plan) else {
-        return Err(ThreadFault::Memory);
-    };
     let Ok(table) = plan_reducers(alloc, plan) else {
         return Err(ThreadFault::Memory);
     };
@@ -71,7 +64,7 @@ pub fn run_threads<R: Threads + Wait + Sync, G: Gate + Sync>(
         return Err(ThreadFault::Memory);
     };
     match run_on(
-        rt, alloc, plan, input, &places, &table, &yard, segment, workers, gate,
+        rt, alloc, plan, input, &table, &yard, segment, workers, gate,
     ) {
         Ok((piece, value)) => match left(alloc, plan, input, yard, piece, value) {
             Ok(outcome) => Ok(outcome),
@@ -87,7 +80,6 @@ fn run_on<R: Threads + Wait + Sync, G: Gate + Sync>(
     alloc: Global,
     plan: &ProgramPlan<'_>,
     input: &Input,
-    places: &Places,
     table: &Reducers,
     yard: &Yard,
     segment: Segment,
@@ -95,8 +87,6 @@ fn run_on<R: Threads + Wait + Sync, G: Gate + Sync>(
     gate: &G,
 ) -> Result<(Piece, i64), ThreadFault>
     requires crew { IsCrew workers }
-    requires syncs { All (λ at. event plan.now.story at ≡ Some Sync) places.now.syncs.items }
-    requires strands { AreFirsts plan.now.story.events places.now.strands.items }
     requires table { IsTableOf plan.now.run table.now × HasFew table.now }
     requires story { IsStoryOn plan.now.run plan.now.story.opening input.now yard.now.story }
     requires along { IsAlong plan.now.story yard.now.story }
@@ -116,9 +106,9 @@ fn run_on<R: Threads + Wait + Sync, G: Gate + Sync>(
         return Err(ThreadFault::Memory);
     };
     let layout = Layout {
-        syncs: places.syncs.as_slice(),
-        of: places.of.as_slice(),
-        strands: places.strands.as_slice(),
+        syncs: plan.syncs(),
+        of: plan.blocks(),
+        strands: plan.strands(),
     };
     run(rt, alloc, &shared, &layout, gate, work, workers)
 }

@@ -35,18 +35,17 @@ pub fn first(alloc: Global, shared: &Shared<'_>, piece: Piece) -> Result<Work, A
     Ok(Work { piece, chain })
 }
 
-// The frame asks for something else than the plan has. Behind a spawn that it asked for a frame asks for its `resume`, so the turn doesn't
-// stop there; that isn't proved.
+// The frame asks for something else than the plan has. That is no `resume` after a spawn, which the frame asked for.
 fn departed(shared: &Shared<'_>, work: &Work) -> Turn
     requires works { Works shared.now work.now }
     requires within { work.now.piece.upto ≤ length (story_in shared.now).events }
     requires differs { IsAsked (story_in shared.now) work.now.piece.upto → ⊥ }
     ensures { Turned shared.now work.now.piece.from work.now result }
 {
-    if shared.resumed_by(work.piece.upto()).is_some() {
-        return Turn::Stopped;
-    }
-    Turn::Departed(work.piece.segment().departs(shared.yard()))
+    shared.course().resumes();
+    let segment = work.piece.segment();
+    segment.has_followed();
+    Turn::Departed(segment.departs(shared.yard()))
 }
 
 // A `resume`, after a spawn or after a call.

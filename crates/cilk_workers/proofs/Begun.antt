@@ -3,8 +3,8 @@ use Rattle.std.proofs.Common.{◌≡◌, ℕ, ◌+◌, ◌<◌, ◌≤◌, List,
 use Rattle.cilk_types.specs.declared.event.Event.{Event}
 use Rattle.cilk_shared.specs.Values.{SegmentValue}
 use Rattle.cilk_story.specs.declared.story.Story.{Story}
-use Rattle.cilk_plan.specs.Strands.{BeginsStrand}
-use Rattle.cilk_workers.specs.Gates.{AreFirsts, EndsWithFirst}
+use Rattle.cilk_plan.specs.Strands.{AreFirsts, BeginsStrand}
+use Rattle.cilk_workers.specs.Gates.{EndsWithFirst}
 
 pub begins : (s : Story) (strands : List ℕ) (g : SegmentValue) (p n : ℕ) → AreFirsts s.events strands → g.story ≡ s → n ≡ slice_index_or strands p 0 → 0 < n → p + 1 ≡ g.upto → g.from ≤ p → EndsWithFirst g n
 begins s strands g p n firsts same is some at inside = (p, at, inside, subst (λ (z : Story × ℕ). (let t = z.0 in BeginsStrand t.events z.1 p)) (λ i. (sym same i, sym is i)) (firsts p (subst (λ m. 0 < m) is some)))

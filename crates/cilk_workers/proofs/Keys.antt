@@ -4,7 +4,7 @@
 -- - `doors_more`: one lock more, with its key;
 -- - `keys_more`, `keys_all`: one key more of the locks that are there; all of them;
 -- - `key_at`, `sync_at`: the key, and the `sync`, at a place.
-use Rattle.std.proofs.Common.{◌≡◌, ◌<◌, ◌≤◌, ℕ, zero, suc, List, [], ◌∷◌, ◌++◌, length, slice_index, slice_index_or, slice_set, take, ◌+◌, Option, Some, refl, sym, ap, ◌∙◌, subst, arith}
+use Rattle.std.proofs.Common.{◌≡◌, ◌<◌, ◌≤◌, ℕ, zero, suc, List, [], ◌∷◌, ◌++◌, length, slice_index, slice_index_or, slice_set, take, ◌+◌, Option, refl, sym, ap, ◌∙◌, subst, arith}
 use Rattle.std.specs.Prelude.{All}
 use Rattle.crossbeam_queue.specs.declared.array_queue.Doing.{Doing}
 use Rattle.crossbeam_queue.specs.declared.array_queue.Slotted.{Slotted}

@@ -80,8 +80,8 @@ fn taken_from<N: Naming>(
     requires name { IsName N.run N.course shared.now }
     requires shelf { IsShelf N.run N.course shelf.old }
     requires sync { event (story_in shared.now) sync ≡ Some Sync }
-    ensures shelf { shelf.new ≡ shelf.old }
-    ensures of { LiesOn shelf.old result }
+    ensures shelf { (shelf.new.of ≡ shelf.old.of) × (shelf.new.course ≡ shelf.old.course) }
+    ensures of { LiesOn shelf.old.of shelf.old.course result }
     ensures run { (result.rows.of ≡ shared.now.run) × (result.course ≡ shared.now.course) }
 {
     shelf.take(

@@ -2,7 +2,8 @@
 
 ghost use Rattle.std.specs.Prelude.{◌≡◌, slice_index_or};
 ghost use Rattle.cilk_boxes.specs.Rows.{IsGood};
-ghost use Rattle.cilk_workers.specs.Gates.{AreFirsts, EndsWithFirst};
+ghost use Rattle.cilk_plan.specs.Strands.{AreFirsts};
+ghost use Rattle.cilk_workers.specs.Gates.{EndsWithFirst};
 
 use cilk_pieces::piece::Piece;
 use cilk_shared::yard::Segment;

@@ -5,7 +5,7 @@ ghost use Rattle.cilk_boxes.specs.Rows.{IsGood};
 ghost use Rattle.cilk_chains.specs.Chains.{standing};
 ghost use Rattle.cilk_racks.specs.Racks.{Of};
 ghost use Rattle.cilk_turns.specs.Turns.{HasEnded, Works};
-ghost use Rattle.cilk_workers.specs.Gates.{AreFirsts};
+ghost use Rattle.cilk_plan.specs.Strands.{AreFirsts};
 ghost use Rattle.cilk_workers.specs.Hands.{IsHand};
 ghost use Rattle.cilk_workers.specs.Keys.{AreKeys, AreSyncs};
 ghost use Rattle.cilk_workers.specs.Names.{IsName};

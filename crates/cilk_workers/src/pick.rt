@@ -3,7 +3,7 @@
 ghost use Rattle.std.specs.Prelude.{◌≡◌, ◌≤◌, IfSome};
 ghost use Rattle.cilk_boxes.specs.Rows.{OfRun};
 ghost use Rattle.cilk_racks.specs.Racks.{Of};
-ghost use Rattle.cilk_workers.specs.Gates.{AreFirsts};
+ghost use Rattle.cilk_plan.specs.Strands.{AreFirsts};
 ghost use Rattle.cilk_workers.specs.Hands.{IsHand};
 ghost use Rattle.cilk_workers.specs.Keys.{AreKeys, AreSyncs};
 ghost use Rattle.cilk_workers.specs.Names.{IsName};

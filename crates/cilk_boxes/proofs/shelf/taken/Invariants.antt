@@ -1,7 +1,12 @@
+use Rattle.std.proofs.Common.{◌≡◌, ◌≢◌, ◌<◌, ℕ, get_or}
 use Rattle.std.specs.Prelude.{All}
+use Rattle.cilk_boxes.specs.Boxes.{BoxValue}
 use Rattle.cilk_boxes.specs.Rows.{run_of}
-use Rattle.cilk_boxes.specs.Shelves.{LiesOn, shelf}
+use Rattle.cilk_boxes.specs.Shelves.{LiesOn}
 use Rattle.cilk_boxes.proofs.shelf.taken.Given as goal
 
 abbrev pub invariant-each : goal.invariant-each
-invariant-each l = All (LiesOn (shelf (run_of l.yard l.reducers) l.course)) l.boxes.items
+invariant-each l =
+    All (LiesOn (run_of l.yard l.reducers) l.course) l.boxes.items
+    × (l.boxes.items ≡ l.fn.boxes.items)
+    × ((k : ℕ) (d : BoxValue) → k < l.at → (let b = get_or l.boxes.items k d in b.sync ≢ l.sync))

@@ -11,7 +11,7 @@ each-init c =
     let p = c.args.run.now.value.program in
     let same = c.requires.program in (
       laid_begin c.args.program.now p same p.well_named (bodies_in c.args.planned.now) c.push.new.self.items c.in_ok-of_root.field-0
-          (c.in_ok-push.ensures.items ∙ ap (λ (l : List FrameReducers). l ++ c.in_ok-of_root.field-0 ∷ []) c.new-frames.ensures.items) c.in_ok-of_root.ensures,
+          (c.in_ok-push.ensures.items ∙ ap (λ (l : List FrameReducers). l ++ c.in_ok-of_root.field-0 ∷ []) c.in_ok-frames.ensures.items) c.in_ok-of_root.ensures,
       same,
     )
 

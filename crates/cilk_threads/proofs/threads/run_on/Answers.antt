@@ -1,4 +1,4 @@
-use Rattle.std.proofs.Common.{◌≡◌, ℕ, List, [], Some, refl, sym, ap, subst}
+use Rattle.std.proofs.Common.{◌≡◌, [], Some, refl, sym, ap, subst}
 use Rattle.std.specs.Prelude.{All}
 use Rattle.std.proofs.lemmas.Result.{IfOk-weaker, MatchResult-weaker}
 use Rattle.cilk_types.specs.declared.event.Event.TheVariants.{Sync}
@@ -11,7 +11,7 @@ use Rattle.cilk_pieces.specs.Reducers.{events_at}
 use Rattle.cilk_pieces.specs.Settled.{AreSettled}
 use Rattle.cilk_boxes.specs.Rows.{OfRun, run_of}
 use Rattle.cilk_turns.specs.Shared.{SharedValue}
-use Rattle.cilk_workers.specs.Gates.{AreFirsts}
+use Rattle.cilk_plan.specs.Strands.{AreFirsts}
 use Rattle.cilk_crew.specs.Faults.{IsTrueFault}
 use Rattle.cilk_threads.proofs.Cells.{cells_along}
 use Rattle.cilk_threads.proofs.Strands.{firsts_along}
@@ -52,14 +52,14 @@ first-requires g c =
 pub run-requires-clause-syncs : goal.run-requires-clause-syncs
 run-requires-clause-syncs g c =
     λ lives within.
-    subst (λ (z : SharedValue × List ℕ). All (λ at. event z.0.run.story at ≡ Some Sync) z.1) (λ i. (sym c.new-shared.ensures i, sym c.as_slice.ensures.value i))
-    (syncs_along c.args.plan.now.story c.args.yard.now.story c.requires.along c.args.places.now.syncs.items c.requires.syncs)
+    subst (λ (y : SharedValue). All (λ at. event y.run.story at ≡ Some Sync) c.syncs.result.now) (sym c.new-shared.ensures)
+    (syncs_along c.args.plan.now.story c.args.yard.now.story c.requires.along c.syncs.result.now c.syncs.ensures)
 
 pub run-requires-clause-strands : goal.run-requires-clause-strands
 run-requires-clause-strands g c =
     λ lives within.
-    subst (λ (z : SharedValue × List ℕ). AreFirsts z.0.run.story.events z.1) (λ i. (sym c.new-shared.ensures i, sym c.as_slice-3.ensures.value i))
-    (firsts_along c.args.plan.now.story.events c.args.yard.now.story.events (sym c.requires.along.kinds) c.args.places.now.strands.items c.requires.strands)
+    subst (λ (y : SharedValue). AreFirsts y.run.story.events c.strands.result.now) (sym c.new-shared.ensures)
+    (firsts_along c.args.plan.now.story.events c.args.yard.now.story.events (sym c.requires.along.kinds) c.strands.result.now c.strands.ensures)
 
 pub returns-clause-ok : goal.returns-clause-ok
 returns-clause-ok g c =

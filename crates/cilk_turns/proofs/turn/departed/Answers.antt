@@ -1,19 +1,28 @@
-use Rattle.std.proofs.Common.{◌≡◌, ◌<◌, ℕ, Bool, true, false, is_some, Option, Some, sym, ap, ◌∙◌, subst}
-use Rattle.cilk_shared.specs.Values.{SegmentValue}
+use Rattle.std.proofs.Common.{◌≡◌, ◌-◌, ◌<◌, ℕ, sym, subst}
+use Rattle.cilk_chains.specs.Courses.{CourseValue}
+use Rattle.cilk_chains.specs.Resumes.{ResumesAreAsked}
+use Rattle.cilk_shared.specs.Values.{SegmentValue, YardValue}
 use Rattle.cilk_story.specs.declared.story.Story.{Story}
+use Rattle.cilk_story.specs.Runs.{IsFollowed}
 use Rattle.cilk_story.specs.Word.{resume, what}
+use Rattle.cilk_turns.specs.Shared.{story_in}
+use Rattle.cilk_turns.proofs.Due.{off_segment}
 use Rattle.cilk_turns.proofs.turn.departed.Goals as goal
 
-none : (o : Option ℕ) (k : ℕ) (b : Bool) → o ≡ Some k → b ≡ is_some o → b ≡ false → ⊥
-none o k b q e f = let t : is_some o ≡ true = ap is_some q in let z : false ≡ true = sym f ∙ e ∙ t in cc z
+pub has_followed-requires : goal.has_followed-requires
+has_followed-requires c = let works = c.requires.works in subst (λ (g : SegmentValue). g.from < g.upto) (sym c.segment-segment.ensures) works.good.1
 
 pub departs-requires-clause-next : goal.departs-requires-clause-next
 departs-requires-clause-next c =
+    let y = c.args.shared.now in
     let works = c.requires.works in
     let p = c.args.work.now.piece in
-    subst (λ (g : SegmentValue). (g.from < g.upto) × ((k : ℕ) → what g.story g.upto ≡ resume k → ⊥)) (sym c.segment.ensures) (
-      works.good.1,
-      λ k q. none c.resumed_by.result k c.is_some.result
-          ((let r = c.resumed_by.ensures k in r.1) (subst (λ (n : ℕ). what c.args.shared.now.run.story n ≡ resume k) (sym c.upto.ensures) (subst (λ (s : Story). what s p.upto ≡ resume k) works.good.0.1 q)))
-          c.is_some.ensures c.if-is_some.false,
+    let course : ResumesAreAsked (let u = y.course in let z = u.yard in z.story) =
+    subst (λ (u : CourseValue). let z = u.yard in ResumesAreAsked z.story) c.course.ensures.course c.resumes.ensures in
+    let law : ResumesAreAsked (story_in y) = subst (λ (z : YardValue). ResumesAreAsked z.story) c.course.ensures.yard course in
+    let followed : IsFollowed (story_in y) (p.upto - 1) =
+    off_segment (λ (s : Story) (n : ℕ). IsFollowed s (n - 1)) y p _ c.segment-segment.ensures works.good.0 c.has_followed.ensures in (
+      subst (λ (g : SegmentValue). g.from < g.upto) (sym c.segment-segment.ensures) works.good.1,
+      λ k is. c.requires.differs
+          (law.ended k p.upto (off_segment (λ (s : Story) (n : ℕ). what s n ≡ resume k) y p _ c.segment-segment.ensures works.good.0 is) followed),
     )

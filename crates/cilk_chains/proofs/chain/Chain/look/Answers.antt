@@ -11,6 +11,7 @@ use Rattle.cilk_chains.specs.contracts.sort.Sort.{the_type}
 use Rattle.cilk_chains.specs.Chains.{ChainValue}
 use Rattle.cilk_chains.specs.Courses.{CourseValue, IsBodyOf}
 use Rattle.cilk_chains.specs.declared.home.Home.{Home}
+use Rattle.cilk_chains.specs.declared.level.Level.{Level}
 use Rattle.cilk_chains.specs.declared.home.ReducerNumber.{ReducerNumber}
 use Rattle.cilk_chains.specs.Reducing.{reducer_asked}
 use Rattle.cilk_chains.specs.Sights.{cell_asked}
@@ -23,7 +24,7 @@ pub returns-then-ne : goal.returns-then-ne
 returns-then-ne c =
     let i = c.self.inside in
     subst (λ (z : ChainValue). IsAsked (along.story_of z.of) z.at → ⊥) c.self.view_is
-    (along.differs_there i.of.value i.of.value refl i.at i.asked i.top i.below.items c.self.invariant c.args.kind
+    (along.differs_there i.of.value i.of.value refl i.at i.asked i.top.value i.below.items c.self.invariant c.args.kind
     (along.of_chain (λ s at. kind_of_event (event s at) ≡ Some c.args.kind) i.of.value i.at c.args.self.now c.self.view_is c.requires.kind)
     (λ q. differs_true the_type c.asked_sort.result c.kind_sort.result (sym c.ne.ensures ∙ c.if-ne.true) (c.asked_sort.ensures ∙ q ∙ sym c.kind_sort.ensures)))
 
@@ -36,12 +37,12 @@ returns-in-Read c =
     let i = c.self.inside in
     let same = ap (λ (v : ChainValue). v.of) c.self.view_is ∙ sym c.requires.course in
     subst (λ (z : ChainValue). Says (along.story_of z.of) z.at c.args.kind c.look_at_cell.result) c.self.view_is
-    (along.looks i.of.value i.of.value refl i.at i.asked i.top i.below.items c.self.invariant c.args.kind
+    (along.looks i.of.value i.of.value refl i.at i.asked i.top.value i.below.items c.self.invariant c.args.kind
     (along.of_chain (λ s at. kind_of_event (event s at) ≡ Some c.args.kind) i.of.value i.at c.args.self.now c.self.view_is c.requires.kind)
     c.in-Read.cell (of_cell c.args.kind c.in-Read.cell c.in-Read.is)
     (sym c.asked_sort.ensures ∙ differs_false the_type (search rules) c.asked_sort.result c.kind_sort.result (sym c.ne.ensures ∙ c.if-ne.false) ∙ c.kind_sort.ensures)
     c.cell_asked.result c.look_at_cell.result
-    (c.cell_asked.ensures ∙ ap (λ (n : ℕ). cell_asked n i.top.sight i.asked) (c.globals.ensures ∙ ap (λ (z : CourseValue). let p = source z.program in length p.openings) (sym same)))
+    (c.cell_asked.ensures ∙ ap₂ (λ (n : ℕ) (l : Level). cell_asked n l.sight i.asked) (c.globals.ensures ∙ ap (λ (z : CourseValue). let p = source z.program in length p.openings) (sym same)) c.deref-level.ensures)
     c.look_at_cell.ensures)
 
 of_child : (k : Kind) (f : ℕ) → (k ≡ kinds.Spawn f) ⊎ (k ≡ kinds.Call f) → IsOfChild f k
@@ -53,7 +54,7 @@ returns-in-Spawn c =
     let i = c.self.inside in
     let same = ap (λ (v : ChainValue). v.of) c.self.view_is ∙ sym c.requires.course in
     subst (λ (z : ChainValue). Says (along.story_of z.of) z.at c.args.kind c.look_at_body.result) c.self.view_is
-    (along.looks_at_child i.of.value i.of.value refl i.at i.asked i.top i.below.items c.self.invariant c.args.kind
+    (along.looks_at_child i.of.value i.of.value refl i.at i.asked i.top.value i.below.items c.self.invariant c.args.kind
     (along.of_chain (λ s at. kind_of_event (event s at) ≡ Some c.args.kind) i.of.value i.at c.args.self.now c.self.view_is c.requires.kind)
     c.in-Spawn.child (of_child c.args.kind c.in-Spawn.child c.in-Spawn.is)
     (sym c.asked_sort.ensures ∙ differs_false the_type (search rules) c.asked_sort.result c.kind_sort.result (sym c.ne.ensures ∙ c.if-ne.false) ∙ c.kind_sort.ensures)
@@ -70,12 +71,12 @@ pub returns-in-Create : goal.returns-in-Create
 returns-in-Create c =
     let i = c.self.inside in
     subst (λ (z : ChainValue). Says (along.story_of z.of) z.at c.args.kind c.look_at_reducer.result) c.self.view_is
-    (along.looks_at_reducer i.of.value i.of.value refl i.at i.asked i.top i.below.items c.self.invariant c.args.kind
+    (along.looks_at_reducer i.of.value i.of.value refl i.at i.asked i.top.value i.below.items c.self.invariant c.args.kind
     (along.of_chain (λ s at. kind_of_event (event s at) ≡ Some c.args.kind) i.of.value i.at c.args.self.now c.self.view_is c.requires.kind)
     c.in-Create.instance (of_reducer c.args.kind c.in-Create.instance c.in-Create.is)
     (sym c.asked_sort.ensures ∙ differs_false the_type (search rules) c.asked_sort.result c.kind_sort.result (sym c.ne.ensures ∙ c.if-ne.false) ∙ c.kind_sort.ensures)
     c.reducer_asked.result c.look_at_reducer.result
-    (c.reducer_asked.ensures ∙ ap₂ (λ (h : List Home) (g : List ReducerNumber). reducer_asked h g i.asked) c.deref.ensures.value c.deref-in-Create.ensures.value) c.look_at_reducer.ensures)
+    (c.reducer_asked.ensures ∙ ap₂ (λ (h : List Home) (g : List ReducerNumber). reducer_asked h g i.asked) (c.deref.ensures.value ∙ ap (λ (l : Level). let s = l.sight in s.homes.items) c.deref-level.ensures) (c.deref-in-Create.ensures.value ∙ ap (λ (l : Level). let s = l.sight in s.given.items) c.deref-level.ensures)) c.look_at_reducer.ensures)
 
 nothing : (k j : Kind) → k ≡ j → NamesNothing (sort_of j) → NamesNothing (sort_of k)
 nothing k j q h = subst (λ (z : Kind). NamesNothing (sort_of z)) (sym q) h
@@ -91,7 +92,7 @@ pub returns-in-Begin : goal.returns-in-Begin
 returns-in-Begin c =
     let i = c.self.inside in
     subst (λ (z : ChainValue). IsAsked (along.story_of z.of) z.at) c.self.view_is
-    (along.asked_there i.of.value i.of.value refl i.at i.asked i.top i.below.items c.self.invariant c.args.kind
+    (along.asked_there i.of.value i.of.value refl i.at i.asked i.top.value i.below.items c.self.invariant c.args.kind
     (along.of_chain (λ s at. kind_of_event (event s at) ≡ Some c.args.kind) i.of.value i.at c.args.self.now c.self.view_is c.requires.kind)
     (sym c.asked_sort.ensures ∙ differs_false the_type (search rules) c.asked_sort.result c.kind_sort.result (sym c.ne.ensures ∙ c.if-ne.false) ∙ c.kind_sort.ensures)
     (subst NamesNothing (sym (differs_false the_type (search rules) c.asked_sort.result c.kind_sort.result (sym c.ne.ensures ∙ c.if-ne.false) ∙ c.kind_sort.ensures) ∙ c.asked_sort.ensures)

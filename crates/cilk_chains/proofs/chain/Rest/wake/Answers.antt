@@ -3,17 +3,17 @@ use Rattle.cilk_chains.specs.Chains.{ChainValue}
 use Rattle.cilk_chains.proofs.Along as along
 use Rattle.cilk_chains.proofs.chain.Rest.wake.Goals as goal
 
-pub step-requires-clause-runs : goal.step-requires-clause-runs
-step-requires-clause-runs c =
+pub go_on-requires-clause-runs : goal.go_on-requires-clause-runs
+go_on-requires-clause-runs c =
     let same = ap (λ (v : ChainValue). v.of) c.self.view_is ∙ sym c.requires in
-    along.rest_runs c.self.inside.of.value c.args.course.now same c.self.inside.at c.self.inside.top c.self.inside.below.items c.self.invariant
+    along.rest_runs c.self.inside.of.value c.args.course.now same c.self.inside.at c.self.inside.top.value c.self.inside.below.items c.self.invariant
 
-pub step-requires-clause-fits : goal.step-requires-clause-fits
-step-requires-clause-fits c =
+pub go_on-requires-clause-fits : goal.go_on-requires-clause-fits
+go_on-requires-clause-fits c =
     let same = ap (λ (v : ChainValue). v.of) c.self.view_is ∙ sym c.requires in
-    along.rest_fits c.self.inside.of.value c.args.course.now same c.self.inside.at c.self.inside.top c.self.inside.below.items c.self.invariant
+    along.rest_fits c.self.inside.of.value c.args.course.now same c.self.inside.at c.self.inside.top.value c.self.inside.below.items c.self.invariant
 
 pub invariant_of-result : goal.invariant_of-result
 invariant_of-result c =
     let same = ap (λ (v : ChainValue). v.of) c.self.view_is ∙ sym c.requires in
-    along.woken c.self.inside.of.value c.args.course.now same c.self.inside.at c.self.inside.top c.self.inside.below.items c.self.invariant c.step.new.asked c.step.new.self c.step.ensures.sight c.step.ensures.asks
+    along.woken c.self.inside.of.value c.args.course.now same c.self.inside.at c.self.inside.top.value c.self.inside.below.items c.self.invariant c.go_on.new.asked c.go_on.new.frame.value c.go_on.ensures.sight c.go_on.ensures.asks

@@ -1,4 +1,5 @@
-use Rattle.std.proofs.Common.{◌≡◌, ◌-◌, All, ◌≤◌, true, false, List, length, map, slice_index_or, sym, subst}
+use Rattle.std.proofs.Common.{◌≡◌, ◌-◌, ◌+◌, ◌++◌, ◌∙◌, All, ℕ, ℤ, ◌≤◌, true, false, List, length, map, replicate, slice_index_or, sym, ap₂, subst}
+use Rattle.cilk_story.specs.Word.{word}
 use Rattle.cilk_types.specs.declared.event.Event.{Event}
 use Rattle.cilk_types.specs.declared.limits.TheConstants.{MAX_EVENTS}
 use Rattle.cilk_story.specs.Orders.{IsOrderly}
@@ -19,8 +20,8 @@ frames-requires c = begins c.requires.shape c.args.trace.now c.requires.spells
 pub invariant_of-result : goal.invariant_of-result
 invariant_of-result c =
     let opening = c.args.opening.items in
-    let Goal : List Event → Type 0 = λ es. IsOrderly (planned es opening) × HasValues (planned es opening) × (c.in_ok-kinds.kinds.items ≡ map kind_of es) × (length es ≤ MAX_EVENTS) × (c.in_ok-earliest.earliest.items ≡ all_earliest es) × AreFrames es c.in_ok-frames.frames.items in
-    let h : Goal c.args.trace.now = (orderly c.args.trace.now opening c.requires, valued c.args.trace.now opening c.requires c.events_of_words.ensures (subst (All (FitsSigned w64)) c.as_slice.ensures.value c.words.ensures), c.in_ok-kinds.ensures, c.requires.few_events, c.in_ok-earliest.ensures, c.in_ok-frames.ensures) in
+    let Goal : List Event → Type 0 = λ es. IsOrderly (planned es opening) × HasValues (planned es opening) × (c.in_ok-kinds.kinds.items ≡ map kind_of es) × (length es ≤ MAX_EVENTS) × (c.in_ok-earliest.earliest.items ≡ all_earliest es) × AreFrames es c.in_ok-frames.frames.items × (c.in_ok-words.words.items ≡ map word opening ++ replicate (length es + 1) 0) in
+    let h : Goal c.args.trace.now = (orderly c.args.trace.now opening c.requires, valued c.args.trace.now opening c.requires c.events_of_words.ensures (subst (All (FitsSigned w64)) c.as_slice.ensures.value c.words.ensures), c.in_ok-kinds.ensures, c.requires.few_events, c.in_ok-earliest.ensures, c.in_ok-frames.ensures, c.in_ok-words.ensures ∙ ap₂ (λ (values : List ℤ) (n : ℕ). map word values ++ replicate (n + 1) 0) c.as_slice-2.ensures.value c.len.ensures.events) in
     subst Goal (sym c.of.ensures) h
 
 pub returns-clause-asked : goal.returns-clause-asked

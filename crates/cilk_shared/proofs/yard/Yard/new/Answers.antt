@@ -1,4 +1,4 @@
-use Rattle.std.proofs.Common.{◌≡◌, ℕ, ◌+◌, ◌^◌, ◌<◌, ℤ, List, [], ◌++◌, Option, length, map, replicate, sym, ap, ◌∙◌, subst, arith, length-append}
+use Rattle.std.proofs.Common.{◌≡◌, ℕ, ◌+◌, ◌^◌, ◌<◌, ℤ, List, [], ◌++◌, length, map, replicate, sym, ap, ◌∙◌, subst, arith, length-append}
 use Rattle.std.proofs.lemmas.List.{length-replicate, length-map}
 use Rattle.cilk_story.specs.declared.story.Story.{Story}
 use Rattle.cilk_story.specs.Word.{word}
@@ -18,7 +18,7 @@ use Rattle.cilk_shared.proofs.yard.Yard.new.Goals as goal
 orderly : (plan s : Story) → IsOrderly plan → IsAlong plan s → IsOrderly s
 orderly plan s law along = along_orderly plan s law along
 
-resumptions : (plan s : Story) → IsAlong plan s → (column : List (Option ℕ)) → AreResumptions plan column → AreResumptions s column
+resumptions : (plan s : Story) → IsAlong plan s → (column : List ℕ) → AreResumptions plan column → AreResumptions s column
 resumptions plan s along column h k p =
     let r = same_resume plan s along p k in (λ e. r.1 ((h k p).0 e), λ w. (h k p).1 (r.0 w))
 
@@ -31,8 +31,8 @@ pub of_words-requires : goal.of_words-requires
 of_words-requires g c =
     let plan : Story = c.args.plan.now in
     let s : Story = g.along c.args.input.now in
-    let ws : List ℕ = c.as_slice.result.now in
-    let at : ws ≡ map word s.opening ++ replicate (length s.events + 1) 0 = words_of plan s c.requires.0 ws (c.as_slice.ensures.value ∙ c.in_ok-words.ensures) in
+    let ws : List ℕ = c.first_words.result.now in
+    let at : ws ≡ map word s.opening ++ replicate (length s.events + 1) 0 = words_of plan s c.requires.0 ws c.first_words.ensures in
     subst (λ (z : Story). Kept z (opening ws [] (view z 1 2))) (sym c.of-key.ensures) (starts s (orderly plan s c.laws.ensures.order c.requires.0) ws at)
 
 pub invariant_of-yard : goal.invariant_of-yard
@@ -41,8 +41,8 @@ invariant_of-yard g c =
     let plan : Story = c.args.plan.now in
     let s : Story = g.along c.args.input.now in
     let law = orderly plan s c.laws.ensures.order c.requires.0 in
-    let ws : List ℕ = c.as_slice.result.now in
-    let at : ws ≡ map word s.opening ++ replicate (length s.events + 1) 0 = words_of plan s c.requires.0 ws (c.as_slice.ensures.value ∙ c.in_ok-words.ensures) in
+    let ws : List ℕ = c.first_words.result.now in
+    let at : ws ≡ map word s.opening ++ replicate (length s.events + 1) 0 = words_of plan s c.requires.0 ws c.first_words.ensures in
     let all = ap length at ∙ length-append (map word s.opening) (replicate (length s.events + 1) 0) in
     let one = length-map s.opening word in
     let two = length-replicate {A = ℕ} (length s.events + 1) 0 in
