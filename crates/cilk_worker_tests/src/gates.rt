@@ -1,35 +1,68 @@
-//! Gates that count the strands that have begun, and gates that hold strands.
+//! Gates that count how often each strand has begun, and gates that hold strands.
 
 use cilk_shared::yard::Segment;
 use cilk_types::event::StrandNo;
 use cilk_workers::gate::Gate;
+use std::alloc::{AllocError, Global};
 use std::hint::spin_loop;
 use std::sync::atomic::{AtomicBool, AtomicU64, Ordering};
 
 // The most turns for which a strand is held.
 const MOST_TURNS: u32 = 20_000_000;
 
-/// Counts the strands that have begun.
+/// Counts how often each strand of a plan has begun.
 #[derive(Drop)]
 pub struct Counting {
-    strands: AtomicU64,
+    // How often each strand has begun, by its number.
+    begun: Vec<AtomicU64>,
+    // How often others have, that the plan does not have.
+    others: AtomicU64,
 }
 
 impl Counting {
-    pub fn new() -> Counting {
-        Counting {
-            strands: AtomicU64::new(0),
+    /// Counts the strands of a plan that has so many.
+    pub fn new(alloc: Global, strands: u64) -> Result<Counting, AllocError> {
+        let mut begun = Vec::new(alloc);
+        for _ in 0..strands {
+            begun.push(AtomicU64::new(0))?;
         }
+        Ok(Counting {
+            begun,
+            others: AtomicU64::new(0),
+        })
     }
 
-    pub fn count(&self) -> u64 {
-        self.strands.load(Ordering::SeqCst)
+    /// How many strands of the plan have begun so often.
+    pub fn count(&self, times: u64) -> u64 {
+        let mut count: u64 = 0;
+        for begun in self.begun.as_slice() {
+            if begun.load(Ordering::SeqCst) == times {
+                count = count.saturating_add(1);
+            }
+        }
+        count
+    }
+
+    /// How often strands have begun that the plan does not have.
+    pub fn others(&self) -> u64 {
+        self.others.load(Ordering::SeqCst)
+    }
+
+    // What counts a strand. Strands are numbered from 1.
+    fn times(&self, strand: StrandNo) -> &AtomicU64 {
+        if strand == 0 {
+            return &self.others;
+        }
+        match self.begun.get(strand as usize - 1) {
+            Some(times) => times,
+            None => &self.others,
+        }
     }
 }
 
 impl Gate for Counting {
-    fn at(&self, _worker: u32, _strand: StrandNo, _segment: &Segment) {
-        self.strands.fetch_add(1, Ordering::SeqCst);
+    fn at(&self, _worker: u32, strand: StrandNo, _segment: &Segment) {
+        self.times(strand).fetch_add(1, Ordering::SeqCst);
     }
 }
 

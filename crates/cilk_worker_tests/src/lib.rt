@@ -2,8 +2,9 @@
 //!
 //! [`texts`] makes accepted programs from texts, and [`shown`] tells in lines what a run leaves, or why it has no
 //! outcome. [`cases`] has programs with what they leave, [`runs`] runs each by 1, 2, 4 and 8 workers, as often as a
-//! constant says, and [`holds`] holds strands until others have begun, by a gate of [`gates`]. [`waits`] ends the test
-//! where runs don't end in time.
+//! constant says, and two by 9 and 64 workers; a run begins each strand once, which a gate of [`gates`] counts.
+//! [`holds`] holds strands until others have begun, by another gate. [`waits`] ends the test where runs don't end in
+//! time.
 #![tactic(auto)]
 
 #[cfg(test)]

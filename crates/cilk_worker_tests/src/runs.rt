@@ -17,6 +17,12 @@ use std::thread::Threads;
 // The numbers of workers by which a case is run.
 const CREWS: [u32; 4] = [1, 2, 4, 8];
 
+// Larger numbers of workers, by which few cases are run, and seldom.
+const LARGE_CREWS: [u32; 2] = [9, 64];
+
+// How often a large number of workers runs a case.
+const FEW_TIMES: u32 = 3;
+
 // Numbers of workers that no run has.
 const NO_CREWS: [u32; 2] = [0, 65];
 
@@ -39,6 +45,16 @@ fn whole(case: &Case) -> Series {
         case: *case,
         crews: &CREWS,
         times: TIMES,
+        is_whole: true,
+    }
+}
+
+// The runs of a case whose runs end, by many workers.
+fn by_many(case: &Case) -> Series {
+    Series {
+        case: *case,
+        crews: &LARGE_CREWS,
+        times: FEW_TIMES,
         is_whole: true,
     }
 }
@@ -76,21 +92,29 @@ fn strands(plan: &ProgramPlan<'_>) -> u64 {
     count
 }
 
-// One run by some workers leaves what is wanted; how many strands its gate sees.
+// One run by some workers leaves what is wanted, and begins no strand twice; how many strands it begins.
 fn strands_of_run<R: Abort + Threads + Wait + Sync>(
     rt: &R,
     alloc: Global,
     plan: &ProgramPlan<'_>,
     input: &Input,
     workers: u32,
+    strands: u64,
     wanted: &str,
 ) -> u64 {
-    let gate = Counting::new();
+    let Ok(gate) = Counting::new(alloc, strands) else {
+        panic!(rt; "no memory for a gate");
+    };
     let Ok(left) = left(rt, alloc, plan, input, workers, &gate) else {
         panic!(rt; "no memory by {workers}");
     };
     assert!(rt; left.as_str() == wanted, "by {workers}: {left}");
-    gate.count()
+    let (once, never) = (gate.count(1), gate.count(0));
+    assert!(rt;
+        gate.others() == 0 && once.saturating_add(never) == strands,
+        "{once} of {strands} strands begin once and {never} never by {workers}"
+    );
+    once
 }
 
 // The runs by some workers.
@@ -105,10 +129,10 @@ fn runs_by<R: Abort + Threads + Wait + Sync>(
     let strands = strands(plan);
     let wanted = series.case.left;
     for _ in 0..series.times {
-        let begun = strands_of_run(rt, alloc, plan, input, workers, wanted);
+        let begun = strands_of_run(rt, alloc, plan, input, workers, strands, wanted);
         assert!(rt;
             begun == strands || !series.is_whole,
-            "{begun} strands by {workers}"
+            "{begun} of {strands} strands by {workers}"
         );
     }
 }
@@ -129,6 +153,18 @@ fn spawned_calls(rt: HostRuntime) -> Result<(), Fail> {
     for case in SPAWNS.as_slice() {
         in_time(&rt, rt.alloc(), &Job::Series(whole(case)));
     }
+    Ok(())
+}
+
+#[test]
+fn spawned_calls_by_many_workers(rt: HostRuntime) -> Result<(), Fail> {
+    in_time(&rt, rt.alloc(), &Job::Series(by_many(&SPAWNS[1])));
+    Ok(())
+}
+
+#[test]
+fn turns_of_loops_by_many_workers(rt: HostRuntime) -> Result<(), Fail> {
+    in_time(&rt, rt.alloc(), &Job::Series(by_many(&REDUCERS[1])));
     Ok(())
 }
 

@@ -11,7 +11,7 @@ use std::thread::Threads;
 use std::time::{Clock, Duration};
 
 // How many seconds the runs of a program are waited for.
-const PATIENCE: u64 = 15;
+const PATIENCE: u64 = 30;
 
 /// Runs of a program, whose ends are waited for.
 #[derive(Clone, Copy)]
