@@ -6,7 +6,7 @@
 -- - `with_run_ok`, `with_run_err`, `beside`: what is shown of the program whose certificate is accepted, over the files as they were;
 -- - `earlier_ok`, `earlier_err`: the same by what was known before its texts were read; `judged_ok`: the answer to the command.
 use Rattle.std.proofs.Common.{◌≡◌, ℕ, List, [], ◌∷◌, Option, Some, None, option_map, refl, sym, ap, subst, inl, inr, ◌∙◌}
-use Rattle.std.specs.Prelude.{◌≢◌, ℤ, Result, Ok, Err, IfOk, IfErr, map}
+use Rattle.std.specs.Prelude.{◌≢◌, ℤ, Result, Ok, Err, IfOk, IfErr}
 use Rattle.std.specs.Borrow.{Bor}
 use Rattle.std.specs.Option.{unwrap_or}
 use Rattle.cilk_checker.specs.Answers.{IsCertified}
@@ -15,21 +15,20 @@ use Rattle.cilk_crew.specs.Faults.{IsCrew}
 use Rattle.cilk_judge.specs.Judging.{Meant, meant}
 use Rattle.cilk_planning.specs.Plans.{IsPlanOf, WholePlan}
 use Rattle.cilk_program.specs.Sources.{source}
-use Rattle.cilk_texts.specs.Inputs.{IsInput}
 use Rattle.cilk_threads.specs.Outcomes.{DepartsOn, IsFaultOn, IsOutcomeOn, NamesNoPosition}
 use Rattle.cilk_crew.specs.declared.run.ThreadFault.{ThreadFault}
 use Rattle.cilk_crew.specs.declared.run.ThreadFault.TheVariants as faults
 use Rattle.cilk_types.specs.declared.outcome.Outcome.{Outcome}
 use Rattle.cilk_tool.specs.Files.{Failures, IsHeld}
-use Rattle.cilk_tool.specs.Replies.{Accepted, Ended, NoMemory, Refused, Reply, Text, answer_view, failure_view}
-use Rattle.cilk_tool.specs.Serving.{AreGiven, FileFails, InputFileFails, Judged, JudgedReply, Surroundings}
-use Rattle.cilk_tool.specs.Shown.{CheckShows, InputFails}
+use Rattle.cilk_tool.specs.Replies.{Ended, NoMemory, Refused, Reply, Text, failure_view}
+use Rattle.cilk_tool.specs.Serving.{AreGiven, InputFileFails, Judged, JudgedReply, Surroundings}
+use Rattle.cilk_tool.specs.Shown.{CheckShows}
 use Rattle.cilk_tool.specs.Words.{Origin}
 use Rattle.cilk_tool.specs.declared.reply.Failure.{Failure}
 use Rattle.cilk_parallel.specs.Endings.{AreNotGiven, IsVerdict, StaysBeside, ending_view}
 use Rattle.cilk_parallel.specs.declared.running.Verdict.{Verdict}
 use Rattle.cilk_parallel.specs.declared.running.Verdict.TheVariants as verdicts
-use Rattle.cilk_parallel.specs.Shown.{AcceptedShow, DepartsFrom, GivesNumbers, IsAcceptedRun, IsUnfailed, IsUnrun, NumbersRefused, NumbersUnread, Ran, RunShows, ThreadsShow, Unaccepted, WithRun, departed, no_crew}
+use Rattle.cilk_parallel.specs.Shown.{AcceptedShow, DepartsFrom, GivesNumbers, IsAcceptedRun, IsUnfailed, NumbersRefused, NumbersUnread, Ran, RunShows, ThreadsShow, Unaccepted, WithRun, departed}
 use Rattle.cilk_parallel.specs.Words.{Requested}
 use Rattle.cilk_parallel.specs.declared.running.Ending.{Ending}
 

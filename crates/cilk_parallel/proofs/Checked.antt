@@ -2,25 +2,20 @@
 --
 -- - `stays`: where it is accepted, no read failed, and what another file holds is still known; `unread`: its file can't be read;
 -- - `refuses`: why it is refused.
-use Rattle.std.proofs.Common.{◌≡◌, ℕ, List, ◌∷◌, Option, Some, None, option_map, drop, refl, sym, ap, ap₂, subst, ◌∙◌}
-use Rattle.std.specs.Prelude.{◌≢◌, ◌<◌, ℤ, Result, Ok, Err, IfErr}
-use Rattle.cilk_checker.specs.Answers.{IsCertified, IsRefusedText, IsUnaccepted}
-use Rattle.cilk_checker.specs.Determinate.{AcceptedRun}
+use Rattle.std.proofs.Common.{◌≡◌, List, Option, refl, sym, ap, subst, ◌∙◌}
+use Rattle.std.specs.Prelude.{◌≢◌, ◌<◌, ℤ}
+use Rattle.cilk_checker.specs.Answers.{IsRefusedText, IsUnaccepted}
 use Rattle.cilk_checker.specs.Numbers.{fields_of, number_of}
 use Rattle.cilk_checker.specs.declared.refusal.Refusal.{Refusal}
 use Rattle.cilk_checker.specs.declared.refusal.Refusal.TheVariants as refusals
 use Rattle.cilk_checker.specs.declared.refusal.Unaccepted.{Unaccepted}
 use Rattle.cilk_checker.specs.declared.refusal.Unaccepted.TheVariants as unaccepted
-use Rattle.cilk_judge.specs.Judging.{Meant, meant}
-use Rattle.cilk_program.specs.Sources.{source}
-use Rattle.cilk_program.specs.declared.program.Program.{Program}
-use Rattle.cilk_tool.specs.Files.{Failures, HasFailed}
-use Rattle.cilk_tool.specs.Replies.{Accepted, NoMemory, Refused, Reply, Text, Unreadable, answer_view, failure_view, places_of}
+use Rattle.cilk_judge.specs.Judging.{Meant}
+use Rattle.cilk_tool.specs.Files.{Failures}
+use Rattle.cilk_tool.specs.Replies.{Accepted, Refused, Reply, Text, Unreadable, answer_view, places_of}
 use Rattle.cilk_tool.specs.Shown.{CheckShows}
 use Rattle.cilk_tool.specs.declared.reply.Answer.{Answer}
-use Rattle.cilk_tool.specs.declared.reply.Failure.{Failure}
-use Rattle.cilk_tool.specs.declared.reply.Failure.TheVariants as failures
-use Rattle.cilk_parallel.specs.Shown.{IsAcceptedRun, IsUnfailed}
+use Rattle.cilk_parallel.specs.Shown.{IsUnfailed}
 use Rattle.cilk_parallel.specs.Sources.{kept_of}
 use Rattle.cilk_parallel.proofs.Kept.{kept_beside}
 

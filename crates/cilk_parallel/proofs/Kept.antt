@@ -2,7 +2,7 @@
 --
 -- - `parted`: texts of one length ahead of others;
 -- - `kept_beside`: where what is kept is the same, no read of another file than the first failed, and what the second holds is still known.
-use Rattle.std.proofs.Common.{◌≡◌, ℕ, List, [], ◌∷◌, ◌++◌, length, Option, Some, None, refl, sym, ap, ap₂, subst, ◌∙◌, arith}
+use Rattle.std.proofs.Common.{◌≡◌, ℕ, List, [], ◌∷◌, ◌++◌, length, Option, Some, None, refl, ap, ap₂, arith}
 use Rattle.cilk_tool.specs.Files.{Failures}
 use Rattle.cilk_tool.specs.Replies.{Text}
 use Rattle.cilk_parallel.specs.Sources.{kept_of, numbers_of, text_ahead}

@@ -2,17 +2,24 @@
 --
 -- - `answered`: what is answered to what the words ask for; `no_words`: to words that ask for nothing;
 -- - `fails`, `ends`: a failure, or an ending, is served; `starved`: a want of memory is;
+-- - `told_status`: the status is that of what was shown; `asked`: words that ask for something aren't words that ask for nothing; `unasked`: words that clap
+--   refuses ask for nothing;
 -- - `sent`, `cut`: a refusal's line goes out, all of it or a beginning.
 use Rattle.std.proofs.Common.{◌≡◌, ℕ, List, [], Bool, true, codes, Option, Some, None, refl, sym, ap, subst, inl, inr, ◌∙◌}
+use Rattle.std.proofs.lemmas.Bool.{true≢false}
+use Rattle.std.specs.Prelude.{IsSome}
 use Rattle.std.specs.Io.KnownBytes.{Appends}
 use Rattle.cilk_tool.specs.Replies.{NoMemory, Refused, Reply, Text, failure_view, line, out_text, refused_line, status_of}
 use Rattle.cilk_tool.specs.Serving.{IsOrNoMemory, ProgramUnread, Shows, ShowsError, Surroundings, Unjudged, WordsFail}
 use Rattle.cilk_tool.specs.Streams.{AppendsFront, AppendsPart}
 use Rattle.cilk_tool.specs.declared.reply.Failure.{Failure}
 use Rattle.cilk_tool.specs.declared.reply.Failure.TheVariants as failures
+use Rattle.cilk_tool.specs.declared.words.WordsFault.{WordsFault}
+use Rattle.cilk_tool.specs.declared.words.WordsFault.TheVariants as faults
+use Rattle.cilk_report.proofs.Replies.{IsUsage}
 use Rattle.cilk_tool.proofs.Replying.{keeps}
 use Rattle.cilk_parallel.specs.Serving.{Answers, ServesThreads}
-use Rattle.cilk_parallel.specs.Words.{Requested, order_in}
+use Rattle.cilk_parallel.specs.Words.{IsWordsFault, Requested, order_in}
 
 no_memory : (w : Surroundings) (asked : Option Requested) → Answers w asked NoMemory
 no_memory w None = tt
@@ -59,6 +66,20 @@ module _ (words : List Text) (w : Surroundings) (status : ℕ) (told : Bool) whe
   pub ends : (wanted : Reply) (o o' e e' : Option Text) → Answers w (order_in words) wanted
       → (r : Reply) × IsOrNoMemory wanted r × Shows r status told o o' e e' → ServesThreads words w status told o o' e e'
   ends wanted o o' e e' h shown = (shown.0, or_no_memory w (order_in words) wanted shown.0 h shown.1, shown.2)
+
+-- the status is that of what was shown
+pub told_status : (words : List Text) (w : Surroundings) (status status' : ℕ) (told : Bool) (o o' e e' : Option Text)
+    → ServesThreads words w status told o o' e e' → status' ≡ status → ServesThreads words w status' told o o' e e'
+told_status words w status status' told o o' e e' h same = subst (λ (s : ℕ). ServesThreads words w s told o o' e e') (sym same) h
+
+-- words that ask for something aren't words that ask for nothing
+pub asked : (asked : Option Requested) (r : Requested) → asked ≡ Some r → asked ≡ None → ⊥
+asked a r some none = true≢false (sym (subst IsSome (sym some ∙ none) refl))
+
+-- words that clap refuses ask for nothing
+pub unasked : (words : List Text) (e : WordsFault) → IsUsage e → IsWordsFault words e → order_in words ≡ None
+unasked words (faults.Usage text) u h = h
+unasked words faults.Memory u h = absurd u
 
 -- all of a refusal's line goes out
 pub sent : (number : ℕ) (places : List ℕ) (text : Text) (o o' e : Option Text) → text ≡ refused_line number places → Appends o o' text

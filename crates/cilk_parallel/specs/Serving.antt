@@ -1,8 +1,8 @@
 -- What `serve_parallel` shows.
-use Rattle.std.specs.Prelude.{◌≡◌, ℕ, Bool, true, false, List, [], ◌∷◌, Option, Some, None, codes}
+use Rattle.std.specs.Prelude.{◌≡◌, ◌<◌, ℕ, Bool, true, false, List, [], ◌∷◌, length, Option, Some, None, codes}
 use Rattle.std.specs.Str.{bytes_eq}
 use Rattle.cilk_measured.specs.Words.{is_measure}
-use Rattle.cilk_report.specs.Explained.{Measures, ServesExplained}
+use Rattle.cilk_report.specs.Explained.{ComesBehind, Measures, ServesExplained, ServesThenExplains, is_about, unflagged}
 use Rattle.cilk_tool.specs.Files.{Failures}
 use Rattle.cilk_tool.specs.Replies.{Reply, Text}
 use Rattle.cilk_tool.specs.Serving.{JudgedReply, Shows, Surroundings, WordsFail, world}
@@ -25,13 +25,33 @@ Answers w (Some asked) r = JudgedReply (ThreadsShow w.files w.failed w.failed' a
 abbrev pub ServesThreads : List Text → Surroundings → ℕ → (is_whole : Bool) → Option Text → Option Text → Option Text → Option Text → Type 0
 ServesThreads words w status is_whole out out' err err' = (r : Reply) × Answers w (order_in words) r × Shows r status is_whole out out' err err'
 
+-- the words of `threads` are answered so, and a text comes on standard error behind it, for which files may be read again
+abbrev pub ThreadsThenExplains : List Text → (Text → Option Text) → Option Text → Failures → ℕ → Option Text → Option Text → Option Text → Option Text → Type 0
+ThreadsThenExplains words files input failed status out out' err err' =
+    (read : Failures) × (middle : Option Text) × (told : Bool) × ServesThreads words (world files input failed read) status told out out' err middle
+    × ComesBehind middle err'
+
+-- What comes of the words of `threads`.
+pub data IsThreadsReply (words : List Text) (files : Text → Option Text) (input : Option Text) (failed failed' : Failures)
+    (status : ℕ) (out out' err err' : Option Text) : Type 0 where
+  -- they are answered
+  Plain : (told : Bool) → ServesThreads words (world files input failed failed') status told out out' err err'
+      → IsThreadsReply words files input failed failed' status out out' err err'
+  -- they ask for nothing, and have `--explain` among them: the others are answered, and then a text comes
+  Explained : order_in words ≡ None → length (unflagged words) < length words
+      → ThreadsThenExplains (unflagged words) files input failed status out out' err err'
+      → IsThreadsReply words files input failed failed' status out out' err err'
+
 -- What comes of a call over what files hold and what standard input gives, with the failed reads before it and at its end.
 pub data ServesParallel (words : List Text) (files : Text → Option Text) (input : Option Text) (failed failed' : Failures)
     (status : ℕ) (out out' err err' : Option Text) : Type 0 where
   -- `threads` is asked for
-  Threads : is_threads words ≡ true → (told : Bool) → ServesThreads words (world files input failed failed') status told out out' err err'
+  Threads : is_threads words ≡ true → IsThreadsReply words files input failed failed' status out out' err err'
+      → (order_in words ≡ None → length (unflagged words) < length words → ThreadsThenExplains (unflagged words) files input failed status out out' err err')
       → ServesParallel words files input failed failed' status out out' err err'
   -- other words are served as `serve_explained` serves them
   Others : is_threads words ≡ false → ServesExplained words files input failed failed' status out out' err err'
       → (tool.order_in words ≡ None → is_measure words ≡ true → Measures words files input failed status out out' err err')
+      → (tool.order_in words ≡ None → is_measure words ≡ false → is_about words ≡ false → length (unflagged words) < length words
+      → ServesThenExplains (unflagged words) files input failed status out out' err err')
       → ServesParallel words files input failed failed' status out out' err err'

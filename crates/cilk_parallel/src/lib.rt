@@ -3,7 +3,8 @@
 //! [`serve_parallel`] is what the program calls. The words `threads PROGRAM CERTIFICATE` ask for a run in parallel: the program, its
 //! input and the certificate are read and judged as `check` does; what it refuses is refused here. An accepted program then runs by
 //! work stealing (`cilk_threads`), on its own input or on that of `--on FILE`, and its outcome is shown as `run` shows one. Where
-//! another input departs from the plan of the certified run, `refused 502` names the position. All other words are served as
+//! another input departs from the plan of the certified run, `refused 502` names the position. With `--explain` among the words the same
+//! comes, and an explanation behind it on standard error. All other words are served as
 //! [`cilk_report::serve_explained`] serves them, by functions that start no thread and don't wait.
 //!
 //! ```text
@@ -12,6 +13,7 @@
 //! ```
 #![tactic(auto)]
 
+mod explaining;
 mod running;
 mod serving;
 mod source;

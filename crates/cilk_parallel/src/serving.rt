@@ -1,15 +1,18 @@
 //! From words to a reply that is shown.
 
-ghost use Rattle.std.specs.Prelude.{◌≡◌, ◌<◌, ◌++◌, IfOk, OnOk, flat_map};
+ghost use Rattle.std.specs.Prelude.{◌≡◌, ◌<◌, ◌++◌, IfOk, None, OnOk, flat_map, length};
+ghost use Rattle.cilk_report.specs.Explained.{unflagged};
 ghost use Rattle.cilk_tool.specs.Replies.{Refused, Reply, failure_view, place_text, refused_line};
-ghost use Rattle.cilk_tool.specs.Serving.{IsOrNoMemory, Shows, WordsFail, world};
+ghost use Rattle.cilk_tool.specs.Serving.{IsOrNoMemory, Shows, WordsFail};
 ghost use Rattle.cilk_tool.specs.Words.{texts};
 ghost use Rattle.cilk_parallel.specs.Endings.{ending_view, place_of};
-ghost use Rattle.cilk_parallel.specs.Serving.{ServesParallel, ServesThreads, is_threads};
+ghost use Rattle.cilk_parallel.specs.Serving.{IsThreadsReply, ServesParallel, ThreadsThenExplains, is_threads};
+ghost use Rattle.cilk_parallel.specs.Words.{order_in};
 
+use crate::explaining::{of_ending, of_fault};
 use crate::running::{Ending, carry_out};
 use crate::words::read;
-use cilk_report::serve_explained;
+use cilk_report::{follow, serve_explained, unflagged};
 use cilk_tool::files::Files;
 use cilk_tool::reply::{Failure, REFUSED, WRONG};
 use cilk_tool::streams::send;
@@ -47,7 +50,7 @@ pub fn serve_parallel<H: Threads + Wait + Sync, F: Files, R: Read, O: Write, E: 
         result (O.contents out.old) (O.contents out.new) (E.contents err.old) (E.contents err.new) }
 {
     if is_threads(words) {
-        serve_threads(rt, alloc, words, files, input, out, err).status
+        serve_threads(rt, alloc, words, files, input, out, err)
     } else {
         serve_explained(alloc, words, files, input, out, err)
     }
@@ -72,18 +75,81 @@ fn serve_threads<H: Threads + Wait + Sync, F: Files, R: Read, O: Write, E: Write
     input: &mut R,
     out: &mut O,
     err: &mut E,
-) -> Served
+) -> u8
     requires { (F.failed files.old).count < 18446744073709551615 }
-    ensures { ServesThreads (texts words.now) (world (F.holds files.old) (R.remaining input.old) (F.failed files.old) (F.failed files.new))
-        result.status result.told (O.contents out.old) (O.contents out.new) (E.contents err.old) (E.contents err.new) }
+    ensures served { IsThreadsReply (texts words.now) (F.holds files.old) (R.remaining input.old) (F.failed files.old) (F.failed files.new)
+        result (O.contents out.old) (O.contents out.new) (E.contents err.old) (E.contents err.new) }
+    ensures explained { order_in (texts words.now) ≡ None → length (unflagged (texts words.now)) < length (texts words.now)
+        → ThreadsThenExplains (unflagged (texts words.now)) (F.holds files.old) (R.remaining input.old) (F.failed files.old)
+        result (O.contents out.old) (O.contents out.new) (E.contents err.old) (E.contents err.new) }
 {
     match read(alloc, words) {
         Ok(order) => match carry_out(rt, alloc, &order, files, input) {
-            Ok(ending) => show_ending(alloc, &ending, out, err),
-            Err(failure) => complain(alloc, &failure, err),
+            Ok(ending) => show_ending(alloc, &ending, out, err).status,
+            Err(failure) => complain(alloc, &failure, err).status,
         },
-        Err(WordsFault::Usage(usage)) => complain(alloc, &advised(usage), err),
-        Err(WordsFault::Memory) => complain(alloc, &Failure::Memory, err),
+        Err(WordsFault::Usage(usage)) => {
+            serve_unread(rt, alloc, words, usage, files, input, out, err)
+        }
+        Err(WordsFault::Memory) => complain(alloc, &Failure::Memory, err).status,
+    }
+}
+
+/// Serves words of `threads` that ask for nothing as they stand: without `--explain`, where that is among them.
+fn serve_unread<H: Threads + Wait + Sync, F: Files, R: Read, O: Write, E: Write>(
+    rt: &H,
+    alloc: Global,
+    words: &[&str],
+    usage: String,
+    files: &mut F,
+    input: &mut R,
+    out: &mut O,
+    err: &mut E,
+) -> u8
+    requires room { (F.failed files.old).count < 18446744073709551615 }
+    requires unread { order_in (texts words.now) ≡ None }
+    ensures served { IsThreadsReply (texts words.now) (F.holds files.old) (R.remaining input.old) (F.failed files.old) (F.failed files.new)
+        result (O.contents out.old) (O.contents out.new) (E.contents err.old) (E.contents err.new) }
+    ensures explained { length (unflagged (texts words.now)) < length (texts words.now)
+        → ThreadsThenExplains (unflagged (texts words.now)) (F.holds files.old) (R.remaining input.old) (F.failed files.old)
+        result (O.contents out.old) (O.contents out.new) (E.contents err.old) (E.contents err.new) }
+{
+    match unflagged(alloc, words) {
+        Ok(plain) if plain.len() < words.len() => {
+            serve_flagged(rt, alloc, plain.as_slice(), files, input, out, err)
+        }
+        Ok(_) => complain(alloc, &advised(usage), err).status,
+        Err(_) => complain(alloc, &Failure::Memory, err).status,
+    }
+}
+
+/// Serves the words of `threads`, and then explains what was shown.
+fn serve_flagged<H: Threads + Wait + Sync, F: Files, R: Read, O: Write, E: Write>(
+    rt: &H,
+    alloc: Global,
+    words: &[&str],
+    files: &mut F,
+    input: &mut R,
+    out: &mut O,
+    err: &mut E,
+) -> u8
+    requires { (F.failed files.old).count < 18446744073709551615 }
+    ensures { ThreadsThenExplains (texts words.now) (F.holds files.old) (R.remaining input.old) (F.failed files.old)
+        result (O.contents out.old) (O.contents out.new) (E.contents err.old) (E.contents err.new) }
+{
+    match read(alloc, words) {
+        Ok(order) => match carry_out(rt, alloc, &order, files, input) {
+            Ok(ending) => {
+                let served = show_ending(alloc, &ending, out, err);
+                follow(served, of_ending(alloc, &order, &ending, files), err)
+            }
+            Err(failure) => {
+                let served = complain(alloc, &failure, err);
+                follow(served, of_fault(alloc, &order, &failure, files), err)
+            }
+        },
+        Err(WordsFault::Usage(usage)) => complain(alloc, &advised(usage), err).status,
+        Err(WordsFault::Memory) => complain(alloc, &Failure::Memory, err).status,
     }
 }
 

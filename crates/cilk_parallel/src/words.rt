@@ -12,6 +12,10 @@ use std::alloc::{AllocError, Global};
 // What is said of words that clap matches and that still ask for nothing.
 const NO_ORDER: &str = "error: the number of workers is 1 to 64\n";
 
+// What clap says of the command.
+const THREADS: &str =
+    "Check a certificate, and where it is accepted run the program by workers on threads";
+
 /// What the words of `threads` ask for: to check the certificate of a program on an input, of a file or the empty one, and
 /// then to run it by so many workers, on that input or on the one of another file.
 #[derive(Clone, Copy, Debug)]
@@ -59,10 +63,11 @@ fn threads_command<'a>(alloc: Global) -> Result<Command<'a>, AllocError>
 fn command<'a>(alloc: Global) -> Result<Command<'a>, AllocError>
     ensures { IfOk result (λ c. HasShape c parallel_app) }
 {
-    let threads = threads_command(alloc)?;
+    let threads = threads_command(alloc)?.about(THREADS);
     Command::new(alloc, "cilk")
         .no_binary_name(true)
         .subcommand_required(true)
+        .bin_name("cilk")?
         .subcommand(threads)
 }
 

@@ -31,8 +31,7 @@ Arguments:
 
 Options of run, certify, check, threads, play and measure:
   --input FILE    the numbers that `input(k)` gives: at most 65,536, with blanks between; without it there are none
-  --explain       behind a refusal, on standard error: its line and column, the reason, and what to write instead;
-                  not with threads, whose refusals `explain` and `check --explain` describe
+  --explain       behind a refusal, on standard error: its line and column, the reason, and what to write instead
 
 Options of measure, which all write to standard output:
   --csv           the table with commas

@@ -1,6 +1,6 @@
 use Rattle.std.proofs.Common.{ap, option_map, ◌∙◌, sym}
 use Rattle.clap.specs.Words.{found_of, rows_of}
-use Rattle.cilk_parallel.specs.Words.{order_view, texts_view}
+use Rattle.cilk_parallel.specs.Words.{order_view}
 use Rattle.cilk_parallel.proofs.Entered.{by_files, by_workers, no_texts}
 use Rattle.cilk_parallel.proofs.words.threads_order.Goals as goal
 
