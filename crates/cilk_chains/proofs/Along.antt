@@ -32,7 +32,7 @@ use Rattle.cilk_chains.specs.Courses.{CourseValue, IsBlockOf, IsBodyOf, IsCourse
 use Rattle.cilk_chains.specs.Standing.{IsTheOutermost, Linked, Rest, Stand}
 use Rattle.cilk_chains.specs.declared.home.ReducerNumber.{ReducerNumber}
 use Rattle.cilk_chains.specs.Reducing.{LooksAtReducer, as_instance, reducer_asked}
-use Rattle.cilk_chains.specs.Sights.{LooksAt, cell_asked, found_global}
+use Rattle.cilk_chains.specs.Sights.{LooksAt, cell_asked, found_global, homes_of}
 use Rattle.cilk_chains.specs.declared.looked.Looked.{Looked}
 use Rattle.cilk_chains.specs.declared.looked.Looked.TheVariants.{Asked, Differs}
 use Rattle.cilk_chains.specs.Sorts.{NamesNothing, Says, sort_asked, sort_of}
@@ -181,7 +181,7 @@ module _ (u v : CourseValue) (same : u ≡ v) (at : ℕ) (k : Ask) (l : Level) (
           let t = S.2 in looking.child_differs (setting_of u S.0) S.1 at k l t.asks kind is f of_child alike body (λ path b callee found it number. runs S.0 path b callee S.1 found it number) (subst (λ z. same_body body z ≡ false) q same)
 
     module _ (i : numbered.Instance) (of_reducer : IsOfReducer i kind) (alike : sort_asked k ≡ sort_of kind) where
-      pub looks_at_reducer : (found : ReducerNumber) (says : Looked) → found ≡ reducer_asked l.sight.homes.items l.sight.given.items k → LooksAtReducer found i says → Says (story_of u) at kind says
+      pub looks_at_reducer : (found : ReducerNumber) (says : Looked) → found ≡ reducer_asked (homes_of l.sight) l.sight.given.items k → LooksAtReducer found i says → Says (story_of u) at kind says
       looks_at_reducer found Asked q h = let t = S.2 in looking.reducer_there (setting_of u S.0) S.1 at k l t.asks kind is i of_reducer alike (ap as_instance (sym q) ∙ h)
       looks_at_reducer found Differs q h = let t = S.2 in looking.reducer_differs (setting_of u S.0) S.1 at k l t.asks kind is i of_reducer alike (λ z. h (ap as_instance q ∙ z))
 
@@ -213,7 +213,7 @@ module _ (u v : CourseValue) (same : u ≡ v) (at : ℕ) (l : Level) (below : Li
 
 pub rooted : (u : CourseValue) → IsCourse u → (c : Level) (home : Home) → ((p : Source) → Behaves p u.code → Stands u.code u.inputs p callees.Root c.cursor [] 0)
     → (let z = c.cursor in z.owed ≡ owed_for asks.Begin) → c.took ≡ 0 → IsBlockOf u 1 home.block → home.frame ≡ 1 → (let p = source u.program in home.before ≡ length p.reducers)
-    → (let t = c.sight in (t.homes.items ≡ home ∷ []) × (t.given.items ≡ []) × (let p = source u.program in t.result ≡ found_global (length p.openings) 0)) → Stand u 1 asks.Begin c []
+    → (let t = c.sight in (homes_of t ≡ home ∷ []) × (t.given.items ≡ []) × (let p = source u.program in t.result ≡ found_global (length p.openings) 0)) → Stand u 1 asks.Begin c []
 rooted u h c home stands owes took lies frame before sight =
     let prog = h.1 in (
       h.0,

@@ -58,7 +58,7 @@ use Rattle.cilk_inputs.proofs.Points.{asked_by_positions}
 use Rattle.cilk_chains.specs.declared.level.Level.{Level}
 use Rattle.cilk_chains.specs.declared.home.Home.{Home}
 use Rattle.cilk_chains.specs.declared.sight.Sight.{Sight}
-use Rattle.cilk_chains.specs.Sights.{IsSightOf, Sees, cells_of_block, found_global}
+use Rattle.cilk_chains.specs.Sights.{IsSightOf, Sees, cells_of_block, found_global, homes_of}
 use Rattle.cilk_chains.specs.Asking.{Follows, IsAnswered, HasAsked}
 use Rattle.cilk_chains.specs.Courses.{Setting, IsOfProgram, point_at}
 use Rattle.cilk_chains.specs.Standing.{Asks, Waits, Linked, StandsAt, RestsAt}
@@ -558,7 +558,7 @@ module _ (s : Setting) (h : IsOfProgram s) where
     pub lies : (path : List ℕ) (b : Block) → frame_at s.program s.run path ≡ Some b → b.number ≡ 1 → home.block ≡ cells_of_block b
     pub frame : home.frame ≡ 1
     pub before : home.before ≡ (let p = s.program in length p.reducers)
-    pub homes : sight.homes.items ≡ home ∷ []
+    pub homes : homes_of sight ≡ home ∷ []
     pub given : sight.given.items ≡ []
     pub none : sight.result ≡ found_global (let p = s.program in length p.openings) 0
 

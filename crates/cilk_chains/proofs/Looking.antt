@@ -44,7 +44,7 @@ use Rattle.cilk_chains.specs.Children.{body_asked}
 use Rattle.cilk_chains.specs.Courses.{Setting, IsOfProgram}
 use Rattle.cilk_chains.specs.Sorts.{NamesNothing, sort_asked, sort_of, sort_started}
 use Rattle.cilk_chains.specs.Standing.{Asks}
-use Rattle.cilk_chains.specs.Sights.{IsNumberOf, cell_asked}
+use Rattle.cilk_chains.specs.Sights.{IsNumberOf, cell_asked, homes_of}
 use Rattle.cilk_chains.proofs.Children.{IsChild, IsStarted, StartsAs}
 use Rattle.cilk_chains.proofs.Going.{here, known, plan_event, starts_as, asked_ask, asked_by, ask_there, tell, there, event_is}
 use Rattle.cilk_chains.proofs.Named.{DeedIsHere, like_body}
@@ -605,14 +605,14 @@ module _ (s : Setting) (h : IsOfProgram s) (at : ℕ) (k : language.Ask) (l : Le
       its_number : IsFound s.program s.run x.frame l.sight k
       its_number = reducer_found s.program s.run x.frame l.sight A.sees k names (ask_there s h at k l A)
 
-      pub reducer_there : as_instance (reducer_asked l.sight.homes.items l.sight.given.items k) ≡ i → IsAsked s.story at
+      pub reducer_there : as_instance (reducer_asked (homes_of l.sight) l.sight.given.items k) ≡ i → IsAsked s.story at
       reducer_there q =
           let D = reducers_deed in
           let N = its_number in
           let one = one_to_one s.program s.run in
           asked_by_deed (D.makes (one.reducers D.there (asked_instance s.program s.run x.frame k) D.has N.has (D.number ∙ sym q ∙ sym N.number)))
 
-      pub reducer_differs : (as_instance (reducer_asked l.sight.homes.items l.sight.given.items k) ≡ i → ⊥) → IsAsked s.story at → ⊥
+      pub reducer_differs : (as_instance (reducer_asked (homes_of l.sight) l.sight.given.items k) ≡ i → ⊥) → IsAsked s.story at → ⊥
       reducer_differs other asked =
           let n = suc (started x.past) in
           let t = tell s h at k l A in

@@ -41,7 +41,7 @@ use Rattle.cilk_chains.specs.declared.home.Home.{Home}
 use Rattle.cilk_chains.specs.declared.home.ReducerNumber.{ReducerNumber}
 use Rattle.cilk_chains.specs.declared.sight.Sight.{Sight}
 use Rattle.cilk_chains.specs.Reducing.{as_instance, given_seen, global_reducer, outer_given, own_reducer, own_there, reducer_asked, reducer_in}
-use Rattle.cilk_chains.specs.Sights.{found_global, found_inside, found_there, found_in, number_taking, cell_asked, cells_of_block, outer_homes, result_number, IsSightOf, IsNumberOf, IsReducer, AreReducers, HasHome, HaveHomes, HaveGiven, Sees}
+use Rattle.cilk_chains.specs.Sights.{found_global, found_inside, found_there, found_in, number_taking, cell_asked, cells_of_block, homes_of, outer_homes, result_number, IsSightOf, IsNumberOf, IsReducer, AreReducers, HasHome, HaveHomes, HaveGiven, Sees}
 use Rattle.cilk_chains.proofs.Children.{IsChild, runs_there}
 
 module _ (p : Source) (r : Transcript) where
@@ -223,7 +223,7 @@ module _ (p : Source) (r : Transcript) where
   -- ---- frames as they begin
 
   pub root_sees : IsTrue (is_well_named p) → (here : IsHere p r []) (home : Home) (s : Sight) → home.block ≡ cells_of_block here.block → here.block.number ≡ home.frame → home.before ≡ length p.reducers
-      → s.homes.items ≡ home ∷ [] → s.given.items ≡ [] → s.result ≡ found_global (length p.openings) 0 → Sees p r (first_world p) s
+      → homes_of s ≡ home ∷ [] → s.given.items ≡ [] → s.result ≡ found_global (length p.openings) 0 → Sees p r (first_world p) s
   root_sees well here home s block frame before homes given none =
       let parts = well_named_parts p well in
       let f = main_of p in
@@ -286,9 +286,9 @@ module _ (p : Source) (r : Transcript) where
       → IsSightOf (length p.openings) callee home caller s → Sees p r (child_world p w k callee) s
   child_sees w caller sees k callee home s b of = record {
     homes = subst (λ (bs : List Home). HaveHomes p r (child_world p w k callee).sight bs) (sym of.0)
-        (home_is callee (w.name ++ k ∷ []) (given_named callee w.sight) b.here home b.block b.frame (b.before ∙ sym (none_before callee b.other)), outer_have callee w.sight caller.homes.items sees.homes);
-    given = subst (HaveGiven p r (child_world p w k callee).sight) (sym of.1) (given_have callee (w.name ++ k ∷ []) w.sight caller.homes.items caller.given.items sees.homes sees.given);
-    result = subst (Is (unwrap_or (result_named callee w.sight) (Global 0))) (sym of.2) (result_have callee w.sight caller.homes.items sees.homes);
+        (home_is callee (w.name ++ k ∷ []) (given_named callee w.sight) b.here home b.block b.frame (b.before ∙ sym (none_before callee b.other)), outer_have callee w.sight (homes_of caller) sees.homes);
+    given = subst (HaveGiven p r (child_world p w k callee).sight) (sym of.1) (given_have callee (w.name ++ k ∷ []) w.sight (homes_of caller) caller.given.items sees.homes sees.given);
+    result = subst (Is (unwrap_or (result_named callee w.sight) (Global 0))) (sym of.2) (result_have callee w.sight (homes_of caller) sees.homes);
     reducers = child_see w k callee home b sees.reducers;
   }
 
@@ -306,8 +306,8 @@ module _ (p : Source) (r : Transcript) where
   AsksForCell k = ⊥
 
   pub cell_found : (w : World) (s : Sight) → Sees p r w s → (k : Ask) → AsksForCell k → Is (asked_cell w k) (cell_asked (length p.openings) s k)
-  cell_found w s h (asks.Read x) u = seen w.sight s.homes.items h.homes x
-  cell_found w s h (asks.Write x v) u = seen w.sight s.homes.items h.homes x
+  cell_found w s h (asks.Read x) u = seen w.sight (homes_of s) h.homes x
+  cell_found w s h (asks.Write x v) u = seen w.sight (homes_of s) h.homes x
   cell_found w s h (asks.Result v) u = h.result
   cell_found w s h k u = absurd u
 
@@ -330,13 +330,13 @@ module _ (p : Source) (r : Transcript) where
   -- it is the run's, and has this number
   pub record IsFound (w : World) (s : Sight) (k : Ask) : Type 0 where
     pub has : HasInstance p r (asked_instance w k)
-    pub number : instance_number p r (asked_instance w k) ≡ as_instance (reducer_asked s.homes.items s.given.items k)
+    pub number : instance_number p r (asked_instance w k) ≡ as_instance (reducer_asked (homes_of s) s.given.items k)
 
   pub reducer_found : (w : World) (s : Sight) → Sees p r w s → (k : Ask) → AsksForReducer k → AskIsThere p w.callee k → IsFound w s k
-  reducer_found w s h (asks.Create x) u there = record { has = (h.reducers.own there.0).reducers x.place x.kind there.1; number = reducer_is p r w.sight s.homes.items s.given.items h.homes h.given x.place x.kind }
-  reducer_found w s h (asks.Update x v) u there = record { has = (h.reducers.own there.0).reducers x.place x.kind there.1; number = reducer_is p r w.sight s.homes.items s.given.items h.homes h.given x.place x.kind }
-  reducer_found w s h (asks.Set x v) u there = record { has = (h.reducers.own there.0).reducers x.place x.kind there.1; number = reducer_is p r w.sight s.homes.items s.given.items h.homes h.given x.place x.kind }
-  reducer_found w s h (asks.Value x) u there = record { has = (h.reducers.own there.0).reducers x.place x.kind there.1; number = reducer_is p r w.sight s.homes.items s.given.items h.homes h.given x.place x.kind }
+  reducer_found w s h (asks.Create x) u there = record { has = (h.reducers.own there.0).reducers x.place x.kind there.1; number = reducer_is p r w.sight (homes_of s) s.given.items h.homes h.given x.place x.kind }
+  reducer_found w s h (asks.Update x v) u there = record { has = (h.reducers.own there.0).reducers x.place x.kind there.1; number = reducer_is p r w.sight (homes_of s) s.given.items h.homes h.given x.place x.kind }
+  reducer_found w s h (asks.Set x v) u there = record { has = (h.reducers.own there.0).reducers x.place x.kind there.1; number = reducer_is p r w.sight (homes_of s) s.given.items h.homes h.given x.place x.kind }
+  reducer_found w s h (asks.Value x) u there = record { has = (h.reducers.own there.0).reducers x.place x.kind there.1; number = reducer_is p r w.sight (homes_of s) s.given.items h.homes h.given x.place x.kind }
   reducer_found w s h k u there = absurd u
 
 inner_home : (o : Option FrameHome) (a other : FrameHome) → o ≡ Some a → unwrap_or o other ≡ a

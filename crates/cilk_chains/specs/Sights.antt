@@ -23,6 +23,10 @@ use Rattle.cilk_chains.specs.declared.home.ReducerNumber.{ReducerNumber}
 use Rattle.cilk_chains.specs.declared.sight.Sight.{Sight}
 use Rattle.cilk_chains.specs.Reducing.{as_instance, given_seen, own_reducer}
 
+-- what the frame has itself, then by its static links what the frames round it have
+abbrev pub homes_of : Sight → List Home
+homes_of s = s.own ∷ s.outer.items
+
 -- ---- numbers of cells; none where the run doesn't have the cell
 
 abbrev pub found_global : ℕ → ℕ → Option ℕ
@@ -46,8 +50,8 @@ number_taking globals homes (Some x) = found_in globals homes x
 
 -- of the cell that a frame asks for, which sees this
 abbrev pub cell_asked : ℕ → Sight → Ask → Option ℕ
-cell_asked globals s (asks.Read x) = found_in globals s.homes.items x
-cell_asked globals s (asks.Write x v) = found_in globals s.homes.items x
+cell_asked globals s (asks.Read x) = found_in globals (homes_of s) x
+cell_asked globals s (asks.Write x v) = found_in globals (homes_of s) x
 cell_asked globals s (asks.Result v) = s.result
 cell_asked globals s k = None
 
@@ -70,8 +74,8 @@ result_number globals (callees.Loop l) homes = found_global globals 0
 
 abbrev pub IsSightOf : ℕ → Callee → Home → Sight → Sight → Type 0
 IsSightOf globals callee home caller s =
-    (s.homes.items ≡ home ∷ outer_homes callee caller.homes.items) × (s.given.items ≡ given_seen callee caller.homes.items caller.given.items)
-    × (s.result ≡ result_number globals callee caller.homes.items)
+    (homes_of s ≡ home ∷ outer_homes callee (homes_of caller)) × (s.given.items ≡ given_seen callee (homes_of caller) caller.given.items)
+    × (s.result ≡ result_number globals callee (homes_of caller))
 
 module _ (p : Source) (r : Transcript) where
   -- the run has the cell, with this number; or it doesn't have it
@@ -107,7 +111,7 @@ module _ (p : Source) (r : Transcript) where
 
   -- what is known of a frame is what it sees; and all reducers that it can name are the run's
   pub record Sees (w : World) (s : Sight) : Type 0 where
-    pub homes : HaveHomes w.sight s.homes.items
+    pub homes : HaveHomes w.sight (homes_of s)
     pub given : HaveGiven w.sight s.given.items
     pub result : IsNumberOf (result_cell w) s.result
     pub reducers : FrameSees p Global global_named (λ c. Unit {0}) (λ i k. HasInstance p r (i k)) w.callee w.sight w.result

@@ -141,7 +141,7 @@ impl Chain {
             | Kind::Update { instance }
             | Kind::Set { instance }
             | Kind::Value { instance } => look_at_reducer(
-                reducer_asked(&level.sight.homes, &level.sight.given, &self.asked),
+                reducer_asked(&level.sight, &self.asked),
                 instance,
             ),
         }

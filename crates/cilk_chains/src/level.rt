@@ -12,7 +12,7 @@ ghost use Rattle.cilk_program.specs.Syntax.{Source};
 ghost use Rattle.cilk_lower.specs.Behaves.{Behaves};
 ghost use Rattle.cilk_frames.specs.Following.{Fits, Runs, Stands, owed_for, word_in};
 ghost use Rattle.cilk_chains.specs.Asking.{HasAsked};
-ghost use Rattle.cilk_chains.specs.Sights.{found_global};
+ghost use Rattle.cilk_chains.specs.Sights.{found_global, homes_of};
 
 use crate::course::Course;
 use crate::home::Home;
@@ -43,12 +43,12 @@ impl Level {
             → Stands course.now.code course.now.inputs p Root l.cursor [] 0) }
         ensures owes { IfOk result (λ l. l.cursor.owed ≡ owed_for asks.Begin) }
         ensures took { IfOk result (λ l. l.took ≡ 0) }
-        ensures homes { IfOk result (λ l. l.sight.homes.items ≡ home ∷ []) }
+        ensures homes { IfOk result (λ l. homes_of l.sight ≡ home ∷ []) }
         ensures given { IfOk result (λ l. l.sight.given.items ≡ []) }
         ensures result { let p = source course.now.program in IfOk result (λ l. l.sight.result ≡ found_global (length p.openings) 0) }
     {
         let cursor = Cursor::root(alloc, course.code())?;
-        let sight = Sight::root(alloc, course.globals(), home)?;
+        let sight = Sight::root(alloc, course.globals(), home);
         let level = Level {
             cursor,
             took: 0,

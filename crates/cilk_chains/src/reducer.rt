@@ -3,9 +3,11 @@
 ghost use Rattle.std.specs.Prelude.{◌≡◌, IfOk, map, slice_get, unwrap_or};
 ghost use Rattle.cilk_program.specs.declared.syntax.Reducer.{Reducer};
 ghost use Rattle.cilk_chains.specs.Reducing.{LooksAtReducer, global_reducer, outer_given, own_reducer, reducer_asked, reducer_in};
+ghost use Rattle.cilk_chains.specs.Sights.{homes_of};
 
 use crate::home::{Home, ReducerNumber};
 use crate::looked::Looked;
+use crate::sight::Sight;
 use cilk_frames::asked::AskSlot;
 use cilk_frames::brief::Brief;
 use cilk_program::syntax::{Reducer, ReducerPlace};
@@ -13,18 +15,18 @@ use cilk_types::event::Instance;
 use std::alloc::{AllocError, Global};
 
 // The reducer that a place means.
-fn number(homes: &[Home], given: &[ReducerNumber], place: ReducerPlace) -> ReducerNumber
-    ensures { result ≡ reducer_in homes.now given.now place }
+fn number(sight: &Sight, place: ReducerPlace) -> ReducerNumber
+    ensures { result ≡ reducer_in (homes_of sight.now) sight.now.given.items place }
 {
     match place {
         ReducerPlace::Global(number) => global(number),
-        ReducerPlace::Own(up, number) => match homes.get(up as usize) {
-            Some(home) => own(*home, number),
+        ReducerPlace::Own(up, number) => match sight.home(up) {
+            Some(home) => own(home, number),
             None => global(number),
         },
         ReducerPlace::Given(up, number) => {
-            if up as usize + 1 == homes.len() {
-                among(given, number)
+            if up as usize == sight.outer.len() {
+                among(&sight.given, number)
             } else {
                 global(number)
             }
@@ -62,18 +64,17 @@ fn among(given: &[ReducerNumber], number: u32) -> ReducerNumber
     }
 }
 
-/// The reducers that a function is given by a frame that sees these.
+/// The reducers that a function is given by a frame that sees this.
 pub(crate) fn given_to(
     alloc: Global,
-    homes: &[Home],
-    given: &[ReducerNumber],
+    sight: &Sight,
     reducers: &[Reducer],
 ) -> Result<Vec<ReducerNumber>, AllocError>
-    ensures { IfOk result (λ v. v.items ≡ map (λ (r : Reducer). reducer_in homes.now given.now r.place) reducers.now) }
+    ensures { IfOk result (λ v. v.items ≡ map (λ (r : Reducer). reducer_in (homes_of sight.now) sight.now.given.items r.place) reducers.now) }
 {
     let mut numbers = Vec::new(alloc);
     'each: for reducer in reducers {
-        numbers.push(number(homes, given, reducer.place))?;
+        numbers.push(number(sight, reducer.place))?;
     }
     Ok(numbers)
 }
@@ -93,19 +94,15 @@ pub(crate) fn given_outer(
     Ok(copied)
 }
 
-/// The reducer that a frame asks for, which sees these.
-pub(crate) fn reducer_asked(
-    homes: &[Home],
-    given: &[ReducerNumber],
-    asked: &AskSlot,
-) -> ReducerNumber
-    ensures { result ≡ reducer_asked homes.now given.now asked.now }
+/// The reducer that a frame asks for, which sees this.
+pub(crate) fn reducer_asked(sight: &Sight, asked: &AskSlot) -> ReducerNumber
+    ensures { result ≡ reducer_asked (homes_of sight.now) sight.now.given.items asked.now }
 {
     match asked.brief() {
         Some(Brief::Create(reducer))
         | Some(Brief::Update(reducer, _))
         | Some(Brief::Set(reducer, _))
-        | Some(Brief::Value(reducer)) => number(homes, given, reducer.place),
+        | Some(Brief::Value(reducer)) => number(sight, reducer.place),
         _ => global(0),
     }
 }

@@ -1,11 +1,11 @@
 //! The cells and reducers that a frame sees, by the numbers that a plan's run gives to them.
 
-ghost use Rattle.std.specs.Prelude.{◌≡◌, ◌≢◌, ◌∷◌, [], IfOk, drop};
+ghost use Rattle.std.specs.Prelude.{◌≡◌, ◌≢◌, ◌∷◌, [], IfOk, drop, slice_get};
 ghost use Rattle.cilk_types.specs.declared.invocation.Invocation.{Invocation};
 ghost use Rattle.cilk_program.specs.declared.ask.Ask.TheVariants.{Invoke};
 ghost use Rattle.cilk_program.specs.declared.ask.Callee.{Callee};
 ghost use Rattle.cilk_program.specs.declared.ask.Callee.TheVariants.{Root};
-ghost use Rattle.cilk_chains.specs.Sights.{IsSightOf, LooksAt, cell_asked, found_global, found_in, found_inside, number_taking};
+ghost use Rattle.cilk_chains.specs.Sights.{IsSightOf, LooksAt, cell_asked, found_global, found_in, found_inside, homes_of, number_taking};
 
 use crate::home::{CellBlock, Home, ReducerNumber};
 use crate::looked::Looked;
@@ -16,30 +16,30 @@ use cilk_program::syntax::Place;
 use cilk_types::event::Cell;
 use std::alloc::{AllocError, Global};
 
-/// What a frame sees: what it has itself, then by its static links what the frames round it have; the reducers that the
+/// What a frame sees: what it has itself; by its static links, what the frames round it have; the reducers that the
 /// function was given whose body it runs or stands in; and the number of the cell that its result goes to. A cell that
 /// the plan's run doesn't have has no number.
 #[derive(Drop)]
 pub struct Sight {
-    pub homes: Vec<Home>,
+    pub own: Home,
+    pub outer: Vec<Home>,
     pub given: Vec<ReducerNumber>,
     pub result: Option<u64>,
 }
 
 impl Sight {
     /// What the root's frame sees.
-    pub fn root(alloc: Global, globals: usize, home: Home) -> Result<Sight, AllocError>
-        ensures homes { IfOk result (λ s. s.homes.items ≡ home ∷ []) }
-        ensures given { IfOk result (λ s. s.given.items ≡ []) }
-        ensures result { IfOk result (λ s. s.result ≡ found_global globals 0) }
+    pub fn root(alloc: Global, globals: usize, home: Home) -> Sight
+        ensures homes { homes_of result ≡ home ∷ [] }
+        ensures given { result.given.items ≡ [] }
+        ensures result { result.result ≡ found_global globals 0 }
     {
-        let homes = homes(alloc, home, &[])?;
-        let result = global(globals, 0);
-        Ok(Sight {
-            homes,
+        Sight {
+            own: home,
+            outer: Vec::new(alloc),
             given: Vec::new(alloc),
-            result,
-        })
+            result: global(globals, 0),
+        }
     }
 
     /// What the frame sees that a frame asks for, which has this itself.
@@ -57,27 +57,22 @@ impl Sight {
         match asked.brief() {
             None => {
                 let call = asked.invocation().1;
-                let result = taking(globals, &caller.homes, call.result);
-                let given = given_to(
-                    alloc,
-                    &caller.homes,
-                    &caller.given,
-                    call.reducers.as_slice(),
-                )?;
-                let homes = homes(alloc, home, &[])?;
+                let result = caller.taking(globals, call.result);
+                let given = given_to(alloc, caller, call.reducers.as_slice())?;
                 Ok(Sight {
-                    homes,
+                    own: home,
+                    outer: Vec::new(alloc),
                     given,
                     result,
                 })
             }
             Some(Brief::Turns(_, part)) => {
                 let result = global(globals, 0);
-                let outer = outer(&caller.homes, part.up);
-                let given = given_outer(alloc, outer, &caller.given)?;
-                let homes = homes(alloc, home, outer)?;
+                let outer = caller.outer(alloc, part.up)?;
+                let given = given_outer(alloc, &outer, &caller.given)?;
                 Ok(Sight {
-                    homes,
+                    own: home,
+                    outer,
                     given,
                     result,
                 })
@@ -85,36 +80,60 @@ impl Sight {
             Some(_) => unreachable!(),
         }
     }
-}
 
-// What a frame has itself, and what those round it have.
-fn homes(alloc: Global, home: Home, outer: &[Home]) -> Result<Vec<Home>, AllocError>
-    ensures { IfOk result (λ v. v.items ≡ home ∷ outer.now) }
-{
-    let mut homes = Vec::new(alloc);
-    homes.push(home)?;
-    homes.extend_from_slice(outer)?;
-    Ok(homes)
-}
-
-// What lies so many static links up.
-fn outer(homes: &[Home], up: u32) -> &[Home]
-    ensures { result.now ≡ drop up homes.now }
-{
-    homes.get(up as usize..).unwrap_or(&[])
-}
-
-// The number of the cell that a place means.
-fn number(globals: usize, homes: &[Home], place: Place) -> Option<u64>
-    ensures { result ≡ found_in globals homes.now place }
-{
-    match place {
-        Place::Global(number) => global(globals, number),
-        Place::Local(up, number) => match homes.get(up as usize) {
-            Some(home) => inside(home.block, number),
-            None => global(globals, number),
-        },
+    // What lies so many static links up, and further out.
+    fn outer(&self, alloc: Global, up: u32) -> Result<Vec<Home>, AllocError>
+        ensures { IfOk result (λ v. v.items ≡ drop up (homes_of self.now)) }
+    {
+        let mut outer = Vec::new(alloc);
+        if up == 0 {
+            outer.push(self.own)?;
+            outer.extend_from_slice(&self.outer)?;
+        } else {
+            outer.extend_from_slice(behind(&self.outer, up - 1))?;
+        }
+        Ok(outer)
     }
+
+    /// What the frame has that lies so many static links up.
+    pub(crate) fn home(&self, up: u32) -> Option<Home>
+        ensures { result ≡ slice_get (homes_of self.now) up }
+    {
+        if up == 0 {
+            return Some(self.own);
+        }
+        self.outer.get(up as usize - 1).copied()
+    }
+
+    // The number of the cell that a place means.
+    fn number(&self, globals: usize, place: Place) -> Option<u64>
+        ensures { result ≡ found_in globals (homes_of self.now) place }
+    {
+        match place {
+            Place::Global(number) => global(globals, number),
+            Place::Local(up, number) => match self.home(up) {
+                Some(home) => inside(home.block, number),
+                None => global(globals, number),
+            },
+        }
+    }
+
+    // The number of the cell that takes a result.
+    fn taking(&self, globals: usize, place: Option<Place>) -> Option<u64>
+        ensures { result ≡ number_taking globals (homes_of self.now) place }
+    {
+        match place {
+            Some(place) => self.number(globals, place),
+            None => global(globals, 0),
+        }
+    }
+}
+
+// So many fewer.
+fn behind(homes: &[Home], first: u32) -> &[Home]
+    ensures { result.now ≡ drop first homes.now }
+{
+    homes.get(first as usize..).unwrap_or(&[])
 }
 
 fn global(globals: usize, number: u32) -> Option<u64>
@@ -137,24 +156,12 @@ fn inside(block: CellBlock, number: u32) -> Option<u64>
     }
 }
 
-// The number of the cell that takes a result.
-fn taking(globals: usize, homes: &[Home], place: Option<Place>) -> Option<u64>
-    ensures { result ≡ number_taking globals homes.now place }
-{
-    match place {
-        Some(place) => number(globals, homes, place),
-        None => global(globals, 0),
-    }
-}
-
 /// The number of the cell that a frame asks for, which sees this.
 pub(crate) fn cell_asked(globals: usize, sight: &Sight, asked: &AskSlot) -> Option<u64>
     ensures { result ≡ cell_asked globals sight.now asked.now }
 {
     match asked.brief() {
-        Some(Brief::Read(place)) | Some(Brief::Write(place, _)) => {
-            number(globals, &sight.homes, *place)
-        }
+        Some(Brief::Read(place)) | Some(Brief::Write(place, _)) => { sight.number(globals, *place) }
         Some(Brief::Result(_)) => sight.result,
         _ => None,
     }

@@ -1,4 +1,4 @@
--- What the plan of a program's run tells: `continuation_at`, `continuation_there`, `strand_at`, `syncs_told`, `strands_told`.
+-- What the plan of a program's run tells: `continuation_at`, `continuation_there`, `strand_at`, `syncs_told`, `strands_told`, `resumptions_told`.
 use Rattle.std.proofs.Common.{◌≡◌, ◌↔◌, ℕ, ◌+◌, ◌-◌, ◌≤◌, List, Option, Some, None, IsSome, slice_get, slice_index_or, refl, sym, ap, ◌∙◌, subst, arith}
 use Rattle.std.specs.Prelude.{All}
 use Rattle.cilk_types.specs.declared.event.Event.{Event}
@@ -8,6 +8,7 @@ use Rattle.cilk_story.specs.Orders.{IsOrderly}
 use Rattle.cilk_story.specs.Word.{event, spawn, what}
 use Rattle.cilk_plan.specs.declared.blocks.Continuation.{Continuation}
 use Rattle.cilk_plan.specs.Blocks.{AreContinuations, IsContinuationOf}
+use Rattle.cilk_plan.specs.Resumptions.{AreResumptions}
 use Rattle.cilk_plan.specs.Strands.{AreFirsts, AreStarts, BeginsStrand}
 use Rattle.cilk_checker.specs.Determinate.{AcceptedRun}
 use Rattle.cilk_planning.specs.Continuations.{SpawnsHaveContinuations}
@@ -52,3 +53,8 @@ pub strands_told : (w : WholePlan) (a : AcceptedRun) (s : Story) (column lent : 
 strands_told w a s column lent same plan are is =
     let events : a.trace ≡ s.events = sym (ap (λ (x : Story). x.events) plan.story) in
     subst (λ (v : WholePlan). AreFirsts v.story.events lent) same (subst (λ (es : List Event). AreFirsts es lent) events (subst (AreFirsts a.trace) (sym is) are))
+
+pub resumptions_told : (w : WholePlan) (a : AcceptedRun) (s : Story) (column lent : List ℕ) → whole a s ≡ w → AreResumptions s column → lent ≡ column
+    → AreResumptions w.story lent
+resumptions_told w a s column lent same are is =
+    subst (λ (v : WholePlan). AreResumptions v.story lent) same (subst (AreResumptions s) (sym is) are)

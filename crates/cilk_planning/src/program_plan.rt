@@ -6,6 +6,7 @@ ghost use Rattle.cilk_lower.specs.Behaves.{Behaves};
 ghost use Rattle.cilk_lower.specs.Layout.{LaysOut};
 ghost use Rattle.cilk_lower.specs.Rooms.{RoomsFit};
 ghost use Rattle.cilk_plan.specs.Blocks.{IsContinuationOf};
+ghost use Rattle.cilk_plan.specs.Resumptions.{AreResumptions};
 ghost use Rattle.cilk_plan.specs.Strands.{AreFirsts, BeginsStrand};
 ghost use Rattle.cilk_plan.specs.declared.blocks.Continuation.{Continuation};
 ghost use Rattle.cilk_program.specs.Sources.{source};
@@ -48,6 +49,7 @@ pub struct ProgramPlan<'a> {
     syncs: Vec<Pos>,
     blocks: Vec<u32>,
     strands: Vec<StrandNo>,
+    resumptions: Vec<Pos>,
     accepted: Snapshot<Accepted>,
 }
 
@@ -58,6 +60,7 @@ impl<'a> Model for ProgramPlan<'a> {
     ghost use Rattle.cilk_lower.specs.Layout.{LaysOut};
     ghost use Rattle.cilk_lower.specs.Rooms.{RoomsFit};
     ghost use Rattle.cilk_plan.specs.Blocks.{AreContinuations};
+    ghost use Rattle.cilk_plan.specs.Resumptions.{AreResumptions};
     ghost use Rattle.cilk_plan.specs.Strands.{AreFirsts, AreStarts};
     ghost use Rattle.cilk_program.specs.Sources.{source};
     ghost use Rattle.cilk_story.specs.Word.{event};
@@ -70,7 +73,7 @@ impl<'a> Model for ProgramPlan<'a> {
 
     ghost view = { λ p. record { run = p.accepted.value; story = p.events } };
 
-    ghost invariant = { λ p. HasDeterminateRun p.accepted.value × (p.program.now ≡ p.accepted.value.program) × (p.input.now ≡ p.accepted.value.input) × Behaves (source p.accepted.value.program) p.code × RoomsFit (source p.accepted.value.program) p.code × LaysOut (source p.accepted.value.program) p.code.layout × IsPlanOf p.accepted.value p.events × AreFramesOf p.accepted.value p.frames.now × AreContinuations p.events p.continuations.items × AreStarts p.accepted.value.trace p.starts.items × All (λ at. event p.events at ≡ Some Sync) p.syncs.items × AreFirsts p.accepted.value.trace p.strands.items };
+    ghost invariant = { λ p. HasDeterminateRun p.accepted.value × (p.program.now ≡ p.accepted.value.program) × (p.input.now ≡ p.accepted.value.input) × Behaves (source p.accepted.value.program) p.code × RoomsFit (source p.accepted.value.program) p.code × LaysOut (source p.accepted.value.program) p.code.layout × IsPlanOf p.accepted.value p.events × AreFramesOf p.accepted.value p.frames.now × AreContinuations p.events p.continuations.items × AreStarts p.accepted.value.trace p.starts.items × All (λ at. event p.events at ≡ Some Sync) p.syncs.items × AreFirsts p.accepted.value.trace p.strands.items × AreResumptions p.events p.resumptions.items };
 }
 
 /// The plan of an accepted program's run. Cost and memory: linear in the run's events and the program.
@@ -84,6 +87,7 @@ pub fn plan<'a>(alloc: Global, accepted: &'a Accepted) -> Result<ProgramPlan<'a>
     let (syncs, blocks) = blocks(alloc, &events, continuations.as_slice())?;
     let starts = starts(alloc, accepted.trace())?;
     let strands = strands(alloc, accepted.trace(), starts.as_slice())?;
+    let resumptions = events.resumptions(alloc)?;
     Ok(ProgramPlan {
         program,
         input: accepted.input(),
@@ -95,6 +99,7 @@ pub fn plan<'a>(alloc: Global, accepted: &'a Accepted) -> Result<ProgramPlan<'a>
         syncs,
         blocks,
         strands,
+        resumptions,
         accepted: Snapshot::of(accepted),
     })
 }
@@ -210,6 +215,13 @@ impl<'a> ProgramPlan<'a> {
         ensures { AreFirsts self.now.story.events result.now }
     {
         self.strands.as_slice()
+    }
+
+    /// For each position at which a spawn stands, that of the `resume` after it; 0 for all others.
+    pub fn resumptions(&self) -> &[Pos]
+        ensures { AreResumptions self.now.story result.now }
+    {
+        self.resumptions.as_slice()
     }
 }
 

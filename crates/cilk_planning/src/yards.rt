@@ -4,6 +4,7 @@ ghost use Rattle.std.specs.Prelude.{◌≡◌, ℤ, List, IfOk};
 ghost use Rattle.std.specs.Borrow.{ftrue};
 ghost use Rattle.cilk_checker.specs.Determinate.{AcceptedRun};
 ghost use Rattle.cilk_plan.specs.Along.{IsAlong};
+ghost use Rattle.cilk_plan.specs.Resumptions.{AreResumptions};
 ghost use Rattle.cilk_planning.specs.Plans.{HasStoryOn, IsStoryOn};
 ghost use Rattle.cilk_shared.specs.Values.{OfYard};
 ghost use Rattle.cilk_story.specs.declared.story.Story.{Story};
@@ -14,6 +15,7 @@ use cilk_determinacy::words::{inputs_are_words, programs_are_of_words};
 use cilk_inputs::laws::{own_story, stories_along_have_values};
 use cilk_plan::plan::Plan;
 use cilk_shared::yard::{Segment, Yard};
+use cilk_types::event::Pos;
 use cilk_types::input::Input;
 use std::alloc::{AllocError, Global};
 use std::marker::Model;
@@ -57,7 +59,7 @@ pub fn yard(alloc: Global, plan: &ProgramPlan, input: &Input) -> Result<(Yard, S
     inputs_are_words(plan.input());
     inputs_are_words(input);
     let told = tell(plan, input);
-    yard_of(alloc, plan.events(), input, &told)
+    yard_of(alloc, plan.events(), plan.resumptions(), input, &told)
 }
 
 // The story that the program of this run makes of its plan on this input.
@@ -73,6 +75,7 @@ fn tell(plan: &ProgramPlan, input: &Input) -> Told
 fn yard_of(
     alloc: Global,
     plan: &Plan,
+    resumptions: &[Pos],
     input: &Input,
     told: &Told,
 ) -> Result<(Yard, Segment), AllocError>
@@ -80,9 +83,11 @@ fn yard_of(
     requires told { along input.now ≡ told.now.story }
     requires plan { IsAlong plan.now told.now.story }
     requires values { HasValues told.now.story }
+    requires column { AreResumptions plan.now resumptions.now }
     ensures story { IfOk result (λ r. r.0.story ≡ told.now.story) }
     ensures segment { IfOk result (λ r. OfYard r.0 r.1 × (r.1.from ≡ 1) × (r.1.upto ≡ 2)) }
 {
     let _ = told;
-    Yard::new(alloc, plan, input)
+    let column = resumptions.to_vec(alloc)?;
+    Yard::with_resumptions(alloc, plan, input, column)
 }

@@ -8,6 +8,7 @@ ghost use Rattle.cilk_story.specs.Values.{HasValues, AreFinal};
 ghost use Rattle.cilk_story.specs.Runs.{IsFollowed};
 ghost use Rattle.cilk_story.specs.Word.{event, resume, what};
 ghost use Rattle.cilk_plan.specs.Along.{IsAlong};
+ghost use Rattle.cilk_plan.specs.Resumptions.{AreResumptions};
 ghost use Rattle.cilk_shared.specs.Rows.{spanned};
 
 use crate::key::StoryKey;
@@ -135,15 +136,32 @@ impl Yard {
         ensures story { IfOk result (λ r. r.0.story ≡ along input.now) }
         ensures segment { IfOk result (λ r. OfYard r.0 r.1 × (r.1.from ≡ 1) × (r.1.upto ≡ 2)) }
     {
+        let column = plan.resumptions(alloc)?;
+        Yard::with_resumptions(alloc, plan, input, column)
+    }
+
+    /// The same, where it is known at which position each continuation is resumed.
+    pub fn with_resumptions(
+        alloc: Global,
+        plan: &Plan,
+        input: &Input,
+        column: Vec<Pos>,
+    ) -> Result<(Yard, Segment), AllocError>
+        ghost along: { List ℤ → Story }
+        requires plan { IsAlong plan.now (along input.now) }
+        requires values { HasValues (along input.now) }
+        requires column { AreResumptions plan.now column.items }
+        ensures story { IfOk result (λ r. r.0.story ≡ along input.now) }
+        ensures segment { IfOk result (λ r. OfYard r.0 r.1 × (r.1.from ≡ 1) × (r.1.upto ≡ 2)) }
+    {
         plan.laws();
         let cells = plan.opening().len();
-        let resumptions = plan.resumptions(alloc)?;
         let key = StoryKey::of(input);
         let (table, seat) = Table::of_words(alloc, plan.first_words(), &key)?;
         let yard = Yard {
             table,
             cells,
-            resumptions,
+            resumptions: column,
         };
         let segment = Segment {
             seat,

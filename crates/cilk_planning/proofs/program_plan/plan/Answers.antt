@@ -6,6 +6,7 @@ use Rattle.cilk_lower.specs.Behaves.{Behaves}
 use Rattle.cilk_lower.specs.Layout.{LaysOut}
 use Rattle.cilk_lower.specs.Rooms.{RoomsFit}
 use Rattle.cilk_plan.specs.Blocks.{AreContinuations}
+use Rattle.cilk_plan.specs.Resumptions.{AreResumptions}
 use Rattle.cilk_plan.specs.Strands.{AreFirsts, AreStarts}
 use Rattle.cilk_program.specs.declared.program.Program.{Program}
 use Rattle.cilk_program.specs.Sources.{source}
@@ -27,7 +28,7 @@ invariant_of-result c =
     let a = c.args.accepted.now in
     let same = c.program-program.ensures.value in
     let code = c.in_ok-code.code in
-    let Goal : AcceptedRun → Type 0 = λ r. HasDeterminateRun r × (c.program-program.result.now ≡ r.program) × (c.input.result.now ≡ r.input) × Behaves (source r.program) code × RoomsFit (source r.program) code × LaysOut (source r.program) code.layout × IsPlanOf r c.in_ok-events.events × AreFramesOf r c.frames.result.now × AreContinuations c.in_ok-events.events c.in_ok-continuations.continuations.items × AreStarts r.trace c.in_ok-starts.starts.items × All (λ at. event c.in_ok-events.events at ≡ Some Sync) c.in_ok-syncs.syncs.items × AreFirsts r.trace c.in_ok-strands.strands.items in
+    let Goal : AcceptedRun → Type 0 = λ r. HasDeterminateRun r × (c.program-program.result.now ≡ r.program) × (c.input.result.now ≡ r.input) × Behaves (source r.program) code × RoomsFit (source r.program) code × LaysOut (source r.program) code.layout × IsPlanOf r c.in_ok-events.events × AreFramesOf r c.frames.result.now × AreContinuations c.in_ok-events.events c.in_ok-continuations.continuations.items × AreStarts r.trace c.in_ok-starts.starts.items × All (λ at. event c.in_ok-events.events at ≡ Some Sync) c.in_ok-syncs.syncs.items × AreFirsts r.trace c.in_ok-strands.strands.items × AreResumptions c.in_ok-events.events c.in_ok-resumptions.resumptions.items in
     let h : Goal a = (
       c.program-program.ensures.determinate,
       same,
@@ -41,5 +42,6 @@ invariant_of-result c =
       subst (λ (es : List Event). AreStarts es c.in_ok-starts.starts.items) c.trace.ensures.value c.in_ok-starts.ensures,
       c.in_ok-syncs.ensures,
       subst (λ (es : List Event). AreFirsts es c.in_ok-strands.strands.items) c.trace-2.ensures.value c.in_ok-strands.ensures,
+      c.in_ok-resumptions.ensures,
     ) in
     subst Goal (sym c.of.ensures) h

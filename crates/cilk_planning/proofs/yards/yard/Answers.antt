@@ -2,6 +2,7 @@ use Rattle.std.proofs.Common.{refl, sym, ◌∙◌, subst}
 use Rattle.cilk_program.specs.declared.program.Program.{Program}
 use Rattle.cilk_program.specs.Sources.{source}
 use Rattle.cilk_plan.specs.Along.{IsAlong}
+use Rattle.cilk_plan.specs.Resumptions.{AreResumptions}
 use Rattle.cilk_determinacy.specs.Words.{HasWords, InputsAreWords}
 use Rattle.cilk_story.specs.declared.story.Story.{Story}
 use Rattle.cilk_planning.specs.Plans.{IsStoryOn}
@@ -16,8 +17,13 @@ tell-told-requires c = has_story c.args.plan.now.run c.laws.ensures.determinate
 
 pub yard_of-requires : goal.yard_of-requires
 yard_of-requires c =
-    let told = along_it c.stories_along_have_values.ensures c.args.plan.now.run c.args.plan.now.story c.laws.ensures.plan c.args.input.now c.inputs_are_words-2.ensures c.tell-told.result.story c.tell-told.ensures in
-    (refl, (subst (λ (s : Story). IsAlong s c.tell-told.result.story) (sym c.events.ensures.story) told.0, told.1))
+    let told = along_it c.stories_along_have_values.ensures c.args.plan.now.run c.args.plan.now.story c.laws.ensures.plan c.args.input.now c.inputs_are_words-2.ensures c.tell-told.result.story c.tell-told.ensures in (
+      refl,
+      (
+        subst (λ (s : Story). IsAlong s c.tell-told.result.story) (sym c.events.ensures.story) told.0,
+        (told.1, subst (λ (s : Story). AreResumptions s c.resumptions.result.now) (sym c.events.ensures.story) c.resumptions.ensures),
+      ),
+    )
 
 pub returns-clause-story : goal.returns-clause-story
 returns-clause-story c = for_ok _ _ c.yard_of.result

@@ -10,11 +10,9 @@ use Rattle.cilk_story.specs.Word.{event}
 use Rattle.cilk_chains.specs.contracts.sort.Sort.{the_type}
 use Rattle.cilk_chains.specs.Chains.{ChainValue}
 use Rattle.cilk_chains.specs.Courses.{CourseValue, IsBodyOf}
-use Rattle.cilk_chains.specs.declared.home.Home.{Home}
 use Rattle.cilk_chains.specs.declared.level.Level.{Level}
-use Rattle.cilk_chains.specs.declared.home.ReducerNumber.{ReducerNumber}
 use Rattle.cilk_chains.specs.Reducing.{reducer_asked}
-use Rattle.cilk_chains.specs.Sights.{cell_asked}
+use Rattle.cilk_chains.specs.Sights.{cell_asked, homes_of}
 use Rattle.cilk_chains.specs.Sorts.{NamesNothing, Says, sort_of}
 use Rattle.cilk_chains.proofs.Along as along
 use Rattle.cilk_chains.proofs.Looking.{IsOfCell, IsOfChild, IsOfReducer}
@@ -76,7 +74,7 @@ returns-in-Create c =
     c.in-Create.instance (of_reducer c.args.kind c.in-Create.instance c.in-Create.is)
     (sym c.asked_sort.ensures ∙ differs_false the_type (search rules) c.asked_sort.result c.kind_sort.result (sym c.ne.ensures ∙ c.if-ne.false) ∙ c.kind_sort.ensures)
     c.reducer_asked.result c.look_at_reducer.result
-    (c.reducer_asked.ensures ∙ ap₂ (λ (h : List Home) (g : List ReducerNumber). reducer_asked h g i.asked) (c.deref.ensures.value ∙ ap (λ (l : Level). let s = l.sight in s.homes.items) c.deref-level.ensures) (c.deref-in-Create.ensures.value ∙ ap (λ (l : Level). let s = l.sight in s.given.items) c.deref-level.ensures)) c.look_at_reducer.ensures)
+    (c.reducer_asked.ensures ∙ ap (λ (l : Level). let t = l.sight in reducer_asked (homes_of t) t.given.items i.asked) c.deref-level.ensures) c.look_at_reducer.ensures)
 
 nothing : (k j : Kind) → k ≡ j → NamesNothing (sort_of j) → NamesNothing (sort_of k)
 nothing k j q h = subst (λ (z : Kind). NamesNothing (sort_of z)) (sym q) h

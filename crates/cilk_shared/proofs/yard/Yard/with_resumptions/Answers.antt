@@ -12,7 +12,7 @@ use Rattle.cilk_shared.specs.declared.key.StoryKey.{StoryKey}
 use Rattle.cilk_shared.specs.declared.view.View.{View}
 use Rattle.cilk_shared.specs.Rule.{view, Kept, Sits}
 use Rattle.cilk_shared.proofs.Seats.{starts, first_sits}
-use Rattle.cilk_shared.proofs.yard.Yard.new.Goals as goal
+use Rattle.cilk_shared.proofs.yard.Yard.with_resumptions.Goals as goal
 
 -- what a story along a plan has in common with it
 orderly : (plan s : Story) → IsOrderly plan → IsAlong plan s → IsOrderly s
@@ -47,9 +47,9 @@ invariant_of-yard g c =
     let one = length-map s.opening word in
     let two = length-replicate {A = ℕ} (length s.events + 1) 0 in
     let wide : c.in_ok-table.table.shared.table_id.words ≡ length s.opening + (length s.events + 1) = omega (arith, t.0, all, one, two) in
-    let Goal : Story → Type 0 = λ k. IsOrderly k × (0 < c.in_ok-table.table.shared.table_id.words) × (c.in_ok-table.table.shared.table_id.slots ≡ 0) × (c.in_ok-table.table.shared.table_id.words ≡ length k.opening + (length k.events + 1)) × (length c.opening-cells.result.now ≡ length k.opening) × (length c.opening-cells.result.now + length k.events + 1 < 2 ^ 34) × HasValues k × AreResumptions k c.in_ok-resumptions.resumptions.items in
+    let Goal : Story → Type 0 = λ k. IsOrderly k × (0 < c.in_ok-table.table.shared.table_id.words) × (c.in_ok-table.table.shared.table_id.slots ≡ 0) × (c.in_ok-table.table.shared.table_id.words ≡ length k.opening + (length k.events + 1)) × (length c.opening-cells.result.now ≡ length k.opening) × (length c.opening-cells.result.now + length k.events + 1 < 2 ^ 34) × HasValues k × AreResumptions k c.args.column.items in
     let count : length c.opening-cells.result.now ≡ length s.opening = ap length (c.opening-cells.ensures ∙ sym c.requires.0.opening) in
-    let h : Goal s = (law, omega (arith, wide), t.1, wide, count, omega (arith, law.small, count), c.requires.1, resumptions plan s c.requires.0 c.in_ok-resumptions.resumptions.items c.in_ok-resumptions.ensures) in
+    let h : Goal s = (law, omega (arith, wide), t.1, wide, count, omega (arith, law.small, count), c.requires.1.0, resumptions plan s c.requires.0 c.args.column.items c.requires.1.1) in
     let key : c.in_ok-table.table.shared.key.story ≡ s = ap (λ (k : StoryKey). k.story) t.5 ∙ c.of-key.ensures in
     subst Goal (sym key) h
 
@@ -58,7 +58,7 @@ invariant_of-segment g c =
     let t = c.in_ok-table.ensures in
     let plan : Story = c.args.plan.now in
     let s : Story = g.along c.args.input.now in
-    let first : Sits s (view s 1 2) 1 2 = first_sits s (orderly plan s c.laws.ensures.order c.requires.0) c.requires.1 in
+    let first : Sits s (view s 1 2) 1 2 = first_sits s (orderly plan s c.laws.ensures.order c.requires.0) c.requires.1.0 in
     let at : c.of-key.result.story ≡ s = c.of-key.ensures in
     let mine : Sits c.of-key.result.story (view c.of-key.result.story 1 2) 1 2 = subst (λ (z : Story). Sits z (view z 1 2) 1 2) (sym at) first in
     (ap (λ m. m.1) t.4, subst (λ (v : View). Sits v.story v 1 2) (sym (ap (λ m. m.0) t.4)) mine)
