@@ -1,6 +1,6 @@
 //! The runs of arrived keys of a sync block, and the awaited keys between them.
 ghost use Rattle.std.specs.Prelude.{◌≡◌, ◌↔◌, ◌<◌, ◌≤◌, ◌+◌, length, IfErr, OnOk, OnErr, IsTrue, Some, None, []};
-ghost use Rattle.cilk_boxes.specs.Rows.{parts_in, awaiting, end_in, placed_in, FitsIn, IsGood, IsGoodRun, PiecesLieApart, is_empty, place_of, row, rows, run_of, yard_of};
+ghost use Rattle.cilk_boxes.specs.Rows.{parts_in, awaiting, end_in, placed_in, FitsIn, IsGood, IsGoodRun, PiecesLieApart, is_empty, row, rows, run_of, yard_of};
 ghost use Rattle.cilk_boxes.specs.Boxes.{IsAwaitedIf};
 
 use crate::awaited::{
@@ -120,13 +120,6 @@ impl Runs {
         ensures { result ≡ is_empty self.now.row.waits }
     {
         self.awaited.is_empty()
-    }
-
-    /// The place of an awaited key among them; their number where it isn't awaited.
-    pub fn place(&self, key: Pos) -> usize
-        ensures { result ≡ place_of self.now.row.waits key }
-    {
-        place_in(&self.awaited, key)
     }
 
     /// The first run comes out.

@@ -104,6 +104,7 @@ impl Shelf {
         requires { LiesOn self.old.of self.old.course back }
         ensures ok { OnOk result (PutsBack self.old back self.new) }
         ensures err { OnErr result (self.new ≡ self.old) }
+        ensures same { (self.new.of ≡ self.old.of) × (self.new.course ≡ self.old.course) }
     {
         if back.is_empty() {
             return Ok(());

@@ -238,8 +238,8 @@ pub fn crewed<N: Naming + Send + Sync, R: Threads + Wait + Sync, G: Gate + Sync>
     ensures { IfOk result (IsFinish shared.now) }
 {
     let (doors, mut keys) = doors::<N, R>(rt, alloc, shared, shelves(layout.syncs.len()))?;
-    let racks = racks::<N>(alloc, count)?;
-    let ends = ends::<N>(alloc, &racks)?;
+    let mut racks = racks::<N>(alloc, count)?;
+    let ends = ends::<N>(alloc, &mut racks)?;
     let kits = kits::<N>(alloc, shared, &doors, &mut keys, racks, ends, work, count)?;
     let stop = AtomicBool::new(false);
     crew::<N, R, G>(rt, alloc, shared, &doors, layout, gate, &stop, kits)

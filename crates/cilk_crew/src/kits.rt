@@ -97,18 +97,19 @@ pub fn more<N: Naming>(
 #[tactic(auto, using(crate::proofs::Sent::takes_more))]
 fn put<N: Naming>(
     all: &mut Vec<Take<N>>,
-    racks: &Vec<Rack<N>>,
+    racks: &mut Vec<Rack<N>>,
     at: usize,
     but: usize,
 ) -> Result<(), AllocError>
-    requires at { at < length racks.now.items }
+    requires at { at < length racks.old.items }
     requires all { All IsTake all.old.items }
-    ensures { OnOk result (All IsTake all.new.items) }
+    ensures all { OnOk result (All IsTake all.new.items) }
+    ensures racks { length racks.new.items ≡ length racks.old.items }
 {
     if at == but {
         return Ok(());
     }
-    let rack = &racks[at];
+    let rack = &mut racks[at];
     let picker = rack.picker()?;
     all.push(picker.parted())?;
     Ok(())
@@ -117,10 +118,11 @@ fn put<N: Naming>(
 /// The ends of all racks but one.
 pub fn takes<N: Naming>(
     alloc: Global,
-    racks: &Vec<Rack<N>>,
+    racks: &mut Vec<Rack<N>>,
     but: usize,
 ) -> Result<Vec<Take<N>>, AllocError>
-    ensures { IfOk result (λ v. All IsTake v.items) }
+    ensures takes { IfOk result (λ v. All IsTake v.items) }
+    ensures racks { length racks.new.items ≡ length racks.old.items }
 {
     let mut all = Vec::new(alloc);
     'each: for at in 0..racks.len() {
@@ -142,7 +144,10 @@ pub fn racks<N: Naming>(alloc: Global, count: u32) -> Result<Vec<Rack<N>>, Alloc
 }
 
 /// For each rack the ends of the others.
-pub fn ends<N: Naming>(alloc: Global, racks: &Vec<Rack<N>>) -> Result<Vec<Vec<Take<N>>>, AllocError>
+pub fn ends<N: Naming>(
+    alloc: Global,
+    racks: &mut Vec<Rack<N>>,
+) -> Result<Vec<Vec<Take<N>>>, AllocError>
     ensures { IfOk result (λ v. All (λ ts. All IsTake ts.items) v.items) }
 {
     let mut all = Vec::new(alloc);

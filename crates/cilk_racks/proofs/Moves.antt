@@ -7,11 +7,11 @@ use Rattle.std.proofs.lemmas.List.Elements.{All-append}
 use mathlib.Core.Option.{some, some-ne-none, some-injective}
 use lib.ListN.{get_elem?}
 use Rattle.atomic_table.proofs.Lists.{at_set, at_snoc}
-use Rattle.crossbeam_deque.specs.Tasks.{Pushes, Takes, Pops, Admits}
+use Rattle.crossbeam_deque.specs.Tasks.{Pushes, Takes, Pops, Finds, Forks}
 use Rattle.cilk_chains.specs.Courses.{CourseValue}
 use Rattle.cilk_chains.specs.declared.chain.Task.{Task}
 use Rattle.cilk_racks.specs.declared.rack.Offers.{Offers}
-use Rattle.cilk_racks.specs.Racks.{Of, offers, EndsWith, Racked}
+use Rattle.cilk_racks.specs.Racks.{Of, offers, Fits, IsOnly, Racked, WasEmpty}
 
 all_one : (y : CourseValue → Type 0) (t : Task) → Of y t → All (Of y) (t ∷ [])
 all_one y t is zero d lt = is
@@ -24,69 +24,119 @@ all_back : (y : CourseValue → Type 0) (xs ys : List Task) → All (Of y) (xs +
 all_back y xs ys h k d lt = subst (Of y) (get_or-append-add xs ys k d) (h (length xs + k) d (omega (arith, length-append xs ys)))
 
 -- what the rule says of one view
-abbrev Fits : List Task → ℕ → Offers → Type 0
-Fits items port v = v.owner ≡ true → (port ≡ 0) × EndsWith v.waiting items
+abbrev Fitting : List Task → List Offers → ℕ → Offers → Type 0
+Fitting items views port v = v.owner ≡ true → (port ≡ 0) × Fits items views v
 
-fits_set : (old items : List Task) (views : List Offers) (port : ℕ) (w : Offers) → ((j : ℕ) (u : Offers) → j ≢ port → get_elem? views j ≡ some u → Fits items j u) → Fits items port w → (j : ℕ) (u : Offers) → get_elem? (set views port w) j ≡ some u → Fits items j u
-fits_set old items views port w others mine j u e =
+fits_set : (items : List Task) (views after : List Offers) (port : ℕ) (w : Offers) → ((j : ℕ) (u : Offers) → j ≢ port → get_elem? views j ≡ some u → Fitting items after j u) → Fitting items after port w → (j : ℕ) (u : Offers) → get_elem? (set views port w) j ≡ some u → Fitting items after j u
+fits_set items views after port w others mine j u e =
     ⊎_elim
-    (λ (x : (j ≡ port) × (w ≡ u)). subst (λ (y : ℕ × Offers). Fits items y.0 y.1) (λ i. (sym x.0 i, x.1 i)) mine)
+    (λ (x : (j ≡ port) × (w ≡ u)). subst (λ (y : ℕ × Offers). Fitting items after y.0 y.1) (λ i. (sym x.0 i, x.1 i)) mine)
     (λ (x : (j ≢ port) × (get_elem? views j ≡ some u)). others j u x.0 x.1)
     (at_set views port j w u e)
 
-pub begins : (y : CourseValue → Type 0) → Racked y [] (offers true [] ∷ [])
+only_set : (views : List Offers) (port : ℕ) (v w : Offers) → get_elem? views port ≡ some v → IsOnly views → IsOnly (set views port w)
+only_set views port v w at only j u e =
+    ⊎_elim
+    (λ (x : (j ≡ port) × (w ≡ u)). x.0 ∙ only port v at)
+    (λ (x : (j ≢ port) × (get_elem? views j ≡ some u)). only j u x.1)
+    (at_set views port j w u e)
+
+only_one : (v : Offers) → IsOnly (v ∷ [])
+only_one v zero u e = refl
+only_one v (suc port) u e = absurd (some-ne-none u (sym e))
+
+pub begins : (y : CourseValue → Type 0) → Racked y [] (offers true true [] ∷ [])
 begins y = ((λ k d lt. absurd (omega arith)), one)
   where
-    one : (port : ℕ) (v : Offers) → get_elem? (offers true [] ∷ []) port ≡ some v → Fits [] port v
-    one zero v e _ = (refl, ([], ap (λ (u : Offers). u.waiting) (sym (some-injective _ _ e))))
+    one : (port : ℕ) (v : Offers) → get_elem? (offers true true [] ∷ []) port ≡ some v → Fitting [] (offers true true [] ∷ []) port v
+    one zero v e _ = (refl, ([], ap (λ (u : Offers). u.waiting) (sym (some-injective _ _ e)), λ _. (refl, only_one (offers true true []))))
     one (suc port) v e _ = absurd (some-ne-none v (sym e))
 
 -- the owner is at 0
-pub pushes : (y : CourseValue → Type 0) (v : Offers) (t : Task) → v.owner ≡ true → Of y t → (port : ℕ) → port ≡ 0 → Pushes (Racked y) port v (t ∷ []) (λ w. w ≡ offers v.owner (v.waiting ++ t ∷ []))
+pub pushes : (y : CourseValue → Type 0) (v : Offers) (t : Task) → v.owner ≡ true → Of y t → (port : ℕ) → port ≡ 0 → Pushes (Racked y) port v (t ∷ []) (λ w. w ≡ offers v.owner v.alone (v.waiting ++ t ∷ []))
 pushes y v t owner is port here items views h at =
-    let w : Offers = offers v.owner (v.waiting ++ t ∷ []) in
-    let mine = h.1 port v at owner in (
+    let w : Offers = offers v.owner v.alone (v.waiting ++ t ∷ []) in
+    let mine : Fits items views v = (h.1 port v at owner).1 in (
       w,
       (
         All-append (Of y) items (t ∷ []) h.0 (all_one y t is),
-        fits_set items (items ++ t ∷ []) views port w
+        fits_set (items ++ t ∷ []) views (set views port w) port w
             (λ j u other e o. absurd (other ((h.1 j u e o).0 ∙ sym here)))
-            (λ _. (here, (mine.1.0, ap (λ l. l ++ t ∷ []) mine.1.1 ∙ append_assoc mine.1.0 items (t ∷ [])))),
+            (λ _. (
+              here,
+              (
+                mine.0,
+                ap (λ l. l ++ t ∷ []) mine.1 ∙ append_assoc mine.0 items (t ∷ []),
+                λ a. ((mine.2 a).0, only_set views port v w at (mine.2 a).1),
+              ),
+            )),
       ),
       refl,
     )
 
-pub pops : (y : CourseValue → Type 0) (v : Offers) → v.owner ≡ true → (port : ℕ) → port ≡ 0 → Pops (Racked y) port v (λ xs w. (w.owner ≡ v.owner) × (v.waiting ≡ w.waiting ++ xs) × All (Of y) xs)
+pub pops : (y : CourseValue → Type 0) (v : Offers) → v.owner ≡ true → (port : ℕ) → port ≡ 0 → Pops (Racked y) port v (λ xs w. (w.owner ≡ v.owner) × (w.alone ≡ v.alone) × (v.waiting ≡ w.waiting ++ xs) × All (Of y) xs)
 pops y v owner port here x items views h at =
-    let mine = h.1 port v at owner in
-    let w : Offers = offers v.owner (mine.1.0 ++ items) in (
+    let mine : Fits (items ++ x ∷ []) views v = (h.1 port v at owner).1 in
+    let w : Offers = offers v.owner v.alone (mine.0 ++ items) in (
       w,
       (
         all_front y items (x ∷ []) h.0,
-        fits_set items items views port w
+        fits_set items views (set views port w) port w
             (λ j u other e o. absurd (other ((h.1 j u e o).0 ∙ sym here)))
-            (λ _. (here, (mine.1.0, refl))),
+            (λ _. (here, (mine.0, refl, λ a. ((mine.2 a).0, only_set views port v w at (mine.2 a).1)))),
       ),
-      (refl, mine.1.1 ∙ sym (append_assoc mine.1.0 items (x ∷ [])), all_back y items (x ∷ []) h.0),
+      (refl, refl, mine.1 ∙ sym (append_assoc mine.0 items (x ∷ [])), all_back y items (x ∷ []) h.0),
     )
 
+-- an owner without pickers waits for what lies in the deque
+pub finds : (y : CourseValue → Type 0) (v : Offers) → v.owner ≡ true → (port : ℕ) → Finds (Racked y) port v (WasEmpty y v × (v.alone ≡ true → v.waiting ≡ []))
+finds y v owner port views h at = (
+  (views, port, h, at),
+  λ a. let mine : Fits [] views v = (h.1 port v at owner).1 in mine.1 ∙ ap (λ (l : List Task). l ++ []) (mine.2 a).0,
+)
+
+-- where the owner has no pickers, nobody else is there to take
 pub takes : (y : CourseValue → Type 0) (v : Offers) → v.owner ≡ false → (port : ℕ) → Takes (Racked y) port v 1 (λ xs w. (w ≡ v) × All (Of y) xs)
 takes y v guest port xs items views _ _ h at = (
   v,
   (
     all_back y xs items h.0,
-    fits_set (xs ++ items) items views port v
-        (λ j u other e o. let theirs = h.1 j u e o in (theirs.0, (theirs.1.0 ++ xs, theirs.1.1 ∙ sym (append_assoc theirs.1.0 xs items))))
+    fits_set items views (set views port v) port v
+        (λ j u other e o.
+        let theirs = h.1 j u e o in
+        let fits : Fits (xs ++ items) views u = theirs.1 in (
+          theirs.0,
+          (
+            fits.0 ++ xs,
+            fits.1 ∙ sym (append_assoc fits.0 xs items),
+            λ a. absurd (other (theirs.0 ∙ sym ((fits.2 a).1 port v at))),
+          ),
+        ))
         (λ o. absurd (true≢false (sym o ∙ guest))),
   ),
   (refl, all_front y xs items h.0),
 )
 
-pub admits : (y : CourseValue → Type 0) → Admits (Racked y) (offers false [])
-admits y items views h = (
+pub parts : (y : CourseValue → Type 0) (v : Offers) → v.owner ≡ true → (port : ℕ) → port ≡ 0 → Forks (Racked y) port v (offers v.owner false v.waiting) (offers false false [])
+parts y v owner port here items views h at = (
   h.0,
-  λ port v e o. ⊎_elim
-      (λ (old : get_elem? views port ≡ some v). h.1 port v old o)
-      (λ (new : offers false [] ≡ v). absurd (true≢false (sym o ∙ ap (λ (u : Offers). u.owner) (sym new))))
-      (at_snoc views (offers false []) v port e),
+  λ j u e o. ⊎_elim
+      (λ (old : get_elem? (set views port left) j ≡ some u). fits_set items views after port left
+      (λ k t other f p. absurd (other ((h.1 k t f p).0 ∙ sym here)))
+      (λ _. (here, (mine.0, mine.1, λ a. absurd (true≢false (sym a)))))
+      j u old o)
+      (λ (new : right ≡ u). absurd (true≢false (sym o ∙ ap (λ (t : Offers). t.owner) (sym new))))
+      (at_snoc (set views port left) right u j e),
 )
+  where
+    left : Offers
+    left = offers v.owner false v.waiting
+
+    right : Offers
+    right = offers false false []
+
+    after : List Offers
+    after = set views port left ++ right ∷ []
+
+    mine : Fits items views v
+    mine = (h.1 port v at owner).1

@@ -10,10 +10,10 @@ use crate::naming::Naming;
 use cilk_boxes::shelf::Shelf;
 use crossbeam_queue::protocol::{Free, Lesson, Outcome, Protocol, Split};
 use crossbeam_queue::{Pass, RuledArrayQueue};
+use crossbeam_utils::Backoff;
 use std::alloc::{AllocError, Global};
 use std::marker::PhantomData;
 use std::sync::Wait;
-use std::thread;
 
 /// The rule of a shelf's queue.
 pub struct OfShelf<N: Naming> {
@@ -80,8 +80,9 @@ pub fn closed<N: Naming, R: Wait>(
 pub fn wait<R: Wait>(rt: &R)
     ensures { false ≡ true }
 {
+    let rest = Backoff::new();
     for _ in rt.forever() {
-        thread::yield_now();
+        rest.snooze();
     }
     unreachable!()
 }
@@ -92,11 +93,12 @@ pub fn lock<N: Naming, R: Wait>(rt: &R, lock: &Lock<N>, key: &mut Key) -> Shelf
     ensures key { IsPassOf lock.now key.new }
     ensures found { IsShelf N.run N.course result }
 {
+    let backoff = Backoff::new();
     for _ in rt.forever() {
         if let Some(found) = lock.pop_as::<Locks<N>, R>(rt, key) {
             return found;
         }
-        thread::yield_now();
+        backoff.snooze();
     }
     unreachable!()
 }

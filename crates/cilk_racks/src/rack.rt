@@ -1,20 +1,22 @@
 //! A worker's tasks. Its owner takes the newest, and others the oldest.
 
-ghost use Rattle.std.specs.Prelude.{◌≡◌, ◌+◌, ◌≤◌, ◌<◌, ◌^◌, true, false, [], ◌∷◌, ◌++◌, IfOk, IfSome, MatchResult, MatchOption};
+ghost use Rattle.std.specs.Prelude.{◌≡◌, ◌+◌, ◌≤◌, ◌<◌, ◌^◌, true, false, [], ◌∷◌, ◌++◌, IfOk, IfErr, IfSome, MatchResult, MatchOption};
 ghost use Rattle.crossbeam_deque.specs.Handles.{view, IsPassOf, worker_deque, worker_flavor, worker_port, worker_view, worker_capacity, worker_index, stealer_deque, SameWorker};
-ghost use Rattle.cilk_racks.specs.Racks.{Of, offers};
+ghost use Rattle.cilk_racks.specs.Racks.{Of, WasEmpty, offers};
 
 use crate::naming::Naming;
 use cilk_chains::chain::Task;
-use crossbeam_deque::protocol::{Outcome, Protocol};
+use crossbeam_deque::protocol::{Outcome, Protocol, Split};
 use crossbeam_deque::{Pass, Steal, Stealer, Worker};
 use std::alloc::{AllocError, Global};
 use std::collections::LinkedList;
 use std::marker::PhantomData;
 
-/// What a pass knows: the owner's, the tasks that were offered and not given back. No value of it is made.
+/// What a pass knows: the owner's, whether no picker has been made, and the tasks that were offered and not given back.
+/// No value of it is made.
 pub struct Offers {
     pub owner: bool,
+    pub alone: bool,
     pub waiting: LinkedList<Task>,
 }
 
@@ -29,16 +31,16 @@ impl<N: Naming> Protocol<Task, Offers> for OfRun<N> {
 
     ghost holds = { λ items views. Racked N.course items views };
 
-    ghost first = { offers true [] };
+    ghost first = { offers true true [] };
 
-    ghost guest = { offers false [] };
+    ghost guest = { offers false false [] };
 }
 
 /// A task is put behind the others.
 pub struct Offered;
 
 impl Outcome<Task, Offers> for Offered {
-    ghost then = { λ v xs w. w ≡ offers v.owner (v.waiting ++ xs) };
+    ghost then = { λ v xs w. w ≡ offers v.owner v.alone (v.waiting ++ xs) };
 }
 
 /// The task that was offered last comes back.
@@ -47,10 +49,12 @@ pub struct GivenBack<N: Naming> {
 }
 
 impl<N: Naming> Outcome<Task, Offers> for GivenBack<N> {
-    ghost use Rattle.std.specs.Prelude.{◌≡◌, ◌++◌, All};
-    ghost use Rattle.cilk_racks.specs.Racks.{Of};
+    ghost use Rattle.std.specs.Prelude.{◌≡◌, true, [], ◌++◌, All};
+    ghost use Rattle.cilk_racks.specs.Racks.{Of, WasEmpty};
 
-    ghost then = { λ v xs w. (w.owner ≡ v.owner) × (v.waiting ≡ w.waiting ++ xs) × All (Of N.course) xs };
+    ghost then = { λ v xs w. (w.owner ≡ v.owner) × (w.alone ≡ v.alone) × (v.waiting ≡ w.waiting ++ xs) × All (Of N.course) xs };
+
+    ghost empty = { λ v. WasEmpty N.course v × (v.alone ≡ true → v.waiting ≡ []) };
 }
 
 /// The oldest task is taken.
@@ -63,6 +67,18 @@ impl<N: Naming> Outcome<Task, Offers> for Taken<N> {
     ghost use Rattle.cilk_racks.specs.Racks.{Of};
 
     ghost then = { λ v xs w. (w ≡ v) × All (Of N.course) xs };
+}
+
+/// A pass for a picker is made of the owner's.
+pub struct Parts;
+
+impl Split<Offers> for Parts {
+    ghost use Rattle.std.specs.Prelude.{false, []};
+    ghost use Rattle.cilk_racks.specs.Racks.{offers};
+
+    ghost left = { λ v. offers v.owner false v.waiting };
+
+    ghost right = { λ v. offers false false [] };
 }
 
 /// A worker's own end.
@@ -84,11 +100,11 @@ pub struct Picker<N: Naming> {
 }
 
 impl<N: Naming> Rack<N> {
-    ghost use Rattle.cilk_racks.specs.Held.{IsOffered, waiting, room, offered};
+    ghost use Rattle.cilk_racks.specs.Held.{IsAlone, IsOffered, IsPickerOf, IsSameRack, waiting, room, offered};
 
     /// A rack without tasks, with room for this many at first.
     pub fn new(alloc: Global, first: usize) -> Result<Rack<N>, AllocError>
-        ensures { IfOk result (λ r. (waiting r ≡ []) × (offered r ≡ 0) × (first ≤ room r)) }
+        ensures { IfOk result (λ r. (waiting r ≡ []) × IsAlone r × (offered r ≡ 0) × (first ≤ room r)) }
     {
         let worker = Worker::lifo_as(alloc, first)?;
         Ok(Rack { worker })
@@ -98,22 +114,28 @@ impl<N: Naming> Rack<N> {
     pub fn offer(&mut self, task: Task) -> Result<(), Task>
         requires { Of N.course task }
         ensures rule { IsOffered self.old task result self.new }
-        ensures room { room self.old ≤ room self.new }
+        ensures same { IsSameRack self.old self.new × (IsAlone self.old → IsAlone self.new) }
     {
         self.worker.push_as::<Offered>(task)
     }
 
-    /// The task that was offered last and not given back, or `None` where none was left.
+    /// The task that was offered last and not given back, or `None` where the deque was found empty: others have taken
+    /// what waits. Where no picker has been made it is `None` only if none waits.
     pub fn newest(&mut self) -> Option<Task>
-        ensures { MatchOption result (waiting self.new ≡ waiting self.old) (λ t. (waiting self.old ≡ waiting self.new ++ t ∷ []) × Of N.course t) }
+        ensures rule { MatchOption result ((waiting self.new ≡ waiting self.old) × WasEmpty N.course (worker_view self.old.worker) × (IsAlone self.old → waiting self.old ≡ [])) (λ t. (waiting self.old ≡ waiting self.new ++ t ∷ []) × Of N.course t) }
+        ensures same { IsSameRack self.old self.new × (IsAlone self.old → IsAlone self.new) × (offered self.new ≤ offered self.old) }
     {
         self.worker.pop_as::<GivenBack<N>>()
     }
 
     /// Another worker's end.
-    pub fn picker(&self) -> Result<Picker<N>, AllocError> {
+    pub fn picker(&mut self) -> Result<Picker<N>, AllocError>
+        ensures picker { IfOk result (λ p. IsPickerOf self.new p) }
+        ensures same { IsSameRack self.old self.new × (waiting self.new ≡ waiting self.old) × (offered self.new ≡ offered self.old) }
+        ensures alone { IfErr result (λ _. IsAlone self.old → IsAlone self.new) }
+    {
         let stealer = self.worker.stealer()?;
-        let pass = stealer.pass();
+        let pass = self.worker.another::<Parts>();
         Ok(Picker { stealer, pass })
     }
 }
@@ -157,7 +179,8 @@ impl<N: Naming> Picker<N> {
 
     /// The oldest task, or `None` where none was had.
     pub fn oldest(&mut self) -> Option<Task>
-        ensures { IfSome result (λ t. Of N.course t) }
+        ensures rule { IfSome result (λ t. Of N.course t) }
+        ensures same { stealer_deque self.new.stealer ≡ stealer_deque self.old.stealer }
     {
         match self.stealer.steal_as::<Taken<N>>(&mut self.pass) {
             Steal::Success(task) => Some(task),

@@ -173,13 +173,14 @@ there_alone y z ticket at same order is at' there = order.once at' at ticket (su
 -- a piece has taken its next event, the `resume` after a spawn
 pub took : (y : SharedValue) (z : YardValue) (w : Work) (ticket : ℕ) (q : PieceValue) (k : ChainValue) → z ≡ yard_of y.run → IsOrderly (story_in y) → Works y w
     → (let p = w.piece in what (story_in y) p.upto ≡ resume ticket) → IsTakenAt z w.piece ticket q → (let c = w.chain in k ≡ standing c.of (c.at + 1))
-    → Works y (record { piece = q; chain = k }) × (let p = w.piece in q.from ≡ p.from)
+    → Works y (record { piece = q; chain = k }) × (let p = w.piece in q ≡ grown p)
 took y z w ticket q k same order works is (at, there, taken) stands =
     let p = w.piece in
     let good = works.good in
     let one = there_alone y z ticket p.upto same order is at there in
-    let g = grown_good y p q good (taken ∙ taken_on p at good.1 one) in
-    (record { good = g.0; stands = moved y w k works stands ∙ ap (λ (n : ℕ). standing y.course n) (sym g.2) }, g.1)
+    let is = taken ∙ taken_on p at good.1 one in
+    let g = grown_good y p q good is in
+    (record { good = g.0; stands = moved y w k works stands ∙ ap (λ (n : ℕ). standing y.course n) (sym g.2) }, is)
 
 -- an empty piece has taken a continuation
 pub began : (y : SharedValue) (z : YardValue) (p : PieceValue) (ticket at : ℕ) (q : PieceValue) (k : ChainValue) → z ≡ yard_of y.run → IsOrderly (story_in y) → OfRun y.run p → p.upto ≤ p.from

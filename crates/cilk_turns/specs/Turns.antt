@@ -1,12 +1,12 @@
 -- What a worker has in its hands, and what a turn leads to.
-use Rattle.std.specs.Prelude.{◌≡◌, ◌+◌, ◌<◌, ℕ, ℤ, length, Some}
+use Rattle.std.specs.Prelude.{◌≡◌, ◌+◌, ◌<◌, ◌⊎◌, ℤ, length, Some}
 use Rattle.cilk_types.specs.declared.outcome.Outcome.{Outcome}
 use Rattle.cilk_program.specs.Outcomes.{Leaves}
 use Rattle.cilk_program.specs.SerialRun.{Transcript, IsSerialRun}
 use Rattle.cilk_program.specs.Sources.{source}
 use Rattle.cilk_boxes.specs.Rows.{IsGood}
 use Rattle.cilk_chains.specs.Chains.{standing}
-use Rattle.cilk_pieces.specs.Pieces.{PieceValue}
+use Rattle.cilk_pieces.specs.Pieces.{PieceValue, grown}
 use Rattle.cilk_plan.specs.Kinds.{kind_of_event}
 use Rattle.cilk_plan.specs.declared.kind.Kind.{Kind}
 use Rattle.cilk_plan.specs.declared.kind.Kind.TheVariants as kinds
@@ -35,16 +35,17 @@ pub record HasEnded (y : SharedValue) (p : PieceValue) (value : ℤ) : Type 0 wh
   pub followed : let s = story_in y in IsFollowed s (length s.events)
   pub result : IsResult y value
 
--- What a turn of a piece that begins at `from`, which stays, leads to with what is in the hands then: the worker goes on, or has an end; a
--- departure is a true one.
-abbrev pub Turned : SharedValue → ℕ → Work → Turn → Type 0
-Turned y from w Goes = Works y w × (let p = w.piece in p.from ≡ from)
-Turned y from w (Offers t) = Works y w × (let p = w.piece in p.from ≡ from) × (t.of ≡ y.course)
-Turned y from w Arrives = Works y w × (let p = w.piece in p.from ≡ from)
-Turned y from w Ended = (let p = w.piece in IsGood y.run p × (p.from ≡ from))
-Turned y from w (Finished value) = (let p = w.piece in HasEnded y p value × (p.from ≡ from))
-Turned y from w (Departed at) = Departs (story_in y) at
-Turned y from w Stopped = Unit {0}
+-- What a turn of a piece leads to with what is in the hands then: the worker goes on with one event more, or has an end; the task that it
+-- offers is the continuation of the spawn that it made. Where the piece arrives it stays as it was, and so it does where another took the
+-- continuation, and nothing but that ends a turn without an event. A departure is a true one.
+abbrev pub Turned : SharedValue → PieceValue → Work → Turn → Type 0
+Turned y before w Goes = Works y w × (let p = w.piece in p ≡ grown before)
+Turned y before w (Offers t) = Works y w × (let p = w.piece in p ≡ grown before) × (t.of ≡ y.course) × (t.ticket ≡ before.upto)
+Turned y before w Arrives = Works y w × (let p = w.piece in p ≡ before)
+Turned y before w Ended = (let p = w.piece in IsGood y.run p × ((p ≡ grown before) ⊎ (p ≡ before)))
+Turned y before w (Finished value) = (let p = w.piece in HasEnded y p value × (p ≡ grown before))
+Turned y before w (Departed at) = Departs (story_in y) at
+Turned y before w Stopped = Unit {0}
 
 -- The piece's next event is of this kind, and its frame asks for it.
 pub record IsDue (y : SharedValue) (w : Work) (kind : Kind) : Type 0 where

@@ -13,7 +13,7 @@ use cilk_types::event::Cell;
 pub(crate) fn loaded(shared: &Shared<'_>, work: &mut Work, cell: Cell) -> Turn
     requires due { IsDue shared.now work.old (kinds.Read cell) }
     requires more { HasMore shared.now work.old }
-    ensures { Turned shared.now work.old.piece.from work.new result }
+    ensures { Turned shared.now work.old.piece work.new result }
 {
     shared.laws();
     let value = work.piece.load(shared.yard(), cell);
@@ -25,7 +25,7 @@ pub(crate) fn loaded(shared: &Shared<'_>, work: &mut Work, cell: Cell) -> Turn
 pub(crate) fn stored(shared: &Shared<'_>, work: &mut Work, cell: Cell) -> Turn
     requires due { IsDue shared.now work.old (kinds.Write cell) }
     requires more { HasMore shared.now work.old }
-    ensures { Turned shared.now work.old.piece.from work.new result }
+    ensures { Turned shared.now work.old.piece work.new result }
 {
     shared.laws();
     let number = number_asked(&work.chain);

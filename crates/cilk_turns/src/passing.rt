@@ -23,7 +23,7 @@ pub(crate) fn passed(shared: &Shared<'_>, work: &mut Work) -> Turn
     requires more { HasMore shared.now work.old }
     requires plain { what (story_in shared.now) work.old.piece.upto ≡ plain }
     requires ordinary { event (story_in shared.now) work.old.piece.upto ≡ Some Sync → ⊥ }
-    ensures { Turned shared.now work.old.piece.from work.new result }
+    ensures { Turned shared.now work.old.piece work.new result }
 {
     shared.laws();
     work.piece.pass(shared.yard());
@@ -35,7 +35,7 @@ pub(crate) fn passed(shared: &Shared<'_>, work: &mut Work) -> Turn
 pub(crate) fn synced(shared: &Shared<'_>, work: &mut Work) -> Turn
     requires due { IsDue shared.now work.old kinds.Sync }
     requires more { HasMore shared.now work.old }
-    ensures { Turned shared.now work.old.piece.from work.new result }
+    ensures { Turned shared.now work.old.piece work.new result }
 {
     if !work.piece.segment().may_pass(shared.plan()) {
         return Turn::Arrives;
@@ -50,7 +50,7 @@ pub(crate) fn taken(shared: &Shared<'_>, work: &mut Work, ticket: Pos) -> Turn
     requires due { (kind : Kind) × IsDue shared.now work.old kind × IsSilent kind }
     requires more { HasMore shared.now work.old }
     requires resumes { what (story_in shared.now) work.old.piece.upto ≡ resume ticket }
-    ensures { Turned shared.now work.old.piece.from work.new result }
+    ensures { Turned shared.now work.old.piece work.new result }
 {
     shared.laws();
     match work.piece.take(shared.yard(), ticket) {
@@ -67,7 +67,7 @@ pub(crate) fn ended(shared: &Shared<'_>, work: &mut Work, frame: FrameNo) -> Tur
     requires due { IsDue shared.now work.old kinds.End }
     requires more { HasMore shared.now work.old }
     requires frame { IsInFrame (story_in shared.now).events work.old.piece.upto frame }
-    ensures { Turned shared.now work.old.piece.from work.new result }
+    ensures { Turned shared.now work.old.piece work.new result }
 {
     shared.laws();
     work.piece.end(shared.yard(), shared.reducers(), frame);
@@ -84,7 +84,7 @@ pub(crate) fn finished(shared: &Shared<'_>, work: &mut Work, root: FrameNo) -> T
     requires asked { IsAsked (story_in shared.now) work.old.piece.upto }
     requires last { work.old.piece.upto ≡ length (story_in shared.now).events }
     requires root { IsInFrame (story_in shared.now).events work.old.piece.upto root }
-    ensures { Turned shared.now work.old.piece.from work.new result }
+    ensures { Turned shared.now work.old.piece work.new result }
 {
     shared.laws();
     work.piece.segment().follows(shared.yard());

@@ -47,7 +47,7 @@ pub(crate) fn created(
 ) -> Turn
     requires due { IsDue shared.now work.old (kinds.Create instance) }
     requires more { HasMore shared.now work.old }
-    ensures { Turned shared.now work.old.piece.from work.new result }
+    ensures { Turned shared.now work.old.piece work.new result }
 {
     shared.laws();
     let kind = kind_in(shared.reducers(), instance);
@@ -67,7 +67,7 @@ pub(crate) fn updated(
 ) -> Turn
     requires due { IsDue shared.now work.old (kinds.Update instance) }
     requires more { HasMore shared.now work.old }
-    ensures { Turned shared.now work.old.piece.from work.new result }
+    ensures { Turned shared.now work.old.piece work.new result }
 {
     shared.laws();
     let number = number_asked(&work.chain);
@@ -86,7 +86,7 @@ pub(crate) fn updated(
 pub(crate) fn set(alloc: Global, shared: &Shared<'_>, work: &mut Work, instance: Instance) -> Turn
     requires due { IsDue shared.now work.old (kinds.Set instance) }
     requires more { HasMore shared.now work.old }
-    ensures { Turned shared.now work.old.piece.from work.new result }
+    ensures { Turned shared.now work.old.piece work.new result }
 {
     shared.laws();
     let number = number_asked(&work.chain);
@@ -107,7 +107,7 @@ pub(crate) fn valued(
 ) -> Turn
     requires due { IsDue shared.now work.old (kinds.Value instance) }
     requires more { HasMore shared.now work.old }
-    ensures { Turned shared.now work.old.piece.from work.new result }
+    ensures { Turned shared.now work.old.piece work.new result }
 {
     shared.laws();
     work.piece.segment().follows(shared.yard());
@@ -123,7 +123,7 @@ pub(crate) fn valued(
 pub(crate) fn printed(alloc: Global, shared: &Shared<'_>, work: &mut Work) -> Turn
     requires due { IsDue shared.now work.old kinds.Print }
     requires more { HasMore shared.now work.old }
-    ensures { Turned shared.now work.old.piece.from work.new result }
+    ensures { Turned shared.now work.old.piece work.new result }
 {
     shared.laws();
     let number = number_asked(&work.chain);

@@ -36,7 +36,7 @@ fn frame_begun(shared: &Shared<'_>, at: Pos) -> FrameNo
 pub(crate) fn spawned(alloc: Global, shared: &Shared<'_>, work: &mut Work) -> Turn
     requires due { (child : ℕ) × IsDue shared.now work.old (kinds.Spawn child) }
     requires more { HasMore shared.now work.old }
-    ensures { Turned shared.now work.old.piece.from work.new result }
+    ensures { Turned shared.now work.old.piece work.new result }
 {
     let at = work.piece.upto();
     shared.laws();
@@ -55,7 +55,7 @@ pub(crate) fn spawned(alloc: Global, shared: &Shared<'_>, work: &mut Work) -> Tu
 pub(crate) fn called(alloc: Global, shared: &Shared<'_>, work: &mut Work) -> Turn
     requires due { (child : ℕ) × IsDue shared.now work.old (kinds.Call child) }
     requires more { HasMore shared.now work.old }
-    ensures { Turned shared.now work.old.piece.from work.new result }
+    ensures { Turned shared.now work.old.piece work.new result }
 {
     let at = work.piece.upto();
     shared.laws();

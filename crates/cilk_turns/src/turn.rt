@@ -40,7 +40,7 @@ fn departed(shared: &Shared<'_>, work: &Work) -> Turn
     requires works { Works shared.now work.now }
     requires within { work.now.piece.upto ≤ length (story_in shared.now).events }
     requires differs { IsAsked (story_in shared.now) work.now.piece.upto → ⊥ }
-    ensures { Turned shared.now work.now.piece.from work.now result }
+    ensures { Turned shared.now work.now.piece work.now result }
 {
     shared.course().resumes();
     let segment = work.piece.segment();
@@ -52,7 +52,7 @@ fn departed(shared: &Shared<'_>, work: &Work) -> Turn
 fn resumed(shared: &Shared<'_>, work: &mut Work) -> Turn
     requires due { (parent : ℕ) × IsDue shared.now work.old (kinds.Resume parent) }
     requires more { HasMore shared.now work.old }
-    ensures { Turned shared.now work.old.piece.from work.new result }
+    ensures { Turned shared.now work.old.piece work.new result }
 {
     match shared.resumed_by(work.piece.upto()) {
         Some(ticket) => taken(shared, work, ticket),
@@ -65,7 +65,7 @@ fn made(alloc: Global, shared: &Shared<'_>, work: &mut Work, frame: FrameNo, kin
     requires due { IsDue shared.now work.old kind }
     requires more { HasMore shared.now work.old }
     requires frame { IsInFrame (story_in shared.now).events work.old.piece.upto frame }
-    ensures { Turned shared.now work.old.piece.from work.new result }
+    ensures { Turned shared.now work.old.piece work.new result }
 {
     match kind {
         Kind::Begin { .. } => passed(shared, work),
@@ -87,7 +87,7 @@ fn made(alloc: Global, shared: &Shared<'_>, work: &mut Work, frame: FrameNo, kin
 /// Makes one event of the run.
 pub fn act(alloc: Global, shared: &Shared<'_>, work: &mut Work) -> Turn
     requires { Works shared.now work.old }
-    ensures { Turned shared.now work.old.piece.from work.new result }
+    ensures { Turned shared.now work.old.piece work.new result }
 {
     let at = work.piece.upto();
     shared.laws();

@@ -1,3 +1,2 @@
 pub mod Begun
 pub mod Keys
-pub mod Shelved

@@ -74,5 +74,5 @@ returns c =
         result = subst (λ v. IsResult y v) (sym (to_z-of_z w64 c.result_asked-value.result (record { sfits = c.result_asked-value.type_inv })))
             (ended_with y c.args.work.now.chain p.upto c.result_asked-value.result works.stands c.laws.ensures.same c.result_asked-value.ensures c.laws.ensures.words followed last);
       },
-      g.1,
+      c.finish.ensures,
     )

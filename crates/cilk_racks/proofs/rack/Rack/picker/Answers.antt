@@ -1,5 +1,5 @@
-use Rattle.cilk_racks.proofs.Moves.{admits}
+use Rattle.cilk_racks.proofs.Moves.{parts}
 use Rattle.cilk_racks.proofs.rack.Rack.picker.Goals as goal
 
-pub pass-pass-requires : goal.pass-pass-requires
-pass-pass-requires g c = admits g.N.Naming.course
+pub another-pass-requires : goal.another-pass-requires
+another-pass-requires g c = parts g.N.Naming.course _ c.args.self.now.owner _ c.args.self.now.first

@@ -1,0 +1,50 @@
+use Rattle.std.proofs.Common.{◌≡◌, [], Some, refl, sym, subst}
+use Rattle.std.specs.Prelude.{All}
+use Rattle.cilk_types.specs.declared.event.Event.TheVariants.{Sync}
+use Rattle.cilk_story.specs.declared.story.Story.{Story}
+use Rattle.cilk_story.specs.Word.{event}
+use Rattle.cilk_plan.specs.Along.{IsAlong}
+use Rattle.cilk_pieces.specs.Pieces.{PieceValue}
+use Rattle.cilk_pieces.specs.Reducers.{events_at}
+use Rattle.cilk_pieces.specs.Settled.{AreSettled}
+use Rattle.cilk_boxes.specs.Rows.{OfRun, run_of}
+use Rattle.cilk_turns.specs.Shared.{SharedValue}
+use Rattle.cilk_threads.proofs.Cells.{cells_along}
+use Rattle.cilk_threads.proofs.Whole.{syncs_along}
+use Rattle.cilk_worker_tests.proofs.works.tried_on.Goals as goal
+
+pub new-shared-requires-clause-along : goal.new-shared-requires-clause-along
+new-shared-requires-clause-along g c = subst (λ (s : Story). IsAlong s c.args.yard.now.story) (sym c.events.ensures.story) c.requires.along
+
+pub new-shared-requires-clause-cells : goal.new-shared-requires-clause-cells
+new-shared-requires-clause-cells g c = cells_along c.args.plan.now.run c.args.plan.now.story c.args.yard.now.story c.laws.ensures.plan c.requires.along
+
+pub new-shared-requires-clause-numbers : goal.new-shared-requires-clause-numbers
+new-shared-requires-clause-numbers g c =
+    let w = c.args.plan.now in
+    c.accepted_stories_have_numbers.ensures w.run c.args.plan.now.story.opening c.args.input c.args.yard.now.story c.args.table.now c.laws.ensures.determinate c.requires.table.0 c.inputs_are_words.ensures c.requires.story
+
+pub new-piece-requires-clause-settled : goal.new-piece-requires-clause-settled
+new-piece-requires-clause-settled g c =
+    subst (λ (s : Story). AreSettled s c.args.table.now) (sym c.requires.segment.0.1)
+    (c.requires.table.0.settled c.args.plan.now.story c.args.yard.now.story c.laws.ensures.plan c.requires.along)
+
+pub new-piece-requires-clause-quiet : goal.new-piece-requires-clause-quiet
+new-piece-requires-clause-quiet g c =
+    subst (λ (s : Story). events_at s c.args.table.now 1 ≡ []) (sym c.requires.segment.0.1)
+    (c.requires.table.0.quiet c.args.plan.now.story c.args.yard.now.story c.laws.ensures.plan c.requires.along)
+
+pub first-requires : goal.first-requires
+first-requires g c =
+    let on = c.requires.segment in
+    let x = c.new-piece.result in
+    record {
+      piece = subst (λ (y : SharedValue). OfRun y.run x × (x.from ≡ 1) × (x.upto ≡ 2)) (sym c.new-shared.ensures)
+          (subst (λ (z : PieceValue). OfRun (run_of c.args.yard.now c.args.table.now) z × (z.from ≡ 1) × (z.upto ≡ 2)) (sym c.new-piece.ensures)
+          ((on.0.0, on.0.1, refl), on.1, on.2));
+    }
+
+pub joined-requires-clause-syncs : goal.joined-requires-clause-syncs
+joined-requires-clause-syncs g c =
+    subst (λ (y : SharedValue). All (λ at. event y.run.story at ≡ Some Sync) c.syncs.result.now) (sym c.new-shared.ensures)
+    (syncs_along c.args.plan.now.story c.args.yard.now.story c.requires.along c.syncs.result.now c.syncs.ensures)

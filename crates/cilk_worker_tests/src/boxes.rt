@@ -1,0 +1,198 @@
+//! A join box: the pieces of a block's children come in another order than the run's, and the `sync`'s own comes last.
+
+ghost use Rattle.std.specs.Prelude.{◌≡◌, ◌<◌, IfSome, None, length};
+ghost use Rattle.cilk_boxes.specs.Rows.{IsGood};
+ghost use Rattle.cilk_chains.specs.Chains.{standing};
+ghost use Rattle.cilk_turns.specs.Turns.{Works};
+ghost use Rattle.cilk_workers.specs.Keys.{AreSyncs};
+
+use crate::works::{Blocks, Trial, tried};
+use cilk_boxes::join::{Boxed, JoinBox};
+use cilk_chains::chain::{Chain, Task};
+use cilk_pieces::piece::Piece;
+use cilk_turns::shared::Shared;
+use cilk_turns::turn::{act, begin};
+use cilk_turns::work::{Turn, Work};
+use cilk_types::event::Pos;
+use cilk_workers::doors::{Arrival, block_at, position};
+use std::alloc::Global;
+use std::process::Abort;
+use std::test::Fail;
+
+// Four spawned calls of one block.
+const CALLS: &str = "void f() { } \
+    int main() { cilk_spawn f(); cilk_spawn f(); cilk_spawn f(); cilk_spawn f(); cilk_sync; return 0; }";
+
+// No fewer than the turns of a piece.
+const TURNS: u32 = 20;
+
+/// What a worker comes to: its piece, its chain where that stands at the `sync`, and the last task that it offered.
+#[derive(Drop)]
+struct Stretch {
+    piece: Piece,
+    chain: Option<Chain>,
+    task: Option<Task>,
+}
+
+// The turns of a piece, up to the end of a child or to the `sync`.
+fn made<R: Abort>(rt: &R, alloc: Global, shared: &Shared<'_>, mut work: Work) -> Stretch
+    requires { Works shared.now work }
+    ensures piece { IsGood shared.now.run result.piece }
+    ensures chain { IfSome result.chain (λ c. c ≡ standing shared.now.course result.piece.upto) }
+    ensures task { IfSome result.task (λ t. t.of ≡ shared.now.course) }
+{
+    let mut task = None;
+    'each: for _ in 0..TURNS {
+        match act(alloc, shared, &mut work) {
+            Turn::Goes => {}
+            Turn::Offers(offered) => task = Some(offered),
+            Turn::Ended => {
+                let Work { piece, chain: _ } = work;
+                return Stretch {
+                    piece,
+                    chain: None,
+                    task,
+                };
+            }
+            Turn::Arrives => {
+                let Work { piece, chain } = work;
+                return Stretch {
+                    piece,
+                    chain: Some(chain),
+                    task,
+                };
+            }
+            _ => panic!(rt; "another turn"),
+        }
+    }
+    panic!(rt; "no end");
+}
+
+// A thief takes the continuation beside a child.
+fn steal<R: Abort>(rt: &R, found: &mut JoinBox, key: Pos, goes_on: Pos)
+    ensures { (found.new.rows.of ≡ found.old.rows.of) × (found.new.course ≡ found.old.course) }
+{
+    assert!(rt; found.open(key, goes_on));
+    assert!(rt; found.steal(key, goes_on).is_ok());
+}
+
+// A child's piece, and what the thief of the continuation beside it begins with.
+fn child<R: Abort>(
+    rt: &R,
+    alloc: Global,
+    shared: &Shared<'_>,
+    found: &mut JoinBox,
+    begun: Stretch,
+) -> (Arrival, Work)
+    requires piece { IsGood shared.now.run begun.piece }
+    requires task { IfSome begun.task (λ t. t.of ≡ shared.now.course) }
+    ensures same { (found.new.rows.of ≡ found.old.rows.of) × (found.new.course ≡ found.old.course) }
+    ensures piece { IsGood shared.now.run result.0.piece }
+    ensures chain { result.0.chain ≡ None }
+    ensures works { Works shared.now result.1 }
+{
+    let Stretch {
+        piece,
+        chain: _,
+        task,
+    } = begun;
+    let Some(task) = task else {
+        panic!(rt; "no task");
+    };
+    let by = task.ticket();
+    steal(rt, found, by, task.at());
+    let (piece, spare) = piece.apart(alloc, shared.yard(), shared.reducers());
+    let Ok(work) = begin(shared, spare, task) else {
+        panic!(rt; "not taken");
+    };
+    let chain = None;
+    (Arrival { by, piece, chain }, work)
+}
+
+// A piece comes to the box; how many are kept then, or none where the block passes.
+fn come<R: Abort>(
+    rt: &R,
+    alloc: Global,
+    shared: &Shared<'_>,
+    found: &mut JoinBox,
+    arrival: Arrival,
+) -> Option<usize>
+    requires run { (found.old.rows.of ≡ shared.now.run) × (found.old.course ≡ shared.now.course) }
+    requires piece { IsGood shared.now.run arrival.piece }
+    requires chain { IfSome arrival.chain (λ c. c ≡ standing shared.now.course arrival.piece.upto) }
+    ensures same { (found.new.rows.of ≡ found.old.rows.of) × (found.new.course ≡ found.old.course) }
+{
+    let Arrival { by, piece, chain } = arrival;
+    assert!(rt; found.fits(by, &piece, chain.is_some()));
+    match found.arrive(alloc, shared.yard(), by, piece, chain) {
+        Ok(Boxed::Waits) => Some(found.parts()),
+        Ok(Boxed::Passes(_, _)) => None,
+        Err(_) => panic!(rt; "no memory"),
+    }
+}
+
+// The box of a block.
+fn box_of(alloc: Global, shared: &Shared<'_>, blocks: &Blocks<'_>, block: usize) -> JoinBox
+    requires syncs { AreSyncs shared.now blocks.now.syncs.now }
+    requires block { block < length blocks.now.syncs.now }
+    ensures { (result.rows.of ≡ shared.now.run) × (result.course ≡ shared.now.course) }
+{
+    let sync = position(blocks.syncs, block);
+    JoinBox::new(
+        alloc,
+        shared.yard(),
+        shared.reducers(),
+        shared.course(),
+        sync,
+    )
+}
+
+// The box of a position's block.
+fn box_at<R: Abort>(
+    rt: &R,
+    alloc: Global,
+    shared: &Shared<'_>,
+    blocks: &Blocks<'_>,
+    at: Pos,
+) -> JoinBox
+    requires { AreSyncs shared.now blocks.now.syncs.now }
+    ensures { (result.rows.of ≡ shared.now.run) × (result.course ≡ shared.now.course) }
+{
+    let Some(block) = block_at(blocks.of, at, blocks.syncs.len()) else {
+        panic!(rt; "no block");
+    };
+    box_of(alloc, shared, blocks, block)
+}
+
+/// Four children's pieces come, the last child's first, and then the block's own.
+pub fn joined<R: Abort>(rt: &R, alloc: Global, shared: &Shared<'_>, blocks: &Blocks<'_>, work: Work)
+    requires syncs { AreSyncs shared.now blocks.now.syncs.now }
+    requires works { Works shared.now work }
+{
+    let begun = made(rt, alloc, shared, work);
+    let mut found = box_at(rt, alloc, shared, blocks, begun.piece.upto());
+    let (first, work) = child(rt, alloc, shared, &mut found, begun);
+    let begun = made(rt, alloc, shared, work);
+    let (second, work) = child(rt, alloc, shared, &mut found, begun);
+    let begun = made(rt, alloc, shared, work);
+    let (third, work) = child(rt, alloc, shared, &mut found, begun);
+    let begun = made(rt, alloc, shared, work);
+    let (fourth, work) = child(rt, alloc, shared, &mut found, begun);
+    let Stretch {
+        piece,
+        chain,
+        task: _,
+    } = made(rt, alloc, shared, work);
+    let by = piece.upto();
+    assert!(rt; come(rt, alloc, shared, &mut found, fourth) == Some(1));
+    assert!(rt; come(rt, alloc, shared, &mut found, second) == Some(2));
+    assert!(rt; come(rt, alloc, shared, &mut found, third) == Some(1));
+    assert!(rt; come(rt, alloc, shared, &mut found, first) == Some(1));
+    assert!(rt; come(rt, alloc, shared, &mut found, Arrival { by, piece, chain }).is_none());
+}
+
+#[test]
+fn pieces_come_in_another_order(rt: HostRuntime) -> Result<(), Fail> {
+    tried(&rt, rt.alloc(), CALLS, Trial::JoinBox);
+    Ok(())
+}

@@ -1,0 +1,93 @@
+//! Tasks on a rack: another worker takes the one that was offered first, and the rack's own worker the one that was
+//! offered last.
+
+ghost use Rattle.std.specs.Prelude.{◌≡◌};
+ghost use Rattle.cilk_turns.specs.Turns.{Works};
+ghost use Rattle.cilk_workers.specs.Names.{IsName};
+
+use crate::works::{Trial, tried};
+use cilk_chains::chain::Task;
+use cilk_racks::naming::Naming;
+use cilk_racks::rack::Rack;
+use cilk_turns::shared::Shared;
+use cilk_turns::turn::act;
+use cilk_turns::work::{Turn, Work};
+use cilk_types::event::Pos;
+use std::alloc::Global;
+use std::process::Abort;
+use std::test::Fail;
+
+// Three spawned calls, each within the one before.
+const NESTED: &str = "void c() { } \
+    void b() { cilk_spawn c(); cilk_sync; } \
+    void a() { cilk_spawn b(); cilk_sync; } \
+    int main() { cilk_spawn a(); cilk_sync; return 0; }";
+
+// No fewer than the turns up to the end of the innermost call.
+const TURNS: u32 = 20;
+
+// A task is put on the rack.
+fn put<N: Naming, R: Abort>(rt: &R, shared: &Shared<'_>, rack: &mut Rack<N>, task: Task)
+    requires name { IsName N.run N.course shared.now }
+    requires task { task.of ≡ shared.now.course }
+{
+    let _ = shared;
+    assert!(rt; rack.offer(task).is_ok());
+}
+
+// The turns up to the end of the innermost call; what they offer lies on the rack.
+fn offers<N: Naming, R: Abort>(
+    rt: &R,
+    alloc: Global,
+    shared: &Shared<'_>,
+    rack: &mut Rack<N>,
+    mut work: Work,
+)
+    requires name { IsName N.run N.course shared.now }
+    requires works { Works shared.now work }
+{
+    'each: for _ in 0..TURNS {
+        match act(alloc, shared, &mut work) {
+            Turn::Goes => {}
+            Turn::Offers(task) => put::<N, R>(rt, shared, rack, task),
+            _ => return,
+        }
+    }
+}
+
+fn ticket(rt: &impl Abort, task: Option<Task>) -> Pos {
+    match task {
+        Some(task) => task.ticket(),
+        None => panic!(rt; "no task"),
+    }
+}
+
+/// Three tasks are offered and taken.
+pub fn taken<N: Naming, R: Abort>(rt: &R, alloc: Global, shared: &Shared<'_>, work: Work)
+    requires name { IsName N.run N.course shared.now }
+    requires works { Works shared.now work }
+{
+    let Ok(mut rack) = Rack::<N>::new(alloc, 1) else {
+        panic!(rt; "no memory for a rack");
+    };
+    assert!(rt; rack.newest().is_none());
+    let Ok(mut picker) = rack.picker() else {
+        panic!(rt; "no memory for a picker");
+    };
+    assert!(rt; picker.oldest().is_none());
+    offers::<N, R>(rt, alloc, shared, &mut rack, work);
+    let outer = ticket(rt, picker.oldest());
+    let inner = ticket(rt, rack.newest());
+    let between = ticket(rt, rack.newest());
+    assert!(rt;
+        outer < between && between < inner,
+        "{outer} {between} {inner}"
+    );
+    assert!(rt; rack.newest().is_none() && picker.oldest().is_none());
+}
+
+#[test]
+fn tasks_are_taken_from_both_ends(rt: HostRuntime) -> Result<(), Fail> {
+    tried(&rt, rt.alloc(), NESTED, Trial::Rack);
+    Ok(())
+}

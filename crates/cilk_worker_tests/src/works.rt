@@ -1,0 +1,97 @@
+//! What a worker begins with on an accepted program's plan, without a crew.
+
+ghost use Rattle.std.specs.Prelude.{◌≡◌};
+ghost use Rattle.cilk_pieces.specs.Reducers.{HasFew};
+ghost use Rattle.cilk_plan.specs.Along.{IsAlong};
+ghost use Rattle.cilk_planning.specs.Plans.{IsStoryOn};
+ghost use Rattle.cilk_settling.specs.Accepted.{IsTableOf};
+ghost use Rattle.cilk_shared.specs.Values.{OfYard};
+
+use crate::boxes::joined;
+use crate::racks::taken;
+use crate::texts::{accepted, input_of, planned};
+use cilk_courses::course::course;
+use cilk_determinacy::words::inputs_are_words;
+use cilk_pieces::piece::Piece;
+use cilk_pieces::reducers::Reducers;
+use cilk_planning::program_plan::ProgramPlan;
+use cilk_planning::yards::yard;
+use cilk_settling::laws::accepted_stories_have_numbers;
+use cilk_settling::table::plan_reducers;
+use cilk_shared::yard::{Segment, Yard};
+use cilk_turns::shared::Shared;
+use cilk_turns::turn::first;
+use cilk_types::event::Pos;
+use cilk_types::input::Input;
+use std::alloc::Global;
+use std::marker::Brand;
+use std::process::Abort;
+
+/// What is tried with it.
+#[derive(Clone, Copy)]
+pub enum Trial {
+    /// Tasks are offered and taken.
+    Rack,
+    /// Pieces come to a join box.
+    JoinBox,
+}
+
+/// The blocks of a plan: their syncs' positions, and the number of each position's block.
+#[derive(Clone, Copy)]
+pub struct Blocks<'a> {
+    pub syncs: &'a [Pos],
+    pub of: &'a [u32],
+}
+
+// The trial, on the plan's run.
+fn tried_on<R: Abort>(
+    rt: &R,
+    alloc: Global,
+    plan: &ProgramPlan<'_>,
+    input: Input,
+    table: &Reducers,
+    yard: &Yard,
+    segment: Segment,
+    trial: Trial,
+)
+    requires table { IsTableOf plan.now.run table.now × HasFew table.now }
+    requires story { IsStoryOn plan.now.run plan.now.story.opening input yard.now.story }
+    requires along { IsAlong plan.now.story yard.now.story }
+    requires segment { OfYard yard.now segment × (segment.from ≡ 1) × (segment.upto ≡ 2) }
+{
+    accepted_stories_have_numbers();
+    inputs_are_words(&input);
+    plan.laws();
+    let Ok(course) = course(alloc, plan, yard, input) else {
+        panic!(rt; "no memory for the course");
+    };
+    let shared = Shared::new(yard, plan.events(), table, &course);
+    let piece = Piece::new(alloc, yard, segment, table);
+    let Ok(work) = first(alloc, &shared, piece) else {
+        panic!(rt; "no memory for a frame");
+    };
+    match trial {
+        Trial::Rack => taken::<Brand, R>(rt, alloc, &shared, work),
+        Trial::JoinBox => {
+            let blocks = Blocks {
+                syncs: plan.syncs(),
+                of: plan.blocks(),
+            };
+            joined(rt, alloc, &shared, &blocks, work);
+        }
+    }
+}
+
+/// The trial, on the run of a program without input.
+pub fn tried<R: Abort>(rt: &R, alloc: Global, text: &str, trial: Trial) {
+    let accepted = accepted(rt, alloc, text, "");
+    let plan = planned(rt, alloc, &accepted);
+    let input = input_of(rt, alloc, "");
+    let Ok(table) = plan_reducers(alloc, &plan) else {
+        panic!(rt; "no memory for the reducers");
+    };
+    let Ok((yard, segment)) = yard(alloc, &plan, &input) else {
+        panic!(rt; "no memory for the yard");
+    };
+    tried_on(rt, alloc, &plan, input, &table, &yard, segment, trial);
+}
