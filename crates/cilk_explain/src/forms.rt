@@ -8,7 +8,7 @@ use crate::sites::{
     cast_at, closed_head, head_of, is_in_first_value, is_in_head_of_main, is_in_length,
     is_in_reducer,
 };
-use crate::spelling::misspelt_near;
+use crate::spelling::{is_misspelt_reducer, misspelt_near};
 use crate::tokens::Tokens;
 use crate::unended::{missing_mark, unpaired};
 use crate::uses::of_use;
@@ -23,6 +23,9 @@ pub fn no_form<'a>(tokens: &Tokens<'a>, number: usize, wanted: &Wanted<'_>) -> O
     }
     if let Some(cure) = of_words(&site) {
         return Some(Hint::Advice(cure));
+    }
+    if is_misspelt_reducer(tokens, number) {
+        return Some(Hint::Advice(REDUCER));
     }
     if let Some(reserved) = misspelt_near(tokens, number) {
         return Some(Hint::Reserved(reserved));

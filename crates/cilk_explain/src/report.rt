@@ -92,16 +92,28 @@ pub fn of_text(
         number,
         at,
     } = *finding;
-    let Location { line, column } = locate(text, at);
+    let place = if number == 115 { end_of(text) } else { at };
+    let Location { line, column } = locate(text, place);
     let title = title_of(number);
     let mut report = format!(in alloc; "{file}:{line}:{column}: error {number}: {title}\n")?;
-    push_excerpt(alloc, &mut report, text, at)?;
+    push_excerpt(alloc, &mut report, text, place)?;
     let tokens = Tokens::new(alloc, text)?;
     let found = at_hand(alloc, &tokens, number, at, wanted.words)?;
     push_line(&mut report, "reason", found.as_str())?;
     let advice = advice(alloc, &tokens, number, at, wanted)?;
     push_line(&mut report, "hint", advice.as_str())?;
     Ok(report)
+}
+
+// The place behind the last byte of a text that isn't blank.
+fn end_of(text: &[u8]) -> usize {
+    let mut end = 0;
+    for (place, byte) in text.iter().enumerate() {
+        if !byte.is_ascii_whitespace() {
+            end = place.saturating_add(1);
+        }
+    }
+    end
 }
 
 /// What stands behind the line of a refusal that isn't of a byte: of a line, an event or a run.

@@ -46,8 +46,15 @@ pub fn is_type_word(word: &[u8]) -> bool {
     match word {
         b"int" | b"void" | b"const" | b"volatile" => true,
         b"typedef" | b"enum" | b"REDUCER_VIEW" => false,
-        _ => !word.starts_with(b"CILK_C_") && other_type(word).is_some(),
+        _ => !is_reducer_word(word) && other_type(word).is_some(),
     }
+}
+
+// Whether a word is one by which OpenCilk, or Cilk Plus, declares a reducer.
+fn is_reducer_word(word: &[u8]) -> bool {
+    word.starts_with(b"CILK_C_")
+        || word.starts_with(b"cilk_reducer_")
+        || word.starts_with(b"reducer_op")
 }
 
 /// What is said of a type ahead of an operand.
@@ -58,13 +65,18 @@ pub fn cast_to(word: &[u8]) -> &'static str {
     }
 }
 
+const UNSIGNED: &str =
+    "`int` is the only type; its 64 bits have a sign. What wraps at 32 bits, as the seed of a generator of random \
+     numbers, is kept below 2^32 by `%`: `seed = (seed * 1664525 + 1013904223) % 4294967296;`";
+
 // The cure of another type, or a word of OpenCilk's reducers.
 fn other_type(word: &[u8]) -> Option<&'static str> {
     match word {
         b"long" | b"short" | b"int64_t" | b"int32_t" | b"int16_t" | b"int8_t" | b"size_t" => {
             Some("`int` is the only type, and has 64 bits")
         }
-        b"unsigned" | b"signed" | b"uint64_t" | b"uint32_t" | b"uint16_t" | b"uint8_t" => {
+        b"unsigned" | b"uint32_t" => Some(UNSIGNED),
+        b"signed" | b"uint64_t" | b"uint16_t" | b"uint8_t" => {
             Some("`int` is the only type; its 64 bits have a sign")
         }
         b"char" => Some("`int` is the only type; a character is its number"),
@@ -75,7 +87,7 @@ fn other_type(word: &[u8]) -> Option<&'static str> {
         b"struct" | b"union" | b"class" => Some(STRUCTURES),
         b"typedef" => Some("`int` is the only type, and needs no other name"),
         b"REDUCER_VIEW" => Some(REDUCER_USE),
-        _ if word.starts_with(b"CILK_C_") => Some(REDUCER),
+        _ if is_reducer_word(word) => Some(REDUCER),
         _ => None,
     }
 }

@@ -4,6 +4,7 @@ use crate::case::Case;
 use crate::naming::word;
 use crate::notes::{plural, push_line, push_place};
 use crate::paths::{chain, push_path};
+use crate::repeats::of_repeated;
 use crate::runs::Run;
 use cilk_explain::reasons::reason_of;
 use cilk_places::map::GlobalName;
@@ -171,6 +172,11 @@ fn cure(
     step: StepNote,
     depth: usize,
 ) -> Result<String, AllocError> {
+    if fault == Fault::TooManyFrames {
+        if let Some(cure) = of_repeated(case, run, step)? {
+            return Ok(cure);
+        }
+    }
     let is_loop = match run.replay.frames.get(step.frame) {
         Some(note) => matches!(note.body, Body::Loop(_)),
         None => false,

@@ -19,6 +19,8 @@ mod naming;
 mod notes;
 mod paths;
 pub mod races;
+mod repeats;
 pub mod runs;
 pub mod schedules;
+mod sharing;
 mod statements;

@@ -7,7 +7,8 @@ use crate::naming::{accessed, function_of, reducer_name};
 use crate::notes::{place_of, push_line, push_place};
 use crate::paths::{chain, halves, invoked_at, push_path, turns_of};
 use crate::runs::Run;
-use crate::schedules::{Schedule, push_schedule};
+use crate::schedules::{Played, Schedule, made_by, push_schedule};
+use crate::sharing::{Ways, common_cure, kept_cure};
 use crate::statements::parted_at;
 use cilk_explain::reasons::reason_of;
 use cilk_places::replay::{FrameNote, StepNote};
@@ -59,7 +60,38 @@ pub fn of_race(
     } else {
         push_first_child(case, &run, &mut report, earlier, later)?;
     }
-    with_reason(report, number)
+    let cure = match run.event(later) {
+        Some(Event::Value { .. }) => kept_cure(case, place(case, &run, later))?,
+        _ => None,
+    };
+    with_hint(report, cure, number)
+}
+
+/// The script of a schedule that makes the later of the two first, where there is one of two workers, which was played. The
+/// positions count from 1.
+pub fn script_of_race(
+    case: &Case<'_>,
+    number: u16,
+    earlier: u64,
+    later: u64,
+) -> Result<Option<String>, AllocError> {
+    let Some(run) = Run::of(case)? else {
+        return Ok(None);
+    };
+    let earlier = (earlier as usize).saturating_sub(1);
+    let later = (later as usize).saturating_sub(1);
+    let pair = if number == 311 {
+        of_accesses(&run, earlier, later)
+    } else {
+        of_views(case, &run, earlier, later)?
+    };
+    let Some(pair) = pair else {
+        return Ok(None);
+    };
+    match made_by(case, &schedule_of(&run, &pair))? {
+        Some(Played { script, .. }) => Ok(Some(script)),
+        None => Ok(None),
+    }
 }
 
 // A report, and behind it the cure of a race of accesses.
@@ -80,16 +112,35 @@ fn with_cure(
         _ => false,
     };
     let cure = match run.event(later) {
-        Some(event) => cure_of(case, run, &event, in_turns)?,
+        Some(event) => match common_cure(case, run, &event, &ways_of(case, run, pair))? {
+            None => cure_of(case, run, &event, in_turns)?,
+            cure => cure,
+        },
         None => None,
     };
+    with_hint(report, cure, 311)
+}
+
+// A report, and behind it a cure, or else that which stands by a number.
+fn with_hint(report: String, cure: Option<String>, number: u16) -> Result<String, AllocError> {
     let mut report = report;
     match cure {
         Some(cure) => {
             push_line(&mut report, "hint", cure.as_str())?;
             Ok(report)
         }
-        None => with_reason(report, 311),
+        None => with_reason(report, number),
+    }
+}
+
+// The ways to two accesses, for a cure.
+fn ways_of(case: &Case<'_>, run: &Run, pair: &Pair) -> Ways {
+    Ways {
+        earlier: pair.beside,
+        later: pair.second,
+        common: pair.common,
+        child: pair.child,
+        leaves_at: leaving(case, run, pair),
     }
 }
 

@@ -32,26 +32,41 @@ impl Schedule {
     }
 }
 
-/// What a schedule leaves, in words, and its script. It is played first, and nothing is told of one that `play` refuses.
+/// A script that `play` took, and what it leaves, in words.
+#[derive(Drop)]
+pub struct Played {
+    pub script: String,
+    pub leaves: String,
+}
+
+/// The script of a schedule, which is played first; nothing where `play` refuses it.
+pub fn made_by(case: &Case<'_>, schedule: &Schedule) -> Result<Option<Played>, AllocError> {
+    let alloc = case.alloc;
+    let script = schedule.script(case)?;
+    let Ok(steps) = read(alloc, script.as_bytes()) else {
+        return Ok(None);
+    };
+    let leaves = match play(alloc, &case.program, &case.input, 2, steps.as_slice()) {
+        Ok(Some(outcome)) => left(case, &outcome)?,
+        Ok(None) => return Ok(None),
+        Err(fault) => match stopped(alloc, &fault)? {
+            Some(told) => told,
+            None => return Ok(None),
+        },
+    };
+    Ok(Some(Played { script, leaves }))
+}
+
+/// What a schedule leaves, in words, and its script, where `play` takes it.
 pub fn push_schedule(
     case: &Case<'_>,
     report: &mut String,
     schedule: &Schedule,
 ) -> Result<(), AllocError> {
-    let alloc = case.alloc;
-    let script = schedule.script(case)?;
-    let Ok(steps) = read(alloc, script.as_bytes()) else {
+    let Some(Played { script, leaves }) = made_by(case, schedule)? else {
         return Ok(());
     };
-    let told = match play(alloc, &case.program, &case.input, 2, steps.as_slice()) {
-        Ok(Some(outcome)) => left(case, &outcome)?,
-        Ok(None) => return Ok(()),
-        Err(fault) => match stopped(alloc, &fault)? {
-            Some(told) => told,
-            None => return Ok(()),
-        },
-    };
-    push_line(report, "schedule", told.as_str())?;
+    push_line(report, "schedule", leaves.as_str())?;
     for line in script.as_str().lines() {
         report.push_str("  ")?;
         report.push_str(line)?;

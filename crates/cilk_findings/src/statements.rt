@@ -115,8 +115,22 @@ fn end_of(tokens: &Tokens<'_>, first: usize) -> usize {
     tokens.count()
 }
 
-fn stands_in(tokens: &Tokens<'_>, first: usize, number: usize) -> bool {
+/// Whether a token stands in the statement that begins at another one.
+pub fn stands_in(tokens: &Tokens<'_>, first: usize, number: usize) -> bool {
     first <= number && number < end_of(tokens, first)
+}
+
+/// The innermost `while` or `for` in which a token stands.
+pub fn loop_round(tokens: &Tokens<'_>, number: usize) -> Option<usize> {
+    let mut found = None;
+    for first in 0..number {
+        if matches!(tokens.kind(first), Some(Kind::While | Kind::For))
+            && stands_in(tokens, first, number)
+        {
+            found = Some(first);
+        }
+    }
+    found
 }
 
 // Whether a token stands in a loop's head where that is come to again behind each turn.
@@ -146,8 +160,8 @@ fn at_end(tokens: &Tokens<'_>, first: usize) -> Parting {
     }
 }
 
-// The token behind the head of a loop.
-fn behind_head(tokens: &Tokens<'_>, first: usize) -> usize {
+/// The token behind the head of a loop, or behind a condition.
+pub fn behind_head(tokens: &Tokens<'_>, first: usize) -> usize {
     let mut depth: usize = 0;
     for number in first..tokens.count() {
         match tokens.kind(number) {

@@ -1,13 +1,19 @@
 -- The words of `measure`.
-use Rattle.std.specs.Prelude.{Bool, false, ◌||◌, not, List, [], ◌∷◌, filter, Option, Some, None, codes}
+use Rattle.std.specs.Prelude.{Bool, false, ◌&&◌, ◌||◌, not, List, [], ◌∷◌, filter, Option, Some, None, codes}
 use Rattle.std.specs.Str.{bytes_eq}
 use Rattle.cilk_tool.specs.Replies.{Text}
 use Rattle.cilk_tool.specs.Words.{Origin, Requested, Run, order_in}
 
--- the first word is `measure`
+-- one word, which asks for help
+abbrev pub is_help : List Text → Bool
+is_help [] = false
+is_help (word ∷ []) = bytes_eq word (codes "--help") || bytes_eq word (codes "-h")
+is_help (word ∷ other ∷ words) = false
+
+-- the first word is `measure`, and what is behind it isn't one word that asks for help
 abbrev pub is_measure : List Text → Bool
 is_measure [] = false
-is_measure (word ∷ words) = bytes_eq word (codes "measure")
+is_measure (word ∷ words) = bytes_eq word (codes "measure") && not (is_help words)
 
 -- one of the words is this one
 abbrev pub asks : Text → List Text → Bool

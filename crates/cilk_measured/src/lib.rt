@@ -24,4 +24,4 @@ mod words;
 pub use again::{CaseTexts, case_texts, read_again};
 pub use text::text_of;
 pub use totals::totals_of;
-pub use words::{asks, is_measure, run_of, run_words, usage_of_measure};
+pub use words::{asks, behind_first, is_help, is_measure, run_of, run_words, usage_of_measure};

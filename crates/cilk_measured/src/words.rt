@@ -1,7 +1,7 @@
 //! The words of `measure`.
 
 ghost use Rattle.std.specs.Prelude.{◌≡◌, IfOk, Some, filter, not, option_map};
-ghost use Rattle.cilk_measured.specs.Words.{asks, behind_first, is_form, is_measure, run_of, words_of_run};
+ghost use Rattle.cilk_measured.specs.Words.{asks, behind_first, is_form, is_help, is_measure, run_of, words_of_run};
 ghost use Rattle.cilk_tool.specs.Replies.{failure_view};
 ghost use Rattle.cilk_tool.specs.Serving.{WordsFail};
 ghost use Rattle.cilk_tool.specs.Words.{order_view, origin_view, texts};
@@ -25,12 +25,22 @@ pub fn usage_of_measure<'a>(alloc: Global) -> Failure<'a>
     }
 }
 
-/// Whether the first word is `measure`.
+/// Whether words are one alone, which asks for help.
+pub fn is_help(words: &[&str]) -> bool
+    ensures { result ≡ is_help (texts words.now) }
+{
+    match words {
+        [word] => *word == "--help" || *word == "-h",
+        _ => false,
+    }
+}
+
+/// Whether the first word is `measure`, and what is behind it isn't one word that asks for help.
 pub fn is_measure(words: &[&str]) -> bool
     ensures { result ≡ is_measure (texts words.now) }
 {
     match words {
-        [first, ..] => *first == "measure",
+        [first, behind @ ..] => *first == "measure" && !is_help(behind),
         [] => false,
     }
 }
@@ -67,8 +77,8 @@ fn unformed<'a>(alloc: Global, words: &[&'a str]) -> Result<Vec<&'a str>, AllocE
         .collect(alloc)
 }
 
-// All but the first.
-fn behind_first<'a, 'b>(words: &'b [&'a str]) -> &'b [&'a str]
+/// All but the first.
+pub fn behind_first<'a, 'b>(words: &'b [&'a str]) -> &'b [&'a str]
     ensures { texts result.now ≡ behind_first (texts words.entry.now) }
 {
     match words {

@@ -1,8 +1,8 @@
 -- What `serve_parallel` shows.
-use Rattle.std.specs.Prelude.{◌≡◌, ◌<◌, ℕ, Bool, true, false, List, [], ◌∷◌, length, Option, Some, None, codes}
+use Rattle.std.specs.Prelude.{◌≡◌, ◌<◌, ◌&&◌, ℕ, Bool, true, false, not, List, [], ◌∷◌, length, Option, Some, None, codes}
 use Rattle.std.specs.Str.{bytes_eq}
-use Rattle.cilk_measured.specs.Words.{is_measure}
-use Rattle.cilk_report.specs.Explained.{ComesBehind, Measures, ServesExplained, ServesThenExplains, is_about, unflagged}
+use Rattle.cilk_measured.specs.Words.{is_help, is_measure}
+use Rattle.cilk_report.specs.Explained.{ComesBehind, Measures, Schedules, ServesExplained, ServesThenExplains, is_about, is_schedule, unflagged, words_of_check}
 use Rattle.cilk_tool.specs.Files.{Failures}
 use Rattle.cilk_tool.specs.Replies.{Reply, Text}
 use Rattle.cilk_tool.specs.Serving.{JudgedReply, Shows, Surroundings, WordsFail, world}
@@ -11,10 +11,10 @@ use Rattle.cilk_tool.specs.Words.{File}
 use Rattle.cilk_parallel.specs.Shown.{ThreadsShow}
 use Rattle.cilk_parallel.specs.Words.{Requested, order_in}
 
--- the first word is `threads`
+-- the first word is `threads`, and what is behind it isn't one word that asks for help
 abbrev pub is_threads : List Text → Bool
 is_threads [] = false
-is_threads (w ∷ words) = bytes_eq w (codes "threads")
+is_threads (w ∷ words) = bytes_eq w (codes "threads") && not (is_help words)
 
 -- what is answered to what the words of `threads` ask for
 abbrev pub Answers : Surroundings → Option Requested → Reply → Type 0
@@ -52,6 +52,8 @@ pub data ServesParallel (words : List Text) (files : Text → Option Text) (inpu
   -- other words are served as `serve_explained` serves them
   Others : is_threads words ≡ false → ServesExplained words files input failed failed' status out out' err err'
       → (tool.order_in words ≡ None → is_measure words ≡ true → Measures words files input failed status out out' err err')
-      → (tool.order_in words ≡ None → is_measure words ≡ false → is_about words ≡ false → length (unflagged words) < length words
+      → (tool.order_in words ≡ None → is_measure words ≡ false → is_schedule words ≡ true
+      → Schedules (words_of_check words) files input failed status out out' err err')
+      → (tool.order_in words ≡ None → is_measure words ≡ false → is_schedule words ≡ false → is_about words ≡ false → length (unflagged words) < length words
       → ServesThenExplains (unflagged words) files input failed status out out' err err')
       → ServesParallel words files input failed failed' status out out' err err'

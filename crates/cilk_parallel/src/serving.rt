@@ -12,6 +12,7 @@ ghost use Rattle.cilk_parallel.specs.Words.{order_in};
 use crate::explaining::{of_ending, of_fault};
 use crate::running::{Ending, carry_out};
 use crate::words::read;
+use cilk_measured::is_help;
 use cilk_report::{follow, serve_explained, unflagged};
 use cilk_tool::files::Files;
 use cilk_tool::reply::{Failure, REFUSED, WRONG};
@@ -32,7 +33,7 @@ pub const NO_CREW: u32 = 501;
 pub const DEPARTED: u32 = 502;
 
 // What stands behind what is said of words that ask for nothing.
-const HINT: &str = "\nhint: `cilk --help` describes `threads` and its options\n";
+const HINT: &str = "\nhint: `cilk help threads` describes `threads` and its options\n";
 
 /// Serves the words after the program's own name: `threads` runs an accepted program by workers on threads, and waits for them; other
 /// words are served as `serve_explained` serves them.
@@ -56,12 +57,12 @@ pub fn serve_parallel<H: Threads + Wait + Sync, F: Files, R: Read, O: Write, E: 
     }
 }
 
-/// Whether the first word is `threads`.
+/// Whether the first word is `threads`, and what is behind it isn't one word that asks for help.
 fn is_threads(words: &[&str]) -> bool
     ensures { result ≡ is_threads (texts words.now) }
 {
     match words {
-        [first, ..] => *first == "threads",
+        [first, behind @ ..] => *first == "threads" && !is_help(behind),
         [] => false,
     }
 }

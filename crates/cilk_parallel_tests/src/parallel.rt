@@ -62,7 +62,7 @@ const TURNS: &str =
     "int a[7]; int main() { int n = input(0); cilk_for (int i = 0; i < n; i++) { a[i] = i; } return a[6]; }";
 
 const NO_CREW: &str =
-    "error: the number of workers is 1 to 64\n\nhint: `cilk --help` describes `threads` and its options\n";
+    "error: the number of workers is 1 to 64\n\nhint: `cilk help threads` describes `threads` and its options\n";
 
 // A call of the tool with these words, over these texts and a certificate.
 fn served<H: Threads + Wait + Sync>(
@@ -242,7 +242,7 @@ fn words_that_ask_for_nothing(rt: HostRuntime) {
         assert!(rt; ended.status == 2 && ended.out.is_empty() && ended.reads == 0);
         assert!(rt; ended.err.starts_with(b"error: "));
         assert!(rt;
-            ended.err.ends_with(b"hint: `cilk --help` describes `threads` and its options\n")
+            ended.err.ends_with(b"hint: `cilk help threads` describes `threads` and its options\n")
         );
     }
 }

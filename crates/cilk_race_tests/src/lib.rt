@@ -1,9 +1,11 @@
-//! Tests of what is told of races and of limits, as whole texts, and of the scripts that are told of races, each
+//! Tests of what is told of races, of limits and of single things, as whole texts, and of the scripts that are told of races, each
 //! played.
 #![tactic(auto)]
 
 #[cfg(test)]
 mod children;
+#[cfg(test)]
+mod counts;
 #[cfg(test)]
 mod limits;
 #[cfg(test)]

@@ -204,8 +204,10 @@ const TURNS: [Race; 8] = [
             run 2 18\n  \
             run 1 41\n  \
             all\n\
-            hint: let each turn write elements of `slot` of its own, by an index that no other turn has, or in \
-            a longer array\n",
+            hint: calls of `visit` that run in parallel share `slot`: give each a part of its own, whose first \
+            place is a parameter (by its depth, where no two calls of one depth run in parallel; else by a number of \
+            the call, which copies there what it needs of the part of the call above); or pass what a call knows as \
+            one number, a digit for each step (`examples/gallery/queens.c`)\n",
         run: "result 1122\n",
         played: "result 122\n",
     },

@@ -1,7 +1,7 @@
 -- How a reply of `serve_explained` comes about.
 --
 -- `ended`, `failed`: an answer to an order, or a failure, is shown as `serve` shows it. `refused`: words that ask for nothing.
--- `starved`: a want of memory. `silence`: nothing follows. `unasked`: words that clap refuses ask for nothing.
+-- `asked_for`: what is answered to an order is answered to its words. `starved`: a want of memory. `silence`: nothing follows. `unasked`: words that clap refuses ask for nothing.
 use Rattle.std.proofs.Common.{◌≡◌, ℕ, Bool, true, Option, None, [], List, sym, subst}
 use Rattle.cilk_report.specs.Explained.{ComesBehind}
 use Rattle.cilk_tool.proofs.Replying.{ends, fails, keeps, no_memory}
@@ -51,3 +51,7 @@ IsUsage faults.Memory = ⊥
 pub unasked : (words : List Text) (e : WordsFault) → IsUsage e → IsWordsFault words e → order_in words ≡ None
 unasked words (faults.Usage text) u h = h
 unasked words faults.Memory u h = absurd u
+
+-- what is answered to an order is answered to its words
+pub asked_for : (words : List Text) (w : Surroundings) (asked : Option Requested) (r : Reply) → order_in words ≡ asked → Answers w asked r → Answers w (order_in words) r
+asked_for words w asked r order h = subst (λ (a : Option Requested). Answers w a r) (sym order) h

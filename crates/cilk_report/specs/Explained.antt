@@ -4,12 +4,12 @@ use Rattle.std.specs.Str.{bytes_eq}
 use Rattle.std.specs.Io.KnownBytes.{Appends}
 use Rattle.cilk_measure.specs.declared.totals.Totals.{Totals}
 use Rattle.cilk_tool.specs.Files.{Failures}
-use Rattle.cilk_tool.specs.Replies.{Ended, NoMemory, Reply, Text, line, status_of}
-use Rattle.cilk_tool.specs.Serving.{RunReply, Serves, ShowsError, WordsFail, world}
+use Rattle.cilk_tool.specs.Replies.{Ended, NoMemory, Refused, Reply, Text, line, status_of}
+use Rattle.cilk_tool.specs.Serving.{Answers, RunReply, Serves, ShowsError, WordsFail, world}
 use Rattle.cilk_tool.specs.Streams.{AppendsFront, AppendsPart}
 use Rattle.cilk_tool.specs.Words.{Origin, order_in}
 use Rattle.cilk_measured.specs.Measured.{AreTotalsOf, IsMeasureText}
-use Rattle.cilk_measured.specs.Words.{is_measure, measured_run}
+use Rattle.cilk_measured.specs.Words.{behind_first, is_help as asks_help, is_measure, measured_run}
 use Rattle.cilk_report.specs.declared.about.About.{About as AboutAnswer}
 use Rattle.cilk_report.specs.declared.about.About.TheVariants as answers
 
@@ -26,12 +26,34 @@ abbrev pub is_option : Text → Bool
 is_option [] = false
 is_option (first ∷ bytes) = first == 45
 
--- the words ask about the tool itself: for its version, or for what all its numbers mean, or one
+-- a word that asks for help
+abbrev pub is_help : Text → Bool
+is_help word = bytes_eq word (codes "--help") || bytes_eq word (codes "-h")
+
+-- the name of a command
+abbrev pub is_command : Text → Bool
+is_command word =
+    bytes_eq word (codes "run") || (bytes_eq word (codes "certify") || (bytes_eq word (codes "check") || (bytes_eq word (codes "threads")
+    || (bytes_eq word (codes "play") || (bytes_eq word (codes "measure") || (bytes_eq word (codes "schedule") || bytes_eq word (codes "explain")))))))
+
+-- a word that asks about the tool by itself: for help, for its version, or for what all its numbers mean
+abbrev pub is_question : Text → Bool
+is_question word =
+    bytes_eq word (codes "help") || (is_help word || (bytes_eq word (codes "--version") || (bytes_eq word (codes "-V")
+    || bytes_eq word (codes "explain"))))
+
+-- two words that ask about the tool: for help on a command, or for what a number means
+abbrev pub is_question_on : Text → Text → Bool
+is_question_on word other =
+    (bytes_eq word (codes "explain") && not (is_option other)) || ((bytes_eq word (codes "help") && is_command other)
+    || (is_command word && is_help other))
+
+-- the words ask about the tool itself: for help, for its version, or for what all its numbers mean, or one
 abbrev pub is_about : List Text → Bool
 is_about [] = false
-is_about (word ∷ []) = bytes_eq word (codes "--version") || (bytes_eq word (codes "-V") || bytes_eq word (codes "explain"))
-is_about (word ∷ number ∷ []) = bytes_eq word (codes "explain") && not (is_option number)
-is_about (word ∷ number ∷ more ∷ words) = false
+is_about (word ∷ []) = is_question word
+is_about (word ∷ other ∷ []) = is_question_on word other
+is_about (word ∷ other ∷ more ∷ words) = false
 
 -- an answer that isn't that the words are about something else
 abbrev pub IsAnswer : AboutAnswer → Type 0
@@ -91,6 +113,30 @@ pub data Measures (words : List Text) (files : Text → Option Text) (input : Op
   -- memory was refused
   OutOfMemory : Complains NoMemory status out out' err err' → Measures words files input failed status out out' err err'
 
+-- the first word is `schedule`, and what is behind it isn't one word that asks for help
+abbrev pub is_schedule : List Text → Bool
+is_schedule [] = false
+is_schedule (word ∷ words) = bytes_eq word (codes "schedule") && not (asks_help words)
+
+-- the words that check what these ask a schedule of: `check`, and those behind the first
+abbrev pub words_of_check : List Text → List Text
+words_of_check words = codes "check" ∷ unflagged (behind_first words)
+
+-- a certificate is refused
+abbrev pub IsRefusal : Reply → Type 0
+IsRefusal (Refused number places) = Unit {0}
+IsRefusal _ = ⊥
+
+-- what comes of the words that check a certificate, where a schedule is asked for
+pub data Schedules (words : List Text) (files : Text → Option Text) (input : Option Text) (failed : Failures)
+    (status : ℕ) (out out' err err' : Option Text) : Type 0 where
+  -- it is refused, and a script is shown
+  Told : (read : Failures) (r : Reply) (script : Text) → Answers (world files input failed read) (order_in words) r → IsRefusal r
+      → WritesText script status out out' err err' → Schedules words files input failed status out out' err err'
+  -- what `check` shows of it, and a text behind that
+  Checked : ServesThenExplains words files input failed status out out' err err'
+      → Schedules words files input failed status out out' err err'
+
 -- What comes of a call over what files hold and what standard input gives, with the failed reads before it and at its end.
 pub data ServesExplained (words : List Text) (files : Text → Option Text) (input : Option Text) (failed failed' : Failures)
     (status : ℕ) (out out' err err' : Option Text) : Type 0 where
@@ -103,6 +149,9 @@ pub data ServesExplained (words : List Text) (files : Text → Option Text) (inp
       → ServesExplained words files input failed failed' status out out' err err'
   -- the words ask nothing of `serve`, and measure a run
   Measuring : order_in words ≡ None → is_measure words ≡ true → Measures words files input failed status out out' err err'
+      → ServesExplained words files input failed failed' status out out' err err'
+  -- the words ask nothing of `serve`, and ask for a schedule
+  Scheduling : order_in words ≡ None → is_schedule words ≡ true → Schedules (words_of_check words) files input failed status out out' err err'
       → ServesExplained words files input failed failed' status out out' err err'
   -- the words ask about the tool itself: a text about it
   About : order_in words ≡ None → is_about words ≡ true → WritesAbout status out out' err err'

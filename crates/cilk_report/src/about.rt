@@ -1,10 +1,10 @@
-//! Words about the tool itself: what a number means, and the version.
+//! Words about the tool itself: its help, what a number means, and the version.
 
 ghost use Rattle.std.specs.Prelude.{◌≡◌, IfOk};
-ghost use Rattle.cilk_report.specs.Explained.{IsAnswer, IsAskedFor, is_about, is_option};
+ghost use Rattle.cilk_report.specs.Explained.{IsAnswer, IsAskedFor, is_about, is_command, is_help, is_option, is_question, is_question_on};
 ghost use Rattle.cilk_tool.specs.Words.{texts};
 
-use crate::help::VERSION;
+use crate::help::{HELP, VERSION, help_on};
 use cilk_explain::report::{of_all, of_number};
 use cilk_lexer::lexer::{all_digits, value_of};
 use std::alloc::{AllocError, Global};
@@ -16,7 +16,7 @@ pub enum About {
     Other,
     /// A text for standard output.
     Text(String),
-    /// What is wrong with the words.
+    /// A text for standard error: the help that is asked for, or what is wrong with the words.
     Wrong(String),
 }
 
@@ -30,13 +30,50 @@ fn is_option(word: &str) -> bool
     }
 }
 
-/// Whether words ask about the tool itself: for its version, or for what its numbers mean.
+/// Whether a word asks for help.
+fn is_help(word: &str) -> bool
+    ensures { result ≡ is_help word.now }
+{
+    word == "--help" || word == "-h"
+}
+
+/// Whether a word is the name of a command.
+fn is_command(word: &str) -> bool
+    ensures { result ≡ is_command word.now }
+{
+    word == "run"
+        || word == "certify"
+        || word == "check"
+        || word == "threads"
+        || word == "play"
+        || word == "measure"
+        || word == "schedule"
+        || word == "explain"
+}
+
+/// Whether a word asks about the tool by itself: for help, for its version, or for what all its numbers mean.
+fn is_question(word: &str) -> bool
+    ensures { result ≡ is_question word.now }
+{
+    word == "help" || is_help(word) || word == "--version" || word == "-V" || word == "explain"
+}
+
+/// Whether two words ask about the tool: for help on a command, or for what a number means.
+fn is_question_on(word: &str, other: &str) -> bool
+    ensures { result ≡ is_question_on word.now other.now }
+{
+    (word == "explain" && !is_option(other))
+        || (word == "help" && is_command(other))
+        || (is_command(word) && is_help(other))
+}
+
+/// Whether words ask about the tool itself: for help, for its version, or for what its numbers mean.
 fn is_about(words: &[&str]) -> bool
     ensures { result ≡ is_about (texts words.now) }
 {
     match words {
-        [word] => *word == "--version" || *word == "-V" || *word == "explain",
-        [word, number] => *word == "explain" && !is_option(number),
+        [word] => is_question(word),
+        [word, other] => is_question_on(word, other),
         _ => false,
     }
 }
@@ -49,9 +86,12 @@ pub fn answer_about(alloc: Global, words: &[&str]) -> Result<About, AllocError>
         return Ok(About::Other);
     }
     match words {
+        ["help", command] => Ok(About::Wrong(help_on(alloc, command)?)),
+        [command, word] if is_help(word) => Ok(About::Wrong(help_on(alloc, command)?)),
         [_, word] => explained(alloc, word),
         ["explain"] => Ok(About::Text(of_all(alloc)?)),
-        _ => Ok(About::Text(String::from_str(alloc, VERSION)?)),
+        ["--version" | "-V"] => Ok(About::Text(String::from_str(alloc, VERSION)?)),
+        _ => Ok(About::Wrong(String::from_str(alloc, HELP)?)),
     }
 }
 

@@ -88,11 +88,7 @@ fn of_refusal<F: Files>(
     files: &mut F,
 ) -> Result<String, AllocError> {
     let number = refusal.number();
-    let found = match refusal {
-        Refusal::Race { earlier, later } => Some((earlier, later)),
-        Refusal::ViewRace { created, used } => Some((created, used)),
-        _ => None,
-    };
+    let found = race_of(refusal);
     if found.is_some() || number == 310 {
         if let Some(texts) = texts_of(alloc, order, files)? {
             let report = in_text(alloc, &texts, number, found)?;
@@ -104,6 +100,15 @@ fn of_refusal<F: Files>(
     let path = files_of(order).other;
     let line = line_of(path, refusal, files);
     of_line(alloc, path, line, number)
+}
+
+/// The two events for whose race a certificate is refused, if it is for one.
+pub(crate) fn race_of(refusal: Refusal) -> Option<(Pos, Pos)> {
+    match refusal {
+        Refusal::Race { earlier, later } => Some((earlier, later)),
+        Refusal::ViewRace { created, used } => Some((created, used)),
+        _ => None,
+    }
 }
 
 // Of two events that race, or of the fault that stops a run.
@@ -127,8 +132,8 @@ fn in_text(
     }
 }
 
-// The texts of an order's program and its input, where they can be read again.
-fn texts_of<'a, F: Files>(
+/// The texts of an order's program and its input, where they can be read again.
+pub(crate) fn texts_of<'a, F: Files>(
     alloc: Global,
     order: &Order<'a>,
     files: &mut F,
@@ -162,12 +167,25 @@ pub fn of_failure<F: Files>(
         Failure::Run { number, .. } => of_stop(alloc, order, *number, files),
         Failure::Strand { number, .. } => of_line(alloc, file, None, *number),
         Failure::Script(line) => of_script(alloc, named.other, *line),
-        Failure::Unreadable(path) => {
-            format!(in alloc;
-                "hint: is `{path}` a file that can be read, of at most 268,435,456 bytes?\n"
-            )
-        }
+        Failure::Unreadable(path) => of_unreadable(alloc, &named, path),
         Failure::Words(_) | Failure::Memory => Ok(String::new(alloc)),
+    }
+}
+
+// Of what can't be read: the program, or another file.
+fn of_unreadable(alloc: Global, named: &Named<'_>, path: &str) -> Result<String, AllocError> {
+    match named.program {
+        Origin::Standard if path == "-" => String::from_str(
+            alloc,
+            "hint: the program comes from standard input, which can't be read\n",
+        ),
+        Origin::File(program) if path == program => format!(in alloc;
+            "hint: is `{path}` a file that can be read? A program has at most 262,144 bytes: a longer one is refused by \
+             106, and a file of more than 268,435,456 bytes isn't read\n"
+        ),
+        _ => format!(in alloc;
+            "hint: is `{path}` a file that can be read, of at most 268,435,456 bytes?\n"
+        ),
     }
 }
 

@@ -14,7 +14,8 @@
 //! hint: a call stands alone or as the whole right side of a variable's assignment: `x = f(a);`
 //! ```
 //!
-//! Other words are about the tool itself: `explain 103`, `--version`; and help stands behind clap's text for words that are none.
+//! `schedule` writes the script of a schedule that shows a race. Other words are about the tool itself: `help`,
+//! `explain 103`, `--version`; and help stands behind clap's text for words that are none.
 //!
 //! [`unflagged`], [`of_answer`], [`of_failure`] and [`follow`] are the steps of that, for a command whose words are read elsewhere.
 #![tactic(auto)]
@@ -24,6 +25,7 @@ mod certificate;
 mod explaining;
 mod flags;
 mod help;
+mod scheduling;
 mod serving;
 mod wanted;
 

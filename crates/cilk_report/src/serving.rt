@@ -1,7 +1,7 @@
 //! From words to a reply that is shown, and explained where the words ask for that.
 
 ghost use Rattle.std.specs.Prelude.{◌≡◌, ◌<◌, None, Some, false, length, option_map, true};
-ghost use Rattle.cilk_report.specs.Explained.{ComesBehind, Measures, ServesExplained, ServesThenExplains, WritesText, is_about, unflagged};
+ghost use Rattle.cilk_report.specs.Explained.{ComesBehind, Measures, Schedules, ServesExplained, ServesThenExplains, WritesText, is_about, is_schedule, unflagged, words_of_check};
 ghost use Rattle.cilk_measured.specs.Words.{is_measure, measured_run, words_of_run};
 ghost use Rattle.cilk_tool.specs.Replies.{failure_view};
 ghost use Rattle.cilk_tool.specs.Serving.{WordsFail};
@@ -11,6 +11,7 @@ use crate::about::{About, answer_about};
 use crate::explaining::{of_answer, of_failure};
 use crate::flags::unflagged;
 use crate::help::{EXPLAIN, advice};
+use crate::scheduling::{is_schedule, serve_schedule};
 use cilk_measured::{asks, is_measure, run_of, run_words, text_of, totals_of, usage_of_measure};
 use cilk_tool::files::Files;
 use cilk_tool::reply::{Failure, WRONG};
@@ -36,7 +37,11 @@ pub fn serve_explained<F: Files, R: Read, O: Write, E: Write>(
     ensures measured { order_in (texts words.now) ≡ None → is_measure (texts words.now) ≡ true
         → Measures (texts words.now) (F.holds files.old) (R.remaining input.old) (F.failed files.old)
         result (O.contents out.old) (O.contents out.new) (E.contents err.old) (E.contents err.new) }
-    ensures explained { order_in (texts words.now) ≡ None → is_measure (texts words.now) ≡ false → is_about (texts words.now) ≡ false
+    ensures scheduled { order_in (texts words.now) ≡ None → is_measure (texts words.now) ≡ false → is_schedule (texts words.now) ≡ true
+        → Schedules (words_of_check (texts words.now)) (F.holds files.old) (R.remaining input.old) (F.failed files.old)
+        result (O.contents out.old) (O.contents out.new) (E.contents err.old) (E.contents err.new) }
+    ensures explained { order_in (texts words.now) ≡ None → is_measure (texts words.now) ≡ false → is_schedule (texts words.now) ≡ false
+        → is_about (texts words.now) ≡ false
         → length (unflagged (texts words.now)) < length (texts words.now)
         → ServesThenExplains (unflagged (texts words.now)) (F.holds files.old) (R.remaining input.old) (F.failed files.old)
         result (O.contents out.old) (O.contents out.new) (E.contents err.old) (E.contents err.new) }
@@ -68,7 +73,10 @@ fn serve_other<F: Files, R: Read, O: Write, E: Write>(
     ensures measured { is_measure (texts words.now) ≡ true
         → Measures (texts words.now) (F.holds files.old) (R.remaining input.old) (F.failed files.old)
         result (O.contents out.old) (O.contents out.new) (E.contents err.old) (E.contents err.new) }
-    ensures explained { is_measure (texts words.now) ≡ false → is_about (texts words.now) ≡ false
+    ensures scheduled { is_measure (texts words.now) ≡ false → is_schedule (texts words.now) ≡ true
+        → Schedules (words_of_check (texts words.now)) (F.holds files.old) (R.remaining input.old) (F.failed files.old)
+        result (O.contents out.old) (O.contents out.new) (E.contents err.old) (E.contents err.new) }
+    ensures explained { is_measure (texts words.now) ≡ false → is_schedule (texts words.now) ≡ false → is_about (texts words.now) ≡ false
         → length (unflagged (texts words.now)) < length (texts words.now)
         → ServesThenExplains (unflagged (texts words.now)) (F.holds files.old) (R.remaining input.old) (F.failed files.old)
         result (O.contents out.old) (O.contents out.new) (E.contents err.old) (E.contents err.new) }
@@ -82,6 +90,35 @@ fn serve_other<F: Files, R: Read, O: Write, E: Write>(
 
 /// Serves words that ask nothing of `serve`, and measure nothing.
 fn serve_unmeasured<F: Files, R: Read, O: Write, E: Write>(
+    alloc: Global,
+    words: &[&str],
+    usage: String,
+    files: &mut F,
+    input: &mut R,
+    out: &mut O,
+    err: &mut E,
+) -> u8
+    requires room { (F.failed files.old).count < 18446744073709551615 }
+    requires other { order_in (texts words.now) ≡ None }
+    ensures served { ServesExplained (texts words.now) (F.holds files.old) (R.remaining input.old) (F.failed files.old) (F.failed files.new)
+        result (O.contents out.old) (O.contents out.new) (E.contents err.old) (E.contents err.new) }
+    ensures scheduled { is_schedule (texts words.now) ≡ true
+        → Schedules (words_of_check (texts words.now)) (F.holds files.old) (R.remaining input.old) (F.failed files.old)
+        result (O.contents out.old) (O.contents out.new) (E.contents err.old) (E.contents err.new) }
+    ensures explained { is_schedule (texts words.now) ≡ false → is_about (texts words.now) ≡ false
+        → length (unflagged (texts words.now)) < length (texts words.now)
+        → ServesThenExplains (unflagged (texts words.now)) (F.holds files.old) (R.remaining input.old) (F.failed files.old)
+        result (O.contents out.old) (O.contents out.new) (E.contents err.old) (E.contents err.new) }
+{
+    if is_schedule(words) {
+        serve_schedule(alloc, words, files, input, out, err)
+    } else {
+        serve_unscheduled(alloc, words, usage, files, input, out, err)
+    }
+}
+
+/// Serves words that ask nothing of `serve`, measure nothing, and ask for no schedule.
+fn serve_unscheduled<F: Files, R: Read, O: Write, E: Write>(
     alloc: Global,
     words: &[&str],
     usage: String,
@@ -268,7 +305,7 @@ pub fn follow<E: Write>(served: Served, text: Result<String, AllocError>, err: &
 }
 
 /// Writes a text to standard output, and answers the status.
-fn tell_text<O: Write, E: Write>(text: &[u8], out: &mut O, err: &mut E) -> u8
+pub(crate) fn tell_text<O: Write, E: Write>(text: &[u8], out: &mut O, err: &mut E) -> u8
     ensures { WritesText text.now result (O.contents out.old) (O.contents out.new) (E.contents err.old) (E.contents err.new) }
 {
     if send(out, text) {

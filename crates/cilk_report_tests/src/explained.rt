@@ -91,7 +91,7 @@ fn words_about_the_tool(rt: HostRuntime) {
     answers(&rt, alloc, &["--version"], 0, "cilk ", "");
 }
 
-// What is said of words that begin with `explain` and name no number.
+// What is said of `explain`, and of words that begin with it and name no number.
 const EXPLAIN: &str = "What a number of a refusal means, a text that provokes it, and the cure\n\
     \n\
     Usage: cilk explain [NUMBER]\n\
@@ -101,62 +101,99 @@ const EXPLAIN: &str = "What a number of a refusal means, a text that provokes it
     \n\
     hint: `cilk --help` describes all commands\n";
 
-// What clap says of `run`, and what stands behind that.
-const RUN: &str = "Run a program serially\n\
+// What is said of `check`.
+const CHECK: &str =
+    "Accept a certificate only where it is right and nothing races; else say which race there is\n\
     \n\
-    Usage: cilk run [OPTIONS] <program>\n\
+    Usage: cilk check PROGRAM CERTIFICATE [--input FILE] [--explain]\n\
     \n\
     Arguments:\n  \
-    <program>  \n\
-    \n\
-    Options:\n      \
-    --input <input>  \n  \
-    -h, --help           Print help\n\
-    \n\
-    hint: `cilk --help` describes `run` and its options\n";
-
-// How the help of all commands begins.
-const ALL: &str = "Usage: cilk <COMMAND>\n\
-    \n\
-    Commands:\n  \
-    run      Run a program serially\n  \
-    certify  Write the certificate of a program's serial run\n  \
-    check    Check a certificate, and whether the run that it is of has a race\n  \
-    play     Run a program in parallel, step by step, by a script\n  \
-    help     Print this message or the help of the given subcommand(s)\n\
+    PROGRAM         a file with a program text, of at most 262,144 bytes\n  \
+    CERTIFICATE     a file that `certify` wrote, of at most 268,435,456 bytes\n\
     \n\
     Options:\n  \
-    -h, --help  Print help\n\
+    --input FILE    the numbers that `input(k)` gives: at most 65,536, with blanks between; without it there are none\n  \
+    --explain       behind a refusal, on standard error: its line and column, the reason, and what to write instead\n  \
+    -h, --help      this text, where it is the only word behind the command's\n\
     \n\
-    Runs and checks programs of a small integer C with cilk_spawn, cilk_sync, cilk_for and reducers.\n\
+    hint: `cilk --help` describes all commands, statuses and limits\n";
+
+// What clap says of `run` without a program, and what stands behind that.
+const UNNAMED: &str = "error: the following required arguments were not provided:\n  \
+    <program>\n\
+    \n\
+    Usage: cilk run <program>\n\
+    \n\
+    For more information, try '--help'.\n\
+    \n\
+    hint: `cilk help run` describes `run` and its options\n";
+
+// How the help of all commands begins.
+const ALL: &str =
+    "Runs and checks programs of a small integer C with cilk_spawn, cilk_sync, cilk_for and reducers.\n\
+    \n\
+    Usage: cilk COMMAND ARGUMENTS.. [OPTIONS]\n\
     \n\
     All commands:\n";
+
+// These words are answered by this text alone.
+fn is_told(rt: &impl Abort, alloc: Global, words: &[&str], status: u8, out: &str, err: &str) {
+    shows(
+        rt,
+        alloc,
+        words,
+        NOTHING.as_bytes(),
+        reply(status, out, err),
+    );
+}
 
 #[test]
 fn usage_is_told(rt: HostRuntime) {
     let alloc = rt.alloc();
-    shows(
-        &rt,
-        alloc,
-        &["explain", "--help"],
-        NOTHING.as_bytes(),
-        reply(2, "", EXPLAIN),
-    );
-    shows(
-        &rt,
-        alloc,
-        &["explain", "103", "111"],
-        NOTHING.as_bytes(),
-        reply(2, "", EXPLAIN),
-    );
-    shows(
-        &rt,
-        alloc,
-        &["run", "--help"],
-        NOTHING.as_bytes(),
-        reply(2, "", RUN),
-    );
+    is_told(&rt, alloc, &["explain", "--help"], 2, "", EXPLAIN);
+    is_told(&rt, alloc, &["help", "explain"], 2, "", EXPLAIN);
+    is_told(&rt, alloc, &["explain", "103", "111"], 2, "", EXPLAIN);
+    is_told(&rt, alloc, &["check", "--help"], 2, "", CHECK);
+    is_told(&rt, alloc, &["help", "check"], 2, "", CHECK);
+    is_told(&rt, alloc, &["run"], 2, "", UNNAMED);
+}
+
+#[test]
+fn help_is_told_of_each_command(rt: HostRuntime) {
+    let alloc = rt.alloc();
     answers(&rt, alloc, &["--help"], 2, "", ALL);
+    answers(&rt, alloc, &["-h"], 2, "", ALL);
+    answers(&rt, alloc, &["help"], 2, "", ALL);
+    answers(&rt, alloc, &["run", "-h"], 2, "", "Run a program serially");
+    answers(&rt, alloc, &["certify", "-h"], 2, "", "Write the cert");
+    answers(&rt, alloc, &["measure", "--help"], 2, "", "Run a program, ");
+    answers(&rt, alloc, &["help", "measure"], 2, "", "Run a program, ");
+    answers(&rt, alloc, &["help", "play"], 2, "", "Run a program in ");
+    answers(&rt, alloc, &["help", "threads"], 2, "", "Check as `check`");
+    answers(&rt, alloc, &["help", "nothing"], 2, "", "error: ");
+    answers(&rt, alloc, &["measure", "-h", "-h"], 2, "", "error: ");
+}
+
+#[test]
+fn what_cannot_be_read_has_its_limit(rt: HostRuntime) {
+    let alloc = rt.alloc();
+    is_told(
+        &rt,
+        alloc,
+        &["run", "absent", "--explain"],
+        2,
+        "",
+        "cannot read absent\nhint: is `absent` a file that can be read? A program has at most 262,144 bytes: a longer one \
+         is refused by 106, and a file of more than 268,435,456 bytes isn't read\n",
+    );
+    is_told(
+        &rt,
+        alloc,
+        &["check", "program", "absent", "--explain"],
+        2,
+        "",
+        "cannot read absent\nhint: is `absent` a file that can be read, of at most 268,435,456 bytes?\n",
+    );
 }
 
 #[test]

@@ -10,4 +10,6 @@ mod measured;
 #[cfg(test)]
 mod numbers;
 #[cfg(test)]
+mod scheduled;
+#[cfg(test)]
 mod told;

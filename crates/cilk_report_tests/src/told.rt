@@ -14,7 +14,7 @@ struct Told {
 }
 
 // What is told of the certificates of these programs' own runs.
-const RACES: [Told; 4] = [
+const RACES: [Told; 7] = [
     Told {
         program: "int dist[8];\n\
             int n = 3;\n\
@@ -161,6 +161,111 @@ const RACES: [Told; 4] = [
             hint: put a `cilk_sync;` between the two, or return the number; a sum, a least or a greatest is \
             for a reducer: `int cilk_reducer(add) x;` (or `min`, `max`)\n",
     },
+    Told {
+        program: "int board[4];\n\
+            void place(int row) {\n  \
+            if (row == 2) return;\n  \
+            if (row > 0 && board[row - 1] == 2) return;\n  \
+            for (int column = 0; column < 2; column++) {\n    \
+            board[row] = column;\n    \
+            cilk_spawn place(row + 1);\n  \
+            }\n\
+            }\n\
+            int main() {\n  \
+            place(0);\n  \
+            return board[0];\n\
+            }\n",
+        status: 4,
+        out: "refused 311 19 58\n",
+        err: "program:6:5: error 311: a determinacy race: `board[0]` is written here\n    \
+            board[row] = column;\n    \
+            ^\n\
+            program:4:18: note: `board[0]` is read here, and nothing orders the two\n  \
+            if (row > 0 && board[row - 1] == 2) return;\n                 \
+            ^\n\
+            the earlier one:\n  \
+            in `place`, spawned at program:7:5\n\
+            both:\n  \
+            in `place`, called at program:11:3\n  \
+            in `main`\n\
+            parallel: the spawn at program:7:5 lets its child run beside what follows it\n\
+            parted by: a `cilk_sync;` in `place` ahead of program:6:5\n\
+            schedule: this script for `play` makes the later access first; what it leaves is the same here\n  \
+            run 1 13\n  \
+            steal 2 0\n  \
+            run 2 7\n  \
+            run 1 38\n  \
+            all\n\
+            hint: calls of `place` that run in parallel share `board`: give each a part of its own, whose first \
+            place is a parameter (by its depth, where no two calls of one depth run in parallel; else by a number of \
+            the call, which copies there what it needs of the part of the call above); or pass what a call knows as \
+            one number, a digit for each step (`examples/gallery/queens.c`)\n",
+    },
+    Told {
+        program: "int next[8];\n\
+            int count;\n\
+            int main() {\n  \
+            cilk_for (int v = 0; v < 4; v++) {\n    \
+            if (v % 2 == 0) {\n      \
+            next[count] = v;\n      \
+            count++;\n    \
+            }\n  \
+            }\n  \
+            return count;\n\
+            }\n",
+        status: 4,
+        out: "refused 311 14 34\n",
+        err: "program:6:12: error 311: a determinacy race: `count` is read here\n      \
+            next[count] = v;\n           \
+            ^\n\
+            program:7:7: note: `count` is written here, and nothing orders the two\n      \
+            count++;\n      \
+            ^\n\
+            the earlier one:\n  \
+            in turn `v` = 0 of the `cilk_for` at program:4:3\n\
+            the later one:\n  \
+            in turn `v` = 2 of the `cilk_for` at program:4:3\n\
+            both:\n  \
+            in turns `v` = 0 to 3 of the `cilk_for` at program:4:3\n  \
+            in `main`\n\
+            parallel: the turns of a `cilk_for` run in parallel\n\
+            parted by: no sync, since turn `v` = 0 and turn `v` = 2 are of one loop: \
+            let each turn have its own, or write `for`\n\
+            schedule: this script for `play` leaves other values in global variables than `run`, and shows the same\n  \
+            run 1 4\n  \
+            steal 2 0\n  \
+            run 2 8\n  \
+            run 1 22\n  \
+            all\n\
+            hint: `count` counts the places of `next` that are filled, and no two strands may count on one variable: \
+            let each write places that are its own, as `next[i]` by a number `i` that no other has, and gather them \
+            behind the `cilk_sync` or the loop; a reducer counts them, `int cilk_reducer(add) count;` with \
+            `update(count, 1);`\n",
+    },
+    Told {
+        program: "int cilk_reducer(add) most;\n\
+            int main() {\n  \
+            cilk_for (int i = 0; i < 3; i++) {\n    \
+            if (i > value(most)) { set(most, 2 * i); }\n  \
+            }\n  \
+            return value(most);\n\
+            }\n",
+        status: 4,
+        out: "refused 312 2 9\n",
+        err: "program:4:19: error 312: a view-read race: the reducer `most` is read here\n    \
+            if (i > value(most)) { set(most, 2 * i); }\n                  \
+            ^\n\
+            program:1:23: note: the reducer `most` is created here\n\
+            int cilk_reducer(add) most;\n                      \
+            ^\n\
+            the way to it:\n  \
+            in turn `i` = 0 of the `cilk_for` at program:3:3\n  \
+            in `main`\n\
+            parallel: the turns of a `cilk_for` run in parallel, and a later one may update the reducer beside this\n\
+            schedule: none is told: in each, all that is ahead of this one in the serial run comes before it\n\
+            hint: a reducer compares by itself, without a read: `int cilk_reducer(max) most;`, and `update(most, \
+            2 * i);` in place of this `if`\n",
+    },
 ];
 
 // What is told of the runs of these programs.
@@ -244,6 +349,32 @@ const FAULTS: [Told; 3] = [
     },
 ];
 
+// A loop without an end that begins a `cilk_for` in each turn.
+const ENDLESS: Told = Told {
+    program: "int cilk_reducer(add) r;\n\
+        int main() {\n  \
+        int n = 0;\n  \
+        while (n < 10) {\n    \
+        set(r, 0);\n    \
+        cilk_for (int i = 0; i < 400; i++) update(r, i);\n  \
+        }\n  \
+        return n;\n\
+        }\n",
+    status: 3,
+    out: "",
+    err: "fault 205 at 426245\n\
+        program:6:5: error 205: too many frames\n    \
+        cilk_for (int i = 0; i < 400; i++) update(r, i);\n    \
+        ^\n\
+        reason: the run has begun 65,536 frames, the most that there may be\n  \
+        in turns `i` = 0 to 11 of the `cilk_for` at program:6:5\n  \
+        in `main`\n\
+        so far: 426244 events, 66362 ticks, 65536 frames\n\
+        hint: the `while` at program:4:3 has begun this `cilk_for` 83 times: does that loop end? Each of its turns \
+        has to change what its condition asks for, and none may set that anew, as by `set(r, 0)`. Where it ends, let \
+        each turn of the `cilk_for` do a block of turns (`docs/FROM-CILK.md`, \"Many turns, in blocks\")\n",
+};
+
 // What is told of the check of the certificate of a program's own run.
 fn is_race_told(rt: &impl Abort, alloc: Global, told: &Told) {
     let program = told.program.as_bytes();
@@ -278,4 +409,9 @@ fn faults_are_told(rt: HostRuntime) {
     for told in FAULTS.as_slice() {
         is_fault_told(&rt, rt.alloc(), told);
     }
+}
+
+#[test]
+fn a_loop_without_an_end_is_told(rt: HostRuntime) {
+    is_fault_told(&rt, rt.alloc(), &ENDLESS);
 }

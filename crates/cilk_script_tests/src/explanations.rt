@@ -252,7 +252,7 @@ fn common_causes_have_hints(rt: HostRuntime) {
             115,
             14,
             "is a `void` function",
-            "input(k)",
+            "write `int main()` in place of `void main`",
         ),
         (
             "int main(int n) {}",

@@ -8,6 +8,8 @@ mod calls;
 #[cfg(test)]
 mod choices;
 #[cfg(test)]
+mod cured;
+#[cfg(test)]
 mod declared;
 #[cfg(test)]
 mod explanations;

@@ -9,4 +9,4 @@ returns-then-is_threads g c =
 pub returns-else-is_threads : goal.returns-else-is_threads
 returns-else-is_threads g c =
     Others (sym c.is_threads.ensures ∙ c.if-is_threads.false) c.serve_explained.ensures.served c.serve_explained.ensures.measured
-    c.serve_explained.ensures.explained
+    c.serve_explained.ensures.scheduled c.serve_explained.ensures.explained

@@ -1,7 +1,7 @@
 use Rattle.std.proofs.Common.{refl, subst, sym}
 use Rattle.cilk_report.proofs.Measuring as measuring
 use Rattle.cilk_report.proofs.Replies.{IsUsage, ended, failed, silence, starved, unasked}
-use Rattle.cilk_report.specs.Explained.{Served}
+use Rattle.cilk_report.specs.Explained.{Checked, Served}
 use Rattle.cilk_tool.specs.declared.words.WordsFault.{WordsFault}
 use Rattle.cilk_report.proofs.serving.serve_explained.Goals as goal
 
@@ -34,16 +34,34 @@ pub returns-in-Err-Memory-clause-measured : goal.returns-in-Err-Memory-clause-me
 returns-in-Err-Memory-clause-measured g c = λ _ _. measuring.starved _ _ _ _ _ _ _ _ _ _ _ c.complain-in-Err-Memory.ensures (silence _) refl
 
 pub returns-in-Ok-carry_out-clause-explained : goal.returns-in-Ok-carry_out-clause-explained
-returns-in-Ok-carry_out-clause-explained g c = λ empty _ _ _. absurd (measuring.asked _ _ c.in-Ok.ensures.order empty)
+returns-in-Ok-carry_out-clause-explained g c = λ empty _ _ _ _. absurd (measuring.asked _ _ c.in-Ok.ensures.order empty)
 
 pub returns-in-Err-clause-explained : goal.returns-in-Err-clause-explained
-returns-in-Err-clause-explained g c = λ empty _ _ _. absurd (measuring.asked _ _ c.in-Ok.ensures.order empty)
+returns-in-Err-clause-explained g c = λ empty _ _ _ _. absurd (measuring.asked _ _ c.in-Ok.ensures.order empty)
 
 pub returns-in-Err-Usage-clause-explained : goal.returns-in-Err-Usage-clause-explained
 returns-in-Err-Usage-clause-explained g c = λ _. c.serve_other.ensures.explained
 
 pub returns-in-Err-Memory-clause-explained : goal.returns-in-Err-Memory-clause-explained
-returns-in-Err-Memory-clause-explained g c = λ _ _ _ _. (
+returns-in-Err-Memory-clause-explained g c = λ _ _ _ _ _. (
+  g.F.Files.failed c.args.files.now,
+  g.E.Write.contents c.complain-in-Err-Memory.new.err,
+  c.complain-in-Err-Memory.result.told,
+  starved _ _ _ _ _ _ _ c.complain-in-Err-Memory.ensures,
+  silence _,
+)
+
+pub returns-in-Ok-carry_out-clause-scheduled : goal.returns-in-Ok-carry_out-clause-scheduled
+returns-in-Ok-carry_out-clause-scheduled g c = λ empty _ _. absurd (measuring.asked _ _ c.in-Ok.ensures.order empty)
+
+pub returns-in-Err-clause-scheduled : goal.returns-in-Err-clause-scheduled
+returns-in-Err-clause-scheduled g c = λ empty _ _. absurd (measuring.asked _ _ c.in-Ok.ensures.order empty)
+
+pub returns-in-Err-Usage-clause-scheduled : goal.returns-in-Err-Usage-clause-scheduled
+returns-in-Err-Usage-clause-scheduled g c = λ _. c.serve_other.ensures.scheduled
+
+pub returns-in-Err-Memory-clause-scheduled : goal.returns-in-Err-Memory-clause-scheduled
+returns-in-Err-Memory-clause-scheduled g c = λ _ _ _. Checked (
   g.F.Files.failed c.args.files.now,
   g.E.Write.contents c.complain-in-Err-Memory.new.err,
   c.complain-in-Err-Memory.result.told,

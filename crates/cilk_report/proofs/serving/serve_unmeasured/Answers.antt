@@ -1,78 +1,24 @@
-use Rattle.std.proofs.Common.{◌≡◌, ◌<◌, ◌≤◌, List, ap, length, rules, subst, sym, ◌∙◌}
+use Rattle.std.proofs.Common.{sym, ◌∙◌}
 use Rattle.std.proofs.lemmas.Bool.{true≢false}
-use Rattle.cilk_report.proofs.Plain.{as_many, fewer, plain_texts}
-use Rattle.cilk_report.proofs.Replies.{refused, silence, starved}
-use Rattle.cilk_report.specs.Explained.{About, Explained, Served, ServesThenExplains, unflagged}
-use Rattle.cilk_tool.specs.Replies.{Text}
-use Rattle.cilk_tool.specs.Words.{texts}
-use Rattle.cilk_tool.specs.declared.reply.Failure.TheVariants as failures
+use Rattle.cilk_report.specs.Explained.{Scheduling}
 use Rattle.cilk_report.proofs.serving.serve_unmeasured.Goals as goal
 
-pub returns-in-Ok-Text-clause-served : goal.returns-in-Ok-Text-clause-served
-returns-in-Ok-Text-clause-served g c =
-    About c.requires.other (rw c.in-Ok-Text.field-0-is at c.in-Ok-Text.ensures) (c.as_bytes.result.now, c.tell_text.ensures)
+pub returns-then-is_schedule-clause-served : goal.returns-then-is_schedule-clause-served
+returns-then-is_schedule-clause-served g c = Scheduling c.requires.other (sym c.is_schedule.ensures ∙ c.if-is_schedule.true) c.serve_schedule.ensures
 
-pub returns-in-Ok-Text-clause-explained : goal.returns-in-Ok-Text-clause-explained
-returns-in-Ok-Text-clause-explained g c =
-    λ isnt _. absurd (true≢false (sym (rw c.in-Ok-Text.field-0-is at c.in-Ok-Text.ensures) ∙ isnt))
+pub returns-then-is_schedule-clause-scheduled : goal.returns-then-is_schedule-clause-scheduled
+returns-then-is_schedule-clause-scheduled g c = λ _. c.serve_schedule.ensures
 
-pub returns-in-Ok-Wrong-clause-served : goal.returns-in-Ok-Wrong-clause-served
-returns-in-Ok-Wrong-clause-served g c =
-    Served c.complain.result.told (refused _ _ (failures.Words c.in-Ok-Wrong.text) _ _ _ _ _ c.requires.other tt c.complain.ensures)
+pub returns-then-is_schedule-clause-explained : goal.returns-then-is_schedule-clause-explained
+returns-then-is_schedule-clause-explained g c =
+    λ isnt _ _. absurd (true≢false (sym c.if-is_schedule.true ∙ c.is_schedule.ensures ∙ isnt))
 
-pub returns-in-Ok-Wrong-clause-explained : goal.returns-in-Ok-Wrong-clause-explained
-returns-in-Ok-Wrong-clause-explained g c =
-    λ isnt _. absurd (true≢false (sym (rw c.in-Ok-Wrong.field-0-is at c.in-Ok-Wrong.ensures) ∙ isnt))
+pub returns-else-is_schedule-clause-served : goal.returns-else-is_schedule-clause-served
+returns-else-is_schedule-clause-served g c = c.serve_unscheduled.ensures.served
 
-pub returns-in-Ok-clause-served : goal.returns-in-Ok-clause-served
-returns-in-Ok-clause-served g c =
-    let same : texts c.as_slice.result.now ≡ unflagged (texts c.args.words.now) =
-    ap texts (c.as_slice.ensures.value ∙ c.in-Ok.ensures) ∙ plain_texts c.args.words.now in
-    let less : length c.as_slice.result.now < length c.args.words.now = search rules in
-    Explained c.requires.other (fewer _ _ same less)
-    (subst (λ (ws : List Text). ServesThenExplains ws (g.F.Files.holds c.args.files.now) (g.R.Read.remaining c.args.input.now)
-    (g.F.Files.failed c.args.files.now) c.serve_flagged.result (g.O.Write.contents c.args.out.now) (g.O.Write.contents c.serve_flagged.new.out)
-    (g.E.Write.contents c.args.err.now) (g.E.Write.contents c.serve_flagged.new.err)) same c.serve_flagged.ensures)
+pub returns-else-is_schedule-clause-scheduled : goal.returns-else-is_schedule-clause-scheduled
+returns-else-is_schedule-clause-scheduled g c =
+    λ held. absurd (true≢false (sym held ∙ sym c.is_schedule.ensures ∙ c.if-is_schedule.false))
 
-pub returns-in-Ok-clause-explained : goal.returns-in-Ok-clause-explained
-returns-in-Ok-clause-explained g c = λ _ _.
-    let same : texts c.as_slice.result.now ≡ unflagged (texts c.args.words.now) =
-    ap texts (c.as_slice.ensures.value ∙ c.in-Ok.ensures) ∙ plain_texts c.args.words.now in
-    subst (λ (ws : List Text). ServesThenExplains ws (g.F.Files.holds c.args.files.now) (g.R.Read.remaining c.args.input.now)
-    (g.F.Files.failed c.args.files.now) c.serve_flagged.result (g.O.Write.contents c.args.out.now) (g.O.Write.contents c.serve_flagged.new.out)
-    (g.E.Write.contents c.args.err.now) (g.E.Write.contents c.serve_flagged.new.err)) same c.serve_flagged.ensures
-
-pub returns-in-Ok-2-clause-served : goal.returns-in-Ok-2-clause-served
-returns-in-Ok-2-clause-served g c =
-    Served c.complain-in-Ok-2.result.told (refused _ _ c.refusal.result _ _ _ _ _ c.requires.other c.refusal.ensures c.complain-in-Ok-2.ensures)
-
-pub returns-in-Ok-2-clause-explained : goal.returns-in-Ok-2-clause-explained
-returns-in-Ok-2-clause-explained g c = λ _ less.
-    let same : texts c.in-Ok-2.field-0.items ≡ unflagged (texts c.args.words.now) =
-    ap texts c.in-Ok-2.ensures ∙ plain_texts c.args.words.now in
-    let many : length c.args.words.now ≤ length c.in-Ok-2.field-0.items = search rules in
-    absurd (as_many _ _ same many less)
-
-pub returns-in-Err-unflagged-clause-served : goal.returns-in-Err-unflagged-clause-served
-returns-in-Err-unflagged-clause-served g c = Served c.complain-in-Err-unflagged.result.told (starved _ _ _ _ _ _ _ c.complain-in-Err-unflagged.ensures)
-
-pub returns-in-Err-unflagged-clause-explained : goal.returns-in-Err-unflagged-clause-explained
-returns-in-Err-unflagged-clause-explained g c = λ _ _. (
-  g.F.Files.failed c.args.files.now,
-  g.E.Write.contents c.complain-in-Err-unflagged.new.err,
-  c.complain-in-Err-unflagged.result.told,
-  starved _ _ _ _ _ _ _ c.complain-in-Err-unflagged.ensures,
-  silence _,
-)
-
-pub returns-in-Err-clause-served : goal.returns-in-Err-clause-served
-returns-in-Err-clause-served g c = Served c.complain-in-Err.result.told (starved _ _ _ _ _ _ _ c.complain-in-Err.ensures)
-
-pub returns-in-Err-clause-explained : goal.returns-in-Err-clause-explained
-returns-in-Err-clause-explained g c = λ _ _. (
-  g.F.Files.failed c.args.files.now,
-  g.E.Write.contents c.complain-in-Err.new.err,
-  c.complain-in-Err.result.told,
-  starved _ _ _ _ _ _ _ c.complain-in-Err.ensures,
-  silence _,
-)
+pub returns-else-is_schedule-clause-explained : goal.returns-else-is_schedule-clause-explained
+returns-else-is_schedule-clause-explained g c = λ _. c.serve_unscheduled.ensures.explained

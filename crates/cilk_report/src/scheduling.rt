@@ -1,0 +1,181 @@
+//! A script that shows a race, for `play`.
+
+ghost use Rattle.std.specs.Prelude.{◌≡◌, ◌<◌, IfOk, IfSome};
+ghost use Rattle.cilk_measured.specs.Words.{behind_first};
+ghost use Rattle.cilk_report.specs.Explained.{IsRefusal, Schedules, is_schedule, words_of_check};
+ghost use Rattle.cilk_tool.specs.Replies.{answer_view};
+ghost use Rattle.cilk_tool.specs.Words.{texts};
+
+use crate::explaining::{of_answer, of_failure, race_of, texts_of};
+use crate::flags::unflagged;
+use crate::help::usage_of_schedule;
+use crate::serving::{follow, tell_text};
+use cilk_checker::refusal::Refusal;
+use cilk_findings::case::Case;
+use cilk_findings::races::script_of_race;
+use cilk_measured::{CaseTexts, asks, behind_first, is_help};
+use cilk_tool::files::Files;
+use cilk_tool::reply::{Answer, Failure};
+use cilk_tool::words::{Order, WordsFault, read};
+use cilk_tool::{carry_out, complain, show};
+use std::alloc::{AllocError, Global};
+use std::io::{Read, Write};
+
+/// Whether the first word is `schedule`, and what is behind it isn't one word that asks for help.
+pub fn is_schedule(words: &[&str]) -> bool
+    ensures { result ≡ is_schedule (texts words.now) }
+{
+    match words {
+        [first, behind @ ..] => *first == "schedule" && !is_help(behind),
+        [] => false,
+    }
+}
+
+// The words that check what these ask a schedule of: `check` in place of the first.
+fn check_words<'a>(alloc: Global, words: &[&'a str]) -> Result<Vec<&'a str>, AllocError>
+    ensures { IfOk result (λ plain. texts plain.items ≡ words_of_check (texts words.now)) }
+{
+    let mut plain = unflagged(alloc, behind_first(words))?;
+    plain.insert(0, "check")?;
+    Ok(plain)
+}
+
+/// Serves words that ask for a schedule.
+pub fn serve_schedule<F: Files, R: Read, O: Write, E: Write>(
+    alloc: Global,
+    words: &[&str],
+    files: &mut F,
+    input: &mut R,
+    out: &mut O,
+    err: &mut E,
+) -> u8
+    requires { (F.failed files.old).count < 18446744073709551615 }
+    ensures { Schedules (words_of_check (texts words.now)) (F.holds files.old) (R.remaining input.old) (F.failed files.old)
+        result (O.contents out.old) (O.contents out.new) (E.contents err.old) (E.contents err.new) }
+{
+    match check_words(alloc, words) {
+        Ok(plain) => {
+            let explains = asks(words, "--explain");
+            serve_checked(alloc, plain.as_slice(), explains, files, input, out, err)
+        }
+        Err(_) => complain(alloc, &Failure::Memory, err).status,
+    }
+}
+
+// By the words that check the certificate.
+fn serve_checked<F: Files, R: Read, O: Write, E: Write>(
+    alloc: Global,
+    words: &[&str],
+    explains: bool,
+    files: &mut F,
+    input: &mut R,
+    out: &mut O,
+    err: &mut E,
+) -> u8
+    requires { (F.failed files.old).count < 18446744073709551615 }
+    ensures { Schedules (texts words.now) (F.holds files.old) (R.remaining input.old) (F.failed files.old)
+        result (O.contents out.old) (O.contents out.new) (E.contents err.old) (E.contents err.new) }
+{
+    match read(alloc, words) {
+        Ok(order) => match carry_out(alloc, order, files, input) {
+            Ok(answer) => match script_of(alloc, &order, &answer, files) {
+                Ok(Some(script)) => tell_text(script.as_bytes(), out, err),
+                Ok(None) => {
+                    let served = show(alloc, &answer, out, err);
+                    let text = unscheduled(alloc, explains, &order, &answer, files);
+                    follow(served, text, err)
+                }
+                Err(_) => complain(alloc, &Failure::Memory, err).status,
+            },
+            Err(failure) => {
+                let served = complain(alloc, &failure, err);
+                let text = unchecked(alloc, explains, &order, &failure, files);
+                follow(served, text, err)
+            }
+        },
+        Err(WordsFault::Usage(_)) => complain(alloc, &usage_of_schedule(alloc), err).status,
+        Err(WordsFault::Memory) => complain(alloc, &Failure::Memory, err).status,
+    }
+}
+
+// The script that shows the race for which a certificate is refused, where there is one.
+fn script_of<F: Files>(
+    alloc: Global,
+    order: &Order<'_>,
+    answer: &Answer,
+    files: &mut F,
+) -> Result<Option<String>, AllocError>
+    ensures { IfOk result (λ script. IfSome script (λ _. IsRefusal (answer_view answer.now))) }
+{
+    match answer {
+        Answer::Refused(refusal) => script_against(alloc, order, *refusal, files),
+        _ => Ok(None),
+    }
+}
+
+fn script_against<F: Files>(
+    alloc: Global,
+    order: &Order<'_>,
+    refusal: Refusal,
+    files: &mut F,
+) -> Result<Option<String>, AllocError> {
+    let Some((earlier, later)) = race_of(refusal) else {
+        return Ok(None);
+    };
+    let Some(
+        CaseTexts {
+            file,
+            program,
+            input,
+        },
+    ) = texts_of(alloc, order, files)?
+    else {
+        return Ok(None);
+    };
+    let Some(case) = Case::of(alloc, file, program.as_slice(), input.as_slice())? else {
+        return Ok(None);
+    };
+    script_of_race(
+        &case,
+        refusal.number(),
+        u64::from(earlier),
+        u64::from(later),
+    )
+}
+
+// What is said where there is no script: why the certificate is refused, where that is asked for, or that there is none.
+fn unscheduled<F: Files>(
+    alloc: Global,
+    explains: bool,
+    order: &Order<'_>,
+    answer: &Answer,
+    files: &mut F,
+) -> Result<String, AllocError> {
+    let hint = match answer {
+        Answer::Refused(_) => "hint: no script of two workers shows this\n",
+        _ =>
+            "hint: nothing races here: each schedule that ends leaves what the serial run leaves\n",
+    };
+    let mut text = if explains {
+        of_answer(alloc, order, answer, files)?
+    } else {
+        String::new(alloc)
+    };
+    text.push_str(hint)?;
+    Ok(text)
+}
+
+// What is said of a text or a file at fault, where that is asked for.
+fn unchecked<F: Files>(
+    alloc: Global,
+    explains: bool,
+    order: &Order<'_>,
+    failure: &Failure<'_>,
+    files: &mut F,
+) -> Result<String, AllocError> {
+    if explains {
+        of_failure(alloc, order, failure, files)
+    } else {
+        Ok(String::new(alloc))
+    }
+}
