@@ -3,7 +3,7 @@
 use crate::misuses::{is_argument, is_in_cilk_for, wants_reducer};
 use crate::place::{Location, locate};
 use crate::sites::enclosing;
-use crate::tokens::{Declared, Tokens};
+use crate::tokens::{Declared, Main, Tokens};
 use crate::words::word_at;
 use cilk_token::token::Kind;
 use std::alloc::{AllocError, Global};
@@ -157,28 +157,12 @@ fn misused(tokens: &Tokens<'_>, token: usize, declared: Declared) -> &'static st
     }
 }
 
-// Whether there is a `main`, and why it isn't the right one.
+// Why no `main` is the right one.
 fn without_main(alloc: Global, tokens: &Tokens<'_>) -> Result<String, AllocError> {
-    for token in 0..tokens.count() {
-        if tokens.word(token) == b"main".as_slice() {
-            match tokens.declared(token) {
-                Some(
-                    Declared::Function {
-                        has_result: false,
-                        ..
-                    },
-                ) => {
-                    return String::from_str(
-                        alloc,
-                        "`main` is a `void` function, and an `int` one is wanted",
-                    );
-                }
-                Some(Declared::Function { .. }) => {
-                    return String::from_str(alloc, "`main` has parameters, and none are wanted");
-                }
-                _ => {}
-            }
-        }
-    }
-    String::from_str(alloc, "the text has no function `main`")
+    let why = match tokens.main() {
+        Main::Void => "`main` is a `void` function, and an `int` one is wanted",
+        Main::Int => "`main` has parameters, and none are wanted",
+        Main::Absent => "the text has no function `main`",
+    };
+    String::from_str(alloc, why)
 }

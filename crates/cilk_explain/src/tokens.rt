@@ -24,6 +24,17 @@ pub enum Declared {
     Function { has_result: bool, parameters: usize },
 }
 
+/// What a text has by the name `main`.
+#[derive(Clone, Copy, PartialEq, Eq, Debug)]
+pub enum Main {
+    /// No function.
+    Absent,
+    /// A `void` function.
+    Void,
+    /// An `int` one.
+    Int,
+}
+
 impl<'a> Tokens<'a> {
     /// The tokens of a text.
     pub fn new(alloc: Global, text: &'a [u8]) -> Result<Tokens<'a>, AllocError> {
@@ -105,6 +116,25 @@ impl<'a> Tokens<'a> {
             }
             _ => None,
         }
+    }
+
+    /// What the first function `main` of the text is.
+    pub fn main(&self) -> Main {
+        for token in 0..self.count() {
+            if self.word(token) == b"main".as_slice() {
+                match self.declared(token) {
+                    Some(
+                        Declared::Function {
+                            has_result: false,
+                            ..
+                        },
+                    ) => return Main::Void,
+                    Some(Declared::Function { .. }) => return Main::Int,
+                    _ => {}
+                }
+            }
+        }
+        Main::Absent
     }
 
     // What a name is declared as, by the token behind it.
