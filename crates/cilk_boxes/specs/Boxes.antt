@@ -6,7 +6,7 @@ use Rattle.cilk_chains.specs.Courses.{CourseValue}
 use Rattle.cilk_boxes.specs.Rows.{Run, RunValue, Wait, Rows, row, rows, placed_in, awaiting, end_in, is_empty, parts_in}
 
 -- the rows; the course of the run; the block's sync; the greatest key that was stolen, and the greatest that has arrived, 0 where there is none; and
--- whether the sync's own piece has arrived
+-- whether the sync's own piece has arrived, as it has of a block that has passed
 pub record BoxValue : Type 0 where
   pub rows : Rows
   pub course : CourseValue
@@ -56,9 +56,19 @@ abbrev pub IsClosed : Rows → CourseValue → ℕ → Option ChainValue → Typ
 IsClosed j u s None = Unit {0}
 IsClosed j u s (Some c) = (c.of ≡ u) × (c.at ≡ s) × (let r = j.row in Closes r.run r.waits s)
 
--- nothing waits in it
+-- whether the sync's own piece has arrived: it waits with its chain, or has passed
+abbrev pub closed_by : Bool → Option ChainValue → Bool
+closed_by true c = true
+closed_by false c = is_some c
+
+-- of a block that has passed nothing is left
+abbrev pub IsGone : Bool → Rows → Option ChainValue → Type 0
+IsGone false j c = Unit {0}
+IsGone true j c = (j.row ≡ row None []) × (c ≡ None)
+
+-- no piece is there, and no key is awaited
 abbrev pub IsUnused : BoxValue → Type 0
-IsUnused j = (j.closed ≡ false) × (parts_in j.rows ≡ 0) × (let r = j.rows in let w = r.row in is_empty w.waits ≡ true)
+IsUnused j = (parts_in j.rows ≡ 0) × (let r = j.rows in let w = r.row in is_empty w.waits ≡ true)
 
 -- k is above every key that was stolen or has arrived, and the sync's piece hasn't arrived
 abbrev pub IsFresh : BoxValue → ℕ → Type 0
@@ -82,13 +92,17 @@ stolen_at j k a = record j { rows = if nat_eq j.arrived k then j.rows else await
 abbrev pub arrived_at : BoxValue → ℕ → PieceValue → Bool → BoxValue
 arrived_at j k x last = record j { rows = placed_in j.rows k x; arrived = if nat_lt j.arrived k then k else j.arrived; closed = if last then true else j.closed }
 
+abbrev pub is_there : Run → Bool
+is_there None = false
+is_there (Some p) = true
+
 -- the sync's piece is there, and no key is awaited
 abbrev pub passes : BoxValue → Bool
-passes j = if j.closed then (let r = j.rows in let w = r.row in is_empty w.waits) else false
+passes j = if j.closed then (let r = j.rows in let w = r.row in if is_empty w.waits then is_there w.run else false) else false
 
 -- the one run that is left is moved out
 abbrev pub passed : BoxValue → BoxValue
-passed j = record j { rows = (let r = j.rows in rows r.of (row None [])); closed = false }
+passed j = record j { rows = (let r = j.rows in rows r.of (row None [])) }
 
 -- the same of the piece alone, which a test can tell
 abbrev pub Comes : BoxValue → ℕ → PieceValue → Bool → Type 0

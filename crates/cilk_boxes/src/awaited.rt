@@ -1,6 +1,6 @@
 //! Awaited keys, and the runs between them, as free functions: an arrival takes runs out of a row and puts another in.
 
-ghost use Rattle.std.specs.Prelude.{◌≡◌, ◌↔◌, ◌+◌, ◌<◌, length, map, IsTrue};
+ghost use Rattle.std.specs.Prelude.{◌≡◌, ◌↔◌, ◌+◌, ◌<◌, map, IsTrue};
 ghost use Rattle.cilk_boxes.specs.Rows.{place_of, run_at, with_run, without, runs_in, row, behind, last_end, FitsFrom};
 ghost use Rattle.cilk_boxes.specs.Waits.{wait_of};
 

@@ -2,7 +2,7 @@
 //!
 //! A key is the position of a spawn, or that of the sync for the block's own piece, which arrives last.
 
-ghost use Rattle.std.specs.Prelude.{nat_lt, if◌then◌else◌, Some, None, ◌⊎◌, ◌≡◌, ◌<◌, ◌↔◌, IfOk, IfErr, OnOk, OnErr, IsTrue, true, false};
+ghost use Rattle.std.specs.Prelude.{nat_lt, if◌then◌else◌, Some, None, ◌≡◌, ◌<◌, ◌↔◌, IfOk, IfErr, OnOk, OnErr, IsTrue, true, false};
 ghost use Rattle.cilk_types.specs.declared.event.Event.TheVariants.{Sync};
 ghost use Rattle.cilk_story.specs.Word.{event};
 ghost use Rattle.cilk_boxes.specs.Rows.{FitsIn, IsGood, PiecesLieApart, parts_in, run_of, yard_of};
@@ -37,6 +37,7 @@ pub struct JoinBox {
     runs: Runs,
     stolen: Pos,
     arrived: Pos,
+    gone: bool,
     chain: Option<Chain>,
 }
 
@@ -46,15 +47,15 @@ impl Model for JoinBox {
     ghost use Rattle.cilk_story.specs.Word.{event};
     ghost use Rattle.std.specs.Coded.{codes};
     ghost use Rattle.cilk_chains.specs.Courses.{course_code};
-    ghost use Rattle.cilk_boxes.specs.Boxes.{BoxValue, IsClosed, is_some};
+    ghost use Rattle.cilk_boxes.specs.Boxes.{BoxValue, IsClosed, IsGone, closed_by};
 
     ghost Value = { BoxValue };
 
     ghost coded = { Prim.hlevel (codes, course_code) };
 
-    ghost view = { λ b. record { rows = b.runs; course = b.course.value; sync = b.sync; stolen = b.stolen; arrived = b.arrived; closed = is_some b.chain } };
+    ghost view = { λ b. record { rows = b.runs; course = b.course.value; sync = b.sync; stolen = b.stolen; arrived = b.arrived; closed = closed_by b.gone b.chain } };
 
-    ghost invariant = { λ b. IsClosed b.runs b.course.value b.sync b.chain × (event b.runs.of.story b.sync ≡ Some Sync) };
+    ghost invariant = { λ b. IsClosed b.runs b.course.value b.sync b.chain × IsGone b.gone b.runs b.chain × (event b.runs.of.story b.sync ≡ Some Sync) };
 }
 
 // The greater of two keys.
@@ -92,6 +93,7 @@ impl JoinBox {
             runs: Runs::new(alloc, yard, reducers),
             stolen: 0,
             arrived: 0,
+            gone: false,
             chain: None,
         }
     }
@@ -112,21 +114,25 @@ impl JoinBox {
         let _sync = self.sync;
     }
 
+    // Whether the sync's own piece has arrived.
+    fn is_closed(&self) -> bool
+        ensures { result ≡ self.now.closed }
+    {
+        self.gone || self.chain.is_some()
+    }
+
     /// Whether the key is above every key that was stolen or has arrived, as long as the sync's piece hasn't.
     pub fn fresh(&self, key: Pos) -> bool
         ensures { IsTrue result ↔ IsFresh self.now key }
     {
-        self.chain.is_none() && self.stolen < key && self.arrived < key
+        !self.is_closed() && self.stolen < key && self.arrived < key
     }
 
     /// Whether the key may be stolen, whose parent goes on at `goes_on`.
     pub fn open(&self, key: Pos, goes_on: Pos) -> bool
         ensures { IsTrue result ↔ IsOpen self.now key goes_on }
     {
-        self.chain.is_none()
-            && self.stolen < key
-            && self.arrived <= key
-            && self.runs.end() <= goes_on
+        !self.is_closed() && self.stolen < key && self.arrived <= key && self.runs.end() <= goes_on
     }
 
     /// The number of runs of arrived keys, which is the number of pieces kept.
@@ -136,11 +142,11 @@ impl JoinBox {
         self.runs.parts()
     }
 
-    /// Whether nothing waits in it: no piece, no awaited key and no chain.
+    /// Whether nothing waits in it: no piece is there, and no key is awaited.
     pub fn is_empty(&self) -> bool
         ensures { IsTrue result ↔ IsUnused self.now }
     {
-        self.chain.is_none() && self.runs.parts() == 0 && self.runs.is_whole()
+        self.runs.is_whole() && self.runs.parts() == 0
     }
 
     /// The continuation beside child `key`, which goes on at `goes_on`, was taken by a thief.
@@ -183,6 +189,7 @@ impl JoinBox {
         let Some(piece) = self.runs.take() else {
             unreachable!()
         };
+        self.gone = true;
         Boxed::Passes(piece, chain)
     }
 

@@ -9,7 +9,7 @@
 //!
 //! ```text
 //! let mut shelf = Shelf::new(alloc, &yard, &reducers, &course);
-//! let mut found = shelf.take(alloc, &yard, &reducers, &course, sync);
+//! let mut found = shelf.take(alloc, &yard, &reducers, &course, sync)?;
 //! if found.open(key, goes_on) {
 //!     found.steal(key, goes_on)?;                      // a thief goes on at `goes_on`, beside the child spawned at `key`
 //! }
@@ -21,12 +21,13 @@
 //!         Err((piece, chain)) => ..,                   // no memory: both come back
 //!     }
 //! }
-//! shelf.put(found)?;
+//! shelf.put(found);
 //! ```
 #![tactic(auto)]
 
 pub mod awaited;
 pub mod join;
+pub mod laws;
 pub mod merging;
 pub mod runs;
 pub mod shelf;

@@ -1,5 +1,5 @@
 //! The runs of arrived keys of a sync block, and the awaited keys between them.
-ghost use Rattle.std.specs.Prelude.{◌≡◌, ◌↔◌, ◌<◌, ◌≤◌, ◌+◌, length, IfErr, OnOk, OnErr, IsTrue, Some, None, []};
+ghost use Rattle.std.specs.Prelude.{◌≡◌, ◌↔◌, ◌<◌, ◌≤◌, ◌+◌, IfErr, OnOk, OnErr, IsTrue, Some, None, []};
 ghost use Rattle.cilk_boxes.specs.Rows.{parts_in, awaiting, end_in, placed_in, FitsIn, IsGood, IsGoodRun, PiecesLieApart, is_empty, row, rows, run_of, yard_of};
 ghost use Rattle.cilk_boxes.specs.Boxes.{IsAwaitedIf};
 

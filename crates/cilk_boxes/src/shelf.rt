@@ -1,10 +1,11 @@
 //! The join boxes of several sync blocks.
 
-ghost use Rattle.std.specs.Prelude.{◌≡◌, ◌<◌, ℕ, [], All, IfSome, MatchOption, OnErr, OnOk, Some};
+ghost use Rattle.std.specs.Prelude.{◌≡◌, ◌≤◌, ℕ, [], All, length, IfOk, IfSome, MatchOption, OnErr, Some};
+ghost use Rattle.std.specs.Vec.{vec_capacity};
 ghost use Rattle.cilk_types.specs.declared.event.Event.TheVariants.{Sync};
 ghost use Rattle.cilk_story.specs.Word.{event};
 ghost use Rattle.cilk_boxes.specs.Rows.{run_of};
-ghost use Rattle.cilk_boxes.specs.Shelves.{shelf, ComesOut, HasNone, LiesOn, PutsBack, TakesOff};
+ghost use Rattle.cilk_boxes.specs.Shelves.{ComesOut, HasNone, HasRoom, IsSameShelf, LiesOn, PutsBack, TakesOff};
 
 use crate::join::JoinBox;
 use cilk_chains::course::Course;
@@ -27,6 +28,7 @@ pub struct Shelf {
 
 impl Model for Shelf {
     ghost use Rattle.std.specs.Prelude.{All};
+    ghost use Rattle.std.specs.Vec.{vec_capacity};
     ghost use Rattle.std.specs.Coded.{codes};
     ghost use Rattle.cilk_chains.specs.Courses.{course_code};
     ghost use Rattle.cilk_boxes.specs.Rows.{run_of};
@@ -36,7 +38,7 @@ impl Model for Shelf {
 
     ghost coded = { Prim.hlevel (codes, course_code) };
 
-    ghost view = { λ s. shelf (run_of s.of.value s.reducers.value) s.course.value s.boxes.items };
+    ghost view = { λ s. shelf (run_of s.of.value s.reducers.value) s.course.value s.boxes.items (vec_capacity s.boxes) };
 
     ghost invariant = { λ s. All (LiesOn (run_of s.of.value s.reducers.value) s.course.value) s.boxes.items };
 }
@@ -53,6 +55,7 @@ fn taken(
     ensures rest { All (LiesOn (run_of yard.now reducers.now) course.now) boxes.new.items }
     ensures found { IfSome result (λ b. LiesOn (run_of yard.now reducers.now) course.now b × (b.sync ≡ sync)) }
     ensures taken { MatchOption result (HasNone boxes.old.items sync × (boxes.new.items ≡ boxes.old.items)) (λ b. (k : ℕ) × ComesOut boxes.old.items k b boxes.new.items) }
+    ensures room { (length boxes.new.items ≤ length boxes.old.items) × (vec_capacity boxes.new ≡ vec_capacity boxes.old) }
 {
     let _ = yard;
     let _ = reducers;
@@ -69,7 +72,7 @@ fn taken(
 impl Shelf {
     /// No box.
     pub fn new(alloc: Global, yard: &Yard, reducers: &Reducers, course: &Course) -> Shelf
-        ensures { result ≡ shelf (run_of yard.now reducers.now) course.now [] }
+        ensures { (result.of ≡ run_of yard.now reducers.now) × (result.course ≡ course.now) × (result.boxes ≡ []) }
     {
         Shelf {
             of: Snapshot::of(yard),
@@ -79,7 +82,8 @@ impl Shelf {
         }
     }
 
-    /// The box of the block that ends with the `sync` at this position comes off the shelf.
+    /// The box of the block that ends with the `sync` at this position comes off the shelf, on which there is room then to put
+    /// it back. Without memory for that nothing changes.
     pub fn take(
         &mut self,
         alloc: Global,
@@ -87,29 +91,30 @@ impl Shelf {
         reducers: &Reducers,
         course: &Course,
         sync: Pos,
-    ) -> JoinBox
+    ) -> Result<JoinBox, AllocError>
         requires of { (self.old.of ≡ run_of yard.now reducers.now) × (self.old.course ≡ course.now) }
         requires sync { event yard.now.story sync ≡ Some Sync }
-        ensures found { LiesOn self.old.of self.old.course result × (result.sync ≡ sync) }
-        ensures taken { TakesOff self.old sync result self.new }
+        ensures found { IfOk result (λ b. LiesOn self.old.of self.old.course b × (b.sync ≡ sync)) }
+        ensures taken { IfOk result (λ b. TakesOff self.old sync b self.new × HasRoom self.new) }
+        ensures err { OnErr result (self.new.boxes ≡ self.old.boxes) }
+        ensures same { IsSameShelf self.old self.new }
     {
-        match taken(yard, reducers, course, &mut self.boxes, sync) {
-            Some(found) => found,
-            None => JoinBox::new(alloc, yard, reducers, course, sync),
+        self.boxes.reserve(1)?;
+        if let Some(found) = taken(yard, reducers, course, &mut self.boxes, sync) {
+            return Ok(found);
         }
+        Ok(JoinBox::new(alloc, yard, reducers, course, sync))
     }
 
-    /// A box is put back. It is forgotten where nothing waits in it any more. Without memory it is lost.
-    pub fn put(&mut self, back: JoinBox) -> Result<(), AllocError>
-        requires { LiesOn self.old.of self.old.course back }
-        ensures ok { OnOk result (PutsBack self.old back self.new) }
-        ensures err { OnErr result (self.new ≡ self.old) }
-        ensures same { (self.new.of ≡ self.old.of) × (self.new.course ≡ self.old.course) }
+    /// A box is put back, where there is room for it. It is forgotten where nothing waits in it any more.
+    pub fn put(&mut self, back: JoinBox)
+        requires of { LiesOn self.old.of self.old.course back }
+        requires room { HasRoom self.old }
+        ensures put { PutsBack self.old back self.new }
+        ensures same { IsSameShelf self.old self.new }
     {
-        if back.is_empty() {
-            return Ok(());
+        if !back.is_empty() {
+            self.boxes.push_reserved(back);
         }
-        self.boxes.push(back)?;
-        Ok(())
     }
 }

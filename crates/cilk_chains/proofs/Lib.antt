@@ -9,4 +9,3 @@ pub mod Behind
 pub mod Resumes
 pub mod Looking
 pub mod Along
-pub mod Giving

@@ -2,7 +2,6 @@ pub mod Asking
 pub mod Chains
 pub mod Children
 pub mod Courses
-pub mod Given
 pub mod Reducing
 pub mod Resumes
 pub mod Sights

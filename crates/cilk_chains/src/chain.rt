@@ -1,6 +1,6 @@
 //! Frames that go on at a position of a run.
 
-ghost use Rattle.std.specs.Prelude.{◌≡◌, ◌≢◌, ◌+◌, ◌<◌, length, false, IfOk, IsTrue, OnErr, OnOk};
+ghost use Rattle.std.specs.Prelude.{◌≡◌, ◌+◌, ◌<◌, false, IfOk, IsTrue, OnErr, OnOk};
 ghost use Rattle.cilk_types.specs.declared.event.Event.TheVariants.{End};
 ghost use Rattle.cilk_story.specs.Word.{resume, what};
 ghost use Rattle.cilk_chains.specs.Chains.{standing, task_of};
@@ -12,7 +12,6 @@ use crate::looked::Looked;
 use crate::reducer::{look_at_reducer, reducer_asked};
 use crate::sight::{cell_asked, look_at_cell};
 use crate::sort::{asked_sort, kind_sort};
-use crate::word::word_asked;
 use cilk_frames::asked::AskSlot;
 use cilk_frames::brief::Brief;
 use cilk_frames::cursor::Answer;
@@ -73,7 +72,6 @@ impl Chain {
     ghost use Rattle.std.specs.Prelude.{Some};
     ghost use Rattle.cilk_plan.specs.Kinds.{kind_of_event};
     ghost use Rattle.cilk_story.specs.Word.{event};
-    ghost use Rattle.cilk_chains.specs.Given.{GivesWord};
     ghost use Rattle.cilk_chains.specs.Sorts.{Says};
     ghost use Rattle.cilk_chains.specs.Asking.{BeginsNext, Calls, Follows, IsAnswered, IsNextAsk, Spawns};
     ghost use Rattle.cilk_chains.specs.Standing.{IsTheOutermost};
@@ -107,13 +105,6 @@ impl Chain {
         ensures { IsNextAsk self.now.of self.now.at result.now }
     {
         &self.asked
-    }
-
-    /// The word that the frame gives with its event: what it writes, updates, sets or prints; 0 with any other.
-    pub fn word(&self) -> i64
-        ensures { GivesWord self.now.of.yard.story self.now.at result }
-    {
-        word_asked(self.ask())
     }
 
     /// Whether the frame asks for the plan's event at its position, whose kind is this.

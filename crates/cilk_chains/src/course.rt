@@ -2,7 +2,6 @@
 
 ghost use Rattle.std.specs.Prelude.{◌≡◌, length, slice_get, unwrap_or};
 ghost use Rattle.cilk_program.specs.Sources.{source};
-ghost use Rattle.cilk_program.specs.Syntax.{Source};
 ghost use Rattle.cilk_chains.specs.Courses.{AreHomesOf, IsBlockOf, IsBodyOf, IsCourse, IsHomeOf, course_with};
 ghost use Rattle.cilk_chains.specs.Resumes.{ResumesAreAsked};
 
@@ -39,7 +38,6 @@ pub struct Course {
 impl Model for Course {
     ghost use Rattle.std.specs.Prelude.{◌≡◌, length};
     ghost use Rattle.cilk_program.specs.Sources.{source};
-    ghost use Rattle.cilk_program.specs.Syntax.{Source};
     ghost use Rattle.cilk_chains.specs.Courses.{AreHomesOf, CourseValue, IsCourse, course_code, course_with};
 
     ghost Value = { CourseValue };

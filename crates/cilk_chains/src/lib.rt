@@ -30,4 +30,3 @@ pub mod looked;
 pub mod reducer;
 pub mod sight;
 pub mod sort;
-pub mod word;

@@ -14,3 +14,9 @@ abbrev pub IsTrueFault : Story → ℕ → ThreadFault → Type 0
 IsTrueFault s n faults.Memory = IsCrew n
 IsTrueFault s n faults.Workers = IsCrew n → ⊥
 IsTrueFault s n (faults.Departs p) = IsCrew n × Departs s p
+
+-- the number of a fault
+abbrev pub number_of : ThreadFault → ℕ
+number_of faults.Memory = 401
+number_of faults.Workers = 501
+number_of (faults.Departs p) = 502

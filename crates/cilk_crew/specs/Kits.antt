@@ -1,5 +1,5 @@
 -- What a worker is sent.
-use Rattle.std.specs.Prelude.{◌≡◌, ◌≤◌, ℕ, List, Option, Some, None, All, true, false}
+use Rattle.std.specs.Prelude.{◌≡◌, ◌≤◌, List, Option, Some, None, All, true, false}
 use Rattle.crossbeam_deque.specs.Handles.{Pass, view, IsPassOf, worker_flavor, worker_port, worker_view, stealer_deque}
 use Rattle.crossbeam_deque.specs.declared.handles.Worker.{Worker}
 use Rattle.crossbeam_deque.specs.declared.handles.Stealer.{Stealer}

@@ -1,8 +1,7 @@
 //! A crew of workers, each in a thread of its own.
 
-ghost use Rattle.std.specs.Prelude.{◌≡◌, ◌≤◌, All, Some, IfOk, IfSome, MatchOption};
+ghost use Rattle.std.specs.Prelude.{◌≡◌, All, Some, IfOk, IfSome};
 ghost use Rattle.std.specs.Thread.{IsSend, IsSync};
-ghost use Rattle.cilk_boxes.specs.Rows.{OfRun};
 ghost use Rattle.cilk_turns.specs.Turns.{Works};
 ghost use Rattle.cilk_plan.specs.Strands.{AreFirsts};
 ghost use Rattle.cilk_workers.specs.Hands.{IsFinish};
@@ -67,7 +66,7 @@ pub fn worker<'a, N: Naming, R: Wait, G: Gate>(
     piece: Piece,
     chain: Option<Chain>,
 ) -> Finish
-    requires name { IsName N.run N.course shared.now }
+    requires name { IsName N.run N.course N.taken shared.now }
     requires keys { AreKeys doors.now.items keys.items }
     requires syncs { AreSyncs shared.now layout.now.syncs.now }
     requires rack { IsRack rack }
@@ -176,7 +175,7 @@ fn crew<'a, 'b, N: Naming + Send + Sync, R: Threads + Wait + Sync, G: Gate + Syn
     stop: &'a AtomicBool,
     kits: Vec<Kit<N>>,
 ) -> Result<Finish, AllocError>
-    requires name { IsName N.run N.course shared.now }
+    requires name { IsName N.run N.course N.taken shared.now }
     requires strands { AreFirsts shared.now.run.story.events layout.now.strands.now }
     requires syncs { AreSyncs shared.now layout.now.syncs.now }
     requires kits { All (IsKit shared.now doors.now.items) kits.items }
@@ -186,7 +185,7 @@ fn crew<'a, 'b, N: Naming + Send + Sync, R: Threads + Wait + Sync, G: Gate + Syn
         thread::scope_env(),
         rt,
         |scope| -> Result<Finish, AllocError>
-            requires { IsSync R.row × IsSync G.row × IsSend N.row × IsSync N.row × IsName N.run N.course shared.now × AreFirsts shared.now.run.story.events layout.now.strands.now × AreSyncs shared.now layout.now.syncs.now × All (IsKit shared.now doors.now.items) kits.items }
+            requires { IsSync R.row × IsSync G.row × IsSend N.row × IsSync N.row × IsName N.run N.course N.taken shared.now × AreFirsts shared.now.run.story.events layout.now.strands.now × AreSyncs shared.now layout.now.syncs.now × All (IsKit shared.now doors.now.items) kits.items }
             ensures { IfOk result (IsFinish shared.entry.now) }
         {
             let mut kits = kits;
@@ -231,7 +230,7 @@ pub fn crewed<N: Naming + Send + Sync, R: Threads + Wait + Sync, G: Gate + Sync>
     work: Work,
     count: u32,
 ) -> Result<Finish, AllocError>
-    requires name { IsName N.run N.course shared.now }
+    requires name { IsName N.run N.course N.taken shared.now }
     requires syncs { AreSyncs shared.now layout.now.syncs.now }
     requires strands { AreFirsts shared.now.run.story.events layout.now.strands.now }
     requires works { Works shared.now work }

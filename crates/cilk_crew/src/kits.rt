@@ -1,11 +1,11 @@
 //! What each worker of a crew begins with.
 
-ghost use Rattle.std.specs.Prelude.{◌≡◌, ◌*◌, ◌<◌, ◌≤◌, All, Some, length, IfOk, OnOk, IfSome, MatchOption, true, false};
+ghost use Rattle.std.specs.Prelude.{◌≡◌, ◌*◌, ◌<◌, ◌≤◌, All, Some, length, IfOk, OnOk, IfSome};
 ghost use Rattle.cilk_boxes.specs.Rows.{OfRun};
 ghost use Rattle.cilk_turns.specs.Turns.{Works};
 ghost use Rattle.cilk_workers.specs.Keys.{AreKeys, IsKeyAt};
 ghost use Rattle.cilk_workers.specs.Names.{IsName};
-ghost use Rattle.cilk_crew.specs.Kits.{Begins, IsKit, IsRack, IsTake};
+ghost use Rattle.cilk_crew.specs.Kits.{Begins, IsKit, IsTake};
 
 use cilk_boxes::shelf::Shelf;
 use cilk_chains::chain::{Chain, Task};
@@ -49,7 +49,7 @@ pub fn doors<N: Naming, R: Wait>(
     shared: &Shared<'_>,
     count: usize,
 ) -> Result<(Vec<Lock<N>>, Vec<Key>), AllocError>
-    requires { IsName N.run N.course shared.now }
+    requires { IsName N.run N.course N.taken shared.now }
     ensures { IfOk result (λ r. AreKeys r.0.items r.1.items) }
 {
     let mut all = Vec::new(alloc);

@@ -5,9 +5,9 @@ ghost use Rattle.cilk_story.specs.Word.{event};
 ghost use Rattle.cilk_turns.specs.Turns.{Works};
 ghost use Rattle.cilk_types.specs.declared.event.Event.TheVariants.{Sync};
 ghost use Rattle.cilk_plan.specs.Strands.{AreFirsts};
-ghost use Rattle.cilk_workers.specs.Hands.{IsFinish, IsWhole};
+ghost use Rattle.cilk_workers.specs.Hands.{IsWhole};
 ghost use Rattle.cilk_workers.specs.Names.{IsName};
-ghost use Rattle.cilk_crew.specs.Faults.{IsCrew, IsTrueFault};
+ghost use Rattle.cilk_crew.specs.Faults.{IsCrew, IsTrueFault, number_of};
 
 use crate::crew::crewed;
 use crate::layout::Layout;
@@ -22,19 +22,36 @@ use std::alloc::Global;
 use std::marker::Brand;
 use std::sync::Wait;
 use std::thread::Threads;
+use thiserror::Error;
 
 /// The most workers that may run together.
 pub const MAX_WORKERS: u32 = 64;
 
 /// Why a run has no outcome.
-#[derive(Drop, Debug)]
+#[derive(Drop, Debug, Error)]
 pub enum ThreadFault {
     /// There was no memory, or no thread.
+    #[error("there is no memory for the run, or no thread")]
     Memory,
     /// The number of workers is not from 1 to 64.
+    #[error("the number of workers is 1 to 64")]
     Workers,
     /// The input departs from the plan at this position.
+    #[error("the input departs from the plan at {0}")]
     Departs(Pos),
+}
+
+impl ThreadFault {
+    /// The number by which it is reported: 401 for memory, 501 for the number of workers, 502 where the input departs.
+    pub fn number(&self) -> u16
+        ensures { result ≡ number_of self.now }
+    {
+        match self {
+            ThreadFault::Memory => 401,
+            ThreadFault::Workers => 501,
+            ThreadFault::Departs(_) => 502,
+        }
+    }
 }
 
 // The workers of a run that is named.
@@ -47,7 +64,7 @@ fn run_as<N: Naming + Send + Sync, R: Threads + Wait + Sync, G: Gate + Sync>(
     work: Work,
     workers: u32,
 ) -> Result<(Piece, i64), ThreadFault>
-    requires name { IsName N.run N.course shared.now }
+    requires name { IsName N.run N.course N.taken shared.now }
     requires syncs { All (λ at. event shared.now.run.story at ≡ Some Sync) layout.now.syncs.now }
     requires strands { AreFirsts shared.now.run.story.events layout.now.strands.now }
     requires works { Works shared.now work }

@@ -1,6 +1,6 @@
 //! The command `threads`: a program is checked, and run by workers where its certificate is accepted.
 
-ghost use Rattle.std.specs.Prelude.{◌≡◌, ◌≢◌, ◌<◌, [], Some, IfOk, IfErr, OnOk, option_map};
+ghost use Rattle.std.specs.Prelude.{◌≡◌, ◌≢◌, ◌<◌, [], Some, IfOk, IfErr, option_map};
 ghost use Rattle.cilk_judge.specs.Judging.{meant};
 ghost use Rattle.cilk_tool.specs.Replies as replies;
 ghost use Rattle.cilk_tool.specs.Replies.{failure_view};

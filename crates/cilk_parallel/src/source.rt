@@ -1,6 +1,6 @@
 //! The file of a certificate, beside another file that is read later.
 
-ghost use Rattle.std.specs.Prelude.{◌≡◌, ◌∷◌, drop, option_map};
+ghost use Rattle.std.specs.Prelude.{◌≡◌, drop, option_map};
 ghost use Rattle.cilk_parallel.specs.Sources.{kept_of};
 
 use cilk_checker::source::{PullFault, Source};

@@ -18,6 +18,9 @@ struct Texts {
 /// The words behind `threads program certificate --input input`, and the status, standard output and standard error.
 type Case = (&'static [&'static str], u8, &'static str, &'static str);
 
+/// The words of a call, and what it says of the first file that it can't read.
+type Unread = (&'static [&'static str], &'static str);
+
 const FIB: Texts = Texts {
     program: "#include <cilk/cilk.h>\n\
         int fib(int n) { if (n < 2) { return n; } int x; int y; x = cilk_spawn fib(n - 1); \
@@ -37,6 +40,49 @@ const PRINTS: Texts = Texts {
 const LIST: Texts = Texts {
     program: "int cilk_reducer(append) l; \
         int main() { cilk_for (int i = 0; i < 5; i++) { update(l, i); } return value(l); }",
+    numbers: "",
+    other: "",
+};
+
+// Two spawned calls, each with a sum of its own.
+const OWN_SUMS: Texts = Texts {
+    program: "int f(int n) { int cilk_reducer(add) s; cilk_for (int i = 0; i < n; i++) { update(s, i); } \
+        return value(s); } \
+        int main() { int x; int y; x = cilk_spawn f(4); y = cilk_spawn f(5); cilk_sync; return x + y; }",
+    numbers: "",
+    other: "",
+};
+
+// A sum that goes past the greatest number.
+const GREAT_SUM: Texts = Texts {
+    program: "int cilk_reducer(add) s; void u(int k) { update(s, k); } \
+        int main() { cilk_spawn u(9223372036854775807); cilk_spawn u(1); cilk_spawn u(1); cilk_sync; \
+        return value(s); }",
+    numbers: "",
+    other: "",
+};
+
+// Spawned calls that are given a list of their caller's.
+const PUT: Texts = Texts {
+    program: "void put(int cilk_reducer(append) l, int x) { update(l, x); } \
+        int main() { int cilk_reducer(append) a; cilk_spawn put(a, 1); cilk_spawn put(a, 2); cilk_sync; \
+        return value(a); }",
+    numbers: "",
+    other: "",
+};
+
+// The digits of a number, from the first to the last.
+const DIGITS: Texts = Texts {
+    program: "int cilk_reducer(affine) d; \
+        int main() { cilk_for (int i = 1; i < 5; i++) { update(d, i); } return value(d); }",
+    numbers: "",
+    other: "",
+};
+
+// More digits than a number has.
+const NINES: Texts = Texts {
+    program: "int cilk_reducer(affine) d; \
+        int main() { cilk_for (int i = 0; i < 20; i++) { update(d, 9); } return value(d); }",
     numbers: "",
     other: "",
 };
@@ -167,6 +213,21 @@ fn accepted_programs_run(rt: HostRuntime) {
 }
 
 #[test]
+fn reducers_of_calls(rt: HostRuntime) {
+    let most = "reducer s -9223372036854775807\nresult -9223372036854775807\n";
+    runs_alike(&rt, rt.alloc(), &OWN_SUMS, "result 16\n");
+    runs_alike(&rt, rt.alloc(), &GREAT_SUM, most);
+    runs_alike(&rt, rt.alloc(), &PUT, "result 2\n");
+}
+
+#[test]
+fn affine_reducers(rt: HostRuntime) {
+    let nines = "reducer d 7766279631452241919\nresult 7766279631452241919\n";
+    runs_alike(&rt, rt.alloc(), &DIGITS, "reducer d 1234\nresult 1234\n");
+    runs_alike(&rt, rt.alloc(), &NINES, nines);
+}
+
+#[test]
 fn refused_certificates(rt: HostRuntime) {
     let race: [Case; 2] = [
         (&[], 4, "refused 311 7 10\n", ""),
@@ -217,6 +278,45 @@ fn files_that_cannot_be_read(rt: HostRuntime) {
         (&["--on", "nosuch"], 2, "", "cannot read nosuch\n"),
     ];
     all_show(&rt, rt.alloc(), &texts, &cases);
+}
+
+#[test]
+fn program_then_input_then_certificate(rt: HostRuntime) {
+    let cases: [Unread; 6] = [
+        (
+            &["threads", "none", "lost", "--input", "gone"],
+            "cannot read none\n",
+        ),
+        (
+            &["threads", "none", "lost", "--on", "gone"],
+            "cannot read none\n",
+        ),
+        (
+            &["threads", "program", "lost", "--input", "gone"],
+            "cannot read gone\n",
+        ),
+        (&["threads", "program", "lost"], "cannot read lost\n"),
+        (
+            &["threads", "program", "lost", "--on", "gone"],
+            "cannot read lost\n",
+        ),
+        (
+            &[
+                "threads",
+                "program",
+                "certificate",
+                "--input",
+                "lost",
+                "--on",
+                "gone",
+            ],
+            "cannot read lost\n",
+        ),
+    ];
+    for (words, told) in cases {
+        let ended = served(&rt, rt.alloc(), words, &FIB, b"");
+        assert!(rt; ended.is(2, "", told), "{told}");
+    }
 }
 
 #[test]

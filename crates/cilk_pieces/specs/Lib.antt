@@ -1,5 +1,5 @@
 pub mod Along
-pub mod Chains
+pub mod Numbers
 pub mod Pieces
 pub mod Reducers
 pub mod Settled

@@ -18,7 +18,6 @@
 //! ```
 #![tactic(auto)]
 
-pub mod chain;
 pub mod laws;
 pub mod piece;
 pub mod reducers;

@@ -1,6 +1,6 @@
 //! A piece of a run.
 
-ghost use Rattle.std.specs.Prelude.{◌≡◌, ◌↔◌, ◌<◌, ◌≤◌, ◌+◌, ℤ, [], length, Some, IfOk, IsTrue, MatchResult, OnOk, OnErr};
+ghost use Rattle.std.specs.Prelude.{◌≡◌, ◌<◌, ℤ, [], length, Some, IfOk, IsTrue, MatchResult, OnOk, OnErr};
 ghost use Rattle.cilk_types.specs.declared.event.Event.TheVariants.{Read, Create, Update, Set, Value, Print, End};
 ghost use Rattle.cilk_hypermap.specs.Ranges.{ShowsRange};
 ghost use Rattle.cilk_plan.specs.Frames.{IsInFrame};

@@ -1,6 +1,6 @@
 //! Views of a frame that ends.
 
-ghost use Rattle.std.specs.Prelude.{◌≡◌, ◌<◌, ◌^◌, length};
+ghost use Rattle.std.specs.Prelude.{◌<◌, ◌^◌, length};
 ghost use Rattle.cilk_pieces.specs.Reducers.{HasEnded, HasFew, own};
 
 use crate::reducers::{FrameReducers, Reducers};

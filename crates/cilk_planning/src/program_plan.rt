@@ -117,6 +117,7 @@ impl<'a> ProgramPlan<'a> {
         self.events.laws();
     }
 
+    /// The program of the plan's run.
     pub fn program(&self) -> &Program
         ensures { result.now ≡ self.now.run.program }
     {

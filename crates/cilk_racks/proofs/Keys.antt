@@ -1,5 +1,5 @@
 -- Each move keeps the rule of a shelf's queue.
-use Rattle.std.proofs.Common.{ℕ, zero, suc, List, [], ◌∷◌, arith}
+use Rattle.std.proofs.Common.{ℕ, zero, suc, [], ◌∷◌, arith}
 use Rattle.std.specs.Prelude.{All, ⊤}
 use Rattle.std.proofs.lemmas.List.Elements.{All-append}
 use Rattle.crossbeam_queue.specs.Fifo.{Pushes, Pops, Forks}

@@ -2,6 +2,7 @@
 use Rattle.std.specs.Prelude.{[]}
 use Rattle.cilk_boxes.specs.Rows.{RunValue}
 use Rattle.cilk_chains.specs.Courses.{CourseValue}
+use Rattle.cilk_chains.specs.declared.chain.Task.{Task}
 
 abbrev pub no_run : RunValue
 no_run = record {
@@ -12,3 +13,6 @@ no_run = record {
 
 abbrev pub no_course : CourseValue → Type 0
 no_course c = ⊥
+
+abbrev pub no_taken : Task → Type 0
+no_taken t = ⊥

@@ -1,8 +1,8 @@
 //! A worker's tasks. Its owner takes the newest, and others the oldest.
 
-ghost use Rattle.std.specs.Prelude.{◌≡◌, ◌+◌, ◌≤◌, ◌<◌, ◌^◌, true, false, [], ◌∷◌, ◌++◌, IfOk, IfErr, IfSome, MatchResult, MatchOption};
-ghost use Rattle.crossbeam_deque.specs.Handles.{view, IsPassOf, worker_deque, worker_flavor, worker_port, worker_view, worker_capacity, worker_index, stealer_deque, SameWorker};
-ghost use Rattle.cilk_racks.specs.Racks.{Of, WasEmpty, offers};
+ghost use Rattle.std.specs.Prelude.{◌≡◌, ◌+◌, ◌≤◌, ◌<◌, true, false, [], ◌∷◌, ◌++◌, All, IfOk, IfErr, IfSome, MatchOption};
+ghost use Rattle.crossbeam_deque.specs.Handles.{view, IsPassOf, worker_flavor, worker_port, worker_view, stealer_deque};
+ghost use Rattle.cilk_racks.specs.Racks.{MayPick, Of, offers};
 
 use crate::naming::Naming;
 use cilk_chains::chain::Task;
@@ -29,7 +29,7 @@ impl<N: Naming> Protocol<Task, Offers> for OfRun<N> {
     ghost use Rattle.std.specs.Prelude.{true, false, []};
     ghost use Rattle.cilk_racks.specs.Racks.{offers, Racked};
 
-    ghost holds = { λ items views. Racked N.course items views };
+    ghost holds = { λ items views. Racked N.course N.taken items views };
 
     ghost first = { offers true true [] };
 
@@ -50,11 +50,11 @@ pub struct GivenBack<N: Naming> {
 
 impl<N: Naming> Outcome<Task, Offers> for GivenBack<N> {
     ghost use Rattle.std.specs.Prelude.{◌≡◌, true, [], ◌++◌, All};
-    ghost use Rattle.cilk_racks.specs.Racks.{Of, WasEmpty};
+    ghost use Rattle.cilk_racks.specs.Racks.{Of};
 
     ghost then = { λ v xs w. (w.owner ≡ v.owner) × (w.alone ≡ v.alone) × (v.waiting ≡ w.waiting ++ xs) × All (Of N.course) xs };
 
-    ghost empty = { λ v. WasEmpty N.course v × (v.alone ≡ true → v.waiting ≡ []) };
+    ghost empty = { λ v. All N.taken v.waiting × (v.alone ≡ true → v.waiting ≡ []) };
 }
 
 /// The oldest task is taken.
@@ -119,10 +119,10 @@ impl<N: Naming> Rack<N> {
         self.worker.push_as::<Offered>(task)
     }
 
-    /// The task that was offered last and not given back, or `None` where the deque was found empty: others have taken
-    /// what waits. Where no picker has been made it is `None` only if none waits.
+    /// The task that was offered last and not given back, or `None` where the deque was found empty: pickers have taken
+    /// each task that waits. Where no picker has been made it is `None` only if none waits.
     pub fn newest(&mut self) -> Option<Task>
-        ensures rule { MatchOption result ((waiting self.new ≡ waiting self.old) × WasEmpty N.course (worker_view self.old.worker) × (IsAlone self.old → waiting self.old ≡ [])) (λ t. (waiting self.old ≡ waiting self.new ++ t ∷ []) × Of N.course t) }
+        ensures rule { MatchOption result ((waiting self.new ≡ waiting self.old) × All N.taken (waiting self.old) × (IsAlone self.old → waiting self.old ≡ [])) (λ t. (waiting self.old ≡ waiting self.new ++ t ∷ []) × Of N.course t) }
         ensures same { IsSameRack self.old self.new × (IsAlone self.old → IsAlone self.new) × (offered self.new ≤ offered self.old) }
     {
         self.worker.pop_as::<GivenBack<N>>()
@@ -179,6 +179,7 @@ impl<N: Naming> Picker<N> {
 
     /// The oldest task, or `None` where none was had.
     pub fn oldest(&mut self) -> Option<Task>
+        requires { MayPick N.taken }
         ensures rule { IfSome result (λ t. Of N.course t) }
         ensures same { stealer_deque self.new.stealer ≡ stealer_deque self.old.stealer }
     {

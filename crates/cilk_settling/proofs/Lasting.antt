@@ -29,7 +29,7 @@ use Rattle.cilk_program.specs.declared.ask.Callee.{Callee}
 use Rattle.cilk_program.specs.declared.ask.Callee.TheVariants as callees
 use Rattle.cilk_program.specs.Outcomes.{Leaves}
 use Rattle.cilk_program.specs.SerialRun as serial
-use Rattle.cilk_program.specs.SerialRun.{global_reducer, own_reducers, IsSerialRun}
+use Rattle.cilk_program.specs.SerialRun.{global_reducer, own_reducers}
 use Rattle.cilk_program.specs.Syntax.{Source, main_of, function_at}
 use Rattle.cilk_meaning.specs.Answered.{prints, printed_by}
 use Rattle.cilk_meaning.proofs.Remembered.{runs_leave}

@@ -32,7 +32,7 @@ use Rattle.cilk_program.specs.WellNamed.{is_kind, is_well_named}
 use Rattle.cilk_meaning.proofs.Asked.{asks_there}
 use Rattle.cilk_pieces.specs.declared.reducers.Reducers.{Reducers}
 use Rattle.cilk_pieces.specs.Reducers.{own, kind_in, ends_from, retired, entered}
-use Rattle.cilk_runs.specs.Runs.{Name, same_name, Instance, Output, Reducer, same_instance, has_instance, Ask, Invoke, End, Event, Reads, Writes, Syncs, Ends, Passes, Granted, Begins, Resumes, Creates, Updates, Sets, Values, Prints, Cell, Deed, Does, Invokes, Run}
+use Rattle.cilk_runs.specs.Runs.{Name, same_name, Instance, Output, Reducer, same_instance, has_instance, Ask, Invoke, End, Event, Reads, Writes, Syncs, Ends, Passes, Begins, Resumes, Creates, Updates, Sets, Values, Prints, Cell, Deed, Does, Invokes, Run}
 use Rattle.cilk_runs.specs.Runs as runs
 use Rattle.cilk_runs.specs.Machine.{started, put}
 use Rattle.cilk_runs.specs.Monoids.{on_view}

@@ -3,15 +3,13 @@ use Rattle.std.specs.Prelude.{◌≡◌, ℕ, ℤ, List, Some}
 use Rattle.cilk_types.specs.declared.event.Event.{Event}
 use Rattle.cilk_types.specs.declared.event.Event.TheVariants.{Value}
 use Rattle.cilk_types.specs.declared.event.Instance.{Instance}
-use Rattle.cilk_monoid.specs.Kinds.{structure_of}
-use Rattle.cilk_monoid.specs.Ranges.{view_of}
 use Rattle.cilk_program.specs.SerialRun.{Transcript}
 use Rattle.cilk_program.specs.Syntax.{Source}
 use Rattle.cilk_story.specs.declared.story.Story.{Story}
-use Rattle.cilk_story.specs.Runs.{IsAsked, IsFollowed}
+use Rattle.cilk_story.specs.Runs.{IsAsked}
 use Rattle.cilk_story.specs.Word.{event}
 use Rattle.cilk_pieces.specs.declared.reducers.Reducers.{Reducers}
-use Rattle.cilk_pieces.specs.Reducers.{events_over, kind_in}
+use Rattle.cilk_pieces.specs.Numbers.{HasNumbers, IsNumberAt}
 use Rattle.cilk_determinacy.specs.Words.{InputsAreWords}
 use Rattle.cilk_inputs.specs.Stories.{story_on, IsPlannedRun}
 use Rattle.cilk_checker.specs.Determinate.{AcceptedRun, HasDeterminateRun}
@@ -19,17 +17,9 @@ use Rattle.cilk_planning.specs.Plans.{IsStoryOn}
 use Rattle.cilk_settling.specs.Accepted.{IsTableOf}
 use Rattle.cilk_settling.specs.Tables.{AreReducersOf}
 
--- the value at a position is the number of its reducer's view over the events ahead of it
-abbrev pub IsNumberAt : Story → Reducers → ℕ → Instance → ℤ → Type 0
-IsNumberAt s r p i v = v ≡ (structure_of (kind_in r i)).number (view_of (structure_of (kind_in r i)) i (events_over s r 1 p))
-
--- so it is where the event is asked for
+-- where its event is asked for, a value is the number of its reducer's view over the events ahead of it
 abbrev pub HasAskedNumbers : Story → Reducers → Type 0
 HasAskedNumbers s r = (p : ℕ) (i : Instance) (v : ℤ) → IsAsked s p → event s p ≡ Some (Value i v) → IsNumberAt s r p i v
-
--- where it is followed
-abbrev pub HasNumbers : Story → Reducers → Type 0
-HasNumbers s r = (p : ℕ) (i : Instance) (v : ℤ) → IsFollowed s p → event s p ≡ Some (Value i v) → IsNumberAt s r p i v
 
 -- On all inputs of words, in the story along the plan of a serial run, where a frame asks for the value of a reducer.
 abbrev pub StoriesAlongHaveNumbers : Type 0

@@ -19,15 +19,6 @@ use std::snapshot::Snapshot;
 
 /// The reducers that each frame of an accepted run creates. The reducers of the run are settled along its plan, on any input. Cost and
 /// memory: linear in the frames and their reducers.
-pub fn reducers(alloc: Global, accepted: &Accepted) -> Result<Reducers, AllocError>
-    ensures table { IfOk result (λ r. IsTableOf accepted.now r) }
-    ensures few { IfOk result (λ r. HasFew r) }
-{
-    let run = Snapshot::of(accepted);
-    laid(alloc, &run, accepted.program(), accepted.frames())
-}
-
-/// The same by a program's plan.
 pub fn plan_reducers(alloc: Global, plan: &ProgramPlan<'_>) -> Result<Reducers, AllocError>
     ensures table { IfOk result (λ r. IsTableOf plan.now.run r) }
     ensures few { IfOk result (λ r. HasFew r) }

@@ -37,7 +37,7 @@ use std::sync::Wait;
 use std::thread::Threads;
 
 /// Runs an accepted program along its plan by some workers, from 1 to 64, each in a thread of its own; on an input, that of the plan or
-/// another. Ok is what the program leaves on that input, and on the plan's own what the accepted run left. A run on the plan's own input
+/// another. Ok is what each serial run of the program leaves on that input that ends without a fault, and on the plan's own what the accepted run left. A run on the plan's own input
 /// departs from it nowhere. A gate is called as each strand begins. It is not said that it returns.
 pub fn run_threads<R: Threads + Wait + Sync, G: Gate + Sync>(
     rt: &R,

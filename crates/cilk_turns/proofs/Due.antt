@@ -4,7 +4,7 @@
 -- - `can_pass`, `passes`: the piece may pass its next event;
 -- - `follows`, `answered`: what the chain may be answered;
 -- - `taken_on`, `begun_on`: the piece that has taken a continuation.
-use Rattle.std.proofs.Common.{◌≡◌, ◌⊎◌, inl, inr, ℕ, ◌+◌, ◌<◌, ◌≤◌, ℤ, cond, nat_lt, List, [], length, Option, Some, refl, sym, ap, ap₂, ◌∙◌, subst, arith}
+use Rattle.std.proofs.Common.{◌≡◌, ◌⊎◌, ℕ, ◌+◌, ◌<◌, ◌≤◌, ℤ, cond, nat_lt, length, Some, refl, sym, ap, ap₂, ◌∙◌, subst, arith}
 use Rattle.std.proofs.lemmas.Bool.Decides.{nat_tests}
 use Rattle.cilk_types.specs.declared.event.Event.{Event}
 use Rattle.cilk_types.specs.declared.event.Event.TheVariants as events
@@ -12,7 +12,6 @@ use Rattle.cilk_types.specs.declared.event.Instance.{Instance}
 use Rattle.cilk_boxes.specs.Rows.{IsGood, OfRun, RunValue, yard_of}
 use Rattle.cilk_chains.specs.Asking.{Follows, IsAnswered, IsAnswerTo}
 use Rattle.cilk_chains.specs.Chains.{ChainValue, standing}
-use Rattle.cilk_chains.specs.Courses.{CourseValue}
 use Rattle.cilk_frames.specs.declared.cursor.Answer.{Answer}
 use Rattle.cilk_frames.specs.declared.cursor.Answer.TheVariants.{Done, Value}
 use Rattle.cilk_monoid.specs.Kinds.{structure_of}
@@ -20,16 +19,16 @@ use Rattle.cilk_monoid.specs.Ranges.{view_of}
 use Rattle.cilk_pieces.specs.Pieces.{PieceValue, IsPieceOf, PassesOn, grown, number_ahead, piece_of, segment_of}
 use Rattle.cilk_pieces.specs.Reducers.{events_over, kind_in}
 use Rattle.cilk_pieces.specs.declared.reducers.Reducers.{Reducers}
-use Rattle.cilk_plan.specs.Kinds.{kind_of_event}
 use Rattle.cilk_plan.specs.declared.kind.Kind.{Kind}
 use Rattle.cilk_plan.specs.declared.kind.Kind.TheVariants as kinds
-use Rattle.cilk_shared.specs.Values.{CanPass, CanTake, IsAhead, MayPass, SegmentValue, YardValue, taken_at}
+use Rattle.cilk_shared.specs.Values.{CanPass, CanTake, IsAhead, SegmentValue, YardValue, taken_at}
 use Rattle.cilk_story.specs.declared.story.Story.{Story}
 use Rattle.cilk_story.specs.Orders.{IsOrderly}
 use Rattle.cilk_story.specs.Runs.{IsAsked, IsFollowed}
 use Rattle.cilk_story.specs.Word.{event, after, plain, resume, what}
 use Rattle.cilk_tree.specs.Reach.{Among}
-use Rattle.cilk_turns.specs.Shared.{HasNumbers, SharedValue, story_in}
+use Rattle.cilk_turns.specs.Shared.{SharedValue, story_in}
+use Rattle.cilk_pieces.specs.Numbers.{HasNumbers}
 use Rattle.cilk_turns.specs.Turns.{HasMore, IsDue, Works}
 use Rattle.cilk_turns.specs.declared.work.Work.{Work}
 use Rattle.cilk_turns.proofs.OfKind.{event_with, with_kind, IsDoneKind, done}

@@ -3,7 +3,7 @@
 -- - `number_is`, `number_there`: the number of an ask is that of its event;
 -- - `end_some`, `end_there`: that with which the frame ends;
 -- - `within`: where a frame asks for an event, the story has a position.
-use Rattle.std.proofs.Common.{◌≡◌, ◌≤◌, ℕ, ℤ, length, Option, Some, None, refl, sym, ap, ◌∙◌, subst, arith}
+use Rattle.std.proofs.Common.{◌≡◌, ◌≤◌, ℕ, ℤ, length, Option, Some, refl, sym, ap, ◌∙◌, subst, arith}
 use Rattle.cilk_types.specs.declared.event.Event.{Event}
 use Rattle.cilk_types.specs.declared.event.Event.TheVariants as events
 use Rattle.cilk_types.specs.declared.invocation.Invocation.TheVariants.{Call, Spawn}
@@ -15,7 +15,7 @@ use Rattle.cilk_program.specs.Syntax.{Source}
 use Rattle.cilk_story.specs.Runs.{IsAsked}
 use Rattle.cilk_story.specs.Word.{event}
 use Rattle.cilk_worlds.specs.Worlds.{World}
-use Rattle.cilk_inputs.specs.Points.{Point, IsEventOf}
+use Rattle.cilk_inputs.specs.Points.{IsEventOf}
 use Rattle.cilk_chains.specs.Asking.{IsNextAsk}
 use Rattle.cilk_chains.specs.Courses.{CourseValue, setting_of}
 use Rattle.cilk_chains.proofs.Along.{story_of}

@@ -15,7 +15,7 @@ use Rattle.cilk_plan.specs.Kinds.{kind_of, kind_of_event}
 use Rattle.cilk_plan.specs.declared.kind.Kind.{Kind}
 use Rattle.cilk_plan.specs.declared.kind.Kind.TheVariants as kinds
 use Rattle.cilk_story.specs.declared.story.Story.{Story}
-use Rattle.cilk_story.specs.Word.{WordEvent, plain, resume, finish, spawn, is_spawn, resumption, word_event, event, after, what}
+use Rattle.cilk_story.specs.Word.{plain, resume, finish, spawn, is_spawn, resumption, word_event, event, after, what}
 use Rattle.cilk_turns.specs.Asks.{Carries, HasNumber}
 use Rattle.cilk_turns.specs.Turns.{IsSilent}
 

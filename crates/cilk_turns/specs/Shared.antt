@@ -1,13 +1,8 @@
 -- What contracts see of what the workers of a run share.
-use Rattle.std.specs.Prelude.{◌≡◌, ◌≤◌, ◌<◌, ◌⊎◌, ℕ, ℤ, length, Some}
-use Rattle.cilk_types.specs.declared.event.Event.TheVariants.{Value}
-use Rattle.cilk_types.specs.declared.event.Instance.{Instance}
-use Rattle.cilk_monoid.specs.Kinds.{structure_of}
-use Rattle.cilk_monoid.specs.Ranges.{view_of}
+use Rattle.std.specs.Prelude.{◌≡◌, ◌≤◌, ◌<◌, ◌⊎◌, ℕ, length, Some}
 use Rattle.cilk_boxes.specs.Rows.{RunValue, run_of}
 use Rattle.cilk_chains.specs.Courses.{CourseValue}
 use Rattle.cilk_pieces.specs.declared.reducers.Reducers.{Reducers}
-use Rattle.cilk_pieces.specs.Reducers.{events_over, kind_in}
 use Rattle.cilk_plan.specs.Frames.{IsInFrame}
 use Rattle.cilk_plan.specs.Kinds.{kind_of_event}
 use Rattle.cilk_plan.specs.declared.kind.Asked.{Asked}
@@ -15,7 +10,6 @@ use Rattle.cilk_plan.specs.declared.kind.Asked.TheVariants.{Next, Nothing}
 use Rattle.cilk_plan.specs.declared.kind.Kind.TheVariants as kinds
 use Rattle.cilk_shared.specs.Values.{YardValue}
 use Rattle.cilk_story.specs.declared.story.Story.{Story}
-use Rattle.cilk_story.specs.Runs.{IsFollowed}
 use Rattle.cilk_story.specs.Word.{event}
 
 -- a run of the program, and its course
@@ -33,12 +27,6 @@ story_in y = let r = y.run in r.story
 -- the cells that the story's events name open with values
 abbrev pub HasCells : Story → Type 0
 HasCells s = (p c : ℕ) → (kind_of_event (event s p) ≡ Some (kinds.Read c)) ⊎ (kind_of_event (event s p) ≡ Some (kinds.Write c)) → c < length s.opening
-
--- a value that the run reads from a reducer is the number of the reducer's view over the events ahead of it
-abbrev pub HasNumbers : Story → Reducers → Type 0
-HasNumbers s r =
-    (p : ℕ) (i : Instance) (v : ℤ) → IsFollowed s p → event s p ≡ Some (Value i v)
-    → v ≡ (structure_of (kind_in r i)).number (view_of (structure_of (kind_in r i)) i (events_over s r 1 p))
 
 -- the kind of the event at a position, and whose frame it is in
 abbrev pub IsNext : Story → ℕ → Asked → Type 0

@@ -36,8 +36,8 @@ pub record HasEnded (y : SharedValue) (p : PieceValue) (value : ℤ) : Type 0 wh
   pub result : IsResult y value
 
 -- What a turn of a piece leads to with what is in the hands then: the worker goes on with one event more, or has an end; the task that it
--- offers is the continuation of the spawn that it made. Where the piece arrives it stays as it was, and so it does where another took the
--- continuation, and nothing but that ends a turn without an event. A departure is a true one.
+-- offers is the continuation of the spawn that it made. The piece stays as it was where it arrives, and where another took the continuation.
+-- A departure is a true one, and of a want of memory nothing more is said.
 abbrev pub Turned : SharedValue → PieceValue → Work → Turn → Type 0
 Turned y before w Goes = Works y w × (let p = w.piece in p ≡ grown before)
 Turned y before w (Offers t) = Works y w × (let p = w.piece in p ≡ grown before) × (t.of ≡ y.course) × (t.ticket ≡ before.upto)

@@ -12,7 +12,7 @@
 //!     Turn::Goes => ..,                                // the next event is made
 //!     Turn::Offers(task) => ..,                        // a spawn: the worker goes on with the child, and others may take the task
 //!     Turn::Arrives => ..,                             // a sync whose block isn't whole: the piece waits for the others
-//!     Turn::Ended => ..,                               // a child's end, behind which another goes on
+//!     Turn::Ended => ..,                               // a child's end, or another took the continuation
 //!     Turn::Finished(value) => ..,                     // the root's end, with the run's result
 //!     Turn::Departed(at) => ..,                        // the frame asks for another event than the plan has at that position
 //!     Turn::Stopped => ..,                             // no memory
@@ -21,8 +21,8 @@
 //! ```
 //!
 //! A [`work::Work`] is good where its piece is of the run and has events, and its chain stands at the piece's next event: `Works` in
-//! `specs/Turns`. From good work each turn leads to good work, to a good piece, or to a true departure, whatever the other workers do:
-//! `Turned`. The result of the root's end is the program's on this input: that of each serial run that makes the story's events.
+//! `specs/Turns`. From good work each turn leads to good work, to a good piece, to a true departure, or stops for want of memory, whatever the
+//! other workers do: `Turned`. The result of the root's end is the program's on this input: that of each serial run that makes the story's events.
 #![tactic(auto)]
 
 mod asking;

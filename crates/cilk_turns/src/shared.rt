@@ -1,15 +1,16 @@
 //! What the workers of a run share.
 
 ghost use Rattle.std.specs.Prelude.{◌≡◌, ◌↔◌, ℕ, Some, length, IsTrue};
-ghost use Rattle.cilk_boxes.specs.Rows.{run_of, yard_of};
+ghost use Rattle.cilk_boxes.specs.Rows.{yard_of};
 ghost use Rattle.cilk_chains.specs.Courses.{IsCourse};
 ghost use Rattle.cilk_determinacy.specs.Words.{InputsAreWords};
+ghost use Rattle.cilk_pieces.specs.Numbers.{HasNumbers};
 ghost use Rattle.cilk_pieces.specs.Reducers.{HasFew};
 ghost use Rattle.cilk_plan.specs.Along.{IsAlong};
 ghost use Rattle.cilk_story.specs.Orders.{IsOrderly};
 ghost use Rattle.cilk_story.specs.Values.{HasValues};
 ghost use Rattle.cilk_story.specs.Word.{resume, what};
-ghost use Rattle.cilk_turns.specs.Shared.{HasCells, HasNumbers, IsNext, shared_with, story_in};
+ghost use Rattle.cilk_turns.specs.Shared.{HasCells, IsNext, shared_with, story_in};
 
 use cilk_chains::course::Course;
 use cilk_determinacy::words::inputs_are_words;
@@ -34,9 +35,10 @@ impl<'a> Model for Shared<'a> {
     ghost use Rattle.std.specs.Prelude.{◌≡◌};
     ghost use Rattle.std.specs.Coded.{codes};
     ghost use Rattle.cilk_chains.specs.Courses.{course_code};
+    ghost use Rattle.cilk_pieces.specs.Numbers.{HasNumbers};
     ghost use Rattle.cilk_pieces.specs.Reducers.{HasFew};
     ghost use Rattle.cilk_plan.specs.Along.{IsAlong};
-    ghost use Rattle.cilk_turns.specs.Shared.{HasCells, HasNumbers, SharedValue, shared_with};
+    ghost use Rattle.cilk_turns.specs.Shared.{HasCells, SharedValue, shared_with};
 
     ghost Value = { SharedValue };
 

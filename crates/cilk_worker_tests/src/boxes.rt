@@ -109,7 +109,7 @@ fn child<R: Abort>(
     (Arrival { by, piece, chain }, work)
 }
 
-// A piece comes to the box; how many are kept then, or none where the block passes.
+// A piece comes to the box; how many are kept then, or none where the block passes, with all up to its `sync`.
 fn come<R: Abort>(
     rt: &R,
     alloc: Global,
@@ -126,7 +126,10 @@ fn come<R: Abort>(
     assert!(rt; found.fits(by, &piece, chain.is_some()));
     match found.arrive(alloc, shared.yard(), by, piece, chain) {
         Ok(Boxed::Waits) => Some(found.parts()),
-        Ok(Boxed::Passes(_, _)) => None,
+        Ok(Boxed::Passes(piece, _)) => {
+            assert!(rt; piece.from() == 1 && piece.upto() == by);
+            None
+        }
         Err(_) => panic!(rt; "no memory"),
     }
 }
@@ -189,6 +192,7 @@ pub fn joined<R: Abort>(rt: &R, alloc: Global, shared: &Shared<'_>, blocks: &Blo
     assert!(rt; come(rt, alloc, shared, &mut found, third) == Some(1));
     assert!(rt; come(rt, alloc, shared, &mut found, first) == Some(1));
     assert!(rt; come(rt, alloc, shared, &mut found, Arrival { by, piece, chain }).is_none());
+    assert!(rt; !found.fresh(Pos::MAX) && !found.open(Pos::MAX, Pos::MAX));
 }
 
 #[test]

@@ -28,7 +28,7 @@ const TURNS: u32 = 20;
 
 // A task is put on the rack.
 fn put<N: Naming, R: Abort>(rt: &R, shared: &Shared<'_>, rack: &mut Rack<N>, task: Task)
-    requires name { IsName N.run N.course shared.now }
+    requires name { IsName N.run N.course N.taken shared.now }
     requires task { task.of ≡ shared.now.course }
 {
     let _ = shared;
@@ -43,7 +43,7 @@ fn offers<N: Naming, R: Abort>(
     rack: &mut Rack<N>,
     mut work: Work,
 )
-    requires name { IsName N.run N.course shared.now }
+    requires name { IsName N.run N.course N.taken shared.now }
     requires works { Works shared.now work }
 {
     'each: for _ in 0..TURNS {
@@ -64,7 +64,7 @@ fn ticket(rt: &impl Abort, task: Option<Task>) -> Pos {
 
 /// Three tasks are offered and taken.
 pub fn taken<N: Naming, R: Abort>(rt: &R, alloc: Global, shared: &Shared<'_>, work: Work)
-    requires name { IsName N.run N.course shared.now }
+    requires name { IsName N.run N.course N.taken shared.now }
     requires works { Works shared.now work }
 {
     let Ok(mut rack) = Rack::<N>::new(alloc, 1) else {

@@ -1,6 +1,5 @@
 -- Where a strand begins.
-use Rattle.std.proofs.Common.{◌≡◌, ℕ, ◌+◌, ◌<◌, ◌≤◌, List, slice_index_or, sym, ap, ◌∙◌, subst}
-use Rattle.cilk_types.specs.declared.event.Event.{Event}
+use Rattle.std.proofs.Common.{◌≡◌, ℕ, ◌+◌, ◌<◌, ◌≤◌, List, slice_index_or, sym, subst}
 use Rattle.cilk_shared.specs.Values.{SegmentValue}
 use Rattle.cilk_story.specs.declared.story.Story.{Story}
 use Rattle.cilk_plan.specs.Strands.{AreFirsts, BeginsStrand}

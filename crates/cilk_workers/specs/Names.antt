@@ -2,10 +2,13 @@
 use Rattle.std.specs.Prelude.{◌≡◌}
 use Rattle.cilk_boxes.specs.Rows.{RunValue}
 use Rattle.cilk_chains.specs.Courses.{CourseValue}
+use Rattle.cilk_chains.specs.declared.chain.Task.{Task}
 use Rattle.cilk_turns.specs.Shared.{SharedValue}
+use Rattle.cilk_racks.specs.Racks.{MayPick}
 
--- it names the run that the workers share, and that run's course alone
-pub record IsName (named : RunValue) (is : CourseValue → Type 0) (y : SharedValue) : Type 0 where
+-- it names the run that the workers share, and that run's course alone, and its workers may take each other's tasks
+pub record IsName (named : RunValue) (is : CourseValue → Type 0) (taken : Task → Type 0) (y : SharedValue) : Type 0 where
   pub run : named ≡ y.run
   pub course : is y.course
   pub only : (c : CourseValue) → is c → c ≡ y.course
+  pub may : MayPick taken

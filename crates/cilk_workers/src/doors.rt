@@ -1,10 +1,10 @@
 //! A worker at a join box.
 
-ghost use Rattle.std.specs.Prelude.{◌≡◌, ◌<◌, ◌≤◌, ℕ, Some, length, slice_get, slice_index, IfSome, MatchOption};
+ghost use Rattle.std.specs.Prelude.{◌≡◌, ◌<◌, ◌≤◌, ℕ, Some, length, slice_get, slice_index, IfOk, IfSome, MatchOption, OnOk};
 ghost use Rattle.cilk_types.specs.declared.event.Event.TheVariants.{Sync};
 ghost use Rattle.crossbeam_queue.specs.Passes.{IsPassOf};
 ghost use Rattle.cilk_boxes.specs.Rows.{IsGood};
-ghost use Rattle.cilk_boxes.specs.Shelves.{LiesOn};
+ghost use Rattle.cilk_boxes.specs.Shelves.{HasRoom, IsSameShelf, LiesOn};
 ghost use Rattle.cilk_chains.specs.Chains.{standing};
 ghost use Rattle.cilk_racks.specs.Locks.{IsShelf};
 ghost use Rattle.cilk_story.specs.Word.{event};
@@ -23,7 +23,7 @@ use cilk_racks::naming::Naming;
 use cilk_turns::shared::Shared;
 use cilk_turns::work::Work;
 use cilk_types::event::Pos;
-use std::alloc::Global;
+use std::alloc::{AllocError, Global};
 use std::sync::Wait;
 
 /// A piece that comes to a block: a child's by the position of its spawn, or the `sync`'s own, by that of the `sync` and with its chain.
@@ -70,19 +70,20 @@ fn come<R: Wait>(
     }
 }
 
-// The box of a block comes off its shelf.
+// The box of a block comes off its shelf, on which there is room then to put it back.
 fn taken_from<N: Naming>(
     alloc: Global,
     shared: &Shared<'_>,
     shelf: &mut Shelf,
     sync: Pos,
-) -> JoinBox
-    requires name { IsName N.run N.course shared.now }
+) -> Result<JoinBox, AllocError>
+    requires name { IsName N.run N.course N.taken shared.now }
     requires shelf { IsShelf N.run N.course shelf.old }
     requires sync { event (story_in shared.now) sync ≡ Some Sync }
-    ensures shelf { (shelf.new.of ≡ shelf.old.of) × (shelf.new.course ≡ shelf.old.course) }
-    ensures of { LiesOn shelf.old.of shelf.old.course result }
-    ensures run { (result.rows.of ≡ shared.now.run) × (result.course ≡ shared.now.course) }
+    ensures shelf { IsSameShelf shelf.old shelf.new }
+    ensures of { IfOk result (λ b. LiesOn shelf.old.of shelf.old.course b) }
+    ensures room { OnOk result (HasRoom shelf.new) }
+    ensures run { IfOk result (λ b. (b.rows.of ≡ shared.now.run) × (b.course ≡ shared.now.course)) }
 {
     shelf.take(
         alloc,
@@ -91,6 +92,57 @@ fn taken_from<N: Naming>(
         shared.course(),
         sync,
     )
+}
+
+// A piece arrives at a block whose box lies on the shelf in hand.
+fn arrive_on<N: Naming, R: Wait>(
+    rt: &R,
+    alloc: Global,
+    shared: &Shared<'_>,
+    shelf: &mut Shelf,
+    sync: Pos,
+    arrival: Arrival,
+) -> Met
+    requires name { IsName N.run N.course N.taken shared.now }
+    requires shelf { IsShelf N.run N.course shelf.old }
+    requires sync { event (story_in shared.now) sync ≡ Some Sync }
+    requires good { IsGood shared.now.run arrival.piece }
+    requires chain { IfSome arrival.chain (λ c. c ≡ standing shared.now.course arrival.piece.upto) }
+    ensures shelf { IsSameShelf shelf.old shelf.new }
+    ensures met { IsMet shared.now result }
+{
+    let Ok(mut found) = taken_from::<N>(alloc, shared, shelf, sync) else {
+        return Met::Stopped;
+    };
+    let met = come(rt, alloc, shared, &mut found, arrival);
+    shelf.put(found);
+    met
+}
+
+// A thief tells a block whose box lies on the shelf in hand. False where there was no memory.
+fn steal_on<N: Naming, R: Wait>(
+    rt: &R,
+    alloc: Global,
+    shared: &Shared<'_>,
+    shelf: &mut Shelf,
+    sync: Pos,
+    child: Pos,
+    goes_on: Pos,
+) -> bool
+    requires name { IsName N.run N.course N.taken shared.now }
+    requires shelf { IsShelf N.run N.course shelf.old }
+    requires sync { event (story_in shared.now) sync ≡ Some Sync }
+    ensures { IsSameShelf shelf.old shelf.new }
+{
+    let Ok(mut found) = taken_from::<N>(alloc, shared, shelf, sync) else {
+        return false;
+    };
+    if !found.open(child, goes_on) {
+        wait(rt);
+    }
+    let told = found.steal(child, goes_on).is_ok();
+    shelf.put(found);
+    told
 }
 
 /// A piece arrives at the block that ends with the `sync` at a position, whose box lies on the shelf behind this lock.
@@ -103,7 +155,7 @@ pub fn arrive<N: Naming, R: Wait>(
     sync: Pos,
     arrival: Arrival,
 ) -> Met
-    requires name { IsName N.run N.course shared.now }
+    requires name { IsName N.run N.course N.taken shared.now }
     requires key { IsPassOf door.now key.old }
     requires sync { event (story_in shared.now) sync ≡ Some Sync }
     requires good { IsGood shared.now.run arrival.piece }
@@ -112,11 +164,9 @@ pub fn arrive<N: Naming, R: Wait>(
     ensures met { IsMet shared.now result }
 {
     let mut shelf = lock(rt, door, key);
-    let mut found = taken_from::<N>(alloc, shared, &mut shelf, sync);
-    let met = come(rt, alloc, shared, &mut found, arrival);
-    let kept = shelf.put(found).is_ok();
+    let met = arrive_on::<N, R>(rt, alloc, shared, &mut shelf, sync, arrival);
     free(rt, door, key, shelf);
-    if kept { met } else { Met::Stopped }
+    met
 }
 
 /// A thief tells the block that it took the continuation after the spawn `child`, which goes on at `goes_on`. False where there was no
@@ -131,20 +181,15 @@ pub fn steal<N: Naming, R: Wait>(
     child: Pos,
     goes_on: Pos,
 ) -> bool
-    requires name { IsName N.run N.course shared.now }
+    requires name { IsName N.run N.course N.taken shared.now }
     requires key { IsPassOf door.now key.old }
     requires sync { event (story_in shared.now) sync ≡ Some Sync }
     ensures { IsPassOf door.now key.new }
 {
     let mut shelf = lock(rt, door, key);
-    let mut found = taken_from::<N>(alloc, shared, &mut shelf, sync);
-    if !found.open(child, goes_on) {
-        wait(rt);
-    }
-    let told = found.steal(child, goes_on).is_ok();
-    let kept = shelf.put(found).is_ok();
+    let told = steal_on::<N, R>(rt, alloc, shared, &mut shelf, sync, child, goes_on);
     free(rt, door, key, shelf);
-    told && kept
+    told
 }
 
 /// The block of a position, where it has one of so many.
@@ -184,7 +229,7 @@ pub fn arrive_by<N: Naming, R: Wait>(
     block: usize,
     arrival: Arrival,
 ) -> Met
-    requires name { IsName N.run N.course shared.now }
+    requires name { IsName N.run N.course N.taken shared.now }
     requires keys { AreKeys blocks.now.doors.now.items keys.old.items }
     requires syncs { AreSyncs shared.now blocks.now.syncs.now }
     requires block { block < length blocks.now.syncs.now }
@@ -211,7 +256,7 @@ pub fn steal_by<N: Naming, R: Wait>(
     child: Pos,
     goes_on: Pos,
 ) -> bool
-    requires name { IsName N.run N.course shared.now }
+    requires name { IsName N.run N.course N.taken shared.now }
     requires keys { AreKeys blocks.now.doors.now.items keys.old.items }
     requires syncs { AreSyncs shared.now blocks.now.syncs.now }
     requires block { block < length blocks.now.syncs.now }

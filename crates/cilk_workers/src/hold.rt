@@ -47,7 +47,7 @@ fn arrived<N: Naming, R: Wait>(
     piece: Piece,
     chain: Option<Chain>,
 ) -> Hand
-    requires name { IsName N.run N.course shared.now }
+    requires name { IsName N.run N.course N.taken shared.now }
     requires keys { AreKeys blocks.now.doors.now.items keys.old.items }
     requires syncs { AreSyncs shared.now blocks.now.syncs.now }
     requires piece { IsGood shared.now.run piece }
@@ -75,7 +75,7 @@ fn arrived<N: Naming, R: Wait>(
 
 // The continuation is offered. False where there was no memory.
 fn offered<N: Naming>(shared: &Shared<'_>, rack: &mut Rack<N>, task: Task) -> bool
-    requires name { IsName N.run N.course shared.now }
+    requires name { IsName N.run N.course N.taken shared.now }
     requires task { task.of ≡ shared.now.course }
 {
     let _ = shared;
@@ -116,7 +116,7 @@ pub fn hold<N: Naming, R: Wait, G: Gate>(
     tools: &mut Tools<N>,
     mut work: Work,
 ) -> Hand
-    requires name { IsName N.run N.course shared.now }
+    requires name { IsName N.run N.course N.taken shared.now }
     requires keys { AreKeys blocks.now.doors.now.items tools.old.keys.items }
     requires syncs { AreSyncs shared.now blocks.now.syncs.now }
     requires strands { AreFirsts shared.now.run.story.events watch.now.strands.now }

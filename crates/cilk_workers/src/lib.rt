@@ -5,8 +5,9 @@
 //! block, and the worker looks for other work: its own newest task, or the oldest of another (Frigo, Leiserson and Randall 1998). The
 //! piece that arrives last passes, and its worker goes on behind the `sync`.
 //!
-//! What a worker must know of a position, its block and the position of the block's `sync`, are plain numbers. Nothing is asked of them: a
-//! wrong one leads to a join box in which nothing fits, and there the worker waits without end.
+//! What a worker must know of a position, its block and the position of the block's `sync`, are plain numbers. Of these only
+//! this is asked, that a `sync` stands at each position that is listed. Where a position has another block's number, a run may not end, and
+//! no wrong answer comes.
 //!
 //! ```text
 //! let blocks = Blocks { doors: &doors, syncs: &syncs, of: &of };

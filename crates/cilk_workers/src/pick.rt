@@ -1,8 +1,8 @@
 //! A turn of a worker that has nothing.
 
-ghost use Rattle.std.specs.Prelude.{◌≡◌, ◌≤◌, IfSome};
+ghost use Rattle.std.specs.Prelude.{◌≤◌, IfSome};
 ghost use Rattle.cilk_boxes.specs.Rows.{OfRun};
-ghost use Rattle.cilk_racks.specs.Racks.{Of};
+ghost use Rattle.cilk_racks.specs.Racks.{MayPick, Of};
 ghost use Rattle.cilk_plan.specs.Strands.{AreFirsts};
 ghost use Rattle.cilk_workers.specs.Hands.{IsHand};
 ghost use Rattle.cilk_workers.specs.Keys.{AreKeys, AreSyncs};
@@ -25,6 +25,7 @@ use std::sync::Wait;
 
 // The oldest task of another worker, where there is one.
 fn another<N: Naming>(pickers: &mut Vec<Picker<N>>) -> Option<Task>
+    requires { MayPick N.taken }
     ensures { IfSome result (λ t. Of N.course t) }
 {
     'each: for at in 0..pickers.len() {
@@ -38,6 +39,7 @@ fn another<N: Naming>(pickers: &mut Vec<Picker<N>>) -> Option<Task>
 
 // The worker's own newest task, or else another's oldest.
 fn found<N: Naming>(rack: &mut Rack<N>, pickers: &mut Vec<Picker<N>>) -> Option<Task>
+    requires { MayPick N.taken }
     ensures { IfSome result (λ t. Of N.course t) }
 {
     match rack.newest() {
@@ -55,7 +57,7 @@ fn told<N: Naming, R: Wait>(
     keys: &mut Vec<Key>,
     at: Pos,
 ) -> bool
-    requires name { IsName N.run N.course shared.now }
+    requires name { IsName N.run N.course N.taken shared.now }
     requires keys { AreKeys blocks.now.doors.now.items keys.old.items }
     requires syncs { AreSyncs shared.now blocks.now.syncs.now }
     ensures { AreKeys blocks.now.doors.now.items keys.new.items }
@@ -79,7 +81,7 @@ pub fn pick<N: Naming, R: Wait, G: Gate>(
     backoff: &Backoff,
     mut piece: Piece,
 ) -> Hand
-    requires name { IsName N.run N.course shared.now }
+    requires name { IsName N.run N.course N.taken shared.now }
     requires keys { AreKeys blocks.now.doors.now.items tools.old.keys.items }
     requires syncs { AreSyncs shared.now blocks.now.syncs.now }
     requires strands { AreFirsts shared.now.run.story.events watch.now.strands.now }

@@ -1,6 +1,5 @@
 //! A worker's turns.
 
-ghost use Rattle.std.specs.Prelude.{◌≡◌};
 ghost use Rattle.cilk_plan.specs.Strands.{AreFirsts};
 ghost use Rattle.cilk_workers.specs.Hands.{IsHand, IsFinish};
 ghost use Rattle.cilk_workers.specs.Keys.{AreKeys, AreSyncs};
@@ -28,7 +27,7 @@ pub fn work<N: Naming, R: Wait, G: Gate>(
     stop: &AtomicBool,
     hand: Hand,
 ) -> Finish
-    requires name { IsName N.run N.course shared.now }
+    requires name { IsName N.run N.course N.taken shared.now }
     requires keys { AreKeys blocks.now.doors.now.items tools.old.keys.items }
     requires syncs { AreSyncs shared.now blocks.now.syncs.now }
     requires strands { AreFirsts shared.now.run.story.events watch.now.strands.now }

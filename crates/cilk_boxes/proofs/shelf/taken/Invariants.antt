@@ -8,5 +8,5 @@ use Rattle.cilk_boxes.proofs.shelf.taken.Given as goal
 abbrev pub invariant-each : goal.invariant-each
 invariant-each l =
     All (LiesOn (run_of l.yard l.reducers) l.course) l.boxes.items
-    × (l.boxes.items ≡ l.fn.boxes.items)
+    × (l.boxes ≡ l.fn.boxes)
     × ((k : ℕ) (d : BoxValue) → k < l.at → (let b = get_or l.boxes.items k d in b.sync ≢ l.sync))

@@ -1,4 +1,4 @@
-use Rattle.std.proofs.Common.{◌≡◌, arith}
+use Rattle.std.proofs.Common.{arith}
 use Rattle.cilk_workers.proofs.Keys.{widths, at, changed, key_at}
 use Rattle.cilk_crew.proofs.kits.one_more.Goals as goal
 

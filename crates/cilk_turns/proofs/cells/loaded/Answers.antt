@@ -1,4 +1,4 @@
-use Rattle.std.proofs.Common.{◌≡◌, inl, ◌<◌, ◌∙◌, Some, length, refl, sym, ap, subst, w64, SFits}
+use Rattle.std.proofs.Common.{◌≡◌, inl, ◌<◌, Some, length, refl, sym, subst, w64}
 use Rattle.std.proofs.lemmas.Int.{to_z-of_z}
 use Rattle.cilk_chains.specs.Asking.{IsAnswered}
 use Rattle.cilk_types.specs.declared.event.Event.TheVariants.{Read}
@@ -7,7 +7,6 @@ use Rattle.cilk_plan.specs.declared.kind.Kind.TheVariants as kinds
 use Rattle.cilk_shared.specs.Values.{YardValue}
 use Rattle.cilk_story.specs.Runs.{IsAsked}
 use Rattle.cilk_story.specs.Word.{event}
-use Rattle.cilk_turns.specs.Shared.{story_in}
 use Rattle.cilk_turns.proofs.Due.{answered, here, in_yard}
 use Rattle.cilk_turns.proofs.cells.loaded.Goals as goal
 

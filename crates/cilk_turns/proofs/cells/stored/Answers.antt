@@ -1,4 +1,4 @@
-use Rattle.std.proofs.Common.{◌≡◌, inr, ◌<◌, ◌∙◌, Some, length, sym, ap, subst, w64, SFits, to_z, of_z}
+use Rattle.std.proofs.Common.{◌≡◌, inr, ◌<◌, ◌∙◌, Some, length, sym, ap, w64, to_z, of_z}
 use Rattle.std.proofs.lemmas.Int.{to_z-of_z}
 use Rattle.cilk_types.specs.declared.event.Event.TheVariants.{Write}
 use Rattle.cilk_plan.specs.declared.kind.Kind.TheVariants as kinds

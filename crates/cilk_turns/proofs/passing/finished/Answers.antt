@@ -1,4 +1,4 @@
-use Rattle.std.proofs.Common.{◌≡◌, ◌<◌, ◌∙◌, ◌+◌, ℕ, Some, length, sym, ap, subst, w64, SFits}
+use Rattle.std.proofs.Common.{◌≡◌, ◌<◌, ◌∙◌, ◌+◌, ℕ, Some, length, sym, ap, subst, w64}
 use Rattle.std.proofs.lemmas.Int.{to_z-of_z}
 use Rattle.cilk_turns.specs.Turns.{IsResult}
 use Rattle.cilk_types.specs.declared.event.Event.TheVariants as events

@@ -1,11 +1,9 @@
-use Rattle.std.proofs.Common.{◌≡◌, Some, inl, inr, refl, sym, subst}
 use Rattle.cilk_types.specs.declared.event.Event.TheVariants as events
 use Rattle.cilk_plan.specs.declared.kind.Kind.TheVariants as kinds
-use Rattle.cilk_plan.specs.Kinds.{kind_of_event}
-use Rattle.cilk_story.specs.Word.{event, what}
+use Rattle.cilk_story.specs.Word.{event}
 use Rattle.cilk_turns.specs.Shared.{story_in}
-use Rattle.cilk_turns.proofs.OfKind.{has_number, no_sync, quiet, silent_done, silent_quiet, what_end, what_plain, with_number}
-use Rattle.cilk_turns.proofs.Due.{answered, answered_done, can_pass, can_take, chain_follows, here, of_story, on_chain, passes, taken_on}
+use Rattle.cilk_turns.proofs.OfKind.{no_sync, what_plain}
+use Rattle.cilk_turns.proofs.Due.{answered_done, can_pass, here, passes}
 use Rattle.cilk_turns.proofs.reducing.created.Goals as goal
 
 pub create-requires-clause-next : goal.create-requires-clause-next

@@ -1,15 +1,14 @@
-use Rattle.std.proofs.Common.{◌≡◌, Some, inl, inr, refl, sym, subst, w64, SFits}
+use Rattle.std.proofs.Common.{sym, subst, w64}
 use Rattle.std.proofs.lemmas.Int.{to_z-of_z}
 use Rattle.cilk_pieces.specs.Pieces.{PassesOn}
 use Rattle.cilk_types.specs.declared.event.Event.TheVariants as events
 use Rattle.cilk_plan.specs.declared.kind.Kind.TheVariants as kinds
-use Rattle.cilk_plan.specs.Kinds.{kind_of_event}
 use Rattle.cilk_story.specs.Runs.{IsAsked}
-use Rattle.cilk_story.specs.Word.{event, what}
+use Rattle.cilk_story.specs.Word.{event}
 use Rattle.cilk_turns.specs.Asks.{Carries, HasNumber}
 use Rattle.cilk_turns.specs.Shared.{story_in}
-use Rattle.cilk_turns.proofs.OfKind.{has_number, no_sync, quiet, silent_done, silent_quiet, what_end, what_plain, with_number}
-use Rattle.cilk_turns.proofs.Due.{answered, answered_done, off_chain, can_pass, can_take, chain_follows, here, of_story, on_chain, passes, taken_on}
+use Rattle.cilk_turns.proofs.OfKind.{has_number, no_sync, what_plain, with_number}
+use Rattle.cilk_turns.proofs.Due.{answered_done, off_chain, can_pass, on_chain, passes}
 use Rattle.cilk_turns.proofs.reducing.set.Goals as goal
 
 pub set-requires-clause-next : goal.set-requires-clause-next

@@ -5,7 +5,7 @@ use Rattle.cilk_types.specs.declared.event.Event.TheVariants as events
 use Rattle.cilk_frames.specs.declared.cursor.Answer.TheVariants.{Value}
 use Rattle.cilk_plan.specs.declared.kind.Kind.TheVariants as kinds
 use Rattle.cilk_story.specs.Runs.{IsAsked, IsFollowed}
-use Rattle.cilk_story.specs.Word.{event, plain, resume, what}
+use Rattle.cilk_story.specs.Word.{event, plain, resume}
 use Rattle.cilk_turns.specs.Shared.{story_in}
 use Rattle.cilk_turns.proofs.Due.{ahead, answered, can_pass, here, in_segment, number_read, off_segment, passes}
 use Rattle.cilk_turns.proofs.OfKind.{no_sync, what_plain}

@@ -1,11 +1,7 @@
-use Rattle.std.proofs.Common.{◌≡◌, ◌≤◌, ℕ, ◌+◌, Some, length, sym, ap, ◌∙◌, subst, arith}
-use Rattle.cilk_plan.specs.declared.kind.Kind.{Kind}
+use Rattle.std.proofs.Common.{◌≡◌, ◌+◌, Some, sym, ◌∙◌, arith}
 use Rattle.cilk_plan.specs.declared.kind.Kind.TheVariants as kinds
-use Rattle.cilk_plan.specs.Kinds.{kind_of_event}
-use Rattle.cilk_story.specs.Word.{event}
-use Rattle.cilk_turns.specs.Shared.{IsNext, story_in}
+use Rattle.cilk_turns.specs.Shared.{story_in}
 use Rattle.cilk_turns.proofs.Begun.{child_begins, next_there}
-use Rattle.cilk_turns.proofs.OfKind.{with_kind}
 use Rattle.cilk_turns.proofs.starting.frame_begun.Goals as goal
 
 pub unreachable-requires : goal.unreachable-requires

@@ -1,4 +1,4 @@
-use Rattle.std.proofs.Common.{◌≡◌, ◌≤◌, ℕ, length, subst}
+use Rattle.std.proofs.Common.{◌≤◌, ℕ, length, subst}
 use Rattle.cilk_turns.specs.Shared.{IsNext, story_in}
 use Rattle.cilk_turns.proofs.Begun.{next_there}
 use Rattle.cilk_turns.proofs.Due.{off_chain}

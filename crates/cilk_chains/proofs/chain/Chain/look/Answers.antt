@@ -1,4 +1,4 @@
-use Rattle.std.proofs.Common.{◌≡◌, ◌⊎◌, inl, inr, ℕ, List, length, Some, rules, refl, sym, ap, ap₂, ◌∙◌, subst}
+use Rattle.std.proofs.Common.{◌≡◌, ◌⊎◌, inl, inr, ℕ, length, Some, rules, refl, sym, ap, ap₂, ◌∙◌, subst}
 use denote.Enum.Bare.{differs_true, differs_false}
 use Rattle.cilk_types.specs.declared.event.Instance.{Instance}
 use Rattle.cilk_plan.specs.declared.kind.Kind.{Kind}

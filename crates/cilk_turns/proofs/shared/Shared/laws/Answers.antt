@@ -1,5 +1,6 @@
 use Rattle.std.proofs.Common.{subst}
-use Rattle.cilk_turns.specs.Shared.{HasCells, HasNumbers, SharedValue, story_in}
+use Rattle.cilk_turns.specs.Shared.{HasCells, SharedValue, story_in}
+use Rattle.cilk_pieces.specs.Numbers.{HasNumbers}
 use Rattle.cilk_turns.proofs.shared.Shared.laws.Goals as goal
 
 pub returns-clause-cells : goal.returns-clause-cells

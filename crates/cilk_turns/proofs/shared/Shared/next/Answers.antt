@@ -1,4 +1,4 @@
-use Rattle.std.proofs.Common.{◌≤◌, arith, subst}
+use Rattle.std.proofs.Common.{arith, subst}
 use Rattle.cilk_turns.specs.Shared.{IsNext, SharedValue, story_in}
 use Rattle.cilk_turns.proofs.Planned.{next_is}
 use Rattle.cilk_turns.proofs.shared.Shared.next.Goals as goal

@@ -1,4 +1,4 @@
-use Rattle.std.proofs.Common.{◌≡◌, ℕ, ◌-◌, ap, ◌∙◌, arith}
+use Rattle.std.proofs.Common.{◌≡◌, ◌-◌, ap, ◌∙◌, arith}
 use Rattle.cilk_shared.specs.Values.{SegmentValue}
 use Rattle.cilk_workers.proofs.Begun.{begins}
 use Rattle.cilk_workers.proofs.gate.Watch.tell.Goals as goal
