@@ -3,6 +3,7 @@
 
 tools/each_failure.py [PROGRAM]             the program, by default crates/cilk/out/cilk
 tools/each_failure.py --choices [TESTS]     the built tests of schedules, by default crates/cilk_schedule_tests/out/cilk_schedule_tests_tests
+tools/each_failure.py --plan RUNS           RUNS, the built program of bench/workers
 
 The commands are `certify` and `check` of a chain of spawns (fib(10), accepted) and of a view-read race (refused), and `play` of three programs
 with 2 workers and all rounds. `threads` of three programs with 2 workers has its allocations alone refused, up to a run that makes fewer, since
@@ -16,6 +17,9 @@ With `--choices` the test `refused::rows_by_two_workers` of `cilk_schedule_tests
 list by a parallel loop and the local reducers, by rounds of 2 workers. It passes where each run ends with its result, or stops for want of
 memory, three more choices give the same stop, and each frame that is shown then has the first events that it has in the serial run.
 It says so where memory was refused ahead of the choices or behind them; any other end is wrong. `rt test` builds these tests.
+
+With `--plan` three programs are run twice by 2 workers in one process, on one plan, with each allocation refused in turn, up to a run that
+makes fewer. The first run may fail, the second must not: it has ample memory, and the plan is as it was.
 """
 
 import os
@@ -246,12 +250,39 @@ def choices(tests, folder):
     return wrong
 
 
+def same_plan(program, folder):
+    """Refuses each allocation of two runs on one plan in turn, and gives how often they ended otherwise than they may."""
+    wrong = 0
+    for name in ["gets", "list", "prints"]:
+        first = second = outside = 0
+        n, met = 0, 0
+        while met >= n:
+            n += 1
+            (status, out, _), (met, _, _) = run(program, ["2", "2", name], folder, FAIL_ALLOC=n)
+            ends = [line.split()[2] == b"failed" for line in out.splitlines()]
+            if status == 0 and not ends:
+                outside += 1
+            elif status == 0 and ends == [True, False]:
+                first += 1
+            elif status == 0 and ends == [False, False]:
+                second += 1
+            elif status == 0 and ends == [False, True]:
+                second += 1  # (what was refused is the second run's own)
+            else:
+                wrong += 1
+                print(f"{name}: FAIL_ALLOC={n}: {status} {out[-200:]}")
+        print(f"{name}: {outside} ahead of the plan, {first} in the first run, after which the second had the outcome, {second} later; {wrong} wrong")
+    return wrong
+
+
 def main():
     words = sys.argv[1:]
     with tempfile.TemporaryDirectory() as folder:
         make_library(folder)
         if words[:1] == ["--choices"]:
             wrong = choices(os.path.realpath(words[1] if words[1:] else TESTS), folder)
+        elif words[:1] == ["--plan"]:
+            wrong = same_plan(os.path.realpath(words[1]), folder)
         else:
             wrong = commands(os.path.realpath(words[0] if words else PROGRAM), folder)
     print(f"{wrong} wrong")

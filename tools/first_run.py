@@ -11,6 +11,7 @@ import re
 import shutil
 import subprocess
 import sys
+import tempfile
 import threading
 import time
 
@@ -33,7 +34,7 @@ def has_rt():
 
 
 def crates():
-    """The crates that the program stands on, and the program, in the order in which they are proved."""
+    """The crates that the program stands on, and the program, lower ones first."""
     named = {}
     with open(f"{TOP}/crates.txt", encoding="utf-8") as listed:
         for line in listed:
@@ -53,29 +54,23 @@ def crates():
 
 
 class Progress:
-    """What the log says of the crate at hand, the functions done, and what is still to come."""
+    """What the log says of the crates that are proved, and which are still to come."""
 
     def __init__(self, order):
         self.order = order
-        self.done = 0
-        self.functions = ""
+        self.done = set()
         self.began = time.monotonic()
         self.shown = 0.0
 
     def read(self, line):
-        if at := re.match(r"crate (\w+): modules", line):
-            if at[1] in self.order:
-                self.done = self.order.index(at[1]) + 1
-            self.functions = ""
-        elif at := re.search(r"(\d+) of (\d+)(?: functions checked)?", line):
-            self.functions = f", {at[1]} of {at[2]} functions"
+        if at := re.match(r"rt: (\w+) (?:proved$|is kept:)", line):
+            self.done.add(at[1])
 
     def text(self):
-        left = self.order[self.done :]
+        left = [it for it in self.order if it not in self.done]
         minutes, seconds = divmod(int(time.monotonic() - self.began), 60)
-        now = f"proving {left[0]}{self.functions}" if left else "building the program"
-        rest = f"; then {' '.join(left[1:])}" if left[1:] else ""
-        return f"{minutes}:{seconds:02} {self.done} of {len(self.order)} crates proved; {now}{rest}"
+        now = f"; to come: {' '.join(left)}" if left else "; building the program"
+        return f"{minutes}:{seconds:02} {len(self.order) - len(left)} of {len(self.order)} crates proved{now}"
 
     def show(self, at_once=False):
         if sys.stderr.isatty():
@@ -85,6 +80,17 @@ class Progress:
         elif at_once or time.monotonic() - self.shown >= EVERY:
             self.shown = time.monotonic()
             tell(self.text())
+
+
+def copy_of(order, room):
+    """A repository of these crates alone, without the edits of them that the prover must refuse, in an empty folder."""
+    for name in order:
+        aside = shutil.ignore_patterns("out", "must-fail")
+        shutil.copytree(f"{TOP}/crates/{name}", f"{room}/crates/{name}", ignore=aside)
+    with open(f"{TOP}/crates.txt", encoding="utf-8") as listed, open(f"{room}/crates.txt", "w", encoding="utf-8") as it:
+        it.writelines(line for line in listed if line.split(":")[0].split()[:1] in [[name] for name in order])
+    shutil.copyfile(f"{TOP}/HANDLES", f"{room}/HANDLES")
+    os.mkdir(f"{room}/.git")  # (so that `rt` takes it for the top of a repository)
 
 
 def lines_of(stream):
@@ -111,19 +117,26 @@ def build():
     if not has_rt():
         return 1
     os.makedirs(os.path.dirname(LOG), exist_ok=True)
-    progress = Progress(crates())
+    order = crates()
+    progress = Progress(order)
     tell(f"proving and building the program, once; the log is {LOG}")
-    tell("all sources are read first, which takes a minute or two")
+    tell("what is proved is kept on this machine: where this is stopped, the next call goes on from there")
     progress.show(at_once=True)
-    with open(LOG, "w", encoding="utf-8") as log:
-        how = {"cwd": CRATE, "stdin": subprocess.DEVNULL, "stdout": subprocess.PIPE, "stderr": subprocess.STDOUT}
-        with subprocess.Popen(["rt", "run"], text=True, errors="replace", **how) as work:
-            for line in lines_of(work.stdout):
-                if line:
-                    log.write(line)
-                    log.flush()
-                    progress.read(line)
-                progress.show()
+    with tempfile.TemporaryDirectory(prefix="cilk-build-") as room:
+        copy_of(order, room)
+        with open(LOG, "w", encoding="utf-8") as log:
+            how = {"cwd": room, "stdin": subprocess.DEVNULL, "stdout": subprocess.PIPE, "stderr": subprocess.STDOUT}
+            with subprocess.Popen(["rt", "ci"], text=True, errors="replace", **how) as work:
+                for line in lines_of(work.stdout):
+                    if line:
+                        log.write(line)
+                        log.flush()
+                        progress.read(line)
+                    progress.show()
+        made = f"{room}/crates/cilk/out/cilk"
+        if work.returncode == 0 and os.access(made, os.X_OK):
+            shutil.copy(made, f"{CRATE}/out/cilk.new")
+            os.replace(f"{CRATE}/out/cilk.new", f"{CRATE}/out/cilk")
     if sys.stderr.isatty():
         print(file=sys.stderr)
     if os.access(f"{CRATE}/out/cilk", os.X_OK):
