@@ -1,4 +1,4 @@
-"""The gate of a landing: `rt ci`, or as much of it as the time holds.
+"""The gate of a commit: `rt ci`, or as much of it as the time holds.
 
 Where the whole gate surely fits, by the processor minutes in docs/GATE.md and by how fast this machine is now, this is
 `rt ci`. Where it may not, it goes in rounds, each an `rt ci` over what the rounds before have passed, which `rt` keeps:
