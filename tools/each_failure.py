@@ -259,8 +259,9 @@ def same_plan(program, folder):
         while met >= n:
             n += 1
             (status, out, _), (met, _, _) = run(program, ["2", "2", name], folder, FAIL_ALLOC=n)
-            ends = [line.split()[2] == b"failed" for line in out.splitlines()]
-            if status == 0 and not ends:
+            lines = [line.split() for line in out.splitlines()]
+            ends = [line[2] == b"failed" for line in lines]
+            if status == 0 and all(line[0] != name.encode() for line in lines):  # (or the words weren't read)
                 outside += 1
             elif status == 0 and ends == [True, False]:
                 first += 1
