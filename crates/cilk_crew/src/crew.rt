@@ -20,7 +20,7 @@ use cilk_turns::shared::Shared;
 use cilk_turns::work::Work;
 use cilk_workers::gate::{Gate, Watch};
 use cilk_workers::hand::{Blocks, Finish, Hand, Tools};
-use cilk_workers::work::work;
+use cilk_workers::station::Station;
 use std::alloc::{AllocError, Global};
 use std::sync::Wait;
 use std::sync::atomic::{AtomicBool, Ordering};
@@ -85,24 +85,29 @@ pub fn worker<'a, N: Naming, R: Wait, G: Gate>(
         pickers,
         keys,
     };
-    let blocks = Blocks {
-        doors,
-        syncs: layout.syncs,
-        of: layout.of,
-    };
-    let watch = Watch {
-        gate,
-        worker: number,
-        strands: layout.strands,
+    let station = Station {
+        rt,
+        alloc,
+        shared,
+        blocks: Blocks {
+            doors,
+            syncs: layout.syncs,
+            of: layout.of,
+        },
+        watch: Watch {
+            gate,
+            worker: number,
+            strands: layout.strands,
+        },
     };
     let hand = match chain {
         Some(chain) => {
-            watch.tell(shared, 0, &piece);
+            station.watch.tell(shared, 0, &piece);
             Hand::Holds(Work { piece, chain })
         }
         None => Hand::Idle(piece),
     };
-    work::<N, R, G>(rt, alloc, shared, &blocks, &watch, &mut tools, stop, hand)
+    station.work(&mut tools, stop, hand)
 }
 
 // The better of two ends.

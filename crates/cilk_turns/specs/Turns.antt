@@ -1,17 +1,19 @@
 -- What a worker has in its hands, and what a turn leads to.
-use Rattle.std.specs.Prelude.{◌≡◌, ◌+◌, ◌<◌, ◌⊎◌, ℤ, length, Some}
+use Rattle.std.specs.Prelude.{◌≡◌, ◌+◌, ◌<◌, ◌⊎◌, ℕ, ℤ, length, Some}
+use Rattle.cilk_types.specs.declared.event.Event.TheVariants as events
 use Rattle.cilk_types.specs.declared.outcome.Outcome.{Outcome}
 use Rattle.cilk_program.specs.Outcomes.{Leaves}
 use Rattle.cilk_program.specs.SerialRun.{Transcript, IsSerialRun}
 use Rattle.cilk_program.specs.Sources.{source}
 use Rattle.cilk_boxes.specs.Rows.{IsGood}
 use Rattle.cilk_chains.specs.Chains.{standing}
-use Rattle.cilk_pieces.specs.Pieces.{PieceValue, grown}
+use Rattle.cilk_pieces.specs.Pieces.{PieceValue, grown, segment_of}
 use Rattle.cilk_plan.specs.Kinds.{kind_of_event}
 use Rattle.cilk_plan.specs.declared.kind.Kind.{Kind}
 use Rattle.cilk_plan.specs.declared.kind.Kind.TheVariants as kinds
+use Rattle.cilk_shared.specs.Values.{MayPass}
 use Rattle.cilk_story.specs.Runs.{Departs, IsAsked, IsFollowed}
-use Rattle.cilk_story.specs.Word.{event}
+use Rattle.cilk_story.specs.Word.{event, resume, what}
 use Rattle.cilk_turns.specs.Shared.{SharedValue, story_in}
 use Rattle.cilk_turns.specs.declared.work.Work.{Work}
 use Rattle.cilk_turns.specs.declared.work.Turn.{Turn}
@@ -35,14 +37,24 @@ pub record HasEnded (y : SharedValue) (p : PieceValue) (value : ℤ) : Type 0 wh
   pub followed : let s = story_in y in IsFollowed s (length s.events)
   pub result : IsResult y value
 
+-- the piece's next event is a `sync`, and what comes right before it isn't all in the piece: children of its block are elsewhere
+abbrev pub IsHeldUp : SharedValue → PieceValue → Type 0
+IsHeldUp y p = (event (story_in y) p.upto ≡ Some events.Sync) × (MayPass (segment_of p) → ⊥)
+
+-- the piece has the next event, by which a spawned child has ended; or it stays, and that event resumes what a spawn left
+abbrev pub GoesNoFurther : SharedValue → PieceValue → PieceValue → Type 0
+GoesNoFurther y before p =
+    ((p ≡ grown before) × (event (story_in y) before.upto ≡ Some events.End))
+    ⊎ ((p ≡ before) × ((k : ℕ) × (what (story_in y) before.upto ≡ resume k)))
+
 -- What a turn of a piece leads to with what is in the hands then: the worker goes on with one event more, or has an end; the task that it
--- offers is the continuation of the spawn that it made. The piece stays as it was where it arrives, and where another took the continuation.
--- A departure is a true one, and of a want of memory nothing more is said.
+-- offers is the continuation of the spawn that it made. The piece stays as it was where it arrives, which is ahead of a `sync`, and where
+-- another took the continuation. A departure is a true one, and of a want of memory nothing more is said.
 abbrev pub Turned : SharedValue → PieceValue → Work → Turn → Type 0
 Turned y before w Goes = Works y w × (let p = w.piece in p ≡ grown before)
 Turned y before w (Offers t) = Works y w × (let p = w.piece in p ≡ grown before) × (t.of ≡ y.course) × (t.ticket ≡ before.upto)
-Turned y before w Arrives = Works y w × (let p = w.piece in p ≡ before)
-Turned y before w Ended = (let p = w.piece in IsGood y.run p × ((p ≡ grown before) ⊎ (p ≡ before)))
+Turned y before w Arrives = Works y w × (let p = w.piece in p ≡ before) × IsHeldUp y before
+Turned y before w Ended = (let p = w.piece in IsGood y.run p × GoesNoFurther y before p)
 Turned y before w (Finished value) = (let p = w.piece in HasEnded y p value × (p ≡ grown before))
 Turned y before w (Departed at) = Departs (story_in y) at
 Turned y before w Stopped = Unit {0}

@@ -10,20 +10,20 @@ ghost use Rattle.cilk_racks.specs.Locks.{IsShelf};
 ghost use Rattle.cilk_story.specs.Word.{event};
 ghost use Rattle.cilk_turns.specs.Shared.{story_in};
 ghost use Rattle.cilk_workers.specs.Hands.{IsMet};
-ghost use Rattle.cilk_workers.specs.Keys.{AreKeys, AreSyncs};
-ghost use Rattle.cilk_workers.specs.Names.{IsName};
+ghost use Rattle.cilk_workers.specs.Keys.{AreKeys};
+ghost use Rattle.cilk_workers.specs.Stations.{IsStation};
 
-use crate::hand::Blocks;
+use crate::gate::Gate;
+use crate::station::Station;
 use cilk_boxes::join::{Boxed, JoinBox};
 use cilk_boxes::shelf::Shelf;
 use cilk_chains::chain::Chain;
 use cilk_pieces::piece::Piece;
 use cilk_racks::lock::{Key, Lock, free, lock, wait};
 use cilk_racks::naming::Naming;
-use cilk_turns::shared::Shared;
 use cilk_turns::work::Work;
 use cilk_types::event::Pos;
-use std::alloc::{AllocError, Global};
+use std::alloc::AllocError;
 use std::sync::Wait;
 
 /// A piece that comes to a block: a child's by the position of its spawn, or the `sync`'s own, by that of the `sync` and with its chain.
@@ -43,153 +43,6 @@ pub enum Met {
     Waits,
     /// There was no memory.
     Stopped,
-}
-
-// A piece comes to the box in hand.
-fn come<R: Wait>(
-    rt: &R,
-    alloc: Global,
-    shared: &Shared<'_>,
-    found: &mut JoinBox,
-    arrival: Arrival,
-) -> Met
-    requires run { (found.old.rows.of ≡ shared.now.run) × (found.old.course ≡ shared.now.course) }
-    requires good { IsGood shared.now.run arrival.piece }
-    requires chain { IfSome arrival.chain (λ c. c ≡ standing shared.now.course arrival.piece.upto) }
-    ensures met { IsMet shared.now result }
-    ensures same { (found.new.rows.of ≡ found.old.rows.of) × (found.new.course ≡ found.old.course) × (found.new.sync ≡ found.old.sync) }
-{
-    let Arrival { by, piece, chain } = arrival;
-    if !found.fits(by, &piece, chain.is_some()) {
-        wait(rt);
-    }
-    match found.arrive(alloc, shared.yard(), by, piece, chain) {
-        Ok(Boxed::Waits) => Met::Waits,
-        Ok(Boxed::Passes(piece, chain)) => Met::Passes(Work { piece, chain }),
-        Err(_) => Met::Stopped,
-    }
-}
-
-// The box of a block comes off its shelf, on which there is room then to put it back.
-fn taken_from<N: Naming>(
-    alloc: Global,
-    shared: &Shared<'_>,
-    shelf: &mut Shelf,
-    sync: Pos,
-) -> Result<JoinBox, AllocError>
-    requires name { IsName N.run N.course N.taken shared.now }
-    requires shelf { IsShelf N.run N.course shelf.old }
-    requires sync { event (story_in shared.now) sync ≡ Some Sync }
-    ensures shelf { IsSameShelf shelf.old shelf.new }
-    ensures of { IfOk result (λ b. LiesOn shelf.old.of shelf.old.course b) }
-    ensures room { OnOk result (HasRoom shelf.new) }
-    ensures run { IfOk result (λ b. (b.rows.of ≡ shared.now.run) × (b.course ≡ shared.now.course)) }
-{
-    shelf.take(
-        alloc,
-        shared.yard(),
-        shared.reducers(),
-        shared.course(),
-        sync,
-    )
-}
-
-// A piece arrives at a block whose box lies on the shelf in hand.
-fn arrive_on<N: Naming, R: Wait>(
-    rt: &R,
-    alloc: Global,
-    shared: &Shared<'_>,
-    shelf: &mut Shelf,
-    sync: Pos,
-    arrival: Arrival,
-) -> Met
-    requires name { IsName N.run N.course N.taken shared.now }
-    requires shelf { IsShelf N.run N.course shelf.old }
-    requires sync { event (story_in shared.now) sync ≡ Some Sync }
-    requires good { IsGood shared.now.run arrival.piece }
-    requires chain { IfSome arrival.chain (λ c. c ≡ standing shared.now.course arrival.piece.upto) }
-    ensures shelf { IsSameShelf shelf.old shelf.new }
-    ensures met { IsMet shared.now result }
-{
-    let Ok(mut found) = taken_from::<N>(alloc, shared, shelf, sync) else {
-        return Met::Stopped;
-    };
-    let met = come(rt, alloc, shared, &mut found, arrival);
-    shelf.put(found);
-    met
-}
-
-// A thief tells a block whose box lies on the shelf in hand. False where there was no memory.
-fn steal_on<N: Naming, R: Wait>(
-    rt: &R,
-    alloc: Global,
-    shared: &Shared<'_>,
-    shelf: &mut Shelf,
-    sync: Pos,
-    child: Pos,
-    goes_on: Pos,
-) -> bool
-    requires name { IsName N.run N.course N.taken shared.now }
-    requires shelf { IsShelf N.run N.course shelf.old }
-    requires sync { event (story_in shared.now) sync ≡ Some Sync }
-    ensures { IsSameShelf shelf.old shelf.new }
-{
-    let Ok(mut found) = taken_from::<N>(alloc, shared, shelf, sync) else {
-        return false;
-    };
-    if !found.open(child, goes_on) {
-        wait(rt);
-    }
-    let told = found.steal(child, goes_on).is_ok();
-    shelf.put(found);
-    told
-}
-
-/// A piece arrives at the block that ends with the `sync` at a position, whose box lies on the shelf behind this lock.
-pub fn arrive<N: Naming, R: Wait>(
-    rt: &R,
-    alloc: Global,
-    shared: &Shared<'_>,
-    door: &Lock<N>,
-    key: &mut Key,
-    sync: Pos,
-    arrival: Arrival,
-) -> Met
-    requires name { IsName N.run N.course N.taken shared.now }
-    requires key { IsPassOf door.now key.old }
-    requires sync { event (story_in shared.now) sync ≡ Some Sync }
-    requires good { IsGood shared.now.run arrival.piece }
-    requires chain { IfSome arrival.chain (λ c. c ≡ standing shared.now.course arrival.piece.upto) }
-    ensures key { IsPassOf door.now key.new }
-    ensures met { IsMet shared.now result }
-{
-    let mut shelf = lock(rt, door, key);
-    let met = arrive_on::<N, R>(rt, alloc, shared, &mut shelf, sync, arrival);
-    free(rt, door, key, shelf);
-    met
-}
-
-/// A thief tells the block that it took the continuation after the spawn `child`, which goes on at `goes_on`. False where there was no
-/// memory.
-pub fn steal<N: Naming, R: Wait>(
-    rt: &R,
-    alloc: Global,
-    shared: &Shared<'_>,
-    door: &Lock<N>,
-    key: &mut Key,
-    sync: Pos,
-    child: Pos,
-    goes_on: Pos,
-) -> bool
-    requires name { IsName N.run N.course N.taken shared.now }
-    requires key { IsPassOf door.now key.old }
-    requires sync { event (story_in shared.now) sync ≡ Some Sync }
-    ensures { IsPassOf door.now key.new }
-{
-    let mut shelf = lock(rt, door, key);
-    let told = steal_on::<N, R>(rt, alloc, shared, &mut shelf, sync, child, goes_on);
-    free(rt, door, key, shelf);
-    told
 }
 
 /// The block of a position, where it has one of so many.
@@ -219,52 +72,149 @@ fn shelf_of<R: Wait>(rt: &R, block: usize, shelves: usize) -> usize
     block % shelves
 }
 
-/// A piece arrives at a block by its number.
-pub fn arrive_by<N: Naming, R: Wait>(
-    rt: &R,
-    alloc: Global,
-    shared: &Shared<'_>,
-    blocks: &Blocks<'_, N>,
-    keys: &mut Vec<Key>,
-    block: usize,
-    arrival: Arrival,
-) -> Met
-    requires name { IsName N.run N.course N.taken shared.now }
-    requires keys { AreKeys blocks.now.doors.now.items keys.old.items }
-    requires syncs { AreSyncs shared.now blocks.now.syncs.now }
-    requires block { block < length blocks.now.syncs.now }
-    requires good { IsGood shared.now.run arrival.piece }
-    requires chain { IfSome arrival.chain (λ c. c ≡ standing shared.now.course arrival.piece.upto) }
-    ensures keys { AreKeys blocks.now.doors.now.items keys.new.items }
-    ensures met { IsMet shared.now result }
-{
-    let sync = position(blocks.syncs, block);
-    let at = shelf_of(rt, block, blocks.doors.len());
-    let door = &blocks.doors[at];
-    let key = &mut keys[at];
-    arrive::<N, R>(rt, alloc, shared, door, key, sync, arrival)
-}
+impl<'a, 'b, N: Naming, R: Wait, G: Gate> Station<'a, 'b, N, R, G> {
+    // A piece comes to the box in hand.
+    fn come(&self, found: &mut JoinBox, arrival: Arrival) -> Met
+        requires run { (found.old.rows.of ≡ self.now.shared.now.run) × (found.old.course ≡ self.now.shared.now.course) }
+        requires good { IsGood self.now.shared.now.run arrival.piece }
+        requires chain { IfSome arrival.chain (λ c. c ≡ standing self.now.shared.now.course arrival.piece.upto) }
+        ensures met { IsMet self.now.shared.now result }
+        ensures same { (found.new.rows.of ≡ found.old.rows.of) × (found.new.course ≡ found.old.course) × (found.new.sync ≡ found.old.sync) }
+    {
+        let Arrival { by, piece, chain } = arrival;
+        if !found.fits(by, &piece, chain.is_some()) {
+            wait(self.rt);
+        }
+        match found.arrive(self.alloc, self.shared.yard(), by, piece, chain) {
+            Ok(Boxed::Waits) => Met::Waits,
+            Ok(Boxed::Passes(piece, chain)) => Met::Passes(Work { piece, chain }),
+            Err(_) => Met::Stopped,
+        }
+    }
 
-/// A thief tells a block by its number.
-pub fn steal_by<N: Naming, R: Wait>(
-    rt: &R,
-    alloc: Global,
-    shared: &Shared<'_>,
-    blocks: &Blocks<'_, N>,
-    keys: &mut Vec<Key>,
-    block: usize,
-    child: Pos,
-    goes_on: Pos,
-) -> bool
-    requires name { IsName N.run N.course N.taken shared.now }
-    requires keys { AreKeys blocks.now.doors.now.items keys.old.items }
-    requires syncs { AreSyncs shared.now blocks.now.syncs.now }
-    requires block { block < length blocks.now.syncs.now }
-    ensures { AreKeys blocks.now.doors.now.items keys.new.items }
-{
-    let sync = position(blocks.syncs, block);
-    let at = shelf_of(rt, block, blocks.doors.len());
-    let door = &blocks.doors[at];
-    let key = &mut keys[at];
-    steal::<N, R>(rt, alloc, shared, door, key, sync, child, goes_on)
+    // The box of a block comes off its shelf, on which there is room then to put it back.
+    fn taken_from(&self, shelf: &mut Shelf, sync: Pos) -> Result<JoinBox, AllocError>
+        requires station { IsStation N.run N.course N.taken self.now }
+        requires shelf { IsShelf N.run N.course shelf.old }
+        requires sync { event (story_in self.now.shared.now) sync ≡ Some Sync }
+        ensures shelf { IsSameShelf shelf.old shelf.new }
+        ensures of { IfOk result (λ b. LiesOn shelf.old.of shelf.old.course b) }
+        ensures room { OnOk result (HasRoom shelf.new) }
+        ensures run { IfOk result (λ b. (b.rows.of ≡ self.now.shared.now.run) × (b.course ≡ self.now.shared.now.course)) }
+    {
+        let shared = self.shared;
+        shelf.take(
+            self.alloc,
+            shared.yard(),
+            shared.reducers(),
+            shared.course(),
+            sync,
+        )
+    }
+
+    // A piece arrives at a block whose box lies on the shelf in hand.
+    fn arrive_on(&self, shelf: &mut Shelf, sync: Pos, arrival: Arrival) -> Met
+        requires station { IsStation N.run N.course N.taken self.now }
+        requires shelf { IsShelf N.run N.course shelf.old }
+        requires sync { event (story_in self.now.shared.now) sync ≡ Some Sync }
+        requires good { IsGood self.now.shared.now.run arrival.piece }
+        requires chain { IfSome arrival.chain (λ c. c ≡ standing self.now.shared.now.course arrival.piece.upto) }
+        ensures shelf { IsSameShelf shelf.old shelf.new }
+        ensures met { IsMet self.now.shared.now result }
+    {
+        let Ok(mut found) = self.taken_from(shelf, sync) else {
+            return Met::Stopped;
+        };
+        let met = self.come(&mut found, arrival);
+        shelf.put(found);
+        met
+    }
+
+    // A thief tells a block whose box lies on the shelf in hand. False where there was no memory.
+    fn steal_on(&self, shelf: &mut Shelf, sync: Pos, child: Pos, goes_on: Pos) -> bool
+        requires station { IsStation N.run N.course N.taken self.now }
+        requires shelf { IsShelf N.run N.course shelf.old }
+        requires sync { event (story_in self.now.shared.now) sync ≡ Some Sync }
+        ensures { IsSameShelf shelf.old shelf.new }
+    {
+        let Ok(mut found) = self.taken_from(shelf, sync) else {
+            return false;
+        };
+        if !found.open(child, goes_on) {
+            wait(self.rt);
+        }
+        let told = found.steal(child, goes_on).is_ok();
+        shelf.put(found);
+        told
+    }
+
+    // A piece arrives at the block that ends with the `sync` at a position, whose box lies on the shelf behind this lock.
+    fn arrive_behind(&self, door: &Lock<N>, key: &mut Key, sync: Pos, arrival: Arrival) -> Met
+        requires station { IsStation N.run N.course N.taken self.now }
+        requires key { IsPassOf door.now key.old }
+        requires sync { event (story_in self.now.shared.now) sync ≡ Some Sync }
+        requires good { IsGood self.now.shared.now.run arrival.piece }
+        requires chain { IfSome arrival.chain (λ c. c ≡ standing self.now.shared.now.course arrival.piece.upto) }
+        ensures key { IsPassOf door.now key.new }
+        ensures met { IsMet self.now.shared.now result }
+    {
+        let mut shelf = lock(self.rt, door, key);
+        let met = self.arrive_on(&mut shelf, sync, arrival);
+        free(self.rt, door, key, shelf);
+        met
+    }
+
+    // A thief tells the block that ends with the `sync` at a position, whose box lies on the shelf behind this lock.
+    fn steal_behind(
+        &self,
+        door: &Lock<N>,
+        key: &mut Key,
+        sync: Pos,
+        child: Pos,
+        goes_on: Pos,
+    ) -> bool
+        requires station { IsStation N.run N.course N.taken self.now }
+        requires key { IsPassOf door.now key.old }
+        requires sync { event (story_in self.now.shared.now) sync ≡ Some Sync }
+        ensures { IsPassOf door.now key.new }
+    {
+        let mut shelf = lock(self.rt, door, key);
+        let told = self.steal_on(&mut shelf, sync, child, goes_on);
+        free(self.rt, door, key, shelf);
+        told
+    }
+
+    /// A piece arrives at a block by its number.
+    pub fn arrive(&self, keys: &mut Vec<Key>, block: usize, arrival: Arrival) -> Met
+        requires station { IsStation N.run N.course N.taken self.now }
+        requires keys { AreKeys self.now.blocks.doors.now.items keys.old.items }
+        requires block { block < length self.now.blocks.syncs.now }
+        requires good { IsGood self.now.shared.now.run arrival.piece }
+        requires chain { IfSome arrival.chain (λ c. c ≡ standing self.now.shared.now.course arrival.piece.upto) }
+        ensures keys { AreKeys self.now.blocks.doors.now.items keys.new.items }
+        ensures met { IsMet self.now.shared.now result }
+    {
+        let doors = self.blocks.doors;
+        let sync = position(self.blocks.syncs, block);
+        let at = shelf_of(self.rt, block, doors.len());
+        let door = &doors[at];
+        let key = &mut keys[at];
+        self.arrive_behind(door, key, sync, arrival)
+    }
+
+    /// A thief tells a block by its number that it took the continuation after the spawn `child`, which goes on at `goes_on`. False where
+    /// there was no memory.
+    pub fn steal(&self, keys: &mut Vec<Key>, block: usize, child: Pos, goes_on: Pos) -> bool
+        requires station { IsStation N.run N.course N.taken self.now }
+        requires keys { AreKeys self.now.blocks.doors.now.items keys.old.items }
+        requires block { block < length self.now.blocks.syncs.now }
+        ensures { AreKeys self.now.blocks.doors.now.items keys.new.items }
+    {
+        let doors = self.blocks.doors;
+        let sync = position(self.blocks.syncs, block);
+        let at = shelf_of(self.rt, block, doors.len());
+        let door = &doors[at];
+        let key = &mut keys[at];
+        self.steal_behind(door, key, sync, child, goes_on)
+    }
 }

@@ -11,8 +11,8 @@
 //!
 //! ```text
 //! let blocks = Blocks { doors: &doors, syncs: &syncs, of: &of };
-//! let finish = work(rt, alloc, &shared, &blocks, &watch, &mut tools, &stop, Hand::Idle(piece));
-//! match finish {
+//! let station = Station { rt, alloc, shared: &shared, blocks, watch };
+//! match station.work(&mut tools, &stop, Hand::Idle(piece)) {
 //!     Finish::Whole(piece, value) => ..,               // this worker has ended the run, with this result
 //!     Finish::Departed(at) => ..,                      // the run departs from its plan there
 //!     Finish::Stopped => ..,                           // another has, or there was no memory
@@ -25,4 +25,5 @@ pub mod gate;
 pub mod hand;
 pub mod hold;
 pub mod pick;
+pub mod station;
 pub mod work;

@@ -1,13 +1,27 @@
-use Rattle.std.proofs.Common.{◌≡◌, Some, subst}
+use Rattle.std.proofs.Common.{◌≡◌, Some, refl, sym, subst}
+use Rattle.std.proofs.lemmas.Bool.{iff_false}
 use Rattle.cilk_pieces.specs.Reducers.{frame_in}
 use Rattle.cilk_plan.specs.Kinds.{kind_of_event}
 use Rattle.cilk_plan.specs.declared.kind.Kind.TheVariants.{Sync}
 use Rattle.cilk_shared.specs.Values.{MayPass}
 use Rattle.cilk_story.specs.Runs.{IsAsked}
 use Rattle.cilk_story.specs.Word.{event}
+use Rattle.cilk_turns.specs.Shared.{story_in}
 use Rattle.cilk_turns.proofs.Due.{answered_done, of_story}
-use Rattle.cilk_turns.proofs.OfKind.{quiet}
+use Rattle.cilk_turns.proofs.OfKind.{quiet, with_kind}
 use Rattle.cilk_turns.proofs.passing.synced.Goals as goal
+
+pub returns-then-not-may_pass : goal.returns-then-not-may_pass
+returns-then-not-may_pass c =
+    let due = c.requires.due in
+    let p = c.args.work.now.piece in (
+      due.works,
+      refl,
+      (
+        (with_kind (event (story_in c.args.shared.now) p.upto) Sync due.kind_is).1,
+        λ may. iff_false c.may_pass.ensures c.if-not-may_pass.true (subst MayPass (sym c.segment.ensures) may),
+      ),
+    )
 
 pub pass-requires-clause-next : goal.pass-requires-clause-next
 pass-requires-clause-next c =
