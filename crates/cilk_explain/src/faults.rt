@@ -189,7 +189,7 @@ pub fn input_text(number: u16) -> Option<Reason> {
             line: "input 121 at 0",
             example: Example::Words("the input `x`"),
             place: "the first byte of a word that is no number in range",
-            cure: "Leave commas, points and words away.",
+            cure: "Leave commas, points and words away, and give whole numbers from -9223372036854775808 to 9223372036854775807.",
         },
         122 => Reason {
             number,

@@ -2,10 +2,13 @@
 
 use cilk_parallel::serve_parallel;
 use cilk_served::served::{Broken, Ended, Folder};
+use crossbeam_channel::{Receiver, Sender, bounded};
 use std::alloc::{AllocError, Global};
 use std::process::Abort;
 use std::sync::Wait;
+use std::thread;
 use std::thread::Threads;
+use std::time::{Clock, Duration};
 
 /// A program, the numbers of its certificate's run, and those of the file `script`, which `--on` may name.
 #[derive(Clone, Copy)]
@@ -17,6 +20,20 @@ struct Texts {
 
 /// The words behind `threads program certificate --input input`, and the status, standard output and standard error.
 type Case = (&'static [&'static str], u8, &'static str, &'static str);
+
+/// A call of the tool over these texts and a certificate, and what it is to show.
+#[derive(Clone, Copy)]
+struct Call<'a> {
+    texts: &'a Texts,
+    certificate: &'a [u8],
+    words: &'a [&'a str],
+    status: u8,
+    out: &'a str,
+    err: &'a str,
+}
+
+// How many seconds a call is waited for.
+const PATIENCE: u64 = 30;
 
 /// The words of a call, and what it says of the first file that it can't read.
 type Unread = (&'static [&'static str], &'static str);
@@ -162,8 +179,47 @@ fn words_with(alloc: Global, more: &[&'static str]) -> Result<Vec<&'static str>,
     Ok(words)
 }
 
+// Makes the call, and tells when it has ended.
+fn shows_and_tells<H: Abort + Threads + Wait + Sync>(
+    rt: &H,
+    alloc: Global,
+    call: &Call<'_>,
+    ended: &Sender<bool, Global>,
+) {
+    let shown = served(rt, alloc, call.words, call.texts, call.certificate);
+    assert!(rt;
+        shown.is(call.status, call.out, call.err),
+        "{} on `{}`",
+        call.texts.program,
+        call.texts.other
+    );
+    assert!(rt; ended.send(rt, true).is_ok());
+}
+
+// Ends the test where the call doesn't end.
+fn awaits<H: Abort + Wait + Clock>(rt: &H, ended: &Receiver<bool, Global>) {
+    assert!(rt;
+        ended
+            .recv_timeout(rt, Duration::from_secs(PATIENCE))
+            .is_ok(),
+        "no end in {PATIENCE} seconds"
+    );
+}
+
+// The call shows what it is to show, in time.
+fn shows<H: Abort + Threads + Wait + Clock + Sync>(rt: &H, alloc: Global, call: &Call<'_>) {
+    let Ok((tell, hear)) = bounded(alloc, 1) else {
+        panic!(rt; "no memory for a message");
+    };
+    thread::join(
+        rt,
+        || shows_and_tells(rt, alloc, call, &tell),
+        || awaits(rt, &hear),
+    );
+}
+
 // With each of the words the tool shows what it is to show of these texts.
-fn all_show<H: Abort + Threads + Wait + Sync>(
+fn all_show<H: Abort + Threads + Wait + Clock + Sync>(
     rt: &H,
     alloc: Global,
     texts: &Texts,
@@ -174,18 +230,20 @@ fn all_show<H: Abort + Threads + Wait + Sync>(
         let Ok(words) = words_with(alloc, more) else {
             panic!(rt; "no memory for words");
         };
-        let ended = served(rt, alloc, words.as_slice(), texts, certificate.as_slice());
-        assert!(rt;
-            ended.is(*status, out, err),
-            "{} on `{}`",
-            texts.program,
-            texts.other
-        );
+        let call = Call {
+            texts,
+            certificate: certificate.as_slice(),
+            words: words.as_slice(),
+            status: *status,
+            out,
+            err,
+        };
+        shows(rt, alloc, &call);
     }
 }
 
 // `run` shows this of the program, and `threads` too, by each of these numbers of workers.
-fn runs_alike<H: Abort + Threads + Wait + Sync>(
+fn runs_alike<H: Abort + Threads + Wait + Clock + Sync>(
     rt: &H,
     alloc: Global,
     texts: &Texts,
@@ -313,9 +371,16 @@ fn program_then_input_then_certificate(rt: HostRuntime) {
             "cannot read lost\n",
         ),
     ];
-    for (words, told) in cases {
-        let ended = served(&rt, rt.alloc(), words, &FIB, b"");
-        assert!(rt; ended.is(2, "", told), "{told}");
+    for (words, err) in cases {
+        let call = Call {
+            texts: &FIB,
+            certificate: b"",
+            words,
+            status: 2,
+            out: "",
+            err,
+        };
+        shows(&rt, rt.alloc(), &call);
     }
 }
 

@@ -1,13 +1,13 @@
 //! What the plan of a worked program tells of its run.
 
-use crate::texts::{GETS, TURNS, accepted};
+use crate::texts::{GETS, PUTS, TURNS, accepted};
 use cilk_checker::accepted::Accepted;
 use cilk_plan::blocks::Continuation;
 use cilk_plan::kind::{Asked, Kind};
 use cilk_plan::plan::Plan;
 use cilk_planning::program_plan::{ProgramPlan, plan};
 use cilk_program::program::Body;
-use cilk_types::event::{Cell, FrameNo, Pos};
+use cilk_types::event::{Cell, FrameNo, Instance, Pos};
 use std::alloc::Global;
 use std::process::Abort;
 
@@ -37,7 +37,30 @@ const GETS_EVENTS: [(FrameNo, Kind); 22] = [
     (1, Kind::End),
 ];
 
-// The positions of that run's events that are steps on shared words; the last is the root's `end`.
+// The first reducer that the first frame creates.
+const LIST: Instance = Instance { frame: 1, place: 1 };
+
+// The events of the run whose spawned call is given a list: each event of that reducer names it so, whichever frame makes it.
+const PUTS_EVENTS: [(FrameNo, Kind); 16] = [
+    (1, Kind::Begin { frame: 1 }),
+    (1, Kind::Create { instance: LIST }),
+    (1, Kind::Set { instance: LIST }),
+    (1, Kind::Spawn { child: 2 }),
+    (2, Kind::Begin { frame: 2 }),
+    (2, Kind::Write { cell: 0 }),
+    (2, Kind::Read { cell: 0 }),
+    (2, Kind::Update { instance: LIST }),
+    (2, Kind::Sync),
+    (2, Kind::End),
+    (1, Kind::Resume { parent: 1 }),
+    (1, Kind::Sync),
+    (1, Kind::Value { instance: LIST }),
+    (1, Kind::Print),
+    (1, Kind::Sync),
+    (1, Kind::End),
+];
+
+// The positions of the two calls' events that are steps on shared words; the last is the root's `end`.
 const GETS_WORDS: [Pos; 13] = [2, 3, 4, 6, 8, 10, 11, 13, 15, 17, 19, 20, 22];
 
 fn planned<'a>(rt: &impl Abort, alloc: Global, accepted: &'a Accepted) -> ProgramPlan<'a> {
@@ -167,6 +190,7 @@ enum Look {
     Strands,
     Frames,
     Turns,
+    Reducers,
 }
 
 const GETS_STRANDS: [Pos; 9] = [1, 5, 7, 10, 12, 14, 17, 18, 21];
@@ -178,6 +202,7 @@ fn is_as_wanted(plan: &ProgramPlan<'_>, look: Look) -> bool {
         Look::Strands => has_strands(plan, GETS_STRANDS.as_slice()),
         Look::Frames => has_frames(plan, GETS_FRAMES.as_slice()),
         Look::Turns => has_frames(plan, TURNS_FRAMES.as_slice()),
+        Look::Reducers => has_events(plan.events(), PUTS_EVENTS.as_slice()),
     }
 }
 
@@ -191,6 +216,11 @@ fn has(rt: &impl Abort, alloc: Global, text: &str, numbers: &str, look: Look) ->
 #[test]
 fn two_calls_have_a_plan(rt: HostRuntime) {
     assert!(rt; has(&rt, rt.alloc(), GETS, "", Look::Events));
+}
+
+#[test]
+fn events_of_reducers_name_them(rt: HostRuntime) {
+    assert!(rt; has(&rt, rt.alloc(), PUTS, "", Look::Reducers));
 }
 
 #[test]

@@ -19,6 +19,10 @@ pub const GETS: &str =
 pub const SQUARES: &str =
     "int a[4]; int main() { cilk_for (int i = 0; i < 4; i++) { a[i] = input(i) * input(i); } return a[0] + a[3]; }";
 
+/// A spawned call is given a list of its caller's.
+pub const PUTS: &str = "void put(int cilk_reducer(append) l, int x) { update(l, x); } \
+    int main() { int cilk_reducer(append) a; set(a, 7); cilk_spawn put(a, 1); cilk_sync; print(value(a)); return 0; }";
+
 /// As many turns of a loop as the input says.
 pub const TURNS: &str =
     "int a[7]; int main() { int n = input(0); cilk_for (int i = 0; i < n; i++) { a[i] = i; } return a[6]; }";

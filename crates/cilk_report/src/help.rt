@@ -22,7 +22,7 @@ All commands:
                               run that ends leaves what the serial one leaves; else say which race there is
   threads PROGRAM CERTIFICATE
                               check as `check` does, and where the certificate is accepted run the program by work
-                              stealing on real threads: what it leaves is what the serial run leaves
+                              stealing on real threads: on the certified numbers it leaves what the serial run leaves
   play PROGRAM SCRIPT         run the program in parallel, step by step, as a script tells its workers
   schedule PROGRAM CERTIFICATE
                               where `check` refuses a race: a script for `play` that makes its later access first
@@ -51,11 +51,12 @@ Option of play and threads:
   --workers N     how many workers there are, 1 to 64; 2 where nothing is said
 
 Option of threads:
-  --on FILE       the numbers that the parallel run is given, where they aren't those of the certified run
+  --on FILE       the numbers that the parallel run is given, where they aren't those of the certified run; `refused 502`
+                  where they lead the program off that run
 
 Status:
   0 done    2 the words, a file or a text is wrong, or a write failed    3 the run stops by a fault
-  4 the certificate is refused    5 no memory
+  4 the certificate, or the numbers of --on, are refused    5 no memory
 
 Limits of a run:
   1,000,000 events, 16,000,000 ticks of work, 65,536 frames, 1,048,576 variables and elements
@@ -147,7 +148,8 @@ Usage: cilk threads PROGRAM CERTIFICATE [--workers N] [--input FILE] [--on FILE]
     argument: CERTIFICATE,
     options: "  \
   --workers N     how many workers there are, 1 to 64; 2 where nothing is said
-  --on FILE       the numbers that the parallel run is given, where they aren't those of the certified run
+  --on FILE       the numbers that the parallel run is given, where they aren't those of the certified run; `refused 502`
+                  where they lead the program off that run
 ",
 };
 

@@ -9,19 +9,21 @@ ghost use Rattle.cilk_workers.specs.Keys.{AreSyncs};
 use crate::works::{Blocks, Trial, tried};
 use cilk_boxes::join::{Boxed, JoinBox};
 use cilk_chains::chain::{Chain, Task};
-use cilk_pieces::piece::Piece;
+use cilk_monoid::kind::MonoidKind;
+use cilk_pieces::piece::{Parts, Piece};
 use cilk_turns::shared::Shared;
 use cilk_turns::turn::{act, begin};
 use cilk_turns::work::{Turn, Work};
-use cilk_types::event::Pos;
+use cilk_types::event::{Instance, Pos};
+use cilk_types::outcome::Final;
 use cilk_workers::doors::{Arrival, block_at, position};
 use std::alloc::Global;
 use std::process::Abort;
 use std::test::Fail;
 
-// Four spawned calls of one block.
-const CALLS: &str = "void f() { } \
-    int main() { cilk_spawn f(); cilk_spawn f(); cilk_spawn f(); cilk_spawn f(); cilk_sync; return 0; }";
+// Four spawned calls of one block, and the block's own last stretch: each prints its number.
+const CALLS: &str = "void f(int n) { print(n); } \
+    int main() { cilk_spawn f(1); cilk_spawn f(2); cilk_spawn f(3); cilk_spawn f(4); print(5); cilk_sync; return 0; }";
 
 // No fewer than the turns of a piece.
 const TURNS: u32 = 20;
@@ -109,7 +111,19 @@ fn child<R: Abort>(
     (Arrival { by, piece, chain }, work)
 }
 
-// A piece comes to the box; how many are kept then, or none where the block passes, with all up to its `sync`.
+// Whether these numbers were printed in a piece, and no others.
+fn prints(piece: Piece, numbers: &[i64]) -> bool {
+    let Parts {
+        mut views,
+        segment: _,
+    } = piece.parted();
+    match views.take(Instance::OUTPUT, MonoidKind::Append) {
+        Some(Final::List(list)) => list.as_slice() == numbers,
+        _ => false,
+    }
+}
+
+// A piece comes to the box; how many are kept then, or none where the block passes, with all up to its `sync` in the run's order.
 fn come<R: Abort>(
     rt: &R,
     alloc: Global,
@@ -128,6 +142,7 @@ fn come<R: Abort>(
         Ok(Boxed::Waits) => Some(found.parts()),
         Ok(Boxed::Passes(piece, _)) => {
             assert!(rt; piece.from() == 1 && piece.upto() == by);
+            assert!(rt; prints(piece, [1, 2, 3, 4, 5].as_slice()));
             None
         }
         Err(_) => panic!(rt; "no memory"),

@@ -201,19 +201,19 @@ pub const DEPART: [Case; 3] = [
         text: SQUARES,
         numbers: "1 2 3 4",
         on: "5 6 7",
-        left: "departs at 46\n",
+        left: "502 46\n",
     },
     Case {
         text: TURNS,
         numbers: "1",
         on: "0",
-        left: "departs at 4\n",
+        left: "502 4\n",
     },
     Case {
         text: TURNS,
         numbers: "1",
         on: "7",
-        left: "departs at 6\n",
+        left: "502 6\n",
     },
 ];
 
@@ -222,5 +222,5 @@ pub const UNMANNED: [Case; 1] = [Case {
     text: GETS,
     numbers: "",
     on: "",
-    left: "no such number of workers\n",
+    left: "501\n",
 }];

@@ -10,7 +10,7 @@ use std::alloc::{AllocError, Global};
 use std::sync::Wait;
 use std::thread::Threads;
 
-/// What a run along a plan by some workers leaves, or why it has no outcome.
+/// What a run along a plan by some workers leaves, or the number and the place of its fault.
 pub fn left<R: Threads + Wait + Sync, G: Gate + Sync>(
     rt: &R,
     alloc: Global,
@@ -26,10 +26,11 @@ pub fn left<R: Threads + Wait + Sync, G: Gate + Sync>(
 }
 
 fn told(alloc: Global, fault: &ThreadFault) -> Result<String, AllocError> {
+    let number = fault.number();
     match fault {
         ThreadFault::Memory => Err(AllocError),
-        ThreadFault::Workers => format!(in alloc; "no such number of workers\n"),
-        ThreadFault::Departs(at) => format!(in alloc; "departs at {at}\n"),
+        ThreadFault::Workers => format!(in alloc; "{number}\n"),
+        ThreadFault::Departs(at) => format!(in alloc; "{number} {at}\n"),
     }
 }
 
