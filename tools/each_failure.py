@@ -3,7 +3,7 @@
 
 tools/each_failure.py [PROGRAM]             the program, by default crates/cilk/out/cilk
 tools/each_failure.py --choices [TESTS]     the built tests of schedules, by default crates/cilk_schedule_tests/out/cilk_schedule_tests_tests
-tools/each_failure.py --plan RUNS           RUNS, the built program of bench/workers
+tools/each_failure.py --plan [RUNS]         the built program of bench/workers, by default where bench/threads leaves it
 
 The commands are `certify` and `check` of a chain of spawns (fib(10), accepted) and of a view-read race (refused), and `play` of three programs
 with 2 workers and all rounds. `threads` of three programs with 2 workers has its allocations alone refused, up to a run that makes fewer, since
@@ -30,6 +30,7 @@ import tempfile
 TOP = os.path.dirname(os.path.dirname(os.path.realpath(__file__)))
 PROGRAM = f"{TOP}/crates/cilk/out/cilk"
 TESTS = f"{TOP}/crates/cilk_schedule_tests/out/cilk_schedule_tests_tests"
+RUNS = "/tmp/cilk_workers_cost"
 
 LIBRARY = r"""
 #define _GNU_SOURCE
@@ -283,7 +284,7 @@ def main():
         if words[:1] == ["--choices"]:
             wrong = choices(os.path.realpath(words[1] if words[1:] else TESTS), folder)
         elif words[:1] == ["--plan"]:
-            wrong = same_plan(os.path.realpath(words[1]), folder)
+            wrong = same_plan(os.path.realpath(words[1] if words[1:] else RUNS), folder)
         else:
             wrong = commands(os.path.realpath(words[0] if words else PROGRAM), folder)
     print(f"{wrong} wrong")
