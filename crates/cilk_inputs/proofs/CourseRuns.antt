@@ -1,7 +1,7 @@
 -- On its own input a run is its own course: `own_course`. A course of which each event is asked for is a serial run: `asked_is_serial`.
 use Rattle.std.proofs.Common.{◌≡◌, ℤ, Bool, true, false, List, [], ◌∷◌, ◌++◌, Option, Some, None, refl, sym, ap, ◌∙◌, subst}
 use Rattle.cilk_monoid.specs.Laws.{MonoidStructure}
-use Rattle.cilk_runs.specs.Runs.{Cell, Instance, Ask, Invoke, Granted, Begins, Resumes, Creates, Updates, Sets, Values, Prints, Event, Reads, Writes, Syncs, Ends, Passes, Deed, Does, Invokes, Run, ask_of}
+use Rattle.cilk_runs.specs.Runs.{Cell, Instance, Ask, Granted, Begins, Resumes, Creates, Updates, Sets, Values, Prints, Event, Reads, Writes, Syncs, Ends, Passes, Deed, Does, Invokes, Run}
 use Rattle.cilk_runs.specs.Runs as runs
 use Rattle.cilk_runs.specs.Machine.{put}
 use Rattle.cilk_runs.specs.Monoids.{on_view}

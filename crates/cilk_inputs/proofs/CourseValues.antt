@@ -1,4 +1,5 @@
--- Each read of a course that is asked for gives what its cell holds by the course's own list: `course_right`.
+-- Each read of a course that is asked for gives what its cell holds by the course's own list: `course_right`. After a run, cells by names and
+-- by numbers hold the same: `tied_after`.
 use Rattle.std.proofs.Common.{◌≡◌, ℕ, ℤ, nat_eq, Bool, true, false, cond, if◌then◌else◌, List, [], ◌∷◌, ◌++◌, length, Option, refl, sym, ap, ◌∙◌, subst}
 use Rattle.cilk_types.specs.declared.event.Event as numbers
 use Rattle.cilk_types.specs.declared.event.Instance as numbered
@@ -92,7 +93,7 @@ module _ (cell : Cell → ℕ) (instance : Instance → numbered.Instance) (Know
     start_tied memory cells Call v n is h c known = h c known ∙ ap (λ n. written n cells (cell c)) (sym is.1)
     start_tied memory cells Spawn v n is h c known = h c known ∙ ap (λ n. written n cells (cell c)) (sym is.1)
 
-    tied_after : (memory : Cell → ℤ) (cells : Cells) (t : Run W) (es : List numbers.Event) → AreWritten cell instance (trace t) es → IsKnown Known t
+    pub tied_after : (memory : Cell → ℤ) (cells : Cells) (t : Run W) (es : List numbers.Event) → AreWritten cell instance (trace t) es → IsKnown Known t
         → Tied memory cells
         → Tied (λ c. value_after t c (memory c)) (cells_after es cells)
     tied_after memory cells runs.stop [] h k tied = tied
@@ -127,7 +128,7 @@ module _ (cell : Cell → ℕ) (instance : Instance → numbered.Instance) (Know
     start_right cells Spawn v n is = subst (λ n. IsRightRead n cells) (sym is.1) tt
 
     module _ (V : Type 0) (M : Instance → MonoidStructure V) (next : W → List (Deed W) → Option (Ask W)) (same : W → W → Bool) where
-      course_known : (w : W) (past : List (Deed W)) (memory : Cell → ℤ) (views : Instance → V) (t : Run W) (c : Course W)
+      pub course_known : (w : W) (past : List (Deed W)) (memory : Cell → ℤ) (views : Instance → V) (t : Run W) (c : Course W)
           → IsCourse W V M next same w past memory views t c
           → IsKnown Known t → IsKnown Known (run_of c)
       course_known w past memory views runs.stop stop h k = tt

@@ -6,7 +6,10 @@ pub mod CourseNumbers
 pub mod CourseRuns
 pub mod CourseValues
 pub mod CourseWords
+pub mod Elided
+pub mod LastEnds
 pub mod LastWrites
+pub mod Leaving
 pub mod NoFault
 pub mod OneCourse
 pub mod OneRun

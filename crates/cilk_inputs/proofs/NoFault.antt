@@ -1,30 +1,34 @@
--- A serial run by names that keeps the limits is the program's serial run: `goes_along`.
+-- A serial run by names that keeps the limits is the program's serial run, within any ticks that are enough for all its frames together:
+-- `goes_along`.
 --
+-- - `asks_same`: a frame asks the same with all ticks of a run and with any number that is no less than what it has taken;
 -- - `asking`, `at_act`, `at_child`: where a frame stands, by names and by numbers;
 -- - `Goes`: the run by names from a point on, with what is left of each limit;
 -- - `no_refusal`: the ask at that point is not refused;
--- - `goes_along`: the serial run from that point on is the run by names.
-use Rattle.std.proofs.Common.{◌≡◌, ◌≤◌, ◌<◌, ℕ, suc, ◌+◌, ◌-◌, nat_eq, nat_lt, ℤ, pos, Bool, false, cond, if◌then◌else◌, IsTrue, List, [], ◌∷◌, ◌++◌, length, Option, Some, None, refl, sym, ap, ap₂, ◌∙◌, subst, arith, length-append}
-use Rattle.std.proofs.lemmas.Bool.{lt-ltb, le-ltb, ne_eqb}
+-- - `set_word`: what sets a reducer there is a word;
+-- - `goes_along`: the serial run from that point on is the run by names, sets reducers to words, and leaves the ticks that it doesn't take.
+use Rattle.std.proofs.Common.{◌≡◌, ◌≤◌, ◌<◌, ℕ, suc, ◌+◌, ◌-◌, nat_eq, nat_lt, ℤ, pos, Bool, false, cond, if◌then◌else◌, IsTrue, List, [], ◌∷◌, ◌++◌, length, Option, Some, None, ⊎_elim, refl, sym, ap, ap₂, ◌∙◌, subst, arith, length-append}
+use Rattle.std.proofs.lemmas.Bool.{lt-ltb, le-ltb, ne_eqb, cases_lt}
 use Rattle.cilk_types.specs.declared.event.Event.{Event}
 use Rattle.cilk_types.specs.declared.fault.Fault.{Fault}
 use Rattle.cilk_types.specs.declared.fault.Fault.TheVariants.{TooManyEvents, TooManyFrames, TooManyCells}
 use Rattle.cilk_types.specs.declared.invocation.Invocation.{Invocation}
+use Rattle.cilk_types.specs.declared.invocation.Invocation.TheVariants.{Call, Spawn}
 use Rattle.cilk_types.specs.declared.limits.TheConstants.{MAX_TICKS, MAX_FRAMES, MAX_CELLS}
+use Rattle.cilk_types.specs.Word.{IsWord}
 use Rattle.cilk_program.specs.declared.ask.Ask as language
 use Rattle.cilk_program.specs.declared.ask.Ask.TheVariants as asks
 use Rattle.cilk_program.specs.declared.ask.Callee.{Callee}
 use Rattle.cilk_program.specs.Behaviour.{OpenAsk, asks_for, frame_asks}
 use Rattle.cilk_program.specs.Syntax.{Source}
 use Rattle.cilk_program.specs.SerialRun as serial
-use Rattle.cilk_program.specs.SerialRun.{Memory, Frame, cells_of, next_frame, begun, counted, with_store, stored, answer_to, full, crowded, refused, IsInner, Ending, Finished, Stopped, Serial, Made, Ended, Went, Broke, Refused}
+use Rattle.cilk_program.specs.SerialRun.{Memory, Frame, cells_of, next_frame, begun, counted, with_store, stored, answer_to, event_of, invocation, result_written, crowded, refused, IsInner, Ending, Finished, Stopped, Serial, Made, Ended, Went, Broke, Refused}
 use Rattle.cilk_program.specs.WellNamed.{is_well_named}
 use Rattle.cilk_meaning.specs.Numbering.{Counts, counts_of, counts_after, entered}
 use Rattle.cilk_meaning.specs.Ticks.{IsWithin}
 use Rattle.cilk_meaning.proofs.Existence.{serial_spends}
 use Rattle.cilk_meaning.proofs.Numbers.{serial_counts}
-use Rattle.cilk_meaning.proofs.Parts.{is_out}
-use Rattle.cilk_meaning.proofs.Ticking.{at_full, frame_further, runs_short}
+use Rattle.cilk_meaning.proofs.Ticking.{at_full, frame_low, frame_further, not_out, runs_short}
 use Rattle.cilk_runs.specs.Costs.{TickTotal, FrameTotal, CellTotal, weight}
 use Rattle.cilk_runs.specs.Machine.{started, put}
 use Rattle.cilk_runs.specs.Monoids.{on_view}
@@ -37,17 +41,18 @@ use Rattle.cilk_runs.specs.Views.{view_after, IsSerialViews}
 use Rattle.cilk_runs.proofs.Started.{started_does, started_invokes}
 use Rattle.cilk_worlds.specs.Machine.{retired_by, named_ask, answer_of, answers_of, is_end, but_last, asked_after, next, taken, costs}
 use Rattle.cilk_worlds.specs.Reducers.{View, monoid_of}
-use Rattle.cilk_worlds.specs.Worlds.{World, child_world}
+use Rattle.cilk_worlds.specs.Worlds.{World, child_world, reducer_seen}
 use Rattle.cilk_worlds.proofs.Kept.{but_last_more, answers_more, ended_more}
 use Rattle.cilk_determinacy.specs.Nested.{named_event, named_from}
 use Rattle.cilk_determinacy.specs.Numbers.{cell_number, instance_number}
-use Rattle.cilk_determinacy.specs.Theorem.{SetWords}
-use Rattle.cilk_determinacy.proofs.Behaving.{At, run_holds, inner_asks, inner_answers, inner_goes}
+use Rattle.cilk_determinacy.specs.Theorem.{SetsWord, SetWords}
+use Rattle.cilk_determinacy.proofs.Behaving.{At, inner_asks, inner_answers}
 use Rattle.cilk_determinacy.proofs.Remembered.{act_follows, run_remembers}
 use Rattle.cilk_determinacy.proofs.Standing.{Standing, asked_there, standing_act, standing_child, standing_past}
 use Rattle.cilk_determinacy.proofs.Stores.{Same}
 use Rattle.cilk_determinacy.proofs.Weights.{written_length, frames_weigh, cells_weigh}
 use Rattle.cilk_inputs.proofs.CourseFrames.{ends_over}
+use Rattle.cilk_inputs.proofs.CourseWords.{EventWords, RunWords}
 use Rattle.cilk_inputs.proofs.OneCourse.{same_event}
 use Rattle.cilk_inputs.proofs.OneRun.{invoked}
 
@@ -162,6 +167,53 @@ before_is_less f more (d ∷ past) = by past [] d
         let h = by past (done ++ d ∷ []) e in
         subst (λ l. l ≤ f (done ++ d ∷ e ∷ past)) (ap f (assoc done (but_last (e ∷ past)) d)) (subst (λ l. f ((done ++ d ∷ []) ++ but_last (e ∷ past)) ≤ l) (ap f (assoc done (e ∷ past) d)) h)
 
+-- ---- words
+
+-- where the event by names is of words, a reducer that it sets is set to a word
+set_asked : (e : Happens) (i : Instance) (v : ℤ) → ask_of {W = World} e ≡ runs.Pass (runs.Set i v) → EventWords e → IsWord v
+set_asked (Reads c x) i v q h = absurd (cc q)
+set_asked (Writes c x) i v q h = absurd (cc q)
+set_asked Syncs i v q h = absurd (cc q)
+set_asked (Ends x gone) i v q h = absurd (cc q)
+set_asked (Passes runs.Begins) i v q h = absurd (cc q)
+set_asked (Passes runs.Resumes) i v q h = absurd (cc q)
+set_asked (Passes (runs.Creates j)) i v q h = absurd (cc q)
+set_asked (Passes (runs.Updates j x)) i v q h = absurd (cc q)
+set_asked (Passes (runs.Sets j x)) i v q h = let same : x ≡ v = cc q in subst IsWord same h
+set_asked (Passes (runs.Values j x)) i v q h = absurd (cc q)
+set_asked (Passes (runs.Prints x)) i v q h = absurd (cc q)
+
+result_sets : (o : Option ℕ) (v : ℤ) → SetsWord (result_written o v)
+result_sets None v = tt
+result_sets (Some c) v = tt
+
+set_word : (p : Source) (w : World) (k : ℕ) (fr : Frame) (m : Memory) (a : language.Ask) (e : Happens) → IsInner a → ask_of e ≡ named_ask p w k a
+    → EventWords e → SetsWord (event_of fr m a)
+set_word p w k fr m asks.Begin e i q h = tt
+set_word p w k fr m (asks.Read x) e i q h = tt
+set_word p w k fr m (asks.Write x v) e i q h = tt
+set_word p w k fr m (asks.Create r) e i q h = tt
+set_word p w k fr m (asks.Update r v) e i q h = tt
+set_word p w k fr m (asks.Set r v) e i q h = set_asked e (reducer_seen w r) v q h
+set_word p w k fr m (asks.Value r) e i q h = tt
+set_word p w k fr m (asks.Print v) e i q h = tt
+set_word p w k fr m (asks.Invoke how callee) e i q h = absurd i
+set_word p w k fr m asks.Resume e i q h = tt
+set_word p w k fr m asks.Sync e i q h = tt
+set_word p w k fr m (asks.Result v) e i q h = result_sets fr.result v
+set_word p w k fr m (asks.End v) e i q h = absurd i
+set_word p w k fr m (asks.Fault f) e i q h = absurd i
+
+starts_with : (how : Invocation) (n : ℕ) → SetsWord (invocation how n)
+starts_with Call n = tt
+starts_with Spawn n = tt
+
+set_both : (es es' : List Event) → SetWords es → SetWords es' → SetWords (es ++ es')
+set_both [] es' h g = g
+set_both (e ∷ es) es' h g = (h.0, set_both es es' h.1 g)
+
+-- ---- where a frame stands, and what it asks for
+
 module _ (p : Source) (inputs : List ℤ) where
   taken_more : (w : World) (past : List (Deed World)) (d : Deed World) → taken p inputs w past ≤ taken p inputs w (past ++ d ∷ [])
   taken_more w past d =
@@ -187,18 +239,46 @@ module _ (p : Source) (inputs : List ℤ) where
       → asked_after p inputs w past ≡ frame_asks p inputs fr.callee history MAX_TICKS
   full_ask w fr past history k at = ap (λ callee. frame_asks p inputs callee (answers_of past) MAX_TICKS) at.callee ∙ ap (λ hs. frame_asks p inputs fr.callee hs MAX_TICKS) at.answers
 
+  -- A frame asks the same with any ticks that are no fewer than it has taken by then, be they fewer or more than those of a run.
+  asks_same : (w : World) (fr : Frame) (past : List (Deed World)) (history : List ℤ) (k start : ℕ) → At p inputs w fr past history k
+      → taken p inputs w past ≤ start → IsWithin (asked_after p inputs w past).ask
+      → frame_asks p inputs fr.callee history start ≡ asks_for (asked_after p inputs w past).ask (start - taken p inputs w past)
+  asks_same w fr past history k start at enough within = ⊎_elim (λ less. fewer (omega (arith, less))) more (cases_lt start MAX_TICKS)
+    where
+      here : frame_asks p inputs fr.callee history MAX_TICKS ≡ asked_after p inputs w past
+      here = sym (full_ask w fr past history k at)
+
+      few : (asked_after p inputs w past).left ≤ MAX_TICKS
+      few = frame_low p inputs w.callee (answers_of past) MAX_TICKS
+
+      fewer : start ≤ MAX_TICKS → frame_asks p inputs fr.callee history start ≡ asks_for (asked_after p inputs w past).ask (start - taken p inputs w past)
+      fewer low =
+          let a = asked_after p inputs w past in
+          let spare = MAX_TICKS - start in
+          let short = runs_short p inputs in
+          let all : start + spare ≡ MAX_TICKS = omega (arith, low) in
+          let much : start - taken p inputs w past + spare ≡ a.left = omega (arith, enough, low, few) in
+          short.fewer fr.callee history start spare (start - taken p inputs w past) a.ask
+          (subst (λ n. frame_asks p inputs fr.callee history n ≡ asks_for a.ask (start - taken p inputs w past + spare)) (sym all)
+          (subst (λ n. frame_asks p inputs fr.callee history MAX_TICKS ≡ asks_for a.ask n) (sym much) here)) within
+
+      more : MAX_TICKS ≤ start → frame_asks p inputs fr.callee history start ≡ asks_for (asked_after p inputs w past).ask (start - taken p inputs w past)
+      more high =
+          let a = asked_after p inputs w past in
+          let much : a.left + (start - MAX_TICKS) ≡ start - taken p inputs w past = omega (arith, high, few) in
+          (at_full p inputs fr.callee start history MAX_TICKS a.left a.ask here (not_out a.ask within) high).0 ∙ ap (asks_for a.ask) much
+
   asking : (w : World) (fr : Frame) (past : List (Deed World)) (history : List ℤ) (k : ℕ) (a : language.Ask) (start left : ℕ)
       → At p inputs w fr past history k → frame_asks p inputs fr.callee history start ≡ asks_for a left
-      → is_out a ≡ false → start ≤ MAX_TICKS → Asking w past k a start left
-  asking w fr past history k a start left at q out low =
-      let full = at_full p inputs fr.callee MAX_TICKS history start left a q out low in
-      let asked : asked_after p inputs w past ≡ asks_for a (left + (MAX_TICKS - start)) = full_ask w fr past history k at ∙ full.0 in
-      let left_is : (asked_after p inputs w past).left ≡ left + (MAX_TICKS - start) = ap (λ (q : OpenAsk). q.left) asked in
-      let left_low = full.1 in
+      → taken p inputs w past ≤ start → IsWithin (asked_after p inputs w past).ask → Asking w past k a start left
+  asking w fr past history k a start left at q enough within =
+      let same : asks_for (asked_after p inputs w past).ask (start - taken p inputs w past) ≡ asks_for a left =
+      sym (asks_same w fr past history k start at enough within) ∙ q in
+      let left_is : start - taken p inputs w past ≡ left = ap (λ (q : OpenAsk). q.left) same in
       record {
-        asks = named_next w fr past history k at ∙ ap (λ (q : OpenAsk). Some (named_ask p w k q.ask)) asked;
-        took = omega (arith, left_is, left_low, low);
-        low = left_low;
+        asks = named_next w fr past history k at ∙ ap (λ (q : OpenAsk). Some (named_ask p w k q.ask)) same;
+        took = omega (arith, left_is, enough);
+        low = omega (arith, left_is);
       }
 
   at_act : (w : World) (fr : Frame) (past : List (Deed World)) (history : List ℤ) (k : ℕ) (m : Memory) (a : language.Ask) → IsInner a
@@ -227,7 +307,7 @@ module _ (p : Source) (inputs : List ℤ) where
     pub behaves : Behaves World (follows (next p inputs)) w past u
     pub reads : IsSerial u memory
     pub values : IsSerialViews monoid_of u views
-    pub full : start ≤ MAX_TICKS
+    pub words : RunWords u
     pub ticks : weight (costs p inputs) TickTotal w past u + taken p inputs w (but_last past) ≤ start
     pub events : length (trace u) ≤ m.room
     pub frames : m.frames + weight (costs p inputs) FrameTotal w past u ≤ MAX_FRAMES
@@ -246,7 +326,7 @@ module _ (p : Source) (inputs : List ℤ) where
         behaves = h.behaves.1;
         reads = h.reads.1;
         values = h.values.1;
-        full = h.full;
+        words = h.words.1;
         ticks = omega (arith, last, before, t);
         events = omega (arith, n);
         frames = omega (arith, f);
@@ -255,26 +335,13 @@ module _ (p : Source) (inputs : List ℤ) where
 
   -- ---- the ask at that point
 
-  asks_same : (w : World) (fr : Frame) (past : List (Deed World)) (history : List ℤ) (k start : ℕ) → At p inputs w fr past history k
-      → start ≤ MAX_TICKS → taken p inputs w past ≤ start → IsWithin (asked_after p inputs w past).ask
-      → frame_asks p inputs fr.callee history start ≡ asks_for (asked_after p inputs w past).ask ((asked_after p inputs w past).left - (MAX_TICKS - start))
-  asks_same w fr past history k start at low enough within =
-      let a = asked_after p inputs w past in
-      let short = runs_short p inputs in
-      let all : start + (MAX_TICKS - start) ≡ MAX_TICKS = omega (arith, low) in
-      let much : a.left - (MAX_TICKS - start) + (MAX_TICKS - start) ≡ a.left = omega (arith, enough, low) in
-      let here : frame_asks p inputs fr.callee history MAX_TICKS ≡ asks_for a.ask a.left = sym (full_ask w fr past history k at) in
-      short.fewer fr.callee history start (MAX_TICKS - start) (a.left - (MAX_TICKS - start)) a.ask
-      (subst (λ n. frame_asks p inputs fr.callee history n ≡ asks_for a.ask (a.left - (MAX_TICKS - start) + (MAX_TICKS - start))) (sym all)
-      (subst (λ n. frame_asks p inputs fr.callee history MAX_TICKS ≡ asks_for a.ask n) (sym much) here)) within
-
   -- an ask that stands at a point of the run by names isn't refused
   no_refusal : (w : World) (fr : Frame) (past : List (Deed World)) (history : List ℤ) (k start left : ℕ) (m : Memory) (b : language.Ask) (f : Fault)
-      → At p inputs w fr past history k → start ≤ MAX_TICKS → taken p inputs w past ≤ start
+      → At p inputs w fr past history k → taken p inputs w past ≤ start
       → frame_asks p inputs fr.callee history start ≡ asks_for b left → refused p m b ≡ Some f
       → (refused p m (asked_after p inputs w past).ask ≡ None) × IsWithin (asked_after p inputs w past).ask → ⊥
-  no_refusal w fr past history k start left m b f at low enough q bad good =
-      let same = asks_same w fr past history k start at low enough good.1 in
+  no_refusal w fr past history k start left m b f at enough q bad good =
+      let same = asks_same w fr past history k start at enough good.1 in
       let one : b ≡ (asked_after p inputs w past).ask = ap (λ (q : OpenAsk). q.ask) (sym q ∙ same) in
       none_some f (sym bad ∙ ap (refused p m) one ∙ good.0)
 
@@ -284,17 +351,21 @@ module _ (p : Source) (inputs : List ℤ) where
   enough_child : (w : World) (past : List (Deed World)) (k : Invocation) (x : World) (d u : Run World) (memory : Cell → ℤ) (views : Instance → View) (start : ℕ) (m : Memory) → Goes w past (child k x d u) memory views start m → taken p inputs w past ≤ start
   enough_child w past k x d u memory views start m h = let t = h.ticks in let before = before_taken w past in omega (arith, t, before)
 
-  refused_act : (w : World) (fr : Frame) (past : List (Deed World)) (history : List ℤ) (j start left : ℕ) (m : Memory) (b : language.Ask) (f : Fault) (e : Happens) (u : Run World) (memory : Cell → ℤ) (views : Instance → View) → At p inputs w fr past history j
-      → frame_asks p inputs fr.callee history start ≡ asks_for b left → refused p m b ≡ Some f → Goes w past (act e u) memory views start m → ⊥
-  refused_act w fr past history j start left m b f e u memory views at q bad h =
+  -- what a frame of the run asks for isn't refused
+  good_act : (w : World) (fr : Frame) (past : List (Deed World)) (history : List ℤ) (j start : ℕ) (m : Memory) (e : Happens) (u : Run World)
+      (memory : Cell → ℤ) (views : Instance → View) → At p inputs w fr past history j
+      → Goes w past (act e u) memory views start m → (refused p m (asked_after p inputs w past).ask ≡ None) × IsWithin (asked_after p inputs w past).ask
+  good_act w fr past history j start m e u memory views at h =
       let n = h.events in
       let room : 0 < m.room = omega (arith, n) in
-      let ask = same_some (Ask World) (next p inputs w past) _ _ (named_next w fr past history j at) h.behaves.0 in
-      no_refusal w fr past history j start left m b f at h.full (enough_act w past e u memory views start m h) q bad (not_refused p w j m (asked_after p inputs w past).ask e room ask)
+      not_refused p w j m (asked_after p inputs w past).ask e room
+      (same_some (Ask World) (next p inputs w past) _ _ (named_next w fr past history j at) h.behaves.0)
 
-  refused_child : (w : World) (fr : Frame) (past : List (Deed World)) (history : List ℤ) (j start left : ℕ) (m : Memory) (b : language.Ask) (f : Fault) (k : Invocation) (x : World) (d u : Run World) (memory : Cell → ℤ) (views : Instance → View) → At p inputs w fr past history j
-      → frame_asks p inputs fr.callee history start ≡ asks_for b left → refused p m b ≡ Some f → Goes w past (child k x d u) memory views start m → ⊥
-  refused_child w fr past history j start left m b f k x d u memory views at q bad h =
+  good_child : (w : World) (fr : Frame) (past : List (Deed World)) (history : List ℤ) (j start : ℕ) (m : Memory) (k : Invocation) (x : World)
+      (d u : Run World) (memory : Cell → ℤ) (views : Instance → View) → At p inputs w fr past history j
+      → Goes w past (child k x d u) memory views start m
+      → (refused p m (asked_after p inputs w past).ask ≡ None) × IsWithin (asked_after p inputs w past).ask
+  good_child w fr past history j start m k x d u memory views at h =
       let n = h.events in
       let room : 0 < m.room = omega (arith, n) in
       let ask = same_some (Ask World) (next p inputs w past) _ _ (named_next w fr past history j at) h.behaves.0 in
@@ -304,8 +375,35 @@ module _ (p : Source) (inputs : List ℤ) where
       let cs = h.cells in
       let frames : m.frames < MAX_FRAMES = omega (arith, fs) in
       let cells : m.cells + cells_of p i.callee ≤ MAX_CELLS = omega (arith, cs, same) in
-      no_refusal w fr past history j start left m b f at h.full (enough_child w past k x d u memory views start m h) q bad
-      (subst (λ a. (refused p m a ≡ None) × IsWithin a) (sym i.is) (not_crowded p i.callee m room frames cells, tt))
+      subst (λ a. (refused p m a ≡ None) × IsWithin a) (sym i.is) (not_crowded p i.callee m room frames cells, tt)
+
+  asking_act : (w : World) (fr : Frame) (past : List (Deed World)) (history : List ℤ) (j : ℕ) (a : language.Ask) (start left : ℕ) (m : Memory)
+      (e : Happens) (u : Run World) (memory : Cell → ℤ) (views : Instance → View) → At p inputs w fr past history j
+      → frame_asks p inputs fr.callee history start ≡ asks_for a left → Goes w past (act e u) memory views start m → Asking w past j a start left
+  asking_act w fr past history j a start left m e u memory views at q h =
+      asking w fr past history j a start left at q (enough_act w past e u memory views start m h)
+      (good_act w fr past history j start m e u memory views at h).1
+
+  asking_child : (w : World) (fr : Frame) (past : List (Deed World)) (history : List ℤ) (j : ℕ) (a : language.Ask) (start left : ℕ) (m : Memory)
+      (k : Invocation) (x : World) (d u : Run World) (memory : Cell → ℤ) (views : Instance → View) → At p inputs w fr past history j
+      → frame_asks p inputs fr.callee history start ≡ asks_for a left → Goes w past (child k x d u) memory views start m → Asking w past j a start left
+  asking_child w fr past history j a start left m k x d u memory views at q h =
+      asking w fr past history j a start left at q (enough_child w past k x d u memory views start m h)
+      (good_child w fr past history j start m k x d u memory views at h).1
+
+  refused_act : (w : World) (fr : Frame) (past : List (Deed World)) (history : List ℤ) (j start left : ℕ) (m : Memory) (b : language.Ask) (f : Fault)
+      (e : Happens) (u : Run World) (memory : Cell → ℤ) (views : Instance → View) → At p inputs w fr past history j
+      → frame_asks p inputs fr.callee history start ≡ asks_for b left → refused p m b ≡ Some f → Goes w past (act e u) memory views start m → ⊥
+  refused_act w fr past history j start left m b f e u memory views at q bad h =
+      no_refusal w fr past history j start left m b f at (enough_act w past e u memory views start m h) q bad
+      (good_act w fr past history j start m e u memory views at h)
+
+  refused_child : (w : World) (fr : Frame) (past : List (Deed World)) (history : List ℤ) (j start left : ℕ) (m : Memory) (b : language.Ask) (f : Fault)
+      (k : Invocation) (x : World) (d u : Run World) (memory : Cell → ℤ) (views : Instance → View) → At p inputs w fr past history j
+      → frame_asks p inputs fr.callee history start ≡ asks_for b left → refused p m b ≡ Some f → Goes w past (child k x d u) memory views start m → ⊥
+  refused_child w fr past history j start left m b f k x d u memory views at q bad h =
+      no_refusal w fr past history j start left m b f at (enough_child w past k x d u memory views start m h) q bad
+      (good_child w fr past history j start m k x d u memory views at h)
 
   stopped_early : (w : World) (fr : Frame) (past : List (Deed World)) (history : List ℤ) (j : ℕ) → At p inputs w fr past history j
       → Behaves World (follows (next p inputs)) w past stop → ⊥
@@ -313,31 +411,43 @@ module _ (p : Source) (inputs : List ℤ) where
 
   -- ---- the serial run goes along
 
-  abbrev pub EndsAs : Ending → Run World → Run World → Type 0
-  EndsAs (Finished v left m) t u = t ≡ u
-  EndsAs (Stopped f) t u = ⊥
+  -- t is what the serial run from a point on is by names, and es are its events: it is the run by names, it sets reducers to words, and
+  -- what it takes and leaves are the ticks that there were
+  abbrev pub EndsAs : Ending → World → List (Deed World) → ℕ → List Event → Run World → Run World → Type 0
+  EndsAs (Finished v left m) w past start es t u =
+      (t ≡ u) × SetWords es × (weight (costs p inputs) TickTotal w past t + left + taken p inputs w (but_last past) ≡ start)
+  EndsAs (Stopped f) w past start es t u = ⊥
 
-  ends_act : (end : Ending) (e : Happens) (t u : Run World) → EndsAs end t u → EndsAs end (act e t) (act e u)
-  ends_act (Finished v left m) e t u h = ap (λ (z : Run World). act e z) h
-  ends_act (Stopped f) e t u h = h
+  ends_act : (end : Ending) (w : World) (past : List (Deed World)) (start : ℕ) (e : Happens) (n : Event) (es : List Event) (t u : Run World)
+      → SetsWord n
+      → EndsAs end w (past ++ Does e ∷ []) start es t u → EndsAs end w past start (n ∷ es) (act e t) (act e u)
+  ends_act (Finished v left m) w past start e n es t u word h =
+      let last : taken p inputs w (but_last (past ++ Does e ∷ [])) ≡ taken p inputs w past = ap (taken p inputs w) (but_last_more past (Does e)) in
+      let before = before_taken w past in
+      let adds = h.2 in
+      (ap (λ (z : Run World). act e z) h.0, (word, h.1), omega (arith, last, before, adds))
+  ends_act (Stopped f) w past start e n es t u word h = h
 
-  ends_child : (end : Ending) (k : Invocation) (x : World) (d t u : Run World) → EndsAs end t u → EndsAs end (child k x d t) (child k x d u)
-  ends_child (Finished v left m) k x d t u h = ap (λ (z : Run World). child k x d z) h
-  ends_child (Stopped f) k x d t u h = h
+  ends_child : (end : Ending) (w : World) (past : List (Deed World)) (start left left' : ℕ) (k : Invocation) (n : ℕ) (x : World) (es es' : List Event)
+      (d t u : Run World) → taken p inputs w past ≡ start - left → left ≤ start → SetWords es
+      → weight (costs p inputs) TickTotal x [] d + left' + taken p inputs x (but_last []) ≡ left
+      → EndsAs end w (past ++ Invokes k x ∷ []) (left' + (start - left)) es' t u
+      → EndsAs end w past start (invocation k n ∷ (es ++ es')) (child k x d t) (child k x d u)
+  ends_child (Finished v left'' m) w past start left left' k n x es es' d t u took low words adds h =
+      let last : taken p inputs w (but_last (past ++ Invokes k x ∷ [])) ≡ taken p inputs w past = ap (taken p inputs w) (but_last_more past (Invokes k x)) in
+      let before = before_taken w past in
+      let nothing : taken p inputs x (but_last []) ≡ 0 = omega arith in
+      let adds' = h.2 in
+      let ticks : weight (costs p inputs) TickTotal w past (child k x d t) + left'' + taken p inputs w (but_last past) ≡ start =
+      omega (arith, last, before, nothing, took, low, adds, adds') in
+      (ap (λ (z : Run World). child k x d z) h.0, (starts_with k n, set_both es es' words h.1), ticks)
+  ends_child (Stopped f) w past start left left' k n x es es' d t u took low words adds h = h
 
   same_how : (W : Type 0) (k k' : Invocation) (x x' : W) (o : Option (Ask W)) → o ≡ Some (Invoke k x) → o ≡ Some (Invoke k' x') → k ≡ k'
   same_how W k k' x x' o g h = cc
 
   same_what : (W : Type 0) (k k' : Invocation) (x x' : W) (o : Option (Ask W)) → o ≡ Some (Invoke k x) → o ≡ Some (Invoke k' x') → x ≡ x'
   same_what W k k' x x' o g h = cc
-
-  set_first : (es es' : List Event) → SetWords (es ++ es') → SetWords es
-  set_first [] es' h = tt
-  set_first (e ∷ es) es' h = (h.0, set_first es es' h.1)
-
-  set_second : (es es' : List Event) → SetWords (es ++ es') → SetWords es'
-  set_second [] es' h = h
-  set_second (e ∷ es) es' h = set_second es es' h.1
 
   -- nothing follows a frame's end
   over : (w : World) (past : List (Deed World)) (e : Happens) (v : ℤ) (u : Run World) → e ≡ Ends v (retired_by p w)
@@ -360,7 +470,6 @@ module _ (p : Source) (inputs : List ℤ) where
       let before = before_taken w past in
       let cells_same : cells_of p c.callee ≡ cells_of p callee = ap (cells_of p) same in
       let both = length-append (trace d) (trace u) in
-      let f = h.full in
       let t = h.ticks in
       let n = h.events in
       let fs = h.frames in
@@ -369,7 +478,7 @@ module _ (p : Source) (inputs : List ℤ) where
         behaves = h.behaves.1;
         reads = h.reads.0;
         values = h.values.0;
-        full = omega (arith, low, f);
+        words = h.words.1;
         ticks = omega (arith, nothing, before, took, low, t);
         events = omega (arith, n, both);
         frames = omega (arith, fs);
@@ -389,7 +498,6 @@ module _ (p : Source) (inputs : List ℤ) where
       let before = before_taken w past in
       let cells_same : cells_of p c.callee ≡ cells_of p callee = ap (cells_of p) same in
       let both = length-append (trace d) (trace u) in
-      let f = h.full in
       let t = h.ticks in
       let n = h.events in
       let fs = h.frames in
@@ -400,7 +508,7 @@ module _ (p : Source) (inputs : List ℤ) where
         behaves = h.behaves.2;
         reads = h.reads.1;
         values = h.values.1;
-        full = omega (arith, low, f, adds);
+        words = h.words.2;
         ticks = omega (arith, last, before, took, low, t, adds);
         events = omega (arith, n, both, spent, long);
         frames = omega (arith, fs, frames, frames_are);
@@ -411,46 +519,54 @@ module _ (p : Source) (inputs : List ℤ) where
     pub goes_along : {fr : Frame} {start : ℕ} {history : List ℤ} {m : Memory} {r : serial.Transcript} {es : List Event} {end : Ending}
         → Serial p inputs fr start history m r es end
         → (w : World) (past : List (Deed World)) (j : ℕ) → At p inputs w fr past history (suc j) → Standing p inputs well whole w fr j r (counts_of m)
-        → SetWords es
         → (memory : Cell → ℤ) (views : Instance → View) → Same p whole memory views m.store → (u : Run World) → Goes w past u memory views start m
-        → EndsAs end (named_from p w (suc j) r) u
-    goes_along (Made {fr = fr} {start = start} {history = history} {m = m} {r = r} {es = es} {end = end} a left q inner ok rest) w past j at standing words memory views same stop h = absurd (stopped_early w fr past history (suc j) at h.behaves)
-    goes_along (Made {fr = fr} {start = start} {history = history} {m = m} {r = r} {es = es} {end = end} a left q inner ok rest) w past j at standing words memory views same (child k x d u) h =
-        let asked = asking w fr past history (suc j) a start left at q (inner_goes a inner) h.full in
+        → EndsAs end w past start es (named_from p w (suc j) r) u
+    goes_along (Made {fr = fr} {history = history} a left q inner ok rest) w past j at standing memory views same stop h =
+        absurd (stopped_early w fr past history (suc j) at h.behaves)
+    goes_along (Made {fr = fr} {start = start} {history = history} {m = m} a left q inner ok rest) w past j at standing memory views same (child k x d u) h =
+        let asked = asking_child w fr past history (suc j) a start left m k x d u memory views at q h in
         let ask = same_some (Ask World) (next p inputs w past) _ _ asked.asks h.behaves.0 in
         absurd (invoked (named_event p w a (answer_to fr m a)) k x (inner_asks p w (suc j) a (answer_to fr m a) inner ∙ ask))
-    goes_along (Made {fr = fr} {start = start} {history = history} {m = m} {r = r} {es = es} {end = end} a left q inner ok rest) w past j at standing words memory views same (act e u) h =
+    goes_along (Made {fr = fr} {start = start} {history = history} {m = m} {r = r} {es = es} {end = end} a left q inner ok rest) w past j at standing memory views same (act e u) h =
         let x = named_event p w a (answer_to fr m a) in
         let there = asked_there p inputs well whole w fr history start left a standing.stands q in
-        let f = act_follows p whole w fr standing.stands m memory views same a there inner words.0 in
-        let asked = asking w fr past history (suc j) a start left at q (inner_goes a inner) h.full in
-        let ask : ask_of e ≡ ask_of x = same_some (Ask World) (next p inputs w past) _ _ h.behaves.0 asked.asks ∙ sym (inner_asks p w (suc j) a (answer_to fr m a) inner) in
+        let asked = asking_act w fr past history (suc j) a start left m e u memory views at q h in
+        let is : ask_of e ≡ named_ask p w (suc j) a = same_some (Ask World) (next p inputs w past) _ _ h.behaves.0 asked.asks in
+        let word = set_word p w (suc j) fr m a e inner is h.words.0 in
+        let f = act_follows p whole w fr standing.stands m memory views same a there inner word in
+        let ask : ask_of e ≡ ask_of x = is ∙ sym (inner_asks p w (suc j) a (answer_to fr m a) inner) in
         let one : e ≡ x = same_event monoid_of memory views e x ask h.reads.0 f.right h.values.0 f.view_right in
         let on = subst (λ (z : Happens). Goes w (past ++ Does z ∷ []) u (λ c. put z c (memory c)) (λ i. on_view (monoid_of i) i z (views i)) start (with_store m (stored p fr m a))) one
         (goes_act w past e u memory views start m (stored p fr m a) h) in
-        let tail = goes_along rest w (past ++ Does x ∷ []) j (at_act w fr past history (suc j) m a inner at) (standing_act p inputs well whole w fr j a (answer_to fr m a) r (counts_of m) standing) words.1
+        let tail = goes_along rest w (past ++ Does x ∷ []) j (at_act w fr past history (suc j) m a inner at)
+        (standing_act p inputs well whole w fr j a (answer_to fr m a) r (counts_of m) standing)
         (λ c. put x c (memory c)) (λ i. on_view (monoid_of i) i x (views i)) f.same u on in
-        subst (λ (z : Happens). EndsAs end (act x (named_from p w (suc j) r)) (act z u)) (sym one) (ends_act end x (named_from p w (suc j) r) u tail)
-    goes_along (Ended {fr = fr} {start = start} {history = history} {m = m} v left q ok) w past j at standing words memory views same stop h = absurd (stopped_early w fr past history (suc j) at h.behaves)
-    goes_along (Ended {fr = fr} {start = start} {history = history} {m = m} v left q ok) w past j at standing words memory views same (child k x d u) h =
-        let asked = asking w fr past history (suc j) (asks.End v) start left at q refl h.full in
+        subst (λ (z : Happens). EndsAs end w past start (event_of fr m a ∷ es) (act x (named_from p w (suc j) r)) (act z u)) (sym one)
+        (ends_act end w past start x (event_of fr m a) es (named_from p w (suc j) r) u word tail)
+    goes_along (Ended {fr = fr} {history = history} v left q ok) w past j at standing memory views same stop h =
+        absurd (stopped_early w fr past history (suc j) at h.behaves)
+    goes_along (Ended {fr = fr} {start = start} {history = history} {m = m} v left q ok) w past j at standing memory views same (child k x d u) h =
+        let asked = asking_child w fr past history (suc j) (asks.End v) start left m k x d u memory views at q h in
         let ask = same_some (Ask World) (next p inputs w past) _ _ asked.asks h.behaves.0 in
         absurd (invoked (Ends v (retired_by p w)) k x ask)
-    goes_along (Ended {fr = fr} {start = start} {history = history} {m = m} v left q ok) w past j at standing words memory views same (act e u) h =
+    goes_along (Ended {fr = fr} {start = start} {history = history} {m = m} v left q ok) w past j at standing memory views same (act e u) h =
         let x = Ends v (retired_by p w) in
-        let asked = asking w fr past history (suc j) (asks.End v) start left at q refl h.full in
+        let asked = asking_act w fr past history (suc j) (asks.End v) start left m e u memory views at q h in
         let ask : ask_of e ≡ ask_of x = same_some (Ask World) (next p inputs w past) _ _ h.behaves.0 asked.asks in
         let one : e ≡ x = same_event monoid_of memory views e x ask h.reads.0 tt h.values.0 tt in
         let last : u ≡ stop = over w past e v u one h.behaves.1 in
-        ap (λ (z : Happens). act z stop) (sym one) ∙ ap (λ (z : Run World). act e z) (sym last)
-    goes_along (Went {fr = fr} {start = start} {history = history} {m = m} {u = t} {r = r} {es = es} {es' = es'} {end = end} how callee left v left' m' q ok inner rest) w past j at standing words memory views same stop h =
+        let took = asked.took in
+        let low = asked.low in
+        let before = before_taken w past in
+        (ap (λ (z : Happens). act z stop) (sym one) ∙ ap (λ (z : Run World). act e z) (sym last), (tt, tt), omega (arith, took, low, before))
+    goes_along (Went {fr = fr} {history = history} how callee left v left' m' q ok inner rest) w past j at standing memory views same stop h =
         absurd (stopped_early w fr past history (suc j) at h.behaves)
-    goes_along (Went {fr = fr} {start = start} {history = history} {m = m} {u = t} {r = r} {es = es} {es' = es'} {end = end} how callee left v left' m' q ok inner rest) w past j at standing words memory views same (act e u) h =
-        let asked = asking w fr past history (suc j) (asks.Invoke how callee) start left at q refl h.full in
+    goes_along (Went {fr = fr} {start = start} {history = history} {m = m} how callee left v left' m' q ok inner rest) w past j at standing memory views same (act e u) h =
+        let asked = asking_act w fr past history (suc j) (asks.Invoke how callee) start left m e u memory views at q h in
         absurd (invoked e how (child_world p w (suc j) callee) (same_some (Ask World) (next p inputs w past) _ _ h.behaves.0 asked.asks))
-    goes_along (Went {fr = fr} {start = start} {history = history} {m = m} {u = t} {r = r} {es = es} {es' = es'} {end = end} how callee left v left' m' q ok inner rest) w past j at standing words memory views same (child k x d u) h =
+    goes_along (Went {fr = fr} {start = start} {history = history} {m = m} {u = t} {r = r} {es = es} {es' = es'} {end = end} how callee left v left' m' q ok inner rest) w past j at standing memory views same (child k x d u) h =
         let c = child_world p w (suc j) callee in
-        let asked = asking w fr past history (suc j) (asks.Invoke how callee) start left at q refl h.full in
+        let asked = asking_child w fr past history (suc j) (asks.Invoke how callee) start left m k x d u memory views at q h in
         let kind : k ≡ how = same_how World k how x c (next p inputs w past) h.behaves.0 asked.asks in
         let what : x ≡ c = same_what World k how x c (next p inputs w past) h.behaves.0 asked.asks in
         let h1 = subst (λ (z : Invocation). Goes w past (child z x d u) memory views start m) kind h in
@@ -458,38 +574,43 @@ module _ (p : Source) (inputs : List ℤ) where
         let stands = standing_child p inputs well whole w fr j how callee t r m history start left standing q in
         let begin = at_begin c (next_frame p fr.scope m callee) refl in
         let goes = goes_inner w past how c callee d u memory views start left m refl asked.took asked.low h2 in
-        let first = goes_along inner c [] 0 begin stands (set_first es es' words.1) memory views same d goes in
+        let inside = goes_along inner c [] 0 begin stands memory views same d goes in
+        let first : named_from p c 1 t ≡ d = inside.0 in
         let h3 = subst (λ (z : Run World). Goes w past (child how c z u) memory views start m) (sym first) h2 in
-        let one = run_remembers p whole inputs well inner c 0 stands (set_first es es' words.1) memory views same in
-        let low = asked.low in
-        let full = h.full in
-        let holds = run_holds p inputs inner c [] 1 begin (omega (arith, low, full)) in
+        let one = run_remembers p whole inputs well inner c 0 stands inside.1 memory views same in
         let counts : counts_of m' ≡ counts_after p t (entered p callee (counts_of m)) = serial_counts inner in
-        let on = goes_past w past how c callee (named_from p c 1 t) u memory views start left left' m m' (length es) (counts_after p t (entered p callee (counts_of m))) refl asked.took asked.low h3 holds.1 (serial_spends inner)
+        let on = goes_past w past how c callee (named_from p c 1 t) u memory views start left left' m m' (length es)
+        (counts_after p t (entered p callee (counts_of m))) refl asked.took asked.low h3 inside.2 (serial_spends inner)
         (written_length (cell_number p whole) (instance_number p whole) (trace (named_from p c 1 t)) es one.written) counts
         (frames_weigh p inputs c [] 1 t (entered p callee (counts_of m))) (cells_weigh p inputs c [] 1 t (entered p callee (counts_of m))) in
         let tail = goes_along rest w (past ++ Invokes how c ∷ []) (suc j) (at_child w fr past history (suc j) how c at)
-        (standing_past p inputs well whole w fr j how callee t r (counts_of m) (counts_of m') counts standing) (set_second es es' words.1)
+        (standing_past p inputs well whole w fr j how callee t r (counts_of m) (counts_of m') counts standing)
         (λ z. value_after (named_from p c 1 t) z (memory z)) (λ i. view_after (monoid_of i) i (named_from p c 1 t) (views i)) one.same u on in
-        let ends = ends_child end how c (named_from p c 1 t) (named_from p w (suc (suc j)) r) u tail in
-        subst (λ (z : Invocation). EndsAs end (child how c (named_from p c 1 t) (named_from p w (suc (suc j)) r)) (child z x d u)) (sym kind)
-        (subst (λ (z : World). EndsAs end (child how c (named_from p c 1 t) (named_from p w (suc (suc j)) r)) (child how z d u)) (sym what)
-        (subst (λ (z : Run World). EndsAs end (child how c (named_from p c 1 t) (named_from p w (suc (suc j)) r)) (child how c z u)) first ends))
-    goes_along (Broke {fr = fr} {start = start} {history = history} {m = m} {u = t} {es = es} how callee left f q ok inner) w past j at standing words memory views same stop h = stopped_early w fr past history (suc j) at h.behaves
-    goes_along (Broke {fr = fr} {start = start} {history = history} {m = m} {u = t} {es = es} how callee left f q ok inner) w past j at standing words memory views same (act e u) h =
-        let asked = asking w fr past history (suc j) (asks.Invoke how callee) start left at q refl h.full in
+        let told = invocation how (suc m.frames) ∷ (es ++ es') in
+        let run = child how c (named_from p c 1 t) (named_from p w (suc (suc j)) r) in
+        let ends = ends_child end w past start left left' how (suc m.frames) c es es' (named_from p c 1 t) (named_from p w (suc (suc j)) r) u
+        asked.took asked.low inside.1 inside.2 tail in
+        subst (λ (z : Invocation). EndsAs end w past start told run (child z x d u)) (sym kind)
+        (subst (λ (z : World). EndsAs end w past start told run (child how z d u)) (sym what)
+        (subst (λ (z : Run World). EndsAs end w past start told run (child how c z u)) first ends))
+    goes_along (Broke {fr = fr} {history = history} how callee left f q ok inner) w past j at standing memory views same stop h =
+        stopped_early w fr past history (suc j) at h.behaves
+    goes_along (Broke {fr = fr} {start = start} {history = history} {m = m} how callee left f q ok inner) w past j at standing memory views same (act e u) h =
+        let asked = asking_act w fr past history (suc j) (asks.Invoke how callee) start left m e u memory views at q h in
         invoked e how (child_world p w (suc j) callee) (same_some (Ask World) (next p inputs w past) _ _ h.behaves.0 asked.asks)
-    goes_along (Broke {fr = fr} {start = start} {history = history} {m = m} {u = t} {es = es} how callee left f q ok inner) w past j at standing words memory views same (child k x d u) h =
+    goes_along (Broke {fr = fr} {start = start} {history = history} {m = m} {u = t} how callee left f q ok inner) w past j at standing memory views same (child k x d u) h =
         let c = child_world p w (suc j) callee in
-        let asked = asking w fr past history (suc j) (asks.Invoke how callee) start left at q refl h.full in
+        let asked = asking_child w fr past history (suc j) (asks.Invoke how callee) start left m k x d u memory views at q h in
         let kind : k ≡ how = same_how World k how x c (next p inputs w past) h.behaves.0 asked.asks in
         let what : x ≡ c = same_what World k how x c (next p inputs w past) h.behaves.0 asked.asks in
         let h1 = subst (λ (z : Invocation). Goes w past (child z x d u) memory views start m) kind h in
         let h2 = subst (λ (z : World). Goes w past (child how z d u) memory views start m) what h1 in
         let goes = goes_inner w past how c callee d u memory views start left m refl asked.took asked.low h2 in
-        goes_along inner c [] 0 (at_begin c (next_frame p fr.scope m callee) refl) (standing_child p inputs well whole w fr j how callee t serial.stop m history start left standing q) words.1 memory views same d goes
-    goes_along (Refused {fr = fr} {start = start} {history = history} {m = m} b left f q bad) w past j at standing words memory views same stop h = stopped_early w fr past history (suc j) at h.behaves
-    goes_along (Refused {fr = fr} {start = start} {history = history} {m = m} b left f q bad) w past j at standing words memory views same (act e u) h =
+        goes_along inner c [] 0 (at_begin c (next_frame p fr.scope m callee) refl)
+        (standing_child p inputs well whole w fr j how callee t serial.stop m history start left standing q) memory views same d goes
+    goes_along (Refused {fr = fr} {history = history} b left f q bad) w past j at standing memory views same stop h =
+        stopped_early w fr past history (suc j) at h.behaves
+    goes_along (Refused {fr = fr} {start = start} {history = history} {m = m} b left f q bad) w past j at standing memory views same (act e u) h =
         refused_act w fr past history (suc j) start left m b f e u memory views at q bad h
-    goes_along (Refused {fr = fr} {start = start} {history = history} {m = m} b left f q bad) w past j at standing words memory views same (child k x d u) h =
+    goes_along (Refused {fr = fr} {start = start} {history = history} {m = m} b left f q bad) w past j at standing memory views same (child k x d u) h =
         refused_child w fr past history (suc j) start left m b f k x d u memory views at q bad h

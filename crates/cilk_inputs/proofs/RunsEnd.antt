@@ -1,5 +1,6 @@
--- A serial run by names within the limits is the program's: `within_limits`. What runs on other inputs are: `inputs_run_along`.
-use Rattle.std.proofs.Common.{◌≡◌, ◌≤◌, ℤ, List, [], refl, sym, ap, ◌∙◌, arith, ◌<◌, zero, suc, slice_index_or, pos, length, ℕ, ◌+◌}
+-- A serial run by names is the program's within as many ticks as all its frames take together: `runs_within`. So it is the program's serial run
+-- where it keeps the limits: `within_limits`. What runs on other inputs are: `inputs_run_along`.
+use Rattle.std.proofs.Common.{◌≡◌, ◌≤◌, ℤ, List, [], refl, sym, ap, ◌∙◌, arith, ◌<◌, zero, suc, slice_index_or, pos, length, ℕ, ◌+◌, IsTrue}
 use Rattle.cilk_types.specs.declared.event.Event.{Event}
 use Rattle.cilk_types.specs.declared.outcome.Outcome.{Outcome}
 use Rattle.cilk_meaning.specs.Answered.{cells_after, opening_cells}
@@ -11,10 +12,11 @@ use Rattle.cilk_inputs.proofs.LastWrites.{last_value}
 use Rattle.std.proofs.Math.Seq.{take-length}
 use Rattle.cilk_types.specs.declared.limits.TheConstants.{MAX_TICKS, MAX_EVENTS}
 use Rattle.cilk_program.specs.declared.ask.Callee.TheVariants as callees
-use Rattle.cilk_program.specs.Outcomes.{Conclusion, Leaves, outcome_of, cells_from}
+use Rattle.cilk_program.specs.Outcomes.{Leaves, outcome_of, cells_from}
 use Rattle.cilk_program.specs.Store.{opening}
 use Rattle.cilk_program.specs.Syntax.{Source}
-use Rattle.cilk_program.specs.SerialRun.{Transcript, global_reducer, before_root, root_frame, begun, conclusion_of, Ending, Finished, Stopped, Serial, IsSerialRun}
+use Rattle.cilk_program.specs.WellNamed.{is_well_named}
+use Rattle.cilk_program.specs.SerialRun.{Transcript, Memory, global_reducer, before_root, root_frame, begun, Ending, Finished, Stopped, Serial, IsSerialRun}
 use Rattle.cilk_meaning.proofs.Uniqueness.{serial_run_exists}
 use Rattle.cilk_runs.specs.Costs.{Total, TickTotal, EventTotal, FrameTotal, CellTotal, whole}
 use Rattle.cilk_runs.specs.Monoids.{unit_of}
@@ -25,7 +27,8 @@ use Rattle.cilk_worlds.specs.Reducers.{View, monoid_of}
 use Rattle.cilk_worlds.specs.Worlds.{World, first_world}
 use Rattle.cilk_determinacy.specs.Nested.{named}
 use Rattle.cilk_determinacy.specs.Numbers.{cell_number, instance_number}
-use Rattle.cilk_determinacy.specs.Theorem.{IsSerial}
+use Rattle.cilk_determinacy.specs.Theorem.{IsSerial, SetWords}
+use Rattle.cilk_determinacy.specs.Words.{HasWords, InputsAreWords}
 use Rattle.cilk_determinacy.proofs.Determinate.{serial_by_names}
 use Rattle.cilk_determinacy.proofs.Numbered.{events_numbered}
 use Rattle.cilk_determinacy.proofs.Standing.{standing_root}
@@ -33,62 +36,96 @@ use Rattle.cilk_determinacy.proofs.Stores.{Same}
 use Rattle.cilk_determinacy.proofs.Weights.{events_weigh}
 use Rattle.cilk_determinacy.proofs.Wordy.{set_words}
 use Rattle.cilk_inputs.specs.Courses.{run_of}
-use Rattle.cilk_inputs.specs.Ends.{KeepsLimits, IsWholeRun, RunsWithinLimitsAreWhole, InputsRunAlong}
-use Rattle.cilk_inputs.specs.Frames.{same_frame, course_on}
+use Rattle.cilk_inputs.specs.Ends.{KeepsLimits, RunsWithinLimitsAreWhole, InputsRunAlong}
+use Rattle.cilk_inputs.specs.Frames.{same_frame, course_on, IsSerialRunOn}
+use Rattle.cilk_inputs.specs.Left.{KeepsCounts}
 use Rattle.cilk_inputs.specs.Lists.{with_values}
 use Rattle.cilk_inputs.proofs.AskedStories.{departs_nowhere}
 use Rattle.cilk_inputs.proofs.CourseLimits.{opened, IsAsMuch, as_much, are_like}
 use Rattle.cilk_inputs.proofs.CourseNumbers.{events_are}
 use Rattle.cilk_inputs.proofs.NoFault.{EndsAs, Goes, goes_along, at_begin}
 use Rattle.cilk_inputs.proofs.OneRun.{runs_are_one, named_runs_are_serial}
-use Rattle.cilk_inputs.proofs.StoryValues.{stories_have_values, course, written, serial, cells_open}
+use Rattle.cilk_inputs.proofs.StoryValues.{stories_have_values, course, written, serial, cells_open, own_words}
 
-pub within_limits : RunsWithinLimitsAreWhole
-within_limits p inputs u well has are run keeps =
-    let exists = serial_run_exists p inputs MAX_TICKS MAX_EVENTS in
-    by exists.0 exists.1 exists.2 exists.3.0 exists.3.1 exists.3.2
+-- the program's serial run within so many ticks is the run by names, which ends without a fault
+pub record IsRunWithin (p : Source) (inputs : List ℤ) (ticks : ℕ) (u : Run World) : Type 0 where
+  pub transcript : Transcript
+  pub events : List Event
+  pub value : ℤ
+  pub left : ℕ
+  pub memory : Memory
+  pub derivation : Serial p inputs (root_frame p inputs) ticks [] (begun p callees.Root (before_root p inputs MAX_EVENTS)) transcript events
+      (Finished value left memory)
+  pub names : named p transcript ≡ u
+  pub sets : SetWords events
+
+-- memory and views as a program begins
+pub opens_same : (p : Source) (inputs : List ℤ) (r : Transcript) → Same p r (opening_values p inputs) (unit_of monoid_of) (opening p.openings)
+opens_same p inputs r = record { cells = cells_open p inputs r; reducers = λ i has. refl; output = refl }
+
+pub runs_within : (p : Source) (inputs : List ℤ) (u : Run World) → IsTrue (is_well_named p) → HasWords p → InputsAreWords inputs
+    → IsSerialRunOn p inputs u → KeepsCounts p inputs u → (ticks : ℕ) → whole (costs p inputs) (first_world p) u TickTotal ≤ ticks
+    → IsRunWithin p inputs ticks u
+runs_within p inputs u well has are run keeps ticks enough =
+    let exists = serial_run_exists p inputs ticks MAX_EVENTS in
+    by exists.0 exists.1 exists.3.0 exists.3.1
   where
-    goes : Goes p inputs (first_world p) [] u (opening_values p inputs) (unit_of monoid_of) MAX_TICKS (begun p callees.Root (before_root p inputs MAX_EVENTS))
+    goes : Goes p inputs (first_world p) [] u (opening_values p inputs) (unit_of monoid_of) ticks (begun p callees.Root (before_root p inputs MAX_EVENTS))
     goes =
-        let t = keeps TickTotal in
-        let n = keeps EventTotal in
-        let f = keeps FrameTotal in
-        let c = keeps CellTotal in
+        let n = keeps.events in
+        let f = keeps.frames in
+        let c = keeps.cells in
         let many = events_weigh p inputs (first_world p) [] u in
         record {
           behaves = run.behaves;
           reads = run.reads;
           values = run.values;
-          full = omega arith;
-          ticks = omega (arith, t);
+          words = own_words p inputs has are u run (omega (arith, n, many));
+          ticks = omega (arith, enough);
           events = omega (arith, n, many);
           frames = omega (arith, f);
           cells = omega (arith, c);
         }
 
-    same : (r : Transcript) → Same p r (opening_values p inputs) (unit_of monoid_of) (opening p.openings)
-    same r = record { cells = cells_open p inputs r; reducers = λ i has. refl; output = refl }
-
-    by : (r : Transcript) (es : List Event) (c : Conclusion) (end : Ending)
-        → Serial p inputs (root_frame p inputs) MAX_TICKS [] (begun p callees.Root (before_root p inputs MAX_EVENTS)) r es end
-        → c ≡ conclusion_of p inputs end → IsWholeRun p inputs u
-    by r es c end d is =
+    by : (r : Transcript) (es : List Event) (end : Ending)
+        → Serial p inputs (root_frame p inputs) ticks [] (begun p callees.Root (before_root p inputs MAX_EVENTS)) r es end → IsRunWithin p inputs ticks u
+    by r es end d =
         done end d
-        (goes_along p inputs well r d (first_world p) [] 0 (at_begin p inputs (first_world p) (root_frame p inputs) refl) (standing_root p inputs well r) (set_words p has inputs are r es (conclusion_of p inputs end) (end, d, refl))
-        (opening_values p inputs) (unit_of monoid_of) (same r) u goes)
+        (goes_along p inputs well r d (first_world p) [] 0 (at_begin p inputs (first_world p) (root_frame p inputs) refl) (standing_root p inputs well r)
+        (opening_values p inputs) (unit_of monoid_of) (opens_same p inputs r) u goes)
       where
-        done : (end : Ending) → Serial p inputs (root_frame p inputs) MAX_TICKS [] (begun p callees.Root (before_root p inputs MAX_EVENTS)) r es end
-            → EndsAs p inputs end (named p r) u → IsWholeRun p inputs u
-        done (Finished v left m) d h = record { transcript = r; events = es; outcome = outcome_of global_reducer p v m.store; serial = (Finished v left m, d, refl); names = h }
+        done : (end : Ending) → Serial p inputs (root_frame p inputs) ticks [] (begun p callees.Root (before_root p inputs MAX_EVENTS)) r es end
+            → EndsAs p inputs end (first_world p) [] ticks es (named p r) u → IsRunWithin p inputs ticks u
+        done (Finished v left m) d h = record { transcript = r; events = es; value = v; left = left; memory = m; derivation = d; names = h.0; sets = h.1 }
         done (Stopped f) d h = absurd h
 
-keeps : (p : Source) (inputs others : List ℤ) (t u : Run World) → whole (costs p others) (first_world p) u TickTotal ≤ MAX_TICKS
-    → IsAsMuch p inputs others (first_world p) (first_world p) [] [] t u
-    → ((total : Total) → whole (costs p inputs) (first_world p) t total ≤ limit p inputs total) → KeepsLimits p others u
-keeps p inputs others t u ticks much within TickTotal = ticks
-keeps p inputs others t u ticks much within EventTotal = let h = within EventTotal in let e = much.events in omega (arith, h, e)
-keeps p inputs others t u ticks much within FrameTotal = let h = within FrameTotal in let e = much.frames in omega (arith, h, e)
-keeps p inputs others t u ticks much within CellTotal = let h = within CellTotal in let e = much.cells in omega (arith, h, e)
+pub within_limits : RunsWithinLimitsAreWhole
+within_limits p inputs u well has are run keeps =
+    let counts : KeepsCounts p inputs u = record { events = keeps EventTotal; frames = keeps FrameTotal; cells = keeps CellTotal } in
+    let h = runs_within p inputs u well has are run counts MAX_TICKS (keeps TickTotal) in
+    let store = h.memory.store in
+    record {
+      transcript = h.transcript;
+      events = h.events;
+      outcome = outcome_of global_reducer p h.value store;
+      serial = (Finished h.value h.left h.memory, h.derivation, refl);
+      names = h.names;
+    }
+
+counted : (p : Source) (inputs others : List ℤ) (t u : Run World) → IsAsMuch p inputs others (first_world p) (first_world p) [] [] t u
+    → ((total : Total) → whole (costs p inputs) (first_world p) t total ≤ limit p inputs total) → KeepsCounts p others u
+counted p inputs others t u much within = record {
+  events = let h = within EventTotal in let e = much.events in omega (arith, h, e);
+  frames = let h = within FrameTotal in let e = much.frames in omega (arith, h, e);
+  cells = let h = within CellTotal in let e = much.cells in omega (arith, h, e);
+}
+
+keeps : (p : Source) (others : List ℤ) (u : Run World) → whole (costs p others) (first_world p) u TickTotal ≤ MAX_TICKS → KeepsCounts p others u
+    → KeepsLimits p others u
+keeps p others u ticks counts TickTotal = ticks
+keeps p others u ticks counts EventTotal = counts.events
+keeps p others u ticks counts FrameTotal = counts.frames
+keeps p others u ticks counts CellTotal = counts.cells
 
 from_at : (k n : ℕ) (f : ℕ → ℤ) (i : ℕ) → i < n → slice_index_or (cells_from k n f) i (pos 0) ≡ f (k + i)
 from_at k zero f i less = absurd (omega (arith, less))
@@ -121,6 +158,7 @@ inputs_run_along p inputs others r es opening is are orderly nowhere =
     let like = are_like p inputs others (first_world p) (first_world p) [] [] (opening_values p others) (unit_of monoid_of) t c is_course own.behaves (opened begin_due t own.framed) run.behaves (opened begin_due (run_of c) run.framed) in
     let much = as_much p inputs others (first_world p) (first_world p) [] [] t (run_of c) like in
     let limits : IsSerial p inputs r = serial_by_names p inputs r es is.outcome is.named is.runs (set_words p is.words inputs is.inputs_words r es (Leaves is.outcome) is.runs) in
+    let counts = counted p inputs others t (run_of c) much limits.within in
     let s = story_on p others r es opening in
     let only : (r' : Transcript) (es' : List Event) (outcome : Outcome) → IsSerialRun p others r' es' (Leaves outcome) → (named p r' ≡ run_of c) × (es' ≡ s.events) =
     λ r' es' outcome runs.
@@ -136,7 +174,8 @@ inputs_run_along p inputs others r es opening is are orderly nowhere =
     ) in
     record {
       course = run;
-      ends = λ ticks. within_limits p others (run_of c) is.named is.words are run (keeps p inputs others t (run_of c) ticks much limits.within);
+      counts = counts;
+      ends = λ ticks. within_limits p others (run_of c) is.named is.words are run (keeps p others (run_of c) ticks counts);
       only = only;
       globals = λ r' es' outcome runs c less.
           let left = runs_leave p is.named others r' es' outcome runs in

@@ -1,4 +1,5 @@
--- The story of a plan's run on another input has values: `stories_have_values`. On the run's own it is the plan's: `own_story`.
+-- The story of a plan's run on another input has values: `stories_have_values`. On the run's own it is the plan's: `own_story`. What a serial
+-- run by names reads, writes and puts into views is words: `own_words`.
 use Rattle.std.proofs.Common.{◌≡◌, ◌≤◌, ℕ, ◌-◌, ℤ, pos, Bool, true, false, List, [], ◌∷◌, ◌++◌, zero, suc, length, Some, None, slice_get, slice_index_or, unwrap_or, refl, sym, ap, ap₂, ◌∙◌, subst, arith, inl}
 use Rattle.std.proofs.lemmas.Option.{slice_get_past}
 use Rattle.cilk_types.specs.declared.event.Event as numbers
@@ -29,7 +30,7 @@ use Rattle.cilk_worlds.specs.Worlds.{World, first_world}
 use Rattle.cilk_determinacy.specs.Nested.{named}
 use Rattle.cilk_determinacy.specs.Numbers.{cell_number, instance_number, HasCell, EventIsHere, AreHere}
 use Rattle.cilk_determinacy.specs.Theorem.{IsNumbered}
-use Rattle.cilk_determinacy.specs.Words.{InputsAreWords}
+use Rattle.cilk_determinacy.specs.Words.{HasWords, InputsAreWords}
 use Rattle.cilk_determinacy.proofs.Determinate.{serial_by_names, serial_numbered}
 use Rattle.cilk_determinacy.proofs.Numbered.{events_numbered}
 use Rattle.cilk_determinacy.proofs.Numbers.{cell_is, same_cells}
@@ -138,7 +139,7 @@ module _ (cell : Cell → ℕ) (instance : Instance → numbered.Instance) where
       by (d ∷ ds) [] is = absurd is
       by (d ∷ ds) (n ∷ es) is = ap (λ (l : List Bool). true ∷ l) (by ds es is.1)
 
-known_here : (p : Source) (r : Transcript) (t : Run World) → AreHere p r t → IsKnown (HasCell p r) t
+pub known_here : (p : Source) (r : Transcript) (t : Run World) → AreHere p r t → IsKnown (HasCell p r) t
 known_here p r runs.stop h = tt
 known_here p r (runs.act e t) h = (by e h.0, known_here p r t h.1)
   where
@@ -162,6 +163,18 @@ cells_open p inputs r (Own name n) (here, less) =
     let where_is = cell_is p r name n here in
     opens_with p.openings (cell_number p r (Own name n)) (omega (arith, low, where_is))
 
+module _ (p : Source) (inputs : List ℤ) (has : HasWords p) (are : InputsAreWords inputs) where
+  opening_is : (c : Cell) → IsWord (opening_values p inputs c)
+  opening_is (Global n) = opening_word p has inputs are p.openings has.openings n
+  opening_is (Own name n) = zero_word
+
+  -- of words, as its own course
+  pub own_words : (t : Run World) → IsSerialRunOn p inputs t → length (trace t) ≤ 1000000 → RunWords t
+  own_words t run few =
+      subst RunWords (run_all t)
+      (whole_words (next p inputs) (same_frame p) (next_words p inputs has are) (first_world p) (opening_values p inputs) (unit_of monoid_of) t (all_asked t)
+      few tt opening_is (λ i. refl) (runs_are_courses p inputs t run).0 (all_else t))
+
 module _ (p : Source) (inputs : List ℤ) (r : Transcript) (es : List numbers.Event) (opening : List ℤ) (is : IsPlannedRun p inputs r es opening) where
   abbrev t : Run World
   t = named p r
@@ -181,15 +194,8 @@ module _ (p : Source) (inputs : List ℤ) (r : Transcript) (es : List numbers.Ev
       let short = serial_run_is_short p inputs r es (Leaves is.outcome) is.runs in
       omega (arith, same, short)
 
-  opening_is : (c : Cell) → IsWord (opening_values p inputs c)
-  opening_is (Global n) = let w = is.words in opening_word p is.words inputs is.inputs_words p.openings w.openings n
-  opening_is (Own name n) = zero_word
-
   run_words : RunWords t
-  run_words =
-      let own = runs_are_courses p inputs t serial in
-      subst RunWords (run_all t)
-      (whole_words (next p inputs) (same_frame p) (next_words p inputs is.words is.inputs_words) (first_world p) (opening_values p inputs) (unit_of monoid_of) t (all_asked t) few tt opening_is (λ i. refl) own.0 (all_else t))
+  run_words = own_words p inputs is.words is.inputs_words t serial few
 
   abbrev told : List numbers.Event → List Bool → Story
   told l b = record { events = l; preceding = predecessors_in es; opening = opening; asked = b }
@@ -228,7 +234,8 @@ module _ (p : Source) (inputs : List ℤ) (r : Transcript) (es : List numbers.Ev
     words : ListWords (trace (run_of c))
     words =
         list_words (run_of c)
-        (whole_words (next p others) (same_frame p) (next_words p others is.words are) (first_world p) (opening_values p others) (unit_of monoid_of) t c few tt opening_is (λ i. refl) course (words_else t c run_words))
+        (whole_words (next p others) (same_frame p) (next_words p others is.words are) (first_world p) (opening_values p others) (unit_of monoid_of) t c few tt
+        (opening_is p others is.words are) (λ i. refl) course (words_else t c run_words))
 
     of_words : (q : ℕ) (e : numbers.Event) → event s q ≡ Some e → IsOfWords e
     of_words q e h = each_of_words (cell_number p r) (instance_number p r) (trace (run_of c)) (with_values es (trace (run_of c))) written words (q - 1) e h

@@ -20,6 +20,7 @@ use Rattle.cilk_determinacy.specs.Nested.{named}
 use Rattle.cilk_determinacy.specs.Words.{HasWords, InputsAreWords}
 use Rattle.cilk_inputs.specs.Courses.{run_of}
 use Rattle.cilk_inputs.specs.Frames.{course_on, IsSerialRunOn}
+use Rattle.cilk_inputs.specs.Left.{KeepsCounts}
 use Rattle.cilk_inputs.specs.Stories.{story_on, IsPlannedRun}
 
 -- The serial run of a program of words, by names, is its serial run in the sense of courses.
@@ -52,6 +53,7 @@ RunsWithinLimitsAreWhole =
 -- ticks than a run may; and each serial run of the program on them that ends without a fault is it, with the story's events by numbers.
 pub record RunsAsCourse (p : Source) (others : List ℤ) (u : Run World) (story : Story) : Type 0 where
   pub course : IsSerialRunOn p others u
+  pub counts : KeepsCounts p others u
   pub ends : whole (costs p others) (first_world p) u TickTotal ≤ MAX_TICKS → IsWholeRun p others u
   pub only : (r : Transcript) (es : List Event) (outcome : Outcome) → IsSerialRun p others r es (Leaves outcome) → (named p r ≡ u) × (es ≡ story.events)
   -- and leaves the globals that the story's last writes leave

@@ -1,6 +1,7 @@
 pub mod Courses
 pub mod Ends
 pub mod Frames
+pub mod Left
 pub mod Lists
 pub mod Owned
 pub mod Points

@@ -7,6 +7,7 @@ ghost use Rattle.std.specs.Prelude.{Bool, ℤ, List, Option};
 ghost use Rattle.cilk_inputs.specs.Courses.{AskedCourseIsSerial, CoursesAreOne, OwnCourse, SerialRunsAreOne};
 ghost use Rattle.cilk_inputs.specs.Ends.{InputsRunAlong, NamedRunsAreSerial, RunsWithinLimitsAreWhole};
 ghost use Rattle.cilk_inputs.specs.Frames.{AskedCoursesAreSerialRuns, ProgramsHaveOneCourse, SerialRunsAreTheirCourses};
+ghost use Rattle.cilk_inputs.specs.Left.{RunsAreElided};
 ghost use Rattle.cilk_inputs.specs.Lists.{AskedStoriesAreOfAskedCourses, CoursesAreAlongPlans, InputsThatDepartNowhere};
 ghost use Rattle.cilk_inputs.specs.Owned.{EventsAreInTheirFrames};
 ghost use Rattle.cilk_inputs.specs.Points.{StoriesAreAskedByPositions};
@@ -89,6 +90,12 @@ pub fn named_runs_are_serial()
 /// run, which ends without a fault, where it keeps the limits of a run.
 pub fn runs_within_limits_are_whole()
     ensures { RunsWithinLimitsAreWhole }
+{}
+
+/// At the language: a serial run in the sense of courses that makes no more events, frames and cells than a run may leaves what the elision
+/// leaves: the same result, globals, output and reducers. So it does where its frames together take more ticks than a run may.
+pub fn runs_are_elided()
+    ensures { RunsAreElided }
 {}
 
 /// At the language, along an orderly plan: inputs on which the story departs nowhere run as the course says. It is the program's serial

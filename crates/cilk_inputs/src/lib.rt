@@ -7,7 +7,8 @@
 //!
 //! The laws, in [`laws`]: on each input there is one course; on its own input a run is its own course, and each of its events is asked
 //! for. The story of a course is along the plan of its run and has values. Where each event of a course is asked for, as where its story
-//! departs nowhere, it is a serial run of the program on that input: the program's own, where that isn't stopped for its ticks.
+//! departs nowhere, it is a serial run of the program on that input: the program's own, where that isn't stopped for its ticks. However many
+//! ticks it takes, it leaves what the elision leaves.
 //! By positions, `specs/Points` has the frame at hand at each event of a story, and all that it has done before: it asks for the event
 //! exactly where what its behaviour asks for next, after those answers, is of the event's kind, and then with the story's value.
 #![tactic(auto)]
