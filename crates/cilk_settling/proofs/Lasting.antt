@@ -103,7 +103,7 @@ module _ (s : Story) (r : Reducers) where
       ∙ sym (list_both r 0 (take n s.events) (e ∷ []))
       ∙ ap (list_from r 0) (sym next)
 
-  over_list : events_over s r 1 (length s.events + 1) ≡ list_from r 0 s.events
+  pub over_list : events_over s r 1 (length s.events + 1) ≡ list_from r 0 s.events
   over_list =
       let z : length s.events + 1 - 1 ≡ length s.events = omega arith in
       ap (events_from s r 1) z ∙ over_from (length s.events) (omega arith) ∙ ap (list_from r 0) (take-length s.events)
@@ -302,13 +302,13 @@ module _ (p : Source) (run : serial.Transcript) (r : Reducers) (table : AreReduc
 
 -- ---- what is printed
 -- the event is no event of the output, or prints
-abbrev LeavesOutput : numbers.Event → Type 0
+abbrev pub LeavesOutput : numbers.Event → Type 0
 LeavesOutput (events.Create i) = same_instance i output ≡ false
 LeavesOutput (events.Update i v) = same_instance i output ≡ false
 LeavesOutput (events.Set i v) = same_instance i output ≡ false
 LeavesOutput e = Unit {0}
 
-abbrev AllLeave : List numbers.Event → Type 0
+abbrev pub AllLeave : List numbers.Event → Type 0
 AllLeave [] = Unit {0}
 AllLeave (e ∷ es) = LeavesOutput e × AllLeave es
 
@@ -324,7 +324,7 @@ no_place false n = refl
 placed_apart : (f n : ℕ) → same_instance (record { frame = f; place = suc n }) output ≡ false
 placed_apart f n = no_place (eqb f 0) n
 
-abbrev S : MonoidStructure ViewValue
+abbrev pub S : MonoidStructure ViewValue
 S = structure_of Append
 
 ends_still : (f p n : ℕ) (v : ViewValue) → view_after S output (ends_from f (suc p) n) v ≡ v
@@ -346,7 +346,7 @@ event_views r f (events.Read c v) h zs = ap Elements (sym (append-nil zs))
 event_views r f (events.Write c v) h zs = ap Elements (sym (append-nil zs))
 event_views r f (events.Value i v) h zs = ap Elements (sym (append-nil zs))
 
-prints_viewed : (r : Reducers) (g : ℕ) (es : List numbers.Event) → AllLeave es → (zs : List ℤ) → view_after S output (list_from r g es) (Elements zs) ≡ Elements (zs ++ prints es)
+pub prints_viewed : (r : Reducers) (g : ℕ) (es : List numbers.Event) → AllLeave es → (zs : List ℤ) → view_after S output (list_from r g es) (Elements zs) ≡ Elements (zs ++ prints es)
 prints_viewed r g [] h zs = ap Elements (sym (append-nil zs))
 prints_viewed r g (e ∷ es) h zs =
     view_after-append S output (of_event r (entered e g) (Some e)) (list_from r (entered e g) es) (Elements zs)
@@ -368,7 +368,7 @@ module _ (p : Source) (run : serial.Transcript) where
   start_leaves Call n = tt
   start_leaves Spawn n = tt
 
-  all_leave : (name : Name) (t : Run World) → AreHere p run t → AllLeave (numbered_events p run name t)
+  pub all_leave : (name : Name) (t : Run World) → AreHere p run t → AllLeave (numbered_events p run name t)
   all_leave name stop h = tt
   all_leave name (act e t) h = (event_leaves name e h.0, all_leave name t h.1)
   all_leave name (child k w u t) h = (start_leaves k (frame_number p run w.name), all_both (numbered_events p run w.name u) (numbered_events p run name t) (all_leave w.name u h.1) (all_leave name t h.2))

@@ -1,4 +1,4 @@
--- What a whole run leaves, by its cells and its views: `left_is`, `piece_left`.
+-- What a whole run leaves, by its cells and its views: `made_is`, `piece_made`. Each serial run with its events leaves that: `left_is`.
 use Rattle.std.proofs.Common.{◌≡◌, ℕ, zero, suc, ◌+◌, ◌<◌, ◌≤◌, ℤ, pos, IsTrue, List, [], ◌∷◌, length, take, slice_index_or, Option, Some, None, refl, sym, ap, ◌∙◌, subst, arith}
 use Rattle.std.proofs.Math.Seq.{take-length}
 use Rattle.std.specs.Option.{option_map}
@@ -13,7 +13,8 @@ use Rattle.cilk_hypermap.specs.Hypermap.{view_in}
 use Rattle.cilk_hypermap.specs.Ranges.{ShowsRange}
 use Rattle.cilk_hypermap.specs.Views.{output, or_unit}
 use Rattle.cilk_monoid.specs.Kinds.{structure_of}
-use Rattle.cilk_program.specs.Outcomes.{cells_from}
+use Rattle.cilk_program.specs.Outcomes.{Leaves, cells_from}
+use Rattle.cilk_program.specs.SerialRun.{Transcript, IsSerialRun}
 use Rattle.cilk_program.specs.Syntax.{Source}
 use Rattle.cilk_program.specs.WellNamed.{is_well_named}
 use Rattle.cilk_meaning.specs.Answered.{cells_after, opening_cells}
@@ -27,7 +28,8 @@ use Rattle.cilk_pieces.specs.declared.reducers.Reducers.{Reducers}
 use Rattle.cilk_pieces.specs.Reducers.{kind_in, events_over}
 use Rattle.cilk_inputs.proofs.LastWrites.{last_value}
 use Rattle.cilk_board.specs.Leaving.{finals_of, numbers_in, outcome_of}
-use Rattle.cilk_settling.specs.Finals.{AreLast, IsLeftBy}
+use Rattle.cilk_settling.specs.Finals.{AreLast, IsMadeOf}
+use Rattle.cilk_settling.specs.Tables.{AreReducersOf}
 use Rattle.cilk_settling.proofs.Lasting.{whole_last}
 
 -- ---- a cell has one value
@@ -76,52 +78,61 @@ numbers_of_view : (o : Option ViewValue) (zs : List ℤ) → or_unit (structure_
 numbers_of_view None zs e = cc e
 numbers_of_view (Some v) zs e = ap (λ (x : ViewValue). numbers_in (Some (final_of x))) e
 
-all_same : {o o' : Outcome} → o.result ≡ o'.result → o.globals ≡ o'.globals → o.output ≡ o'.output → o.reducers ≡ o'.reducers → o ≡ o'
+pub all_same : {o o' : Outcome} → o.result ≡ o'.result → o.globals ≡ o'.globals → o.output ≡ o'.output → o.reducers ≡ o'.reducers → o ≡ o'
 all_same {o = o} {o' = o'} a b c d =
     ap (λ x. record { result = x; globals = o.globals; output = o.output; reducers = o.reducers }) a
     ∙ ap (λ x. record { result = o'.result; globals = x; output = o.output; reducers = o.reducers }) b
     ∙ ap (λ x. record { result = o'.result; globals = o'.globals; output = x; reducers = o.reducers }) c
     ∙ ap (λ x. record { result = o'.result; globals = o'.globals; output = o'.output; reducers = x }) d
 
-pub left_is : (p : Source) → IsTrue (is_well_named p) → (s : Story) (r : Reducers) (l : Layout) (cells : List ℤ) (views : Hypermap) (value : ℤ) → LaysOut p l
-    → length p.openings ≤ length s.opening → ((c : ℕ) → slice_index_or s.opening c (pos 0) ≡ opening_cells p [] c) → AreFinal s cells
-    → ShowsRange (kind_in r) views (events_over s r 1 (length s.events + 1)) → IsLeftBy p s r value (outcome_of l cells views value)
-left_is p well s r l cells views value laid many opens final shows inputs run outcome ran table same =
-    all_same (sym same) globals printed (ap (λ ks. finals_of views 0 ks) laid.reducers ∙ sym last.reducers)
-  where
-    last : AreLast p views outcome
-    last = whole_last p inputs run s.events outcome s r views well ran refl table shows
+-- the global cells after the story's events
+abbrev globals_after : Source → Story → List ℤ
+globals_after p s = cells_from 0 (length p.openings) (cells_after s.events (opening_cells p []))
 
-    printed : numbers_in (option_map final_of (view_in views Append output)) ≡ outcome.output
-    printed = numbers_of_view (view_in views Append output) outcome.output last.printed
+pub made_is : (p : Source) (s : Story) (r : Reducers) (l : Layout) (cells : List ℤ) (views : Hypermap) (value : ℤ) → LaysOut p l
+    → length p.openings ≤ length s.opening → ((c : ℕ) → slice_index_or s.opening c (pos 0) ≡ opening_cells p [] c) → AreFinal s cells
+    → ShowsRange (kind_in r) views (events_over s r 1 (length s.events + 1)) → IsMadeOf p s r value (outcome_of l cells views value)
+made_is p s r l cells views value laid many opens final shows = record {
+  result = refl;
+  globals = ap (λ (o : List ℤ). take (length o) cells) laid.openings
+      ∙ same_lists (take (length p.openings) cells) (globals_after p s) long
+      (λ c less. let k = taken cells (length p.openings) within in let low : c < length p.openings = omega (arith, less, k) in take_at cells (length p.openings) c low within ∙ each c low);
+  views = views;
+  shown = shows;
+  printed = λ zs e. numbers_of_view (view_in views Append output) zs e;
+  reducers = ap (λ ks. finals_of views 0 ks) laid.reducers;
+}
+  where
+    within : length p.openings ≤ length cells
+    within = let e = final.all in omega (arith, many, e)
+
+    long : length (take (length p.openings) cells) ≡ length (globals_after p s)
+    long = taken cells (length p.openings) within ∙ sym (long_from 0 (length p.openings) (cells_after s.events (opening_cells p [])))
+
+    each : (c : ℕ) → c < length p.openings → slice_index_or cells c (pos 0) ≡ slice_index_or (globals_after p s) c (pos 0)
+    each c less =
+        one_value s c (length s.events) (slice_index_or cells c (pos 0)) (slice_index_or (globals_after p s) c (pos 0)) (final.each c (omega (arith, less, many)))
+        (last_value s (opening_cells p []) opens c (length s.events) (slice_index_or (globals_after p s) c (pos 0))
+        (from_at 0 (length p.openings) (cells_after s.events (opening_cells p [])) c less
+        ∙ ap (cells_after s.events (opening_cells p [])) (let e : 0 + c ≡ c = omega arith in e)
+        ∙ ap (λ (l : List Event). cells_after l (opening_cells p []) c) (sym (take-length s.events))))
+
+-- each serial run with these events leaves it
+pub left_is : (p : Source) → IsTrue (is_well_named p) → (s : Story) (r : Reducers) (value : ℤ) (o : Outcome) → IsMadeOf p s r value o
+    → (inputs : List ℤ) (run : Transcript) (outcome : Outcome) → IsSerialRun p inputs run s.events (Leaves outcome) → AreReducersOf p run r → outcome.result ≡ value → o ≡ outcome
+left_is p well s r value o made inputs run outcome ran table same =
+    all_same (made.result ∙ sym same) (made.globals ∙ sym left) (made.printed outcome.output last.printed) (made.reducers ∙ sym last.reducers)
+  where
+    last : AreLast p made.views outcome
+    last = whole_last p inputs run s.events outcome s r made.views well ran refl table made.shown
 
     left : outcome.globals ≡ cells_from 0 (length p.openings) (cells_after s.events (opening_cells p inputs))
     left = let x = runs_leave p well inputs run s.events outcome ran in x.globals
 
-    within : length p.openings ≤ length cells
-    within = let e = final.all in omega (arith, many, e)
-
-    long : length (take (length p.openings) cells) ≡ length outcome.globals
-    long = taken cells (length p.openings) within ∙ sym (ap length left ∙ long_from 0 (length p.openings) (cells_after s.events (opening_cells p inputs)))
-
-    each : (c : ℕ) → c < length p.openings → slice_index_or cells c (pos 0) ≡ slice_index_or outcome.globals c (pos 0)
-    each c less =
-        one_value s c (length s.events) (slice_index_or cells c (pos 0)) (slice_index_or outcome.globals c (pos 0)) (final.each c (omega (arith, less, many)))
-        (last_value s (opening_cells p []) opens c (length s.events) (slice_index_or outcome.globals c (pos 0))
-        (ap (λ (l : List ℤ). slice_index_or l c (pos 0)) left
-        ∙ from_at 0 (length p.openings) (cells_after s.events (opening_cells p inputs)) c less
-        ∙ ap (cells_after s.events (opening_cells p inputs)) (let e : 0 + c ≡ c = omega arith in e)
-        ∙ ap (λ (l : List Event). cells_after l (opening_cells p []) c) (sym (take-length s.events))))
-
-    globals : take (length l.openings) cells ≡ outcome.globals
-    globals = ap (λ (o : List ℤ). take (length o) cells) laid.openings
-        ∙ same_lists (take (length p.openings) cells) outcome.globals long
-        (λ c less. let k = taken cells (length p.openings) within in let low : c < length p.openings = omega (arith, less, k) in take_at cells (length p.openings) c low within ∙ each c low)
-
 -- of a piece of all events
-pub piece_left : (p : Source) → IsTrue (is_well_named p) → (yard s : Story) → s ≡ yard → (r : Reducers) (l : Layout) (cells : List ℤ) (views : Hypermap) (value : ℤ) → LaysOut p l
+pub piece_made : (p : Source) (yard s : Story) → s ≡ yard → (r : Reducers) (l : Layout) (cells : List ℤ) (views : Hypermap) (value : ℤ) → LaysOut p l
     → length p.openings ≤ length s.opening → ((c : ℕ) → slice_index_or s.opening c (pos 0) ≡ opening_cells p [] c) → AreFinal yard cells
-    → (from upto : ℕ) → from ≡ 1 → upto ≡ length s.events + 1 → ShowsRange (kind_in r) views (events_over s r from upto) → IsLeftBy p s r value (outcome_of l cells views value)
-piece_left p well yard s same r l cells views value laid many opens final from upto first end shows =
-    left_is p well s r l cells views value laid many opens (subst (λ (z : Story). AreFinal z cells) (sym same) final)
+    → (from upto : ℕ) → from ≡ 1 → upto ≡ length s.events + 1 → ShowsRange (kind_in r) views (events_over s r from upto) → IsMadeOf p s r value (outcome_of l cells views value)
+piece_made p yard s same r l cells views value laid many opens final from upto first end shows =
+    made_is p s r l cells views value laid many opens (subst (λ (z : Story). AreFinal z cells) (sym same) final)
     (subst (λ (n : ℕ). ShowsRange (kind_in r) views (events_over s r 1 n)) end (subst (λ (n : ℕ). ShowsRange (kind_in r) views (events_over s r n upto)) first shows))

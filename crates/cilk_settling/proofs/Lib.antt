@@ -1,9 +1,10 @@
 mod AlongSettled
 mod AskedNumbers
 mod Between
+pub mod CourseLeft
 mod Found
 mod Lasting
-mod Leaving
+pub mod Leaving
 mod NumbersAlong
 pub mod Opened
 mod Places

@@ -51,7 +51,7 @@ use Rattle.cilk_settling.proofs.AskedNumbers.{Held, AreAskedNumbers, numbers_at}
 use Rattle.cilk_settling.proofs.Lasting.{over_from, retires_own}
 use Rattle.cilk_settling.proofs.Opened.{FramesOpen, frames_open, there_fit, invoked_there}
 use Rattle.cilk_settling.proofs.Tabled.{kinds_told}
-use Rattle.cilk_settling.proofs.ViewsAlong.{StartsThere, at_hand, Tied, valued_numbers, course_numbers}
+use Rattle.cilk_settling.proofs.ViewsAlong.{StartsThere, at_hand, Tied, Along, valued_numbers, course_numbers}
 
 -- ---- frames that are started
 abbrev AllThere : Source → Transcript → Type 0
@@ -85,7 +85,7 @@ module _ (p : Source) (inputs others : List ℤ) (run : Transcript) (es : List n
   abbrev s : Story
   s = story_on p others run es opening
 
-  kinds : HaveTheirKinds p run r
+  pub kinds : HaveTheirKinds p run r
   kinds = kinds_told p run r table
 
   numbers_are : IsNumbered p inputs run es
@@ -125,17 +125,17 @@ module _ (p : Source) (inputs others : List ℤ) (run : Transcript) (es : List n
   first_tied : Tied p run r table kinds (unit_of monoid_of) first_views
   first_tied i known = ap (λ k. (structure_of k).unit) (sym (kinds i known))
 
-  along : AreAskedNumbers r 0 first_views (numbered_events p run [] (run_of c)) (asked_in c)
-  along =
+  pub both : Along p run r table kinds others is.named 0 [] (unit_of monoid_of) first_views c
+  both =
       let n = numbers_are in
       let f = frames in
       let l = list in
       let w = first_world p in
-      (course_numbers p run r table kinds others is.named w w t f.first (record { name = refl; own = refl; before = refl; fit = tt }) [] (opening_values p others) (unit_of monoid_of) first_views 0 t c
+      course_numbers p run r table kinds others is.named w w t f.first (record { name = refl; own = refl; before = refl; fit = tt }) [] (opening_values p others) (unit_of monoid_of) first_views 0 t c
       (course p inputs run es opening is others are) (at_hand p run begin_due 0 w t n.framed (retires_own p w 1 run) tt)
-      (all_there p inputs run es (Leaves is.outcome) is.named is.runs) f.others l.here worded first_tied).0
+      (all_there p inputs run es (Leaves is.outcome) is.named is.runs) f.others l.here worded first_tied
 
-  events_are : numbered_events p run [] (run_of c) ≡ with_values es (trace (run_of c))
+  pub events_are : numbered_events p run [] (run_of c) ≡ with_values es (trace (run_of c))
   events_are =
       let l = list in
       let w = first_world p in
@@ -146,7 +146,7 @@ module _ (p : Source) (inputs others : List ℤ) (run : Transcript) (es : List n
   have_numbers q i v asked at =
       let S = structure_of (kind_in r i) in
       let within = slice_get_within (with_values es (trace (run_of c))) (q - 1) (events.Value i v) at in
-      let right = subst (λ (l : List numbers.Event). AreAskedNumbers r 0 first_views l (asked_in c)) events_are along in
+      let right = subst (λ (l : List numbers.Event). AreAskedNumbers r 0 first_views l (asked_in c)) events_are both.0 in
       numbers_at r 0 first_views (with_values es (trace (run_of c))) (asked_in c) right (q - 1) i v at asked
       ∙ ap (λ l. S.number (view_of S i l)) (sym (over_from s r (q - 1) (omega (arith, within))))
 

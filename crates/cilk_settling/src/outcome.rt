@@ -5,7 +5,7 @@ ghost use Rattle.cilk_lower.specs.Layout.{LaysOut};
 ghost use Rattle.cilk_meaning.specs.Answered.{opening_cells};
 ghost use Rattle.cilk_pieces.specs.Pieces.{IsPieceOf};
 ghost use Rattle.cilk_program.specs.Sources.{source};
-ghost use Rattle.cilk_settling.specs.Finals.{IsLeftBy};
+ghost use Rattle.cilk_settling.specs.Finals.{IsMadeOf};
 
 use cilk_lower::layout::Layout;
 use cilk_pieces::piece::{Parts, Piece};
@@ -15,7 +15,7 @@ use cilk_types::outcome::Outcome;
 use std::alloc::{AllocError, Global};
 
 /// What a run leaves whose root gave this result, where the piece covers all its events: the last values of the yard's cells, and of the
-/// views in the piece. Each serial run of the program with these events, these reducers and this result leaves the same, on any input.
+/// views in the piece. The run by names along the plan leaves the same on that input, and so does each serial run with these events.
 /// Cost and memory: linear in the yard and the views.
 pub fn outcome(
     alloc: Global,
@@ -30,7 +30,7 @@ pub fn outcome(
     requires layout { LaysOut (source program.now) layout.now }
     requires globals { length (source program.now).openings ≤ length piece.story.opening }
     requires opens { (c : ℕ) → slice_index_or piece.story.opening c (pos 0) ≡ opening_cells (source program.now) [] c }
-    ensures { IfOk result (λ o. IsLeftBy (source program.now) piece.story piece.reducers value o) }
+    ensures { IfOk result (λ o. IsMadeOf (source program.now) piece.story piece.reducers value o) }
 {
     let _main = program.main;
     let Parts { mut views, segment } = piece.parted();

@@ -1,8 +1,9 @@
 -- What workers leave on an input: `left_on`; on the plan's own: `own_outcome`.
-use Rattle.std.proofs.Common.{◌≡◌, ◌≤◌, ◌<◌, ◌⊎◌, inl, inr, ℕ, ℤ, List, length, sym, subst, arith}
+use Rattle.std.proofs.Common.{◌≡◌, ◌≤◌, ◌<◌, ◌⊎◌, inl, inr, ℕ, ℤ, List, length, reverse, sym, ap, ◌∙◌, subst, arith}
 use Rattle.std.proofs.lemmas.Bool.{cases_lt}
 use Rattle.cilk_types.specs.declared.event.Event.{Event}
 use Rattle.cilk_types.specs.declared.outcome.Outcome.{Outcome}
+use Rattle.cilk_program.specs.Elision.{IsElision}
 use Rattle.cilk_program.specs.Outcomes.{Leaves}
 use Rattle.cilk_program.specs.SerialRun.{Transcript, IsSerialRun}
 use Rattle.cilk_program.specs.Sources.{source}
@@ -15,16 +16,25 @@ use Rattle.cilk_story.specs.Runs.{IsAsked, IsFollowed}
 use Rattle.cilk_plan.specs.Along.{DepartsNowhere}
 use Rattle.cilk_tree.specs.Before.{IsPosition}
 use Rattle.cilk_pieces.specs.declared.reducers.Reducers.{Reducers}
+use Rattle.cilk_runs.specs.Runs.{Run}
+use Rattle.cilk_runs.specs.Traces.{trace}
+use Rattle.cilk_worlds.specs.Steps.{result_in}
+use Rattle.cilk_worlds.specs.Worlds.{World}
 use Rattle.cilk_determinacy.specs.Nested.{named}
 use Rattle.cilk_determinacy.specs.Words.{InputsAreWords}
 use Rattle.cilk_inputs.specs.Courses.{run_of}
 use Rattle.cilk_inputs.specs.Ends.{RunsAsCourse, InputsRunAlong}
 use Rattle.cilk_inputs.specs.Frames.{course_on, ProgramsHaveOneCourse}
+use Rattle.cilk_inputs.specs.Left.{left_by, RunsAreElided}
+use Rattle.cilk_inputs.specs.Stories.{IsPlannedRun}
+use Rattle.cilk_inputs.proofs.LastEnds.{serial_result}
 use Rattle.cilk_checker.specs.Determinate.{AcceptedRun, HasDeterminateRun}
 use Rattle.cilk_planning.specs.Plans.{IsPlanOf, IsStoryOn}
 use Rattle.cilk_settling.specs.Accepted.{IsTableOf}
-use Rattle.cilk_settling.specs.Finals.{IsLeftBy}
+use Rattle.cilk_settling.specs.Finals.{IsMadeOf}
 use Rattle.cilk_settling.specs.Tables.{AreReducersOf}
+use Rattle.cilk_settling.proofs.CourseLeft.{course_left}
+use Rattle.cilk_settling.proofs.Leaving.{left_is}
 use Rattle.cilk_settling.proofs.Opened.{runs_start_no_root}
 use Rattle.cilk_threads.specs.Outcomes.{LeavesOn, IsOutcomeOn}
 use Rattle.cilk_threads.proofs.Alike.{same_frames, table_along}
@@ -46,7 +56,7 @@ same_outcome o o' h = cc h
 one_outcome : (p : Source) (inputs : List ℤ) (r r' : Transcript) (es es' : List Event) (o o' : Outcome) → IsSerialRun p inputs r es (Leaves o) → IsSerialRun p inputs r' es' (Leaves o') → o ≡ o'
 one_outcome p inputs r r' es es' o o' h h' = let e = serial_run_is_one p inputs MAX_TICKS MAX_EVENTS r r' es es' (Leaves o) (Leaves o') h h' in same_outcome o o' e.2
 
-module _ (courses : ProgramsHaveOneCourse) (along : InputsRunAlong) (a : AcceptedRun) (whole : HasDeterminateRun a) (plan s : Story) (inputs : List ℤ) (words : InputsAreWords inputs) where
+module _ (courses : ProgramsHaveOneCourse) (along : InputsRunAlong) (elided : RunsAreElided) (a : AcceptedRun) (whole : HasDeterminateRun a) (plan s : Story) (inputs : List ℤ) (words : InputsAreWords inputs) where
   runs_as : IsPlanOf a plan → IsOrderly plan → (told : IsStoryOn a plan.opening inputs s) → DepartsNowhere s
       → RunsAsCourse (source a.program) inputs (run_of (course_on (source a.program) inputs (named (source a.program) told.run))) s
   runs_as is order told departs =
@@ -55,17 +65,24 @@ module _ (courses : ProgramsHaveOneCourse) (along : InputsRunAlong) (a : Accepte
 
   -- the outcome that is made of the whole piece is that of each serial run
   pub left_on : (r : Reducers) (value : ℤ) (o : Outcome) → IsPlanOf a plan → IsOrderly plan → IsStoryOn a plan.opening inputs s → IsTableOf a r → DepartsNowhere s
-      → ((run : Transcript) (o' : Outcome) → IsSerialRun (source a.program) inputs run s.events (Leaves o') → o'.result ≡ value)
-      → IsLeftBy (source a.program) s r value o → IsOutcomeOn (source a.program) inputs o
-  left_on r value o is order told table departs result left = record {
+      → ((run : Transcript) (es : List Event) (opening : List ℤ) → IsPlannedRun (source a.program) a.input run es opening
+      → result_in (reverse (trace (run_of (course_on (source a.program) inputs (named (source a.program) run))))) ≡ value)
+      → IsMadeOf (source a.program) s r value o → IsOutcomeOn (source a.program) inputs o
+  left_on r value o is order told table departs result made = record {
     run = run_of (course_on (source a.program) inputs (named (source a.program) told.run));
     serial = ran.course;
+    left = by_names;
+    elided = subst (λ (z : Outcome). IsElision (source a.program) inputs (Leaves z)) (sym by_names)
+        (let x = told.of_run in elided (source a.program) inputs (run_of (course_on (source a.program) inputs (named (source a.program) told.run))) x.named x.words words ran.course ran.counts);
     leaves = λ few. let w = ran.ends few in (w.transcript, w.events, subst (λ (z : Outcome). IsSerialRun (source a.program) inputs w.transcript w.events (Leaves z)) (sym (only w.outcome (w.transcript, w.events, w.serial))) w.serial);
     only = only;
   }
     where
       ran : RunsAsCourse (source a.program) inputs (run_of (course_on (source a.program) inputs (named (source a.program) told.run))) s
       ran = runs_as is order told departs
+
+      course_result : result_in (reverse (trace (run_of (course_on (source a.program) inputs (named (source a.program) told.run))))) ≡ value
+      course_result = result told.run a.trace plan.opening told.of_run
 
       own_table : AreReducersOf (source a.program) told.run r
       own_table =
@@ -74,17 +91,22 @@ module _ (courses : ProgramsHaveOneCourse) (along : InputsRunAlong) (a : Accepte
           let same = one_outcome (source a.program) a.input told.run own.run a.trace a.trace x.outcome a.outcome x.runs own.serial in
           table.frames told.run (subst (λ (z : Outcome). IsSerialRun (source a.program) a.input told.run a.trace (Leaves z)) same x.runs)
 
+      by_names : o ≡ left_by (source a.program) inputs (run_of (course_on (source a.program) inputs (named (source a.program) told.run)))
+      by_names =
+          course_left (source a.program) a.input inputs told.run a.trace plan.opening r told.of_run words own_table value o
+          (subst (λ (z : Story). IsMadeOf (source a.program) z r value o) told.is made) course_result
+
       only : (o' : Outcome) → LeavesOn (source a.program) inputs o' → o ≡ o'
       only o' (run, es, serial) =
           let p = source a.program in
           let x = told.of_run in
           let e = ran.only run es o' serial in
           let here : IsSerialRun p inputs run s.events (Leaves o') = subst (λ (z : List Event). IsSerialRun p inputs run z (Leaves o')) e.1 serial in
-          left inputs run o' here
+          left_is p x.named s r value o made inputs run o' here
           (table_along p told.run run r (same_frames courses p inputs told.run run e.0)
           (runs_start_no_root p a.input told.run a.trace (Leaves x.outcome) x.named x.runs)
           (runs_start_no_root p inputs run es (Leaves o') x.named serial) own_table)
-          (result run o' here)
+          (sym (serial_result p inputs run es o' serial) ∙ ap (λ (t : Run World). result_in (reverse (trace t))) e.0 ∙ course_result)
 
 -- on the plan's own input it is what the accepted run left
 pub own_outcome : (a : AcceptedRun) → HasDeterminateRun a → (inputs : List ℤ) (o : Outcome) → IsOutcomeOn (source a.program) inputs o → inputs ≡ a.input → o ≡ a.outcome

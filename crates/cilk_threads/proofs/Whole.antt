@@ -1,10 +1,8 @@
 -- What a crew's end says of a program's plan: `syncs_along`, `whole_of`, `fault_of`. On its own input it departs nowhere: `stays`.
-use Rattle.std.proofs.Common.{◌≡◌, ℕ, ℤ, List, sym, ap, ◌∙◌, subst}
+use Rattle.std.proofs.Common.{◌≡◌, ℕ, ℤ, List, reverse, sym, ap, ◌∙◌, subst}
 use Rattle.std.specs.Prelude.{All, Some}
 use Rattle.cilk_types.specs.declared.event.Event.{Event}
 use Rattle.cilk_types.specs.declared.event.Event.TheVariants.{Sync}
-use Rattle.cilk_program.specs.Outcomes.{Leaves}
-use Rattle.cilk_program.specs.SerialRun.{IsSerialRun}
 use Rattle.cilk_program.specs.Sources.{source}
 use Rattle.cilk_program.specs.Syntax.{Source}
 use Rattle.cilk_story.specs.declared.story.Story.{Story}
@@ -17,7 +15,12 @@ use Rattle.cilk_pieces.specs.Pieces.{PieceValue}
 use Rattle.cilk_pieces.specs.declared.reducers.Reducers.{Reducers}
 use Rattle.cilk_chains.specs.Courses.{CourseValue}
 use Rattle.cilk_checker.specs.Determinate.{AcceptedRun}
-use Rattle.cilk_inputs.specs.Stories.{OwnStory}
+use Rattle.cilk_runs.specs.Traces.{trace}
+use Rattle.cilk_worlds.specs.Steps.{result_in}
+use Rattle.cilk_determinacy.specs.Nested.{named}
+use Rattle.cilk_inputs.specs.Courses as courses
+use Rattle.cilk_inputs.specs.Frames.{course_on}
+use Rattle.cilk_inputs.specs.Stories.{OwnStory, IsPlannedRun}
 use Rattle.cilk_planning.specs.Plans.{WholePlan, IsPlanOf, IsStoryOn}
 use Rattle.cilk_planning.proofs.Telling.{own_is_the_plan}
 use Rattle.cilk_turns.specs.Shared.{SharedValue, shared_with}
@@ -33,15 +36,16 @@ pub syncs_along : (plan s : Story) → IsAlong plan s → (ats : List ℕ) → A
 syncs_along plan s along ats h k d lt = sync_along s.events plan.events along.kinds _ (h k d lt)
 
 -- the whole run's piece is that of the yard's events
-pub whole_of : (y : YardValue) (r : Reducers) (c : CourseValue) (p : Source) (inputs : List ℤ) (s : SharedValue) (x : PieceValue) (v : ℤ)
-    → s ≡ shared_with y r c → source c.program ≡ p → c.inputs ≡ inputs → IsWhole s x v → IsWholeOf p inputs y r x v
-whole_of y r c p inputs s x v is program input h = record {
+pub whole_of : (y : YardValue) (r : Reducers) (c : CourseValue) (p : Source) (own inputs : List ℤ) (s : SharedValue) (x : PieceValue) (v : ℤ)
+    → s ≡ shared_with y r c → source c.program ≡ p → c.own ≡ own → c.inputs ≡ inputs → IsWhole s x v → IsWholeOf p own inputs y r x v
+whole_of y r c p own inputs s x v is program owned input h = record {
   good = ended.0.good;
   begins = ended.1;
   last = ended.0.last;
   followed = ended.0.followed;
-  result = λ run o serial.
-      ended.0.result run o (subst (λ (z : Source × List ℤ). IsSerialRun z.0 z.1 run (let t = y.story in t.events) (Leaves o)) (λ i. (sym program i, sym input i)) serial);
+  result = λ run es opening planned.
+      subst (λ (z : Source × List ℤ). result_in (reverse (trace (courses.run_of (course_on z.0 z.1 (named z.0 run))))) ≡ v) (λ i. (program i, input i))
+      (ended.0.result run es opening (subst (λ (z : Source × List ℤ). IsPlannedRun z.0 z.1 run es opening) (λ i. (sym program i, sym owned i)) planned));
 }
   where
     ended : IsWhole (shared_with y r c) x v

@@ -1,8 +1,9 @@
 -- What a run of an accepted program by workers answers, on an input, its own or another.
-use Rattle.std.specs.Prelude.{◌≡◌, ◌≤◌, ◌+◌, ℕ, ℤ, List, length}
+use Rattle.std.specs.Prelude.{◌≡◌, ◌≤◌, ◌+◌, ℕ, ℤ, List, length, reverse}
 use Rattle.cilk_types.specs.declared.event.Event.{Event}
 use Rattle.cilk_types.specs.declared.limits.TheConstants.{MAX_TICKS}
 use Rattle.cilk_types.specs.declared.outcome.Outcome.{Outcome}
+use Rattle.cilk_program.specs.Elision.{IsElision}
 use Rattle.cilk_program.specs.Outcomes.{Leaves}
 use Rattle.cilk_program.specs.SerialRun.{Transcript, IsSerialRun}
 use Rattle.cilk_program.specs.Syntax.{Source}
@@ -14,9 +15,15 @@ use Rattle.cilk_pieces.specs.declared.reducers.Reducers.{Reducers}
 use Rattle.cilk_boxes.specs.Rows.{IsGood, run_of}
 use Rattle.cilk_runs.specs.Costs.{TickTotal, whole}
 use Rattle.cilk_runs.specs.Runs.{Run}
+use Rattle.cilk_runs.specs.Traces.{trace}
 use Rattle.cilk_worlds.specs.Machine.{costs}
+use Rattle.cilk_worlds.specs.Steps.{result_in}
 use Rattle.cilk_worlds.specs.Worlds.{World, first_world}
-use Rattle.cilk_inputs.specs.Frames.{IsSerialRunOn}
+use Rattle.cilk_determinacy.specs.Nested.{named}
+use Rattle.cilk_inputs.specs.Courses as courses
+use Rattle.cilk_inputs.specs.Frames.{course_on, IsSerialRunOn}
+use Rattle.cilk_inputs.specs.Left.{left_by}
+use Rattle.cilk_inputs.specs.Stories.{IsPlannedRun}
 use Rattle.cilk_planning.specs.Plans.{WholePlan, IsStoryOn}
 use Rattle.cilk_crew.specs.declared.run.ThreadFault.{ThreadFault}
 use Rattle.cilk_crew.specs.declared.run.ThreadFault.TheVariants as faults
@@ -26,22 +33,26 @@ use Rattle.cilk_crew.specs.Faults.{IsCrew}
 abbrev pub LeavesOn : Source → List ℤ → Outcome → Type 0
 LeavesOn p inputs o = (run : Transcript) × (es : List Event) × IsSerialRun p inputs run es (Leaves o)
 
--- The program's frames make a run on these inputs, each as if it had all ticks of a run for itself. Where all together take no more ticks
--- than a run may, it is the program's serial run, which leaves this; and no serial run leaves anything else.
+-- It is what the program's serial elision leaves on these inputs, however many ticks that takes. The program's frames make a run there, one after
+-- the other, each as if it had all ticks of a run for itself, and that leaves it. Where they take no more ticks together than a run may, it is
+-- the program's serial run; and no serial run leaves anything else.
 pub record IsOutcomeOn (p : Source) (inputs : List ℤ) (o : Outcome) : Type 0 where
+  pub elided : IsElision p inputs (Leaves o)
   pub run : Run World
   pub serial : IsSerialRunOn p inputs run
+  pub left : o ≡ left_by p inputs run
   pub leaves : whole (costs p inputs) (first_world p) run TickTotal ≤ MAX_TICKS → LeavesOn p inputs o
   pub only : (o' : Outcome) → LeavesOn p inputs o' → o ≡ o'
 
--- The piece has all of the yard's events, and the program's frames asked for each of them. Each serial run of the program on these inputs
--- that makes those events ends with this result.
-pub record IsWholeOf (p : Source) (inputs : List ℤ) (y : YardValue) (r : Reducers) (x : PieceValue) (value : ℤ) : Type 0 where
+-- The piece has all of the yard's events, and the program's frames asked for each of them. On these inputs the course of the plan's run, which
+-- is the program's on inputs of its own, ends with this result.
+pub record IsWholeOf (p : Source) (own inputs : List ℤ) (y : YardValue) (r : Reducers) (x : PieceValue) (value : ℤ) : Type 0 where
   pub good : IsGood (run_of y r) x
   pub begins : x.from ≡ 1
   pub last : let s = y.story in x.upto ≡ length s.events + 1
   pub followed : let s = y.story in IsFollowed s (length s.events)
-  pub result : (run : Transcript) (o : Outcome) → IsSerialRun p inputs run (let s = y.story in s.events) (Leaves o) → o.result ≡ value
+  pub result : (run : Transcript) (es : List Event) (opening : List ℤ) → IsPlannedRun p own run es opening
+      → result_in (reverse (trace (courses.run_of (course_on p inputs (named p run))))) ≡ value
 
 -- the story that the program makes of the plan on these inputs departs at the position
 abbrev pub DepartsOn : WholePlan → List ℤ → ℕ → Type 0

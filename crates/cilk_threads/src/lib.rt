@@ -1,7 +1,7 @@
 //! A run of an accepted program by several workers, each in a thread of its own.
 //!
-//! [`threads::run_threads`] runs a program's plan on an input, that of the plan or another. Its Ok is what each serial run of the program
-//! leaves on that input that ends without a fault; there is one, unless the frames there take more ticks together than a run may.
+//! [`threads::run_threads`] runs a program's plan on an input, that of the plan or another. Its Ok is what the program's serial elision
+//! leaves on that input, and so what each serial run there leaves that ends without a fault.
 //!
 //! ```text
 //! let plan = plan(alloc, &accepted)?;

@@ -16,7 +16,7 @@ use cilk_courses::course::course;
 use cilk_crew::layout::Layout;
 use cilk_crew::run::{MAX_WORKERS, ThreadFault, run};
 use cilk_determinacy::words::inputs_are_words;
-use cilk_inputs::laws::{inputs_run_along, own_story, programs_have_one_course};
+use cilk_inputs::laws::{inputs_run_along, own_story, programs_have_one_course, runs_are_elided};
 use cilk_pieces::piece::Piece;
 use cilk_pieces::reducers::Reducers;
 use cilk_planning::program_plan::ProgramPlan;
@@ -37,8 +37,9 @@ use std::sync::Wait;
 use std::thread::Threads;
 
 /// Runs an accepted program along its plan by some workers, from 1 to 64, each in a thread of its own; on an input, that of the plan or
-/// another. Ok is what each serial run of the program leaves on that input that ends without a fault, and on the plan's own what the accepted run left. A run on the plan's own input
-/// departs from it nowhere. A gate is called as each strand begins. It is not said that it returns.
+/// another. Ok is what the program's serial elision leaves on that input, and so what each serial run there leaves that ends without a
+/// fault; on the plan's own it is what the accepted run left. A run on the plan's own input departs from it nowhere. A gate is called as
+/// each strand begins. It is not said that it returns.
 pub fn run_threads<R: Threads + Wait + Sync, G: Gate + Sync>(
     rt: &R,
     alloc: Global,
@@ -91,7 +92,7 @@ fn run_on<R: Threads + Wait + Sync, G: Gate + Sync>(
     requires story { IsStoryOn plan.now.run plan.now.story.opening input.now yard.now.story }
     requires along { IsAlong plan.now.story yard.now.story }
     requires segment { OfYard yard.now segment × (segment.from ≡ 1) × (segment.upto ≡ 2) }
-    ensures ok { IfOk result (λ r. IsWholeOf (source plan.now.run.program) input.now yard.now table.now r.0 r.1) }
+    ensures ok { IfOk result (λ r. IsWholeOf (source plan.now.run.program) plan.now.run.input input.now yard.now table.now r.0 r.1) }
     ensures err { IfErr result (IsFaultOn plan.now input.now workers) }
 {
     accepted_stories_have_numbers();
@@ -154,11 +155,12 @@ fn left(
     requires table { IsTableOf plan.now.run piece.reducers }
     requires story { IsStoryOn plan.now.run plan.now.story.opening input.now yard.story }
     requires along { IsAlong plan.now.story yard.story }
-    requires whole { IsWholeOf (source plan.now.run.program) input.now yard piece.reducers piece value }
+    requires whole { IsWholeOf (source plan.now.run.program) plan.now.run.input input.now yard piece.reducers piece value }
     ensures { IfOk result (λ o. IsOutcomeOn (source plan.now.run.program) input.now o) }
 {
     programs_have_one_course();
     inputs_run_along();
+    runs_are_elided();
     inputs_are_words(input);
     plan.laws();
     yard.laws();

@@ -20,7 +20,6 @@ use Rattle.cilk_pieces.specs.Pieces.{PieceValue, IsPieceOf, PassesOn, grown, num
 use Rattle.cilk_pieces.specs.Reducers.{events_over, kind_in}
 use Rattle.cilk_pieces.specs.declared.reducers.Reducers.{Reducers}
 use Rattle.cilk_plan.specs.declared.kind.Kind.{Kind}
-use Rattle.cilk_plan.specs.declared.kind.Kind.TheVariants as kinds
 use Rattle.cilk_shared.specs.Values.{CanPass, CanTake, IsAhead, SegmentValue, YardValue, taken_at}
 use Rattle.cilk_story.specs.declared.story.Story.{Story}
 use Rattle.cilk_story.specs.Orders.{IsOrderly}

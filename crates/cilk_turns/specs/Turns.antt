@@ -1,16 +1,20 @@
 -- What a worker has in its hands, and what a turn leads to.
-use Rattle.std.specs.Prelude.{◌≡◌, ◌+◌, ◌<◌, ◌⊎◌, ℕ, ℤ, length, Some}
+use Rattle.std.specs.Prelude.{◌≡◌, ◌+◌, ◌<◌, ◌⊎◌, ℕ, ℤ, List, length, reverse, Some}
+use Rattle.cilk_types.specs.declared.event.Event.{Event}
 use Rattle.cilk_types.specs.declared.event.Event.TheVariants as events
-use Rattle.cilk_types.specs.declared.outcome.Outcome.{Outcome}
-use Rattle.cilk_program.specs.Outcomes.{Leaves}
-use Rattle.cilk_program.specs.SerialRun.{Transcript, IsSerialRun}
+use Rattle.cilk_program.specs.SerialRun.{Transcript}
 use Rattle.cilk_program.specs.Sources.{source}
 use Rattle.cilk_boxes.specs.Rows.{IsGood}
 use Rattle.cilk_chains.specs.Chains.{standing}
+use Rattle.cilk_determinacy.specs.Nested.{named}
+use Rattle.cilk_inputs.specs.Courses.{run_of}
+use Rattle.cilk_inputs.specs.Frames.{course_on}
+use Rattle.cilk_inputs.specs.Stories.{IsPlannedRun}
 use Rattle.cilk_pieces.specs.Pieces.{PieceValue, grown, segment_of}
 use Rattle.cilk_plan.specs.Kinds.{kind_of_event}
 use Rattle.cilk_plan.specs.declared.kind.Kind.{Kind}
 use Rattle.cilk_plan.specs.declared.kind.Kind.TheVariants as kinds
+use Rattle.cilk_runs.specs.Traces.{trace}
 use Rattle.cilk_shared.specs.Values.{MayPass}
 use Rattle.cilk_story.specs.Runs.{Departs, IsAsked, IsFollowed}
 use Rattle.cilk_story.specs.Word.{event, resume, what}
@@ -18,17 +22,20 @@ use Rattle.cilk_turns.specs.Shared.{SharedValue, story_in}
 use Rattle.cilk_turns.specs.declared.work.Work.{Work}
 use Rattle.cilk_turns.specs.declared.work.Turn.{Turn}
 use Rattle.cilk_turns.specs.declared.work.Turn.TheVariants.{Goes, Offers, Arrives, Ended, Finished, Departed, Stopped}
+use Rattle.cilk_worlds.specs.Steps.{result_in}
 
 -- a piece of the run that is not empty, and a chain that stands at its next event
 pub record Works (y : SharedValue) (w : Work) : Type 0 where
   pub good : IsGood y.run w.piece
   pub stands : let p = w.piece in w.chain ≡ standing y.course p.upto
 
--- each serial run of the program on the inputs that makes the story's events ends with this result
+-- The course that the plan's run has on the inputs at hand ends with this result, however many ticks it takes: the last end among its deeds,
+-- the root's, gave it.
 abbrev pub IsResult : SharedValue → ℤ → Type 0
 IsResult y value =
-    let u = y.course in (run : Transcript) (outcome : Outcome)
-    → IsSerialRun (source u.program) u.inputs run (let s = story_in y in s.events) (Leaves outcome) → outcome.result ≡ value
+    let u = y.course in (run : Transcript) (es : List Event) (opening : List ℤ)
+    → IsPlannedRun (source u.program) u.own run es opening
+    → result_in (reverse (trace (run_of (course_on (source u.program) u.inputs (named (source u.program) run))))) ≡ value
 
 -- The root has ended with this result: the piece goes up to the run's last event, and its frames asked for that and for all before it.
 pub record HasEnded (y : SharedValue) (p : PieceValue) (value : ℤ) : Type 0 where

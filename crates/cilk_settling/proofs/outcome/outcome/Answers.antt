@@ -5,8 +5,8 @@ use Rattle.cilk_meaning.proofs.Naming.{well_named_parts}
 use Rattle.cilk_story.specs.Values.{AreFinal}
 use Rattle.cilk_planning.proofs.Telling.{for_ok}
 use Rattle.cilk_board.specs.Leaving.{outcome_of}
-use Rattle.cilk_settling.specs.Finals.{IsLeftBy}
-use Rattle.cilk_settling.proofs.Leaving.{piece_left}
+use Rattle.cilk_settling.specs.Finals.{IsMadeOf}
+use Rattle.cilk_settling.proofs.Leaving.{piece_made}
 use Rattle.cilk_settling.proofs.outcome.outcome.Goals as goal
 
 pub outcome-requires-clause-few : goal.outcome-requires-clause-few
@@ -20,8 +20,8 @@ outcome-requires-clause-few c =
 pub returns : goal.returns
 returns c =
     let left = outcome_of c.args.layout.now c.as_slice.result.now c.parted-views.result.views in
-    let this = IsLeftBy (source c.args.program.now) c.args.piece.story c.args.piece.reducers c.args.value in
-    let whole = piece_left (source c.args.program.now) c.args.program.now.well_named c.args.yard.story c.args.piece.story c.requires.yard.1 c.args.piece.reducers c.args.layout.now
+    let this = IsMadeOf (source c.args.program.now) c.args.piece.story c.args.piece.reducers c.args.value in
+    let whole = piece_made (source c.args.program.now) c.args.yard.story c.args.piece.story c.requires.yard.1 c.args.piece.reducers c.args.layout.now
     c.as_slice.result.now c.parted-views.result.views c.args.value c.requires.layout c.requires.globals c.requires.opens
     (subst (AreFinal c.args.yard.story) (sym c.as_slice.ensures.value) c.in-Ok.ensures.ok)
     c.args.piece.from c.args.piece.upto c.requires.all.0 c.requires.all.1 c.parted-views.ensures.views in

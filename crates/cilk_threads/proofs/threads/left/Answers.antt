@@ -7,7 +7,7 @@ use Rattle.cilk_program.specs.Sources.{source}
 use Rattle.cilk_meaning.specs.Answered.{opening_cells}
 use Rattle.cilk_story.specs.declared.story.Story.{Story}
 use Rattle.cilk_planning.proofs.Telling.{for_ok}
-use Rattle.cilk_settling.specs.Finals.{IsLeftBy}
+use Rattle.cilk_settling.specs.Finals.{IsMadeOf}
 use Rattle.cilk_threads.proofs.Left.{left_on, nowhere}
 use Rattle.cilk_threads.proofs.threads.left.Goals as goal
 
@@ -38,8 +38,8 @@ returns c =
     let w = c.requires.whole in
     let a = c.args.plan.now.run in
     for_ok _ _ c.outcome.result
-    (λ o left.
-    left_on c.programs_have_one_course.ensures c.inputs_run_along.ensures a c.laws.ensures.determinate c.args.plan.now.story c.args.yard.story c.args.input.now c.inputs_are_words.ensures c.args.piece.reducers c.args.value o c.laws.ensures.plan
+    (λ o made.
+    left_on c.programs_have_one_course.ensures c.inputs_run_along.ensures c.runs_are_elided.ensures a c.laws.ensures.determinate c.args.plan.now.story c.args.yard.story c.args.input.now c.inputs_are_words.ensures c.args.piece.reducers c.args.value o c.laws.ensures.plan
     c.laws.ensures.order c.requires.story c.requires.table (nowhere c.args.yard.story c.laws-2.ensures.order w.followed) w.result
-    (subst (λ (z : Program × Story × ℤ). IsLeftBy (source z.0) z.1 c.args.piece.reducers z.2 o) (λ i. (c.program.ensures i, w.good.0.1 i, to_z-of_z w64 c.args.value c.ranges.value i)) left))
+    (subst (λ (z : Program × Story × ℤ). IsMadeOf (source z.0) z.1 c.args.piece.reducers z.2 o) (λ i. (c.program.ensures i, w.good.0.1 i, to_z-of_z w64 c.args.value c.ranges.value i)) made))
     c.outcome.ensures

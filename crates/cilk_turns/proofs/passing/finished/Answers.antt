@@ -72,7 +72,7 @@ returns c =
         last = g.2 ∙ ap (λ (n : ℕ). n + 1) last;
         followed = followed;
         result = subst (λ v. IsResult y v) (sym (to_z-of_z w64 c.result_asked-value.result (record { sfits = c.result_asked-value.type_inv })))
-            (ended_with y c.args.work.now.chain p.upto c.result_asked-value.result works.stands c.laws.ensures.same c.result_asked-value.ensures c.laws.ensures.words followed last);
+            (ended_with y c.args.work.now.chain p.upto c.result_asked-value.result works.stands c.laws.ensures.same c.result_asked-value.ensures c.requires.asked last);
       },
       c.finish.ensures,
     )
