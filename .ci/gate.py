@@ -5,8 +5,9 @@ Where the whole gate surely fits, by the processor minutes in docs/GATE.md and b
 the first proves each crate from nothing and runs each test and program, with no edit that must be refused; the next ones try
 as many of the edits as the time holds: first those of the crates whose text, or the text of a crate below them, has changed
 since the commit in .ci/whole (the last one that passed the whole gate), and then a share of the others that moves on with
-each commit. A round that would go past DEADLINE is given up, and the one before it counts. It prints what it left out, and
-its last line is `N passed, M failed, K skipped`.
+each commit. On a machine so slow that not even the first round fits, the crates of tests that take longest wait for the next
+ones. A round that would go past DEADLINE is given up, and the one before it counts. It prints what it left out, and its last
+line is `N passed, M failed, K skipped`.
 
 `.ci/run --plan [PROCESSORS]` prints what it would do at the table's speed, and does nothing.
 """
@@ -192,28 +193,57 @@ def chosen_edits(order, cost, lanes, tried, minutes):
     return chosen
 
 
+def proofs_and_tests(cost, names):
+    return sum(cost[it][0] + cost[it][1] for it in names)
+
+
+def without(named, left):
+    return {name: below for name, below in named.items() if name not in left}
+
+
+def too_long(named, cost, lanes, minutes):
+    """The crates of tests, those that take longest first, without which the others' proofs and tests take no more than so many minutes."""
+    tests = sorted((it for it in named if it.endswith("_tests")), key=lambda it: -proofs_and_tests(cost, [it]))
+    left = []
+    while tests and wall(without(named, left), cost, set(), lanes) > minutes:
+        left.append(tests.pop(0))
+    return left
+
+
+def that_fit(left, cost, lanes, minutes):
+    """As many of these crates of tests as so many minutes hold, those that take least first."""
+    found = []
+    for name in sorted(left, key=lambda it: proofs_and_tests(cost, [it])):
+        more = found + [name]
+        if MARGIN * max(proofs_and_tests(cost, more) / lanes, proofs_and_tests(cost, [name])) <= minutes:
+            found = more
+    return found
+
+
 def whole_gate():
     sys.stdout.flush()
     os.execvp("rt", ["rt", "ci"])
 
 
-def copy_without(skipped, room):
-    """A copy of the repository that lacks the edits of these crates."""
+def copy_without(skipped, left, room):
+    """A copy of the repository that lacks the edits of the crates in `skipped`, and the crates in `left`."""
     listed = subprocess.run(["git", "ls-files", "-co", "--exclude-standard", "-z"], cwd=TOP, check=True, capture_output=True)
     for path in filter(None, listed.stdout.decode().split("\0")):
         parts = path.split("/")
-        if parts[0] == "crates" and parts[2:3] == ["must-fail"] and parts[1] in skipped:
+        if parts[0] == "crates" and (parts[1] in left or parts[2:3] == ["must-fail"] and parts[1] in skipped):
             continue
         if os.path.isfile(f"{TOP}/{path}"):
             os.makedirs(os.path.dirname(f"{room}/{path}"), exist_ok=True)
             shutil.copy(f"{TOP}/{path}", f"{room}/{path}")
+    with open(f"{TOP}/crates.txt", encoding="utf-8") as listed, open(f"{room}/crates.txt", "w", encoding="utf-8") as it:
+        it.writelines(line for line in listed if (line.split("#")[0].split(":")[0].split() or [""])[0] not in left)
     subprocess.run(["git", "init", "-q", room], check=False)
 
 
-def one_round(skipped, seconds):
-    """`rt ci` without the edits of these crates, for so many seconds at the most: its status and its last line, or None."""
+def one_round(skipped, left, seconds):
+    """`rt ci` without these edits and these crates, for so many seconds at the most: its status and its last line, or None."""
     with tempfile.TemporaryDirectory(prefix="gate-") as room:
-        copy_without(skipped, room)
+        copy_without(skipped, left, room)
         last, given_up = "", threading.Event()
         gate = subprocess.Popen(
             ["rt", "ci"], cwd=room, stdout=subprocess.PIPE, text=True, errors="replace", start_new_session=True
@@ -234,21 +264,30 @@ def one_round(skipped, seconds):
     return None if given_up.is_set() else (gate.returncode, last)
 
 
+def slowed(cost, slower):
+    return {name: [slower * it for it in three] for name, three in cost.items()}
+
+
 def rounds(named, cost, slower, lanes, started):
     """The gate in rounds; its status. `slower` is how slow this machine was as it began."""
     passed, first, tried, order = None, 0.0, set(), in_turn(named)
+    spent = (time.monotonic() - started) / 60
+    left = too_long(named, slowed(cost, slower), lanes, DEADLINE - spent)
     while True:
         spent = (time.monotonic() - started) / 60
         if passed is not None:
-            slower = max(slower, first / max(wall(named, cost, set(), lanes), 1.0))
-            slow = {name: [slower * it for it in three] for name, three in cost.items()}
-            chosen = chosen_edits(order, slow, lanes, tried, DEADLINE - spent - AGAIN * slower)
-            if chosen == tried:
+            slower = max(slower, first / max(wall(without(named, passed[2]), cost, set(), lanes), 1.0))
+            slow, minutes = slowed(cost, slower), DEADLINE - spent - AGAIN * slower
+            back = that_fit(left, slow, lanes, minutes)
+            minutes -= MARGIN * proofs_and_tests(slow, back) / lanes
+            chosen = chosen_edits(order, slow, lanes, tried, minutes)
+            if chosen == tried and not back:
                 break
-            tried = chosen
-        skipped = [it for it in order if it not in tried]
-        print(f"{spent:.0f} minutes: a round with the edits of {len(tried)} of {len(order)} crates", flush=True)
-        ended = one_round(skipped, (DEADLINE - spent) * 60)
+            left, tried = [it for it in left if it not in back], chosen
+        skipped = [it for it in order if it not in tried or it in left]
+        told = f", without {len(left)} crates of tests" if left else ""
+        print(f"{spent:.0f} minutes: a round with the edits of {len(tried)} of {len(order)} crates{told}", flush=True)
+        ended = one_round(skipped, left, (DEADLINE - spent) * 60)
         if ended is None:
             print("this round is given up for want of time", flush=True)
             break
@@ -257,12 +296,12 @@ def rounds(named, cost, slower, lanes, started):
             return ended[0] or 1
         if passed is None:
             first = (time.monotonic() - started) / 60
-        passed = (ended[1], skipped)
+        passed = (ended[1], skipped, left)
     if passed is None:
         print("0 passed, 1 failed")
         return 1
-    last, skipped = passed
-    left_out = [f"{name}/{edit}" for name in skipped for edit in edits_of(name)]
+    last, skipped, left = passed
+    left_out = left + [f"{name}/{edit}" for name in skipped for edit in edits_of(name)]
     for it in left_out:
         print(f"left out: {it}", flush=True)
     print(f"{last}, {len(left_out)} skipped" if left_out else last)
