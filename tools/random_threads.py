@@ -5,8 +5,9 @@ random_threads.py FIRST END [--cilk COMMAND] [--keep FOLDER] [--times N]
 
 Seeds go from FIRST up to END. `threads` with 1, 2, 3, 8 and 64 workers, N times each, has to show what `run` shows. On other numbers it has to
 show what `run` shows there, where the certificates of both runs have the same events but for their values, and else `refused 502 POS`: by one
-worker at the first event that differs, by several there or behind it. A program that differs is kept in the folder, with its certificate. A
-call that doesn't end in 20 seconds differs. Programs that aren't accepted, and long runs, are left out and counted.
+worker at the first event that differs, by several there or behind it. A certificate doesn't tell which function or loop a frame starts, so a
+call or spawn ahead of that may be where the run departs, too; such are counted. A program that differs is kept in the folder, with its
+certificate. A call that doesn't end in 20 seconds differs. Programs that aren't accepted, and long runs, are left out and counted.
 """
 
 import argparse
@@ -81,13 +82,21 @@ class Comparison:
                 if shown != wanted:
                     self.differs(f"{workers} workers", shown, wanted)
 
-    def departs(self, workers, shown, first, numbers):
+    def departs(self, shown, own, workers, first, numbers):
         """`refused 502 POS` with a position that may be: the first that differs, or behind it by several workers."""
         words = shown[0].split()
         fits = shown[1] == 4 and words[:2] == [b"refused", b"502"] and len(words) == 3
         at = int(words[2]) if fits else 0
-        if not fits or at < first or workers == 1 and first and at != first:
+        if not fits or not 1 <= at <= len(own) or first and at < first or workers == 1 and first and at != first:
             self.differs(f"{workers} workers on {numbers}", shown, f"refused 502 from {first} on")
+
+    def starts_another(self, own, shown, first):
+        """Whether a run is told to depart at a call or spawn ahead of the first event that differs, or where none does."""
+        words = shown[0].split()
+        if shown[1] != 4 or words[:2] != [b"refused", b"502"] or not 1 <= int(words[2]) <= len(own):
+            return False
+        at = int(words[2])
+        return (first == 0 or at < first) and own[at - 1][0] in ("call", "spawn")
 
     def on_others(self, own):
         for numbers in OTHERS:
@@ -97,10 +106,12 @@ class Comparison:
             wanted = self.call("run", "--input", other)
             for workers in WORKERS:
                 shown = self.threads(workers, "--on", other)
-                if first == 0 and shown != wanted:
+                if first >= 0 and self.starts_another(own, shown, first):
+                    self.seen["calls that depart by another function or loop"] += 1
+                elif first == 0 and shown != wanted:
                     self.differs(f"{workers} workers on {numbers}", shown, wanted)
                 elif first != 0:
-                    self.departs(workers, shown, max(first, 0), numbers)
+                    self.departs(shown, own, workers, max(first, 0), numbers)
             self.seen["other numbers: " + ("along the plan" if first == 0 else "depart" if first > 0 else "depart in a fault")] += 1
 
     def compare(self, seed, text):
