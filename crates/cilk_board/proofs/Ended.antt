@@ -51,7 +51,7 @@ use Rattle.cilk_board.specs.Boards.{carried, greatest, hand_of, offers_of, IsBar
 use Rattle.cilk_board.specs.Desks.{BlockIsOver, Desk, IsIn}
 use Rattle.cilk_board.specs.Ending.{Closes, created_by}
 use Rattle.cilk_board.specs.Events.{SeesAt}
-use Rattle.cilk_board.specs.Leaving.{without_own}
+use Rattle.cilk_board.specs.Retired.{without_own}
 use Rattle.cilk_board.specs.Numbered.{AreDeeds, AreNamed, IsAbsent, IsCell, IsInstance, events_of, size_of}
 use Rattle.cilk_board.specs.Parents.{AreStarted}
 use Rattle.cilk_board.specs.Seats.{changed, counted, finished}

@@ -11,7 +11,6 @@ pub mod Children
 pub mod Choosing
 pub mod EndParts
 pub mod Ended
-pub mod Finals
 pub mod Forked
 pub mod GoneOn
 pub mod Grown
@@ -39,6 +38,7 @@ pub mod Ready
 pub mod ReducerEvents
 pub mod Refused
 pub mod Renaming
+pub mod Retired
 pub mod Retiring
 pub mod Returning
 pub mod RunsEnd

@@ -25,7 +25,7 @@ use Rattle.cilk_worlds.specs.Steps.{finals_in, outcome_in, result_in}
 use Rattle.cilk_worlds.specs.Views.{IsViewOf}
 use Rattle.cilk_worlds.specs.Worlds.{World, global_named}
 use Rattle.cilk_worlds.proofs.Views.{are_multiplied}
-use Rattle.cilk_board.specs.Leaving.{finals_of, numbers_in, outcome_of}
+use Rattle.cilk_outcome.specs.Leaving.{finals_of, numbers_in, outcome_of}
 
 globals_same : (n from : ℕ) (cells : List ℤ) (f : ℕ → ℤ) → ((q : ℕ) → q < n → slice_get cells q ≡ Some (f (from + q))) → take n cells ≡ cells_from from n f
 globals_same zero from cells f each = refl

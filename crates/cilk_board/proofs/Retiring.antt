@@ -33,7 +33,7 @@ use Rattle.cilk_worlds.specs.Worlds.{Reducers}
 use Rattle.cilk_worlds.proofs.Views.{are_multiplied}
 use Rattle.cilk_board.specs.declared.seat.Seat.{Seat}
 use Rattle.cilk_board.specs.Boards.{IsBare}
-use Rattle.cilk_board.specs.Leaving.{without_own}
+use Rattle.cilk_board.specs.Retired.{without_own}
 use Rattle.cilk_board.specs.Numbered.{AreNamed, IsInstance}
 use Rattle.cilk_board.proofs.Viewed.{one_instance, one_number}
 

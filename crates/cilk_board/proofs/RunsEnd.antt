@@ -26,7 +26,7 @@ use Rattle.cilk_board.specs.declared.seat.Worker.{Worker}
 use Rattle.cilk_board.specs.Acting.{IsShown}
 use Rattle.cilk_board.specs.Desks.{Desk, Did, Chooses, Settles, does, ends_all, idle}
 use Rattle.cilk_board.specs.Ending.{EndsRun, IsEnded, RunsEnd}
-use Rattle.cilk_board.specs.Leaving.{outcome_of}
+use Rattle.cilk_outcome.specs.Leaving.{outcome_of}
 use Rattle.cilk_board.specs.Numbered.{AreNamed, IsInstance}
 use Rattle.cilk_board.specs.Parents.{AreStarted}
 use Rattle.cilk_board.specs.Seats.{counted, finished}

@@ -23,7 +23,7 @@ use Rattle.cilk_board.specs.Boards.{ShowsBy}
 use Rattle.cilk_board.specs.Desks.{Desk}
 use Rattle.cilk_board.specs.Ending.{EndsRun, GoesBack, HandsIn, RetiresOwn}
 use Rattle.cilk_board.specs.Events.{Arrives}
-use Rattle.cilk_board.specs.Leaving.{outcome_of}
+use Rattle.cilk_outcome.specs.Leaving.{outcome_of}
 use Rattle.cilk_board.specs.Parents.{OutliveChildren}
 use Rattle.cilk_board.specs.Parts.{freed, working}
 use Rattle.cilk_board.specs.Seats.{changed, counted, finished, moved_to, passed}

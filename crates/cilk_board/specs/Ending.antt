@@ -26,7 +26,8 @@ use Rattle.cilk_board.specs.Acting.{IsShown}
 use Rattle.cilk_board.specs.Boards.{ShowsBy}
 use Rattle.cilk_board.specs.Desks.{Desk, Did, Chooses}
 use Rattle.cilk_board.specs.Events.{Arrives, block_in}
-use Rattle.cilk_board.specs.Leaving.{outcome_of, without_own}
+use Rattle.cilk_outcome.specs.Leaving.{outcome_of}
+use Rattle.cilk_board.specs.Retired.{without_own}
 use Rattle.cilk_board.specs.Parents.{AreStarted, OutliveChildren}
 use Rattle.cilk_board.specs.Seats.{changed, counted, finished, moved_to, passed}
 use Rattle.cilk_board.specs.Steps.{HasCome}

@@ -10,13 +10,13 @@ pub mod GoneOn
 pub mod Histories
 pub mod Invocations
 pub mod Invoking
-pub mod Leaving
 pub mod Noting
 pub mod Numbered
 pub mod Openings
 pub mod Ordinals
 pub mod Parents
 pub mod Parts
+pub mod Retired
 pub mod Seats
 pub mod Starting
 pub mod Steps

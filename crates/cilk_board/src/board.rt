@@ -1,5 +1,7 @@
 //! The state of a machine.
 
+ghost use Rattle.std.specs.Prelude.{◌≡◌};
+
 use crate::choice::Stop;
 use crate::seat::{JournalEntry, Seat, Worker};
 use cilk_activations::activation::Activation;
@@ -8,7 +10,6 @@ use cilk_types::outcome::Outcome;
 
 /// All frames in the order in which they began, the cells, the workers, how many continuations they offer, the events so far, the
 /// ticks counted, what was asked for last, the outcome once the first frame has ended, and why the run stopped.
-#[derive(Drop)]
 pub struct Board {
     pub frames: Vec<Activation<Seat>>,
     pub cells: Vec<i64>,
@@ -19,4 +20,41 @@ pub struct Board {
     pub asked: AskSlot,
     pub outcome: Option<Outcome>,
     pub stopped: Option<Stop>,
+}
+
+// A function of its own, so that a proof follows one call where a board is dropped.
+impl Drop for Board {
+    fn drop(self) {
+        let Board {
+            frames: _frames,
+            cells: _cells,
+            workers: _workers,
+            offered: _,
+            journal: _journal,
+            ticks: _,
+            asked: _asked,
+            outcome: _outcome,
+            stopped: _stopped,
+        } = self;
+    }
+}
+
+impl Board {
+    /// What the first frame's end left, once it has ended.
+    pub fn into_outcome(self) -> Option<Outcome>
+        ensures { result ≡ self.entry.outcome }
+    {
+        let Board {
+            frames: _frames,
+            cells: _cells,
+            workers: _workers,
+            offered: _,
+            journal: _journal,
+            ticks: _,
+            asked: _asked,
+            outcome,
+            stopped: _stopped,
+        } = self;
+        outcome
+    }
 }

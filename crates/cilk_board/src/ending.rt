@@ -9,7 +9,7 @@ ghost use Rattle.cilk_board.specs.Ending.{RetiresOwn, created_by};
 
 use crate::arriving::arrive;
 use crate::offers::withdraw;
-use crate::outcome::retire;
+use crate::own_reducers::retire;
 use crate::seat::{Seat, Status, Worker};
 use cilk_activations::activation::Activation;
 use cilk_hypermap::hypermap::Hypermap;

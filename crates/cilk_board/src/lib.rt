@@ -34,7 +34,7 @@ pub mod laws_of_stops;
 pub mod noting;
 pub mod offers;
 pub mod orders;
-pub mod outcome;
+pub mod own_reducers;
 pub mod reducers;
 pub mod seat;
 pub mod seats;

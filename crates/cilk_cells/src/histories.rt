@@ -8,14 +8,14 @@ use cilk_types::event::{Cell, Event, Pos};
 use std::alloc::{AllocError, Global};
 
 /// An access of a cell: its strand's Hebrew number, and its position.
-#[derive(Clone, Copy, PartialEq, Eq, Debug)]
+#[derive(Clone, Copy, PartialEq, Eq)]
 pub struct Access {
     pub hebrew: u32,
     pub at: Pos,
 }
 
 /// For each cell the write and the access of greatest Hebrew number, the earliest of their strand.
-#[derive(Drop, Debug)]
+#[derive(Drop)]
 pub struct Histories {
     pub writes: Vec<Option<Access>>,
     pub accesses: Vec<Option<Access>>,

@@ -7,13 +7,26 @@ use std::marker::Model;
 
 /// A certificate within the limits of the format: at most 1,000,000 events, 65,536 frames and 1,000,000 strands, and each
 /// reducer named as the version does it. Frame number k stands at place k - 1, and so does strand number k.
-#[derive(Drop, Debug)]
+#[derive(Debug)]
 pub struct Certificate {
     version: Version,
     frames: Vec<Frame>,
     strands: Vec<Strand>,
     events: Vec<Entry>,
     result: i64,
+}
+
+// A function of its own, so that a proof follows one call where a certificate is dropped.
+impl Drop for Certificate {
+    fn drop(self) {
+        let Certificate {
+            version: _version,
+            frames: _frames,
+            strands: _strands,
+            events: _events,
+            result: _,
+        } = self;
+    }
 }
 
 impl Model for Certificate {

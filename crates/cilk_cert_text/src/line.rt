@@ -75,7 +75,7 @@ pub enum Line {
 }
 
 /// What stands at a place of a certificate behind its first two lines.
-#[derive(Clone, Copy, PartialEq, Eq, Debug)]
+#[derive(Clone, Copy, PartialEq, Eq)]
 pub enum Form {
     /// The line of the frame with this number.
     Frame(FrameNo),
@@ -88,7 +88,7 @@ pub enum Form {
 }
 
 /// The word that an event's line begins with.
-#[derive(Clone, Copy, PartialEq, Eq, Debug)]
+#[derive(Clone, Copy, PartialEq, Eq)]
 pub enum Keyword {
     Begin,
     Spawn,

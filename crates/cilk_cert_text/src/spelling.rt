@@ -12,7 +12,7 @@ use std::marker::Model;
 pub(crate) const ROOM: usize = 64;
 
 /// The bytes that were put together so far.
-#[derive(Drop, Debug)]
+#[derive(Drop)]
 pub(crate) struct Spelling {
     bytes: [u8; ROOM],
     start: usize,

@@ -10,7 +10,7 @@ use crate::line::Line;
 use crate::spelling::{ROOM, Spelling};
 
 /// Writes a certificate's text in pieces of whole lines, into room that the caller lends. It takes no memory.
-#[derive(Drop, Debug)]
+#[derive(Drop)]
 pub struct LineWriter<'c> {
     certificate: &'c Certificate,
     // How many lines are written.

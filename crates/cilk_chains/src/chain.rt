@@ -23,13 +23,25 @@ use std::mem;
 use std::snapshot::Snapshot;
 
 /// A frame that has asked for an event, and its callers up to the nearest frame that was spawned.
-#[derive(Drop)]
 pub struct Chain {
     of: Snapshot<Course>,
     at: Pos,
     asked: AskSlot,
     top: Box<Level>,
     below: Vec<Level>,
+}
+
+// A function of its own, so that a proof follows one call where a chain is dropped.
+impl Drop for Chain {
+    fn drop(self) {
+        let Chain {
+            of: _of,
+            at: _at,
+            asked: _asked,
+            top: _top,
+            below: _below,
+        } = self;
+    }
 }
 
 impl Model for Chain {

@@ -15,7 +15,7 @@ use std::marker::Model;
 use std::snapshot::Snapshot;
 
 /// What a frame of a plan's run runs, and where its cells lie.
-#[derive(Clone, Copy, Debug)]
+#[derive(Clone, Copy)]
 pub struct FrameHome {
     pub body: Body,
     pub block: CellBlock,
@@ -23,7 +23,6 @@ pub struct FrameHome {
 
 /// The code of a program and an input for it, along the plan of one of the program's runs; and what that run's frames run,
 /// and where their cells lie.
-#[derive(Drop)]
 pub struct Course {
     yard: Snapshot<Yard>,
     program: Snapshot<Program>,
@@ -33,6 +32,22 @@ pub struct Course {
     globals: usize,
     reducers: u32,
     homes: Vec<FrameHome>,
+}
+
+// A function of its own, so that a proof follows one call where a course is dropped.
+impl Drop for Course {
+    fn drop(self) {
+        let Course {
+            yard: _yard,
+            program: _program,
+            own: _own,
+            code: _code,
+            input: _input,
+            globals: _,
+            reducers: _,
+            homes: _homes,
+        } = self;
+    }
 }
 
 impl Model for Course {

@@ -3,7 +3,7 @@
 use cilk_types::event::{Cell, FrameNo};
 
 /// Where the cells of a frame lie: one behind the other, from the first on.
-#[derive(Clone, Copy, Debug)]
+#[derive(Clone, Copy)]
 pub struct CellBlock {
     pub first: Cell,
     pub cells: u32,
@@ -11,7 +11,7 @@ pub struct CellBlock {
 
 /// What a frame has: its cells, and its number, by which its reducers go. So many of these come before those that it
 /// creates for itself: the root's frame creates the global ones first.
-#[derive(Clone, Copy, Debug)]
+#[derive(Clone, Copy)]
 pub struct Home {
     pub block: CellBlock,
     pub frame: FrameNo,
@@ -19,7 +19,7 @@ pub struct Home {
 }
 
 /// A reducer: the number of the frame that creates it, and its place among that frame's reducers from 1.
-#[derive(Clone, Copy, Debug)]
+#[derive(Clone, Copy)]
 pub struct ReducerNumber {
     pub frame: FrameNo,
     pub place: u64,

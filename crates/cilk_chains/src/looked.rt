@@ -1,7 +1,7 @@
 //! What a look at a plan's next event says.
 
 /// Whether the frame at hand asks for the plan's next event.
-#[derive(Clone, Copy, PartialEq, Eq, Debug)]
+#[derive(Clone, Copy, PartialEq, Eq)]
 pub enum Looked {
     /// It does.
     Asked,

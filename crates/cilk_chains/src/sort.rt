@@ -9,7 +9,7 @@ use cilk_plan::kind::Kind;
 use cilk_types::invocation::Invocation;
 
 /// A sort of events.
-#[derive(Clone, Copy, PartialEq, Eq, Debug)]
+#[derive(Clone, Copy, PartialEq, Eq)]
 pub enum Sort {
     Begin,
     Spawn,

@@ -12,13 +12,25 @@ use std::marker::Model;
 
 /// A program and its input, the events of its serial run, what that run leaves, and what its frames run. The program is determinate on this input: after every
 /// list of steps of the free machine the state is a part of that serial run, and once the run has ended, what it leaves is this.
-#[derive(Drop)]
 pub struct Accepted {
     program: Program,
     input: Input,
     trace: Trace,
     outcome: Outcome,
     frames: Vec<PlannedFrame>,
+}
+
+// A function of its own, so that a proof follows one call where an accepted run is dropped.
+impl Drop for Accepted {
+    fn drop(self) {
+        let Accepted {
+            program: _program,
+            input: _input,
+            trace: _trace,
+            outcome: _outcome,
+            frames: _frames,
+        } = self;
+    }
 }
 
 impl Model for Accepted {

@@ -9,13 +9,25 @@ use cilk_types::event::{Event, FrameNo};
 use cilk_types::trace::Trace;
 
 /// What is right of a run, by columns: its frames, the frames of its strands, their Hebrew numbers and classes, and its events.
-#[derive(Drop, Debug)]
 pub struct Right {
     pub frames: Vec<Frame>,
     pub owners: Vec<FrameNo>,
     pub labels: Labels,
     pub classes: Classes,
     pub trace: Trace,
+}
+
+// A function of its own, so that a proof follows one call where it is dropped.
+impl Drop for Right {
+    fn drop(self) {
+        let Right {
+            frames: _frames,
+            owners: _owners,
+            labels: _labels,
+            classes: _classes,
+            trace: _trace,
+        } = self;
+    }
 }
 
 impl Right {

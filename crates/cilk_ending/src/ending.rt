@@ -1,10 +1,13 @@
 //! The serial run up to its end, whatever that is.
 
 ghost use Rattle.std.specs.Prelude.{IfOk};
+ghost use Rattle.cilk_lower.specs.Behaves.{Behaves};
+ghost use Rattle.cilk_lower.specs.Layout.{LaysOut};
 ghost use Rattle.cilk_program.specs.Sources.{source};
 ghost use Rattle.cilk_ending.specs.Runs.{EndsWith};
 
 use crate::frames::{PlannedFrame, begin, of_callee, of_next};
+use cilk_lower::code::Code;
 use cilk_lower::lower::lower;
 use cilk_program::ask::Callee;
 use cilk_program::program::Program;
@@ -34,7 +37,21 @@ pub fn run_to_end(
     ensures { IfOk result (λ r. EndsWith (source program.now) input.now r.0 r.1) }
 {
     let code = lower(alloc, program)?;
-    let mut serial = SerialRun::new(alloc, program, &code, input)?;
+    run_code(alloc, program, &code, input)
+}
+
+// The same by the program's code.
+fn run_code(
+    alloc: Global,
+    program: &Program,
+    code: &Code,
+    input: &Input,
+) -> Result<(End, Trace), AllocError>
+    requires asks { Behaves (source program.now) code.now }
+    requires layout { LaysOut (source program.now) code.now.layout }
+    ensures { IfOk result (λ r. EndsWith (source program.now) input.now r.0 r.1) }
+{
+    let mut serial = SerialRun::new(alloc, program, code, input)?;
     let mut frames = Vec::new(alloc);
     let globals = program.globals.len() as u64;
     let layout = code.layout();

@@ -15,7 +15,7 @@ pub struct Tokens<'a> {
 }
 
 /// What a name is declared as.
-#[derive(Clone, Copy, PartialEq, Eq, Debug)]
+#[derive(Clone, Copy, PartialEq, Eq)]
 pub enum Declared {
     Variable,
     Array,
@@ -25,7 +25,7 @@ pub enum Declared {
 }
 
 /// What a text has by the name `main`.
-#[derive(Clone, Copy, PartialEq, Eq, Debug)]
+#[derive(Clone, Copy, PartialEq, Eq)]
 pub enum Main {
     /// No function.
     Absent,

@@ -12,7 +12,6 @@ use cilk_types::input::Input;
 use std::alloc::{AllocError, Global};
 
 /// A program and its input, with the name of the program's file, its text and the map of that.
-#[derive(Drop)]
 pub struct Case<'a> {
     pub alloc: Global,
     pub file: &'a str,
@@ -20,6 +19,20 @@ pub struct Case<'a> {
     pub program: Program,
     pub input: Input,
     pub map: TextMap,
+}
+
+// A function of its own, so that a proof follows one call where a case is dropped.
+impl Drop for Case<'_> {
+    fn drop(self) {
+        let Case {
+            alloc: _alloc,
+            file: _file,
+            text: _text,
+            program: _program,
+            input: _input,
+            map: _map,
+        } = self;
+    }
 }
 
 impl<'a> Case<'a> {

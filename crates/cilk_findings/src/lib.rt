@@ -1,5 +1,5 @@
-//! What is found of a program's run, in words and with places of its text: where and why a fault stops it, which two accesses race
-//! and what a schedule makes of them, and what the run takes.
+//! What is found of a program's run, in words and with places of its text: where and why a fault stops it, what its frames and cells are
+//! called, and what the run takes. The crate above, `cilk_races`, tells its races.
 //!
 //! Whoever asks has a program text and its input; the run is made once more, and gone over by its events (`cilk_places`). So a
 //! run of which nothing is asked pays nothing for it.
@@ -10,17 +10,12 @@
 //! ```
 #![tactic(auto)]
 
-mod beside;
 pub mod case;
-mod cures;
 pub mod drawing;
 pub mod faults;
-mod naming;
-mod notes;
-mod paths;
-pub mod races;
+pub mod naming;
+pub mod notes;
+pub mod paths;
 mod repeats;
 pub mod runs;
-pub mod schedules;
-mod sharing;
-mod statements;
+pub mod statements;

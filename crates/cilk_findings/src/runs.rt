@@ -1,5 +1,8 @@
 //! The run of a case, with its notes.
 
+ghost use Rattle.cilk_lower.specs.Behaves.{Behaves};
+ghost use Rattle.cilk_program.specs.Sources.{source};
+
 use crate::case::Case;
 use cilk_lower::code::{Code, Instr};
 use cilk_lower::lower::lower;
@@ -12,7 +15,6 @@ use cilk_types::trace::Trace;
 use std::alloc::AllocError;
 
 /// A run: its code, its events, the fault that stops it, if one does, and its notes.
-#[derive(Drop)]
 pub struct Run {
     code: Code,
     pub trace: Trace,
@@ -20,30 +22,36 @@ pub struct Run {
     pub replay: Replay,
 }
 
+// A function of its own, so that a proof follows one call where a run is dropped.
+impl Drop for Run {
+    fn drop(self) {
+        let Run {
+            code: _code,
+            trace: _trace,
+            fault: _fault,
+            replay: _replay,
+        } = self;
+    }
+}
+
 impl Run {
     /// The run of a case. None where its notes don't fit its events.
     pub fn of(case: &Case<'_>) -> Result<Option<Run>, AllocError> {
-        let alloc = case.alloc;
-        let code = lower(alloc, &case.program)?;
-        let mut serial = SerialRun::new(alloc, &case.program, &code, &case.input)?;
-        let fault = serial.complete()?;
-        let trace = serial.into_trace();
-        let noted = follow(
-            alloc,
-            &case.map,
-            &case.program,
-            &code,
-            &case.input,
-            trace.as_slice(),
-        )?;
-        match noted {
-            Some(replay) if replay.stop.is_some() == fault.is_some() => Ok(Some(Run {
+        let code = lower(case.alloc, &case.program)?;
+        match run_code(case, &code)? {
+            Some(
+                Made {
+                    trace,
+                    fault,
+                    replay,
+                },
+            ) => Ok(Some(Run {
                 code,
                 trace,
                 fault,
                 replay,
             })),
-            _ => Ok(None),
+            None => Ok(None),
         }
     }
 
@@ -71,5 +79,45 @@ impl Run {
     /// An event, counted from 0.
     pub fn event(&self, index: usize) -> Option<Event> {
         self.trace.as_slice().get(index).copied()
+    }
+}
+
+// A run's events, the fault that stops it, and its notes.
+#[derive(Drop)]
+struct Made {
+    trace: Trace,
+    fault: Option<Fault>,
+    replay: Replay,
+}
+
+fn run_code(case: &Case<'_>, code: &Code) -> Result<Option<Made>, AllocError>
+    requires { Behaves (source case.now.program) code.now }
+{
+    let mut serial = SerialRun::new(case.alloc, &case.program, code, &case.input)?;
+    let fault = serial.complete()?;
+    noted(case, code, serial.into_trace(), fault)
+}
+
+fn noted(
+    case: &Case<'_>,
+    code: &Code,
+    trace: Trace,
+    fault: Option<Fault>,
+) -> Result<Option<Made>, AllocError> {
+    let noted = follow(
+        case.alloc,
+        &case.map,
+        &case.program,
+        code,
+        &case.input,
+        trace.as_slice(),
+    )?;
+    match noted {
+        Some(replay) if replay.stop.is_some() == fault.is_some() => Ok(Some(Made {
+            trace,
+            fault,
+            replay,
+        })),
+        _ => Ok(None),
     }
 }

@@ -7,7 +7,7 @@ use cilk_token::token::Kind;
 use std::alloc::AllocError;
 
 /// Where a sync parts a spawn from what comes later, by a byte.
-#[derive(Clone, Copy, PartialEq, Eq, Debug)]
+#[derive(Clone, Copy, PartialEq, Eq)]
 enum Parting {
     /// Ahead of the statement that begins there.
     Ahead(usize),

@@ -11,7 +11,7 @@ use cilk_syntax::tree::Name;
 use cilk_token::token::{Kind, Token};
 
 /// A mark or a reserved word that stands at a fixed place of a form.
-#[derive(Clone, Copy, Debug)]
+#[derive(Clone, Copy)]
 pub enum Punct {
     Open,
     Close,

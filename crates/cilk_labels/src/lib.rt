@@ -27,7 +27,7 @@ use std::alloc::{AllocError, Global};
 use std::marker::Model;
 
 /// The Hebrew numbers of a run's strands, in serial order.
-#[derive(Drop, Debug)]
+#[derive(Drop)]
 pub struct Labels {
     numbers: Vec<u32>,
 }

@@ -116,7 +116,6 @@ pub struct Site {
 }
 
 /// The instructions of all bodies, the call sites, where bodies begin, and what frames have.
-#[derive(Drop)]
 pub struct Code {
     instrs: Vec<Instr>,
     sites: Vec<Site>,
@@ -124,6 +123,20 @@ pub struct Code {
     functions: Vec<EntryPoint>,
     loops: Vec<EntryPoint>,
     layout: Layout,
+}
+
+// A function of its own, so that a proof follows one call where a code is dropped.
+impl Drop for Code {
+    fn drop(self) {
+        let Code {
+            instrs: _instrs,
+            sites: _sites,
+            root: _,
+            functions: _functions,
+            loops: _loops,
+            layout: _layout,
+        } = self;
+    }
 }
 
 impl Model for Code {

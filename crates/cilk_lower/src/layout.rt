@@ -25,7 +25,6 @@ pub struct FrameLayout {
 /// The opening values of the global cells, the monoids of the global reducers, the number of the main function, the
 /// frame of each function, how many cells the frame of one turn of each loop has, and whether there is neither a
 /// reducer nor a `print`.
-#[derive(Drop)]
 pub struct Layout {
     pub openings: Sequence<i64>,
     pub reducers: Sequence<MonoidKind>,
@@ -33,6 +32,20 @@ pub struct Layout {
     pub functions: Sequence<FrameLayout>,
     pub loops: Sequence<u32>,
     pub plain: bool,
+}
+
+// A function of its own, so that a proof follows one call where a layout is dropped.
+impl Drop for Layout {
+    fn drop(self) {
+        let Layout {
+            openings: _openings,
+            reducers: _reducers,
+            main: _,
+            functions: _functions,
+            loops: _loops,
+            plain: _,
+        } = self;
+    }
 }
 
 impl Layout {

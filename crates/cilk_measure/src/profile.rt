@@ -7,7 +7,7 @@ use std::mem;
 
 /// A frame that waits or goes on: the longest chain of events up to its last one, and up to the ends of the children that it
 /// spawned in its block.
-#[derive(Clone, Copy, Debug)]
+#[derive(Clone, Copy)]
 struct Depth {
     own: usize,
     spawned: usize,

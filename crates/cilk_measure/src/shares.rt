@@ -8,7 +8,7 @@ use std::mem;
 /// What the frames of a group take. Strands and events are those that these frames make themselves. Work is how many events are made
 /// from the begin to the end of one of them, by whatever frames, each counted once. Span is the greatest number of events in a chain from the
 /// begin to the end of one of them.
-#[derive(Clone, Copy, PartialEq, Eq, Debug)]
+#[derive(Clone, Copy, PartialEq, Eq)]
 pub struct Share {
     pub frames: u64,
     pub strands: u64,
@@ -29,7 +29,7 @@ impl Share {
 }
 
 /// A group: its share so far, and how many of its frames have begun and not ended.
-#[derive(Clone, Copy, Debug)]
+#[derive(Clone, Copy)]
 struct Group {
     share: Share,
     open: u64,
@@ -37,7 +37,7 @@ struct Group {
 
 /// A frame that waits or goes on: its group, how many events were made since it began, and how many stand in the longest chain of
 /// these up to its last one, and up to the ends of the children that it spawned in its block.
-#[derive(Clone, Copy, Debug)]
+#[derive(Clone, Copy)]
 struct Seat {
     group: usize,
     work: u64,

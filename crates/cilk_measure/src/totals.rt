@@ -17,7 +17,7 @@ use cilk_types::trace::Trace;
 use std::alloc::{AllocError, Global};
 
 /// The work and the span of a run, in events, and how many frames and strands it has.
-#[derive(Clone, Copy, PartialEq, Eq, Debug)]
+#[derive(Clone, Copy, PartialEq, Eq)]
 pub struct Totals {
     pub work: usize,
     pub span: u64,

@@ -34,7 +34,7 @@ use std::sync::Wait;
 use std::thread::Threads;
 
 /// What the command ends with.
-#[derive(Drop, Debug)]
+#[derive(Drop)]
 pub enum Ending {
     /// The outcome of a run, or why the certificate is refused.
     Answer(Answer),

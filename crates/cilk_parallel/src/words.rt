@@ -18,7 +18,7 @@ const THREADS: &str =
 
 /// What the words of `threads` ask for: to check the certificate of a program on an input, of a file or the empty one, and
 /// then to run it by so many workers, on that input or on the one of another file.
-#[derive(Clone, Copy, Debug)]
+#[derive(Clone, Copy)]
 pub struct Order<'a> {
     pub program: &'a str,
     pub certificate: &'a str,

@@ -9,7 +9,7 @@ use cilk_types::event::StrandNo;
 use std::marker::Model;
 
 /// The peer classes of a run's strands, in serial order.
-#[derive(Drop, Debug)]
+#[derive(Drop)]
 pub struct Classes {
     numbers: Vec<u32>,
 }

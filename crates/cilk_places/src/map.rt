@@ -6,7 +6,7 @@ use cilk_types::invocation::Invocation;
 use std::alloc::Global;
 
 /// A call or spawn of the text: the function's number, and whether a variable takes its result.
-#[derive(Clone, Copy, Debug)]
+#[derive(Clone, Copy)]
 pub struct CallSpot {
     pub how: Invocation,
     pub function: u32,
@@ -14,7 +14,7 @@ pub struct CallSpot {
 }
 
 /// Where an instruction stands: the byte of its token, and the call that it makes, if it makes one.
-#[derive(Clone, Copy, Debug)]
+#[derive(Clone, Copy)]
 pub struct Spot {
     pub at: usize,
     pub call: Option<CallSpot>,
@@ -43,7 +43,7 @@ impl BodyMap {
 }
 
 /// A global variable, or an array with its length: the first of its cells.
-#[derive(Clone, Copy, Debug)]
+#[derive(Clone, Copy)]
 pub struct GlobalName {
     pub name: Name,
     pub first: usize,
@@ -51,12 +51,23 @@ pub struct GlobalName {
 }
 
 /// What the names of a text are, each list in order: globals and global reducers, functions and loops.
-#[derive(Drop)]
 pub struct TextMap {
     pub globals: Vec<GlobalName>,
     pub reducers: Vec<Name>,
     pub functions: Vec<BodyMap>,
     pub loops: Vec<BodyMap>,
+}
+
+// A function of its own, so that a proof follows one call where a map is dropped.
+impl Drop for TextMap {
+    fn drop(self) {
+        let TextMap {
+            globals: _globals,
+            reducers: _reducers,
+            functions: _functions,
+            loops: _loops,
+        } = self;
+    }
 }
 
 impl TextMap {

@@ -17,7 +17,7 @@ use std::alloc::{AllocError, Global};
 
 /// A frame that goes on or waits: its number, its next instruction among all of the code, the first one of its body, its
 /// turns, and whether it gives a result.
-#[derive(Clone, Copy, Debug)]
+#[derive(Clone, Copy)]
 struct Seat {
     frame: usize,
     place: usize,

@@ -10,7 +10,7 @@ use cilk_types::invocation::Invocation;
 use std::alloc::{AllocError, Global};
 
 /// A frame of the run. Frames, events and instructions count from 0 here.
-#[derive(Clone, Copy, Debug)]
+#[derive(Clone, Copy)]
 pub struct FrameNote {
     /// What it runs, and, of a loop, its turns from `low` up to but without `high`.
     pub body: Body,
@@ -28,14 +28,14 @@ pub struct FrameNote {
 }
 
 /// The frame and the instruction of an event.
-#[derive(Clone, Copy, Debug)]
+#[derive(Clone, Copy)]
 pub struct StepNote {
     pub frame: usize,
     pub instruction: usize,
 }
 
 /// Where a run stops without an end, and the last two operands there, the right one second.
-#[derive(Clone, Copy, Debug)]
+#[derive(Clone, Copy)]
 pub struct StopNote {
     pub step: StepNote,
     pub left: i64,
@@ -43,7 +43,7 @@ pub struct StopNote {
 }
 
 /// The notes of a run: each frame's, each event's, the ticks that it took, and where it stops, if it doesn't end.
-#[derive(Drop, Debug)]
+#[derive(Drop)]
 pub struct Replay {
     pub frames: Vec<FrameNote>,
     pub steps: Vec<StepNote>,
@@ -80,7 +80,7 @@ pub fn follow(
 const MAX_MOVES: u64 = 1_000_000_000;
 
 /// What came of an instruction.
-#[derive(Clone, Copy, PartialEq, Eq, Debug)]
+#[derive(Clone, Copy, PartialEq, Eq)]
 pub enum Moved {
     /// The run goes on.
     On,

@@ -12,7 +12,7 @@ use std::alloc::{AllocError, Global};
 use std::marker::Model;
 
 /// A frame that has started a child: how and where, and the earliest `end` that its block awaits.
-#[derive(Clone, Copy, Debug)]
+#[derive(Clone, Copy)]
 pub struct Parent {
     pub how: Invocation,
     pub at: Pos,

@@ -23,7 +23,6 @@ use std::marker::Model;
 use std::snapshot::Snapshot;
 
 /// The plan of a run: to a contract the run's story, in memory its places alone. It has no value of any event.
-#[derive(Drop)]
 pub struct Plan {
     opening: Vec<i64>,
     words: Vec<u64>,
@@ -31,6 +30,20 @@ pub struct Plan {
     frames: Vec<FrameNo>,
     earliest: Vec<Option<Pos>>,
     events: Snapshot<Trace>,
+}
+
+// A function of its own, so that a proof follows one call where a plan is dropped.
+impl Drop for Plan {
+    fn drop(self) {
+        let Plan {
+            opening: _opening,
+            words: _words,
+            kinds: _kinds,
+            frames: _frames,
+            earliest: _earliest,
+            events: _events,
+        } = self;
+    }
 }
 
 impl Model for Plan {

@@ -37,7 +37,6 @@ use std::snapshot::Snapshot;
 /// The plan of a program's run: the program, its code and the run's input; the plan of its events; what each frame runs, and where its
 /// cells lie; the continuation of each spawn, and where each strand begins. It has no value of any event and no outcome, so a worker knows
 /// only what it loads or computes. To a contract it is the accepted run and its story.
-#[derive(Drop)]
 pub struct ProgramPlan<'a> {
     program: &'a Program,
     input: &'a Input,
@@ -51,6 +50,26 @@ pub struct ProgramPlan<'a> {
     strands: Vec<StrandNo>,
     resumptions: Vec<Pos>,
     accepted: Snapshot<Accepted>,
+}
+
+// A function of its own, so that a proof follows one call where a plan is dropped.
+impl Drop for ProgramPlan<'_> {
+    fn drop(self) {
+        let ProgramPlan {
+            program: _program,
+            input: _input,
+            code: _code,
+            events: _events,
+            frames: _frames,
+            continuations: _continuations,
+            starts: _starts,
+            syncs: _syncs,
+            blocks: _blocks,
+            strands: _strands,
+            resumptions: _resumptions,
+            accepted: _accepted,
+        } = self;
+    }
 }
 
 impl<'a> Model for ProgramPlan<'a> {
@@ -152,7 +171,21 @@ impl<'a> ProgramPlan<'a> {
     pub fn into_events(self) -> Plan
         ensures { result ≡ self.entry.story }
     {
-        self.events
+        let ProgramPlan {
+            program: _program,
+            input: _input,
+            code: _code,
+            events,
+            frames: _frames,
+            continuations: _continuations,
+            starts: _starts,
+            syncs: _syncs,
+            blocks: _blocks,
+            strands: _strands,
+            resumptions: _resumptions,
+            accepted: _accepted,
+        } = self;
+        events
     }
 
     /// The accepted run, as contracts see it.

@@ -44,7 +44,6 @@ pub struct GlobalReducer {
 
 /// A program: the opening values of its global cells, its global reducers and its functions, each in order of declaration,
 /// its loops in order of their first words, and the number of its main function.
-#[derive(Drop)]
 pub struct Program {
     pub globals: WordList,
     pub reducers: Vec<GlobalReducer>,
@@ -52,4 +51,17 @@ pub struct Program {
     pub loops: Vec<Loop>,
     pub main: u32,
     ghost well_named: { IsTrue (is_well_named (source_of globals reducers.items functions.items loops.items main)) },
+}
+
+// A function of its own, so that a proof follows one call where a program is dropped.
+impl Drop for Program {
+    fn drop(self) {
+        let Program {
+            globals: _globals,
+            reducers: _reducers,
+            functions: _functions,
+            loops: _loops,
+            main: _,
+        } = self;
+    }
 }

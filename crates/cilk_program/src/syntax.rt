@@ -7,7 +7,7 @@ use cilk_types::compound::Compound;
 use cilk_types::invocation::Invocation;
 
 /// An operator on two words, both of which are evaluated.
-#[derive(Clone, Copy, PartialEq, Eq, Debug)]
+#[derive(Clone, Copy, PartialEq, Eq)]
 pub enum Operator {
     Add,
     Subtract,
@@ -32,7 +32,7 @@ pub enum Place {
 }
 
 /// A global array: its first cell, and how many elements it has.
-#[derive(Clone, Copy, PartialEq, Eq, Debug)]
+#[derive(Clone, Copy, PartialEq, Eq)]
 pub struct Array {
     pub first: u32,
     pub length: u32,

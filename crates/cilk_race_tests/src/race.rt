@@ -3,11 +3,11 @@
 use cilk_cells::race::first_race;
 use cilk_cells::view_race::first_view_read;
 use cilk_findings::case::Case;
-use cilk_findings::races::of_race;
 use cilk_findings::runs::Run;
 use cilk_labels::label;
 use cilk_peers::walk::classes;
 use cilk_play::{PlayFault, play};
+use cilk_races::races::of_race;
 use cilk_script::script::{Step, read};
 use cilk_tree::building::tree_of;
 use cilk_tree::tree::SpTree;

@@ -5,7 +5,7 @@ use cilk_lexer::lexer::{all_digits, value_of};
 use cilk_tool::files::Files;
 
 /// How many events, frames and strands a certificate says that it has.
-#[derive(Clone, Copy, Debug)]
+#[derive(Clone, Copy)]
 struct Sizes {
     events: u64,
     frames: u64,

@@ -6,8 +6,8 @@ use cilk_checker::refusal::Refusal;
 use cilk_explain::report::{Finding, Wanted, of_line, of_script, of_text};
 use cilk_findings::case::Case;
 use cilk_findings::faults::of_fault;
-use cilk_findings::races::of_race;
 use cilk_measured::{CaseTexts, case_texts, read_again};
+use cilk_races::races::of_race;
 use cilk_tool::files::Files;
 use cilk_tool::reply::{Answer, Failure};
 use cilk_tool::words::{Order, Origin};
@@ -15,7 +15,7 @@ use cilk_types::event::Pos;
 use std::alloc::{AllocError, Global};
 
 /// The files that an order names: its program, where that isn't standard input, its input, and its certificate or script.
-#[derive(Clone, Copy, Debug)]
+#[derive(Clone, Copy)]
 struct Named<'a> {
     program: Origin<'a>,
     input: Option<&'a str>,

@@ -25,7 +25,7 @@ use Rattle.cilk_board.specs.Desks.{Desk, Chooses, Did}
 use Rattle.cilk_board.specs.EndParts.{Brings, HasRetired, IsFinished, Seeks}
 use Rattle.cilk_board.specs.Ending.{IsEnded, RetiresOwn}
 use Rattle.cilk_board.specs.Invocations.{HasGoneOn, IsNoted}
-use Rattle.cilk_board.specs.Leaving.{outcome_of}
+use Rattle.cilk_outcome.specs.Leaving.{outcome_of}
 use Rattle.cilk_board.specs.Parents.{AreStarted, OutliveChildren}
 use Rattle.cilk_board.specs.Parts.{freed, working}
 use Rattle.cilk_board.specs.Seats.{changed, finished, moved_to, passed}

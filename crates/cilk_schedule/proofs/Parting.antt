@@ -7,7 +7,7 @@ use Rattle.cilk_lower.specs.Code.{CodeView}
 use Rattle.cilk_activations.specs.declared.activation.Activation.{Activation}
 use Rattle.cilk_hypermap.specs.declared.hypermap.Hypermap.{Hypermap}
 use Rattle.cilk_board.specs.EndParts.{Brings, NotOffered, OfferedBy, Seeks}
-use Rattle.cilk_board.specs.Leaving.{outcome_of}
+use Rattle.cilk_outcome.specs.Leaving.{outcome_of}
 use Rattle.cilk_board.specs.Parts.{freed, working}
 use Rattle.cilk_board.specs.Seats.{changed, moved_to, passed}
 use Rattle.cilk_board.specs.Workers.{altered}

@@ -18,7 +18,7 @@ use Rattle.cilk_board.specs.Desks.{Desk, Chooses, Did}
 use Rattle.cilk_board.specs.EndParts.{Brings, Seeks}
 use Rattle.cilk_board.specs.Ending.{RetiresOwn}
 use Rattle.cilk_board.specs.Invocations.{IsNoted}
-use Rattle.cilk_board.specs.Leaving.{outcome_of}
+use Rattle.cilk_outcome.specs.Leaving.{outcome_of}
 use Rattle.cilk_board.specs.Parts.{freed, working}
 use Rattle.cilk_board.specs.Seats.{changed, finished, moved_to, passed}
 use Rattle.cilk_board.specs.Workers.{altered, viewing}

@@ -22,11 +22,11 @@ use crate::arrivals::leave;
 use cilk_activations::activation::Activation;
 use cilk_board::board::Board;
 use cilk_board::ending::{bring, retire_own, take_back};
-use cilk_board::outcome::outcome;
 use cilk_board::seat::{Seat, Status, Worker};
 use cilk_board::seats::{finish, move_to, pass};
 use cilk_hypermap::hypermap::Hypermap;
 use cilk_lower::code::Code;
+use cilk_outcome::outcome::outcome;
 use cilk_types::event::Event;
 use std::alloc::{AllocError, Global};
 

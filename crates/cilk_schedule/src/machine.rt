@@ -131,7 +131,7 @@ impl<'a> Machine<'a> {
             input: _input,
             board,
         } = self;
-        board.outcome
+        board.into_outcome()
     }
 
     /// The name of the strand that stopped: the path of its frame from the first one down, by ordinals, and then the strand's

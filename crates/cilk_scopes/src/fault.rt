@@ -48,7 +48,7 @@ impl NameNumber {
 }
 
 /// What is wrong, and at which byte of the text, counted from 0.
-#[derive(Clone, Copy, PartialEq, Eq, Debug)]
+#[derive(Clone, Copy, PartialEq, Eq)]
 pub struct Misnaming {
     pub number: NameNumber,
     pub place: usize,

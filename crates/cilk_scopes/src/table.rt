@@ -17,7 +17,7 @@ use std::collections::HashMap;
 use std::mem;
 
 /// Which reducer of a frame's function, or of the program: each counted from 0 in order of declaration.
-#[derive(Clone, Copy, Debug)]
+#[derive(Clone, Copy)]
 pub enum Home {
     Global(u32),
     Own(u32),
@@ -25,7 +25,7 @@ pub enum Home {
 }
 
 /// What a name means. Global cells and functions are counted from 0 in order of declaration.
-#[derive(Clone, Copy, Debug)]
+#[derive(Clone, Copy)]
 pub enum Meaning {
     Global(u32),
     Array(Array),

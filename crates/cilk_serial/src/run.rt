@@ -3,10 +3,12 @@
 ghost use Rattle.std.specs.Prelude.{◌≡◌, ◌+◌, ◌≤◌, length, IfOk, IfErr};
 ghost use Rattle.cilk_types.specs.declared.limits.TheConstants.{MAX_EVENTS};
 ghost use Rattle.cilk_program.specs.Sources.{source};
+ghost use Rattle.cilk_lower.specs.Behaves.{Behaves};
 ghost use Rattle.cilk_serial.specs.Ran.{Ran, IsRunFault};
 
 use crate::fault::RunFault;
 use crate::serial_run::SerialRun;
+use cilk_lower::code::Code;
 use cilk_lower::lower::lower;
 use cilk_program::program::Program;
 use cilk_types::event::{Event, Pos};
@@ -22,7 +24,21 @@ pub fn run(alloc: Global, program: &Program, input: &Input) -> Result<(Outcome, 
     ensures fault { IfErr result (λ e. IsRunFault (source program.now) input.now e) }
 {
     let code = lower(alloc, program)?;
-    let mut serial = SerialRun::new(alloc, program, &code, input)?;
+    run_code(alloc, program, &code, input)
+}
+
+// The same by the program's code.
+fn run_code(
+    alloc: Global,
+    program: &Program,
+    code: &Code,
+    input: &Input,
+) -> Result<(Outcome, Trace), RunFault>
+    requires { Behaves (source program.now) code.now }
+    ensures ok { IfOk result (λ r. Ran (source program.now) input.now r.0 r.1) }
+    ensures fault { IfErr result (λ e. IsRunFault (source program.now) input.now e) }
+{
+    let mut serial = SerialRun::new(alloc, program, code, input)?;
     match serial.complete()? {
         None => Ok(serial.finish()?),
         Some(fault) => {

@@ -33,7 +33,7 @@ pub enum Next {
 }
 
 /// How far a run has come.
-#[derive(Clone, Copy, Debug)]
+#[derive(Clone, Copy)]
 pub enum Stage {
     /// There is another event, or a fault.
     Going,
@@ -58,7 +58,6 @@ impl Stage {
 
 /// A serial run that is made event by event. It borrows the program, its code and the input, and owns the store, the
 /// frames that wait, and the events so far.
-#[derive(Drop)]
 pub struct SerialRun<'a> {
     alloc: Global,
     program: &'a Program,
@@ -66,6 +65,20 @@ pub struct SerialRun<'a> {
     input: &'a Input,
     running: Running,
     stage: Stage,
+}
+
+// A function of its own, so that a proof follows one call where a run is dropped.
+impl Drop for SerialRun<'_> {
+    fn drop(self) {
+        let SerialRun {
+            alloc: _alloc,
+            program: _program,
+            code: _code,
+            input: _input,
+            running: _running,
+            stage: _stage,
+        } = self;
+    }
 }
 
 impl<'a> Model for SerialRun<'a> {

@@ -30,7 +30,7 @@ use Rattle.cilk_runs.specs.Runs.{Global, Instance, Reads, Writes, Passes, Update
 use Rattle.cilk_runs.specs.Serial.{value_after}
 use Rattle.cilk_runs.specs.Traces.{trace}
 use Rattle.cilk_runs.specs.Views.{view_after}
-use Rattle.cilk_board.specs.Leaving.{finals_of}
+use Rattle.cilk_outcome.specs.Leaving.{finals_of}
 use Rattle.cilk_worlds.specs.Machine.{opening_values}
 use Rattle.cilk_worlds.specs.Reducers.{View, kind_of, monoid_of, value_of}
 use Rattle.cilk_worlds.specs.Steps.{finals_in, result_in}

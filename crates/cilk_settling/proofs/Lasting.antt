@@ -53,7 +53,7 @@ use Rattle.cilk_determinacy.proofs.Numbered.{events_numbered}
 use Rattle.cilk_determinacy.proofs.Numbers.{frame_is}
 use Rattle.cilk_determinacy.proofs.ReducerEvents.{finals_viewed}
 use Rattle.cilk_settling.specs.Tables.{reducers_of, AreReducersOf, HaveTheirKinds}
-use Rattle.cilk_board.specs.Leaving.{finals_of}
+use Rattle.cilk_outcome.specs.Leaving.{finals_of}
 use Rattle.cilk_settling.specs.Finals.{WholeViewsAreLast}
 use Rattle.cilk_settling.proofs.Opened.{IsFrameOf, AllFrames, FramesOpen, frames_open}
 use Rattle.cilk_settling.proofs.Places.{nth_left, nth_right}

@@ -27,7 +27,7 @@ use Rattle.cilk_story.specs.Values.{HasValue, AreFinal}
 use Rattle.cilk_pieces.specs.declared.reducers.Reducers.{Reducers}
 use Rattle.cilk_pieces.specs.Reducers.{kind_in, events_over}
 use Rattle.cilk_inputs.proofs.LastWrites.{last_value}
-use Rattle.cilk_board.specs.Leaving.{finals_of, numbers_in, outcome_of}
+use Rattle.cilk_outcome.specs.Leaving.{finals_of, numbers_in, outcome_of}
 use Rattle.cilk_settling.specs.Finals.{AreLast, IsMadeOf}
 use Rattle.cilk_settling.specs.Tables.{AreReducersOf}
 use Rattle.cilk_settling.proofs.Lasting.{whole_last}

@@ -16,7 +16,7 @@ use Rattle.cilk_meaning.specs.Answered.{cells_after, opening_cells}
 use Rattle.cilk_story.specs.declared.story.Story.{Story}
 use Rattle.cilk_pieces.specs.declared.reducers.Reducers.{Reducers}
 use Rattle.cilk_pieces.specs.Reducers.{kind_in, events_over}
-use Rattle.cilk_board.specs.Leaving.{finals_of}
+use Rattle.cilk_outcome.specs.Leaving.{finals_of}
 use Rattle.cilk_settling.specs.Tables.{AreReducersOf}
 
 -- the views are what a run leaves that ends so: the global reducers' last values, and the numbers that it printed

@@ -37,5 +37,5 @@ pub fn outcome(
     let Ok(cells) = yard.globals(alloc, segment) else {
         return Err(AllocError);
     };
-    cilk_board::outcome::outcome(alloc, layout, cells.as_slice(), &mut views, value)
+    cilk_outcome::outcome::outcome(alloc, layout, cells.as_slice(), &mut views, value)
 }

@@ -83,11 +83,21 @@ impl Join<View> for Halves {
 }
 
 /// The words of a run, shared by its threads. To a contract it is the run's story, and which yard it is.
-#[derive(Drop)]
 pub struct Yard {
     table: Table<(), View, StoryKey, Words, Global>,
     cells: usize,
     resumptions: Vec<Pos>,
+}
+
+// A function of its own, so that a proof follows one call where a yard is dropped.
+impl Drop for Yard {
+    fn drop(self) {
+        let Yard {
+            table: _table,
+            cells: _,
+            resumptions: _resumptions,
+        } = self;
+    }
 }
 
 impl Model for Yard {

@@ -17,13 +17,13 @@ ghost use Rattle.cilk_shown.specs.declared.showing.ShownFrame.{ShownFrame};
 use crate::naming::{ShownEvent, named};
 use cilk_activations::activation::Activation;
 use cilk_board::board::Board;
-use cilk_board::outcome::copied;
 use cilk_board::seat::{JournalEntry, Seat};
+use cilk_outcome::outcome::copied;
 use cilk_types::outcome::Outcome;
 use std::alloc::{AllocError, Global};
 
 /// A frame by links: the place of its parent among all frames, and its ordinal there, from 1; 0 for both of the first frame.
-#[derive(Clone, Copy, PartialEq, Eq, Debug)]
+#[derive(Clone, Copy, PartialEq, Eq)]
 pub struct Link {
     pub parent: u32,
     pub ordinal: u32,

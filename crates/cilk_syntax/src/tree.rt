@@ -19,7 +19,7 @@ pub struct Name {
 }
 
 /// An operator in front of its operand.
-#[derive(Clone, Copy, Debug)]
+#[derive(Clone, Copy)]
 pub enum UnaryOperator {
     Negate,
     Not,
@@ -59,7 +59,6 @@ pub struct Reducer {
 
 /// An expression. `Element` is an element of an array, `Group` an expression between parentheses, `Value` the value of a
 /// reducer, and `Input` asks for the input number at a place.
-#[derive(Drop)]
 pub enum Expr {
     Number(i64),
     Variable(Name),
@@ -72,6 +71,22 @@ pub enum Expr {
     InputCount,
 }
 
+impl Drop for Expr {
+    fn drop(self) {
+        match self {
+            Expr::Number(_) => {}
+            Expr::Variable(_) => {}
+            Expr::Element(_, _at) => {}
+            Expr::Group(_inner) => {}
+            Expr::Unary(_, _right) => {}
+            Expr::Binary(_, _left, _right) => {}
+            Expr::Value(_) => {}
+            Expr::Input(_at) => {}
+            Expr::InputCount => {}
+        }
+    }
+}
+
 /// An argument of a call, and the place of its first byte.
 #[derive(Drop)]
 pub struct Argument {
@@ -80,21 +95,36 @@ pub struct Argument {
 }
 
 /// A call: the function's name, and the arguments in order.
-#[derive(Drop)]
 pub struct Call {
     pub name: Name,
     pub arguments: Vec<Argument>,
 }
 
+impl Drop for Call {
+    fn drop(self) {
+        let Call {
+            name: _,
+            arguments: _arguments,
+        } = self;
+    }
+}
+
 /// What an assignment writes to: a variable, or an element of an array.
-#[derive(Drop)]
 pub enum Lvalue {
     Variable(Name),
     Element(Name, Box<Expr>),
 }
 
+impl Drop for Lvalue {
+    fn drop(self) {
+        match self {
+            Lvalue::Variable(_) => {}
+            Lvalue::Element(_, _at) => {}
+        }
+    }
+}
+
 /// An assignment: `=`, one of `+=`, `-=` and `*=`, `++`, or `--`.
-#[derive(Drop)]
 pub enum Assignment {
     Set(Lvalue, Box<Expr>),
     Compound(Compound, Lvalue, Box<Expr>),
@@ -102,12 +132,32 @@ pub enum Assignment {
     Decrement(Lvalue),
 }
 
+impl Drop for Assignment {
+    fn drop(self) {
+        match self {
+            Assignment::Set(_target, _value) => {}
+            Assignment::Compound(_, _target, _value) => {}
+            Assignment::Increment(_target) => {}
+            Assignment::Decrement(_target) => {}
+        }
+    }
+}
+
 /// What stands behind a local variable's name: nothing, `=` and an expression, or `=` and a call.
-#[derive(Drop)]
 pub enum LocalInitializer {
     Absent,
     Value(Box<Expr>),
     Invoke(Invocation, Call),
+}
+
+impl Drop for LocalInitializer {
+    fn drop(self) {
+        match self {
+            LocalInitializer::Absent => {}
+            LocalInitializer::Value(_value) => {}
+            LocalInitializer::Invoke(_, _call) => {}
+        }
+    }
 }
 
 /// A local variable that is declared.
@@ -118,15 +168,22 @@ pub struct Local {
 }
 
 /// What the head of a `for` begins with: `int` and a variable with its value, or an assignment.
-#[derive(Drop)]
 pub enum Beginning {
     Declares(Name, Box<Expr>),
     Assigns(Assignment),
 }
 
+impl Drop for Beginning {
+    fn drop(self) {
+        match self {
+            Beginning::Declares(_, _value) => {}
+            Beginning::Assigns(_assignment) => {}
+        }
+    }
+}
+
 /// The head of a `cilk_for`: `int variable = low; tested < high; stepped++`. The three names have to be one, which the
 /// grammar doesn't say.
-#[derive(Drop)]
 pub struct Bounds {
     pub variable: Name,
     pub low: Box<Expr>,
@@ -135,8 +192,19 @@ pub struct Bounds {
     pub stepped: Name,
 }
 
+impl Drop for Bounds {
+    fn drop(self) {
+        let Bounds {
+            variable: _,
+            low: _low,
+            tested: _,
+            high: _high,
+            stepped: _,
+        } = self;
+    }
+}
+
 /// A statement. `Return` holds the place of its first byte. `AssignCall` is a call whose result the variable takes.
-#[derive(Drop)]
 pub enum Stmt {
     Empty,
     Block(Vec<Stmt>),
@@ -157,8 +225,32 @@ pub enum Stmt {
     Set(Name, Box<Expr>),
 }
 
+impl Drop for Stmt {
+    fn drop(self) {
+        match self {
+            Stmt::Empty => {}
+            Stmt::Block(_body) => {}
+            Stmt::Declare(_locals) => {}
+            Stmt::Reducer(_) => {}
+            Stmt::Assign(_assignment) => {}
+            Stmt::Invoke(_, _call) => {}
+            Stmt::AssignCall(_, _, _call) => {}
+            Stmt::Sync => {}
+            Stmt::If(_test, _then) => {}
+            Stmt::IfElse(_test, _then, _other) => {}
+            Stmt::While(_test, _body) => {}
+            Stmt::For(_first, _test, _step, _body) => {}
+            Stmt::ParallelFor(_bounds, _body) => {}
+            Stmt::Return(_, _value) => {}
+            Stmt::Print(_value) => {}
+            Stmt::Update(_, _value) => {}
+            Stmt::Set(_, _value) => {}
+        }
+    }
+}
+
 /// What stands behind a global variable's name: nothing, `= n`, or `= -n`.
-#[derive(Clone, Copy, Debug)]
+#[derive(Clone, Copy)]
 pub enum Initializer {
     Absent,
     Number(i64),
@@ -179,7 +271,7 @@ impl Initializer {
 }
 
 /// A global variable, or a global array with the number of its elements.
-#[derive(Clone, Copy, Debug)]
+#[derive(Clone, Copy)]
 pub enum GlobalVariable {
     Variable(Name, Initializer),
     Array(Name, i64),
@@ -193,16 +285,33 @@ pub enum Parameter {
 }
 
 /// A line of global variables, a global reducer, or a function.
-#[derive(Drop)]
 pub enum Item {
     Globals(Vec<GlobalVariable>),
     Reducer(Reducer),
     Function(ReturnType, Name, Vec<Parameter>, Vec<Stmt>),
 }
 
+impl Drop for Item {
+    fn drop(self) {
+        match self {
+            Item::Globals(_variables) => {}
+            Item::Reducer(_) => {}
+            Item::Function(_, _, _parameters, _body) => {}
+        }
+    }
+}
+
 /// A program: its items, and the text that its names stand in.
-#[derive(Drop)]
 pub struct Tree {
     pub text: Vec<u8>,
     pub items: Vec<Item>,
+}
+
+impl Drop for Tree {
+    fn drop(self) {
+        let Tree {
+            text: _text,
+            items: _items,
+        } = self;
+    }
 }

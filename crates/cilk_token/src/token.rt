@@ -53,7 +53,7 @@ pub enum Kind {
 }
 
 /// A token, with the places of its first byte and of the byte behind it.
-#[derive(Clone, Copy, Debug)]
+#[derive(Clone, Copy)]
 pub struct Token {
     pub kind: Kind,
     pub at: usize,

@@ -49,7 +49,7 @@ pub enum Answer {
 }
 
 /// What is shown in place of an answer, on standard error.
-#[derive(Drop, Debug)]
+#[derive(Drop)]
 pub enum Failure<'a> {
     /// The words are no command: clap's own text.
     Words(String),

@@ -31,7 +31,7 @@ const CHECK: &str = "Check a certificate, and whether the run that it is of has 
 const PLAY: &str = "Run a program in parallel, step by step, by a script";
 
 /// Where a program text comes from.
-#[derive(Clone, Copy, PartialEq, Eq, Debug)]
+#[derive(Clone, Copy, PartialEq, Eq)]
 pub enum Origin<'a> {
     /// Standard input.
     Standard,
@@ -40,7 +40,7 @@ pub enum Origin<'a> {
 }
 
 /// What the words ask for.
-#[derive(Clone, Copy, Debug)]
+#[derive(Clone, Copy)]
 pub enum Order<'a> {
     /// Run a program, on the input of a file or on the empty input.
     Run {
@@ -68,7 +68,7 @@ pub enum Order<'a> {
 }
 
 /// Why words are no order.
-#[derive(Debug, Drop)]
+#[derive(Drop)]
 pub enum WordsFault {
     /// They are no command, or ask for help: clap's own text.
     Usage(String),

@@ -17,7 +17,7 @@ use std::marker::Model;
 
 /// Where the pass stands in a frame, by the number of strands met before: behind the frame, behind its block at hand,
 /// and behind the child at hand.
-#[derive(Clone, Copy, Debug)]
+#[derive(Clone, Copy)]
 pub struct StrandCounts {
     pub frame: u32,
     pub block: u32,

@@ -4,7 +4,7 @@ use Rattle.cilk_program.specs.Sources.{source}
 use Rattle.cilk_meaning.proofs.Naming.{well_named_parts}
 use Rattle.cilk_story.specs.Values.{AreFinal}
 use Rattle.cilk_planning.proofs.Telling.{for_ok}
-use Rattle.cilk_board.specs.Leaving.{outcome_of}
+use Rattle.cilk_outcome.specs.Leaving.{outcome_of}
 use Rattle.cilk_settling.specs.Finals.{IsMadeOf}
 use Rattle.cilk_settling.proofs.Leaving.{piece_made}
 use Rattle.cilk_settling.proofs.outcome.outcome.Goals as goal

@@ -1,4 +1,4 @@
--- What a run leaves, and a frame that ends.
+-- The outcome of a run, by its cells and its views.
 use Rattle.std.specs.Prelude.{◌≡◌, ◌&&◌, ℕ, suc, false, cond, ℤ, List, [], ◌∷◌, length, take, Option, Some, None}
 use Rattle.std.specs.Option.{option_map}
 use Rattle.cilk_types.specs.declared.event.Instance.{Instance}
@@ -39,8 +39,3 @@ outcome_of l cells views value = record {
   output = numbers_in (option_map final_of (view_in views Append output));
   reducers = finals_of views 0 l.reducers;
 }
-
--- a view of reducer j, without those of a frame's own with these monoids, from this place on
-abbrev pub without_own : ℕ → ℕ → List MonoidKind → MonoidKind → Instance → Option ViewValue → Option ViewValue
-without_own frame place [] k j v = v
-without_own frame place (own ∷ ks) k j v = without_own frame (suc place) ks k j (cond (same_kind own k && same_instance (record { frame = frame; place = place }) j) None v)

@@ -1,18 +1,18 @@
-//! What a run that has ended leaves, and the reducers of a frame that ends.
+//! The outcome of a run that has ended, by its cells and its views.
 
-ghost use Rattle.std.specs.Prelude.{◌≡◌, ◌+◌, ◌<◌, ◌≤◌, length, IfOk, OnOk};
+ghost use Rattle.std.specs.Prelude.{◌≡◌, ◌+◌, ◌≤◌, length, IfOk, OnOk};
 ghost use Rattle.std.specs.Option.{option_map};
 ghost use Rattle.cilk_types.specs.declared.event.Instance.{Instance};
 ghost use Rattle.cilk_monoid.specs.declared.kind.MonoidKind.{MonoidKind};
 ghost use Rattle.cilk_monoid.specs.Kinds.{final_of};
 ghost use Rattle.cilk_hypermap.specs.Hypermap.{value_in, view_in};
 ghost use Rattle.cilk_hypermap.specs.Views.{output};
-ghost use Rattle.cilk_board.specs.Leaving.{KeepsOthers, finals_of, numbers_in, outcome_of, without_own};
+ghost use Rattle.cilk_outcome.specs.Leaving.{KeepsOthers, finals_of, numbers_in, outcome_of};
 
 use cilk_hypermap::hypermap::Hypermap;
 use cilk_lower::layout::Layout;
 use cilk_monoid::kind::MonoidKind;
-use cilk_types::event::{FrameNo, Instance};
+use cilk_types::event::Instance;
 use cilk_types::outcome::{Final, Outcome};
 use cilk_types::sequence::Sequence;
 use std::alloc::{AllocError, Global};
@@ -125,20 +125,5 @@ fn copied_value(alloc: Global, value: &Final) -> Result<Final, AllocError>
             let items = Vec::from_slice(alloc, list.as_slice())?;
             Ok(Final::List(Sequence::new(items)))
         }
-    }
-}
-
-/// The reducers with these monoids that a frame created for itself are retired, from this place on.
-pub fn retire(views: &mut Hypermap, frame: FrameNo, first: u32, kinds: &[MonoidKind])
-    requires few { length kinds.now ≤ 64 }
-    requires low { first < 65536 }
-    ensures { (k : MonoidKind) (j : Instance) → view_in views.new k j ≡ without_own frame first kinds.now k j (view_in views.old k j) }
-{
-    'each: for number in 0..kinds.len() {
-        let instance = Instance {
-            frame,
-            place: first + number as u32,
-        };
-        let _last = views.take(instance, kinds[number]);
     }
 }

@@ -1,16 +1,16 @@
 //! Two accesses that race, or a reducer's read that a schedule can change.
 
 use crate::beside::{Beside, Change};
-use crate::case::Case;
 use crate::cures::cure_of;
-use crate::naming::{accessed, function_of, reducer_name};
-use crate::notes::{place_of, push_line, push_place};
-use crate::paths::{chain, halves, invoked_at, push_path, turns_of};
-use crate::runs::Run;
 use crate::schedules::{Played, Schedule, made_by, push_schedule};
 use crate::sharing::{Ways, common_cure, kept_cure};
-use crate::statements::parted_at;
 use cilk_explain::reasons::reason_of;
+use cilk_findings::case::Case;
+use cilk_findings::naming::{accessed, function_of, reducer_name};
+use cilk_findings::notes::{place_of, push_line, push_place};
+use cilk_findings::paths::{chain, halves, invoked_at, push_path, turns_of};
+use cilk_findings::runs::Run;
+use cilk_findings::statements::parted_at;
 use cilk_places::replay::{FrameNote, StepNote};
 use cilk_program::program::Body;
 use cilk_types::event::Event;

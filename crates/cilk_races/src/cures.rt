@@ -1,8 +1,8 @@
 //! What to write in place of two accesses that race, by what they access.
 
-use crate::case::Case;
-use crate::naming::word;
-use crate::runs::Run;
+use cilk_findings::case::Case;
+use cilk_findings::naming::word;
+use cilk_findings::runs::Run;
 use cilk_places::map::GlobalName;
 use cilk_syntax::tree::Name;
 use cilk_types::event::Event;

@@ -6,7 +6,7 @@ use Rattle.cilk_ending.specs.declared.frames.Own.{Own}
 use Rattle.cilk_ending.specs.declared.frames.PlannedFrame.{PlannedFrame}
 use Rattle.cilk_ending.specs.Frames.{own_of}
 use Rattle.cilk_ending.proofs.Noting.{made_by, none_there, noted_more, noted_same, noted_start, noted_whole, own_there, small_room, smaller}
-use Rattle.cilk_ending.proofs.ending.run_to_end.Goals as goal
+use Rattle.cilk_ending.proofs.ending.run_code.Goals as goal
 
 pub each-init : goal.each-init
 each-init c =
@@ -14,7 +14,7 @@ each-init c =
     record {
       program = ap (λ (v : RunView). v.program) c.in_ok-serial.ensures;
       inputs = ap (λ (v : RunView). v.inputs) c.in_ok-serial.ensures;
-      noted = noted_start prog c.args.input.now c.layout-layout.result.now (subst (LaysOut (source prog)) (sym c.layout-layout.ensures) c.in_ok-code.ensures.layout)
+      noted = noted_start prog c.args.input.now c.layout-layout.result.now (subst (LaysOut (source prog)) (sym c.layout-layout.ensures) c.requires.layout)
           c.in_ok-serial.serial.events (ap (λ (v : RunView). v.events) c.in_ok-serial.ensures) c.begin.new.frames.items c.len-globals.result c.in_ok-cells.cells c.len-globals.ensures
           (c.in_ok-cells.ensures.frame ∙ (ap (λ (l : List PlannedFrame). l ++ record { body = c.of_callee.result.body; first_cell = c.len-globals.result; cells = c.of_callee.result.cells } ∷ []) c.new-frames.ensures.items
           ∙ ap (λ (o : Own). record { body = o.body; first_cell = c.len-globals.result; cells = o.cells } ∷ []) c.of_callee.ensures))
@@ -46,7 +46,7 @@ each-preserved-in-Some c =
       inputs = made.inputs ∙ c.each.invariant.inputs;
       noted = noted_more prog c.args.input.now c.each.serial c.next.new.self c.in-Made.field-0 made c.each.invariant.program c.each.invariant.inputs c.in_ok-next.ensures.intact.0
           begun.callee begun.begins c.each.frames.items c.each.cells c.each.invariant.noted
-          c.layout-layout.result.now (subst (LaysOut (source prog)) (sym c.layout-layout.ensures) c.in_ok-code.ensures.layout)
+          c.layout-layout.result.now (subst (LaysOut (source prog)) (sym c.layout-layout.ensures) c.requires.layout)
           c.begin-in-Some.new.frames.items c.in_ok-cells-in-Made.cells found.0 found.1
           (c.in_ok-cells-in-Made.ensures.frame ∙ ap (λ (o : Own). c.each.frames.items ++ record { body = o.body; first_cell = c.each.cells; cells = o.cells } ∷ []) found.2)
           (c.in_ok-cells-in-Made.ensures.cells ∙ ap (λ (o : Own). c.each.cells + o.cells) found.2);

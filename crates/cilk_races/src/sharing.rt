@@ -2,12 +2,12 @@
 //! of a recursion share, a count of the places that are filled, and a reducer that is read to keep the greater of two
 //! numbers.
 
-use crate::case::Case;
-use crate::naming::{body_name, word};
-use crate::paths::invoked_at;
-use crate::runs::Run;
-use crate::statements::{behind_head, loop_round, stands_in};
 use cilk_explain::tokens::Tokens;
+use cilk_findings::case::Case;
+use cilk_findings::naming::{body_name, word};
+use cilk_findings::paths::invoked_at;
+use cilk_findings::runs::Run;
+use cilk_findings::statements::{behind_head, loop_round, stands_in};
 use cilk_places::map::GlobalName;
 use cilk_program::program::Body;
 use cilk_token::token::Kind;
@@ -16,7 +16,7 @@ use std::alloc::AllocError;
 
 /// Two accesses by their frames, the frame that both ways up have in common, its child that runs beside what follows,
 /// and the byte at which the later way leaves it.
-#[derive(Clone, Copy, Debug)]
+#[derive(Clone, Copy)]
 pub struct Ways {
     pub earlier: usize,
     pub later: usize,

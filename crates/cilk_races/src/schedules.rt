@@ -1,7 +1,7 @@
 //! A schedule that makes the later of two accesses first, and what it leaves.
 
-use crate::case::Case;
-use crate::notes::push_line;
+use cilk_findings::case::Case;
+use cilk_findings::notes::push_line;
 use cilk_play::{PlayFault, play};
 use cilk_script::script::read;
 use cilk_serial::run::run;
@@ -10,7 +10,7 @@ use std::alloc::{AllocError, Global};
 
 /// A schedule of two workers: the first makes so many events, up to a spawn; the second takes the continuation at this place, and
 /// makes so many; then the first makes those of the child.
-#[derive(Clone, Copy, Debug)]
+#[derive(Clone, Copy)]
 pub struct Schedule {
     pub ahead: usize,
     pub place: usize,

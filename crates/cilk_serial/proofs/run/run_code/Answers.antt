@@ -6,7 +6,7 @@ use Rattle.cilk_program.specs.Outcomes.{StopsBy}
 use Rattle.cilk_program.specs.Sources.{source}
 use Rattle.cilk_meaning.proofs.Existence.{serial_run_is_short}
 use Rattle.cilk_serial.specs.SoFar.{HaltsHere}
-use Rattle.cilk_serial.proofs.run.run.Goals as goal
+use Rattle.cilk_serial.proofs.run.run_code.Goals as goal
 
 pub next_position-at-requires : goal.next_position-at-requires
 next_position-at-requires c =

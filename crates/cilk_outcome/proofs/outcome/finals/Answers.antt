@@ -6,9 +6,9 @@ use Rattle.cilk_monoid.specs.Ranges.{same_instance}
 use Rattle.cilk_monoid.specs.declared.kind.MonoidKind.TheVariants.{Add}
 use Rattle.cilk_hypermap.specs.Hypermap.{value_in}
 use Rattle.cilk_program.specs.SerialRun.{global_reducer}
-use Rattle.cilk_board.specs.Leaving.{finals_of}
-use Rattle.cilk_board.proofs.Finals.{finals_next}
-use Rattle.cilk_board.proofs.outcome.finals.Goals as goal
+use Rattle.cilk_outcome.specs.Leaving.{finals_of}
+use Rattle.cilk_outcome.proofs.Finals.{finals_next}
+use Rattle.cilk_outcome.proofs.outcome.finals.Goals as goal
 
 apart : (n j : ℕ) → n + 1 ≤ j → same_instance (record { frame = 1; place = n + 1 }) (global_reducer j) ≡ false
 apart n j low = ne_eqb (n + 1) (suc j) (λ e. omega (arith, low, e))

@@ -2,7 +2,7 @@ use Rattle.std.proofs.Common.{◌≡◌, ◌-◌, length}
 use Rattle.cilk_types.specs.declared.limits.TheConstants.{MAX_EVENTS}
 use Rattle.cilk_program.specs.Sources.{source}
 use Rattle.cilk_ending.proofs.Noting.{NotedSoFar}
-use Rattle.cilk_ending.proofs.ending.run_to_end.Given as goal
+use Rattle.cilk_ending.proofs.ending.run_code.Given as goal
 
 -- the run is that of this program on this input, and the frames are noted that its events have begun
 abbrev pub invariant-each : goal.invariant-each

@@ -1,13 +1,13 @@
 //! The child beside which a reducer is read or set.
 
-use crate::runs::Run;
+use cilk_findings::runs::Run;
 use cilk_places::replay::FrameNote;
 use cilk_types::event::{Event, Instance};
 use cilk_types::invocation::Invocation;
 use std::alloc::{AllocError, Global};
 
 /// A change of a reducer: the frame that makes it, and the child beside an event in which that stands.
-#[derive(Clone, Copy, Debug)]
+#[derive(Clone, Copy)]
 pub struct Change {
     pub frame: usize,
     pub child: usize,

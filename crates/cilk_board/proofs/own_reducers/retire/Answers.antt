@@ -6,9 +6,9 @@ use Rattle.cilk_monoid.specs.Ranges.{same_instance}
 use Rattle.cilk_monoid.specs.declared.kind.MonoidKind.TheVariants.{Add}
 use Rattle.cilk_hypermap.specs.Hypermap.{view_in}
 use Rattle.cilk_hypermap.proofs.Merges.{each_kind}
-use Rattle.cilk_board.specs.Leaving.{without_own}
-use Rattle.cilk_board.proofs.Finals.{without_next}
-use Rattle.cilk_board.proofs.outcome.retire.Goals as goal
+use Rattle.cilk_board.specs.Retired.{without_own}
+use Rattle.cilk_board.proofs.Retired.{without_next}
+use Rattle.cilk_board.proofs.own_reducers.retire.Goals as goal
 
 pub each-preserved : goal.each-preserved
 each-preserved c = λ k j.

@@ -2,8 +2,8 @@ use Rattle.std.proofs.Common.{◌≡◌, ◌≤◌, ℕ, take}
 use Rattle.cilk_monoid.specs.declared.kind.MonoidKind.{MonoidKind}
 use Rattle.cilk_hypermap.specs.Hypermap.{value_in}
 use Rattle.cilk_program.specs.SerialRun.{global_reducer}
-use Rattle.cilk_board.specs.Leaving.{finals_of}
-use Rattle.cilk_board.proofs.outcome.finals.Given as goal
+use Rattle.cilk_outcome.specs.Leaving.{finals_of}
+use Rattle.cilk_outcome.proofs.outcome.finals.Given as goal
 
 abbrev pub invariant-each : goal.invariant-each
 invariant-each l = (l.list.items ≡ finals_of l.fn.views 0 (take l.number l.kinds))
