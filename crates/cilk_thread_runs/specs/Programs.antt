@@ -1,8 +1,8 @@
 -- The worked stories are what programs make of their plans.
 use Rattle.std.specs.Prelude.{◌≡◌, pos, [], ◌∷◌}
 use Rattle.cilk_inputs.specs.Worked.{filled_on}
-use Rattle.cilk_thread_tests.specs.Others.{four, squares_on, squares_plan, three, turns_on, turns_plan}
-use Rattle.cilk_thread_tests.specs.Squared.{squared_on}
+use Rattle.cilk_thread_runs.specs.Others.{four, squares_on, squares_plan, three, turns_on, turns_plan}
+use Rattle.cilk_thread_runs.specs.Squared.{squared_on}
 
 -- on their own inputs, and on others
 pub record StoriesAreOfPrograms : Type 0 where

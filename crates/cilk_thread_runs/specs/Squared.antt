@@ -13,7 +13,7 @@ use Rattle.cilk_meaning.specs.Worked.{row, plain, num, local, returns, array}
 use Rattle.cilk_meaning.specs.WorkedFrames.{program, loop_in}
 use Rattle.cilk_story.specs.declared.story.Story.{Story}
 use Rattle.cilk_inputs.specs.Stories.{story_on}
-use Rattle.cilk_thread_tests.specs.Others.{squares, squares_opening}
+use Rattle.cilk_thread_runs.specs.Others.{squares, squares_opening}
 
 abbrev pub squared : Source
 squared =

@@ -3,8 +3,8 @@
 ghost use Rattle.std.specs.Prelude.{◌≡◌, ◌⊎◌, ◌++◌, ◌∷◌, [], pos, IfOk};
 ghost use Rattle.cilk_plan.specs.Along.{IsAlong};
 ghost use Rattle.cilk_shared.specs.Values.{OfYard};
-ghost use Rattle.cilk_thread_tests.specs.Others.{but_for, four, squares, squares_on, squares_plan, three, turns, turns_on, turns_plan, SquaresHavePlan, TurnsHavePlan};
-ghost use Rattle.cilk_thread_tests.specs.Programs.{StoriesAreOfPrograms};
+ghost use Rattle.cilk_thread_runs.specs.Others.{but_for, four, squares, squares_on, squares_plan, three, turns, turns_on, turns_plan, SquaresHavePlan, TurnsHavePlan};
+ghost use Rattle.cilk_thread_runs.specs.Programs.{StoriesAreOfPrograms};
 
 use cilk_plan::plan::Plan;
 use cilk_shared::yard::{Segment, Yard};

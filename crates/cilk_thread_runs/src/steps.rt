@@ -5,7 +5,7 @@ ghost use Rattle.cilk_story.specs.Runs.{IsAsked};
 ghost use Rattle.cilk_story.specs.Word.{event, resume, what};
 ghost use Rattle.cilk_plan.specs.Along.{IsAlong};
 ghost use Rattle.cilk_shared.specs.Values.{CanTake, IsTaken, OfYard};
-ghost use Rattle.cilk_thread_tests.specs.Settings.{AreOf};
+ghost use Rattle.cilk_thread_runs.specs.Settings.{AreOf};
 
 use cilk_plan::plan::Plan;
 use cilk_shared::taken::Taken;

@@ -6,7 +6,7 @@ use Rattle.cilk_plan.specs.Along.{IsAlong}
 use Rattle.cilk_plan.specs.Planned.{planned, all_asked}
 use Rattle.cilk_checker.specs.Determinate.{AcceptedRun}
 use Rattle.cilk_planning.specs.Plans.{IsPlanOf}
-use Rattle.cilk_thread_tests.specs.Settings.{AreOf}
+use Rattle.cilk_thread_runs.specs.Settings.{AreOf}
 
 all_of : (es : List Event) → replicate (length es) true ≡ all_asked es
 all_of [] = refl

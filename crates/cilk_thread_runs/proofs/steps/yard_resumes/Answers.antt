@@ -1,7 +1,7 @@
 use Rattle.std.proofs.Common.{◌≡◌, Some, ap, ◌∙◌}
 use Rattle.std.specs.Option.{is_some}
 use Rattle.cilk_plan.proofs.AlongPlans.{same_resume}
-use Rattle.cilk_thread_tests.proofs.steps.yard_resumes.Goals as goal
+use Rattle.cilk_thread_runs.proofs.steps.yard_resumes.Goals as goal
 
 pub returns : goal.returns
 returns c k is =

@@ -1,7 +1,7 @@
 -- The worked stories, computed: `stories_are_of_programs`.
 use Rattle.std.proofs.Common.{refl}
 use Rattle.std.specs.Int.{int_wrap}
-use Rattle.cilk_thread_tests.specs.Programs.{StoriesAreOfPrograms}
+use Rattle.cilk_thread_runs.specs.Programs.{StoriesAreOfPrograms}
 
 pub stories_are_of_programs : StoriesAreOfPrograms
 unfolding int_wrap

@@ -1,6 +1,6 @@
 use Rattle.std.proofs.Common.{ℕ, true, replicate, ap, ◌∙◌}
-use Rattle.cilk_thread_tests.proofs.Own.{own_are_of_whole}
-use Rattle.cilk_thread_tests.proofs.settings.on_its_own.Goals as goal
+use Rattle.cilk_thread_runs.proofs.Own.{own_are_of_whole}
+use Rattle.cilk_thread_runs.proofs.settings.on_its_own.Goals as goal
 
 pub returns-clause-run : goal.returns-clause-run
 returns-clause-run c = own_are_of_whole c.args.accepted.now c.in_ok-whole.whole.run c.in_ok-whole.whole.story c.into_events.result c.in_ok-yard.yard.story

@@ -3,8 +3,8 @@
 
 ghost use Rattle.std.specs.Prelude.{◌≡◌, ◌∷◌, [], pos, true, replicate, IfOk};
 ghost use Rattle.cilk_shared.specs.Values.{OfYard};
-ghost use Rattle.cilk_thread_tests.specs.Others.{four, three};
-ghost use Rattle.cilk_thread_tests.specs.Settings.{AreOf};
+ghost use Rattle.cilk_thread_runs.specs.Others.{four, three};
+ghost use Rattle.cilk_thread_runs.specs.Settings.{AreOf};
 
 use crate::others::{
     asked_but_for, asked_on_none, squares, squares_plan, squares_yard, turns, turns_plan,

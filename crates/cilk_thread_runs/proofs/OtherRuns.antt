@@ -9,8 +9,8 @@ use Rattle.cilk_story.specs.Values.{HasValues}
 use Rattle.cilk_plan.specs.Along.{IsAlong}
 use Rattle.cilk_runs.specs.Tested.{none}
 use Rattle.cilk_runs.proofs.Decided.{tests_tell}
-use Rattle.cilk_thread_tests.specs.Others.{four, squares_on, squares_plan, three, turns_on, turns_plan, SquaresHavePlan, TurnsHavePlan}
-use Rattle.cilk_thread_tests.proofs.Checked.{right_reads, valued}
+use Rattle.cilk_thread_runs.specs.Others.{four, squares_on, squares_plan, three, turns_on, turns_plan, SquaresHavePlan, TurnsHavePlan}
+use Rattle.cilk_thread_runs.proofs.Checked.{right_reads, valued}
 
 abbrev square : Shape
 square = act (act (act (act (act (sync finish)))))
