@@ -42,7 +42,7 @@ impl Drop for Board {
 impl Board {
     /// What the first frame's end left, once it has ended.
     pub fn into_outcome(self) -> Option<Outcome>
-        ensures { result ≡ self.entry.outcome }
+        ensures { result ≡ self.outcome }
     {
         let Board {
             frames: _frames,

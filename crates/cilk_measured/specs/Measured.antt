@@ -9,7 +9,7 @@ use Rattle.cilk_measured.specs.Words.{asks}
 use Rattle.cilk_measured.specs.declared.table.TheConstants.{BLANK, COMMA}
 use Rattle.cilk_tool.specs.Replies.{Text}
 use Rattle.cilk_tool.specs.Serving.{AreGiven, Surroundings}
-use Rattle.cilk_tool.specs.Words.{Origin}
+use Rattle.cilk_words.specs.Words.{Origin}
 
 -- these are the totals of the run of the program on its input, as the texts mean them that files and standard input give
 pub record AreTotalsOf (w : Surroundings) (program : Origin) (input : Option Text) (t : Totals) : Type 0 where

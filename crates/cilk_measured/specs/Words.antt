@@ -2,7 +2,7 @@
 use Rattle.std.specs.Prelude.{Bool, false, ◌&&◌, ◌||◌, not, List, [], ◌∷◌, filter, Option, Some, None, codes}
 use Rattle.std.specs.Str.{bytes_eq}
 use Rattle.cilk_tool.specs.Replies.{Text}
-use Rattle.cilk_tool.specs.Words.{Origin, Requested, Run, order_in}
+use Rattle.cilk_words.specs.Words.{Origin, Requested, Run, order_in}
 
 -- one word, which asks for help
 abbrev pub is_help : List Text → Bool

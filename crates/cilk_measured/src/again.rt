@@ -1,7 +1,7 @@
 //! Texts that are read once more, for what is told beside a reply.
 
 use cilk_tool::files::Files;
-use cilk_tool::words::Origin;
+use cilk_words::words::Origin;
 use std::alloc::{AllocError, Global};
 
 /// What a program is called, its text, and that of its input.

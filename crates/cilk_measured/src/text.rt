@@ -2,7 +2,7 @@
 
 ghost use Rattle.std.specs.Prelude.{◌≡◌, IfOk};
 ghost use Rattle.cilk_measured.specs.Measured.{IsMeasureText, IsTable, is_drawn, mark_in};
-ghost use Rattle.cilk_tool.specs.Words.{texts};
+ghost use Rattle.cilk_words.specs.Words.{texts};
 
 use crate::again::{CaseTexts, case_texts};
 use crate::rows::{Details, details_of};
@@ -12,7 +12,7 @@ use cilk_findings::case::Case;
 use cilk_findings::drawing::{profile_of, tree_of_run};
 use cilk_measure::totals::Totals;
 use cilk_tool::files::Files;
-use cilk_tool::words::Origin;
+use cilk_words::words::Origin;
 use std::alloc::{AllocError, Global};
 
 /// What is shown of a run with these totals, as the words ask: a table that begins with them, or a picture. The program and its input are

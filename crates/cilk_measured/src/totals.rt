@@ -4,13 +4,13 @@ ghost use Rattle.std.specs.Prelude.{◌≡◌, ◌<◌, IfErr, IfOk, option_map}
 ghost use Rattle.cilk_measured.specs.Measured.{AreTotalsOf};
 ghost use Rattle.cilk_tool.specs.Replies.{failure_view};
 ghost use Rattle.cilk_tool.specs.Serving.{RunReply, world};
-ghost use Rattle.cilk_tool.specs.Words.{origin_view};
+ghost use Rattle.cilk_words.specs.Words.{origin_view};
 
 use cilk_measure::totals::{Totals, measure};
 use cilk_tool::files::Files;
 use cilk_tool::reply::Failure;
-use cilk_tool::words::Origin;
 use cilk_tool::{given, stopped};
+use cilk_words::words::Origin;
 use std::alloc::Global;
 use std::io::Read;
 

@@ -4,10 +4,10 @@ ghost use Rattle.std.specs.Prelude.{◌≡◌, IfOk, Some, filter, not, option_m
 ghost use Rattle.cilk_measured.specs.Words.{asks, behind_first, is_form, is_help, is_measure, run_of, words_of_run};
 ghost use Rattle.cilk_tool.specs.Replies.{failure_view};
 ghost use Rattle.cilk_tool.specs.Serving.{WordsFail};
-ghost use Rattle.cilk_tool.specs.Words.{order_view, origin_view, texts};
+ghost use Rattle.cilk_words.specs.Words.{order_view, origin_view, texts};
 
 use cilk_tool::reply::Failure;
-use cilk_tool::words::{Order, Origin};
+use cilk_words::words::{Order, Origin};
 use std::alloc::{AllocError, Global};
 
 // What is said of words that don't say what to measure.

@@ -23,7 +23,7 @@ use Rattle.cilk_tool.specs.Files.{Failures, IsHeld}
 use Rattle.cilk_tool.specs.Replies.{Ended, NoMemory, Refused, Reply, Text, failure_view}
 use Rattle.cilk_tool.specs.Serving.{AreGiven, InputFileFails, Judged, JudgedReply, Surroundings}
 use Rattle.cilk_tool.specs.Shown.{CheckShows}
-use Rattle.cilk_tool.specs.Words.{Origin}
+use Rattle.cilk_words.specs.Words.{Origin}
 use Rattle.cilk_tool.specs.declared.reply.Failure.{Failure}
 use Rattle.cilk_parallel.specs.Endings.{AreNotGiven, IsVerdict, StaysBeside, ending_view}
 use Rattle.cilk_parallel.specs.declared.running.Verdict.{Verdict}

@@ -16,9 +16,9 @@ use Rattle.clap.specs.declared.parser.matches.ArgMatches.{ArgMatches}
 use Rattle.clap.specs.declared.parser.matches.Found.{Found}
 use Rattle.clap.proofs.OnLiterals.{clap_on_literals}
 use Rattle.clap.proofs.WalkLemmas.{first_value-rows}
-use Rattle.cilk_tool.specs.Words.{IsRefusal, texts, workers_in}
-use Rattle.cilk_tool.specs.declared.words.WordsFault.{WordsFault}
-use Rattle.cilk_tool.specs.declared.words.WordsFault.TheVariants.{Usage, Memory}
+use Rattle.cilk_words.specs.Words.{IsRefusal, texts, workers_in}
+use Rattle.cilk_words.specs.declared.words.WordsFault.{WordsFault}
+use Rattle.cilk_words.specs.declared.words.WordsFault.TheVariants.{Usage, Memory}
 use Rattle.cilk_parallel.specs.Words.{IsWordsFault, Requested, order_by, order_in, order_view, parallel_app, requested, texts_in, texts_view, threads_with}
 use Rattle.cilk_parallel.specs.declared.words.Order.{Order}
 

@@ -14,8 +14,8 @@ use Rattle.cilk_tool.specs.Serving.{IsOrNoMemory, ProgramUnread, Shows, ShowsErr
 use Rattle.cilk_tool.specs.Streams.{AppendsFront, AppendsPart}
 use Rattle.cilk_tool.specs.declared.reply.Failure.{Failure}
 use Rattle.cilk_tool.specs.declared.reply.Failure.TheVariants as failures
-use Rattle.cilk_tool.specs.declared.words.WordsFault.{WordsFault}
-use Rattle.cilk_tool.specs.declared.words.WordsFault.TheVariants as faults
+use Rattle.cilk_words.specs.declared.words.WordsFault.{WordsFault}
+use Rattle.cilk_words.specs.declared.words.WordsFault.TheVariants as faults
 use Rattle.cilk_report.proofs.Replies.{IsUsage}
 use Rattle.cilk_tool.proofs.Replying.{keeps}
 use Rattle.cilk_parallel.specs.Serving.{Answers, ServesThreads}

@@ -6,8 +6,8 @@ use Rattle.cilk_report.specs.Explained.{ComesBehind, Measures, Schedules, Serves
 use Rattle.cilk_tool.specs.Files.{Failures}
 use Rattle.cilk_tool.specs.Replies.{Reply, Text}
 use Rattle.cilk_tool.specs.Serving.{JudgedReply, Shows, Surroundings, WordsFail, world}
-use Rattle.cilk_tool.specs.Words as tool
-use Rattle.cilk_tool.specs.Words.{File}
+use Rattle.cilk_words.specs.Words as tool
+use Rattle.cilk_words.specs.Words.{File}
 use Rattle.cilk_parallel.specs.Shown.{ThreadsShow}
 use Rattle.cilk_parallel.specs.Words.{Requested, order_in}
 

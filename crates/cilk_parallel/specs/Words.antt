@@ -5,9 +5,9 @@ use Rattle.std.specs.Borrow.{Bor}
 use Rattle.clap.specs.Words.{App, Row, Rule, Text, fault_of, first_of, new_app, new_rule, subcommand_of, with_rule, with_subcommand}
 use Rattle.clap.specs.Walk.{is_empty}
 use Rattle.clap.specs.declared.builder.action.ArgAction.TheVariants.{Set}
-use Rattle.cilk_tool.specs.Words.{certificate_rule, empty_app, input_rule, program_rule, workers_in, workers_rule}
-use Rattle.cilk_tool.specs.declared.words.WordsFault.{WordsFault}
-use Rattle.cilk_tool.specs.declared.words.WordsFault.TheVariants.{Usage, Memory}
+use Rattle.cilk_words.specs.Words.{certificate_rule, empty_app, input_rule, program_rule, workers_in, workers_rule}
+use Rattle.cilk_words.specs.declared.words.WordsFault.{WordsFault}
+use Rattle.cilk_words.specs.declared.words.WordsFault.TheVariants.{Usage, Memory}
 use Rattle.cilk_parallel.specs.declared.words.Order.{Order}
 
 -- to check the certificate of a program, whose input is that of a file or the empty one, and to run the program by so many workers, on that

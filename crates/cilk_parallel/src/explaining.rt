@@ -9,7 +9,7 @@ use cilk_report::{of_answer, of_failure};
 use cilk_tool::files::Files;
 use cilk_tool::input as judge_input;
 use cilk_tool::reply::Failure;
-use cilk_tool::words::Order as Asked;
+use cilk_words::words::Order as Asked;
 use std::alloc::{AllocError, Global};
 
 /// The words of `check` that ask for the same certificate of the same run, with the numbers of a file or none.

@@ -2,10 +2,10 @@
 
 ghost use Rattle.std.specs.Prelude.{◌≡◌, IfOk, IfErr, Some, option_map};
 ghost use Rattle.clap.specs.Words.{found_of, rows_of, subcommand_rows_of};
-ghost use Rattle.cilk_tool.specs.Words.{HasShape, texts};
+ghost use Rattle.cilk_words.specs.Words.{HasShape, texts};
 ghost use Rattle.cilk_parallel.specs.Words.{IsWordsFault, checked_app, order_by, order_in, order_view, parallel_app, texts_in, texts_view, threads_app, threads_with, two_texts_app};
 
-use cilk_tool::words::{WordsFault, refusal, workers_in};
+use cilk_words::words::{WordsFault, empty, refusal, with, workers_in};
 use clap::{Arg, ArgAction, ArgMatches, Command};
 use std::alloc::{AllocError, Global};
 
@@ -31,44 +31,40 @@ pub struct Order<'a> {
 fn two_texts<'a>(alloc: Global) -> Result<Command<'a>, AllocError>
     ensures { IfOk result (λ c. HasShape c two_texts_app) }
 {
-    let program = Arg::new(alloc, "program").required(true);
-    let certificate = Arg::new(alloc, "certificate").required(true);
     Command::new(alloc, "threads")
-        .arg(program)?
-        .arg(certificate)
+        .arg(Arg::new(alloc, "program").required(true))?
+        .arg(Arg::new(alloc, "certificate").required(true))
 }
 
 /// The same with `[--workers N] [--input FILE]`.
 fn checked_texts<'a>(alloc: Global) -> Result<Command<'a>, AllocError>
     ensures { IfOk result (λ c. HasShape c checked_app) }
 {
-    let workers = Arg::new(alloc, "workers")
-        .long("workers")
-        .action(ArgAction::Set);
-    let input = Arg::new(alloc, "input")
-        .long("input")
-        .action(ArgAction::Set);
-    two_texts(alloc)?.arg(workers)?.arg(input)
+    two_texts(alloc)?
+        .arg(
+            Arg::new(alloc, "workers")
+                .long("workers")
+                .action(ArgAction::Set),
+        )?
+        .arg(
+            Arg::new(alloc, "input")
+                .long("input")
+                .action(ArgAction::Set),
+        )
 }
 
 /// `threads PROGRAM CERTIFICATE [--workers N] [--input FILE] [--on FILE]`.
 fn threads_command<'a>(alloc: Global) -> Result<Command<'a>, AllocError>
     ensures { IfOk result (λ c. HasShape c threads_app) }
 {
-    let on = Arg::new(alloc, "on").long("on").action(ArgAction::Set);
-    checked_texts(alloc)?.arg(on)
+    checked_texts(alloc)?.arg(Arg::new(alloc, "on").long("on").action(ArgAction::Set))
 }
 
 /// The command, a simple one.
 fn command<'a>(alloc: Global) -> Result<Command<'a>, AllocError>
     ensures { IfOk result (λ c. HasShape c parallel_app) }
 {
-    let threads = threads_command(alloc)?.about(THREADS);
-    Command::new(alloc, "cilk")
-        .no_binary_name(true)
-        .subcommand_required(true)
-        .bin_name("cilk")?
-        .subcommand(threads)
+    with(empty(alloc)?, threads_command(alloc), THREADS)
 }
 
 /// The paths of the program and of the certificate that the matches name.

@@ -10,7 +10,7 @@ use Rattle.cilk_report.specs.Explained.{Complains, ComesBehind, IsNoOutcome, Mea
 use Rattle.cilk_tool.specs.Files.{Failures}
 use Rattle.cilk_tool.specs.Replies.{NoMemory, Reply, Text, failure_view, status_of}
 use Rattle.cilk_tool.specs.Serving.{IsOrNoMemory, RunReply, ShowsError, WordsFail, world}
-use Rattle.cilk_tool.specs.Words.{Origin, Requested, order_in}
+use Rattle.cilk_words.specs.Words.{Origin, Requested, order_in}
 use Rattle.cilk_tool.specs.declared.reply.Failure.{Failure}
 use Rattle.cilk_tool.specs.declared.reply.Failure.TheVariants as failures
 

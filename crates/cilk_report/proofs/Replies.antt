@@ -7,9 +7,9 @@ use Rattle.cilk_report.specs.Explained.{ComesBehind}
 use Rattle.cilk_tool.proofs.Replying.{ends, fails, keeps, no_memory}
 use Rattle.cilk_tool.specs.Replies.{Reply, Text, failure_view, status_of}
 use Rattle.cilk_tool.specs.Serving.{Answers, IsOrNoMemory, Serves, Shows, ShowsError, Surroundings, WordsFail}
-use Rattle.cilk_tool.specs.Words.{IsWordsFault, Requested, order_in}
-use Rattle.cilk_tool.specs.declared.words.WordsFault.{WordsFault}
-use Rattle.cilk_tool.specs.declared.words.WordsFault.TheVariants as faults
+use Rattle.cilk_words.specs.Words.{IsWordsFault, Requested, order_in}
+use Rattle.cilk_words.specs.declared.words.WordsFault.{WordsFault}
+use Rattle.cilk_words.specs.declared.words.WordsFault.TheVariants as faults
 use Rattle.cilk_tool.specs.declared.reply.Failure.{Failure}
 use Rattle.cilk_tool.specs.declared.reply.Failure.TheVariants as failures
 

@@ -7,7 +7,7 @@ use Rattle.cilk_tool.specs.Files.{Failures}
 use Rattle.cilk_tool.specs.Replies.{Ended, NoMemory, Refused, Reply, Text, line, status_of}
 use Rattle.cilk_tool.specs.Serving.{Answers, RunReply, Serves, ShowsError, WordsFail, world}
 use Rattle.cilk_tool.specs.Streams.{AppendsFront, AppendsPart}
-use Rattle.cilk_tool.specs.Words.{Origin, order_in}
+use Rattle.cilk_words.specs.Words.{Origin, order_in}
 use Rattle.cilk_measured.specs.Measured.{AreTotalsOf, IsMeasureText}
 use Rattle.cilk_measured.specs.Words.{behind_first, is_help as asks_help, is_measure, measured_run}
 use Rattle.cilk_report.specs.declared.about.About.{About as AboutAnswer}

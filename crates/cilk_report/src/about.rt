@@ -2,7 +2,7 @@
 
 ghost use Rattle.std.specs.Prelude.{◌≡◌, IfOk};
 ghost use Rattle.cilk_report.specs.Explained.{IsAnswer, IsAskedFor, is_about, is_command, is_help, is_option, is_question, is_question_on};
-ghost use Rattle.cilk_tool.specs.Words.{texts};
+ghost use Rattle.cilk_words.specs.Words.{texts};
 
 use crate::help::{HELP, VERSION, help_on};
 use cilk_explain::report::{of_all, of_number};

@@ -10,8 +10,8 @@ use cilk_measured::{CaseTexts, case_texts, read_again};
 use cilk_races::races::of_race;
 use cilk_tool::files::Files;
 use cilk_tool::reply::{Answer, Failure};
-use cilk_tool::words::{Order, Origin};
 use cilk_types::event::Pos;
+use cilk_words::words::{Order, Origin};
 use std::alloc::{AllocError, Global};
 
 /// The files that an order names: its program, where that isn't standard input, its input, and its certificate or script.

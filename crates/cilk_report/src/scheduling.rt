@@ -4,7 +4,7 @@ ghost use Rattle.std.specs.Prelude.{◌≡◌, ◌<◌, IfOk, IfSome};
 ghost use Rattle.cilk_measured.specs.Words.{behind_first};
 ghost use Rattle.cilk_report.specs.Explained.{IsRefusal, Schedules, is_schedule, words_of_check};
 ghost use Rattle.cilk_tool.specs.Replies.{answer_view};
-ghost use Rattle.cilk_tool.specs.Words.{texts};
+ghost use Rattle.cilk_words.specs.Words.{texts};
 
 use crate::explaining::{of_answer, of_failure, race_of, texts_of};
 use crate::flags::unflagged;
@@ -16,8 +16,8 @@ use cilk_measured::{CaseTexts, asks, behind_first, is_help};
 use cilk_races::races::script_of_race;
 use cilk_tool::files::Files;
 use cilk_tool::reply::{Answer, Failure};
-use cilk_tool::words::{Order, WordsFault, read};
 use cilk_tool::{carry_out, complain, show};
+use cilk_words::words::{Order, WordsFault, read};
 use std::alloc::{AllocError, Global};
 use std::io::{Read, Write};
 

@@ -5,7 +5,7 @@ ghost use Rattle.cilk_report.specs.Explained.{ComesBehind, Measures, Schedules, 
 ghost use Rattle.cilk_measured.specs.Words.{is_measure, measured_run, words_of_run};
 ghost use Rattle.cilk_tool.specs.Replies.{failure_view};
 ghost use Rattle.cilk_tool.specs.Serving.{WordsFail};
-ghost use Rattle.cilk_tool.specs.Words.{order_in, origin_view, texts};
+ghost use Rattle.cilk_words.specs.Words.{order_in, origin_view, texts};
 
 use crate::about::{About, answer_about};
 use crate::explaining::{of_answer, of_failure};
@@ -16,8 +16,8 @@ use cilk_measured::{asks, is_measure, run_of, run_words, text_of, totals_of, usa
 use cilk_tool::files::Files;
 use cilk_tool::reply::{Failure, WRONG};
 use cilk_tool::streams::send;
-use cilk_tool::words::{Order, Origin, WordsFault, read};
 use cilk_tool::{Served, carry_out, complain, show, tell};
+use cilk_words::words::{Order, Origin, WordsFault, read};
 use std::alloc::{AllocError, Global};
 use std::io::{Read, Write};
 

@@ -1,4 +1,3 @@
-pub mod Entered
 pub mod Lines
 pub mod OneReply
 pub mod OneShown

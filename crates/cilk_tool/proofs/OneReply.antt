@@ -22,8 +22,8 @@ use Rattle.cilk_tool.specs.Files.{Failures}
 use Rattle.cilk_tool.specs.Replies.{BadInput, BadProgram, BadWords, NoMemory, Reply, Text, Unreadable}
 use Rattle.cilk_tool.specs.Serving.{AreGiven, CertifyReply, CheckReply, GivesInput, GivesProgram, InputFileFails, InputRefused, InputUnread, Judged, JudgedReply, NoneGiven, OriginFails, PlayReply, ProgramRefused, ProgramUnread, RunReply, Unjudged, WordsFail, Surroundings}
 use Rattle.cilk_tool.specs.Shown.{CertifyShows, CheckShows, InputFails, PlayShows, ProgramFails, RunShows, input_fault_view, program_fault_view}
-use Rattle.cilk_tool.specs.Words.{Requested, File, Origin, Standard, order_in}
-use Rattle.cilk_tool.specs.Words as words
+use Rattle.cilk_words.specs.Words.{Requested, File, Origin, Standard, order_in}
+use Rattle.cilk_words.specs.Words as words
 use Rattle.cilk_tool.proofs.OneShown.{certifies_once, checks_once, shows_once}
 use Rattle.cilk_tool.proofs.OnePlayed.{plays_once}
 use Rattle.cilk_tool.proofs.Workers.{HasWorkers, has_workers}

@@ -32,7 +32,7 @@ use Rattle.cilk_play.specs.Playing.{Ends, FailsAsSettled, IsFault}
 use Rattle.cilk_play.specs.declared.fault.PlayFault.{PlayFault}
 use Rattle.cilk_play.specs.declared.fault.PlayFault.TheVariants as play_faults
 use Rattle.cilk_tool.specs.Streams.{AppendsFront, AppendsPart}
-use Rattle.cilk_tool.specs.Words.{Requested, Certify, Check, File, Play, Run, Origin, Standard, order_in}
+use Rattle.cilk_words.specs.Words.{Requested, Certify, Check, File, Play, Run, Origin, Standard, order_in}
 use Rattle.cilk_tool.specs.declared.reply.Answer.{Answer}
 use Rattle.cilk_tool.specs.declared.reply.Failure.{Failure}
 use Rattle.cilk_tool.specs.declared.reply.Failure.TheVariants as failures

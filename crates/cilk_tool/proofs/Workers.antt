@@ -9,9 +9,9 @@ use Rattle.std.proofs.lemmas.Bool.{and_parts}
 use Rattle.clap.specs.Words.{Row, Text, fault_of, first_of, subcommand_of}
 use Rattle.clap.specs.Walk.{is_empty}
 use Rattle.cilk_lexer.specs.Lexing.{all_digits, value_of}
-use Rattle.cilk_tool.specs.declared.words.TheConstants.{MAX_WORKERS}
-use Rattle.cilk_tool.specs.Words as words
-use Rattle.cilk_tool.specs.Words.{Certify, Check, Play, Requested, Run, certify_with, check_with, cilk_app, named, order_by, order_in, paths_in, play_with, run_with, script_with, worker_count, workers_in}
+use Rattle.cilk_words.specs.declared.words.TheConstants.{MAX_WORKERS}
+use Rattle.cilk_words.specs.Words as words
+use Rattle.cilk_words.specs.Words.{Certify, Check, Play, Requested, Run, certify_with, check_with, cilk_app, named, order_by, order_in, paths_in, play_with, run_with, script_with, worker_count, workers_in}
 
 -- what is asked for has workers, where it is a script
 abbrev pub HasWorkers : Option Requested → Type 0

@@ -4,4 +4,3 @@ pub mod Replies
 pub mod Serving
 pub mod Shown
 pub mod Streams
-pub mod Words

@@ -2,7 +2,7 @@
 use Rattle.std.specs.Prelude.{◌≡◌, Option, Some, None, IsSome}
 use Rattle.cilk_tool.specs.Replies.{NoMemory, Reply, Text, Unreadable}
 use Rattle.cilk_tool.specs.Serving.{Answers, Surroundings}
-use Rattle.cilk_tool.specs.Words.{Requested, Certify, Check, File, Origin, Play, Run, Standard}
+use Rattle.cilk_words.specs.Words.{Requested, Certify, Check, File, Origin, Play, Run, Standard}
 
 -- it is known what standard input gives, or the file
 abbrev pub IsKnown : Surroundings → Origin → Type 0

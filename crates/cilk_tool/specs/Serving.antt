@@ -8,7 +8,7 @@ use Rattle.cilk_judge.specs.Judging.{IsProgramText, Meant}
 use Rattle.cilk_tool.specs.Replies.{BadWords, IsErrorText, NoMemory, Reply, Text, Unreadable, line, out_text, status_of}
 use Rattle.cilk_tool.specs.Shown.{CertifyShows, CheckShows, InputFails, PlayShows, ProgramFails, RunShows}
 use Rattle.cilk_tool.specs.Streams.{AppendsFront, AppendsPart}
-use Rattle.cilk_tool.specs.Words.{Requested, Certify, Check, File, Play, Run, Origin, Standard, order_in}
+use Rattle.cilk_words.specs.Words.{Requested, Certify, Check, File, Play, Run, Origin, Standard, order_in}
 
 -- standard input gives the text: all of it, up to the limit
 abbrev pub IsReceived : Option Text → Text → Type 0

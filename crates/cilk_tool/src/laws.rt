@@ -4,10 +4,10 @@ ghost use Rattle.std.specs.Prelude.{◌≡◌, List};
 ghost use Rattle.cilk_tool.specs.OneReply.{HasOneReply};
 ghost use Rattle.cilk_tool.specs.Replies.{Text};
 ghost use Rattle.cilk_tool.specs.Serving.{Surroundings};
-ghost use Rattle.cilk_tool.specs.Words.{order_in};
+ghost use Rattle.cilk_words.specs.Words.{order_in};
 ghost use Rattle.cilk_tool.specs.declared.disk.TheConstants.{MAX_FILE};
 ghost use Rattle.cilk_tool.specs.declared.streams.TheConstants.{MAX_READ};
-ghost use Rattle.cilk_tool.specs.declared.words.TheConstants.{MAX_WORKERS};
+ghost use Rattle.cilk_words.specs.declared.words.TheConstants.{MAX_WORKERS};
 
 /// Two replies to the same words, files and input that are no want of memory and blame no device are equal.
 pub fn reply_is_one()

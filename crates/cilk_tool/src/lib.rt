@@ -20,7 +20,6 @@ pub mod reply;
 mod running;
 mod serving;
 pub mod streams;
-pub mod words;
 
 pub use judge::{input, names, stopped};
 pub use running::{given, read_file, refused};

@@ -8,7 +8,7 @@ ghost use Rattle.cilk_checker.specs.declared.refusal.Refusal.TheVariants as refu
 ghost use Rattle.cilk_tool.specs.Replies.{NoMemory, Refused, answer_view, failure_view, places_of};
 ghost use Rattle.cilk_tool.specs.Serving.{AreGiven, CertifyReply, CheckReply, FileFails, GivesInput, GivesProgram, InputFileFails, IsReceived, NoneGiven, OriginFails, PlayReply, RunReply, StandardFails, world};
 ghost use Rattle.cilk_tool.specs.Shown.{CheckShows, PlayShows};
-ghost use Rattle.cilk_tool.specs.Words.{origin_view};
+ghost use Rattle.cilk_words.specs.Words.{origin_view};
 
 use crate::counted::CountedReader;
 use crate::files::{FileFault, Files};
@@ -16,11 +16,11 @@ use crate::judge;
 use crate::parts::PartSource;
 use crate::reply::{Answer, Failure};
 use crate::streams::receive;
-use crate::words::Origin;
 use cilk_checker::check::check_run;
 use cilk_checker::refusal::{Refusal, Unaccepted};
 use cilk_program::program::Program;
 use cilk_types::input::Input;
+use cilk_words::words::Origin;
 use std::alloc::Global;
 use std::io::Read;
 

@@ -5,13 +5,13 @@ ghost use Rattle.cilk_tool.specs.OneReply.{HasOneReply};
 ghost use Rattle.cilk_tool.specs.Replies.{Reply, answer_view, failure_view, status_of};
 ghost use Rattle.cilk_tool.specs.Serving.{Answers, IsOrNoMemory, Serves, Shows, ShowsError, world};
 ghost use Rattle.cilk_tool.specs.Streams.{AppendsFront};
-ghost use Rattle.cilk_tool.specs.Words.{order_in, order_view, texts};
+ghost use Rattle.cilk_words.specs.Words.{order_in, order_view, texts};
 
 use crate::files::Files;
 use crate::reply::{Answer, Failure, NO_MEMORY, NO_MEMORY_LINE, WRONG};
 use crate::running::{certify, check, play, run};
 use crate::streams::send;
-use crate::words::{Order, WordsFault, read};
+use cilk_words::words::{Order, WordsFault, read};
 use std::alloc::Global;
 use std::io::{Read, Write};
 

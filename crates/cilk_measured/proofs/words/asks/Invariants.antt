@@ -1,6 +1,6 @@
 use Rattle.std.proofs.Common.{◌≡◌, length}
 use Rattle.cilk_measured.specs.Words.{asks}
-use Rattle.cilk_tool.specs.Words.{texts}
+use Rattle.cilk_words.specs.Words.{texts}
 use Rattle.cilk_measured.proofs.words.asks.Given as goal
 
 abbrev pub invariant-each : goal.invariant-each

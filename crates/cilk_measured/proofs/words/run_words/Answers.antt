@@ -2,7 +2,7 @@ use Rattle.std.proofs.Common.{◌∷◌, ap, ◌∙◌}
 use Rattle.std.specs.Prelude.{codes, filter, not}
 use Rattle.cilk_measured.proofs.Formed.{formed_texts}
 use Rattle.cilk_measured.specs.Words.{is_form}
-use Rattle.cilk_tool.specs.Words.{texts}
+use Rattle.cilk_words.specs.Words.{texts}
 use Rattle.cilk_measured.proofs.words.run_words.Goals as goal
 
 pub returns : goal.returns

@@ -1,5 +1,5 @@
 use Rattle.std.proofs.Common.{subst, sym}
-use Rattle.cilk_tool.specs.declared.words.WordsFault.{WordsFault}
+use Rattle.cilk_words.specs.declared.words.WordsFault.{WordsFault}
 use Rattle.cilk_report.proofs.Replies.{IsUsage, silence}
 use Rattle.cilk_parallel.proofs.Showing.{answered, ends, fails, no_words, starved, told_status, unasked}
 use Rattle.cilk_parallel.proofs.serving.serve_flagged.Goals as goal

@@ -3,7 +3,7 @@ use Rattle.cilk_report.proofs.Plain.{as_many, fewer, plain_texts}
 use Rattle.cilk_report.proofs.Replies.{silence}
 use Rattle.cilk_report.specs.Explained.{unflagged}
 use Rattle.cilk_tool.specs.Replies.{Text}
-use Rattle.cilk_tool.specs.Words.{texts}
+use Rattle.cilk_words.specs.Words.{texts}
 use Rattle.cilk_parallel.proofs.Showing.{fails, no_words, starved}
 use Rattle.cilk_parallel.specs.Serving.{Explained, Plain, ThreadsThenExplains}
 use Rattle.cilk_parallel.proofs.serving.serve_unread.Goals as goal

@@ -2,7 +2,7 @@ use Rattle.std.proofs.Common.{refl, subst, sym}
 use Rattle.cilk_report.proofs.Measuring as measuring
 use Rattle.cilk_report.proofs.Replies.{IsUsage, ended, failed, silence, starved, unasked}
 use Rattle.cilk_report.specs.Explained.{Checked, Served}
-use Rattle.cilk_tool.specs.declared.words.WordsFault.{WordsFault}
+use Rattle.cilk_words.specs.declared.words.WordsFault.{WordsFault}
 use Rattle.cilk_report.proofs.serving.serve_explained.Goals as goal
 
 pub returns-in-Ok-carry_out-clause-served : goal.returns-in-Ok-carry_out-clause-served

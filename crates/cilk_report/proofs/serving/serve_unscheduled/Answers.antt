@@ -4,7 +4,7 @@ use Rattle.cilk_report.proofs.Plain.{as_many, fewer, plain_texts}
 use Rattle.cilk_report.proofs.Replies.{refused, silence, starved}
 use Rattle.cilk_report.specs.Explained.{About, Explained, Served, ServesThenExplains, unflagged}
 use Rattle.cilk_tool.specs.Replies.{Text}
-use Rattle.cilk_tool.specs.Words.{texts}
+use Rattle.cilk_words.specs.Words.{texts}
 use Rattle.cilk_tool.specs.declared.reply.Failure.TheVariants as failures
 use Rattle.cilk_report.proofs.serving.serve_unscheduled.Goals as goal
 

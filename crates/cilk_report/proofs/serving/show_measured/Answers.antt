@@ -4,7 +4,7 @@ use Rattle.cilk_report.proofs.Measuring.{fails, starved}
 use Rattle.cilk_report.proofs.Replies.{silence}
 use Rattle.cilk_report.specs.Explained.{Measured}
 use Rattle.cilk_tool.specs.Replies.{Text}
-use Rattle.cilk_tool.specs.Words.{texts}
+use Rattle.cilk_words.specs.Words.{texts}
 use Rattle.cilk_report.proofs.serving.show_measured.Goals as goal
 
 pub returns-in-Ok-text_of : goal.returns-in-Ok-text_of

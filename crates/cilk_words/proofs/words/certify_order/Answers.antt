@@ -1,8 +1,8 @@
 use Rattle.std.proofs.Common.{ap, option_map, ◌∙◌}
 use Rattle.clap.specs.Words.{found_of, rows_of}
-use Rattle.cilk_tool.specs.Words.{Certify, order_view}
-use Rattle.cilk_tool.proofs.Entered.{asked_by}
-use Rattle.cilk_tool.proofs.words.certify_order.Goals as goal
+use Rattle.cilk_words.specs.Words.{Certify, order_view}
+use Rattle.cilk_words.proofs.Entered.{asked_by}
+use Rattle.cilk_words.proofs.words.certify_order.Goals as goal
 
 pub returns-in_err-program : goal.returns-in_err-program
 returns-in_err-program c =

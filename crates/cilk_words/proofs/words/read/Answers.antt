@@ -1,6 +1,6 @@
 use Rattle.std.proofs.Common.{◌≡◌, ◌∙◌, sym, length, rules}
-use Rattle.cilk_tool.proofs.Entered.{free_shape, order_found, order_lost, order_of_none, order_of_matches, order_of_refused}
-use Rattle.cilk_tool.proofs.words.read.Goals as goal
+use Rattle.cilk_words.proofs.Entered.{free_shape, order_found, order_lost, order_of_none, order_of_matches, order_of_refused}
+use Rattle.cilk_words.proofs.words.read.Goals as goal
 
 pub returns-then-is_empty-clause-order : goal.returns-then-is_empty-clause-order
 returns-then-is_empty-clause-order c = order_of_none c.args.words.now (search rules)

@@ -1,8 +1,8 @@
 use Rattle.std.proofs.Common.{ap, option_map, ◌∙◌, sym}
 use Rattle.clap.specs.Words.{found_of}
-use Rattle.cilk_tool.specs.Words.{paths_view}
-use Rattle.cilk_tool.proofs.Entered.{no_paths, some_paths}
-use Rattle.cilk_tool.proofs.words.paths.Goals as goal
+use Rattle.cilk_words.specs.Words.{paths_view}
+use Rattle.cilk_words.proofs.Entered.{no_paths, some_paths}
+use Rattle.cilk_words.proofs.words.paths.Goals as goal
 
 pub returns-in_err-program : goal.returns-in_err-program
 returns-in_err-program c =

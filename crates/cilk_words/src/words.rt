@@ -4,8 +4,8 @@
 //! what it takes.
 
 ghost use Rattle.std.specs.Prelude.{◌≡◌, ℕ, option_map, IfOk, IfErr, Some};
-ghost use Rattle.clap.specs.Words.{found_of, kind_of, rows_of, subcommand_rows_of};
-ghost use Rattle.cilk_tool.specs.Words.{HasShape, program_app, check_app, cilk_app, order_in, order_by, paths_in, paths_view, play_app, play_with, script_app, run_with, certify_with, check_with, IsWordsFault, order_view, IsRefusal, texts, worker_count, workers_in};
+ghost use Rattle.clap.specs.Words.{App, found_of, kind_of, rows_of, subcommand_rows_of, with_subcommand};
+ghost use Rattle.cilk_words.specs.Words.{HasShape, program_app, check_app, cilk_app, empty_app, order_in, order_by, paths_in, paths_view, play_app, play_with, script_app, run_with, certify_with, check_with, IsWordsFault, order_view, IsRefusal, texts, worker_count, workers_in};
 
 use cilk_lexer::lexer::{all_digits, value_of};
 use clap::error::ErrorKind;
@@ -76,7 +76,7 @@ pub enum WordsFault {
 }
 
 impl From<AllocError> for WordsFault {
-    ghost use Rattle.cilk_tool.specs.declared.words.WordsFault.TheVariants.{Memory};
+    ghost use Rattle.cilk_words.specs.declared.words.WordsFault.TheVariants.{Memory};
 
     ghost from_gives = { λ _ e. e ≡ Memory };
 
@@ -89,66 +89,85 @@ impl From<AllocError> for WordsFault {
 fn program_command<'a>(alloc: Global, name: &'a str) -> Result<Command<'a>, AllocError>
     ensures { IfOk result (λ c. HasShape c (program_app name.entry.now)) }
 {
-    let program = Arg::new(alloc, "program").required(true);
-    let input = Arg::new(alloc, "input")
-        .long("input")
-        .action(ArgAction::Set);
-    Command::new(alloc, name).arg(program)?.arg(input)
+    Command::new(alloc, name)
+        .arg(Arg::new(alloc, "program").required(true))?
+        .arg(
+            Arg::new(alloc, "input")
+                .long("input")
+                .action(ArgAction::Set),
+        )
 }
 
 /// `check PROGRAM CERTIFICATE [--input FILE]`.
 fn check_command<'a>(alloc: Global) -> Result<Command<'a>, AllocError>
     ensures { IfOk result (λ c. HasShape c check_app) }
 {
-    let program = Arg::new(alloc, "program").required(true);
-    let certificate = Arg::new(alloc, "certificate").required(true);
-    let input = Arg::new(alloc, "input")
-        .long("input")
-        .action(ArgAction::Set);
     Command::new(alloc, "check")
-        .arg(program)?
-        .arg(certificate)?
-        .arg(input)
+        .arg(Arg::new(alloc, "program").required(true))?
+        .arg(Arg::new(alloc, "certificate").required(true))?
+        .arg(
+            Arg::new(alloc, "input")
+                .long("input")
+                .action(ArgAction::Set),
+        )
 }
 
 /// `play PROGRAM SCRIPT`.
 fn script_command<'a>(alloc: Global) -> Result<Command<'a>, AllocError>
     ensures { IfOk result (λ c. HasShape c script_app) }
 {
-    let program = Arg::new(alloc, "program").required(true);
-    let script = Arg::new(alloc, "script").required(true);
-    Command::new(alloc, "play").arg(program)?.arg(script)
+    Command::new(alloc, "play")
+        .arg(Arg::new(alloc, "program").required(true))?
+        .arg(Arg::new(alloc, "script").required(true))
 }
 
 /// `play PROGRAM SCRIPT [--workers N] [--input FILE]`.
 fn play_command<'a>(alloc: Global) -> Result<Command<'a>, AllocError>
     ensures { IfOk result (λ c. HasShape c play_app) }
 {
-    let workers = Arg::new(alloc, "workers")
-        .long("workers")
-        .action(ArgAction::Set);
-    let input = Arg::new(alloc, "input")
-        .long("input")
-        .action(ArgAction::Set);
-    script_command(alloc)?.arg(workers)?.arg(input)
+    script_command(alloc)?
+        .arg(
+            Arg::new(alloc, "workers")
+                .long("workers")
+                .action(ArgAction::Set),
+        )?
+        .arg(
+            Arg::new(alloc, "input")
+                .long("input")
+                .action(ArgAction::Set),
+        )
+}
+
+/// An app with one more command and what is said of it. Taking the command as it was made leaves one value to drop, here, where it failed.
+pub fn with<'a>(
+    app: Command<'a>,
+    command: Result<Command<'a>, AllocError>,
+    about: &'a str,
+) -> Result<Command<'a>, AllocError>
+    ensures { (a b : App) → HasShape app.entry a → IfOk command.entry (λ c. HasShape c b) → IfOk result (λ r. HasShape r (with_subcommand a b.top)) }
+{
+    let described = command?.about(about);
+    app.subcommand(described)
+}
+
+/// The program, which has no command yet.
+pub fn empty<'a>(alloc: Global) -> Result<Command<'a>, AllocError>
+    ensures { IfOk result (λ c. HasShape c empty_app) }
+{
+    Command::new(alloc, "cilk")
+        .no_binary_name(true)
+        .subcommand_required(true)
+        .bin_name("cilk")
 }
 
 /// The commands, each a simple one.
 fn command<'a>(alloc: Global) -> Result<Command<'a>, AllocError>
     ensures { IfOk result (λ c. HasShape c cilk_app) }
 {
-    let run = program_command(alloc, "run")?.about(RUN);
-    let certify = program_command(alloc, "certify")?.about(CERTIFY);
-    let check = check_command(alloc)?.about(CHECK);
-    let play = play_command(alloc)?.about(PLAY);
-    Command::new(alloc, "cilk")
-        .no_binary_name(true)
-        .subcommand_required(true)
-        .bin_name("cilk")?
-        .subcommand(run)?
-        .subcommand(certify)?
-        .subcommand(check)?
-        .subcommand(play)
+    let one = with(empty(alloc)?, program_command(alloc, "run"), RUN)?;
+    let two = with(one, program_command(alloc, "certify"), CERTIFY)?;
+    let three = with(two, check_command(alloc), CHECK)?;
+    with(three, play_command(alloc), PLAY)
 }
 
 /// The paths of the program and of the input that the matches of a command name.

@@ -12,10 +12,10 @@ use Rattle.clap.specs.declared.parser.matches.ArgMatches.{ArgMatches}
 use Rattle.clap.specs.declared.parser.matches.Found.{Found}
 use Rattle.clap.proofs.OnLiterals.{clap_on_literals}
 use Rattle.clap.proofs.WalkLemmas.{first_value-rows}
-use Rattle.cilk_tool.specs.declared.words.Order.{Order}
-use Rattle.cilk_tool.specs.Words.{order_view, Requested, HasShape, Check, IsRefusal, IsWordsFault, Play, Run, Standard, check_with, cilk_app, order_by, order_in, paths_in, paths_view, play_with, script_with, texts, workers_in}
-use Rattle.cilk_tool.specs.declared.words.WordsFault.{WordsFault}
-use Rattle.cilk_tool.specs.declared.words.WordsFault.TheVariants.{Usage, Memory}
+use Rattle.cilk_words.specs.declared.words.Order.{Order}
+use Rattle.cilk_words.specs.Words.{order_view, Requested, HasShape, Check, IsRefusal, IsWordsFault, Play, Run, Standard, check_with, cilk_app, order_by, order_in, paths_in, paths_view, play_with, script_with, texts, workers_in}
+use Rattle.cilk_words.specs.declared.words.WordsFault.{WordsFault}
+use Rattle.cilk_words.specs.declared.words.WordsFault.TheVariants.{Usage, Memory}
 
 -- matches with no program
 pub no_paths : (f : Found) (o : Option (Bor Text)) → option_map (λ s. s.now) o ≡ first_value f (codes "program") → o ≡ None

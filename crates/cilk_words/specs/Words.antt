@@ -11,13 +11,13 @@ use Rattle.clap.specs.declared.builder.command.Command.TheViews.{out-Command}
 use Rattle.clap.specs.declared.error.kind.ErrorKind.{ErrorKind}
 use Rattle.clap.specs.declared.error.kind.ErrorKind.TheVariants.{OutOfMemory}
 use Rattle.cilk_lexer.specs.Lexing.{all_digits, value_of}
-use Rattle.cilk_tool.specs.declared.words.TheConstants.{MAX_WORKERS, WORKERS}
-use Rattle.cilk_tool.specs.declared.words.Order.{Order}
-use Rattle.cilk_tool.specs.declared.words.Order.TheVariants as orders
-use Rattle.cilk_tool.specs.declared.words.Origin.TheVariants as origins
-use Rattle.cilk_tool.specs.declared.words.Origin as code
-use Rattle.cilk_tool.specs.declared.words.WordsFault.{WordsFault}
-use Rattle.cilk_tool.specs.declared.words.WordsFault.TheVariants.{Usage, Memory}
+use Rattle.cilk_words.specs.declared.words.TheConstants.{MAX_WORKERS, WORKERS}
+use Rattle.cilk_words.specs.declared.words.Order.{Order}
+use Rattle.cilk_words.specs.declared.words.Order.TheVariants as orders
+use Rattle.cilk_words.specs.declared.words.Origin.TheVariants as origins
+use Rattle.cilk_words.specs.declared.words.Origin as code
+use Rattle.cilk_words.specs.declared.words.WordsFault.{WordsFault}
+use Rattle.cilk_words.specs.declared.words.WordsFault.TheVariants.{Usage, Memory}
 
 -- the texts behind references
 abbrev pub texts : List (Bor Text) → List Text

@@ -1,8 +1,8 @@
 use Rattle.std.proofs.Common.{ap, option_map, ◌∙◌, sym}
 use Rattle.clap.specs.Words.{found_of, rows_of}
-use Rattle.cilk_tool.specs.Words.{Check, order_view}
-use Rattle.cilk_tool.proofs.Entered.{asked_by, no_certificate, some_certificate}
-use Rattle.cilk_tool.proofs.words.check_order.Goals as goal
+use Rattle.cilk_words.specs.Words.{Check, order_view}
+use Rattle.cilk_words.proofs.Entered.{asked_by, no_certificate, some_certificate}
+use Rattle.cilk_words.proofs.words.check_order.Goals as goal
 
 pub returns-in_err-certificate : goal.returns-in_err-certificate
 returns-in_err-certificate c =

@@ -1,8 +1,8 @@
 use Rattle.std.proofs.Common.{ap, option_map, ◌∙◌, sym}
 use Rattle.clap.specs.Words.{found_of, rows_of}
-use Rattle.cilk_tool.specs.Words.{order_view}
-use Rattle.cilk_tool.proofs.Entered.{no_script, no_script_paths, some_script, some_script_paths}
-use Rattle.cilk_tool.proofs.words.play_order.Goals as goal
+use Rattle.cilk_words.specs.Words.{order_view}
+use Rattle.cilk_words.proofs.Entered.{no_script, no_script_paths, some_script, some_script_paths}
+use Rattle.cilk_words.proofs.words.play_order.Goals as goal
 
 pub returns-in_err-script : goal.returns-in_err-script
 returns-in_err-script c =
