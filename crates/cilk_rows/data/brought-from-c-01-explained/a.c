@@ -1,0 +1,1 @@
+int main() { scanf("%d", n); }

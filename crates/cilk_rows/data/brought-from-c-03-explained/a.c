@@ -1,0 +1,1 @@
+int main() { swap(&a[0], 1); }

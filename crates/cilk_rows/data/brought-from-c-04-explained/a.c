@@ -1,0 +1,1 @@
+int main() { print(REDUCER_VIEW(best).index); }

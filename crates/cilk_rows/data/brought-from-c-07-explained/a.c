@@ -1,0 +1,1 @@
+int many = 1000UL;

@@ -1,0 +1,1 @@
+typedef struct { int x; } point;

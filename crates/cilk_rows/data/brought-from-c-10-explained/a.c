@@ -1,0 +1,1 @@
+void zero(void *view) { }

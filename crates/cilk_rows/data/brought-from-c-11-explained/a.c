@@ -1,0 +1,1 @@
+int main() { int *a = calloc(8, 8); }

@@ -1,0 +1,1 @@
+void swap(int *x, int *y) { }

@@ -1,0 +1,1 @@
+int f() { return a[0] = 2; }

@@ -1,0 +1,1 @@
+int sum(int a[], int n) { }

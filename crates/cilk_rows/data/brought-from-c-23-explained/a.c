@@ -1,0 +1,1 @@
+int main() { a[0] = cilk_spawn f(1); }

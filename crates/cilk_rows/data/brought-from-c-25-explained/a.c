@@ -1,0 +1,1 @@
+int main() { CILK_C_REGISTER_REDUCER(r); }

@@ -1,0 +1,1 @@
+int main() { memset(a, 0, 8); }

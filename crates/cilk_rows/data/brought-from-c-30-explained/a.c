@@ -1,0 +1,1 @@
+int main() { return EXIT_SUCCESS; }

@@ -1,0 +1,1 @@
+int main() { int x = cilk_spawn f() + 1; }

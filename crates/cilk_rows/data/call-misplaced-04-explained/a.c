@@ -1,0 +1,1 @@
+int main() { int x = 2; x = (long) x; }

@@ -1,0 +1,1 @@
+int n[4]; int main() { int k = sizeof(n) / 8; }

@@ -1,0 +1,1 @@
+int n[4]; int main() { int k = 4 * sizeof(int); }

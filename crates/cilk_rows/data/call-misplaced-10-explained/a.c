@@ -1,0 +1,1 @@
+int s; int main() { REDUCER_VIEW(s) += 1; }

@@ -1,0 +1,1 @@
+int main() { cilk_spawn print(1); }

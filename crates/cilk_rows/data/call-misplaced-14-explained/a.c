@@ -1,0 +1,1 @@
+int main() { cilk_sync(); }

@@ -1,0 +1,1 @@
+int main() { for int i = 0; i < 3; i++) print(i); }

@@ -1,0 +1,1 @@
+int r[2]; int main() { update(r[0], 1); }

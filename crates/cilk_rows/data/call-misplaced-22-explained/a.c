@@ -1,0 +1,1 @@
+int main() { int a; return value[a]; }

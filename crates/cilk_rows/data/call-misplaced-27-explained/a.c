@@ -1,0 +1,1 @@
+int main() { if (x = 1) print(1); }

@@ -1,0 +1,1 @@
+int a[9]; int main() { return a[1, 2]; }

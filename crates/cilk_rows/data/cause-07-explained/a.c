@@ -1,0 +1,1 @@
+int main() { x = a ? b : c; }

@@ -1,0 +1,1 @@
+int cilk_reducer(zero, plus) s = 0;

@@ -1,0 +1,1 @@
+int main() { whle (1) { } }

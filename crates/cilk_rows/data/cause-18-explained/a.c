@@ -1,0 +1,1 @@
+int count; int main() { return conut; }

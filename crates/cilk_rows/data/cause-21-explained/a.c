@@ -1,0 +1,1 @@
+int a[3]; int main() { return a; }

@@ -1,0 +1,1 @@
+int best = INT_MAX;

@@ -1,0 +1,1 @@
+int ok = true;

@@ -1,0 +1,1 @@
+longest cilk_reducer(add) best;

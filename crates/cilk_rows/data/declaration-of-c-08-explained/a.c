@@ -1,0 +1,1 @@
+typedef struct { int start; int steps; } longest; longest cilk_reducer(add) best;

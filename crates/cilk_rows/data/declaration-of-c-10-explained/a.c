@@ -1,0 +1,1 @@
+f(int n) { return n; }

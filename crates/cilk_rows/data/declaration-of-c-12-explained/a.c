@@ -1,0 +1,1 @@
+int f(item a) { return 1; }

@@ -1,0 +1,1 @@
+int main() { cilk_for (int i = 3; i > 0; i--) print(i); }

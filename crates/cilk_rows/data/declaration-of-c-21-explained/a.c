@@ -1,0 +1,1 @@
+int main() { int i; cilk_for (i = 0; i < 3; i++) print(i); }

@@ -1,0 +1,1 @@
+int main() { int j; cilk_for (int i = 0; j < 3; i++) print(i); }

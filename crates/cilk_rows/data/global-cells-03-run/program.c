@@ -1,0 +1,1 @@
+int a[999999]; int g; int main(){return 0;}

@@ -1,0 +1,1 @@
+int a[1000000]; int g; int main(){return 0;}

@@ -1,0 +1,4 @@
+void f() {} int main() {
+  int x = 1
+  cilk_spawn f();
+}

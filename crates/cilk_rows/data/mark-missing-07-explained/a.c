@@ -1,0 +1,3 @@
+int main() { while (1
+  print(1);
+}

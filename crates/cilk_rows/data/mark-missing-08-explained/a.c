@@ -1,0 +1,1 @@
+int a[2]; int main() { print(a[1); }

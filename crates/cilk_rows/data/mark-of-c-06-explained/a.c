@@ -1,0 +1,1 @@
+int main() { switch (1) { case 1: print(1); } }

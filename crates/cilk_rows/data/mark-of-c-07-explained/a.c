@@ -1,0 +1,1 @@
+int main() { out: return 0; }

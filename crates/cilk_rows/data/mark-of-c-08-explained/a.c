@@ -1,0 +1,1 @@
+int main() { for (int x : a) print(x); }

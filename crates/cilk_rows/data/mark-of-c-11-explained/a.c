@@ -1,0 +1,2 @@
+int cilk_reducer(add) best;
+int main() { return best.steps; }

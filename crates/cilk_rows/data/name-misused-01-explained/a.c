@@ -1,0 +1,1 @@
+int cilk_reducer(add) s; int main() { s += 1; }

@@ -1,0 +1,3 @@
+void f(int n) {}
+int cilk_reducer(add) s;
+int main() { f(s); }

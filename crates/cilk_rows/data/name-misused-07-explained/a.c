@@ -1,0 +1,1 @@
+void f(int cilk_reducer(add) r) {} int main() { f(1); }

@@ -1,0 +1,2 @@
+void f(int cilk_reducer(add) r) {}
+int main() { int n; f(n); }

@@ -1,0 +1,1 @@
+int main() { int n; update(n, 1); }

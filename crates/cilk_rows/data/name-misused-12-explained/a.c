@@ -1,0 +1,1 @@
+void f(int n) {} int a[2]; int main() { f(a); }

@@ -1,0 +1,1 @@
+int a[0]; int main() { return 0; }

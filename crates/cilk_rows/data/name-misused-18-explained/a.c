@@ -1,0 +1,1 @@
+int a[2000000]; int main() { return 0; }

@@ -1,0 +1,1 @@
+int main() { { int y = 1; } return y; }

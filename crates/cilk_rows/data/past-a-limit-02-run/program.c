@@ -1,0 +1,1 @@
+int g, a[1000000]; int main(){return 0;}

@@ -1,0 +1,1 @@
+int cilk_reducer(append) none; int main() { return 0; }

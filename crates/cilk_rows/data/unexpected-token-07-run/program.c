@@ -1,0 +1,1 @@
+int main(){if (1) ; else ; else ;}

@@ -1,0 +1,1 @@
+void f(){ for (int i = f(1);;) ; }

@@ -1,0 +1,1 @@
+void f(){ print(f(1)); }

@@ -1,0 +1,1 @@
+void f(){ x = cilk_spawn y; }

@@ -1,0 +1,1 @@
+void f(){ cilk_spawn; }

@@ -1,0 +1,1 @@
+void f(){ cilk_for (int i = 0; i < 9; i += 2) ; }

@@ -1,0 +1,1 @@
+void f(){ for (int i; i < 9; i++) ; }

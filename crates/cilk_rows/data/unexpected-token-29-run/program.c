@@ -1,0 +1,1 @@
+void f(){ update(r); }

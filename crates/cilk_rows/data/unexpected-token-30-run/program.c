@@ -1,0 +1,1 @@
+void f(){ x = value(1); }

@@ -1,0 +1,1 @@
+int main() { int x = _Cilk_spawn f(); }

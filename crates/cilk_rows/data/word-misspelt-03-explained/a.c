@@ -1,0 +1,1 @@
+int main() { _Cilk_sync; }

@@ -1,0 +1,1 @@
+int main() { parallel_for (int i = 0; i < 5; i++) print(i); }

@@ -1,0 +1,1 @@
+int main() { clik_for (int i = 0; i < 9; i++) print(i); }

@@ -1,0 +1,1 @@
+int main() { int i; fro (i = 0; i < 9; i++) print(i); }

@@ -1,0 +1,1 @@
+int main() { int i; whlie (i < 9) i++; }

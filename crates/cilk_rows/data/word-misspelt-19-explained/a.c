@@ -1,0 +1,1 @@
+int main() { int y = cilk_spwan f(); }

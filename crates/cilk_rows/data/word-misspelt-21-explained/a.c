@@ -1,0 +1,1 @@
+int Count; int main() { return count; }

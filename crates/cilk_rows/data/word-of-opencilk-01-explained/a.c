@@ -1,0 +1,1 @@
+int cilk_reducr(add) sum;

@@ -1,0 +1,1 @@
+int main() { int cilk_reducer_(max) m; }

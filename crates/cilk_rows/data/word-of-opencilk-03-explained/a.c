@@ -1,0 +1,1 @@
+cilk_reducer_opadd<int> sum;

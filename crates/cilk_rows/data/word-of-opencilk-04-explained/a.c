@@ -1,0 +1,1 @@
+int main() { reducer_opmax<int> m; }

@@ -1,0 +1,1 @@
+unsigned seed = 1;

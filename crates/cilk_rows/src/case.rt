@@ -1,0 +1,153 @@
+//! The texts of a case, from its folder.
+
+use crate::folder::File;
+use cilk_tool::disk::Disk;
+use cilk_tool::files::{FileFault, Files};
+use std::alloc::{AllocError, Global};
+
+/// A call, and what it is to show. A text that has no file is empty.
+#[derive(Drop)]
+pub struct Case {
+    /// A word a line.
+    pub words: String,
+    /// The name of a file that is made first, and the words of the call that shows it, a line each.
+    pub makes: String,
+    /// Lines `NAME COUNT TEXT`: so many of this text are put at the end of a file.
+    fills: String,
+    pub files: Vec<File>,
+    pub status: u8,
+    pub out: Vec<u8>,
+    pub err: Vec<u8>,
+}
+
+/// The bytes of a file, if it can be read.
+fn read(rt: &HostRuntime, path: &str) -> Result<Option<Vec<u8>>, AllocError> {
+    match Disk::new(rt).read(rt.alloc(), path) {
+        Ok(bytes) => Ok(Some(bytes)),
+        Err(FileFault::Device) => Ok(None),
+        Err(FileFault::Memory) => Err(AllocError),
+    }
+}
+
+/// The bytes of a file; none where it can't be read.
+fn bytes(rt: &HostRuntime, path: &str) -> Result<Vec<u8>, AllocError> {
+    match read(rt, path)? {
+        Some(bytes) => Ok(bytes),
+        None => Ok(Vec::new(rt.alloc())),
+    }
+}
+
+/// The text of a file; none where it can't be read, or is no text.
+pub fn text_of(rt: &HostRuntime, path: &str) -> Result<String, AllocError> {
+    let bytes = bytes(rt, path)?;
+    match std::str::from_utf8(bytes.as_slice()) {
+        Ok(text) => String::from_str(rt.alloc(), text),
+        Err(_) => Ok(String::new(rt.alloc())),
+    }
+}
+
+/// The path of a file of a case.
+fn path(alloc: Global, case: &str, name: &str) -> Result<String, AllocError> {
+    format!(in alloc; "{case}/{name}")
+}
+
+/// The file of a case by its name is put to the others, if there is one.
+fn put_file(
+    rt: &HostRuntime,
+    case: &str,
+    name: &str,
+    files: &mut Vec<File>,
+) -> Result<(), AllocError> {
+    let path = path(rt.alloc(), case, name)?;
+    if let Some(bytes) = read(rt, path.as_str())? {
+        let name = String::from_str(rt.alloc(), name)?;
+        files.push(File { name, bytes })?;
+    }
+    Ok(())
+}
+
+/// Each file of a case that one of these words names is put to the others.
+fn put_files(
+    rt: &HostRuntime,
+    case: &str,
+    words: &str,
+    files: &mut Vec<File>,
+) -> Result<(), AllocError> {
+    for word in words.lines() {
+        put_file(rt, case, word, files)?;
+    }
+    Ok(())
+}
+
+/// The case of a folder.
+pub fn loaded(rt: &HostRuntime, name: &str) -> Result<Case, AllocError> {
+    let alloc = rt.alloc();
+    let words = text_of(rt, path(alloc, name, "words")?.as_str())?;
+    let makes = text_of(rt, path(alloc, name, "makes")?.as_str())?;
+    let fills = text_of(rt, path(alloc, name, "fills")?.as_str())?;
+    let status = text_of(rt, path(alloc, name, "status")?.as_str())?;
+    let out = bytes(rt, path(alloc, name, "out")?.as_str())?;
+    let err = bytes(rt, path(alloc, name, "err")?.as_str())?;
+    let mut files = Vec::new(alloc);
+    put_file(rt, name, "stdin", &mut files)?;
+    put_files(rt, name, words.as_str(), &mut files)?;
+    put_files(rt, name, makes.as_str(), &mut files)?;
+    Ok(Case {
+        words,
+        makes,
+        fills,
+        files,
+        status: status.as_str().trim().parse::<u8>().unwrap_or(0),
+        out,
+        err,
+    })
+}
+
+impl Case {
+    /// Fills the files as the case says.
+    pub fn fill(&mut self, alloc: Global) -> Result<(), AllocError> {
+        for line in self.fills.as_str().lines() {
+            if let Some((name, rest)) = line.split_once(' ')
+                && let Some((count, part)) = rest.split_once(' ')
+            {
+                let count = count.parse::<usize>().unwrap_or(0);
+                append(alloc, &mut self.files, name, count, part)?;
+            }
+        }
+        Ok(())
+    }
+}
+
+/// Puts so many of a text at the end of each file of a name, or of a new one where there is none. `\n` in the text is a
+/// line's end.
+fn append(
+    alloc: Global,
+    files: &mut Vec<File>,
+    name: &str,
+    count: usize,
+    part: &str,
+) -> Result<(), AllocError> {
+    let part = part.replace(alloc, "\\n", "\n")?;
+    let mut is_there = false;
+    for file in files.iter_mut() {
+        if file.name.as_str() == name {
+            repeat(&mut file.bytes, count, part.as_bytes())?;
+            is_there = true;
+        }
+    }
+    if !is_there {
+        let name = String::from_str(alloc, name)?;
+        let mut bytes = Vec::new(alloc);
+        repeat(&mut bytes, count, part.as_bytes())?;
+        files.push(File { name, bytes })?;
+    }
+    Ok(())
+}
+
+/// Puts so many of a text at the end of another.
+fn repeat(bytes: &mut Vec<u8>, count: usize, part: &[u8]) -> Result<(), AllocError> {
+    for _ in 0..count {
+        bytes.extend_from_slice(part)?;
+    }
+    Ok(())
+}

@@ -1,0 +1,94 @@
+//! Files in memory, by name.
+
+ghost use Rattle.std.specs.Prelude.{◌≡◌, ◌<◌, IfErr, OnOk};
+
+use cilk_tool::disk::MAX_FILE;
+use cilk_tool::files::{FileFault, Files};
+use std::alloc::Global;
+
+/// A file of a case.
+#[derive(Drop)]
+pub struct File {
+    pub name: String,
+    pub bytes: Vec<u8>,
+}
+
+/// The bytes of the last file of a name; none where there is no such file.
+pub fn bytes_of<'a>(files: &'a [File], name: &str) -> &'a [u8] {
+    match found(files, name) {
+        Some(bytes) => bytes,
+        None => &[],
+    }
+}
+
+/// The bytes of the last file of a name, if there is one.
+fn found<'a>(files: &'a [File], name: &str) -> Option<&'a [u8]> {
+    let mut bytes = None;
+    for file in files {
+        if file.name.as_str() == name {
+            bytes = Some(file.bytes.as_slice());
+        }
+    }
+    bytes
+}
+
+/// The files of a case, as the tool reads them. A path without one counts as a failure.
+#[derive(Drop)]
+pub struct Folder<'a> {
+    files: &'a [File],
+    failures: u64,
+}
+
+impl<'a> Folder<'a> {
+    /// A folder with these files, of which nothing was read yet.
+    pub fn new(files: &'a [File]) -> Folder<'a>
+        ensures { result.failures ≡ 0 }
+    {
+        Folder { files, failures: 0 }
+    }
+
+    /// The text of a path.
+    fn text(&mut self, path: &str) -> Result<&'a [u8], FileFault>
+        requires { self.old.failures < 18446744073709551615 }
+        ensures counted { IfErr result (λ _. self.old.failures < self.new.failures) }
+        ensures uncounted { OnOk result (self.new.failures ≡ self.old.failures) }
+    {
+        match found(self.files, path) {
+            Some(bytes) => Ok(bytes),
+            None => {
+                self.failures += 1;
+                Err(FileFault::Device)
+            }
+        }
+    }
+}
+
+impl Files for Folder<'_> {
+    ghost use Rattle.std.specs.Prelude.{None};
+    ghost use Rattle.cilk_tool.specs.Files.{failures};
+
+    ghost failed = { λ f. failures f.failures (λ _. 0) };
+
+    ghost holds = { λ _ _. None };
+
+    fn read(&mut self, alloc: Global, path: &str) -> Result<Vec<u8>, FileFault> {
+        Ok(self.text(path)?.to_vec(alloc)?)
+    }
+
+    fn part(&mut self, path: &str, at: u64, into: &mut [u8]) -> Result<usize, FileFault> {
+        let whole = self.text(path)?;
+        if at > MAX_FILE {
+            self.failures += 1;
+            return Err(FileFault::Device);
+        }
+        let rest = &whole[whole.len().min(at as usize)..];
+        let room = (MAX_FILE - at) as usize;
+        let count = rest.len().min(into.len()).min(room);
+        into[..count].copy_from_slice(&rest[..count]);
+        Ok(count)
+    }
+
+    fn failures(&self) -> u64 {
+        self.failures
+    }
+}
