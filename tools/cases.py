@@ -2,14 +2,15 @@
 """Runs the cases of crates/cilk_rows/data by the built program, one process each, and makes new ones.
 
 tools/cases.py run PROGRAM [REGEX] [--jobs N] [--limit SECONDS]
-                                                  runs each case whose name REGEX finds; what differs is printed, and last
-                                                  `N passed, M failed`; status 1 if any failed
-tools/cases.py new NAME [WORDS..] [--program PROGRAM] [--folder FOLDER] [--stdin FILE] [--makes "FILE WORDS.."]
-                                                  makes or changes a case: its words, and the files of FOLDER (by default the
-                                                  current one) that they name; the program's answer is put beside what the
-                                                  case wants, as out.new, err.new and status.new, and the difference is shown
-tools/cases.py accept NAME                        the answer of `new` becomes what the case wants: call it only once you have
-                                                  found by other means that the answer is right
+    runs each case whose name REGEX finds; what differs is printed, and last `N passed, M failed`; status 1 if any failed
+tools/cases.py new [--program PROGRAM] [--folder FOLDER] [--stdin FILE] [--makes "FILE WORDS.."] NAME [WORDS..]
+    makes or changes a case: its words, and the files of FOLDER (by default the current one) that they name; the
+    program's answer is put beside what the case wants, as out.new, err.new and status.new, and the difference is shown
+tools/cases.py accept NAME
+    the answer of `new` becomes what the case wants, and the case is listed: call it only once you have found by other
+    means that the answer is right
+tools/cases.py list
+    lists the folders that are there anew, as after one was removed by hand
 
 A case is a folder, listed in the file `cases`, with
   words     one word a line; none where the file isn't there. A word that names a file of the folder means that file
@@ -19,8 +20,9 @@ A case is a folder, listed in the file `cases`, with
   makes     a line with the name of a file that is made first, and a line for each word of the call that shows it
   fills     lines `FILE COUNT TEXT`: TEXT is put COUNT times at the end of FILE, `\\n` in it for a line's end; after `makes`
   about     what the case tells, for its reader
-and the files that its words name. A text whose file isn't there is empty. The program sees a copy of the folder without what
-is wanted. PROGRAM is by default the built one, or what CILK names. crates/cilk_rows serves the same cases in the gate.
+and the files that its words name. A text whose file isn't there is empty. The program sees a copy of the folder without
+what is wanted. Of `new`, PROGRAM is by default the built one, or what CILK names. crates/cilk_rows serves the same cases
+in the gate.
 """
 
 import argparse
@@ -181,7 +183,14 @@ def accept(name):
         shown = read(f"{case}/{stream}.new")
         write(f"{case}/{stream}", b"" if stream == "status" and shown == b"0\n" else shown)
         os.remove(f"{case}/{stream}.new")
-    write(f"{DATA}/cases", "".join(f"{each}\n" for each in sorted(set(names() + [name]))).encode())
+    return list_cases()
+
+
+def list_cases():
+    """Lists the folders of the cases, and how many are to pass in the gate."""
+    there = sorted(each for each in os.listdir(DATA) if os.path.isdir(f"{DATA}/{each}"))
+    write(f"{DATA}/cases", "".join(f"{each}\n" for each in there).encode())
+    write(f"{os.path.dirname(DATA)}/stdout", f"{len(there)} passed, 0 failed\n".encode())
     return 0
 
 
@@ -202,6 +211,7 @@ def words_of(given):
     makes.add_argument("--makes")
     makes.add_argument("words", nargs=argparse.REMAINDER)
     commands.add_parser("accept").add_argument("name")
+    commands.add_parser("list")
     return parser.parse_args(given)
 
 
@@ -211,7 +221,7 @@ def main():
         return run(given.program, given.form, given.jobs, given.limit)
     if given.command == "new":
         return new(given.program, given.name, given.words, given.folder, given.stdin, given.makes)
-    return accept(given.name)
+    return accept(given.name) if given.command == "accept" else list_cases()
 
 
 if __name__ == "__main__":

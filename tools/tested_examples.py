@@ -5,8 +5,8 @@ tools/tested_examples.py     lists each program of examples/ and examples/galler
 
 A program's text in a test has no comments, no `#` lines, and one space for each run of blanks; it has to be used by
 `settled.rt` of crates/cilk_schedule_tests, the tests that play it. A program of the gallery has to be used by
-crates/cilk_gallery_tests too, which want the text of its `.out` file, and of `check` and `measure` what its row in
-examples/gallery/README.md has. The texts of examples/opencilk are in another language. Run by hand when an example
+the cases `gallery-NAME-run`, `-check` and `-measure` of crates/cilk_rows too, word by word, which want the text of its
+`.out` file, and of `check` and `measure` what its row in examples/gallery/README.md has. The texts of examples/opencilk are in another language. Run by hand when an example
 changes or comes.
 """
 
@@ -44,16 +44,15 @@ def texts_of_tests():
     return texts
 
 
-def wanted_of_gallery():
-    """What the tests of the gallery want of each program: what is shown, the verdict, work, span and parallelism."""
-    text = read(f"{CRATES}/cilk_gallery_tests/src/gallery.rt")
-    form = r'const (\w+)_WANTED: Wanted = Wanted \{\s*shown: "([^"]*)",\s*verdict: ([^;]*?),\s*totals: "([^"]*)",\s*\};'
-    wanted = {}
-    for name, shown, verdict, totals in re.findall(form, text):
-        total = dict(line.split() for line in literal(totals).split("\n") if line)
-        verdict = "accepted" if verdict == "ACCEPTED" else literal(re.search('"(.*)"', verdict)[1]).strip()
-        wanted[name] = (literal(shown), verdict, total["work"], total["span"], total["parallelism"])
-    return wanted
+def wanted_of_gallery(name, text, numbers):
+    """What the cases want of a program: what is shown, the verdict, work, span and parallelism; none where a case has another text."""
+    cases = [f"{CRATES}/cilk_rows/data/gallery-{name.replace('_', '-')}-{command}" for command in ("run", "check", "measure")]
+    for case in cases:
+        if words(read(f"{case}/program.c")) != text or (read(f"{case}/input") if numbers else "") != numbers:
+            return None
+    shown, verdict, totals = [read(f"{case}/out") for case in cases]
+    total = dict(line.split() for line in totals.split("<..>")[0].split("\n") if line)
+    return (shown, verdict.strip(), total["work"], total["span"], total["parallelism"])
 
 
 def stands_in_gallery(name):
@@ -67,15 +66,16 @@ def stands_in_gallery(name):
 
 
 def main():
-    texts, wanted = texts_of_tests(), wanted_of_gallery()
+    texts = texts_of_tests()
     used = set(re.findall(r"\w+", read(f"{CRATES}/cilk_schedule_tests/src/settled.rt").split("fn is_settled")[1]))
     missing = 0
     for path in sorted(glob.glob(f"{TOP}/examples/*.c") + glob.glob(f"{GALLERY}/*.c")):
         name = texts.get(words(read(path)))
         told = name if name in used else "NOT PLAYED"
-        if path.startswith(GALLERY) and wanted.get(name) != stands_in_gallery(os.path.basename(path)[:-2]):
+        given, plain = f"{path[:-2]}.in", os.path.basename(path)[:-2]
+        numbers = read(given) if os.path.exists(given) else ""
+        if path.startswith(GALLERY) and wanted_of_gallery(plain, words(read(path)), numbers) != stands_in_gallery(plain):
             told = "NOT AS WANTED"
-        given = f"{path[:-2]}.in"
         if os.path.exists(given) and texts.get(words(read(given))) != f"{name}_INPUT":
             told = "NOT ON ITS INPUT"
         missing += told != name

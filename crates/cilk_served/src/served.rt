@@ -202,14 +202,7 @@ pub fn shown<R: Read>(
     )
 }
 
-/// A check of a certificate of this program on this input.
-pub fn checked(alloc: Global, program: &[u8], input: &[u8], certificate: &[u8]) -> Ended {
-    let words = ["check", "program", "certificate", "--input", "input"];
-    let files = Folder::new(program, input, certificate, b"");
-    served(alloc, &words, files, &mut Broken)
-}
-
-/// The same, where the certificate's file fails after so many parts.
+/// A check of a certificate of this program, where the certificate's file fails after so many parts.
 pub fn checked_in_parts(alloc: Global, program: &[u8], certificate: &[u8], parts: u64) -> Ended {
     let words = ["check", "program", "certificate"];
     let mut files = Folder::new(program, b"", certificate, b"");
