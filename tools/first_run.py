@@ -1,78 +1,158 @@
 #!/usr/bin/env python3
-"""The first run: proves and builds the program and shows how far that is, or runs it unproved at once.
+"""What ./cilk does beside running the program: it proves and builds it, tests it, and makes an unproved one.
 
-first_run.py build              proves and builds crates/cilk and all that it stands on; the log is crates/cilk/out/build.log
-first_run.py unproved WORD ..   runs the program on these words with nothing proved
+first_run.py build [--plan]   proves and builds crates/cilk and all that it stands on; the log is crates/cilk/out/build.log
+first_run.py test             runs the golden cases over the program
+first_run.py unproved         shows the path of the unproved program, built first if need be (tools/unproved.py)
+first_run.py once WORD ..     runs the unproved program on these words by `rt try`, where it can't be kept
 """
 
+import ctypes
+import fcntl
+import glob
+import hashlib
+import json
 import os
 import queue
 import re
 import shutil
+import signal
 import subprocess
 import sys
 import tempfile
 import threading
 import time
 
-TOP = os.path.dirname(os.path.dirname(os.path.realpath(__file__)))
-CRATE = f"{TOP}/crates/cilk"
-LOG = f"{CRATE}/out/build.log"
-EVERY = 15  # seconds between two lines where the terminal can't be written over
+sys.dont_write_bytecode = True
 
+import build_plan
+import unproved
+from unproved import OUT, TOP, tell
 
-def tell(text):
-    print(f"cilk: {text}", file=sys.stderr, flush=True)
+PROGRAM = f"{OUT}/cilk"
+LOG = f"{OUT}/build.log"
+RECORD = f"{OUT}/build.json"  # what builds here proved, of which sources, and how slow the machine was
+EVERY = 60  # seconds between two lines where the terminal can't be written over
+CASES = f"{TOP}/tools/cases.py"
+
+BUILD_HELP = """./cilk build [--plan]
+
+Proves the program and all that it stands on, and builds it. It shows how many crates are proved, the minutes since it
+began, and about how many are left. What is proved is kept on this machine: stopped, by Ctrl-C or otherwise, it goes on
+from there at the next call. From then on ./cilk runs the proved program. The log is crates/cilk/out/build.log.
+
+--plan    shows how long that takes, and does nothing
+
+Status: 0 built    1 a proof failed, or it was stopped    2 something that it needs isn't here"""
+
+TEST_HELP = """./cilk test
+
+Runs the program on each case of crates/cilk_rows/data, and compares its output, its errors and its status with what is
+wanted: the proved program where it is built, else the unproved one, which is built first (about two minutes).
+The last line is `N passed, M failed`.
+
+Status: 0 all passed    1 some failed    2 something that it needs isn't here"""
 
 
 def has_rt():
+    """Whether Rattle's toolchain is on the path; if not, says what that is."""
     if shutil.which("rt"):
         return True
-    tell("the command `rt` isn't here. It is Rattle's toolchain, which proves and builds this program")
-    tell(f"see 'What is needed' in {TOP}/README.md")
+    tell("the command `rt` isn't on the path. It is Rattle's compiler and prover, which builds this program")
+    tell(f"read 'What is needed' in {TOP}/README.md")
     return False
 
 
-def crates():
-    """The crates that the program stands on, and the program, lower ones first."""
-    named = {}
+def named():
+    """The crates that the program stands on, and the program, lower ones first, each with those that it names."""
     with open(f"{TOP}/crates.txt", encoding="utf-8") as listed:
-        for line in listed:
-            head, colon, tail = line.split("#")[0].partition(":")
-            if colon:
-                named[head.split()[0]] = tail.split()
-    order = []
+        return build_plan.needed(build_plan.crates_of(listed.read()), "cilk")
 
-    def visit(name):
-        for it in named[name]:
-            if it in named and it not in order:
-                visit(it)
-        order.append(name)
 
-    visit("cilk")
-    return order
+def lines_of_crate(name):
+    """How many lines of code a crate has: `rt ci` orders crates by them."""
+    count = 0
+    for at, _, files in os.walk(f"{TOP}/crates/{name}/src"):
+        for file in files:
+            with open(f"{at}/{file}", "rb") as it:
+                count += it.read().count(b"\n")
+    return count
+
+
+def minutes(crates, lines):
+    """The minutes of each crate's proof by the table of docs/GATE.md, or by its lines."""
+    try:
+        with open(f"{TOP}/docs/GATE.md", encoding="utf-8") as it:
+            table = it.read()
+    except OSError:
+        table = ""
+    return build_plan.minutes_of(table, crates, lines)
+
+
+def sums(crates):
+    """A checksum of the sources of each crate and of those below it, its proofs too."""
+    found, kit = {}, unproved.sum_of_kit()
+    for name, below in crates.items():
+        own = unproved.sum_of_crate(name, ("src", "specs", "proofs"))
+        text = " ".join([kit, name, own, *[f"{it} {found[it]}" for it in below]])
+        found[name] = hashlib.sha256(text.encode()).hexdigest()[:16]
+    return found
+
+
+def record():
+    """What earlier builds here left: the sums of what they proved, and how slow this machine was."""
+    try:
+        with open(RECORD, encoding="utf-8") as it:
+            found = json.load(it)
+        return {"proved": dict(found["proved"]), "slower": float(found["slower"]), "built": str(found["built"])}
+    except (OSError, ValueError, KeyError, TypeError):
+        return {"proved": {}, "slower": build_plan.USUAL, "built": ""}
+
+
+def write_record(found):
+    """Keeps the record, whole or not at all."""
+    with open(f"{RECORD}.new", "w", encoding="utf-8") as it:
+        json.dump(found, it)
+    os.replace(f"{RECORD}.new", RECORD)
+
+
+def estimate_of(crates, slower, kept):
+    """The estimate of a build of these crates here, some of which are proved."""
+    lines = {name: lines_of_crate(name) for name in crates}
+    return build_plan.Estimate(crates, minutes(crates, lines), build_plan.processors(), slower, kept, lines)
 
 
 class Progress:
-    """What the log says of the crates that are proved, and which are still to come."""
+    """How far `rt ci` is, by its lines."""
 
-    def __init__(self, order):
-        self.order = order
-        self.done = set()
+    def __init__(self, crates, known):
+        self.sums, self.record = sums(crates), known
+        kept = {it for it in crates if known["proved"].get(it) == self.sums[it]}
+        self.estimate = estimate_of(crates, known["slower"], kept)
         self.began = time.monotonic()
         self.shown = 0.0
 
+    def now(self):
+        """The minutes since it began."""
+        return (time.monotonic() - self.began) / 60
+
     def read(self, line):
-        if at := re.match(r"rt: (\w+) (?:proved$|is kept:)", line):
-            self.done.add(at[1])
+        """Takes a line of `rt ci`; a crate that it says is proved goes into the record."""
+        said = build_plan.read_line(line)
+        if said and said[0] in self.sums:
+            self.estimate.proved(said[0], self.now(), said[1])
+            self.record["proved"][said[0]] = self.sums[said[0]]
+            self.record["slower"] = self.estimate.slowness(self.now())
+            write_record(self.record)
 
     def text(self):
-        left = [it for it in self.order if it not in self.done]
-        minutes, seconds = divmod(int(time.monotonic() - self.began), 60)
-        now = f"; to come: {' '.join(left)}" if left else "; building the program"
-        return f"{minutes}:{seconds:02} {len(self.order) - len(left)} of {len(self.order)} crates proved{now}"
+        """The line that is shown."""
+        done, of = len(self.estimate.done), len(self.sums)
+        left = max(1, round(self.estimate.left(self.now())))
+        return f"{done} of {of} crates proved, {self.now():.0f} min; about {left} min left"
 
     def show(self, at_once=False):
+        """Shows the line, where the terminal allows in place of the one before."""
         if sys.stderr.isatty():
             width = shutil.get_terminal_size().columns
             sys.stderr.write(f"\r\033[K{('cilk: ' + self.text())[: width - 1]}")
@@ -113,34 +193,86 @@ def lines_of(stream):
         yield line
 
 
-def build():
-    if not has_rt():
-        return 1
-    os.makedirs(os.path.dirname(LOG), exist_ok=True)
-    order = crates()
-    progress = Progress(order)
-    tell(f"proving and building the program, once; the log is {LOG}")
-    tell("what is proved is kept on this machine: where this is stopped, the next call goes on from there")
-    progress.show(at_once=True)
-    with tempfile.TemporaryDirectory(prefix="cilk-build-") as room:
-        copy_of(order, room)
+def end_with_parent():
+    """Has the kernel end this process when the one that started it is killed."""
+    ctypes.CDLL(None).prctl(1, signal.SIGTERM)
+
+
+def rt_ci(room, log, progress):
+    """Runs `rt ci` in this folder, and shows how far it is; its status. It is ended where this process is."""
+    how = {"cwd": room, "stdin": subprocess.DEVNULL, "stdout": subprocess.PIPE, "stderr": subprocess.STDOUT}
+    how.update(text=True, errors="replace", start_new_session=True, preexec_fn=end_with_parent)
+    with subprocess.Popen(["rt", "ci"], **how) as work:
+        try:
+            for line in lines_of(work.stdout):
+                if line:
+                    log.write(line)
+                    log.flush()
+                    progress.read(line)
+                progress.show()
+        except SystemExit:
+            os.killpg(work.pid, signal.SIGTERM)
+            try:
+                work.wait(timeout=30)
+            except subprocess.TimeoutExpired:
+                os.killpg(work.pid, signal.SIGKILL)
+            raise
+    return work.returncode
+
+
+def remove_rooms():
+    """Removes what builds that were killed left in the folder for temporary files."""
+    for room in glob.glob(f"{tempfile.gettempdir()}/cilk-build-*"):
+        pid = re.search(r"cilk-build-(\d+)-", room)
+        if pid and not os.path.exists(f"/proc/{pid[1]}"):
+            shutil.rmtree(room, ignore_errors=True)
+
+
+def prove_and_build(crates, progress):
+    """Has `rt ci` prove these crates and build the program, and takes that: whether it is there."""
+    remove_rooms()
+    with tempfile.TemporaryDirectory(prefix=f"cilk-build-{os.getpid()}-") as room:
+        copy_of(list(crates), room)
         with open(LOG, "w", encoding="utf-8") as log:
-            how = {"cwd": room, "stdin": subprocess.DEVNULL, "stdout": subprocess.PIPE, "stderr": subprocess.STDOUT}
-            with subprocess.Popen(["rt", "ci"], text=True, errors="replace", **how) as work:
-                for line in lines_of(work.stdout):
-                    if line:
-                        log.write(line)
-                        log.flush()
-                        progress.read(line)
-                    progress.show()
+            status = rt_ci(room, log, progress)
         made = f"{room}/crates/cilk/out/cilk"
-        if work.returncode == 0 and os.access(made, os.X_OK):
-            shutil.copy(made, f"{CRATE}/out/cilk.new")
-            os.replace(f"{CRATE}/out/cilk.new", f"{CRATE}/out/cilk")
+        if status or not os.access(made, os.X_OK):
+            return False
+        shutil.copy(made, f"{PROGRAM}.new")
+        os.replace(f"{PROGRAM}.new", PROGRAM)
+    progress.record["built"] = progress.sums["cilk"]
+    write_record(progress.record)
+    return True
+
+
+def build():
+    """Proves and builds the program: the status of ./cilk build."""
+    if not has_rt():
+        return 2
+    os.makedirs(OUT, exist_ok=True)
+    with open(f"{OUT}/build.lock", "w", encoding="ascii") as lock:
+        try:
+            fcntl.flock(lock, fcntl.LOCK_EX | fcntl.LOCK_NB)
+        except OSError:
+            tell(f"another ./cilk build is at work here; its log is {LOG}")
+            return 1
+        crates, known = named(), record()
+        progress = Progress(crates, known)
+        if os.access(PROGRAM, os.X_OK) and known["built"] == progress.sums["cilk"]:
+            tell("the program is proved and built from these sources already")
+            return 0
+        tell(f"proving and building the program; the log is {LOG}")
+        progress.show(at_once=True)
+        try:
+            is_built = prove_and_build(crates, progress)
+        except SystemExit:
+            print(file=sys.stderr)
+            tell("stopped; what is proved is kept, and the next ./cilk build goes on from there")
+            raise
     if sys.stderr.isatty():
         print(file=sys.stderr)
-    if os.access(f"{CRATE}/out/cilk", os.X_OK):
-        tell("the program is proved and built")
+    if is_built:
+        tell(f"the program is proved and built, in {progress.now():.0f} min")
         return 0
     tell("the program isn't built; the log ends so:")
     with open(LOG, encoding="utf-8", errors="replace") as log:
@@ -148,37 +280,76 @@ def build():
     return 1
 
 
-RESERVED = ("program", "stdin", "stdout", "stderr")  # names that `rt try` keeps for itself
+def plan():
+    """Shows how long a build takes, and does nothing."""
+    crates, known = named(), record()
+    is_known = shutil.which("rt") and known["proved"]
+    kept = {it for it, sum in (sums(crates) if is_known else {}).items() if known["proved"].get(it) == sum}
+    here, table = (estimate_of(crates, slower, kept) for slower in (known["slower"], 1.0))
+    work, chain = sum(here.minutes.values()), max(build_plan.chains(crates, here.minutes).values())
+    print(f"{len(crates)} crates, {len(kept)} of them proved here; {work:.0f} processor minutes in all,")
+    print(f"the longest chain {chain:.0f}; {here.lanes} side by side (docs/GATE.md has the table)")
+    by = "as in earlier builds here" if known["proved"] else "a guess, until a build has begun"
+    print(f"about {here.left(0.0):.0f} min: {table.left(0.0):.0f} by the table, {known['slower']:.1f} times as long here ({by})")
+    return 0
 
 
-def name_of(word, taken):
-    """The name by which the program sees the file of this word: the word itself where that may be."""
-    name = os.path.normpath(word)
-    usable = re.fullmatch(r"[\w.][\w./-]*", name) and not name.startswith("..") and name.split("/")[0] not in RESERVED
-    if usable and name not in taken:
-        return name
-    return f"file-{len(taken) + 1}{os.path.splitext(word)[1]}"
-
-
-def unproved(words):
-    if not has_rt():
+def test():
+    """Runs the golden cases over the program: the status of ./cilk test."""
+    if not os.path.isfile(CASES):
+        tell(f"{CASES} isn't here, which runs the cases")
+        return 2
+    program = PROGRAM
+    if not os.access(PROGRAM, os.X_OK):
+        if not has_rt():
+            return 2
+        program, status = unproved.ready(named())
+        if program is None:
+            if status == 1:
+                tell("`rt try` of this kit gives no program that can be kept: ./cilk build comes first")
+            return 2
+    work = subprocess.run([sys.executable, CASES, "run", program], stdin=subprocess.DEVNULL, stdout=subprocess.PIPE, check=False)
+    said = work.stdout.decode(errors="replace")
+    sys.stdout.write(said)
+    sys.stdout.flush()
+    last = re.search(r"(?m)^(\d+) passed, (\d+) failed\n?\Z", said)
+    if last is None:
+        tell("the cases weren't run to their end")
         return 1
-    tell("running unproved: this takes one to two minutes, and nothing of it is proved")
-    flags, seen, taken = [], [], set()
-    for word in words:
-        option, equals, file = word.partition("=") if word.startswith("--") else ("", "", word)
-        if os.path.isfile(file):
-            name = name_of(file, taken)
-            taken.add(name)
-            flags += ["--data", f"{name}={os.path.abspath(file)}"]
-            word = f"{option}{equals}{name}"
-        seen.append(word)
-    return subprocess.run(["rt", "try", *flags, "--", *seen], cwd=CRATE, check=False).returncode
+    return 0 if work.returncode == 0 and int(last[1]) and not int(last[2]) else 1
+
+
+def ended(number, _):
+    """A signal ends this process once what was begun is put away."""
+    sys.exit(128 + number)
+
+
+def main(words):
+    """Does what the first word says."""
+    for it in (signal.SIGINT, signal.SIGTERM, signal.SIGHUP):
+        signal.signal(it, ended)
+    name, rest = (words or [""])[0], words[1:]
+    if name in ("build", "test") and rest in (["--help"], ["-h"]):
+        print(BUILD_HELP if name == "build" else TEST_HELP)
+        return 0
+    if name == "build" and rest in ([], ["--plan"]):
+        return plan() if rest else build()
+    if name == "test" and not rest:
+        return test()
+    if name in ("build", "test"):
+        tell(f"./cilk {name} takes no such words; ./cilk {name} --help says what it does")
+        return 2
+    if name not in ("unproved", "once"):
+        sys.exit(__doc__)
+    if not has_rt():
+        return 2
+    if name == "once":
+        return unproved.once(rest)
+    path, status = unproved.ready(named())
+    if path is not None:
+        print(path)
+    return status
 
 
 if __name__ == "__main__":
-    if sys.argv[1:2] == ["build"]:
-        sys.exit(build())
-    if sys.argv[1:2] == ["unproved"]:
-        sys.exit(unproved(sys.argv[2:]))
-    sys.exit(__doc__)
+    sys.exit(main(sys.argv[1:]))

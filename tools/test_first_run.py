@@ -1,0 +1,166 @@
+#!/usr/bin/env python3
+"""Tests of what ./cilk does beside running the program; without `rt`. Run by hand: python3 tools/test_first_run.py"""
+
+import heapq
+import os
+import random
+import sys
+import tempfile
+import unittest
+
+sys.dont_write_bytecode = True
+
+import build_plan
+import first_run
+import unproved
+
+# What a build took that was watched: processor seconds of its dearest crates, with others by a law of its own (1.1 times
+# the table), on four processors, with other work beside it; 46 minutes by the clock.
+WATCHED = {
+    "cilk_findings": 742, "cilk_explain": 500, "cilk_tool": 398, "cilk_crew": 309, "cilk_names": 373,
+    "cilk_schedule": 280, "cilk_report": 253, "cilk_measured": 132, "cilk_planning": 163, "cilk_checker": 218,
+    "cilk_parallel": 210, "cilk_places": 239, "cilk_play": 88,
+}  # fmt: skip
+WATCHED_CLOCK = 46.1
+
+
+def log_of(named, lines, took, lanes, kept=()):
+    """A log of `rt ci` with times: each crate takes what `took` says, and the longest chain of lines comes first."""
+    longest, order = {}, list(named)
+    for name in reversed(order):
+        longest[name] = lines[name] + max((longest[it] for it in order if name in named[it]), default=0)
+    log, under_way, done, now = [], [], set(), 0.0
+    while len(done) < len(order):
+        begun = done | {name for _, name in under_way}
+        ready = [it for it in order if it not in begun and all(low in done for low in named[it])]
+        for name in sorted(ready, key=lambda it: -longest[it])[: lanes - len(under_way)]:
+            heapq.heappush(under_way, (now + (0.02 if name in kept else took[name]), name))
+        now, name = heapq.heappop(under_way)
+        done.add(name)
+        ending = " is kept: an earlier run on this machine proved the same files over the same libraries"
+        log.append((now, f"rt: {name}{ending if name in kept else ' proved'}\n"))
+    return log
+
+
+def replay(estimate, log):
+    """What was estimated at each line of a log: the minutes since the beginning, and those left."""
+    found = [(0.0, estimate.left(0.0))]
+    for now, line in log:
+        estimate.proved(*((said := build_plan.read_line(line))[0], now, said[1]))
+        found.append((now, estimate.left(now)))
+    return found
+
+
+class Plan(unittest.TestCase):
+    def test_crates(self):
+        found = build_plan.crates_of("# low\na may_wait=1: thiserror\nb: a\n\nc: a b clap # top\nd: a\n")
+        self.assertEqual(found, {"a": [], "b": ["a"], "c": ["a", "b"], "d": ["a"]})
+        self.assertEqual(list(build_plan.needed(found, "c")), ["a", "b", "c"])
+
+    def test_minutes(self):
+        table = "| Crate | Proof | Its tests |\n|---|---|---|\n| `a` | 0.6 |  | 4.8 | 31 |\n| `b` | 12 |  |\n"
+        self.assertEqual(build_plan.minutes_of(table, ["a", "b", "c"], {"c": 500}), {"a": 0.6, "b": 12.0, "c": 1.25})
+
+    def test_longest_chain_first(self):
+        named = {"a": [], "x": [], "y": [], "b": ["a"], "c": ["b"]}
+        minutes = {"a": 2.0, "x": 2.0, "y": 2.0, "b": 2.0, "c": 2.0}
+        self.assertEqual(build_plan.simulate(named, minutes, 2), {"a": 2.0, "x": 2.0, "b": 4.0, "y": 4.0, "c": 6.0})
+        self.assertEqual(max(build_plan.simulate(named, minutes, 1).values()), 10.0)
+
+    def test_what_is_done_waits_for_nothing(self):
+        named = {"a": [], "b": ["a"], "c": ["b"]}
+        self.assertEqual(build_plan.simulate(named, {"b": 1.0, "c": 2.0}, 4), {"b": 1.0, "c": 3.0})
+        self.assertEqual(build_plan.simulate(named, {}, 4), {})
+
+    def test_lines_of_rt(self):
+        self.assertEqual(build_plan.read_line("rt: cilk_types proved\n"), ("cilk_types", False))
+        self.assertEqual(build_plan.read_line("rt: cilk_types is kept: an earlier run\n"), ("cilk_types", True))
+        for line in ("rt: cilk_types NOT PROVED\n", "fn cilk_token::of: proved\n", "rt: cilk_a: its tests are proved\n", ""):
+            self.assertIsNone(build_plan.read_line(line))
+
+
+class Replays(unittest.TestCase):
+    def setUp(self):
+        self.named = first_run.named()
+        self.lines = {name: first_run.lines_of_crate(name) for name in self.named}
+        self.minutes = first_run.minutes(self.named, self.lines)
+
+    def replayed(self, took, lanes=4, kept=(), presumed=(), usual=build_plan.USUAL):
+        """The estimates in a build whose crates take so long, where these are kept and those are presumed to be."""
+        estimate = build_plan.Estimate(self.named, self.minutes, lanes, usual, presumed, self.lines)
+        return replay(estimate, log_of(self.named, self.lines, took, lanes, kept))
+
+    def assert_within_a_third(self, found, after=0.0):
+        end = found[-1][0] + 1.0
+        for now, left in found:
+            if after * end <= now <= 0.95 * end:
+                self.assertLess(abs(now + left - end), end / 3, f"at {now:.1f} of {end:.1f} minutes: {left:.1f}")
+
+    def test_the_watched_build(self):
+        took = {it: WATCHED[it] / 60 if it in WATCHED else 1.1 * self.minutes[it] for it in self.named}
+        slower = WATCHED_CLOCK / log_of(self.named, self.lines, took, 4)[-1][0]
+        self.assert_within_a_third(self.replayed({name: slower * it for name, it in took.items()}))
+
+    def test_slow_and_busy_machines(self):
+        for seed in range(10):
+            chance = random.Random(seed)
+            slower, lanes = chance.uniform(0.6, 4.0), chance.choice([1, 2, 4, 8])
+            took = {name: slower * it * chance.uniform(0.7, 1.6) for name, it in self.minutes.items()}
+            self.assert_within_a_third(self.replayed(took, lanes), after=0.2)
+
+    def test_what_is_kept(self):
+        chance, order = random.Random(7), list(self.named)
+        for count in (20, 40, 60):
+            kept = set(order[:count])
+            took = {name: 2.0 * it * chance.uniform(0.8, 1.4) for name, it in self.minutes.items()}
+            self.assert_within_a_third(self.replayed(took, 4, kept, kept, usual=2.1), after=0.25)
+
+    def test_what_was_kept_and_is_gone(self):
+        self.assert_within_a_third(self.replayed(self.minutes, presumed=self.named, usual=1.0)[1:])
+
+    def test_one_that_takes_far_longer(self):
+        estimate = build_plan.Estimate(self.named, self.minutes, 4)
+        self.assertGreater(estimate.left(60.0), 100.0)
+
+
+class Words(unittest.TestCase):
+    def test_names(self):
+        for word, name in (("a.c", "a.c"), ("./x/a.c", "x/a.c"), ("../a.c", "file-1.c"), ("/tmp/a.c", "file-1.c"), ("stdin", "file-1")):
+            self.assertEqual(unproved.name_of(word, {}), name)
+        self.assertEqual(unproved.name_of("a.c", {"a.c"}), "file-2.c")
+
+    def test_mapped(self):
+        with tempfile.TemporaryDirectory() as room:
+            path = f"{room}/a b.c"
+            with open(path, "w", encoding="utf-8"):
+                pass
+            flags, seen, names = unproved.mapped(["run", path, "--input=" + path, "none.c", "--explain"])
+        self.assertEqual(flags, ["--data", f"file-1.c={path}", "--data", f"file-2.c={path}"])
+        self.assertEqual(seen, ["run", "file-1.c", "--input=file-2.c", "none.c", "--explain"])
+        self.assertEqual(names, {"file-1.c": path, "file-2.c": path})
+
+    def test_own_part(self):
+        rt = b"checked: ended status=2\nraces: not looked for, since a kit has no ThreadSanitizer\nrun=ended status=2 runners=1 proved=no\n"
+        self.assertEqual(unproved.own_part(b"file-1.c:1: error\n" + rt, {"file-1.c": "/x/a.c"}), b"/x/a.c:1: error\n")
+        self.assertEqual(unproved.own_part(rt, {}), b"")
+        self.assertEqual(unproved.own_part(b"checked: fault\nrun=fault\n", {}), b"checked: fault\nrun=fault\n")
+
+
+class Sums(unittest.TestCase):
+    def test_a_changed_source_has_another_sum(self):
+        with tempfile.TemporaryDirectory() as room:
+            top, unproved.TOP = unproved.TOP, room
+            try:
+                os.makedirs(f"{room}/crates/a/src")
+                sums = set()
+                for text in ("fn a() {}", "fn a() { }", "fn a() {}"):
+                    with open(f"{room}/crates/a/src/lib.rt", "w", encoding="utf-8") as it:
+                        it.write(text)
+                    sums.add(unproved.sum_of_crate("a", ("src",)))
+                self.assertEqual(len(sums), 2)
+            finally:
+                unproved.TOP = top
+
+
+if __name__ == "__main__":
+    unittest.main()
