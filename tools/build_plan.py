@@ -132,7 +132,7 @@ class Estimate:
         slower = self.usual
         for _ in range(8):
             part = sum(min((now - began) / slower, 0.9 * self.minutes[name]) for name, began in self.began.items())
-            slower = took / (KNOWN_BY + self.of + part)
+            slower = max(took / (KNOWN_BY + self.of + part), 0.2)
         return slower
 
     def left(self, now):

@@ -266,7 +266,8 @@ def build():
         try:
             is_built = prove_and_build(crates, progress)
         except SystemExit:
-            print(file=sys.stderr)
+            if sys.stderr.isatty():
+                print(file=sys.stderr)
             tell("stopped; what is proved is kept, and the next ./cilk build goes on from there")
             raise
     if sys.stderr.isatty():
@@ -290,7 +291,7 @@ def plan():
     print(f"{len(crates)} crates, {len(kept)} of them proved here; {work:.0f} processor minutes in all,")
     print(f"the longest chain {chain:.0f}; {here.lanes} side by side (docs/GATE.md has the table)")
     by = "as in earlier builds here" if known["proved"] else "a guess, until a build has begun"
-    print(f"about {here.left(0.0):.0f} min: {table.left(0.0):.0f} by the table, {known['slower']:.1f} times as long here ({by})")
+    print(f"about {max(1, round(here.left(0.0)))} min: {max(1, round(table.left(0.0)))} by the table, {known['slower']:.1f} times as long here ({by})")
     return 0
 
 
