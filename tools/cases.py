@@ -102,7 +102,9 @@ def answer(program, name, limit=LIMIT):
         standard = read(f"{case}/stdin")
         makes = lines(f"{case}/makes")
         if makes:
-            made = call(program, makes[1:], room, b"", limit)[1]
+            status, made, told = call(program, makes[1:], room, b"", limit)
+            if status is None:
+                return status, b"", told
             with open(f"{room}/{makes[0].decode()}", "wb") as file:
                 file.write(made)
         for each in lines(f"{case}/fills"):
