@@ -1,8 +1,9 @@
 #!/usr/bin/env python3
 """Runs the cases of crates/cilk_rows/data by the built program, one process each, and makes new ones.
 
-tools/cases.py run PROGRAM [REGEX] [--jobs N] [--limit SECONDS]
-    runs each case whose name REGEX finds; what differs is printed, and last `N passed, M failed`; status 1 if any failed
+tools/cases.py run PROGRAM [REGEX] [--jobs N] [--limit SECONDS] [--light]
+    runs each case whose name REGEX finds; what differs is printed, and last `N passed, M failed`; status 1 if any failed.
+    With --light those in the file `slow` are left out, which go to a limit of a run: an unproved program takes minutes for one
 tools/cases.py new [--program PROGRAM] [--folder FOLDER] [--stdin FILE] [--makes "FILE WORDS.."] NAME [WORDS..]
     makes or changes a case: its words, and the files of FOLDER (by default the current one) that they name; the
     program's answer is put beside what the case wants, as out.new, err.new and status.new, and the difference is shown
@@ -137,9 +138,13 @@ def failure(program, name, limit):
     return told
 
 
-def run(program, form, jobs, limit):
+def run(program, form, jobs, limit, is_light):
     """Runs the cases whose names a form finds; the answer is the status."""
     chosen = [name for name in names() if re.search(form, name)]
+    if is_light:
+        slow = {name.decode() for name in lines(f"{DATA}/slow")}
+        print(f"left out: {len(slow.intersection(chosen))} cases that go to a limit of a run")
+        chosen = [name for name in chosen if name not in slow]
     failed = 0
     with concurrent.futures.ThreadPoolExecutor(jobs) as pool:
         for told in pool.map(lambda name: failure(program, name, limit), chosen):
@@ -205,6 +210,7 @@ def words_of(given):
     runs.add_argument("form", nargs="?", default="")
     runs.add_argument("--jobs", type=int, default=os.cpu_count() or 1)
     runs.add_argument("--limit", type=int, default=LIMIT)
+    runs.add_argument("--light", action="store_true")
     makes = commands.add_parser("new")
     makes.add_argument("name")
     makes.add_argument("--program", default=PROGRAM)
@@ -220,7 +226,7 @@ def words_of(given):
 def main():
     given = words_of(sys.argv[1:])
     if given.command == "run":
-        return run(given.program, given.form, given.jobs, given.limit)
+        return run(given.program, given.form, given.jobs, given.limit, given.light)
     if given.command == "new":
         return new(given.program, given.name, given.words, given.folder, given.stdin, given.makes)
     return accept(given.name) if given.command == "accept" else list_cases()

@@ -1,0 +1,148 @@
+#!/usr/bin/env python3
+"""How many processor minutes each crate takes of the gate, by watching `rt ci`.
+
+gate_times.py run [--write]      runs `rt ci` here, with no other check beside it, and watches it; the status is that of `rt ci`
+gate_times.py watch FILE         watches every check on this machine until it is stopped, and keeps what it saw in FILE
+gate_times.py table FILE [--by N] [--write]     the table of what such a FILE holds, each time divided by N
+
+A process of the prover proves one crate, its tests, or tries one edit. Each is looked at every second, and counts with its
+processor time as it was last seen, so that up to a second of each is missing. `--write` puts the times of the crates that
+were seen into the table of docs/GATE.md; the other rows stay. What `rt` keeps isn't proved again: for the whole table run it
+on a machine that has kept nothing, or with `rt ci --anew`.
+"""
+
+import argparse
+import json
+import os
+import re
+import signal
+import subprocess
+import sys
+import threading
+
+TOP = os.path.dirname(os.path.dirname(os.path.realpath(__file__)))
+PAGE = f"{TOP}/docs/GATE.md"
+KINDS = ("proof", "tests", "edits")
+ROW = re.compile(r"^\| `(\w+)` \|([^|]*)\|([^|]*)\|([^|]*)\|([^|]*)\|$")
+
+
+def kind_of(words):
+    """Which crate a process of the prover works on, and whether it proves it, its tests, or tries an edit of it."""
+    if len(words) < 2 or not words[0].endswith("/rattle") or words[1] not in ("build", "check"):
+        return None
+    if "--crate-name" not in words[:-1]:
+        return None
+    crate = words[words.index("--crate-name") + 1]
+    if words[1] == "check":
+        return crate, "edits"
+    return crate, "tests" if "--test" in words else "proof"
+
+
+def look(seen):
+    """Notes the processor seconds and the memory of each process of the prover on this machine."""
+    tick = os.sysconf("SC_CLK_TCK")
+    for process in filter(str.isdigit, os.listdir("/proc")):
+        try:
+            with open(f"/proc/{process}/cmdline", "rb") as file:
+                kind = kind_of([word.decode(errors="replace") for word in file.read().split(b"\0")])
+            if kind is None:
+                continue
+            with open(f"/proc/{process}/stat", encoding="ascii", errors="replace") as file:
+                told = file.read().rpartition(")")[2].split()
+        except (OSError, ValueError):
+            continue
+        seconds = sum(int(number) for number in told[11:15]) / tick
+        memory = int(told[21]) * os.sysconf("SC_PAGE_SIZE")
+        before = seen.get(f"{process} {told[19]}", [*kind, 0.0, 0])
+        seen[f"{process} {told[19]}"] = [*kind, max(seconds, before[2]), max(memory, before[3])]
+
+
+def minutes_in(seen, by):
+    """The minutes of each crate that was seen, by kind."""
+    found = {}
+    for crate, kind, seconds, _ in seen.values():
+        times = found.setdefault(crate, dict.fromkeys(KINDS, 0.0))
+        times[kind] += seconds / 60 / by
+    return found
+
+
+def shown(minutes):
+    return f"{minutes:.2f}" if minutes < 1 else f"{minutes:.1f}"
+
+
+def write(found):
+    """Puts these minutes into the page's table, and rows for crates that it lacks at its end."""
+    with open(PAGE, encoding="utf-8") as file:
+        lines = file.read().split("\n")
+    rows = {cells[1]: at for at, line in enumerate(lines) if (cells := ROW.match(line))}
+    for crate in sorted(set(found) - set(rows)):
+        lines.insert(max(rows.values()) + 1, f"| `{crate}` | | | | |")
+        rows[crate] = max(rows.values()) + 1
+    for crate, times in found.items():
+        cells = [cell.strip() for cell in ROW.match(lines[rows[crate]]).groups()[1:]]
+        for at, kind in enumerate(KINDS):
+            if times[kind] > 0:
+                cells[at] = shown(times[kind])
+        lines[rows[crate]] = f"| `{crate}` | {cells[0]} | {cells[1]} | {cells[2]} | {cells[3]} |"
+    with open(PAGE, "w", encoding="utf-8") as file:
+        file.write("\n".join(lines))
+
+
+def tell(seen, by, is_written):
+    """Prints what was seen, and writes it where that is asked for."""
+    found = minutes_in(seen, by)
+    for crate in sorted(found):
+        print(f"{crate:24}" + "".join(f"{shown(found[crate][kind]) if found[crate][kind] else '':>9}" for kind in KINDS))
+    print(f"{'in all':24}" + "".join(f"{sum(times[kind] for times in found.values()):9.1f}" for kind in KINDS))
+    print(f"the greatest process: {max((it[3] for it in seen.values()), default=0) / 1e9:.1f} GB")
+    if is_written:
+        write(found)
+
+
+def watched(seen, ended, kept=None):
+    """Looks every second until it is ended."""
+    while not ended.wait(1.0):
+        look(seen)
+        if kept:
+            with open(f"{kept}.new", "w", encoding="utf-8") as file:
+                json.dump(seen, file)
+            os.replace(f"{kept}.new", kept)
+
+
+def run(is_written):
+    """Runs the gate, and tells what it took."""
+    seen, ended = {}, threading.Event()
+    watcher = threading.Thread(target=watched, args=(seen, ended))
+    watcher.start()
+    status = subprocess.run(["rt", "ci"], cwd=TOP, check=False).returncode
+    ended.set()
+    watcher.join()
+    tell(seen, 1.0, is_written)
+    return status
+
+
+def main():
+    asked = argparse.ArgumentParser(description=__doc__, formatter_class=argparse.RawDescriptionHelpFormatter)
+    commands = asked.add_subparsers(dest="command", required=True)
+    commands.add_parser("run").add_argument("--write", action="store_true")
+    commands.add_parser("watch").add_argument("file")
+    table = commands.add_parser("table")
+    table.add_argument("file")
+    table.add_argument("--by", type=float, default=1.0)
+    table.add_argument("--write", action="store_true")
+    words = asked.parse_args()
+    if words.command == "run":
+        return run(words.write)
+    if words.command == "watch":
+        ended = threading.Event()
+        for number in (signal.SIGINT, signal.SIGTERM):
+            signal.signal(number, lambda *_: ended.set())
+        watched({}, ended, words.file)
+        return 0
+    with open(words.file, encoding="utf-8") as file:
+        tell(json.load(file), words.by, words.write)
+    return 0
+
+
+if __name__ == "__main__":
+    sys.exit(main())
