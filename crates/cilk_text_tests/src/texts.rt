@@ -206,8 +206,8 @@ fn assignments_have_their_kinds(rt: HostRuntime) {
         panic!(rt; "no function");
     };
     let [
-        Stmt::Assign(Assignment::Increment(_)),
-        Stmt::Assign(Assignment::Decrement(_)),
+        Stmt::Assign(Assignment::Increment(..)),
+        Stmt::Assign(Assignment::Decrement(..)),
         Stmt::Assign(Assignment::Compound(first, _, _)),
         Stmt::Assign(Assignment::Compound(second, _, value)),
     ] = body.as_slice()
