@@ -1,0 +1,240 @@
+/* Frames of the serial run: functions, spawned calls, scopes, and what exceptions leave of them. */
+#include "recorder.h"
+
+struct frame *frames;
+int depth;
+uint64_t passed_by_exceptions;
+
+static uintptr_t span_of(int i)
+{
+    if (i == 0)
+        return UINTPTR_MAX;
+    const struct frame *f = &frames[i], *parent = f - 1;
+    return parent->span == 0 && f->own_stack ? f->top - stack_low : parent->span;
+}
+
+/* The stack of the current function reaches down to `address` at least. */
+static void note_low(uintptr_t address)
+{
+    for (int i = depth; i >= 0; i--) {
+        if (address < frames[i].low)
+            frames[i].low = address;
+        if (frames[i].own_stack)
+            break;
+    }
+}
+
+struct frame *push(uintptr_t base, uintptr_t top, uintptr_t function)
+{
+    if (unlikely(depth + 1 >= MOST_FRAMES)) {
+        give_up("more than %d calls are open", MOST_FRAMES);
+        return &frames[depth];
+    }
+    struct frame *parent = &frames[depth], *f = &frames[++depth];
+    *f = (struct frame){.base = base, .function = function};
+    f->own_stack = top < parent->top;
+    f->top = f->low = f->own_stack ? top : parent->top;
+    if (f->own_stack) {
+        depth--;
+        note_low(f->top);
+        depth++;
+    }
+    f->span = span = span_of(depth);
+    return f;
+}
+
+/* The current frame gets a child that may run beside what follows. */
+void set_parallel(void)
+{
+    frames[depth].parallel = true;
+    frames[depth].span = span = 0;
+    for (int i = depth; i >= 0 && !frames[i].kept; i--)
+        frames[i].kept = true;
+}
+
+static void set_serial(void)
+{
+    frames[depth].parallel = false;
+    frames[depth].span = span = span_of(depth);
+}
+
+/* Ends the current frame but for its last line, which depends on what it was. */
+static struct frame pop(void)
+{
+    enum { RED_ZONE = 128 };
+
+    retire_locals();
+    struct frame f = frames[depth];
+    if (f.tail)
+        put_spawned();
+    if (f.parallel)
+        put_sync();
+    depth--;
+    span = frames[depth].span;
+    if (f.kept && f.own_stack && span != UINTPTR_MAX)
+        put_cells(CLEAR, f.low - RED_ZONE, f.top - f.low + RED_ZONE, 0);
+    return f;
+}
+
+/* Ends a function's frame, or what an exception left of one. */
+void end_frame(void)
+{
+    struct frame f = pop();
+
+    if (f.candidate)
+        frames[depth].tail = true;
+    else if (f.spawned)
+        put_spawned();
+    else if (f.written)
+        put_called();
+}
+
+/* Ends frames that lie below the function with this frame pointer: an exception went past them. */
+static void unwind_below(uintptr_t base)
+{
+    while (depth > 0 && frames[depth].base < base)
+        end_frame();
+}
+
+/* ---- Spawns. The last call between the marks is the spawned one: the others are calls in its arguments. */
+
+void begin_candidate(uint64_t site)
+{
+    if (frames[depth].tail) {
+        put_called();
+        frames[depth].tail = false;
+    }
+    put_enter(site);
+}
+
+/* The current spawn is over, by its second mark or because an exception went past that. */
+static void end_spawn(void)
+{
+    struct frame *f = &frames[depth];
+
+    if (f->tail)
+        put_spawned();
+    f->tail = f->spawning = false;
+}
+
+static void end_passed_spawn(void)
+{
+    if (frames[depth].spawning) {
+        passed_by_exceptions++;
+        end_spawn();
+    }
+}
+
+size_t cilkrec_spawn_begin(void)
+{
+    if (!recording)
+        return 0;
+    unwind_below((uintptr_t)__builtin_frame_address(1));
+    end_passed_spawn();
+    struct frame *f = &frames[depth];
+    f->mark = END_OF_FRAME(0);
+    note_low(f->mark);
+    if (!f->written) {
+        put_enter(site_at(f->function));
+        f->written = true;
+    }
+    set_parallel();
+    f->spawning = true;
+    return 0;
+}
+
+void cilkrec_spawn_end(void)
+{
+    if (recording)
+        end_spawn();
+}
+
+void cilkrec_sync(void)
+{
+    if (!recording)
+        return;
+    unwind_below((uintptr_t)__builtin_frame_address(1));
+    end_passed_spawn();
+    note_low((uintptr_t)__builtin_frame_address(0));
+    if (frames[depth].parallel)
+        put_sync();
+    set_serial();
+}
+
+/* ---- Functions. */
+
+void __cyg_profile_func_enter(void *function, void *call_site)
+{
+    if (!recording)
+        return;
+    uintptr_t base = (uintptr_t)__builtin_frame_address(1), top = base + 16;
+    unwind_below(base + 1);
+    struct frame *parent = &frames[depth];
+    if (likely(!parent->spawning) || (parent->tail && follows_spawned_call((uintptr_t)function))) {
+        push(base, top, (uintptr_t)function);
+        return;
+    }
+    begin_candidate(site_before(call_site));
+    struct frame *f = push(base, parent->mark > top ? parent->mark : top, (uintptr_t)function);
+    f->written = f->candidate = true;
+}
+
+void __cyg_profile_func_exit(void *function, void *call_site)
+{
+    (void)function;
+    (void)call_site;
+    if (!recording)
+        return;
+    uintptr_t base = (uintptr_t)__builtin_frame_address(1);
+    unwind_below(base);
+    if (depth == 0 || frames[depth].base != base)
+        return;
+    while (frames[depth].scope)
+        end_frame();
+    note_low(END_OF_FRAME(0));
+    end_frame();
+}
+
+int cilkrec_scope_begin(void)
+{
+    if (recording) {
+        put_enter(site_before(RETURN_ADDRESS));
+        struct frame *f = push((uintptr_t)__builtin_frame_address(1), UINTPTR_MAX, frames[depth].function);
+        f->written = f->scope = true;
+    }
+    return 0;
+}
+
+/* The cleanup of a variable, so it is called on each way out of the scope. */
+void cilkrec_scope_end(int *variable)
+{
+    (void)variable;
+    if (!recording)
+        return;
+    unwind_below((uintptr_t)__builtin_frame_address(1));
+    note_low((uintptr_t)__builtin_frame_address(0));
+    if (frames[depth].scope)
+        end_frame();
+}
+
+/* The handler of an exception runs in the function that called this. Those of clang don't tell that they were left. */
+extern void *__real___cxa_begin_catch(void *) __attribute__((weak));
+void *__wrap___cxa_begin_catch(void *exception)
+{
+    if (recording)
+        unwind_below((uintptr_t)__builtin_frame_address(1));
+    return __real___cxa_begin_catch(exception);
+}
+
+/* Jumps leave frames without their ends. */
+#define REFUSED_JUMP(NAME) \
+    extern void __real_##NAME(void *, int) __attribute__((noreturn)); \
+    __attribute__((noreturn)) void __wrap_##NAME(void *to, int value) \
+    { \
+        if (recording) \
+            give_up("the program called " #NAME); \
+        __real_##NAME(to, value); \
+    }
+REFUSED_JUMP(longjmp)
+REFUSED_JUMP(_longjmp)
+REFUSED_JUMP(siglongjmp)

@@ -1,0 +1,153 @@
+/* Names of functions, and the table of sites. */
+#define _GNU_SOURCE
+#include <elf.h>
+#include <errno.h>
+#include <fcntl.h>
+#include <spawn.h>
+#include <stdlib.h>
+#include <string.h>
+#include <sys/mman.h>
+#include <sys/stat.h>
+#include <sys/wait.h>
+#include <unistd.h>
+#include "recorder.h"
+
+/* ---- Names of functions, from the program's table of symbols. */
+
+static const Elf64_Sym *symbols;
+static size_t symbol_count;
+static const char *symbol_names;
+
+static void find_symbols(void)
+{
+    static bool tried;
+    struct stat status;
+
+    if (tried)
+        return;
+    tried = true;
+    int fd = open("/proc/self/exe", O_RDONLY | O_CLOEXEC);
+    if (fd < 0 || fstat(fd, &status))
+        return;
+    const char *file = mmap(NULL, (size_t)status.st_size, PROT_READ, MAP_PRIVATE, fd, 0);
+    close(fd);
+    if (file == MAP_FAILED)
+        return;
+    const Elf64_Ehdr *header = (const Elf64_Ehdr *)file;
+    const Elf64_Shdr *sections = (const Elf64_Shdr *)(file + header->e_shoff);
+    for (int i = 0; i < header->e_shnum; i++)
+        if (sections[i].sh_type == SHT_SYMTAB) {
+            symbols = (const Elf64_Sym *)(file + sections[i].sh_offset);
+            symbol_count = sections[i].sh_size / sizeof *symbols;
+            symbol_names = file + sections[sections[i].sh_link].sh_offset;
+        }
+}
+
+static const char *function_name(uintptr_t function)
+{
+    find_symbols();
+    for (size_t i = 0; i < symbol_count; i++)
+        if (symbols[i].st_value == function - load_address && ELF64_ST_TYPE(symbols[i].st_info) == STT_FUNC)
+            return symbol_names + symbols[i].st_name;
+    return "";
+}
+
+/* Whether a mangled name is that of a constructor, destructor, assignment or conversion of a class. Identifiers in it
+ * are passed over by their lengths. */
+static bool is_special_member(const char *name)
+{
+    if (name[0] != '_' || name[1] != 'Z')
+        return false;
+    for (name += 2; *name;) {
+        if (*name >= '0' && *name <= '9') {
+            char *after;
+            unsigned long n = strtoul(name, &after, 10);
+            if (n > strlen(after))
+                return false;
+            name = after + n;
+        } else if (*name == 'L') {
+            while (*name && *name != 'E')
+                name++;
+        } else if ((name[0] == 'C' || name[0] == 'D') && name[1] >= '0' && name[1] <= '5' && name[2] == 'E') {
+            return true;
+        } else if (!strncmp(name, "aSE", 3) || !strncmp(name, "cv", 2)) {
+            return true;
+        } else {
+            name++;
+        }
+    }
+    return false;
+}
+
+/* Such functions run after a spawned call, on its result and its arguments, and are part of the child. */
+bool follows_spawned_call(uintptr_t function)
+{
+    static struct { uintptr_t function; bool special; } cache[256];
+    unsigned slot = function / 16 % 256;
+
+    if (cache[slot].function != function) {
+        cache[slot].special = is_special_member(function_name(function));
+        cache[slot].function = function;
+    }
+    return cache[slot].special;
+}
+
+/* ---- The table of sites: file, line and function of each, by addr2line. */
+
+static int ask_addr2line(int questions)
+{
+    char program[64];
+    int answers = memfd_create("cilkrec-places", 0), status = 1;
+    pid_t child;
+    posix_spawn_file_actions_t actions;
+
+    snprintf(program, sizeof program, "/proc/%d/exe", (int)getpid());
+    char *const call[] = {"addr2line", "-e", program, "-f", "-C", NULL};
+    posix_spawn_file_actions_init(&actions);
+    posix_spawn_file_actions_adddup2(&actions, questions, 0);
+    posix_spawn_file_actions_adddup2(&actions, answers, 1);
+    if (posix_spawnp(&child, call[0], &actions, NULL, call, environ) || waitpid(child, &status, 0) < 0 || status) {
+        close(answers);
+        return -1;
+    }
+    posix_spawn_file_actions_destroy(&actions);
+    lseek(answers, 0, SEEK_SET);
+    return answers;
+}
+
+void write_sites(const char *path)
+{
+    size_t bytes = (size_t)(etext - __executable_start);
+    FILE *table = fopen(path, "w");
+    int questions = memfd_create("cilkrec-sites", 0);
+    char function[4096], place[4096];
+
+    if (!table || questions < 0) {
+        fprintf(stderr, "cilkrec: %s: %s\n", path, strerror(errno));
+        return;
+    }
+    for (size_t i = 0; i < bytes; i++)
+        if (used_sites[i / 8] >> i % 8 & 1)
+            dprintf(questions, "%zx\n", i + (uintptr_t)__executable_start - load_address);
+    lseek(questions, 0, SEEK_SET);
+    int answers = ask_addr2line(questions);
+    FILE *in = answers < 0 ? NULL : fdopen(answers, "r");
+    if (!in)
+        fprintf(stderr, "cilkrec: %s: addr2line (of binutils) didn't run, so places have no lines\n", path);
+    fputs("cilksites 1\n0 ?:0 ?\n", table);
+    for (size_t i = 0; i < bytes; i++) {
+        if (!(used_sites[i / 8] >> i % 8 & 1))
+            continue;
+        if (!in || !fgets(function, sizeof function, in) || !fgets(place, sizeof place, in)) {
+            strcpy(function, "?\n");
+            strcpy(place, "?:0\n");
+        }
+        place[strcspn(place, "\n")] = 0;
+        char *more = strstr(place, " (discriminator");
+        if (more)
+            *more = 0;
+        fprintf(table, "%zu %s %s", i + (uintptr_t)__executable_start - load_address, place, function);
+    }
+    fputs("end\n", table);
+    fclose(table);
+}

@@ -1,0 +1,303 @@
+/* The open trace: its lines as text or as binary, by a buffer; numbers of cells. */
+#define _GNU_SOURCE
+#include <errno.h>
+#include <fcntl.h>
+#include <pthread.h>
+#include <signal.h>
+#include <stdarg.h>
+#include <stdlib.h>
+#include <string.h>
+#include <sys/mman.h>
+#include <sys/resource.h>
+#include <unistd.h>
+#include "recorder.h"
+
+bool recording;
+uintptr_t load_address, stack_low, span = UINTPTR_MAX;
+unsigned char *used_sites;
+static bool binary;
+static int trace_fd = -1;
+static struct { uint64_t accesses, frames, bytes, lines; } count;
+
+void give_up(const char *format, ...)
+{
+    va_list words;
+
+    recording = false;
+    span = UINTPTR_MAX;
+    if (trace_fd >= 0)
+        close(trace_fd);
+    trace_fd = -1;
+    fputs("cilkrec: the trace isn't whole: ", stderr);
+    va_start(words, format);
+    vfprintf(stderr, format, words);
+    va_end(words);
+    fputc('\n', stderr);
+}
+
+void *zeroed(size_t bytes)
+{
+    void *p = mmap(NULL, bytes, PROT_READ | PROT_WRITE, MAP_PRIVATE | MAP_ANONYMOUS | MAP_NORESERVE, -1, 0);
+
+    if (p == MAP_FAILED) {
+        fprintf(stderr, "cilkrec: no memory\n");
+        _exit(125);
+    }
+    return p;
+}
+
+/* ---- Output: text or binary, by a buffer. */
+
+enum { CAPACITY = 1 << 20, LONGEST_EVENT = 160 };
+#define MOST_LINES 0xFFFFFFFEull
+static char *buffer;
+static size_t fill;
+
+/* Writes all; a reader that closed its pipe must not kill the program, so SIGPIPE is taken away. */
+static bool write_all(const char *p, size_t n)
+{
+    sigset_t sigpipe, before;
+    const struct timespec now = {0, 0};
+
+    sigemptyset(&sigpipe);
+    sigaddset(&sigpipe, SIGPIPE);
+    pthread_sigmask(SIG_BLOCK, &sigpipe, &before);
+    while (n) {
+        ssize_t k = write(trace_fd, p, n);
+        if (k < 0 && errno == EINTR)
+            continue;
+        if (k <= 0)
+            break;
+        p += k;
+        n -= (size_t)k;
+    }
+    int error = errno;
+    if (n && error == EPIPE)
+        sigtimedwait(&sigpipe, NULL, &now);
+    pthread_sigmask(SIG_SETMASK, &before, NULL);
+    errno = error;
+    return n == 0;
+}
+
+void flush_buffer(void)
+{
+    if (recording && count.lines > MOST_LINES)
+        give_up("it has more than 2^32 lines");
+    else if (recording && !write_all(buffer, fill))
+        give_up("%s", errno == EPIPE ? "its reader closed the pipe" : strerror(errno));
+    count.bytes += fill;
+    fill = 0;
+}
+
+static inline void begin_event(void)
+{
+    if (unlikely(fill > CAPACITY - LONGEST_EVENT))
+        flush_buffer();
+    count.lines++;
+}
+
+static inline void put_word(const char *word)
+{
+    while (*word)
+        buffer[fill++] = *word++;
+}
+
+static inline void put_decimal(uint64_t value)
+{
+    char digits[20];
+    int n = 0;
+
+    do
+        digits[n++] = (char)('0' + value % 10);
+    while (value /= 10);
+    while (n)
+        buffer[fill++] = digits[--n];
+}
+
+static inline void put_leb128(uint64_t value)
+{
+    for (; value >= 128; value >>= 7)
+        buffer[fill++] = (char)(value | 128);
+    buffer[fill++] = (char)value;
+}
+
+/* An event of one word and at most two numbers, of which binary tells the word by `tag`. */
+static void put_mark(const char *word, unsigned tag)
+{
+    begin_event();
+    if (binary) {
+        put_leb128(tag);
+    } else {
+        put_word(word);
+        buffer[fill++] = '\n';
+    }
+}
+
+void put_enter(uint64_t site)
+{
+    count.frames++;
+    begin_event();
+    if (binary) {
+        put_leb128(1);
+        put_leb128(site);
+    } else {
+        put_word("enter ");
+        put_decimal(site);
+        buffer[fill++] = '\n';
+    }
+}
+
+void put_spawned(void) { put_mark("spawned", 2); }
+void put_called(void) { put_mark("called", 3); }
+void put_sync(void) { put_mark("sync", 4); }
+void put_end(void) { put_mark("end", 5); }
+
+void put_reducer(enum reducer_event event, uint32_t reducer, uint64_t site)
+{
+    static const char *const words[] = {"create ", "update ", "value ", "retire "};
+
+    begin_event();
+    if (binary) {
+        put_leb128(6);
+        put_leb128(event);
+        put_leb128(reducer);
+        put_leb128(site);
+    } else {
+        put_word(words[event]);
+        put_decimal(reducer);
+        buffer[fill++] = ' ';
+        put_decimal(site);
+        buffer[fill++] = '\n';
+    }
+}
+
+/* ---- Cells: bytes, numbered by 4 KB pages in the order of first use, so that they are small and dense. */
+
+enum { PAGE_BITS = 12, PAGE_TABLE_BITS = 21, MOST_PAGES = 1 << 20, NEAR_PAGES = 1024 };
+struct page { uintptr_t page; uint32_t number; };
+static struct page *page_table, near_pages[NEAR_PAGES];
+static uint32_t pages;
+
+static uint32_t page_number(uintptr_t page)
+{
+    struct page *near = &near_pages[page % NEAR_PAGES];
+
+    if (likely(near->page == page))
+        return near->number;
+    size_t mask = ((size_t)1 << PAGE_TABLE_BITS) - 1;
+    size_t i = (page * 0x9E3779B97F4A7C15ull) >> (64 - PAGE_TABLE_BITS);
+    while (page_table[i].page && page_table[i].page != page)
+        i = (i + 1) & mask;
+    if (!page_table[i].page) {
+        if (pages == MOST_PAGES) {
+            give_up("the program uses more than 4 GB of memory");
+            return 0;
+        }
+        page_table[i].page = page;
+        page_table[i].number = pages++;
+    }
+    *near = page_table[i];
+    return near->number;
+}
+
+/* ---- Events over cells. */
+
+enum { LINE_TABLE_BITS = 18, MOST_LINE_KINDS = 1 << 17, SHORT_COUNT = 16 };
+/* Binary names a line's kind, count and site once; a use of it tells only how far it moved since it was last used. */
+struct line_kind { uint64_t key, next_cell; uint32_t number; };
+static struct line_kind *line_kinds;
+static uint32_t line_kind_count;
+static uint64_t last_cell;
+
+static void put_binary_access(enum kind kind, uint64_t cell, uint64_t n, uint64_t site)
+{
+    uint64_t fixed = n <= SHORT_COUNT ? n : 0, key = ((site << 5 | fixed) << 2 | kind) + 1;
+    size_t mask = ((size_t)1 << LINE_TABLE_BITS) - 1;
+    size_t i = (key * 0x9E3779B97F4A7C15ull) >> (64 - LINE_TABLE_BITS);
+
+    while (line_kinds[i].key && line_kinds[i].key != key)
+        i = (i + 1) & mask;
+    struct line_kind *line = &line_kinds[i];
+    if (unlikely(!line->key)) {
+        if (line_kind_count == MOST_LINE_KINDS) {
+            give_up("more than %d places access memory", MOST_LINE_KINDS);
+            return;
+        }
+        line->key = key;
+        line->number = line_kind_count++;
+        line->next_cell = last_cell;
+        put_leb128(0);
+        put_leb128(kind);
+        put_leb128(fixed);
+        put_leb128(site);
+    }
+    int64_t moved = (int64_t)(cell - line->next_cell);
+    put_leb128(8 + line->number);
+    put_leb128((uint64_t)moved << 1 ^ (uint64_t)(moved >> 63));
+    if (!fixed)
+        put_leb128(n);
+    line->next_cell = cell + n;
+    last_cell = cell;
+}
+
+void put_cells(enum kind kind, uintptr_t address, uint64_t size, uint64_t site)
+{
+    static const char *const words[] = {"read ", "write ", "clear "};
+
+    count.accesses += kind != CLEAR;
+    while (size && recording) {
+        uint64_t in_page = (1 << PAGE_BITS) - (address & ((1 << PAGE_BITS) - 1)), n = size < in_page ? size : in_page;
+        uint64_t cell = (uint64_t)page_number(address >> PAGE_BITS) << PAGE_BITS | (address & ((1 << PAGE_BITS) - 1));
+        begin_event();
+        if (binary) {
+            put_binary_access(kind, cell, n, site);
+        } else {
+            put_word(words[kind]);
+            put_decimal(cell);
+            buffer[fill++] = ' ';
+            put_decimal(n);
+            if (kind != CLEAR) {
+                buffer[fill++] = ' ';
+                put_decimal(site);
+            }
+            buffer[fill++] = '\n';
+        }
+        address += n;
+        size -= n;
+    }
+}
+
+/* ---- Begin and end. */
+
+bool open_trace(const char *path, bool as_binary)
+{
+    trace_fd = open(path, O_WRONLY | O_CREAT | O_TRUNC | O_CLOEXEC, 0666);
+    if (trace_fd < 0)
+        return false;
+    binary = as_binary;
+    buffer = zeroed(CAPACITY);
+    page_table = zeroed(sizeof *page_table << PAGE_TABLE_BITS);
+    line_kinds = zeroed(sizeof *line_kinds << LINE_TABLE_BITS);
+    put_word(binary ? "cilktrace-bin 1\n" : "cilktrace 1\n");
+    count.lines = 1;
+    return true;
+}
+
+/* Whether all went out. */
+bool close_trace(void)
+{
+    flush_buffer();
+    if (recording && close(trace_fd))
+        give_up("%s", strerror(errno));
+    trace_fd = -1;
+    return recording;
+}
+
+void print_counts(void)
+{
+    struct rusage usage;
+
+    getrusage(RUSAGE_SELF, &usage);
+    fprintf(stderr, "cilkrec: %lu accesses, %lu frames, %lu lines, %lu bytes, %u pages; %ld.%02ld s\n", count.accesses,
+            count.frames, count.lines, count.bytes, pages, usage.ru_utime.tv_sec, (long)usage.ru_utime.tv_usec / 10000);
+}

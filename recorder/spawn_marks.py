@@ -1,0 +1,273 @@
+#!/usr/bin/env python3
+"""Puts the recorder's marks into a preprocessed text of C or C++ with OpenCilk's words.
+
+spawn_marks.py [--clang] FILE    writes the changed text to standard output
+
+A spawned call is put between two calls of the runtime, and a write of its result is told behind it:
+
+    x = cilk_spawn f(a);
+    { cilkrec_spawn_begin(); x = f(a); cilkrec_spawn_into(&x, sizeof(x)); cilkrec_spawn_end(); }
+
+A place that isn't one name is found before the spawn, as its parent does. `cilk_scope` gets a variable whose cleanup
+ends it. Variables with `cilk_reducer` are told to the runtime where they are declared. Nothing else of the text
+changes, and no line moves, so that the compiler's messages and the sites of accesses name the user's lines.
+
+It knows tokens, brackets and statements, not types: what it can't place for sure it refuses, with file and line.
+"""
+
+import bisect
+import re
+import sys
+from collections import namedtuple
+
+TOKEN = re.compile(
+    r"""(?P<text>(?:u8|u|U|L)?R"(?P<fence>[^()\\\s]{0,16})\(.*?\)(?P=fence)"
+      |(?:u8|u|U|L)?"(?:\\.|[^"\\\n])*"|(?:u8|u|U|L)?'(?:\\.|[^'\\\n])*')
+      |(?P<line>^[ \t]*\#[^\n]*)
+      |(?P<word>[A-Za-z_]\w*)
+      |(?P<number>\.?\d(?:'?[\w.])*)
+      |(?P<mark>->|\+\+|--|::|&&|\|\||[-+*/%&|^=!<>]=|[^\s])""",
+    re.S | re.M | re.X,
+)
+LINE_MARKER = re.compile(r'^# (\d+) "([^"\n]*)"', re.M)
+OPENING = {")": "(", "]": "[", "}": "{"}
+HEADS = ("if", "for", "while", "switch", "constexpr")
+WORDS = re.compile(r"\bcilk_(spawn|scope|reducer)\b")
+
+Token = namedtuple("Token", "kind text start end")
+
+
+class Fault(Exception):
+    """A use of a word that the recorder doesn't take; its text has file and line."""
+
+
+class Marker:
+    """One text: its tokens, the partner of each bracket, and the edits that were found."""
+
+    def __init__(self, text, clang):
+        self.text, self.clang, self.edits = text, clang, []
+        self.tokens = [
+            Token(m.lastgroup if m.lastgroup != "fence" else "text", m.group(), m.start(), m.end())
+            for m in TOKEN.finditer(text)
+            if m.lastgroup != "line"
+        ]
+        self.markers = [(m.start(), int(m[1]), m[2]) for m in LINE_MARKER.finditer(text)]
+        self.partner, self.outer = self.brackets()
+
+    def brackets(self):
+        """The partner of each bracket, and for each of this pass's words the brackets open round it."""
+        partner, outer, stack = {}, {}, []
+        for i, token in enumerate(self.tokens):
+            if token.kind == "mark" and token.text in "([{":
+                stack.append(i)
+            elif token.kind == "mark" and token.text in ")]}":
+                if not stack or self.tokens[stack[-1]].text != OPENING[token.text]:
+                    raise self.fault(i, f"`{token.text}` closes nothing")
+                partner[i] = stack.pop()
+                partner[partner[i]] = i
+            elif token.kind == "word" and WORDS.fullmatch(token.text):
+                outer[i] = list(stack)
+        return partner, outer
+
+    def fault(self, i, what):
+        """A Fault at a token, by the compiler's line markers."""
+        offset = self.tokens[i].start
+        k = bisect.bisect_right(self.markers, (offset,)) - 1
+        if k < 0:
+            return Fault(f"line {self.text.count(chr(10), 0, offset) + 1}: {what}")
+        start, line, name = self.markers[k]
+        return Fault(f"{name}:{line + self.text.count(chr(10), start, offset) - 1}: {what}")
+
+    def insert(self, offset, text):
+        """An insertion; those at one place stand in the order in which they came."""
+        self.edits.append((offset, offset, text))
+
+    def remove(self, first, last):
+        """Removes the tokens from `first` to `last`, but for their line feeds."""
+        start, end = self.tokens[first].start, self.tokens[last].end
+        self.edits.append((start, end, "\n" * self.text.count("\n", start, end)))
+
+    def is_label(self, colon, last):
+        """Whether a colon ends a label, not the middle of `? :`."""
+        for k in range(colon - 1, max(colon - 40, -1), -1):
+            if self.tokens[k].text in (";", "{", "}"):
+                return True
+            if self.tokens[k].text == "?":
+                raise self.fault(last, "cilk_spawn inside `? :`; give it a statement of its own")
+        return True
+
+    def statement_start(self, spawn):
+        """The first token of the statement that a `cilk_spawn` is in."""
+        k = spawn
+        while k > 0:
+            before = self.tokens[k - 1].text
+            if before in (";", "{", "}", "else", "do") or before == ":" and self.is_label(k - 1, spawn):
+                break
+            if before == "(" or before == "[":
+                raise self.fault(spawn, "cilk_spawn inside an expression; give it a statement of its own")
+            if before == ")":
+                opening = self.partner[k - 1]
+                if self.tokens[opening - 1].text in HEADS:
+                    break
+                k = opening
+            elif before == "]":
+                k = self.partner[k - 1]
+            else:
+                k -= 1
+        return k
+
+    def statement_end(self, spawn):
+        """The `;` that ends the statement of a `cilk_spawn`."""
+        k = spawn + 1
+        while k < len(self.tokens):
+            text = self.tokens[k].text
+            if text == ";":
+                return k
+            if text == "cilk_spawn":
+                raise self.fault(k, "a second cilk_spawn in one statement")
+            if text in ")]}" and self.tokens[k].kind == "mark":
+                break
+            k = self.partner[k] + 1 if text in "([{" and self.tokens[k].kind == "mark" else k + 1
+        raise self.fault(spawn, "cilk_spawn is no statement of its own")
+
+    @staticmethod
+    def declares(place):
+        """Whether these tokens before a `=` declare a variable, as `int x` or `std::vector<int> v`."""
+        if len(place) < 2 or place[-1].kind != "word" or not (place[0].kind == "word" or place[0].text == "::"):
+            return False
+        if place[1].text in (",", ".", "->", "[", "(", "++", "--"):
+            return False
+        return place[-2].kind == "word" or place[-2].text in ("*", "&", "&&", ">", ",")
+
+    def mark_spawn(self, i):
+        """The marks of one spawn."""
+        if self.tokens[i + 1].text == "{":
+            raise self.fault(i, "cilk_spawn of a block; put the block into a function")
+        first, last = self.statement_start(i), self.statement_end(i)
+        left = self.tokens[first:i]
+        if [t.text for t in left] == ["(", "void", ")"]:
+            left = []
+        if left and left[-1].text != "=":
+            raise self.fault(i, f"cilk_spawn after `{left[-1].text}`; a spawned call is a statement, or the whole "
+                             "right side of `=`")
+        place, before, after = left[:-1], "cilkrec_spawn_begin(); ", " cilkrec_spawn_end();"
+        if self.clang:  # so that arguments on the stack lie below the mark: the stack then has no fixed room for them
+            before = "(void)__builtin_alloca(cilkrec_spawn_begin()); "
+        declares = self.declares(place)
+        if not declares and any(t.text == "," for t in place):
+            raise self.fault(i, "cilk_spawn after `,`; give it a statement of its own")
+        if declares or len(place) == 1:
+            name = place[-1].text
+            after = f" cilkrec_spawn_into((void *)&{name}, sizeof({name}));" + after
+        elif place:
+            where = " ".join(self.text[place[0].start : left[-1].start].split())
+            before += f"__typeof__(&({where})) cilkrec_place = &({where}); *cilkrec_place "
+            self.remove(first, i - 2)
+            after = " cilkrec_spawn_into((void *)cilkrec_place, sizeof(*cilkrec_place));" + after
+        if not declares:
+            before, after = "{ " + before, after + " }"
+        self.insert(self.tokens[first].start, before)
+        self.insert(self.tokens[last].end, after)
+        self.remove(i, i)
+
+    def mark_scope(self, i):
+        """The variable of a scope."""
+        if self.tokens[i + 1].text != "{":
+            raise self.fault(i, "cilk_scope without braces")
+        self.remove(i, i)
+        self.insert(
+            self.tokens[i + 1].end,
+            f" int cilkrec_scope_{i} __attribute__((cleanup(cilkrec_scope_end))) = cilkrec_scope_begin();",
+        )
+
+    def head_of(self, i):
+        """The texts of the tokens before token `i` in its statement or declaration."""
+        k = i
+        while k > 0 and self.tokens[k - 1].text not in (";", "{", "}"):
+            k = self.partner[k - 1] if self.tokens[k - 1].text in (")", "]") else k - 1
+        return [t.text for t in self.tokens[k:i]]
+
+    def brace_kind(self, brace):
+        """`namespace`, `record` or `code`."""
+        head = self.head_of(brace)
+        if "namespace" in head or head[-2:] == ["extern", '"C"']:
+            return "namespace"
+        if {"struct", "class", "union", "enum"} & set(head) and head[-1:] != [")"] and "=" not in head:
+            return "record"
+        return "code"
+
+    def declared_names(self, i, end):
+        """The variables that a declaration's list from token `i` on declares: not its pointers and references."""
+        names, k, fresh = [], i, True
+        while k < end:
+            token = self.tokens[k]
+            if fresh and token.kind == "word":
+                names.append(token.text)
+            fresh = token.text == ","
+            k = self.partner[k] + 1 if token.text in "([{" and token.kind == "mark" else k + 1
+        return names
+
+    def mark_reducer(self, i):
+        """Takes the word away, and tells the runtime of the variables."""
+        if self.tokens[i + 1].text != "(":
+            raise self.fault(i, "cilk_reducer without `(`")
+        close = self.partner[i + 1]
+        self.remove(i, close)
+        head, outer = self.head_of(i), self.outer[i]
+        following = self.tokens[close + 1]
+        if "extern" in head and "\"C\"" not in head or following.text in ("*", "&", "&&"):
+            return
+        if {"typedef", "using", "new"} & set(head) or following.kind != "word":
+            raise self.fault(i, "cilk_reducer is taken in declarations of variables alone")
+        if outer and self.tokens[outer[-1]].text != "{":
+            raise self.fault(i, "a reducer as a parameter; pass a pointer to it")
+        kinds = [self.brace_kind(k) for k in outer]
+        if kinds[-1:] == ["record"]:
+            raise self.fault(i, "a reducer as a member")
+        end = close
+        while self.tokens[end].text != ";":
+            end = self.partner[end] + 1 if self.tokens[end].text in ("(", "[", "{") else end + 1
+        names = self.declared_names(close + 1, end)
+        if "code" in kinds and "static" in head:
+            raise self.fault(i, "a reducer that is static in a function; make it a global one")
+        for name in names:
+            if "code" in kinds:
+                call = f" cilkrec_reducer_local((void *)&{name}, sizeof({name}));"
+            else:
+                call = (
+                    " __attribute__((constructor, no_instrument_function)) static void"
+                    f" cilkrec_reducer_{name}_{i}(void) {{ cilkrec_reducer_global((void *)&{name}, sizeof({name})); }}"
+                )
+            self.insert(self.tokens[end].end, call)
+
+    def marked(self):
+        """The changed text."""
+        marks = {"cilk_spawn": self.mark_spawn, "cilk_scope": self.mark_scope, "cilk_reducer": self.mark_reducer}
+        for i in self.outer:
+            marks[self.tokens[i].text](i)
+        out, done = [], 0
+        for start, end, text in sorted(self.edits, key=lambda e: e[0]):
+            out += [self.text[done : max(start, done)], text]
+            done = max(done, end)
+        return "".join(out + [self.text[done:]])
+
+
+def marked(text, clang):
+    """The text with its marks; a text without OpenCilk's words as it is."""
+    return Marker(text, clang).marked() if WORDS.search(text) else text
+
+
+def main(words):
+    """The command."""
+    clang = words[:1] == ["--clang"]
+    if len(words) != 1 + clang:
+        sys.exit(__doc__)
+    try:
+        with open(words[-1], encoding="latin-1") as f:
+            sys.stdout.buffer.write(marked(f.read(), clang).encode("latin-1"))
+    except (OSError, Fault) as e:
+        sys.exit(f"spawn_marks.py: {e}")
+
+
+if __name__ == "__main__":
+    main(sys.argv[1:])
