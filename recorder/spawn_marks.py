@@ -1,15 +1,16 @@
 #!/usr/bin/env python3
 """Puts the recorder's marks into a preprocessed text of C or C++ with OpenCilk's words.
 
-spawn_marks.py [--clang] FILE    writes the changed text to standard output
+spawn_marks.py [--clang] [--c++] FILE    writes the changed text to standard output
 
-A spawned call is put between two calls of the runtime, and a write of its result is told behind it:
+A spawned call is put between two calls of the runtime, and a write of its result is told after it:
 
     x = cilk_spawn f(a);
     { cilkrec_spawn_begin(); x = f(a); cilkrec_spawn_into(&x, sizeof(x)); cilkrec_spawn_end(); }
 
-A place that isn't one name is found before the spawn, as its parent does. `cilk_scope` gets a variable whose cleanup
-ends it. Variables with `cilk_reducer` are told to the runtime where they are declared. Nothing else of the text
+In C++ all this is the body of a lambda that is called at once, so that temporaries of the statement, such as copies of
+its arguments, lie in a part of the stack that the spawned child owns. A place that isn't one name is found before the
+spawn, as its parent does. `cilk_scope` gets a variable whose cleanup ends it. Variables with `cilk_reducer` are told to the runtime where they are declared. Nothing else of the text
 changes, and no line moves, so that the compiler's messages and the sites of accesses name the user's lines.
 
 It knows tokens, brackets and statements, not types: what it can't place for sure it refuses, with file and line.
@@ -33,6 +34,9 @@ LINE_MARKER = re.compile(r'^# (\d+) "([^"\n]*)"', re.M)
 OPENING = {")": "(", "]": "[", "}": "{"}
 HEADS = ("if", "for", "while", "switch", "constexpr")
 WORDS = re.compile(r"\bcilk_(spawn|scope|reducer)\b")
+LAMBDA = "[&]() __attribute__((no_instrument_function)) "
+# libstdc++ has the members of std::string compiled: without this line they are compiled, and recorded, here.
+COMPILED_STRING = "extern template class basic_string<char>;"
 
 Token = namedtuple("Token", "kind text start end")
 
@@ -44,8 +48,8 @@ class Fault(Exception):
 class Marker:
     """One text: its tokens, the partner of each bracket, and the edits that were found."""
 
-    def __init__(self, text, clang):
-        self.text, self.clang, self.edits = text, clang, []
+    def __init__(self, text, clang, cxx):
+        self.text, self.clang, self.cxx, self.edits = text, clang, cxx, []
         self.tokens = [
             Token(m.lastgroup if m.lastgroup != "fence" else "text", m.group(), m.start(), m.end())
             for m in TOKEN.finditer(text)
@@ -139,36 +143,58 @@ class Marker:
             return False
         return place[-2].kind == "word" or place[-2].text in ("*", "&", "&&", ">", ",")
 
+    def place_of_result(self, i, first):
+        """The tokens between the statement's begin and the `=` before a `cilk_spawn`."""
+        left = self.tokens[first:i]
+        if [t.text for t in left] == ["(", "void", ")"]:
+            left = []
+        if left and left[-1].text != "=":
+            raise self.fault(
+                i, f"cilk_spawn after `{left[-1].text}`; a spawned call is a statement, or the right side of `=`"
+            )
+        if not self.declares(left[:-1]) and any(t.text == "," for t in left):
+            raise self.fault(i, "cilk_spawn after `,`; give it a statement of its own")
+        return left[:-1]
+
     def mark_spawn(self, i):
         """The marks of one spawn."""
         if self.tokens[i + 1].text == "{":
             raise self.fault(i, "cilk_spawn of a block; put the block into a function")
         first, last = self.statement_start(i), self.statement_end(i)
-        left = self.tokens[first:i]
-        if [t.text for t in left] == ["(", "void", ")"]:
-            left = []
-        if left and left[-1].text != "=":
-            raise self.fault(i, f"cilk_spawn after `{left[-1].text}`; a spawned call is a statement, or the whole "
-                             "right side of `=`")
-        place, before, after = left[:-1], "cilkrec_spawn_begin(); ", " cilkrec_spawn_end();"
-        if self.clang:  # so that arguments on the stack lie below the mark: the stack then has no fixed room for them
-            before = "(void)__builtin_alloca(cilkrec_spawn_begin()); "
+        place, begin, into = self.place_of_result(i, first), "cilkrec_spawn_begin(); ", ""
+        if self.cxx:
+            begin = "cilkrec_spawn_inside(); "
+        elif self.clang:  # so that the stack has no fixed room for arguments: they come to lie below the mark
+            begin = "(void)__builtin_alloca(cilkrec_spawn_begin()); "
         declares = self.declares(place)
-        if not declares and any(t.text == "," for t in place):
-            raise self.fault(i, "cilk_spawn after `,`; give it a statement of its own")
         if declares or len(place) == 1:
-            name = place[-1].text
-            after = f" cilkrec_spawn_into((void *)&{name}, sizeof({name}));" + after
+            into = f" cilkrec_spawn_into((void *)&{place[-1].text}, sizeof({place[-1].text}));"
         elif place:
-            where = " ".join(self.text[place[0].start : left[-1].start].split())
-            before += f"__typeof__(&({where})) cilkrec_place = &({where}); *cilkrec_place "
+            where = " ".join(self.text[place[0].start : place[-1].end].split())
+            begin = f"__typeof__(&({where})) cilkrec_place = &({where}); {begin}*cilkrec_place "
+            into = " cilkrec_spawn_into((void *)cilkrec_place, sizeof(*cilkrec_place));"
             self.remove(first, i - 2)
-            after = " cilkrec_spawn_into((void *)cilkrec_place, sizeof(*cilkrec_place));" + after
-        if not declares:
-            before, after = "{ " + before, after + " }"
-        self.insert(self.tokens[first].start, before)
-        self.insert(self.tokens[last].end, after)
         self.remove(i, i)
+        if declares:
+            self.mark_declaration(i, first, last, begin, into)
+            return
+        opening, closing = ("{ " + LAMBDA + "{ ", " }(); }") if self.cxx else ("{ ", " }")
+        self.insert(self.tokens[first].start, opening + begin)
+        self.insert(self.tokens[last].end, f"{into} cilkrec_spawn_end();{closing}")
+
+    def mark_declaration(self, i, first, last, begin, into):
+        """The marks of a spawn whose result is a variable's first value."""
+        depth = 0
+        for k in range(i + 1, last):
+            depth += {"<": 1, "(": 1, "[": 1, "{": 1, ">": -1, ")": -1, "]": -1, "}": -1}.get(self.tokens[k].text, 0)
+            if self.tokens[k].text == "," and depth == 0:
+                raise self.fault(i, "a declaration goes on after cilk_spawn; declare one variable")
+        if self.cxx:
+            self.insert(self.tokens[i].start, f"{LAMBDA}-> decltype(auto) {{ {begin}return ")
+            self.insert(self.tokens[last].start, "; }()")
+        else:
+            self.insert(self.tokens[first].start, begin)
+        self.insert(self.tokens[last].end, f"{into} cilkrec_spawn_end();")
 
     def mark_scope(self, i):
         """The variable of a scope."""
@@ -252,19 +278,21 @@ class Marker:
         return "".join(out + [self.text[done:]])
 
 
-def marked(text, clang):
+def marked(text, clang, cxx):
     """The text with its marks; a text without OpenCilk's words as it is."""
-    return Marker(text, clang).marked() if WORDS.search(text) else text
+    if cxx:
+        text = text.replace(COMPILED_STRING, " " * len(COMPILED_STRING))
+    return Marker(text, clang, cxx).marked() if WORDS.search(text) else text
 
 
 def main(words):
     """The command."""
-    clang = words[:1] == ["--clang"]
-    if len(words) != 1 + clang:
+    clang, cxx = "--clang" in words, "--c++" in words
+    if len(words) != 1 + clang + cxx or words[-1].startswith("--"):
         sys.exit(__doc__)
     try:
         with open(words[-1], encoding="latin-1") as f:
-            sys.stdout.buffer.write(marked(f.read(), clang).encode("latin-1"))
+            sys.stdout.buffer.write(marked(f.read(), clang, cxx).encode("latin-1"))
     except (OSError, Fault) as e:
         sys.exit(f"spawn_marks.py: {e}")
 

@@ -65,6 +65,7 @@ static struct frame pop(void)
 
     retire_locals();
     struct frame f = frames[depth];
+    passed_by_exceptions += f.spawning;
     if (f.tail)
         put_spawned();
     if (f.parallel)
@@ -114,6 +115,9 @@ static void end_spawn(void)
 
     if (f->tail)
         put_spawned();
+    if (f->shared_low)
+        put_cells(CLEAR, f->shared_low, f->mark - f->shared_low, 0);
+    f->shared_low = 0;
     f->tail = f->spawning = false;
 }
 
@@ -125,22 +129,43 @@ static void end_passed_spawn(void)
     }
 }
 
-size_t cilkrec_spawn_begin(void)
+static struct frame *begin_spawn(uintptr_t base)
 {
-    if (!recording)
-        return 0;
-    unwind_below((uintptr_t)__builtin_frame_address(1));
+    unwind_below(base);
     end_passed_spawn();
     struct frame *f = &frames[depth];
-    f->mark = END_OF_FRAME(0);
-    note_low(f->mark);
     if (!f->written) {
         put_enter(site_at(f->function));
         f->written = true;
     }
     set_parallel();
     f->spawning = true;
+    return f;
+}
+
+size_t cilkrec_spawn_begin(void)
+{
+    if (recording) {
+        begin_spawn((uintptr_t)__builtin_frame_address(1))->mark = END_OF_FRAME(0);
+        note_low(END_OF_FRAME(0));
+    }
     return 0;
+}
+
+/* The same in C++, called in the lambda that the spawned call and its arguments are in. That has no frame here: clang
+ * tells of it nevertheless, so what it told is taken back. Its end finds no frame then. */
+void cilkrec_spawn_inside(void)
+{
+    if (!recording)
+        return;
+    uintptr_t base = (uintptr_t)__builtin_frame_address(1);
+    unwind_below(base);
+    if (frames[depth].base == base)
+        span = frames[--depth].span;
+    struct frame *f = begin_spawn(base);
+    f->shared_low = END_OF_FRAME(0);
+    f->mark = END_OF_FRAME(1);
+    note_low(f->shared_low);
 }
 
 void cilkrec_spawn_end(void)
@@ -149,16 +174,21 @@ void cilkrec_spawn_end(void)
         end_spawn();
 }
 
+static void sync_current(void)
+{
+    end_passed_spawn();
+    if (frames[depth].parallel)
+        put_sync();
+    set_serial();
+}
+
 void cilkrec_sync(void)
 {
     if (!recording)
         return;
     unwind_below((uintptr_t)__builtin_frame_address(1));
-    end_passed_spawn();
     note_low((uintptr_t)__builtin_frame_address(0));
-    if (frames[depth].parallel)
-        put_sync();
-    set_serial();
+    sync_current();
 }
 
 /* ---- Functions. */
@@ -217,12 +247,18 @@ void cilkrec_scope_end(int *variable)
         end_frame();
 }
 
-/* The handler of an exception runs in the function that called this. Those of clang don't tell that they were left. */
+/* The handler of an exception runs in the function that called this, after a sync of it. clang's functions don't tell
+ * that they were left. */
 extern void *__real___cxa_begin_catch(void *) __attribute__((weak));
 void *__wrap___cxa_begin_catch(void *exception)
 {
-    if (recording)
-        unwind_below((uintptr_t)__builtin_frame_address(1));
+    uintptr_t base = (uintptr_t)__builtin_frame_address(1);
+
+    if (recording) {
+        unwind_below(base);
+        if (frames[depth].base == base)
+            sync_current();
+    }
     return __real___cxa_begin_catch(exception);
 }
 

@@ -81,7 +81,8 @@ struct frame {
     uintptr_t low;       /* the lowest address of the stack that it is known to have had */
     uintptr_t span;      /* what `span` is while this is the current frame */
     uintptr_t function;
-    uintptr_t mark;      /* the stack pointer at the current spawn: the child owns what lies below */
+    uintptr_t mark;      /* of the current spawn: the child owns the stack below */
+    uintptr_t shared_low; /* and from here to the mark with its parent, which made temporaries there; 0: nothing */
     bool own_stack;      /* a function or a turn; scopes and loops are part of their function's */
     bool written;        /* its `enter` is in the trace. Functions that never spawn stay out of it */
     bool parallel;       /* it has had a spawned child since its last sync */

@@ -14,6 +14,7 @@
 extern "C" {
 #endif
 __SIZE_TYPE__ cilkrec_spawn_begin(void); /* 0 */
+void cilkrec_spawn_inside(void);
 void cilkrec_spawn_into(void *place, __SIZE_TYPE__ size);
 void cilkrec_spawn_end(void);
 void cilkrec_sync(void);
