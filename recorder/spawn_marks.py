@@ -10,8 +10,9 @@ A spawned call is put between two calls of the runtime, and a write of its resul
 
 In C++ all this is the body of a lambda that is called at once, so that temporaries of the statement, such as copies of
 its arguments, lie in a part of the stack that the spawned child owns. A place that isn't one name is found before the
-spawn, as its parent does. `cilk_scope` gets a variable whose cleanup ends it. Variables with `cilk_reducer` are told to the runtime where they are declared. Nothing else of the text
-changes, and no line moves, so that the compiler's messages and the sites of accesses name the user's lines.
+spawn, as its parent does. `cilk_scope` gets a variable whose cleanup ends it. Variables with `cilk_reducer` are told to
+the runtime where they are declared. Nothing else of the text changes, and no line moves, so that the compiler's
+messages and the sites of accesses name the user's lines.
 
 It knows tokens, brackets and statements, not types: what it can't place for sure it refuses, with file and line.
 """

@@ -15,7 +15,7 @@ IR_ATOMIC = re.compile(r"\b(load atomic|store atomic|cmpxchg|atomicrmw|fence) ")
 IR_ASM = re.compile(r'\basm (?:(?:sideeffect|alignstack|inteldialect|unwind) )*"((?:[^"\\]|\\.)*)"')
 
 THREADS = re.compile(
-    r"(pthread_create|thrd_create|_ZNSt6thread\w*|_ZNSt7jthread\w*|fork|vfork|clone|makecontext|swapcontext|getcontext)$"
+    r"(pthread_create|thrd_create|_ZNSt6thread\w*|_ZNSt7jthread\w*|fork|vfork|clone|(make|swap|get)context)$"
 )
 OPENMP = re.compile(r"(GOMP_|__kmpc_|omp_)")
 OWN_OPENMP = set(
@@ -25,7 +25,7 @@ OWN_OPENMP = set(
 LOCKS = re.compile(r"(pthread_(mutex|rwlock|spin|cond|barrier)_|mtx_|sem_)")
 # Functions of libc that touch no memory of the program's but what the recorder wraps, or that only write output.
 HARMLESS = re.compile(
-    r"((v|f|d|vf)?printf|puts|putchar|fputs|fputc|putc|_IO_putc|fflush|fwrite|perror|exit|_exit|abort|atexit|__assert_fail"
+    r"((v|f|d|vf)?printf|puts|putchar|fputs|fputc|putc|_IO_putc|fflush|fwrite|perror|_?exit|abort|atexit|__assert_fail"
     r"|malloc|calloc|realloc|free|memalign|aligned_alloc|posix_memalign|mem(cpy|move|set|cmp)|str(len|cmp|cpy)|qsort"
     r"|clock|time|gettimeofday|clock_gettime|ato[ifl]l?|getenv|sysconf|getpid|std(in|out|err)|environ|alloca"
     r"|abs|labs|(f?abs|sqrt|cbrt|exp2?|expm1|log(2|10|1p)?|pow|sin|cos|tan|a(sin|cos|tan2?)|sinh|cosh|tanh|floor|ceil"
@@ -38,14 +38,16 @@ HARMLESS = re.compile(
 SHOWN = 8
 
 
-def function_of(name):
-    """A symbol's name in C++'s words."""
-    if not name.startswith("_Z"):
-        return name
+def readable(names):
+    """Symbols' names in C++'s words."""
+    if not any(name.startswith("_Z") for name in names):
+        return names
+    text = "\n".join(names) + "\n"
     try:
-        return subprocess.run(["c++filt", name], capture_output=True, text=True).stdout.strip() or name
+        found = subprocess.run(["c++filt"], input=text, capture_output=True, text=True).stdout.split("\n")[:-1]
     except OSError:
-        return name
+        return names
+    return found if len(found) == len(names) else names
 
 
 def in_ir(lines):
@@ -91,11 +93,13 @@ def in_code(lines, clang):
         "inline assembly": "its reads and writes aren't recorded",
         "assembly": "its reads and writes aren't recorded",
     }
-    return [f"`{function_of(f)}` uses {what}: {whys[what]}" for f, what in list(found)[:SHOWN]]
+    shown = list(found)[:SHOWN]
+    names = readable([f for f, _ in shown])
+    return [f"`{name}` uses {what}: {whys[what]}" for name, (_, what) in zip(names, shown)]
 
 
 def symbols(path):
-    """For each member of an object or archive: its name, the names that it defines as code, all it defines, and needs."""
+    """For each member of an object or archive the names that it defines as code, all that it defines, and needs."""
     out = subprocess.run(["nm", "-P", "-A", path], capture_output=True, text=True).stdout
     members = {}
     for line in out.split("\n"):
@@ -153,7 +157,7 @@ def in_program(objects, made, files, options):
     outside = {n: m for n, m in needed.items() if n not in defined}
     for name in sorted(outside):
         if THREADS.match(name):
-            complaints.append((f"`{function_of(name)}` is called: threads and processes aren't recorded", False))
+            complaints.append((f"`{readable([name])[0]}` is called: threads and processes aren't recorded", False))
         elif OPENMP.match(name) and name not in OWN_OPENMP:
             complaints.append((f"`{name}` is called: of OpenMP only cilk_for's loops are recorded", False))
     return complaints, notes(outside, shared)
@@ -164,8 +168,8 @@ def notes(outside, shared):
     found = [f"lib{name} isn't recorded" if ".so" not in name else f"{name} isn't recorded" for name in shared]
     if any(LOCKS.match(n) for n in outside):
         found.append("locks order nothing in a trace: accesses under one lock still race")
-    names = sorted(function_of(n) for n in outside if not (
-        HARMLESS.match(n) or LOCKS.match(n) or THREADS.match(n) or OPENMP.match(n)))
+    quiet = (HARMLESS, LOCKS, THREADS, OPENMP)
+    names = sorted(readable([n for n in outside if not any(pattern.match(n) for pattern in quiet)]))
     if names:
         more = f" and {len(names) - SHOWN} more" if len(names) > SHOWN else ""
         found.append("not recorded is what these functions of libraries read and write: "

@@ -274,6 +274,12 @@ bool open_trace(const char *path, bool as_binary)
     trace_fd = open(path, O_WRONLY | O_CREAT | O_TRUNC | O_CLOEXEC, 0666);
     if (trace_fd < 0)
         return false;
+    /* High, so that the program's own files get the numbers that they have without a recording. */
+    int high = fcntl(trace_fd, F_DUPFD_CLOEXEC, 500);
+    if (high >= 0) {
+        close(trace_fd);
+        trace_fd = high;
+    }
     binary = as_binary;
     buffer = zeroed(CAPACITY);
     page_table = zeroed(sizeof *page_table << PAGE_TABLE_BITS);

@@ -203,7 +203,7 @@ def ends(folder, compiler, form):
         return wrong
     for how, (want, status, message) in ENDS.items():
         done, got = trace_of(folder, how, CILK_TRACE_FORM=form)
-        if got != want or done.returncode not in (status, 1 if how == "_longjmp" else status):
+        if got != want or done.returncode != status:
             return f"{how}: {got}, status {done.returncode}: {done.stderr[:300]}"
         if message not in done.stderr.replace("_longjmp", "longjmp") or not message and "isn't whole" in done.stderr:
             return f"{how}: {done.stderr[:300]}"
@@ -216,9 +216,10 @@ def through_pipe(folder):
     if wrong:
         return wrong
     os.mkfifo(os.path.join(folder, "fifo"))
+    to_pipe = "./prog 3>&1 >/dev/null |"
     for line in ("cat fifo >got & CILK_TRACE=fifo ./prog && wait && tail -n 1 got",
-                 "CILK_TRACE=/dev/fd/3 ./prog 3>&1 >/dev/null | tail -n 1",
-                 f"CILK_TRACE=/dev/fd/3 CILK_TRACE_FORM=binary ./prog 3>&1 >/dev/null | {HERE}/../trace2text | tail -n 1"):
+                 f"CILK_TRACE=/dev/fd/3 {to_pipe} tail -n 1",
+                 f"CILK_TRACE=/dev/fd/3 CILK_TRACE_FORM=binary {to_pipe} {HERE}/../trace2text | tail -n 1"):
         done = call(["sh", "-c", line], folder)
         if done.stdout != "end\n":
             return f"{line}: {done.stdout[-200:]} {done.stderr[:300]}"
