@@ -140,7 +140,7 @@ class Marker:
         """Whether these tokens before a `=` declare a variable, as `int x` or `std::vector<int> v`."""
         if len(place) < 2 or place[-1].kind != "word" or not (place[0].kind == "word" or place[0].text == "::"):
             return False
-        if place[1].text in (",", ".", "->", "[", "(", "++", "--"):
+        if place[1].text in (",", "=", ".", "->", "[", "(", "++", "--"):
             return False
         return place[-2].kind == "word" or place[-2].text in ("*", "&", "&&", ">", ",")
 
@@ -185,11 +185,13 @@ class Marker:
 
     def mark_declaration(self, i, first, last, begin, into):
         """The marks of a spawn whose result is a variable's first value."""
-        depth = 0
-        for k in range(i + 1, last):
-            depth += {"<": 1, "(": 1, "[": 1, "{": 1, ">": -1, ")": -1, "]": -1, "}": -1}.get(self.tokens[k].text, 0)
-            if self.tokens[k].text == "," and depth == 0:
+        k, angles = i + 1, 0
+        while k < last:
+            text = self.tokens[k].text
+            angles += {"<": 1, ">": -1}.get(text, 0)
+            if text == "," and angles == 0:
                 raise self.fault(i, "a declaration goes on after cilk_spawn; declare one variable")
+            k = self.partner[k] + 1 if text in ("(", "[", "{") else k + 1
         if self.cxx:
             self.insert(self.tokens[i].start, f"{LAMBDA}-> decltype(auto) {{ {begin}return ")
             self.insert(self.tokens[last].start, "; }()")

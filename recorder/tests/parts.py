@@ -114,8 +114,7 @@ def several(folder):
 
 def foreign(folder):
     """An object that cilkrec didn't compile is refused, and with CILKREC_FOREIGN=1 taken."""
-    main, half = (os.path.join(HERE, "build", name) for name in ("main.c", "half.c"))
-    plain = os.path.join(folder, "plain.c")
+    main, plain = os.path.join(HERE, "build", "main.c"), os.path.join(folder, "plain.c")
     with open(plain, "w", encoding="utf-8") as f:
         f.write("void halve(long *a, int n) { for (int i = 0; i < n; i++) a[i] /= 2; }\n"
                 "long sum(const long *a, int n) { return n ? a[0] : 0; }\n")
@@ -123,7 +122,7 @@ def foreign(folder):
     words = [CILKREC, "gcc", main, "plain.o", "-o", "prog"]
     done = call(words, folder)
     if done.returncode != 1 or "plain.o wasn't compiled by cilkrec" not in done.stderr:
-        return f"status {done.returncode}: {done.stderr} ({half})"
+        return f"status {done.returncode}: {done.stderr}"
     done = call(words, folder, CILKREC_FOREIGN="1")
     return None if done.returncode == 0 else done.stderr
 

@@ -2,6 +2,10 @@
 #include <stdio.h>
 #include "sum.h"
 
+#ifndef SPREAD
+#define SPREAD 0 /* by how much the two halves overlap */
+#endif
+
 long a[64];
 
 int main(void)
