@@ -1,9 +1,10 @@
 //! Tests of serial runs, their strands and races, and of the determinacy theorem.
 //!
-//! [`rows`] has worked programs as texts, each with the pairs that race in its serial run. [`worked`] takes each from its
-//! text to its trace, tree, labels, classes, races and span, [`settled`] to its settled outcome, and [`certified`] to
-//! its certificate. [`checked`] checks certificates, whole and in [`pieces`]. [`agreement`] compares the passes with the
-//! definitions, by plain search, on these traces and on random ones. [`listed`] has what a certificate lists of a run.
+//! [`rows`] has worked programs as texts. [`worked`] takes some from their texts to outcome, trace, tree, labels, classes,
+//! races and span, [`settled`] to the settled outcome, and [`certified`] to the certificate. [`checked`] checks
+//! certificates, whole and in [`pieces`]. [`agreement`] compares the passes with the definitions, by plain search, on
+//! these traces and on random ones. [`listed`] has what a certificate lists of a run. What the tool shows of more
+//! programs is compared by the cases of `cilk_rows`.
 #![tactic(auto)]
 
 #[cfg(test)]

@@ -1,38 +1,19 @@
-//! What a certificate lists of worked programs, and what a text is judged to be.
+//! What a certificate lists of a run, and what a text is judged to be.
 
 use crate::programs::run_of;
-use crate::rows::ROWS;
 use cilk_cert_text::line::Frame;
 use cilk_judge::fault::ProgramFault;
 use cilk_judge::judge::program;
-use cilk_labels::label;
 use cilk_listing::columns::columns;
 use cilk_names::fault::NameNumber;
 use cilk_texts::fault::TextNumber;
-use cilk_tree::building::tree_of;
-use cilk_types::event::Event;
 use std::test::Fail;
-
-#[test]
-fn each_frame_and_strand_is_listed(rt: HostRuntime) -> Result<(), Fail> {
-    let alloc = rt.alloc();
-    for (text, input, _, _, _) in ROWS {
-        let (_, trace) = run_of(&rt, alloc, text, input);
-        let listed = columns(alloc, &trace)?;
-        let begins = |event: &&Event| matches!(event, Event::Begin { .. });
-        let frames = trace.as_slice().iter().filter(begins).count();
-        assert_eq!(rt; listed.frames.len(), frames, "{text}");
-        let labels = label(alloc, &tree_of(alloc, &trace)?)?;
-        assert_eq!(rt; listed.owners.len(), labels.count() as usize, "{text}");
-    }
-    Ok(())
-}
 
 #[test]
 fn frames_have_parent_and_ordinal(rt: HostRuntime) -> Result<(), Fail> {
     let text =
         "void g() { } void f() { g(); } int main() { cilk_spawn f(); f(); cilk_sync; return 0; }";
-    let (_, trace) = run_of(&rt, rt.alloc(), text, &[]);
+    let (_, trace) = run_of(&rt, rt.alloc(), text);
     let listed = columns(rt.alloc(), &trace)?;
     let frame = |parent, ordinal| Frame { parent, ordinal };
     let frames = [

@@ -23,20 +23,17 @@ pub fn program_of(rt: &impl Abort, alloc: Global, text: &str) -> Program {
     program
 }
 
-/// An input of these numbers.
-pub fn input_of(rt: &impl Abort, alloc: Global, numbers: &[i64]) -> Input {
-    let mut list = WordList::new(alloc);
-    for number in numbers {
-        assert!(rt; list.push(*number).is_ok());
-    }
+/// The input without a number.
+pub fn no_input(rt: &impl Abort, alloc: Global) -> Input {
+    let list = WordList::new(alloc);
     assert!(rt; list.len() <= MAX_INPUTS);
     Input::new(list)
 }
 
-/// What the serial run of a text on these numbers leaves, and its trace.
-pub fn run_of(rt: &impl Abort, alloc: Global, text: &str, numbers: &[i64]) -> (Outcome, Trace) {
+/// What the serial run of a text without an input leaves, and its trace.
+pub fn run_of(rt: &impl Abort, alloc: Global, text: &str) -> (Outcome, Trace) {
     let program = program_of(rt, alloc, text);
-    let input = input_of(rt, alloc, numbers);
+    let input = no_input(rt, alloc);
     match run(alloc, &program, &input) {
         Ok(left) => left,
         Err(fault) => panic!(rt; "{fault}: {text}"),
