@@ -1,5 +1,5 @@
-//! Certificates checked against the runs of worked programs, whole and in pieces. More of them, refused by each number, are
-//! cases of `cilk_rows`.
+//! Certificates checked against the runs of worked programs, whole and in pieces. More of them, refused by each number,
+//! are cases of `cilk_rows`.
 
 use crate::pieces::Pieces;
 use crate::programs::{no_input, program_of};
@@ -39,56 +39,50 @@ const CHECKS: [(&str, &str, &str, u16, Fields); 6] = [
     ("int main(){return x;}", "x", "x", 111, Fields::One(18)),
 ];
 
-// That this is answered: by number 0 where the certificate is accepted.
-fn expect(
-    rt: &impl Abort,
-    answer: Result<Accepted, Refusal>,
-    number: u16,
-    fields: Fields,
-    text: &str,
-) {
+// Whether this is answered: by number 0 where the certificate is accepted.
+fn is_answer(answer: Result<Accepted, Refusal>, number: u16, fields: Fields) -> bool {
     match answer {
-        Ok(_) => assert_eq!(rt; 0, number, "{text}"),
-        Err(refusal) => {
-            assert_eq!(rt; refusal.number(), number, "{text}");
-            assert_eq!(rt; refusal.fields(), fields, "{text}");
-        }
+        Ok(_) => number == 0,
+        Err(refusal) => refusal.number() == number && refusal.fields() == fields,
     }
 }
 
-// That this is answered of a certificate, whole and in pieces, whatever their size is.
-fn expect_each(
-    rt: &impl Abort,
+// Whether this is answered of a certificate, whole and in pieces, whatever their size is.
+fn is_answered(
     alloc: Global,
     texts: (&str, &str),
     certificate: &[u8],
     number: u16,
     fields: Fields,
-) {
+) -> bool {
     let (text, input) = texts;
-    let answer = check(alloc, text.as_bytes(), input.as_bytes(), certificate);
-    expect(rt, answer, number, fields, text);
+    let text = text.as_bytes();
+    let input = input.as_bytes();
+    if !is_answer(check(alloc, text, input, certificate), number, fields) {
+        return false;
+    }
     for size in [1, 2, 7, 4096] {
         let mut source = Pieces::new(certificate, size);
-        match check_from(alloc, text.as_bytes(), input.as_bytes(), &mut source) {
-            Ok(accepted) => expect(rt, Ok(accepted), number, fields, text),
-            Err(Unaccepted::Refusal(refusal)) => expect(rt, Err(refusal), number, fields, text),
-            Err(Unaccepted::Unread) => panic!(rt; "unread: {text}"),
+        let is_same = match check_from(alloc, text, input, &mut source) {
+            Ok(accepted) => is_answer(Ok(accepted), number, fields),
+            Err(Unaccepted::Refusal(refusal)) => is_answer(Err(refusal), number, fields),
+            Err(Unaccepted::Unread) => false,
+        };
+        if !is_same {
+            return false;
         }
     }
+    true
 }
 
 #[test]
 fn certificates_are_judged(rt: HostRuntime) {
     for (text, input, certificate, number, fields) in CHECKS {
         let texts = (text, input);
-        expect_each(
-            &rt,
-            rt.alloc(),
-            texts,
-            certificate.as_bytes(),
-            number,
-            fields,
+        let certificate = certificate.as_bytes();
+        assert!(rt;
+            is_answered(rt.alloc(), texts, certificate, number, fields),
+            "{text}"
         );
     }
 }
@@ -109,14 +103,11 @@ fn made_certificates_are_judged(rt: HostRuntime) -> Result<(), Fail> {
         (EARLY_READ, 311, Fields::Two(7, 10)),
         (EARLY_VALUE, 312, Fields::Two(2, 10)),
     ] {
+        let texts = (text, "");
         let written = made(&rt, rt.alloc(), text)?;
-        expect_each(
-            &rt,
-            rt.alloc(),
-            (text, ""),
-            written.as_slice(),
-            number,
-            fields,
+        assert!(rt;
+            is_answered(rt.alloc(), texts, written.as_slice(), number, fields),
+            "{text}"
         );
     }
     Ok(())
@@ -124,22 +115,16 @@ fn made_certificates_are_judged(rt: HostRuntime) -> Result<(), Fail> {
 
 #[test]
 fn a_long_certificate_is_cut_and_lengthened(rt: HostRuntime) -> Result<(), Fail> {
-    let mut written = made(&rt, rt.alloc(), FIB)?;
+    let alloc = rt.alloc();
     let texts = (FIB, "");
-    expect_each(&rt, rt.alloc(), texts, written.as_slice(), 0, Fields::None);
+    let mut written = made(&rt, alloc, FIB)?;
+    assert!(rt; is_answered(alloc, texts, written.as_slice(), 0, Fields::None));
     let Some((_, cut)) = written.as_slice().split_last() else {
         panic!(rt; "no bytes");
     };
-    expect_each(&rt, rt.alloc(), texts, cut, 302, Fields::One(2929));
+    assert!(rt; is_answered(alloc, texts, cut, 302, Fields::One(2929)));
     written.push(b'x')?;
-    expect_each(
-        &rt,
-        rt.alloc(),
-        texts,
-        written.as_slice(),
-        301,
-        Fields::One(2930),
-    );
+    assert!(rt; is_answered(alloc, texts, written.as_slice(), 301, Fields::One(2930)));
     Ok(())
 }
 
@@ -157,12 +142,11 @@ fn a_device_that_fails_is_told(rt: HostRuntime) {
 #[test]
 fn nothing_is_pulled_behind_a_certain_fault(rt: HostRuntime) {
     let mut source = Pieces::broken(b"x\n", 2);
-    match check_from(rt.alloc(), EMPTY.as_bytes(), b"", &mut source) {
-        Err(Unaccepted::Refusal(refusal)) => {
-            expect(&rt, Err(refusal), 301, Fields::One(1), "x");
-        }
-        _ => panic!(rt; "not refused"),
-    }
+    let is_refused = match check_from(rt.alloc(), EMPTY.as_bytes(), b"", &mut source) {
+        Err(Unaccepted::Refusal(refusal)) => is_answer(Err(refusal), 301, Fields::One(1)),
+        _ => false,
+    };
+    assert!(rt; is_refused);
     assert_eq!(rt; source.failures(), 0);
 }
 

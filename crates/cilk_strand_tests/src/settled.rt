@@ -17,16 +17,20 @@ fn told(rt: &impl Abort, alloc: Global, text: &str) -> Result<Option<Outcome>, R
     settle(alloc, &program, &input)
 }
 
+// Whether a text with one list is settled, with this result and list.
+fn settles(rt: &impl Abort, alloc: Global, text: &str, number: i64, list: &[i64]) -> bool {
+    let Ok(Some(outcome)) = told(rt, alloc, text) else {
+        return false;
+    };
+    let [Final::List(elements)] = outcome.reducers.as_slice() else {
+        return false;
+    };
+    outcome.result == number && elements.as_slice() == list
+}
+
 #[test]
 fn a_settled_list_is_in_serial_order(rt: HostRuntime) {
-    let Ok(Some(outcome)) = told(&rt, rt.alloc(), APPENDS) else {
-        panic!(rt; "not settled");
-    };
-    assert_eq!(rt; outcome.result, 5);
-    let [Final::List(elements)] = outcome.reducers.as_slice() else {
-        panic!(rt; "not one list");
-    };
-    assert!(rt; elements.as_slice() == [0, 1, 2, 3, 4].as_slice());
+    assert!(rt; settles(&rt, rt.alloc(), APPENDS, 5, &[0, 1, 2, 3, 4]));
 }
 
 #[test]
