@@ -37,34 +37,44 @@ LIBRARY = r"""
 #include <dlfcn.h>
 #include <errno.h>
 #include <fcntl.h>
+#include <pthread.h>
 #include <stdarg.h>
 #include <stdio.h>
 #include <stdlib.h>
 #include <unistd.h>
 
 extern void *__libc_malloc(size_t), *__libc_calloc(size_t, size_t), *__libc_realloc(void *, size_t), *__libc_memalign(size_t, size_t);
-static long allocs, calls, moves, fail_alloc, fail_from, fail_call, short_move;
+static long allocs, calls, moves, threads, fail_alloc, fail_from, fail_call, fail_thread, short_move, all_short;
+static long out_file, out_bytes, out_way;
+static const char *failed_call = "none";
+static int failed_file = -1;
+static char names[64][256], failed_name[256];
 
-static long wanted(const char *name) {
+static long wanted(const char *name, long other) {
     const char *text = getenv(name);
-    return text ? atol(text) : 0;
+    return text ? atol(text) : other;
 }
 
 __attribute__((constructor)) static void begin(void) {
-    fail_alloc = wanted("FAIL_ALLOC");
-    fail_from = wanted("FAIL_FROM");
-    fail_call = wanted("FAIL_CALL");
-    short_move = wanted("SHORT_MOVE");
-    allocs = calls = moves = 0;
+    fail_alloc = wanted("FAIL_ALLOC", 0);
+    fail_from = wanted("FAIL_FROM", 0);
+    fail_call = wanted("FAIL_CALL", 0);
+    fail_thread = wanted("FAIL_THREAD", 0);
+    short_move = wanted("SHORT_MOVE", 0);
+    all_short = wanted("ALL_SHORT", 0);
+    out_file = wanted("OUT_FILE", -1);
+    out_bytes = wanted("OUT_BYTES", 0);
+    out_way = wanted("OUT_WAY", 0);
+    allocs = calls = moves = threads = 0;
 }
 
 __attribute__((destructor)) static void end(void) {
     static int told;
     const char *path = told++ ? 0 : getenv("COUNTS");
-    char line[80];
+    char line[600];
     int file = path ? ((int (*)(const char *, int))dlsym(RTLD_NEXT, "open"))(path, O_WRONLY) : -1;
     if (file < 0) return;
-    int size = snprintf(line, sizeof line, "%ld %ld %ld\n", allocs, calls, moves);
+    int size = snprintf(line, sizeof line, "%ld %ld %ld %ld\n%s %d %s\n", allocs, calls, moves, threads, failed_call, failed_file, failed_name);
     ((ssize_t (*)(int, const void *, size_t))dlsym(RTLD_NEXT, "write"))(file, line, size);
 }
 
@@ -91,28 +101,60 @@ int posix_memalign(void **p, size_t a, size_t n) {
     return *p ? 0 : ENOMEM;
 }
 
-#define FAILS() do { if (++calls == fail_call) { errno = EIO; return -1; } } while (0)
-ssize_t read(int file, void *into, size_t n) {
-    FAILS();
-    if (n > 1 && ++moves == short_move) n = 1;
-    return ((ssize_t (*)(int, void *, size_t))dlsym(RTLD_NEXT, "read"))(file, into, n);
+int pthread_create(pthread_t *made, const pthread_attr_t *how, void *(*start)(void *), void *given) {
+    if (++threads == fail_thread) return EAGAIN;
+    return ((int (*)(pthread_t *, const pthread_attr_t *, void *(*)(void *), void *))dlsym(RTLD_NEXT, "pthread_create"))(made, how, start, given);
 }
+
+static int fails(const char *call, int file, const char *name) {
+    if (++calls != fail_call) return 0;
+    failed_call = call;
+    failed_file = file;
+    snprintf(failed_name, sizeof failed_name, "%s", name ? name : file >= 0 && file < 64 ? names[file] : "");
+    errno = EIO;
+    return 1;
+}
+
+/* How many bytes one call moves. */
+static size_t moved(size_t n) {
+    return n > 1 && (++moves == short_move || all_short) ? 1 : n;
+}
+
+ssize_t read(int file, void *into, size_t n) {
+    if (fails("read", file, 0)) return -1;
+    return ((ssize_t (*)(int, void *, size_t))dlsym(RTLD_NEXT, "read"))(file, into, moved(n));
+}
+
+/* OUT_FILE takes OUT_BYTES bytes and then fails, or takes none of what doesn't fit (OUT_WAY 1), or takes 0 bytes (OUT_WAY 2). */
 ssize_t write(int file, const void *from, size_t n) {
-    FAILS();
-    if (n > 1 && ++moves == short_move) n = 1;
-    return ((ssize_t (*)(int, const void *, size_t))dlsym(RTLD_NEXT, "write"))(file, from, n);
+    if (fails("write", file, 0)) return -1;
+    n = moved(n);
+    if (file == out_file && (long)n > out_bytes) {
+        if (!out_bytes && out_way == 2) return 0;
+        if (!out_bytes || out_way == 1) { errno = ENOSPC; return -1; }
+        n = out_bytes;
+    }
+    ssize_t went = ((ssize_t (*)(int, const void *, size_t))dlsym(RTLD_NEXT, "write"))(file, from, n);
+    if (file == out_file && went > 0) out_bytes -= went;
+    return went;
 }
 off_t lseek(int file, off_t at, int whence) {
-    FAILS();
+    if (fails("lseek", file, 0)) return -1;
     return ((off_t (*)(int, off_t, int))dlsym(RTLD_NEXT, "lseek"))(file, at, whence);
+}
+int statx(int file, const char *path, int flags, unsigned mask, void *into) {
+    if (fails("statx", file, path && *path ? path : 0)) return -1;
+    return ((int (*)(int, const char *, int, unsigned, void *))dlsym(RTLD_NEXT, "statx"))(file, path, flags, mask, into);
 }
 int open(const char *path, int flags, ...) {
     va_list more;
     va_start(more, flags);
     int mode = va_arg(more, int);
     va_end(more);
-    FAILS();
-    return ((int (*)(const char *, int, ...))dlsym(RTLD_NEXT, "open"))(path, flags, mode);
+    if (fails("open", -1, path)) return -1;
+    int file = ((int (*)(const char *, int, ...))dlsym(RTLD_NEXT, "open"))(path, flags, mode);
+    if (file >= 0 && file < 64) snprintf(names[file], sizeof names[file], "%s", path);
+    return file;
 }
 int open64(const char *path, int flags, ...) __attribute__((alias("open")));
 off_t lseek64(int file, off_t at, int whence) __attribute__((alias("lseek")));
@@ -142,7 +184,7 @@ def run(program, words, folder, **settings):
     env = {"LD_PRELOAD": f"{folder}/fails.so", "COUNTS": counts, **{k: str(v) for k, v in settings.items()}}
     ended = subprocess.run([program, *words], cwd=folder, env=env, capture_output=True, timeout=60, check=False)
     with open(counts, encoding="ascii") as it:
-        counted = [int(word) for word in it.read().split()]
+        counted = [int(word) for word in it.readline().split()[:3]]
     return (ended.returncode, ended.stdout, ended.stderr), counted
 
 

@@ -1,0 +1,73 @@
+"""The gate, and behind it the steps below, whose counts are added to the gate's last line.
+
+Each step runs the built program, where it is there and where what the step needs is; its own last line is
+`N passed, M failed`. A step that ends otherwise counts as one that failed. After a gate that failed no step is made.
+"""
+
+import os
+import re
+import shutil
+import signal
+import subprocess
+import sys
+
+TOP = os.path.dirname(os.path.dirname(os.path.realpath(__file__)))
+PROGRAM = "crates/cilk/out/cilk"
+LAST_LINE = re.compile(r"^(\d+) passed, (\d+) failed(.*)$")
+
+# what it is, the command that it needs, its words, and the seconds after which it is given up
+STEPS = [
+    ("hostile use of the program", os.environ.get("CC") or "cc", ["tools/hostile.py", PROGRAM, "--seconds", "100"], 300),
+]
+
+
+def shown(words, seconds=None):
+    """Runs a command and shows its lines but for the last one: its status and that line."""
+    last = ""
+    with subprocess.Popen(words, cwd=TOP, stdout=subprocess.PIPE, text=True, errors="replace") as work:
+        signal.signal(signal.SIGTERM, lambda *_: work.terminate())
+        if seconds:
+            signal.signal(signal.SIGALRM, lambda *_: work.kill())
+            signal.alarm(seconds)
+        for line in work.stdout:
+            if last:
+                print(last, flush=True)
+            last = line.rstrip("\n")
+        signal.alarm(0)
+    return work.returncode, last
+
+
+def step(what, need, words, seconds):
+    """Makes one step: how many passed and how many failed."""
+    if not os.access(f"{TOP}/{PROGRAM}", os.X_OK) or not shutil.which(need.split()[0]):
+        print(f"{what}: not tried, since {PROGRAM} or the command `{need}` isn't here", flush=True)
+        return 0, 0
+    print(f"{what}:", flush=True)
+    status, last = shown([sys.executable, *words], seconds)
+    counts = LAST_LINE.match(last)
+    print(f"{what}: {last}", flush=True)
+    if not counts or bool(status) != bool(int(counts[2])):
+        return 0, 1
+    return int(counts[1]), int(counts[2])
+
+
+def main(words):
+    if words:
+        os.execv(sys.executable, [sys.executable, f"{TOP}/.ci/gate.py", *words])
+    status, last = shown([sys.executable, f"{TOP}/.ci/gate.py"])
+    counts = LAST_LINE.match(last)
+    if status or not counts:
+        print(last)
+        return status or 1
+    passed, failed = int(counts[1]), int(counts[2])
+    if not failed:
+        print(f"the gate: {last}", flush=True)
+        for it in STEPS:
+            more = step(*it)
+            passed, failed = passed + more[0], failed + more[1]
+    print(f"{passed} passed, {failed} failed{counts[3]}")
+    return 1 if failed else 0
+
+
+if __name__ == "__main__":
+    sys.exit(main(sys.argv[1:]))

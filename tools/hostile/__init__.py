@@ -1,0 +1,1 @@
+"""Hostile use of the built program: what tools/hostile.py tries."""

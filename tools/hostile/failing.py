@@ -1,0 +1,229 @@
+"""Memory that is refused, devices that fail, and writes that don't go out."""
+
+import sys
+
+sys.dont_write_bytecode = True
+from hostile import rows
+from hostile.room import NO_MEMORY, Shown, cannot_read
+
+CANNOT_WRITE = b"cannot write\n"
+OUT_WAYS = ("short", "whole", "zero")
+
+
+def refusals(room, found, words, wanted, again, setting="FAIL_ALLOC", which=0):
+    """Refuses each allocation, or each thread, in turn, until a run meets no refusal."""
+    n, met, stopped = 0, 0, 0
+    while met >= n:
+        n += 1
+        seen = room.run(*words, **{setting: n})
+        met = room.counted[which] if seen.status in (0, 4, 5) else n
+        if seen == NO_MEMORY:
+            stopped += 1
+        found.must(seen in (wanted, NO_MEMORY), f"{' '.join(words)} with {setting}={n}", seen)
+        if again and seen != wanted:
+            found.expect(room.run(*words), wanted, f"{' '.join(words)} with ample memory after {setting}={n}")
+        if seen.status not in (wanted.status, 5) and found.wrong > 20:
+            break
+    found.must(stopped > 0, f"{' '.join(words)}: no refusal of {setting} was met")
+    found.kinds[f"{setting} refused"] += stopped
+
+
+def memory(name, command):
+    """A case: each allocation of a command refused, by itself and with all that come after it."""
+
+    def case(room, found):
+        program, cert, more = rows.lay(room, name)
+        words = {
+            "check": ["check", program, cert],
+            "play": ["play", program, "all", "--workers", "2"],
+            "threads": ["threads", program, cert, "--workers", "2"],
+        }[command] + more
+        wanted = rows.verdict(name) if command == "check" else rows.OUTCOMES[name]
+        found.expect(room.run(*words), wanted, " ".join(words))
+        for setting in ("FAIL_ALLOC", "FAIL_FROM"):
+            refusals(room, found, words, wanted, command != "check", setting)
+
+    return case
+
+
+def no_thread(room, found):
+    """Each thread of a run by workers is refused in turn."""
+    for name in ("gets", "list", "prints"):
+        program, cert, _ = rows.lay(room, name)
+        for workers in ("2", "3", "8"):
+            words = ["threads", program, cert, "--workers", workers]
+            refusals(room, found, words, rows.OUTCOMES[name], True, "FAIL_THREAD", 3)
+
+
+def answers(room):
+    """Commands that between them read each sort of file, with the answer of each."""
+    made = []
+    for name in ("turns", "one", "prints"):
+        program, cert, more = rows.lay(room, name)
+        accepted = name not in rows.REFUSED
+        outcome = rows.OUTCOMES[name]
+        made += [
+            (["run", program, *more], outcome),
+            (["certify", program, *more], Shown(0, rows.certificate(name), b"")),
+            (["check", program, cert, *more], rows.verdict(name)),
+            (["play", program, "all", "--workers", "1", *more], outcome),
+            (["threads", program, cert, *more], outcome if accepted else rows.verdict(name)),
+        ]
+    more = rows.lay(room, "turns")[2]
+    room.put("on", "7")
+    made.append((["threads", "turns.c", "turns.cert", *more, "--on", "on"], rows.OUTCOMES["turns"]))
+    made.append((["measure", "turns.c", *more], room.run("measure", "turns.c", *more)))
+    return made
+
+
+def is_without_table(whole, seen):
+    """Whether ticks and table of `measure` are left out: they come from texts read again (docs/DECISIONS.md)."""
+    head = [line for line in whole.out.split(b"\n\n")[0].splitlines() if not line.startswith(b"ticks ")]
+    return (seen.status, seen.out.splitlines(), seen.err) == (0, head, b"")
+
+
+def fair_after(failed, words, whole, seen):
+    """Whether an answer is the right one after this call failed."""
+    call, file, name = failed
+    if call == "write" and file == 1:
+        return seen.status == 2 and seen.err == CANNOT_WRITE and whole.out.startswith(
+            seen.out
+        ) and seen.out != whole.out
+    if call == "write" and file == 2:
+        return seen.status == whole.status and seen.out == whole.out and whole.err.startswith(seen.err)
+    if name in words:
+        return seen == cannot_read(name) or words[0] == "measure" and is_without_table(whole, seen)
+    return seen == whole
+
+
+def devices(room, found):
+    """Each open, look, seek, read and write of each command fails in turn."""
+    for words, whole in answers(room):
+        told = " ".join(words)
+        found.expect(room.run(*words, SHORT_MOVE=0), whole, told)
+        calls = room.counted[1]
+        for n in range(1, calls + 1):
+            seen = room.run(*words, FAIL_CALL=n)
+            failed = room.failed
+            found.count(f"failed {failed[0]}")
+            found.must(fair_after(failed, words, whole, seen), f"{told} with FAIL_CALL={n} ({failed})", seen)
+        found.must(calls > 3, f"{told}: no call was seen")
+
+
+def standard(room, found):
+    """Standard input fails at each read, comes in pieces, or is none."""
+    text = (rows.FIRST + " " * 100_000).encode()
+    whole = rows.OUTCOMES["first"]
+    found.expect(room.run(stdin=text, SHORT_MOVE=0), whole, "a program on standard input")
+    for n in range(1, room.counted[1] + 1):
+        seen = room.run(stdin=text, FAIL_CALL=n)
+        call, file, _ = room.failed
+        wanted = (whole,)
+        if file == 0:
+            wanted = (cannot_read("-"),) if call == "read" else (cannot_read("-"), whole)
+        if file == 1:
+            wanted = (Shown(2, b"", CANNOT_WRITE),)
+        found.must(seen in wanted, f"standard input with FAIL_CALL={n} ({room.failed})", seen)
+    found.expect(room.run(stdin=text[:3000], ALL_SHORT=1), whole, "standard input, a byte at a time")
+    with open("/dev/null", "rb") as it:
+        found.expect(room.run(stdin=it), Shown(2, b"", b"program 115 at 0\n"), "no bytes on standard input")
+    found.expect(room.run(stdin=None, close=(0,)), cannot_read("-"), "standard input that is closed")
+
+
+def short_moves(room, found):
+    """Reads and writes that move one byte of several, each in turn and all of them."""
+    for words, whole in answers(room):
+        told = " ".join(words)
+        found.expect(room.run(*words, ALL_SHORT=1), whole, f"{told} with ALL_SHORT=1")
+        for n in range(1, room.run(*words, SHORT_MOVE=0) and room.counted[2] + 1):
+            found.expect(room.run(*words, SHORT_MOVE=n), whole, f"{told} with SHORT_MOVE={n}")
+
+
+def written(room):
+    """The commands whose writes are cut at each byte."""
+    program, cert, _ = rows.lay(room, "prints")
+    racy, racy_cert, _ = rows.lay(room, "one")
+    return [
+        ["run", program], ["certify", program], ["play", program, "all"], ["threads", program, cert],
+        ["check", racy, racy_cert], ["check", program, cert], ["threads", racy, racy_cert], ["measure", program],
+    ]  # fmt: skip
+
+
+def out_cut(room, found):
+    """One failing write at each byte of `out`, in three ways."""
+    for words in written(room):
+        whole, told = room.run(*words), " ".join(words)
+        found.must(whole.out != b"", f"{told}: nothing on out", whole)
+        for way, how in enumerate(OUT_WAYS):
+            for n in range(len(whole.out)):
+                seen = room.run(*words, OUT_FILE=1, OUT_BYTES=n, OUT_WAY=way)
+                right = seen.out == whole.out[:n] if way != 1 else whole.out[:n].startswith(seen.out)
+                fair = right and seen.status == 2 and seen.err == CANNOT_WRITE
+                found.must(fair, f"{told}, {how} write at byte {n} of out", seen)
+            seen = room.run(*words, OUT_FILE=1, OUT_BYTES=len(whole.out), OUT_WAY=way)
+            found.expect(seen, whole, f"{told}, {how} write after the last byte")
+
+
+def err_cut(room, found):
+    """An `err` that fails at each byte changes nothing else."""
+    program, cert, _ = rows.lay(room, "first")
+    room.put("fault.c", rows.FAULT)
+    room.put("bad.c", "int main(){return x;}")
+    room.put("bad.script", "run\n")
+    known = [
+        (["run", "fault.c"], Shown(3, b"", b"fault 201 at 16\n")),
+        (["certify", "fault.c"], Shown(3, b"", b"fault 201 at 16\n")),
+        (["play", "fault.c", "all", "--workers", "1"], Shown(3, b"", b"fault 201 in r.2:1\n")),
+        (["check", "bad.c", cert], Shown(2, b"", b"program 111 at 18\n")),
+        (["threads", program, "absent"], cannot_read("absent")),
+        (["play", program, "bad.script"], Shown(2, b"", b"script at 1\n")),
+    ]
+    for words, whole in known:
+        told = " ".join(words)
+        found.expect(room.run(*words), whole, told)
+        for way, how in enumerate(OUT_WAYS):
+            for n in range(len(whole.err)):
+                seen = room.run(*words, OUT_FILE=2, OUT_BYTES=n, OUT_WAY=way)
+                fair = seen.status == whole.status and seen.out == b"" and whole.err.startswith(seen.err)
+                found.must(fair, f"{told}, {how} write at byte {n} of err", seen)
+    for words in (["run"], ["nothing"], ["play", program, "all", "--workers", "0"]):
+        whole = room.run(*words)
+        found.must(whole.status == 2 and not whole.out and whole.err, f"{' '.join(words)}", whole)
+        seen = room.run(*words, OUT_FILE=2, OUT_BYTES=0)
+        found.must(seen.status == 2 and not seen.out, f"{' '.join(words)} without err", seen)
+
+
+def closed(room, found):
+    """Standard streams that are full, or closed."""
+    program, cert, _ = rows.lay(room, "prints")
+    commands = [
+        ["run", program],
+        ["certify", program],
+        ["check", program, cert],
+        ["play", program, "all"],
+        ["threads", program, cert],
+    ]
+    for words in commands:
+        told, whole = " ".join(words), room.run(*words)
+        with open("/dev/full", "wb") as full:
+            found.expect(room.run(*words, out=full), Shown(2, b"", CANNOT_WRITE), f"{told} > /dev/full")
+            found.expect(room.run(*words, err=full), whole._replace(err=b""), f"{told} 2> /dev/full")
+            seen = room.run(*words, out=full, err=full)
+            found.expect(seen, Shown(2, b"", b""), f"{told} > /dev/full 2> /dev/full")
+        found.expect(room.run(*words, out=None, close=(1,)), Shown(2, b"", CANNOT_WRITE), f"{told} with out closed")
+        found.expect(room.run(*words, err=None, close=(2,)), whole._replace(err=b""), f"{told} with err closed")
+        found.expect(room.run(*words, stdin=None, close=(0,)), whole, f"{told} with standard input closed")
+
+
+CASES = {f"memory: check {name}": memory(name, "check") for name in ("fib", "race")}
+CASES.update({f"memory: play {name}": memory(name, "play") for name in ("list", "local")})
+CASES.update({f"memory: threads {name}": memory(name, "threads") for name in ("gets", "list", "prints")})
+CASES.update({
+    "memory: threads that can't be started": no_thread,
+    "devices: each call of each command": devices,
+    "devices: standard input": standard,
+    "devices: reads and writes of one byte": short_moves,
+    "writes: out cut at each byte": out_cut,
+    "writes: err cut at each byte": err_cut,
+    "writes: streams full or closed": closed,
+})  # fmt: skip

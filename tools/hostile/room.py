@@ -1,0 +1,144 @@
+"""Runs the program in a folder of its own, and keeps what was found wrong."""
+
+import collections
+import os
+import signal
+import subprocess
+import sys
+import time
+
+sys.dont_write_bytecode = True
+TOOLS = os.path.dirname(os.path.dirname(os.path.realpath(__file__)))
+sys.path.insert(0, TOOLS)
+import each_failure
+
+Shown = collections.namedtuple("Shown", "status out err")
+HANGS = Shown("a hang", b"", b"")
+NO_MEMORY = Shown(5, b"", b"no memory\n")
+PATIENCE = 10.0  # seconds after which a run is called a hang, where a second one takes longer than that too
+LONG = 60.0  # seconds of a run at a limit
+MOST_TOLD = 5  # of what was found wrong in one case
+
+
+class OutOfTime(Exception):
+    """The time that was granted is over."""
+
+
+def cannot_read(path):
+    """What is shown where a file can't be read."""
+    return Shown(2, b"", b"cannot read %s\n" % path.encode())
+
+
+def prepare(folder):
+    """Makes the library that counts calls and fails them; whether there is a C compiler that does."""
+    try:
+        each_failure.make_library(folder)
+    except (OSError, subprocess.CalledProcessError):
+        return False
+    return True
+
+
+class Room:
+    """A folder, and the program run in it. A `wrapped` program gets the library by another name, and hands it on."""
+
+    def __init__(self, program, folder, library, end=None, wrapped=False):
+        self.program, self.folder, self.library, self.end, self.wrapped = program, folder, library, end, wrapped
+        self.counted, self.failed = [0, 0, 0, 0], ["none", -1, ""]
+
+    def put(self, name, content):
+        """Writes a file, and gives its name back."""
+        with open(f"{self.folder}/{name}", "wb") as it:
+            it.write(content if isinstance(content, bytes) else content.encode())
+        return name
+
+    def left(self):
+        """How many seconds are left; there is an end to them."""
+        left = LONG if self.end is None else self.end - time.monotonic()
+        if left <= 0:
+            raise OutOfTime
+        return left
+
+    def environment(self, settings):
+        """The environment of a run: the library and what it is to fail, where that is anything."""
+        env = {"PATH": os.environ.get("PATH", "/usr/bin:/bin")}
+        if settings:
+            self.put("counts", b"")
+            preload = "LATER_PRELOAD" if self.wrapped else "LD_PRELOAD"
+            env.update({preload: self.library, "COUNTS": f"{self.folder}/counts"})
+            env.update({name: str(value) for name, value in settings.items()})
+        return env
+
+    def once(self, words, stdin, out, err, env, patience, close):
+        """One run, killed with all that it started where it takes too long."""
+        given = subprocess.PIPE if isinstance(stdin, bytes) else stdin
+        with subprocess.Popen(
+            [
+                self.program, *words
+            ], cwd=self.folder, env=env, stdin=given, stdout=out, stderr=err, start_new_session=True,
+            preexec_fn=(lambda: [os.close(it) for it in close]) if close else None,
+        ) as work:  # fmt: skip
+            try:
+                shown = work.communicate(stdin if isinstance(stdin, bytes) else None, timeout=patience)
+            except subprocess.TimeoutExpired:
+                os.killpg(work.pid, signal.SIGKILL)
+                work.communicate()
+                return HANGS
+        return Shown(work.returncode, shown[0] or b"", shown[1] or b"")
+
+    def run(
+        self, *words, stdin=b"", out=subprocess.PIPE, err=subprocess.PIPE, patience=PATIENCE, close=(), **settings
+    ):
+        """What the program shows of these words; settings are the library's."""
+        self.left()
+        env = self.environment(settings)
+        shown = self.once(words, stdin, out, err, env, patience, close)
+        if shown == HANGS and isinstance(stdin, bytes):
+            self.left()
+            shown = self.once(words, stdin, out, err, env, patience, close)
+        if settings:
+            self.read_counts()
+        return shown
+
+    def read_counts(self):
+        """Reads how many allocations, calls, moves and threads there were, and which call failed."""
+        with open(f"{self.folder}/counts", encoding="utf-8", errors="replace") as it:
+            lines = it.read().split("\n")
+        self.counted, self.failed = [0, 0, 0, 0], ["none", -1, ""]
+        if len(lines) > 1:
+            self.counted = [int(word) for word in lines[0].split()]
+            call, file, name = lines[1].split(" ", 2)
+            self.failed = [call, int(file), name]
+
+
+class Found:
+    """What one case has tried, and what was wrong."""
+
+    def __init__(self):
+        self.tried, self.wrong, self.told = 0, 0, []
+        self.kinds = collections.Counter()
+
+    def count(self, kind):
+        """Counts one of a kind that is told at the end."""
+        self.kinds[kind] += 1
+
+    def must(self, holds, what, seen=""):
+        """Notes one check."""
+        self.tried += 1
+        if not holds:
+            self.wrong += 1
+            if len(self.told) < MOST_TOLD:
+                self.told.append(f"{what}: {shortened(seen)}" if seen != "" else what)
+
+    def expect(self, seen, wanted, what):
+        """Notes one check that two things are equal."""
+        self.must(seen == wanted, what, seen if seen == wanted else f"{shortened(seen)}, not {shortened(wanted)}")
+
+
+def shortened(seen):
+    """A value in a line that can be read."""
+    if isinstance(seen, Shown):
+        return f"status {seen.status}, out {shortened(seen.out)}, err {shortened(seen.err)}"
+    if isinstance(seen, str):
+        return seen
+    text = repr(seen)
+    return text if len(text) <= 200 else f"{text[:120]} .. {text[-60:]}"

@@ -1,0 +1,205 @@
+"""Programs that are wrong in one answer, made of the right one by a script, and the case that has to catch each."""
+
+import os
+import sys
+
+sys.dont_write_bytecode = True
+from hostile.room import Found
+
+SCRIPT = """#!{python} -ISE
+import os, signal, subprocess, sys, time
+env, words = dict(os.environ), sys.argv[1:]
+if "LATER_PRELOAD" in env:
+    env["LD_PRELOAD"] = env.pop("LATER_PRELOAD")
+both = dict(stdout=subprocess.PIPE, stderr=subprocess.PIPE)
+ran = subprocess.run([{program!r}, *map(os.fsencode, words)], env=env, **both)
+status, out, err = ran.returncode, ran.stdout, ran.stderr
+{alteration}
+for file, text in ((1, out), (2, err)):
+    try:
+        os.write(file, text)
+    except OSError:
+        pass
+os._exit(status)
+"""
+ACCEPTS = 'status, out = 0, b"accepted\\n"'
+WITHOUT_LAST = 'out = out[: out.rfind(b"\\n", 0, -1) + 1]'
+RUNS = 'status, out, err = 0, b"result 0\\n", b""'
+
+# what is wrong with the program, the case, and the alteration as Python
+WRONG = [
+    ("a want of memory ends with status 0", "memory: check race", "status = 0 if status == 5 else status"),
+    ("a want of memory isn't told", "memory: check fib", 'err = b"" if status == 5 else err'),
+    (
+        "a part of the outcome goes out before a want of memory",
+        "memory: play list",
+        'out = b"reducer l" if status == 5 else out',
+    ),
+    ("a refused allocation makes another answer", "memory: play local", f'if status == 5: {RUNS}'),
+    (
+        "a refused allocation ends in an abort",
+        "memory: threads gets",
+        "if status == 5: os.kill(os.getpid(), signal.SIGABRT)",
+    ),
+    (
+        "an outcome lacks its last line",
+        "memory: threads prints",
+        f'if words[0] == "threads" and not status: {WITHOUT_LAST}',
+    ),
+    (
+        "memory is never refused",
+        "memory: threads list",
+        'if status == 5: status, out, err = 0, b"reducer l 0 1 2 3 4\\nresult 5\\n", b""',
+    ),
+    (
+        "a thread that can't start makes another answer",
+        "memory: threads that can't be started",
+        f"if status == 5: {RUNS}",
+    ),
+    (
+        "another file is blamed",
+        "devices: each call of each command",
+        'if err.startswith(b"cannot read"): err = b"cannot read it\\n"',
+    ),
+    ("a file that fails is empty", "devices: each call of each command", f'if err.startswith(b"cannot read"): {RUNS}'),
+    ("standard input that fails has ended", "devices: standard input", f'if err == b"cannot read -\\n": {RUNS}'),
+    (
+        "a short read is the end",
+        "devices: reads and writes of one byte",
+        'if words[0] == "check" and "ALL_SHORT" in env: status, out = 4, b"refused 302 1\\n"',
+    ),
+    (
+        "a failed write ends with status 0",
+        "writes: out cut at each byte",
+        'status = 0 if err == b"cannot write\\n" else status',
+    ),
+    (
+        "more goes out after a failed write",
+        "writes: out cut at each byte",
+        'out = out + b"x" if err == b"cannot write\\n" else out',
+    ),
+    ("a failed write isn't told", "writes: out cut at each byte", 'err = b"" if err == b"cannot write\\n" else err'),
+    (
+        "a fault of err changes the status",
+        "writes: err cut at each byte",
+        'status = 1 if env.get("OUT_FILE") == "2" else status',
+    ),
+    (
+        "a closed stream isn't seen",
+        "writes: streams full or closed",
+        'status = 0 if err == b"cannot write\\n" else status',
+    ),
+    (
+        "one byte more of a text",
+        "limits: bytes of a text",
+        f'if err == b"program 106 at 262144\\n" and words[:1] == ["run"]: {RUNS}',
+    ),
+    ("the place of a nesting is one off", "limits: nesting", 'err = err.replace(b"104 at 83", b"104 at 82")'),
+    ("one operator more", "limits: operators", f'if b"104 at 531" in err and words[0] == "play": {RUNS}'),
+    ("a limit of declarations at another place", "limits: declarations", 'err = err.replace(b"119 at", b"119 at 1")'),
+    ("too many inputs are a bad one", "limits: input numbers", 'err = err.replace(b"122", b"121")'),
+    ("one event more", "limits: events", 'err = err.replace(b"1000001", b"1000002")'),
+    (
+        "one tick less",
+        "limits: ticks",
+        'if words[0] == "play" and out: status, out, err = 3, b"", b"fault 204 in r:1\\n"',
+    ),
+    ("frames are called cells", "limits: frames", 'err = err.replace(b"fault 205 in", b"fault 206 in")'),
+    ("one cell more", "limits: cells", f'if err.startswith(b"fault 206 in"): {RUNS}'),
+    (
+        "65 workers are taken",
+        "limits: workers",
+        'if words[0] == "threads" and status == 2: status, out, err = 0, b"result 16\\n", b""',
+    ),
+    ("one choice more", "limits: scripts", f'if err == b"script at 17\\n": {RUNS}'),
+    (
+        "a file past the limit is read",
+        "limits: large files",
+        'if err == b"cannot read over\\n": status, out, err = 4, b"refused 301 1\\n", b""',
+    ),
+    ("a line of 97 bytes is cut short", "limits: lines of a certificate", 'out = out.replace(b"301 10", b"302 10")'),
+    (
+        "a directory is an empty file",
+        "files: odd ones",
+        'if err == b"cannot read folder\\n": err = b"program 115 at 0\\n"',
+    ),
+    (
+        "a device without end is read as a text",
+        "files: without end",
+        'if err == b"cannot read /dev/full\\n": err = b"program 106 at 262144\\n"',
+    ),
+    (
+        "words that aren't text have another status",
+        "files: names that aren't text",
+        "status = 1 if status == 2 else status",
+    ),
+    ("a fifo is read once", "files: fifos", f'if "fifo" in words and words[0] == "play": {RUNS}'),
+    ("the program is its own certificate", "files: given twice", f'if words[0] == "check" and status == 4: {ACCEPTS}'),
+    (
+        "a certificate that is cut is accepted",
+        "files: certificates cut off",
+        f'if out.startswith(b"refused 302 13"): {ACCEPTS}',
+    ),
+    ("a file that changes ends in a crash", "files: one that changes", "os.kill(os.getpid(), signal.SIGSEGV)"),
+    (
+        "a file that grows is a text",
+        "files: one that grows",
+        'if err == b"cannot read fifo\\n": err = b"program 106 at 262144\\n"',
+    ),
+    (
+        "a damaged text ends in a crash",
+        "chance: damaged texts",
+        "if status == 2: os.kill(os.getpid(), signal.SIGSEGV)",
+    ),
+    ("a damaged text is never answered", "chance: damaged texts", "if status == 2: time.sleep(100)"),
+    ("a damaged text has a status of its own", "chance: damaged texts", "status = 7 if status == 2 else status"),
+    (
+        "a damaged text has another fault in one command",
+        "chance: damaged texts",
+        'if status == 2 and words[0] != "run": err = b"program 103 at 0\\n"',
+    ),
+    ("a damaged certificate is accepted", "chance: damaged certificates", f'if b"refused 30" in out: {ACCEPTS}'),
+    ("a wrong source is accepted", "chance: damaged certificates", f'if b"refused 308" in out: {ACCEPTS}'),
+    (
+        "a damaged script is played",
+        "chance: damaged scripts",
+        'if err.startswith(b"script at"): status, out, err = 0, b"not ended\\n", b""',
+    ),
+    (
+        "the line of a damaged script is one off",
+        "chance: damaged scripts",
+        'if err.startswith(b"script at"): err = b"script at %d\\n" % (int(err[10:]) + 1)',
+    ),
+    ("workers leave another outcome", "chance: programs", f'if words[0] == "threads" and not status: {WITHOUT_LAST}'),
+    ("a script leaves another outcome", "chance: programs", f'if words[0] == "play" and not status: {WITHOUT_LAST}'),
+    ("a race isn't seen", "chance: programs", f'if words[0] == "check" and b"refused 311" in out: {ACCEPTS}'),
+    (
+        "a view-read race isn't seen",
+        "chance: programs",
+        f'if words[0] == "check" and b"refused 312" in out: {ACCEPTS}',
+    ),
+    ("another pair of a race", "chance: programs", 'if b"refused 311" in out: out = out.replace(b"311 ", b"311 1")'),
+    ("a division is another fault", "chance: programs", 'err = err.replace(b"fault 201", b"fault 202")'),
+]  # fmt: skip
+
+
+class Caught(Exception):
+    """The case has seen what is wrong."""
+
+
+class Sharp(Found):
+    """Ends a case at the first thing that is wrong."""
+
+    def must(self, holds, what, seen=""):
+        super().must(holds, what, seen)
+        if not holds:
+            raise Caught
+
+
+def wrapper(program, folder, number, alteration):
+    """Writes the script of a wrong program, and gives its path."""
+    path = f"{folder}/wrong_{number}"
+    with open(path, "w", encoding="utf-8") as it:
+        it.write(SCRIPT.format(python=sys.executable, program=program, alteration=alteration))
+    os.chmod(path, 0o700)
+    return path
