@@ -15,9 +15,12 @@ TOP = os.path.dirname(os.path.dirname(os.path.realpath(__file__)))
 PROGRAM = "crates/cilk/out/cilk"
 LAST_LINE = re.compile(r"^(\d+) passed, (\d+) failed(.*)$")
 
+CC = os.environ.get("CC") or "cc"
+
 # what it is, the command that it needs, its words, and the seconds after which it is given up
 STEPS = [
-    ("hostile use of the program", os.environ.get("CC") or "cc", ["tools/hostile.py", PROGRAM, "--seconds", "100"], 300),
+    ("the cases", "python3", ["tools/cases.py", "run", PROGRAM], 300),
+    ("hostile use of the program", CC, ["tools/hostile.py", PROGRAM, "--seconds", "100"], 300),
 ]
 
 

@@ -13,6 +13,8 @@ byte of several. It must end with the answer of a run in which nothing fails, or
 with that one's status, where a beginning of the answer may have gone out. The calls are counted and failed by a small library that
 `cc` makes and that the program is run with (LD_PRELOAD), so it needs a C compiler and glibc. Run by hand.
 
+tools/hostile.py, which runs beside the gate, takes its library from here, and looks more closely at which call failed.
+
 With `--choices` the test `refused::rows_by_two_workers` of `cilk_schedule_tests` is run instead, with each allocation refused in turn: the
 list by a parallel loop and the local reducers, by rounds of 2 workers. It passes where each run ends with its result, or stops for want of
 memory, three more choices give the same stop, and each frame that is shown then has the first events that it has in the serial run.

@@ -211,7 +211,8 @@ def changing(room, found):
 def growing(room, found):
     """A program that grows past the limit of a file while it is read, as a fifo, can't be read."""
     path = f"{room.folder}/fifo"
-    os.path.exists(path) and os.remove(path)
+    if os.path.exists(path):
+        os.remove(path)
     os.mkfifo(path)
     block = b" " * 1_048_576
     parts = (block for _ in range(MAX_FILE // len(block) + 1))

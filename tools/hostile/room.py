@@ -17,6 +17,7 @@ HANGS = Shown("a hang", b"", b"")
 NO_MEMORY = Shown(5, b"", b"no memory\n")
 PATIENCE = 10.0  # seconds after which a run is called a hang, where a second one takes longer than that too
 LONG = 60.0  # seconds of a run at a limit
+FOREVER = 1e6
 MOST_TOLD = 5  # of what was found wrong in one case
 
 
@@ -53,7 +54,7 @@ class Room:
 
     def left(self):
         """How many seconds are left; there is an end to them."""
-        left = LONG if self.end is None else self.end - time.monotonic()
+        left = FOREVER if self.end is None else self.end - time.monotonic()
         if left <= 0:
             raise OutOfTime
         return left
@@ -89,12 +90,12 @@ class Room:
         self, *words, stdin=b"", out=subprocess.PIPE, err=subprocess.PIPE, patience=PATIENCE, close=(), **settings
     ):
         """What the program shows of these words; settings are the library's."""
-        self.left()
-        env = self.environment(settings)
+        env, patience = self.environment(settings), min(patience, self.left() + 1)
         shown = self.once(words, stdin, out, err, env, patience, close)
-        if shown == HANGS and isinstance(stdin, bytes):
-            self.left()
-            shown = self.once(words, stdin, out, err, env, patience, close)
+        if shown == HANGS:
+            patience = min(patience, self.left() + 1)
+            if isinstance(stdin, bytes):
+                shown = self.once(words, stdin, out, err, env, patience, close)
         if settings:
             self.read_counts()
         return shown
