@@ -56,6 +56,7 @@ def tried(case, *more):
     """What one case, or a part of one by chance, has found; whether its time was over; how long it took."""
     found, over, before = Found(), False, time.monotonic()
     try:
+        ROOM[0].left()
         case(ROOM[0], found, *more)
     except OutOfTime:
         over = True

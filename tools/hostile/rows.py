@@ -1,5 +1,6 @@
 """Programs whose answers are known from the language's rules, not from the program that is tried."""
 
+import functools
 import sys
 
 sys.dont_write_bytecode = True
@@ -44,6 +45,7 @@ def run_of(name):
     return second_certificate.Recorded(TEXTS[name], INPUTS.get(name, [])).made()
 
 
+@functools.lru_cache(maxsize=None)
 def certificate(name, version=2):
     """The right certificate of a program, by the second reading."""
     return run_of(name).right(version).text()
