@@ -206,8 +206,8 @@ fn assignments_have_their_kinds(rt: HostRuntime) {
         panic!(rt; "no function");
     };
     let [
-        Stmt::Assign(Assignment::Increment(..)),
-        Stmt::Assign(Assignment::Decrement(..)),
+        Stmt::Assign(Assignment::Increment(_up)),
+        Stmt::Assign(Assignment::Decrement(_down)),
         Stmt::Assign(Assignment::Compound(first, _, _)),
         Stmt::Assign(Assignment::Compound(second, _, value)),
     ] = body.as_slice()
