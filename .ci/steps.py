@@ -20,6 +20,7 @@ CC = os.environ.get("CC") or "cc"
 # what it is, the command that it needs, its words, and the seconds after which it is given up
 STEPS = [
     ("the cases", "python3", ["tools/cases.py", "run", PROGRAM], 300),
+    ("refused memory in a machine's choices", CC, ["tools/each_failure.py", "--choices"], 300),
     ("hostile use of the program", CC, ["tools/hostile.py", PROGRAM, "--seconds", "100"], 300),
 ]
 

