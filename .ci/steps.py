@@ -1,4 +1,4 @@
-"""The gate, and behind it the steps below, whose counts are added to the gate's last line.
+"""The gate, and after it the steps below, whose counts are added to the gate's last line.
 
 Each step runs the built program, where it is there and where what the step needs is; its own last line is
 `N passed, M failed`. A step that ends otherwise counts as one that failed. After a gate that failed no step is made.

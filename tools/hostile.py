@@ -7,7 +7,7 @@ tools/hostile.py --self-test PROGRAM
 Memory is refused, devices fail, limits are met, files are odd or change, and texts, certificates, scripts and programs
 are damaged or made by chance (docs/HOSTILE.md). Each case is told in a line with how much it tried; the last line is
 `N passed, M failed`, of cases. The cases that are known go first; those by chance go on until the time is over, or,
-with no --seconds, until so many texts were damaged and so many programs made. A case that no time was left for is told
+with no --seconds, until that number of texts was damaged and of programs made. A case that no time was left for is told
 as left out, and not counted. Needs a C compiler for the library that refuses.
 
 With --self-test the cases are tried on programs that are wrong in one answer each: they have to be caught.
