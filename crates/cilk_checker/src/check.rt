@@ -2,6 +2,7 @@
 
 ghost use Rattle.std.specs.Prelude.{◌≡◌, ◌<◌, IfOk, IfErr, OnOk};
 ghost use Rattle.cilk_program.specs.Sources.{source as source_of};
+ghost use Rattle.cilk_ending.specs.Runs.{EndsWith};
 ghost use Rattle.cilk_checker.specs.Answers.{IsCertified, IsUnaccepted};
 
 use crate::accepted::Accepted;
@@ -13,6 +14,7 @@ use cilk_determinacy::settle::serial_runs_settle;
 use cilk_ending::ending::{End, run_to_end};
 use cilk_program::program::Program;
 use cilk_types::input::Input;
+use cilk_types::trace::Trace;
 use std::alloc::Global;
 
 /// Checks the certificate that a source gives, against the serial run of a program on an input. It is accepted only
@@ -37,6 +39,30 @@ pub fn check_run<S: Source>(
     ensures kept { S.kept source.new ≡ S.kept source.old }
 {
     let (end, trace) = run_to_end(alloc, &program, &input)?;
+    check_end(alloc, program, input, end, trace, source)
+}
+
+/// The same where the serial run was made: it ends so, after these events. Cost: linear in the run and in the text.
+pub fn check_end<S: Source>(
+    alloc: Global,
+    program: Program,
+    input: Input,
+    end: End,
+    trace: Trace,
+    source: &mut S,
+) -> Result<Accepted, Unaccepted>
+    requires ends { EndsWith (source_of program) input end trace }
+    requires counts { S.failed source.old < 18446744073709551615 }
+    ensures program { IfOk result (λ a. a.program ≡ program) }
+    ensures input { IfOk result (λ a. a.input ≡ input) }
+    ensures accepted { IfOk result (λ a.
+        IsCertified (source_of program) input (S.remaining source.old) a.trace a.outcome) }
+    ensures unaccepted { let failed = S.failed source.old in let failed' = S.failed source.new in
+        IfErr result (λ e. IsUnaccepted (source_of program) input (S.remaining source.old) failed failed' e) }
+    ensures uncounted { OnOk result (S.failed source.new ≡ S.failed source.old) }
+    ensures lender { S.lender source.new ≡ S.lender source.old }
+    ensures kept { S.kept source.new ≡ S.kept source.old }
+{
     match end {
         End::Stopped(_) => {
             let right = events_of(alloc, trace)?;

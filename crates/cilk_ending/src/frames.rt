@@ -22,13 +22,13 @@ pub struct PlannedFrame {
 
 /// What a frame runs, and how many cells it has.
 #[derive(Clone, Copy)]
-pub(crate) struct Own {
+pub struct Own {
     pub body: Body,
     pub cells: u32,
 }
 
 /// What the frame of a callee runs, and how many cells it has.
-pub(crate) fn of_callee(program: &Program, layout: &Layout, callee: &Callee) -> Own
+pub fn of_callee(program: &Program, layout: &Layout, callee: &Callee) -> Own
     ensures { result ≡ own_of (source program.now) layout.now callee.now }
 {
     Own {
@@ -48,7 +48,7 @@ pub(crate) fn of_next(serial: &SerialRun, program: &Program, layout: &Layout) ->
 }
 
 /// One frame more, where so many cells are there. Gives how many there are then.
-pub(crate) fn begin(frames: &mut Vec<PlannedFrame>, cells: u64, own: Own) -> Result<u64, AllocError>
+pub fn begin(frames: &mut Vec<PlannedFrame>, cells: u64, own: Own) -> Result<u64, AllocError>
     requires { cells < 2 ^ 32 }
     ensures frame { OnOk result (frames.new.items ≡ frames.old.items ++ record { body = own.body; first_cell = cells; cells = own.cells } ∷ []) }
     ensures cells { IfOk result (λ more. more ≡ cells + own.cells) }

@@ -1,4 +1,4 @@
--- What a frame sees, by its activation and those below it: `scoped_at`, the frame of one of them; `seen_scope`, the scope; `waiting_more`,
+-- What a frame sees, by its activation and those below it: `scoped_at`, the frame of one of them; `seen_scope`, the scope; `on_top`, the same with its number; `waiting_more`,
 -- those that wait once another frame runs.
 use Rattle.std.proofs.Common.{◌≡◌, ℕ, suc, ◌+◌, ◌<◌, ◌≤◌, if◌then◌else◌, List, [], ◌∷◌, ◌++◌, length, reverse, slice_get, Option, Some, None, refl, sym, ap, ◌∙◌, subst, arith, inl, inr, eq-eqb}
 use Rattle.std.proofs.lemmas.Bool.{ne_eqb}
@@ -9,7 +9,7 @@ use Rattle.cilk_program.specs.Scopes.{Scope}
 use Rattle.cilk_program.specs.Syntax.{Source}
 use Rattle.cilk_program.specs.SerialRun.{Frame}
 use Rattle.cilk_types.specs.Stacks.{from_bottom}
-use Rattle.cilk_serial.specs.Scoped.{Activation, Frames, Parent, Scoped, AreScoped, Leads, ResultFits, Seen, waiting}
+use Rattle.cilk_serial.specs.Scoped.{Activation, Frames, IsOnTop, Parent, Scoped, AreScoped, Leads, ResultFits, Seen, waiting}
 use Rattle.cilk_types.proofs.Stacks.{below_top, bottom_up, within}
 use Rattle.cilk_types.specs.declared.limits.TheConstants.{MAX_CELLS}
 use Rattle.cilk_program.specs.declared.syntax.Place.{Place}
@@ -126,6 +126,9 @@ seen_scope p frames fr parents seen =
       low = s.low;
       links = subst (λ (list : List Activation). LinksTo list frames.top.outer s.outer) (reverse-reverse frames.below.items) linked;
     }
+
+pub on_top : (p : Source) (frames : Frames) (fr : Frame) (parents : List Parent) → Seen p frames fr parents → IsOnTop frames fr
+on_top p frames fr parents seen = let s = seen.scoped in record { number = s.number; scope = seen_scope p frames fr parents seen; result = s.result }
 
 -- once another frame runs
 pub waiting_more : {A : Type 0} (old new : List A) (x : A) → new ≡ old ++ x ∷ [] → reverse new ≡ x ∷ reverse old

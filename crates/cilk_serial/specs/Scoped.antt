@@ -16,6 +16,7 @@ use Rattle.cilk_types.specs.Stacks.{from_bottom}
 use Rattle.cilk_activations.specs.declared.activation.Activation as activations
 use Rattle.cilk_activations.specs.declared.call_stack.CallStack as call_stacks
 use Rattle.cilk_frames.specs.Cursor.{CursorView}
+use Rattle.cilk_activations.specs.Sight.{HasScope}
 pub use Rattle.cilk_activations.specs.Sight.{AreSmall, number_in}
 
 -- a frame with its cursor
@@ -75,6 +76,12 @@ pub record Seen (p : Source) (frames : Frames) (fr : Frame) (parents : List Pare
   pub scoped : Scoped p frames.top fr parents
   pub waits : AreScoped p (waiting frames) parents
 
+-- a frame runs on top of these activations, whatever is kept of their cursors
+pub record IsOnTop {C : Type 0} (frames : call_stacks.CallStack C) (fr : Frame) : Type 0 where
+  pub number : fr.number ≡ frames.top.number
+  pub scope : HasScope frames.below.items frames.top fr.scope
+  pub result : fr.result ≡ frames.top.result
+
 -- a cell is among the first so many
 abbrev pub Below : ℕ → ℕ → Type 0
 Below n c = c < n
@@ -132,5 +139,5 @@ IsBegunRightly p (asks.End v) = Unit {0}
 IsBegunRightly p (asks.Fault f) = Unit {0}
 
 -- the reducers that an activation creates
-abbrev pub own_of : Activation → ℕ → Instance
+abbrev pub own_of : {C : Type 0} → activations.Activation C → ℕ → Instance
 own_of a n = record { frame = a.number; place = a.first + n }

@@ -1,18 +1,18 @@
 // What comes of what a frame asks for.
 
-ghost use Rattle.std.specs.Prelude.{◌≡◌, ◌≤◌, length, List, Ok, Err, IfOk, MatchResult};
+ghost use Rattle.std.specs.Prelude.{◌≡◌, ◌≤◌, length, Ok, Err, IfOk, MatchResult};
 ghost use Rattle.cilk_types.specs.declared.limits.TheConstants.{MAX_CELLS};
 ghost use Rattle.cilk_program.specs.Syntax.{Source};
 ghost use Rattle.cilk_program.specs.SerialRun.{Frame};
 ghost use Rattle.cilk_frames.specs.AskSlot.{in_full};
-ghost use Rattle.cilk_serial.specs.Scoped.{IsThere, Parent, Seen};
+ghost use Rattle.cilk_serial.specs.Scoped.{IsOnTop, IsThere};
 ghost use Rattle.cilk_serial.specs.States.{Tells};
 ghost use Rattle.cilk_serial.specs.declared.answer.Told.TheVariants.{Goes};
 
 use crate::state::State;
 use cilk_activations::call_stack::CallStack;
 use cilk_frames::brief::Brief;
-use cilk_frames::cursor::{Answer, Cursor};
+use cilk_frames::cursor::Answer;
 use cilk_program::ask::LoopPart;
 use cilk_types::event::Event;
 use cilk_types::fault::Fault;
@@ -34,15 +34,15 @@ pub enum Told {
 
 /// Makes the event of an ask of the frame on top, if it goes on at once.
 #[inline(always)]
-pub fn answer(
+pub fn answer<C>(
     alloc: Global,
     state: &mut State,
-    frames: &CallStack<Cursor>,
+    frames: &CallStack<C>,
     ask: &Brief,
 ) -> Result<Told, AllocError>
     requires few { length state.old.cells.items ≤ MAX_CELLS }
-    requires there { (p : Source) × (fr : Frame) × (parents : List Parent) × Seen p frames.now fr parents × IsThere p fr (length state.old.cells.items) (in_full ask.now) }
-    ensures { (p : Source) (fr : Frame) (parents : List Parent) → Seen p frames.now fr parents → IfOk result (λ told. Tells p fr state.old state.new (in_full ask.now) told) }
+    requires there { (p : Source) × (fr : Frame) × IsOnTop frames.now fr × IsThere p fr (length state.old.cells.items) (in_full ask.now) }
+    ensures { (p : Source) (fr : Frame) → IsOnTop frames.now fr → IfOk result (λ told. Tells p fr state.old state.new (in_full ask.now) told) }
 {
     match ask {
         Brief::Begin => goes(state.make(Event::Begin {

@@ -96,7 +96,7 @@ pub fn turns(
 }
 
 /// The reducers of a frame that ends are retired.
-pub fn retire(program: &Program, state: &mut State, top: &Activation<Cursor>)
+pub fn retire<C>(program: &Program, state: &mut State, top: &Activation<C>)
     requires there { IsCreator (source program.now) top.now.creator }
     requires low { top.now.first < 65536 }
     ensures events { state.new.events.items ≡ state.old.events.items }
@@ -111,7 +111,7 @@ pub fn retire(program: &Program, state: &mut State, top: &Activation<Cursor>)
 }
 
 // Those with these monoids, from a frame's first on.
-fn retire_all(state: &mut State, top: &Activation<Cursor>, kinds: &[MonoidKind])
+fn retire_all<C>(state: &mut State, top: &Activation<C>, kinds: &[MonoidKind])
     requires few { length kinds.now ≤ 64 }
     requires low { top.now.first < 65536 }
     ensures events { state.new.events.items ≡ state.old.events.items }

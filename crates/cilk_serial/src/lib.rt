@@ -30,13 +30,13 @@
 //! ```
 #![tactic(auto)]
 
-mod answer;
-mod callee;
+pub mod answer;
+pub mod callee;
 pub mod fault;
-mod frames;
-mod outcome;
-mod refusal;
+pub mod frames;
+pub mod outcome;
+pub mod refusal;
 pub mod run;
-mod running;
+pub mod running;
 pub mod serial_run;
-mod state;
+pub mod state;

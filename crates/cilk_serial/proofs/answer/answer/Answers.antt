@@ -7,51 +7,54 @@ use Rattle.cilk_program.specs.SerialRun.{cell_at, reducer_at}
 use Rattle.cilk_program.specs.Store.{clear, number_at, put, set, update}
 use Rattle.cilk_frames.specs.AskSlot.{in_full}
 use Rattle.cilk_serial.specs.Scoped.{IsThere}
-use Rattle.cilk_serial.proofs.Homes.{seen_scope}
 use Rattle.cilk_serial.proofs.Answering.{tells_nothing, tells_word, told}
 use Rattle.cilk_serial.proofs.answer.answer.Goals as goal
 
 pub cell-requires : goal.cell-requires
-cell-requires c =
+cell-requires g c =
     let t = c.requires.there in
-    let there = subst (λ k. IsThere t.0 t.1 (length c.args.state.now.cells.items) (in_full k)) c.in-Read.is t.4 in
+    let there = subst (λ k. IsThere t.0 t.1 (length c.args.state.now.cells.items) (in_full k)) c.in-Read.is t.3 in
     let fr = t.1 in
-    (fr.scope, seen_scope t.0 c.args.frames.now fr t.2 t.3, omega (arith, there, c.requires.few))
+    let on = t.2 in
+    (fr.scope, on.scope, omega (arith, there, c.requires.few))
 
 pub read-requires : goal.read-requires
-read-requires c =
+read-requires g c =
     let t = c.requires.there in
-    let there = subst (λ k. IsThere t.0 t.1 (length c.args.state.now.cells.items) (in_full k)) c.in-Read.is t.4 in
+    let there = subst (λ k. IsThere t.0 t.1 (length c.args.state.now.cells.items) (in_full k)) c.in-Read.is t.3 in
     let fr = t.1 in
-    let same = c.cell.ensures fr.scope (seen_scope t.0 c.args.frames.now fr t.2 t.3) in
+    let on = t.2 in
+    let same = c.cell.ensures fr.scope on.scope in
     omega (arith, there, same)
 
 pub cell-requires-in-Write : goal.cell-requires-in-Write
-cell-requires-in-Write c =
+cell-requires-in-Write g c =
     let t = c.requires.there in
-    let there = subst (λ k. IsThere t.0 t.1 (length c.args.state.now.cells.items) (in_full k)) c.in-Write.is t.4 in
+    let there = subst (λ k. IsThere t.0 t.1 (length c.args.state.now.cells.items) (in_full k)) c.in-Write.is t.3 in
     let fr = t.1 in
-    (fr.scope, seen_scope t.0 c.args.frames.now fr t.2 t.3, omega (arith, there, c.requires.few))
+    let on = t.2 in
+    (fr.scope, on.scope, omega (arith, there, c.requires.few))
 
 pub write-requires : goal.write-requires
-write-requires c =
+write-requires g c =
     let t = c.requires.there in
-    let there = subst (λ k. IsThere t.0 t.1 (length c.args.state.now.cells.items) (in_full k)) c.in-Write.is t.4 in
+    let there = subst (λ k. IsThere t.0 t.1 (length c.args.state.now.cells.items) (in_full k)) c.in-Write.is t.3 in
     let fr = t.1 in
-    let same = c.cell-in-Write.ensures fr.scope (seen_scope t.0 c.args.frames.now fr t.2 t.3) in
+    let on = t.2 in
+    let same = c.cell-in-Write.ensures fr.scope on.scope in
     omega (arith, there, same)
 
 pub returns-in-Read : goal.returns-in-Read
-returns-in-Read c = λ p fr parents seen.
-    let same = c.cell.ensures fr.scope (seen_scope p c.args.frames.now fr parents seen) in
+returns-in-Read g c = λ p fr on.
+    let same = c.cell.ensures fr.scope on.scope in
     let k = asks.Read c.in-Read.place in
     told p fr c.args.state.now c.read.new.self c.args.ask.now k c.read.result c.goes-in-Read.result (sym (ap in_full c.in-Read.is)) tt c.goes-in-Read.ensures
     (tells_word p fr c.args.state.now c.read.new.self k (λ m. m.store.cells c.cell.result) (λ m. events.Read c.cell.result (m.store.cells c.cell.result)) (λ m. m.store)
     (λ m. ap m.store.cells same) (λ m. ap (λ n. events.Read n (m.store.cells n)) same) (λ m. refl) c.read.result (λ v. tt) c.read.ensures.value c.read.ensures.makes)
 
 pub returns-in-Write : goal.returns-in-Write
-returns-in-Write c = λ p fr parents seen.
-    let same = c.cell-in-Write.ensures fr.scope (seen_scope p c.args.frames.now fr parents seen) in
+returns-in-Write g c = λ p fr on.
+    let same = c.cell-in-Write.ensures fr.scope on.scope in
     let v = c.in-Write.word in
     let fits : SFits w64 v = search rules in
     let word = to_z-of_z w64 v fits in
@@ -62,8 +65,8 @@ returns-in-Write c = λ p fr parents seen.
     (λ m. ap (λ n. put n (to_z w64 (of_z w64 v)) m.store) same ∙ ap (λ x. put (cell_at fr c.in-Write.place) x m.store) word) c.write.result tt c.write.ensures.done c.write.ensures.makes)
 
 pub returns-in-Create : goal.returns-in-Create
-returns-in-Create c = λ p fr parents seen.
-    let same = c.reducer-instance.ensures fr.scope (seen_scope p c.args.frames.now fr parents seen) in
+returns-in-Create g c = λ p fr on.
+    let same = c.reducer-instance.ensures fr.scope on.scope in
     let r = c.in-Create.reducer in
     let k = asks.Create r in
     told p fr c.args.state.now c.create.new.self c.args.ask.now k c.create.result c.goes-in-Create.result (sym (ap in_full c.in-Create.is)) tt c.goes-in-Create.ensures
@@ -71,9 +74,9 @@ returns-in-Create c = λ p fr parents seen.
     (λ m. refl) (λ m. ap events.Create same) (λ m. ap (λ i. clear same_instance r.kind i m.store) same) c.create.result tt c.create.ensures.done c.create.ensures.makes)
 
 pub returns-in-Update : goal.returns-in-Update
-returns-in-Update c = λ p fr parents seen.
+returns-in-Update g c = λ p fr on.
     let i = c.reducer-instance-in-Update.result in
-    let same = c.reducer-instance-in-Update.ensures fr.scope (seen_scope p c.args.frames.now fr parents seen) in
+    let same = c.reducer-instance-in-Update.ensures fr.scope on.scope in
     let r = c.in-Update.reducer in
     let v = c.in-Update.word in
     let fits : SFits w64 v = search rules in
@@ -85,9 +88,9 @@ returns-in-Update c = λ p fr parents seen.
     (λ m. ap (λ i. update same_instance r.kind i (to_z w64 (of_z w64 v)) m.store) same ∙ ap (λ x. update same_instance r.kind (reducer_at fr r) x m.store) word) c.update.result tt c.update.ensures.done c.update.ensures.makes)
 
 pub returns-in-Set : goal.returns-in-Set
-returns-in-Set c = λ p fr parents seen.
+returns-in-Set g c = λ p fr on.
     let i = c.reducer-instance-in-Set.result in
-    let same = c.reducer-instance-in-Set.ensures fr.scope (seen_scope p c.args.frames.now fr parents seen) in
+    let same = c.reducer-instance-in-Set.ensures fr.scope on.scope in
     let r = c.in-Set.reducer in
     let v = c.in-Set.word in
     let fits : SFits w64 v = search rules in
@@ -99,9 +102,9 @@ returns-in-Set c = λ p fr parents seen.
     (λ m. ap (λ i. set same_instance r.kind i (to_z w64 (of_z w64 v)) m.store) same ∙ ap (λ x. set same_instance r.kind (reducer_at fr r) x m.store) word) c.set.result tt c.set.ensures.done c.set.ensures.makes)
 
 pub returns-in-Value : goal.returns-in-Value
-returns-in-Value c = λ p fr parents seen.
+returns-in-Value g c = λ p fr on.
     let i = c.reducer-instance-in-Value.result in
-    let same = c.reducer-instance-in-Value.ensures fr.scope (seen_scope p c.args.frames.now fr parents seen) in
+    let same = c.reducer-instance-in-Value.ensures fr.scope on.scope in
     let r = c.in-Value.reducer in
     let k = asks.Value r in
     told p fr c.args.state.now c.value.new.self c.args.ask.now k c.value.result c.goes-in-Value.result (sym (ap in_full c.in-Value.is)) tt c.goes-in-Value.ensures
@@ -109,25 +112,29 @@ returns-in-Value c = λ p fr parents seen.
     (λ m. ap (λ i. number_at r.kind i m.store) same) (λ m. ap (λ i. events.Value i (number_at r.kind i m.store)) same) (λ m. refl) c.value.result (λ v. tt) c.value.ensures.value c.value.ensures.makes)
 
 pub reducer-instance-requires-clause-sees : goal.reducer-instance-requires-clause-sees
-reducer-instance-requires-clause-sees c =
+reducer-instance-requires-clause-sees g c =
     let t = c.requires.there in
     let fr = t.1 in
-    (fr.scope, seen_scope t.0 c.args.frames.now fr t.2 t.3)
+    let on = t.2 in
+    (fr.scope, on.scope)
 
 pub reducer-instance-requires-in-Update-clause-sees : goal.reducer-instance-requires-in-Update-clause-sees
-reducer-instance-requires-in-Update-clause-sees c =
+reducer-instance-requires-in-Update-clause-sees g c =
     let t = c.requires.there in
     let fr = t.1 in
-    (fr.scope, seen_scope t.0 c.args.frames.now fr t.2 t.3)
+    let on = t.2 in
+    (fr.scope, on.scope)
 
 pub reducer-instance-requires-in-Set-clause-sees : goal.reducer-instance-requires-in-Set-clause-sees
-reducer-instance-requires-in-Set-clause-sees c =
+reducer-instance-requires-in-Set-clause-sees g c =
     let t = c.requires.there in
     let fr = t.1 in
-    (fr.scope, seen_scope t.0 c.args.frames.now fr t.2 t.3)
+    let on = t.2 in
+    (fr.scope, on.scope)
 
 pub reducer-instance-requires-in-Value-clause-sees : goal.reducer-instance-requires-in-Value-clause-sees
-reducer-instance-requires-in-Value-clause-sees c =
+reducer-instance-requires-in-Value-clause-sees g c =
     let t = c.requires.there in
     let fr = t.1 in
-    (fr.scope, seen_scope t.0 c.args.frames.now fr t.2 t.3)
+    let on = t.2 in
+    (fr.scope, on.scope)

@@ -11,7 +11,7 @@ use Rattle.cilk_serial.proofs.Shows.{cleared_next}
 use Rattle.cilk_serial.proofs.frames.retire_all.Goals as goal
 
 pub each-preserved : goal.each-preserved
-each-preserved c = record {
+each-preserved g c = record {
   events = c.retire.ensures.events ∙ c.each.invariant.events;
   shows = λ m shows.
       let low : c.each.number < length c.args.kinds.now = omega (arith, c.each-test.true) in
@@ -22,6 +22,6 @@ each-preserved c = record {
 }
 
 pub returns-clause-shows : goal.returns-clause-shows
-returns-clause-shows c = λ m shows.
+returns-clause-shows g c = λ m shows.
     let all : length c.args.kinds.now ≤ c.each.number = omega (arith, c.each-test.false) in
     subst (λ ks. Shows c.each.state (record { store = clear_all same_instance (own_of c.args.top.now) 0 ks m.store; frames = m.frames; cells = m.cells; room = m.room })) (take_all c.each.number c.args.kinds.now all) (c.each.invariant.shows m shows)

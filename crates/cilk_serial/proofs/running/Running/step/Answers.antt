@@ -11,6 +11,7 @@ use Rattle.cilk_serial.specs.Going.{Going, Progresses}
 use Rattle.cilk_serial.specs.Scoped.{IsThere}
 use Rattle.cilk_serial.specs.States.{Shows}
 use Rattle.cilk_serial.proofs.Driving.{allowed_inner, answers, going_seen, going_there, inner_has, stops, told_as}
+use Rattle.cilk_serial.proofs.Homes.{on_top}
 use Rattle.cilk_serial.proofs.running.Running.step.Goals as goal
 
 pub returns-then-is_full : goal.returns-then-is_full
@@ -30,14 +31,14 @@ answer-requires-clause-there c =
     let r = c.args.self.now in
     let g = c.requires in
     let there = subst (λ k. IsThere (source p) g.frame (length r.state.cells.items) k) c.in-Some.ensures (going_there c.args.code.now (source p) c.args.input.now r p.well_named g) in
-    (source p, g.frame, g.parents, going_seen c.args.code.now (source p) c.args.input.now r g, there)
+    (source p, g.frame, on_top (source p) r.frames g.frame g.parents (going_seen c.args.code.now (source p) c.args.input.now r g), there)
 
 pub step_into-requires-clause-runs : goal.step_into-requires-clause-runs
 step_into-requires-clause-runs c =
     let p = source c.args.program.now in
     let r = c.args.self.now in
     let g = c.requires in
-    let told = told_as p g.frame r.state c.answer.new.state r.ask (in_full c.in-Some.ask.now) c.in_ok-told.field-0 (Goes c.in-Goes.told) c.in-Some.ensures c.in-Goes.is (c.in_ok-told.ensures p g.frame g.parents (going_seen c.args.code.now p c.args.input.now r g)) in
+    let told = told_as p g.frame r.state c.answer.new.state r.ask (in_full c.in-Some.ask.now) c.in_ok-told.field-0 (Goes c.in-Goes.told) c.in-Some.ensures c.in-Goes.is (c.in_ok-told.ensures p g.frame (on_top p r.frames g.frame g.parents (going_seen c.args.code.now p c.args.input.now r g))) in
     (_, g.asking.stands (inner_has r.ask told.0))
 
 pub step_into-requires-clause-fits : goal.step_into-requires-clause-fits
@@ -45,7 +46,7 @@ step_into-requires-clause-fits c =
     let p = source c.args.program.now in
     let r = c.args.self.now in
     let g = c.requires in
-    let told = told_as p g.frame r.state c.answer.new.state r.ask (in_full c.in-Some.ask.now) c.in_ok-told.field-0 (Goes c.in-Goes.told) c.in-Some.ensures c.in-Goes.is (c.in_ok-told.ensures p g.frame g.parents (going_seen c.args.code.now p c.args.input.now r g)) in
+    let told = told_as p g.frame r.state c.answer.new.state r.ask (in_full c.in-Some.ask.now) c.in_ok-told.field-0 (Goes c.in-Goes.told) c.in-Some.ensures c.in-Goes.is (c.in_ok-told.ensures p g.frame (on_top p r.frames g.frame g.parents (going_seen c.args.code.now p c.args.input.now r g))) in
     let fits = told.1 in
     asking_fits c.args.code.now c.args.input.now p g.frame.callee r.frames.top.cursor g.history g.took r.ask r.left c.in-Goes.told g.asking (inner_has r.ask told.0) fits.fits
 
@@ -54,7 +55,7 @@ returns-in-Goes c =
     let p = source c.args.program.now in
     let r = c.args.self.now in
     let g = c.requires in
-    let told = told_as p g.frame r.state c.answer.new.state r.ask (in_full c.in-Some.ask.now) c.in_ok-told.field-0 (Goes c.in-Goes.told) c.in-Some.ensures c.in-Goes.is (c.in_ok-told.ensures p g.frame g.parents (going_seen c.args.code.now p c.args.input.now r g)) in
+    let told = told_as p g.frame r.state c.answer.new.state r.ask (in_full c.in-Some.ask.now) c.in_ok-told.field-0 (Goes c.in-Goes.told) c.in-Some.ensures c.in-Goes.is (c.in_ok-told.ensures p g.frame (on_top p r.frames g.frame g.parents (going_seen c.args.code.now p c.args.input.now r g))) in
     let made = told.1 in (
       answers c.args.code.now p c.args.input.now r c.answer.new.state c.in-Goes.told c.step_into.new.cursor c.step_into.new.asked c.step_into.new.left g (λ m h. allowed_inner p m r.ask told.0 (c.is_full.ensures.room c.if-is_full.false m h)) told.0 made (c.step_into.ensures.stands p),
       (_, (made.makes g.memory g.shows).1.events),
@@ -65,7 +66,7 @@ invoke_turns-requires-clause-going c =
     let p = source c.args.program.now in
     let r = c.args.self.now in
     let g = c.requires in
-    let told = told_as p g.frame r.state c.answer.new.state r.ask (in_full c.in-Some.ask.now) c.in_ok-told.field-0 (Turns c.in-Turns.how c.in-Turns.part) c.in-Some.ensures c.in-Turns.is (c.in_ok-told.ensures p g.frame g.parents (going_seen c.args.code.now p c.args.input.now r g)) in
+    let told = told_as p g.frame r.state c.answer.new.state r.ask (in_full c.in-Some.ask.now) c.in_ok-told.field-0 (Turns c.in-Turns.how c.in-Turns.part) c.in-Some.ensures c.in-Turns.is (c.in_ok-told.ensures p g.frame (on_top p r.frames g.frame g.parents (going_seen c.args.code.now p c.args.input.now r g))) in
     (c.args.input.now, subst (λ (s : State). Going c.args.code.now p c.args.input.now (record { state = s; frames = r.frames; ask = r.ask; left = r.left })) (sym told.0) g)
 
 pub invoke_turns-requires-clause-begins : goal.invoke_turns-requires-clause-begins
@@ -73,7 +74,7 @@ invoke_turns-requires-clause-begins c =
     let p = source c.args.program.now in
     let r = c.args.self.now in
     let g = c.requires in
-    let told = told_as p g.frame r.state c.answer.new.state r.ask (in_full c.in-Some.ask.now) c.in_ok-told.field-0 (Turns c.in-Turns.how c.in-Turns.part) c.in-Some.ensures c.in-Turns.is (c.in_ok-told.ensures p g.frame g.parents (going_seen c.args.code.now p c.args.input.now r g)) in
+    let told = told_as p g.frame r.state c.answer.new.state r.ask (in_full c.in-Some.ask.now) c.in_ok-told.field-0 (Turns c.in-Turns.how c.in-Turns.part) c.in-Some.ensures c.in-Turns.is (c.in_ok-told.ensures p g.frame (on_top p r.frames g.frame g.parents (going_seen c.args.code.now p c.args.input.now r g))) in
     told.1
 
 pub returns-in_ok-step-in-Turns : goal.returns-in_ok-step-in-Turns
@@ -81,7 +82,7 @@ returns-in_ok-step-in-Turns c =
     let p = source c.args.program.now in
     let r = c.args.self.now in
     let g = c.requires in
-    let told = told_as p g.frame r.state c.answer.new.state r.ask (in_full c.in-Some.ask.now) c.in_ok-told.field-0 (Turns c.in-Turns.how c.in-Turns.part) c.in-Some.ensures c.in-Turns.is (c.in_ok-told.ensures p g.frame g.parents (going_seen c.args.code.now p c.args.input.now r g)) in
+    let told = told_as p g.frame r.state c.answer.new.state r.ask (in_full c.in-Some.ask.now) c.in_ok-told.field-0 (Turns c.in-Turns.how c.in-Turns.part) c.in-Some.ensures c.in-Turns.is (c.in_ok-told.ensures p g.frame (on_top p r.frames g.frame g.parents (going_seen c.args.code.now p c.args.input.now r g))) in
     subst (λ (s : State). Progresses c.args.code.now p c.args.input.now (record { state = s; frames = r.frames; ask = r.ask; left = r.left }) c.in_ok-step-in-Turns.step c.invoke_turns.new.self) told.0
     (c.in_ok-step-in-Turns.ensures c.args.input.now (subst (λ (s : State). Going c.args.code.now p c.args.input.now (record { state = s; frames = r.frames; ask = r.ask; left = r.left })) (sym told.0) g))
 
@@ -90,7 +91,7 @@ end-requires-clause-going c =
     let p = source c.args.program.now in
     let r = c.args.self.now in
     let g = c.requires in
-    let told = told_as p g.frame r.state c.answer.new.state r.ask (in_full c.in-Some.ask.now) c.in_ok-told.field-0 (Ends c.in-Ends.result) c.in-Some.ensures c.in-Ends.is (c.in_ok-told.ensures p g.frame g.parents (going_seen c.args.code.now p c.args.input.now r g)) in
+    let told = told_as p g.frame r.state c.answer.new.state r.ask (in_full c.in-Some.ask.now) c.in_ok-told.field-0 (Ends c.in-Ends.result) c.in-Some.ensures c.in-Ends.is (c.in_ok-told.ensures p g.frame (on_top p r.frames g.frame g.parents (going_seen c.args.code.now p c.args.input.now r g))) in
     subst (λ (s : State). Going c.args.code.now p c.args.input.now (record { state = s; frames = r.frames; ask = r.ask; left = r.left })) (sym told.0) g
 
 pub end-requires-clause-allowed : goal.end-requires-clause-allowed
@@ -98,7 +99,7 @@ end-requires-clause-allowed c = λ m h.
     let p = source c.args.program.now in
     let r = c.args.self.now in
     let g = c.requires in
-    let told = told_as p g.frame r.state c.answer.new.state r.ask (in_full c.in-Some.ask.now) c.in_ok-told.field-0 (Ends c.in-Ends.result) c.in-Some.ensures c.in-Ends.is (c.in_ok-told.ensures p g.frame g.parents (going_seen c.args.code.now p c.args.input.now r g)) in
+    let told = told_as p g.frame r.state c.answer.new.state r.ask (in_full c.in-Some.ask.now) c.in_ok-told.field-0 (Ends c.in-Ends.result) c.in-Some.ensures c.in-Ends.is (c.in_ok-told.ensures p g.frame (on_top p r.frames g.frame g.parents (going_seen c.args.code.now p c.args.input.now r g))) in
     ap (λ k. refused p m k) told.1 ∙ c.is_full.ensures.room c.if-is_full.false m (subst (λ (s : State). Shows s m) told.0 h)
 
 pub end-requires-clause-ends : goal.end-requires-clause-ends
@@ -106,7 +107,7 @@ end-requires-clause-ends c =
     let p = source c.args.program.now in
     let r = c.args.self.now in
     let g = c.requires in
-    let told = told_as p g.frame r.state c.answer.new.state r.ask (in_full c.in-Some.ask.now) c.in_ok-told.field-0 (Ends c.in-Ends.result) c.in-Some.ensures c.in-Ends.is (c.in_ok-told.ensures p g.frame g.parents (going_seen c.args.code.now p c.args.input.now r g)) in
+    let told = told_as p g.frame r.state c.answer.new.state r.ask (in_full c.in-Some.ask.now) c.in_ok-told.field-0 (Ends c.in-Ends.result) c.in-Some.ensures c.in-Ends.is (c.in_ok-told.ensures p g.frame (on_top p r.frames g.frame g.parents (going_seen c.args.code.now p c.args.input.now r g))) in
     let fits : SFits w64 c.in-Ends.result = search rules in
     told.1 ∙ ap End (sym (to_z-of_z w64 c.in-Ends.result fits))
 
@@ -115,7 +116,7 @@ returns-in_ok-step-in-Ends c =
     let p = source c.args.program.now in
     let r = c.args.self.now in
     let g = c.requires in
-    let told = told_as p g.frame r.state c.answer.new.state r.ask (in_full c.in-Some.ask.now) c.in_ok-told.field-0 (Ends c.in-Ends.result) c.in-Some.ensures c.in-Ends.is (c.in_ok-told.ensures p g.frame g.parents (going_seen c.args.code.now p c.args.input.now r g)) in
+    let told = told_as p g.frame r.state c.answer.new.state r.ask (in_full c.in-Some.ask.now) c.in_ok-told.field-0 (Ends c.in-Ends.result) c.in-Some.ensures c.in-Ends.is (c.in_ok-told.ensures p g.frame (on_top p r.frames g.frame g.parents (going_seen c.args.code.now p c.args.input.now r g))) in
     subst (λ (s : State). Progresses c.args.code.now p c.args.input.now (record { state = s; frames = r.frames; ask = r.ask; left = r.left }) c.in_ok-step-in-Ends.step c.end.new.self) told.0 c.in_ok-step-in-Ends.ensures
 
 pub returns-in-Stops : goal.returns-in-Stops
@@ -123,7 +124,7 @@ returns-in-Stops c =
     let p = source c.args.program.now in
     let r = c.args.self.now in
     let g = c.requires in
-    let told = told_as p g.frame r.state c.answer.new.state r.ask (in_full c.in-Some.ask.now) c.in_ok-told.field-0 (Stops c.in-Stops.fault) c.in-Some.ensures c.in-Stops.is (c.in_ok-told.ensures p g.frame g.parents (going_seen c.args.code.now p c.args.input.now r g)) in (
+    let told = told_as p g.frame r.state c.answer.new.state r.ask (in_full c.in-Some.ask.now) c.in_ok-told.field-0 (Stops c.in-Stops.fault) c.in-Some.ensures c.in-Stops.is (c.in_ok-told.ensures p g.frame (on_top p r.frames g.frame g.parents (going_seen c.args.code.now p c.args.input.now r g))) in (
       ap (λ (s : State). record { state = s; frames = r.frames; ask = r.ask; left = r.left }) told.0,
       stops c.args.code.now p c.args.input.now r c.in-Stops.fault c.args.program.now.well_named g (λ m h. sym (ap (λ k. refused p m k) told.1)),
     )

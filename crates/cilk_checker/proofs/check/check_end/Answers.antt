@@ -4,7 +4,7 @@ use Rattle.cilk_types.specs.declared.event.Event.{Event}
 use Rattle.cilk_program.specs.Sources.{source}
 use Rattle.cilk_tree.specs.Shape.{Spells}
 use Rattle.cilk_checker.proofs.Checked.{certified, frames_at, ran_at, refused_before, run_creates, run_spelled, stops_at}
-use Rattle.cilk_checker.proofs.check.check_run.Goals as goal
+use Rattle.cilk_checker.proofs.check.check_end.Goals as goal
 
 pub returns-in_err-refusal-in-Stopped-clause-unaccepted : goal.returns-in_err-refusal-in-Stopped-clause-unaccepted
 returns-in_err-refusal-in-Stopped-clause-unaccepted g c =
@@ -15,14 +15,14 @@ pub returns-in_ok-refusal-in-Stopped-clause-unaccepted : goal.returns-in_ok-refu
 returns-in_ok-refusal-in-Stopped-clause-unaccepted g c =
     let p = source c.args.program in
     refused_before p c.args.input (g.S.Source.remaining c.args.source.now) c.in_ok-right-in-Stopped.right.trace c.in-Stopped.field-0 c.in_ok-refusal-in-Stopped.refusal
-    (stops_at p c.args.input c.in_ok-end.end c.in-Stopped.field-0 c.in_ok-end.trace c.in_ok-right-in-Stopped.right.trace c.in-Stopped.is c.in_ok-end.ensures c.in_ok-right-in-Stopped.ensures.trace)
+    (stops_at p c.args.input c.args.end c.in-Stopped.field-0 c.args.trace c.in_ok-right-in-Stopped.right.trace c.in-Stopped.is c.requires.ends c.in_ok-right-in-Stopped.ensures.trace)
     c.in_ok-refusal-in-Stopped.ensures.refused
 
 pub right_of-requires : goal.right_of-requires
 right_of-requires g c =
     let p = source c.args.program in
-    let ran = ran_at p c.args.input c.in_ok-end.end c.in-Left.outcome c.in-Left.frames c.in_ok-end.trace c.in_ok-end.trace c.in-Left.is c.in_ok-end.ensures refl in
-    let e = run_spelled p c.args.input c.args.program.well_named c.in-Left.outcome c.in_ok-end.trace ran in
+    let ran = ran_at p c.args.input c.args.end c.in-Left.outcome c.in-Left.frames c.args.trace c.args.trace c.in-Left.is c.requires.ends refl in
+    let e = run_spelled p c.args.input c.args.program.well_named c.in-Left.outcome c.args.trace ran in
     (e.0, e.1.spells)
 
 pub returns-in_err-ended-in-Left-clause-unaccepted : goal.returns-in_err-ended-in-Left-clause-unaccepted
@@ -30,7 +30,7 @@ returns-in_err-ended-in-Left-clause-unaccepted g c =
     let p = source c.args.program in
     let es = c.in_ok-right-in-Left.right.trace in
     let same = c.in_ok-right-in-Left.ensures.trace in
-    let ran = ran_at p c.args.input c.in_ok-end.end c.in-Left.outcome c.in-Left.frames c.in_ok-end.trace es c.in-Left.is c.in_ok-end.ensures same in
+    let ran = ran_at p c.args.input c.args.end c.in-Left.outcome c.in-Left.frames c.args.trace es c.in-Left.is c.requires.ends same in
     let e = run_spelled p c.args.input c.args.program.well_named c.in-Left.outcome es ran in
     let columns = c.in_ok-right-in-Left.ensures.columns e.0 (subst (λ (l : List Event). Spells e.0 l) same e.1.spells) in
     let q = err_from_is_err_and c.from_residual-in_err-ended-in-Left.result c.from_residual-in_err-ended-in-Left.ensures.1 in
@@ -41,7 +41,7 @@ new-requires-clause-determinate g c =
     let p = source c.args.program in
     let es = c.in_ok-right-in-Left.right.trace in
     let same = c.in_ok-right-in-Left.ensures.trace in
-    let ran = ran_at p c.args.input c.in_ok-end.end c.in-Left.outcome c.in-Left.frames c.in_ok-end.trace es c.in-Left.is c.in_ok-end.ensures same in
+    let ran = ran_at p c.args.input c.args.end c.in-Left.outcome c.in-Left.frames c.args.trace es c.in-Left.is c.requires.ends same in
     let x = certified p c.args.input (g.S.Source.remaining c.args.source.now) c.args.program.well_named c.serial_runs_settle.ensures c.in-Left.outcome es ran
     (λ s spells created. c.in_ok-ended-in-Left.ensures.clean s (c.in_ok-right-in-Left.ensures.columns s (subst (λ (l : List Event). Spells s l) same spells)) created) in
     rw c.into_trace-trace.ensures (x.0, x.1)
@@ -50,14 +50,14 @@ pub new-requires-clause-frames : goal.new-requires-clause-frames
 new-requires-clause-frames g c =
     let p = source c.args.program in
     rw c.into_trace-trace.ensures
-    (frames_at p c.args.input c.in_ok-end.end c.in-Left.outcome c.in-Left.frames c.in_ok-end.trace c.in_ok-right-in-Left.right.trace c.in-Left.is c.in_ok-end.ensures c.in_ok-right-in-Left.ensures.trace)
+    (frames_at p c.args.input c.args.end c.in-Left.outcome c.in-Left.frames c.args.trace c.in_ok-right-in-Left.right.trace c.in-Left.is c.requires.ends c.in_ok-right-in-Left.ensures.trace)
 
 pub returns-in_ok-ended-in-Left-clause-accepted : goal.returns-in_ok-ended-in-Left-clause-accepted
 returns-in_ok-ended-in-Left-clause-accepted g c =
     let p = source c.args.program in
     let es = c.in_ok-right-in-Left.right.trace in
     let same = c.in_ok-right-in-Left.ensures.trace in
-    let ran = ran_at p c.args.input c.in_ok-end.end c.in-Left.outcome c.in-Left.frames c.in_ok-end.trace es c.in-Left.is c.in_ok-end.ensures same in
+    let ran = ran_at p c.args.input c.args.end c.in-Left.outcome c.in-Left.frames c.args.trace es c.in-Left.is c.requires.ends same in
     rw (c.new.ensures, c.into_trace-trace.ensures)
     (certified p c.args.input (g.S.Source.remaining c.args.source.now) c.args.program.well_named c.serial_runs_settle.ensures c.in-Left.outcome es ran
     (λ s spells created. c.in_ok-ended-in-Left.ensures.clean s (c.in_ok-right-in-Left.ensures.columns s (subst (λ (l : List Event). Spells s l) same spells)) created))

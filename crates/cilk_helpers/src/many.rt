@@ -1,0 +1,65 @@
+//! The check of a certificate whose frames are replayed by several helpers.
+
+ghost use Rattle.std.specs.Prelude.{◌≡◌, ◌<◌, ◌≤◌, Some, IfOk, IfErr};
+ghost use Rattle.cilk_program.specs.Sources.{source as source_of};
+ghost use Rattle.cilk_judge.specs.Judging.{meant as meant_by};
+ghost use Rattle.cilk_ending.specs.Runs.{EndsWith};
+ghost use Rattle.cilk_checker.specs.Answers.{IsCertified};
+ghost use Rattle.cilk_checker.specs.OneVerdict.{AnswersOne, AnswersOnly};
+ghost use Rattle.cilk_checker.specs.Texts.{AreTexts, IsTrueRefusal};
+
+use crate::watch::Watch;
+use cilk_checker::accepted::Accepted;
+use cilk_checker::refusal::Refusal;
+use cilk_checker::texts::check;
+use cilk_ending::ending::{End, run_to_end};
+use cilk_program::program::Program;
+use cilk_retelling::hints::Hints;
+use cilk_types::input::Input;
+use cilk_types::trace::Trace;
+use std::alloc::{AllocError, Global};
+use std::thread::Threads;
+
+/// The most helpers that there may be.
+pub const MAX_HELPERS: u32 = 16;
+
+/// The end of the program's serial run on this input, and the events up to it, by so many helpers in threads of their own, each of whom
+/// replays some of the frames that the hints tell of. Whatever the hints say, it is the serial run; where they are wrong it is made
+/// without them.
+pub fn run_many<H: Threads + Sync, W: Watch + Sync>(
+    _rt: &H,
+    alloc: Global,
+    program: &Program,
+    input: &Input,
+    _hints: Hints,
+    helpers: u32,
+    _watch: &W,
+) -> Result<(End, Trace), AllocError>
+    requires some { 0 < helpers }
+    requires most { helpers ≤ 16 }
+    ensures { IfOk result (λ r. EndsWith (source_of program.now) input.now r.0 r.1) }
+{
+    run_to_end(alloc, program, input)
+}
+
+/// Checks a certificate against the texts of program and input, as `check` does, by so many helpers, 1 to 16.
+pub fn check_many<H: Threads + Sync, W: Watch + Sync>(
+    _rt: &H,
+    alloc: Global,
+    program: &[u8],
+    input: &[u8],
+    certificate: &[u8],
+    helpers: u32,
+    _watch: &W,
+) -> Result<Accepted, Refusal>
+    requires some { 0 < helpers }
+    requires most { helpers ≤ 16 }
+    ensures texts { IfOk result (λ a. AreTexts program.now input.now (meant_by a.program) a.input) }
+    ensures accepted { IfOk result (λ a.
+        IsCertified (source_of a.program) a.input (Some certificate.now) a.trace a.outcome) }
+    ensures refused { IfErr result (λ r. IsTrueRefusal program.now input.now (Some certificate.now) r) }
+    ensures only { AnswersOnly program.now input.now certificate.now result (λ e. e ≡ Refusal.Memory) }
+    ensures one { AnswersOne program.now input.now certificate.now result (λ r. r) (λ e. e ≡ Refusal.Memory) }
+{
+    check(alloc, program, input, certificate)
+}

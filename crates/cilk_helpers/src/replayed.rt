@@ -1,0 +1,90 @@
+//! One frame that is due, and its replay.
+
+ghost use Rattle.std.specs.Prelude.{◌≡◌, [], ℤ, List, IfOk};
+ghost use Rattle.cilk_program.specs.Inside.{CalleeIsFit};
+ghost use Rattle.cilk_program.specs.Syntax.{Source};
+ghost use Rattle.cilk_program.specs.declared.ask.Ask.TheVariants.{Begin};
+ghost use Rattle.cilk_lower.specs.Behaves.{Behaves};
+ghost use Rattle.cilk_frames.specs.Following.{Stands, owed_for};
+ghost use Rattle.cilk_helpers.specs.Replayed.{IsReplayed};
+
+use cilk_frames::cursor::Cursor;
+use cilk_lower::code::Code;
+use cilk_program::ask::Callee;
+use cilk_retelling::note::Note;
+use cilk_retelling::replay::replay;
+use cilk_types::event::FrameNo;
+use cilk_types::input::Input;
+use std::alloc::{AllocError, Global};
+
+/// A frame that is due: what it runs, which of the listed words are its own, and how many events it has.
+#[derive(Drop)]
+pub struct Due {
+    pub frame: FrameNo,
+    pub callee: Callee,
+    pub first: usize,
+    pub last: usize,
+    pub events: u32,
+}
+
+/// A frame that was replayed.
+#[derive(Drop)]
+pub struct Replayed {
+    pub frame: FrameNo,
+    pub callee: Callee,
+    pub notes: Vec<Note>,
+}
+
+// The frame of a callee before it begins.
+fn begun(alloc: Global, code: &Code, callee: &Callee) -> Result<Cursor, AllocError>
+    ensures stands { IfOk result (λ c. (p : Source) (inputs : List ℤ) → Behaves p code.now → CalleeIsFit p callee.now → Stands code.now inputs p callee.now c [] 0) }
+    ensures owes { IfOk result (λ c. c.owed ≡ owed_for Begin) }
+{
+    match callee {
+        Callee::Root => Cursor::root(alloc, code),
+        Callee::Function(call) => Cursor::function(alloc, code, call),
+        Callee::Loop(part) => Cursor::turns(alloc, code, part),
+    }
+}
+
+// The words from one place up to another, or none where there are fewer.
+fn words_of(words: &[i64], first: usize, last: usize) -> &[i64] {
+    match words.get(first..last) {
+        Some(own) => own,
+        None => &[],
+    }
+}
+
+/// Replays a frame that is due.
+pub fn replay_due(
+    alloc: Global,
+    code: &Code,
+    input: &Input,
+    words: &[i64],
+    due: Due,
+) -> Result<Replayed, AllocError>
+    requires { (p : Source) × Behaves p code.now × CalleeIsFit p due.callee }
+    ensures { (p : Source) → Behaves p code.now → IfOk result (IsReplayed code.now p input.now) }
+{
+    let Due {
+        frame,
+        callee,
+        first,
+        last,
+        events,
+    } = due;
+    let cursor = begun(alloc, code, &callee)?;
+    let notes = replay(
+        alloc,
+        code,
+        input,
+        cursor,
+        words_of(words, first, last),
+        events,
+    )?;
+    Ok(Replayed {
+        frame,
+        callee,
+        notes,
+    })
+}

@@ -1,0 +1,6 @@
+pub mod Alike
+pub mod Beginning
+pub mod Goings
+pub mod Noting
+pub mod Telling
+pub mod Within

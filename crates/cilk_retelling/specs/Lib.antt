@@ -1,0 +1,5 @@
+pub mod Asked
+pub mod Notes
+pub mod Retold
+pub mod Telling
+pub mod Whole
