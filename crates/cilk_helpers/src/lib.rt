@@ -8,6 +8,7 @@
 //! ```
 #![tactic(auto)]
 
+pub mod depths;
 pub mod fits;
 pub mod many;
 pub mod replayed;

@@ -9,6 +9,7 @@
 pub mod callee;
 pub mod hints;
 pub mod laws;
+pub mod listing;
 pub mod note;
 pub mod replay;
 pub mod rest;
