@@ -84,7 +84,8 @@ impl Listing {
         };
         match entry {
             Entry::Begin { frame } => self.begin(frame),
-            Entry::Read { value, .. } | Entry::Value { value, .. } => self.tell(value),
+            Entry::Read { value, .. } => self.tell(value),
+            Entry::Value { value, .. } => self.tell(value),
             Entry::End => {
                 let fits = self.count(0);
                 self.open.pop();
