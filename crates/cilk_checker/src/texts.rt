@@ -70,8 +70,8 @@ pub fn check(
     }
 }
 
-/// The program that a text means, or its first fault.
-pub fn meaning(alloc: Global, text: &[u8]) -> Result<Program, Refusal>
+// The program that a text means, or its first fault.
+fn meaning(alloc: Global, text: &[u8]) -> Result<Program, Refusal>
     ensures meant { IfOk result (λ p. IsProgramText text.now (meant_by p)) }
     ensures fault { IfErr result (λ r. (input : List ℕ) (known : Option (List ℕ))
         → IsTrueRefusal text.now input known r) }
@@ -84,8 +84,8 @@ pub fn meaning(alloc: Global, text: &[u8]) -> Result<Program, Refusal>
     }
 }
 
-/// The numbers of an input text, or its first fault; the program is judged before.
-pub fn numbers(alloc: Global, text: &[u8]) -> Result<Input, Refusal>
+// The numbers of an input text, or its first fault; the program is judged before.
+fn numbers(alloc: Global, text: &[u8]) -> Result<Input, Refusal>
     ensures numbers { IfOk result (λ ns. IsInput text.now ns) }
     ensures fault { IfErr result (λ r. (program : List ℕ) (m : Meant) (known : Option (List ℕ))
         → IsProgramText program m → IsTrueRefusal program text.now known r) }

@@ -84,7 +84,7 @@ fn add_children(
 {
     let mut listed = hint_of(hints, frame).child;
     'notes: for note in replay.notes.iter().rev() {
-        if let Some(callee) = note.asked.child() {
+        if let Some(callee) = note.child() {
             let Some(child) = listed else { break };
             listed = hint_of(hints, child).sibling;
             add(program, hints, child, callee, dues)?;
@@ -171,8 +171,9 @@ fn put(replays: &mut [Replay], replayed: Replayed)
     ensures { (code : CodeView) (p : Source) (inputs : List ℤ) → All (IsKept code p inputs) replays.old → IsReplayed code p inputs replayed → All (IsKept code p inputs) replays.new }
 {
     let Replayed { frame, replay } = replayed;
-    if let Some(place) = replays.get_mut(place_of(frame)) {
-        *place = replay;
+    let place = place_of(frame);
+    if place < replays.len() {
+        replays[place] = replay;
     }
 }
 
@@ -228,7 +229,15 @@ pub fn replays<R: Threads + Sync, W: Watch + Sync>(
         }
         let frames = numbers(alloc, dues.as_slice())?;
         let shares = dealt(alloc, dues, helpers)?;
-        let replayed = round(rt, alloc, code, input, hints.words.as_slice(), shares, watch)?;
+        let replayed = round(
+            rt,
+            alloc,
+            code,
+            input,
+            hints.words.as_slice(),
+            shares,
+            watch,
+        )?;
         keep(&mut replays, replayed)?;
         dues = following(alloc, program, hints, frames.as_slice(), replays.as_slice())?;
     }

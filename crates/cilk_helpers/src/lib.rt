@@ -10,6 +10,7 @@
 
 pub mod depths;
 pub mod fits;
+mod judged;
 pub mod many;
 pub mod replayed;
 pub mod rounds;

@@ -5,16 +5,16 @@ ghost use Rattle.cilk_program.specs.Sources.{source as source_of};
 ghost use Rattle.cilk_judge.specs.Judging.{meant as meant_by};
 ghost use Rattle.cilk_ending.specs.Runs.{EndsWith};
 ghost use Rattle.cilk_checker.specs.Answers.{IsCertified};
-ghost use Rattle.cilk_checker.specs.OneVerdict.{AnswersOne, AnswersOnly};
-ghost use Rattle.cilk_checker.specs.Texts.{AreTexts, IsTrueRefusal};
+ghost use Rattle.cilk_checker.specs.OneVerdict.{AnswersOne, AnswersOnly, IsNoVerdict};
+ghost use Rattle.cilk_checker.specs.Texts.{AreTexts, IsTrueAnswer, IsTrueRefusal};
 
 use crate::depths::replays;
+use crate::judged::{meaning, numbers};
 use crate::watch::Watch;
 use cilk_checker::accepted::Accepted;
 use cilk_checker::check::check_end;
 use cilk_checker::refusal::{Refusal, Unaccepted};
 use cilk_checker::source::Whole;
-use cilk_checker::texts::{meaning, numbers};
 use cilk_ending::ending::{End, run_to_end};
 use cilk_lower::lower::lower;
 use cilk_program::program::Program;
@@ -79,6 +79,32 @@ fn listed_run<H: Threads + Sync, W: Watch + Sync>(
     }
 }
 
+// Checks a certificate against the texts of program and input, as `check_from` does.
+fn checked<H: Threads + Sync, W: Watch + Sync>(
+    rt: &H,
+    alloc: Global,
+    program: &[u8],
+    input: &[u8],
+    certificate: &[u8],
+    helpers: u32,
+    watch: &W,
+) -> Result<Accepted, Unaccepted>
+    requires some { 0 < helpers }
+    requires most { helpers ≤ 16 }
+    ensures texts { IfOk result (λ a. AreTexts program.now input.now (meant_by a.program) a.input) }
+    ensures accepted { IfOk result (λ a.
+        IsCertified (source_of a.program) a.input (Some certificate.now) a.trace a.outcome) }
+    ensures unaccepted { IfErr result (λ e. IsTrueAnswer program.now input.now (Some certificate.now) 0 0 e) }
+    ensures only { AnswersOnly program.now input.now certificate.now result (λ e. IsNoVerdict e) }
+    ensures one { AnswersOne program.now input.now certificate.now result (λ r. Unaccepted.Refusal r) (λ e. IsNoVerdict e) }
+{
+    let meant = meaning(alloc, program)?;
+    let numbers = numbers(alloc, input)?;
+    let run = listed_run(rt, alloc, &meant, &numbers, certificate, helpers, watch)?;
+    let mut source = Whole::new(certificate);
+    check_end(alloc, meant, numbers, run.0, run.1, &mut source)
+}
+
 /// Checks a certificate against the texts of program and input, as `check` does, by so many helpers, 1 to 16.
 pub fn check_many<H: Threads + Sync, W: Watch + Sync>(
     rt: &H,
@@ -98,11 +124,7 @@ pub fn check_many<H: Threads + Sync, W: Watch + Sync>(
     ensures only { AnswersOnly program.now input.now certificate.now result (λ e. e ≡ Refusal.Memory) }
     ensures one { AnswersOne program.now input.now certificate.now result (λ r. r) (λ e. e ≡ Refusal.Memory) }
 {
-    let meant = meaning(alloc, program)?;
-    let numbers = numbers(alloc, input)?;
-    let (end, trace) = listed_run(rt, alloc, &meant, &numbers, certificate, helpers, watch)?;
-    let mut source = Whole::new(certificate);
-    match check_end(alloc, meant, numbers, end, trace, &mut source) {
+    match checked(rt, alloc, program, input, certificate, helpers, watch) {
         Ok(accepted) => Ok(accepted),
         Err(Unaccepted::Refusal(refusal)) => Err(refusal),
         Err(Unaccepted::Unread) => unreachable!(),

@@ -10,11 +10,7 @@ use cilk_checker::source::{PullFault, Source};
 use std::alloc::{AllocError, Global};
 
 // Reads a piece of the text, and says whether all its lines are a certificate's and fit.
-fn read(
-    reader: &mut LineReader,
-    listing: &mut Listing,
-    piece: &[u8],
-) -> Result<bool, AllocError>
+fn read(reader: &mut LineReader, listing: &mut Listing, piece: &[u8]) -> Result<bool, AllocError>
     ensures { result ≡ Ok true → room_of reader.new + length piece.now ≤ room_of reader.old }
 {
     let mut rest = piece;

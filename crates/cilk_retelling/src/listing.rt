@@ -13,6 +13,7 @@ pub struct FrameHint {
     /// Where its words begin among those of all frames, and how many they are.
     pub first: u32,
     pub words: u32,
+    /// How many events it has after its `begin`.
     pub events: u32,
     /// Its first child, and its parent's next child after it.
     pub child: Option<FrameNo>,
@@ -105,7 +106,7 @@ impl Listing {
         }
         self.frames.push(FrameHint::EMPTY)?;
         self.open.push(Open { frame, last: None })?;
-        Ok(self.count(0))
+        Ok(true)
     }
 
     // The innermost open frame has one more child, if one is open.
@@ -155,7 +156,9 @@ impl Listing {
     /// Parts the words by frame.
     pub fn parted(self, alloc: Global) -> Result<Hints, AllocError> {
         let Listing {
-            told, mut frames, ..
+            told,
+            mut frames,
+            ..
         } = self;
         let mut first: u32 = 0;
         for hint in frames.iter_mut() {

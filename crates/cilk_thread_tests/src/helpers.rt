@@ -152,7 +152,9 @@ fn is_retold<R: Abort + Threads + Sync>(
         rt, alloc, &program, &code, &input, &hints, helpers, &counting,
     )?;
     assert!(rt; counting.is_once_each());
-    let Some((End::Left(outcome, _frames), trace)) = retell(alloc, &program, &code, &input, replays)?
+    let Some((End::Left(outcome, _frames), trace)) = retell(
+        alloc, &program, &code, &input, replays,
+    )?
     else {
         panic!(rt; "not retold: {text}");
     };
@@ -176,7 +178,9 @@ fn runs_are_retold(rt: HostRuntime) -> Result<(), Fail> {
 // Changes the first value that a certificate of two spawned calls says is read, from 7 to 8.
 fn change<R: Abort>(rt: &R, text: &mut Vec<u8>) {
     let line = b"read 0 7 ";
-    let found = text.windows(line.len()).position(|part| part == line.as_slice());
+    let found = text
+        .windows(line.len())
+        .position(|part| part == line.as_slice());
     match text.get_mut(found.unwrap_or(0).saturating_add(7)) {
         Some(digit) => *digit = b'8',
         None => panic!(rt; "nothing is read"),
@@ -198,7 +202,10 @@ fn another_word_is_refused_as_without_helpers(rt: HostRuntime) {
     change(&rt, &mut text);
     let (program, text) = (GETS.as_bytes(), text.as_slice());
     let one = refusal(&rt, check(alloc, program, b"", text));
-    let many = refusal(&rt, check_many(&rt, alloc, program, b"", text, 2, &Unwatched));
+    let many = refusal(
+        &rt,
+        check_many(&rt, alloc, program, b"", text, 2, &Unwatched),
+    );
     assert_eq!(rt; many.number(), 303);
     assert_eq!(rt; many.number(), one.number());
     assert_eq!(rt; many.fields(), one.fields());
