@@ -203,9 +203,9 @@ fn keep(
     Ok(())
 }
 
-/// The replays of all listed frames, the last one first, by so many helpers: in rounds, all frames of one depth of invocation in each.
-/// Frame K belongs to helper 1 + (K - 1) % helpers, who takes his frames in ascending order. In the place of a frame that none of the
-/// replays asks for, or that isn't there, stands the replay of nothing.
+/// The replays of all listed frames, the last one first, by so many helpers: in rounds, all frames of one depth of
+/// invocation in each. Frame K belongs to helper 1 + (K - 1) % helpers, who takes his frames in ascending order. In
+/// the place of a frame that none of the replays asks for, or that isn't there, stands the replay of nothing.
 pub fn replays<R: Threads + Sync, W: Watch + Sync>(
     rt: &R,
     alloc: Global,

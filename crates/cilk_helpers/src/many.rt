@@ -29,9 +29,9 @@ use std::thread::Threads;
 /// The most helpers that there may be.
 pub const MAX_HELPERS: u32 = 16;
 
-/// The end of the program's serial run on this input, and the events up to it, by so many helpers in threads of their own, each of whom
-/// replays some of the frames that the hints tell of. Whatever the hints say, it is the serial run; where they are wrong it is made
-/// without them.
+/// The end of the program's serial run on this input, and the events up to it, by so many helpers in threads of their
+/// own, each of whom replays some of the frames that the hints tell of. Whatever the hints say, it is the serial run;
+/// where they are wrong it is made without them.
 pub fn run_many<H: Threads + Sync, W: Watch + Sync>(
     rt: &H,
     alloc: Global,
@@ -69,8 +69,8 @@ fn listed_run<H: Threads + Sync, W: Watch + Sync>(
     ensures ends { IfOk result (λ r. EndsWith (source_of program.now) input.now r.0 r.1) }
     ensures memory { IfErr result (λ e. e ≡ Refusal.Memory) }
 {
-    let mut source = Whole::new(certificate);
-    let Ok(hints) = hints(alloc, &mut source) else {
+    let mut text = Whole::new(certificate);
+    let Ok(hints) = hints(alloc, &mut text) else {
         return Err(Refusal::Memory);
     };
     match run_many(rt, alloc, program, input, hints, helpers, watch) {

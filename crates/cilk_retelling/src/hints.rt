@@ -1,5 +1,5 @@
-//! What a certificate's text tells of its frames. Nothing of it is believed: who replays frames by it learns what they ask for where
-//! they are told so.
+//! What a certificate's text tells of its frames. Nothing of it is believed: who replays frames by it learns what
+//! they ask for where they are told so.
 
 ghost use Rattle.std.specs.Prelude.{◌≡◌, ◌<◌, ◌≤◌, ◌+◌, OnOk, Ok, Err, length, true};
 ghost use Rattle.cilk_cert_text.specs.Readers.{room_of};
@@ -54,8 +54,9 @@ fn read_all<S: Source>(listing: &mut Listing, source: &mut S) -> Result<(), Pull
     }
 }
 
-/// What the text of a source lists of its frames, up to the first line that isn't one of a certificate, or doesn't fit those before;
-/// nothing is pulled after it. Cost: linear in the text; memory: linear in the frames and the values that are read.
+/// What the text of a source lists of its frames, up to the first line that isn't one of a certificate, or doesn't
+/// fit those before; nothing is pulled after it. Cost: linear in the text; memory: linear in the frames and the
+/// values that are read.
 pub fn hints<S: Source>(alloc: Global, source: &mut S) -> Result<Hints, PullFault>
     requires { S.failed source.old < 18446744073709551615 }
     ensures counted { result ≡ Err PullFault.Device → S.failed source.old < S.failed source.new }

@@ -31,8 +31,8 @@ impl FrameHint {
     };
 }
 
-/// What is listed of the frames of a run: the words that they are told, those of each frame one after the other, and each frame at its
-/// number less 1. 28 bytes a frame, and 8 a word.
+/// What is listed of the frames of a run: the words that they are told, those of each frame one after the other, and
+/// each frame at its number less 1. 28 bytes a frame, and 8 a word.
 #[derive(Drop)]
 pub struct Hints {
     pub words: Vec<i64>,
