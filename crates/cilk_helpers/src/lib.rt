@@ -8,7 +8,9 @@
 //! ```
 #![tactic(auto)]
 
+pub mod depths;
 pub mod fits;
+mod judged;
 pub mod many;
 pub mod replayed;
 pub mod rounds;

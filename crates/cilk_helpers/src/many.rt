@@ -5,16 +5,22 @@ ghost use Rattle.cilk_program.specs.Sources.{source as source_of};
 ghost use Rattle.cilk_judge.specs.Judging.{meant as meant_by};
 ghost use Rattle.cilk_ending.specs.Runs.{EndsWith};
 ghost use Rattle.cilk_checker.specs.Answers.{IsCertified};
-ghost use Rattle.cilk_checker.specs.OneVerdict.{AnswersOne, AnswersOnly};
-ghost use Rattle.cilk_checker.specs.Texts.{AreTexts, IsTrueRefusal};
+ghost use Rattle.cilk_checker.specs.OneVerdict.{AnswersOne, AnswersOnly, IsNoVerdict};
+ghost use Rattle.cilk_checker.specs.Texts.{AreTexts, IsTrueAnswer, IsTrueRefusal};
 
+use crate::depths::replays;
+use crate::judged::{meaning, numbers};
 use crate::watch::Watch;
 use cilk_checker::accepted::Accepted;
-use cilk_checker::refusal::Refusal;
-use cilk_checker::texts::check;
+use cilk_checker::check::check_end;
+use cilk_checker::refusal::{Refusal, Unaccepted};
+use cilk_checker::source::Whole;
 use cilk_ending::ending::{End, run_to_end};
+use cilk_lower::lower::lower;
 use cilk_program::program::Program;
-use cilk_retelling::hints::Hints;
+use cilk_retelling::hints::hints;
+use cilk_retelling::listing::Hints;
+use cilk_retelling::whole::retell;
 use cilk_types::input::Input;
 use cilk_types::trace::Trace;
 use std::alloc::{AllocError, Global};
@@ -27,30 +33,87 @@ pub const MAX_HELPERS: u32 = 16;
 /// replays some of the frames that the hints tell of. Whatever the hints say, it is the serial run; where they are wrong it is made
 /// without them.
 pub fn run_many<H: Threads + Sync, W: Watch + Sync>(
-    _rt: &H,
+    rt: &H,
     alloc: Global,
     program: &Program,
     input: &Input,
-    _hints: Hints,
+    hints: Hints,
     helpers: u32,
-    _watch: &W,
+    watch: &W,
 ) -> Result<(End, Trace), AllocError>
     requires some { 0 < helpers }
     requires most { helpers ≤ 16 }
     ensures { IfOk result (λ r. EndsWith (source_of program.now) input.now r.0 r.1) }
 {
+    let code = lower(alloc, program)?;
+    let replays = replays(rt, alloc, program, &code, input, &hints, helpers, watch)?;
+    drop(hints);
+    if let Some(run) = retell(alloc, program, &code, input, replays)? {
+        return Ok(run);
+    }
     run_to_end(alloc, program, input)
 }
 
-/// Checks a certificate against the texts of program and input, as `check` does, by so many helpers, 1 to 16.
-pub fn check_many<H: Threads + Sync, W: Watch + Sync>(
-    _rt: &H,
+// The same by what a certificate's text lists.
+fn listed_run<H: Threads + Sync, W: Watch + Sync>(
+    rt: &H,
+    alloc: Global,
+    program: &Program,
+    input: &Input,
+    certificate: &[u8],
+    helpers: u32,
+    watch: &W,
+) -> Result<(End, Trace), Refusal>
+    requires some { 0 < helpers }
+    requires most { helpers ≤ 16 }
+    ensures ends { IfOk result (λ r. EndsWith (source_of program.now) input.now r.0 r.1) }
+    ensures memory { IfErr result (λ e. e ≡ Refusal.Memory) }
+{
+    let mut source = Whole::new(certificate);
+    let Ok(hints) = hints(alloc, &mut source) else {
+        return Err(Refusal::Memory);
+    };
+    match run_many(rt, alloc, program, input, hints, helpers, watch) {
+        Ok(run) => Ok(run),
+        Err(_) => Err(Refusal::Memory),
+    }
+}
+
+// Checks a certificate against the texts of program and input, as `check_from` does.
+fn checked<H: Threads + Sync, W: Watch + Sync>(
+    rt: &H,
     alloc: Global,
     program: &[u8],
     input: &[u8],
     certificate: &[u8],
     helpers: u32,
-    _watch: &W,
+    watch: &W,
+) -> Result<Accepted, Unaccepted>
+    requires some { 0 < helpers }
+    requires most { helpers ≤ 16 }
+    ensures texts { IfOk result (λ a. AreTexts program.now input.now (meant_by a.program) a.input) }
+    ensures accepted { IfOk result (λ a.
+        IsCertified (source_of a.program) a.input (Some certificate.now) a.trace a.outcome) }
+    ensures unaccepted { IfErr result (λ e. IsTrueAnswer program.now input.now (Some certificate.now) 0 0 e) }
+    ensures only { AnswersOnly program.now input.now certificate.now result (λ e. IsNoVerdict e) }
+    ensures one { AnswersOne program.now input.now certificate.now result (λ r. Unaccepted.Refusal r) (λ e. IsNoVerdict e) }
+{
+    let meant = meaning(alloc, program)?;
+    let numbers = numbers(alloc, input)?;
+    let run = listed_run(rt, alloc, &meant, &numbers, certificate, helpers, watch)?;
+    let mut source = Whole::new(certificate);
+    check_end(alloc, meant, numbers, run.0, run.1, &mut source)
+}
+
+/// Checks a certificate against the texts of program and input, as `check` does, by so many helpers, 1 to 16.
+pub fn check_many<H: Threads + Sync, W: Watch + Sync>(
+    rt: &H,
+    alloc: Global,
+    program: &[u8],
+    input: &[u8],
+    certificate: &[u8],
+    helpers: u32,
+    watch: &W,
 ) -> Result<Accepted, Refusal>
     requires some { 0 < helpers }
     requires most { helpers ≤ 16 }
@@ -61,5 +124,9 @@ pub fn check_many<H: Threads + Sync, W: Watch + Sync>(
     ensures only { AnswersOnly program.now input.now certificate.now result (λ e. e ≡ Refusal.Memory) }
     ensures one { AnswersOne program.now input.now certificate.now result (λ r. r) (λ e. e ≡ Refusal.Memory) }
 {
-    check(alloc, program, input, certificate)
+    match checked(rt, alloc, program, input, certificate, helpers, watch) {
+        Ok(accepted) => Ok(accepted),
+        Err(Unaccepted::Refusal(refusal)) => Err(refusal),
+        Err(Unaccepted::Unread) => unreachable!(),
+    }
 }

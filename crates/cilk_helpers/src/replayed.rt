@@ -11,28 +11,26 @@ ghost use Rattle.cilk_helpers.specs.Replayed.{IsReplayed};
 use cilk_frames::cursor::Cursor;
 use cilk_lower::code::Code;
 use cilk_program::ask::Callee;
-use cilk_retelling::note::Note;
+use cilk_retelling::listing::FrameHint;
 use cilk_retelling::replay::replay;
+use cilk_retelling::whole::Replay;
 use cilk_types::event::FrameNo;
 use cilk_types::input::Input;
 use std::alloc::{AllocError, Global};
 
-/// A frame that is due: what it runs, which of the listed words are its own, and how many events it has.
+/// A frame that is due: what it runs, and what is listed of it.
 #[derive(Drop)]
 pub struct Due {
     pub frame: FrameNo,
     pub callee: Callee,
-    pub first: usize,
-    pub last: usize,
-    pub events: u32,
+    pub hint: FrameHint,
 }
 
 /// A frame that was replayed.
 #[derive(Drop)]
 pub struct Replayed {
     pub frame: FrameNo,
-    pub callee: Callee,
-    pub notes: Vec<Note>,
+    pub replay: Replay,
 }
 
 // The frame of a callee before it begins.
@@ -47,9 +45,10 @@ fn begun(alloc: Global, code: &Code, callee: &Callee) -> Result<Cursor, AllocErr
     }
 }
 
-// The words from one place up to another, or none where there are fewer.
-fn words_of(words: &[i64], first: usize, last: usize) -> &[i64] {
-    match words.get(first..last) {
+// The words of a frame, or none where there are fewer.
+fn words_of<'a>(words: &'a [i64], hint: &FrameHint) -> &'a [i64] {
+    let first = hint.first as usize;
+    match words.get(first..first + hint.words as usize) {
         Some(own) => own,
         None => &[],
     }
@@ -69,22 +68,14 @@ pub fn replay_due(
     let Due {
         frame,
         callee,
-        first,
-        last,
-        events,
+        hint,
     } = due;
     let cursor = begun(alloc, code, &callee)?;
-    let notes = replay(
-        alloc,
-        code,
-        input,
-        cursor,
-        words_of(words, first, last),
-        events,
-    )?;
+    let own = words_of(words, &hint);
+    let mut notes = replay(alloc, code, input, cursor, own, hint.events)?;
+    notes.reverse();
     Ok(Replayed {
         frame,
-        callee,
-        notes,
+        replay: Replay { callee, notes },
     })
 }

@@ -1,5 +1,5 @@
 -- A frame begins in a run that is retold.
-use Rattle.std.proofs.Common.{◌≡◌, ℕ, ◌+◌, ◌<◌, ◌≤◌, ℤ, List, [], ◌∷◌, ◌++◌, length, map, reverse, Option, Some, None, refl, sym, ap, ◌∙◌, subst, arith}
+use Rattle.std.proofs.Common.{◌≡◌, ℕ, suc, ◌+◌, ◌<◌, ◌≤◌, ℤ, List, [], ◌∷◌, ◌++◌, length, map, reverse, Option, Some, None, refl, sym, ap, ◌∙◌, subst, arith}
 use Rattle.std.specs.Prelude.{IsTrue}
 use Rattle.std.proofs.lemmas.List.{length-reverse}
 use Rattle.cilk_types.specs.declared.invocation.Invocation.{Invocation}
@@ -10,7 +10,7 @@ use Rattle.cilk_program.specs.declared.ask.Callee.{Callee}
 use Rattle.cilk_program.specs.declared.ask.Callee.TheVariants as callees
 use Rattle.cilk_program.specs.Inside.{CalleeIsFit}
 use Rattle.cilk_program.specs.Syntax.{Source}
-use Rattle.cilk_program.specs.SerialRun.{Memory, before_root, begun, cells_of, crowded, next_frame, refused, root_frame}
+use Rattle.cilk_program.specs.SerialRun.{Memory, before_root, begun, cells_of, crowded, invocation, next_frame, refused, root_frame}
 use Rattle.cilk_program.specs.WellNamed.{is_well_named}
 use Rattle.cilk_lower.specs.Behaves.{Behaves}
 use Rattle.cilk_lower.specs.Code.{CodeView}
@@ -18,24 +18,25 @@ use Rattle.cilk_activations.specs.declared.activation.Activation as activations
 use Rattle.cilk_activations.specs.declared.call_stack.CallStack.{CallStack}
 use Rattle.cilk_frames.specs.declared.brief.Brief.TheVariants as brief
 use Rattle.cilk_frames.specs.Cursor.{CursorView}
+use Rattle.cilk_frames.specs.Following.{child_of}
 use Rattle.cilk_serial.specs.declared.running.Running.{Running}
 use Rattle.cilk_serial.specs.declared.state.State.{State}
 use Rattle.cilk_serial.specs.Going.{Going, IsAllowed}
 use Rattle.cilk_serial.specs.Scoped.{Activation, Frames, MayBegin, Parent, Scoped, waiting}
+use Rattle.cilk_serial.specs.SoFar.{BeginsNext}
 use Rattle.cilk_serial.specs.States.{Begins, Shows}
 use Rattle.cilk_serial.proofs.Driving.{fits_callee, goes_first, may_begin, not_crowded}
 use Rattle.cilk_serial.proofs.Homes.{waiting_more}
-use Rattle.cilk_retelling.specs.Asked.{ask_in}
+use Rattle.cilk_retelling.specs.Asked.{NoteView, ask_in}
 use Rattle.cilk_retelling.specs.declared.note.Asked.TheVariants.{Brief}
-use Rattle.cilk_retelling.specs.declared.note.Note.{Note}
 use Rattle.cilk_retelling.specs.Notes.{IsReplay}
 use Rattle.cilk_retelling.specs.declared.rest.Rest.{Rest}
 use Rattle.cilk_retelling.specs.declared.retelling.Retelling.{Retelling}
 use Rattle.cilk_retelling.specs.Retold.{Held, Retold, held}
-use Rattle.cilk_retelling.specs.Telling.{AllAlike, IsAlike, Tells, held_in, held_of, held_below}
+use Rattle.cilk_retelling.specs.Telling.{AllAlike, IsAlike, Tells, TellsMore, held_in, held_of, held_below}
 use Rattle.cilk_retelling.proofs.Alike.{alike_length, alike_more}
 use Rattle.cilk_retelling.proofs.Goings.{runs_are_retold}
-use Rattle.cilk_retelling.proofs.Telling.{dressed}
+use Rattle.cilk_retelling.proofs.Telling.{dressed, tells_begins}
 
 -- an activation with a cursor
 abbrev pub with_cursor : {C : Type 0} → activations.Activation C → CursorView → Activation
@@ -69,10 +70,10 @@ module _ (code : CodeView) (p : Source) (inputs : List ℤ) (t : Retelling) (wel
       let h = not_crowded code p inputs run how callee going (allowed free) is in
       (subst (λ (s : State). s.frames < MAX_FRAMES) x.state h.0, subst (λ (s : State). length s.cells.items ≤ MAX_CELLS) x.state h.1)
 
-  pub tells_begin : (s' : State) (a : activations.Activation Rest) (f' : CallStack Rest) (child : List Note) → ((m : Memory) → Shows t.state m → crowded p callee m ≡ None) → Begins t.state s' how (cells_of p callee)
+  pub tells_begin : (s' : State) (a : activations.Activation Rest) (f' : CallStack Rest) (child : List NoteView) → ((m : Memory) → Shows t.state m → crowded p callee m ≡ None) → Begins t.state s' how (cells_of p callee)
       → f'.top ≡ a → f'.below.items ≡ t.frames.below.items ++ t.frames.top ∷ [] → held_of a.cursor ≡ held MAX_TICKS child → (replay : IsReplay code p inputs callee child)
       → ((q : Parent) → q.frame ≡ (let g = going in g.frame) → Scoped p (with_cursor a replay.cursor) (next_frame p (let g = going in let fr = g.frame in fr.scope) (let g = going in g.memory) callee) (q ∷ (let g = going in g.parents)))
-      → Tells code p inputs (record { state = s'; frames = f'; asked = Brief brief.Begin; left = t.left })
+      → TellsMore code p inputs t (Some callee) (record { state = s'; frames = f'; asked = Brief brief.Begin; left = t.left })
   tells_begin s' a f' child free made top below own replay scoped =
       let r = x.run in
       let re = x.retold in
@@ -87,13 +88,19 @@ module _ (code : CodeView) (p : Source) (inputs : List ℤ) (t : Retelling) (wel
       let next : Running = record { state = s'; frames = frames; ask = asks.Begin; left = r.left } in
       let all : held_below f' ≡ held_of t.frames.top.cursor ∷ held_below t.frames = ap (map held_in) (waiting_more t.frames.below.items f'.below.items t.frames.top below) in
       let mine : held_of f'.top.cursor ≡ held MAX_TICKS child = ap (λ (b : activations.Activation Rest). held_of b.cursor) top ∙ own in
+      let g = re.going in
+      let made_by = made g.memory (subst (λ (s : State). Shows s g.memory) x.state g.shows) in
       record {
-        run = next;
-        state = refl;
-        ask = refl;
-        left = x.left;
-        alike = record { top = subst (λ (b : activations.Activation Rest). IsAlike b ghost) (sym top) (alike_with a replay.cursor); below = more };
-        retold = subst (λ (l : List Held). Retold code p inputs next (held_of f'.top.cursor) l) (sym all) (subst (λ (h : Held). Retold code p inputs next h (held_of t.frames.top.cursor ∷ held_below t.frames)) (sym mine) went);
+        tells = record {
+          run = next;
+          state = refl;
+          ask = refl;
+          left = x.left;
+          alike = record { top = subst (λ (b : activations.Activation Rest). IsAlike b ghost) (sym top) (alike_with a replay.cursor); below = more };
+          retold = subst (λ (l : List Held). Retold code p inputs next (held_of f'.top.cursor) l) (sym all) (subst (λ (h : Held). Retold code p inputs next h (held_of t.frames.top.cursor ∷ held_below t.frames)) (sym mine) went);
+        };
+        longer = (invocation how (suc (let m = g.memory in m.frames)), made_by.events);
+        begins = subst (λ (k : Ask). BeginsNext p inputs t.state.events.items (child_of k)) asked (tells_begins code p inputs t x);
       }
 
 -- as many frames wait
@@ -104,7 +111,7 @@ as_many code p inputs t x =
 
 -- ---- the first frame
 
-pub tells_first : (code : CodeView) (p : Source) (inputs : List ℤ) (t : Retelling) (notes : List Note) → IsTrue (is_well_named p) → Behaves p code → (replay : IsReplay code p inputs callees.Root notes)
+pub tells_first : (code : CodeView) (p : Source) (inputs : List ℤ) (t : Retelling) (notes : List NoteView) → IsTrue (is_well_named p) → Behaves p code → (replay : IsReplay code p inputs callees.Root notes)
     → Shows t.state (begun p callees.Root (before_root p inputs MAX_EVENTS)) → t.state.events.items ≡ [] → Scoped p (with_cursor t.frames.top replay.cursor) (root_frame p inputs) [] → t.frames.below.items ≡ []
     → held_of t.frames.top.cursor ≡ held MAX_TICKS notes → ask_in t.asked ≡ asks.Begin → t.left ≡ MAX_TICKS → Tells code p inputs t
 tells_first code p inputs t notes well behaves replay shows none scoped alone own asked left =

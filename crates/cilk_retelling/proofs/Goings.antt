@@ -20,8 +20,7 @@ use Rattle.cilk_serial.specs.Going.{IsAllowed, HasEnded}
 use Rattle.cilk_serial.specs.Scoped.{Activation, Frames, Parent, Scoped, waiting}
 use Rattle.cilk_serial.specs.States.{Answers, Begins}
 use Rattle.cilk_serial.proofs.Driving.{answers, invokes, closes, resumes, last_ends}
-use Rattle.cilk_retelling.specs.Asked.{ask_in}
-use Rattle.cilk_retelling.specs.declared.note.Note.{Note}
+use Rattle.cilk_retelling.specs.Asked.{NoteView}
 use Rattle.cilk_retelling.specs.Notes.{AreNotes, IsReplay}
 use Rattle.cilk_retelling.proofs.Within.{within}
 use Rattle.cilk_retelling.specs.Retold.{Held, Holds, HoldAll, IsTaken, Retold, Closed, RunsAreRetold, goes_to, held}
@@ -39,13 +38,13 @@ all_fewer_left code inputs left left' (a ∷ list) (x ∷ all) low h =
     (record { enough = omega (arith, low, enough); notes = one.notes }, all_fewer_left code inputs left left' list all low h.1)
 
 -- what a note says of the run: a step of the frame that takes these ticks from those that the run has left
-record Taken (code : CodeView) (p : Source) (inputs : List ℤ) (left : ℕ) (a : Activation) (n : Note) (ns : List Note) (left' : ℕ) : Type 0 where
+record Taken (code : CodeView) (p : Source) (inputs : List ℤ) (left : ℕ) (a : Activation) (n : NoteView) (ns : List NoteView) (left' : ℕ) : Type 0 where
   cursor : CursorView
-  on : (callee : Callee) (history : List ℤ) (took : ℕ) → Stands code inputs p callee a.cursor history took → GoesOn code inputs a.cursor n.told left (ask_in n.asked) cursor left' p callee history took
+  on : (callee : Callee) (history : List ℤ) (took : ℕ) → Stands code inputs p callee a.cursor history took → GoesOn code inputs a.cursor n.told left n.ask cursor left' p callee history took
   holds : Holds code inputs left' (record a { cursor = cursor }) (held n.left ns)
   low : left' ≤ left
 
-taken : (code : CodeView) (p : Source) (inputs : List ℤ) (left mine : ℕ) (a : Activation) (n : Note) (ns : List Note) (left' : ℕ) → Holds code inputs left a (held mine (n ∷ ns)) → IsTaken left mine n left' → Taken code p inputs left a n ns left'
+taken : (code : CodeView) (p : Source) (inputs : List ℤ) (left mine : ℕ) (a : Activation) (n : NoteView) (ns : List NoteView) (left' : ℕ) → Holds code inputs left a (held mine (n ∷ ns)) → IsTaken left mine n left' → Taken code p inputs left a n ns left'
 taken code p inputs left mine a n ns left' h t =
     let d = h.notes.0 in
     let step = h.notes.1 in
@@ -54,28 +53,28 @@ taken code p inputs left mine a n ns left' h t =
     let enough = h.enough in
     let all : mine ≡ left + (mine - left) = omega (arith, enough) in
     let rest : n.left ≡ left' + (mine - left) = omega (arith, less, spent, enough) in
-    let step' : Steps code inputs a.cursor n.told (left + (mine - left)) (ask_in n.asked) d (left' + (mine - left)) =
-    subst (λ (l : ℕ). Steps code inputs a.cursor n.told (left + (mine - left)) (ask_in n.asked) d l) rest (subst (λ (l : ℕ). Steps code inputs a.cursor n.told l (ask_in n.asked) d n.left) all step) in
+    let step' : Steps code inputs a.cursor n.told (left + (mine - left)) n.ask d (left' + (mine - left)) =
+    subst (λ (l : ℕ). Steps code inputs a.cursor n.told (left + (mine - left)) n.ask d l) rest (subst (λ (l : ℕ). Steps code inputs a.cursor n.told l n.ask d n.left) all step) in
     record {
       cursor = d;
-      on = within code p inputs a.cursor d n.told (ask_in n.asked) left left' (mine - left) step' t.within;
+      on = within code p inputs a.cursor d n.told n.ask left left' (mine - left) step' t.within;
       holds = record { enough = omega (arith, less, spent, enough); notes = h.notes.2 };
       low = omega (arith, spent);
     }
 
 -- ---- an event after which the frame goes on
 
-retold_inner : (code : CodeView) (p : Source) (inputs : List ℤ) (r : Running) (s' : State) (mine : ℕ) (n : Note) (ns : List Note) (below : List Held) (left' : ℕ)
+retold_inner : (code : CodeView) (p : Source) (inputs : List ℤ) (r : Running) (s' : State) (mine : ℕ) (n : NoteView) (ns : List NoteView) (below : List Held) (left' : ℕ)
     → (h : Retold code p inputs r (held mine (n ∷ ns)) below) → IsAllowed p r.state r.ask → IsInner r.ask
     → Answers p h.going.frame r.state s' r.ask n.told → IsTaken r.left mine n left'
-    → (d : CursorView) × Retold code p inputs (goes_to s' r.frames d (ask_in n.asked) left') (held n.left ns) below
+    → (d : CursorView) × Retold code p inputs (goes_to s' r.frames d n.ask left') (held n.left ns) below
 retold_inner code p inputs r s' mine n ns below left' h allowed inner told t =
     let took = taken code p inputs r.left mine r.frames.top n ns left' h.holds t in
     let low = took.low in
     let few = h.few in (
       took.cursor,
       record {
-        going = answers code p inputs r s' n.told took.cursor (ask_in n.asked) left' h.going allowed inner told took.on;
+        going = answers code p inputs r s' n.told took.cursor n.ask left' h.going allowed inner told took.on;
         holds = took.holds;
         waits = all_fewer_left code inputs r.left left' (waiting r.frames) below low h.waits;
         few = omega (arith, low, few);
@@ -84,7 +83,7 @@ retold_inner code p inputs r s' mine n ns below left' h allowed inner told t =
 
 -- ---- a frame begins, of which there is a replay
 
-retold_child : (code : CodeView) (p : Source) (inputs : List ℤ) (r : Running) (s' : State) (frames : Frames) (how : Invocation) (callee : Callee) (own : Held) (child : List Note) (below : List Held)
+retold_child : (code : CodeView) (p : Source) (inputs : List ℤ) (r : Running) (s' : State) (frames : Frames) (how : Invocation) (callee : Callee) (own : Held) (child : List NoteView) (below : List Held)
     → IsTrue (is_well_named p) → (h : Retold code p inputs r own below) → IsAllowed p r.state r.ask
     → r.ask ≡ asks.Invoke how callee → Begins r.state s' how (cells_of p callee) → waiting frames ≡ r.frames.top ∷ waiting r.frames
     → (replay : IsReplay code p inputs callee child) → frames.top.cursor ≡ replay.cursor
@@ -103,10 +102,10 @@ retold_child code p inputs r s' frames how callee own child below well h allowed
 -- ---- a frame ends
 
 -- the one that waits goes on
-retold_return : (code : CodeView) (p : Source) (inputs : List ℤ) (r : Running) (s' : State) (v : ℤ) (frames : Frames) (own : Held) (mine : ℕ) (n : Note) (ns : List Note) (below : List Held) (left' : ℕ)
+retold_return : (code : CodeView) (p : Source) (inputs : List ℤ) (r : Running) (s' : State) (v : ℤ) (frames : Frames) (own : Held) (mine : ℕ) (n : NoteView) (ns : List NoteView) (below : List Held) (left' : ℕ)
     → (h : Retold code p inputs r own (held mine (n ∷ ns) ∷ below)) → IsAllowed p r.state r.ask → r.ask ≡ asks.End v → Closed p r s'
     → waiting r.frames ≡ frames.top ∷ waiting frames → n.told ≡ Done → IsTaken r.left mine n left'
-    → (d : CursorView) × Retold code p inputs (goes_to s' frames d (ask_in n.asked) left') (held n.left ns) below
+    → (d : CursorView) × Retold code p inputs (goes_to s' frames d n.ask left') (held n.left ns) below
 retold_return code p inputs r s' v frames own mine n ns below left' h allowed is closed wait done t =
     let waits = subst (λ (list : List Activation). HoldAll code inputs r.left list (held mine (n ∷ ns) ∷ below)) wait h.waits in
     let took = taken code p inputs r.left mine frames.top n ns left' waits.0 t in
@@ -114,8 +113,8 @@ retold_return code p inputs r s' v frames own mine n ns below left' h allowed is
     let few = h.few in (
       took.cursor,
       record {
-        going = resumes code p inputs s' v r.left (waiting r.frames) frames took.cursor (ask_in n.asked) left' (closes code p inputs r s' v h.going allowed is closed.events closed.cleared) wait
-            (λ callee history before stands. subst (λ (a : Answer). GoesOn code inputs frames.top.cursor a r.left (ask_in n.asked) took.cursor left' p callee history before) done (took.on callee history before stands));
+        going = resumes code p inputs s' v r.left (waiting r.frames) frames took.cursor n.ask left' (closes code p inputs r s' v h.going allowed is closed.events closed.cleared) wait
+            (λ callee history before stands. subst (λ (a : Answer). GoesOn code inputs frames.top.cursor a r.left n.ask took.cursor left' p callee history before) done (took.on callee history before stands));
         holds = took.holds;
         waits = all_fewer_left code inputs r.left left' (waiting frames) below low waits.1;
         few = omega (arith, low, few);

@@ -1,5 +1,6 @@
 pub mod Alike
 pub mod Beginning
+pub mod Framing
 pub mod Goings
 pub mod Noting
 pub mod Telling

@@ -6,25 +6,24 @@ use Rattle.cilk_lower.specs.Code.{CodeView}
 use Rattle.cilk_frames.specs.declared.cursor.Answer.{Answer}
 use Rattle.cilk_frames.specs.Cursor.{CursorView}
 use Rattle.cilk_frames.specs.Following.{Fits, HasAnswer, Runs, Steps, owed_for, rest, word_in}
-use Rattle.cilk_retelling.specs.Asked.{ask_in}
-use Rattle.cilk_retelling.specs.declared.note.Note.{Note}
+use Rattle.cilk_retelling.specs.Asked.{NoteView}
 use Rattle.cilk_retelling.specs.Notes.{AreNotes}
 
 -- the frame goes so from one cursor to another
-abbrev pub Goes : CodeView → List ℤ → CursorView → ℕ → List Note → CursorView → ℕ → Type 0
+abbrev pub Goes : CodeView → List ℤ → CursorView → ℕ → List NoteView → CursorView → ℕ → Type 0
 Goes code inputs c left [] c' left' = (c' ≡ c) × (left' ≡ left)
-Goes code inputs c left (n ∷ ns) c' left' = (d : CursorView) × Steps code inputs c n.told left (ask_in n.asked) d n.left × Goes code inputs d n.left ns c' left'
+Goes code inputs c left (n ∷ ns) c' left' = (d : CursorView) × Steps code inputs c n.told left n.ask d n.left × Goes code inputs d n.left ns c' left'
 
-pub are_notes : (code : CodeView) (inputs : List ℤ) (c : CursorView) (left : ℕ) (ns : List Note) (c' : CursorView) (left' : ℕ)
+pub are_notes : (code : CodeView) (inputs : List ℤ) (c : CursorView) (left : ℕ) (ns : List NoteView) (c' : CursorView) (left' : ℕ)
     → Goes code inputs c left ns c' left' → AreNotes code inputs c left ns
 are_notes code inputs c left [] c' left' h = tt
 are_notes code inputs c left (n ∷ ns) c' left' h = (h.0, h.1, are_notes code inputs h.0 n.left ns c' left' h.2)
 
 -- one more
-pub goes_on : (code : CodeView) (inputs : List ℤ) (c : CursorView) (left : ℕ) (ns : List Note) (c' : CursorView) (left' : ℕ) (n : Note) (d : CursorView)
-    → Goes code inputs c left ns c' left' → Steps code inputs c' n.told left' (ask_in n.asked) d n.left → Goes code inputs c left (ns ++ n ∷ []) d n.left
+pub goes_on : (code : CodeView) (inputs : List ℤ) (c : CursorView) (left : ℕ) (ns : List NoteView) (c' : CursorView) (left' : ℕ) (n : NoteView) (d : CursorView)
+    → Goes code inputs c left ns c' left' → Steps code inputs c' n.told left' n.ask d n.left → Goes code inputs c left (ns ++ n ∷ []) d n.left
 goes_on code inputs c left [] c' left' n d h step =
-    (d, subst (λ (l : ℕ). Steps code inputs c n.told l (ask_in n.asked) d n.left) h.1 (subst (λ (x : CursorView). Steps code inputs x n.told left' (ask_in n.asked) d n.left) h.0 step), (refl, refl))
+    (d, subst (λ (l : ℕ). Steps code inputs c n.told l n.ask d n.left) h.1 (subst (λ (x : CursorView). Steps code inputs x n.told left' n.ask d n.left) h.0 step), (refl, refl))
 goes_on code inputs c left (m ∷ ns) c' left' n d h step = (h.0, h.1, goes_on code inputs h.0 m.left ns c' left' n d h.2 step)
 
 -- a frame that has an answer runs on, and is owed what its ask is owed

@@ -1,6 +1,7 @@
 -- The code of a run that is retold.
 --
 -- - `tells_there`: what the frame on top sees, and that what it asks for is there;
+-- - `tells_begins`: what the next event begins;
 -- - `tells_inner`: an event after which the frame goes on;
 -- - `tells_last`, `tells_return`: a frame ends.
 use Rattle.std.proofs.Common.{◌≡◌, ℕ, ◌+◌, ◌-◌, ◌<◌, ◌≤◌, ℤ, List, [], ◌∷◌, ◌++◌, length, map, reverse, Option, None, refl, sym, ap, ◌∙◌, subst}
@@ -13,8 +14,9 @@ use Rattle.cilk_program.specs.declared.ask.Ask.TheVariants as asks
 use Rattle.cilk_program.specs.Store.{clear_all}
 use Rattle.cilk_types.specs.declared.limits.TheConstants.{MAX_CELLS}
 use Rattle.cilk_program.specs.declared.ask.Ask.{Ask}
+use Rattle.cilk_program.specs.declared.ask.Callee.{Callee}
 use Rattle.cilk_program.specs.Syntax.{Source}
-use Rattle.cilk_program.specs.SerialRun.{Frame, IsInner, Memory, full, refused}
+use Rattle.cilk_program.specs.SerialRun.{Frame, IsInner, Memory, event_of, full, refused}
 use Rattle.cilk_program.specs.WellNamed.{is_well_named}
 use Rattle.cilk_lower.specs.Code.{CodeView}
 use Rattle.cilk_activations.specs.declared.activation.Activation as activations
@@ -31,13 +33,12 @@ use Rattle.cilk_serial.proofs.Driving.{allowed_inner, going_seen, going_there}
 use Rattle.cilk_serial.specs.SoFar.{BeginsNext}
 use Rattle.cilk_serial.proofs.Homes.{on_top, waiting_more}
 use Rattle.cilk_serial.proofs.SoFar.{begins_next}
-use Rattle.cilk_retelling.specs.Asked.{ask_in}
-use Rattle.cilk_retelling.specs.declared.note.Note.{Note}
+use Rattle.cilk_retelling.specs.Asked.{NoteView, ask_in}
 use Rattle.cilk_retelling.specs.declared.rest.Rest.{Rest}
 use Rattle.cilk_retelling.specs.declared.rest.Taken.{Taken}
 use Rattle.cilk_retelling.specs.declared.retelling.Retelling.{Retelling}
 use Rattle.cilk_retelling.specs.Retold.{Closed, Held, Holds, IsTaken, Retold, held}
-use Rattle.cilk_retelling.specs.Telling.{AllAlike, Closes, HasRoom, IsAlike, Tells, held_in, held_of, held_below}
+use Rattle.cilk_retelling.specs.Telling.{AllAlike, Closes, HasRoom, IsAlike, Tells, TellsLast, TellsMore, held_in, held_of, held_below}
 use Rattle.cilk_retelling.proofs.Alike.{alike_length, alike_none, alike_on_top, alike_split}
 use Rattle.cilk_retelling.proofs.Goings.{runs_are_retold}
 
@@ -60,22 +61,46 @@ tells_there code p inputs t well x =
       few = subst (λ (s : State). length s.cells.items ≤ MAX_CELLS) x.state (subst (λ n. n ≤ MAX_CELLS) g.shows.cells g.small);
     }
 
+-- what the next event begins
+pub tells_begins : (code : CodeView) (p : Source) (inputs : List ℤ) (t : Retelling) → Tells code p inputs t → BeginsNext p inputs t.state.events.items (child_of (ask_in t.asked))
+tells_begins code p inputs t x =
+    let r = x.run in
+    subst (λ (k : Ask). BeginsNext p inputs t.state.events.items (child_of k)) x.ask
+    (subst (λ (s : State). BeginsNext p inputs s.events.items (child_of r.ask)) x.state (begins_next code p inputs r x.retold.going))
+
+-- an ask after which the frame goes on begins no frame
+inner_begins : (k : Ask) → IsInner k → child_of k ≡ None
+inner_begins asks.Begin h = refl
+inner_begins (asks.Read x) h = refl
+inner_begins (asks.Write x v) h = refl
+inner_begins (asks.Create r) h = refl
+inner_begins (asks.Update r v) h = refl
+inner_begins (asks.Set r v) h = refl
+inner_begins (asks.Value r) h = refl
+inner_begins (asks.Print v) h = refl
+inner_begins (asks.Invoke how callee) h = absurd h
+inner_begins asks.Resume h = refl
+inner_begins asks.Sync h = refl
+inner_begins (asks.Result v) h = refl
+inner_begins (asks.End v) h = refl
+inner_begins (asks.Fault f) h = refl
+
 pub other_cursor : {C D : Type 0} (a : activations.Activation C) (b : activations.Activation D) (c : C) (d : D) → IsAlike a b → IsAlike (record a { cursor = c }) (record b { cursor = d })
 other_cursor a b c d s = record { number = s.number; base = s.base; first = s.first; given = s.given; outer = s.outer; result = s.result; creator = s.creator }
 
 -- what was taken with a note
 pub record Took (answer : Answer) (left : ℕ) (rest rest' : Rest) (taken : Taken) : Type 0 where
-  pub note : Note
-  pub notes : List Note
+  pub note : NoteView
+  pub notes : List NoteView
   pub before : held_of rest ≡ held rest.left (note ∷ notes)
   pub after : held_of rest' ≡ held note.left notes
   pub told : note.told ≡ answer
-  pub asked : note.asked ≡ taken.asked
+  pub asks : note.ask ≡ ask_in taken.asked
   pub is : IsTaken left rest.left note taken.left
 
 pub tells_inner : (code : CodeView) (p : Source) (inputs : List ℤ) (t : Retelling) (s' : State) (answer : Answer) (rest' : Rest) (taken : Taken) → Tells code p inputs t → HasRoom t.state
     → IsInner (ask_in t.asked) → ((fr : Frame) → IsOnTop t.frames fr → Answers p fr t.state s' (ask_in t.asked) answer) → Took answer t.left t.frames.top.cursor rest' taken
-    → Tells code p inputs (record { state = s'; frames = record t.frames { top = record t.frames.top { cursor = rest' } }; asked = taken.asked; left = taken.left })
+    → TellsMore code p inputs t None (record { state = s'; frames = record t.frames { top = record t.frames.top { cursor = rest' } }; asked = taken.asked; left = taken.left })
 tells_inner code p inputs t s' answer rest' taken x room inner answers took =
     let r = x.run in
     let re = x.retold in
@@ -98,13 +123,18 @@ tells_inner code p inputs t s' answer rest' taken x room inner answers took =
     let is : IsTaken r.left t.frames.top.cursor.left n taken.left = subst (λ (l : ℕ). IsTaken l t.frames.top.cursor.left n taken.left) (sym x.left) took.is in
     let law = runs_are_retold code p inputs in
     let went = law.inner r s' t.frames.top.cursor.left n took.notes (held_below t.frames) taken.left own allowed inner' told is in
+    let made = (answers fr ontop).makes g.memory (subst (λ (s : State). Shows s g.memory) x.state g.shows) in
     record {
-      run = record { state = s'; frames = record r.frames { top = record r.frames.top { cursor = went.0 } }; ask = ask_in n.asked; left = taken.left };
-      state = refl;
-      ask = ap ask_in took.asked;
-      left = refl;
-      alike = record { top = other_cursor t.frames.top r.frames.top rest' went.0 x.alike.top; below = x.alike.below };
-      retold = subst (λ (h : Held). Retold code p inputs (record { state = s'; frames = record r.frames { top = record r.frames.top { cursor = went.0 } }; ask = ask_in n.asked; left = taken.left }) h (held_below t.frames)) (sym took.after) went.1;
+      tells = record {
+        run = record { state = s'; frames = record r.frames { top = record r.frames.top { cursor = went.0 } }; ask = n.ask; left = taken.left };
+        state = refl;
+        ask = took.asks;
+        left = refl;
+        alike = record { top = other_cursor t.frames.top r.frames.top rest' went.0 x.alike.top; below = x.alike.below };
+        retold = subst (λ (h : Held). Retold code p inputs (record { state = s'; frames = record r.frames { top = record r.frames.top { cursor = went.0 } }; ask = n.ask; left = taken.left }) h (held_below t.frames)) (sym took.after) went.1;
+      };
+      longer = (event_of fr g.memory (ask_in t.asked), made.1.events);
+      begins = subst (λ (o : Option Callee). BeginsNext p inputs t.state.events.items o) (inner_begins (ask_in t.asked) inner) (tells_begins code p inputs t x);
     }
 
 -- ---- a frame ends
@@ -133,20 +163,28 @@ allowed_end : (code : CodeView) (p : Source) (inputs : List ℤ) (t : Retelling)
 allowed_end code p inputs t v x room is = λ m h.
     subst (λ (k : Ask). refused p m k ≡ None) (sym (x.ask ∙ is)) (room m (subst (λ (s : State). Shows s m) x.state h))
 
-pub tells_last : (code : CodeView) (p : Source) (inputs : List ℤ) (t : Retelling) (s' : State) (v : ℤ) → Tells code p inputs t → HasRoom t.state → ask_in t.asked ≡ asks.End v → Closes p t s'
-    → t.frames.below.items ≡ [] → HasEnded p inputs s' v
-tells_last code p inputs t s' v x room is c none =
+-- what an end begins
+ends_none : (code : CodeView) (p : Source) (inputs : List ℤ) (t : Retelling) (v : ℤ) → Tells code p inputs t → ask_in t.asked ≡ asks.End v → BeginsNext p inputs t.state.events.items None
+ends_none code p inputs t v x is = subst (λ (k : Ask). BeginsNext p inputs t.state.events.items (child_of k)) is (tells_begins code p inputs t x)
+
+pub tells_last : (code : CodeView) (p : Source) (inputs : List ℤ) (t t' : Retelling) (v : ℤ) → Tells code p inputs t → HasRoom t.state → ask_in t.asked ≡ asks.End v → Closes p t t'.state
+    → t.frames.below.items ≡ [] → TellsLast p inputs t v t'
+tells_last code p inputs t t' v x room is c none =
     let r = x.run in
     let re = x.retold in
     let law = runs_are_retold code p inputs in
     let empty : held_below t.frames ≡ [] = ap (λ l. map held_in (reverse l)) none in
     let h : Retold code p inputs r (held_of t.frames.top.cursor) [] = subst (λ (l : List Held). Retold code p inputs r (held_of t.frames.top.cursor) l) empty re in
     let gs : r.frames.below.items ≡ [] = alike_none Rest r.frames.below.items (subst (λ (l : List (activations.Activation Rest)). AllAlike l r.frames.below.items) none x.alike.below) in
-    law.ends r s' v (held_of t.frames.top.cursor) h (allowed_end code p inputs t v x room is) (x.ask ∙ is) (closed code p inputs t s' x c) (ap reverse gs)
+    record {
+      ended = law.ends r t'.state v (held_of t.frames.top.cursor) h (allowed_end code p inputs t v x room is) (x.ask ∙ is) (closed code p inputs t t'.state x c) (ap reverse gs);
+      longer = (events.End, c.events);
+      begins = ends_none code p inputs t v x is;
+    }
 
 pub tells_return : (code : CodeView) (p : Source) (inputs : List ℤ) (t : Retelling) (s' : State) (v : ℤ) (f' : CallStack Rest) (rest' : Rest) (taken : Taken) → Tells code p inputs t → HasRoom t.state
     → ask_in t.asked ≡ asks.End v → Closes p t s' → t.frames.below.items ≡ f'.below.items ++ f'.top ∷ [] → Took Done t.left f'.top.cursor rest' taken
-    → Tells code p inputs (record { state = s'; frames = record f' { top = record f'.top { cursor = rest' } }; asked = taken.asked; left = taken.left })
+    → TellsMore code p inputs t None (record { state = s'; frames = record f' { top = record f'.top { cursor = rest' } }; asked = taken.asked; left = taken.left })
 tells_return code p inputs t s' v f' rest' taken x room is c split took =
     let r = x.run in
     let re = x.retold in
@@ -161,12 +199,16 @@ tells_return code p inputs t s' v f' rest' taken x room is c split took =
     let law = runs_are_retold code p inputs in
     let went = law.returns r s' v frames (held_of t.frames.top.cursor) f'.top.cursor.left n took.notes (held_below f') taken.left h (allowed_end code p inputs t v x room is) (x.ask ∙ is) (closed code p inputs t s' x c) wait took.told is' in
     record {
-      run = record { state = s'; frames = record frames { top = record frames.top { cursor = went.0 } }; ask = ask_in n.asked; left = taken.left };
-      state = refl;
-      ask = ap ask_in took.asked;
-      left = refl;
-      alike = record { top = other_cursor f'.top two.last rest' went.0 two.last_alike; below = two.alike };
-      retold = subst (λ (h : Held). Retold code p inputs (record { state = s'; frames = record frames { top = record frames.top { cursor = went.0 } }; ask = ask_in n.asked; left = taken.left }) h (held_below f')) (sym took.after) went.1;
+      tells = record {
+        run = record { state = s'; frames = record frames { top = record frames.top { cursor = went.0 } }; ask = n.ask; left = taken.left };
+        state = refl;
+        ask = took.asks;
+        left = refl;
+        alike = record { top = other_cursor f'.top two.last rest' went.0 two.last_alike; below = two.alike };
+        retold = subst (λ (h : Held). Retold code p inputs (record { state = s'; frames = record frames { top = record frames.top { cursor = went.0 } }; ask = n.ask; left = taken.left }) h (held_below f')) (sym took.after) went.1;
+      };
+      longer = (events.End, c.events);
+      begins = ends_none code p inputs t v x is;
     }
 
 -- whose reducers the frame that runs has created
@@ -174,10 +216,3 @@ pub creator_there : (code : CodeView) (p : Source) (inputs : List ℤ) (t : Rete
 creator_there code p inputs t x =
     let s = x.retold.going.scoped in
     (subst (λ (o : Option ℕ). IsCreator p o) (sym x.alike.top.creator) s.creator, subst (λ (k : ℕ). k < 65536) (sym x.alike.top.first) s.low)
-
--- what the next event begins
-pub tells_begins : (code : CodeView) (p : Source) (inputs : List ℤ) (t : Retelling) → Tells code p inputs t → BeginsNext p inputs t.state.events.items (child_of (ask_in t.asked))
-tells_begins code p inputs t x =
-    let r = x.run in
-    subst (λ (k : Ask). BeginsNext p inputs t.state.events.items (child_of k)) x.ask
-    (subst (λ (s : State). BeginsNext p inputs s.events.items (child_of r.ask)) x.state (begins_next code p inputs r x.retold.going))

@@ -11,16 +11,15 @@ use Rattle.cilk_meaning.specs.Ticks.{IsWithin}
 use Rattle.cilk_frames.specs.declared.cursor.Answer.{Answer}
 use Rattle.cilk_frames.specs.Cursor.{CursorView}
 use Rattle.cilk_frames.specs.Following.{GoesOn, Stands, Steps, owed_for}
-use Rattle.cilk_retelling.specs.Asked.{ask_in}
-use Rattle.cilk_retelling.specs.declared.note.Note.{Note}
+use Rattle.cilk_retelling.specs.Asked.{NoteView}
 
 -- A frame at this cursor, with so many ticks left to it, asks so, one note after the other, where it is told so.
-abbrev pub AreNotes : CodeView → List ℤ → CursorView → ℕ → List Note → Type 0
+abbrev pub AreNotes : CodeView → List ℤ → CursorView → ℕ → List NoteView → Type 0
 AreNotes code inputs c left [] = Unit {0}
-AreNotes code inputs c left (n ∷ ns) = (d : CursorView) × Steps code inputs c n.told left (ask_in n.asked) d n.left × AreNotes code inputs d n.left ns
+AreNotes code inputs c left (n ∷ ns) = (d : CursorView) × Steps code inputs c n.told left n.ask d n.left × AreNotes code inputs d n.left ns
 
 -- These are notes of a frame of this callee from its beginning on, with all ticks of a run for itself.
-pub record IsReplay (code : CodeView) (p : Source) (inputs : List ℤ) (callee : Callee) (ns : List Note) : Type 0 where
+pub record IsReplay (code : CodeView) (p : Source) (inputs : List ℤ) (callee : Callee) (ns : List NoteView) : Type 0 where
   pub cursor : CursorView
   pub stands : CalleeIsFit p callee → Stands code inputs p callee cursor [] 0
   pub owes : cursor.owed ≡ owed_for Begin

@@ -20,14 +20,13 @@ use Rattle.cilk_serial.specs.declared.state.State.{State}
 use Rattle.cilk_serial.specs.Going.{Going, IsAllowed, HasEnded}
 use Rattle.cilk_serial.specs.Scoped.{Activation, Frames, Parent, Scoped, kinds_of, own_of, waiting}
 use Rattle.cilk_serial.specs.States.{Answers, Begins, Shows}
-use Rattle.cilk_retelling.specs.Asked.{ask_in}
-use Rattle.cilk_retelling.specs.declared.note.Note.{Note}
+use Rattle.cilk_retelling.specs.Asked.{NoteView}
 use Rattle.cilk_retelling.specs.Notes.{AreNotes, IsReplay}
 
 -- what is held of a frame: the ticks that it has left by itself, and the notes that are left of it
 pub record Held : Type 0 where
   pub mine : ℕ
-  pub notes : List Note
+  pub notes : List NoteView
 
 -- This is held of a frame, which has no fewer ticks left than the run.
 pub record Holds (code : CodeView) (inputs : List ℤ) (left : ℕ) (a : Activation) (h : Held) : Type 0 where
@@ -48,13 +47,13 @@ pub record Retold (code : CodeView) (p : Source) (inputs : List ℤ) (r : Runnin
   pub few : r.left ≤ MAX_TICKS
 
 -- A note is taken of a frame with so many ticks: so many are left to the run then.
-pub record IsTaken (left mine : ℕ) (n : Note) (left' : ℕ) : Type 0 where
+pub record IsTaken (left mine : ℕ) (n : NoteView) (left' : ℕ) : Type 0 where
   pub less : n.left ≤ mine
   pub spent : left' + (mine - n.left) ≡ left
-  pub within : IsWithin (ask_in n.asked)
+  pub within : IsWithin n.ask
 
 -- what is held then
-abbrev pub held : ℕ → List Note → Held
+abbrev pub held : ℕ → List NoteView → Held
 held mine ns = record { mine = mine; notes = ns }
 
 -- the run in which the frame on top has this cursor, asks for this, and so many ticks are left
@@ -70,20 +69,20 @@ pub record Closed (p : Source) (r : Running) (s' : State) : Type 0 where
 -- A serial run goes on by the notes of its frames, where the store answers what they were told.
 pub record RunsAreRetold (code : CodeView) (p : Source) (inputs : List ℤ) : Type 0 where
   -- an event after which the frame goes on
-  pub inner : (r : Running) (s' : State) (mine : ℕ) (n : Note) (ns : List Note) (below : List Held) (left' : ℕ) (h : Retold code p inputs r (held mine (n ∷ ns)) below)
+  pub inner : (r : Running) (s' : State) (mine : ℕ) (n : NoteView) (ns : List NoteView) (below : List Held) (left' : ℕ) (h : Retold code p inputs r (held mine (n ∷ ns)) below)
       → IsAllowed p r.state r.ask → IsInner r.ask → Answers p h.going.frame r.state s' r.ask n.told → IsTaken r.left mine n left'
-      → (d : CursorView) × Retold code p inputs (goes_to s' r.frames d (ask_in n.asked) left') (held n.left ns) below
+      → (d : CursorView) × Retold code p inputs (goes_to s' r.frames d n.ask left') (held n.left ns) below
   -- a frame begins, of which there is a replay
-  pub begins : (r : Running) (s' : State) (frames : Frames) (how : Invocation) (callee : Callee) (own : Held) (child : List Note) (below : List Held) (h : Retold code p inputs r own below)
+  pub begins : (r : Running) (s' : State) (frames : Frames) (how : Invocation) (callee : Callee) (own : Held) (child : List NoteView) (below : List Held) (h : Retold code p inputs r own below)
       → IsTrue (is_well_named p) → IsAllowed p r.state r.ask → r.ask ≡ asks.Invoke how callee → Begins r.state s' how (cells_of p callee)
       → waiting frames ≡ r.frames.top ∷ waiting r.frames → (replay : IsReplay code p inputs callee child) → frames.top.cursor ≡ replay.cursor
       → ((q : Parent) → q.frame ≡ h.going.frame → Scoped p frames.top (next_frame p h.going.frame.scope h.going.memory callee) (q ∷ h.going.parents))
       → Retold code p inputs (record { state = s'; frames = frames; ask = asks.Begin; left = r.left }) (held MAX_TICKS child) (own ∷ below)
   -- one ends, and the one that waits for it goes on
-  pub returns : (r : Running) (s' : State) (v : ℤ) (frames : Frames) (own : Held) (mine : ℕ) (n : Note) (ns : List Note) (below : List Held) (left' : ℕ)
+  pub returns : (r : Running) (s' : State) (v : ℤ) (frames : Frames) (own : Held) (mine : ℕ) (n : NoteView) (ns : List NoteView) (below : List Held) (left' : ℕ)
       → Retold code p inputs r own (held mine (n ∷ ns) ∷ below) → IsAllowed p r.state r.ask → r.ask ≡ asks.End v → Closed p r s'
       → waiting r.frames ≡ frames.top ∷ waiting frames → n.told ≡ Done → IsTaken r.left mine n left'
-      → (d : CursorView) × Retold code p inputs (goes_to s' frames d (ask_in n.asked) left') (held n.left ns) below
+      → (d : CursorView) × Retold code p inputs (goes_to s' frames d n.ask left') (held n.left ns) below
   -- the first frame ends
   pub ends : (r : Running) (s' : State) (v : ℤ) (own : Held)
       → Retold code p inputs r own [] → IsAllowed p r.state r.ask → r.ask ≡ asks.End v → Closed p r s' → waiting r.frames ≡ [] → HasEnded p inputs s' v

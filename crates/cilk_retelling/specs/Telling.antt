@@ -1,9 +1,10 @@
 -- What the code of a run that is retold stands for.
-use Rattle.std.specs.Prelude.{◌≡◌, ◌-◌, ℤ, List, [], ◌∷◌, ◌++◌, reverse, map, None}
+use Rattle.std.specs.Prelude.{◌≡◌, ◌-◌, ℤ, List, [], ◌∷◌, ◌++◌, reverse, map, Option, None}
 use Rattle.cilk_types.specs.declared.event.Event.TheVariants as events
 use Rattle.cilk_monoid.specs.Ranges.{same_instance}
 use Rattle.cilk_program.specs.Store.{clear_all}
 use Rattle.cilk_program.specs.declared.ask.Ask.TheVariants as asks
+use Rattle.cilk_program.specs.declared.ask.Callee.{Callee}
 use Rattle.cilk_program.specs.declared.ask.Callee.TheVariants as callees
 use Rattle.cilk_program.specs.SerialRun.{Memory, full}
 use Rattle.cilk_program.specs.Syntax.{Source}
@@ -12,8 +13,9 @@ use Rattle.cilk_activations.specs.declared.activation.Activation as activations
 use Rattle.cilk_activations.specs.declared.call_stack.CallStack as call_stacks
 use Rattle.cilk_serial.specs.declared.running.Running.{Running}
 use Rattle.cilk_serial.specs.declared.state.State.{State}
-use Rattle.cilk_serial.specs.Going.{HasEnded}
+use Rattle.cilk_serial.specs.Going.{HasEnded, IsLonger}
 use Rattle.cilk_serial.specs.Scoped.{kinds_of, own_of}
+use Rattle.cilk_serial.specs.SoFar.{BeginsNext}
 use Rattle.cilk_serial.specs.States.{Shows}
 use Rattle.cilk_retelling.specs.Asked.{ask_in}
 use Rattle.cilk_retelling.specs.declared.retelling.Gone.{Gone}
@@ -63,9 +65,21 @@ pub record Tells (code : CodeView) (p : Source) (inputs : List ℤ) (t : Retelli
   pub alike : AreAlike t.frames run.frames
   pub retold : Retold code p inputs run (held_of t.frames.top.cursor) (held_below t.frames)
 
+-- one event more, which begins a frame of this callee, or none, and the run goes on
+pub record TellsMore (code : CodeView) (p : Source) (inputs : List ℤ) (t : Retelling) (begun : Option Callee) (t' : Retelling) : Type 0 where
+  pub tells : Tells code p inputs t'
+  pub longer : IsLonger t.state t'.state
+  pub begins : BeginsNext p inputs t.state.events.items begun
+
+-- one event more, which is the last: the run has ended with this result
+pub record TellsLast (p : Source) (inputs : List ℤ) (t : Retelling) (v : ℤ) (t' : Retelling) : Type 0 where
+  pub ended : HasEnded p inputs t'.state v
+  pub longer : IsLonger t.state t'.state
+  pub begins : BeginsNext p inputs t.state.events.items None
+
 -- what comes of what a frame asks for: an event is made and the run goes on; nothing is changed yet; or it isn't retold any further
 abbrev pub Comes : CodeView → Source → List ℤ → Retelling → Gone → Retelling → Type 0
-Comes code p inputs t Made t' = Tells code p inputs t'
+Comes code p inputs t Made t' = TellsMore code p inputs t None t'
 Comes code p inputs t (Turns how part) t' = (t' ≡ t) × (ask_in t.asked ≡ asks.Invoke how (callees.Loop part))
 Comes code p inputs t (Ends v) t' = (t' ≡ t) × (ask_in t.asked ≡ asks.End v)
 Comes code p inputs t Departs t' = Unit {0}
@@ -75,10 +89,10 @@ abbrev pub HasRoom : State → Type 0
 HasRoom s = (m : Memory) → Shows s m → full m ≡ None
 
 -- how a frame's end goes: the one that waits goes on; none waits, and the run has left this state; or it isn't retold any further
-abbrev pub Parts : CodeView → Source → List ℤ → ℤ → Parting → Retelling → Type 0
-Parts code p inputs v GoesOn t' = Tells code p inputs t'
-Parts code p inputs v WasLast t' = HasEnded p inputs t'.state v
-Parts code p inputs v Leaves t' = Unit {0}
+abbrev pub Parts : CodeView → Source → List ℤ → Retelling → ℤ → Parting → Retelling → Type 0
+Parts code p inputs t v GoesOn t' = TellsMore code p inputs t None t'
+Parts code p inputs t v WasLast t' = TellsLast p inputs t v t'
+Parts code p inputs t v Leaves t' = Unit {0}
 
 -- what an end leaves of the store: one event more, and the frame's own reducers retired
 pub record Closes (p : Source) (t : Retelling) (s' : State) : Type 0 where

@@ -1,54 +1,117 @@
 //! What is noted of a frame that is replayed.
 
-ghost use Rattle.std.specs.Prelude.{◌≡◌, IfSome};
+ghost use Rattle.std.specs.Prelude.{◌≡◌, ◌≤◌, length, Bool, ℤ, IfOk, IfSome, MatchOption, Some};
 ghost use Rattle.cilk_frames.specs.Following.{Fits, HasAnswer, child_of, owed_for};
 ghost use Rattle.cilk_lower.specs.declared.code.Owed.TheVariants.{Word};
-ghost use Rattle.cilk_retelling.specs.Asked.{ask_in};
+ghost use Rattle.cilk_retelling.specs.Asked.{IsTooMuch, answer_of, ask_in, call_in};
 
 use cilk_frames::asked::AskSlot;
 use cilk_frames::brief::Brief;
 use cilk_frames::cursor::Answer;
 use cilk_program::ask::{Callee, FunctionCall};
+use cilk_program::given::{References, Words};
+use cilk_program::syntax::{Place, Reducer};
 use cilk_types::invocation::Invocation;
+use std::alloc::{AllocError, Global};
+use std::marker::Model;
 
-/// What a frame asked for.
+/// A call of a function, as a [`FunctionCall`] is, but in no more memory than its words and reducers take.
+#[derive(Drop)]
+pub struct Given {
+    pub function: u32,
+    pub words: Vec<i64>,
+    pub reducers: Vec<Reducer>,
+    pub result: Option<Place>,
+}
+
+/// What a frame asks for.
 #[derive(Drop)]
 pub enum Asked {
     Brief(Brief),
     /// A function is called or spawned.
-    Function(Invocation, FunctionCall),
+    Function(Invocation, Box<Given>),
 }
 
-/// What a frame is told, what it asks for then, and how many ticks are left to it.
+// A note's parts, in an order in which they fill 48 bytes: whether a word is told, and which, what is asked for, and the ticks.
+#[derive(Drop)]
+pub enum Parts {
+    Brief(bool, u32, i64, Brief),
+    Function(bool, Invocation, u32, i64, Box<Given>),
+}
+
+/// What a frame is told, what it asks for then, and how many ticks are left to it. It takes 48 bytes, and where a function is invoked
+/// what that is given.
 #[derive(Drop)]
 pub struct Note {
-    pub told: Answer,
-    pub asked: Asked,
-    pub left: u32,
+    parts: Parts,
 }
 
-impl Asked {
-    /// What is asked for in a slot.
-    pub fn of(slot: &AskSlot) -> Asked
-        ensures { ask_in result ≡ slot.now }
+impl Model for Note {
+    ghost use Rattle.cilk_retelling.specs.Asked.{NoteView, note_of};
+
+    ghost Value = { NoteView };
+
+    ghost view = { λ n. note_of n.parts };
+}
+
+impl Note {
+    /// A note of these.
+    #[inline(always)]
+    pub fn new(told: Answer, asked: Asked, left: u32) -> Note
+        ensures { result ≡ record { told = told; ask = ask_in asked; left = left } }
     {
-        match slot.brief() {
-            Some(brief) => Asked::Brief(*brief),
-            None => {
-                let (how, call) = slot.invocation();
-                Asked::Function(how, copied(call))
+        let (is_word, word) = coded(told);
+        let parts = match asked {
+            Asked::Brief(brief) => Parts::Brief(is_word, left, word, brief),
+            Asked::Function(how, given) => Parts::Function(is_word, how, left, word, given),
+        };
+        Note { parts }
+    }
+
+    /// What was told, what is asked for then, and how many ticks are left.
+    #[inline(always)]
+    pub fn into_parts(self) -> (Answer, Asked, u32)
+        ensures told { result.0 ≡ self.told }
+        ensures asks { ask_in result.1 ≡ self.ask }
+        ensures left { result.2 ≡ self.left }
+    {
+        let Note { parts } = self;
+        match parts {
+            Parts::Brief(is_word, left, word, brief) => {
+                (answer(is_word, word), Asked::Brief(brief), left)
+            }
+            Parts::Function(is_word, how, left, word, given) => {
+                (answer(is_word, word), Asked::Function(how, given), left)
             }
         }
     }
 
-    /// What the frame runs that the ask begins, if it begins one.
+    /// What the frame runs that the ask begins, if it begins one; where a function is given more than it can take, none.
     pub fn child(&self) -> Option<Callee>
-        ensures { result ≡ child_of (ask_in self.now) }
+        ensures { MatchOption result (IsTooMuch (child_of self.now.ask)) (λ callee. child_of self.now.ask ≡ Some callee) }
     {
-        match self {
-            Asked::Brief(Brief::Turns(_, part)) => Some(Callee::Loop(*part)),
-            Asked::Brief(_) => None,
-            Asked::Function(_, call) => Some(Callee::Function(copied(call))),
+        match &self.parts {
+            Parts::Brief(_, _, _, Brief::Turns(_, part)) => Some(Callee::Loop(*part)),
+            Parts::Brief(_, _, _, _) => None,
+            Parts::Function(_, _, _, _, given) => match call(given) {
+                Some(call) => Some(Callee::Function(call)),
+                None => None,
+            },
+        }
+    }
+}
+
+impl Asked {
+    /// What is asked for in a slot.
+    pub fn of(alloc: Global, slot: &AskSlot) -> Result<Asked, AllocError>
+        ensures { IfOk result (λ asked. ask_in asked ≡ slot.now) }
+    {
+        match slot.brief() {
+            Some(brief) => Ok(Asked::Brief(*brief)),
+            None => {
+                let (how, call) = slot.invocation();
+                Ok(Asked::Function(how, boxed(alloc, call)?))
+            }
         }
     }
 
@@ -67,6 +130,29 @@ impl Asked {
     }
 }
 
+// Whether an answer is a word, and which.
+#[inline(always)]
+fn coded(answer: Answer) -> (bool, i64)
+    ensures { answer_of result.0 result.1 ≡ answer }
+{
+    match answer {
+        Answer::Done => (false, 0),
+        Answer::Value(word) => (true, word),
+    }
+}
+
+// The answer.
+#[inline(always)]
+fn answer(is_word: bool, word: i64) -> Answer
+    ensures { result ≡ answer_of is_word word }
+{
+    if is_word {
+        Answer::Value(word)
+    } else {
+        Answer::Done
+    }
+}
+
 // The answer that is a word.
 fn valued(word: Option<i64>) -> Option<Answer>
     ensures { IfSome result (λ a. Fits Word a) }
@@ -77,14 +163,58 @@ fn valued(word: Option<i64>) -> Option<Answer>
     }
 }
 
-// The same call.
-fn copied(call: &FunctionCall) -> FunctionCall
-    ensures { result ≡ call.now }
+// The same call, in as much memory as it takes.
+fn boxed(alloc: Global, call: &FunctionCall) -> Result<Box<Given>, AllocError>
+    ensures { IfOk result (λ given. call_in given.value ≡ call.now) }
 {
-    FunctionCall {
+    let given = Given {
         function: call.function,
-        words: call.words.copied(),
-        reducers: call.reducers.copied(),
+        words: Vec::from_slice(alloc, call.words.as_slice())?,
+        reducers: Vec::from_slice(alloc, call.reducers.as_slice())?,
         result: call.result,
+    };
+    Ok(Box::new(alloc, given)?)
+}
+
+// The same call, if there is room for what is given.
+fn call(given: &Given) -> Option<FunctionCall>
+    ensures { MatchOption result (IsTooMuch (Some (Callee.Function (call_in given.now)))) (λ call. call ≡ call_in given.now) }
+{
+    if given.words.len() > 16 || given.reducers.len() > 16 {
+        return None;
     }
+    Some(FunctionCall {
+        function: given.function,
+        words: words(given.words.as_slice()),
+        reducers: references(given.reducers.as_slice()),
+        result: given.result,
+    })
+}
+
+// The same words.
+fn words(list: &[i64]) -> Words
+    requires { length list.now ≤ 16 }
+    ensures { result ≡ list.now }
+{
+    let mut words = Words::new();
+    let mut next = list.len();
+    'each: while next > 0 {
+        next -= 1;
+        words.put(list[next]);
+    }
+    words
+}
+
+// The same reducers.
+fn references(list: &[Reducer]) -> References
+    requires { length list.now ≤ 16 }
+    ensures { result ≡ list.now }
+{
+    let mut references = References::new();
+    let mut next = list.len();
+    'each: while next > 0 {
+        next -= 1;
+        references.put(list[next]);
+    }
+    references
 }

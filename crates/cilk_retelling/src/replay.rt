@@ -27,7 +27,7 @@ fn is_word(answer: Option<Answer>) -> bool {
 }
 
 /// What a frame asks for from its beginning on, where it is told these words: at most so many asks, up to its end, its fault or the
-/// first word that isn't there.
+/// first word that isn't there. It takes the memory of so many notes at once.
 pub fn replay(
     alloc: Global,
     code: &Code,
@@ -41,7 +41,7 @@ pub fn replay(
     ensures { IfOk result (λ notes. AreNotes code.now input.now cursor MAX_TICKS notes.items) }
 {
     let mut cursor = cursor;
-    let mut notes = Vec::new(alloc);
+    let mut notes = Vec::with_capacity(alloc, most as usize)?;
     let mut left = MAX_TICKS;
     let mut told = Some(Answer::Done);
     let mut next: u32 = 0;
@@ -49,16 +49,12 @@ pub fn replay(
     'each: for count in 0..most {
         let Some(answer) = told else { break };
         step_into(code, input, &mut cursor, answer, &mut left, &mut slot);
-        let asked = Asked::of(&slot);
+        let asked = Asked::of(alloc, &slot)?;
         told = asked.answer(words.get(next as usize).copied());
         if is_word(told) {
             next += 1;
         }
-        notes.push(Note {
-            told: answer,
-            asked,
-            left,
-        })?;
+        notes.push(Note::new(answer, asked, left))?;
     }
     Ok(notes)
 }

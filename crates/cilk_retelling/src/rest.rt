@@ -2,8 +2,7 @@
 
 ghost use Rattle.std.specs.Prelude.{◌≡◌, ◌+◌, ◌-◌, ◌≤◌, ◌∷◌, ◌↔◌, IsTrue, IfSome, List};
 ghost use Rattle.cilk_meaning.specs.Ticks.{IsWithin};
-ghost use Rattle.cilk_retelling.specs.Asked.{ask_in};
-ghost use Rattle.cilk_retelling.specs.declared.note.Note.{Note};
+ghost use Rattle.cilk_retelling.specs.Asked.{NoteView, ask_in};
 ghost use Rattle.cilk_retelling.specs.Retold.{IsTaken, held};
 ghost use Rattle.cilk_retelling.specs.Telling.{held_of};
 
@@ -49,18 +48,15 @@ fn goes_on(asked: &Asked) -> bool
 impl Rest {
     /// Takes the next note, where it was told this answer, asks for no fault, and takes no more ticks than so many. Else nothing is
     /// known of the frame any more.
+    #[inline(always)]
     pub fn take(&mut self, answer: Answer, left: u32) -> Option<Taken>
-        ensures { IfSome result (λ t. (n : Note) × (ns : List Note) × (held_of self.old ≡ held self.old.left (n ∷ ns)) × (held_of self.new ≡ held n.left ns)
-            × (n.told ≡ answer) × (n.asked ≡ t.asked) × IsTaken left self.old.left n t.left) }
+        ensures { IfSome result (λ t. (n : NoteView) × (ns : List NoteView) × (held_of self.old ≡ held self.old.left (n ∷ ns)) × (held_of self.new ≡ held n.left ns)
+            × (n.told ≡ answer) × (n.ask ≡ ask_in t.asked) × IsTaken left self.old.left n t.left) }
     {
         let Some(note) = self.notes.pop() else {
             return None;
         };
-        let Note {
-            told,
-            asked,
-            left: own,
-        } = note;
+        let (told, asked, own) = note.into_parts();
         if !same(told, answer) || !goes_on(&asked) || own > self.left {
             return None;
         }

@@ -1,6 +1,6 @@
 //! A run that is retold.
 
-ghost use Rattle.std.specs.Prelude.{◌≡◌, ◌≤◌, ℤ, List, IsTrue, IfOk, length, reverse, true};
+ghost use Rattle.std.specs.Prelude.{◌≡◌, ◌≤◌, ℤ, List, [], IsTrue, IfOk, OnOk, Some, length, reverse, true};
 ghost use Rattle.cilk_lower.specs.Behaves.{Behaves};
 ghost use Rattle.cilk_program.specs.Syntax.{Source};
 ghost use Rattle.cilk_program.specs.WellNamed.{is_well_named};
@@ -9,12 +9,9 @@ ghost use Rattle.cilk_frames.specs.AskSlot.{in_full};
 ghost use Rattle.cilk_retelling.specs.Asked.{ask_in};
 ghost use Rattle.cilk_program.specs.Sources.{source};
 ghost use Rattle.cilk_program.specs.declared.ask.Ask.TheVariants.{End, Invoke};
-ghost use Rattle.cilk_program.specs.declared.ask.Callee.{Callee};
-ghost use Rattle.cilk_serial.specs.SoFar.{BeginsNext};
 ghost use Rattle.cilk_program.specs.declared.ask.Callee.TheVariants as callees;
-ghost use Rattle.cilk_types.specs.declared.invocation.Invocation.{Invocation};
 ghost use Rattle.cilk_retelling.specs.Notes.{IsReplay};
-ghost use Rattle.cilk_retelling.specs.Telling.{Comes, HasRoom, Parts, Tells};
+ghost use Rattle.cilk_retelling.specs.Telling.{Comes, HasRoom, Parts, Tells, TellsMore};
 
 use crate::note::{Asked, Note};
 use crate::rest::{Rest, Taken};
@@ -23,7 +20,7 @@ use cilk_activations::call_stack::CallStack;
 use cilk_frames::brief::Brief;
 use cilk_frames::cursor::Answer;
 use cilk_hypermap::hypermap::Hypermap;
-use cilk_program::ask::{Callee, LoopPart};
+use cilk_program::ask::{FunctionCall, LoopPart};
 use cilk_program::program::Program;
 use cilk_serial::answer::{Told, answer};
 use cilk_serial::callee::{function_cells, turn_cells};
@@ -76,16 +73,22 @@ fn few(program: &Program)
 {}
 
 impl Retelling {
-    /// The root's frame, of which these notes are, the next one last, before it begins.
-    pub fn new(alloc: Global, program: &Program, notes: Vec<Note>) -> Result<Retelling, AllocError>
-        ensures { (code : CodeView) (inputs : List ℤ) → Behaves (source program.now) code → IsReplay code (source program.now) inputs callees.Root (reverse notes.items)
+    /// The root's frame, of which these notes are, the next one last, before it begins; with room for so many events.
+    pub fn new(
+        alloc: Global,
+        program: &Program,
+        notes: Vec<Note>,
+        events: usize,
+    ) -> Result<Retelling, AllocError>
+        ensures tells { (code : CodeView) (inputs : List ℤ) → Behaves (source program.now) code → IsReplay code (source program.now) inputs callees.Root (reverse notes.items)
             → IfOk result (Tells code (source program.now) inputs) }
+        ensures first { IfOk result (λ t. t.state.events.items ≡ []) }
     {
         let mut state = State {
             cells: Vec::from_slice(alloc, program.globals.as_slice())?,
             views: Hypermap::new(alloc),
             output: Vec::new(alloc),
-            events: Vec::new(alloc),
+            events: Vec::with_capacity(alloc, events)?,
             frames: 1,
         };
         state.extend(function_cells(program, program.main))?;
@@ -135,7 +138,7 @@ impl Retelling {
         requires room { HasRoom self.old.state }
         requires tells { (code : CodeView) × (inputs : List ℤ) × Tells code (source program.now) inputs self.old }
         ensures { (code : CodeView) (inputs : List ℤ) → Tells code (source program.now) inputs self.old
-            → IfOk result (λ parting. Parts code (source program.now) inputs value parting self.new) }
+            → IfOk result (λ parting. Parts code (source program.now) inputs self.old value parting self.new) }
     {
         self.state.make(Event::End)?;
         retire(program, &mut self.state, &self.frames.top);
@@ -165,7 +168,7 @@ impl Retelling {
         requires tells { (code : CodeView) × (inputs : List ℤ) × Tells code (source program.now) inputs self.old }
         ensures { (code : CodeView) (inputs : List ℤ) → Tells code (source program.now) inputs self.old
             → IsReplay code (source program.now) inputs (callees.Loop part) (reverse notes.items)
-            → IfOk result (λ begun. begun ≡ true → Tells code (source program.now) inputs self.new) }
+            → IfOk result (λ begun. begun ≡ true → TellsMore code (source program.now) inputs self.old (Some (callees.Loop part)) self.new) }
     {
         let cells = turn_cells(program, &part);
         if let Some(_) = crowded(&self.state, cells) {
@@ -185,23 +188,22 @@ impl Retelling {
         Ok(true)
     }
 
-    /// The frame of the function begins that the frame on top asks for, if it asks for one, and of which these notes are, the next one
-    /// last; if there may be one more frame with its cells.
+    /// The frame of a function begins, which the frame on top asks for, and of which these notes are, the next one last; if there may
+    /// be one more frame with its cells.
     pub fn begin_function(
         &mut self,
         alloc: Global,
         program: &Program,
+        how: Invocation,
+        call: &FunctionCall,
         notes: Vec<Note>,
     ) -> Result<bool, AllocError>
-        requires { (code : CodeView) × (inputs : List ℤ) × Tells code (source program.now) inputs self.old }
+        requires asked { ask_in self.old.asked ≡ Invoke how (callees.Function call.now) }
+        requires tells { (code : CodeView) × (inputs : List ℤ) × Tells code (source program.now) inputs self.old }
         ensures { (code : CodeView) (inputs : List ℤ) → Tells code (source program.now) inputs self.old
-            → ((how : Invocation) (callee : Callee) → ask_in self.old.asked ≡ Invoke how callee → IsReplay code (source program.now) inputs callee (reverse notes.items))
-            → IfOk result (λ begun. begun ≡ true → Tells code (source program.now) inputs self.new) }
+            → IsReplay code (source program.now) inputs (callees.Function call.now) (reverse notes.items)
+            → IfOk result (λ begun. begun ≡ true → TellsMore code (source program.now) inputs self.old (Some (callees.Function call.now)) self.new) }
     {
-        let Asked::Function(how, call) = &self.asked else {
-            return Ok(false);
-        };
-        let how = *how;
         let cells = function_cells(program, call.function);
         if let Some(_) = crowded(&self.state, cells) {
             return Ok(false);
@@ -231,12 +233,5 @@ impl Retelling {
             left: _left,
         } = self;
         state
-    }
-
-    /// What the frame runs that the next event begins, if it begins one: to be asked before the event is made.
-    pub fn callee(&self) -> Option<Callee>
-        ensures { (code : CodeView) (p : Source) (inputs : List ℤ) → Tells code p inputs self.now → BeginsNext p inputs self.now.state.events.items result }
-    {
-        self.asked.child()
     }
 }

@@ -2,9 +2,11 @@
 //!
 //! [`texts`] makes accepted programs from texts. [`two_threads`] forces an order of the events of two threads by messages, each of which
 //! is waited for at most ten seconds. [`written_out`] compares the runs of `cilk_thread_runs`, which are written out, with the runs of the
-//! programs' texts, and [`other_inputs`] makes them on a yard.
+//! programs' texts, and [`other_inputs`] makes them on a yard. In [`helpers`] certificates are checked by several helpers.
 #![tactic(auto)]
 
+#[cfg(test)]
+mod helpers;
 #[cfg(test)]
 mod other_inputs;
 #[cfg(test)]

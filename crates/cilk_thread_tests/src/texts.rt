@@ -21,8 +21,8 @@ pub const SQUARES: &str =
 pub const TURNS: &str =
     "int a[7]; int main() { int n = input(0); cilk_for (int i = 0; i < n; i++) { a[i] = i; } return a[6]; }";
 
-/// The program of a text on the input of a text, whose certificate is accepted.
-pub fn accepted<R: Abort>(rt: &R, alloc: Global, text: &str, numbers: &str) -> Accepted {
+/// The text of the certificate of a program's run on an input.
+pub fn certificate<R: Abort>(rt: &R, alloc: Global, text: &str, numbers: &str) -> Vec<u8> {
     let Ok(program) = program(alloc, text.as_bytes()) else {
         panic!(rt; "no program: {text}");
     };
@@ -32,9 +32,15 @@ pub fn accepted<R: Abort>(rt: &R, alloc: Global, text: &str, numbers: &str) -> A
     let Ok(certificate) = make(alloc, &program, &input) else {
         panic!(rt; "no certificate: {text}");
     };
-    let Ok(certificate) = write(alloc, &certificate) else {
-        panic!(rt; "no text of the certificate: {text}");
-    };
+    match write(alloc, &certificate) {
+        Ok(bytes) => bytes,
+        Err(_) => panic!(rt; "no text of the certificate: {text}"),
+    }
+}
+
+/// The program of a text on the input of a text, whose certificate is accepted.
+pub fn accepted<R: Abort>(rt: &R, alloc: Global, text: &str, numbers: &str) -> Accepted {
+    let certificate = certificate(rt, alloc, text, numbers);
     match check(
         alloc,
         text.as_bytes(),

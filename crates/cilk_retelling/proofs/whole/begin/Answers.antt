@@ -9,5 +9,5 @@ returns-in_ok-new-in-Root-clause-tells c =
     let code = c.args.code.now in
     let p = source c.args.program.now in
     let inputs = c.args.input.now in
-    c.in_ok-new-in-Root.ensures code inputs c.requires.behaves
+    c.in_ok-new-in-Root.ensures.tells code inputs c.requires.behaves
     (subst (λ (d : Callee). IsReplay code p inputs d (reverse c.in-Some.replay.notes.items)) c.in-Root.is c.in-Some.ensures.one)

@@ -23,21 +23,24 @@ function_cells-requires c =
     let named = well_named_parts (source p) p.well_named in
     named.main
 
-pub returns : goal.returns
-returns c = λ code inputs behaves replay.
+pub returns-clause-tells : goal.returns-clause-tells
+returns-clause-tells c = λ code inputs behaves replay.
     let prog = c.args.program.now in
     let p = source prog in
-    let s0 : State = record { cells = c.in_ok-from_slice.field-0; views = c.new.result; output = c.new-2.result; events = c.new-3.result; frames = 1 } in
+    let s0 : State = record { cells = c.in_ok-from_slice.field-0; views = c.new.result; output = c.new-2.result; events = c.in_ok-with_capacity.field-0; frames = 1 } in
     let more = c.in_ok-extend.ensures in
     let made = c.root-frame.ensures in
-    let t = c.new-4.result in
-    let top = c.new-4.ensures.top in
-    let shows = first_shows p inputs s0 c.extend.new.self c.function_cells.result (c.in_ok-from_slice.ensures.items ∙ c.as_slice.ensures) c.new.ensures c.new-2.ensures.items c.new-3.ensures.items refl more c.function_cells.ensures in
+    let t = c.new-3.result in
+    let top = c.new-3.ensures.top in
+    let shows = first_shows p inputs s0 c.extend.new.self c.function_cells.result (c.in_ok-from_slice.ensures.items ∙ c.as_slice.ensures) c.new.ensures c.new-2.ensures.items c.in_ok-with_capacity.ensures.items refl more c.function_cells.ensures in
     let many : length (map (λ (r : GlobalReducer). r.kind) prog.reducers.items) ≡ length prog.reducers.items = length-map prog.reducers.items (λ (r : GlobalReducer). r.kind) in
     let first : c.len-reducers.result + 1 ≡ suc (length (map (λ (r : GlobalReducer). r.kind) prog.reducers.items)) = omega (arith, many, c.len-reducers.ensures) in
     let scoped = root_scoped p prog.well_named inputs (with_cursor c.root-frame.result replay.cursor) made.number
     (made.base ∙ c.len-globals.ensures) made.given made.outer made.result (made.first ∙ first) made.creator in
     tells_first code p inputs (record { state = c.extend.new.self; frames = t; asked = Brief brief.Begin; left = MAX_TICKS }) (reverse c.args.notes.items) prog.well_named behaves replay shows
-    (ap (λ v. v.items) more.events ∙ c.new-3.ensures.items)
-    (subst (λ (a : Activation Rest). Scoped p (with_cursor a replay.cursor) (root_frame p inputs) []) (sym top) scoped) c.new-4.ensures.below
+    (ap (λ v. v.items) more.events ∙ c.in_ok-with_capacity.ensures.items)
+    (subst (λ (a : Activation Rest). Scoped p (with_cursor a replay.cursor) (root_frame p inputs) []) (sym top) scoped) c.new-3.ensures.below
     (ap (λ (a : Activation Rest). held_of a.cursor) top ∙ ap held_of made.cursor) refl refl
+
+pub returns-clause-first : goal.returns-clause-first
+returns-clause-first c = ap (λ v. v.items) c.in_ok-extend.ensures.events ∙ c.in_ok-with_capacity.ensures.items

@@ -1,0 +1,181 @@
+//! What a certificate lists of its frames.
+
+ghost use Rattle.std.specs.Prelude.{◌≡◌, ◌<◌, ◌+◌};
+
+use cilk_cert_text::line::{Entry, Line};
+use cilk_types::event::FrameNo;
+use cilk_types::limits::MAX_FRAMES;
+use std::alloc::{AllocError, Global};
+
+/// What is listed of a frame.
+#[derive(Clone, Copy, Debug)]
+pub struct FrameHint {
+    /// Where its words begin among those of all frames, and how many they are.
+    pub first: u32,
+    pub words: u32,
+    /// How many events it has after its `begin`.
+    pub events: u32,
+    /// Its first child, and its parent's next child after it.
+    pub child: Option<FrameNo>,
+    pub sibling: Option<FrameNo>,
+}
+
+impl FrameHint {
+    /// A frame of which nothing is listed.
+    pub const EMPTY: FrameHint = FrameHint {
+        first: 0,
+        words: 0,
+        events: 0,
+        child: None,
+        sibling: None,
+    };
+}
+
+/// What is listed of the frames of a run: the words that they are told, those of each frame one after the other, and each frame at its
+/// number less 1. 28 bytes a frame, and 8 a word.
+#[derive(Drop)]
+pub struct Hints {
+    pub words: Vec<i64>,
+    pub frames: Vec<FrameHint>,
+}
+
+/// A frame's place in a list of all frames, which count from 1. For 0 it is a place that no list has.
+pub fn place_of(number: FrameNo) -> usize
+    ensures { 0 < number → result + 1 ≡ number }
+{
+    number.wrapping_sub(1) as usize
+}
+
+// A word, and the frame that is told it.
+#[derive(Clone, Copy)]
+struct Told {
+    frame: FrameNo,
+    word: i64,
+}
+
+// A frame that has begun and not ended, and the last of its children so far.
+#[derive(Clone, Copy)]
+struct Open {
+    frame: FrameNo,
+    last: Option<FrameNo>,
+}
+
+/// What is listed so far. The innermost frame that is open is the last one.
+#[derive(Drop)]
+pub struct Listing {
+    told: Vec<Told>,
+    frames: Vec<FrameHint>,
+    open: Vec<Open>,
+}
+
+impl Listing {
+    /// Nothing is listed yet.
+    pub fn new(alloc: Global) -> Listing {
+        Listing {
+            told: Vec::new(alloc),
+            frames: Vec::new(alloc),
+            open: Vec::new(alloc),
+        }
+    }
+
+    /// Takes a line, and says whether it fits the lines before.
+    pub fn meet(&mut self, line: Line) -> Result<bool, AllocError> {
+        let Line::Event(entry) = line else {
+            return Ok(true);
+        };
+        match entry {
+            Entry::Begin { frame } => self.begin(frame),
+            Entry::Read { value, .. } => self.tell(value),
+            Entry::Value { value, .. } => self.tell(value),
+            Entry::End => {
+                let fits = self.count(0);
+                self.open.pop();
+                Ok(fits)
+            }
+            _ => Ok(self.count(0)),
+        }
+    }
+
+    // The next frame begins, inside the innermost open one.
+    fn begin(&mut self, frame: FrameNo) -> Result<bool, AllocError> {
+        if frame > MAX_FRAMES || place_of(frame) != self.frames.len() {
+            return Ok(false);
+        }
+        if frame > 1 && !self.link(frame) {
+            return Ok(false);
+        }
+        self.frames.push(FrameHint::EMPTY)?;
+        self.open.push(Open { frame, last: None })?;
+        Ok(true)
+    }
+
+    // The innermost open frame has one more child, if one is open.
+    fn link(&mut self, child: FrameNo) -> bool {
+        let Some(parent) = self.open.last_mut() else {
+            return false;
+        };
+        match parent.last {
+            Some(last) => {
+                if let Some(hint) = self.frames.get_mut(place_of(last)) {
+                    hint.sibling = Some(child);
+                }
+            }
+            None => {
+                if let Some(hint) = self.frames.get_mut(place_of(parent.frame)) {
+                    hint.child = Some(child);
+                }
+            }
+        }
+        parent.last = Some(child);
+        true
+    }
+
+    // The innermost open frame is told a word.
+    fn tell(&mut self, word: i64) -> Result<bool, AllocError> {
+        if let Some(open) = self.open.last() {
+            self.told.push(Told {
+                frame: open.frame,
+                word,
+            })?;
+        }
+        Ok(self.count(1))
+    }
+
+    // The innermost open frame, if one is open, has one more event, and is told so many more words.
+    fn count(&mut self, words: u32) -> bool {
+        let Some(open) = self.open.last() else {
+            return false;
+        };
+        if let Some(hint) = self.frames.get_mut(place_of(open.frame)) {
+            hint.events = hint.events.saturating_add(1);
+            hint.words = hint.words.saturating_add(words);
+        }
+        true
+    }
+
+    /// Parts the words by frame.
+    pub fn parted(self, alloc: Global) -> Result<Hints, AllocError> {
+        let Listing {
+            told,
+            mut frames,
+            ..
+        } = self;
+        let mut first: u32 = 0;
+        for hint in frames.iter_mut() {
+            hint.first = first;
+            first = first.saturating_add(hint.words);
+            hint.words = 0;
+        }
+        let mut words = vec![in alloc; 0i64; told.len()]?;
+        for one in &told {
+            if let Some(hint) = frames.get_mut(place_of(one.frame)) {
+                let place = hint.first.saturating_add(hint.words);
+                if let Some(word) = words.get_mut(place as usize) {
+                    *word = one.word;
+                }
+                hint.words = hint.words.saturating_add(1);
+            }
+        }
+        Ok(Hints { words, frames })
+    }
+}
