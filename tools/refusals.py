@@ -1,10 +1,10 @@
 #!/usr/bin/env python3
-"""docs/REFUSALS.md and `cilk explain` say the same of each number.
+"""docs/REFUSALS.md and `cilk explain` say the same of each number, in a row of a table or in an item of a list.
 
-refusals.py            compares the rows of docs/REFUSALS.md with crates/cilk_explain; where the program is built (./cilk, or CILK),
+refusals.py            compares these of docs/REFUSALS.md with crates/cilk_explain; where the program is built (./cilk, or CILK),
                        each example that is a whole program is run, and has to be answered by its line; and the forms of docs/EDITORS.md
                        have to match what `--explain` writes
-refusals.py --write    writes the rows anew from the crate
+refusals.py --write    writes the rows and items anew from the crate
 
 Its status is 0 where all agrees.
 """
@@ -14,6 +14,7 @@ import re
 import subprocess
 import sys
 import tempfile
+import textwrap
 
 TOP = os.path.dirname(os.path.dirname(os.path.realpath(__file__)))
 DOCUMENT = f"{TOP}/docs/REFUSALS.md"
@@ -24,6 +25,7 @@ REASON = re.compile(
     rf"example: Example::(\w+)\(\s*{TEXT},?\s*\),\s*place: {TEXT},\s*cure: {TEXT},\s*\}}"
 )
 ROW = re.compile(r"\| `(?:program|input|fault|refused) (\d+)(?!\d| in )[^`]*` \| .* \| .* \|$")
+ITEM = re.compile(r"- `(?:program|input|fault|refused) (\d+)(?!\d| in )[^`]*`, by ")
 
 
 def unescaped(text):
@@ -42,20 +44,28 @@ def reasons():
     return found
 
 
-def row(reason):
-    line, kind, example, place = reason
-    return f"| `{line}` | {f'`{example}`' if kind == 'Program' else example} | {place} |"
+def row(line, example, place):
+    return [f"| `{line}` | {example} | {place} |"]
+
+
+def item(line, example, place):
+    text = f"- `{line}`, by {example}: {place}"
+    return textwrap.wrap(text, 130, subsequent_indent="  ", break_long_words=False, break_on_hyphens=False)
 
 
 def rewritten(document, known):
-    """The document with each row as the crate has it, and the numbers of its rows."""
-    lines, numbers = [], []
+    """The document with each row and item as the crate has it, and their numbers."""
+    lines, numbers, within = [], [], False
     for line in document.split("\n"):
-        found = ROW.match(line)
-        if found:
-            numbers.append(int(found[1]))
-            line = row(known[int(found[1])]) if int(found[1]) in known else line
-        lines.append(line)
+        found = ROW.match(line) or ITEM.match(line)
+        if found and int(found[1]) in known:
+            number, within = int(found[1]), line.startswith("-")
+            shown, kind, example, place = known[number]
+            numbers.append(number)
+            lines += (item if within else row)(shown, f"`{example}`" if kind == "Program" else example, place)
+        elif not (within and line.startswith("  ")):
+            within = False
+            lines.append(line)
     return "\n".join(lines), numbers
 
 

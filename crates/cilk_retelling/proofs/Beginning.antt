@@ -1,5 +1,10 @@
 -- A frame begins in a run that is retold.
-use Rattle.std.proofs.Common.{◌≡◌, ℕ, suc, ◌+◌, ◌<◌, ◌≤◌, ℤ, List, [], ◌∷◌, ◌++◌, length, map, reverse, Option, Some, None, refl, sym, ap, ◌∙◌, subst, arith}
+--
+-- - `alike_with`: an activation that has a run's cursor;
+-- - `allowed`, `fits`, `may`, `few`: there is room for the frame, what it runs is there, and it can be numbered;
+-- - `tells_begin`: the run goes on in it; `as_many`: where its parent stands;
+-- - `tells_first`: the root's frame.
+use Rattle.std.proofs.Common.{◌≡◌, suc, ◌<◌, ◌≤◌, ℤ, List, [], ◌∷◌, ◌++◌, length, map, reverse, Some, None, refl, sym, ap, ◌∙◌, subst, arith}
 use Rattle.std.specs.Prelude.{IsTrue}
 use Rattle.std.proofs.lemmas.List.{length-reverse}
 use Rattle.cilk_types.specs.declared.invocation.Invocation.{Invocation}

@@ -1,6 +1,6 @@
 -- A serial run is retold, event by event: `retold_inner`, an event after which the frame goes on; `retold_child`, a frame that begins;
 -- `retold_return`, one that ends above another; `retold_end`, the first frame's end; `runs_are_retold`, the law.
-use Rattle.std.proofs.Common.{◌≡◌, ℕ, ◌+◌, ◌-◌, ◌≤◌, ℤ, List, [], ◌∷◌, ◌++◌, sym, ap, ◌∙◌, subst, arith}
+use Rattle.std.proofs.Common.{◌≡◌, ℕ, ◌+◌, ◌-◌, ◌≤◌, ℤ, List, [], ◌∷◌, sym, ap, ◌∙◌, subst, arith}
 use Rattle.std.specs.Prelude.{IsTrue}
 use Rattle.cilk_types.specs.declared.invocation.Invocation.{Invocation}
 use Rattle.cilk_types.specs.declared.limits.TheConstants.{MAX_TICKS}

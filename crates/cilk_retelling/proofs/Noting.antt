@@ -1,12 +1,16 @@
 -- Notes that are made one after the other.
+--
+-- - `Goes`, `are_notes`, `goes_on`: a frame goes from one cursor to another, and one ask further;
+-- - `answered`, `of_some`: an answer that there is brings what the frame is owed.
 use Rattle.std.proofs.Common.{◌≡◌, ℕ, ◌-◌, ℤ, List, [], ◌∷◌, ◌++◌, Option, Some, None, IfSome, refl, sym, subst}
 use Rattle.cilk_program.specs.declared.ask.Ask.{Ask}
+use Rattle.cilk_program.specs.declared.ask.Ask.TheVariants as asks
 use Rattle.cilk_lower.specs.declared.code.Owed.{Owed}
 use Rattle.cilk_lower.specs.Code.{CodeView}
 use Rattle.cilk_frames.specs.declared.cursor.Answer.{Answer}
 use Rattle.cilk_frames.specs.Cursor.{CursorView}
 use Rattle.cilk_frames.specs.Following.{Fits, HasAnswer, Runs, Steps, owed_for, rest, word_in}
-use Rattle.cilk_retelling.specs.Asked.{NoteView}
+use Rattle.cilk_retelling.specs.Asked.{NoteView, answer_with}
 use Rattle.cilk_retelling.specs.Notes.{AreNotes}
 
 -- the frame goes so from one cursor to another
@@ -31,11 +35,35 @@ runs_on : (code : CodeView) (inputs : List ℤ) (c : CursorView) (told : Answer)
     → Steps code inputs c told left k d left' → Runs code inputs c → HasAnswer k → Runs code inputs d
 runs_on code inputs c told left k d left' step runs has = (rest runs.0 (word_in told) (left - left'), step.follows runs.0 runs.1 has)
 
-pub answered : (code : CodeView) (inputs : List ℤ) (c : CursorView) (told : Answer) (left : ℕ) (k : Ask) (d : CursorView) (left' : ℕ) (next : Option Answer)
+-- what an answer brings is owed
+fits : (k : Ask) (word : Option ℤ) → IfSome (answer_with k word) (λ a. HasAnswer k × Fits (owed_for k) a)
+fits asks.Begin word = (tt, tt)
+fits (asks.Read x) None = tt
+fits (asks.Read x) (Some w) = (tt, tt)
+fits (asks.Write x v) word = (tt, tt)
+fits (asks.Create r) word = (tt, tt)
+fits (asks.Update r v) word = (tt, tt)
+fits (asks.Set r v) word = (tt, tt)
+fits (asks.Value r) None = tt
+fits (asks.Value r) (Some w) = (tt, tt)
+fits (asks.Print v) word = (tt, tt)
+fits (asks.Invoke how callee) word = (tt, tt)
+fits asks.Resume word = (tt, tt)
+fits asks.Sync word = (tt, tt)
+fits (asks.Result v) word = (tt, tt)
+fits (asks.End v) word = tt
+fits (asks.Fault f) word = tt
+
+goes_with : (code : CodeView) (inputs : List ℤ) (c : CursorView) (told : Answer) (left : ℕ) (k : Ask) (d : CursorView) (left' : ℕ) (next : Option Answer)
     → Steps code inputs c told left k d left' → Runs code inputs c → IfSome next (λ a. HasAnswer k × Fits (owed_for k) a) → IfSome next (λ a. Runs code inputs d × Fits d.owed a)
-answered code inputs c told left k d left' None step runs h = tt
-answered code inputs c told left k d left' (Some a) step runs h =
+goes_with code inputs c told left k d left' None step runs h = tt
+goes_with code inputs c told left k d left' (Some a) step runs h =
     (runs_on code inputs c told left k d left' step runs h.0, subst (λ (o : Owed). Fits o a) (sym (step.owes h.0)) h.1)
+
+pub answered : (code : CodeView) (inputs : List ℤ) (c : CursorView) (told : Answer) (left : ℕ) (k : Ask) (d : CursorView) (left' : ℕ) (next : Option Answer) (word : Option ℤ)
+    → Steps code inputs c told left k d left' → Runs code inputs c → next ≡ answer_with k word → IfSome next (λ a. Runs code inputs d × Fits d.owed a)
+answered code inputs c told left k d left' next word step runs is =
+    goes_with code inputs c told left k d left' next step runs (subst (λ (o : Option Answer). IfSome o (λ a. HasAnswer k × Fits (owed_for k) a)) (sym is) (fits k word))
 
 -- what holds of the next answer holds of the one that is there
 pub of_some : (P : Answer → Type 0) (next : Option Answer) (a : Answer) → next ≡ Some a → IfSome next P → P a

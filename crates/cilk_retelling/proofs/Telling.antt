@@ -3,6 +3,7 @@
 -- - `tells_there`: what the frame on top sees, and that what it asks for is there;
 -- - `tells_begins`: what the next event begins;
 -- - `tells_inner`: an event after which the frame goes on;
+-- - `dressed`: the frames with the cursors of a run;
 -- - `tells_last`, `tells_return`: a frame ends.
 use Rattle.std.proofs.Common.{◌≡◌, ℕ, ◌+◌, ◌-◌, ◌<◌, ◌≤◌, ℤ, List, [], ◌∷◌, ◌++◌, length, map, reverse, Option, None, refl, sym, ap, ◌∙◌, subst}
 use Rattle.std.specs.Prelude.{IsTrue, Vec}
@@ -16,18 +17,17 @@ use Rattle.cilk_types.specs.declared.limits.TheConstants.{MAX_CELLS}
 use Rattle.cilk_program.specs.declared.ask.Ask.{Ask}
 use Rattle.cilk_program.specs.declared.ask.Callee.{Callee}
 use Rattle.cilk_program.specs.Syntax.{Source}
-use Rattle.cilk_program.specs.SerialRun.{Frame, IsInner, Memory, event_of, full, refused}
+use Rattle.cilk_program.specs.SerialRun.{Frame, IsInner, event_of, refused}
 use Rattle.cilk_program.specs.WellNamed.{is_well_named}
 use Rattle.cilk_lower.specs.Code.{CodeView}
 use Rattle.cilk_activations.specs.declared.activation.Activation as activations
 use Rattle.cilk_activations.specs.declared.call_stack.CallStack.{CallStack}
 use Rattle.cilk_frames.specs.declared.cursor.Answer.{Answer}
 use Rattle.cilk_frames.specs.declared.cursor.Answer.TheVariants.{Done}
-use Rattle.cilk_frames.specs.Cursor.{CursorView}
 use Rattle.cilk_frames.specs.Following.{child_of}
 use Rattle.cilk_serial.specs.declared.state.State.{State}
-use Rattle.cilk_serial.specs.Going.{IsAllowed, HasEnded}
-use Rattle.cilk_serial.specs.Scoped.{Activation, Frames, IsCreator, IsOnTop, IsThere, kinds_of, own_of, waiting}
+use Rattle.cilk_serial.specs.Going.{IsAllowed}
+use Rattle.cilk_serial.specs.Scoped.{Activation, Frames, IsOnTop, IsThere, kinds_of, own_of, waiting}
 use Rattle.cilk_serial.specs.States.{Answers, Shows}
 use Rattle.cilk_serial.proofs.Driving.{allowed_inner, going_seen, going_there}
 use Rattle.cilk_serial.specs.SoFar.{BeginsNext}
@@ -210,9 +210,3 @@ tells_return code p inputs t s' v f' rest' taken x room is c split took =
       longer = (events.End, c.events);
       begins = ends_none code p inputs t v x is;
     }
-
--- whose reducers the frame that runs has created
-pub creator_there : (code : CodeView) (p : Source) (inputs : List ℤ) (t : Retelling) → Tells code p inputs t → IsCreator p t.frames.top.creator × (t.frames.top.first < 65536)
-creator_there code p inputs t x =
-    let s = x.retold.going.scoped in
-    (subst (λ (o : Option ℕ). IsCreator p o) (sym x.alike.top.creator) s.creator, subst (λ (k : ℕ). k < 65536) (sym x.alike.top.first) s.low)

@@ -1,15 +1,8 @@
--- A step with fewer ticks: what a frame asks for with some to spare it asks for without them.
-use Rattle.std.proofs.Common.{◌≡◌, ℕ, ◌+◌, ◌-◌, ◌≤◌, ℤ, List, [], ◌∷◌, ◌++◌, sym, ap, ◌∙◌, subst, arith}
-use Rattle.cilk_program.specs.declared.ask.Ask.{Ask}
-use Rattle.cilk_program.specs.declared.ask.Callee.{Callee}
-use Rattle.cilk_program.specs.Behaviour.{asks_for, frame_asks}
-use Rattle.cilk_program.specs.Syntax.{Source}
-use Rattle.cilk_lower.specs.Code.{CodeView}
-use Rattle.cilk_meaning.specs.Ticks.{IsWithin}
+-- `within`: a step with fewer ticks. What a frame asks for with some to spare it asks for without them.
+use Rattle.std.proofs.Common.{◌≡◌, ◌+◌, ◌-◌, ◌≤◌, [], ◌∷◌, ◌++◌, sym, ap, ◌∙◌, subst, arith}
+use Rattle.cilk_program.specs.Behaviour.{frame_asks}
 use Rattle.cilk_meaning.proofs.Ticking.{runs_short}
-use Rattle.cilk_frames.specs.declared.cursor.Answer.{Answer}
-use Rattle.cilk_frames.specs.Cursor.{CursorView}
-use Rattle.cilk_frames.specs.Following.{GoesOn, Stands, Steps, word_in}
+use Rattle.cilk_frames.specs.Following.{Stands, word_in}
 use Rattle.cilk_frames.proofs.Following.{stands_on}
 use Rattle.cilk_retelling.specs.Notes.{NotesAreWithinFewerTicks}
 

@@ -1,5 +1,5 @@
 -- What a note keeps.
-use Rattle.std.specs.Prelude.{ℕ, ℤ, ◌≤◌, Bool, true, false, length, Option, Some, None}
+use Rattle.std.specs.Prelude.{ℕ, ℤ, ◌≤◌, Bool, true, false, length, Option, Some, None, option_map}
 use Rattle.cilk_program.specs.declared.ask.Ask.{Ask}
 use Rattle.cilk_program.specs.declared.ask.Ask.TheVariants as asks
 use Rattle.cilk_program.specs.declared.ask.Callee.{Callee}
@@ -44,3 +44,20 @@ IsTooMuch None = Unit {0}
 IsTooMuch (Some callees.Root) = ⊥
 IsTooMuch (Some (callees.Function call)) = (length call.words ≤ 16) × (length call.reducers ≤ 16) → ⊥
 IsTooMuch (Some (callees.Loop part)) = ⊥
+
+-- the answer to an ask, if it has one, and if the word is there that it brings
+abbrev pub answer_with : Ask → Option ℤ → Option Answer
+answer_with asks.Begin word = Some Done
+answer_with (asks.Read x) word = option_map (λ w. Value w) word
+answer_with (asks.Write x v) word = Some Done
+answer_with (asks.Create r) word = Some Done
+answer_with (asks.Update r v) word = Some Done
+answer_with (asks.Set r v) word = Some Done
+answer_with (asks.Value r) word = option_map (λ w. Value w) word
+answer_with (asks.Print v) word = Some Done
+answer_with (asks.Invoke how callee) word = Some Done
+answer_with asks.Resume word = Some Done
+answer_with asks.Sync word = Some Done
+answer_with (asks.Result v) word = Some Done
+answer_with (asks.End v) word = None
+answer_with (asks.Fault f) word = None

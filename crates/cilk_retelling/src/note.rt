@@ -1,9 +1,9 @@
 //! What is noted of a frame that is replayed.
 
-ghost use Rattle.std.specs.Prelude.{◌≡◌, ◌≤◌, length, Bool, ℤ, IfOk, IfSome, MatchOption, Some};
-ghost use Rattle.cilk_frames.specs.Following.{Fits, HasAnswer, child_of, owed_for};
-ghost use Rattle.cilk_lower.specs.declared.code.Owed.TheVariants.{Word};
-ghost use Rattle.cilk_retelling.specs.Asked.{IsTooMuch, answer_of, ask_in, call_in};
+ghost use Rattle.std.specs.Prelude.{◌≡◌, ◌≤◌, length, IfOk, MatchOption, Some, option_map};
+ghost use Rattle.cilk_frames.specs.Following.{child_of};
+ghost use Rattle.cilk_frames.specs.declared.cursor.Answer.TheVariants.{Value};
+ghost use Rattle.cilk_retelling.specs.Asked.{IsTooMuch, answer_of, answer_with, ask_in, call_in};
 
 use cilk_frames::asked::AskSlot;
 use cilk_frames::brief::Brief;
@@ -115,9 +115,9 @@ impl Asked {
         }
     }
 
-    /// The answer to an ask, where it has one, and where the word is there for one that is owed a word.
+    /// The answer to an ask, if it has one, and if the word is there that it brings.
     pub fn answer(&self, word: Option<i64>) -> Option<Answer>
-        ensures { IfSome result (λ a. HasAnswer (ask_in self.now) × Fits (owed_for (ask_in self.now)) a) }
+        ensures { result ≡ answer_with (ask_in self.now) word }
     {
         match self {
             Asked::Brief(Brief::Read(_)) => valued(word),
@@ -155,7 +155,7 @@ fn answer(is_word: bool, word: i64) -> Answer
 
 // The answer that is a word.
 fn valued(word: Option<i64>) -> Option<Answer>
-    ensures { IfSome result (λ a. Fits Word a) }
+    ensures { result ≡ option_map (λ w. Value w) word }
 {
     match word {
         Some(word) => Some(Answer::Value(word)),

@@ -1,4 +1,4 @@
-use Rattle.std.proofs.Common.{◌≡◌, ◌++◌, ◌∷◌, [], List, sym, ap, ◌∙◌, subst, arith}
+use Rattle.std.proofs.Common.{◌++◌, ◌∷◌, [], List, sym, ap, ◌∙◌, subst, arith}
 use Rattle.cilk_types.specs.declared.limits.TheConstants.{MAX_TICKS}
 use Rattle.cilk_program.specs.declared.ask.Ask.{Ask}
 use Rattle.cilk_frames.specs.Following.{Fits, Runs, Steps}
@@ -22,7 +22,7 @@ each-preserved c =
       goes = subst (λ (ns : List NoteView). Goes code inputs c.args.cursor MAX_TICKS ns made.cursor made.left)
           (sym (c.in_ok-push.ensures.items ∙ ap (λ (n : NoteView). c.each.notes.items ++ n ∷ []) c.new.ensures))
           (goes_on code inputs c.args.cursor MAX_TICKS c.each.notes.items c.each.cursor c.each.left note made.cursor inv.goes step);
-      runs = answered code inputs c.each.cursor c.in-Some.answer c.each.left ask made.cursor made.left c.answer-told.result step now.0 c.answer-told.ensures;
+      runs = answered code inputs c.each.cursor c.in-Some.answer c.each.left ask made.cursor made.left c.answer-told.result _ step now.0 c.answer-told.ensures;
       few = elim c.if-is_word.branch [
         | then-is_word w ↦ omega (arith, w.next-is, inv.few)
         | else-is_word w ↦ omega (arith, w.next-is, inv.few)

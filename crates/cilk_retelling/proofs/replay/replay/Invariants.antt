@@ -1,4 +1,4 @@
-use Rattle.std.proofs.Common.{◌≡◌, ◌≤◌, IfSome}
+use Rattle.std.proofs.Common.{◌≤◌, IfSome}
 use Rattle.cilk_types.specs.declared.limits.TheConstants.{MAX_TICKS}
 use Rattle.cilk_frames.specs.Following.{Fits, Runs}
 use Rattle.cilk_retelling.proofs.Noting.{Goes}

@@ -1,4 +1,4 @@
-use Rattle.std.proofs.Common.{◌≡◌, IfOk, sym, ap, ◌∙◌, subst, w64, SFits, rules}
+use Rattle.std.proofs.Common.{IfOk, sym, ap, ◌∙◌, subst, w64, SFits, rules}
 use Rattle.std.proofs.lemmas.Int.{to_z-of_z}
 use Rattle.cilk_program.specs.Sources.{source}
 use Rattle.cilk_program.specs.declared.ask.Ask.TheVariants.{End}

@@ -1,4 +1,4 @@
-use Rattle.std.proofs.Common.{◌≡◌, ℕ, ◌+◌, ◌-◌, ◌≤◌, ◌∷◌, ◌++◌, [], List, sym, ap, ◌∙◌, subst, reverse, arith}
+use Rattle.std.proofs.Common.{◌≡◌, ℕ, ◌≤◌, ◌∷◌, ◌++◌, [], List, sym, ap, ◌∙◌, subst, reverse, arith}
 use Rattle.cilk_program.specs.declared.ask.Ask.{Ask}
 use Rattle.cilk_meaning.specs.Ticks.{IsWithin}
 use Rattle.std.proofs.lemmas.List.{reverse-append}

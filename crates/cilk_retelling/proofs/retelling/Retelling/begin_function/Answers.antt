@@ -1,6 +1,6 @@
 use Rattle.std.proofs.Common.{◌≡◌, ℕ, suc, ◌+◌, List, ◌∷◌, length, reverse, sym, ap, ◌∙◌, subst, arith, rules}
 use Rattle.cilk_program.specs.Sources.{source}
-use Rattle.cilk_program.specs.SerialRun.{cells_of, crowded}
+use Rattle.cilk_program.specs.SerialRun.{cells_of}
 use Rattle.cilk_program.specs.declared.ask.Callee.TheVariants.{Function}
 use Rattle.cilk_activations.specs.Sight.{HasScope}
 use Rattle.cilk_activations.specs.declared.activation.Activation as activations
