@@ -2,7 +2,7 @@
 use Rattle.std.specs.Prelude.{◌≡◌, ◌<◌, ◌&&◌, ℕ, Bool, true, false, not, List, [], ◌∷◌, length, Option, Some, None, codes}
 use Rattle.std.specs.Str.{bytes_eq}
 use Rattle.cilk_measured.specs.Words.{is_help, is_measure}
-use Rattle.cilk_report.specs.Explained.{ComesBehind, Measures, Schedules, ServesExplained, ServesThenExplains, is_about, is_schedule, unflagged, words_of_check}
+use Rattle.cilk_report.specs.Explained.{Follows, Measures, Schedules, ServesExplained, ServesThenExplains, is_about, is_schedule, unflagged, words_of_check}
 use Rattle.cilk_tool.specs.Files.{Failures}
 use Rattle.cilk_tool.specs.Replies.{Reply, Text}
 use Rattle.cilk_tool.specs.Serving.{JudgedReply, Shows, Surroundings, WordsFail, world}
@@ -30,7 +30,7 @@ abbrev pub ThreadsThenExplains : List Text → (Text → Option Text) → Option
     → Option Text → Option Text → Option Text → Option Text → Type 0
 ThreadsThenExplains words files input failed failed' status out out' err err' =
     (middle : Option Text) × (told : Bool) × ServesThreads words (world files input failed failed') status told out out' err middle
-    × ComesBehind middle err'
+    × Follows status middle err'
 
 -- What comes of the words of `threads`.
 pub data IsThreadsReply (words : List Text) (files : Text → Option Text) (input : Option Text) (failed failed' : Failures)

@@ -7,6 +7,7 @@ use Rattle.cilk_tool.specs.Files.{Failures}
 use Rattle.cilk_tool.specs.Replies.{Ended, NoMemory, Refused, Reply, Text, line, status_of}
 use Rattle.cilk_tool.specs.Serving.{Answers, RunReply, Serves, ShowsError, WordsFail, world}
 use Rattle.cilk_tool.specs.Streams.{AppendsFront, AppendsPart}
+use Rattle.cilk_tool.specs.declared.reply.TheConstants.{NO_MEMORY}
 use Rattle.cilk_words.specs.Words.{Origin, order_in}
 use Rattle.cilk_measured.specs.Measured.{AreTotalsOf, IsMeasureText}
 use Rattle.cilk_measured.specs.Words.{behind_first, is_help as asks_help, is_measure, measured_run}
@@ -70,6 +71,10 @@ IsAskedFor words (answers.Wrong text) = is_about words ≡ true
 abbrev pub ComesBehind : Option Text → Option Text → Type 0
 ComesBehind old new = (text : Text) × (is_whole : Bool) × AppendsFront is_whole old new text
 
+-- some text comes behind what was shown with a status, but none behind a want of memory
+abbrev pub Follows : ℕ → Option Text → Option Text → Type 0
+Follows status old new = ComesBehind old new × (status ≡ NO_MEMORY → new ≡ old)
+
 -- the text goes to standard output with status 0; or a write there fails, and standard error says so
 abbrev pub WritesText : Text → ℕ → Option Text → Option Text → Option Text → Option Text → Type 0
 WritesText text status out out' err err' =
@@ -80,12 +85,12 @@ WritesText text status out out' err err' =
 abbrev pub WritesAbout : ℕ → Option Text → Option Text → Option Text → Option Text → Type 0
 WritesAbout status out out' err err' = (text : Text) × WritesText text status out out' err err'
 
--- what `serve` does with these words, and a text on standard error behind it
+-- what `serve` does with these words, by reads of files that are all of the call's, and a text on standard error behind it
 abbrev pub ServesThenExplains : List Text → (Text → Option Text) → Option Text → Failures → Failures → ℕ
     → Option Text → Option Text → Option Text → Option Text → Type 0
 ServesThenExplains words files input failed failed' status out out' err err' =
     (middle : Option Text) × (told : Bool) × Serves words (world files input failed failed') status told out out' err middle
-    × ComesBehind middle err'
+    × Follows status middle err'
 
 -- a reply that isn't what a run left
 abbrev pub IsNoOutcome : Reply → Type 0
@@ -95,7 +100,7 @@ IsNoOutcome _ = Unit {0}
 -- a reply goes to standard error with its status, and a text behind it; nothing goes to standard output
 abbrev pub Complains : Reply → ℕ → Option Text → Option Text → Option Text → Option Text → Type 0
 Complains r status out out' err err' =
-    (out' ≡ out) × (status ≡ status_of r) × (middle : Option Text) × (told : Bool) × ShowsError r told err middle × ComesBehind middle err'
+    (out' ≡ out) × (status ≡ status_of r) × (middle : Option Text) × (told : Bool) × ShowsError r told err middle × Follows status middle err'
 
 -- What comes of words that measure a run.
 pub data Measures (words : List Text) (files : Text → Option Text) (input : Option Text) (failed failed' : Failures)

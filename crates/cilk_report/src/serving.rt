@@ -1,7 +1,7 @@
 //! From words to a reply that is shown, and explained where the words ask for that.
 
 ghost use Rattle.std.specs.Prelude.{◌≡◌, ◌<◌, None, Some, false, length, option_map, true};
-ghost use Rattle.cilk_report.specs.Explained.{ComesBehind, Measures, Schedules, ServesExplained, ServesThenExplains, WritesText, is_about, is_schedule, unflagged, words_of_check};
+ghost use Rattle.cilk_report.specs.Explained.{ComesBehind, Follows, Measures, Schedules, ServesExplained, ServesThenExplains, WritesText, is_about, is_schedule, unflagged, words_of_check};
 ghost use Rattle.cilk_measured.specs.Words.{is_measure, measured_run, words_of_run};
 ghost use Rattle.cilk_tool.specs.Replies.{failure_view};
 ghost use Rattle.cilk_tool.specs.Serving.{WordsFail};
@@ -306,15 +306,24 @@ fn why(
 /// Writes an explanation behind what was shown, or why there is none: where all of that went out, and was no want of memory.
 pub fn follow<E: Write>(served: Served, text: Result<String, CaseFault>, err: &mut E) -> u8
     ensures status { result ≡ served.status }
-    ensures follows { ComesBehind (E.contents err.old) (E.contents err.new) }
+    ensures follows { Follows result (E.contents err.old) (E.contents err.new) }
 {
-    if served.told && served.status != NO_MEMORY {
-        let _ = match text {
-            Ok(text) => tell(err, text.as_bytes()),
-            Err(fault) => tell(err, missing(fault).as_bytes()),
-        };
+    if served.told {
+        if served.status != NO_MEMORY {
+            explain(text, err);
+        }
     }
     served.status
+}
+
+/// Writes an explanation, or why there is none.
+fn explain<E: Write>(text: Result<String, CaseFault>, err: &mut E)
+    ensures { ComesBehind (E.contents err.old) (E.contents err.new) }
+{
+    let _ = match text {
+        Ok(text) => tell(err, text.as_bytes()),
+        Err(fault) => tell(err, missing(fault).as_bytes()),
+    };
 }
 
 // The line of an explanation that can't be made.
