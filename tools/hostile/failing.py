@@ -12,7 +12,10 @@ OUT_WAYS = ("short", "whole", "zero")
 
 
 def refusals(room, found, words, wanted, again, setting="FAIL_ALLOC", which=0, short=None):
-    """Refuses each allocation, or each thread, in turn, until a run meets no refusal. `short` is the answer without its explanation."""
+    """Refuses each allocation, or each thread, in turn, until a run meets no refusal.
+
+    `short` is what else may be answered: the answer, and that memory is refused for its explanation.
+    """
     n, met, stopped = 0, 0, 0
     while met >= n:
         n += 1

@@ -56,7 +56,11 @@ WRONG = [
         "memory: schedule one",
         'if status == 5: status, out, err = 4, b"refused 311 7 10\\n", b"hint: no script of two workers shows this\\n"',
     ),
-    ("a table is cut short for want of memory", "memory: measure", 'if status == 5: status, out, err = 0, b"events 1\\n", b""'),
+    (
+        "a table is cut short for want of memory",
+        "memory: measure",
+        'if status == 5: status, out, err = 0, b"events 1\\n", b""',
+    ),
     (
         "an explanation is left out in silence",
         "memory: explanations",
