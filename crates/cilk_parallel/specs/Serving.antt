@@ -8,6 +8,8 @@ use Rattle.cilk_tool.specs.Replies.{Reply, Text}
 use Rattle.cilk_tool.specs.Serving.{JudgedReply, Shows, Surroundings, WordsFail, world}
 use Rattle.cilk_words.specs.Words as tool
 use Rattle.cilk_words.specs.Words.{File}
+use Rattle.cilk_parallel.specs.CheckWords.{check_in, is_helped}
+use Rattle.cilk_parallel.specs.Helped.{HelpedThenExplains, IsHelpedReply}
 use Rattle.cilk_parallel.specs.Shown.{ThreadsShow}
 use Rattle.cilk_parallel.specs.Words.{Requested, order_in}
 
@@ -50,8 +52,13 @@ pub data ServesParallel (words : List Text) (files : Text → Option Text) (inpu
   Threads : is_threads words ≡ true → IsThreadsReply words files input failed failed' status out out' err err'
       → (order_in words ≡ None → length (unflagged words) < length words → ThreadsThenExplains (unflagged words) files input failed failed' status out out' err err')
       → ServesParallel words files input failed failed' status out out' err err'
+  -- `check` is asked for, by helpers: what it shows is what it shows without them
+  Helped : is_threads words ≡ false → is_helped words ≡ true → IsHelpedReply words (world files input failed failed') status out out' err err'
+      → (check_in words ≡ None → length (unflagged words) < length words
+      → HelpedThenExplains (unflagged words) (world files input failed failed') status out out' err err')
+      → ServesParallel words files input failed failed' status out out' err err'
   -- other words are served as `serve_explained` serves them
-  Others : is_threads words ≡ false → ServesExplained words files input failed failed' status out out' err err'
+  Others : is_threads words ≡ false → is_helped words ≡ false → ServesExplained words files input failed failed' status out out' err err'
       → (tool.order_in words ≡ None → is_measure words ≡ true → Measures words files input failed failed' status out out' err err')
       → (tool.order_in words ≡ None → is_measure words ≡ false → is_schedule words ≡ true
       → Schedules (words_of_check words) files input failed failed' status out out' err err')

@@ -9,6 +9,8 @@ ghost use Rattle.cilk_parallel.specs.Endings.{ending_view, place_of};
 ghost use Rattle.cilk_parallel.specs.Serving.{IsThreadsReply, ServesParallel, ThreadsThenExplains, is_threads};
 ghost use Rattle.cilk_parallel.specs.Words.{order_in};
 
+use crate::check_serving::serve_check;
+use crate::check_words::is_helped;
 use crate::explaining::{of_ending, of_fault};
 use crate::running::{Ending, carry_out};
 use crate::words::read;
@@ -34,8 +36,9 @@ pub const DEPARTED: u32 = 502;
 // What stands behind what is said of words that ask for nothing.
 const HINT: &str = "\nhint: `cilk help threads` describes `threads` and its options\n";
 
-/// Serves the words after the program's own name: `threads` runs an accepted program by workers on threads, and waits for them; other
-/// words are served as `serve_explained` serves them.
+/// Serves the words after the program's own name: `threads` runs an accepted program by workers on threads, and waits for them; `check`
+/// with `--helpers` checks a certificate by helpers on threads, and waits for them; other words are served as `serve_explained` serves
+/// them.
 pub fn serve_parallel<H: Threads + Wait + Sync, F: Keeps, R: Read, O: Write, E: Write>(
     rt: &H,
     alloc: Global,
@@ -51,6 +54,8 @@ pub fn serve_parallel<H: Threads + Wait + Sync, F: Keeps, R: Read, O: Write, E: 
 {
     if is_threads(words) {
         serve_threads(rt, alloc, words, files, input, out, err)
+    } else if is_helped(words) {
+        serve_check(rt, alloc, words, files, input, out, err)
     } else {
         serve_explained(alloc, words, files, input, out, err)
     }
