@@ -7,19 +7,23 @@ from hostile import rows
 from hostile.room import NO_MEMORY, Shown, cannot_read
 
 CANNOT_WRITE = b"cannot write\n"
+UNTOLD = b"explanation: no memory\n"
 OUT_WAYS = ("short", "whole", "zero")
 
 
-def refusals(room, found, words, wanted, again, setting="FAIL_ALLOC", which=0):
-    """Refuses each allocation, or each thread, in turn, until a run meets no refusal."""
+def refusals(room, found, words, wanted, again, setting="FAIL_ALLOC", which=0, short=None):
+    """Refuses each allocation, or each thread, in turn, until a run meets no refusal.
+
+    `short` is what else may be answered: the answer, and that memory is refused for its explanation.
+    """
     n, met, stopped = 0, 0, 0
     while met >= n:
         n += 1
         seen = room.run(*words, **{setting: n})
-        met = room.counted[which] if seen.status in (0, 4, 5) else n
-        if seen == NO_MEMORY:
+        met = room.counted[which] if seen.status in (0, 4, 5, wanted.status) else n
+        if seen in (NO_MEMORY, short):
             stopped += 1
-        found.must(seen in (wanted, NO_MEMORY), f"{' '.join(words)} with {setting}={n}", seen)
+        found.must(seen in (wanted, NO_MEMORY, short), f"{' '.join(words)} with {setting}={n}", seen)
         if again and seen != wanted:
             found.expect(room.run(*words), wanted, f"{' '.join(words)} with ample memory after {setting}={n}")
         if seen.status not in (wanted.status, 5) and found.wrong > 20:
@@ -37,13 +41,57 @@ def memory(name, command):
             "check": ["check", program, cert],
             "play": ["play", program, "all", "--workers", "2"],
             "threads": ["threads", program, cert, "--workers", "2"],
+            "schedule": ["schedule", program, cert],
         }[command] + more
-        wanted = rows.verdict(name) if command == "check" else rows.OUTCOMES[name]
+        wanted = {"check": rows.verdict(name), "schedule": rows.SCRIPTS.get(name)}.get(command, rows.OUTCOMES[name])
+        again = command in ("play", "threads")
         found.expect(room.run(*words), wanted, " ".join(words))
         for setting in ("FAIL_ALLOC", "FAIL_FROM"):
-            refusals(room, found, words, wanted, command != "check" and setting == "FAIL_ALLOC", setting)
+            refusals(room, found, words, wanted, again and setting == "FAIL_ALLOC", setting)
 
     return case
+
+
+def measured(room, found):
+    """Each allocation of `measure` refused: its table is whole, or there is none."""
+    program, _, more = rows.lay(room, "turns")
+    for form in ([], ["--svg"]):
+        words = ["measure", program, *more, *form]
+        wanted = room.run(*words)
+        found.must(wanted.status == 0 and wanted.out and not wanted.err, " ".join(words), wanted)
+        refusals(room, found, words, wanted, False)
+
+
+def explanations(room):
+    """Words that ask for explanations, with the answer that each begins with."""
+    racy, racy_cert, _ = rows.lay(room, "one")
+    room.put("fault.c", rows.FAULT)
+    room.put("bad.c", "int main(){return x + ;}")
+    room.put("cut.cert", rows.certificate("one")[:90])
+    return [
+        (["check", racy, racy_cert, "--explain"], rows.REFUSED["one"]),
+        (["check", racy, "cut.cert", "--explain"], room.run("check", racy, "cut.cert")),
+        (["run", "fault.c", "--explain"], Shown(3, b"", b"fault 201 at 16\n")),
+        (["run", "bad.c", "--explain"], Shown(2, b"", b"program 103 at 22\n")),
+    ]
+
+
+def explained(room, found):
+    """Each allocation of an explanation refused: it comes whole, or it is said that it doesn't."""
+    for words, answer in explanations(room):
+        told, wanted = " ".join(words), room.run(*words)
+        begins = wanted._replace(err=wanted.err[: len(answer.err)]) == answer and len(wanted.err) > len(answer.err)
+        found.must(begins, f"{told}: the answer, and an explanation", wanted)
+        short = answer._replace(err=answer.err + UNTOLD)
+        refusals(room, found, words, wanted, False, short=short)
+
+
+def scripts(room, found):
+    """The script of a race, played, leaves what its two accesses leave in the other order."""
+    for name, script in rows.SCRIPTS.items():
+        program, _, _ = rows.lay(room, name)
+        room.put("exchanged", script.out)
+        found.expect(room.run("play", program, "exchanged"), rows.EXCHANGED[name], f"play {program} by its script")
 
 
 def no_thread(room, found):
@@ -72,27 +120,25 @@ def answers(room):
     more = rows.lay(room, "turns")[2]
     room.put("on", "7")
     made.append((["threads", "turns.c", "turns.cert", *more, "--on", "on"], rows.OUTCOMES["turns"]))
-    made.append((["measure", "turns.c", *more], room.run("measure", "turns.c", *more)))
+    for words in (["measure", "turns.c", *more], *(words for words, _ in explanations(room))):
+        made.append((words, room.run(*words)))
+    made += [(["schedule", f"{name}.c", f"{name}.cert"], script) for name, script in rows.SCRIPTS.items()]
+    rows.lay(room, "race")
     return made
-
-
-def is_without_table(whole, seen):
-    """Whether ticks and table of `measure` are left out: they come from texts read again (docs/DECISIONS.md)."""
-    head = [line for line in whole.out.split(b"\n\n")[0].splitlines() if not line.startswith(b"ticks ")]
-    return (seen.status, seen.out.splitlines(), seen.err) == (0, head, b"")
 
 
 def fair_after(failed, words, whole, seen):
     """Whether an answer is the right one after this call failed."""
     call, file, name = failed
+    if "--explain" in words and call != "write":  # (a hint comes after the line)
+        seen = seen if seen == whole else seen._replace(err=seen.err.partition(b"\n")[0] + b"\n")
     if call == "write" and file == 1:
-        return seen.status == 2 and seen.err == CANNOT_WRITE and whole.out.startswith(
-            seen.out
-        ) and seen.out != whole.out
+        err = seen.err[: len(CANNOT_WRITE)] if "--explain" in words else seen.err
+        return seen.status == 2 and err == CANNOT_WRITE and whole.out.startswith(seen.out) and seen.out != whole.out
     if call == "write" and file == 2:
         return seen.status == whole.status and seen.out == whole.out and whole.err.startswith(seen.err)
     if name in words:
-        return seen == cannot_read(name) or words[0] == "measure" and is_without_table(whole, seen)
+        return seen == cannot_read(name)
     return seen == whole
 
 
@@ -219,8 +265,12 @@ def closed(room, found):
 CASES = {f"memory: check {name}": memory(name, "check") for name in ("fib", "race")}
 CASES.update({f"memory: play {name}": memory(name, "play") for name in ("list", "local")})
 CASES.update({f"memory: threads {name}": memory(name, "threads") for name in ("gets", "list", "prints")})
+CASES.update({f"memory: schedule {name}": memory(name, "schedule") for name in ("one", "race")})
 CASES.update({
+    "memory: measure": measured,
+    "memory: explanations": explained,
     "memory: threads that can't be started": no_thread,
+    "scripts that show a race": scripts,
     "devices: each call of each command": devices,
     "devices: standard input": standard,
     "devices: reads and writes of one byte": short_moves,

@@ -37,6 +37,10 @@ OUTCOMES = {
     "prints": said("1", "2", "3", "result 0"), "turns": said("result 6"), "put": said("result 2"),
 }  # fmt: skip
 ACCEPTED = Shown(0, b"accepted\n", b"")
+# Of a race the script that makes its two accesses in the other order: one worker comes to the spawn, another takes what
+# follows it and reads first; and what it leaves, where the read sees what was there before.
+SCRIPTS = {name: said("run 1 4", "steal 2 0", "run 2 2", "run 1 4", "all") for name in ("one", "race")}
+EXCHANGED = {"one": said("result 0"), "race": said("reducer r 1", "result 0")}
 REFUSED = {"one": Shown(4, b"refused 311 7 10\n", b""), "race": Shown(4, b"refused 312 2 10\n", b"")}
 
 

@@ -52,6 +52,27 @@ WRONG = [
         'if status == 5: status, out, err = 0, b"reducer l 0 1 2 3 4\\nresult 5\\n", b""',
     ),
     (
+        "no script is found where memory is refused",
+        "memory: schedule one",
+        'if status == 5: status, out, err = 4, b"refused 311 7 10\\n", b"hint: no script of two workers shows this\\n"',
+    ),
+    (
+        "a table is cut short for want of memory",
+        "memory: measure",
+        'if status == 5: status, out, err = 0, b"events 1\\n", b""',
+    ),
+    (
+        "an explanation is left out in silence",
+        "memory: explanations",
+        'err = err.replace(b"explanation: no memory\\n", b"")',
+    ),
+    (
+        "an explanation comes after a want of memory",
+        "memory: explanations",
+        'if status == 5: err = err + b"one.c:1:1: error 311\\n"',
+    ),
+    ("a script leaves the races' order", "scripts that show a race", 'out = out.replace(b"result 0", b"result 1")'),
+    (
         "a thread that can't start makes another answer",
         "memory: threads that can't be started",
         f"if status == 5: {RUNS}",

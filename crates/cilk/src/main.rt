@@ -2,6 +2,7 @@
 //! is the program's. Only here are threads and waiting given away, which `threads` needs.
 #![tactic(auto)]
 
+use cilk_measured::KeptFiles;
 use cilk_parallel::serve_parallel;
 use cilk_tool::disk::Disk;
 use cilk_tool::reply::{NO_MEMORY, NO_MEMORY_LINE, WRONG};
@@ -46,7 +47,7 @@ fn main(rt: HostRuntime) -> ExitCode {
         &rt,
         rt.alloc(),
         words.as_slice(),
-        &mut Disk::new(&rt),
+        &mut KeptFiles::new(rt.alloc(), Disk::new(&rt)),
         &mut rt.reader(),
         &mut rt.stdout(),
         &mut rt.stderr(),

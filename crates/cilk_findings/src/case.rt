@@ -1,5 +1,6 @@
 //! A program with its input, and the map of its text.
 
+use crate::fault::CaseFault;
 use cilk_lexer::lexer::lex;
 use cilk_names::resolve::resolve;
 use cilk_parser::input::parse_input;
@@ -7,9 +8,8 @@ use cilk_parser::parse::parse;
 use cilk_places::items::map_of;
 use cilk_places::map::TextMap;
 use cilk_program::program::Program;
-use cilk_texts::fault::TextFault;
 use cilk_types::input::Input;
-use std::alloc::{AllocError, Global};
+use std::alloc::Global;
 
 /// A program and its input, with the name of the program's file, its text and the map of that.
 pub struct Case<'a> {
@@ -36,35 +36,25 @@ impl Drop for Case<'_> {
 }
 
 impl<'a> Case<'a> {
-    /// The case of two texts; none where one of them has a fault.
+    /// The case of two texts.
     pub fn of(
         alloc: Global,
         file: &'a str,
         text: &'a [u8],
         input: &[u8],
-    ) -> Result<Option<Case<'a>>, AllocError> {
-        let tree = match parse(alloc, text) {
-            Ok(tree) => tree,
-            Err(TextFault::Memory) => return Err(AllocError),
-            Err(_) => return Ok(None),
-        };
-        let Ok(input) = parse_input(alloc, input) else {
-            return Ok(None);
-        };
-        let Ok(program) = resolve(alloc, &tree) else {
-            return Ok(None);
-        };
-        let Ok(tokens) = lex(alloc, text) else {
-            return Ok(None);
-        };
+    ) -> Result<Case<'a>, CaseFault> {
+        let tree = parse(alloc, text)?;
+        let input = parse_input(alloc, input)?;
+        let program = resolve(alloc, &tree)?;
+        let tokens = lex(alloc, text)?;
         let map = map_of(alloc, &tree, tokens.as_slice())?;
-        Ok(Some(Case {
+        Ok(Case {
             alloc,
             file,
             text,
             program,
             input,
             map,
-        }))
+        })
     }
 }

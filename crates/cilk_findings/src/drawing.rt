@@ -1,6 +1,7 @@
 //! A run as a picture: how much of it could run at each step, and its tree.
 
 use crate::case::Case;
+use crate::fault::CaseFault;
 use crate::runs::Run;
 use cilk_measure::dot::dot;
 use cilk_measure::profile::profile;
@@ -13,13 +14,10 @@ const WIDTH: usize = 800;
 
 const HEIGHT: usize = 300;
 
-/// How many events could be made at each step of the span, with workers enough, as a picture (SVG). Nothing where the case's run
-/// doesn't end.
-pub fn profile_of(case: &Case<'_>) -> Result<Option<String>, AllocError> {
-    match ended(case)? {
-        Some(run) => Ok(Some(picture_of(case.alloc, &run.trace)?)),
-        None => Ok(None),
-    }
+/// How many events could be made at each step of the span, with workers enough, as a picture (SVG). The case's run has to end.
+pub fn profile_of(case: &Case<'_>) -> Result<String, CaseFault> {
+    let run = ended(case)?;
+    Ok(picture_of(case.alloc, &run.trace)?)
 }
 
 // The picture of a run's events.
@@ -102,19 +100,23 @@ fn most_in(steps: &[u32], column: usize) -> usize {
     most
 }
 
-/// The series-parallel tree of a small run, for Graphviz's `dot`. Nothing where the case's run doesn't end.
-pub fn tree_of_run(case: &Case<'_>) -> Result<Option<String>, AllocError> {
-    let Some(run) = ended(case)? else {
-        return Ok(None);
-    };
-    let tree = tree_of(case.alloc, &run.trace)?;
-    Ok(Some(dot(case.alloc, &tree)?))
+/// The series-parallel tree of a small run, for Graphviz's `dot`. The case's run has to end.
+pub fn tree_of_run(case: &Case<'_>) -> Result<String, CaseFault> {
+    let run = ended(case)?;
+    Ok(tree_of_trace(case.alloc, &run.trace)?)
 }
 
-// The run of a case, where it ends by itself.
-fn ended(case: &Case<'_>) -> Result<Option<Run>, AllocError> {
-    match Run::of(case)? {
-        Some(run) if run.fault.is_none() => Ok(Some(run)),
-        _ => Ok(None),
+// The tree of a run's events.
+fn tree_of_trace(alloc: Global, trace: &Trace) -> Result<String, AllocError> {
+    let tree = tree_of(alloc, trace)?;
+    dot(alloc, &tree)
+}
+
+// The run of a case, which ends by itself.
+fn ended(case: &Case<'_>) -> Result<Run, CaseFault> {
+    let run = Run::of(case)?;
+    match run.fault {
+        None => Ok(run),
+        Some(_) => Err(CaseFault::Unfit),
     }
 }

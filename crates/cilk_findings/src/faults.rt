@@ -1,6 +1,7 @@
 //! Why a fault stops a run, and where.
 
 use crate::case::Case;
+use crate::fault::CaseFault;
 use crate::naming::word;
 use crate::notes::{plural, push_line, push_place};
 use crate::paths::{chain, push_path};
@@ -22,27 +23,31 @@ const TOLD: usize = 20;
 const DEEP: usize = 1000;
 
 /// What stands behind the line of a fault of a run: where it stands, what was divided or indexed, the way from there up to `main`, how
-/// far the run came, and what to write instead. Nothing where the case's run ends by itself.
-pub fn of_fault(case: &Case<'_>) -> Result<String, AllocError> {
-    let mut report = String::new(case.alloc);
-    let Some(run) = Run::of(case)? else {
-        return Ok(report);
-    };
+/// far the run came, and what to write instead. A fault has to stop the case's run.
+pub fn of_fault(case: &Case<'_>) -> Result<String, CaseFault> {
+    let run = Run::of(case)?;
     let (Some(fault), Some(stop)) = (run.fault, run.replay.stop) else {
-        return Ok(report);
+        return Err(CaseFault::Unfit);
     };
-    push_head(case, &run, &mut report, fault, stop.step)?;
-    push_line(
-        &mut report,
-        "reason",
-        reason(case, &run, fault, &stop)?.as_str(),
-    )?;
-    let frames = chain(case.alloc, &run, stop.step.frame, None)?;
-    push_path(case, &run, &mut report, frames.as_slice())?;
-    push_line(&mut report, "so far", so_far(case, &run)?.as_str())?;
-    let cure = cure(case, &run, fault, stop.step, frames.len())?;
-    push_line(&mut report, "hint", cure.as_str())?;
+    let mut report = String::new(case.alloc);
+    push_fault(case, &run, &mut report, fault, &stop)?;
     Ok(report)
+}
+
+fn push_fault(
+    case: &Case<'_>,
+    run: &Run,
+    report: &mut String,
+    fault: Fault,
+    stop: &StopNote,
+) -> Result<(), AllocError> {
+    push_head(case, run, report, fault, stop.step)?;
+    push_line(report, "reason", reason(case, run, fault, stop)?.as_str())?;
+    let frames = chain(case.alloc, run, stop.step.frame, None)?;
+    push_path(case, run, report, frames.as_slice())?;
+    push_line(report, "so far", so_far(case, run)?.as_str())?;
+    let cure = cure(case, run, fault, stop.step, frames.len())?;
+    push_line(report, "hint", cure.as_str())
 }
 
 // The place of the fault, with its number and title.

@@ -12,6 +12,7 @@
 
 pub mod case;
 pub mod drawing;
+pub mod fault;
 pub mod faults;
 pub mod naming;
 pub mod notes;

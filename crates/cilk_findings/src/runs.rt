@@ -4,6 +4,7 @@ ghost use Rattle.cilk_lower.specs.Behaves.{Behaves};
 ghost use Rattle.cilk_program.specs.Sources.{source};
 
 use crate::case::Case;
+use crate::fault::CaseFault;
 use cilk_lower::code::{Code, Instr};
 use cilk_lower::lower::lower;
 use cilk_places::replay::{FrameNote, Replay, StepNote, follow};
@@ -12,7 +13,6 @@ use cilk_serial::serial_run::SerialRun;
 use cilk_types::event::Event;
 use cilk_types::fault::Fault;
 use cilk_types::trace::Trace;
-use std::alloc::AllocError;
 
 /// A run: its code, its events, the fault that stops it, if one does, and its notes.
 pub struct Run {
@@ -35,24 +35,20 @@ impl Drop for Run {
 }
 
 impl Run {
-    /// The run of a case. None where its notes don't fit its events.
-    pub fn of(case: &Case<'_>) -> Result<Option<Run>, AllocError> {
+    /// The run of a case.
+    pub fn of(case: &Case<'_>) -> Result<Run, CaseFault> {
         let code = lower(case.alloc, &case.program)?;
-        match run_code(case, &code)? {
-            Some(
-                Made {
-                    trace,
-                    fault,
-                    replay,
-                },
-            ) => Ok(Some(Run {
-                code,
-                trace,
-                fault,
-                replay,
-            })),
-            None => Ok(None),
-        }
+        let Made {
+            trace,
+            fault,
+            replay,
+        } = run_code(case, &code)?;
+        Ok(Run {
+            code,
+            trace,
+            fault,
+            replay,
+        })
     }
 
     /// Whether an event, counted from 0, is a child's result.
@@ -90,7 +86,7 @@ struct Made {
     replay: Replay,
 }
 
-fn run_code(case: &Case<'_>, code: &Code) -> Result<Option<Made>, AllocError>
+fn run_code(case: &Case<'_>, code: &Code) -> Result<Made, CaseFault>
     requires { Behaves (source case.now.program) code.now }
 {
     let mut serial = SerialRun::new(case.alloc, &case.program, code, &case.input)?;
@@ -98,12 +94,13 @@ fn run_code(case: &Case<'_>, code: &Code) -> Result<Option<Made>, AllocError>
     noted(case, code, serial.into_trace(), fault)
 }
 
+// Notes that don't fit the run's events are none.
 fn noted(
     case: &Case<'_>,
     code: &Code,
     trace: Trace,
     fault: Option<Fault>,
-) -> Result<Option<Made>, AllocError> {
+) -> Result<Made, CaseFault> {
     let noted = follow(
         case.alloc,
         &case.map,
@@ -113,11 +110,11 @@ fn noted(
         trace.as_slice(),
     )?;
     match noted {
-        Some(replay) if replay.stop.is_some() == fault.is_some() => Ok(Some(Made {
+        Some(replay) if replay.stop.is_some() == fault.is_some() => Ok(Made {
             trace,
             fault,
             replay,
-        })),
-        _ => Ok(None),
+        }),
+        _ => Err(CaseFault::Unfit),
     }
 }

@@ -14,14 +14,14 @@
 //! ```
 #![tactic(auto)]
 
-mod again;
+mod kept;
 mod rows;
 mod table;
 mod text;
 mod totals;
 mod words;
 
-pub use again::{CaseTexts, case_texts, read_again};
+pub use kept::{CaseTexts, Keeps, Kept, KeptFiles};
 pub use text::text_of;
 pub use totals::totals_of;
 pub use words::{asks, behind_first, is_help, is_measure, run_of, run_words, usage_of_measure};

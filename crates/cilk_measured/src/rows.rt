@@ -2,6 +2,7 @@
 
 use cilk_explain::place::{Location, locate};
 use cilk_findings::case::Case;
+use cilk_findings::fault::CaseFault;
 use cilk_findings::runs::Run;
 use cilk_measure::shares::{Share, shares};
 use cilk_places::map::BodyMap;
@@ -28,20 +29,18 @@ pub struct Details {
     pub bodies: String,
 }
 
-/// What is told of the case's run behind its totals, in columns or with commas. Nothing where the run doesn't end.
-pub fn details_of(case: &Case<'_>, commas: bool) -> Result<Option<Details>, AllocError> {
-    let Some(run) = Run::of(case)? else {
-        return Ok(None);
-    };
+/// What is told of the case's run behind its totals, in columns or with commas. The run has to end.
+pub fn details_of(case: &Case<'_>, commas: bool) -> Result<Details, CaseFault> {
+    let run = Run::of(case)?;
     if run.fault.is_some() {
-        return Ok(None);
+        return Err(CaseFault::Unfit);
     }
     let mut bodies = String::new(case.alloc);
     push_rows(case, &run, &mut bodies, commas)?;
-    Ok(Some(Details {
+    Ok(Details {
         ticks: u64::from(run.replay.ticks),
         bodies,
-    }))
+    })
 }
 
 // The functions and loops that ran, functions first, each list in the order of the text.

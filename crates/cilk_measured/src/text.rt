@@ -4,30 +4,29 @@ ghost use Rattle.std.specs.Prelude.{◌≡◌, IfOk};
 ghost use Rattle.cilk_measured.specs.Measured.{IsMeasureText, IsTable, is_drawn, mark_in};
 ghost use Rattle.cilk_words.specs.Words.{texts};
 
-use crate::again::{CaseTexts, case_texts};
+use crate::kept::{CaseTexts, Kept};
 use crate::rows::{Details, details_of};
 use crate::table::{BLANK, COMMA, totals_text};
 use crate::words::asks;
-use cilk_findings::case::Case;
 use cilk_findings::drawing::{profile_of, tree_of_run};
+use cilk_findings::fault::CaseFault;
 use cilk_measure::totals::Totals;
-use cilk_tool::files::Files;
 use cilk_words::words::Origin;
-use std::alloc::{AllocError, Global};
+use std::alloc::Global;
 
-/// What is shown of a run with these totals, as the words ask: a table that begins with them, or a picture. The program and its input are
-/// read again for what else is told; where that fails, the totals are all.
-pub fn text_of<F: Files>(
+/// What is shown of a run with these totals, as the words ask: a table that begins with them, or a picture. What else is told
+/// is of the texts as they were kept; of a program from standard input, which are not, the totals are all.
+pub fn text_of(
     alloc: Global,
     words: &[&str],
     totals: &Totals,
     program: Origin<'_>,
     input: Option<&str>,
-    files: &mut F,
-) -> Result<Vec<u8>, AllocError>
+    kept: &Kept,
+) -> Result<Vec<u8>, CaseFault>
     ensures { IfOk result (λ text. IsMeasureText (texts words.now) totals.now text.items) }
 {
-    let read = case_texts(alloc, program, input, files)?;
+    let read = CaseTexts::of(program, input, kept)?;
     if is_drawn(words) {
         drawn(alloc, words, read)
     } else {
@@ -42,27 +41,18 @@ fn is_drawn(words: &[&str]) -> bool
     asks(words, "--svg") || asks(words, "--dot")
 }
 
-// The picture: of the steps, or of the tree. Nothing where the texts weren't read again.
-fn drawn(
-    alloc: Global,
-    words: &[&str],
-    read: Option<CaseTexts<'_>>,
-) -> Result<Vec<u8>, AllocError> {
+// The picture: of the steps, or of the tree. Nothing where the texts weren't kept.
+fn drawn(alloc: Global, words: &[&str], read: Option<CaseTexts<'_>>) -> Result<Vec<u8>, CaseFault> {
     let Some(read) = read else {
         return Ok(Vec::new(alloc));
     };
-    let Some(case) = case_of(alloc, &read)? else {
-        return Ok(Vec::new(alloc));
-    };
+    let case = read.case(alloc)?;
     let picture = if asks(words, "--svg") {
         profile_of(&case)?
     } else {
         tree_of_run(&case)?
     };
-    match picture {
-        Some(picture) => picture.as_bytes().to_vec(alloc),
-        None => Ok(Vec::new(alloc)),
-    }
+    Ok(picture.as_bytes().to_vec(alloc)?)
 }
 
 // The table: the totals, and what else is told.
@@ -71,7 +61,7 @@ fn table(
     words: &[&str],
     totals: &Totals,
     read: Option<CaseTexts<'_>>,
-) -> Result<Vec<u8>, AllocError>
+) -> Result<Vec<u8>, CaseFault>
     ensures { IfOk result (λ text. IsTable (texts words.now) totals.now text.items) }
 {
     let behind = behind_totals(alloc, asks(words, "--csv"), read)?;
@@ -98,28 +88,17 @@ fn behind_totals(
     alloc: Global,
     commas: bool,
     read: Option<CaseTexts<'_>>,
-) -> Result<Behind, AllocError> {
-    if let Some(read) = read {
-        if let Some(case) = case_of(alloc, &read)? {
-            if let Some(Details { ticks, bodies }) = details_of(&case, commas)? {
-                return Ok(Behind {
-                    ticks: Some(ticks),
-                    bodies,
-                });
-            }
-        }
-    }
+) -> Result<Behind, CaseFault> {
+    let Some(read) = read else {
+        return Ok(Behind {
+            ticks: None,
+            bodies: String::new(alloc),
+        });
+    };
+    let case = read.case(alloc)?;
+    let Details { ticks, bodies } = details_of(&case, commas)?;
     Ok(Behind {
-        ticks: None,
-        bodies: String::new(alloc),
+        ticks: Some(ticks),
+        bodies,
     })
-}
-
-fn case_of<'a>(alloc: Global, texts: &'a CaseTexts<'a>) -> Result<Option<Case<'a>>, AllocError> {
-    Case::of(
-        alloc,
-        texts.file,
-        texts.program.as_slice(),
-        texts.input.as_slice(),
-    )
 }

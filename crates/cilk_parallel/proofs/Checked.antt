@@ -1,6 +1,6 @@
 -- What the check of a certificate comes to.
 --
--- - `stays`: where it is accepted, no read failed, and what another file holds is still known; `unread`: its file can't be read;
+-- - `stays`: where it is accepted, no read failed, and what another file holds is still known; `fails`, `unread`: its file can't be read;
 -- - `refuses`: why it is refused.
 use Rattle.std.proofs.Common.{◌≡◌, List, Option, refl, sym, ap, subst, ◌∙◌}
 use Rattle.std.specs.Prelude.{◌≢◌, ◌<◌, ℤ}
@@ -11,7 +11,7 @@ use Rattle.cilk_checker.specs.declared.refusal.Refusal.TheVariants as refusals
 use Rattle.cilk_checker.specs.declared.refusal.Unaccepted.{Unaccepted}
 use Rattle.cilk_checker.specs.declared.refusal.Unaccepted.TheVariants as unaccepted
 use Rattle.cilk_judge.specs.Judging.{Meant}
-use Rattle.cilk_tool.specs.Files.{Failures}
+use Rattle.cilk_tool.specs.Files.{Failures, HasFailed}
 use Rattle.cilk_tool.specs.Replies.{Accepted, Refused, Reply, Text, Unreadable, answer_view, places_of}
 use Rattle.cilk_tool.specs.Shown.{CheckShows}
 use Rattle.cilk_tool.specs.declared.reply.Answer.{Answer}
@@ -44,15 +44,19 @@ module _ {F : Type 0} (failed : F → Failures) (holds : F → Text → Option T
       (record { count = counts; elsewhere = over.0 }, over.1)
 
   -- the device that failed is that of the certificate's file
+  pub fails : (failed made).count < (failed new).count → HasFailed path (failed old) (failed last)
+  fails count =
+      let risen : (failed old).count < (failed last).count =
+      subst (λ (y : F). (failed old).count < (failed y).count) (sym given) (subst (λ (x : F). (failed x).count < (failed new).count) same count) in
+      (risen, over.0)
+
   pub unread : (known source_known : Option Text) (m : Meant) (inputs : List ℤ) (u : Unaccepted) → u ≡ unaccepted.Unread
       → IsUnaccepted m.source inputs source_known (failed made).count (failed new).count u
       → (Unreadable path ≢ Accepted) × CheckShows path known (failed old) (failed last) m inputs (Unreadable path)
   unread known source_known m inputs u is h =
       let count : (failed made).count < (failed new).count =
       subst (λ (x : Unaccepted). IsUnaccepted m.source inputs source_known (failed made).count (failed new).count x) is h in
-      let risen : (failed old).count < (failed last).count =
-      subst (λ (y : F). (failed old).count < (failed y).count) (sym given) (subst (λ (x : F). (failed x).count < (failed new).count) same count) in
-      (λ e. absurd (cc e), (refl, (risen, over.0)))
+      (λ e. absurd (cc e), (refl, fails count))
 
 -- why the certificate is refused
 pub refuses : {F : Type 0} (failed : F → Failures) (old new : F) (a : Answer) (path : Text) (known : Option Text) (m : Meant) (inputs : List ℤ) (f : Refusal)

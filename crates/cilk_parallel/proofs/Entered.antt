@@ -23,7 +23,7 @@ use Rattle.cilk_parallel.specs.Words.{IsWordsFault, Requested, order_by, order_i
 use Rattle.cilk_parallel.specs.declared.words.Order.{Order}
 
 -- the text of a name in the matches
-named : (f : Found) (name : Text) (o : Option (Bor Text)) → option_map (λ s. s.now) o ≡ first_value f name → first_of name (rows_of f) ≡ option_map (λ s. s.now) o
+pub named : (f : Found) (name : Text) (o : Option (Bor Text)) → option_map (λ s. s.now) o ≡ first_value f name → first_of name (rows_of f) ≡ option_map (λ s. s.now) o
 named f name o h = sym (first_value-rows f name) ∙ sym h
 
 abbrev pub with_program : List Row → Option Text → Option (Text × Text)
@@ -86,7 +86,7 @@ order_of_matches c words m shape fault met =
     let rows : subcommand_rows_of m ≡ subcommand_of parallel_app (texts words) = (subst (λ (a : App). HasMatchesOf a (texts words) m) shape met simple).1 in
     ap (λ (kinds : Kinds). if is_empty kinds then order_by (subcommand_of parallel_app (texts words)) else None) right ∙ ap order_by (sym rows)
 
-among : (k : ErrorKind) (kinds : Kinds) → IsAmong k kinds → is_empty kinds ≡ false
+pub among : (k : ErrorKind) (kinds : Kinds) → IsAmong k kinds → is_empty kinds ≡ false
 among k [] h = absurd h
 among k (x ∷ kinds) h = search rules
 

@@ -1,5 +1,8 @@
 pub mod Accepted
+pub mod CheckEntered
+pub mod CheckShowing
 pub mod Checked
 pub mod Entered
+pub mod Helped
 pub mod Kept
 pub mod Showing

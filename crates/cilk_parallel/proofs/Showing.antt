@@ -40,7 +40,7 @@ silent (failures.Strand number name) = refl
 silent (failures.Script at) = refl
 silent failures.Memory = refl
 
-still_silent : (f : Failure) (r : Reply) → IsOrNoMemory (failure_view f) r → out_text r ≡ []
+pub still_silent : (f : Failure) (r : Reply) → IsOrNoMemory (failure_view f) r → out_text r ≡ []
 still_silent f r (inl e) = ap out_text e ∙ silent f
 still_silent f r (inr e) = ap out_text e
 

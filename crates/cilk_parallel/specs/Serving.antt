@@ -2,12 +2,14 @@
 use Rattle.std.specs.Prelude.{◌≡◌, ◌<◌, ◌&&◌, ℕ, Bool, true, false, not, List, [], ◌∷◌, length, Option, Some, None, codes}
 use Rattle.std.specs.Str.{bytes_eq}
 use Rattle.cilk_measured.specs.Words.{is_help, is_measure}
-use Rattle.cilk_report.specs.Explained.{ComesBehind, Measures, Schedules, ServesExplained, ServesThenExplains, is_about, is_schedule, unflagged, words_of_check}
+use Rattle.cilk_report.specs.Explained.{Follows, Measures, Schedules, ServesExplained, ServesThenExplains, is_about, is_schedule, unflagged, words_of_check}
 use Rattle.cilk_tool.specs.Files.{Failures}
 use Rattle.cilk_tool.specs.Replies.{Reply, Text}
 use Rattle.cilk_tool.specs.Serving.{JudgedReply, Shows, Surroundings, WordsFail, world}
 use Rattle.cilk_words.specs.Words as tool
 use Rattle.cilk_words.specs.Words.{File}
+use Rattle.cilk_parallel.specs.CheckWords.{check_in, is_helped}
+use Rattle.cilk_parallel.specs.Helped.{HelpedThenExplains, IsHelpedReply}
 use Rattle.cilk_parallel.specs.Shown.{ThreadsShow}
 use Rattle.cilk_parallel.specs.Words.{Requested, order_in}
 
@@ -25,11 +27,12 @@ Answers w (Some asked) r = JudgedReply (ThreadsShow w.files w.failed w.failed' a
 abbrev pub ServesThreads : List Text → Surroundings → ℕ → (is_whole : Bool) → Option Text → Option Text → Option Text → Option Text → Type 0
 ServesThreads words w status is_whole out out' err err' = (r : Reply) × Answers w (order_in words) r × Shows r status is_whole out out' err err'
 
--- the words of `threads` are answered so, and a text comes on standard error behind it, for which files may be read again
-abbrev pub ThreadsThenExplains : List Text → (Text → Option Text) → Option Text → Failures → ℕ → Option Text → Option Text → Option Text → Option Text → Type 0
-ThreadsThenExplains words files input failed status out out' err err' =
-    (read : Failures) × (middle : Option Text) × (told : Bool) × ServesThreads words (world files input failed read) status told out out' err middle
-    × ComesBehind middle err'
+-- the words of `threads` are answered so, and a text comes on standard error behind it
+abbrev pub ThreadsThenExplains : List Text → (Text → Option Text) → Option Text → Failures → Failures → ℕ
+    → Option Text → Option Text → Option Text → Option Text → Type 0
+ThreadsThenExplains words files input failed failed' status out out' err err' =
+    (middle : Option Text) × (told : Bool) × ServesThreads words (world files input failed failed') status told out out' err middle
+    × Follows status middle err'
 
 -- What comes of the words of `threads`.
 pub data IsThreadsReply (words : List Text) (files : Text → Option Text) (input : Option Text) (failed failed' : Failures)
@@ -39,7 +42,7 @@ pub data IsThreadsReply (words : List Text) (files : Text → Option Text) (inpu
       → IsThreadsReply words files input failed failed' status out out' err err'
   -- they ask for nothing, and have `--explain` among them: the others are answered, and then a text comes
   Explained : order_in words ≡ None → length (unflagged words) < length words
-      → ThreadsThenExplains (unflagged words) files input failed status out out' err err'
+      → ThreadsThenExplains (unflagged words) files input failed failed' status out out' err err'
       → IsThreadsReply words files input failed failed' status out out' err err'
 
 -- What comes of a call over what files hold and what standard input gives, with the failed reads before it and at its end.
@@ -47,13 +50,18 @@ pub data ServesParallel (words : List Text) (files : Text → Option Text) (inpu
     (status : ℕ) (out out' err err' : Option Text) : Type 0 where
   -- `threads` is asked for
   Threads : is_threads words ≡ true → IsThreadsReply words files input failed failed' status out out' err err'
-      → (order_in words ≡ None → length (unflagged words) < length words → ThreadsThenExplains (unflagged words) files input failed status out out' err err')
+      → (order_in words ≡ None → length (unflagged words) < length words → ThreadsThenExplains (unflagged words) files input failed failed' status out out' err err')
+      → ServesParallel words files input failed failed' status out out' err err'
+  -- `check` is asked for, by helpers: what it shows is what it shows without them
+  Helped : is_threads words ≡ false → is_helped words ≡ true → IsHelpedReply words (world files input failed failed') status out out' err err'
+      → (check_in words ≡ None → length (unflagged words) < length words
+      → HelpedThenExplains (unflagged words) (world files input failed failed') status out out' err err')
       → ServesParallel words files input failed failed' status out out' err err'
   -- other words are served as `serve_explained` serves them
-  Others : is_threads words ≡ false → ServesExplained words files input failed failed' status out out' err err'
-      → (tool.order_in words ≡ None → is_measure words ≡ true → Measures words files input failed status out out' err err')
+  Others : is_threads words ≡ false → is_helped words ≡ false → ServesExplained words files input failed failed' status out out' err err'
+      → (tool.order_in words ≡ None → is_measure words ≡ true → Measures words files input failed failed' status out out' err err')
       → (tool.order_in words ≡ None → is_measure words ≡ false → is_schedule words ≡ true
-      → Schedules (words_of_check words) files input failed status out out' err err')
+      → Schedules (words_of_check words) files input failed failed' status out out' err err')
       → (tool.order_in words ≡ None → is_measure words ≡ false → is_schedule words ≡ false → is_about words ≡ false → length (unflagged words) < length words
-      → ServesThenExplains (unflagged words) files input failed status out out' err err')
+      → ServesThenExplains (unflagged words) files input failed failed' status out out' err err')
       → ServesParallel words files input failed failed' status out out' err err'

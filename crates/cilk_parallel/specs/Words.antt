@@ -28,13 +28,13 @@ order_view o = requested (o.program.now, o.certificate.now) o.workers (option_ma
 abbrev pub on_rule : Rule
 on_rule = record (new_rule (codes "on")) { long = Some (codes "on"); action = Some Set }
 
--- `threads PROGRAM CERTIFICATE`
-abbrev pub two_texts_app : App
-two_texts_app = with_rule (with_rule (new_app (codes "threads")) program_rule) certificate_rule
+-- `NAME PROGRAM CERTIFICATE`
+abbrev pub two_texts_app : Text → App
+two_texts_app name = with_rule (with_rule (new_app name) program_rule) certificate_rule
 
--- the same with `[--workers N] [--input FILE]`
+-- `threads PROGRAM CERTIFICATE [--workers N] [--input FILE]`
 abbrev pub checked_app : App
-checked_app = with_rule (with_rule two_texts_app workers_rule) input_rule
+checked_app = with_rule (with_rule (two_texts_app (codes "threads")) workers_rule) input_rule
 
 -- the same with `[--on FILE]`
 abbrev pub threads_app : App

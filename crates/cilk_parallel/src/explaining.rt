@@ -4,13 +4,12 @@ use crate::running::Ending;
 use crate::serving::DEPARTED;
 use crate::words::Order;
 use cilk_explain::report::of_line;
-use cilk_measured::read_again;
+use cilk_findings::fault::CaseFault;
+use cilk_measured::Kept;
 use cilk_report::{of_answer, of_failure};
-use cilk_tool::files::Files;
-use cilk_tool::input as judge_input;
 use cilk_tool::reply::Failure;
 use cilk_words::words::Order as Asked;
-use std::alloc::{AllocError, Global};
+use std::alloc::Global;
 
 /// The words of `check` that ask for the same certificate of the same run, with the numbers of a file or none.
 fn check_of<'a>(order: &Order<'a>, input: Option<&'a str>) -> Asked<'a> {
@@ -22,55 +21,40 @@ fn check_of<'a>(order: &Order<'a>, input: Option<&'a str>) -> Asked<'a> {
 }
 
 /// What is said behind an ending: of a refused certificate what `check` says, of an input that departs what its number means.
-pub fn of_ending<F: Files>(
+pub fn of_ending(
     alloc: Global,
     order: &Order<'_>,
     ending: &Ending,
-    files: &mut F,
-) -> Result<String, AllocError> {
+    kept: &Kept,
+) -> Result<String, CaseFault> {
     match ending {
-        Ending::Answer(answer) => { of_answer(alloc, &check_of(order, order.input), answer, files) }
+        Ending::Answer(answer) => { of_answer(alloc, &check_of(order, order.input), answer, kept) }
         Ending::Departed(_) => {
             let file = order.on.unwrap_or(order.certificate);
-            of_line(alloc, file, None, DEPARTED as u16)
+            Ok(of_line(alloc, file, None, DEPARTED as u16)?)
         }
         Ending::Workers => Ok(String::new(alloc)),
     }
 }
 
 /// What is said behind a failure: as of `check`, but for the other input.
-pub fn of_fault<F: Files>(
+pub fn of_fault(
     alloc: Global,
     order: &Order<'_>,
     failure: &Failure<'_>,
-    files: &mut F,
-) -> Result<String, AllocError> {
+    kept: &Kept,
+) -> Result<String, CaseFault> {
     let input = match failure {
-        Failure::Input { .. } => faulty(alloc, order, files),
+        Failure::Input { .. } => faulty(order, kept),
         _ => order.input,
     };
-    of_failure(alloc, &check_of(order, input), failure, files)
+    of_failure(alloc, &check_of(order, input), failure, kept)
 }
 
-// The file of the input that a fault is in: the other one where the first has none.
-fn faulty<'a, F: Files>(alloc: Global, order: &Order<'a>, files: &mut F) -> Option<&'a str> {
-    match (order.input, order.on) {
-        (Some(path), Some(other)) => {
-            if is_input(alloc, path, files) {
-                Some(other)
-            } else {
-                Some(path)
-            }
-        }
-        (None, Some(other)) => Some(other),
-        (path, None) => path,
-    }
-}
-
-// Whether a file that can be read again holds numbers of an input.
-fn is_input<F: Files>(alloc: Global, path: &str, files: &mut F) -> bool {
-    match read_again(alloc, path, files) {
-        Some(text) => judge_input(alloc, text.as_slice()).is_ok(),
-        None => false,
+// The file of the input that a fault is in: the one that was read last. The other input is read behind the program and its own.
+fn faulty<'a>(order: &Order<'a>, kept: &Kept) -> Option<&'a str> {
+    match order.input {
+        Some(path) if kept.count() < 3 => Some(path),
+        _ => order.on,
     }
 }

@@ -9,12 +9,13 @@ ghost use Rattle.cilk_parallel.specs.Endings.{ending_view, place_of};
 ghost use Rattle.cilk_parallel.specs.Serving.{IsThreadsReply, ServesParallel, ThreadsThenExplains, is_threads};
 ghost use Rattle.cilk_parallel.specs.Words.{order_in};
 
+use crate::check_serving::serve_check;
+use crate::check_words::is_helped;
 use crate::explaining::{of_ending, of_fault};
 use crate::running::{Ending, carry_out};
 use crate::words::read;
-use cilk_measured::is_help;
+use cilk_measured::{Keeps, is_help};
 use cilk_report::{follow, serve_explained, unflagged};
-use cilk_tool::files::Files;
 use cilk_tool::reply::{Failure, REFUSED, WRONG};
 use cilk_tool::streams::send;
 use cilk_tool::{Served, complain, show, tell};
@@ -35,9 +36,10 @@ pub const DEPARTED: u32 = 502;
 // What stands behind what is said of words that ask for nothing.
 const HINT: &str = "\nhint: `cilk help threads` describes `threads` and its options\n";
 
-/// Serves the words after the program's own name: `threads` runs an accepted program by workers on threads, and waits for them; other
-/// words are served as `serve_explained` serves them.
-pub fn serve_parallel<H: Threads + Wait + Sync, F: Files, R: Read, O: Write, E: Write>(
+/// Serves the words after the program's own name: `threads` runs an accepted program by workers on threads, and waits for them; `check`
+/// with `--helpers` checks a certificate by helpers on threads, and waits for them; other words are served as `serve_explained` serves
+/// them.
+pub fn serve_parallel<H: Threads + Wait + Sync, F: Keeps, R: Read, O: Write, E: Write>(
     rt: &H,
     alloc: Global,
     words: &[&str],
@@ -52,6 +54,8 @@ pub fn serve_parallel<H: Threads + Wait + Sync, F: Files, R: Read, O: Write, E: 
 {
     if is_threads(words) {
         serve_threads(rt, alloc, words, files, input, out, err)
+    } else if is_helped(words) {
+        serve_check(rt, alloc, words, files, input, out, err)
     } else {
         serve_explained(alloc, words, files, input, out, err)
     }
@@ -68,7 +72,7 @@ fn is_threads(words: &[&str]) -> bool
 }
 
 /// Serves the words of `threads`.
-fn serve_threads<H: Threads + Wait + Sync, F: Files, R: Read, O: Write, E: Write>(
+fn serve_threads<H: Threads + Wait + Sync, F: Keeps, R: Read, O: Write, E: Write>(
     rt: &H,
     alloc: Global,
     words: &[&str],
@@ -81,7 +85,7 @@ fn serve_threads<H: Threads + Wait + Sync, F: Files, R: Read, O: Write, E: Write
     ensures served { IsThreadsReply (texts words.now) (F.holds files.old) (R.remaining input.old) (F.failed files.old) (F.failed files.new)
         result (O.contents out.old) (O.contents out.new) (E.contents err.old) (E.contents err.new) }
     ensures explained { order_in (texts words.now) ≡ None → length (unflagged (texts words.now)) < length (texts words.now)
-        → ThreadsThenExplains (unflagged (texts words.now)) (F.holds files.old) (R.remaining input.old) (F.failed files.old)
+        → ThreadsThenExplains (unflagged (texts words.now)) (F.holds files.old) (R.remaining input.old) (F.failed files.old) (F.failed files.new)
         result (O.contents out.old) (O.contents out.new) (E.contents err.old) (E.contents err.new) }
 {
     match read(alloc, words) {
@@ -90,6 +94,7 @@ fn serve_threads<H: Threads + Wait + Sync, F: Files, R: Read, O: Write, E: Write
             Err(failure) => complain(alloc, &failure, err).status,
         },
         Err(WordsFault::Usage(usage)) => {
+            files.keep();
             serve_unread(rt, alloc, words, usage, files, input, out, err)
         }
         Err(WordsFault::Memory) => complain(alloc, &Failure::Memory, err).status,
@@ -97,7 +102,7 @@ fn serve_threads<H: Threads + Wait + Sync, F: Files, R: Read, O: Write, E: Write
 }
 
 /// Serves words of `threads` that ask for nothing as they stand: without `--explain`, where that is among them.
-fn serve_unread<H: Threads + Wait + Sync, F: Files, R: Read, O: Write, E: Write>(
+fn serve_unread<H: Threads + Wait + Sync, F: Keeps, R: Read, O: Write, E: Write>(
     rt: &H,
     alloc: Global,
     words: &[&str],
@@ -112,7 +117,7 @@ fn serve_unread<H: Threads + Wait + Sync, F: Files, R: Read, O: Write, E: Write>
     ensures served { IsThreadsReply (texts words.now) (F.holds files.old) (R.remaining input.old) (F.failed files.old) (F.failed files.new)
         result (O.contents out.old) (O.contents out.new) (E.contents err.old) (E.contents err.new) }
     ensures explained { length (unflagged (texts words.now)) < length (texts words.now)
-        → ThreadsThenExplains (unflagged (texts words.now)) (F.holds files.old) (R.remaining input.old) (F.failed files.old)
+        → ThreadsThenExplains (unflagged (texts words.now)) (F.holds files.old) (R.remaining input.old) (F.failed files.old) (F.failed files.new)
         result (O.contents out.old) (O.contents out.new) (E.contents err.old) (E.contents err.new) }
 {
     match unflagged(alloc, words) {
@@ -125,7 +130,7 @@ fn serve_unread<H: Threads + Wait + Sync, F: Files, R: Read, O: Write, E: Write>
 }
 
 /// Serves the words of `threads`, and then explains what was shown.
-fn serve_flagged<H: Threads + Wait + Sync, F: Files, R: Read, O: Write, E: Write>(
+fn serve_flagged<H: Threads + Wait + Sync, F: Keeps, R: Read, O: Write, E: Write>(
     rt: &H,
     alloc: Global,
     words: &[&str],
@@ -135,18 +140,18 @@ fn serve_flagged<H: Threads + Wait + Sync, F: Files, R: Read, O: Write, E: Write
     err: &mut E,
 ) -> u8
     requires { (F.failed files.old).count < 18446744073709551615 }
-    ensures { ThreadsThenExplains (texts words.now) (F.holds files.old) (R.remaining input.old) (F.failed files.old)
+    ensures { ThreadsThenExplains (texts words.now) (F.holds files.old) (R.remaining input.old) (F.failed files.old) (F.failed files.new)
         result (O.contents out.old) (O.contents out.new) (E.contents err.old) (E.contents err.new) }
 {
     match read(alloc, words) {
         Ok(order) => match carry_out(rt, alloc, &order, files, input) {
             Ok(ending) => {
                 let served = show_ending(alloc, &ending, out, err);
-                follow(served, of_ending(alloc, &order, &ending, files), err)
+                follow(served, of_ending(alloc, &order, &ending, files.kept()), err)
             }
             Err(failure) => {
                 let served = complain(alloc, &failure, err);
-                follow(served, of_fault(alloc, &order, &failure, files), err)
+                follow(served, of_fault(alloc, &order, &failure, files.kept()), err)
             }
         },
         Err(WordsFault::Usage(usage)) => complain(alloc, &advised(usage), err).status,

@@ -27,20 +27,20 @@ pub struct Order<'a> {
     pub on: Option<&'a str>,
 }
 
-/// `threads PROGRAM CERTIFICATE`.
-fn two_texts<'a>(alloc: Global) -> Result<Command<'a>, AllocError>
-    ensures { IfOk result (λ c. HasShape c two_texts_app) }
+/// `NAME PROGRAM CERTIFICATE`.
+pub(crate) fn two_texts<'a>(alloc: Global, name: &'a str) -> Result<Command<'a>, AllocError>
+    ensures { IfOk result (λ c. HasShape c (two_texts_app name.entry.now)) }
 {
-    Command::new(alloc, "threads")
+    Command::new(alloc, name)
         .arg(Arg::new(alloc, "program").required(true))?
         .arg(Arg::new(alloc, "certificate").required(true))
 }
 
-/// The same with `[--workers N] [--input FILE]`.
+/// `threads PROGRAM CERTIFICATE [--workers N] [--input FILE]`.
 fn checked_texts<'a>(alloc: Global) -> Result<Command<'a>, AllocError>
     ensures { IfOk result (λ c. HasShape c checked_app) }
 {
-    two_texts(alloc)?
+    two_texts(alloc, "threads")?
         .arg(
             Arg::new(alloc, "workers")
                 .long("workers")
@@ -68,7 +68,7 @@ fn command<'a>(alloc: Global) -> Result<Command<'a>, AllocError>
 }
 
 /// The paths of the program and of the certificate that the matches name.
-fn two_paths<'a>(matches: &ArgMatches<'a>) -> Option<(&'a str, &'a str)>
+pub(crate) fn two_paths<'a>(matches: &ArgMatches<'a>) -> Option<(&'a str, &'a str)>
     ensures { option_map texts_view result ≡ texts_in (rows_of (found_of matches.now)) }
 {
     let program = matches.get_str("program")?;

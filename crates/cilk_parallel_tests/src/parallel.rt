@@ -1,5 +1,6 @@
 //! What `threads` shows of programs, on their own inputs and on others, and of certificates that are refused.
 
+use cilk_measured::KeptFiles;
 use cilk_parallel::serve_parallel;
 use cilk_served::served::{Broken, Ended, Folder};
 use crossbeam_channel::{Receiver, Sender, bounded};
@@ -135,12 +136,13 @@ fn served<H: Threads + Wait + Sync>(
     texts: &Texts,
     certificate: &[u8],
 ) -> Ended {
-    let mut files = Folder::new(
+    let folder = Folder::new(
         texts.program.as_bytes(),
         texts.numbers.as_bytes(),
         certificate,
         texts.other.as_bytes(),
     );
+    let mut files = KeptFiles::new(alloc, folder);
     let (mut out, mut err) = (Vec::new(alloc), Vec::new(alloc));
     let status = serve_parallel(
         rt,
@@ -155,7 +157,7 @@ fn served<H: Threads + Wait + Sync>(
         status,
         out,
         err,
-        reads: files.reads,
+        reads: files.files.reads,
     }
 }
 

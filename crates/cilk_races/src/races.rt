@@ -6,6 +6,7 @@ use crate::schedules::{Played, Schedule, made_by, push_schedule};
 use crate::sharing::{Ways, common_cure, kept_cure};
 use cilk_explain::reasons::reason_of;
 use cilk_findings::case::Case;
+use cilk_findings::fault::CaseFault;
 use cilk_findings::naming::{accessed, function_of, reducer_name};
 use cilk_findings::notes::{place_of, push_line, push_place};
 use cilk_findings::paths::{chain, halves, invoked_at, push_path, turns_of};
@@ -35,36 +36,44 @@ pub fn of_race(
     number: u16,
     earlier: u64,
     later: u64,
-) -> Result<String, AllocError> {
-    let mut report = String::new(case.alloc);
-    let Some(run) = Run::of(case)? else {
-        return Ok(report);
-    };
+) -> Result<String, CaseFault> {
+    let run = Run::of(case)?;
     let earlier = (earlier as usize).saturating_sub(1);
     let later = (later as usize).saturating_sub(1);
-    push_accesses(case, &run, &mut report, number, earlier, later)?;
+    if run.event(earlier).is_none() || run.event(later).is_none() {
+        return Err(CaseFault::Unfit);
+    }
+    let mut report = String::new(case.alloc);
+    push_race(case, &run, &mut report, number, earlier, later)?;
+    Ok(report)
+}
+
+// Both accesses, and what stands below them.
+fn push_race(
+    case: &Case<'_>,
+    run: &Run,
+    report: &mut String,
+    number: u16,
+    earlier: usize,
+    later: usize,
+) -> Result<(), AllocError> {
+    push_accesses(case, run, report, number, earlier, later)?;
     if number == 311 {
-        if let Some(pair) = of_accesses(&run, earlier, later) {
+        if let Some(pair) = of_accesses(run, earlier, later) {
             let headings = ["the earlier one", "the later one"];
-            push_pair(case, &run, &mut report, &pair, headings)?;
-            return with_cure(case, &run, report, later, &pair);
+            push_pair(case, run, report, &pair, headings)?;
+            return push_cure(case, run, report, later, &pair);
         }
-    } else if let Some(pair) = of_views(case, &run, earlier, later)? {
-        push_pair(
-            case,
-            &run,
-            &mut report,
-            &pair,
-            ["beside it", "the way to it"],
-        )?;
+    } else if let Some(pair) = of_views(case, run, earlier, later)? {
+        push_pair(case, run, report, &pair, ["beside it", "the way to it"])?;
     } else {
-        push_first_child(case, &run, &mut report, earlier, later)?;
+        push_first_child(case, run, report, earlier, later)?;
     }
     let cure = match run.event(later) {
-        Some(Event::Value { .. }) => kept_cure(case, place(case, &run, later))?,
+        Some(Event::Value { .. }) => kept_cure(case, place(case, run, later))?,
         _ => None,
     };
-    with_hint(report, cure, number)
+    push_hint(report, cure, number)
 }
 
 /// The script of a schedule that makes the later of the two first, where there is one of two workers, which was played. The
@@ -74,34 +83,43 @@ pub fn script_of_race(
     number: u16,
     earlier: u64,
     later: u64,
-) -> Result<Option<String>, AllocError> {
-    let Some(run) = Run::of(case)? else {
-        return Ok(None);
-    };
+) -> Result<Option<String>, CaseFault> {
+    let run = Run::of(case)?;
     let earlier = (earlier as usize).saturating_sub(1);
     let later = (later as usize).saturating_sub(1);
+    Ok(script_of(case, &run, number, earlier, later)?)
+}
+
+// The same by the run.
+fn script_of(
+    case: &Case<'_>,
+    run: &Run,
+    number: u16,
+    earlier: usize,
+    later: usize,
+) -> Result<Option<String>, AllocError> {
     let pair = if number == 311 {
-        of_accesses(&run, earlier, later)
+        of_accesses(run, earlier, later)
     } else {
-        of_views(case, &run, earlier, later)?
+        of_views(case, run, earlier, later)?
     };
     let Some(pair) = pair else {
         return Ok(None);
     };
-    match made_by(case, &schedule_of(&run, &pair))? {
+    match made_by(case, &schedule_of(run, &pair))? {
         Some(Played { script, .. }) => Ok(Some(script)),
         None => Ok(None),
     }
 }
 
-// A report, and behind it the cure of a race of accesses.
-fn with_cure(
+// The cure of a race of accesses.
+fn push_cure(
     case: &Case<'_>,
     run: &Run,
-    report: String,
+    report: &mut String,
     later: usize,
     pair: &Pair,
-) -> Result<String, AllocError> {
+) -> Result<(), AllocError> {
     let in_turns = match run.replay.frames.get(pair.child) {
         Some(
             FrameNote {
@@ -118,18 +136,14 @@ fn with_cure(
         },
         None => None,
     };
-    with_hint(report, cure, 311)
+    push_hint(report, cure, 311)
 }
 
-// A report, and behind it a cure, or else that which stands by a number.
-fn with_hint(report: String, cure: Option<String>, number: u16) -> Result<String, AllocError> {
-    let mut report = report;
+// A cure, or else that which stands by a number.
+fn push_hint(report: &mut String, cure: Option<String>, number: u16) -> Result<(), AllocError> {
     match cure {
-        Some(cure) => {
-            push_line(&mut report, "hint", cure.as_str())?;
-            Ok(report)
-        }
-        None => with_reason(report, number),
+        Some(cure) => push_line(report, "hint", cure.as_str()),
+        None => push_reason(report, number),
     }
 }
 
@@ -144,13 +158,12 @@ fn ways_of(case: &Case<'_>, run: &Run, pair: &Pair) -> Ways {
     }
 }
 
-// A report, and behind it the cure that stands by a number.
-fn with_reason(report: String, number: u16) -> Result<String, AllocError> {
-    let mut report = report;
-    if let Some(reason) = reason_of(number) {
-        push_line(&mut report, "hint", reason.cure)?;
+// The cure that stands by a number.
+fn push_reason(report: &mut String, number: u16) -> Result<(), AllocError> {
+    match reason_of(number) {
+        Some(reason) => push_line(report, "hint", reason.cure),
+        None => Ok(()),
     }
-    Ok(report)
 }
 
 // The two ways up to the frame in common, below these headings; what lets the two run in parallel, what parts them, and a schedule.
@@ -231,23 +244,45 @@ fn push_accesses(
     earlier: usize,
     later: usize,
 ) -> Result<(), AllocError> {
+    let name = match run.event(later) {
+        Some(event) => accessed(case, run, &event)?,
+        None => String::new(case.alloc),
+    };
+    push_later(case, run, report, number, later, name.as_str())?;
+    push_earlier(case, run, report, number, earlier, name.as_str())
+}
+
+fn push_later(
+    case: &Case<'_>,
+    run: &Run,
+    report: &mut String,
+    number: u16,
+    index: usize,
+    name: &str,
+) -> Result<(), AllocError> {
     let alloc = case.alloc;
     let title = match reason_of(number) {
         Some(reason) => reason.title,
         None => "",
     };
-    let (Some(before), Some(after)) = (run.event(earlier), run.event(later)) else {
-        return Ok(());
-    };
-    let name = accessed(case, run, &after)?;
-    let name = name.as_str();
-    let done = done_by(&after);
-    let giver = giver_of(case, run, later)?;
+    let done = done_by(run, index);
+    let giver = giver_of(case, run, index)?;
     let giver = giver.as_str();
     let what = format!(in alloc; "error {number}: {title}: {name} is {done} here{giver}")?;
-    push_place(case, report, place(case, run, later), what.as_str())?;
-    let done = done_by(&before);
-    let giver = giver_of(case, run, earlier)?;
+    push_place(case, report, place(case, run, index), what.as_str())
+}
+
+fn push_earlier(
+    case: &Case<'_>,
+    run: &Run,
+    report: &mut String,
+    number: u16,
+    index: usize,
+    name: &str,
+) -> Result<(), AllocError> {
+    let alloc = case.alloc;
+    let done = done_by(run, index);
+    let giver = giver_of(case, run, index)?;
     let giver = giver.as_str();
     let beside = if number == 311 {
         ", and nothing orders the two"
@@ -255,7 +290,7 @@ fn push_accesses(
         ""
     };
     let what = format!(in alloc; "note: {name} is {done} here{giver}{beside}")?;
-    push_place(case, report, place(case, run, earlier), what.as_str())
+    push_place(case, report, place(case, run, index), what.as_str())
 }
 
 // Whose result an event writes, where it does: a child's, as the last thing that the child does.
@@ -281,12 +316,13 @@ fn place(case: &Case<'_>, run: &Run, index: usize) -> usize {
     run.replay.place(&case.map, index).unwrap_or(0)
 }
 
-fn done_by(event: &Event) -> &'static str {
-    match event {
-        Event::Write { .. } => "written",
-        Event::Create { .. } => "created",
-        Event::Update { .. } => "updated",
-        Event::Set { .. } => "set",
+// What an event does.
+fn done_by(run: &Run, index: usize) -> &'static str {
+    match run.event(index) {
+        Some(Event::Write { .. }) => "written",
+        Some(Event::Create { .. }) => "created",
+        Some(Event::Update { .. }) => "updated",
+        Some(Event::Set { .. }) => "set",
         _ => "read",
     }
 }

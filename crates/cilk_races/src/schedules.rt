@@ -3,7 +3,8 @@
 use cilk_findings::case::Case;
 use cilk_findings::notes::push_line;
 use cilk_play::{PlayFault, play};
-use cilk_script::script::read;
+use cilk_script::script::{ScriptFault, read};
+use cilk_serial::fault::RunFault;
 use cilk_serial::run::run;
 use cilk_types::outcome::{Final, Outcome};
 use std::alloc::{AllocError, Global};
@@ -39,22 +40,28 @@ pub struct Played {
     pub leaves: String,
 }
 
-/// The script of a schedule, which is played first; nothing where `play` refuses it.
+/// The script of a schedule, which is played first; nothing where `play` refuses it, or doesn't come to the run's end.
 pub fn made_by(case: &Case<'_>, schedule: &Schedule) -> Result<Option<Played>, AllocError> {
-    let alloc = case.alloc;
     let script = schedule.script(case)?;
-    let Ok(steps) = read(alloc, script.as_bytes()) else {
-        return Ok(None);
+    match leaves(case, script.as_str())? {
+        Some(leaves) => Ok(Some(Played { script, leaves })),
+        None => Ok(None),
+    }
+}
+
+// What a script leaves, in words, where `play` takes it.
+fn leaves(case: &Case<'_>, script: &str) -> Result<Option<String>, AllocError> {
+    let alloc = case.alloc;
+    let steps = match read(alloc, script.as_bytes()) {
+        Ok(steps) => steps,
+        Err(ScriptFault::Line(_)) => return Ok(None),
+        Err(ScriptFault::Memory) => return Err(AllocError),
     };
-    let leaves = match play(alloc, &case.program, &case.input, 2, steps.as_slice()) {
-        Ok(Some(outcome)) => left(case, &outcome)?,
-        Ok(None) => return Ok(None),
-        Err(fault) => match stopped(alloc, &fault)? {
-            Some(told) => told,
-            None => return Ok(None),
-        },
-    };
-    Ok(Some(Played { script, leaves }))
+    match play(alloc, &case.program, &case.input, 2, steps.as_slice()) {
+        Ok(Some(outcome)) => Ok(Some(left(case, &outcome)?)),
+        Ok(None) => Ok(None),
+        Err(fault) => stopped(alloc, &fault),
+    }
 }
 
 /// What a schedule leaves, in words, and its script, where `play` takes it.
@@ -92,9 +99,20 @@ fn stopped(alloc: Global, fault: &PlayFault) -> Result<Option<String>, AllocErro
 // How an outcome differs from that of `run`.
 fn left(case: &Case<'_>, outcome: &Outcome) -> Result<String, AllocError> {
     let alloc = case.alloc;
-    let Ok((serial, _trace)) = run(alloc, &case.program, &case.input) else {
-        return Ok(String::new(alloc));
-    };
+    match run(alloc, &case.program, &case.input) {
+        Ok((serial, _trace)) => differing(alloc, outcome, &serial),
+        Err(RunFault::At { fault, .. }) => {
+            let number = fault.number();
+            format!(in alloc;
+                "by this script for `play` the run ends, where `run` stops by fault {number}"
+            )
+        }
+        Err(RunFault::Memory) => Err(AllocError),
+    }
+}
+
+// How an outcome differs from the serial run's.
+fn differing(alloc: Global, outcome: &Outcome, serial: &Outcome) -> Result<String, AllocError> {
     let result = outcome.result;
     let wanted = serial.result;
     if result != wanted {

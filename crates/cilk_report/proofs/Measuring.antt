@@ -6,7 +6,7 @@ use Rattle.std.proofs.Common.{◌≡◌, ℕ, List, Bool, Option, Some, None, re
 use Rattle.std.proofs.lemmas.Bool.{true≢false}
 use Rattle.std.specs.Prelude.{IsSome}
 use Rattle.cilk_measured.specs.Words.{measured_run, run_of, words_of_run}
-use Rattle.cilk_report.specs.Explained.{Complains, ComesBehind, IsNoOutcome, Measures, OutOfMemory, Unmeasured, Unnamed}
+use Rattle.cilk_report.specs.Explained.{Complains, Follows, IsNoOutcome, Measures, OutOfMemory, Unmeasured, Unnamed}
 use Rattle.cilk_tool.specs.Files.{Failures}
 use Rattle.cilk_tool.specs.Replies.{NoMemory, Reply, Text, failure_view, status_of}
 use Rattle.cilk_tool.specs.Serving.{IsOrNoMemory, RunReply, ShowsError, WordsFail, world}
@@ -29,23 +29,23 @@ no_outcome (failures.Script at) = tt
 no_outcome failures.Memory = tt
 
 complains : (r wanted : Reply) (status status' : ℕ) (told : Bool) (o e m e' : Option Text) → r ≡ wanted → status ≡ status_of r → ShowsError r told e m
-    → ComesBehind m e' → status' ≡ status → Complains wanted status' o o e e'
+    → Follows status' m e' → status' ≡ status → Complains wanted status' o o e e'
 complains r wanted status status' told o e m e' is s shown behind same =
     (refl, same ∙ s ∙ ap status_of is, m, told, subst (λ (x : Reply). ShowsError x told e m) is shown, behind)
 
-module _ (words : List Text) (files : Text → Option Text) (input : Option Text) (failed : Failures) where
-  pub fails : (read : Failures) (p : Origin) (i : Option Text) (f : Failure) (status status' : ℕ) (told : Bool) (o e m e' : Option Text)
-      → measured_run words ≡ Some (p, i) → RunReply (world files input failed read) p i (failure_view f) → Told f status told e m
-      → ComesBehind m e' → status' ≡ status → Measures words files input failed status' o o e e'
-  fails read p i f status status' told o e m e' named h shown behind same =
+module _ (words : List Text) (files : Text → Option Text) (input : Option Text) (failed failed' : Failures) where
+  pub fails : (p : Origin) (i : Option Text) (f : Failure) (status status' : ℕ) (told : Bool) (o e m e' : Option Text)
+      → measured_run words ≡ Some (p, i) → RunReply (world files input failed failed') p i (failure_view f) → Told f status told e m
+      → Follows status' m e' → status' ≡ status → Measures words files input failed failed' status' o o e e'
+  fails p i f status status' told o e m e' named h shown behind same =
       elim shown.1 [
-        | inl is ↦ Unmeasured read p i (failure_view f) named h (no_outcome f)
+        | inl is ↦ Unmeasured p i (failure_view f) named h (no_outcome f)
             (complains shown.0 (failure_view f) status status' told o e m e' is shown.2 shown.3 behind same)
         | inr is ↦ OutOfMemory (complains shown.0 NoMemory status status' told o e m e' is shown.2 shown.3 behind same)
       ]
 
-  pub starved : (status status' : ℕ) (told : Bool) (o e m e' : Option Text) → Told failures.Memory status told e m → ComesBehind m e' → status' ≡ status
-      → Measures words files input failed status' o o e e'
+  pub starved : (status status' : ℕ) (told : Bool) (o e m e' : Option Text) → Told failures.Memory status told e m → Follows status' m e' → status' ≡ status
+      → Measures words files input failed failed' status' o o e e'
   starved status status' told o e m e' shown behind same =
       elim shown.1 [
         | inl is ↦ OutOfMemory (complains shown.0 NoMemory status status' told o e m e' is shown.2 shown.3 behind same)
@@ -53,7 +53,7 @@ module _ (words : List Text) (files : Text → Option Text) (input : Option Text
       ]
 
   pub unnamed : (f : Failure) (status status' : ℕ) (told : Bool) (o e m e' : Option Text) → measured_run words ≡ None → WordsFail (failure_view f)
-      → Told f status told e m → ComesBehind m e' → status' ≡ status → Measures words files input failed status' o o e e'
+      → Told f status told e m → Follows status' m e' → status' ≡ status → Measures words files input failed failed' status' o o e e'
   unnamed f status status' told o e m e' named h shown behind same =
       elim shown.1 [
         | inl is ↦ Unnamed (failure_view f) named h (complains shown.0 (failure_view f) status status' told o e m e' is shown.2 shown.3 behind same)

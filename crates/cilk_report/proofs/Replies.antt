@@ -2,9 +2,11 @@
 --
 -- `ended`, `failed`: an answer to an order, or a failure, is shown as `serve` shows it. `refused`: words that ask for nothing.
 -- `asked_for`: what is answered to an order is answered to its words. `starved`: a want of memory. `silence`: nothing follows. `unasked`: words that clap refuses ask for nothing.
-use Rattle.std.proofs.Common.{◌≡◌, ℕ, Bool, true, Option, None, [], List, sym, subst}
-use Rattle.cilk_report.specs.Explained.{ComesBehind}
+-- `of_kept`: what is said of files that were told to keep what is read is said of them as they were.
+use Rattle.std.proofs.Common.{◌≡◌, ℕ, Bool, true, Option, None, [], List, refl, sym, subst}
+use Rattle.cilk_report.specs.Explained.{Follows}
 use Rattle.cilk_tool.proofs.Replying.{ends, fails, keeps, no_memory}
+use Rattle.cilk_tool.specs.Files.{Failures}
 use Rattle.cilk_tool.specs.Replies.{Reply, Text, failure_view, status_of}
 use Rattle.cilk_tool.specs.Serving.{Answers, IsOrNoMemory, Serves, Shows, ShowsError, Surroundings, WordsFail}
 use Rattle.cilk_words.specs.Words.{IsWordsFault, Requested, order_in}
@@ -40,8 +42,8 @@ pub starved : (words : List Text) (w : Surroundings) (status : ℕ) (told : Bool
     → Serves words w status told o o e e'
 starved words w status told o e e' shown = fails words w failures.Memory status told o e e' (no_memory w (order_in words)) shown
 
-pub silence : (e : Option Text) → ComesBehind e e
-silence e = ([], true, keeps e)
+pub silence : (status : ℕ) (e : Option Text) → Follows status e e
+silence status e = (([], true, keeps e), λ _. refl)
 
 abbrev pub IsUsage : WordsFault → Type 0
 IsUsage (faults.Usage text) = Unit {0}
@@ -51,6 +53,11 @@ IsUsage faults.Memory = ⊥
 pub unasked : (words : List Text) (e : WordsFault) → IsUsage e → IsWordsFault words e → order_in words ≡ None
 unasked words (faults.Usage text) u h = h
 unasked words faults.Memory u h = absurd u
+
+pub of_kept : (P : (Text → Option Text) → Failures → Type 0) (files files' : Text → Option Text) (failed failed' : Failures) → failed' ≡ failed
+    → files' ≡ files → P files' failed' → P files failed
+of_kept P files files' failed failed' unfailed same h =
+    subst (λ (fs : Text → Option Text). P fs failed) same (subst (λ (f : Failures). P files' f) unfailed h)
 
 -- what is answered to an order is answered to its words
 pub asked_for : (words : List Text) (w : Surroundings) (asked : Option Requested) (r : Reply) → order_in words ≡ asked → Answers w asked r → Answers w (order_in words) r

@@ -7,6 +7,7 @@ use Rattle.cilk_tool.specs.Files.{Failures}
 use Rattle.cilk_tool.specs.Replies.{Ended, NoMemory, Refused, Reply, Text, line, status_of}
 use Rattle.cilk_tool.specs.Serving.{Answers, RunReply, Serves, ShowsError, WordsFail, world}
 use Rattle.cilk_tool.specs.Streams.{AppendsFront, AppendsPart}
+use Rattle.cilk_tool.specs.declared.reply.TheConstants.{NO_MEMORY}
 use Rattle.cilk_words.specs.Words.{Origin, order_in}
 use Rattle.cilk_measured.specs.Measured.{AreTotalsOf, IsMeasureText}
 use Rattle.cilk_measured.specs.Words.{behind_first, is_help as asks_help, is_measure, measured_run}
@@ -70,6 +71,10 @@ IsAskedFor words (answers.Wrong text) = is_about words ≡ true
 abbrev pub ComesBehind : Option Text → Option Text → Type 0
 ComesBehind old new = (text : Text) × (is_whole : Bool) × AppendsFront is_whole old new text
 
+-- some text comes behind what was shown with a status, but none behind a want of memory
+abbrev pub Follows : ℕ → Option Text → Option Text → Type 0
+Follows status old new = ComesBehind old new × (status ≡ NO_MEMORY → new ≡ old)
+
 -- the text goes to standard output with status 0; or a write there fails, and standard error says so
 abbrev pub WritesText : Text → ℕ → Option Text → Option Text → Option Text → Option Text → Type 0
 WritesText text status out out' err err' =
@@ -80,11 +85,12 @@ WritesText text status out out' err err' =
 abbrev pub WritesAbout : ℕ → Option Text → Option Text → Option Text → Option Text → Type 0
 WritesAbout status out out' err err' = (text : Text) × WritesText text status out out' err err'
 
--- what `serve` does with these words, and a text on standard error behind it, for which files may be read again
-abbrev pub ServesThenExplains : List Text → (Text → Option Text) → Option Text → Failures → ℕ → Option Text → Option Text → Option Text → Option Text → Type 0
-ServesThenExplains words files input failed status out out' err err' =
-    (read : Failures) × (middle : Option Text) × (told : Bool) × Serves words (world files input failed read) status told out out' err middle
-    × ComesBehind middle err'
+-- what `serve` does with these words, by reads of files that are all of the call's, and a text on standard error behind it
+abbrev pub ServesThenExplains : List Text → (Text → Option Text) → Option Text → Failures → Failures → ℕ
+    → Option Text → Option Text → Option Text → Option Text → Type 0
+ServesThenExplains words files input failed failed' status out out' err err' =
+    (middle : Option Text) × (told : Bool) × Serves words (world files input failed failed') status told out out' err middle
+    × Follows status middle err'
 
 -- a reply that isn't what a run left
 abbrev pub IsNoOutcome : Reply → Type 0
@@ -94,24 +100,24 @@ IsNoOutcome _ = Unit {0}
 -- a reply goes to standard error with its status, and a text behind it; nothing goes to standard output
 abbrev pub Complains : Reply → ℕ → Option Text → Option Text → Option Text → Option Text → Type 0
 Complains r status out out' err err' =
-    (out' ≡ out) × (status ≡ status_of r) × (middle : Option Text) × (told : Bool) × ShowsError r told err middle × ComesBehind middle err'
+    (out' ≡ out) × (status ≡ status_of r) × (middle : Option Text) × (told : Bool) × ShowsError r told err middle × Follows status middle err'
 
--- What comes of words that measure a run, for which files may be read again.
-pub data Measures (words : List Text) (files : Text → Option Text) (input : Option Text) (failed : Failures)
+-- What comes of words that measure a run.
+pub data Measures (words : List Text) (files : Text → Option Text) (input : Option Text) (failed failed' : Failures)
     (status : ℕ) (out out' err err' : Option Text) : Type 0 where
   -- the run ends, and a text with its totals is shown
-  Measured : (read : Failures) (program : Origin) (numbers : Option Text) (t : Totals) (text : Text) → measured_run words ≡ Some (program, numbers)
-      → AreTotalsOf (world files input failed read) program numbers t → IsMeasureText words t text → WritesText text status out out' err err'
-      → Measures words files input failed status out out' err err'
+  Measured : (program : Origin) (numbers : Option Text) (t : Totals) (text : Text) → measured_run words ≡ Some (program, numbers)
+      → AreTotalsOf (world files input failed failed') program numbers t → IsMeasureText words t text → WritesText text status out out' err err'
+      → Measures words files input failed failed' status out out' err err'
   -- the texts mean no program and input, or the run stops: what `run` shows of that
-  Unmeasured : (read : Failures) (program : Origin) (numbers : Option Text) (r : Reply) → measured_run words ≡ Some (program, numbers)
-      → RunReply (world files input failed read) program numbers r → IsNoOutcome r → Complains r status out out' err err'
-      → Measures words files input failed status out out' err err'
+  Unmeasured : (program : Origin) (numbers : Option Text) (r : Reply) → measured_run words ≡ Some (program, numbers)
+      → RunReply (world files input failed failed') program numbers r → IsNoOutcome r → Complains r status out out' err err'
+      → Measures words files input failed failed' status out out' err err'
   -- the words name no run
   Unnamed : (r : Reply) → measured_run words ≡ None → WordsFail r → Complains r status out out' err err'
-      → Measures words files input failed status out out' err err'
+      → Measures words files input failed failed' status out out' err err'
   -- memory was refused
-  OutOfMemory : Complains NoMemory status out out' err err' → Measures words files input failed status out out' err err'
+  OutOfMemory : Complains NoMemory status out out' err err' → Measures words files input failed failed' status out out' err err'
 
 -- the first word is `schedule`, and what is behind it isn't one word that asks for help
 abbrev pub is_schedule : List Text → Bool
@@ -128,14 +134,14 @@ IsRefusal (Refused number places) = Unit {0}
 IsRefusal _ = ⊥
 
 -- what comes of the words that check a certificate, where a schedule is asked for
-pub data Schedules (words : List Text) (files : Text → Option Text) (input : Option Text) (failed : Failures)
+pub data Schedules (words : List Text) (files : Text → Option Text) (input : Option Text) (failed failed' : Failures)
     (status : ℕ) (out out' err err' : Option Text) : Type 0 where
   -- it is refused, and a script is shown
-  Told : (read : Failures) (r : Reply) (script : Text) → Answers (world files input failed read) (order_in words) r → IsRefusal r
-      → WritesText script status out out' err err' → Schedules words files input failed status out out' err err'
+  Told : (r : Reply) (script : Text) → Answers (world files input failed failed') (order_in words) r → IsRefusal r
+      → WritesText script status out out' err err' → Schedules words files input failed failed' status out out' err err'
   -- what `check` shows of it, and a text behind that
-  Checked : ServesThenExplains words files input failed status out out' err err'
-      → Schedules words files input failed status out out' err err'
+  Checked : ServesThenExplains words files input failed failed' status out out' err err'
+      → Schedules words files input failed failed' status out out' err err'
 
 -- What comes of a call over what files hold and what standard input gives, with the failed reads before it and at its end.
 pub data ServesExplained (words : List Text) (files : Text → Option Text) (input : Option Text) (failed failed' : Failures)
@@ -145,13 +151,13 @@ pub data ServesExplained (words : List Text) (files : Text → Option Text) (inp
       → ServesExplained words files input failed failed' status out out' err err'
   -- the words ask nothing of `serve`, and have `--explain` among them: what it does with the others, and then a text
   Explained : order_in words ≡ None → length (unflagged words) < length words
-      → ServesThenExplains (unflagged words) files input failed status out out' err err'
+      → ServesThenExplains (unflagged words) files input failed failed' status out out' err err'
       → ServesExplained words files input failed failed' status out out' err err'
   -- the words ask nothing of `serve`, and measure a run
-  Measuring : order_in words ≡ None → is_measure words ≡ true → Measures words files input failed status out out' err err'
+  Measuring : order_in words ≡ None → is_measure words ≡ true → Measures words files input failed failed' status out out' err err'
       → ServesExplained words files input failed failed' status out out' err err'
   -- the words ask nothing of `serve`, and ask for a schedule
-  Scheduling : order_in words ≡ None → is_schedule words ≡ true → Schedules (words_of_check words) files input failed status out out' err err'
+  Scheduling : order_in words ≡ None → is_schedule words ≡ true → Schedules (words_of_check words) files input failed failed' status out out' err err'
       → ServesExplained words files input failed failed' status out out' err err'
   -- the words ask about the tool itself: a text about it
   About : order_in words ≡ None → is_about words ≡ true → WritesAbout status out out' err err'

@@ -2,7 +2,6 @@
 
 use cilk_checker::refusal::Refusal;
 use cilk_lexer::lexer::{all_digits, value_of};
-use cilk_tool::files::Files;
 
 /// How many events, frames and strands a certificate says that it has.
 #[derive(Clone, Copy)]
@@ -12,8 +11,8 @@ struct Sizes {
     strands: u64,
 }
 
-/// The line, from 1, if it is known: the file is read again up to the sizes.
-pub fn line_of<F: Files>(path: &str, refusal: Refusal, files: &mut F) -> Option<u64> {
+/// The line, from 1, if it is known: the front of the certificate has the sizes in its second line.
+pub fn line_of(front: &[u8], refusal: Refusal) -> Option<u64> {
     if let Refusal::Malformed { line } | Refusal::Truncated { line } = refusal {
         return Some(u64::from(line));
     }
@@ -21,7 +20,7 @@ pub fn line_of<F: Files>(path: &str, refusal: Refusal, files: &mut F) -> Option<
         events,
         frames,
         strands,
-    } = sizes_of(path, files)?;
+    } = sizes_of(front)?;
     let ahead = frames.saturating_add(2);
     match refusal {
         Refusal::Frame { frame } => Some(frame.saturating_add(2)),
@@ -42,13 +41,8 @@ pub fn line_of<F: Files>(path: &str, refusal: Refusal, files: &mut F) -> Option<
 }
 
 // The sizes in the second line of a certificate.
-fn sizes_of<F: Files>(path: &str, files: &mut F) -> Option<Sizes> {
-    if files.failures() == u64::MAX {
-        return None;
-    }
-    let mut front = [0u8; 256];
-    let count = files.part(path, 0, &mut front).ok()?;
-    let text = str::from_utf8(front.get(..count)?).ok()?;
+fn sizes_of(front: &[u8]) -> Option<Sizes> {
+    let text = str::from_utf8(front).ok()?;
     let line = text.lines().nth(1)?;
     let mut words = line.split_whitespace().skip(1);
     let events = number_of(words.next()?)?;

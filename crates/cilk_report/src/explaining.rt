@@ -4,11 +4,10 @@ use crate::certificate::line_of;
 use crate::wanted::{Expected, expected_at};
 use cilk_checker::refusal::Refusal;
 use cilk_explain::report::{Finding, Wanted, of_line, of_script, of_text};
-use cilk_findings::case::Case;
+use cilk_findings::fault::CaseFault;
 use cilk_findings::faults::of_fault;
-use cilk_measured::{CaseTexts, case_texts, read_again};
+use cilk_measured::{CaseTexts, Kept};
 use cilk_races::races::of_race;
-use cilk_tool::files::Files;
 use cilk_tool::reply::{Answer, Failure};
 use cilk_types::event::Pos;
 use cilk_words::words::{Order, Origin};
@@ -67,39 +66,36 @@ fn files_of<'a>(order: &Order<'a>) -> Named<'a> {
     }
 }
 
-/// What is said behind an answer to an order: of a certificate's refusal, why it is one. The files are read again.
-pub fn of_answer<F: Files>(
+/// What is said behind an answer to an order: of a certificate's refusal, why it is one, by what was kept of the files.
+pub fn of_answer(
     alloc: Global,
     order: &Order<'_>,
     answer: &Answer,
-    files: &mut F,
-) -> Result<String, AllocError> {
+    kept: &Kept,
+) -> Result<String, CaseFault> {
     match answer {
-        Answer::Refused(refusal) => of_refusal(alloc, order, *refusal, files),
+        Answer::Refused(refusal) => of_refusal(alloc, order, *refusal, kept),
         _ => Ok(String::new(alloc)),
     }
 }
 
 // Of a race and of a run that stops the text of the program is told, of all else the line of the certificate.
-fn of_refusal<F: Files>(
+fn of_refusal(
     alloc: Global,
     order: &Order<'_>,
     refusal: Refusal,
-    files: &mut F,
-) -> Result<String, AllocError> {
+    kept: &Kept,
+) -> Result<String, CaseFault> {
     let number = refusal.number();
     let found = race_of(refusal);
     if found.is_some() || number == 310 {
-        if let Some(texts) = texts_of(alloc, order, files)? {
-            let report = in_text(alloc, &texts, number, found)?;
-            if !report.is_empty() {
-                return Ok(report);
-            }
+        if let Some(texts) = texts_of(order, kept)? {
+            return in_text(alloc, &texts, number, found);
         }
     }
     let path = files_of(order).other;
-    let line = line_of(path, refusal, files);
-    of_line(alloc, path, line, number)
+    let line = line_of(kept.front()?, refusal);
+    Ok(of_line(alloc, path, line, number)?)
 }
 
 /// The two events for whose race a certificate is refused, if it is for one.
@@ -117,58 +113,63 @@ fn in_text(
     texts: &CaseTexts<'_>,
     number: u16,
     found: Option<(Pos, Pos)>,
-) -> Result<String, AllocError> {
-    let CaseTexts {
-        file,
-        program,
-        input,
-    } = texts;
-    let Some(case) = Case::of(alloc, file, program.as_slice(), input.as_slice())? else {
-        return Ok(String::new(alloc));
-    };
+) -> Result<String, CaseFault> {
+    let case = texts.case(alloc)?;
     match found {
         Some((earlier, later)) => { of_race(&case, number, u64::from(earlier), u64::from(later)) }
         None => of_fault(&case),
     }
 }
 
-/// The texts of an order's program and its input, where they can be read again.
-pub(crate) fn texts_of<'a, F: Files>(
-    alloc: Global,
+/// The texts of an order's program and its input; none where the program came from standard input.
+pub(crate) fn texts_of<'a>(
     order: &Order<'a>,
-    files: &mut F,
-) -> Result<Option<CaseTexts<'a>>, AllocError> {
+    kept: &'a Kept,
+) -> Result<Option<CaseTexts<'a>>, CaseFault> {
     let Named { program, input, .. } = files_of(order);
-    case_texts(alloc, program, input, files)
+    CaseTexts::of(program, input, kept)
 }
 
-/// What is said behind a failure of an order. The file of a text at fault is read again.
-pub fn of_failure<F: Files>(
+/// What is said behind a failure of an order, by what was kept of the files: the text that was read last is the one at fault.
+pub fn of_failure(
     alloc: Global,
     order: &Order<'_>,
     failure: &Failure<'_>,
-    files: &mut F,
-) -> Result<String, AllocError> {
+    kept: &Kept,
+) -> Result<String, CaseFault> {
     let named = files_of(order);
-    let file = named.file();
     match failure {
-        Failure::Program { number, place } => {
-            let text = match named.program {
-                Origin::Standard => None,
-                Origin::File(path) => read_again(alloc, path, files),
-            };
-            at_byte(alloc, file, text, *number, *place)
-        }
+        Failure::Program { number, place } => of_program(alloc, &named, kept, *number, *place),
         Failure::Input { number, place } => {
             let path = named.input.unwrap_or("-");
-            let text = read_again(alloc, path, files);
-            at_byte(alloc, path, text, *number, *place)
+            Ok(at_byte(alloc, path, kept.last()?, *number, *place)?)
         }
-        Failure::Run { number, .. } => of_stop(alloc, order, *number, files),
-        Failure::Strand { number, .. } => of_line(alloc, file, None, *number),
+        Failure::Run { number, .. } => of_stop(alloc, order, *number, kept),
+        _ => Ok(of_other(alloc, &named, failure)?),
+    }
+}
+
+// Of a byte of the program's text, which isn't kept where it came from standard input.
+fn of_program(
+    alloc: Global,
+    named: &Named<'_>,
+    kept: &Kept,
+    number: u16,
+    at: usize,
+) -> Result<String, CaseFault> {
+    match named.program {
+        Origin::Standard => Ok(of_line(alloc, named.file(), None, number)?),
+        Origin::File(path) => Ok(at_byte(alloc, path, kept.last()?, number, at)?),
+    }
+}
+
+// Of a failure for which no text is looked at.
+fn of_other(alloc: Global, named: &Named<'_>, failure: &Failure<'_>) -> Result<String, AllocError> {
+    match failure {
+        Failure::Strand { number, .. } => of_line(alloc, named.file(), None, *number),
         Failure::Script(line) => of_script(alloc, named.other, *line),
-        Failure::Unreadable(path) => of_unreadable(alloc, &named, path),
-        Failure::Words(_) | Failure::Memory => Ok(String::new(alloc)),
+        Failure::Unreadable(path) => of_unreadable(alloc, named, path),
+        _ => Ok(String::new(alloc)),
     }
 }
 
@@ -190,33 +191,26 @@ fn of_unreadable(alloc: Global, named: &Named<'_>, path: &str) -> Result<String,
 }
 
 // Of a fault that stops a run.
-fn of_stop<F: Files>(
+fn of_stop(
     alloc: Global,
     order: &Order<'_>,
     number: u16,
-    files: &mut F,
-) -> Result<String, AllocError> {
-    if let Some(texts) = texts_of(alloc, order, files)? {
-        let report = in_text(alloc, &texts, number, None)?;
-        if !report.is_empty() {
-            return Ok(report);
-        }
+    kept: &Kept,
+) -> Result<String, CaseFault> {
+    match texts_of(order, kept)? {
+        Some(texts) => in_text(alloc, &texts, number, None),
+        None => Ok(of_line(alloc, files_of(order).file(), None, number)?),
     }
-    of_line(alloc, files_of(order).file(), None, number)
 }
 
-// Of a byte of a text, where that can be read again.
+// Of a byte of a text.
 fn at_byte(
     alloc: Global,
     file: &str,
-    text: Option<Vec<u8>>,
+    text: &[u8],
     number: u16,
     at: usize,
 ) -> Result<String, AllocError> {
-    let Some(text) = text else {
-        return of_line(alloc, file, None, number);
-    };
-    let text = text.as_slice();
     let Expected { words, semicolon } = if number == 103 {
         expected_at(alloc, text, at)?
     } else {

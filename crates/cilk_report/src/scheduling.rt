@@ -11,10 +11,9 @@ use crate::flags::unflagged;
 use crate::help::usage_of_schedule;
 use crate::serving::{follow, tell_text};
 use cilk_checker::refusal::Refusal;
-use cilk_findings::case::Case;
-use cilk_measured::{CaseTexts, asks, behind_first, is_help};
+use cilk_findings::fault::CaseFault;
+use cilk_measured::{Keeps, Kept, asks, behind_first, is_help};
 use cilk_races::races::script_of_race;
-use cilk_tool::files::Files;
 use cilk_tool::reply::{Answer, Failure};
 use cilk_tool::{carry_out, complain, show};
 use cilk_words::words::{Order, WordsFault, read};
@@ -41,7 +40,7 @@ fn check_words<'a>(alloc: Global, words: &[&'a str]) -> Result<Vec<&'a str>, All
 }
 
 /// Serves words that ask for a schedule.
-pub fn serve_schedule<F: Files, R: Read, O: Write, E: Write>(
+pub fn serve_schedule<F: Keeps, R: Read, O: Write, E: Write>(
     alloc: Global,
     words: &[&str],
     files: &mut F,
@@ -50,7 +49,7 @@ pub fn serve_schedule<F: Files, R: Read, O: Write, E: Write>(
     err: &mut E,
 ) -> u8
     requires { (F.failed files.old).count < 18446744073709551615 }
-    ensures { Schedules (words_of_check (texts words.now)) (F.holds files.old) (R.remaining input.old) (F.failed files.old)
+    ensures { Schedules (words_of_check (texts words.now)) (F.holds files.old) (R.remaining input.old) (F.failed files.old) (F.failed files.new)
         result (O.contents out.old) (O.contents out.new) (E.contents err.old) (E.contents err.new) }
 {
     match check_words(alloc, words) {
@@ -63,7 +62,7 @@ pub fn serve_schedule<F: Files, R: Read, O: Write, E: Write>(
 }
 
 // By the words that check the certificate.
-fn serve_checked<F: Files, R: Read, O: Write, E: Write>(
+fn serve_checked<F: Keeps, R: Read, O: Write, E: Write>(
     alloc: Global,
     words: &[&str],
     explains: bool,
@@ -73,23 +72,23 @@ fn serve_checked<F: Files, R: Read, O: Write, E: Write>(
     err: &mut E,
 ) -> u8
     requires { (F.failed files.old).count < 18446744073709551615 }
-    ensures { Schedules (texts words.now) (F.holds files.old) (R.remaining input.old) (F.failed files.old)
+    ensures { Schedules (texts words.now) (F.holds files.old) (R.remaining input.old) (F.failed files.old) (F.failed files.new)
         result (O.contents out.old) (O.contents out.new) (E.contents err.old) (E.contents err.new) }
 {
     match read(alloc, words) {
         Ok(order) => match carry_out(alloc, order, files, input) {
-            Ok(answer) => match script_of(alloc, &order, &answer, files) {
+            Ok(answer) => match script_of(alloc, &order, &answer, files.kept()) {
                 Ok(Some(script)) => tell_text(script.as_bytes(), out, err),
                 Ok(None) => {
                     let served = show(alloc, &answer, out, err);
-                    let text = unscheduled(alloc, explains, &order, &answer, files);
+                    let text = unscheduled(alloc, explains, &order, &answer, files.kept());
                     follow(served, text, err)
                 }
                 Err(_) => complain(alloc, &Failure::Memory, err).status,
             },
             Err(failure) => {
                 let served = complain(alloc, &failure, err);
-                let text = unchecked(alloc, explains, &order, &failure, files);
+                let text = unchecked(alloc, explains, &order, &failure, files.kept());
                 follow(served, text, err)
             }
         },
@@ -98,43 +97,34 @@ fn serve_checked<F: Files, R: Read, O: Write, E: Write>(
     }
 }
 
-// The script that shows the race for which a certificate is refused, where there is one.
-fn script_of<F: Files>(
+// The script that shows the race for which a certificate is refused, where there is one: the search is made to its end.
+fn script_of(
     alloc: Global,
     order: &Order<'_>,
     answer: &Answer,
-    files: &mut F,
-) -> Result<Option<String>, AllocError>
+    kept: &Kept,
+) -> Result<Option<String>, CaseFault>
     ensures { IfOk result (λ script. IfSome script (λ _. IsRefusal (answer_view answer.now))) }
 {
     match answer {
-        Answer::Refused(refusal) => script_against(alloc, order, *refusal, files),
+        Answer::Refused(refusal) => script_against(alloc, order, *refusal, kept),
         _ => Ok(None),
     }
 }
 
-fn script_against<F: Files>(
+fn script_against(
     alloc: Global,
     order: &Order<'_>,
     refusal: Refusal,
-    files: &mut F,
-) -> Result<Option<String>, AllocError> {
+    kept: &Kept,
+) -> Result<Option<String>, CaseFault> {
     let Some((earlier, later)) = race_of(refusal) else {
         return Ok(None);
     };
-    let Some(
-        CaseTexts {
-            file,
-            program,
-            input,
-        },
-    ) = texts_of(alloc, order, files)?
-    else {
-        return Ok(None);
+    let Some(texts) = texts_of(order, kept)? else {
+        return Err(CaseFault::Unfit);
     };
-    let Some(case) = Case::of(alloc, file, program.as_slice(), input.as_slice())? else {
-        return Ok(None);
-    };
+    let case = texts.case(alloc)?;
     script_of_race(
         &case,
         refusal.number(),
@@ -144,20 +134,20 @@ fn script_against<F: Files>(
 }
 
 // What is said where there is no script: why the certificate is refused, where that is asked for, or that there is none.
-fn unscheduled<F: Files>(
+fn unscheduled(
     alloc: Global,
     explains: bool,
     order: &Order<'_>,
     answer: &Answer,
-    files: &mut F,
-) -> Result<String, AllocError> {
+    kept: &Kept,
+) -> Result<String, CaseFault> {
     let hint = match answer {
         Answer::Refused(_) => "hint: no script of two workers shows this\n",
         _ =>
             "hint: nothing races here: each schedule that ends leaves what the serial run leaves\n",
     };
     let mut text = if explains {
-        of_answer(alloc, order, answer, files)?
+        of_answer(alloc, order, answer, kept)?
     } else {
         String::new(alloc)
     };
@@ -166,15 +156,15 @@ fn unscheduled<F: Files>(
 }
 
 // What is said of a text or a file at fault, where that is asked for.
-fn unchecked<F: Files>(
+fn unchecked(
     alloc: Global,
     explains: bool,
     order: &Order<'_>,
     failure: &Failure<'_>,
-    files: &mut F,
-) -> Result<String, AllocError> {
+    kept: &Kept,
+) -> Result<String, CaseFault> {
     if explains {
-        of_failure(alloc, order, failure, files)
+        of_failure(alloc, order, failure, kept)
     } else {
         Ok(String::new(alloc))
     }

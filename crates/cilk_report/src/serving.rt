@@ -1,7 +1,7 @@
 //! From words to a reply that is shown, and explained where the words ask for that.
 
 ghost use Rattle.std.specs.Prelude.{◌≡◌, ◌<◌, None, Some, false, length, option_map, true};
-ghost use Rattle.cilk_report.specs.Explained.{ComesBehind, Measures, Schedules, ServesExplained, ServesThenExplains, WritesText, is_about, is_schedule, unflagged, words_of_check};
+ghost use Rattle.cilk_report.specs.Explained.{ComesBehind, Follows, Measures, Schedules, ServesExplained, ServesThenExplains, WritesText, is_about, is_schedule, unflagged, words_of_check};
 ghost use Rattle.cilk_measured.specs.Words.{is_measure, measured_run, words_of_run};
 ghost use Rattle.cilk_tool.specs.Replies.{failure_view};
 ghost use Rattle.cilk_tool.specs.Serving.{WordsFail};
@@ -12,9 +12,11 @@ use crate::explaining::{of_answer, of_failure};
 use crate::flags::unflagged;
 use crate::help::{EXPLAIN, advice};
 use crate::scheduling::{is_schedule, serve_schedule};
-use cilk_measured::{asks, is_measure, run_of, run_words, text_of, totals_of, usage_of_measure};
-use cilk_tool::files::Files;
-use cilk_tool::reply::{Failure, WRONG};
+use cilk_findings::fault::CaseFault;
+use cilk_measured::{
+    Keeps, Kept, asks, is_measure, run_of, run_words, text_of, totals_of, usage_of_measure,
+};
+use cilk_tool::reply::{Failure, NO_MEMORY, WRONG};
 use cilk_tool::streams::send;
 use cilk_tool::{Served, carry_out, complain, show, tell};
 use cilk_words::words::{Order, Origin, WordsFault, read};
@@ -23,7 +25,7 @@ use std::io::{Read, Write};
 
 /// Serves the words after the program's own name: as `serve` does, where they ask something of it; with `--explain` among them as it
 /// serves the others, and an explanation follows; `measure` shows the totals of a run; and words about the tool are answered.
-pub fn serve_explained<F: Files, R: Read, O: Write, E: Write>(
+pub fn serve_explained<F: Keeps, R: Read, O: Write, E: Write>(
     alloc: Global,
     words: &[&str],
     files: &mut F,
@@ -35,15 +37,15 @@ pub fn serve_explained<F: Files, R: Read, O: Write, E: Write>(
     ensures served { ServesExplained (texts words.now) (F.holds files.old) (R.remaining input.old) (F.failed files.old) (F.failed files.new)
         result (O.contents out.old) (O.contents out.new) (E.contents err.old) (E.contents err.new) }
     ensures measured { order_in (texts words.now) ≡ None → is_measure (texts words.now) ≡ true
-        → Measures (texts words.now) (F.holds files.old) (R.remaining input.old) (F.failed files.old)
+        → Measures (texts words.now) (F.holds files.old) (R.remaining input.old) (F.failed files.old) (F.failed files.new)
         result (O.contents out.old) (O.contents out.new) (E.contents err.old) (E.contents err.new) }
     ensures scheduled { order_in (texts words.now) ≡ None → is_measure (texts words.now) ≡ false → is_schedule (texts words.now) ≡ true
-        → Schedules (words_of_check (texts words.now)) (F.holds files.old) (R.remaining input.old) (F.failed files.old)
+        → Schedules (words_of_check (texts words.now)) (F.holds files.old) (R.remaining input.old) (F.failed files.old) (F.failed files.new)
         result (O.contents out.old) (O.contents out.new) (E.contents err.old) (E.contents err.new) }
     ensures explained { order_in (texts words.now) ≡ None → is_measure (texts words.now) ≡ false → is_schedule (texts words.now) ≡ false
         → is_about (texts words.now) ≡ false
         → length (unflagged (texts words.now)) < length (texts words.now)
-        → ServesThenExplains (unflagged (texts words.now)) (F.holds files.old) (R.remaining input.old) (F.failed files.old)
+        → ServesThenExplains (unflagged (texts words.now)) (F.holds files.old) (R.remaining input.old) (F.failed files.old) (F.failed files.new)
         result (O.contents out.old) (O.contents out.new) (E.contents err.old) (E.contents err.new) }
 {
     match read(alloc, words) {
@@ -51,13 +53,16 @@ pub fn serve_explained<F: Files, R: Read, O: Write, E: Write>(
             Ok(answer) => show(alloc, &answer, out, err).status,
             Err(failure) => complain(alloc, &failure, err).status,
         },
-        Err(WordsFault::Usage(usage)) => serve_other(alloc, words, usage, files, input, out, err),
+        Err(WordsFault::Usage(usage)) => {
+            files.keep();
+            serve_other(alloc, words, usage, files, input, out, err)
+        }
         Err(WordsFault::Memory) => complain(alloc, &Failure::Memory, err).status,
     }
 }
 
 /// Serves words that ask nothing of `serve`.
-fn serve_other<F: Files, R: Read, O: Write, E: Write>(
+fn serve_other<F: Keeps, R: Read, O: Write, E: Write>(
     alloc: Global,
     words: &[&str],
     usage: String,
@@ -71,14 +76,14 @@ fn serve_other<F: Files, R: Read, O: Write, E: Write>(
     ensures served { ServesExplained (texts words.now) (F.holds files.old) (R.remaining input.old) (F.failed files.old) (F.failed files.new)
         result (O.contents out.old) (O.contents out.new) (E.contents err.old) (E.contents err.new) }
     ensures measured { is_measure (texts words.now) ≡ true
-        → Measures (texts words.now) (F.holds files.old) (R.remaining input.old) (F.failed files.old)
+        → Measures (texts words.now) (F.holds files.old) (R.remaining input.old) (F.failed files.old) (F.failed files.new)
         result (O.contents out.old) (O.contents out.new) (E.contents err.old) (E.contents err.new) }
     ensures scheduled { is_measure (texts words.now) ≡ false → is_schedule (texts words.now) ≡ true
-        → Schedules (words_of_check (texts words.now)) (F.holds files.old) (R.remaining input.old) (F.failed files.old)
+        → Schedules (words_of_check (texts words.now)) (F.holds files.old) (R.remaining input.old) (F.failed files.old) (F.failed files.new)
         result (O.contents out.old) (O.contents out.new) (E.contents err.old) (E.contents err.new) }
     ensures explained { is_measure (texts words.now) ≡ false → is_schedule (texts words.now) ≡ false → is_about (texts words.now) ≡ false
         → length (unflagged (texts words.now)) < length (texts words.now)
-        → ServesThenExplains (unflagged (texts words.now)) (F.holds files.old) (R.remaining input.old) (F.failed files.old)
+        → ServesThenExplains (unflagged (texts words.now)) (F.holds files.old) (R.remaining input.old) (F.failed files.old) (F.failed files.new)
         result (O.contents out.old) (O.contents out.new) (E.contents err.old) (E.contents err.new) }
 {
     if is_measure(words) {
@@ -89,7 +94,7 @@ fn serve_other<F: Files, R: Read, O: Write, E: Write>(
 }
 
 /// Serves words that ask nothing of `serve`, and measure nothing.
-fn serve_unmeasured<F: Files, R: Read, O: Write, E: Write>(
+fn serve_unmeasured<F: Keeps, R: Read, O: Write, E: Write>(
     alloc: Global,
     words: &[&str],
     usage: String,
@@ -103,11 +108,11 @@ fn serve_unmeasured<F: Files, R: Read, O: Write, E: Write>(
     ensures served { ServesExplained (texts words.now) (F.holds files.old) (R.remaining input.old) (F.failed files.old) (F.failed files.new)
         result (O.contents out.old) (O.contents out.new) (E.contents err.old) (E.contents err.new) }
     ensures scheduled { is_schedule (texts words.now) ≡ true
-        → Schedules (words_of_check (texts words.now)) (F.holds files.old) (R.remaining input.old) (F.failed files.old)
+        → Schedules (words_of_check (texts words.now)) (F.holds files.old) (R.remaining input.old) (F.failed files.old) (F.failed files.new)
         result (O.contents out.old) (O.contents out.new) (E.contents err.old) (E.contents err.new) }
     ensures explained { is_schedule (texts words.now) ≡ false → is_about (texts words.now) ≡ false
         → length (unflagged (texts words.now)) < length (texts words.now)
-        → ServesThenExplains (unflagged (texts words.now)) (F.holds files.old) (R.remaining input.old) (F.failed files.old)
+        → ServesThenExplains (unflagged (texts words.now)) (F.holds files.old) (R.remaining input.old) (F.failed files.old) (F.failed files.new)
         result (O.contents out.old) (O.contents out.new) (E.contents err.old) (E.contents err.new) }
 {
     if is_schedule(words) {
@@ -118,7 +123,7 @@ fn serve_unmeasured<F: Files, R: Read, O: Write, E: Write>(
 }
 
 /// Serves words that ask nothing of `serve`, measure nothing, and ask for no schedule.
-fn serve_unscheduled<F: Files, R: Read, O: Write, E: Write>(
+fn serve_unscheduled<F: Keeps, R: Read, O: Write, E: Write>(
     alloc: Global,
     words: &[&str],
     usage: String,
@@ -132,7 +137,7 @@ fn serve_unscheduled<F: Files, R: Read, O: Write, E: Write>(
     ensures served { ServesExplained (texts words.now) (F.holds files.old) (R.remaining input.old) (F.failed files.old) (F.failed files.new)
         result (O.contents out.old) (O.contents out.new) (E.contents err.old) (E.contents err.new) }
     ensures explained { is_about (texts words.now) ≡ false → length (unflagged (texts words.now)) < length (texts words.now)
-        → ServesThenExplains (unflagged (texts words.now)) (F.holds files.old) (R.remaining input.old) (F.failed files.old)
+        → ServesThenExplains (unflagged (texts words.now)) (F.holds files.old) (R.remaining input.old) (F.failed files.old) (F.failed files.new)
         result (O.contents out.old) (O.contents out.new) (E.contents err.old) (E.contents err.new) }
 {
     match answer_about(alloc, words) {
@@ -169,7 +174,7 @@ fn advised(alloc: Global, words: &[&str], usage: String) -> Result<String, Alloc
 }
 
 /// Serves words as `serve` does, and then explains what was shown.
-fn serve_flagged<F: Files, R: Read, O: Write, E: Write>(
+fn serve_flagged<F: Keeps, R: Read, O: Write, E: Write>(
     alloc: Global,
     words: &[&str],
     files: &mut F,
@@ -178,18 +183,22 @@ fn serve_flagged<F: Files, R: Read, O: Write, E: Write>(
     err: &mut E,
 ) -> u8
     requires { (F.failed files.old).count < 18446744073709551615 }
-    ensures { ServesThenExplains (texts words.now) (F.holds files.old) (R.remaining input.old) (F.failed files.old)
+    ensures { ServesThenExplains (texts words.now) (F.holds files.old) (R.remaining input.old) (F.failed files.old) (F.failed files.new)
         result (O.contents out.old) (O.contents out.new) (E.contents err.old) (E.contents err.new) }
 {
     match read(alloc, words) {
         Ok(order) => match carry_out(alloc, order, files, input) {
             Ok(answer) => {
                 let served = show(alloc, &answer, out, err);
-                follow(served, of_answer(alloc, &order, &answer, files), err)
+                follow(served, of_answer(alloc, &order, &answer, files.kept()), err)
             }
             Err(failure) => {
                 let served = complain(alloc, &failure, err);
-                follow(served, of_failure(alloc, &order, &failure, files), err)
+                follow(
+                    served,
+                    of_failure(alloc, &order, &failure, files.kept()),
+                    err,
+                )
             }
         },
         Err(WordsFault::Usage(usage)) => complain(alloc, &refusal(alloc, words, usage), err).status,
@@ -198,7 +207,7 @@ fn serve_flagged<F: Files, R: Read, O: Write, E: Write>(
 }
 
 /// Serves words that measure a run.
-fn serve_measure<F: Files, R: Read, O: Write, E: Write>(
+fn serve_measure<F: Keeps, R: Read, O: Write, E: Write>(
     alloc: Global,
     words: &[&str],
     files: &mut F,
@@ -207,7 +216,7 @@ fn serve_measure<F: Files, R: Read, O: Write, E: Write>(
     err: &mut E,
 ) -> u8
     requires { (F.failed files.old).count < 18446744073709551615 }
-    ensures { Measures (texts words.now) (F.holds files.old) (R.remaining input.old) (F.failed files.old)
+    ensures { Measures (texts words.now) (F.holds files.old) (R.remaining input.old) (F.failed files.old) (F.failed files.new)
         result (O.contents out.old) (O.contents out.new) (E.contents err.old) (E.contents err.new) }
 {
     match run_words(alloc, words) {
@@ -217,7 +226,7 @@ fn serve_measure<F: Files, R: Read, O: Write, E: Write>(
 }
 
 /// Serves words that measure a run, by the words that run it.
-fn serve_run<F: Files, R: Read, O: Write, E: Write>(
+fn serve_run<F: Keeps, R: Read, O: Write, E: Write>(
     alloc: Global,
     words: &[&str],
     plain: &[&str],
@@ -228,7 +237,7 @@ fn serve_run<F: Files, R: Read, O: Write, E: Write>(
 ) -> u8
     requires room { (F.failed files.old).count < 18446744073709551615 }
     requires plain { texts plain.now ≡ words_of_run (texts words.now) }
-    ensures { Measures (texts words.now) (F.holds files.old) (R.remaining input.old) (F.failed files.old)
+    ensures { Measures (texts words.now) (F.holds files.old) (R.remaining input.old) (F.failed files.old) (F.failed files.new)
         result (O.contents out.old) (O.contents out.new) (E.contents err.old) (E.contents err.new) }
 {
     match read(alloc, plain) {
@@ -244,7 +253,7 @@ fn serve_run<F: Files, R: Read, O: Write, E: Write>(
 }
 
 /// Shows the totals of the run that words measure; or why there are none, and an explanation where the words ask for one.
-fn show_measured<F: Files, R: Read, O: Write, E: Write>(
+fn show_measured<F: Keeps, R: Read, O: Write, E: Write>(
     alloc: Global,
     words: &[&str],
     program: Origin<'_>,
@@ -256,7 +265,7 @@ fn show_measured<F: Files, R: Read, O: Write, E: Write>(
 ) -> u8
     requires room { (F.failed files.old).count < 18446744073709551615 }
     requires named { measured_run (texts words.now) ≡ Some (origin_view program, option_map (λ p. p.now) numbers) }
-    ensures { Measures (texts words.now) (F.holds files.old) (R.remaining input.old) (F.failed files.old)
+    ensures { Measures (texts words.now) (F.holds files.old) (R.remaining input.old) (F.failed files.old) (F.failed files.new)
         result (O.contents out.old) (O.contents out.new) (E.contents err.old) (E.contents err.new) }
 {
     let order = Order::Run {
@@ -264,44 +273,65 @@ fn show_measured<F: Files, R: Read, O: Write, E: Write>(
         input: numbers,
     };
     match totals_of(alloc, program, numbers, files, input) {
-        Ok(totals) => match text_of(alloc, words, &totals, program, numbers, files) {
+        Ok(totals) => match text_of(alloc, words, &totals, program, numbers, files.kept()) {
             Ok(text) => tell_text(text.as_slice(), out, err),
             Err(_) => complain(alloc, &Failure::Memory, err).status,
         },
         Err(failure) => {
             let served = complain(alloc, &failure, err);
-            follow(served, why(alloc, words, &order, &failure, files), err)
+            follow(
+                served,
+                why(alloc, words, &order, &failure, files.kept()),
+                err,
+            )
         }
     }
 }
 
 /// What is said behind a failure, where the words ask for an explanation.
-fn why<F: Files>(
+fn why(
     alloc: Global,
     words: &[&str],
     order: &Order<'_>,
     failure: &Failure<'_>,
-    files: &mut F,
-) -> Result<String, AllocError> {
+    kept: &Kept,
+) -> Result<String, CaseFault> {
     if asks(words, "--explain") {
-        of_failure(alloc, order, failure, files)
+        of_failure(alloc, order, failure, kept)
     } else {
         Ok(String::new(alloc))
     }
 }
 
-/// Writes an explanation behind what was shown, where all of that went out.
-pub fn follow<E: Write>(served: Served, text: Result<String, AllocError>, err: &mut E) -> u8
+/// Writes an explanation behind what was shown, or why there is none: where all of that went out, and was no want of memory.
+pub fn follow<E: Write>(served: Served, text: Result<String, CaseFault>, err: &mut E) -> u8
     ensures status { result ≡ served.status }
-    ensures follows { ComesBehind (E.contents err.old) (E.contents err.new) }
+    ensures follows { Follows result (E.contents err.old) (E.contents err.new) }
 {
-    match text {
-        Ok(text) if served.told => {
-            let _ = tell(err, text.as_bytes());
+    if served.told {
+        if served.status != NO_MEMORY {
+            explain(text, err);
         }
-        _ => {}
     }
     served.status
+}
+
+/// Writes an explanation, or why there is none.
+fn explain<E: Write>(text: Result<String, CaseFault>, err: &mut E)
+    ensures { ComesBehind (E.contents err.old) (E.contents err.new) }
+{
+    let _ = match text {
+        Ok(text) => tell(err, text.as_bytes()),
+        Err(fault) => tell(err, missing(fault).as_bytes()),
+    };
+}
+
+// The line of an explanation that can't be made.
+fn missing(fault: CaseFault) -> &'static str {
+    match fault {
+        CaseFault::Memory => "explanation: no memory\n",
+        CaseFault::Unfit => "explanation: the texts aren't those of this answer\n",
+    }
 }
 
 /// Writes a text to standard output, and answers the status.

@@ -10,6 +10,7 @@ mod folder;
 use crate::case::{Case, loaded, text_of};
 use crate::compare::{agrees, start_of};
 use crate::folder::{File, Folder, bytes_of};
+use cilk_measured::KeptFiles;
 use cilk_parallel::serve_parallel;
 use std::alloc::AllocError;
 use std::io;
@@ -35,7 +36,7 @@ fn served<H: Threads + Wait + Sync>(
     let alloc = rt.alloc();
     let words: Vec<&str> = words.lines().collect(alloc)?;
     let mut input = bytes_of(files, "stdin");
-    let mut folder = Folder::new(files);
+    let mut folder = KeptFiles::new(alloc, Folder::new(files));
     let (mut out, mut err) = (Vec::new(alloc), Vec::new(alloc));
     let status = serve_parallel(
         handle,

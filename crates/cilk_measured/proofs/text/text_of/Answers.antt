@@ -14,7 +14,7 @@ kept (Ok v) b P h = λ other. h
 kept (Err e) b P h = tt
 
 pub returns-then-is_drawn : goal.returns-then-is_drawn
-returns-then-is_drawn g c = free c.drawn.result _ _ _ c.if-is_drawn.true c.is_drawn.ensures
+returns-then-is_drawn c = free c.drawn.result _ _ _ c.if-is_drawn.true c.is_drawn.ensures
 
 pub returns-else-is_drawn : goal.returns-else-is_drawn
-returns-else-is_drawn g c = kept c.table.result _ _ c.table.ensures
+returns-else-is_drawn c = kept c.table.result _ _ c.table.ensures

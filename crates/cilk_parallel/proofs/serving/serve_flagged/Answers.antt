@@ -6,7 +6,6 @@ use Rattle.cilk_parallel.proofs.serving.serve_flagged.Goals as goal
 
 pub returns-in-Ok-carry_out : goal.returns-in-Ok-carry_out
 returns-in-Ok-carry_out g c = (
-  g.F.Files.failed c.carry_out.new.files,
   g.E.Write.contents c.show_ending-served.new.err,
   c.show_ending-served.result.told,
   told_status _ _ _ _ _ _ _ _ _
@@ -17,7 +16,6 @@ returns-in-Ok-carry_out g c = (
 
 pub returns-in-Err : goal.returns-in-Err
 returns-in-Err g c = (
-  g.F.Files.failed c.carry_out.new.files,
   g.E.Write.contents c.complain-served.new.err,
   c.complain-served.result.told,
   told_status _ _ _ _ _ _ _ _ _
@@ -28,20 +26,18 @@ returns-in-Err g c = (
 
 pub returns-in-Err-Usage : goal.returns-in-Err-Usage
 returns-in-Err-Usage g c = (
-  g.F.Files.failed c.args.files.now,
   g.E.Write.contents c.complain.new.err,
   c.complain.result.told,
   fails _ _ _ _ c.advised.result _ _ _
       (no_words _ _ _ (unasked _ _ (subst (λ (e : WordsFault). IsUsage e) (sym c.in-Err-Usage.field-0-is) tt) c.in-Err-Usage.ensures.fault) c.advised.ensures)
       c.complain.ensures,
-  silence _,
+  silence _ _,
 )
 
 pub returns-in-Err-Memory : goal.returns-in-Err-Memory
 returns-in-Err-Memory g c = (
-  g.F.Files.failed c.args.files.now,
   g.E.Write.contents c.complain-in-Err-Memory.new.err,
   c.complain-in-Err-Memory.result.told,
   starved _ _ _ _ _ _ _ c.complain-in-Err-Memory.ensures,
-  silence _,
+  silence _ _,
 )

@@ -1,7 +1,9 @@
 use Rattle.std.proofs.Common.{subst, sym}
 use Rattle.cilk_words.specs.declared.words.WordsFault.{WordsFault}
-use Rattle.cilk_report.proofs.Replies.{IsUsage, silence}
-use Rattle.cilk_parallel.specs.Serving.{Plain}
+use Rattle.cilk_report.proofs.Replies.{IsUsage, of_kept, silence}
+use Rattle.cilk_report.specs.Explained.{unflagged}
+use Rattle.cilk_words.specs.Words.{texts}
+use Rattle.cilk_parallel.specs.Serving.{IsThreadsReply, Plain, ThreadsThenExplains}
 use Rattle.cilk_parallel.proofs.Showing.{answered, asked, ends, fails, starved, unasked}
 use Rattle.cilk_parallel.proofs.serving.serve_threads.Goals as goal
 
@@ -26,7 +28,16 @@ serve_unread-requires-clause-unread g c = λ _ _.
     unasked _ _ (subst (λ (e : WordsFault). IsUsage e) (sym c.in-Err-Usage.field-0-is) tt) c.in-Err-Usage.ensures.fault
 
 pub returns-in-Err-Usage-clause-explained : goal.returns-in-Err-Usage-clause-explained
-returns-in-Err-Usage-clause-explained g c = λ _. c.serve_unread.ensures.explained
+returns-in-Err-Usage-clause-explained g c = λ _ less.
+    of_kept (λ fs f. ThreadsThenExplains (unflagged (texts c.args.words.now)) fs (g.R.Read.remaining c.args.input.now) f (g.F.Files.failed c.serve_unread.new.files)
+    c.serve_unread.result (g.O.Write.contents c.args.out.now) (g.O.Write.contents c.serve_unread.new.out) (g.E.Write.contents c.args.err.now)
+    (g.E.Write.contents c.serve_unread.new.err)) _ _ _ _ c.keep.ensures.failures c.keep.ensures.same (c.serve_unread.ensures.explained less)
+
+pub returns-in-Err-Usage-clause-served : goal.returns-in-Err-Usage-clause-served
+returns-in-Err-Usage-clause-served g c =
+    of_kept (λ fs f. IsThreadsReply (texts c.args.words.now) fs (g.R.Read.remaining c.args.input.now) f (g.F.Files.failed c.serve_unread.new.files)
+    c.serve_unread.result (g.O.Write.contents c.args.out.now) (g.O.Write.contents c.serve_unread.new.out) (g.E.Write.contents c.args.err.now)
+    (g.E.Write.contents c.serve_unread.new.err)) _ _ _ _ c.keep.ensures.failures c.keep.ensures.same c.serve_unread.ensures.served
 
 pub returns-in-Err-Memory-clause-served : goal.returns-in-Err-Memory-clause-served
 returns-in-Err-Memory-clause-served g c =
@@ -34,9 +45,8 @@ returns-in-Err-Memory-clause-served g c =
 
 pub returns-in-Err-Memory-clause-explained : goal.returns-in-Err-Memory-clause-explained
 returns-in-Err-Memory-clause-explained g c = λ _ _. (
-  g.F.Files.failed c.args.files.now,
   g.E.Write.contents c.complain-in-Err-Memory.new.err,
   c.complain-in-Err-Memory.result.told,
   starved _ _ _ _ _ _ _ c.complain-in-Err-Memory.ensures,
-  silence _,
+  silence _ _,
 )

@@ -15,7 +15,7 @@ returns-in-Ok-clause-served g c =
     let less : length c.as_slice.result.now < length c.args.words.now = search rules in
     Explained c.requires.unread (fewer _ _ same less)
     (subst (λ (ws : List Text). ThreadsThenExplains ws (g.F.Files.holds c.args.files.now) (g.R.Read.remaining c.args.input.now)
-    (g.F.Files.failed c.args.files.now) c.serve_flagged.result (g.O.Write.contents c.args.out.now) (g.O.Write.contents c.serve_flagged.new.out)
+    (g.F.Files.failed c.args.files.now) (g.F.Files.failed c.serve_flagged.new.files) c.serve_flagged.result (g.O.Write.contents c.args.out.now) (g.O.Write.contents c.serve_flagged.new.out)
     (g.E.Write.contents c.args.err.now) (g.E.Write.contents c.serve_flagged.new.err)) same c.serve_flagged.ensures)
 
 pub returns-in-Ok-clause-explained : goal.returns-in-Ok-clause-explained
@@ -23,7 +23,7 @@ returns-in-Ok-clause-explained g c = λ _.
     let same : texts c.as_slice.result.now ≡ unflagged (texts c.args.words.now) =
     ap texts (c.as_slice.ensures.value ∙ c.in-Ok.ensures) ∙ plain_texts c.args.words.now in
     subst (λ (ws : List Text). ThreadsThenExplains ws (g.F.Files.holds c.args.files.now) (g.R.Read.remaining c.args.input.now)
-    (g.F.Files.failed c.args.files.now) c.serve_flagged.result (g.O.Write.contents c.args.out.now) (g.O.Write.contents c.serve_flagged.new.out)
+    (g.F.Files.failed c.args.files.now) (g.F.Files.failed c.serve_flagged.new.files) c.serve_flagged.result (g.O.Write.contents c.args.out.now) (g.O.Write.contents c.serve_flagged.new.out)
     (g.E.Write.contents c.args.err.now) (g.E.Write.contents c.serve_flagged.new.err)) same c.serve_flagged.ensures
 
 pub returns-in-Ok-2-clause-served : goal.returns-in-Ok-2-clause-served
@@ -42,9 +42,8 @@ returns-in-Err-clause-served g c = Plain c.complain-in-Err.result.told (starved 
 
 pub returns-in-Err-clause-explained : goal.returns-in-Err-clause-explained
 returns-in-Err-clause-explained g c = λ _. (
-  g.F.Files.failed c.args.files.now,
   g.E.Write.contents c.complain-in-Err.new.err,
   c.complain-in-Err.result.told,
   starved _ _ _ _ _ _ _ c.complain-in-Err.ensures,
-  silence _,
+  silence _ _,
 )

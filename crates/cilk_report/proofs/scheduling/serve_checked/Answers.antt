@@ -7,12 +7,11 @@ use Rattle.cilk_report.proofs.scheduling.serve_checked.Goals as goal
 
 pub returns-in-Ok-Some : goal.returns-in-Ok-Some
 returns-in-Ok-Some g c =
-    Told (g.F.Files.failed c.carry_out.new.files) (answer_view c.in-Ok-carry_out.answer) c.as_bytes.result.now
+    Told (answer_view c.in-Ok-carry_out.answer) c.as_bytes.result.now
     (asked_for _ _ _ _ c.in-Ok.ensures.order c.in-Ok-carry_out.ensures.answer) (rw c.in-Ok-Some.field-0-is at c.in-Ok-Some.ensures) c.tell_text.ensures
 
 pub returns-in-Ok-None : goal.returns-in-Ok-None
 returns-in-Ok-None g c = Checked (
-  g.F.Files.failed c.carry_out.new.files,
   g.E.Write.contents c.show-served.new.err,
   c.show-served.result.told,
   ended _ _ _ _ _ _ _ _ _ _ _ c.in-Ok.ensures.order c.in-Ok-carry_out.ensures.answer c.show-served.ensures c.follow.ensures.status,
@@ -21,16 +20,14 @@ returns-in-Ok-None g c = Checked (
 
 pub returns-in-Ok-carry_out : goal.returns-in-Ok-carry_out
 returns-in-Ok-carry_out g c = Checked (
-  g.F.Files.failed c.carry_out.new.files,
   g.E.Write.contents c.complain.new.err,
   c.complain.result.told,
   starved _ _ _ _ _ _ _ c.complain.ensures,
-  silence _,
+  silence _ _,
 )
 
 pub returns-in-Ok : goal.returns-in-Ok
 returns-in-Ok g c = Checked (
-  g.F.Files.failed c.carry_out.new.files,
   g.E.Write.contents c.complain-served.new.err,
   c.complain-served.result.told,
   failed _ _ _ _ _ _ _ _ _ _ c.in-Ok.ensures.order c.in-Err.ensures.failure c.complain-served.ensures c.follow-in-Err.ensures.status,
@@ -39,20 +36,18 @@ returns-in-Ok g c = Checked (
 
 pub returns-in-Err-Usage : goal.returns-in-Err-Usage
 returns-in-Err-Usage g c = Checked (
-  g.F.Files.failed c.args.files.now,
   g.E.Write.contents c.complain-in-Err-Usage.new.err,
   c.complain-in-Err-Usage.result.told,
   refused _ _ c.usage_of_schedule.result _ _ _ _ _
       (unasked _ _ (subst (λ (e : WordsFault). IsUsage e) (sym c.in-Err-Usage.field-0-is) tt) c.in-Err-Usage.ensures.fault)
       c.usage_of_schedule.ensures c.complain-in-Err-Usage.ensures,
-  silence _,
+  silence _ _,
 )
 
 pub returns : goal.returns
 returns g c = Checked (
-  g.F.Files.failed c.args.files.now,
   g.E.Write.contents c.complain-in-Err-Memory.new.err,
   c.complain-in-Err-Memory.result.told,
   starved _ _ _ _ _ _ _ c.complain-in-Err-Memory.ensures,
-  silence _,
+  silence _ _,
 )

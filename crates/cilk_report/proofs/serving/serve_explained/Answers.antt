@@ -1,7 +1,8 @@
 use Rattle.std.proofs.Common.{refl, subst, sym}
 use Rattle.cilk_report.proofs.Measuring as measuring
-use Rattle.cilk_report.proofs.Replies.{IsUsage, ended, failed, silence, starved, unasked}
-use Rattle.cilk_report.specs.Explained.{Checked, Served}
+use Rattle.cilk_report.proofs.Replies.{IsUsage, ended, failed, of_kept, silence, starved, unasked}
+use Rattle.cilk_report.specs.Explained.{Checked, Measures, Schedules, Served, ServesExplained, ServesThenExplains, unflagged, words_of_check}
+use Rattle.cilk_words.specs.Words.{texts}
 use Rattle.cilk_words.specs.declared.words.WordsFault.{WordsFault}
 use Rattle.cilk_report.proofs.serving.serve_explained.Goals as goal
 
@@ -25,13 +26,22 @@ serve_other-requires-clause-other g c =
     unasked _ _ (subst (λ (e : WordsFault). IsUsage e) (sym c.in-Err-Usage.field-0-is) tt) c.in-Err-Usage.ensures.fault
 
 pub returns-in-Err-Usage-clause-measured : goal.returns-in-Err-Usage-clause-measured
-returns-in-Err-Usage-clause-measured g c = λ _. c.serve_other.ensures.measured
+returns-in-Err-Usage-clause-measured g c = λ _ measures.
+    of_kept (λ fs f. Measures (texts c.args.words.now) fs (g.R.Read.remaining c.args.input.now) f (g.F.Files.failed c.serve_other.new.files)
+    c.serve_other.result (g.O.Write.contents c.args.out.now) (g.O.Write.contents c.serve_other.new.out) (g.E.Write.contents c.args.err.now)
+    (g.E.Write.contents c.serve_other.new.err)) _ _ _ _ c.keep.ensures.failures c.keep.ensures.same (c.serve_other.ensures.measured measures)
+
+pub returns-in-Err-Usage-clause-served : goal.returns-in-Err-Usage-clause-served
+returns-in-Err-Usage-clause-served g c =
+    of_kept (λ fs f. ServesExplained (texts c.args.words.now) fs (g.R.Read.remaining c.args.input.now) f (g.F.Files.failed c.serve_other.new.files)
+    c.serve_other.result (g.O.Write.contents c.args.out.now) (g.O.Write.contents c.serve_other.new.out) (g.E.Write.contents c.args.err.now)
+    (g.E.Write.contents c.serve_other.new.err)) _ _ _ _ c.keep.ensures.failures c.keep.ensures.same c.serve_other.ensures.served
 
 pub returns-in-Err-Memory-clause-served : goal.returns-in-Err-Memory-clause-served
 returns-in-Err-Memory-clause-served g c = Served c.complain-in-Err-Memory.result.told (starved _ _ _ _ _ _ _ c.complain-in-Err-Memory.ensures)
 
 pub returns-in-Err-Memory-clause-measured : goal.returns-in-Err-Memory-clause-measured
-returns-in-Err-Memory-clause-measured g c = λ _ _. measuring.starved _ _ _ _ _ _ _ _ _ _ _ c.complain-in-Err-Memory.ensures (silence _) refl
+returns-in-Err-Memory-clause-measured g c = λ _ _. measuring.starved _ _ _ _ _ _ _ _ _ _ _ _ c.complain-in-Err-Memory.ensures (silence _ _) refl
 
 pub returns-in-Ok-carry_out-clause-explained : goal.returns-in-Ok-carry_out-clause-explained
 returns-in-Ok-carry_out-clause-explained g c = λ empty _ _ _ _. absurd (measuring.asked _ _ c.in-Ok.ensures.order empty)
@@ -40,15 +50,17 @@ pub returns-in-Err-clause-explained : goal.returns-in-Err-clause-explained
 returns-in-Err-clause-explained g c = λ empty _ _ _ _. absurd (measuring.asked _ _ c.in-Ok.ensures.order empty)
 
 pub returns-in-Err-Usage-clause-explained : goal.returns-in-Err-Usage-clause-explained
-returns-in-Err-Usage-clause-explained g c = λ _. c.serve_other.ensures.explained
+returns-in-Err-Usage-clause-explained g c = λ _ isnt other about less.
+    of_kept (λ fs f. ServesThenExplains (unflagged (texts c.args.words.now)) fs (g.R.Read.remaining c.args.input.now) f (g.F.Files.failed c.serve_other.new.files)
+    c.serve_other.result (g.O.Write.contents c.args.out.now) (g.O.Write.contents c.serve_other.new.out) (g.E.Write.contents c.args.err.now)
+    (g.E.Write.contents c.serve_other.new.err)) _ _ _ _ c.keep.ensures.failures c.keep.ensures.same (c.serve_other.ensures.explained isnt other about less)
 
 pub returns-in-Err-Memory-clause-explained : goal.returns-in-Err-Memory-clause-explained
 returns-in-Err-Memory-clause-explained g c = λ _ _ _ _ _. (
-  g.F.Files.failed c.args.files.now,
   g.E.Write.contents c.complain-in-Err-Memory.new.err,
   c.complain-in-Err-Memory.result.told,
   starved _ _ _ _ _ _ _ c.complain-in-Err-Memory.ensures,
-  silence _,
+  silence _ _,
 )
 
 pub returns-in-Ok-carry_out-clause-scheduled : goal.returns-in-Ok-carry_out-clause-scheduled
@@ -58,13 +70,15 @@ pub returns-in-Err-clause-scheduled : goal.returns-in-Err-clause-scheduled
 returns-in-Err-clause-scheduled g c = λ empty _ _. absurd (measuring.asked _ _ c.in-Ok.ensures.order empty)
 
 pub returns-in-Err-Usage-clause-scheduled : goal.returns-in-Err-Usage-clause-scheduled
-returns-in-Err-Usage-clause-scheduled g c = λ _. c.serve_other.ensures.scheduled
+returns-in-Err-Usage-clause-scheduled g c = λ _ isnt schedules.
+    of_kept (λ fs f. Schedules (words_of_check (texts c.args.words.now)) fs (g.R.Read.remaining c.args.input.now) f (g.F.Files.failed c.serve_other.new.files)
+    c.serve_other.result (g.O.Write.contents c.args.out.now) (g.O.Write.contents c.serve_other.new.out) (g.E.Write.contents c.args.err.now)
+    (g.E.Write.contents c.serve_other.new.err)) _ _ _ _ c.keep.ensures.failures c.keep.ensures.same (c.serve_other.ensures.scheduled isnt schedules)
 
 pub returns-in-Err-Memory-clause-scheduled : goal.returns-in-Err-Memory-clause-scheduled
 returns-in-Err-Memory-clause-scheduled g c = λ _ _ _. Checked (
-  g.F.Files.failed c.args.files.now,
   g.E.Write.contents c.complain-in-Err-Memory.new.err,
   c.complain-in-Err-Memory.result.told,
   starved _ _ _ _ _ _ _ c.complain-in-Err-Memory.ensures,
-  silence _,
+  silence _ _,
 )

@@ -5,7 +5,6 @@ use Rattle.cilk_report.proofs.serving.serve_flagged.Goals as goal
 
 pub returns-in-Ok-carry_out : goal.returns-in-Ok-carry_out
 returns-in-Ok-carry_out g c = (
-  g.F.Files.failed c.carry_out.new.files,
   g.E.Write.contents c.show-served.new.err,
   c.show-served.result.told,
   ended _ _ _ _ _ _ _ _ _ _ _ c.in-Ok.ensures.order c.in-Ok-carry_out.ensures.answer c.show-served.ensures c.follow.ensures.status,
@@ -14,7 +13,6 @@ returns-in-Ok-carry_out g c = (
 
 pub returns-in-Err : goal.returns-in-Err
 returns-in-Err g c = (
-  g.F.Files.failed c.carry_out.new.files,
   g.E.Write.contents c.complain-served.new.err,
   c.complain-served.result.told,
   failed _ _ _ _ _ _ _ _ _ _ c.in-Ok.ensures.order c.in-Err.ensures.failure c.complain-served.ensures c.follow-in-Err.ensures.status,
@@ -23,20 +21,18 @@ returns-in-Err g c = (
 
 pub returns-in-Err-Usage : goal.returns-in-Err-Usage
 returns-in-Err-Usage g c = (
-  g.F.Files.failed c.args.files.now,
   g.E.Write.contents c.complain.new.err,
   c.complain.result.told,
   refused _ _ c.refusal.result _ _ _ _ _
       (unasked _ _ (subst (λ (e : WordsFault). IsUsage e) (sym c.in-Err-Usage.field-0-is) tt) c.in-Err-Usage.ensures.fault)
       c.refusal.ensures c.complain.ensures,
-  silence _,
+  silence _ _,
 )
 
 pub returns-in-Err-Memory : goal.returns-in-Err-Memory
 returns-in-Err-Memory g c = (
-  g.F.Files.failed c.args.files.now,
   g.E.Write.contents c.complain-in-Err-Memory.new.err,
   c.complain-in-Err-Memory.result.told,
   starved _ _ _ _ _ _ _ c.complain-in-Err-Memory.ensures,
-  silence _,
+  silence _ _,
 )

@@ -8,4 +8,4 @@ pub serve_run-requires-clause-plain : goal.serve_run-requires-clause-plain
 serve_run-requires-clause-plain g c = ap texts c.as_slice.ensures.value ∙ c.in-Ok.ensures
 
 pub returns-in-Err : goal.returns-in-Err
-returns-in-Err g c = starved _ _ _ _ _ _ _ _ _ _ _ c.complain.ensures (silence _) refl
+returns-in-Err g c = starved _ _ _ _ _ _ _ _ _ _ _ _ c.complain.ensures (silence _ _) refl

@@ -31,7 +31,7 @@ returns-in-Ok-clause-served g c =
     let less : length c.as_slice.result.now < length c.args.words.now = search rules in
     Explained c.requires.other (fewer _ _ same less)
     (subst (λ (ws : List Text). ServesThenExplains ws (g.F.Files.holds c.args.files.now) (g.R.Read.remaining c.args.input.now)
-    (g.F.Files.failed c.args.files.now) c.serve_flagged.result (g.O.Write.contents c.args.out.now) (g.O.Write.contents c.serve_flagged.new.out)
+    (g.F.Files.failed c.args.files.now) (g.F.Files.failed c.serve_flagged.new.files) c.serve_flagged.result (g.O.Write.contents c.args.out.now) (g.O.Write.contents c.serve_flagged.new.out)
     (g.E.Write.contents c.args.err.now) (g.E.Write.contents c.serve_flagged.new.err)) same c.serve_flagged.ensures)
 
 pub returns-in-Ok-clause-explained : goal.returns-in-Ok-clause-explained
@@ -39,7 +39,7 @@ returns-in-Ok-clause-explained g c = λ _ _.
     let same : texts c.as_slice.result.now ≡ unflagged (texts c.args.words.now) =
     ap texts (c.as_slice.ensures.value ∙ c.in-Ok.ensures) ∙ plain_texts c.args.words.now in
     subst (λ (ws : List Text). ServesThenExplains ws (g.F.Files.holds c.args.files.now) (g.R.Read.remaining c.args.input.now)
-    (g.F.Files.failed c.args.files.now) c.serve_flagged.result (g.O.Write.contents c.args.out.now) (g.O.Write.contents c.serve_flagged.new.out)
+    (g.F.Files.failed c.args.files.now) (g.F.Files.failed c.serve_flagged.new.files) c.serve_flagged.result (g.O.Write.contents c.args.out.now) (g.O.Write.contents c.serve_flagged.new.out)
     (g.E.Write.contents c.args.err.now) (g.E.Write.contents c.serve_flagged.new.err)) same c.serve_flagged.ensures
 
 pub returns-in-Ok-2-clause-served : goal.returns-in-Ok-2-clause-served
@@ -58,11 +58,10 @@ returns-in-Err-unflagged-clause-served g c = Served c.complain-in-Err-unflagged.
 
 pub returns-in-Err-unflagged-clause-explained : goal.returns-in-Err-unflagged-clause-explained
 returns-in-Err-unflagged-clause-explained g c = λ _ _. (
-  g.F.Files.failed c.args.files.now,
   g.E.Write.contents c.complain-in-Err-unflagged.new.err,
   c.complain-in-Err-unflagged.result.told,
   starved _ _ _ _ _ _ _ c.complain-in-Err-unflagged.ensures,
-  silence _,
+  silence _ _,
 )
 
 pub returns-in-Err-clause-served : goal.returns-in-Err-clause-served
@@ -70,9 +69,8 @@ returns-in-Err-clause-served g c = Served c.complain-in-Err.result.told (starved
 
 pub returns-in-Err-clause-explained : goal.returns-in-Err-clause-explained
 returns-in-Err-clause-explained g c = λ _ _. (
-  g.F.Files.failed c.args.files.now,
   g.E.Write.contents c.complain-in-Err.new.err,
   c.complain-in-Err.result.told,
   starved _ _ _ _ _ _ _ c.complain-in-Err.ensures,
-  silence _,
+  silence _ _,
 )

@@ -9,11 +9,11 @@ use Rattle.cilk_report.proofs.serving.show_measured.Goals as goal
 
 pub returns-in-Ok-text_of : goal.returns-in-Ok-text_of
 returns-in-Ok-text_of g c =
-    Measured (g.F.Files.failed c.totals_of.new.files) _ _ c.in-Ok.totals c.as_slice.result.now c.requires.named c.in-Ok.ensures.totals
+    Measured _ _ c.in-Ok.totals c.as_slice.result.now c.requires.named c.in-Ok.ensures.totals
     (subst (λ (t : Text). IsMeasureText (texts c.args.words.now) c.in-Ok.totals t) (sym c.as_slice.ensures.value) c.in-Ok-text_of.ensures) c.tell_text.ensures
 
 pub returns-in-Err-text_of : goal.returns-in-Err-text_of
-returns-in-Err-text_of g c = starved _ _ _ _ _ _ _ _ _ _ _ c.complain.ensures (silence _) refl
+returns-in-Err-text_of g c = starved _ _ _ _ _ _ _ _ _ _ _ _ c.complain.ensures (silence _ _) refl
 
 pub returns-in-Err : goal.returns-in-Err
 returns-in-Err g c =

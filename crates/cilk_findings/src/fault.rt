@@ -1,0 +1,48 @@
+//! Why nothing is told of a run.
+
+use cilk_lexer::lexer::LexFault;
+use cilk_names::fault::NameFault;
+use cilk_texts::fault::TextFault;
+use std::alloc::AllocError;
+
+/// Why nothing is told of a run.
+#[derive(Clone, Copy, PartialEq, Eq, Debug)]
+pub enum CaseFault {
+    Memory,
+    /// The texts aren't a program and its input, or their run isn't the one that was judged. Of texts as they were judged it
+    /// doesn't come.
+    Unfit,
+}
+
+impl From<AllocError> for CaseFault {
+    fn from(_: AllocError) -> CaseFault {
+        CaseFault::Memory
+    }
+}
+
+impl From<TextFault> for CaseFault {
+    fn from(fault: TextFault) -> CaseFault {
+        match fault {
+            TextFault::Memory => CaseFault::Memory,
+            TextFault::At(_, _) => CaseFault::Unfit,
+        }
+    }
+}
+
+impl From<NameFault> for CaseFault {
+    fn from(fault: NameFault) -> CaseFault {
+        match fault {
+            NameFault::Memory => CaseFault::Memory,
+            NameFault::At(_, _) => CaseFault::Unfit,
+        }
+    }
+}
+
+impl From<LexFault> for CaseFault {
+    fn from(fault: LexFault) -> CaseFault {
+        match fault {
+            LexFault::Memory => CaseFault::Memory,
+            LexFault::At(_, _) => CaseFault::Unfit,
+        }
+    }
+}
