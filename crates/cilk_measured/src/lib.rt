@@ -1,7 +1,8 @@
 //! What `measure` shows: the totals of a program's run, ahead of what each of its functions and loops takes.
 //!
 //! [`totals_of`] reads and judges the texts as `run` does, makes the serial run, and counts it. [`text_of`] is the table that begins with
-//! these totals, each on a line; or a picture.
+//! these totals, each on a line; or a picture. [`KeptFiles`] keep a copy of what is read, where more is told than a reply: it is told of the texts
+//! that were judged.
 //!
 //! ```text
 //! events 3

@@ -29,7 +29,7 @@ pub struct Details {
     pub bodies: String,
 }
 
-/// What is told of the case's run behind its totals, in columns or with commas. The run has to end.
+/// What is told of the case's run after its totals, in columns or with commas. The run has to end.
 pub fn details_of(case: &Case<'_>, commas: bool) -> Result<Details, CaseFault> {
     let run = Run::of(case)?;
     if run.fault.is_some() {

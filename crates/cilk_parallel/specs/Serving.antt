@@ -27,7 +27,7 @@ Answers w (Some asked) r = JudgedReply (ThreadsShow w.files w.failed w.failed' a
 abbrev pub ServesThreads : List Text → Surroundings → ℕ → (is_whole : Bool) → Option Text → Option Text → Option Text → Option Text → Type 0
 ServesThreads words w status is_whole out out' err err' = (r : Reply) × Answers w (order_in words) r × Shows r status is_whole out out' err err'
 
--- the words of `threads` are answered so, and a text comes on standard error behind it
+-- the words of `threads` are answered so, and a text comes on standard error after it
 abbrev pub ThreadsThenExplains : List Text → (Text → Option Text) → Option Text → Failures → Failures → ℕ
     → Option Text → Option Text → Option Text → Option Text → Type 0
 ThreadsThenExplains words files input failed failed' status out out' err err' =

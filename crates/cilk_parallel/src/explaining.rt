@@ -51,7 +51,7 @@ pub fn of_fault(
     of_failure(alloc, &check_of(order, input), failure, kept)
 }
 
-// The file of the input that a fault is in: the one that was read last. The other input is read behind the program and its own.
+// The file of the input that a fault is in: the one that was read last. The other input is read after the program and its own.
 fn faulty<'a>(order: &Order<'a>, kept: &Kept) -> Option<&'a str> {
     match order.input {
         Some(path) if kept.count() < 3 => Some(path),

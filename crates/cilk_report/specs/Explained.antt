@@ -71,7 +71,7 @@ IsAskedFor words (answers.Wrong text) = is_about words ≡ true
 abbrev pub ComesBehind : Option Text → Option Text → Type 0
 ComesBehind old new = (text : Text) × (is_whole : Bool) × AppendsFront is_whole old new text
 
--- some text comes behind what was shown with a status, but none behind a want of memory
+-- some text comes after what was shown with a status, but none after a want of memory
 abbrev pub Follows : ℕ → Option Text → Option Text → Type 0
 Follows status old new = ComesBehind old new × (status ≡ NO_MEMORY → new ≡ old)
 
@@ -85,7 +85,7 @@ WritesText text status out out' err err' =
 abbrev pub WritesAbout : ℕ → Option Text → Option Text → Option Text → Option Text → Type 0
 WritesAbout status out out' err err' = (text : Text) × WritesText text status out out' err err'
 
--- what `serve` does with these words, by reads of files that are all of the call's, and a text on standard error behind it
+-- what `serve` does with these words, where its reads of files are all of the call's, and a text on standard error after it
 abbrev pub ServesThenExplains : List Text → (Text → Option Text) → Option Text → Failures → Failures → ℕ
     → Option Text → Option Text → Option Text → Option Text → Type 0
 ServesThenExplains words files input failed failed' status out out' err err' =

@@ -66,7 +66,7 @@ fn files_of<'a>(order: &Order<'a>) -> Named<'a> {
     }
 }
 
-/// What is said behind an answer to an order: of a certificate's refusal, why it is one, by what was kept of the files.
+/// What is said after an answer to an order: of a certificate's refusal, why it is one, by what was kept of the files.
 pub fn of_answer(
     alloc: Global,
     order: &Order<'_>,
@@ -130,7 +130,7 @@ pub(crate) fn texts_of<'a>(
     CaseTexts::of(program, input, kept)
 }
 
-/// What is said behind a failure of an order, by what was kept of the files: the text that was read last is the one at fault.
+/// What is said after a failure of an order, by what was kept of the files: the text that was read last is the one at fault.
 pub fn of_failure(
     alloc: Global,
     order: &Order<'_>,

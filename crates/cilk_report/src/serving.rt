@@ -303,7 +303,7 @@ fn why(
     }
 }
 
-/// Writes an explanation behind what was shown, or why there is none: where all of that went out, and was no want of memory.
+/// Writes an explanation after what was shown, or why there is none: where all of that went out, and was no want of memory.
 pub fn follow<E: Write>(served: Served, text: Result<String, CaseFault>, err: &mut E) -> u8
     ensures status { result ≡ served.status }
     ensures follows { Follows result (E.contents err.old) (E.contents err.new) }
