@@ -44,6 +44,7 @@ GAP = b"<..>"
 WANTED = ("out", "err", "status")
 OWN = WANTED + ("words", "stdin", "makes", "fills", "about")
 LIMIT = 60
+MOST = 40  # lines of a difference
 
 
 def read(path):
@@ -120,21 +121,23 @@ def answer(program, name, limit=LIMIT):
 
 
 def difference(name, stream, wanted, shown):
-    """The lines in which two texts differ."""
-    texts = [text.decode("utf-8", "backslashreplace").splitlines() for text in (wanted, shown)]
-    return difflib.unified_diff(*texts, f"{name}: {stream} wanted", f"{name}: {stream} shown", lineterm="", n=1)
+    """How a text differs from the wanted one, as lines; none where it doesn't. The first one tells that it does."""
+    if agrees(wanted, shown):
+        return []
+    texts = [text.decode("utf-8", "backslashreplace").split("\n") for text in (wanted, shown)]
+    same = next((k for k, both in enumerate(zip(*texts)) if both[0] != both[1]), min(map(len, texts)))
+    parts = [text[max(same - 1, 0) : same + MOST] for text in texts]
+    told = list(difflib.unified_diff(*parts, f"{name}: wanted", f"{name}: shown", lineterm="", n=1))
+    return [f"{name}: {stream} isn't as wanted, from line {same + 1} on", *told[:MOST]]
 
 
-def failure(program, name, limit):
-    """What differs of a case, as lines; none where it passes."""
+def differences(name, status, out, err):
+    """How a status and two streams differ from what a case wants, as lines; none where they don't."""
     case = f"{DATA}/{name}"
-    status, out, err = answer(program, name, limit)
     wanted = int(read(f"{case}/status") or b"0")
     told = [] if status == wanted else [f"{name}: status {wanted} is wanted, and it is {status}"]
     for stream, shown in (("out", out), ("err", err)):
-        text = read(f"{case}/{stream}")
-        if not agrees(text, shown):
-            told += list(difference(name, stream, text, shown))[:40]
+        told += difference(name, stream, read(f"{case}/{stream}"), shown)
     return told
 
 
@@ -147,7 +150,7 @@ def run(program, form, jobs, limit, is_light):
         chosen = [name for name in chosen if name not in slow]
     failed = 0
     with concurrent.futures.ThreadPoolExecutor(jobs) as pool:
-        for told in pool.map(lambda name: failure(program, name, limit), chosen):
+        for told in pool.map(lambda name: differences(name, *answer(program, name, limit)), chosen):
             failed += bool(told)
             if told:
                 print("\n".join(told))

@@ -3,7 +3,7 @@
 
 tools/each_failure.py [PROGRAM]             the program, by default crates/cilk/out/cilk
 tools/each_failure.py --choices [TESTS]     the built tests of schedules, by default crates/cilk_schedule_tests/out/cilk_schedule_tests_tests
-tools/each_failure.py --plan [RUNS]         the built program of bench/workers, by default where bench/threads leaves it
+tools/each_failure.py --plan [TESTS]        the built tests of workers, by default crates/cilk_worker_tests/out/cilk_worker_tests_tests
 
 The commands are `certify` and `check` of a chain of spawns (fib(10), accepted) and of a view-read race (refused), and `play` of three programs
 with 2 workers and all rounds. `threads` of three programs with 2 workers has its allocations alone refused, up to a run that makes fewer, since
@@ -20,8 +20,10 @@ list by a parallel loop and the local reducers, by rounds of 2 workers. It passe
 memory, three more choices give the same stop, and each frame that is shown then has the first events that it has in the serial run.
 It says so where memory was refused ahead of the choices or behind them; any other end is wrong. `rt test` builds these tests.
 
-With `--plan` three programs are run twice by 2 workers in one process, on one plan, with each allocation refused in turn, up to a run that
-makes fewer. The first run may fail, the second must not: it has ample memory, and the plan is as it was.
+With `--plan` the tests `refused` of `cilk_worker_tests` are run, with each allocation refused in turn, up to a run that makes fewer: two
+spawned calls, a list by a parallel loop, and three spawned prints, each run twice by 2 workers in one process, on one plan. The first run
+may find no memory; the second, which has it, leaves what the program leaves, and so does the first where it ends. A test that doesn't end
+in a minute is wrong.
 """
 
 import os
@@ -32,7 +34,7 @@ import tempfile
 TOP = os.path.dirname(os.path.dirname(os.path.realpath(__file__)))
 PROGRAM = f"{TOP}/crates/cilk/out/cilk"
 TESTS = f"{TOP}/crates/cilk_schedule_tests/out/cilk_schedule_tests_tests"
-RUNS = "/tmp/cilk_workers_cost"
+WORKERS_TESTS = f"{TOP}/crates/cilk_worker_tests/out/cilk_worker_tests_tests"
 
 LIBRARY = r"""
 #define _GNU_SOURCE
@@ -274,65 +276,72 @@ def commands(program, folder):
     return wrong
 
 
-def choices(tests, folder):
-    """Refuses each allocation of the test of refused choices in turn, and gives how often it ended otherwise than it may."""
-    words = ["refused::rows_by_two_workers"]
-    whole, (allocs, _, _) = run(tests, words, folder)
-    if whole[0] != 0:
-        print(f"with ample memory: {whole}")
-        return 1
-    stopped = outside = wrong = 0
-    for n in range(1, allocs + 1):
-        (status, out, err), _ = run(tests, words, folder, FAIL_ALLOC=n)
+def refused_in_turn(tests, name, folder, aside):
+    """Runs a test with each allocation refused in turn, up to a run that makes fewer: how often it passed though one was refused, how
+    often it ended with words of `aside`, by which it was refused elsewhere, and how often otherwise."""
+    passed = outside = wrong = n = 0
+    met = 1
+    while met > n:
+        n += 1
+        try:
+            (status, out, err), counted = run(tests, [name], folder, FAIL_ALLOC=n)
+        except subprocess.TimeoutExpired:
+            (status, out, err), counted = ("no end", b"", b""), []
+        met = counted[0] + 1 if counted and status == 0 else n + 1  # (a test that is stopped counts nothing)
         if status == 0:
-            stopped += 1
-        elif b"no memory ahead of the run, or to look at it" in out + err:
+            passed += met > n
+        elif any(words in out + err for words in aside):
             outside += 1
         else:
             wrong += 1
-            print(f"FAIL_ALLOC={n}: {status} {out[-200:]} {err[-200:]}")
-    print(f"{allocs} allocations: {stopped} in the choices, after which all was as it has to be, {outside} ahead of them or behind them, {wrong} wrong")
-    return wrong
+            print(f"{name}: FAIL_ALLOC={n}: {status} {out[-200:]} {err[-200:]}")
+        if wrong == 20:
+            break
+    return passed, outside, wrong
 
 
-def same_plan(program, folder):
+def is_well(tests, name, folder):
+    """Whether a test passes where no memory is refused."""
+    seen, _ = run(tests, [name], folder)
+    if seen[0] != 0:
+        print(f"{name} with ample memory: {seen}")
+    return seen[0] == 0
+
+
+def choices(tests, folder):
+    """Refuses each allocation of the test of refused choices in turn, and gives how often it ended otherwise than it may."""
+    name = "refused::rows_by_two_workers"
+    if not is_well(tests, name, folder):
+        return 1
+    passed, outside, wrong = refused_in_turn(tests, name, folder, [b"no memory ahead of the run, or to look at it"])
+    print(f"{passed} refused in the choices, after which all was as it has to be, {outside} ahead of them or behind them, {wrong} wrong")
+    return wrong + (not passed)
+
+
+def same_plan(tests, folder):
     """Refuses each allocation of two runs on one plan in turn, and gives how often they ended otherwise than they may."""
-    wrong = 0
-    for name in ["gets", "list", "prints"]:
-        first = second = outside = 0
-        n, met = 0, 0
-        while met >= n:
-            n += 1
-            (status, out, _), (met, _, _) = run(program, ["2", "2", name], folder, FAIL_ALLOC=n)
-            lines = [line.split() for line in out.splitlines()]
-            ends = [line[2] == b"failed" for line in lines]
-            if status == 0 and all(line[0] != name.encode() for line in lines):  # (or the words weren't read)
-                outside += 1
-            elif status == 0 and ends == [True, False]:
-                first += 1
-            elif status == 0 and ends == [False, False]:
-                second += 1
-            elif status == 0 and ends == [False, True]:
-                second += 1  # (what was refused is the second run's own)
-            else:
-                wrong += 1
-                print(f"{name}: FAIL_ALLOC={n}: {status} {out[-200:]}")
-        print(f"{name}: {outside} ahead of the plan, {first} in the first run, after which the second had the outcome, {second} later; {wrong} wrong")
-    return wrong
+    total = 0
+    aside = [b"no memory ahead of the runs", b"no memory for the second run", b"no memory to look at the run"]
+    for name in ["refused::two_calls", "refused::a_list", "refused::three_prints"]:
+        if not is_well(tests, name, folder):
+            return 1
+        passed, outside, wrong = refused_in_turn(tests, name, folder, aside)
+        print(f"{name}: {passed} refused in the first run, after which the second had the outcome, {outside} elsewhere, {wrong} wrong")
+        total += wrong + (not passed)
+    return total
 
 
 def main():
     words = sys.argv[1:]
     with tempfile.TemporaryDirectory() as folder:
         make_library(folder)
-        if words[:1] == ["--choices"]:
-            tests = os.path.realpath(words[1] if words[1:] else TESTS)
+        if words[:1] in (["--choices"], ["--plan"]):
+            default, sweep = (TESTS, choices) if words[0] == "--choices" else (WORKERS_TESTS, same_plan)
+            tests = os.path.realpath(words[1] if words[1:] else default)
             if not os.access(tests, os.X_OK):
                 print(f"{tests} isn't built: not tried\n0 passed, 0 failed")
                 return 0
-            wrong = choices(tests, folder)
-        elif words[:1] == ["--plan"]:
-            wrong = same_plan(os.path.realpath(words[1] if words[1:] else RUNS), folder)
+            wrong = sweep(tests, folder)
         else:
             wrong = commands(os.path.realpath(words[0] if words else PROGRAM), folder)
     print(f"{wrong} wrong\n{int(not wrong)} passed, {int(wrong > 0)} failed")

@@ -10,7 +10,8 @@ are damaged or made by chance (docs/HOSTILE.md). Each case is told in a line wit
 with no --seconds, until that number of texts was damaged and of programs made. A case that no time was left for is told
 as left out, and not counted. Needs a C compiler for the library that refuses.
 
-With --self-test the cases are tried on programs that are wrong in one answer each: they have to be caught.
+With --self-test the cases are tried on programs that are wrong in one answer each: they have to be caught. Each case is
+told, with how many of its wrong programs it caught; the last line counts cases.
 """
 
 import argparse
@@ -25,10 +26,10 @@ import traceback
 
 sys.dont_write_bytecode = True
 sys.path.insert(0, os.path.dirname(os.path.realpath(__file__)))
-from hostile import chance, edges, failing, files, wrong
+from hostile import chance, edges, failing, files, lines, wrong
 from hostile.room import Found, OutOfTime, Room, prepare
 
-CASES = {**failing.CASES, **edges.CASES, **files.CASES}
+CASES = {**failing.CASES, **edges.CASES, **files.CASES, **lines.CASES}
 WORKERS = 2
 MARGIN = 4.0  # seconds that are kept for what is under way at the end
 STACK = 2**29  # of a thread that runs a second reading
@@ -131,7 +132,7 @@ def all_by_chance(pool, names, counts, seed, end, told):
 
 
 def caught(number, program, folder, seed):
-    """Whether a wrong program is caught by its case, and how that is told."""
+    """Whether a wrong program was wrong and is caught by its case, and how that is told."""
     _, name, alteration = wrong.WRONG[number]
     ROOM[0].program, ROOM[0].wrapped = wrong.wrapper(program, folder, number, alteration), True
     found = wrong.Sharp()
@@ -143,15 +144,15 @@ def caught(number, program, folder, seed):
             else:
                 chance.CASES[name](ROOM[0], found, seed, range(600))
         except wrong.Caught:
-            return True
+            return wrong.was_wrong(ROOM[0].program)
         return False
 
     return on_large_stack(work), found
 
 
 def self_test(words, folder, names):
-    """Tries the cases on wrong programs; how many were caught, and how many weren't."""
-    program, answers = os.path.realpath(words.program), []
+    """Tries the cases on wrong programs; how many cases caught all of theirs, and how many didn't or have none."""
+    program, answers = os.path.realpath(words.program), {name: [] for name in (*CASES, *chance.CASES) if name in names}
     with concurrent.futures.ProcessPoolExecutor(
         WORKERS, initializer=begin, initargs=(program, folder, None, True)
     ) as pool:
@@ -164,8 +165,11 @@ def self_test(words, folder, names):
             )
             for told in found.told:
                 print(f"    {told}", flush=True)
-            answers.append(is_caught)
-    return answers.count(True), answers.count(False)
+            answers[name].append(is_caught)
+    for name, seen in answers.items():
+        print(f"`{name}`: {'seen to fail' if seen and all(seen) else 'NOT SEEN TO FAIL'}, {sum(seen)} of {len(seen)}")
+    is_seen = [bool(seen) and all(seen) for seen in answers.values()]
+    return is_seen.count(True), is_seen.count(False)
 
 
 def sweep(words, folder, names):

@@ -158,7 +158,7 @@ def cut_certificates(room, found):
     (A line of a right certificate has less than 97 bytes, so a cut one is never 301: it has no line feed.)
     """
     chance = random.Random(7)
-    for name, version in (("first", 1), ("one", 2), ("one", 1), ("put", 2), ("fib", 2)):
+    for name, version in (("first", 1), ("first", 2), ("one", 1), ("one", 2), ("put", 2), ("fib", 2)):
         program, _, more = rows.lay(room, name)
         text = rows.certificate(name, version)
         for n in range(len(text)) if len(text) < 300 else sorted(chance.sample(range(len(text)), 120)):

@@ -1,4 +1,8 @@
-"""Programs that are wrong in one answer, made of the right one by a script, and the case that has to catch each."""
+"""Programs that are wrong in one answer, made of the right one by a script, and the case that has to catch each.
+
+A script notes, in a file beside it, that it gave another answer than the right program did: a case that fails round a
+program that never did so has caught nothing.
+"""
 
 import os
 import sys
@@ -13,8 +17,19 @@ if "LATER_PRELOAD" in env:
     env["LD_PRELOAD"] = env.pop("LATER_PRELOAD")
 both = dict(stdout=subprocess.PIPE, stderr=subprocess.PIPE)
 ran = subprocess.run([{program!r}, *map(os.fsencode, words)], env=env, **both)
-status, out, err = ran.returncode, ran.stdout, ran.stderr
+status, out, err = right = ran.returncode, ran.stdout, ran.stderr
+def note():
+    with open({noted!r}, "w"):
+        pass
+def crash(number):
+    note()
+    os.kill(os.getpid(), number)
+def hang():
+    note()
+    time.sleep(100)
 {alteration}
+if (status, out, err) != right:
+    note()
 for file, text in ((1, out), (2, err)):
     try:
         os.write(file, text)
@@ -39,7 +54,7 @@ WRONG = [
     (
         "a refused allocation ends in an abort",
         "memory: threads gets",
-        "if status == 5: os.kill(os.getpid(), signal.SIGABRT)",
+        "if status == 5: crash(signal.SIGABRT)",
     ),
     (
         "an outcome lacks its last line",
@@ -161,7 +176,7 @@ WRONG = [
         "files: certificates cut off",
         f'if out.startswith(b"refused 302 13"): {ACCEPTS}',
     ),
-    ("a file that changes ends in a crash", "files: one that changes", "os.kill(os.getpid(), signal.SIGSEGV)"),
+    ("a file that changes ends in a crash", "files: one that changes", "crash(signal.SIGSEGV)"),
     (
         "a file that grows is a text",
         "files: one that grows",
@@ -170,9 +185,9 @@ WRONG = [
     (
         "a damaged text ends in a crash",
         "chance: damaged texts",
-        "if status == 2: os.kill(os.getpid(), signal.SIGSEGV)",
+        "if status == 2: crash(signal.SIGSEGV)",
     ),
-    ("a damaged text is never answered", "chance: damaged texts", "if status == 2: time.sleep(100)"),
+    ("a damaged text is never answered", "chance: damaged texts", "if status == 2: hang()"),
     ("a damaged text has a status of its own", "chance: damaged texts", "status = 7 if status == 2 else status"),
     (
         "a damaged text has another fault in one command",
@@ -217,10 +232,60 @@ class Sharp(Found):
             raise Caught
 
 
+def of_commands(what, case, commands, alteration):
+    """A wrong program for each of these commands: the alteration, made of its answers alone."""
+    return [(f"{command}: {what}", case, f'if words[0] == "{command}": {alteration}') for command in commands]
+
+
 def wrapper(program, folder, number, alteration):
     """Writes the script of a wrong program, and gives its path."""
     path = f"{folder}/wrong_{number}"
     with open(path, "w", encoding="utf-8") as it:
-        it.write(SCRIPT.format(python=sys.executable, program=program, alteration=alteration))
+        noted = f"{path}.noted"
+        it.write(SCRIPT.format(python=sys.executable, program=program, alteration=alteration, noted=noted))
     os.chmod(path, 0o700)
     return path
+
+
+def was_wrong(path):
+    """Whether the program of this script gave another answer than the right one at all."""
+    return os.path.exists(f"{path}.noted")
+
+
+# of rows that stand in one case with others
+WRONG += [
+    ("the end of a text is one off", "limits: bytes of a text", 'err = err.replace(b"115 at 262144", b"115 at 262145")'),
+    ("the place of a brace too many is one off", "limits: nesting", 'err = err.replace(b"104 at 76", b"104 at 77")'),
+    (
+        "65 braces are too many",
+        "limits: nesting",
+        'if words[0] == "run" and open("p.c").read(77) == "int main(){" + "{" * 65 + "}": status = 2',
+    ),
+    ("a number past the greatest is taken", "limits: input numbers", f'if err == b"input 121 at 0\\n": {RUNS}'),
+    ("65,536 inputs are too many", "limits: input numbers", 'if out == b"result 65536\\n": status, out = 2, b""'),
+    ("the limits are one less", "limits: events", 'if words[0] == "play" and not status: status, out = 3, b""'),
+    ("the limits are one less", "limits: frames", 'if words[0] == "threads" and not status: status, out = 5, b""'),
+    ("the limits are one less", "limits: cells", 'if words[0] == "check" and not status: status, out = 4, b""'),
+    ("an empty certificate is accepted", "files: certificates cut off", f'if out == b"refused 302 1\\n": {ACCEPTS}'),
+    ("a line twice is one line", "lines: doubled", f'if out == b"refused 301 9\\n": {ACCEPTS}'),
+    ("lines come in any order", "lines: exchanged", f'if out == b"refused 303 2\\n": {ACCEPTS}'),
+    ("a size past the limit is found later", "lines: size", 'out = out.replace(b"301 2", b"301 9")'),
+    ("a size isn't looked at", "lines: size", f'if out == b"refused 301 6\\n": {ACCEPTS}'),
+]
+WRONG += [
+    (f"{number} at {line} is a race", "lines: of a race", f'out = out.replace(b"{number} {line}\\n", b"311 7 10\\n")')
+    for number, line in ((304, 2), (305, 4), (307, 4), (303, 7), (303, 10), (303, 15))
+]
+COMMANDS = ("run", "certify", "check", "play", "threads", "measure")
+WRONG += of_commands(
+    "a file that fails is empty",
+    "devices: each call of each command",
+    COMMANDS,
+    'status, err = (0, b"") if err.startswith(b"cannot read") else (status, err)',
+)
+WRONG += of_commands(
+    "a failed write ends with status 0",
+    "writes: out cut at each byte",
+    COMMANDS,
+    'status = 0 if err == b"cannot write\\n" else status',
+)

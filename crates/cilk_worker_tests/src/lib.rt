@@ -5,7 +5,7 @@
 //! constant says, and two by 9 and 64 workers; a run begins each strand once, which a gate of [`gates`] counts.
 //! [`holds`] holds strands until others have begun, by another gate. [`racks`] takes tasks from both ends of a rack,
 //! and in [`boxes`] pieces come to a join box, both from what [`works`] begins. [`waits`] ends the test where runs
-//! don't end in time.
+//! don't end in time. [`refused`] makes two runs on one plan, for a sweep in which memory is refused.
 #![tactic(auto)]
 
 #[cfg(test)]
@@ -18,6 +18,8 @@ mod gates;
 mod holds;
 #[cfg(test)]
 mod racks;
+#[cfg(test)]
+mod refused;
 #[cfg(test)]
 mod runs;
 #[cfg(test)]

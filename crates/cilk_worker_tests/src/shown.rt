@@ -34,9 +34,9 @@ fn told(alloc: Global, fault: &ThreadFault) -> Result<String, AllocError> {
     }
 }
 
-// The printed numbers, a line each; the numbers of each global reducer, and those of all global cells, in a line; and
-// the result.
-fn shown(alloc: Global, outcome: &Outcome) -> Result<String, AllocError> {
+/// The printed numbers, a line each; the numbers of each global reducer, and those of all global cells, in a line; and
+/// the result.
+pub fn shown(alloc: Global, outcome: &Outcome) -> Result<String, AllocError> {
     let mut text = String::new(alloc);
     for number in outcome.output.as_slice() {
         text.push_str(format!(in alloc; "{number}\n")?.as_str())?;
