@@ -1,13 +1,13 @@
 //! The replay of one frame.
 
-ghost use Rattle.std.specs.Prelude.{◌≡◌, IfOk};
+ghost use Rattle.std.specs.Prelude.{◌≡◌, IfOk, slice_get};
 ghost use Rattle.cilk_types.specs.declared.limits.TheConstants.{MAX_TICKS};
 ghost use Rattle.cilk_program.specs.Sources.{source};
 ghost use Rattle.cilk_program.specs.declared.ask.Ask.TheVariants.{Begin};
 ghost use Rattle.cilk_program.specs.Syntax.{Source};
 ghost use Rattle.cilk_lower.specs.Behaves.{Behaves};
 ghost use Rattle.cilk_frames.specs.Following.{Runs, owed_for};
-ghost use Rattle.cilk_retelling.specs.Notes.{AreNotes, IsReplay};
+ghost use Rattle.cilk_retelling.specs.Notes.{AreNotes, GoAsFar, tells_word};
 
 use crate::note::{Asked, Note};
 use cilk_frames::asked::AskSlot;
@@ -18,8 +18,17 @@ use cilk_types::input::Input;
 use cilk_types::limits::MAX_TICKS;
 use std::alloc::{AllocError, Global};
 
+// The word at a place.
+fn word_at(words: &[i64], place: u32) -> Option<i64>
+    ensures { result ≡ slice_get words.now place }
+{
+    words.get(place as usize).copied()
+}
+
 // Whether a word is told.
-fn is_word(answer: Option<Answer>) -> bool {
+fn is_word(answer: Option<Answer>) -> bool
+    ensures { result ≡ tells_word answer }
+{
     match answer {
         Some(Answer::Value(_)) => true,
         _ => false,
@@ -38,7 +47,8 @@ pub fn replay(
 ) -> Result<Vec<Note>, AllocError>
     requires runs { Runs code.now input.now cursor }
     requires owes { cursor.owed ≡ owed_for Begin }
-    ensures { IfOk result (λ notes. AreNotes code.now input.now cursor MAX_TICKS notes.items) }
+    ensures asks { IfOk result (λ notes. AreNotes code.now input.now cursor MAX_TICKS notes.items) }
+    ensures told { IfOk result (λ notes. GoAsFar words.now most notes.items) }
 {
     let mut cursor = cursor;
     let mut notes = Vec::with_capacity(alloc, most as usize)?;
@@ -47,10 +57,12 @@ pub fn replay(
     let mut next: u32 = 0;
     let mut slot = AskSlot::new();
     'each: for count in 0..most {
-        let Some(answer) = told else { break };
+        let Some(answer) = told else {
+            return Ok(notes);
+        };
         step_into(code, input, &mut cursor, answer, &mut left, &mut slot);
         let asked = Asked::of(alloc, &slot)?;
-        told = asked.answer(words.get(next as usize).copied());
+        told = asked.answer(word_at(words, next));
         if is_word(told) {
             next += 1;
         }
