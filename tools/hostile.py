@@ -2,7 +2,7 @@
 """Uses the built program with hostile intent, and looks at what it answers.
 
 tools/hostile.py PROGRAM [--seconds N] [--seed S] [--only NAME] [--list] [--programs N] [--texts N]
-tools/hostile.py --self-test PROGRAM
+tools/hostile.py --self-test PROGRAM [--seed S] [--only NAME] [--slower N]
 
 Memory is refused, devices fail, limits are met, files are odd or change, and texts, certificates, scripts and programs
 are damaged or made by chance (docs/HOSTILE.md). Each case is told in a line with how much it tried; the last line is
@@ -11,7 +11,8 @@ with no --seconds, until that number of texts was damaged and of programs made. 
 as left out, and not counted. Needs a C compiler for the library that refuses.
 
 With --self-test the cases are tried on programs that are wrong in one answer each: they have to be caught. Each case is
-told, with how many of its wrong programs it caught; the last line counts cases.
+told, with how many of its wrong programs it caught; the last line counts cases. With --slower each run may take N times as
+long before it is called a hang: an unproved program takes minutes at a limit.
 """
 
 import argparse
@@ -27,7 +28,7 @@ import traceback
 sys.dont_write_bytecode = True
 sys.path.insert(0, os.path.dirname(os.path.realpath(__file__)))
 from hostile import chance, edges, failing, files, lines, wrong
-from hostile.room import Found, OutOfTime, Room, prepare
+from hostile.room import SLOWER, Found, OutOfTime, Room, prepare
 
 CASES = {**failing.CASES, **edges.CASES, **files.CASES, **lines.CASES}
 WORKERS = 2
@@ -198,7 +199,9 @@ def main():
     known_words.add_argument("--programs", type=int, default=20_000)
     known_words.add_argument("--texts", type=int, default=100_000)
     known_words.add_argument("--self-test", action="store_true")
+    known_words.add_argument("--slower", type=float, default=1.0)
     words = known_words.parse_args()
+    SLOWER[0] = words.slower
     names = [it for it in (*CASES, *chance.CASES) if not words.only or it.startswith(tuple(words.only))]
     if words.list:
         print("\n".join(names))

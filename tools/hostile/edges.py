@@ -184,39 +184,56 @@ def ticks(room, found):
             found.expect(room.run(command, "p.c", patience=LONG), faulty(204, 91_780), f"{told}: {command}")
         stop = Shown(3, b"", b"fault 204 in r:1\n")
         found.expect(room.run("play", "p.c", "all", patience=LONG), stop, f"{told}: play")
-        seen = room.run("check", "p.c", "p.cert", patience=LONG)
-        found.expect(seen, Shown(4, b"refused 310 91780\n", b""), f"{told}: check by the shorter run's certificate")
+        refused_at(room, found, told, 91_780)
+
+
+def refused_at(room, found, told, at, *more):
+    """A certificate that agrees with a run up to the event at which that stops by a fault."""
+    for command in ("check", "threads"):
+        seen = room.run(command, "p.c", "p.cert", *more, patience=LONG)
+        found.expect(seen, Shown(4, b"refused 310 %d\n" % at, b""), f"{told}: {command} by the shorter run's certificate")
+
+
+def one_deeper(room, found, told, text, at):
+    """A recursion that goes one call deeper on the input -1 than on 0, to a limit that the call at an event passes."""
+    made = by_all(room, found, told, text, said("result 0"), inputs="0")
+    room.put("deeper.in", "-1")
+    refused_at(room, found, f"past {told}", at, "--input", "deeper.in")
+    return made
 
 
 def frames(room, found):
     """65,536 frames, and one more."""
-    text = "void f(int n) {{ if (n) {0}f(n - 1); }} int main() {{ {0}f({1}); return 0; }}"
+    text = "int g; void f(int n) {{ if (n > input(0)) {0}f(n - 1); else g = n; }} int main() {{ {0}f({1}); return g; }}"
     for spawn in ("", "cilk_spawn "):
-        kind = spawn.strip() or "call"
-        cert = by_all(room, found, f"65,536 frames by {kind}", text.format(spawn, 65_534), said("result 0"))
-        found.must(cert.split(b"\n")[1].split()[2] == b"65536", "65,536 frames: the size line", cert[:40])
-        room.put("p.c", text.format(spawn, 65_535))
+        kind, at = spawn.strip() or "call", 7 + 5 * 65_534
+        told = f"65,536 frames by {kind}"
+        # (`main` reads what the last frame writes, so it waits for a child first)
+        whole = text.replace("return g", "cilk_sync; return g") if spawn else text
+        cert = one_deeper(room, found, told, whole.format(spawn, 65_534), at)
+        found.must(cert.split(b"\n")[1].split()[2] == b"65536", f"{told}: the size line", cert[:40])
         for command in ("run", "certify", "measure"):
-            seen = room.run(command, "p.c", patience=LONG)
-            found.expect(seen, faulty(205, 7 + 5 * 65_534), f"65,537 frames by {kind}: {command}")
+            seen = room.run(command, "p.c", "--input", "deeper.in", patience=LONG)
+            found.expect(seen, faulty(205, at), f"past {told}: {command}")
         room.put("one.script", "run 1 1000000\n")
         stop = Shown(3, b"", b"fault 205 in r" + b".1" * 65_535 + b":1\n")
-        seen = room.run("play", "p.c", "one.script", patience=LONG)
-        found.expect(seen, stop, f"65,537 frames by {kind}: play")
+        seen = room.run("play", "p.c", "one.script", "--input", "deeper.in", patience=LONG)
+        found.expect(seen, stop, f"past {told}: play")
     room.put("p.c", "void f() { f(); } int main() { f(); return 0; }")
     found.expect(room.run("run", "p.c", patience=LONG), faulty(205, 131_072), "a recursion without end")
 
 
 def cells(room, found):
     """1,048,576 cells, and two more."""
-    text = "int a[1000000]; void f(int n) {{ int y; if (n) f(n - 1); }} int main() {{ f({}); return 0; }}"
-    by_all(room, found, "1,048,576 cells", text.format(24_287), said("result 0"))
-    room.put("p.c", text.format(24_288))
+    text = "int g; int a[999999]; void f(int n) { int y; if (n > input(0)) f(n - 1); else g = n; } "
+    told, at = "1,048,576 cells", 8 + 6 * 24_287
+    one_deeper(room, found, told, text + "int main() { f(24287); return g; }", at)
     for command in ("run", "certify", "measure"):
-        seen = room.run(command, "p.c", patience=LONG)
-        found.expect(seen, faulty(206, 8 + 6 * 24_287), f"1,048,578 cells: {command}")
+        seen = room.run(command, "p.c", "--input", "deeper.in", patience=LONG)
+        found.expect(seen, faulty(206, at), f"past {told}: {command}")
     stop = Shown(3, b"", b"fault 206 in r" + b".1" * 24_288 + b":1\n")
-    found.expect(room.run("play", "p.c", "all", "--workers", "1", patience=LONG), stop, "1,048,578 cells: play")
+    seen = room.run("play", "p.c", "all", "--workers", "1", "--input", "deeper.in", patience=LONG)
+    found.expect(seen, stop, f"past {told}: play")
 
 
 def workers(room, found):

@@ -17,6 +17,7 @@ HANGS = Shown("a hang", b"", b"")
 NO_MEMORY = Shown(5, b"", b"no memory\n")
 PATIENCE = 10.0  # seconds after which a run is called a hang, where a second one takes longer than that too
 LONG = 60.0  # seconds of a run at a limit
+SLOWER = [1.0]  # how many times as long each run may take
 FOREVER = 1e6
 MOST_TOLD = 5  # of what was found wrong in one case
 
@@ -90,7 +91,7 @@ class Room:
         self, *words, stdin=b"", out=subprocess.PIPE, err=subprocess.PIPE, patience=PATIENCE, close=(), **settings
     ):
         """What the program shows of these words; settings are the library's."""
-        env, patience = self.environment(settings), min(patience, self.left() + 1)
+        env, patience = self.environment(settings), min(patience * SLOWER[0], self.left() + 1)
         shown = self.once(words, stdin, out, err, env, patience, close)
         if shown == HANGS:
             patience = min(patience, self.left() + 1)

@@ -37,11 +37,21 @@ for file, text in ((1, out), (2, err)):
         pass
 os._exit(status)
 """
+# a program whose streams are the script's own, wrong in its status alone
+OF_STATUS = """#!/bin/sh
+if [ -n "$LATER_PRELOAD" ]; then LD_PRELOAD=$LATER_PRELOAD {program} "$@"; else {program} "$@"; fi
+status=$?
+right=$status
+{alteration}
+[ $status = $right ] || : > {noted}
+exit $status
+"""
+WITHIN_SH = "sh: "
 ACCEPTS = 'status, out = 0, b"accepted\\n"'
 WITHOUT_LAST = 'out = out[: out.rfind(b"\\n", 0, -1) + 1]'
 RUNS = 'status, out, err = 0, b"result 0\\n", b""'
 
-# what is wrong with the program, the case, and the alteration as Python
+# what is wrong with the program, the case, and the alteration as Python, or in shell
 WRONG = [
     ("a want of memory ends with status 0", "memory: check race", "status = 0 if status == 5 else status"),
     ("a want of memory isn't told", "memory: check fib", 'err = b"" if status == 5 else err'),
@@ -123,7 +133,7 @@ WRONG = [
     (
         "a closed stream isn't seen",
         "writes: streams full or closed",
-        'status = 0 if err == b"cannot write\\n" else status',
+        f"{WITHIN_SH}[ $status != 2 ] || status=0",
     ),
     (
         "one byte more of a text",
@@ -241,8 +251,9 @@ def wrapper(program, folder, number, alteration):
     """Writes the script of a wrong program, and gives its path."""
     path = f"{folder}/wrong_{number}"
     with open(path, "w", encoding="utf-8") as it:
-        noted = f"{path}.noted"
-        it.write(SCRIPT.format(python=sys.executable, program=program, alteration=alteration, noted=noted))
+        form = OF_STATUS if alteration.startswith(WITHIN_SH) else SCRIPT
+        alteration, noted = alteration.removeprefix(WITHIN_SH), f"{path}.noted"
+        it.write(form.format(python=sys.executable, program=program, alteration=alteration, noted=noted))
     os.chmod(path, 0o700)
     return path
 
@@ -254,6 +265,7 @@ def was_wrong(path):
 
 # of rows that stand in one case with others
 WRONG += [
+    ("a want of memory is another outcome", "memory: threads prints", f"if status == 5: {RUNS}"),
     ("the end of a text is one off", "limits: bytes of a text", 'err = err.replace(b"115 at 262144", b"115 at 262145")'),
     ("the place of a brace too many is one off", "limits: nesting", 'err = err.replace(b"104 at 76", b"104 at 77")'),
     (

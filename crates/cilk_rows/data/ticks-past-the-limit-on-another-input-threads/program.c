@@ -1,0 +1,1 @@
+int main(){if(input(0)){while(1);}return 0;}
