@@ -8,7 +8,7 @@ of each stream, are changed in a copy of the case, one at a time: of each piece 
 middle one and the last; where there is no gap also a byte more at each end, the last one cut off, and a line's end of two
 bytes. The runner of tools/cases.py has to find each of them. A text of gaps alone wants nothing, so it counts as one that
 wasn't found; so does a file that a case has and nothing reads, and a folder that isn't listed.
-With --rows, ROWS (the built program of crates/cilk_rows, which the gate runs) serves all cases three times, with all
+With --rows, ROWS (the built program of crates/cilk_rows, which the gate runs) serves these cases three times, with all
 statuses changed, then all outputs, then all errors, and no case may pass.
 What wasn't found is printed. The last line is `N seen to fail, M not`, of cases; status 1 where any wasn't. Run by hand.
 """
@@ -81,6 +81,7 @@ def found(program, name, limit):
 def passed_by_rows(rows, names):
     """Lines that tell of cases that pass by the gate's program though a wanted text is changed."""
     told = []
+    cases.write(f"{cases.DATA}/cases", "".join(f"{name}\n" for name in names).encode())
     for stream in cases.WANTED:
         kept = {name: cases.read(f"{cases.DATA}/{name}/{stream}") for name in names}
         for name in names:
@@ -105,7 +106,7 @@ def all_found(given, names):
             print("".join(f"{line}\n" for line in more), end="", flush=True)
     print(f"{tried} changes of what {len(names)} cases want")
     if given.rows:
-        more = passed_by_rows(os.path.abspath(given.rows), cases.names())
+        more = passed_by_rows(os.path.abspath(given.rows), names)
         print("".join(f"{line}\n" for line in more), end="", flush=True)
         told += more
     return told
