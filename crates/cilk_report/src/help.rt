@@ -47,6 +47,9 @@ Options of measure, which all write to standard output:
   --svg           in place of the table a picture: how many events could be made at each step, with workers enough
   --dot           in place of the table the tree of a small run, for Graphviz's `dot`
 
+Option of check:
+  --helpers N     how many helpers in threads share the work, 1 to 16, with the same answer; 1 where nothing is said
+
 Option of play and threads:
   --workers N     how many workers there are, 1 to 64; 2 where nothing is said
 
@@ -133,10 +136,12 @@ const CHECK: Page = Page {
     head: "\
 Accept a certificate only where it is right and nothing races; else say which race there is
 
-Usage: cilk check PROGRAM CERTIFICATE [--input FILE] [--explain]
+Usage: cilk check PROGRAM CERTIFICATE [--input FILE] [--helpers N] [--explain]
 ",
     argument: CERTIFICATE,
-    options: "",
+    options: "  \
+  --helpers N     how many helpers in threads share the work, 1 to 16, with the same answer; 1 where nothing is said
+",
 };
 
 const THREADS: Page = Page {
