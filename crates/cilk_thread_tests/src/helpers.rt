@@ -1,5 +1,7 @@
 //! Certificates checked by several helpers, each in a thread of its own.
 
+ghost use Rattle.std.specs.Prelude.{◌<◌, ◌≤◌};
+
 use crate::texts::{GETS, certificate};
 use cilk_checker::accepted::Accepted;
 use cilk_checker::refusal::Refusal;
@@ -152,11 +154,11 @@ fn is_retold<R: Abort + Threads + Sync>(
         rt, alloc, &program, &code, &input, &hints, helpers, &counting,
     )?;
     assert!(rt; counting.is_once_each());
-    let Some((End::Left(outcome, _frames), trace)) = retell(
-        alloc, &program, &code, &input, replays,
-    )?
-    else {
+    let Some((end, trace)) = retell(alloc, &program, &code, &input, replays)? else {
         panic!(rt; "not retold: {text}");
+    };
+    let End::Left(outcome, _frames) = end else {
+        panic!(rt; "stopped: {text}");
     };
     assert_eq!(rt; outcome.result, wanted.result);
     assert_eq!(rt; outcome.globals.as_slice(), wanted.globals.as_slice());
