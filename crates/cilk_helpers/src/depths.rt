@@ -19,6 +19,7 @@ use cilk_retelling::listing::{FrameHint, Hints, place_of};
 use cilk_retelling::whole::Replay;
 use cilk_types::event::FrameNo;
 use cilk_types::input::Input;
+use cilk_types::limits::MAX_TICKS;
 use std::alloc::{AllocError, Global};
 use std::thread::Threads;
 
@@ -134,7 +135,7 @@ fn numbers(alloc: Global, dues: &[Due]) -> Result<Vec<FrameNo>, AllocError> {
 }
 
 // A share with no frame for each of so many helpers.
-fn empty(alloc: Global, helpers: u32) -> Result<Vec<Share>, AllocError>
+fn empty(alloc: Global, helpers: u32, spent: u32) -> Result<Vec<Share>, AllocError>
     requires { helpers ≤ 16 }
     ensures count { IfOk result (λ shares. vec_len shares ≡ helpers) }
     ensures fits { (p : Source) → IfOk result (λ shares. All (AreFitting p) shares.items) }
@@ -144,18 +145,19 @@ fn empty(alloc: Global, helpers: u32) -> Result<Vec<Share>, AllocError>
         shares.push(Share {
             helper: place + 1,
             frames: Vec::new(alloc),
+            spent,
         })?;
     }
     Ok(shares)
 }
 
 // Deals a round's frames, the least first, to so many helpers. One that gets none has no share.
-fn dealt(alloc: Global, dues: Vec<Due>, helpers: u32) -> Result<Vec<Share>, AllocError>
+fn dealt(alloc: Global, dues: Vec<Due>, helpers: u32, spent: u32) -> Result<Vec<Share>, AllocError>
     requires some { 0 < helpers }
     requires most { helpers ≤ 16 }
     ensures { (p : Source) → All (IsFitting p) dues.items → IfOk result (λ shares. All (AreFitting p) shares.items) }
 {
-    let mut shares = empty(alloc, helpers)?;
+    let mut shares = empty(alloc, helpers, spent)?;
     let mut dues = dues;
     'dues: for _ in 0..dues.len() {
         let Some(due) = dues.pop() else { break };
@@ -166,11 +168,24 @@ fn dealt(alloc: Global, dues: Vec<Due>, helpers: u32) -> Result<Vec<Share>, Allo
     Ok(shares)
 }
 
+// How many ticks the frames of a round took.
+fn ticks_of(round: &[Result<Vec<Replayed>, AllocError>]) -> u32 {
+    let mut ticks: u32 = 0;
+    for share in round {
+        if let Ok(list) = share {
+            for replayed in list.as_slice() {
+                ticks = ticks.saturating_add(replayed.ticks);
+            }
+        }
+    }
+    ticks
+}
+
 // Keeps a frame's replay at the frame's place.
 fn put(replays: &mut [Replay], replayed: Replayed)
     ensures { (code : CodeView) (p : Source) (inputs : List ℤ) → All (IsKept code p inputs) replays.old → IsReplayed code p inputs replayed → All (IsKept code p inputs) replays.new }
 {
-    let Replayed { frame, replay } = replayed;
+    let Replayed { frame, replay, .. } = replayed;
     let place = place_of(frame);
     if place < replays.len() {
         replays[place] = replay;
@@ -205,7 +220,9 @@ fn keep(
 
 /// The replays of all listed frames, the last one first, by so many helpers: in rounds, all frames of one depth of
 /// invocation in each. Frame K belongs to helper 1 + (K - 1) % helpers, who takes his frames in ascending order. In
-/// the place of a frame that none of the replays asks for, or that isn't there, stands the replay of nothing.
+/// the place of a frame that none of the replays asks for, or that isn't there, stands the replay of nothing. No frame
+/// begins after those that were replayed took more ticks in all than a run may, so whatever is listed, a helper makes
+/// no more ticks than three runs.
 pub fn replays<R: Threads + Sync, W: Watch + Sync>(
     rt: &R,
     alloc: Global,
@@ -223,12 +240,13 @@ pub fn replays<R: Threads + Sync, W: Watch + Sync>(
 {
     let mut replays = blanks(alloc, hints.frames.len())?;
     let mut dues = first(alloc, program, hints)?;
+    let mut spent: u32 = 0;
     'rounds: for _ in 0..hints.frames.len() {
-        if dues.is_empty() {
+        if dues.is_empty() || spent > MAX_TICKS {
             break;
         }
         let frames = numbers(alloc, dues.as_slice())?;
-        let shares = dealt(alloc, dues, helpers)?;
+        let shares = dealt(alloc, dues, helpers, spent)?;
         let replayed = round(
             rt,
             alloc,
@@ -238,6 +256,7 @@ pub fn replays<R: Threads + Sync, W: Watch + Sync>(
             shares,
             watch,
         )?;
+        spent = spent.saturating_add(ticks_of(replayed.as_slice()));
         keep(&mut replays, replayed)?;
         dues = following(alloc, program, hints, frames.as_slice(), replays.as_slice())?;
     }

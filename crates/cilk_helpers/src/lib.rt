@@ -8,6 +8,7 @@
 //! 2. All frames of one depth of invocation make a round, beginning with the root's. In a round frame K is replayed
 //!    by helper 1 + (K - 1) % N of N, from what its parent's replay asked for ([`depths::replays`]). No helper waits
 //!    for another within a round.
+//!    Hints that are right take no more ticks than a run may; once they do, no frame is replayed any more.
 //! 3. One thread retells the serial run from the replays, and compares each value that a frame was told with what the
 //!    store answers ([`cilk_retelling::whole::retell`]). Where one differs, or a replay is missing, the run is made
 //!    as without helpers.

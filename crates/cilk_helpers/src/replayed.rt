@@ -12,10 +12,12 @@ use cilk_frames::cursor::Cursor;
 use cilk_lower::code::Code;
 use cilk_program::ask::Callee;
 use cilk_retelling::listing::FrameHint;
+use cilk_retelling::note::Note;
 use cilk_retelling::replay::replay;
 use cilk_retelling::whole::Replay;
 use cilk_types::event::FrameNo;
 use cilk_types::input::Input;
+use cilk_types::limits::MAX_TICKS;
 use std::alloc::{AllocError, Global};
 
 /// A frame that is due: what it runs, and what is listed of it.
@@ -26,11 +28,12 @@ pub struct Due {
     pub hint: FrameHint,
 }
 
-/// A frame that was replayed.
+/// A frame that was replayed, and how many ticks it took.
 #[derive(Drop)]
 pub struct Replayed {
     pub frame: FrameNo,
     pub replay: Replay,
+    pub ticks: u32,
 }
 
 // The frame of a callee before it begins.
@@ -54,6 +57,14 @@ fn words_of<'a>(words: &'a [i64], hint: &FrameHint) -> &'a [i64] {
     }
 }
 
+// How many ticks a frame took up to the last of its notes.
+fn taken(notes: &[Note]) -> u32 {
+    match notes.last() {
+        Some(note) => MAX_TICKS.saturating_sub(note.left()),
+        None => 0,
+    }
+}
+
 /// Replays a frame that is due.
 pub fn replay_due(
     alloc: Global,
@@ -73,9 +84,11 @@ pub fn replay_due(
     let cursor = begun(alloc, code, &callee)?;
     let own = words_of(words, &hint);
     let mut notes = replay(alloc, code, input, cursor, own, hint.events)?;
+    let ticks = taken(notes.as_slice());
     notes.reverse();
     Ok(Replayed {
         frame,
         replay: Replay { callee, notes },
+        ticks,
     })
 }

@@ -86,6 +86,16 @@ impl Note {
         }
     }
 
+    /// How many ticks are left.
+    pub fn left(&self) -> u32
+        ensures { result ≡ self.now.left }
+    {
+        match &self.parts {
+            Parts::Brief(_, left, _, _) => *left,
+            Parts::Function(_, _, left, _, _) => *left,
+        }
+    }
+
     /// What the frame runs that the ask begins, if it begins one; where a function is given more than it can take, none.
     pub fn child(&self) -> Option<Callee>
         ensures { MatchOption result (IsTooMuch (child_of self.now.ask)) (λ callee. child_of self.now.ask ≡ Some callee) }

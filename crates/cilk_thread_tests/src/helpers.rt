@@ -106,13 +106,15 @@ impl Counting {
         Ok(Counting { begun })
     }
 
-    fn is_once_each(&self) -> bool {
-        for count in self.begun.as_slice() {
-            if count.load(Ordering::SeqCst) != 1 {
-                return false;
+    // How many frames have begun so often.
+    fn count(&self, times: u32) -> usize {
+        let mut count: usize = 0;
+        for begun in self.begun.as_slice() {
+            if begun.load(Ordering::SeqCst) == times {
+                count = count.saturating_add(1);
             }
         }
-        true
+        count
     }
 }
 
@@ -149,11 +151,12 @@ fn is_retold<R: Abort + Threads + Sync>(
     let (wanted, events) = run(alloc, &program, &input)?;
     let code = lower(alloc, &program)?;
     let hints = hints(alloc, &mut Whole::new(certificate.as_slice()))?;
-    let counting = Counting::new(alloc, hints.frames.len())?;
+    let frames = hints.frames.len();
+    let counting = Counting::new(alloc, frames)?;
     let replays = replays(
         rt, alloc, &program, &code, &input, &hints, helpers, &counting,
     )?;
-    assert!(rt; counting.is_once_each());
+    assert_eq!(rt; counting.count(1), frames);
     let Some((end, trace)) = retell(alloc, &program, &code, &input, replays)? else {
         panic!(rt; "not retold: {text}");
     };
@@ -211,4 +214,33 @@ fn another_word_is_refused_as_without_helpers(rt: HostRuntime) {
     assert_eq!(rt; many.number(), 303);
     assert_eq!(rt; many.number(), one.number());
     assert_eq!(rt; many.fields(), one.fields());
+}
+
+// Twenty frames, each of which takes all ticks that there are if it reads anything but 0.
+const LONG: &str =
+    "int g; void work() { if (g) { while (1) { } } } int main() { cilk_for (int i = 0; i < 20; i++) { work(); } return 0; }";
+
+#[test]
+fn other_values_cost_no_more_than_some_runs(rt: HostRuntime) -> Result<(), Fail> {
+    let alloc = rt.alloc();
+    let mut text = Vec::new(alloc);
+    let right = certificate(&rt, alloc, LONG, "");
+    for line in right.split_inclusive(|byte| *byte == b'\n') {
+        let is_read = line == b"read 0 0 0\n".as_slice();
+        let other = b"read 0 1 0\n".as_slice();
+        text.extend_from_slice(if is_read { other } else { line })?;
+    }
+    let counting = Counting::new(alloc, 100)?;
+    let answer = check_many(
+        &rt,
+        alloc,
+        LONG.as_bytes(),
+        b"",
+        text.as_slice(),
+        2,
+        &counting,
+    );
+    assert_eq!(rt; refusal(&rt, answer).number(), 303);
+    assert!(rt; counting.count(1) > 0 && counting.count(1) < 60);
+    Ok(())
 }
