@@ -32,15 +32,16 @@ pub enum Asked {
     Function(Invocation, Box<Given>),
 }
 
-// A note's parts, in an order in which they fill 48 bytes: whether a word is told, and which, what is asked for, and the ticks.
+// A note's parts, in an order in which they fill 48 bytes: whether a word is told, and which, what is asked for, and
+// the ticks.
 #[derive(Drop)]
 pub enum Parts {
     Brief(bool, u32, i64, Brief),
     Function(bool, Invocation, u32, i64, Box<Given>),
 }
 
-/// What a frame is told, what it asks for then, and how many ticks are left to it. It takes 48 bytes, and where a function is invoked
-/// what that is given.
+/// What a frame is told, what it asks for then, and how many ticks are left to it. It takes 48 bytes, and where a
+/// function is invoked what that is given.
 #[derive(Drop)]
 pub struct Note {
     parts: Parts,
@@ -96,7 +97,8 @@ impl Note {
         }
     }
 
-    /// What the frame runs that the ask begins, if it begins one; where a function is given more than it can take, none.
+    /// What the frame runs that the ask begins, if it begins one; where a function is given more than it can take,
+    /// none.
     pub fn child(&self) -> Option<Callee>
         ensures { MatchOption result (IsTooMuch (child_of self.now.ask)) (λ callee. child_of self.now.ask ≡ Some callee) }
     {

@@ -35,8 +35,8 @@ fn is_word(answer: Option<Answer>) -> bool
     }
 }
 
-/// What a frame asks for from its beginning on, where it is told these words: at most so many asks, up to its end, its fault or the
-/// first word that isn't there. It takes the memory of so many notes at once.
+/// What a frame asks for from its beginning on, where it is told these words: at most so many asks, up to its end,
+/// its fault or the first word that isn't there. It takes the memory of so many notes at once.
 pub fn replay(
     alloc: Global,
     code: &Code,

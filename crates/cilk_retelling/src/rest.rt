@@ -46,8 +46,8 @@ fn goes_on(asked: &Asked) -> bool
 }
 
 impl Rest {
-    /// Takes the next note, where it was told this answer, asks for no fault, and takes no more ticks than so many. Else nothing is
-    /// known of the frame any more.
+    /// Takes the next note, where it was told this answer, asks for no fault, and takes no more ticks than so many.
+    /// Else nothing is known of the frame any more.
     #[inline(always)]
     pub fn take(&mut self, answer: Answer, left: u32) -> Option<Taken>
         ensures { IfSome result (λ t. (n : NoteView) × (ns : List NoteView) × (held_of self.old ≡ held self.old.left (n ∷ ns)) × (held_of self.new ≡ held n.left ns)

@@ -1,6 +1,6 @@
 //! A run that is retold.
 
-ghost use Rattle.std.specs.Prelude.{◌≡◌, ◌≤◌, ℤ, List, [], IsTrue, IfOk, OnOk, Some, length, reverse, true};
+ghost use Rattle.std.specs.Prelude.{◌≡◌, ◌≤◌, ℤ, List, [], IsTrue, IfOk, Some, length, reverse, true};
 ghost use Rattle.cilk_lower.specs.Behaves.{Behaves};
 ghost use Rattle.cilk_program.specs.Syntax.{Source};
 ghost use Rattle.cilk_program.specs.WellNamed.{is_well_named};
@@ -32,8 +32,8 @@ use cilk_types::invocation::Invocation;
 use cilk_types::limits::MAX_TICKS;
 use std::alloc::{AllocError, Global};
 
-/// The store, the frame that runs and those that wait, each with what is left of its notes, what the one that runs asks for, and the
-/// ticks that are left to the run.
+/// The store, the frame that runs and those that wait, each with what is left of its notes, what the one that runs
+/// asks for, and the ticks that are left to the run.
 #[derive(Drop)]
 pub struct Retelling {
     pub state: State,
@@ -154,8 +154,8 @@ impl Retelling {
         Ok(Parting::GoesOn)
     }
 
-    /// The frame of some turns of a loop begins, which the frame on top asks for, and of which these notes are, the next one last;
-    /// if there may be one more frame with its cells.
+    /// The frame of some turns of a loop begins, which the frame on top asks for, and of which these notes are, the
+    /// next one last; if there may be one more frame with its cells.
     pub fn begin_turns(
         &mut self,
         alloc: Global,
@@ -188,8 +188,8 @@ impl Retelling {
         Ok(true)
     }
 
-    /// The frame of a function begins, which the frame on top asks for, and of which these notes are, the next one last; if there may
-    /// be one more frame with its cells.
+    /// The frame of a function begins, which the frame on top asks for, and of which these notes are, the next one
+    /// last; if there may be one more frame with its cells.
     pub fn begin_function(
         &mut self,
         alloc: Global,

@@ -2,7 +2,8 @@
 
 ghost use Rattle.cilk_retelling.specs.Notes.{NotesAreWithinFewerTicks};
 
-/// What a frame asks for with all ticks of a run for itself it asks for with those that other frames leave it, where it takes no more.
+/// What a frame asks for with all ticks of a run for itself it asks for with those that other frames leave it, where
+/// it takes no more.
 pub fn notes_are_within_fewer_ticks()
     ensures { NotesAreWithinFewerTicks }
 {}

@@ -212,8 +212,9 @@ fn begin(
     }
 }
 
-/// The serial run of a program on an input, retold from the replays of its frames, the last one first: what it leaves, its frames and
-/// its events; or None where a frame was told otherwise, a replay is missing, or the run doesn't end by itself within its limits.
+/// The serial run of a program on an input, retold from the replays of its frames, the last one first: what it
+/// leaves, its frames and its events; or None where a frame was told otherwise, a replay is missing, or the run
+/// doesn't end by itself within its limits.
 pub fn retell(
     alloc: Global,
     program: &Program,
