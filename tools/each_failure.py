@@ -6,8 +6,9 @@ tools/each_failure.py --choices [TESTS]     the built tests of schedules, by def
 tools/each_failure.py --plan [TESTS]        the built tests of workers, by default crates/cilk_worker_tests/out/cilk_worker_tests_tests
 
 The commands are `certify` and `check` of a chain of spawns (fib(10), accepted) and of a view-read race (refused), and `play` of three programs
-with 2 workers and all rounds. `threads` of three programs with 2 workers has its allocations alone refused, up to a run that makes fewer, since
-two of its runs needn't make the same ones; after each a run with ample memory must give the outcome. Each run has one
+with 2 workers and all rounds. `threads` of three programs with 2 workers, and `check` of fib(10) with 2 helpers, have their allocations alone
+refused, up to a run that makes fewer, since two of their runs needn't make the same ones; after each run of `threads` one with ample memory
+must give the outcome. Each run has one
 call that fails: the Nth allocation, or all from the Nth on; the Nth open, read, seek or write; the Nth read or write that moves one
 byte of several. It must end with the answer of a run in which nothing fails, or say `no memory`, `cannot read FILE` or `cannot write`
 with that one's status, where a beginning of the answer may have gone out. The calls are counted and failed by a small library that
@@ -227,8 +228,8 @@ def turns(program, words, folder):
     return wrong
 
 
-def by_workers(program, words, folder):
-    """Refuses each allocation of a run on threads in turn, up to a run that makes fewer, and gives how many answers weren't fair."""
+def by_threads(program, words, folder, is_repeated=True):
+    """Refuses each allocation of a call that starts threads in turn, up to one that makes fewer, and gives how many answers weren't fair."""
     whole, _ = run(program, words, folder)
     wrong, stopped, made = 0, 0, 0
     for setting in ["FAIL_ALLOC", "FAIL_FROM"]:
@@ -236,7 +237,7 @@ def by_workers(program, words, folder):
         while met >= n:
             n += 1
             seen, (met, _, _) = run(program, words, folder, **{setting: n})
-            again, _ = run(program, words, folder)
+            again = run(program, words, folder)[0] if is_repeated else whole
             is_stopped = seen == (5, b"", b"no memory\n")
             stopped, made = stopped + is_stopped, made + (seen == whole)
             if again != whole or not (is_stopped or seen == whole):
@@ -266,13 +267,14 @@ def commands(program, folder):
             it.write(made[1])
         wrong += turns(program, ["certify", f"{name}.c"], folder)
         wrong += turns(program, ["check", f"{name}.c", f"{name}.cert"], folder)
+    wrong += by_threads(program, ["check", "fib.c", "fib.cert", "--helpers", "2"], folder, is_repeated=False)
     for name in ["fib", "list", "local"]:
         wrong += turns(program, ["play", f"{name}.c", "all", "--workers", "2"], folder)
     for name in ["gets", "list", "prints"]:
         made, _ = run(program, ["certify", f"{name}.c"], folder)
         with open(f"{folder}/{name}.cert", "wb") as it:
             it.write(made[1])
-        wrong += by_workers(program, ["threads", f"{name}.c", f"{name}.cert", "--workers", "2"], folder)
+        wrong += by_threads(program, ["threads", f"{name}.c", f"{name}.cert", "--workers", "2"], folder)
     return wrong
 
 
