@@ -231,15 +231,8 @@ fn other_values_cost_no_more_than_some_runs(rt: HostRuntime) -> Result<(), Fail>
         text.extend_from_slice(if is_read { other } else { line })?;
     }
     let counting = Counting::new(alloc, 100)?;
-    let answer = check_many(
-        &rt,
-        alloc,
-        LONG.as_bytes(),
-        b"",
-        text.as_slice(),
-        2,
-        &counting,
-    );
+    let (program, text) = (LONG.as_bytes(), text.as_slice());
+    let answer = check_many(&rt, alloc, program, b"", text, 1, &counting);
     assert_eq!(rt; refusal(&rt, answer).number(), 303);
     assert!(rt; counting.count(1) > 0 && counting.count(1) < 60);
     Ok(())
