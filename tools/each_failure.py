@@ -8,9 +8,8 @@ tools/each_failure.py --plan [TESTS]        the built tests of workers, by defau
 The commands are `certify` and `check` of a chain of spawns (fib(10), accepted) and of a view-read race (refused), and `play` of three programs
 with 2 workers and all rounds. `threads` of three programs with 2 workers, and `check` of fib(10) with 2 helpers, have their allocations alone
 refused, up to a run that makes fewer, since two of their runs needn't make the same ones; after each run of `threads` one with ample memory
-must give the outcome. Each run has one
-call that fails: the Nth allocation, or all from the Nth on; the Nth open, read, seek or write; the Nth read or write that moves one
-byte of several. It must end with the answer of a run in which nothing fails, or say `no memory`, `cannot read FILE` or `cannot write`
+must give the outcome. Each run has one call that fails: the Nth allocation, or all from the Nth on; the Nth open, read, seek or
+write; the Nth read or write that moves one byte of several. It must end with the answer of a run in which nothing fails, or say `no memory`, `cannot read FILE` or `cannot write`
 with that one's status, where a beginning of the answer may have gone out. The calls are counted and failed by a small library that
 `cc` makes and that the program is run with (LD_PRELOAD), so it needs a C compiler and glibc. Run by hand.
 

@@ -1,5 +1,5 @@
 //! The program: its arguments, the files of the system and the standard streams are given to the tool, whose status
-//! is the program's. Only here are threads and waiting given away, which `threads` needs.
+//! is the program's. Only here are threads and waiting given away: `threads` needs both, and `check` with `--helpers` threads alone.
 #![tactic(auto)]
 
 use cilk_measured::KeptFiles;
