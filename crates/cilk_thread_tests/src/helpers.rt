@@ -226,9 +226,11 @@ fn other_values_cost_no_more_than_some_runs(rt: HostRuntime) -> Result<(), Fail>
     let mut text = Vec::new(alloc);
     let right = certificate(&rt, alloc, LONG, "");
     for line in right.split_inclusive(|byte| *byte == b'\n') {
-        let is_read = line == b"read 0 0 0\n".as_slice();
-        let other = b"read 0 1 0\n".as_slice();
-        text.extend_from_slice(if is_read { other } else { line })?;
+        if line == b"read 0 0 0\n".as_slice() {
+            text.extend_from_slice(b"read 0 1 0\n")?;
+        } else {
+            text.extend_from_slice(line)?;
+        }
     }
     let counting = Counting::new(alloc, 100)?;
     let (program, text) = (LONG.as_bytes(), text.as_slice());
