@@ -17,7 +17,7 @@ use Rattle.cilk_lower.specs.Behaves.{Behaves}
 use Rattle.cilk_lower.specs.Code.{CodeView}
 use Rattle.cilk_frames.specs.Cursor.{CursorView}
 use Rattle.cilk_frames.specs.Following.{Stands, child_of}
-use Rattle.cilk_meaning.proofs.Asked.{asks_there}
+use Rattle.cilk_program.proofs.Asked.{asks_there}
 
 pub there_is_fit : (p : Source) (b : Body) (callee : Callee) → CalleeIsThere p b callee → CalleeIsFit p callee
 there_is_fit p b callees.Root h = tt

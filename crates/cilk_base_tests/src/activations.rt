@@ -1,11 +1,11 @@
 //! Places and static links, in a run of three frames.
 
 ghost use Rattle.std.specs.Prelude.{IfOk};
-ghost use Rattle.cilk_activations.specs.Sight.{HasScope};
+ghost use Rattle.cilk_frames.specs.Sight.{HasScope};
 ghost use Rattle.cilk_base_tests.specs.Activations.{turn_scope};
 
-use cilk_activations::beginnings::{function, root, turns};
-use cilk_activations::call_stack::CallStack;
+use cilk_frames::beginnings::{function, root, turns};
+use cilk_frames::call_stack::CallStack;
 use cilk_monoid::kind::MonoidKind;
 use cilk_program::ask::{FunctionCall, LoopPart};
 use cilk_program::given::{References, Words};

@@ -10,15 +10,15 @@ use Rattle.cilk_types.specs.declared.invocation.Invocation.{Invocation}
 use Rattle.cilk_types.specs.declared.invocation.Invocation.TheVariants as invocations
 use Rattle.cilk_program.specs.Outcomes.{Leaves}
 use Rattle.cilk_program.specs.Syntax.{Source}
-use Rattle.cilk_meaning.proofs.Existence.{serial_run_is_short}
+use Rattle.cilk_program.proofs.Existence.{serial_run_is_short}
 use Rattle.cilk_tree.specs.declared.mark.Mark.{Mark}
 use Rattle.cilk_tree.specs.declared.mark.Mark.TheVariants.{Begin, End, Sync, Resume, Spawn, Call, Plain}
 use Rattle.cilk_tree.specs.Marks.{mark_of}
 use Rattle.cilk_tree.specs.Shape.{Shape, finish, act, sync, child, start_of, marks}
 use Rattle.cilk_determinacy.specs.Events.{frame_begun, frames_begun, count_from}
 use Rattle.cilk_determinacy.proofs.Frames.{frames_counted}
-use Rattle.cilk_listing.specs.Frames.{frames_in}
-use Rattle.cilk_listing.proofs.Lengths.{columns_counted}
+use Rattle.cilk_cert_maker.specs.Frames.{frames_in}
+use Rattle.cilk_cert_maker.proofs.Lengths.{columns_counted}
 use Rattle.cilk_cert_maker.specs.Few.{RunsHaveFewColumns}
 
 abbrev begins : Mark → ℕ

@@ -1,4 +1,11 @@
 pub mod Begun
+pub mod Fitting
+pub mod Lengths
 pub mod Listing
+pub mod Nested
 pub mod Numbered
 pub mod OneCertificate
+pub mod OneRight
+pub mod Passing
+pub mod Placed
+pub mod Spelling

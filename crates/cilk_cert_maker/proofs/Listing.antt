@@ -10,10 +10,10 @@ use Rattle.cilk_types.specs.declared.event.Instance.{Instance}
 use Rattle.cilk_cert_text.specs.declared.line.Entry.{Entry}
 use Rattle.cilk_cert_text.specs.declared.line.Version.TheVariants.{Two}
 use Rattle.cilk_cert_text.specs.Certificates.{IsEntry}
-use Rattle.cilk_listing.specs.Sources.{AllFit, AreLast, Fits}
-use Rattle.cilk_listing.specs.Listed.{creations, event_in, source_in, source_at, ListsEvent, HasSource}
-use Rattle.cilk_listing.specs.Right.{EachAt}
-use Rattle.cilk_listing.proofs.Placed.{each_none, each_more, all_both}
+use Rattle.cilk_cert_maker.specs.Sources.{AllFit, AreLast, Fits}
+use Rattle.cilk_cert_maker.specs.Listed.{creations, event_in, source_in, source_at, ListsEvent, HasSource}
+use Rattle.cilk_cert_maker.specs.Right.{EachAt}
+use Rattle.cilk_cert_maker.proofs.Placed.{each_none, each_more, all_both}
 
 -- the entries of the first so many events, and the last writes among them
 pub record Lists (es : List Event) (n : ℕ) (xs : List Entry) (positions : List ℕ) : Type 0 where

@@ -19,11 +19,11 @@ use Rattle.cilk_cert_text.specs.declared.line.Strand.{Strand}
 use Rattle.cilk_cert_text.specs.declared.line.Entry.{Entry}
 use Rattle.cilk_cert_text.specs.declared.line.Version.TheVariants.{Two}
 use Rattle.cilk_cert_text.specs.Certificates.{IsCertificate, IsEntry, IsFrame, IsStrand, IsValue}
-use Rattle.cilk_listing.specs.Frames.{frames_of, owners_of}
-use Rattle.cilk_listing.specs.Listed.{ListsEvent, HasSource}
-use Rattle.cilk_listing.specs.Right.{EachAt, IsAt, IsRight}
-use Rattle.cilk_listing.proofs.Lengths.{columns_counted, frames_small}
-use Rattle.cilk_listing.proofs.Placed.{each_none, each_more, all_both, nowhere_wrong}
+use Rattle.cilk_cert_maker.specs.Frames.{frames_of, owners_of}
+use Rattle.cilk_cert_maker.specs.Listed.{ListsEvent, HasSource}
+use Rattle.cilk_cert_maker.specs.Right.{EachAt, IsAt, IsRight}
+use Rattle.cilk_cert_maker.proofs.Lengths.{columns_counted, frames_small}
+use Rattle.cilk_cert_maker.proofs.Placed.{each_none, each_more, all_both, nowhere_wrong}
 
 -- the first so many strands
 pub record Numbers (ws hs cs : List ℕ) (n : ℕ) (xs : List Strand) : Type 0 where

@@ -5,12 +5,12 @@ use Rattle.cilk_types.specs.declared.limits.TheConstants.{MAX_EVENTS, MAX_TICKS}
 use Rattle.cilk_types.specs.declared.outcome.Outcome.{Outcome}
 use Rattle.cilk_program.specs.Outcomes.{Leaves}
 use Rattle.cilk_program.specs.Syntax.{Source}
-use Rattle.cilk_meaning.proofs.Uniqueness.{serial_run_is_one}
+use Rattle.cilk_program.proofs.Uniqueness.{serial_run_is_one}
 use Rattle.cilk_tree.specs.Shape.{Shape, Spells}
 use Rattle.cilk_tree.proofs.Spelled.{spells_one}
 use Rattle.cilk_determinacy.proofs.Creations.{have_creations}
-use Rattle.cilk_listing.specs.Right.{IsRight}
-use Rattle.cilk_listing.proofs.OneRight.{one_right}
+use Rattle.cilk_cert_maker.specs.Right.{IsRight}
+use Rattle.cilk_cert_maker.proofs.OneRight.{one_right}
 use Rattle.cilk_cert_maker.specs.Certified.{RunsHaveOneCertificate}
 
 same_outcome : (o p : Outcome) → Leaves o ≡ Leaves p → o ≡ p

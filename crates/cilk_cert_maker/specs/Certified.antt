@@ -7,7 +7,7 @@ use Rattle.cilk_program.specs.WellNamed.{is_well_named}
 use Rattle.cilk_serial.specs.Ran.{Ran}
 use Rattle.cilk_tree.specs.Shape.{Shape, Spells}
 use Rattle.cilk_cert_text.specs.Certificates.{Contents, IsCertificate}
-use Rattle.cilk_listing.specs.Right.{IsRight}
+use Rattle.cilk_cert_maker.specs.Right.{IsRight}
 
 -- the serial run ends without a fault, and the certificate lists it
 pub record IsCertificateOf (p : Source) (inputs : List ℤ) (c : Contents) : Type 0 where

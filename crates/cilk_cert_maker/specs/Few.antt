@@ -9,7 +9,7 @@ use Rattle.cilk_program.specs.SerialRun.{Transcript, IsSerialRun}
 use Rattle.cilk_program.specs.WellNamed.{is_well_named}
 use Rattle.cilk_tree.specs.Shape.{Shape, Spells}
 use Rattle.cilk_determinacy.specs.Events.{frames_begun}
-use Rattle.cilk_listing.specs.Frames.{frames_of, owners_of}
+use Rattle.cilk_cert_maker.specs.Frames.{frames_of, owners_of}
 
 -- as many frames as `begin`s, within the limit of frames; and strands within the limit of events
 pub record HasFewColumns (s : Shape) (es : List Event) : Type 0 where

@@ -1,2 +1,9 @@
 pub mod Certified
 pub mod Few
+pub mod Frames
+pub mod Listed
+pub mod ListingLaws
+pub mod Nesting
+pub mod Right
+pub mod Sources
+pub mod Walk

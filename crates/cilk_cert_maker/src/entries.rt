@@ -5,12 +5,12 @@ ghost use Rattle.std.specs.List.{AllByRecursion};
 ghost use Rattle.cilk_types.specs.declared.limits.TheConstants.{MAX_EVENTS};
 ghost use Rattle.cilk_cert_text.specs.declared.line.Version.TheVariants.{Two};
 ghost use Rattle.cilk_cert_text.specs.Certificates.{IsEntry};
-ghost use Rattle.cilk_listing.specs.Listed.{ListsEvent, HasSource};
-ghost use Rattle.cilk_listing.specs.Right.{EachAt};
+ghost use Rattle.cilk_cert_maker.specs.Listed.{ListsEvent, HasSource};
+ghost use Rattle.cilk_cert_maker.specs.Right.{EachAt};
 
 use cilk_cert_text::line::Entry;
-use cilk_listing::entries::entry;
-use cilk_listing::sources::{LastWrites, cells_written};
+use crate::listed_entries::entry;
+use crate::sources::{LastWrites, cells_written};
 use cilk_types::event::Pos;
 use cilk_types::trace::Trace;
 use std::alloc::{AllocError, Global};

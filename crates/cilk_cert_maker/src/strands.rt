@@ -4,7 +4,7 @@ ghost use Rattle.std.specs.Prelude.{◌≡◌, ◌≤◌, length, IfOk};
 ghost use Rattle.std.specs.List.{AllByRecursion};
 ghost use Rattle.cilk_types.specs.declared.limits.TheConstants.{MAX_EVENTS};
 ghost use Rattle.cilk_cert_text.specs.Certificates.{IsStrand};
-ghost use Rattle.cilk_listing.specs.Right.{EachAt, IsAt};
+ghost use Rattle.cilk_cert_maker.specs.Right.{EachAt, IsAt};
 
 use cilk_cert_text::line::Strand;
 use cilk_labels::Labels;

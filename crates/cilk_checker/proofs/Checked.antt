@@ -36,11 +36,11 @@ use Rattle.cilk_checker.specs.Told.{told}
 use Rattle.cilk_checker.specs.Determinate.{IsDeterminateRun}
 use Rattle.cilk_checker.specs.Refusals.{Ended, IsClean, IsFound, IsFoundBefore, IsRefused}
 use Rattle.cilk_checker.specs.Stops.{GivesCertificate, IsStop}
-use Rattle.cilk_ending.specs.declared.ending.End.{End}
-use Rattle.cilk_ending.specs.declared.ending.End.TheVariants.{Left, Stopped}
-use Rattle.cilk_ending.specs.declared.frames.PlannedFrame.{PlannedFrame}
-use Rattle.cilk_ending.specs.Frames.{AreFramesIn}
-use Rattle.cilk_ending.specs.Runs.{EndsWith}
+use Rattle.cilk_checker.specs.declared.ending.End.{End}
+use Rattle.cilk_checker.specs.declared.ending.End.TheVariants.{Left, Stopped}
+use Rattle.cilk_checker.specs.declared.frames.PlannedFrame.{PlannedFrame}
+use Rattle.cilk_checker.specs.Frames.{AreFramesIn}
+use Rattle.cilk_checker.specs.Runs.{EndsWith}
 
 -- ---- runs
 

@@ -10,7 +10,7 @@ use Rattle.std.proofs.lemmas.Option.{slice_get_within, slice_get_past, slice_get
 use Rattle.cilk_checker.specs.declared.first.First.{First}
 use Rattle.cilk_checker.specs.Firsts.{Agrees}
 use Rattle.cilk_checker.specs.Columns.{place_of}
-use Rattle.cilk_listing.specs.Right.{is_wrong, IsWrongAt, IsLeast, IsNowhere, IsAt}
+use Rattle.cilk_cert_maker.specs.Right.{is_wrong, IsWrongAt, IsLeast, IsNowhere, IsAt}
 
 -- an item below `agreed` isn't wrong
 not_below : {A : Type 0} (P : ℕ → A → Type 0) (given : List A) (count : ℕ) (f : First) → Agrees P given f → (n : ℕ) → n < f.agreed → is_wrong P (slice_get given n) n count → ⊥

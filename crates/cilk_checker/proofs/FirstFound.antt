@@ -43,7 +43,7 @@ use Rattle.cilk_tree.specs.Tree.{Tree, tree}
 use Rattle.cilk_tree.specs.Races.{HasNoRace, IsFirstRace, IsRace, event_at}
 use Rattle.cilk_peers.specs.ViewRaces.{HasNoViewRace, IsFirstViewRace, IsViewRace, ReadsReducer}
 use Rattle.cilk_cert_text.specs.Certificates.{Contents}
-use Rattle.cilk_listing.specs.Right.{
+use Rattle.cilk_cert_maker.specs.Right.{
   EventIsWrong,
   FrameIsWrong,
   OwnerIsWrong,

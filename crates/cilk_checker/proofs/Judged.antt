@@ -9,7 +9,7 @@ use Rattle.std.specs.Prelude.{IfOk}
 use Rattle.cilk_program.specs.declared.program.Program.{Program}
 use Rattle.cilk_program.specs.Sources.{source}
 use Rattle.cilk_program.specs.Syntax.{Source}
-use Rattle.cilk_judge.specs.Judging.{Meant, meant}
+use Rattle.cilk_checker.specs.Judging.{Meant, meant}
 use Rattle.cilk_checker.specs.Answers.{IsCertified, IsRefusedText, IsUnaccepted}
 use Rattle.cilk_checker.specs.Determinate.{AcceptedRun}
 use Rattle.cilk_checker.specs.Texts.{AreTexts, IsOfTexts, IsTrueAnswer, IsTrueRefusal}

@@ -1,8 +1,13 @@
+pub mod Beginning
 pub mod Checked
 pub mod Differences
 pub mod FirstFound
 pub mod Firsts
 pub mod Judged
+pub mod JudgedTexts
+pub mod Noting
+pub mod OneMeaning
 pub mod OneVerdict
 pub mod Pieces
+pub mod Standing
 pub mod Tallying

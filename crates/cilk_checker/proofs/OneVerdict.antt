@@ -38,18 +38,18 @@ use Rattle.cilk_types.specs.declared.outcome.Outcome.{Outcome}
 use Rattle.cilk_program.specs.Outcomes.{Leaves, StopsBy}
 use Rattle.cilk_program.specs.Sources.{source}
 use Rattle.cilk_program.specs.Syntax.{Source}
-use Rattle.cilk_meaning.proofs.Uniqueness.{serial_run_is_one}
+use Rattle.cilk_program.proofs.Uniqueness.{serial_run_is_one}
 use Rattle.cilk_serial.specs.Ran.{StopsAfter}
 use Rattle.cilk_tree.specs.Shape.{Shape, Spells}
 use Rattle.cilk_tree.proofs.Spelled.{spells_one}
-use Rattle.cilk_texts.specs.declared.fault.TextNumber.{TextNumber}
-use Rattle.cilk_texts.specs.declared.fault.TextFault.TheVariants as text_faults
-use Rattle.cilk_texts.specs.Inputs.{IsInputFault}
-use Rattle.cilk_unambiguous.proofs.Inputs.{one_input}
-use Rattle.cilk_judge.specs.Judging.{IsProgramFault, IsProgramText, Meant, meant}
-use Rattle.cilk_judge.specs.declared.fault.ProgramFault.{ProgramFault}
-use Rattle.cilk_judge.specs.declared.fault.ProgramFault.TheVariants as program_faults
-use Rattle.cilk_judge.proofs.OneMeaning.{one_meaning}
+use Rattle.cilk_parser.specs.declared.fault.TextNumber.{TextNumber}
+use Rattle.cilk_parser.specs.declared.fault.TextFault.TheVariants as text_faults
+use Rattle.cilk_parser.specs.Inputs.{IsInputFault}
+use Rattle.cilk_parser.proofs.UniqueInputs.{one_input}
+use Rattle.cilk_checker.specs.Judging.{IsProgramFault, IsProgramText, Meant, meant}
+use Rattle.cilk_checker.specs.declared.fault.ProgramFault.{ProgramFault}
+use Rattle.cilk_checker.specs.declared.fault.ProgramFault.TheVariants as program_faults
+use Rattle.cilk_checker.proofs.OneMeaning.{one_meaning}
 use Rattle.cilk_cert_text.specs.declared.fault.CertFault.{CertFault}
 use Rattle.cilk_cert_text.specs.declared.fault.CertFault.TheVariants as cert_faults
 use Rattle.cilk_cert_text.specs.Certificates.{Contents}

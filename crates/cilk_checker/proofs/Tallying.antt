@@ -3,22 +3,22 @@ use Rattle.std.proofs.Common.{◌≡◌, ℕ, zero, suc, ◌+◌, ◌<◌, ◌�
 use Rattle.std.specs.Prelude.{◌↔◌, IsTrue, flat_map}
 use Rattle.cilk_types.specs.declared.event.Instance.{Instance}
 use Rattle.cilk_cert_text.specs.declared.line.Entry.{Entry}
-use Rattle.cilk_listing.specs.declared.sources.LastWrites.{LastWrites}
-use Rattle.cilk_listing.specs.declared.entries.Creations.{Creations}
-use Rattle.cilk_listing.specs.Sources.{AllFit, AreLast}
+use Rattle.cilk_cert_maker.specs.declared.sources.LastWrites.{LastWrites}
+use Rattle.cilk_cert_maker.specs.declared.listed_entries.Creations.{Creations}
+use Rattle.cilk_cert_maker.specs.Sources.{AllFit, AreLast}
 use Rattle.cilk_types.specs.declared.event.Event.{Event}
 use Rattle.cilk_cert_text.specs.declared.line.Frame.{Frame}
 use Rattle.cilk_cert_text.specs.declared.line.Strand.{Strand}
 use Rattle.cilk_cert_text.specs.declared.line.Line.TheVariants as lines
 use Rattle.cilk_cert_text.specs.Certificates.{Contents}
 use Rattle.cilk_cert_text.specs.Gathering.{nothing, with_said}
-use Rattle.cilk_listing.specs.Listed.{created_by, creations, event_in, source_in, source_at, ListsEvent, HasSource}
+use Rattle.cilk_cert_maker.specs.Listed.{created_by, creations, event_in, source_in, source_at, ListsEvent, HasSource}
 use Rattle.cilk_checker.specs.declared.right.Right.{Right}
 use Rattle.cilk_checker.specs.declared.tally.Tally.{Tally}
 use Rattle.cilk_checker.specs.declared.first.First.{First}
 use Rattle.cilk_checker.specs.Firsts.{met, Agrees}
 use Rattle.cilk_checker.specs.Tallies.{Tallied}
-use Rattle.cilk_listing.specs.Right.{IsAt}
+use Rattle.cilk_cert_maker.specs.Right.{IsAt}
 use Rattle.cilk_checker.proofs.Firsts.{agrees_met, agrees_kept, some_is, met_on, met_off}
 
 -- an item whose test is right exactly where the item is

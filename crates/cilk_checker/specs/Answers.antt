@@ -5,7 +5,7 @@ use Rattle.cilk_types.specs.declared.outcome.Outcome.{Outcome}
 use Rattle.cilk_program.specs.Syntax.{Source}
 use Rattle.cilk_cert_text.specs.declared.fault.CertFault.TheVariants as cert_faults
 use Rattle.cilk_tree.specs.Shape.{Shape}
-use Rattle.cilk_listing.specs.Right.{IsRight}
+use Rattle.cilk_cert_maker.specs.Right.{IsRight}
 use Rattle.cilk_checker.specs.Determinate.{IsDeterminateRun}
 use Rattle.cilk_checker.specs.Refusals.{IsRefused}
 use Rattle.cilk_checker.specs.Stops.{GivesCertificate, HasTextFault}

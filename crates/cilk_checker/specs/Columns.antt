@@ -4,8 +4,8 @@ use Rattle.cilk_tree.specs.Shape.{Shape, Spells}
 use Rattle.cilk_tree.specs.Tree.{tree}
 use Rattle.cilk_tree.specs.Hebrew.{hebrews}
 use Rattle.cilk_peers.specs.Peers.{class_numbers}
-use Rattle.cilk_listing.specs.Frames.{frames_of, owners_of}
-use Rattle.cilk_listing.specs.Right.{IsLeast, IsNowhere}
+use Rattle.cilk_cert_maker.specs.Frames.{frames_of, owners_of}
+use Rattle.cilk_cert_maker.specs.Right.{IsLeast, IsNowhere}
 use Rattle.cilk_checker.specs.declared.first.First.{First}
 use Rattle.cilk_checker.specs.declared.right.Right.{Right}
 

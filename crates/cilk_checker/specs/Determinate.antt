@@ -14,8 +14,8 @@ use Rattle.cilk_tree.specs.Tree.{tree}
 use Rattle.cilk_tree.specs.Races.{HasNoRace}
 use Rattle.cilk_peers.specs.ViewRaces.{HasNoViewRace}
 use Rattle.cilk_determinacy.specs.Settled.{AlwaysAsSerial}
-use Rattle.cilk_ending.specs.declared.frames.PlannedFrame.{PlannedFrame}
-use Rattle.cilk_ending.specs.Frames.{AreFramesIn}
+use Rattle.cilk_checker.specs.declared.frames.PlannedFrame.{PlannedFrame}
+use Rattle.cilk_checker.specs.Frames.{AreFramesIn}
 use Rattle.cilk_checker.specs.Refusals.{Ended}
 
 -- These are the events and the outcome of the program's serial run, no two positions race in either way, and whatever steps

@@ -2,9 +2,13 @@ pub mod Answers
 pub mod Columns
 pub mod Determinate
 pub mod Firsts
+pub mod Frames
+pub mod Judging
 pub mod Numbers
+pub mod OneMeaning
 pub mod OneVerdict
 pub mod Refusals
+pub mod Runs
 pub mod Stops
 pub mod Tallies
 pub mod Texts

@@ -1,7 +1,7 @@
 -- How a refusal is reported.
 use Rattle.std.specs.Prelude.{ℕ}
-use Rattle.cilk_texts.specs.Texts as texts
-use Rattle.cilk_scopes.specs.Faults as names
+use Rattle.cilk_parser.specs.Texts as texts
+use Rattle.cilk_names.specs.Faults as names
 use Rattle.cilk_checker.specs.declared.refusal.Refusal.{Refusal}
 use Rattle.cilk_checker.specs.declared.refusal.Refusal.TheVariants as refusals
 use Rattle.cilk_checker.specs.declared.refusal.Fields.{Fields}

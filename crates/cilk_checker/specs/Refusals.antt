@@ -10,7 +10,7 @@ use Rattle.cilk_tree.specs.Tree.{tree}
 use Rattle.cilk_tree.specs.Races.{HasNoRace, IsFirstRace}
 use Rattle.cilk_peers.specs.ViewRaces.{HasNoViewRace, IsFirstViewRace, IsCreationAndUse}
 use Rattle.cilk_cert_text.specs.Certificates.{Contents}
-use Rattle.cilk_listing.specs.Right.{EventIsWrong, FrameIsWrong, OwnerIsWrong, HebrewIsWrong, ClassIsWrong, SourceIsWrong, IsNowhere, IsLeast, IsRight}
+use Rattle.cilk_cert_maker.specs.Right.{EventIsWrong, FrameIsWrong, OwnerIsWrong, HebrewIsWrong, ClassIsWrong, SourceIsWrong, IsNowhere, IsLeast, IsRight}
 use Rattle.cilk_checker.specs.declared.refusal.Refusal.{Refusal}
 use Rattle.cilk_checker.specs.declared.refusal.Refusal.TheVariants as refusals
 

@@ -10,9 +10,9 @@ use Rattle.cilk_cert_text.specs.Certificates.{Contents}
 use Rattle.cilk_cert_text.specs.Reading.{Reading, reading_of}
 use Rattle.cilk_cert_text.specs.Readers.{ahead}
 use Rattle.cilk_cert_text.specs.Gathering.{nothing, gathered, with_said}
-use Rattle.cilk_listing.specs.Sources.{AllFit, AreLast}
-use Rattle.cilk_listing.specs.Listed.{creations, ListsEvent, HasSource}
-use Rattle.cilk_listing.specs.Right.{IsAt}
+use Rattle.cilk_cert_maker.specs.Sources.{AllFit, AreLast}
+use Rattle.cilk_cert_maker.specs.Listed.{creations, ListsEvent, HasSource}
+use Rattle.cilk_cert_maker.specs.Right.{IsAt}
 use Rattle.cilk_checker.specs.declared.right.Right.{Right}
 use Rattle.cilk_checker.specs.declared.tally.Tally.{Tally}
 use Rattle.cilk_checker.specs.Firsts.{Agrees}

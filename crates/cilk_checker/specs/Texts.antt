@@ -1,9 +1,9 @@
 -- What a check of a certificate answers of the texts of a program and an input.
 use Rattle.std.specs.Prelude.{ℕ, ◌<◌, ℤ, List, Option}
-use Rattle.cilk_texts.specs.Inputs.{IsInput, IsInputFault}
-use Rattle.cilk_texts.specs.declared.fault.TextFault.TheVariants as text_faults
-use Rattle.cilk_judge.specs.Judging.{IsProgramFault, IsProgramText, Meant}
-use Rattle.cilk_judge.specs.declared.fault.ProgramFault.TheVariants as program_faults
+use Rattle.cilk_parser.specs.Inputs.{IsInput, IsInputFault}
+use Rattle.cilk_parser.specs.declared.fault.TextFault.TheVariants as text_faults
+use Rattle.cilk_checker.specs.Judging.{IsProgramFault, IsProgramText, Meant}
+use Rattle.cilk_checker.specs.declared.fault.ProgramFault.TheVariants as program_faults
 use Rattle.cilk_types.specs.declared.event.Event.{Event}
 use Rattle.cilk_types.specs.declared.outcome.Outcome.{Outcome}
 use Rattle.cilk_tree.specs.Shape.{Shape}

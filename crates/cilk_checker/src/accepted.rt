@@ -3,7 +3,7 @@
 ghost use Rattle.std.specs.Prelude.{◌≡◌};
 ghost use Rattle.cilk_checker.specs.Determinate.{AreFramesOf, HasDeterminateRun};
 
-use cilk_ending::frames::PlannedFrame;
+use crate::frames::PlannedFrame;
 use cilk_program::program::Program;
 use cilk_types::input::Input;
 use cilk_types::outcome::Outcome;

@@ -2,7 +2,7 @@
 
 ghost use Rattle.std.specs.Prelude.{◌≡◌, ◌<◌, IfOk, IfErr, OnOk};
 ghost use Rattle.cilk_program.specs.Sources.{source as source_of};
-ghost use Rattle.cilk_ending.specs.Runs.{EndsWith};
+ghost use Rattle.cilk_checker.specs.Runs.{EndsWith};
 ghost use Rattle.cilk_checker.specs.Answers.{IsCertified, IsUnaccepted};
 
 use crate::accepted::Accepted;
@@ -11,7 +11,7 @@ use crate::passes::{events_of, right_of};
 use crate::refusal::Unaccepted;
 use crate::source::Source;
 use cilk_determinacy::settle::serial_runs_settle;
-use cilk_ending::ending::{End, run_to_end};
+use crate::ending::{End, run_to_end};
 use cilk_program::program::Program;
 use cilk_types::input::Input;
 use cilk_types::trace::Trace;

@@ -6,7 +6,7 @@ ghost use Rattle.cilk_tree.specs.Shape.{Shape};
 ghost use Rattle.cilk_tree.specs.Tree.{tree};
 ghost use Rattle.cilk_tree.specs.Races.{HasNoRace};
 ghost use Rattle.cilk_cert_text.specs.Certificates.{Contents};
-ghost use Rattle.cilk_listing.specs.Right.{IsRight};
+ghost use Rattle.cilk_cert_maker.specs.Right.{IsRight};
 ghost use Rattle.cilk_determinacy.specs.Events.{HasCreations};
 ghost use Rattle.cilk_checker.specs.Answers.{IsUnaccepted};
 ghost use Rattle.cilk_checker.specs.Columns.{HasColumns};

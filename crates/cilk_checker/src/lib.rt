@@ -15,13 +15,37 @@
 //! check(alloc, b"int main(){return 0;}", b"", b"")               // Err(Refusal::Truncated { line: 1 })
 //! check(alloc, b"int main(){return x;}", b"", certificate)       // Err(Refusal::Name(NameNumber::Unknown, 18))
 //! ```
+//!
+//! Program texts are judged: what each means, or what is wrong with it first.
+//!
+//! A text that spells a tree whose names resolve means a program (`specs/Judging.antt`). Else its first fault is told:
+//! that of its spelling, and where that is right, that of its names. A text has at most one of both
+//! ([`laws::text_has_one_meaning`]). An input text is judged by `cilk_parser` alone.
+//!
+//! ```text
+//! program(alloc, b"int main(){return x;}")       // Err(ProgramFault::Name(NameNumber::Unknown, 18))
+//! ```
+//!
+//! The serial run of a program up to its end, with what its frames run.
+//!
+//! [`ending::run_to_end`] makes the run event by event. Of a run that ends by itself it notes what each frame runs and where its cells lie
+//! ([`frames::PlannedFrame`]), in the order of the frames' numbers: who has the frames need not make the run once more.
+//!
+//! ```text
+//! let (end, trace) = run_to_end(alloc, &program, &input)?;   // of `int main(){return 0;}`: one frame without cells
+//! ```
 #![tactic(auto)]
 
 pub mod accepted;
 pub mod check;
 pub mod compare;
+pub mod ending;
+pub mod fault;
 pub mod first;
+pub mod frames;
 pub mod hearing;
+pub mod judge;
+pub mod judge_laws;
 pub mod laws;
 pub mod passes;
 pub mod refusal;

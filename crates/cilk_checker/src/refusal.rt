@@ -8,7 +8,7 @@ ghost use Rattle.cilk_checker.specs.Numbers.{number_of, fields_of};
 use crate::hearing::Stop;
 use cilk_cert_text::fault::CertFault;
 use cilk_names::fault::NameNumber;
-use cilk_texts::fault::TextNumber;
+use cilk_parser::fault::TextNumber;
 use cilk_types::event::Pos;
 use std::alloc::{AllocError, AllocFailed};
 use thiserror::Error;

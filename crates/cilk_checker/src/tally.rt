@@ -3,14 +3,14 @@
 ghost use Rattle.std.specs.Prelude.{◌≡◌, ◌↔◌, ℕ, List, IsTrue, Some, IfOk, OnOk};
 ghost use Rattle.cilk_types.specs.declared.event.Event.{Event};
 ghost use Rattle.cilk_cert_text.specs.Certificates.{Contents};
-ghost use Rattle.cilk_listing.specs.Sources.{AreLast};
-ghost use Rattle.cilk_listing.specs.Listed.{event_in, source_at, source_in};
+ghost use Rattle.cilk_cert_maker.specs.Sources.{AreLast};
+ghost use Rattle.cilk_cert_maker.specs.Listed.{event_in, source_at, source_in};
 
 use crate::first::First;
 use crate::right::{Right, event_behind, has, has_class, has_frame, has_hebrew};
 use cilk_cert_text::line::{Entry, Frame, Line, Strand};
-use cilk_listing::entries::{Creations, entry, source_due, source_of};
-use cilk_listing::sources::{LastWrites, cells_written};
+use cilk_cert_maker::listed_entries::{Creations, entry, source_due, source_of};
+use cilk_cert_maker::sources::{LastWrites, cells_written};
 use cilk_types::event::Event;
 use std::alloc::{AllocError, Global};
 

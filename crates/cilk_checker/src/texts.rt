@@ -2,8 +2,8 @@
 
 ghost use Rattle.std.specs.Prelude.{◌≡◌, ◌<◌, ℕ, List, Option, Some, IfOk, IfErr, OnOk};
 ghost use Rattle.cilk_program.specs.Sources.{source as source_of};
-ghost use Rattle.cilk_texts.specs.Inputs.{IsInput};
-ghost use Rattle.cilk_judge.specs.Judging.{IsProgramText, Meant, meant as meant_by};
+ghost use Rattle.cilk_parser.specs.Inputs.{IsInput};
+ghost use Rattle.cilk_checker.specs.Judging.{IsProgramText, Meant, meant as meant_by};
 ghost use Rattle.cilk_checker.specs.Answers.{IsCertified};
 ghost use Rattle.cilk_checker.specs.OneVerdict.{AnswersOne, AnswersOnly, IsNoVerdict};
 ghost use Rattle.cilk_checker.specs.Texts.{AreTexts, IsOfTexts, IsTrueAnswer, IsTrueRefusal};
@@ -12,11 +12,11 @@ use crate::accepted::Accepted;
 use crate::check::check_run;
 use crate::refusal::{Refusal, Unaccepted};
 use crate::source::{Source, Whole};
-use cilk_judge::fault::ProgramFault;
-use cilk_judge::judge::program;
+use crate::fault::ProgramFault;
+use crate::judge::program;
 use cilk_parser::input::parse_input;
 use cilk_program::program::Program;
-use cilk_texts::fault::TextFault;
+use cilk_parser::fault::TextFault;
 use cilk_types::input::Input;
 use std::alloc::Global;
 

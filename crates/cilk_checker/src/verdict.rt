@@ -3,7 +3,7 @@
 ghost use Rattle.std.specs.Prelude.{◌≡◌, ◌↔◌, IsTrue, MatchOption};
 ghost use Rattle.cilk_tree.specs.Shape.{Shape};
 ghost use Rattle.cilk_cert_text.specs.Certificates.{Contents};
-ghost use Rattle.cilk_listing.specs.Right.{EventIsWrong, FrameIsWrong, OwnerIsWrong, HebrewIsWrong, ClassIsWrong, SourceIsWrong, IsNowhere, IsRight};
+ghost use Rattle.cilk_cert_maker.specs.Right.{EventIsWrong, FrameIsWrong, OwnerIsWrong, HebrewIsWrong, ClassIsWrong, SourceIsWrong, IsNowhere, IsRight};
 ghost use Rattle.cilk_checker.specs.Columns.{HasColumns, IsFirstPlace, place_of};
 ghost use Rattle.cilk_checker.specs.Refusals.{IsFound};
 ghost use Rattle.cilk_checker.specs.Tallies.{Tallied};

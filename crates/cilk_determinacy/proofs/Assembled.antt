@@ -10,22 +10,22 @@ use Rattle.cilk_program.specs.Syntax.{Source}
 use Rattle.cilk_program.specs.WellNamed.{is_well_named}
 use Rattle.cilk_program.specs.SerialRun as serial
 use Rattle.cilk_program.specs.SerialRun.{Memory, global_reducer, before_root, root_frame, begun, conclusion_of, Ending, Finished, Stopped, Serial}
-use Rattle.cilk_meaning.specs.Numbering.{Counts, unbegun, entered}
-use Rattle.cilk_meaning.specs.Order.{Fresh, opening_asks, IsOrderly}
-use Rattle.cilk_meaning.proofs.Closings.{runs_begin, runs_resume, runs_end}
-use Rattle.cilk_meaning.proofs.Creations.{runs_create}
-use Rattle.cilk_meaning.proofs.Existence.{serial_run_is_short}
-use Rattle.cilk_meaning.proofs.Numbers.{past_globals, serial_counts}
-use Rattle.cilk_meaning.proofs.Orderly.{runs_orderly}
-use Rattle.cilk_meaning.proofs.Remembered.{runs_small}
+use Rattle.cilk_program.specs.Numbering.{Counts, unbegun, entered}
+use Rattle.cilk_program.specs.Order.{Fresh, opening_asks, IsOrderly}
+use Rattle.cilk_program.proofs.Closings.{runs_begin, runs_resume, runs_end}
+use Rattle.cilk_program.proofs.Creations.{runs_create}
+use Rattle.cilk_program.proofs.Existence.{serial_run_is_short}
+use Rattle.cilk_program.proofs.Numbers.{past_globals, serial_counts}
+use Rattle.cilk_program.proofs.Orderly.{runs_orderly}
+use Rattle.cilk_program.proofs.Remembered.{runs_small}
 use Rattle.cilk_runs.specs.Runs.{Cell, Global, Own, Instance, Run}
 use Rattle.cilk_runs.specs.Costs.{Total, TickTotal, EventTotal, FrameTotal, CellTotal, weight}
 use Rattle.cilk_monoid.specs.Laws.{IsLawful}
 use Rattle.cilk_runs.specs.Monoids.{IsValue, unit_of}
 use Rattle.cilk_runs.specs.Traces.{trace, begin_due, IsFramed}
-use Rattle.cilk_worlds.specs.Reducers.{monoid_of}
-use Rattle.cilk_worlds.specs.Worlds.{World, first_world}
-use Rattle.cilk_worlds.specs.Machine.{used, limit, costs, opening_values}
+use Rattle.cilk_runs.specs.Reducers.{monoid_of}
+use Rattle.cilk_runs.specs.Worlds.{World, first_world}
+use Rattle.cilk_runs.specs.WorldMachine.{used, limit, costs, opening_values}
 use Rattle.cilk_determinacy.specs.Nested.{named}
 use Rattle.cilk_determinacy.specs.Theorem.{SetWords, IsSerial, IsCounted, CountsAsSerial}
 use Rattle.cilk_determinacy.proofs.Behaving.{run_holds}

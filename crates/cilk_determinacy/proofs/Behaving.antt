@@ -15,12 +15,12 @@ use Rattle.cilk_runs.specs.Costs.{TickTotal, weight}
 use Rattle.cilk_runs.specs.Serial.{Behaves}
 use Rattle.cilk_runs.specs.Theorem.{follows}
 use Rattle.cilk_runs.proofs.Started.{started_does, started_invokes}
-use Rattle.cilk_worlds.specs.Worlds.{World, child_world}
-use Rattle.cilk_worlds.specs.Machine.{retired_by, named_ask, answer_of, answers_of, is_end, has_ended, but_last, asked_after, next, taken, costs}
-use Rattle.cilk_worlds.proofs.Kept.{but_last_more, answers_more, ended_more}
+use Rattle.cilk_runs.specs.Worlds.{World, child_world}
+use Rattle.cilk_runs.specs.WorldMachine.{retired_by, named_ask, answer_of, answers_of, is_end, has_ended, but_last, asked_after, next, taken, costs}
+use Rattle.cilk_runs.proofs.KeptWorld.{but_last_more, answers_more, ended_more}
 use Rattle.cilk_determinacy.specs.Nested.{named_event, named_from}
-use Rattle.cilk_meaning.proofs.Parts.{is_out}
-use Rattle.cilk_meaning.proofs.Ticking.{at_full, frame_further}
+use Rattle.cilk_program.proofs.Parts.{is_out}
+use Rattle.cilk_program.proofs.Ticking.{at_full, frame_further}
 
 -- ---- lists of deeds
 

@@ -6,12 +6,12 @@ use Rattle.cilk_program.specs.Syntax.{Source, main_of, loop_at}
 use Rattle.cilk_program.specs.WellNamed.{is_well_named}
 use Rattle.cilk_program.specs.Inside.{body_of, CalleeIsThere}
 use Rattle.cilk_program.specs.SerialRun.{Transcript, child, Memory, Frame, root_frame, next_frame}
-use Rattle.cilk_meaning.specs.Numbering.{Counts, counts_of, counts_after, unbegun, entered, block_of, child_at, frame_at}
-use Rattle.cilk_meaning.proofs.Naming.{well_named_parts}
-use Rattle.cilk_meaning.specs.Visible.{CanInvoke}
-use Rattle.cilk_meaning.proofs.Visible.{none_given, root_sees, called_sees, part_sees}
+use Rattle.cilk_program.specs.Numbering.{Counts, counts_of, counts_after, unbegun, entered, block_of, child_at, frame_at}
+use Rattle.cilk_program.proofs.Naming.{well_named_parts}
+use Rattle.cilk_program.specs.Visible.{CanInvoke}
+use Rattle.cilk_program.proofs.Visible.{none_given, root_sees, called_sees, part_sees}
 use Rattle.cilk_runs.specs.Runs.{Global, Own}
-use Rattle.cilk_worlds.specs.Worlds.{global_named, own_named, home_named, given_named, World, first_world, child_world}
+use Rattle.cilk_runs.specs.Worlds.{global_named, own_named, home_named, given_named, World, first_world, child_world}
 use Rattle.cilk_determinacy.specs.Numbers.{child_runs, frame_runs, IsHere, HasCell}
 use Rattle.cilk_determinacy.proofs.Numbers.{up_more}
 use Rattle.cilk_determinacy.proofs.Sights.{HasOne, Stands, Ahead, root_here, globals_here, own_here, tied_home, tied_outer, tied_to, tied_result}

@@ -10,7 +10,7 @@ use Rattle.cilk_runs.specs.Traces.{shape_of}
 use Rattle.cilk_runs.proofs.Positions.{cuts_closed as closed_before}
 use Rattle.cilk_tree.specs.Tree.{tree}
 use Rattle.cilk_tree.proofs.Spelled.{spells_one}
-use Rattle.cilk_worlds.specs.Worlds.{World}
+use Rattle.cilk_runs.specs.Worlds.{World}
 use Rattle.cilk_determinacy.specs.Nested.{named}
 use Rattle.cilk_determinacy.specs.Numbers.{cell_number, instance_number}
 use Rattle.cilk_determinacy.specs.Positions.{made, CutsAreClosed}

@@ -8,8 +8,8 @@ use Rattle.cilk_types.specs.declared.event.Event.{Event}
 use Rattle.cilk_types.specs.declared.event.Event.TheVariants as events
 use Rattle.cilk_types.specs.declared.event.Instance.{Instance}
 use Rattle.cilk_program.specs.Syntax.{Source}
-use Rattle.cilk_meaning.specs.Created.{Among, deed_of, IsCreated, made_by, AreCreated}
-use Rattle.cilk_meaning.proofs.Creations.{runs_create}
+use Rattle.cilk_program.specs.Created.{Among, deed_of, IsCreated, made_by, AreCreated}
+use Rattle.cilk_program.proofs.Creations.{runs_create}
 use Rattle.cilk_tree.specs.Races.{event_at}
 use Rattle.cilk_peers.specs.ViewRaces.{UsesReducer, AreCreatedBeforeUse}
 use Rattle.cilk_peers.proofs.Creations.{first_is}

@@ -9,7 +9,7 @@ use Rattle.cilk_program.specs.Outcomes.{Conclusion, Leaves, StopsBy, outcome_of}
 use Rattle.cilk_program.specs.Syntax.{Source}
 use Rattle.cilk_program.specs.SerialRun as serial
 use Rattle.cilk_program.specs.SerialRun.{Memory, global_reducer, before_root, root_frame, begun, conclusion_of, Ending, Finished, Stopped, Serial}
-use Rattle.cilk_meaning.proofs.Roots.{ends_as_elided}
+use Rattle.cilk_program.proofs.Roots.{ends_as_elided}
 use Rattle.cilk_runs.specs.Machine.{State, deeds_at, HasEnd}
 use Rattle.cilk_runs.specs.Monoids.{unit_of}
 use Rattle.cilk_runs.specs.Serial.{value_after}
@@ -21,18 +21,18 @@ use Rattle.cilk_runs.proofs.Find.{full_deeds}
 use Rattle.cilk_runs.proofs.Kept.{opening_ok}
 use Rattle.cilk_runs.proofs.Theorem.{race_free_kept, race_free_agrees, race_free_determinate, follows_determined}
 use Rattle.cilk_runs.proofs.Spells.{events_spell}
-use Rattle.cilk_worlds.specs.Reducers.{View, monoid_of}
-use Rattle.cilk_worlds.specs.Worlds.{World, first_world}
-use Rattle.cilk_worlds.specs.Machine.{next, costs, opening_values}
+use Rattle.cilk_runs.specs.Reducers.{View, monoid_of}
+use Rattle.cilk_runs.specs.Worlds.{World, first_world}
+use Rattle.cilk_runs.specs.WorldMachine.{next, costs, opening_values}
 use Rattle.cilk_determinacy.specs.Nested.{named}
 use Rattle.cilk_determinacy.specs.Theorem.{IsSerial, IsAsSerial, RunsFree, TicksAddUp, SerialRunsByNames, SerialRunsAreNumbered, OpensAsCut, StepsKeepCuts, CutsAreAsSerial, IsDeterminateProgram}
-use Rattle.cilk_worlds.specs.Steps.{result_in, outcome_in, Next}
+use Rattle.cilk_runs.specs.Steps.{result_in, outcome_in, Next}
 use Rattle.cilk_determinacy.proofs.Assembled.{views_lawful, remembers, is_framed, is_serial}
 use Rattle.cilk_determinacy.proofs.Ending.{run_result, run_ends, same_outcome}
 use Rattle.cilk_determinacy.specs.Numbers.{cell_number, instance_number}
 use Rattle.cilk_determinacy.proofs.Numbered.{are_written, events_numbered}
 use Rattle.cilk_determinacy.proofs.Shapes.{serial_proper}
-use Rattle.cilk_meaning.proofs.Ticking.{frame_more, frame_further, not_out}
+use Rattle.cilk_program.proofs.Ticking.{frame_more, frame_further, not_out}
 
 -- ---- ticks
 

@@ -19,10 +19,10 @@ use Rattle.cilk_types.specs.declared.event.Instance as numbered
 use Rattle.cilk_runs.specs.Runs.{Cell, Global, Instance, Output, Does, Deed}
 use Rattle.cilk_runs.specs.Machine.{State, deeds_at, HasEnd}
 use Rattle.cilk_runs.specs.Serial.{own_deeds}
-use Rattle.cilk_worlds.specs.Reducers.{View, value_of, elements_of}
-use Rattle.cilk_worlds.specs.Worlds.{World, global_named}
+use Rattle.cilk_runs.specs.Reducers.{View, value_of, elements_of}
+use Rattle.cilk_runs.specs.Worlds.{World, global_named}
 use Rattle.cilk_determinacy.specs.Nested.{named_event, named_from}
-use Rattle.cilk_worlds.specs.Steps.{result_in, finals_in, outcome_in}
+use Rattle.cilk_runs.specs.Steps.{result_in, finals_in, outcome_in}
 use Rattle.cilk_determinacy.specs.Numbers.{HasInstance}
 use Rattle.cilk_determinacy.proofs.Remembered.{view_at}
 use Rattle.cilk_determinacy.proofs.Sights.{global_tied, global_here}

@@ -7,11 +7,11 @@ use Rattle.cilk_types.specs.Word.{IsWord}
 use Rattle.cilk_program.specs.Outcomes.{Leaves}
 use Rattle.cilk_program.specs.Syntax.{Source}
 use Rattle.cilk_program.specs.WellNamed.{is_well_named}
-use Rattle.cilk_meaning.specs.Worked.{Makes}
-use Rattle.cilk_meaning.specs.WorkedFrames.{get}
-use Rattle.cilk_meaning.specs.WorkedReducers.{changed, lent, again}
-use Rattle.cilk_meaning.proofs.FrameRows.{get_runs}
-use Rattle.cilk_meaning.proofs.ReducerRows.{changed_runs, lent_runs, again_runs}
+use Rattle.cilk_program.specs.Worked.{Makes}
+use Rattle.cilk_program.specs.WorkedFrames.{get}
+use Rattle.cilk_program.specs.WorkedReducers.{changed, lent, again}
+use Rattle.cilk_program.proofs.FrameRows.{get_runs}
+use Rattle.cilk_program.proofs.ReducerRows.{changed_runs, lent_runs, again_runs}
 use Rattle.cilk_types.specs.declared.invocation.Invocation.TheVariants as invocations
 use Rattle.cilk_tree.specs.Shape.{Shape, finish, act, sync, child, Spells}
 use Rattle.cilk_tree.specs.Tree.{tree}

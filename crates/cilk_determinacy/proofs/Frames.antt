@@ -15,10 +15,10 @@ use Rattle.cilk_program.specs.Outcomes.{Leaves}
 use Rattle.cilk_program.specs.Syntax.{Source}
 use Rattle.cilk_program.specs.SerialRun as serial
 use Rattle.cilk_program.specs.SerialRun.{Frame, invocation, result_written}
-use Rattle.cilk_meaning.specs.Numbering.{Counts, unbegun, entered, counts_after, frame_of, events_of}
-use Rattle.cilk_meaning.proofs.Closings.{runs_begin, runs_resume}
-use Rattle.cilk_meaning.proofs.Numbers.{run_events}
-use Rattle.cilk_meaning.proofs.Remembered.{runs_small}
+use Rattle.cilk_program.specs.Numbering.{Counts, unbegun, entered, counts_after, frame_of, events_of}
+use Rattle.cilk_program.proofs.Closings.{runs_begin, runs_resume}
+use Rattle.cilk_program.proofs.Numbers.{run_events}
+use Rattle.cilk_program.proofs.Remembered.{runs_small}
 use Rattle.cilk_runs.specs.Traces.{Due, begin_due, resume_due, neither_due}
 use Rattle.cilk_determinacy.specs.Events.{frames_begun, count_from, FramesAreCounted}
 use Rattle.cilk_determinacy.proofs.Determinate.{ran}

@@ -20,10 +20,10 @@ use Rattle.cilk_program.specs.declared.ask.Ask.TheVariants as asks
 use Rattle.cilk_types.specs.declared.invocation.Invocation.{Invocation}
 use Rattle.cilk_program.specs.Behaviour.{OpenAsk, frame_asks}
 use Rattle.cilk_program.specs.Syntax.{Source}
-use Rattle.cilk_meaning.specs.Closed.{IsNoResume}
-use Rattle.cilk_meaning.specs.Order.{opening_asks, Stage, Fresh, Due, Going, Resuming, Synced, Closing, opened, follows}
-use Rattle.cilk_meaning.proofs.Closings.{IsOpening, View as Comes, Begins, Opens, Goes, Calls, Spawns, Syncs, Resumes, Again, Gives, Ends, EndsThen, view, IsSound, opened_sound, opening_asks_open, plain_no_resume, opening_no_resume}
-use Rattle.cilk_meaning.proofs.Legal.{IsPlain, Rest, after, unless_fault, IsLegal, fresh_fine}
+use Rattle.cilk_program.specs.Closed.{IsNoResume}
+use Rattle.cilk_program.specs.Order.{opening_asks, Stage, Fresh, Due, Going, Resuming, Synced, Closing, opened, follows}
+use Rattle.cilk_program.proofs.Closings.{IsOpening, View as Comes, Begins, Opens, Goes, Calls, Spawns, Syncs, Resumes, Again, Gives, Ends, EndsThen, view, IsSound, opened_sound, opening_asks_open, plain_no_resume, opening_no_resume}
+use Rattle.cilk_program.proofs.Legal.{IsPlain, Rest, after, unless_fault, IsLegal, fresh_fine}
 use Rattle.cilk_runs.specs.Runs as runs
 use Rattle.cilk_runs.specs.Runs.{Name, same_name, Cell, same_cell, Instance, Ask, Deed, Does, Invokes}
 use Rattle.cilk_runs.specs.Costs.{Costs, Total, TickTotal, EventTotal, is_over, own_fault, fault_of}
@@ -31,14 +31,14 @@ use Rattle.cilk_runs.specs.Machine.{Frame, Frames, State, started, deed_of, effe
 use Rattle.cilk_runs.specs.Monoids.{numbers_of}
 use Rattle.cilk_runs.proofs.Basics.{same_name-refl}
 use Rattle.cilk_runs.proofs.Started.{started_invokes}
-use Rattle.cilk_worlds.specs.Held.{HoldsViews, AskIsSound}
-use Rattle.cilk_worlds.specs.Machine.{named_ask, answer_of, answers_of, is_end, has_ended, asked_after, next, costs, opening_values}
-use Rattle.cilk_worlds.specs.Reducers.{View, value_of, kind_of, monoid_of}
-use Rattle.cilk_worlds.specs.Steps.{Next, IsFirst, OneStep, Reaches}
-use Rattle.cilk_worlds.specs.Worlds.{World, first_world, child_world, cell_seen, reducer_seen, result_cell}
-use Rattle.cilk_worlds.proofs.Held.{HasView, views_kept}
-use Rattle.cilk_worlds.proofs.Kept.{answers_more, ended_more}
-use Rattle.cilk_worlds.proofs.Views.{are_multiplied}
+use Rattle.cilk_runs.specs.Held.{HoldsViews, AskIsSound}
+use Rattle.cilk_runs.specs.WorldMachine.{named_ask, answer_of, answers_of, is_end, has_ended, asked_after, next, costs, opening_values}
+use Rattle.cilk_runs.specs.Reducers.{View, value_of, kind_of, monoid_of}
+use Rattle.cilk_runs.specs.Steps.{Next, IsFirst, OneStep, Reaches}
+use Rattle.cilk_runs.specs.Worlds.{World, first_world, child_world, cell_seen, reducer_seen, result_cell}
+use Rattle.cilk_runs.proofs.Held.{HasView, views_kept}
+use Rattle.cilk_runs.proofs.KeptWorld.{answers_more, ended_more}
+use Rattle.cilk_runs.proofs.WorldViews.{are_multiplied}
 use Rattle.cilk_determinacy.specs.Held.{LengthIsWord, LengthsAreWords, ViewsAreHeld}
 use Rattle.cilk_determinacy.specs.Lengths.{HasShortLists, ListsAreShort}
 use Rattle.cilk_determinacy.specs.Words.{AreWords, HasWords, InputsAreWords}

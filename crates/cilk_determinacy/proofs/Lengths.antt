@@ -16,11 +16,11 @@ use Rattle.cilk_runs.specs.Runs.{Name, same_name, Cell, Instance, Output, same_i
 use Rattle.cilk_runs.specs.Machine.{Frame, Frames, deeds_at, started, mark_of, deed_of, begun, after_deed, block_view, own_view, with_view, after_views}
 use Rattle.cilk_runs.proofs.Basics.{same_name-refl, same_name-eq}
 use Rattle.cilk_runs.proofs.Started.{started_does, started_invokes}
-use Rattle.cilk_worlds.specs.Held.{WishIsSound, AskIsSound}
-use Rattle.cilk_worlds.specs.Reducers.{View, views_of, kind_of, monoid_of}
-use Rattle.cilk_worlds.specs.Views.{IsViewOf}
-use Rattle.cilk_worlds.specs.Worlds.{World}
-use Rattle.cilk_worlds.proofs.Views.{are_multiplied}
+use Rattle.cilk_runs.specs.Held.{WishIsSound, AskIsSound}
+use Rattle.cilk_runs.specs.Reducers.{View, views_of, kind_of, monoid_of}
+use Rattle.cilk_runs.specs.WorldViews.{IsViewOf}
+use Rattle.cilk_runs.specs.Worlds.{World}
+use Rattle.cilk_runs.proofs.WorldViews.{are_multiplied}
 use Rattle.cilk_determinacy.proofs.Wordy.{length_word}
 use Rattle.cilk_determinacy.proofs.Owed.{waiting, lies, onward, onward_does, onward_invokes, onward_settled, onward_waiting, lies_does, lies_sync, lies_invokes, lies_least, grown_most, same_lies, same_onward, under, under_self, under_child, under_least, way, under_way}
 

@@ -9,8 +9,8 @@ use Rattle.std.proofs.lemmas.Bool.{cases_Bool, false≢true}
 use Rattle.cilk_types.specs.declared.event.Event.{Event}
 use Rattle.cilk_types.specs.declared.event.Event.TheVariants as events
 use Rattle.cilk_program.specs.Syntax.{Source}
-use Rattle.cilk_meaning.specs.Answered.{written, IsRightRead, AreRight, cells_after, opening_cells}
-use Rattle.cilk_meaning.proofs.Remembered.{runs_right}
+use Rattle.cilk_program.specs.Answered.{written, IsRightRead, AreRight, cells_after, opening_cells}
+use Rattle.cilk_program.proofs.Remembered.{runs_right}
 use Rattle.cilk_tree.specs.Races.{event_at}
 use Rattle.cilk_tree.specs.Sources.{writes, last_write}
 use Rattle.cilk_tree.proofs.Sources.{at_next}

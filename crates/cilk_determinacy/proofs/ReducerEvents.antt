@@ -29,16 +29,16 @@ use Rattle.cilk_program.specs.Syntax.{Source}
 use Rattle.cilk_program.specs.SerialRun as serial
 use Rattle.cilk_program.specs.SerialRun.{Memory, Frame, global_reducer, reducer_at, own_from, own_reducers, put_result, answer_to, result_written, event_of, invocation, stored, IsInner, Ending, Finished, Serial, Made, Ended, Went, Broke, Refused}
 use Rattle.cilk_program.specs.WellNamed.{is_well_named}
-use Rattle.cilk_meaning.specs.Numbering.{counts_of, counts_after, entered}
-use Rattle.cilk_meaning.proofs.Numbers.{serial_counts}
+use Rattle.cilk_program.specs.Numbering.{counts_of, counts_after, entered}
+use Rattle.cilk_program.proofs.Numbers.{serial_counts}
 use Rattle.cilk_runs.specs.Runs.{Instance, Event, Deed, Does, Invokes, Run, stop, act, child}
 use Rattle.cilk_runs.specs.Traces.{trace}
 use Rattle.cilk_monoid.proofs.SameKinds.{same_kind-eq}
-use Rattle.cilk_worlds.specs.Machine.{retired_by, retired_from}
+use Rattle.cilk_runs.specs.WorldMachine.{retired_by, retired_from}
 use Rattle.cilk_determinacy.specs.Nested.{named_event, named_from, named}
 use Rattle.cilk_determinacy.specs.ReducerEvents.{OfKind, only, view_over, of_instance, retired_all, of_event, reducer_events, finals_over, ValuesAreViewed, FinalsAreViewed}
-use Rattle.cilk_worlds.specs.Reducers.{kind_of}
-use Rattle.cilk_worlds.specs.Worlds.{Reducers, World, first_world, child_world, global_named, own_named}
+use Rattle.cilk_runs.specs.Reducers.{kind_of}
+use Rattle.cilk_runs.specs.Worlds.{Reducers, World, first_world, child_world, global_named, own_named}
 use Rattle.cilk_determinacy.specs.Numbers.{instance_number, HasInstance}
 use Rattle.cilk_determinacy.proofs.Determinate.{ran}
 use Rattle.cilk_determinacy.proofs.Sights.{IsNumbered, tied_reducer, own_tied, Stands}

@@ -11,14 +11,14 @@ use Rattle.cilk_program.specs.declared.syntax.ReducerPlace.{ReducerPlace}
 use Rattle.cilk_program.specs.declared.syntax.ReducerPlace.TheVariants as reducers
 use Rattle.cilk_program.specs.Syntax.{Source, main_of, function_at}
 use Rattle.cilk_program.specs.SerialRun as serial
-use Rattle.cilk_meaning.specs.Order.{writings, creations, opening_asks, Stage, Fresh, Due, Going, Resuming, Synced, Closing, opened, IsOwnAt, IsOrderly}
-use Rattle.cilk_meaning.proofs.Legal.{IsPlain}
-use Rattle.cilk_meaning.proofs.Closings.{IsOpening, IsSound, AreOpening, opening_asks_open, opened_sound, View, Begins as BeginsNow, Opens, Goes, Calls as CallsNow, Spawns as SpawnsNow, Syncs as SyncsNow, Resumes as ResumesNow, Again, Gives, Ends as EndsNow, EndsThen, view}
+use Rattle.cilk_program.specs.Order.{writings, creations, opening_asks, Stage, Fresh, Due, Going, Resuming, Synced, Closing, opened, IsOwnAt, IsOrderly}
+use Rattle.cilk_program.proofs.Legal.{IsPlain}
+use Rattle.cilk_program.proofs.Closings.{IsOpening, IsSound, AreOpening, opening_asks_open, opened_sound, View, Begins as BeginsNow, Opens, Goes, Calls as CallsNow, Spawns as SpawnsNow, Syncs as SyncsNow, Resumes as ResumesNow, Again, Gives, Ends as EndsNow, EndsThen, view}
 use Rattle.cilk_runs.specs.Runs.{Instance, has_instance, same_instance}
 use Rattle.cilk_runs.specs.Views.{IsCreate, IsRetire, IsRetiredAtHome}
 use Rattle.cilk_runs.proofs.Basics.{same_instance-eq}
-use Rattle.cilk_worlds.specs.Worlds.{Reducers, own_named, World, world_of, first_world, child_world, reducer_seen}
-use Rattle.cilk_worlds.specs.Machine.{retired_from, retired_by}
+use Rattle.cilk_runs.specs.Worlds.{Reducers, own_named, World, world_of, first_world, child_world, reducer_seen}
+use Rattle.cilk_runs.specs.WorldMachine.{retired_from, retired_by}
 use Rattle.cilk_determinacy.specs.Nested.{named_event, named_from, named}
 
 -- ---- ends retire what was created

@@ -6,13 +6,13 @@ use Rattle.cilk_program.specs.declared.ask.Ask.TheVariants as asks
 use Rattle.cilk_program.specs.Syntax.{Source}
 use Rattle.cilk_program.specs.SerialRun as serial
 use Rattle.cilk_program.specs.SerialRun.{answer_to, IsInner, Ending, Finished, Serial, Made, Ended, Went}
-use Rattle.cilk_meaning.specs.Closed as language
+use Rattle.cilk_program.specs.Closed as language
 use Rattle.cilk_types.specs.declared.invocation.Invocation.{Invocation}
 use Rattle.cilk_types.specs.declared.invocation.Invocation.TheVariants.{Call, Spawn}
 use Rattle.cilk_runs.specs.Runs.{Reads, Writes, Syncs, Ends, Passes, Begins, Resumes, Creates, Updates, Sets, Values, Prints, Deed, Does, Run, stop, act, child}
 use Rattle.cilk_runs.specs.Serial.{SyncAhead, GoesOn, ComesAfter, IsClosed}
 use Rattle.cilk_runs.specs.Traces.{Due, begin_due, resume_due, neither_due, IsFramed}
-use Rattle.cilk_worlds.specs.Worlds.{World, child_world}
+use Rattle.cilk_runs.specs.Worlds.{World, child_world}
 use Rattle.cilk_determinacy.specs.Nested.{named_from}
 
 -- ---- from the language's run

@@ -10,10 +10,10 @@ use Rattle.cilk_program.specs.Behaviour.{OpenAsk, asks_for, frame_asks}
 use Rattle.cilk_program.specs.WellNamed.{is_well_named}
 use Rattle.cilk_program.specs.Inside.{AskIsThere}
 use Rattle.cilk_program.specs.SerialRun.{Transcript, act, child, Memory, Frame, root_frame, next_frame}
-use Rattle.cilk_meaning.specs.Numbering.{Counts, counts_of, counts_after, unbegun, entered}
-use Rattle.cilk_meaning.proofs.Asked.{asks_there}
-use Rattle.cilk_meaning.proofs.Visible.{can_invoke}
-use Rattle.cilk_worlds.specs.Worlds.{World, first_world, child_world}
+use Rattle.cilk_program.specs.Numbering.{Counts, counts_of, counts_after, unbegun, entered}
+use Rattle.cilk_program.proofs.Asked.{asks_there}
+use Rattle.cilk_program.proofs.Visible.{can_invoke}
+use Rattle.cilk_runs.specs.Worlds.{World, first_world, child_world}
 use Rattle.cilk_determinacy.proofs.Sights.{Stands, Ahead}
 use Rattle.cilk_determinacy.proofs.Children.{root_ahead, child_ahead, past_ahead, root_stands, root_path, child_stands, child_path}
 

@@ -18,7 +18,7 @@ use Rattle.cilk_runs.specs.Traces.{trace}
 use Rattle.cilk_tree.specs.Marks.{mark_of, begun_by}
 use Rattle.cilk_tree.specs.Races.{strand_at}
 use Rattle.cilk_runs.specs.Traces.{Due, begin_due, resume_due, neither_due, IsFramed, IsWrittenEvent, IsWritten, AreWritten}
-use Rattle.cilk_worlds.specs.Worlds.{World, first_world, child_world}
+use Rattle.cilk_runs.specs.Worlds.{World, first_world, child_world}
 use Rattle.cilk_determinacy.specs.Nested.{named, named_from, named_event}
 use Rattle.cilk_determinacy.specs.Numbers.{cell_number, instance_number}
 use Rattle.cilk_runs.specs.Machine.{begins_strand}

@@ -15,9 +15,9 @@ use Rattle.cilk_program.specs.Outcomes.{Leaves}
 use Rattle.cilk_program.specs.Syntax.{Source}
 use Rattle.cilk_program.specs.SerialRun as serial
 use Rattle.cilk_program.specs.SerialRun.{Frame, invocation, result_written}
-use Rattle.cilk_meaning.specs.Numbering.{Counts, unbegun, entered, counts_after, frame_of, events_of}
-use Rattle.cilk_meaning.proofs.Closings.{runs_begin, runs_resume, runs_end}
-use Rattle.cilk_meaning.proofs.Numbers.{run_events}
+use Rattle.cilk_program.specs.Numbering.{Counts, unbegun, entered, counts_after, frame_of, events_of}
+use Rattle.cilk_program.proofs.Closings.{runs_begin, runs_resume, runs_end}
+use Rattle.cilk_program.proofs.Numbers.{run_events}
 use Rattle.cilk_runs.specs.Runs.{Reads, Writes, Syncs, Ends, Passes, Begins, Resumes, Creates, Updates, Sets, Values, Prints, Run, act, child}
 use Rattle.cilk_runs.specs.Serial.{SyncAhead}
 use Rattle.cilk_tree.specs.declared.mark.Mark.{Mark}
@@ -30,7 +30,7 @@ use Rattle.cilk_runs.specs.Traces.{Due, begin_due, resume_due, neither_due, IsFr
 use Rattle.cilk_runs.proofs.Spells.{ahead}
 use Rattle.cilk_determinacy.specs.Nested.{named_from, named}
 use Rattle.cilk_determinacy.specs.Strands.{SpellOneShape}
-use Rattle.cilk_worlds.specs.Worlds.{World, first_world, child_world}
+use Rattle.cilk_runs.specs.Worlds.{World, first_world, child_world}
 use Rattle.cilk_determinacy.proofs.Assembled.{is_framed}
 use Rattle.cilk_determinacy.proofs.Determinate.{ran}
 use Rattle.cilk_determinacy.proofs.Shapes.{IsProper, ProperAt, Stage, IsSynced, serial_proper, synced}

@@ -4,12 +4,12 @@ use Rattle.cilk_types.specs.declared.event.Event as numbers
 use Rattle.cilk_program.specs.Syntax.{Source}
 use Rattle.cilk_program.specs.SerialRun as serial
 use Rattle.cilk_program.specs.SerialRun.{cells_of}
-use Rattle.cilk_meaning.specs.Numbering.{Counts, counts_after, entered}
+use Rattle.cilk_program.specs.Numbering.{Counts, counts_after, entered}
 use Rattle.cilk_runs.specs.Runs.{Event, Reads, Writes, Syncs, Ends, Passes, Deed, Does, Invokes, Run, stop, act, child, ask_of}
 use Rattle.cilk_runs.specs.Costs.{EventTotal, FrameTotal, CellTotal, frame_cost, cells_of as cells_begun, weight}
 use Rattle.cilk_runs.specs.Traces.{trace, AreWritten}
-use Rattle.cilk_worlds.specs.Worlds.{World, child_world}
-use Rattle.cilk_worlds.specs.Machine.{costs}
+use Rattle.cilk_runs.specs.Worlds.{World, child_world}
+use Rattle.cilk_runs.specs.WorldMachine.{costs}
 use Rattle.cilk_determinacy.specs.Nested.{named_event, named_from}
 
 no_frames : (W : Type 0) (e : Event) → frame_cost {W = W} (ask_of e) ≡ 0

@@ -2,9 +2,9 @@
 use Rattle.std.proofs.Common.{◌≡◌, ℕ, zero, suc, ◌<◌, ◌^◌, ℤ, pos, negsuc, ◌+ℤ◌, ◌-ℤ◌, ◌<ℤ◌, neg_ℤ, int_lt, int_eq, int_rem, Bool, true, false, if◌then◌else◌, List, [], ◌∷◌, slice_get, Option, Some, None, is_some, unwrap_or, refl, arith, lit<}
 use Rattle.std.specs.Int.{w64}
 use Rattle.std.proofs.lemmas.Int.{ints, SFits-int_wrap}
-use Rattle.cilk_meaning.proofs.Intervals.{below_from}
+use Rattle.cilk_program.proofs.Intervals.{below_from}
 use Rattle.std.specs.Int.Signed.{mag, mag_rem}
-use Rattle.cilk_meaning.proofs.Halves.{halves}
+use Rattle.cilk_program.proofs.Halves.{halves}
 use Rattle.cilk_types.specs.Input.{input_at, input_count}
 use Rattle.cilk_types.specs.Word.{word_of, IsWord}
 use Rattle.cilk_types.specs.declared.fault.Fault.{Fault}

@@ -8,7 +8,7 @@ use Rattle.cilk_program.specs.Outcomes.{Conclusion, Leaves}
 use Rattle.cilk_program.specs.Syntax.{Source}
 use Rattle.cilk_program.specs.SerialRun.{Transcript, IsSerialRun}
 use Rattle.cilk_program.specs.WellNamed.{is_well_named}
-use Rattle.cilk_meaning.specs.Answered.{opening_cells}
+use Rattle.cilk_program.specs.Answered.{opening_cells}
 use Rattle.cilk_tree.specs.Races.{event_at}
 use Rattle.cilk_tree.specs.Sources.{source_at}
 use Rattle.cilk_tree.specs.Tree.{Tree}

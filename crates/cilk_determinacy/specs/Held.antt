@@ -5,10 +5,10 @@ use Rattle.cilk_types.specs.Word.{IsWord}
 use Rattle.cilk_program.specs.Syntax.{Source}
 use Rattle.cilk_runs.specs.Runs.{Name, Reads, Writes, Syncs, Ends, Passes, Begins, Resumes, Creates, Updates, Sets, Values, Prints, Deed, Does, Invokes}
 use Rattle.cilk_runs.specs.Machine.{State}
-use Rattle.cilk_worlds.specs.Held.{HoldsViews}
-use Rattle.cilk_worlds.specs.Reducers.{View, kind_of}
-use Rattle.cilk_worlds.specs.Steps.{Reaches}
-use Rattle.cilk_worlds.specs.Worlds.{World}
+use Rattle.cilk_runs.specs.Held.{HoldsViews}
+use Rattle.cilk_runs.specs.Reducers.{View, kind_of}
+use Rattle.cilk_runs.specs.Steps.{Reaches}
+use Rattle.cilk_runs.specs.Worlds.{World}
 use Rattle.cilk_determinacy.specs.Words.{HasWords, InputsAreWords}
 
 -- the length of a list, where it is read, is a word

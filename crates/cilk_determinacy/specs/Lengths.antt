@@ -6,9 +6,9 @@ use Rattle.cilk_program.specs.Syntax.{Source}
 use Rattle.cilk_runs.specs.Costs.{EventTotal}
 use Rattle.cilk_runs.specs.Runs.{Name, Instance}
 use Rattle.cilk_runs.specs.Machine.{Frame, State}
-use Rattle.cilk_worlds.specs.Reducers.{View, kind_of, value_of}
-use Rattle.cilk_worlds.specs.Steps.{Reaches}
-use Rattle.cilk_worlds.specs.Worlds.{World}
+use Rattle.cilk_runs.specs.Reducers.{View, kind_of, value_of}
+use Rattle.cilk_runs.specs.Steps.{Reaches}
+use Rattle.cilk_runs.specs.Worlds.{World}
 use Rattle.cilk_determinacy.specs.Held.{LengthsAreWords}
 use Rattle.cilk_determinacy.specs.Words.{HasWords, InputsAreWords}
 

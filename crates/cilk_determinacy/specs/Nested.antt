@@ -5,8 +5,8 @@ use Rattle.cilk_program.specs.declared.ask.Ask.TheVariants as asks
 use Rattle.cilk_program.specs.Syntax.{Source}
 use Rattle.cilk_program.specs.SerialRun as serial
 use Rattle.cilk_runs.specs.Runs.{Event, Reads, Writes, Syncs, Ends, Passes, Begins, Resumes, Creates, Updates, Sets, Values, Prints, Run, stop, act, child}
-use Rattle.cilk_worlds.specs.Worlds.{World, first_world, child_world, cell_seen, reducer_seen, result_cell}
-use Rattle.cilk_worlds.specs.Machine.{retired_by}
+use Rattle.cilk_runs.specs.Worlds.{World, first_world, child_world, cell_seen, reducer_seen, result_cell}
+use Rattle.cilk_runs.specs.WorldMachine.{retired_by}
 
 -- the event of an ask that was answered so; a frame of a run doesn't ask for a child or a fault so
 abbrev pub named_event : Source → World → language.Ask → ℤ → Event

@@ -6,8 +6,8 @@ use Rattle.cilk_program.specs.SerialRun as serial
 use Rattle.cilk_program.specs.Syntax.{Source}
 use Rattle.cilk_runs.specs.Machine.{State}
 use Rattle.cilk_runs.specs.Stretches.{AreStretches, PiecesAreViews}
-use Rattle.cilk_worlds.specs.Reducers.{View, monoid_of}
-use Rattle.cilk_worlds.specs.Worlds.{World}
+use Rattle.cilk_runs.specs.Reducers.{View, monoid_of}
+use Rattle.cilk_runs.specs.Worlds.{World}
 use Rattle.cilk_determinacy.specs.Nested.{named}
 use Rattle.cilk_determinacy.specs.Theorem.{RunsFree, IsCut}
 

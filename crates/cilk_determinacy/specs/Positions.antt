@@ -11,8 +11,8 @@ use Rattle.cilk_runs.specs.Machine.{State, deeds_at}
 use Rattle.cilk_runs.specs.Positions.{made_at, IsClosedBefore}
 use Rattle.cilk_tree.specs.Shape.{Shape, Spells}
 use Rattle.cilk_tree.specs.Tree.{tree}
-use Rattle.cilk_worlds.specs.Reducers.{View}
-use Rattle.cilk_worlds.specs.Worlds.{World}
+use Rattle.cilk_runs.specs.Reducers.{View}
+use Rattle.cilk_runs.specs.Worlds.{World}
 use Rattle.cilk_determinacy.specs.Nested.{named}
 use Rattle.cilk_determinacy.specs.Theorem.{IsCut}
 

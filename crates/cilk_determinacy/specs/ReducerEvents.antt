@@ -19,8 +19,8 @@ use Rattle.cilk_runs.specs.Traces.{trace}
 use Rattle.cilk_tree.specs.Races.{event_at}
 use Rattle.cilk_determinacy.specs.Nested.{named}
 use Rattle.cilk_determinacy.specs.Numbers.{instance_number, HasInstance}
-use Rattle.cilk_worlds.specs.Reducers.{kind_of}
-use Rattle.cilk_worlds.specs.Worlds.{World}
+use Rattle.cilk_runs.specs.Reducers.{kind_of}
+use Rattle.cilk_runs.specs.Worlds.{World}
 
 -- an event of a reducer with this monoid
 pub record OfKind : Type 0 where

@@ -12,11 +12,11 @@ use Rattle.cilk_tree.specs.Races.{IsRace}
 use Rattle.cilk_peers.specs.ViewRaces.{IsViewRace}
 use Rattle.cilk_runs.specs.Runs.{Name}
 use Rattle.cilk_runs.specs.Machine.{State}
-use Rattle.cilk_worlds.specs.Reducers.{View}
-use Rattle.cilk_worlds.specs.Worlds.{World}
+use Rattle.cilk_runs.specs.Reducers.{View}
+use Rattle.cilk_runs.specs.Worlds.{World}
 use Rattle.cilk_peers.specs.RaceFree.{IsRaceFree}
 use Rattle.cilk_determinacy.specs.Theorem.{IsAsSerial}
-use Rattle.cilk_worlds.specs.Steps.{Reaches}
+use Rattle.cilk_runs.specs.Steps.{Reaches}
 
 -- two positions have a determinacy race or a view-read race
 pub record IsRacy (es : List Event) : Type 0 where

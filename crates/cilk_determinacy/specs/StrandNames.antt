@@ -10,7 +10,7 @@ use Rattle.cilk_runs.specs.Machine.{begins_strand}
 use Rattle.cilk_runs.specs.Runs.{Name, Run, stop, act, child}
 use Rattle.cilk_tree.specs.Before.{IsPosition}
 use Rattle.cilk_tree.specs.Races.{strand_at}
-use Rattle.cilk_worlds.specs.Worlds.{World}
+use Rattle.cilk_runs.specs.Worlds.{World}
 use Rattle.cilk_determinacy.specs.Nested.{named}
 
 -- a strand by its frame's name, and its place among the frame's strands, from 1

@@ -13,7 +13,7 @@ use Rattle.cilk_program.specs.WellNamed.{is_well_named}
 use Rattle.cilk_program.specs.Outcomes.{Leaves}
 use Rattle.cilk_program.specs.Elision.{IsElision}
 use Rattle.cilk_program.specs.SerialRun as serial
-use Rattle.cilk_meaning.specs.Ticks.{IsWithin}
+use Rattle.cilk_program.specs.Ticks.{IsWithin}
 use Rattle.cilk_tree.specs.Shape.{Spells}
 use Rattle.cilk_peers.specs.RaceFree.{IsRaceFree}
 use Rattle.cilk_runs.specs.Runs.{Name}
@@ -22,10 +22,10 @@ use Rattle.cilk_runs.specs.Machine.{State, deeds_at, HasEnd}
 use Rattle.cilk_runs.specs.Cuts.{IsConsistent}
 use Rattle.cilk_runs.specs.Theorem.{IsNestedSerialRun, Agrees}
 use Rattle.cilk_runs.specs.Traces.{trace, begin_due, IsFramed, shape_of, AreWritten}
-use Rattle.cilk_worlds.specs.Reducers.{View, monoid_of}
-use Rattle.cilk_worlds.specs.Worlds.{World, first_world}
-use Rattle.cilk_worlds.specs.Machine.{used, costs, opening_values}
-use Rattle.cilk_worlds.specs.Steps.{Next, IsFirst, OneStep, Reaches, outcome_in}
+use Rattle.cilk_runs.specs.Reducers.{View, monoid_of}
+use Rattle.cilk_runs.specs.Worlds.{World, first_world}
+use Rattle.cilk_runs.specs.WorldMachine.{used, costs, opening_values}
+use Rattle.cilk_runs.specs.Steps.{Next, IsFirst, OneStep, Reaches, outcome_in}
 use Rattle.cilk_determinacy.specs.Nested.{named}
 use Rattle.cilk_determinacy.specs.Numbers.{cell_number, instance_number}
 

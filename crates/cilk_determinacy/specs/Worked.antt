@@ -5,14 +5,14 @@ use Rattle.cilk_types.specs.declared.outcome.Final.TheVariants as final
 use Rattle.cilk_types.specs.declared.outcome.Outcome.{Outcome}
 use Rattle.cilk_program.specs.Syntax.{Source}
 use Rattle.cilk_program.specs.SerialRun.{Transcript}
-use Rattle.cilk_meaning.specs.WorkedFrames.{get}
-use Rattle.cilk_meaning.specs.WorkedReducers.{changed, lent, again}
+use Rattle.cilk_program.specs.WorkedFrames.{get}
+use Rattle.cilk_program.specs.WorkedReducers.{changed, lent, again}
 use Rattle.cilk_runs.specs.Runs.{Name}
 use Rattle.cilk_runs.specs.Machine.{State, deeds_at, HasEnd}
-use Rattle.cilk_worlds.specs.Reducers.{View}
-use Rattle.cilk_worlds.specs.Worlds.{World}
+use Rattle.cilk_runs.specs.Reducers.{View}
+use Rattle.cilk_runs.specs.Worlds.{World}
 use Rattle.cilk_determinacy.specs.Theorem.{RunsFree}
-use Rattle.cilk_worlds.specs.Steps.{Reaches, outcome_in}
+use Rattle.cilk_runs.specs.Steps.{Reaches, outcome_in}
 
 -- the program's serial run has no race and leaves this
 abbrev pub IsFree : Source → List ℤ → Outcome → Type 0

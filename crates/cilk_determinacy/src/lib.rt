@@ -1,7 +1,7 @@
 //! Race-free programs of the language are determinate.
 //!
 //! `cilk_runs` has the free machine, in which any frame that isn't waiting may make its next event at any moment and any
-//! continuation beside a spawned child may be stolen, and the theorem on it for any behaviour. `cilk_worlds` says what that
+//! continuation beside a spawned child may be stolen, and the theorem on it for any behaviour. `cilk_runs` says what that
 //! machine is for a program of the language (`cilk_program`). This crate proves the theorem there.
 //!
 //! * **The serial run by names** (`specs/Nested`) is the language's serial run with each child's run inside its parent's.

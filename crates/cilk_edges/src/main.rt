@@ -1,9 +1,9 @@
 //! The tool on real files and on standard input, as the gate runs it: each call's reply and status go to standard output.
 #![tactic(auto)]
 
-use cilk_tool::disk::Disk;
-use cilk_tool::files::Files;
-use cilk_tool::serve;
+use cilk_commands::disk::Disk;
+use cilk_commands::files::Files;
+use cilk_commands::serve;
 use std::io;
 use std::process::ExitCode;
 

@@ -1,12 +1,12 @@
 //! A program with its input, and the map of its text.
 
 use crate::fault::CaseFault;
-use cilk_lexer::lexer::lex;
+use cilk_syntax::lexer::lex;
 use cilk_names::resolve::resolve;
 use cilk_parser::input::parse_input;
 use cilk_parser::parse::parse;
-use cilk_places::items::map_of;
-use cilk_places::map::TextMap;
+use crate::items::map_of;
+use crate::map::TextMap;
 use cilk_program::program::Program;
 use cilk_types::input::Input;
 use std::alloc::Global;

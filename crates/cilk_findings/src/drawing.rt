@@ -3,8 +3,8 @@
 use crate::case::Case;
 use crate::fault::CaseFault;
 use crate::runs::Run;
-use cilk_measure::dot::dot;
-use cilk_measure::profile::profile;
+use crate::dot::dot;
+use crate::profile::profile;
 use cilk_tree::building::tree_of;
 use cilk_types::trace::Trace;
 use std::alloc::{AllocError, Global};

@@ -2,8 +2,8 @@
 
 use crate::case::Case;
 use crate::runs::Run;
-use cilk_places::map::{BodyMap, GlobalName};
-use cilk_places::replay::FrameNote;
+use crate::map::{BodyMap, GlobalName};
+use crate::replay::FrameNote;
 use cilk_program::program::Body;
 use cilk_syntax::tree::Name;
 use cilk_types::event::{Event, Instance};

@@ -1,8 +1,8 @@
 //! Places of a case's text, and lines of a report.
 
 use crate::case::Case;
-use cilk_explain::excerpt::push_excerpt;
-use cilk_explain::place::{Location, locate};
+use cilk_messages::excerpt::push_excerpt;
+use cilk_messages::place::{Location, locate};
 use std::alloc::AllocError;
 
 /// `FILE:LINE:COLUMN` of a byte.

@@ -4,9 +4,9 @@ use crate::case::Case;
 use crate::notes::place_of;
 use crate::paths::halves;
 use crate::runs::Run;
-use crate::statements::loop_round;
-use cilk_explain::tokens::Tokens;
-use cilk_places::replay::StepNote;
+use crate::partings::loop_round;
+use cilk_messages::tokens::Tokens;
+use crate::replay::StepNote;
 use cilk_program::program::Body;
 use std::alloc::AllocError;
 

@@ -7,7 +7,7 @@ use crate::case::Case;
 use crate::fault::CaseFault;
 use cilk_lower::code::{Code, Instr};
 use cilk_lower::lower::lower;
-use cilk_places::replay::{FrameNote, Replay, StepNote, follow};
+use crate::replay::{FrameNote, Replay, StepNote, follow};
 use cilk_program::program::Body;
 use cilk_serial::serial_run::SerialRun;
 use cilk_types::event::Event;

@@ -1,228 +1,262 @@
-//! Where a sync can be written that parts a spawn from what comes later.
+//! The instructions of statements.
 
-use crate::case::Case;
-use crate::notes::place_of;
-use cilk_explain::tokens::Tokens;
-use cilk_token::token::Kind;
+use crate::map::BodyMap;
+use crate::walker::Walker;
+use cilk_syntax::tree::{
+    Assignment, Beginning, Bounds, Expr, Local, LocalInitializer, Name, Reducer, Stmt,
+};
+use cilk_types::invocation::Invocation;
 use std::alloc::AllocError;
+use std::mem;
 
-/// Where a sync parts a spawn from what comes later, by a byte.
-#[derive(Clone, Copy, PartialEq, Eq)]
-enum Parting {
-    /// Ahead of the statement that begins there.
-    Ahead(usize),
-    /// Ahead of the statement that begins there, which is the body of a loop, or a part of an `if`, without braces.
-    Within(usize),
-    /// Ahead of the brace that ends a loop's body there.
-    AtEnd(usize),
-    /// Behind the statement that begins there, and is a loop's body without braces.
-    Behind(usize),
-    /// Ahead of the name there, in the middle of a declaration.
-    Between(usize),
-}
-
-/// Where a sync parts the spawn at one byte from what stands at another and comes later, in words.
-pub fn parted_at(case: &Case<'_>, spawn: usize, at: usize) -> Result<String, AllocError> {
-    let alloc = case.alloc;
-    let tokens = Tokens::new(alloc, case.text)?;
-    let parting = parting_of(&tokens, tokens.number_at(spawn), tokens.number_at(at));
-    let place = match parting {
-        Parting::Ahead(place) | Parting::Within(place) | Parting::AtEnd(place) => place,
-        Parting::Behind(place) | Parting::Between(place) => place,
-    };
-    let place = place_of(case, place)?;
-    let place = place.as_str();
-    match parting {
-        Parting::Ahead(_) => format!(in alloc; "ahead of {place}"),
-        Parting::Within(_) => format!(in alloc;
-            "ahead of {place}, in braces with what stands there"
-        ),
-        Parting::AtEnd(_) => format!(in alloc; "ahead of {place}, at the end of the loop's body"),
-        Parting::Behind(_) => {
-            format!(in alloc; "behind the statement at {place}, in braces with it")
+impl Walker<'_> {
+    /// Statements, one after the other.
+    #[cycle(statements)]
+    pub fn row(&mut self, row: &[Stmt]) -> Result<(), AllocError> {
+        for tree in row {
+            self.statement(tree)?;
         }
-        Parting::Between(_) => {
-            format!(in alloc; "ahead of {place}, where a declaration of its own has to begin")
-        }
+        Ok(())
     }
-}
 
-// The same by tokens.
-fn parting_of(tokens: &Tokens<'_>, spawn: usize, access: usize) -> Parting {
-    let first = statement_of(tokens, access);
-    if is_repeated(tokens, first, access) && stands_in(tokens, first, spawn) {
-        return at_end(tokens, first);
-    }
-    if let Some(name) = declared_at(tokens, first, access) {
-        if first <= spawn && spawn < name {
-            return Parting::Between(tokens.place(name));
-        }
-    }
-    ahead(tokens, first, spawn)
-}
-
-// The first token of the innermost statement that a token stands in. A head belongs to its loop or condition, what follows it doesn't.
-fn statement_of(tokens: &Tokens<'_>, number: usize) -> usize {
-    let mut first: usize = 0;
-    let mut depth: usize = 0;
-    let mut is_head = false;
-    for earlier in 0..number {
-        match tokens.kind(earlier) {
-            Some(Kind::Open) => {
-                if depth == 0 {
-                    is_head = has_head(tokens.kind_back(earlier, 1));
-                }
-                depth = depth.saturating_add(1);
+    #[cycle(statements)]
+    fn statement(&mut self, tree: &Stmt) -> Result<(), AllocError> {
+        match tree {
+            Stmt::Empty => {
+                let at = self.take();
+                self.put(at)
             }
-            Some(Kind::Close) => {
-                depth = depth.saturating_sub(1);
-                if depth == 0 && is_head {
-                    first = earlier.saturating_add(1);
-                }
+            Stmt::Block(row) => {
+                let at = self.take();
+                self.put(at)?;
+                self.row(row)?;
+                self.take();
+                Ok(())
             }
-            Some(Kind::Semicolon | Kind::OpenBrace | Kind::CloseBrace) if depth == 0 => {
-                first = earlier.saturating_add(1);
+            Stmt::Declare(locals) => self.declaration(locals),
+            Stmt::Reducer(reducer) => self.reducer(*reducer),
+            Stmt::Assign(_) | Stmt::Invoke(_, _) | Stmt::AssignCall(_, _, _) | Stmt::Sync => {
+                self.simple(tree)
             }
-            Some(Kind::Else) => first = earlier.saturating_add(1),
-            _ => {}
-        }
-    }
-    first
-}
-
-fn has_head(kind: Option<Kind>) -> bool {
-    matches!(
-        kind,
-        Some(Kind::If | Kind::While | Kind::For | Kind::CilkFor)
-    )
-}
-
-// The token behind a statement.
-fn end_of(tokens: &Tokens<'_>, first: usize) -> usize {
-    let mut depth: usize = 0;
-    for number in first..tokens.count() {
-        let kind = tokens.kind(number);
-        match kind {
-            Some(Kind::Open | Kind::OpenBrace) => depth = depth.saturating_add(1),
-            Some(Kind::Close | Kind::CloseBrace) => depth = depth.saturating_sub(1),
-            _ => {}
-        }
-        let ends = matches!(kind, Some(Kind::Semicolon | Kind::CloseBrace));
-        if depth == 0 && ends && !matches!(tokens.kind_behind(number), Some(Kind::Else)) {
-            return number.saturating_add(1);
-        }
-    }
-    tokens.count()
-}
-
-/// Whether a token stands in the statement that begins at another one.
-pub fn stands_in(tokens: &Tokens<'_>, first: usize, number: usize) -> bool {
-    first <= number && number < end_of(tokens, first)
-}
-
-/// The innermost `while` or `for` in which a token stands.
-pub fn loop_round(tokens: &Tokens<'_>, number: usize) -> Option<usize> {
-    let mut found = None;
-    for first in 0..number {
-        if matches!(tokens.kind(first), Some(Kind::While | Kind::For))
-            && stands_in(tokens, first, number)
-        {
-            found = Some(first);
-        }
-    }
-    found
-}
-
-// Whether a token stands in a loop's head where that is come to again behind each turn.
-fn is_repeated(tokens: &Tokens<'_>, first: usize, number: usize) -> bool {
-    let mut parts: usize = 0;
-    for earlier in first..number {
-        if let Some(Kind::Semicolon) = tokens.kind(earlier) {
-            parts = parts.saturating_add(1);
-        }
-    }
-    match tokens.kind(first) {
-        Some(Kind::While) => true,
-        Some(Kind::For) => parts > 0,
-        _ => false,
-    }
-}
-
-// The end of the body of the loop that begins at a token.
-fn at_end(tokens: &Tokens<'_>, first: usize) -> Parting {
-    let body = behind_head(tokens, first);
-    match tokens.kind(body) {
-        Some(Kind::OpenBrace) => {
-            let brace = end_of(tokens, body).saturating_sub(1);
-            Parting::AtEnd(tokens.place(brace))
-        }
-        _ => Parting::Behind(tokens.place(body)),
-    }
-}
-
-/// The token behind the head of a loop, or behind a condition.
-pub fn behind_head(tokens: &Tokens<'_>, first: usize) -> usize {
-    let mut depth: usize = 0;
-    for number in first..tokens.count() {
-        match tokens.kind(number) {
-            Some(Kind::Open) => depth = depth.saturating_add(1),
-            Some(Kind::Close) if depth == 1 => return number.saturating_add(1),
-            Some(Kind::Close) => depth = depth.saturating_sub(1),
-            _ => {}
-        }
-    }
-    tokens.count()
-}
-
-// The name behind the last comma of a declaration that a token stands in.
-fn declared_at(tokens: &Tokens<'_>, first: usize, number: usize) -> Option<usize> {
-    if !matches!(tokens.kind(first), Some(Kind::Int)) {
-        return None;
-    }
-    let mut name = None;
-    let mut depth: usize = 0;
-    for earlier in first..number {
-        match tokens.kind(earlier) {
-            Some(Kind::Open | Kind::OpenBracket) => depth = depth.saturating_add(1),
-            Some(Kind::Close | Kind::CloseBracket) => depth = depth.saturating_sub(1),
-            Some(Kind::Comma) if depth == 0 => name = Some(earlier.saturating_add(1)),
-            _ => {}
-        }
-    }
-    name
-}
-
-// Ahead of a statement, or of the one whose body it is without braces, where the spawn isn't in that one as well.
-fn ahead(tokens: &Tokens<'_>, first: usize, spawn: usize) -> Parting {
-    let mut start = first;
-    for _level in 0..tokens.count() {
-        match headed(tokens, start) {
-            Some(outer) if !stands_in(tokens, outer, spawn) => start = outer,
-            _ => break,
-        }
-    }
-    let place = tokens.place(start);
-    match tokens.kind_back(start, 1) {
-        Some(Kind::Close | Kind::Else) => Parting::Within(place),
-        _ => Parting::Ahead(place),
-    }
-}
-
-// The loop or condition whose head ends ahead of a token.
-fn headed(tokens: &Tokens<'_>, number: usize) -> Option<usize> {
-    if !matches!(tokens.kind_back(number, 1), Some(Kind::Close)) {
-        return None;
-    }
-    let mut depth: usize = 0;
-    for back in 1..number.saturating_add(1) {
-        match tokens.kind_back(number, back) {
-            Some(Kind::Close) => depth = depth.saturating_add(1),
-            Some(Kind::Open) if depth == 1 => {
-                return number.checked_sub(back)?.checked_sub(1);
+            Stmt::If(test, body) => {
+                self.test(test)?;
+                self.statement(body)
             }
-            Some(Kind::Open) => depth = depth.saturating_sub(1),
-            _ => {}
+            Stmt::IfElse(test, first, second) => {
+                self.test(test)?;
+                self.statement(first)?;
+                let at = self.take();
+                self.put(at)?;
+                self.statement(second)
+            }
+            Stmt::While(test, body) => {
+                let at = self.test(test)?;
+                self.statement(body)?;
+                self.put(at)
+            }
+            Stmt::For(beginning, test, step, body) => {
+                let at = self.head(beginning)?;
+                self.turn_test(at, test)?;
+                let ahead = mem::replace(&mut self.body.spots, Vec::new(self.alloc));
+                self.turn_step(step)?;
+                let step = mem::replace(&mut self.body.spots, ahead);
+                self.statement(body)?;
+                self.body.spots.extend_from_slice(step.as_slice())?;
+                self.put(at)
+            }
+            Stmt::ParallelFor(bounds, body) => {
+                let outside = self.enter(bounds)?;
+                self.statement(body)?;
+                self.leave(outside)
+            }
+            Stmt::Return(_, value) => self.returned(value),
+            Stmt::Print(value) => {
+                let at = self.take();
+                self.put(at)?;
+                self.take();
+                self.expression(value)?;
+                self.pass(2);
+                self.put(at)
+            }
+            Stmt::Update(_, value) | Stmt::Set(_, value) => self.updated(value),
         }
     }
-    None
+
+    // A statement of one line that takes no other and declares nothing.
+    fn simple(&mut self, tree: &Stmt) -> Result<(), AllocError> {
+        match tree {
+            Stmt::Assign(assignment) => {
+                let at = self.here();
+                self.assignment(at, assignment)?;
+            }
+            Stmt::Invoke(how, call) => {
+                let at = self.here();
+                self.put(at)?;
+                self.call(*how, call, false)?;
+            }
+            Stmt::AssignCall(_, how, call) => {
+                let at = self.take();
+                self.put(at)?;
+                self.take();
+                self.call(*how, call, true)?;
+            }
+            _ => {
+                let at = self.take();
+                self.put_times(at, 2)?;
+            }
+        }
+        self.take();
+        Ok(())
+    }
+
+    // The variables of a declaration.
+    fn declaration(&mut self, locals: &[Local]) -> Result<(), AllocError> {
+        let at = self.take();
+        self.put(at)?;
+        for (number, local) in locals.iter().enumerate() {
+            if number > 0 {
+                self.take();
+            }
+            self.local(local)?;
+        }
+        self.take();
+        Ok(())
+    }
+
+    fn local(&mut self, local: &Local) -> Result<(), AllocError> {
+        self.body.cells.push(local.name)?;
+        let at = self.take();
+        match &local.initializer {
+            LocalInitializer::Absent => self.put(at),
+            LocalInitializer::Value(value) => {
+                self.take();
+                self.expression(value)?;
+                self.put(at)
+            }
+            LocalInitializer::Invoke(how, call) => {
+                self.take();
+                self.call(*how, call, true)
+            }
+        }
+    }
+
+    // `int cilk_reducer(KIND) NAME;`
+    fn reducer(&mut self, reducer: Reducer) -> Result<(), AllocError> {
+        self.pass(7);
+        self.put(reducer.name.at)
+    }
+
+    // `WORD (TEST)`, and the jump behind it. The place of the word is the result.
+    fn test(&mut self, test: &Expr) -> Result<usize, AllocError> {
+        let at = self.take();
+        self.put(at)?;
+        self.take();
+        self.expression(test)?;
+        self.take();
+        self.put(at)?;
+        Ok(at)
+    }
+
+    // `for (BEGINNING;`. The place of the word is the result.
+    fn head(&mut self, beginning: &Option<Beginning>) -> Result<usize, AllocError> {
+        let at = self.take();
+        self.put(at)?;
+        self.take();
+        match beginning {
+            Some(Beginning::Declares(name, value)) => {
+                self.body.cells.push(*name)?;
+                self.take();
+                self.put(name.at)?;
+                self.pass(2);
+                self.expression(value)?;
+                self.put(name.at)?;
+            }
+            Some(Beginning::Assigns(assignment)) => {
+                let at = self.here();
+                self.assignment(at, assignment)?;
+            }
+            None => {}
+        }
+        self.take();
+        Ok(at)
+    }
+
+    // `TEST;`, and the jump behind it.
+    fn turn_test(&mut self, at: usize, test: &Option<Box<Expr>>) -> Result<(), AllocError> {
+        if let Some(test) = test {
+            self.expression(test)?;
+            self.put(at)?;
+        }
+        self.take();
+        Ok(())
+    }
+
+    // `STEP)`.
+    fn turn_step(&mut self, step: &Option<Assignment>) -> Result<(), AllocError> {
+        if let Some(assignment) = step {
+            let at = self.here();
+            self.assignment(at, assignment)?;
+        }
+        self.take();
+        Ok(())
+    }
+
+    // The head of a `cilk_for`, and what a frame of its turns begins with. The body around it is the result, with the
+    // loop's number and place.
+    fn enter(&mut self, bounds: &Bounds) -> Result<(BodyMap, usize), AllocError> {
+        let at = self.take();
+        self.put(at)?;
+        self.pass(4);
+        self.expression(&bounds.low)?;
+        self.pass(3);
+        self.expression(&bounds.high)?;
+        self.pass_close();
+        self.put_times(at, 2)?;
+        let name = Name {
+            at,
+            end: at.saturating_add(8),
+        };
+        let number = self.loops.len();
+        self.loops.push(BodyMap::new(self.alloc, name))?;
+        let inside = BodyMap::new(self.alloc, name);
+        let outside = mem::replace(&mut self.body, inside);
+        self.body.cells.push(bounds.variable)?;
+        self.put_times(at, 2)?;
+        Ok((outside, number))
+    }
+
+    // What such a frame ends with, and how it halves its turns.
+    fn leave(&mut self, outside: (BodyMap, usize)) -> Result<(), AllocError> {
+        let (body, number) = outside;
+        let at = self.body.name.at;
+        self.put_times(at, 10)?;
+        let inside = mem::replace(&mut self.body, body);
+        if let Some(place) = self.loops.get_mut(number) {
+            *place = inside;
+        }
+        Ok(())
+    }
+
+    fn returned(&mut self, value: &Option<Box<Expr>>) -> Result<(), AllocError> {
+        let at = self.take();
+        self.put(at)?;
+        if let Some(value) = value {
+            self.expression(value)?;
+            self.put(at)?;
+        }
+        self.take();
+        self.put_times(at, 3)
+    }
+
+    // `WORD (NAME, VALUE);`
+    fn updated(&mut self, value: &Expr) -> Result<(), AllocError> {
+        let at = self.take();
+        self.put(at)?;
+        self.take();
+        let name = self.take();
+        self.take();
+        self.expression(value)?;
+        self.pass(2);
+        self.put(name)
+    }
 }

@@ -9,10 +9,10 @@ use Rattle.cilk_program.specs.Inside.{CalleeIsFit}
 use Rattle.cilk_program.specs.Syntax.{Source}
 use Rattle.cilk_lower.specs.Code.{CodeView}
 use Rattle.cilk_frames.specs.Cursor.{first_of}
-use Rattle.cilk_retelling.specs.declared.whole.Replay.{Replay}
-use Rattle.cilk_retelling.specs.Asked.{NoteView}
-use Rattle.cilk_retelling.specs.Notes.{AreNotes}
-use Rattle.cilk_retelling.specs.Whole.{IsKept}
+use Rattle.cilk_helpers.specs.declared.whole.Replay.{Replay}
+use Rattle.cilk_helpers.specs.Asked.{NoteView}
+use Rattle.cilk_helpers.specs.Notes.{AreNotes}
+use Rattle.cilk_helpers.specs.Whole.{IsKept}
 use Rattle.cilk_helpers.specs.declared.rounds.Share.{Share}
 use Rattle.cilk_helpers.specs.Replayed.{AreFitting, IsFitting}
 

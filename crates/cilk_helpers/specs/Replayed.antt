@@ -6,7 +6,7 @@ use Rattle.std.specs.declared.alloc.Global.{Global}
 use Rattle.cilk_program.specs.Inside.{CalleeIsFit}
 use Rattle.cilk_program.specs.Syntax.{Source}
 use Rattle.cilk_lower.specs.Code.{CodeView}
-use Rattle.cilk_retelling.specs.Whole.{IsKept}
+use Rattle.cilk_helpers.specs.Whole.{IsKept}
 use Rattle.cilk_helpers.specs.declared.replayed.Due.{Due}
 use Rattle.cilk_helpers.specs.declared.replayed.Replayed.{Replayed}
 use Rattle.cilk_helpers.specs.declared.rounds.Share.{Share}

@@ -2,8 +2,8 @@
 
 ghost use Rattle.std.specs.Prelude.{◌≡◌, ◌<◌, ◌≤◌, Some, IfOk, IfErr};
 ghost use Rattle.cilk_program.specs.Sources.{source as source_of};
-ghost use Rattle.cilk_judge.specs.Judging.{meant as meant_by};
-ghost use Rattle.cilk_ending.specs.Runs.{EndsWith};
+ghost use Rattle.cilk_checker.specs.Judging.{meant as meant_by};
+ghost use Rattle.cilk_checker.specs.Runs.{EndsWith};
 ghost use Rattle.cilk_checker.specs.Answers.{IsCertified};
 ghost use Rattle.cilk_checker.specs.OneVerdict.{AnswersOne, AnswersOnly, IsNoVerdict};
 ghost use Rattle.cilk_checker.specs.Texts.{AreTexts, IsTrueAnswer, IsTrueRefusal};
@@ -15,12 +15,12 @@ use cilk_checker::accepted::Accepted;
 use cilk_checker::check::check_end;
 use cilk_checker::refusal::{Refusal, Unaccepted};
 use cilk_checker::source::Whole;
-use cilk_ending::ending::{End, run_to_end};
+use cilk_checker::ending::{End, run_to_end};
 use cilk_lower::lower::lower;
 use cilk_program::program::Program;
-use cilk_retelling::hints::hints;
-use cilk_retelling::listing::Hints;
-use cilk_retelling::whole::retell;
+use crate::hints::hints;
+use crate::listing::Hints;
+use crate::whole::retell;
 use cilk_types::input::Input;
 use cilk_types::trace::Trace;
 use std::alloc::{AllocError, Global};

@@ -13,16 +13,16 @@ use Rattle.cilk_syntax.specs.Trees.{Item, items_of}
 use Rattle.cilk_program.specs.declared.program.Body.TheVariants as bodies
 use Rattle.cilk_program.specs.declared.program.GlobalReducer.{GlobalReducer}
 use Rattle.cilk_program.specs.Syntax.{Function, Loop, Statements}
-use Rattle.cilk_scopes.specs.declared.table.Meaning.TheVariants as meanings
-use Rattle.cilk_scopes.specs.declared.fault.Misnaming.{Misnaming}
-use Rattle.cilk_scopes.specs.Names.{Names, Scope, declare, opened}
+use Rattle.cilk_names.specs.declared.table.Meaning.TheVariants as meanings
+use Rattle.cilk_names.specs.declared.kind.Misnaming.{Misnaming}
+use Rattle.cilk_names.specs.Names.{Names, Scope, declare, opened}
 use Rattle.cilk_names.specs.Contexts.{Context, behind_row, with_parameter, with_parameters, signatures_of, functions_known}
-use Rattle.cilk_scopes.specs.declared.signature.Signature.{Signature}
+use Rattle.cilk_names.specs.declared.signature.Signature.{Signature}
 use Rattle.cilk_names.specs.Globals.{Known, start, zeros, behind_global, behind_line, behind_item, behind_items, in_function, behind_function}
-use Rattle.cilk_scopes.specs.Faults.{earliest}
+use Rattle.cilk_names.specs.Faults.{earliest}
 use Rattle.cilk_names.specs.Misnamings.{global_faults, line_faults, item_faults, items_faults}
 use Rattle.cilk_names.specs.Pass.{row_of, function_of_body, item_functions, item_loops, items_functions, items_loops}
-use Rattle.cilk_scopes.proofs.Earliest.{earliest_append}
+use Rattle.cilk_names.proofs.Earliest.{earliest_append}
 use Rattle.cilk_names.proofs.Behinds.{Keeps, same, then, keeps_variable, keeps_row, closed_names}
 
 zeros_next : (n : ℕ) → zeros (suc n) ≡ zeros n ++ pos 0 ∷ []

@@ -8,15 +8,15 @@ use Rattle.cilk_syntax.specs.Trees.{arguments_of}
 use Rattle.cilk_program.specs.declared.syntax.Expr as exprs
 use Rattle.cilk_program.specs.declared.syntax.Reducer.{Reducer}
 use Rattle.cilk_program.specs.Programs.{expression}
-use Rattle.cilk_scopes.specs.declared.fault.Misnaming.{Misnaming}
-use Rattle.cilk_scopes.specs.declared.signature.ParameterKind.{ParameterKind}
-use Rattle.cilk_scopes.specs.declared.signature.ParameterKind.TheVariants as kinds
-use Rattle.cilk_scopes.specs.Names.{Names}
+use Rattle.cilk_names.specs.declared.kind.Misnaming.{Misnaming}
+use Rattle.cilk_names.specs.declared.signature.ParameterKind.{ParameterKind}
+use Rattle.cilk_names.specs.declared.signature.ParameterKind.TheVariants as kinds
+use Rattle.cilk_names.specs.Names.{Names}
 use Rattle.cilk_names.specs.Calls.{first_of, rest_of}
-use Rattle.cilk_scopes.specs.Faults.{earliest}
+use Rattle.cilk_names.specs.Faults.{earliest}
 use Rattle.cilk_names.specs.Misnamings.{argument_faults, arguments_faults}
 use Rattle.cilk_names.specs.Pass.{word_of_argument, words_of, reducer_of_argument, reducers_of}
-use Rattle.cilk_scopes.proofs.Earliest.{earliest_append}
+use Rattle.cilk_names.proofs.Earliest.{earliest_append}
 
 pub length_arguments : (list : List code.Argument) → length (arguments_of list) ≡ length list
 length_arguments [] = refl

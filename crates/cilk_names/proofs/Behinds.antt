@@ -3,10 +3,10 @@ use Rattle.std.proofs.Common.{◌≡◌, ℕ, ◌+◌, false, List, [], ◌∷�
 use Rattle.cilk_syntax.specs.Trees as trees
 use Rattle.cilk_syntax.specs.declared.tree.Name.{Name}
 use Rattle.cilk_names.specs.declared.scene.Frame.{Frame}
-use Rattle.cilk_scopes.specs.Names.{Names, Scope, declare, opened}
+use Rattle.cilk_names.specs.Names.{Names, Scope, declare, opened}
 use Rattle.cilk_names.specs.Contexts.{Context, in_loop, inside, behind_scope, ahead, with_variable, behind_locals, behind_beginning, in_body, behind_loop, behind, behind_row}
-use Rattle.cilk_scopes.specs.Faults.{again_faults}
-use Rattle.cilk_scopes.specs.declared.table.Meaning.TheVariants as meanings
+use Rattle.cilk_names.specs.Faults.{again_faults}
+use Rattle.cilk_names.specs.declared.table.Meaning.TheVariants as meanings
 use Rattle.cilk_program.specs.declared.program.Body.TheVariants as bodies
 
 -- the scope in which it stands alone may differ

@@ -11,11 +11,11 @@ use Rattle.cilk_program.specs.declared.syntax.Place.TheVariants as places
 use Rattle.cilk_program.specs.Syntax.{Declaration, Statement, Declare, Invokes, If, For, Print, Update, Set, Return, Statements, Nothing, Then, Loop, Source, idle_loop, loop_at}
 use Rattle.cilk_program.specs.WellNamed.{Level, loop_level, levels, levels_of, at_most, has_cell, is_kind, has_own, same_body, place_is_there, reducer_is_there, expression_is_named, option_is_named, declaration_is_named, declarations_are_named, loop_is_there, statement_is_named, row_is_named, stands_in, loop_is_named, loops_are_named}
 use Rattle.cilk_names.specs.declared.limits.TheConstants.{MAX_CELLS}
-use Rattle.cilk_scopes.specs.declared.table.Meaning.TheVariants as meanings
-use Rattle.cilk_scopes.specs.declared.table.Home.TheVariants as homes
-use Rattle.cilk_scopes.specs.Names.{Names, monoid_at, kind_or_sum}
+use Rattle.cilk_names.specs.declared.table.Meaning.TheVariants as meanings
+use Rattle.cilk_names.specs.declared.table.Home.TheVariants as homes
+use Rattle.cilk_names.specs.Names.{Names, monoid_at, kind_or_sum}
 use Rattle.cilk_names.specs.Contexts.{Context, inside, behind_scope, ahead, with_variable, with_reducer, behind_locals, behind_beginning, in_loop, in_body, behind, behind_row}
-use Rattle.cilk_scopes.specs.Faults.{again_faults}
+use Rattle.cilk_names.specs.Faults.{again_faults}
 use Rattle.cilk_names.specs.Misnamings.{limit_faults, declared_faults, expression_faults, initializer_faults, local_faults, locals_faults, beginning_faults, head_faults, statement_faults, row_faults, own_faults}
 use Rattle.cilk_names.specs.Resolution.{ResolvesInitializer, ResolvesLocals, ResolvesBeginning, ResolvesStatement, ResolvesRow}
 use Rattle.cilk_names.proofs.Behinds.{Keeps, same, keeps, keeps_variable}

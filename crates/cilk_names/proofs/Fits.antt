@@ -20,18 +20,18 @@ use Rattle.cilk_program.specs.declared.syntax.Reducer.{Reducer}
 use Rattle.cilk_program.specs.declared.syntax.ReducerPlace.TheVariants as reducers
 use Rattle.cilk_program.specs.Syntax.{Expression, Target, Invoke, Statement, Statements, Source, function_at}
 use Rattle.cilk_program.specs.WellNamed.{Level, levels_of, at_most, has_cell, is_kind, has_own, has_given, have_kinds, place_is_there, array_is_there, reducer_is_there, expression_is_named, all_are_named, option_is_named, target_is_named, reducers_are_there, result_is_there, invoke_is_named, statement_is_named, row_is_named}
-use Rattle.cilk_scopes.specs.declared.table.Meaning.{Meaning}
-use Rattle.cilk_scopes.specs.declared.table.Meaning.TheVariants as meanings
-use Rattle.cilk_scopes.specs.declared.table.Home.TheVariants as homes
-use Rattle.cilk_scopes.specs.declared.table.Binding.{Binding}
-use Rattle.cilk_scopes.specs.declared.signature.ParameterKind.{ParameterKind}
-use Rattle.cilk_scopes.specs.declared.signature.ParameterKind.TheVariants as kinds
-use Rattle.cilk_scopes.specs.declared.signature.Signature.{Signature}
-use Rattle.cilk_scopes.specs.Names.{Names, Scope, found_in, found, is_declared, with_entry, declare, opened, kind_or_sum}
-use Rattle.cilk_scopes.specs.Operators.{prefixed, joined}
-use Rattle.cilk_scopes.specs.Sights.{place_of, array_of, reducer_of, function_of, seen, variable, array, reducer, called, plain, signature_of}
+use Rattle.cilk_names.specs.declared.table.Meaning.{Meaning}
+use Rattle.cilk_names.specs.declared.table.Meaning.TheVariants as meanings
+use Rattle.cilk_names.specs.declared.table.Home.TheVariants as homes
+use Rattle.cilk_names.specs.declared.table.Binding.{Binding}
+use Rattle.cilk_names.specs.declared.signature.ParameterKind.{ParameterKind}
+use Rattle.cilk_names.specs.declared.signature.ParameterKind.TheVariants as kinds
+use Rattle.cilk_names.specs.declared.signature.Signature.{Signature}
+use Rattle.cilk_names.specs.Names.{Names, Scope, found_in, found, is_declared, with_entry, declare, opened, kind_or_sum}
+use Rattle.cilk_names.specs.Operators.{prefixed, joined}
+use Rattle.cilk_names.specs.Sights.{place_of, array_of, reducer_of, function_of, seen, variable, array, reducer, called, plain, signature_of}
 use Rattle.cilk_names.specs.Resolution.{ResolvesExpression, ResolvesOptional, ResolvesPlace, ResolvesAssignment, ResolvesStep, ResolvesArguments, ResolvesCall}
-use Rattle.cilk_scopes.proofs.Tables.{found_last}
+use Rattle.cilk_names.proofs.Tables.{found_last}
 use Rattle.cilk_monoid.proofs.SameKinds.{kind_itself}
 
 -- operators name nothing by themselves

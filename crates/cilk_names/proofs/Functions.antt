@@ -8,10 +8,10 @@ use Rattle.std.proofs.Math.Seq.{drop-cons}
 use Rattle.cilk_syntax.specs.declared.tree.Item as code
 use Rattle.cilk_syntax.specs.Trees as trees
 use Rattle.cilk_syntax.specs.Trees.{Item, items_of, bytes_of}
-use Rattle.cilk_scopes.specs.declared.signature.Signature.{Signature}
-use Rattle.cilk_scopes.specs.declared.table.Binding.{Binding}
-use Rattle.cilk_scopes.specs.declared.table.Meaning.TheVariants as meanings
-use Rattle.cilk_scopes.specs.Names.{Names, Scope, with_entry}
+use Rattle.cilk_names.specs.declared.signature.Signature.{Signature}
+use Rattle.cilk_names.specs.declared.table.Binding.{Binding}
+use Rattle.cilk_names.specs.declared.table.Meaning.TheVariants as meanings
+use Rattle.cilk_names.specs.Names.{Names, Scope, with_entry}
 use Rattle.cilk_names.specs.Contexts.{functions_known, functions_behind, with_item}
 use Rattle.cilk_names.specs.Globals.{is_main_item, main_of}
 

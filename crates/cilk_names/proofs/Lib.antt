@@ -3,6 +3,7 @@ pub mod Arguments
 pub mod Behinds
 pub mod Blocks
 pub mod Bodies
+pub mod Earliest
 pub mod Firsts
 pub mod Fits
 pub mod Functions
@@ -15,5 +16,6 @@ pub mod OneFault
 pub mod Onlys
 pub mod Rights
 pub mod Rows
+pub mod Tables
 pub mod Verdicts
 pub mod WellNamed

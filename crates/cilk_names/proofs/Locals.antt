@@ -8,13 +8,13 @@ use Rattle.cilk_syntax.specs.Trees as trees
 use Rattle.cilk_syntax.specs.Trees.{locals_of}
 use Rattle.cilk_program.specs.declared.syntax.Declaration as declared
 use Rattle.cilk_program.specs.Programs.{declaration}
-use Rattle.cilk_scopes.specs.declared.fault.Misnaming.{Misnaming}
+use Rattle.cilk_names.specs.declared.kind.Misnaming.{Misnaming}
 use Rattle.cilk_names.specs.Contexts.{Context, with_variable, behind_locals, with_parameter, with_parameters}
-use Rattle.cilk_scopes.specs.Faults.{earliest}
+use Rattle.cilk_names.specs.Faults.{earliest}
 use Rattle.cilk_names.specs.Misnamings.{local_faults, locals_faults, parameter_faults, parameters_faults}
 use Rattle.cilk_names.specs.Pass.{declarations_of}
-use Rattle.cilk_scopes.proofs.Earliest.{earliest_append}
-use Rattle.cilk_scopes.proofs.Tables.{map_append}
+use Rattle.cilk_names.proofs.Earliest.{earliest_append}
+use Rattle.cilk_names.proofs.Tables.{map_append}
 
 -- an element of a list, whatever stands for those past its end
 pub get_any : {A : Type 0} (list : List A) (i : ℕ) (d e : A) → i < length list → get_or list i d ≡ get_or list i e

@@ -3,11 +3,11 @@ use Rattle.std.proofs.Common.{◌≡◌, ℕ, false, ◌||◌, ◌&&◌, [], ref
 use Rattle.std.proofs.lemmas.Bool.Decides.{nat_tests}
 use Rattle.cilk_syntax.specs.declared.tree.Tree.{Tree}
 use Rattle.cilk_program.specs.Syntax.{Source}
-use Rattle.cilk_scopes.specs.declared.fault.NameNumber.{NameNumber}
-use Rattle.cilk_scopes.specs.declared.fault.NameNumber.TheVariants as numbers
+use Rattle.cilk_names.specs.declared.kind.NameNumber.{NameNumber}
+use Rattle.cilk_names.specs.declared.kind.NameNumber.TheVariants as numbers
 use Rattle.cilk_names.specs.declared.fault.NameFault.TheVariants.{At}
-use Rattle.cilk_scopes.specs.declared.fault.Misnaming.{Misnaming}
-use Rattle.cilk_scopes.specs.Faults.{number_of, is_before}
+use Rattle.cilk_names.specs.declared.kind.Misnaming.{Misnaming}
+use Rattle.cilk_names.specs.Faults.{number_of, is_before}
 use Rattle.cilk_names.specs.Misnamings.{IsFirst, IsNameFault}
 use Rattle.cilk_names.specs.Resolution.{Resolves}
 

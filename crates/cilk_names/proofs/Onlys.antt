@@ -7,14 +7,14 @@ use Rattle.cilk_program.specs.declared.syntax.Place.{Place}
 use Rattle.cilk_program.specs.declared.syntax.Place.TheVariants.{Local}
 use Rattle.cilk_program.specs.declared.syntax.Reducer.{Reducer}
 use Rattle.cilk_program.specs.Syntax.{Expression, Element, Input, Target, ToElement, Invoke, Declaration, Opening, Statement, Block, Declare, Assign, Change, Step, Invokes, If, IfElse, For, ParallelFor, Print, Return, Statements, Then, Nothing, Update, Set, Loop}
-use Rattle.cilk_scopes.specs.declared.signature.ParameterKind.{ParameterKind}
-use Rattle.cilk_scopes.specs.declared.signature.ParameterKind.TheVariants as kinds
-use Rattle.cilk_scopes.specs.declared.signature.Signature.{Signature}
-use Rattle.cilk_scopes.specs.Names.{Names}
+use Rattle.cilk_names.specs.declared.signature.ParameterKind.{ParameterKind}
+use Rattle.cilk_names.specs.declared.signature.ParameterKind.TheVariants as kinds
+use Rattle.cilk_names.specs.declared.signature.Signature.{Signature}
+use Rattle.cilk_names.specs.Names.{Names}
 use Rattle.cilk_names.specs.Contexts.{Context, inside, behind_scope, ahead, with_variable, behind_beginning, in_body, behind}
-use Rattle.cilk_scopes.specs.Sights.{signature_of}
+use Rattle.cilk_names.specs.Sights.{signature_of}
 use Rattle.cilk_names.specs.Calls.{bare_name}
-use Rattle.cilk_scopes.specs.Operators.{prefixed, joined}
+use Rattle.cilk_names.specs.Operators.{prefixed, joined}
 use Rattle.cilk_names.specs.Pass.{read_of, element_of, value_of, expression_of, optional_of, to_variable, to_element, target_of, or_empty, assignment_of, optional_row, bare_reducer, words_of, reducers_of, invoke_of, invoking, declaration_of, declarations_of, beginning_of, statement_of, row_of, loop_of, loops_of, row_loops}
 use Rattle.cilk_names.specs.Resolution.{ResolvesExpression, ResolvesOptional, ResolvesPlace, ResolvesAssignment, ResolvesStep, ResolvesBare, ResolvesArguments, ResolvesCall, ResolvesInitializer, ResolvesLocals, ResolvesBeginning, ResolvesStatement, ResolvesRow}
 

@@ -11,18 +11,18 @@ use Rattle.cilk_program.specs.declared.syntax.Place.{Place}
 use Rattle.cilk_program.specs.declared.syntax.Place.TheVariants.{Local}
 use Rattle.cilk_program.specs.declared.syntax.Reducer.{Reducer}
 use Rattle.cilk_program.specs.Syntax.{Target, ToVariable, ToElement, Invoke, Assign, Change, Step, Invokes, Update, Set}
-use Rattle.cilk_scopes.specs.declared.fault.NameNumber.{NameNumber}
-use Rattle.cilk_scopes.specs.declared.fault.NameNumber.TheVariants.{WrongCount, WrongKind}
-use Rattle.cilk_scopes.specs.declared.table.Meaning.{Meaning}
-use Rattle.cilk_scopes.specs.declared.table.Meaning.TheVariants as meanings
-use Rattle.cilk_scopes.specs.declared.signature.ParameterKind.{ParameterKind}
-use Rattle.cilk_scopes.specs.declared.signature.ParameterKind.TheVariants as kinds
-use Rattle.cilk_scopes.specs.declared.signature.Signature.{Signature}
-use Rattle.cilk_scopes.specs.Names.{Names, meaning}
+use Rattle.cilk_names.specs.declared.kind.NameNumber.{NameNumber}
+use Rattle.cilk_names.specs.declared.kind.NameNumber.TheVariants.{WrongCount, WrongKind}
+use Rattle.cilk_names.specs.declared.table.Meaning.{Meaning}
+use Rattle.cilk_names.specs.declared.table.Meaning.TheVariants as meanings
+use Rattle.cilk_names.specs.declared.signature.ParameterKind.{ParameterKind}
+use Rattle.cilk_names.specs.declared.signature.ParameterKind.TheVariants as kinds
+use Rattle.cilk_names.specs.declared.signature.Signature.{Signature}
+use Rattle.cilk_names.specs.Names.{Names, meaning}
 use Rattle.cilk_names.specs.Contexts.{Context, inside, behind_scope, ahead, with_variable, behind_beginning, in_body, behind}
-use Rattle.cilk_scopes.specs.Sights.{place_of, array_of, reducer_of, is_same, is_reducer_of, function_of, seen, variable, array, reducer, called, signature_of}
+use Rattle.cilk_names.specs.Sights.{place_of, array_of, reducer_of, is_same, is_reducer_of, function_of, seen, variable, array, reducer, called, signature_of}
 use Rattle.cilk_names.specs.Calls.{bare_name}
-use Rattle.cilk_scopes.specs.Faults.{unless, name_faults, turn_faults, variable_faults, array_faults, reducer_faults, written_faults}
+use Rattle.cilk_names.specs.Faults.{unless, name_faults, turn_faults, variable_faults, array_faults, reducer_faults, written_faults}
 use Rattle.cilk_names.specs.Misnamings.{expression_faults, optional_faults, place_faults, assignment_faults, optional_assignment_faults, bare_faults, arguments_faults, returns_word, fit_faults, call_faults, declared_faults, initializer_faults, local_faults, locals_faults, beginning_faults, same_faults, head_faults, gives_what_it_returns, return_faults, statement_faults, row_faults}
 use Rattle.cilk_names.specs.Pass.{read_of, element_of, value_of, expression_of, optional_of, to_variable, to_element, target_of, or_empty, assignment_of, optional_row, bare_reducer, words_of, reducers_of, invoke_of, invoking, declaration_of, declarations_of, beginning_of, statement_of, row_of, loops_of, row_loops}
 use Rattle.cilk_names.specs.Resolution.{ResolvesExpression, ResolvesOptional, ResolvesPlace, ResolvesAssignment, ResolvesStep, ResolvesBare, ResolvesArguments, ResolvesCall, ResolvesInitializer, ResolvesLocals, ResolvesBeginning, ResolvesStatement, ResolvesRow}

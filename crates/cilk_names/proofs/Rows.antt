@@ -7,12 +7,12 @@ use Rattle.cilk_syntax.specs.Trees as trees
 use Rattle.cilk_program.specs.declared.syntax.Stmt as resolved
 use Rattle.cilk_program.specs.Programs as programs
 use Rattle.cilk_program.specs.Syntax.{Loop, Then}
-use Rattle.cilk_scopes.specs.declared.fault.Misnaming.{Misnaming}
+use Rattle.cilk_names.specs.declared.kind.Misnaming.{Misnaming}
 use Rattle.cilk_names.specs.Contexts.{Context, ahead, behind, behind_row}
-use Rattle.cilk_scopes.specs.Faults.{earliest}
+use Rattle.cilk_names.specs.Faults.{earliest}
 use Rattle.cilk_names.specs.Misnamings.{statement_faults, row_faults}
 use Rattle.cilk_names.specs.Pass.{statement_of, row_of, loops_of, row_loops}
-use Rattle.cilk_scopes.proofs.Earliest.{earliest_append}
+use Rattle.cilk_names.proofs.Earliest.{earliest_append}
 use Rattle.cilk_names.proofs.Blocks.{followed, followed_push, followed_nothing}
 
 -- what is left, at one of them

@@ -5,10 +5,10 @@ use Rattle.cilk_syntax.specs.Trees as trees
 use Rattle.cilk_syntax.specs.Trees.{Item, program}
 use Rattle.cilk_program.specs.Syntax as syntax
 use Rattle.cilk_program.specs.Syntax.{Loop, Source, Statements}
-use Rattle.cilk_scopes.specs.declared.fault.Misnaming.{Misnaming}
+use Rattle.cilk_names.specs.declared.kind.Misnaming.{Misnaming}
 use Rattle.cilk_names.specs.Contexts.{behind_row, with_parameters}
 use Rattle.cilk_names.specs.Globals.{Known, start, in_function, behind_item, behind_items, main_of}
-use Rattle.cilk_scopes.specs.Faults.{again_faults}
+use Rattle.cilk_names.specs.Faults.{again_faults}
 use Rattle.cilk_names.specs.Misnamings.{limit_faults, parameters_faults, row_faults, item_faults, items_faults, or_no_main, faults_of}
 use Rattle.cilk_names.specs.declared.limits.TheConstants.{MAX_FUNCTIONS}
 use Rattle.cilk_names.specs.Pass.{row_of, row_loops, function_of_body, items_functions, items_loops}

@@ -21,17 +21,17 @@ use Rattle.cilk_program.specs.Syntax as syntax
 use Rattle.cilk_program.specs.Syntax.{Function, Loop, Source, Statements, idle, function_at}
 use Rattle.cilk_program.specs.WellNamed.{Level, function_level, levels, at_most, has_cell, is_kind, has_given, row_is_named, stands_in, function_is_named, functions_are_named, loops_are_named, main_is_plain, is_well_named}
 use Rattle.cilk_names.specs.declared.limits.TheConstants.{MAX_CELLS, MAX_GLOBALS, MAX_PARAMETERS, MAX_REDUCERS}
-use Rattle.cilk_scopes.specs.declared.fault.NameNumber.TheVariants.{OverLimit}
-use Rattle.cilk_scopes.specs.declared.table.Binding.{Binding}
-use Rattle.cilk_scopes.specs.declared.table.Meaning.{Meaning}
-use Rattle.cilk_scopes.specs.declared.table.Meaning.TheVariants as meanings
-use Rattle.cilk_scopes.specs.declared.table.Home.TheVariants as homes
-use Rattle.cilk_scopes.specs.declared.signature.Signature.{Signature}
-use Rattle.cilk_scopes.specs.Names.{Names, declare, monoid_at, kind_or_sum}
+use Rattle.cilk_names.specs.declared.kind.NameNumber.TheVariants.{OverLimit}
+use Rattle.cilk_names.specs.declared.table.Binding.{Binding}
+use Rattle.cilk_names.specs.declared.table.Meaning.{Meaning}
+use Rattle.cilk_names.specs.declared.table.Meaning.TheVariants as meanings
+use Rattle.cilk_names.specs.declared.table.Home.TheVariants as homes
+use Rattle.cilk_names.specs.declared.signature.Signature.{Signature}
+use Rattle.cilk_names.specs.Names.{Names, declare, monoid_at, kind_or_sum}
 use Rattle.cilk_names.specs.Contexts.{Context, inside, behind_scope, ahead, with_variable, with_parameter, with_parameters, behind_locals, behind_beginning, in_body, behind, behind_row, kinds_of, signatures_of, functions_known}
 use Rattle.cilk_names.specs.Globals.{Known, start, globals_full, array_cells, zeros, behind_global, behind_line, in_function, behind_item, behind_items, is_main, main_of}
-use Rattle.cilk_scopes.specs.Sights.{plain}
-use Rattle.cilk_scopes.specs.Faults.{again_faults, monoid_faults, unless}
+use Rattle.cilk_names.specs.Sights.{plain}
+use Rattle.cilk_names.specs.Faults.{again_faults, monoid_faults, unless}
 use Rattle.cilk_names.specs.Misnamings.{limit_faults, declared_faults, parameter_faults, parameters_faults, global_faults, line_faults, item_faults, items_faults, faults_of}
 use Rattle.cilk_names.specs.Pass.{loops_of, row_loops, items_loops}
 use Rattle.cilk_names.specs.Resolution.{ResolvesRow, ResolvesItems, Resolves}
@@ -40,7 +40,7 @@ use Rattle.cilk_names.proofs.Grows.{Grows, counted_more, limit_right, grows_row}
 use Rattle.cilk_monoid.proofs.SameKinds.{kind_itself}
 use Rattle.cilk_names.proofs.Fits.{words_in, given_in, MeaningFits, NamesFit, SignaturesFit, names_declare, names_opened}
 use Rattle.cilk_names.proofs.Bodies.{get_drop, drop_more, get_last, at_most_from, loops_named_append, Stands, Ends, RowNamed, row_named}
-use Rattle.cilk_scopes.proofs.Tables.{map_append}
+use Rattle.cilk_names.proofs.Tables.{map_append}
 use Rattle.cilk_names.proofs.Verdicts.{function_row_right, tree_parts, program_resolves, resolves_only}
 use Rattle.cilk_names.proofs.Made.{program_of}
 

@@ -8,14 +8,14 @@ use Rattle.cilk_syntax.specs.declared.tree.Reducer.{Reducer}
 use Rattle.cilk_syntax.specs.Trees as trees
 use Rattle.cilk_syntax.specs.Trees.{Item, Globals, Function, bytes_of}
 use Rattle.cilk_program.specs.declared.program.Body.TheVariants as bodies
-use Rattle.cilk_scopes.specs.Names.{Scope, Names, monoid_of, monoid_at, kind_or_sum, declare, opened, with_function}
+use Rattle.cilk_names.specs.Names.{Scope, Names, monoid_of, monoid_at, kind_or_sum, declare, opened, with_function}
 use Rattle.cilk_names.specs.declared.limits.TheConstants.{MAX_CELLS, MAX_REDUCERS}
-use Rattle.cilk_scopes.specs.declared.table.Meaning.TheVariants as meanings
-use Rattle.cilk_scopes.specs.declared.table.Home.TheVariants as homes
+use Rattle.cilk_names.specs.declared.table.Meaning.TheVariants as meanings
+use Rattle.cilk_names.specs.declared.table.Home.TheVariants as homes
 use Rattle.cilk_names.specs.declared.scene.Frame.{Frame}
-use Rattle.cilk_scopes.specs.declared.signature.ParameterKind.{ParameterKind}
-use Rattle.cilk_scopes.specs.declared.signature.ParameterKind.TheVariants as kinds
-use Rattle.cilk_scopes.specs.declared.signature.Signature.{Signature}
+use Rattle.cilk_names.specs.declared.signature.ParameterKind.{ParameterKind}
+use Rattle.cilk_names.specs.declared.signature.ParameterKind.TheVariants as kinds
+use Rattle.cilk_names.specs.declared.signature.Signature.{Signature}
 
 -- the scope of a parallel loop's variable, which is known in its body alone
 abbrev pub in_loop : Names → Name → Names

@@ -10,9 +10,9 @@ use Rattle.cilk_syntax.specs.Trees.{Item, Globals, Function, bytes_of, opening_v
 use Rattle.cilk_program.specs.declared.program.Body.TheVariants as bodies
 use Rattle.cilk_program.specs.declared.program.GlobalReducer.{GlobalReducer}
 use Rattle.cilk_names.specs.declared.limits.TheConstants.{MAX_GLOBALS, MAX_REDUCERS}
-use Rattle.cilk_scopes.specs.declared.table.Meaning.TheVariants as meanings
-use Rattle.cilk_scopes.specs.declared.table.Home.TheVariants as homes
-use Rattle.cilk_scopes.specs.Names.{Names, opened, declare, monoid_at, kind_or_sum}
+use Rattle.cilk_names.specs.declared.table.Meaning.TheVariants as meanings
+use Rattle.cilk_names.specs.declared.table.Home.TheVariants as homes
+use Rattle.cilk_names.specs.Names.{Names, opened, declare, monoid_at, kind_or_sum}
 use Rattle.cilk_names.specs.Contexts.{Context, counted, behind_row, with_parameters, signatures_of, functions_known, functions_behind}
 
 -- What is known at a place between items: names, the opening values of the global cells and the global reducers so far, and how many

@@ -1,7 +1,12 @@
 pub mod Calls
 pub mod Contexts
+pub mod Faults
 pub mod Globals
 pub mod Misnamings
+pub mod Names
+pub mod Operators
 pub mod Pass
 pub mod Resolution
+pub mod Sights
 pub mod States
+pub mod Tables

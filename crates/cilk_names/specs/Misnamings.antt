@@ -12,18 +12,18 @@ use Rattle.cilk_syntax.specs.declared.tree.Reducer.{Reducer}
 use Rattle.cilk_syntax.specs.declared.tree.Tree.{Tree}
 use Rattle.cilk_syntax.specs.Trees as trees
 use Rattle.cilk_syntax.specs.Trees.{Expression, Item, Globals, Function, bytes_of, program}
-use Rattle.cilk_scopes.specs.Faults.{at, unless, name_faults, variable_faults, array_faults, reducer_faults, function_faults, written_faults, again_faults, monoid_faults, is_before}
+use Rattle.cilk_names.specs.Faults.{at, unless, name_faults, variable_faults, array_faults, reducer_faults, function_faults, written_faults, again_faults, monoid_faults, is_before}
 use Rattle.cilk_names.specs.declared.limits.TheConstants.{MAX_CELLS, MAX_FUNCTIONS, MAX_PARAMETERS, MAX_REDUCERS}
-use Rattle.cilk_scopes.specs.declared.signature.ParameterKind.{ParameterKind}
-use Rattle.cilk_scopes.specs.declared.signature.ParameterKind.TheVariants as kinds
-use Rattle.cilk_scopes.specs.declared.signature.Signature.{Signature}
-use Rattle.cilk_scopes.specs.declared.fault.NameNumber.TheVariants.{WrongCount, WrongKind, NoMain, ReturnInLoop, ReducerNotFirst, OverLimit}
-use Rattle.cilk_scopes.specs.declared.fault.Misnaming.{Misnaming}
+use Rattle.cilk_names.specs.declared.signature.ParameterKind.{ParameterKind}
+use Rattle.cilk_names.specs.declared.signature.ParameterKind.TheVariants as kinds
+use Rattle.cilk_names.specs.declared.signature.Signature.{Signature}
+use Rattle.cilk_names.specs.declared.kind.NameNumber.TheVariants.{WrongCount, WrongKind, NoMain, ReturnInLoop, ReducerNotFirst, OverLimit}
+use Rattle.cilk_names.specs.declared.kind.Misnaming.{Misnaming}
 use Rattle.cilk_names.specs.declared.fault.NameFault.{NameFault}
 use Rattle.cilk_names.specs.declared.fault.NameFault.TheVariants as faults
-use Rattle.cilk_scopes.specs.Names.{Names, meaning}
+use Rattle.cilk_names.specs.Names.{Names, meaning}
 use Rattle.cilk_names.specs.Contexts.{Context, inside, behind_scope, ahead, with_variable, behind_beginning, in_body, behind, with_parameter, with_parameters}
-use Rattle.cilk_scopes.specs.Sights.{is_reducer_of, called, signature_of}
+use Rattle.cilk_names.specs.Sights.{is_reducer_of, called, signature_of}
 use Rattle.cilk_names.specs.Calls.{first_of, rest_of, bare_name}
 use Rattle.cilk_names.specs.Globals.{Known, start, array_cells, globals_full, in_function, behind_global, behind_item, main_of}
 

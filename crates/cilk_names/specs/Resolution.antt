@@ -12,15 +12,15 @@ use Rattle.cilk_program.specs.declared.syntax.Place.TheVariants.{Local}
 use Rattle.cilk_program.specs.declared.syntax.Reducer.{Reducer}
 use Rattle.cilk_program.specs.Syntax as syntax
 use Rattle.cilk_program.specs.Syntax.{Expression, Number, Variable, Element, Value, Input, InputCount, Target, ToVariable, ToElement, Invoke, Declaration, Zero, Opening, Invoking, Statement, Empty, Block, Declare, Assign, Change, Step, Invokes, Sync, If, IfElse, For, ParallelFor, Print, Update, Set, Return, Statements, Nothing, Then, Loop, Source}
-use Rattle.cilk_scopes.specs.declared.signature.ParameterKind.{ParameterKind}
-use Rattle.cilk_scopes.specs.declared.signature.ParameterKind.TheVariants as kinds
-use Rattle.cilk_scopes.specs.Names.{Names}
+use Rattle.cilk_names.specs.declared.signature.ParameterKind.{ParameterKind}
+use Rattle.cilk_names.specs.declared.signature.ParameterKind.TheVariants as kinds
+use Rattle.cilk_names.specs.Names.{Names}
 use Rattle.cilk_names.specs.Contexts.{Context, inside, behind_scope, ahead, with_variable, behind_beginning, in_body, behind, behind_row, with_parameters}
-use Rattle.cilk_scopes.specs.Sights.{variable, array, reducer, called, signature_of}
+use Rattle.cilk_names.specs.Sights.{variable, array, reducer, called, signature_of}
 use Rattle.cilk_names.specs.Calls.{bare_name}
 use Rattle.cilk_names.specs.Globals.{Known, start, in_function, behind_item, behind_items, main_of}
 use Rattle.cilk_names.specs.Misnamings.{faults_of}
-use Rattle.cilk_scopes.specs.Operators.{prefixed, joined}
+use Rattle.cilk_names.specs.Operators.{prefixed, joined}
 
 -- an expression of the tree resolves to an expression
 abbrev pub ResolvesExpression : Names → trees.Expression → Expression → Type 0

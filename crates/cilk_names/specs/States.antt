@@ -1,11 +1,11 @@
 -- What the tables of the code stand for.
 use Rattle.std.specs.Prelude.{◌≡◌, ℕ, List, length, map, None}
-use Rattle.cilk_scopes.specs.Tables.{names_of}
+use Rattle.cilk_names.specs.Tables.{names_of}
 use Rattle.cilk_names.specs.declared.scene.Resolver.{Resolver}
 use Rattle.cilk_names.specs.declared.items.Pass.{Pass}
 use Rattle.cilk_names.specs.Contexts.{Context}
 use Rattle.cilk_names.specs.Globals.{Known, start, behind_items}
-use Rattle.cilk_scopes.specs.Faults.{earliest}
+use Rattle.cilk_names.specs.Faults.{earliest}
 use Rattle.cilk_names.specs.Misnamings.{items_faults}
 use Rattle.cilk_names.specs.Pass.{items_functions, items_loops}
 use Rattle.cilk_syntax.specs.Trees.{Item}

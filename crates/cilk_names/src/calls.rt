@@ -3,21 +3,21 @@
 ghost use Rattle.std.specs.Prelude.{◌≡◌, ◌||◌, not, OnOk, IfOk, map, ◌++◌, Some, option_map, slice_get, unwrap_or};
 ghost use Rattle.cilk_syntax.specs.Trees as trees;
 ghost use Rattle.cilk_program.specs.Programs.{expression, invoke};
-ghost use Rattle.cilk_scopes.specs.Sights.{signature_of};
+ghost use Rattle.cilk_names.specs.Sights.{signature_of};
 ghost use Rattle.cilk_names.specs.Calls.{bare_name};
-ghost use Rattle.cilk_scopes.specs.Faults.{earliest};
+ghost use Rattle.cilk_names.specs.Faults.{earliest};
 ghost use Rattle.cilk_names.specs.Misnamings.{argument_faults, arguments_faults, bare_faults, call_faults, fit_faults, returns_word};
 ghost use Rattle.cilk_names.specs.Pass.{bare_reducer, invoke_of, reducer_of_argument, reducers_of, word_of_argument, words_of};
-ghost use Rattle.cilk_scopes.specs.Tables.{names_of};
-ghost use Rattle.cilk_scopes.specs.declared.signature.ParameterKind.TheVariants.{Word};
+ghost use Rattle.cilk_names.specs.Tables.{names_of};
+ghost use Rattle.cilk_names.specs.declared.signature.ParameterKind.TheVariants.{Word};
 
 use crate::expressions::expression;
 use cilk_monoid::kind::MonoidKind;
 use cilk_program::syntax::{Expr, Invoke, Place, Reducer};
-use cilk_scopes::fault::{Misnaming, NameNumber};
-use cilk_scopes::sights::{function, given, note_unless};
-use cilk_scopes::signature::ParameterKind;
-use cilk_scopes::table::{Table, signature};
+use crate::kind::{Misnaming, NameNumber};
+use crate::sights::{function, given, note_unless};
+use crate::signature::ParameterKind;
+use crate::table::{Table, signature};
 use cilk_syntax::tree;
 use cilk_syntax::tree::{Argument, Name, ReturnType};
 use cilk_types::invocation::Invocation;
@@ -48,7 +48,7 @@ fn bare_name(tree: &tree::Expr) -> Option<Name>
 }
 
 /// An argument for a reducer of a monoid. What is wrong is noted.
-#[tactic(auto, using(cilk_scopes::proofs::Earliest::earliest_append))]
+#[tactic(auto, using(crate::proofs::Earliest::earliest_append))]
 fn bare(
     alloc: Global,
     table: &Table,
@@ -147,7 +147,7 @@ fn gives(returns: ReturnType, is_taken: bool) -> bool
 
 /// A call with its names resolved, or none where its function isn't one. What is wrong is noted: also a wrong count of
 /// arguments, and a result that is taken of a function without one.
-#[tactic(auto, using(cilk_scopes::proofs::Earliest::earliest_append))]
+#[tactic(auto, using(crate::proofs::Earliest::earliest_append))]
 pub(crate) fn call(
     alloc: Global,
     table: &Table,
@@ -177,7 +177,7 @@ pub(crate) fn call(
 
 /// The parameters of a call's function. A wrong count of arguments, and a result that is taken of a function without one, are
 /// noted.
-#[tactic(auto, using(cilk_scopes::proofs::Earliest::earliest_append, crate::proofs::Arguments::length_arguments))]
+#[tactic(auto, using(crate::proofs::Earliest::earliest_append, crate::proofs::Arguments::length_arguments))]
 fn fit<'a>(
     table: &'a Table,
     function: u32,

@@ -4,16 +4,16 @@ ghost use Rattle.std.specs.Prelude.{◌≡◌, OnOk, IfOk, option_map};
 ghost use Rattle.cilk_syntax.specs.Trees as trees;
 ghost use Rattle.cilk_program.specs.Programs.{expression, optional, statement, target};
 ghost use Rattle.cilk_program.specs.Syntax.{Assign, Change, Step};
-ghost use Rattle.cilk_scopes.specs.Faults.{earliest};
+ghost use Rattle.cilk_names.specs.Faults.{earliest};
 ghost use Rattle.cilk_names.specs.Misnamings.{expression_faults, optional_faults, place_faults, assignment_faults};
 ghost use Rattle.cilk_names.specs.Pass.{assignment_of, element_of, expression_of, optional_of, or_empty, read_of, target_of, value_of};
-ghost use Rattle.cilk_scopes.specs.Tables.{names_of};
+ghost use Rattle.cilk_names.specs.Tables.{names_of};
 
 use cilk_program::syntax::{Array, Expr, Literal, Place, Reducer, Stmt, Target};
-use cilk_scopes::fault::Misnaming;
-use cilk_scopes::operators::{between, in_front};
-use cilk_scopes::sights::{array, reducer, variable, written};
-use cilk_scopes::table::Table;
+use crate::kind::Misnaming;
+use crate::operators::{between, in_front};
+use crate::sights::{array, reducer, variable, written};
+use crate::table::Table;
 use cilk_syntax::tree;
 use cilk_types::compound::Compound;
 use std::alloc::{AllocError, Global};
@@ -65,7 +65,7 @@ fn part(
 
 /// An expression with its names resolved. What is wrong is noted, and a wrong name reads as 0.
 #[cycle(expressions)]
-#[tactic(auto, using(cilk_scopes::proofs::Earliest::earliest_append))]
+#[tactic(auto, using(crate::proofs::Earliest::earliest_append))]
 pub(crate) fn expression(
     alloc: Global,
     table: &Table,
@@ -116,7 +116,7 @@ pub(crate) fn optional(
 }
 
 /// What is written to, or none with a fault noted.
-#[tactic(auto, using(cilk_scopes::proofs::Earliest::earliest_append))]
+#[tactic(auto, using(crate::proofs::Earliest::earliest_append))]
 fn target(
     alloc: Global,
     table: &Table,
@@ -173,7 +173,7 @@ fn step(place: Option<Target>, by: i64) -> Stmt
 }
 
 /// An assignment with its names resolved. What is wrong is noted, and then nothing may be assigned.
-#[tactic(auto, using(cilk_scopes::proofs::Earliest::earliest_append))]
+#[tactic(auto, using(crate::proofs::Earliest::earliest_append))]
 pub(crate) fn assignment(
     alloc: Global,
     table: &Table,

@@ -3,7 +3,7 @@
 ghost use Rattle.std.specs.Prelude.{◌≡◌};
 ghost use Rattle.cilk_names.specs.declared.fault.NameFault.TheVariants.{Memory};
 
-pub use cilk_scopes::fault::NameNumber;
+pub use crate::kind::NameNumber;
 use std::alloc::{AllocError, AllocFailed};
 use thiserror::Error;
 

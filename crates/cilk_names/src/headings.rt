@@ -4,12 +4,12 @@ ghost use Rattle.std.specs.Prelude.{◌≡◌, ◌<◌, ◌-◌, ◌^◌, [], �
 ghost use Rattle.cilk_syntax.specs.Trees as trees;
 ghost use Rattle.cilk_names.specs.Contexts.{functions_behind, functions_known, kind_of, kinds_of, signatures_of, with_item};
 ghost use Rattle.cilk_names.specs.Globals.{is_main, is_main_item, main_of};
-ghost use Rattle.cilk_scopes.specs.Tables.{names_of};
+ghost use Rattle.cilk_names.specs.Tables.{names_of};
 
 use crate::scene::number_of;
-use cilk_scopes::sights::monoid_of;
-use cilk_scopes::signature::{ParameterKind, Signature};
-use cilk_scopes::table::{Table, bytes_of};
+use crate::sights::monoid_of;
+use crate::signature::{ParameterKind, Signature};
+use crate::table::{Table, bytes_of};
 use cilk_syntax::tree::{Item, Name, Parameter, ReturnType};
 use cilk_types::sequence::Sequence;
 use std::alloc::{AllocError, Global};

@@ -3,23 +3,23 @@
 ghost use Rattle.std.specs.Prelude.{◌≡◌, List, [], ◌∷◌, ◌++◌, OnOk, IfOk, true, length, map};
 ghost use Rattle.cilk_syntax.specs.Trees as trees;
 ghost use Rattle.cilk_program.specs.Programs.{function, loop, statements};
-ghost use Rattle.cilk_scopes.specs.Names.{Scope, declare, monoid_at, opened};
+ghost use Rattle.cilk_names.specs.Names.{Scope, declare, monoid_at, opened};
 ghost use Rattle.cilk_names.specs.Globals.{array_cells, behind_global, behind_item, behind_items, behind_line, zeros};
-ghost use Rattle.cilk_scopes.specs.Faults.{again_faults, earliest, monoid_faults, unless};
+ghost use Rattle.cilk_names.specs.Faults.{again_faults, earliest, monoid_faults, unless};
 ghost use Rattle.cilk_names.specs.Misnamings.{global_faults, item_faults, items_faults, line_faults};
 ghost use Rattle.cilk_names.specs.Pass.{item_functions, item_loops, items_functions, items_loops};
-ghost use Rattle.cilk_scopes.specs.Tables.{names_of};
+ghost use Rattle.cilk_names.specs.Tables.{names_of};
 ghost use Rattle.cilk_names.specs.States.{context_of, known_of};
-ghost use Rattle.cilk_scopes.specs.declared.fault.NameNumber.TheVariants.{OverLimit};
+ghost use Rattle.cilk_names.specs.declared.kind.NameNumber.TheVariants.{OverLimit};
 
 use crate::limits::{MAX_FUNCTIONS, MAX_GLOBALS, MAX_REDUCERS};
 use crate::scene::{Frame, Resolver, counted, number_of};
 use cilk_monoid::kind::MonoidKind;
 use cilk_program::program::{Body, Function, GlobalReducer};
 use cilk_program::syntax::{Array, Stmt};
-use cilk_scopes::fault::NameNumber;
-use cilk_scopes::sights::{monoid, note_unless};
-use cilk_scopes::table::{Home, Meaning, bytes_of};
+use crate::kind::NameNumber;
+use crate::sights::{monoid, note_unless};
+use crate::table::{Home, Meaning, bytes_of};
 use cilk_syntax::tree;
 use cilk_syntax::tree::{GlobalVariable, Initializer, Item, Name, Parameter, ReturnType};
 use cilk_types::sequence::Sequence;
@@ -80,7 +80,7 @@ impl Resolver<'_> {
     }
 
     /// Declares a reducer between items, whose number this is, and gives its monoid, if that is one.
-    #[tactic(auto, using(cilk_scopes::proofs::Earliest::earliest_append))]
+    #[tactic(auto, using(crate::proofs::Earliest::earliest_append))]
     fn shared(
         &mut self,
         reducer: tree::Reducer,
@@ -151,7 +151,7 @@ impl Pass<'_> {
     }
 
     /// Declares a global variable, which takes the next cell.
-    #[tactic(auto, using(cilk_scopes::proofs::Earliest::earliest_append, crate::proofs::Lists::append_nothing))]
+    #[tactic(auto, using(crate::proofs::Earliest::earliest_append, crate::proofs::Lists::append_nothing))]
     fn word(&mut self, name: Name, initializer: Initializer) -> Result<(), AllocError>
         ensures known { OnOk result (known_of self.new ≡ behind_global (known_of self.old) (GlobalVariable.Variable name initializer)) }
         ensures faults { OnOk result (self.new.scene.first
@@ -171,7 +171,7 @@ impl Pass<'_> {
     }
 
     /// Declares a global array, whose elements take the next cells.
-    #[tactic(auto, using(cilk_scopes::proofs::Earliest::earliest_append))]
+    #[tactic(auto, using(crate::proofs::Earliest::earliest_append))]
     fn array(&mut self, name: Name, length: i64) -> Result<(), AllocError>
         ensures known { OnOk result (known_of self.new ≡ behind_global (known_of self.old) (GlobalVariable.Array name length)) }
         ensures faults { OnOk result (self.new.scene.first
@@ -204,7 +204,7 @@ impl Pass<'_> {
     }
 
     /// Declares a global reducer.
-    #[tactic(auto, using(cilk_scopes::proofs::Earliest::earliest_append))]
+    #[tactic(auto, using(crate::proofs::Earliest::earliest_append))]
     fn reducer(&mut self, alloc: Global, reducer: tree::Reducer) -> Result<(), AllocError>
         ensures known { OnOk result (known_of self.new ≡ behind_item (known_of self.old) (trees.Item.Reducer reducer)) }
         ensures faults { OnOk result (self.new.scene.first ≡ earliest self.old.scene.first (item_faults (known_of self.old) (trees.Item.Reducer reducer))) }
@@ -224,7 +224,7 @@ impl Pass<'_> {
     }
 
     /// Declares a function, and resolves its body.
-    #[tactic(auto, using(cilk_scopes::proofs::Earliest::earliest_append))]
+    #[tactic(auto, using(crate::proofs::Earliest::earliest_append))]
     fn function(
         &mut self,
         alloc: Global,

@@ -11,6 +11,18 @@
 //! let tree = parse(alloc, b"int main(){return x;}")?;
 //! resolve(alloc, &tree)                      // Err(NameFault::At(NameNumber::Unknown, 18))
 //! ```
+//!
+//! The scopes of a program text: what a name means at a place of it, and what is wrong with a name.
+//!
+//! A [`table::Table`] holds the scopes in which a place stands. [`sights`] looks names up in it: each look-up gives what is
+//! wanted of a name, a variable, an array, a reducer or a function, or notes what is wrong. Of several faults the first by
+//! place is kept, and at one place the one with the lowest number.
+//!
+//! ```text
+//! let mut first = None;
+//! variable(&table, name, &mut first)         // Some(Place::Local(1, 0)): a variable of the loop body round this one
+//! first                                      // None: nothing is wrong
+//! ```
 #![tactic(auto)]
 
 mod calls;
@@ -18,8 +30,13 @@ mod expressions;
 pub mod fault;
 mod headings;
 mod items;
+pub mod kind;
 pub mod limits;
+pub mod operators;
 pub mod resolution;
 pub mod resolve;
 mod scene;
+pub mod sights;
+pub mod signature;
 mod statements;
+pub mod table;

@@ -8,7 +8,7 @@ ghost use Rattle.cilk_names.specs.Misnamings.{IsNameFault, faults_of};
 ghost use Rattle.cilk_names.specs.Resolution.{Resolves};
 ghost use Rattle.cilk_names.specs.declared.fault.NameFault.TheVariants as faults;
 ghost use Rattle.cilk_names.specs.declared.limits.TheConstants.{MAX_CELLS, MAX_FUNCTIONS, MAX_GLOBALS, MAX_PARAMETERS, MAX_REDUCERS};
-ghost use Rattle.cilk_scopes.specs.declared.fault.NameNumber.{NameNumber};
+ghost use Rattle.cilk_names.specs.declared.kind.NameNumber.{NameNumber};
 
 /// A tree resolves to at most one program.
 pub fn one_program()

@@ -14,7 +14,7 @@ use crate::headings::{known, main_of, signatures_of};
 use crate::items::Pass;
 use crate::scene::{Frame, Resolver, number_of};
 use cilk_program::program::{Body, Program};
-use cilk_scopes::signature::Signature;
+use crate::signature::Signature;
 use cilk_syntax::tree::{Item, ReturnType, Tree};
 use cilk_types::word_list::WordList;
 use std::alloc::{AllocError, Global};

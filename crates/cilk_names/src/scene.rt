@@ -5,11 +5,11 @@ ghost use Rattle.cilk_syntax.specs.Trees as trees;
 ghost use Rattle.cilk_program.specs.Programs.{declaration, statement, statements};
 ghost use Rattle.cilk_program.specs.Syntax.{Nothing, Then};
 ghost use Rattle.cilk_names.specs.Contexts.{behind_beginning, behind_locals, counted, with_parameter, with_parameters, with_reducer, with_variable};
-ghost use Rattle.cilk_scopes.specs.Faults.{earliest};
+ghost use Rattle.cilk_names.specs.Faults.{earliest};
 ghost use Rattle.cilk_names.specs.Misnamings.{beginning_faults, declared_faults, initializer_faults, local_faults};
 ghost use Rattle.cilk_names.specs.Misnamings.{locals_faults, own_faults, parameter_faults, parameters_faults};
 ghost use Rattle.cilk_names.specs.Pass.{beginning_of, declaration_of, declarations_of};
-ghost use Rattle.cilk_scopes.specs.Tables.{names_of};
+ghost use Rattle.cilk_names.specs.Tables.{names_of};
 ghost use Rattle.cilk_names.specs.States.{context_of};
 
 use crate::calls::call;
@@ -18,9 +18,9 @@ use crate::limits::{MAX_CELLS, MAX_PARAMETERS, MAX_REDUCERS};
 use cilk_monoid::kind::MonoidKind;
 use cilk_program::program::{Body, Loop};
 use cilk_program::syntax::{Declaration, Place, Stmt};
-use cilk_scopes::fault::{Misnaming, NameNumber};
-use cilk_scopes::sights::{monoid, note_unless};
-use cilk_scopes::table::{Home, Meaning, Table};
+use crate::kind::{Misnaming, NameNumber};
+use crate::sights::{monoid, note_unless};
+use crate::table::{Home, Meaning, Table};
 use cilk_syntax::tree;
 use cilk_syntax::tree::{Beginning, Local, LocalInitializer, Name, Parameter, ReturnType};
 use std::alloc::{AllocError, Global};
@@ -77,7 +77,7 @@ pub(crate) fn row_of_one(alloc: Global, statement: Stmt) -> Result<Vec<Stmt>, Al
 
 impl Resolver<'_> {
     /// Declares a variable, which takes the frame's next cell.
-    #[tactic(auto, using(cilk_scopes::proofs::Earliest::earliest_append))]
+    #[tactic(auto, using(crate::proofs::Earliest::earliest_append))]
     pub fn variable(&mut self, name: Name) -> Result<(), AllocError>
         ensures context { OnOk result (context_of self.new ≡ with_variable (context_of self.old) name) }
         ensures faults { OnOk result (self.new.first ≡ earliest self.old.first (declared_faults (context_of self.old) name)) }
@@ -94,7 +94,7 @@ impl Resolver<'_> {
     }
 
     /// Declares a reducer of the function's own.
-    #[tactic(auto, using(cilk_scopes::proofs::Earliest::earliest_append))]
+    #[tactic(auto, using(crate::proofs::Earliest::earliest_append))]
     pub fn reducer(&mut self, reducer: tree::Reducer) -> Result<(), AllocError>
         ensures context { OnOk result (context_of self.new ≡ with_reducer (context_of self.old) reducer) }
         ensures faults { OnOk result (self.new.first ≡ earliest self.old.first (own_faults (context_of self.old) reducer)) }
@@ -150,7 +150,7 @@ impl Resolver<'_> {
     }
 
     /// A declared variable, which is known in its own initializer.
-    #[tactic(auto, using(cilk_scopes::proofs::Earliest::earliest_append))]
+    #[tactic(auto, using(crate::proofs::Earliest::earliest_append))]
     fn local(&mut self, alloc: Global, local: &Local) -> Result<Declaration, AllocError>
         ensures context { OnOk result (context_of self.new ≡ (let l = trees.local local.now in with_variable (context_of self.old) l.name)) }
         ensures faults { OnOk result (self.new.first ≡ earliest self.old.first (local_faults (context_of self.old) (trees.local local.now))) }
@@ -181,7 +181,7 @@ impl Resolver<'_> {
     }
 
     /// A variable that the head of a `for` declares.
-    #[tactic(auto, using(cilk_scopes::proofs::Earliest::earliest_append))]
+    #[tactic(auto, using(crate::proofs::Earliest::earliest_append))]
     fn counter(&mut self, alloc: Global, name: Name, value: &tree::Expr) -> Result<Stmt, AllocError>
         ensures context { OnOk result (context_of self.new ≡ with_variable (context_of self.old) name) }
         ensures faults { OnOk result (self.new.first
@@ -227,7 +227,7 @@ impl Resolver<'_> {
     }
 
     /// Declares a parameter: a word takes the frame's next cell.
-    #[tactic(auto, using(cilk_scopes::proofs::Earliest::earliest_append))]
+    #[tactic(auto, using(crate::proofs::Earliest::earliest_append))]
     fn parameter(&mut self, parameter: Parameter) -> Result<(), AllocError>
         ensures context { OnOk result (context_of self.new ≡ with_parameter (context_of self.old) parameter) }
         ensures faults { OnOk result (self.new.first ≡ earliest self.old.first (parameter_faults (context_of self.old) parameter)) }

@@ -5,14 +5,14 @@ ghost use Rattle.cilk_syntax.specs.Trees as trees;
 ghost use Rattle.cilk_program.specs.Programs.{expression, invoke as invoked, loop, optional, statement, statements};
 ghost use Rattle.cilk_program.specs.Syntax as syntax;
 ghost use Rattle.cilk_program.specs.Syntax.{For, Invokes, Nothing, Return, Set, Then, Update};
-ghost use Rattle.cilk_scopes.specs.Names.{Scope};
+ghost use Rattle.cilk_names.specs.Names.{Scope};
 ghost use Rattle.cilk_names.specs.Contexts.{ahead, behind, behind_row, behind_scope, in_body, inside, keeps_heading};
-ghost use Rattle.cilk_scopes.specs.Faults.{earliest, reducer_faults, written_faults};
+ghost use Rattle.cilk_names.specs.Faults.{earliest, reducer_faults, written_faults};
 ghost use Rattle.cilk_names.specs.Misnamings.{call_faults, expression_faults, gives_what_it_returns, head_faults};
 ghost use Rattle.cilk_names.specs.Misnamings.{optional_assignment_faults, return_faults, row_faults, same_faults, statement_faults};
 ghost use Rattle.cilk_names.specs.Pass.{expression_of, invoke_of, loops_of, optional_of, optional_row, or_empty, row_loops, row_of, statement_of};
-ghost use Rattle.cilk_scopes.specs.Sights.{reducer, variable};
-ghost use Rattle.cilk_scopes.specs.Tables.{names_of};
+ghost use Rattle.cilk_names.specs.Sights.{reducer, variable};
+ghost use Rattle.cilk_names.specs.Tables.{names_of};
 ghost use Rattle.cilk_names.specs.States.{context_of};
 
 use crate::calls::call;
@@ -20,9 +20,9 @@ use crate::expressions::{assignment, expression, optional};
 use crate::scene::{Frame, Resolver, number_of, row_of_one};
 use cilk_program::program::{Body, Loop};
 use cilk_program::syntax::{Expr, Invoke, Stmt};
-use cilk_scopes::fault::{Misnaming, NameNumber};
-use cilk_scopes::sights::{note_unless, reducer, written};
-use cilk_scopes::table::{Meaning, Table, bytes_of};
+use crate::kind::{Misnaming, NameNumber};
+use crate::sights::{note_unless, reducer, written};
+use crate::table::{Meaning, Table, bytes_of};
 use cilk_syntax::tree;
 use cilk_syntax::tree::{Beginning, Bounds, Name, ReturnType};
 use cilk_types::invocation::Invocation;
@@ -49,7 +49,7 @@ fn gives_what_it_returns(returns: ReturnType, value: &Option<Box<tree::Expr>>) -
 }
 
 /// A `return` at a place of the text.
-#[tactic(auto, using(cilk_scopes::proofs::Earliest::earliest_append))]
+#[tactic(auto, using(crate::proofs::Earliest::earliest_append))]
 fn returned(
     alloc: Global,
     table: &Table,
@@ -110,7 +110,7 @@ fn invoked(
 }
 
 /// A call whose result a variable takes.
-#[tactic(auto, using(cilk_scopes::proofs::Earliest::earliest_append))]
+#[tactic(auto, using(crate::proofs::Earliest::earliest_append))]
 fn assigned(
     alloc: Global,
     table: &Table,
@@ -131,7 +131,7 @@ fn assigned(
 }
 
 /// An `update` of a reducer.
-#[tactic(auto, using(cilk_scopes::proofs::Earliest::earliest_append))]
+#[tactic(auto, using(crate::proofs::Earliest::earliest_append))]
 fn update(
     alloc: Global,
     table: &Table,
@@ -155,7 +155,7 @@ fn update(
 }
 
 /// A `set` of a reducer.
-#[tactic(auto, using(cilk_scopes::proofs::Earliest::earliest_append))]
+#[tactic(auto, using(crate::proofs::Earliest::earliest_append))]
 fn set(
     alloc: Global,
     table: &Table,
@@ -201,7 +201,7 @@ fn same(table: &Table, name: Name, other: Name, first: &mut Option<Misnaming>)
 }
 
 /// The bounds of a `cilk_for`, which don't know its variable.
-#[tactic(auto, using(cilk_scopes::proofs::Earliest::earliest_append))]
+#[tactic(auto, using(crate::proofs::Earliest::earliest_append))]
 fn bounds(
     alloc: Global,
     table: &Table,
@@ -308,7 +308,7 @@ impl Resolver<'_> {
 
     /// A `cilk_for`: its bounds, and then its body, which is a loop of the program.
     #[cycle(statements)]
-    #[tactic(auto, using(cilk_scopes::proofs::Earliest::earliest_append))]
+    #[tactic(auto, using(crate::proofs::Earliest::earliest_append))]
     fn parallel(
         &mut self,
         alloc: Global,
@@ -336,7 +336,7 @@ impl Resolver<'_> {
 
     /// A `for`, whose head is a scope.
     #[cycle(statements)]
-    #[tactic(auto, using(cilk_scopes::proofs::Earliest::earliest_append))]
+    #[tactic(auto, using(crate::proofs::Earliest::earliest_append))]
     fn repeated(
         &mut self,
         alloc: Global,
@@ -387,7 +387,7 @@ impl Resolver<'_> {
 
     /// A condition, and the statement under it in a scope of its own.
     #[cycle(statements)]
-    #[tactic(auto, using(cilk_scopes::proofs::Earliest::earliest_append))]
+    #[tactic(auto, using(crate::proofs::Earliest::earliest_append))]
     fn guarded(
         &mut self,
         alloc: Global,
@@ -412,7 +412,7 @@ impl Resolver<'_> {
 
     /// A statement with its names resolved. What is wrong is noted.
     #[cycle(statements)]
-    #[tactic(auto, using(cilk_scopes::proofs::Earliest::earliest_append, crate::proofs::Blocks::tree_block, crate::proofs::Blocks::block))]
+    #[tactic(auto, using(crate::proofs::Earliest::earliest_append, crate::proofs::Blocks::tree_block, crate::proofs::Blocks::block))]
     fn statement(&mut self, alloc: Global, tree: &tree::Stmt) -> Result<Stmt, AllocError>
         ensures context { OnOk result (context_of self.new ≡ behind (context_of self.old) (trees.statement tree.now)) }
         ensures faults { OnOk result (self.new.first ≡ earliest self.old.first (statement_faults (context_of self.old) (trees.statement tree.now))) }

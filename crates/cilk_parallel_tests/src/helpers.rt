@@ -2,10 +2,10 @@
 
 ghost use Rattle.std.specs.Prelude.{◌≡◌};
 
-use cilk_measured::KeptFiles;
-use cilk_parallel::serve_parallel;
+use cilk_report::KeptFiles;
+use cilk_tool::serve_parallel;
 use cilk_served::served::{Broken, Ended, Folder};
-use cilk_tool::files::{FileFault, Files};
+use cilk_commands::files::{FileFault, Files};
 use std::alloc::Global;
 use std::sync::Wait;
 use std::thread::Threads;
@@ -36,7 +36,7 @@ impl<'a> Failing<'a> {
 
 impl Files for Failing<'_> {
     ghost use Rattle.std.specs.Prelude.{None};
-    ghost use Rattle.cilk_tool.specs.Files.{failures};
+    ghost use Rattle.cilk_commands.specs.Files.{failures};
 
     ghost failed = { λ f. failures f.folder.failures (λ _. 0) };
 

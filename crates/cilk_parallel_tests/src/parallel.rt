@@ -1,7 +1,7 @@
 //! What `threads` shows of programs, on their own inputs and on others, and of certificates that are refused.
 
-use cilk_measured::KeptFiles;
-use cilk_parallel::serve_parallel;
+use cilk_report::KeptFiles;
+use cilk_tool::serve_parallel;
 use cilk_served::served::{Broken, Ended, Folder};
 use crossbeam_channel::{Receiver, Sender, bounded};
 use std::alloc::{AllocError, Global};

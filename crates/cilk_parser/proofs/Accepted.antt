@@ -1,9 +1,9 @@
 -- Tokens that spell a tree are read to their end, and the trace tells what the tree's tokens are to the limits.
 use Rattle.std.proofs.Common.{◌≡◌, ℕ, pos, ◌+◌, ◌≤◌, Bool, true, false, cond, List, [], ◌∷◌, inl, inr, Option, Some, None, refl, sym, ap, ◌∙◌, subst, arith}
-use Rattle.cilk_token.specs.declared.token.Kind.{Kind}
-use Rattle.cilk_token.specs.declared.token.Kind.TheVariants as kinds
-use Rattle.cilk_token.specs.declared.token.Token.{Token}
-use Rattle.cilk_grammar.specs.declared.marks.Punct.TheVariants as marks
+use Rattle.cilk_syntax.specs.declared.token.Kind.{Kind}
+use Rattle.cilk_syntax.specs.declared.token.Kind.TheVariants as kinds
+use Rattle.cilk_syntax.specs.declared.token.Token.{Token}
+use Rattle.cilk_syntax.specs.declared.marks.Punct.TheVariants as marks
 use Rattle.cilk_syntax.specs.declared.tree.Name.{Name}
 use Rattle.cilk_syntax.specs.declared.tree.UnaryOperator.TheVariants.{Negate, Not}
 use Rattle.cilk_syntax.specs.declared.tree.BinaryOperator.{BinaryOperator}
@@ -22,11 +22,11 @@ use Rattle.cilk_syntax.specs.declared.tree.Parameter as declared_parameters
 use Rattle.cilk_syntax.specs.declared.tree.Parameter.TheVariants as parameters
 use Rattle.cilk_syntax.specs.Trees as trees
 use Rattle.cilk_syntax.specs.Trees.{Expression, Number, Group, Unary, Binary, Input, InputCount, Argument, Call, Local, LocalInitializer, Statement, Statements, End, Then}
-use Rattle.cilk_grammar.specs.Limits as limits
-use Rattle.cilk_grammar.specs.Limits.{Flags, flag, where_next, is_deep, is_many, is_step, is_sum, is_void, excess, excess_inside, excess_optional, excess_arguments, excess_called, excess_invoked, excess_place, excess_stepped, excess_assignment, excess_local_initializer, excess_locals, excess_declaration, excess_reducer, excess_beginning, excess_step, excess_unit_step, excess_bounds, excess_update, excess_stmt, excess_all, excess_initializer, excess_global, excess_more, excess_variables, excess_parameter, excess_more_parameters, excess_parameters, excess_function, excess_item, excess_items}
-use Rattle.cilk_grammar.specs.Expected as expected
-use Rattle.cilk_grammar.specs.Expected.{Symbol, One, Named, Numeral, Single, Operand, Index, Tail, Anew, Optional, ElsePart, AfterName, Subscript, Operation, Source, SourceRest, Arguments, MoreArguments, Declaration, LocalInitial, Locals, Step, UnitStep, UnitStepRest, Item, Declared, Literal, Initial, Variables, Parameters, MoreParameters, Items, Goes, Fails, after}
-use Rattle.cilk_grammar.specs.Grammar.{Is, IsName, mark_of, compound_mark, level, level_in, SpellsExpr, SpellsInside, SpellsOptional, SpellsArgument, SpellsMoreArguments, SpellsArguments, SpellsCall, SpellsInvoked, SpellsLvalue, SpellsStepped, SpellsTaken, SpellsAssignment, SpellsLocalInitializer, SpellsLocal, SpellsMoreLocals, SpellsLocals, SpellsLocalLine, SpellsReducer, SpellsDefined, SpellsTested, SpellsUnit, SpellsUnitStep, SpellsBeginning, SpellsStep, SpellsHead, SpellsBounds, SpellsUpdate, SpellsStmt, SpellsAll, SpellsLiteral, SpellsInitializer, SpellsGlobal, SpellsMore, SpellsVariables, SpellsLine, SpellsParameter, SpellsMoreParameters, SpellsParameters, SpellsBody, SpellsFunction, SpellsItem, SpellsItems}
+use Rattle.cilk_syntax.specs.Limits as limits
+use Rattle.cilk_syntax.specs.Limits.{Flags, flag, where_next, is_deep, is_many, is_step, is_sum, is_void, excess, excess_inside, excess_optional, excess_arguments, excess_called, excess_invoked, excess_place, excess_stepped, excess_assignment, excess_local_initializer, excess_locals, excess_declaration, excess_reducer, excess_beginning, excess_step, excess_unit_step, excess_bounds, excess_update, excess_stmt, excess_all, excess_initializer, excess_global, excess_more, excess_variables, excess_parameter, excess_more_parameters, excess_parameters, excess_function, excess_item, excess_items}
+use Rattle.cilk_syntax.specs.Expected as expected
+use Rattle.cilk_syntax.specs.Expected.{Symbol, One, Named, Numeral, Single, Operand, Index, Tail, Anew, Optional, ElsePart, AfterName, Subscript, Operation, Source, SourceRest, Arguments, MoreArguments, Declaration, LocalInitial, Locals, Step, UnitStep, UnitStepRest, Item, Declared, Literal, Initial, Variables, Parameters, MoreParameters, Items, Goes, Fails, after}
+use Rattle.cilk_syntax.specs.Grammar.{Is, IsName, mark_of, compound_mark, level, level_in, SpellsExpr, SpellsInside, SpellsOptional, SpellsArgument, SpellsMoreArguments, SpellsArguments, SpellsCall, SpellsInvoked, SpellsLvalue, SpellsStepped, SpellsTaken, SpellsAssignment, SpellsLocalInitializer, SpellsLocal, SpellsMoreLocals, SpellsLocals, SpellsLocalLine, SpellsReducer, SpellsDefined, SpellsTested, SpellsUnit, SpellsUnitStep, SpellsBeginning, SpellsStep, SpellsHead, SpellsBounds, SpellsUpdate, SpellsStmt, SpellsAll, SpellsLiteral, SpellsInitializer, SpellsGlobal, SpellsMore, SpellsVariables, SpellsLine, SpellsParameter, SpellsMoreParameters, SpellsParameters, SpellsBody, SpellsFunction, SpellsItem, SpellsItems}
 use Rattle.cilk_parser.proofs.Traces.{trace, goes, Shut, no_index, no_subscript, absent, no_source, declares, declares_locals, some_value, some_argument, begins_assigning, steps_assigning, takes_value, assigns, ends_local, ends_argument, repeats, no_else}
 
 named : (name : Name) (ts rest : List Token) → IsName name ts rest → Is kinds.Name ts rest

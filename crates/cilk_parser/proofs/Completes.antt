@@ -2,14 +2,14 @@
 -- sound: behind a symbol that may stand for nothing no token comes that it would take.
 use Rattle.std.proofs.Common.{◌≡◌, ℕ, pos, ◌+◌, Bool, true, false, cond, List, [], ◌∷◌, Option, Some, None, refl, sym, ap, ◌∙◌, subst}
 use Rattle.std.specs.Ordering.{int_eq}
-use Rattle.cilk_token.specs.declared.token.Kind.{Kind}
-use Rattle.cilk_token.specs.declared.token.Kind.TheVariants as kinds
-use Rattle.cilk_token.specs.declared.token.Token.{Token}
-use Rattle.cilk_grammar.specs.declared.marks.Punct.TheVariants as marks
-use Rattle.cilk_grammar.specs.Expected.{Symbol, One, Named, Numeral, Single, Operand, Index, Tail, Anew, Optional, Statement, Statements, ElsePart, AfterName, Assignment, Subscript, Operation, Source, SourceRest, Arguments, MoreArguments, Declaration, LocalInitial, Locals, Beginning, Step, UnitStep, UnitStepRest, Item, Declared, Literal, Initial, Variables, Parameters, Parameter, MoreParameters, Items, Passes, After, Goes, Fails, move_one, move_named, move_numeral, move_single, move_operand, move_index, move_tail, move_optional, move_statement, move_else, move_after_name, move_assignment, move_subscript, move_operation, move_source, move_source_rest, move_arguments, move_more_arguments, move_declaration, move_local_initial, move_locals, move_beginning, move_step, move_unit_step, move_unit_step_rest, move_item, move_declared, move_literal, move_initial, move_variables, move_parameters, move_parameter, move_more_parameters, move_items, kind_of, fits, level_of, begins_statement, followed, chosen, after}
-use Rattle.cilk_grammar.specs.Limits.{is_deep}
-use Rattle.cilk_grammar.proofs.Lists.{form_repeats}
-use Rattle.cilk_grammar.proofs.MarkLaws.{fits_own}
+use Rattle.cilk_syntax.specs.declared.token.Kind.{Kind}
+use Rattle.cilk_syntax.specs.declared.token.Kind.TheVariants as kinds
+use Rattle.cilk_syntax.specs.declared.token.Token.{Token}
+use Rattle.cilk_syntax.specs.declared.marks.Punct.TheVariants as marks
+use Rattle.cilk_syntax.specs.Expected.{Symbol, One, Named, Numeral, Single, Operand, Index, Tail, Anew, Optional, Statement, Statements, ElsePart, AfterName, Assignment, Subscript, Operation, Source, SourceRest, Arguments, MoreArguments, Declaration, LocalInitial, Locals, Beginning, Step, UnitStep, UnitStepRest, Item, Declared, Literal, Initial, Variables, Parameters, Parameter, MoreParameters, Items, Passes, After, Goes, Fails, move_one, move_named, move_numeral, move_single, move_operand, move_index, move_tail, move_optional, move_statement, move_else, move_after_name, move_assignment, move_subscript, move_operation, move_source, move_source_rest, move_arguments, move_more_arguments, move_declaration, move_local_initial, move_locals, move_beginning, move_step, move_unit_step, move_unit_step_rest, move_item, move_declared, move_literal, move_initial, move_variables, move_parameters, move_parameter, move_more_parameters, move_items, kind_of, fits, level_of, begins_statement, followed, chosen, after}
+use Rattle.cilk_syntax.specs.Limits.{is_deep}
+use Rattle.cilk_syntax.proofs.Lists.{form_repeats}
+use Rattle.cilk_syntax.proofs.MarkLaws.{fits_own}
 use Rattle.cilk_parser.proofs.Traces.{trace, noted, ahead}
 
 -- short tokens for a symbol

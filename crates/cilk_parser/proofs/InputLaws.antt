@@ -1,9 +1,9 @@
 -- Words of an input text.
 use Rattle.std.proofs.Common.{◌≡◌, ℕ, ◌<◌, Bool, true, false, cond, List, [], ◌∷◌, length, arith}
-use Rattle.cilk_lexer.specs.declared.lexer.Class.TheVariants.{Solid}
-use Rattle.cilk_lexer.specs.Lexing.{belongs, behind}
-use Rattle.cilk_lexer.proofs.Words.{behind_shorter}
-use Rattle.cilk_texts.specs.Inputs.{Holds, Ended, starts_word, behind_word}
+use Rattle.cilk_syntax.specs.declared.lexer.Class.TheVariants.{Solid}
+use Rattle.cilk_syntax.specs.Lexing.{belongs, behind}
+use Rattle.cilk_syntax.proofs.Words.{behind_shorter}
+use Rattle.cilk_parser.specs.Inputs.{Holds, Ended, starts_word, behind_word}
 
 word_shorter : (t : Bool) (b : ℕ) (bs rest : List ℕ) → t ≡ true → length rest < length (b ∷ bs) → length (cond t rest (b ∷ bs)) < length (b ∷ bs)
 word_shorter true b bs rest h k = k

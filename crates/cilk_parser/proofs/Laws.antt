@@ -1,12 +1,12 @@
 -- Where reading stops, said in the grammar's words. Reading walks over the tokens in front of the stop; what is expected
 -- behind them can be finished, and every text that begins with them is read the same way.
 use Rattle.std.proofs.Common.{◌≡◌, ℕ, Bool, true, false, List, [], ◌∷◌, ◌++◌, Option, Some, None, refl, sym, ap, ◌∙◌, subst, append_assoc, append-nil, cond}
-use Rattle.cilk_token.specs.declared.token.Token.{Token}
+use Rattle.cilk_syntax.specs.declared.token.Token.{Token}
 use Rattle.cilk_syntax.specs.Trees.{Item}
-use Rattle.cilk_grammar.specs.Expected.{Symbol, Items, After, Goes, Fails, Verdict, Whole, Unexpected, PastLimit, after, at_end, may_end, settled, run}
-use Rattle.cilk_grammar.specs.Grammar.{SpellsItems}
-use Rattle.cilk_grammar.specs.Limits.{Within, IsFirstPast, excess_items}
-use Rattle.cilk_texts.specs.Refused.{Begins, Refused, GoesPast, IsRefusal, IsPastLimit}
+use Rattle.cilk_syntax.specs.Expected.{Symbol, Items, After, Goes, Fails, Verdict, Whole, Unexpected, PastLimit, after, at_end, may_end, settled, run}
+use Rattle.cilk_syntax.specs.Grammar.{SpellsItems}
+use Rattle.cilk_syntax.specs.Limits.{Within, IsFirstPast, excess_items}
+use Rattle.cilk_parser.specs.Refused.{Begins, Refused, GoesPast, IsRefusal, IsPastLimit}
 use Rattle.cilk_parser.proofs.Accepted.{accepted}
 use Rattle.cilk_parser.proofs.Completes.{finish, Sound, SoundAfter, kept, Reads, completes}
 use Rattle.cilk_parser.proofs.Spelled.{spelled}

@@ -2,5 +2,15 @@ pub mod Accepted
 pub mod Completes
 pub mod InputLaws
 pub mod Laws
+pub mod Lexical
+pub mod Parts
+pub mod Prefixes
+pub mod Reading
 pub mod Spelled
+pub mod Tokens
 pub mod Traces
+pub mod UniqueDeclarations
+pub mod UniqueInputs
+pub mod UniqueItems
+pub mod UniqueStatements
+pub mod UniqueTexts

@@ -4,11 +4,11 @@ use Rattle.std.proofs.Common.{◌≡◌, ℕ, ℤ, pos, ◌+◌, ◌<◌, ◌≤
 use Rattle.std.specs.Ordering.{int_eq}
 use Rattle.std.proofs.lemmas.Bool.{cases_lt}
 use Rattle.std.proofs.lemmas.Bool.Decides.{Decides-int_eq}
-use Rattle.cilk_token.specs.declared.token.Kind.{Kind}
-use Rattle.cilk_token.specs.declared.token.Kind.TheVariants as kinds
-use Rattle.cilk_token.specs.declared.token.Token.{Token}
-use Rattle.cilk_grammar.specs.declared.marks.Punct.{Punct}
-use Rattle.cilk_grammar.specs.declared.marks.Punct.TheVariants as marks
+use Rattle.cilk_syntax.specs.declared.token.Kind.{Kind}
+use Rattle.cilk_syntax.specs.declared.token.Kind.TheVariants as kinds
+use Rattle.cilk_syntax.specs.declared.token.Token.{Token}
+use Rattle.cilk_syntax.specs.declared.marks.Punct.{Punct}
+use Rattle.cilk_syntax.specs.declared.marks.Punct.TheVariants as marks
 use Rattle.cilk_syntax.specs.declared.tree.Name.{Name}
 use Rattle.cilk_syntax.specs.declared.tree.UnaryOperator.TheVariants.{Negate, Not}
 use Rattle.cilk_syntax.specs.declared.tree.BinaryOperator.{BinaryOperator}
@@ -25,11 +25,11 @@ use Rattle.cilk_syntax.specs.declared.tree.Parameter as declared_parameters
 use Rattle.cilk_syntax.specs.declared.tree.Parameter.TheVariants as parameters
 use Rattle.cilk_syntax.specs.Trees as trees
 use Rattle.cilk_syntax.specs.Trees.{Expression, Number, Group, Unary, Binary, Input, InputCount, Argument, Call, Local, LocalInitializer, Statement, Statements, End, Then}
-use Rattle.cilk_grammar.specs.Expected as expected
-use Rattle.cilk_grammar.specs.Expected.{Symbol, One, Named, Numeral, Single, Operand, Index, Tail, Anew, Optional, ElsePart, AfterName, Subscript, Operation, Source, SourceRest, Arguments, MoreArguments, Declaration, LocalInitial, Locals, Step, UnitStep, UnitStepRest, Declared, Literal, Initial, Variables, Parameters, MoreParameters, Items, After, Goes, Fails, move_one, move_named, move_numeral, move_single, move_operand, move_index, move_tail, move_optional, move_statement, move_else, move_after_name, move_assignment, move_subscript, move_operation, move_source, move_source_rest, move_arguments, move_more_arguments, move_declaration, move_local_initial, move_locals, move_beginning, move_step, move_unit_step, move_unit_step_rest, move_item, move_declared, move_literal, move_initial, move_variables, move_parameters, move_parameter, move_more_parameters, move_items, kind_of, fits, level_of, begins_statement, followed, passed, chosen, after, at_end}
-use Rattle.cilk_grammar.specs.Grammar.{Is, IsName, mark_of, level, level_in, SpellsExpr, SpellsInside, SpellsEnded, SpellsOptional, SpellsArgument, SpellsMoreArguments, SpellsArguments, SpellsCall, SpellsSource, SpellsLvalue, SpellsAssignment, SpellsLocalInitializer, SpellsLocal, SpellsMoreLocals, SpellsLocalLine, SpellsReducer, SpellsDefined, SpellsTested, SpellsUnit, SpellsUnitStep, SpellsBeginning, SpellsStep, SpellsHead, SpellsBounds, SpellsUpdate, SpellsStmt, SpellsAll, SpellsLiteral, SpellsGlobal, SpellsMore, SpellsLine, SpellsParameter, SpellsMoreParameters, SpellsParameters, SpellsBody, SpellsFunction, SpellsItem, SpellsItems, NoElse}
-use Rattle.cilk_grammar.proofs.Lists.{form_repeats, spells_initial}
-use Rattle.cilk_grammar.proofs.MarkLaws.{is_mark}
+use Rattle.cilk_syntax.specs.Expected as expected
+use Rattle.cilk_syntax.specs.Expected.{Symbol, One, Named, Numeral, Single, Operand, Index, Tail, Anew, Optional, ElsePart, AfterName, Subscript, Operation, Source, SourceRest, Arguments, MoreArguments, Declaration, LocalInitial, Locals, Step, UnitStep, UnitStepRest, Declared, Literal, Initial, Variables, Parameters, MoreParameters, Items, After, Goes, Fails, move_one, move_named, move_numeral, move_single, move_operand, move_index, move_tail, move_optional, move_statement, move_else, move_after_name, move_assignment, move_subscript, move_operation, move_source, move_source_rest, move_arguments, move_more_arguments, move_declaration, move_local_initial, move_locals, move_beginning, move_step, move_unit_step, move_unit_step_rest, move_item, move_declared, move_literal, move_initial, move_variables, move_parameters, move_parameter, move_more_parameters, move_items, kind_of, fits, level_of, begins_statement, followed, passed, chosen, after, at_end}
+use Rattle.cilk_syntax.specs.Grammar.{Is, IsName, mark_of, level, level_in, SpellsExpr, SpellsInside, SpellsEnded, SpellsOptional, SpellsArgument, SpellsMoreArguments, SpellsArguments, SpellsCall, SpellsSource, SpellsLvalue, SpellsAssignment, SpellsLocalInitializer, SpellsLocal, SpellsMoreLocals, SpellsLocalLine, SpellsReducer, SpellsDefined, SpellsTested, SpellsUnit, SpellsUnitStep, SpellsBeginning, SpellsStep, SpellsHead, SpellsBounds, SpellsUpdate, SpellsStmt, SpellsAll, SpellsLiteral, SpellsGlobal, SpellsMore, SpellsLine, SpellsParameter, SpellsMoreParameters, SpellsParameters, SpellsBody, SpellsFunction, SpellsItem, SpellsItems, NoElse}
+use Rattle.cilk_syntax.proofs.Lists.{form_repeats, spells_initial}
+use Rattle.cilk_syntax.proofs.MarkLaws.{is_mark}
 use Rattle.cilk_parser.proofs.Accepted.{low}
 use Rattle.cilk_parser.proofs.Traces.{trace, noted, ended, ahead}
 

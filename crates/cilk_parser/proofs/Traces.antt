@@ -1,13 +1,13 @@
 -- What the tokens of a text are to the limits, read without stopping at one: for each token whether it goes past a
 -- limit; nothing where a token is refused.
 use Rattle.std.proofs.Common.{◌≡◌, ◌≢◌, ℕ, Bool, false, cond, List, [], ◌∷◌, Option, Some, None, refl, sym, ap, ◌∙◌}
-use Rattle.cilk_token.specs.declared.token.Kind.{Kind}
-use Rattle.cilk_token.specs.declared.token.Kind.TheVariants as kinds
-use Rattle.cilk_token.specs.declared.token.Token.{Token}
-use Rattle.cilk_grammar.specs.declared.marks.Punct.TheVariants.{Close, Semicolon}
-use Rattle.cilk_grammar.specs.Limits.{Flags, flag, is_deep}
-use Rattle.cilk_grammar.specs.Expected.{Symbol, One, Named, Operand, Index, Tail, Anew, Optional, Statement, Statements, ElsePart, AfterName, Assignment, Subscript, Operation, Source, SourceRest, Arguments, MoreArguments, Declaration, LocalInitial, Locals, Beginning, Step, Item, Declared, Initial, Variables, After, Goes, Fails, Verdict, Whole, Unexpected, PastLimit, Passes, begins_statement, followed, move_named, move_operand, move_index, move_tail, move_optional, move_statement, move_else, move_after_name, move_assignment, move_subscript, move_operation, move_source, move_source_rest, move_arguments, move_more_arguments, move_declaration, move_local_initial, move_locals, move_beginning, move_step, move_item, move_initial, move_variables, move_declared, level_of, chosen, after, at_end}
-use Rattle.cilk_grammar.specs.Grammar.{Is, NoElse}
+use Rattle.cilk_syntax.specs.declared.token.Kind.{Kind}
+use Rattle.cilk_syntax.specs.declared.token.Kind.TheVariants as kinds
+use Rattle.cilk_syntax.specs.declared.token.Token.{Token}
+use Rattle.cilk_syntax.specs.declared.marks.Punct.TheVariants.{Close, Semicolon}
+use Rattle.cilk_syntax.specs.Limits.{Flags, flag, is_deep}
+use Rattle.cilk_syntax.specs.Expected.{Symbol, One, Named, Operand, Index, Tail, Anew, Optional, Statement, Statements, ElsePart, AfterName, Assignment, Subscript, Operation, Source, SourceRest, Arguments, MoreArguments, Declaration, LocalInitial, Locals, Beginning, Step, Item, Declared, Initial, Variables, After, Goes, Fails, Verdict, Whole, Unexpected, PastLimit, Passes, begins_statement, followed, move_named, move_operand, move_index, move_tail, move_optional, move_statement, move_else, move_after_name, move_assignment, move_subscript, move_operation, move_source, move_source_rest, move_arguments, move_more_arguments, move_declaration, move_local_initial, move_locals, move_beginning, move_step, move_item, move_initial, move_variables, move_declared, level_of, chosen, after, at_end}
+use Rattle.cilk_syntax.specs.Grammar.{Is, NoElse}
 
 abbrev pub ahead : Bool → Option (List Bool) → Option (List Bool)
 ahead b None = None

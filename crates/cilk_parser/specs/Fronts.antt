@@ -1,6 +1,6 @@
 -- What the reader of input texts says of the bytes that it looks at.
 use Rattle.std.specs.Prelude.{ℕ, ◌<◌, List, length}
-use Rattle.cilk_texts.specs.Inputs.{IsBadWord, IsGap, IsNumber}
+use Rattle.cilk_parser.specs.Inputs.{IsBadWord, IsGap, IsNumber}
 use Rattle.cilk_parser.specs.declared.input.Front.{Front}
 use Rattle.cilk_parser.specs.declared.input.Front.TheVariants as fronts
 

@@ -1,12 +1,12 @@
 //! Input texts: numbers between spaces, tabs and line ends.
 
 ghost use Rattle.std.specs.Prelude.{◌≡◌, ◌∷◌, IfOk, IfErr, IfSome, IfNone, length};
-ghost use Rattle.cilk_texts.specs.Inputs;
-ghost use Rattle.cilk_texts.specs.Inputs.{IsInput, IsInputFault, number_in};
+ghost use Rattle.cilk_parser.specs.Inputs;
+ghost use Rattle.cilk_parser.specs.Inputs.{IsInput, IsInputFault, number_in};
 ghost use Rattle.cilk_parser.specs.Fronts.{IsFront};
 
-use cilk_lexer::lexer::{Class, all_digits, belongs, split, value_of};
-use cilk_texts::fault::{TextFault, TextNumber};
+use cilk_syntax::lexer::{Class, all_digits, belongs, split, value_of};
+use crate::fault::{TextFault, TextNumber};
 use cilk_types::input::Input;
 use cilk_types::limits::MAX_INPUTS;
 use cilk_types::word_list::WordList;

@@ -1,21 +1,21 @@
 //! From tokens to the items of a program.
 
 ghost use Rattle.std.specs.Prelude.{◌≡◌, ℕ, ◌<◌, ◌≤◌, List, [], ◌∷◌, IfOk, IfErr, IfSome, IfNone, length};
-ghost use Rattle.cilk_grammar.specs.Expected as expected;
-ghost use Rattle.cilk_grammar.specs.Expected.{Symbol, Named, Declared, Literal, Initial, Variables, Items, One, Statements, Whole, behind_type, run};
-ghost use Rattle.cilk_grammar.specs.Grammar.{Is, SpellsBody, SpellsFunction, SpellsGlobal, SpellsInitializer, SpellsItemRest, SpellsItems, SpellsLine, SpellsLiteral, SpellsProgram, SpellsTyped, SpellsVariables, type_of};
-ghost use Rattle.cilk_grammar.specs.Stops.{IsStop, NotFirst};
-ghost use Rattle.cilk_token.specs.declared.token.Kind.TheVariants as kinds;
+ghost use Rattle.cilk_syntax.specs.Expected as expected;
+ghost use Rattle.cilk_syntax.specs.Expected.{Symbol, Named, Declared, Literal, Initial, Variables, Items, One, Statements, Whole, behind_type, run};
+ghost use Rattle.cilk_syntax.specs.Grammar.{Is, SpellsBody, SpellsFunction, SpellsGlobal, SpellsInitializer, SpellsItemRest, SpellsItems, SpellsLine, SpellsLiteral, SpellsProgram, SpellsTyped, SpellsVariables, type_of};
+ghost use Rattle.cilk_syntax.specs.Stops.{IsStop, NotFirst};
+ghost use Rattle.cilk_syntax.specs.declared.token.Kind.TheVariants as kinds;
 ghost use Rattle.cilk_syntax.specs.Trees as trees;
 ghost use Rattle.cilk_syntax.specs.declared.tree.ReturnType.TheVariants as types;
 
 use crate::parameters::parameters;
-use cilk_grammar::marks::{Punct, behind, name, numeral, one};
-use cilk_grammar::stop::Stop;
-use cilk_statements::declarations::reducer;
-use cilk_statements::statements::statements;
+use cilk_syntax::marks::{Punct, behind, name, numeral, one};
+use cilk_syntax::stop::Stop;
+use crate::declarations::reducer;
+use crate::statements::statements;
 use cilk_syntax::tree::{GlobalVariable, Initializer, Item, Name, Parameter, ReturnType, Stmt};
-use cilk_token::token::{Kind, Token};
+use cilk_syntax::token::{Kind, Token};
 use std::alloc::Global;
 
 /// What stands behind the `=` of a global variable.
@@ -50,7 +50,7 @@ fn literal<'a>(tokens: &'a [Token]) -> Result<(Initializer, &'a [Token]), Stop<'
 }
 
 /// What stands behind the name of a global variable.
-#[tactic(auto, using(cilk_grammar::proofs::Lists::spells_initial))]
+#[tactic(auto, using(cilk_syntax::proofs::Lists::spells_initial))]
 fn global<'a>(name: Name, tokens: &'a [Token]) -> Result<(GlobalVariable, &'a [Token]), Stop<'a>>
     ensures tree { IfOk result (λ x. SpellsGlobal x.0 name tokens.now x.1.now) }
     ensures shorter { IfOk result (λ x. length x.1.now ≤ length tokens.now) }
@@ -112,7 +112,7 @@ fn variables<'a>(
 }
 
 /// Global variables up to the semicolon, from behind the name of the first.
-#[tactic(auto, unfolding(cilk_grammar::specs::Grammar::SpellsLine))]
+#[tactic(auto, unfolding(cilk_syntax::specs::Grammar::SpellsLine))]
 fn line<'a>(
     alloc: Global,
     first: Name,
@@ -139,7 +139,7 @@ fn line<'a>(
 }
 
 /// A function's body.
-#[tactic(auto, unfolding(cilk_grammar::specs::Grammar::SpellsBody))]
+#[tactic(auto, unfolding(cilk_syntax::specs::Grammar::SpellsBody))]
 fn body<'a>(alloc: Global, tokens: &'a [Token]) -> Result<(Vec<Stmt>, &'a [Token]), Stop<'a>>
     ensures tree { IfOk result (λ x. SpellsBody (trees.statements x.0.items) tokens.now x.1.now) }
     ensures shorter { IfOk result (λ x. length x.1.now < length tokens.now) }
@@ -155,7 +155,7 @@ fn body<'a>(alloc: Global, tokens: &'a [Token]) -> Result<(Vec<Stmt>, &'a [Token
 }
 
 /// The parameters and the body of a function, from behind its first parenthesis.
-#[tactic(auto, unfolding(cilk_grammar::specs::Grammar::SpellsFunction))]
+#[tactic(auto, unfolding(cilk_syntax::specs::Grammar::SpellsFunction))]
 fn function<'a>(
     alloc: Global,
     tokens: &'a [Token],
@@ -173,7 +173,7 @@ fn function<'a>(
 }
 
 /// What an `int` and a name declare, from behind the name.
-#[tactic(auto, using(cilk_grammar::proofs::Runs::declares_variables))]
+#[tactic(auto, using(cilk_syntax::proofs::Runs::declares_variables))]
 fn declared<'a>(
     alloc: Global,
     first: Name,
@@ -205,7 +205,7 @@ fn declared<'a>(
 }
 
 /// What an `int` declares, from behind it.
-#[tactic(auto, using(cilk_grammar::proofs::Runs::declares_name))]
+#[tactic(auto, using(cilk_syntax::proofs::Runs::declares_name))]
 fn declaration<'a>(alloc: Global, tokens: &'a [Token]) -> Result<(Item, &'a [Token]), Stop<'a>>
     ensures tree { IfOk result (λ x. SpellsTyped types.Int (trees.item x.0) tokens.now x.1.now) }
     ensures shorter { IfOk result (λ x. length x.1.now < length tokens.now) }
@@ -293,7 +293,7 @@ fn item<'a>(
 }
 
 /// The items up to a token that begins none.
-#[tactic(auto, using(cilk_grammar::proofs::Runs::items_end))]
+#[tactic(auto, using(cilk_syntax::proofs::Runs::items_end))]
 fn items<'a>(alloc: Global, tokens: &'a [Token]) -> Result<(Vec<Item>, &'a [Token]), Stop<'a>>
     ensures tree { IfOk result (λ x. SpellsItems (trees.items_of x.0.items) tokens.now x.1.now) }
     ensures reads { IfOk result (λ x. run tokens.now (Items ∷ []) 0 ≡ run x.1.now [] 0) }

@@ -1,17 +1,17 @@
 //! From tokens to the parameters of a function.
 
 ghost use Rattle.std.specs.Prelude.{◌≡◌, ◌<◌, ◌≤◌, List, ◌∷◌, IfOk, IfErr, length};
-ghost use Rattle.cilk_grammar.specs.Expected as expected;
-ghost use Rattle.cilk_grammar.specs.Expected.{Symbol, MoreParameters, run};
-ghost use Rattle.cilk_grammar.specs.Grammar.{SpellsListed, SpellsParameter, SpellsParameters};
-ghost use Rattle.cilk_grammar.specs.Stops.{IsStop, NotFirst};
-ghost use Rattle.cilk_token.specs.declared.token.Kind.TheVariants as kinds;
+ghost use Rattle.cilk_syntax.specs.Expected as expected;
+ghost use Rattle.cilk_syntax.specs.Expected.{Symbol, MoreParameters, run};
+ghost use Rattle.cilk_syntax.specs.Grammar.{SpellsListed, SpellsParameter, SpellsParameters};
+ghost use Rattle.cilk_syntax.specs.Stops.{IsStop, NotFirst};
+ghost use Rattle.cilk_syntax.specs.declared.token.Kind.TheVariants as kinds;
 
-use cilk_grammar::marks::{Punct, behind, one};
-use cilk_grammar::stop::Stop;
-use cilk_statements::declarations::reducer;
+use cilk_syntax::marks::{Punct, behind, one};
+use cilk_syntax::stop::Stop;
+use crate::declarations::reducer;
 use cilk_syntax::tree::{Name, Parameter};
-use cilk_token::token::{Kind, Token};
+use cilk_syntax::token::{Kind, Token};
 use std::alloc::Global;
 
 /// A parameter, from behind its `int`.
@@ -69,7 +69,7 @@ fn listed<'a>(alloc: Global, tokens: &'a [Token]) -> Result<(Vec<Parameter>, &'a
 }
 
 /// The parameters of a function, and the parenthesis behind them.
-#[tactic(auto, using(cilk_grammar::proofs::Lists::spells_parameters))]
+#[tactic(auto, using(cilk_syntax::proofs::Lists::spells_parameters))]
 pub fn parameters<'a>(
     alloc: Global,
     tokens: &'a [Token],

@@ -1,15 +1,15 @@
 //! From the bytes of a text to its tree.
 
 ghost use Rattle.std.specs.Prelude.{IfErr, IfOk, length, ◌≡◌};
-ghost use Rattle.cilk_texts.specs.Texts;
-ghost use Rattle.cilk_texts.specs.Texts.{IsText, IsTextFault, place_of};
+ghost use Rattle.cilk_parser.specs.Texts;
+ghost use Rattle.cilk_parser.specs.Texts.{IsText, IsTextFault, place_of};
 
 use crate::items::program;
-use cilk_grammar::stop::Stop;
-use cilk_lexer::lexer::{Bad, LexFault, lex};
+use cilk_syntax::stop::Stop;
+use cilk_syntax::lexer::{Bad, LexFault, lex};
 use cilk_syntax::tree::Tree;
-use cilk_texts::fault::{TextFault, TextNumber};
-use cilk_token::token::Token;
+use crate::fault::{TextFault, TextNumber};
+use cilk_syntax::token::Token;
 use cilk_types::limits::MAX_TEXT;
 use std::alloc::Global;
 

@@ -1,9 +1,7 @@
-pub mod AlongPlans
-pub mod Continuing
-pub mod Framed
-pub mod Passing
-pub mod Passed
-pub mod Resuming
-pub mod Starts
-pub mod Stories
-pub mod Worked
+pub mod Blocked
+pub mod Having
+pub mod Making
+pub mod Naming
+pub mod Placed
+pub mod Telling
+pub mod Whole

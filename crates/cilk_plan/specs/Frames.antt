@@ -1,27 +1,23 @@
--- Whose frame an event is in.
-use Rattle.std.specs.Prelude.{◌≡◌, ℕ, ◌+◌, ◌<◌, ◌≤◌, List, length, Option, Some, slice_index_or}
-use Rattle.cilk_types.specs.declared.event.Event.{Event}
-use Rattle.cilk_types.specs.declared.event.Event.TheVariants.{Begin, Resume}
-use Rattle.cilk_tree.specs.Races.{event_at}
+-- The frames of an accepted run by their numbers.
+use Rattle.std.specs.Prelude.{◌≡◌, ℕ, zero, suc, ◌+◌, List, [], ◌∷◌, Option, None, slice_get}
+use Rattle.cilk_program.specs.Outcomes.{Leaves}
+use Rattle.cilk_program.specs.SerialRun.{Transcript, IsSerialRun}
+use Rattle.cilk_program.specs.Sources.{source}
+use Rattle.cilk_checker.specs.Frames.{frames_of}
+use Rattle.cilk_checker.specs.declared.frames.PlannedFrame.{PlannedFrame}
+use Rattle.cilk_checker.specs.Determinate.{AcceptedRun}
 
--- the event says that the frame goes on: it is its `begin`, or its `resume` after a child
-abbrev pub Enters : Option Event → ℕ → Type 0
-Enters (Some (Begin f)) g = f ≡ g
-Enters (Some (Resume f)) g = f ≡ g
-Enters _ g = ⊥
+-- the one with a number, from 1
+abbrev pub frame_numbered : List PlannedFrame → ℕ → Option PlannedFrame
+frame_numbered frames zero = None
+frame_numbered frames (suc n) = slice_get frames n
 
--- an event is in the frame that was entered last
-pub record IsInFrame (events : List Event) (p frame : ℕ) : Type 0 where
-  pub since : ℕ
-  pub upto : since ≤ p
-  pub entered : Enters (event_at events since) frame
-  pub last : (q other : ℕ) → since < q → q ≤ p → Enters (event_at events q) other → ⊥
+-- what the accepted run has of the frame with a number, if it has that frame
+abbrev pub IsFrameOf : AcceptedRun → ℕ → Option PlannedFrame → Type 0
+IsFrameOf a number frame =
+    (run : Transcript) → IsSerialRun (source a.program) a.input run a.trace (Leaves a.outcome) → frame ≡ frame_numbered (frames_of (source a.program) run) number
 
--- the run begins with a frame's `begin`
-abbrev pub BeginsAFrame : List Event → Type 0
-BeginsAFrame events = (frame : ℕ) × (event_at events 1 ≡ Some (Begin frame))
-
--- of each event of a list
-pub record AreFrames (events : List Event) (frames : List ℕ) : Type 0 where
-  pub all : length frames ≡ length events
-  pub each : (i : ℕ) → i < length events → IsInFrame events (i + 1) (slice_index_or frames i 0)
+-- where the cells of frames end that begin one after the other: behind those of the last one
+abbrev pub end_from : ℕ → List PlannedFrame → ℕ
+end_from n [] = n
+end_from n (f ∷ fs) = end_from (f.first_cell + f.cells) fs

@@ -1,10 +1,4 @@
-pub mod Along
-pub mod Blocks
-pub mod Earliest
+pub mod Continuations
+pub mod Courses
 pub mod Frames
-pub mod Kinds
-pub mod Passes
-pub mod Planned
-pub mod Resumptions
-pub mod Strands
-pub mod Worked
+pub mod Plans

@@ -1,15 +1,13 @@
-//! Laws of plans. Each is a function that does nothing: its contract is the law.
+//! Laws of the plans of accepted runs. Each is a function that does nothing: its contract is the law.
 
-ghost use Rattle.cilk_plan.specs.Passes.{PassGivesPredecessors};
-ghost use Rattle.cilk_plan.specs.Worked.{TwoReadsHavePlan, TwoReadsPredecessors};
+ghost use Rattle.cilk_plan.specs.Continuations.{BlocksOfSpawnsEnd, PlansHaveContinuations};
 
-/// One pass over a run's events, with a stack of the frames that wait for a child, gives the immediate predecessors of each event.
-pub fn pass_gives_predecessors()
-    ensures { PassGivesPredecessors }
+/// At the language: in the list of a serial run's events, the block of each spawn ends with a `sync` of its frame.
+pub fn blocks_of_spawns_end()
+    ensures { BlocksOfSpawnsEnd }
 {}
 
-/// A small run in which a child is spawned has a plan, and its immediate predecessors are these.
-pub fn worked_plans()
-    ensures plan { TwoReadsHavePlan }
-    ensures predecessors { TwoReadsPredecessors }
+/// In the plan of an accepted run each spawn has one continuation: one `resume`, and the `sync` that ends its block.
+pub fn plans_have_continuations()
+    ensures { PlansHaveContinuations }
 {}

@@ -6,9 +6,22 @@
 //!
 //! `int g = 3; int main() { return g; }` is a program with one global cell that opens with 3 and one function, whose body gives
 //! the value of that cell. Its serial run is four events: begin, the read of 3, sync and end.
+//!
+//! Laws that tie the meanings of a program together.
+//!
+//! A program's meaning is defined in `cilk_program`: the behaviour of a frame, the serial elision, the serial run. Each law
+//! is a function that does nothing: its contract is the law.
+//!
+//! [`agreement`] ties the elision to the serial run, [`runs`] says what serial runs are like, [`shortage`] what a frame asks
+//! for with fewer ticks, and [`worked`] computes small programs. A crate above cites a law by its lemma in `proofs/`: so
+//! `cilk_serial` shows that what it runs is the elision.
 #![tactic(auto)]
 
+pub mod agreement;
 pub mod ask;
 pub mod given;
 pub mod program;
+pub mod runs;
+pub mod shortage;
 pub mod syntax;
+pub mod worked;

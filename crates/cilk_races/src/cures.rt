@@ -3,7 +3,7 @@
 use cilk_findings::case::Case;
 use cilk_findings::naming::word;
 use cilk_findings::runs::Run;
-use cilk_places::map::GlobalName;
+use cilk_findings::map::GlobalName;
 use cilk_syntax::tree::Name;
 use cilk_types::event::Event;
 use std::alloc::AllocError;

@@ -2,7 +2,7 @@
 
 use cilk_findings::case::Case;
 use cilk_findings::notes::push_line;
-use cilk_play::{PlayFault, play};
+use cilk_schedule::{PlayFault, play};
 use cilk_script::script::{ScriptFault, read};
 use cilk_serial::fault::RunFault;
 use cilk_serial::run::run;

@@ -1,3 +1,4 @@
-pub mod Replies
-pub mod Plain
+pub mod Formed
 pub mod Measuring
+pub mod Plain
+pub mod Replies

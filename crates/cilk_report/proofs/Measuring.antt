@@ -5,14 +5,14 @@
 use Rattle.std.proofs.Common.{◌≡◌, ℕ, List, Bool, Option, Some, None, refl, sym, ap, subst, inl, inr, ◌∙◌}
 use Rattle.std.proofs.lemmas.Bool.{true≢false}
 use Rattle.std.specs.Prelude.{IsSome}
-use Rattle.cilk_measured.specs.Words.{measured_run, run_of, words_of_run}
+use Rattle.cilk_report.specs.Words.{measured_run, run_of, words_of_run}
 use Rattle.cilk_report.specs.Explained.{Complains, Follows, IsNoOutcome, Measures, OutOfMemory, Unmeasured, Unnamed}
-use Rattle.cilk_tool.specs.Files.{Failures}
-use Rattle.cilk_tool.specs.Replies.{NoMemory, Reply, Text, failure_view, status_of}
-use Rattle.cilk_tool.specs.Serving.{IsOrNoMemory, RunReply, ShowsError, WordsFail, world}
-use Rattle.cilk_words.specs.Words.{Origin, Requested, order_in}
-use Rattle.cilk_tool.specs.declared.reply.Failure.{Failure}
-use Rattle.cilk_tool.specs.declared.reply.Failure.TheVariants as failures
+use Rattle.cilk_commands.specs.Files.{Failures}
+use Rattle.cilk_commands.specs.Replies.{NoMemory, Reply, Text, failure_view, status_of}
+use Rattle.cilk_commands.specs.Serving.{IsOrNoMemory, RunReply, ShowsError, WordsFail, world}
+use Rattle.cilk_messages.specs.Words.{Origin, Requested, order_in}
+use Rattle.cilk_commands.specs.declared.reply.Failure.{Failure}
+use Rattle.cilk_commands.specs.declared.reply.Failure.TheVariants as failures
 
 -- what `complain` says of a failure
 abbrev pub Told : Failure → ℕ → Bool → Option Text → Option Text → Type 0

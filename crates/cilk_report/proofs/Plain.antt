@@ -4,8 +4,8 @@
 use Rattle.std.proofs.Common.{◌≡◌, ◌≤◌, List, [], ◌∷◌, Bool, true, false, cond, refl, ap, ◌∙◌, sym, suc, length, ◌<◌, arith}
 use Rattle.std.specs.Prelude.{filter, not}
 use Rattle.std.specs.Borrow.{Bor}
-use Rattle.cilk_tool.specs.Replies.{Text}
-use Rattle.cilk_words.specs.Words.{texts}
+use Rattle.cilk_commands.specs.Replies.{Text}
+use Rattle.cilk_messages.specs.Words.{texts}
 use Rattle.cilk_report.specs.Explained.{is_flag, unflagged}
 
 kept : (b : Bool) (w : Bor Text) (words : List (Bor Text)) → texts (cond b (w ∷ words) words) ≡ cond b (w.now ∷ texts words) (texts words)

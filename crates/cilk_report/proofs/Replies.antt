@@ -5,15 +5,15 @@
 -- `of_kept`: what is said of files that were told to keep what is read is said of them as they were.
 use Rattle.std.proofs.Common.{◌≡◌, ℕ, Bool, true, Option, None, [], List, refl, sym, subst}
 use Rattle.cilk_report.specs.Explained.{Follows}
-use Rattle.cilk_tool.proofs.Replying.{ends, fails, keeps, no_memory}
-use Rattle.cilk_tool.specs.Files.{Failures}
-use Rattle.cilk_tool.specs.Replies.{Reply, Text, failure_view, status_of}
-use Rattle.cilk_tool.specs.Serving.{Answers, IsOrNoMemory, Serves, Shows, ShowsError, Surroundings, WordsFail}
-use Rattle.cilk_words.specs.Words.{IsWordsFault, Requested, order_in}
-use Rattle.cilk_words.specs.declared.words.WordsFault.{WordsFault}
-use Rattle.cilk_words.specs.declared.words.WordsFault.TheVariants as faults
-use Rattle.cilk_tool.specs.declared.reply.Failure.{Failure}
-use Rattle.cilk_tool.specs.declared.reply.Failure.TheVariants as failures
+use Rattle.cilk_commands.proofs.Replying.{ends, fails, keeps, no_memory}
+use Rattle.cilk_commands.specs.Files.{Failures}
+use Rattle.cilk_commands.specs.Replies.{Reply, Text, failure_view, status_of}
+use Rattle.cilk_commands.specs.Serving.{Answers, IsOrNoMemory, Serves, Shows, ShowsError, Surroundings, WordsFail}
+use Rattle.cilk_messages.specs.Words.{IsWordsFault, Requested, order_in}
+use Rattle.cilk_messages.specs.declared.words.WordsFault.{WordsFault}
+use Rattle.cilk_messages.specs.declared.words.WordsFault.TheVariants as faults
+use Rattle.cilk_commands.specs.declared.reply.Failure.{Failure}
+use Rattle.cilk_commands.specs.declared.reply.Failure.TheVariants as failures
 
 pub ended : (words : List Text) (w : Surroundings) (asked : Option Requested) (wanted : Reply) (status status' : ℕ) (told : Bool) (o o' e e' : Option Text)
     → order_in words ≡ asked → Answers w asked wanted → (r : Reply) × IsOrNoMemory wanted r × Shows r status told o o' e e'

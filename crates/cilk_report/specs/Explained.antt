@@ -2,15 +2,15 @@
 use Rattle.std.specs.Prelude.{◌≡◌, ◌⊎◌, ◌<◌, ◌==◌, ◌&&◌, ◌||◌, ℕ, Bool, true, false, not, List, [], ◌∷◌, length, filter, Option, Some, None, codes}
 use Rattle.std.specs.Str.{bytes_eq}
 use Rattle.std.specs.Io.KnownBytes.{Appends}
-use Rattle.cilk_measure.specs.declared.totals.Totals.{Totals}
-use Rattle.cilk_tool.specs.Files.{Failures}
-use Rattle.cilk_tool.specs.Replies.{Ended, NoMemory, Refused, Reply, Text, line, status_of}
-use Rattle.cilk_tool.specs.Serving.{Answers, RunReply, Serves, ShowsError, WordsFail, world}
-use Rattle.cilk_tool.specs.Streams.{AppendsFront, AppendsPart}
-use Rattle.cilk_tool.specs.declared.reply.TheConstants.{NO_MEMORY}
-use Rattle.cilk_words.specs.Words.{Origin, order_in}
-use Rattle.cilk_measured.specs.Measured.{AreTotalsOf, IsMeasureText}
-use Rattle.cilk_measured.specs.Words.{behind_first, is_help as asks_help, is_measure, measured_run}
+use Rattle.cilk_findings.specs.declared.totals.Totals.{Totals}
+use Rattle.cilk_commands.specs.Files.{Failures}
+use Rattle.cilk_commands.specs.Replies.{Ended, NoMemory, Refused, Reply, Text, line, status_of}
+use Rattle.cilk_commands.specs.Serving.{Answers, RunReply, Serves, ShowsError, WordsFail, world}
+use Rattle.cilk_commands.specs.Streams.{AppendsFront, AppendsPart}
+use Rattle.cilk_commands.specs.declared.reply.TheConstants.{NO_MEMORY}
+use Rattle.cilk_messages.specs.Words.{Origin, order_in}
+use Rattle.cilk_report.specs.Measured.{AreTotalsOf, IsMeasureText}
+use Rattle.cilk_report.specs.Words.{behind_first, is_help as asks_help, is_measure, measured_run}
 use Rattle.cilk_report.specs.declared.about.About.{About as AboutAnswer}
 use Rattle.cilk_report.specs.declared.about.About.TheVariants as answers
 

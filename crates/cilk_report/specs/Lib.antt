@@ -1,1 +1,4 @@
 pub mod Explained
+pub mod Measured
+pub mod Table
+pub mod Words

@@ -2,11 +2,11 @@
 
 ghost use Rattle.std.specs.Prelude.{◌≡◌, IfOk};
 ghost use Rattle.cilk_report.specs.Explained.{IsAnswer, IsAskedFor, is_about, is_command, is_help, is_option, is_question, is_question_on};
-ghost use Rattle.cilk_words.specs.Words.{texts};
+ghost use Rattle.cilk_messages.specs.Words.{texts};
 
 use crate::help::{HELP, VERSION, help_on};
-use cilk_explain::report::{of_all, of_number};
-use cilk_lexer::lexer::{all_digits, value_of};
+use cilk_messages::report::{of_all, of_number};
+use cilk_syntax::lexer::{all_digits, value_of};
 use std::alloc::{AllocError, Global};
 
 /// What is answered to words about the tool.

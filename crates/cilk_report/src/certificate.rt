@@ -1,7 +1,7 @@
 //! Which line of a certificate a refusal is about.
 
 use cilk_checker::refusal::Refusal;
-use cilk_lexer::lexer::{all_digits, value_of};
+use cilk_syntax::lexer::{all_digits, value_of};
 
 /// How many events, frames and strands a certificate says that it has.
 #[derive(Clone, Copy)]

@@ -1,9 +1,9 @@
 //! The help of the program.
 
-ghost use Rattle.cilk_tool.specs.Replies.{failure_view};
-ghost use Rattle.cilk_tool.specs.Serving.{WordsFail};
+ghost use Rattle.cilk_commands.specs.Replies.{failure_view};
+ghost use Rattle.cilk_commands.specs.Serving.{WordsFail};
 
-use cilk_tool::reply::Failure;
+use cilk_commands::reply::Failure;
 use std::alloc::{AllocError, Global};
 
 /// What `--version` writes.

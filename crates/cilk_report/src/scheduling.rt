@@ -1,10 +1,10 @@
 //! A script that shows a race, for `play`.
 
 ghost use Rattle.std.specs.Prelude.{◌≡◌, ◌<◌, IfOk, IfSome};
-ghost use Rattle.cilk_measured.specs.Words.{behind_first};
+ghost use Rattle.cilk_report.specs.Words.{behind_first};
 ghost use Rattle.cilk_report.specs.Explained.{IsRefusal, Schedules, is_schedule, words_of_check};
-ghost use Rattle.cilk_tool.specs.Replies.{answer_view};
-ghost use Rattle.cilk_words.specs.Words.{texts};
+ghost use Rattle.cilk_commands.specs.Replies.{answer_view};
+ghost use Rattle.cilk_messages.specs.Words.{texts};
 
 use crate::explaining::{of_answer, of_failure, race_of, texts_of};
 use crate::flags::unflagged;
@@ -12,11 +12,11 @@ use crate::help::usage_of_schedule;
 use crate::serving::{follow, tell_text};
 use cilk_checker::refusal::Refusal;
 use cilk_findings::fault::CaseFault;
-use cilk_measured::{Keeps, Kept, asks, behind_first, is_help};
+use crate::{Keeps, Kept, asks, behind_first, is_help};
 use cilk_races::races::script_of_race;
-use cilk_tool::reply::{Answer, Failure};
-use cilk_tool::{carry_out, complain, show};
-use cilk_words::words::{Order, WordsFault, read};
+use cilk_commands::reply::{Answer, Failure};
+use cilk_commands::{carry_out, complain, show};
+use cilk_messages::words::{Order, WordsFault, read};
 use std::alloc::{AllocError, Global};
 use std::io::{Read, Write};
 

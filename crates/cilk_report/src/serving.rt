@@ -2,10 +2,10 @@
 
 ghost use Rattle.std.specs.Prelude.{◌≡◌, ◌<◌, None, Some, false, length, option_map, true};
 ghost use Rattle.cilk_report.specs.Explained.{ComesBehind, Follows, Measures, Schedules, ServesExplained, ServesThenExplains, WritesText, is_about, is_schedule, unflagged, words_of_check};
-ghost use Rattle.cilk_measured.specs.Words.{is_measure, measured_run, words_of_run};
-ghost use Rattle.cilk_tool.specs.Replies.{failure_view};
-ghost use Rattle.cilk_tool.specs.Serving.{WordsFail};
-ghost use Rattle.cilk_words.specs.Words.{order_in, origin_view, texts};
+ghost use Rattle.cilk_report.specs.Words.{is_measure, measured_run, words_of_run};
+ghost use Rattle.cilk_commands.specs.Replies.{failure_view};
+ghost use Rattle.cilk_commands.specs.Serving.{WordsFail};
+ghost use Rattle.cilk_messages.specs.Words.{order_in, origin_view, texts};
 
 use crate::about::{About, answer_about};
 use crate::explaining::{of_answer, of_failure};
@@ -13,13 +13,13 @@ use crate::flags::unflagged;
 use crate::help::{EXPLAIN, advice};
 use crate::scheduling::{is_schedule, serve_schedule};
 use cilk_findings::fault::CaseFault;
-use cilk_measured::{
+use crate::{
     Keeps, Kept, asks, is_measure, run_of, run_words, text_of, totals_of, usage_of_measure,
 };
-use cilk_tool::reply::{Failure, NO_MEMORY, WRONG};
-use cilk_tool::streams::send;
-use cilk_tool::{Served, carry_out, complain, show, tell};
-use cilk_words::words::{Order, Origin, WordsFault, read};
+use cilk_commands::reply::{Failure, NO_MEMORY, WRONG};
+use cilk_commands::streams::send;
+use cilk_commands::{Served, carry_out, complain, show, tell};
+use cilk_messages::words::{Order, Origin, WordsFault, read};
 use std::alloc::{AllocError, Global};
 use std::io::{Read, Write};
 

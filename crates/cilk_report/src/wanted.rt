@@ -1,7 +1,7 @@
 //! What the grammar has at a place: each token is put there, and the parser says whether it goes on.
 
 use cilk_parser::parse::parse;
-use cilk_texts::fault::{TextFault, TextNumber};
+use cilk_parser::fault::{TextFault, TextNumber};
 use cilk_types::limits::MAX_TEXT;
 use std::alloc::{AllocError, Global};
 

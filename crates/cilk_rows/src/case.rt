@@ -1,8 +1,8 @@
 //! The texts of a case, from its folder.
 
 use crate::folder::File;
-use cilk_tool::disk::Disk;
-use cilk_tool::files::{FileFault, Files};
+use cilk_commands::disk::Disk;
+use cilk_commands::files::{FileFault, Files};
 use std::alloc::{AllocError, Global};
 
 /// A call, and what it is to show. A text that has no file is empty.

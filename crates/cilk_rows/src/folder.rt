@@ -2,8 +2,8 @@
 
 ghost use Rattle.std.specs.Prelude.{◌≡◌, ◌<◌, IfErr, OnOk};
 
-use cilk_tool::disk::MAX_FILE;
-use cilk_tool::files::{FileFault, Files};
+use cilk_commands::disk::MAX_FILE;
+use cilk_commands::files::{FileFault, Files};
 use std::alloc::Global;
 
 /// A file of a case.
@@ -65,7 +65,7 @@ impl<'a> Folder<'a> {
 
 impl Files for Folder<'_> {
     ghost use Rattle.std.specs.Prelude.{None};
-    ghost use Rattle.cilk_tool.specs.Files.{failures};
+    ghost use Rattle.cilk_commands.specs.Files.{failures};
 
     ghost failed = { λ f. failures f.failures (λ _. 0) };
 

@@ -16,7 +16,7 @@ use Rattle.cilk_runs.proofs.Basics.{same_cell-eq, same_name-eq, same_name-refl}
 use Rattle.cilk_runs.proofs.Front.{Front, here_act, here_child, past_act, past_child, inside, grown, front_value, made_nil, made_full}
 use Rattle.cilk_runs.proofs.Find.{IsDetermined, front_right, full_deeds, ended_full, ask_by, Asks, find, counts_from}
 use Rattle.cilk_runs.proofs.Grows.{Grows, GrowsTree, tree_grows, cut_nil, cut_step, made_other, made_write}
-use Rattle.cilk_runs.proofs.Pieces.{Moved, Rests, lies_nil, lies_step}
+use Rattle.cilk_runs.proofs.RunPieces.{Moved, Rests, lies_nil, lies_step}
 use Rattle.cilk_runs.proofs.Stolen.{At, Taken, find_stolen, lies_steal}
 use Rattle.cilk_runs.proofs.Joins.{times-append, joins_of, joined_front, joined_none}
 use Rattle.cilk_runs.specs.Machine.{joined_by}

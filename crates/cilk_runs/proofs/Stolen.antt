@@ -14,7 +14,7 @@ use Rattle.cilk_runs.proofs.Basics.{last_sync, nil_snoc}
 use Rattle.cilk_runs.proofs.Front.{Front, here_act, here_child, past_act, past_child, inside, full_stuck}
 use Rattle.cilk_runs.proofs.Find.{counts_from}
 use Rattle.cilk_runs.proofs.Grows.{From, front_from}
-use Rattle.cilk_runs.proofs.Pieces.{under, NotFirst, front_nonempty, is_resume, lies_nil, lies_acc, when_stolen_map}
+use Rattle.cilk_runs.proofs.RunPieces.{under, NotFirst, front_nonempty, is_resume, lies_nil, lies_acc, when_stolen_map}
 
 module _ {W : Type 0} where
   -- the last deed of frame n, by its name below the frame at the top, spawned its child K

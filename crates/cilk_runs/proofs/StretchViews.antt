@@ -22,7 +22,7 @@ use Rattle.cilk_runs.specs.Views.{view_after}
 use Rattle.cilk_runs.proofs.Blocks.{HasInBlockWith, IsTouch, ViewApart, ViewFree, IsResumed}
 use Rattle.cilk_runs.proofs.Find.{IsDetermined, closed_act}
 use Rattle.cilk_runs.proofs.Framed.{resumed}
-use Rattle.cilk_runs.proofs.Pieces.{resumed_parts, resumed_rest}
+use Rattle.cilk_runs.proofs.RunPieces.{resumed_parts, resumed_rest}
 use Rattle.cilk_runs.proofs.Stretched.{sync_of, thief_goes}
 use Rattle.cilk_runs.proofs.Theorem.{apart_views}
 use Rattle.cilk_runs.proofs.Values.{view_of, view_of_inner, quiet_free, Even, even_act, even_child, even_stolen, free_own, when_get, final_view}

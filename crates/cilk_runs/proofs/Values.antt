@@ -14,7 +14,7 @@ use Rattle.cilk_runs.specs.Cuts.{below, IsFull, IsPast, IsCut, WhenResumed, bloc
 use Rattle.cilk_runs.proofs.Basics.{same_instance-eq}
 use Rattle.cilk_runs.proofs.Front.{Front, here_act, here_child, past_act, past_child, inside, grown}
 use Rattle.cilk_runs.proofs.Find.{closed_act}
-use Rattle.cilk_runs.proofs.Pieces.{is_resume, resumed_parts, resumed_rest}
+use Rattle.cilk_runs.proofs.RunPieces.{is_resume, resumed_parts, resumed_rest}
 
 -- the front, with the serial view of an instance in place of a cell's value
 pub data FrontV (W V : Type 0) (M : MonoidStructure V) (i : Instance) : Run W → ℕ → List (Deed W) → (ℕ → Frames W) → Name → Deed W → V → V → Type 0 where

@@ -12,7 +12,7 @@ use Rattle.cilk_program.specs.declared.ask.Ask.TheVariants as asks
 use Rattle.cilk_program.specs.declared.ask.Callee.{Callee}
 use Rattle.cilk_lower.specs.Layout.{cells_in}
 use Rattle.cilk_lower.specs.declared.layout.Layout.{Layout}
-use Rattle.cilk_board.specs.Asking.{cells_asked, crowded, own_fault, refusal}
+use Rattle.cilk_scheduler.specs.Asking.{cells_asked, crowded, own_fault, refusal}
 
 passed : (b : Bool) (x : Fault) (o : Option Fault) → (if b then Some x else o) ≡ None → (b ≡ false) × (o ≡ None)
 passed true x o e = let no : Some x ≡ None = e in cc

@@ -7,10 +7,10 @@ use Rattle.cilk_program.specs.declared.ask.Ask.{Ask}
 use Rattle.cilk_program.specs.declared.ask.Ask.TheVariants as asks
 use Rattle.cilk_frames.specs.Following.{Fits, HasAnswer, owed_for}
 use Rattle.cilk_frames.specs.declared.cursor.Answer.{Answer}
-use Rattle.cilk_activations.specs.declared.activation.Activation.{Activation}
-use Rattle.cilk_board.specs.Seats.{answered, changed}
-use Rattle.cilk_board.specs.declared.seat.Due.TheVariants as due
-use Rattle.cilk_board.specs.declared.seat.Seat.{Seat}
+use Rattle.cilk_frames.specs.declared.activation.Activation.{Activation}
+use Rattle.cilk_scheduler.specs.Seats.{answered, changed}
+use Rattle.cilk_scheduler.specs.declared.seat.Due.TheVariants as due
+use Rattle.cilk_scheduler.specs.declared.seat.Seat.{Seat}
 use Rattle.cilk_schedule.specs.Sound.{SameTicks, Settles, Sound}
 use Rattle.cilk_schedule.proofs.Sounds.{IsStep, same_ticks, settled}
 

@@ -5,17 +5,17 @@
 -- - `own_of`: a piece that comes as the last is the frame's own;
 -- - `own_passed`: its block has passed.
 use Rattle.std.proofs.Common.{◌≡◌, ◌+◌, ◌<◌, ℕ, zero, suc, Bool, true, false, List, [], ◌∷◌, length, slice_get, Some, Result, Ok, Err, IfOk, OnOk, refl, sym, ap, ◌∙◌, subst}
-use Rattle.cilk_activations.specs.declared.activation.Activation.{Activation}
+use Rattle.cilk_frames.specs.declared.activation.Activation.{Activation}
 use Rattle.cilk_hypermap.specs.declared.hypermap.Hypermap.{Hypermap}
 use Rattle.cilk_join.specs.Products.{product}
 use Rattle.cilk_join.specs.Waits.{shown}
-use Rattle.cilk_board.specs.Events.{Arrives}
-use Rattle.cilk_board.specs.Parts.{Alone, Brought, BringsOwn, Passed}
-use Rattle.cilk_board.specs.Seats.{changed}
-use Rattle.cilk_board.specs.declared.seat.Seat.{Seat}
-use Rattle.cilk_board.specs.declared.seat.Worker.{Worker}
-use Rattle.cilk_board.proofs.Placed.{get_some}
-use Rattle.cilk_board.proofs.Viewing.{viewing_own}
+use Rattle.cilk_scheduler.specs.Events.{Arrives}
+use Rattle.cilk_scheduler.specs.Parts.{Alone, Brought, BringsOwn, Passed}
+use Rattle.cilk_scheduler.specs.Seats.{changed}
+use Rattle.cilk_scheduler.specs.declared.seat.Seat.{Seat}
+use Rattle.cilk_scheduler.specs.declared.seat.Worker.{Worker}
+use Rattle.cilk_scheduler.proofs.Placed.{get_some}
+use Rattle.cilk_scheduler.proofs.Viewing.{viewing_own}
 use Rattle.cilk_schedule.specs.Passing.{PieceComes, ComesTo, OwnComes, Arrived, Unstolen}
 use Rattle.cilk_schedule.proofs.Workers.{same_at}
 

@@ -16,19 +16,19 @@ use Rattle.cilk_lower.specs.Code.{CodeView}
 use Rattle.cilk_lower.specs.Layout.{cells_in, function_frame}
 use Rattle.cilk_frames.specs.Cursor.{CursorView}
 use Rattle.cilk_frames.specs.Following.{Stands}
-use Rattle.cilk_activations.specs.Sight.{HasScope}
-use Rattle.cilk_activations.specs.declared.activation.Activation.{Activation}
-use Rattle.cilk_activations.proofs.Links.{sees_more as scope_more}
+use Rattle.cilk_frames.specs.Sight.{HasScope}
+use Rattle.cilk_frames.specs.declared.activation.Activation.{Activation}
+use Rattle.cilk_frames.proofs.Links.{sees_more as scope_more}
 use Rattle.cilk_frames.specs.declared.cursor.Answer.TheVariants.{Done}
 use Rattle.cilk_serial.specs.Scoped.{MayBegin, Sees}
 use Rattle.cilk_serial.proofs.Sights.{child_sees}
-use Rattle.cilk_board.specs.Invoking.{IsChild, creator_of}
-use Rattle.cilk_board.specs.Seats.{changed, seated, started_at}
-use Rattle.cilk_board.specs.declared.seat.Due.TheVariants as due
-use Rattle.cilk_board.specs.declared.seat.Seat.{Seat}
-use Rattle.cilk_board.specs.declared.seat.Status.{Status}
-use Rattle.cilk_board.proofs.Changing.{changed_length}
-use Rattle.cilk_board.proofs.Placed.{get_some}
+use Rattle.cilk_scheduler.specs.Invoking.{IsChild, creator_of}
+use Rattle.cilk_scheduler.specs.Seats.{changed, seated, started_at}
+use Rattle.cilk_scheduler.specs.declared.seat.Due.TheVariants as due
+use Rattle.cilk_scheduler.specs.declared.seat.Seat.{Seat}
+use Rattle.cilk_scheduler.specs.declared.seat.Status.{Status}
+use Rattle.cilk_scheduler.proofs.Changing.{changed_length}
+use Rattle.cilk_scheduler.proofs.Placed.{get_some}
 use Rattle.cilk_schedule.specs.Sound.{Comes, Counts, FitsDue, IsCodeOf, Lives, Rests, Sound, frame_of}
 use Rattle.cilk_schedule.proofs.Sounds.{changed_sound, push_get, push_length, pushed, lives_changed}
 

@@ -14,22 +14,22 @@ use Rattle.cilk_program.specs.Scopes.{Scope, cell_in}
 use Rattle.cilk_program.specs.SerialRun.{itself}
 use Rattle.cilk_program.specs.Syntax.{Source}
 use Rattle.cilk_program.specs.declared.syntax.Place.{Place}
-use Rattle.cilk_meaning.proofs.Asked.{asks_there}
-use Rattle.cilk_meaning.proofs.Visible.{can_invoke}
+use Rattle.cilk_program.proofs.Asked.{asks_there}
+use Rattle.cilk_program.proofs.Visible.{can_invoke}
 use Rattle.cilk_lower.specs.Code.{CodeView}
 use Rattle.cilk_frames.specs.Cursor.{CursorView}
 use Rattle.cilk_frames.specs.Following.{Stands, owed_for, word_in}
-use Rattle.cilk_activations.specs.declared.activation.Activation.{Activation}
+use Rattle.cilk_frames.specs.declared.activation.Activation.{Activation}
 use Rattle.cilk_serial.specs.Scoped.{IsThere}
 use Rattle.cilk_serial.proofs.Sights.{asked_there}
-use Rattle.cilk_board.specs.Asking.{IsReady, IsReadyFor, WentOn, WentOnFrom}
-use Rattle.cilk_board.specs.Events.{SeesAt}
-use Rattle.cilk_board.specs.Seats.{changed}
-use Rattle.cilk_board.specs.declared.seat.Due.{Due}
-use Rattle.cilk_board.specs.declared.seat.Due.TheVariants as due
-use Rattle.cilk_board.specs.declared.seat.Seat.{Seat}
-use Rattle.cilk_board.proofs.Changing.{changed_length}
-use Rattle.cilk_board.proofs.Placed.{get_some}
+use Rattle.cilk_scheduler.specs.Asking.{IsReady, IsReadyFor, WentOn, WentOnFrom}
+use Rattle.cilk_scheduler.specs.Events.{SeesAt}
+use Rattle.cilk_scheduler.specs.Seats.{changed}
+use Rattle.cilk_scheduler.specs.declared.seat.Due.{Due}
+use Rattle.cilk_scheduler.specs.declared.seat.Due.TheVariants as due
+use Rattle.cilk_scheduler.specs.declared.seat.Seat.{Seat}
+use Rattle.cilk_scheduler.proofs.Changing.{changed_length}
+use Rattle.cilk_scheduler.proofs.Placed.{get_some}
 use Rattle.cilk_schedule.specs.Sound.{Comes, Counts, FitsDue, HasCome, IsCodeOf, Lives, Rests, Sound, frame_of}
 use Rattle.cilk_schedule.proofs.Sounds.{changed_sound, lives_changed}
 

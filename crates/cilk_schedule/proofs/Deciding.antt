@@ -16,19 +16,19 @@ use Rattle.cilk_runs.specs.Progress.{MayAsk}
 use Rattle.cilk_runs.specs.Runs.{Name, Global, Instance, Output, Ask, Sync, Invokes}
 use Rattle.cilk_runs.proofs.Basics.{snoc_one}
 use Rattle.cilk_runs.proofs.Progress.{progress}
-use Rattle.cilk_worlds.specs.Machine.{costs, next}
-use Rattle.cilk_worlds.specs.Reducers.{View, elements_of, monoid_of, value_of}
-use Rattle.cilk_worlds.specs.Steps.{IsFirst, Next, OneStep, Reaches, finals_in, outcome_in, result_in}
-use Rattle.cilk_worlds.specs.Worlds.{World}
-use Rattle.cilk_board.specs.Desks.{BlockIsOver, Chooses, Comes, Desk, IsOver, IsSkipped, Settles, Skipped, Stands, StopsAt, Stole, Waited, all_offered, does, holds, idle, skips, steals, waits, withdrawn}
-use Rattle.cilk_board.specs.Desks as desks
-use Rattle.cilk_board.specs.Histories.{DidAsAsked}
-use Rattle.cilk_board.specs.Parents.{OutliveChildren}
-use Rattle.cilk_board.specs.declared.choice.Choice.{Choice}
-use Rattle.cilk_board.specs.declared.choice.Choice.TheVariants as choices
-use Rattle.cilk_board.proofs.Choosing.{choices_are_steps}
-use Rattle.cilk_board.proofs.Histories.{does_as_asked}
-use Rattle.cilk_board.proofs.Parents.{parents_outlive}
+use Rattle.cilk_runs.specs.WorldMachine.{costs, next}
+use Rattle.cilk_runs.specs.Reducers.{View, elements_of, monoid_of, value_of}
+use Rattle.cilk_runs.specs.Steps.{IsFirst, Next, OneStep, Reaches, finals_in, outcome_in, result_in}
+use Rattle.cilk_runs.specs.Worlds.{World}
+use Rattle.cilk_scheduler.specs.Desks.{BlockIsOver, Chooses, Comes, Desk, IsOver, IsSkipped, Settles, Skipped, Stands, StopsAt, Stole, Waited, all_offered, does, holds, idle, skips, steals, waits, withdrawn}
+use Rattle.cilk_scheduler.specs.Desks as desks
+use Rattle.cilk_scheduler.specs.Histories.{DidAsAsked}
+use Rattle.cilk_scheduler.specs.Parents.{OutliveChildren}
+use Rattle.cilk_scheduler.specs.declared.choice.Choice.{Choice}
+use Rattle.cilk_scheduler.specs.declared.choice.Choice.TheVariants as choices
+use Rattle.cilk_scheduler.proofs.Choosing.{choices_are_steps}
+use Rattle.cilk_scheduler.proofs.Histories.{does_as_asked}
+use Rattle.cilk_scheduler.proofs.Parents.{parents_outlive}
 use Rattle.cilk_schedule.specs.Deciding.{Agree, ChoicesDecide, IsGoing}
 use Rattle.cilk_schedule.proofs.DecidingDesks.{desk_once}
 use Rattle.cilk_schedule.proofs.DecidingSteps.{MadeBy, StolenBy, agreed, asks_no_more, block_moves, made_by, made_same, stolen_by, stolen_same, with_pieces}

@@ -6,10 +6,10 @@ use Rattle.std.proofs.Common.{◌≡◌, ℕ, suc, ℤ, true, false, true≢fals
 use Rattle.cilk_types.specs.declared.invocation.Invocation.TheVariants.{Call, Spawn}
 use Rattle.cilk_runs.specs.Machine.{State, started}
 use Rattle.cilk_runs.specs.Runs.{Name, Instance, Ask, Read, Write, Invoke, Sync, End, Pass, Fail, Deed}
-use Rattle.cilk_worlds.specs.Reducers.{View}
-use Rattle.cilk_worlds.specs.Worlds.{World}
-use Rattle.cilk_board.specs.Desks.{BlockIsOver, Desk, IsIn, Settles, calls, ends_all, goes_on, holds, idle, leaves, newest_of, passes, returns, spawns, without, withdrawn}
-use Rattle.cilk_board.proofs.Thieves.{snoc_name}
+use Rattle.cilk_runs.specs.Reducers.{View}
+use Rattle.cilk_runs.specs.Worlds.{World}
+use Rattle.cilk_scheduler.specs.Desks.{BlockIsOver, Desk, IsIn, Settles, calls, ends_all, goes_on, holds, idle, leaves, newest_of, passes, returns, spawns, without, withdrawn}
+use Rattle.cilk_scheduler.proofs.Thieves.{snoc_name}
 use Rattle.cilk_schedule.specs.Deciding.{Agree}
 use Rattle.cilk_schedule.proofs.DecidingSteps.{block_moves}
 

@@ -18,17 +18,17 @@ use Rattle.cilk_runs.specs.Progress.{HasEnded, child_after}
 use Rattle.cilk_runs.specs.Runs.{Name, same_name, Cell, Instance, Ask, Read, Write, Invoke, Sync, End, Pass, Fail, Begin, Resume, Create, Update, Set, Value, Print, Event, Reads, Writes, Syncs, Ends, Passes, Begins, Resumes, Creates, Updates, Sets, Values, Prints, Deed, Does, Invokes}
 use Rattle.cilk_runs.proofs.Basics.{same_name-eq}
 use Rattle.cilk_runs.proofs.Started.{started_invokes}
-use Rattle.cilk_worlds.specs.Machine.{costs, has_ended, next}
-use Rattle.cilk_worlds.specs.Reducers.{View, monoid_of}
-use Rattle.cilk_worlds.specs.Steps.{Next}
-use Rattle.cilk_worlds.specs.Worlds.{World}
-use Rattle.cilk_board.specs.Boards.{is_resuming}
-use Rattle.cilk_board.specs.Desks.{BlockIsOver, IsOver}
-use Rattle.cilk_board.specs.Histories.{DidAsAsked}
-use Rattle.cilk_board.specs.Parents.{OutliveChildren}
-use Rattle.cilk_board.proofs.Carried.{block_ext}
-use Rattle.cilk_board.proofs.Histories.{does_as_asked}
-use Rattle.cilk_board.proofs.Onward.{has_end}
+use Rattle.cilk_runs.specs.WorldMachine.{costs, has_ended, next}
+use Rattle.cilk_runs.specs.Reducers.{View, monoid_of}
+use Rattle.cilk_runs.specs.Steps.{Next}
+use Rattle.cilk_runs.specs.Worlds.{World}
+use Rattle.cilk_scheduler.specs.Boards.{is_resuming}
+use Rattle.cilk_scheduler.specs.Desks.{BlockIsOver, IsOver}
+use Rattle.cilk_scheduler.specs.Histories.{DidAsAsked}
+use Rattle.cilk_scheduler.specs.Parents.{OutliveChildren}
+use Rattle.cilk_scheduler.proofs.Carried.{block_ext}
+use Rattle.cilk_scheduler.proofs.Histories.{does_as_asked}
+use Rattle.cilk_scheduler.proofs.Onward.{has_end}
 use Rattle.cilk_schedule.specs.Deciding.{Agree}
 
 -- ---- what the frames alone decide

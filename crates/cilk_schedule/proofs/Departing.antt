@@ -13,39 +13,39 @@ use Rattle.cilk_program.specs.Syntax.{Source}
 use Rattle.cilk_program.specs.declared.ask.Ask.{Ask}
 use Rattle.cilk_program.specs.declared.ask.Ask.TheVariants as asks
 use Rattle.cilk_lower.specs.Code.{CodeView}
-use Rattle.cilk_activations.specs.declared.activation.Activation.{Activation}
+use Rattle.cilk_frames.specs.declared.activation.Activation.{Activation}
 use Rattle.cilk_hypermap.specs.declared.hypermap.Hypermap.{Hypermap}
 use Rattle.cilk_runs.specs.Machine.{State}
 use Rattle.cilk_runs.specs.Runs.{Name}
-use Rattle.cilk_worlds.specs.Reducers.{View}
-use Rattle.cilk_worlds.specs.Worlds.{World}
-use Rattle.cilk_board.specs.Acting.{IsShown}
-use Rattle.cilk_board.specs.Boards.{IsWhere}
-use Rattle.cilk_board.specs.Desks.{Desk, Chooses, Did}
-use Rattle.cilk_board.specs.EndParts.{Brings, HasRetired, IsFinished, Seeks}
-use Rattle.cilk_board.specs.Ending.{IsEnded, RetiresOwn}
-use Rattle.cilk_board.specs.Invocations.{HasGoneOn, IsNoted}
-use Rattle.cilk_outcome.specs.Leaving.{outcome_of}
-use Rattle.cilk_board.specs.Parents.{AreStarted, OutliveChildren}
-use Rattle.cilk_board.specs.Parts.{freed, working}
-use Rattle.cilk_board.specs.Seats.{changed, finished, moved_to, passed}
-use Rattle.cilk_board.specs.Steps.{HasCome}
-use Rattle.cilk_board.specs.Workers.{altered, held_by, viewing}
-use Rattle.cilk_board.specs.declared.board.Board.{Board}
-use Rattle.cilk_board.specs.declared.choice.Choice.TheVariants as choices
-use Rattle.cilk_board.specs.declared.choice.Stop.{Stop}
-use Rattle.cilk_board.specs.declared.choice.Told.{Told}
-use Rattle.cilk_board.specs.declared.seat.Seat.{Seat}
-use Rattle.cilk_board.specs.declared.seat.Status.{Status}
-use Rattle.cilk_board.specs.declared.seat.Status.TheVariants.{Held, Offered}
-use Rattle.cilk_board.specs.declared.seat.Worker.{Worker}
-use Rattle.cilk_board.proofs.Awaited.{may_arrive}
-use Rattle.cilk_board.proofs.Changing.{changed_here, changed_off}
-use Rattle.cilk_board.proofs.EndParts.{go_back, handed_in, runs_left}
-use Rattle.cilk_board.proofs.HandingIn.{arrivals_are_shown}
-use Rattle.cilk_board.proofs.Returning.{returns_are_shown}
-use Rattle.cilk_board.proofs.RunsEnd.{runs_end}
-use Rattle.cilk_board.proofs.Stepped.{kept_by}
+use Rattle.cilk_runs.specs.Reducers.{View}
+use Rattle.cilk_runs.specs.Worlds.{World}
+use Rattle.cilk_scheduler.specs.Acting.{IsShown}
+use Rattle.cilk_scheduler.specs.Boards.{IsWhere}
+use Rattle.cilk_scheduler.specs.Desks.{Desk, Chooses, Did}
+use Rattle.cilk_scheduler.specs.EndParts.{Brings, HasRetired, IsFinished, Seeks}
+use Rattle.cilk_scheduler.specs.Ending.{IsEnded, RetiresOwn}
+use Rattle.cilk_scheduler.specs.Invocations.{HasGoneOn, IsNoted}
+use Rattle.cilk_frames.specs.Leaving.{outcome_of}
+use Rattle.cilk_scheduler.specs.Parents.{AreStarted, OutliveChildren}
+use Rattle.cilk_scheduler.specs.Parts.{freed, working}
+use Rattle.cilk_scheduler.specs.Seats.{changed, finished, moved_to, passed}
+use Rattle.cilk_scheduler.specs.Steps.{HasCome}
+use Rattle.cilk_scheduler.specs.Workers.{altered, held_by, viewing}
+use Rattle.cilk_scheduler.specs.declared.board.Board.{Board}
+use Rattle.cilk_scheduler.specs.declared.choice.Choice.TheVariants as choices
+use Rattle.cilk_scheduler.specs.declared.choice.Stop.{Stop}
+use Rattle.cilk_scheduler.specs.declared.choice.Told.{Told}
+use Rattle.cilk_scheduler.specs.declared.seat.Seat.{Seat}
+use Rattle.cilk_scheduler.specs.declared.seat.Status.{Status}
+use Rattle.cilk_scheduler.specs.declared.seat.Status.TheVariants.{Held, Offered}
+use Rattle.cilk_scheduler.specs.declared.seat.Worker.{Worker}
+use Rattle.cilk_scheduler.proofs.Awaited.{may_arrive}
+use Rattle.cilk_scheduler.proofs.Changing.{changed_here, changed_off}
+use Rattle.cilk_scheduler.proofs.EndParts.{go_back, handed_in, runs_left}
+use Rattle.cilk_scheduler.proofs.HandingIn.{arrivals_are_shown}
+use Rattle.cilk_scheduler.proofs.Returning.{returns_are_shown}
+use Rattle.cilk_scheduler.proofs.RunsEnd.{runs_end}
+use Rattle.cilk_scheduler.proofs.Stepped.{kept_by}
 use Rattle.cilk_schedule.specs.Acts.{Acts, MakesEvent, WentTo, begins, resumes, reads, writes, gives, creates, updates, sets, values, prints}
 use Rattle.cilk_schedule.specs.Choices.{IsReadyAt}
 use Rattle.cilk_schedule.specs.Ends.{BringsPiece, PartsFrom, Ended, EndsAreSteps, FindsParent, IsOfferedAmong, LeavesRun, MayBring, ReturnsUp, TellsEnd, WroteEnd}

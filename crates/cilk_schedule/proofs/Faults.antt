@@ -10,32 +10,32 @@ use Rattle.cilk_program.specs.Syntax.{Source}
 use Rattle.cilk_program.specs.declared.ask.Ask.{Ask}
 use Rattle.cilk_program.specs.declared.ask.Ask.TheVariants as asks
 use Rattle.cilk_lower.specs.Code.{CodeView}
-use Rattle.cilk_activations.specs.declared.activation.Activation.{Activation}
+use Rattle.cilk_frames.specs.declared.activation.Activation.{Activation}
 use Rattle.cilk_runs.specs.Machine.{State, Steps}
 use Rattle.cilk_runs.specs.Runs.{Name}
-use Rattle.cilk_worlds.specs.Machine.{costs}
-use Rattle.cilk_worlds.specs.Reducers.{View, monoid_of}
-use Rattle.cilk_worlds.specs.Steps.{Next, OneStep, Reaches}
-use Rattle.cilk_worlds.specs.Worlds.{World}
-use Rattle.cilk_board.specs.Asking.{WentOn, WentOnFrom, refusal}
-use Rattle.cilk_board.specs.Desks.{BlockIsOver, StopsAt}
-use Rattle.cilk_board.specs.Noting.{HasFrame}
-use Rattle.cilk_board.specs.Parts.{must_wait}
-use Rattle.cilk_board.specs.Stopping.{IsRefused, latest}
-use Rattle.cilk_board.specs.declared.board.Board.{Board}
-use Rattle.cilk_board.specs.declared.choice.Choice.{Choice}
-use Rattle.cilk_board.specs.declared.choice.Choice.TheVariants as choices
-use Rattle.cilk_board.specs.declared.choice.Stop.{Stop}
-use Rattle.cilk_board.specs.declared.choice.Stop.TheVariants as stops
-use Rattle.cilk_board.specs.declared.choice.Told.{Told}
-use Rattle.cilk_board.specs.declared.seat.Due.{Due}
-use Rattle.cilk_board.specs.declared.seat.Due.TheVariants as due
-use Rattle.cilk_board.specs.declared.seat.Seat.{Seat}
-use Rattle.cilk_board.specs.declared.seat.Worker.{Worker}
-use Rattle.cilk_board.proofs.Changing.{changed_here, changed_length}
-use Rattle.cilk_board.proofs.OverBlocks.{blocks_are_over}
-use Rattle.cilk_board.proofs.Plain.{get_low}
-use Rattle.cilk_board.proofs.Stopping.{stops_are_shown, tellings_stay}
+use Rattle.cilk_runs.specs.WorldMachine.{costs}
+use Rattle.cilk_runs.specs.Reducers.{View, monoid_of}
+use Rattle.cilk_runs.specs.Steps.{Next, OneStep, Reaches}
+use Rattle.cilk_runs.specs.Worlds.{World}
+use Rattle.cilk_scheduler.specs.Asking.{WentOn, WentOnFrom, refusal}
+use Rattle.cilk_scheduler.specs.Desks.{BlockIsOver, StopsAt}
+use Rattle.cilk_scheduler.specs.Noting.{HasFrame}
+use Rattle.cilk_scheduler.specs.Parts.{must_wait}
+use Rattle.cilk_scheduler.specs.Stopping.{IsRefused, latest}
+use Rattle.cilk_scheduler.specs.declared.board.Board.{Board}
+use Rattle.cilk_scheduler.specs.declared.choice.Choice.{Choice}
+use Rattle.cilk_scheduler.specs.declared.choice.Choice.TheVariants as choices
+use Rattle.cilk_scheduler.specs.declared.choice.Stop.{Stop}
+use Rattle.cilk_scheduler.specs.declared.choice.Stop.TheVariants as stops
+use Rattle.cilk_scheduler.specs.declared.choice.Told.{Told}
+use Rattle.cilk_scheduler.specs.declared.seat.Due.{Due}
+use Rattle.cilk_scheduler.specs.declared.seat.Due.TheVariants as due
+use Rattle.cilk_scheduler.specs.declared.seat.Seat.{Seat}
+use Rattle.cilk_scheduler.specs.declared.seat.Worker.{Worker}
+use Rattle.cilk_scheduler.proofs.Changing.{changed_here, changed_length}
+use Rattle.cilk_scheduler.proofs.OverBlocks.{blocks_are_over}
+use Rattle.cilk_scheduler.proofs.Plain.{get_low}
+use Rattle.cilk_scheduler.proofs.Stopping.{stops_are_shown, tellings_stay}
 use Rattle.cilk_schedule.specs.Acts.{WentTo}
 use Rattle.cilk_schedule.specs.Choices.{IsReadyAt}
 use Rattle.cilk_schedule.specs.Faults.{FaultsAreStops, HasStopped, KeepsTold, StopsFrom}

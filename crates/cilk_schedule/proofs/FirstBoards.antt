@@ -8,15 +8,15 @@ use Rattle.cilk_program.specs.Syntax.{Source}
 use Rattle.cilk_lower.specs.Code.{CodeView}
 use Rattle.cilk_runs.specs.Machine.{State}
 use Rattle.cilk_runs.specs.Runs.{Name}
-use Rattle.cilk_worlds.specs.Reducers.{View}
-use Rattle.cilk_worlds.specs.Worlds.{World}
-use Rattle.cilk_board.specs.declared.board.Board.{Board}
-use Rattle.cilk_board.specs.declared.choice.Choice.{Choice}
-use Rattle.cilk_board.specs.Boards.{ShowsBy}
-use Rattle.cilk_board.specs.Desks.{Chooses, Comes, Desk}
-use Rattle.cilk_board.specs.Openings.{IsNew, first_desk}
-use Rattle.cilk_board.proofs.Choosing.{choices_are_steps}
-use Rattle.cilk_board.proofs.Openings.{openings_are_shown}
+use Rattle.cilk_runs.specs.Reducers.{View}
+use Rattle.cilk_runs.specs.Worlds.{World}
+use Rattle.cilk_scheduler.specs.declared.board.Board.{Board}
+use Rattle.cilk_scheduler.specs.declared.choice.Choice.{Choice}
+use Rattle.cilk_scheduler.specs.Boards.{ShowsBy}
+use Rattle.cilk_scheduler.specs.Desks.{Chooses, Comes, Desk}
+use Rattle.cilk_scheduler.specs.Openings.{IsNew, first_desk}
+use Rattle.cilk_scheduler.proofs.Choosing.{choices_are_steps}
+use Rattle.cilk_scheduler.proofs.Openings.{openings_are_shown}
 use Rattle.cilk_schedule.specs.Reached.{HasOpened, HasReached}
 use Rattle.cilk_schedule.specs.Sound.{IsCodeOf}
 use Rattle.cilk_schedule.proofs.Coming.{some_is}

@@ -5,24 +5,24 @@
 -- - `choices_reach`, `if_ok_reaches`: whatever is told of the choice.
 use Rattle.std.proofs.Common.{ℕ, ℤ, List, refl}
 use Rattle.std.specs.Prelude.{Result, Ok, Err, IfOk}
-use Rattle.cilk_board.specs.declared.choice.Stop.{Stop}
+use Rattle.cilk_scheduler.specs.declared.choice.Stop.{Stop}
 use Rattle.cilk_types.specs.declared.event.Event.{Event}
 use Rattle.cilk_types.specs.declared.event.Event.TheVariants as events
 use Rattle.cilk_program.specs.Syntax.{Source}
 use Rattle.cilk_lower.specs.Code.{CodeView}
 use Rattle.cilk_runs.specs.Machine.{State}
-use Rattle.cilk_worlds.specs.Reducers.{View}
-use Rattle.cilk_worlds.specs.Worlds.{World}
-use Rattle.cilk_board.specs.Boards.{ShowsBy}
-use Rattle.cilk_board.specs.Desks.{Chooses, Comes, Did, Skipped, Stole, Waited}
-use Rattle.cilk_board.specs.declared.board.Board.{Board}
-use Rattle.cilk_board.specs.declared.choice.Act.{Act}
-use Rattle.cilk_board.specs.declared.choice.Choice.{Choice}
-use Rattle.cilk_board.specs.declared.choice.Told.{Told}
-use Rattle.cilk_board.specs.declared.choice.Told.TheVariants as told
-use Rattle.cilk_board.proofs.GoneOn.{gone_on_behind}
-use Rattle.cilk_board.proofs.Histories.{does_as_asked}
-use Rattle.cilk_board.proofs.Parents.{names_are_kept, parents_outlive}
+use Rattle.cilk_runs.specs.Reducers.{View}
+use Rattle.cilk_runs.specs.Worlds.{World}
+use Rattle.cilk_scheduler.specs.Boards.{ShowsBy}
+use Rattle.cilk_scheduler.specs.Desks.{Chooses, Comes, Did, Skipped, Stole, Waited}
+use Rattle.cilk_scheduler.specs.declared.board.Board.{Board}
+use Rattle.cilk_scheduler.specs.declared.choice.Act.{Act}
+use Rattle.cilk_scheduler.specs.declared.choice.Choice.{Choice}
+use Rattle.cilk_scheduler.specs.declared.choice.Told.{Told}
+use Rattle.cilk_scheduler.specs.declared.choice.Told.TheVariants as told
+use Rattle.cilk_scheduler.proofs.GoneOn.{gone_on_behind}
+use Rattle.cilk_scheduler.proofs.Histories.{does_as_asked}
+use Rattle.cilk_scheduler.proofs.Parents.{names_are_kept, parents_outlive}
 use Rattle.cilk_schedule.specs.Acts.{EventsAreSteps}
 use Rattle.cilk_schedule.specs.Ends.{EndsAreSteps}
 use Rattle.cilk_schedule.specs.Passing.{SkipsAreSteps, StealsAreSteps, SyncsAreSteps, WaitsAreSteps}

@@ -10,13 +10,13 @@ use Rattle.cilk_program.specs.declared.ask.Ask.{Ask}
 use Rattle.cilk_program.specs.declared.ask.Ask.TheVariants as asks
 use Rattle.cilk_lower.specs.Code.{CodeView}
 use Rattle.cilk_frames.specs.Cursor.{CursorView}
-use Rattle.cilk_activations.specs.declared.activation.Activation.{Activation}
-use Rattle.cilk_board.specs.Asking.{IsReady, WentOn, refusal}
-use Rattle.cilk_board.specs.Seats.{changed, counted}
-use Rattle.cilk_board.specs.declared.board.Board.{Board}
-use Rattle.cilk_board.specs.declared.seat.JournalEntry.{JournalEntry}
-use Rattle.cilk_board.specs.declared.seat.Seat.{Seat}
-use Rattle.cilk_board.proofs.Changing.{changed_length}
+use Rattle.cilk_frames.specs.declared.activation.Activation.{Activation}
+use Rattle.cilk_scheduler.specs.Asking.{IsReady, WentOn, refusal}
+use Rattle.cilk_scheduler.specs.Seats.{changed, counted}
+use Rattle.cilk_scheduler.specs.declared.board.Board.{Board}
+use Rattle.cilk_scheduler.specs.declared.seat.JournalEntry.{JournalEntry}
+use Rattle.cilk_scheduler.specs.declared.seat.Seat.{Seat}
+use Rattle.cilk_scheduler.proofs.Changing.{changed_length}
 use Rattle.cilk_schedule.specs.Sound.{IsAsked, IsMade, IsQuiet, IsTurn, Runs, Sound}
 use Rattle.cilk_schedule.proofs.Coming.{came, ready}
 use Rattle.cilk_schedule.proofs.Sounds.{IsStill, push_length, still_keeps}

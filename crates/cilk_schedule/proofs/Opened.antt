@@ -10,16 +10,16 @@ use Rattle.cilk_program.specs.declared.ask.Callee.TheVariants as callees
 use Rattle.cilk_program.specs.SerialRun.{cells_of, home_of}
 use Rattle.cilk_program.specs.Syntax.{Source}
 use Rattle.cilk_program.specs.WellNamed.{is_well_named}
-use Rattle.cilk_meaning.proofs.Naming.{well_named_parts}
+use Rattle.cilk_program.proofs.Naming.{well_named_parts}
 use Rattle.cilk_lower.specs.Code.{CodeView}
 use Rattle.cilk_lower.specs.Layout.{function_frame}
 use Rattle.cilk_frames.specs.Cursor.{CursorView}
 use Rattle.cilk_frames.specs.Following.{Stands, owed_for}
-use Rattle.cilk_activations.specs.Sight.{HasScope}
-use Rattle.cilk_activations.specs.declared.activation.Activation.{Activation}
+use Rattle.cilk_frames.specs.Sight.{HasScope}
+use Rattle.cilk_frames.specs.declared.activation.Activation.{Activation}
 use Rattle.cilk_serial.proofs.Sights.{root_sees}
-use Rattle.cilk_board.specs.Seats.{seated}
-use Rattle.cilk_board.specs.declared.seat.Seat.{Seat}
+use Rattle.cilk_scheduler.specs.Seats.{seated}
+use Rattle.cilk_scheduler.specs.declared.seat.Seat.{Seat}
 use Rattle.cilk_serial.specs.Scoped.{Sees}
 use Rattle.cilk_schedule.specs.Sound.{Counts, FitsDue, IsCodeOf, Lives, Rests, Sound}
 use Rattle.cilk_schedule.proofs.Coming.{some_is}

@@ -4,20 +4,20 @@
 -- - `leaves_by`, `arrives_by`: from what the functions change, by numbers.
 use Rattle.std.proofs.Common.{◌≡◌, ◌<◌, ℕ, zero, suc, Bool, true, cond, ℤ, List, [], ◌∷◌, length, slice_get, slice_index_or, slice_set, Some, refl, ap, ◌∙◌, subst}
 use Rattle.cilk_lower.specs.Code.{CodeView}
-use Rattle.cilk_activations.specs.declared.activation.Activation.{Activation}
+use Rattle.cilk_frames.specs.declared.activation.Activation.{Activation}
 use Rattle.cilk_hypermap.specs.declared.hypermap.Hypermap.{Hypermap}
-use Rattle.cilk_board.specs.EndParts.{Brings, NotOffered, OfferedBy, Seeks}
-use Rattle.cilk_outcome.specs.Leaving.{outcome_of}
-use Rattle.cilk_board.specs.Parts.{freed, working}
-use Rattle.cilk_board.specs.Seats.{changed, moved_to, passed}
-use Rattle.cilk_board.specs.Workers.{altered}
-use Rattle.cilk_board.specs.declared.board.Board.{Board}
-use Rattle.cilk_board.specs.declared.seat.Seat.{Seat}
-use Rattle.cilk_board.specs.declared.seat.Status.{Status}
-use Rattle.cilk_board.specs.declared.seat.Status.TheVariants.{Held}
-use Rattle.cilk_board.specs.declared.seat.Worker.{Worker}
-use Rattle.cilk_board.proofs.Placed.{get_there}
-use Rattle.cilk_board.proofs.Viewing.{viewing_at}
+use Rattle.cilk_scheduler.specs.EndParts.{Brings, NotOffered, OfferedBy, Seeks}
+use Rattle.cilk_frames.specs.Leaving.{outcome_of}
+use Rattle.cilk_scheduler.specs.Parts.{freed, working}
+use Rattle.cilk_scheduler.specs.Seats.{changed, moved_to, passed}
+use Rattle.cilk_scheduler.specs.Workers.{altered}
+use Rattle.cilk_scheduler.specs.declared.board.Board.{Board}
+use Rattle.cilk_scheduler.specs.declared.seat.Seat.{Seat}
+use Rattle.cilk_scheduler.specs.declared.seat.Status.{Status}
+use Rattle.cilk_scheduler.specs.declared.seat.Status.TheVariants.{Held}
+use Rattle.cilk_scheduler.specs.declared.seat.Worker.{Worker}
+use Rattle.cilk_scheduler.proofs.Placed.{get_there}
+use Rattle.cilk_scheduler.proofs.Viewing.{viewing_at}
 use Rattle.cilk_schedule.specs.Ends.{BringsPiece, PartsTo, LeavesRun, MayBring}
 use Rattle.cilk_schedule.proofs.Workers.{same_at}
 

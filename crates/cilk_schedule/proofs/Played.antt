@@ -13,18 +13,18 @@ use Rattle.cilk_program.specs.Syntax.{Source}
 use Rattle.cilk_lower.specs.Code.{CodeView}
 use Rattle.cilk_runs.specs.Machine.{State}
 use Rattle.cilk_runs.specs.Runs.{Name}
-use Rattle.cilk_worlds.specs.Reducers.{View}
-use Rattle.cilk_worlds.specs.Steps.{IsFirst, Reaches}
-use Rattle.cilk_worlds.specs.Worlds.{World}
-use Rattle.cilk_board.specs.Boards.{Tells}
-use Rattle.cilk_board.specs.Desks.{Chooses, Comes, Desk, StopsAt}
-use Rattle.cilk_board.specs.Openings.{first_desk}
-use Rattle.cilk_board.specs.declared.board.Board.{Board}
-use Rattle.cilk_board.specs.declared.choice.Choice.{Choice}
-use Rattle.cilk_board.specs.declared.choice.Stop.{Stop}
-use Rattle.cilk_board.specs.declared.choice.Stop.TheVariants as stops
-use Rattle.cilk_board.specs.declared.choice.Told.{Told}
-use Rattle.cilk_shown.specs.declared.showing.Shown.{Shown}
+use Rattle.cilk_runs.specs.Reducers.{View}
+use Rattle.cilk_runs.specs.Steps.{IsFirst, Reaches}
+use Rattle.cilk_runs.specs.Worlds.{World}
+use Rattle.cilk_scheduler.specs.Boards.{Tells}
+use Rattle.cilk_scheduler.specs.Desks.{Chooses, Comes, Desk, StopsAt}
+use Rattle.cilk_scheduler.specs.Openings.{first_desk}
+use Rattle.cilk_scheduler.specs.declared.board.Board.{Board}
+use Rattle.cilk_scheduler.specs.declared.choice.Choice.{Choice}
+use Rattle.cilk_scheduler.specs.declared.choice.Stop.{Stop}
+use Rattle.cilk_scheduler.specs.declared.choice.Stop.TheVariants as stops
+use Rattle.cilk_scheduler.specs.declared.choice.Told.{Told}
+use Rattle.cilk_schedule.specs.declared.showing.Shown.{Shown}
 use Rattle.cilk_schedule.specs.Deciding.{Agree, IsGoing}
 use Rattle.cilk_schedule.specs.Faults.{HasFault, NamesStop, StopsFrom}
 use Rattle.cilk_schedule.specs.Played.{ChoicesLead, ChoicesStop, HaltAt, IsAt, IsPlayed, IsStop, LeadOn, Leaves, ListsDecide, StopFrom}

@@ -3,12 +3,12 @@
 -- - `moved`, `marked`, `robs`: where it is, its block has passed, the continuation beside it was stolen;
 -- - `joins`: what lies at its block.
 use Rattle.std.proofs.Common.{◌≡◌, ◌<◌, ℕ, List, length, slice_index_or, slice_set, refl, sym, ◌∙◌, subst}
-use Rattle.cilk_activations.specs.declared.activation.Activation.{Activation}
-use Rattle.cilk_board.specs.Seats.{changed, moved_to, passed, robbed}
-use Rattle.cilk_board.specs.declared.seat.Seat.{Seat}
-use Rattle.cilk_board.specs.declared.seat.Status.{Status}
-use Rattle.cilk_board.proofs.Changing.{changed_at, changed_known}
-use Rattle.cilk_board.proofs.Placed.{get_there}
+use Rattle.cilk_frames.specs.declared.activation.Activation.{Activation}
+use Rattle.cilk_scheduler.specs.Seats.{changed, moved_to, passed, robbed}
+use Rattle.cilk_scheduler.specs.declared.seat.Seat.{Seat}
+use Rattle.cilk_scheduler.specs.declared.seat.Status.{Status}
+use Rattle.cilk_scheduler.proofs.Changing.{changed_at, changed_known}
+use Rattle.cilk_scheduler.proofs.Placed.{get_there}
 use Rattle.cilk_schedule.specs.Sound.{IsQuiet}
 use Rattle.cilk_schedule.proofs.Sounds.{quiet}
 

@@ -7,16 +7,16 @@ use Rattle.cilk_program.specs.Syntax.{Source}
 use Rattle.cilk_lower.specs.Code.{CodeView}
 use Rattle.cilk_runs.specs.Machine.{State, Steps}
 use Rattle.cilk_runs.specs.Runs.{Name}
-use Rattle.cilk_worlds.specs.Machine.{costs}
-use Rattle.cilk_worlds.specs.Reducers.{View, monoid_of}
-use Rattle.cilk_worlds.specs.Steps.{Next}
-use Rattle.cilk_worlds.specs.Worlds.{World}
-use Rattle.cilk_board.specs.Histories.{DidAsAsked}
-use Rattle.cilk_board.specs.Parents.{AreStarted, OutliveChildren}
-use Rattle.cilk_board.proofs.Choosing.{choices_are_steps}
-use Rattle.cilk_board.proofs.GoneOn.{gone_on_behind}
-use Rattle.cilk_board.proofs.Histories.{does_as_asked}
-use Rattle.cilk_board.proofs.Parents.{names_are_kept, parents_outlive}
+use Rattle.cilk_runs.specs.WorldMachine.{costs}
+use Rattle.cilk_runs.specs.Reducers.{View, monoid_of}
+use Rattle.cilk_runs.specs.Steps.{Next}
+use Rattle.cilk_runs.specs.Worlds.{World}
+use Rattle.cilk_scheduler.specs.Histories.{DidAsAsked}
+use Rattle.cilk_scheduler.specs.Parents.{AreStarted, OutliveChildren}
+use Rattle.cilk_scheduler.proofs.Choosing.{choices_are_steps}
+use Rattle.cilk_scheduler.proofs.GoneOn.{gone_on_behind}
+use Rattle.cilk_scheduler.proofs.Histories.{does_as_asked}
+use Rattle.cilk_scheduler.proofs.Parents.{names_are_kept, parents_outlive}
 use Rattle.cilk_schedule.specs.Reached.{ChoicesLeadOn}
 
 module _ (p : Source) (inputs : List ℤ) where

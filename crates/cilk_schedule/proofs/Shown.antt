@@ -3,11 +3,11 @@
 -- - `shows_reached`: what is shown of its board is each state to which steps lead.
 use Rattle.std.proofs.Common.{◌≡◌, ℕ, ℤ, List, length, ap, ◌∙◌}
 use Rattle.cilk_lower.specs.Code.{CodeView}
-use Rattle.cilk_board.specs.declared.board.Board.{Board}
-use Rattle.cilk_board.proofs.Histories.{does_as_asked}
-use Rattle.cilk_board.proofs.Parents.{names_are_kept}
-use Rattle.cilk_shown.specs.Showing.{ShowsBoard}
-use Rattle.cilk_shown.specs.declared.showing.Shown.{Shown}
+use Rattle.cilk_scheduler.specs.declared.board.Board.{Board}
+use Rattle.cilk_scheduler.proofs.Histories.{does_as_asked}
+use Rattle.cilk_scheduler.proofs.Parents.{names_are_kept}
+use Rattle.cilk_schedule.specs.Showing.{ShowsBoard}
+use Rattle.cilk_schedule.specs.declared.showing.Shown.{Shown}
 use Rattle.cilk_schedule.specs.Shown.{ShowsReached}
 
 pub shows_reached : (code : CodeView) (inputs : List ℤ) (b : Board) (globals : ℕ) (shown : Shown) → (globals ≡ (let l = code.layout in length l.openings)) → ShowsBoard globals b shown → ShowsReached code inputs b shown

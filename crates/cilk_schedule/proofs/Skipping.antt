@@ -10,20 +10,20 @@ use Rattle.cilk_program.specs.Syntax.{Source}
 use Rattle.cilk_lower.specs.Code.{CodeView}
 use Rattle.cilk_runs.specs.Machine.{State}
 use Rattle.cilk_runs.specs.Runs.{Name}
-use Rattle.cilk_worlds.specs.Reducers.{View}
-use Rattle.cilk_worlds.specs.Worlds.{World}
-use Rattle.cilk_board.specs.Boards.{ShowsBy}
-use Rattle.cilk_board.specs.Desks.{Desk, Chooses, Skipped}
-use Rattle.cilk_board.specs.Workers.{IsLocated, held_by, is_idle, offers}
-use Rattle.cilk_board.specs.declared.board.Board.{Board}
-use Rattle.cilk_board.specs.declared.choice.Choice.{Choice}
-use Rattle.cilk_board.specs.declared.choice.Choice.TheVariants as choices
-use Rattle.cilk_board.specs.declared.choice.Stop.{Stop}
-use Rattle.cilk_board.specs.declared.choice.Told.{Told}
-use Rattle.cilk_board.specs.declared.choice.Told.TheVariants as told
-use Rattle.cilk_board.specs.declared.seat.Worker.{Worker}
-use Rattle.cilk_board.proofs.Parts.{offered}
-use Rattle.cilk_board.proofs.Stopping.{skips_are_shown}
+use Rattle.cilk_runs.specs.Reducers.{View}
+use Rattle.cilk_runs.specs.Worlds.{World}
+use Rattle.cilk_scheduler.specs.Boards.{ShowsBy}
+use Rattle.cilk_scheduler.specs.Desks.{Desk, Chooses, Skipped}
+use Rattle.cilk_scheduler.specs.Workers.{IsLocated, held_by, is_idle, offers}
+use Rattle.cilk_scheduler.specs.declared.board.Board.{Board}
+use Rattle.cilk_scheduler.specs.declared.choice.Choice.{Choice}
+use Rattle.cilk_scheduler.specs.declared.choice.Choice.TheVariants as choices
+use Rattle.cilk_scheduler.specs.declared.choice.Stop.{Stop}
+use Rattle.cilk_scheduler.specs.declared.choice.Told.{Told}
+use Rattle.cilk_scheduler.specs.declared.choice.Told.TheVariants as told
+use Rattle.cilk_scheduler.specs.declared.seat.Worker.{Worker}
+use Rattle.cilk_scheduler.proofs.Parts.{offered}
+use Rattle.cilk_scheduler.proofs.Stopping.{skips_are_shown}
 use Rattle.cilk_schedule.specs.Choices.{CanChoose}
 use Rattle.cilk_schedule.specs.Passing.{SkipsAreSteps}
 use Rattle.cilk_schedule.proofs.Workers.{is_held}

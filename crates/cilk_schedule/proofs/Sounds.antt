@@ -15,19 +15,19 @@ use Rattle.cilk_program.specs.declared.ask.Callee.TheVariants as callees
 use Rattle.cilk_program.specs.declared.syntax.Place.{Place}
 use Rattle.cilk_program.specs.SerialRun.{Frame, global_reducer, itself}
 use Rattle.cilk_program.specs.Syntax.{Source}
-use Rattle.cilk_meaning.proofs.Visible.{frame_more}
+use Rattle.cilk_program.proofs.Visible.{frame_more}
 use Rattle.cilk_lower.specs.Code.{CodeView}
 use Rattle.cilk_frames.specs.Cursor.{CursorView}
 use Rattle.cilk_frames.specs.Following.{HasAnswer, Stands, owed_for}
-use Rattle.cilk_activations.specs.declared.activation.Activation.{Activation}
-use Rattle.cilk_activations.proofs.Links.{sees_more as scope_more}
+use Rattle.cilk_frames.specs.declared.activation.Activation.{Activation}
+use Rattle.cilk_frames.proofs.Links.{sees_more as scope_more}
 use Rattle.cilk_serial.specs.Scoped.{Any, Below, IsThere, MayBegin, ResultFits, Sees}
-use Rattle.cilk_board.specs.Seats.{changed}
-use Rattle.cilk_board.specs.declared.seat.Due.{Due}
-use Rattle.cilk_board.specs.declared.seat.Seat.{Seat}
-use Rattle.cilk_board.proofs.Changing.{changed_here, changed_length, changed_off}
-use Rattle.cilk_board.proofs.Kept.{scope_changed}
-use Rattle.cilk_board.proofs.Placed.{get_some}
+use Rattle.cilk_scheduler.specs.Seats.{changed}
+use Rattle.cilk_scheduler.specs.declared.seat.Due.{Due}
+use Rattle.cilk_scheduler.specs.declared.seat.Seat.{Seat}
+use Rattle.cilk_scheduler.proofs.Changing.{changed_here, changed_length, changed_off}
+use Rattle.cilk_scheduler.proofs.Kept.{scope_changed}
+use Rattle.cilk_scheduler.proofs.Placed.{get_some}
 use Rattle.cilk_schedule.specs.Sound.{Comes, Counts, FitsDue, IsQuiet, Keeps, Lives, Rests, SameTicks, Sound, frame_of}
 
 -- ---- more cells

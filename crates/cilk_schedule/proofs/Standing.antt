@@ -8,19 +8,19 @@
 use Rattle.std.proofs.Common.{◌≡◌, ◌<◌, ⊎_elim, ℕ, ℤ, List, length, slice_get, slice_index_or, slice_set, Some, Result, Ok, Err, OnErr, IfErr, refl, sym, ap, ap₂, ◌∙◌, subst}
 use Rattle.cilk_lower.specs.Code.{CodeView}
 use Rattle.cilk_program.specs.declared.ask.Ask.{Ask}
-use Rattle.cilk_activations.specs.declared.activation.Activation.{Activation}
-use Rattle.cilk_board.specs.Asking.{WentOn, WentOnFrom}
-use Rattle.cilk_board.specs.Seats.{changed}
-use Rattle.cilk_board.specs.Stopping.{StandAsBefore}
-use Rattle.cilk_board.specs.declared.board.Board.{Board}
-use Rattle.cilk_board.specs.declared.choice.Stop.{Stop}
-use Rattle.cilk_board.specs.declared.choice.Told.{Told}
-use Rattle.cilk_board.specs.declared.seat.Due.{Due}
-use Rattle.cilk_board.specs.declared.seat.Due.TheVariants as due
-use Rattle.cilk_board.specs.declared.seat.Seat.{Seat}
-use Rattle.cilk_board.proofs.Changing.{changed_at, changed_known, changed_length}
-use Rattle.cilk_board.proofs.Kept.{changed_from}
-use Rattle.cilk_board.proofs.Placed.{get_there}
+use Rattle.cilk_frames.specs.declared.activation.Activation.{Activation}
+use Rattle.cilk_scheduler.specs.Asking.{WentOn, WentOnFrom}
+use Rattle.cilk_scheduler.specs.Seats.{changed}
+use Rattle.cilk_scheduler.specs.Stopping.{StandAsBefore}
+use Rattle.cilk_scheduler.specs.declared.board.Board.{Board}
+use Rattle.cilk_scheduler.specs.declared.choice.Stop.{Stop}
+use Rattle.cilk_scheduler.specs.declared.choice.Told.{Told}
+use Rattle.cilk_scheduler.specs.declared.seat.Due.{Due}
+use Rattle.cilk_scheduler.specs.declared.seat.Due.TheVariants as due
+use Rattle.cilk_scheduler.specs.declared.seat.Seat.{Seat}
+use Rattle.cilk_scheduler.proofs.Changing.{changed_at, changed_known, changed_length}
+use Rattle.cilk_scheduler.proofs.Kept.{changed_from}
+use Rattle.cilk_scheduler.proofs.Placed.{get_there}
 use Rattle.cilk_schedule.specs.Acts.{WentTo}
 use Rattle.cilk_schedule.specs.Faults.{KeepsTold}
 

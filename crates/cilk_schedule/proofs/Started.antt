@@ -15,31 +15,31 @@ use Rattle.cilk_program.specs.declared.ask.Ask.TheVariants as asks
 use Rattle.cilk_program.specs.declared.ask.Callee.{Callee}
 use Rattle.cilk_lower.specs.Code.{CodeView}
 use Rattle.cilk_lower.specs.Layout.{cells_in}
-use Rattle.cilk_activations.specs.declared.activation.Activation.{Activation}
+use Rattle.cilk_frames.specs.declared.activation.Activation.{Activation}
 use Rattle.cilk_hypermap.specs.declared.hypermap.Hypermap.{Hypermap}
 use Rattle.cilk_runs.specs.Machine.{State, deeds_at, started}
 use Rattle.cilk_runs.specs.Runs.{Name}
-use Rattle.cilk_worlds.specs.Reducers.{View}
-use Rattle.cilk_worlds.specs.Worlds.{World}
-use Rattle.cilk_board.specs.Asking.{WentOn, refusal}
-use Rattle.cilk_board.specs.Desks.{Desk, Chooses, Did}
-use Rattle.cilk_board.specs.Invocations.{ChildBegins, GoesToChild, HasGoneOn, IsNoted}
-use Rattle.cilk_board.specs.Invoking.{IsChild}
-use Rattle.cilk_board.specs.Noting.{HasFrame}
-use Rattle.cilk_board.specs.Seats.{changed}
-use Rattle.cilk_board.specs.Starting.{named_at}
-use Rattle.cilk_board.specs.Steps.{HasCome}
-use Rattle.cilk_board.specs.Workers.{held_by}
-use Rattle.cilk_board.specs.declared.board.Board.{Board}
-use Rattle.cilk_board.specs.declared.choice.Choice.TheVariants as choices
-use Rattle.cilk_board.specs.declared.choice.Stop.{Stop}
-use Rattle.cilk_board.specs.declared.choice.Told.{Told}
-use Rattle.cilk_board.specs.declared.seat.Seat.{Seat}
-use Rattle.cilk_board.specs.declared.seat.Worker.{Worker}
-use Rattle.cilk_board.proofs.Begun.{invocations_are_noted}
-use Rattle.cilk_board.proofs.Invocations.{invocations_are_shown}
-use Rattle.cilk_board.proofs.Noted.{frames_come}
-use Rattle.cilk_board.proofs.Starting.{named_else}
+use Rattle.cilk_runs.specs.Reducers.{View}
+use Rattle.cilk_runs.specs.Worlds.{World}
+use Rattle.cilk_scheduler.specs.Asking.{WentOn, refusal}
+use Rattle.cilk_scheduler.specs.Desks.{Desk, Chooses, Did}
+use Rattle.cilk_scheduler.specs.Invocations.{ChildBegins, GoesToChild, HasGoneOn, IsNoted}
+use Rattle.cilk_scheduler.specs.Invoking.{IsChild}
+use Rattle.cilk_scheduler.specs.Noting.{HasFrame}
+use Rattle.cilk_scheduler.specs.Seats.{changed}
+use Rattle.cilk_scheduler.specs.Starting.{named_at}
+use Rattle.cilk_scheduler.specs.Steps.{HasCome}
+use Rattle.cilk_scheduler.specs.Workers.{held_by}
+use Rattle.cilk_scheduler.specs.declared.board.Board.{Board}
+use Rattle.cilk_scheduler.specs.declared.choice.Choice.TheVariants as choices
+use Rattle.cilk_scheduler.specs.declared.choice.Stop.{Stop}
+use Rattle.cilk_scheduler.specs.declared.choice.Told.{Told}
+use Rattle.cilk_scheduler.specs.declared.seat.Seat.{Seat}
+use Rattle.cilk_scheduler.specs.declared.seat.Worker.{Worker}
+use Rattle.cilk_scheduler.proofs.Begun.{invocations_are_noted}
+use Rattle.cilk_scheduler.proofs.Invocations.{invocations_are_shown}
+use Rattle.cilk_scheduler.proofs.Noted.{frames_come}
+use Rattle.cilk_scheduler.proofs.Starting.{named_else}
 use Rattle.cilk_schedule.specs.Acts.{Acts, IsTouch, MakesEvent, WentTo, begins, resumes, reads, writes, gives, creates, updates, sets, values, prints}
 use Rattle.cilk_schedule.specs.Choices.{IsReadyAt}
 use Rattle.cilk_schedule.specs.Reached.{IsReached}

@@ -6,20 +6,20 @@ use Rattle.std.proofs.Common.{◌≡◌, ◌-◌, ℕ, suc, true, false, if◌th
 use Rattle.std.specs.Option.{is_some}
 use Rattle.std.specs.Prelude.{remove}
 use Rattle.cilk_lower.specs.Code.{CodeView}
-use Rattle.cilk_activations.specs.declared.activation.Activation.{Activation}
-use Rattle.cilk_board.specs.Events.{AwaitsLast}
-use Rattle.cilk_board.specs.Parts.{working}
-use Rattle.cilk_board.specs.Seats.{changed, moved_to}
-use Rattle.cilk_board.specs.Thieves.{IsOffered, TakesOver}
-use Rattle.cilk_board.specs.Workers.{IsLocated, altered, is_free, is_idle}
-use Rattle.cilk_board.specs.declared.board.Board.{Board}
-use Rattle.cilk_board.specs.declared.choice.Choice.TheVariants as choices
-use Rattle.cilk_board.specs.declared.choice.Told.TheVariants as told
-use Rattle.cilk_board.specs.declared.seat.Seat.{Seat}
-use Rattle.cilk_board.specs.declared.seat.Status.TheVariants.{Held}
-use Rattle.cilk_board.specs.declared.seat.Worker.{Worker}
-use Rattle.cilk_board.proofs.Parts.{taken}
-use Rattle.cilk_board.proofs.Thieves.{steals_are_shown}
+use Rattle.cilk_frames.specs.declared.activation.Activation.{Activation}
+use Rattle.cilk_scheduler.specs.Events.{AwaitsLast}
+use Rattle.cilk_scheduler.specs.Parts.{working}
+use Rattle.cilk_scheduler.specs.Seats.{changed, moved_to}
+use Rattle.cilk_scheduler.specs.Thieves.{IsOffered, TakesOver}
+use Rattle.cilk_scheduler.specs.Workers.{IsLocated, altered, is_free, is_idle}
+use Rattle.cilk_scheduler.specs.declared.board.Board.{Board}
+use Rattle.cilk_scheduler.specs.declared.choice.Choice.TheVariants as choices
+use Rattle.cilk_scheduler.specs.declared.choice.Told.TheVariants as told
+use Rattle.cilk_scheduler.specs.declared.seat.Seat.{Seat}
+use Rattle.cilk_scheduler.specs.declared.seat.Status.TheVariants.{Held}
+use Rattle.cilk_scheduler.specs.declared.seat.Worker.{Worker}
+use Rattle.cilk_scheduler.proofs.Parts.{taken}
+use Rattle.cilk_scheduler.proofs.Thieves.{steals_are_shown}
 use Rattle.cilk_schedule.specs.Choices.{CanSteal}
 use Rattle.cilk_schedule.specs.Passing.{HasNoView, OffersLess, Robs, StealsAreSteps}
 use Rattle.cilk_schedule.proofs.Workers.{same_at}

@@ -17,38 +17,38 @@ use Rattle.cilk_monoid.specs.declared.kind.MonoidKind.TheVariants.{Append}
 use Rattle.cilk_monoid.specs.Kinds.{structure_of}
 use Rattle.cilk_hypermap.specs.Hypermap.{ChangesIn, value_in}
 use Rattle.cilk_frames.specs.declared.cursor.Answer.TheVariants as answers
-use Rattle.cilk_activations.specs.declared.activation.Activation.{Activation}
+use Rattle.cilk_frames.specs.declared.activation.Activation.{Activation}
 use Rattle.cilk_hypermap.specs.Views.{output}
 use Rattle.cilk_hypermap.specs.declared.hypermap.Hypermap.{Hypermap}
 use Rattle.cilk_runs.specs.Machine.{State}
 use Rattle.cilk_runs.specs.Runs.{Name}
-use Rattle.cilk_worlds.specs.Reducers.{View}
-use Rattle.cilk_worlds.specs.Worlds.{World}
-use Rattle.cilk_board.specs.Acting.{IsShown}
-use Rattle.cilk_board.specs.Asking.{refusal}
-use Rattle.cilk_board.specs.Boards.{ShowsBy}
-use Rattle.cilk_board.specs.Desks.{Desk, Chooses, Did}
-use Rattle.cilk_board.specs.Workers.{frame_in, held_by}
-use Rattle.cilk_board.specs.declared.choice.Choice.TheVariants as choices
-use Rattle.cilk_board.specs.declared.choice.Stop.{Stop}
-use Rattle.cilk_board.specs.declared.choice.Told.{Told}
-use Rattle.cilk_board.specs.declared.choice.Told.TheVariants as told
+use Rattle.cilk_runs.specs.Reducers.{View}
+use Rattle.cilk_runs.specs.Worlds.{World}
+use Rattle.cilk_scheduler.specs.Acting.{IsShown}
+use Rattle.cilk_scheduler.specs.Asking.{refusal}
+use Rattle.cilk_scheduler.specs.Boards.{ShowsBy}
+use Rattle.cilk_scheduler.specs.Desks.{Desk, Chooses, Did}
+use Rattle.cilk_scheduler.specs.Workers.{frame_in, held_by}
+use Rattle.cilk_scheduler.specs.declared.choice.Choice.TheVariants as choices
+use Rattle.cilk_scheduler.specs.declared.choice.Stop.{Stop}
+use Rattle.cilk_scheduler.specs.declared.choice.Told.{Told}
+use Rattle.cilk_scheduler.specs.declared.choice.Told.TheVariants as told
 use Rattle.cilk_schedule.specs.Choices.{IsReadyAt}
-use Rattle.cilk_board.specs.Events.{SeesAt}
-use Rattle.cilk_board.specs.Noting.{HasFrame}
-use Rattle.cilk_board.specs.Seats.{answered, changed, stranded}
-use Rattle.cilk_board.specs.Steps.{HasCome, IsDone, Notes}
-use Rattle.cilk_board.specs.declared.board.Board.{Board}
-use Rattle.cilk_board.specs.declared.seat.Seat.{Seat}
-use Rattle.cilk_board.specs.declared.seat.Worker.{Worker}
-use Rattle.cilk_board.proofs.Noted.{frames_come, noted, sight_stays}
-use Rattle.cilk_board.proofs.Strands as strands
-use Rattle.cilk_board.proofs.CellEvents as touching
-use Rattle.cilk_board.proofs.ReducerEvents as reducing
+use Rattle.cilk_scheduler.specs.Events.{SeesAt}
+use Rattle.cilk_scheduler.specs.Noting.{HasFrame}
+use Rattle.cilk_scheduler.specs.Seats.{answered, changed, stranded}
+use Rattle.cilk_scheduler.specs.Steps.{HasCome, IsDone, Notes}
+use Rattle.cilk_scheduler.specs.declared.board.Board.{Board}
+use Rattle.cilk_scheduler.specs.declared.seat.Seat.{Seat}
+use Rattle.cilk_scheduler.specs.declared.seat.Worker.{Worker}
+use Rattle.cilk_scheduler.proofs.Noted.{frames_come, noted, sight_stays}
+use Rattle.cilk_scheduler.proofs.Strands as strands
+use Rattle.cilk_scheduler.proofs.CellEvents as touching
+use Rattle.cilk_scheduler.proofs.ReducerEvents as reducing
 use Rattle.cilk_schedule.specs.Acts.{Acts, EventsAreSteps, IsTouch, MakesEvent, Touched, WentTo, Wrote, begins, resumes, reads, writes, gives, creates, updates, sets, values, prints}
 use Rattle.cilk_schedule.specs.Sound.{IsAccepted}
 use Rattle.cilk_schedule.proofs.Workers.{same_at}
-use Rattle.cilk_board.proofs.Placed.{get_some}
+use Rattle.cilk_scheduler.proofs.Placed.{get_some}
 
 pub keeps_ticks : (frames : List (Activation Seat)) (cells : List ℤ) (views : Hypermap) (k : ℕ) (ask : Ask) (act : Seat → Seat) (event : numbered.Event) (cells' : List ℤ) (views' : Hypermap)
     → Acts frames cells views k ask act event cells' views' → (x : Seat) → let y = act x in (y.took ≡ x.took) × (y.counted ≡ x.counted)

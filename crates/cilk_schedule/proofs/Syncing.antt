@@ -11,34 +11,34 @@ use Rattle.cilk_program.specs.Syntax.{Source}
 use Rattle.cilk_program.specs.declared.ask.Ask.{Ask}
 use Rattle.cilk_program.specs.declared.ask.Ask.TheVariants as asks
 use Rattle.cilk_lower.specs.Code.{CodeView}
-use Rattle.cilk_activations.specs.declared.activation.Activation.{Activation}
+use Rattle.cilk_frames.specs.declared.activation.Activation.{Activation}
 use Rattle.cilk_hypermap.specs.declared.hypermap.Hypermap.{Hypermap}
 use Rattle.cilk_runs.specs.Machine.{State}
 use Rattle.cilk_runs.specs.Runs.{Name}
-use Rattle.cilk_worlds.specs.Reducers.{View}
-use Rattle.cilk_worlds.specs.Worlds.{World}
-use Rattle.cilk_board.specs.Acting.{IsShown}
-use Rattle.cilk_board.specs.Asking.{WentOn, refusal}
-use Rattle.cilk_board.specs.Boards.{ShowsBy}
-use Rattle.cilk_board.specs.Desks.{Desk, Chooses, Did, Waited}
-use Rattle.cilk_board.specs.GoneOn.{HaveGoneOn}
-use Rattle.cilk_board.specs.Noting.{HasFrame}
-use Rattle.cilk_board.specs.Parts.{BringsOwn, must_wait}
-use Rattle.cilk_board.specs.Seats.{changed}
-use Rattle.cilk_board.specs.Steps.{IsDone}
-use Rattle.cilk_board.specs.Workers.{viewing}
-use Rattle.cilk_board.specs.declared.board.Board.{Board}
-use Rattle.cilk_board.specs.declared.choice.Choice.TheVariants as choices
-use Rattle.cilk_board.specs.declared.choice.Stop.{Stop}
-use Rattle.cilk_board.specs.declared.choice.Told.{Told}
-use Rattle.cilk_board.specs.declared.choice.Told.TheVariants as told
-use Rattle.cilk_board.specs.declared.seat.Seat.{Seat}
-use Rattle.cilk_board.specs.declared.seat.Worker.{Worker}
-use Rattle.cilk_board.proofs.Changing.{changed_here}
-use Rattle.cilk_board.proofs.Noted.{frames_come}
-use Rattle.cilk_board.proofs.Parts.{may_bring, passes_on, stays}
-use Rattle.cilk_board.proofs.Synced.{syncs_are_shown}
-use Rattle.cilk_board.proofs.Waiting.{waits_are_shown}
+use Rattle.cilk_runs.specs.Reducers.{View}
+use Rattle.cilk_runs.specs.Worlds.{World}
+use Rattle.cilk_scheduler.specs.Acting.{IsShown}
+use Rattle.cilk_scheduler.specs.Asking.{WentOn, refusal}
+use Rattle.cilk_scheduler.specs.Boards.{ShowsBy}
+use Rattle.cilk_scheduler.specs.Desks.{Desk, Chooses, Did, Waited}
+use Rattle.cilk_scheduler.specs.GoneOn.{HaveGoneOn}
+use Rattle.cilk_scheduler.specs.Noting.{HasFrame}
+use Rattle.cilk_scheduler.specs.Parts.{BringsOwn, must_wait}
+use Rattle.cilk_scheduler.specs.Seats.{changed}
+use Rattle.cilk_scheduler.specs.Steps.{IsDone}
+use Rattle.cilk_scheduler.specs.Workers.{viewing}
+use Rattle.cilk_scheduler.specs.declared.board.Board.{Board}
+use Rattle.cilk_scheduler.specs.declared.choice.Choice.TheVariants as choices
+use Rattle.cilk_scheduler.specs.declared.choice.Stop.{Stop}
+use Rattle.cilk_scheduler.specs.declared.choice.Told.{Told}
+use Rattle.cilk_scheduler.specs.declared.choice.Told.TheVariants as told
+use Rattle.cilk_scheduler.specs.declared.seat.Seat.{Seat}
+use Rattle.cilk_scheduler.specs.declared.seat.Worker.{Worker}
+use Rattle.cilk_scheduler.proofs.Changing.{changed_here}
+use Rattle.cilk_scheduler.proofs.Noted.{frames_come}
+use Rattle.cilk_scheduler.proofs.Parts.{may_bring, passes_on, stays}
+use Rattle.cilk_scheduler.proofs.Synced.{syncs_are_shown}
+use Rattle.cilk_scheduler.proofs.Waiting.{waits_are_shown}
 use Rattle.cilk_schedule.specs.Acts.{Acts, MakesEvent, WentTo, begins, resumes, reads, writes, gives, creates, updates, sets, values, prints}
 use Rattle.cilk_schedule.specs.Choices.{IsReadyAt}
 use Rattle.cilk_schedule.specs.Passing.{MayBringOwn, OwnComes, StaysAt, SyncsAreSteps, WaitsAreSteps, WroteSync}

@@ -28,18 +28,18 @@ use Rattle.cilk_frames.specs.Cursor.{CursorView}
 use Rattle.cilk_frames.specs.Following.{Fits, HasAnswer, Stands, owed_for}
 use Rattle.cilk_lower.specs.Code.{CodeView}
 use Rattle.cilk_lower.specs.Layout.{cells_in}
-use Rattle.cilk_activations.specs.Sight.{AreSmall, ResultFits}
-use Rattle.cilk_activations.specs.declared.activation.Activation.{Activation}
-use Rattle.cilk_board.specs.Events.{SeesAt}
-use Rattle.cilk_board.specs.Asking.{refusal}
-use Rattle.cilk_board.specs.Invocations.{ChildBegins, left_at, newly_offered}
-use Rattle.cilk_board.specs.Invoking.{IsChild}
-use Rattle.cilk_board.specs.Seats.{changed, finished, stranded, started_at, synced, waiting}
-use Rattle.cilk_board.specs.declared.board.Board.{Board}
-use Rattle.cilk_board.specs.declared.seat.Due.TheVariants as due
-use Rattle.cilk_board.specs.declared.seat.Seat.{Seat}
-use Rattle.cilk_board.proofs.Changing.{changed_length}
-use Rattle.cilk_board.proofs.Placed.{get_some}
+use Rattle.cilk_frames.specs.Sight.{AreSmall, ResultFits}
+use Rattle.cilk_frames.specs.declared.activation.Activation.{Activation}
+use Rattle.cilk_scheduler.specs.Events.{SeesAt}
+use Rattle.cilk_scheduler.specs.Asking.{refusal}
+use Rattle.cilk_scheduler.specs.Invocations.{ChildBegins, left_at, newly_offered}
+use Rattle.cilk_scheduler.specs.Invoking.{IsChild}
+use Rattle.cilk_scheduler.specs.Seats.{changed, finished, stranded, started_at, synced, waiting}
+use Rattle.cilk_scheduler.specs.declared.board.Board.{Board}
+use Rattle.cilk_scheduler.specs.declared.seat.Due.TheVariants as due
+use Rattle.cilk_scheduler.specs.declared.seat.Seat.{Seat}
+use Rattle.cilk_scheduler.proofs.Changing.{changed_length}
+use Rattle.cilk_scheduler.proofs.Placed.{get_some}
 use Rattle.cilk_schedule.specs.Sound.{HasCome, IsAsked, IsMade, IsQuiet, IsTurn, Runs, SameTicks, Settles, Sound, frame_of}
 use Rattle.cilk_schedule.proofs.Accepted.{few_events, few_frames}
 use Rattle.cilk_schedule.proofs.Begun.{begun}

@@ -2,17 +2,17 @@
 use Rattle.std.specs.Prelude.{◌≡◌, ◌+◌, ◌<◌, ◌≤◌, ℕ, true, List, [], ◌∷◌, ◌++◌, length, slice_get, Some, Result, Ok, Err}
 use Rattle.cilk_frames.specs.Cursor.{CursorView}
 use Rattle.cilk_join.specs.Joins.{IsOpen}
-use Rattle.cilk_activations.specs.declared.activation.Activation.{Activation}
-use Rattle.cilk_board.specs.Events.{block_in}
-use Rattle.cilk_board.specs.Workers.{held_by, is_idle, offers}
-use Rattle.cilk_board.specs.declared.board.Board.{Board}
-use Rattle.cilk_board.specs.declared.choice.Choice.{Choice}
-use Rattle.cilk_board.specs.declared.choice.Choice.TheVariants as choices
-use Rattle.cilk_board.specs.declared.choice.Stop.{Stop}
-use Rattle.cilk_board.specs.declared.choice.Told.{Told}
-use Rattle.cilk_board.specs.declared.choice.Told.TheVariants as told
-use Rattle.cilk_board.specs.declared.seat.JournalEntry.{JournalEntry}
-use Rattle.cilk_board.specs.declared.seat.Seat.{Seat}
+use Rattle.cilk_frames.specs.declared.activation.Activation.{Activation}
+use Rattle.cilk_scheduler.specs.Events.{block_in}
+use Rattle.cilk_scheduler.specs.Workers.{held_by, is_idle, offers}
+use Rattle.cilk_scheduler.specs.declared.board.Board.{Board}
+use Rattle.cilk_scheduler.specs.declared.choice.Choice.{Choice}
+use Rattle.cilk_scheduler.specs.declared.choice.Choice.TheVariants as choices
+use Rattle.cilk_scheduler.specs.declared.choice.Stop.{Stop}
+use Rattle.cilk_scheduler.specs.declared.choice.Told.{Told}
+use Rattle.cilk_scheduler.specs.declared.choice.Told.TheVariants as told
+use Rattle.cilk_scheduler.specs.declared.seat.JournalEntry.{JournalEntry}
+use Rattle.cilk_scheduler.specs.declared.seat.Seat.{Seat}
 
 -- a worker, which counts from 1, has the frame at place k, which hasn't ended
 pub record IsReadyAt (b : Board) (worker k : ℕ) : Type 0 where

@@ -3,11 +3,11 @@ use Rattle.std.specs.Prelude.{◌≡◌, ℤ, List, Some, None}
 use Rattle.cilk_program.specs.Syntax.{Source}
 use Rattle.cilk_runs.specs.Machine.{Frame, State}
 use Rattle.cilk_runs.specs.Runs.{Name}
-use Rattle.cilk_worlds.specs.Reducers.{View}
-use Rattle.cilk_worlds.specs.Steps.{IsFirst, Reaches, outcome_in}
-use Rattle.cilk_worlds.specs.Worlds.{World}
-use Rattle.cilk_board.specs.Desks.{Chooses, Comes, Desk, IsOver, StopsAt}
-use Rattle.cilk_board.specs.declared.choice.Choice.{Choice}
+use Rattle.cilk_runs.specs.Reducers.{View}
+use Rattle.cilk_runs.specs.Steps.{IsFirst, Reaches, outcome_in}
+use Rattle.cilk_runs.specs.Worlds.{World}
+use Rattle.cilk_scheduler.specs.Desks.{Chooses, Comes, Desk, IsOver, StopsAt}
+use Rattle.cilk_scheduler.specs.declared.choice.Choice.{Choice}
 
 -- Two states agree: they differ at most in the views of frames that haven't begun, which no frame ever reads.
 pub record Agree (s t : State World View) : Type 0 where

@@ -6,30 +6,30 @@ use Rattle.cilk_types.specs.declared.outcome.Outcome.{Outcome}
 use Rattle.cilk_program.specs.Syntax.{Source}
 use Rattle.cilk_program.specs.declared.ask.Ask.TheVariants as asks
 use Rattle.cilk_lower.specs.Code.{CodeView}
-use Rattle.cilk_activations.specs.declared.activation.Activation.{Activation}
+use Rattle.cilk_frames.specs.declared.activation.Activation.{Activation}
 use Rattle.cilk_hypermap.specs.declared.hypermap.Hypermap.{Hypermap}
 use Rattle.cilk_join.specs.Joins.{MayArrive}
 use Rattle.cilk_join.specs.Waits.{shown}
 use Rattle.cilk_runs.specs.Machine.{State}
 use Rattle.cilk_runs.specs.Runs.{Name}
-use Rattle.cilk_worlds.specs.Reducers.{View}
-use Rattle.cilk_worlds.specs.Worlds.{World}
-use Rattle.cilk_board.specs.Desks.{Desk, Chooses, Did}
-use Rattle.cilk_board.specs.EndParts.{Brings, Seeks}
-use Rattle.cilk_board.specs.Ending.{RetiresOwn}
-use Rattle.cilk_board.specs.Invocations.{IsNoted}
-use Rattle.cilk_outcome.specs.Leaving.{outcome_of}
-use Rattle.cilk_board.specs.Parts.{freed, working}
-use Rattle.cilk_board.specs.Seats.{changed, finished, moved_to, passed}
-use Rattle.cilk_board.specs.Workers.{altered, viewing}
-use Rattle.cilk_board.specs.declared.board.Board.{Board}
-use Rattle.cilk_board.specs.declared.choice.Choice.{Choice}
-use Rattle.cilk_board.specs.declared.choice.Told.{Told}
-use Rattle.cilk_board.specs.declared.choice.Told.TheVariants as told
-use Rattle.cilk_board.specs.declared.seat.Seat.{Seat}
-use Rattle.cilk_board.specs.declared.seat.Status.{Status}
-use Rattle.cilk_board.specs.declared.seat.Status.TheVariants.{Held, Offered}
-use Rattle.cilk_board.specs.declared.seat.Worker.{Worker}
+use Rattle.cilk_runs.specs.Reducers.{View}
+use Rattle.cilk_runs.specs.Worlds.{World}
+use Rattle.cilk_scheduler.specs.Desks.{Desk, Chooses, Did}
+use Rattle.cilk_scheduler.specs.EndParts.{Brings, Seeks}
+use Rattle.cilk_scheduler.specs.Ending.{RetiresOwn}
+use Rattle.cilk_scheduler.specs.Invocations.{IsNoted}
+use Rattle.cilk_frames.specs.Leaving.{outcome_of}
+use Rattle.cilk_scheduler.specs.Parts.{freed, working}
+use Rattle.cilk_scheduler.specs.Seats.{changed, finished, moved_to, passed}
+use Rattle.cilk_scheduler.specs.Workers.{altered, viewing}
+use Rattle.cilk_scheduler.specs.declared.board.Board.{Board}
+use Rattle.cilk_scheduler.specs.declared.choice.Choice.{Choice}
+use Rattle.cilk_scheduler.specs.declared.choice.Told.{Told}
+use Rattle.cilk_scheduler.specs.declared.choice.Told.TheVariants as told
+use Rattle.cilk_scheduler.specs.declared.seat.Seat.{Seat}
+use Rattle.cilk_scheduler.specs.declared.seat.Status.{Status}
+use Rattle.cilk_scheduler.specs.declared.seat.Status.TheVariants.{Held, Offered}
+use Rattle.cilk_scheduler.specs.declared.seat.Worker.{Worker}
 use Rattle.cilk_schedule.specs.Reached.{IsReached}
 
 -- the worker that offers a frame's continuation, where one does, is one of so many

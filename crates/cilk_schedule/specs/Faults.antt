@@ -4,20 +4,20 @@ use Rattle.cilk_program.specs.Syntax.{Source}
 use Rattle.cilk_lower.specs.Code.{CodeView}
 use Rattle.cilk_runs.specs.Machine.{State}
 use Rattle.cilk_runs.specs.Runs.{Name}
-use Rattle.cilk_worlds.specs.Reducers.{View}
-use Rattle.cilk_worlds.specs.Steps.{Reaches}
-use Rattle.cilk_worlds.specs.Worlds.{World}
+use Rattle.cilk_runs.specs.Reducers.{View}
+use Rattle.cilk_runs.specs.Steps.{Reaches}
+use Rattle.cilk_runs.specs.Worlds.{World}
 use Rattle.cilk_types.specs.declared.fault.Fault.{Fault}
-use Rattle.cilk_board.specs.Acting.{IsShown}
-use Rattle.cilk_board.specs.Boards.{Tells}
-use Rattle.cilk_board.specs.Desks.{Desk, StopsAt}
-use Rattle.cilk_board.specs.GoneOn.{HaveGoneOn}
-use Rattle.cilk_board.specs.Stopping.{StandAsBefore}
-use Rattle.cilk_board.specs.declared.board.Board.{Board}
-use Rattle.cilk_board.specs.declared.choice.Choice.{Choice}
-use Rattle.cilk_board.specs.declared.choice.Stop.{Stop}
-use Rattle.cilk_board.specs.declared.choice.Stop.TheVariants as stops
-use Rattle.cilk_board.specs.declared.choice.Strand.{Strand}
+use Rattle.cilk_scheduler.specs.Acting.{IsShown}
+use Rattle.cilk_scheduler.specs.Boards.{Tells}
+use Rattle.cilk_scheduler.specs.Desks.{Desk, StopsAt}
+use Rattle.cilk_scheduler.specs.GoneOn.{HaveGoneOn}
+use Rattle.cilk_scheduler.specs.Stopping.{StandAsBefore}
+use Rattle.cilk_scheduler.specs.declared.board.Board.{Board}
+use Rattle.cilk_scheduler.specs.declared.choice.Choice.{Choice}
+use Rattle.cilk_scheduler.specs.declared.choice.Stop.{Stop}
+use Rattle.cilk_scheduler.specs.declared.choice.Stop.TheVariants as stops
+use Rattle.cilk_scheduler.specs.declared.choice.Strand.{Strand}
 use Rattle.cilk_schedule.specs.Reached.{HasReached}
 
 -- The state was stopped by this fault in this strand, whose frame has a number on the board and a name there; and the board tells the state.

@@ -6,7 +6,7 @@ use Rattle.cilk_types.specs.declared.event.Instance.{Instance}
 use Rattle.cilk_program.specs.declared.ask.Ask.TheVariants as asks
 use Rattle.cilk_program.specs.Syntax.{Source}
 use Rattle.cilk_lower.specs.Code.{CodeView}
-use Rattle.cilk_activations.specs.declared.activation.Activation.{Activation}
+use Rattle.cilk_frames.specs.declared.activation.Activation.{Activation}
 use Rattle.cilk_hypermap.specs.Hypermap.{EachKind, view_in}
 use Rattle.cilk_hypermap.specs.declared.hypermap.Hypermap.{Hypermap}
 use Rattle.cilk_join.specs.Joins.{MayArrive}
@@ -14,23 +14,23 @@ use Rattle.cilk_join.specs.Products.{product}
 use Rattle.cilk_join.specs.Waits.{shown}
 use Rattle.cilk_runs.specs.Machine.{State}
 use Rattle.cilk_runs.specs.Runs.{Name}
-use Rattle.cilk_worlds.specs.Reducers.{View}
-use Rattle.cilk_worlds.specs.Worlds.{World}
-use Rattle.cilk_board.specs.Acting.{IsShown}
-use Rattle.cilk_board.specs.Boards.{ShowsBy}
-use Rattle.cilk_board.specs.Desks.{Desk, Chooses, Did, Skipped, Stole, Waited}
-use Rattle.cilk_board.specs.Events.{Arrives, AwaitsLast, block_in}
-use Rattle.cilk_board.specs.GoneOn.{HaveGoneOn}
-use Rattle.cilk_board.specs.Invocations.{IsNoted}
-use Rattle.cilk_board.specs.Parts.{BringsOwn, freed}
-use Rattle.cilk_board.specs.Seats.{changed, robbed, synced, waiting}
-use Rattle.cilk_board.specs.Workers.{altered, viewing}
-use Rattle.cilk_board.specs.declared.board.Board.{Board}
-use Rattle.cilk_board.specs.declared.choice.Choice.{Choice}
-use Rattle.cilk_board.specs.declared.choice.Told.{Told}
-use Rattle.cilk_board.specs.declared.choice.Told.TheVariants as told
-use Rattle.cilk_board.specs.declared.seat.Seat.{Seat}
-use Rattle.cilk_board.specs.declared.seat.Worker.{Worker}
+use Rattle.cilk_runs.specs.Reducers.{View}
+use Rattle.cilk_runs.specs.Worlds.{World}
+use Rattle.cilk_scheduler.specs.Acting.{IsShown}
+use Rattle.cilk_scheduler.specs.Boards.{ShowsBy}
+use Rattle.cilk_scheduler.specs.Desks.{Desk, Chooses, Did, Skipped, Stole, Waited}
+use Rattle.cilk_scheduler.specs.Events.{Arrives, AwaitsLast, block_in}
+use Rattle.cilk_scheduler.specs.GoneOn.{HaveGoneOn}
+use Rattle.cilk_scheduler.specs.Invocations.{IsNoted}
+use Rattle.cilk_scheduler.specs.Parts.{BringsOwn, freed}
+use Rattle.cilk_scheduler.specs.Seats.{changed, robbed, synced, waiting}
+use Rattle.cilk_scheduler.specs.Workers.{altered, viewing}
+use Rattle.cilk_scheduler.specs.declared.board.Board.{Board}
+use Rattle.cilk_scheduler.specs.declared.choice.Choice.{Choice}
+use Rattle.cilk_scheduler.specs.declared.choice.Told.{Told}
+use Rattle.cilk_scheduler.specs.declared.choice.Told.TheVariants as told
+use Rattle.cilk_scheduler.specs.declared.seat.Seat.{Seat}
+use Rattle.cilk_scheduler.specs.declared.seat.Worker.{Worker}
 
 -- The piece of the last child of the frame at place k is awaited at its block, and that child is marked.
 pub record Robs (frames frames' : List (Activation Seat)) (k : ℕ) : Type 0 where

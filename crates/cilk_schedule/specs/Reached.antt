@@ -5,19 +5,19 @@ use Rattle.cilk_lower.specs.Behaves.{Behaves}
 use Rattle.cilk_lower.specs.Code.{CodeView}
 use Rattle.cilk_runs.specs.Machine.{State}
 use Rattle.cilk_runs.specs.Runs.{Name}
-use Rattle.cilk_worlds.specs.Reducers.{View}
-use Rattle.cilk_worlds.specs.Steps.{IsFirst, Reaches}
-use Rattle.cilk_worlds.specs.Worlds.{World}
-use Rattle.cilk_board.specs.Acting.{IsShown}
-use Rattle.cilk_board.specs.Boards.{ShowsBy}
-use Rattle.cilk_board.specs.Desks.{Chooses, Comes, Desk, Did, Skipped, Stole, Waited}
-use Rattle.cilk_board.specs.GoneOn.{HaveGoneOn}
-use Rattle.cilk_board.specs.Openings.{first_desk}
-use Rattle.cilk_board.specs.Parents.{AreStarted, OutliveChildren}
-use Rattle.cilk_board.specs.declared.board.Board.{Board}
-use Rattle.cilk_board.specs.declared.choice.Choice.{Choice}
-use Rattle.cilk_board.specs.declared.choice.Told.{Told}
-use Rattle.cilk_board.specs.declared.choice.Told.TheVariants as told
+use Rattle.cilk_runs.specs.Reducers.{View}
+use Rattle.cilk_runs.specs.Steps.{IsFirst, Reaches}
+use Rattle.cilk_runs.specs.Worlds.{World}
+use Rattle.cilk_scheduler.specs.Acting.{IsShown}
+use Rattle.cilk_scheduler.specs.Boards.{ShowsBy}
+use Rattle.cilk_scheduler.specs.Desks.{Chooses, Comes, Desk, Did, Skipped, Stole, Waited}
+use Rattle.cilk_scheduler.specs.GoneOn.{HaveGoneOn}
+use Rattle.cilk_scheduler.specs.Openings.{first_desk}
+use Rattle.cilk_scheduler.specs.Parents.{AreStarted, OutliveChildren}
+use Rattle.cilk_scheduler.specs.declared.board.Board.{Board}
+use Rattle.cilk_scheduler.specs.declared.choice.Choice.{Choice}
+use Rattle.cilk_scheduler.specs.declared.choice.Told.{Told}
+use Rattle.cilk_scheduler.specs.declared.choice.Told.TheVariants as told
 
 module _ (code : CodeView) (p : Source) (inputs : List ℤ) where
   -- The board shows this state, of which holds what holds of each that steps lead to: frames did as they asked, outlive their children, went on

@@ -4,13 +4,13 @@ use Rattle.cilk_program.specs.Syntax.{Source}
 use Rattle.cilk_lower.specs.Code.{CodeView}
 use Rattle.cilk_runs.specs.Machine.{State}
 use Rattle.cilk_runs.specs.Runs.{Name}
-use Rattle.cilk_worlds.specs.Reducers.{View}
-use Rattle.cilk_worlds.specs.Steps.{Reaches}
-use Rattle.cilk_worlds.specs.Worlds.{World}
-use Rattle.cilk_board.specs.Boards.{Tells}
-use Rattle.cilk_board.specs.declared.board.Board.{Board}
-use Rattle.cilk_shown.specs.Showing.{ShowsRun}
-use Rattle.cilk_shown.specs.declared.showing.Shown.{Shown}
+use Rattle.cilk_runs.specs.Reducers.{View}
+use Rattle.cilk_runs.specs.Steps.{Reaches}
+use Rattle.cilk_runs.specs.Worlds.{World}
+use Rattle.cilk_scheduler.specs.Boards.{Tells}
+use Rattle.cilk_scheduler.specs.declared.board.Board.{Board}
+use Rattle.cilk_schedule.specs.Showing.{ShowsRun}
+use Rattle.cilk_schedule.specs.declared.showing.Shown.{Shown}
 use Rattle.cilk_schedule.specs.Sound.{IsCodeOf}
 
 -- It is each state of the program on the inputs to which steps of the free machine lead and that the board tells: so it tells the state that it

@@ -11,7 +11,7 @@ use Rattle.cilk_program.specs.Scopes.{Scope}
 use Rattle.cilk_program.specs.SerialRun.{Frame}
 use Rattle.cilk_program.specs.Syntax.{Source}
 use Rattle.cilk_program.specs.WellNamed.{is_well_named}
-use Rattle.cilk_meaning.specs.Visible.{CanInvoke}
+use Rattle.cilk_program.specs.Visible.{CanInvoke}
 use Rattle.cilk_lower.specs.Behaves.{Behaves}
 use Rattle.cilk_lower.specs.Code.{CodeView}
 use Rattle.cilk_lower.specs.Layout.{LaysOut, function_frame}
@@ -19,14 +19,14 @@ use Rattle.cilk_lower.specs.declared.code.Owed.{Owed}
 use Rattle.cilk_lower.specs.declared.code.Owed.TheVariants.{Nothing}
 use Rattle.cilk_frames.specs.Cursor.{CursorView}
 use Rattle.cilk_frames.specs.Following.{Fits, HasAnswer, Stands, owed_for}
-use Rattle.cilk_activations.specs.Sight.{HasScope}
-use Rattle.cilk_activations.specs.declared.activation.Activation.{Activation}
+use Rattle.cilk_frames.specs.Sight.{HasScope}
+use Rattle.cilk_frames.specs.declared.activation.Activation.{Activation}
 use Rattle.cilk_serial.specs.Scoped.{IsThere, Sees}
-use Rattle.cilk_board.specs.Asking.{refusal}
-use Rattle.cilk_board.specs.declared.board.Board.{Board}
-use Rattle.cilk_board.specs.declared.seat.Due.{Due}
-use Rattle.cilk_board.specs.declared.seat.Due.TheVariants as due
-use Rattle.cilk_board.specs.declared.seat.Seat.{Seat}
+use Rattle.cilk_scheduler.specs.Asking.{refusal}
+use Rattle.cilk_scheduler.specs.declared.board.Board.{Board}
+use Rattle.cilk_scheduler.specs.declared.seat.Due.{Due}
+use Rattle.cilk_scheduler.specs.declared.seat.Due.TheVariants as due
+use Rattle.cilk_scheduler.specs.declared.seat.Seat.{Seat}
 
 -- the code of a well-named program, with its layout
 pub record IsCodeOf (p : Source) (code : CodeView) : Type 0 where

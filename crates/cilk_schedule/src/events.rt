@@ -6,11 +6,11 @@ ghost use Rattle.cilk_hypermap.specs.declared.hypermap.Hypermap.{Hypermap};
 ghost use Rattle.cilk_schedule.specs.Acts.{MakesEvent};
 ghost use Rattle.cilk_schedule.specs.Sound.{HasCome, SameTicks, Settles};
 
-use cilk_activations::activation::Activation;
-use cilk_board::cells::cell_at;
-use cilk_board::reducers::instance_at;
-use cilk_board::seat::Seat;
-use cilk_board::{cells, reducers};
+use cilk_frames::activation::Activation;
+use cilk_scheduler::cells::cell_at;
+use cilk_scheduler::reducers::instance_at;
+use cilk_scheduler::seat::Seat;
+use cilk_scheduler::{cells, reducers};
 use cilk_hypermap::hypermap::Hypermap;
 use cilk_program::syntax::{Place, Reducer};
 use cilk_types::event::Event;

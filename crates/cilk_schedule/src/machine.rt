@@ -4,12 +4,12 @@ ghost use Rattle.std.specs.Prelude.{◌≡◌, ◌≢◌, ◌⊎◌, ◌-◌, �
 ghost use Rattle.std.specs.Option.{is_some};
 ghost use Rattle.cilk_types.specs.declared.fault.Fault.{Fault};
 ghost use Rattle.cilk_runs.specs.Runs.{Name};
-ghost use Rattle.cilk_board.specs.Numbered.{AreNamed};
-ghost use Rattle.cilk_board.specs.Workers.{held_by};
-ghost use Rattle.cilk_board.specs.declared.choice.Stop.{Stop};
-ghost use Rattle.cilk_board.specs.declared.choice.Stop.TheVariants as stops;
-ghost use Rattle.cilk_board.specs.declared.choice.Strand.{Strand};
-ghost use Rattle.cilk_board.specs.declared.choice.Told.TheVariants as told;
+ghost use Rattle.cilk_scheduler.specs.Numbered.{AreNamed};
+ghost use Rattle.cilk_scheduler.specs.Workers.{held_by};
+ghost use Rattle.cilk_scheduler.specs.declared.choice.Stop.{Stop};
+ghost use Rattle.cilk_scheduler.specs.declared.choice.Stop.TheVariants as stops;
+ghost use Rattle.cilk_scheduler.specs.declared.choice.Strand.{Strand};
+ghost use Rattle.cilk_scheduler.specs.declared.choice.Told.TheVariants as told;
 ghost use Rattle.cilk_schedule.specs.Acts.{EventsAreSteps};
 ghost use Rattle.cilk_schedule.specs.Choices.{CanChoose, Writes};
 ghost use Rattle.cilk_schedule.specs.Faults.{FaultsAreStops, HasFault, HasStopped, KeepsTold, NamesStop, StopsFrom};
@@ -24,12 +24,12 @@ ghost use Rattle.cilk_schedule.specs.Passing.{SkipsAreSteps, StealsAreSteps, Syn
 
 use crate::opening::open;
 use crate::running::choose;
-use cilk_board::board::Board;
-use cilk_board::choice::{Choice, Stop, Told};
-use cilk_board::workers::held_by;
+use cilk_scheduler::board::Board;
+use cilk_scheduler::choice::{Choice, Stop, Told};
+use cilk_scheduler::workers::held_by;
 use cilk_lower::code::Code;
-use cilk_shown::naming::path;
-use cilk_shown::showing::{Shown, show};
+use crate::naming::path;
+use crate::showing::{Shown, show};
 use cilk_types::input::Input;
 use cilk_types::outcome::Outcome;
 use std::alloc::{AllocError, Global};

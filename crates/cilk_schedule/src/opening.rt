@@ -1,21 +1,21 @@
 //! The state of a machine as it opens.
 
 ghost use Rattle.std.specs.Prelude.{◌≡◌, ◌+◌, ◌-◌, ◌≤◌, ◌<◌, ◌++◌, ℕ, ℤ, pos, List, None, Some, length, replicate, slice_get, IfOk, OnOk};
-ghost use Rattle.cilk_board.specs.Parts.{OpensAs};
-ghost use Rattle.cilk_board.specs.declared.seat.Worker as seat;
+ghost use Rattle.cilk_scheduler.specs.Parts.{OpensAs};
+ghost use Rattle.cilk_scheduler.specs.declared.seat.Worker as seat;
 ghost use Rattle.cilk_program.specs.Syntax.{Source};
 ghost use Rattle.cilk_schedule.specs.Reached.{HasOpened};
 ghost use Rattle.cilk_schedule.specs.Sound.{IsCode, IsCodeOf, Runs};
 
-use cilk_activations::beginnings::root;
-use cilk_board::beginning::add_cells;
-use cilk_board::board::Board;
-use cilk_board::seat::{Seat, Worker};
+use cilk_frames::beginnings::root;
+use cilk_scheduler::beginning::add_cells;
+use cilk_scheduler::board::Board;
+use cilk_scheduler::seat::{Seat, Worker};
 use cilk_frames::asked::AskSlot;
 use cilk_frames::cursor::Cursor;
 use cilk_hypermap::hypermap::Hypermap;
 use cilk_lower::code::Code;
-use cilk_offers::offer_list::Offers;
+use cilk_scheduler::offer_list::Offers;
 use cilk_types::invocation::Invocation;
 use std::alloc::{AllocError, Global};
 

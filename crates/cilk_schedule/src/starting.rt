@@ -9,9 +9,9 @@ ghost use Rattle.cilk_schedule.specs.Acts.{IsTouch};
 ghost use Rattle.cilk_schedule.specs.Sound.{IsTurn, Makes, SameRest};
 ghost use Rattle.cilk_schedule.specs.Starting.{Started};
 
-use cilk_board::beginning::begin;
-use cilk_board::board::Board;
-use cilk_board::invoking::{Starter, function_child, turns_child};
+use cilk_scheduler::beginning::begin;
+use cilk_scheduler::board::Board;
+use cilk_scheduler::invoking::{Starter, function_child, turns_child};
 use cilk_lower::code::Code;
 use cilk_program::ask::LoopPart;
 use cilk_types::event::Event;

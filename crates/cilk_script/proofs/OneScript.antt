@@ -4,8 +4,8 @@
 -- - `one_order`, `one_failure`, `apart`: from a line on;
 -- - `script_is_one`: the law.
 use Rattle.std.proofs.Common.{◌≡◌, ◌⊎◌, inl, inr, ⊎_elim, ◌+◌, ◌-◌, ◌<◌, ◌≤◌, ℕ, suc, true, false, true≢false, List, [], ◌∷◌, ◌++◌, length, Some, None, refl, sym, ap, ◌∙◌, subst, arith}
-use Rattle.cilk_lexer.specs.Lexing.{behind, front_of}
-use Rattle.cilk_lexer.specs.declared.lexer.Class.TheVariants.{Line}
+use Rattle.cilk_syntax.specs.Lexing.{behind, front_of}
+use Rattle.cilk_syntax.specs.declared.lexer.Class.TheVariants.{Line}
 use Rattle.cilk_script.specs.Scripts.{Bad, BadLine, Ends, FailsAtLine, IsBadLine, IsLine, Last, Later, Long, LongLine, Orders, order_in, steps_of, without_return}
 use Rattle.cilk_script.specs.OneScript.{ScriptIsOne}
 use Rattle.cilk_script.specs.declared.script.Step.{Step}

@@ -6,8 +6,8 @@
 -- - `longer`: a line more.
 use Rattle.std.proofs.Common.{◌≡◌, ◌-◌, ◌<◌, ◌≤◌, ℕ, suc, List, [], ◌∷◌, ◌++◌, length, take, drop, refl, sym, ap, ◌∙◌, subst, arith, append_assoc}
 use Rattle.std.specs.Prelude.{Result, Ok, Err, IfErr, IsErrAnd}
-use Rattle.cilk_lexer.specs.Lexing.{behind, front_of}
-use Rattle.cilk_lexer.specs.declared.lexer.Class.TheVariants.{Line}
+use Rattle.cilk_syntax.specs.Lexing.{behind, front_of}
+use Rattle.cilk_syntax.specs.declared.lexer.Class.TheVariants.{Line}
 use Rattle.cilk_script.specs.Scripts.{Bad, BadLine, Ends, FailsAtLine, IsBadAt, IsBadLine, IsFaultOf, IsLine, IsNoScript, IsScript, Orders, order_in, steps_of, without_return}
 use Rattle.cilk_script.specs.declared.script.ScriptFault.{ScriptFault}
 use Rattle.cilk_script.specs.declared.script.ScriptFault.TheVariants as faults

@@ -1,8 +1,8 @@
 -- What the text of a script orders.
 use Rattle.std.specs.Prelude.{◌≡◌, ◌⊎◌, ◌-◌, ◌<◌, ◌≤◌, ℕ, zero, suc, nat_le, Bool, true, false, ◌&&◌, ◌==◌, if◌then◌else◌, List, [], ◌∷◌, ◌++◌, length, take, get_or, Option, Some, None, codes}
 use Rattle.std.specs.Str.{bytes_eq}
-use Rattle.cilk_lexer.specs.Lexing.{all_digits, front_of, behind, value_of}
-use Rattle.cilk_lexer.specs.declared.lexer.Class.TheVariants.{Line, Solid}
+use Rattle.cilk_syntax.specs.Lexing.{all_digits, front_of, behind, value_of}
+use Rattle.cilk_syntax.specs.declared.lexer.Class.TheVariants.{Line, Solid}
 use Rattle.cilk_script.specs.declared.script.LineOrder.{LineOrder}
 use Rattle.cilk_script.specs.declared.script.LineOrder.TheVariants.{Run, Steal, All}
 use Rattle.cilk_script.specs.declared.script.ScriptFault.{ScriptFault}

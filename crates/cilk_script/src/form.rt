@@ -4,7 +4,7 @@ ghost use Rattle.std.specs.Prelude.{◌≡◌};
 ghost use Rattle.cilk_script.specs.Scripts.{behind_word, number, order_in, run_order, steal_order, trimmed, word, words_order};
 
 use crate::script::{LineOrder, MAX_NUMBER};
-use cilk_lexer::lexer::{Class, all_digits, split, value_of};
+use cilk_syntax::lexer::{Class, all_digits, split, value_of};
 
 /// What a line with words orders, if it has one of the forms.
 pub fn order(line: &[u8]) -> Option<LineOrder>

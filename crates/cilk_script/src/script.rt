@@ -4,7 +4,7 @@ ghost use Rattle.std.specs.Prelude.{◌≡◌, ◌≢◌, ◌+◌, ◌++◌, ◌
 ghost use Rattle.cilk_script.specs.Scripts.{IsBadAt, IsFaultOf, IsLine, IsScript, order_in, steps_of, without_return};
 
 use crate::form::order;
-use cilk_lexer::lexer::{Class, split};
+use cilk_syntax::lexer::{Class, split};
 use std::alloc::{AllocError, AllocFailed, Global};
 
 /// The greatest number in a script.

@@ -7,7 +7,7 @@ use Rattle.cilk_program.specs.Scopes.{instances_in, cell_in}
 use Rattle.cilk_program.specs.Syntax.{Source}
 use Rattle.cilk_program.specs.WellNamed.{is_well_named}
 use Rattle.cilk_program.specs.SerialRun.{Frame, Memory, global_reducer, home_of, itself, next_frame, root_frame}
-use Rattle.cilk_meaning.proofs.Naming.{well_named_parts}
+use Rattle.cilk_program.proofs.Naming.{well_named_parts}
 use Rattle.cilk_types.specs.Stacks.{from_bottom}
 use Rattle.cilk_serial.specs.Scoped.{Activation, Frames, Parent, Scoped, Seen, Leads, IsCreator, kinds_of, waiting}
 use Rattle.cilk_serial.proofs.Homes.{leads_more, scoped_length}

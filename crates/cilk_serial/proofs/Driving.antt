@@ -25,9 +25,9 @@ use Rattle.cilk_program.specs.SerialRun.{Transcript, act, child, stop, Frame, Me
 use Rattle.cilk_lower.specs.Behaves.{Behaves}
 use Rattle.cilk_lower.specs.Code.{CodeView}
 use Rattle.cilk_program.specs.Outcomes.{StopsBy}
-use Rattle.cilk_meaning.specs.Agreement.{IsLimit}
-use Rattle.cilk_meaning.proofs.Existence.{room_for}
-use Rattle.cilk_meaning.proofs.Roots.{ends_as_elided}
+use Rattle.cilk_program.specs.Agreement.{IsLimit}
+use Rattle.cilk_program.proofs.Existence.{room_for}
+use Rattle.cilk_program.proofs.Roots.{ends_as_elided}
 use Rattle.cilk_serial.specs.Ran.{StopsAfter}
 use Rattle.cilk_frames.specs.declared.cursor.Answer.{Answer}
 use Rattle.cilk_frames.specs.declared.cursor.Answer.TheVariants.{Done}
@@ -41,7 +41,7 @@ use Rattle.cilk_serial.specs.declared.answer.Told.{Told}
 use Rattle.cilk_serial.specs.declared.state.State.{State}
 use Rattle.cilk_serial.specs.Children.{IsChild}
 use Rattle.cilk_serial.specs.Going.{Whole, Completes, Wait, Going, HasBegun, HasEnded, IsAllowed, Progresses}
-use Rattle.cilk_meaning.proofs.Naming.{well_named_parts}
+use Rattle.cilk_program.proofs.Naming.{well_named_parts}
 use Rattle.cilk_monoid.specs.Kinds.{structure_of}
 use Rattle.cilk_hypermap.specs.Hypermap.{EachKind, value_in, view_in}
 use Rattle.cilk_hypermap.specs.Views.{or_unit}

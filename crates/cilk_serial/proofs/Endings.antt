@@ -8,7 +8,7 @@ use Rattle.cilk_program.specs.Outcomes.{Leaves, cells_from, finals_from}
 use Rattle.cilk_program.specs.Syntax.{Source}
 use Rattle.cilk_program.specs.WellNamed.{is_well_named}
 use Rattle.cilk_program.specs.SerialRun.{Finished, IsSerialRun, conclusion_of, global_reducer}
-use Rattle.cilk_meaning.proofs.Roots.{ends_as_elided}
+use Rattle.cilk_program.proofs.Roots.{ends_as_elided}
 use Rattle.cilk_serial.specs.declared.state.State.{State}
 use Rattle.cilk_serial.specs.Going.{HasEnded}
 use Rattle.cilk_serial.specs.Ran.{Ran}

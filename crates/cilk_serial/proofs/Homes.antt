@@ -13,8 +13,8 @@ use Rattle.cilk_serial.specs.Scoped.{Activation, Frames, IsOnTop, Parent, Scoped
 use Rattle.cilk_types.proofs.Stacks.{below_top, bottom_up, within}
 use Rattle.cilk_types.specs.declared.limits.TheConstants.{MAX_CELLS}
 use Rattle.cilk_program.specs.declared.syntax.Place.{Place}
-use Rattle.cilk_activations.specs.Sight.{HasScope, LinksTo, home_at}
-use Rattle.cilk_activations.specs.Sight as sight
+use Rattle.cilk_frames.specs.Sight.{HasScope, LinksTo, home_at}
+use Rattle.cilk_frames.specs.Sight as sight
 
 pub scoped_length : (p : Source) (below : List Activation) (parents : List Parent) → AreScoped p below parents → length below ≡ length parents
 scoped_length p [] [] h = refl

@@ -19,11 +19,11 @@ use Rattle.cilk_program.specs.WellNamed.{Level, function_level, loop_level, leve
 use Rattle.cilk_program.specs.Inside.{body_of, is_whole, CalleeIsFit, CalleeIsThere, AskIsThere}
 use Rattle.cilk_program.specs.Behaviour.{OpenAsk, asks_for, frame_asks}
 use Rattle.cilk_program.specs.SerialRun.{Frame, Memory, itself, global_reducer, cells_of, home_of, next_frame, root_frame}
-use Rattle.cilk_meaning.specs.Visible.{CanInvoke, GlobalsAreThere}
-use Rattle.cilk_meaning.proofs.Naming.{SourceIsNamed, well_named_parts}
-use Rattle.cilk_meaning.proofs.Asked.{asks_there}
-use Rattle.cilk_meaning.proofs.Smallness.{reducer_small}
-use Rattle.cilk_meaning.proofs.Visible.{can_invoke, frame_more, root_sees as root_sees_all, called_sees, part_sees}
+use Rattle.cilk_program.specs.Visible.{CanInvoke, GlobalsAreThere}
+use Rattle.cilk_program.proofs.Naming.{SourceIsNamed, well_named_parts}
+use Rattle.cilk_program.proofs.Asked.{asks_there}
+use Rattle.cilk_program.proofs.Smallness.{reducer_small}
+use Rattle.cilk_program.proofs.Visible.{can_invoke, frame_more, root_sees as root_sees_all, called_sees, part_sees}
 use Rattle.cilk_serial.specs.Scoped.{Below, Any, Sees, AreSmall, ResultFits, MayBegin, IsThere, IsBegunRightly, number_in}
 use Rattle.cilk_serial.proofs.Beginnings.{creates}
 

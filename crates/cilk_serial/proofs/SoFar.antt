@@ -23,9 +23,9 @@ use Rattle.cilk_program.specs.Outcomes.{Conclusion, finals_from}
 use Rattle.cilk_program.specs.Syntax.{Source}
 use Rattle.cilk_program.specs.WellNamed.{is_well_named}
 use Rattle.cilk_program.specs.SerialRun.{Transcript, Frame, Memory, Ending, Finished, Stopped, Serial, Made, Ended, Went, Broke, Refused, IsInner, IsSerialRun, conclusion_of, event_of, global_reducer, invocation, refused, result_written}
-use Rattle.cilk_meaning.proofs.Computed.{ran}
-use Rattle.cilk_meaning.proofs.Existence.{none_some, ran_run, serial_run_is_short}
-use Rattle.cilk_meaning.proofs.Uniqueness.{serial_run_is_one}
+use Rattle.cilk_program.proofs.Computed.{ran}
+use Rattle.cilk_program.proofs.Existence.{none_some, ran_run, serial_run_is_short}
+use Rattle.cilk_program.proofs.Uniqueness.{serial_run_is_one}
 use Rattle.cilk_lower.specs.Code.{CodeView}
 use Rattle.cilk_frames.specs.Following.{child_of}
 use Rattle.cilk_serial.specs.declared.running.Running.{Running}

@@ -7,7 +7,7 @@ use Rattle.cilk_program.specs.Syntax.{Source}
 use Rattle.cilk_program.specs.Outcomes.{Leaves, StopsBy}
 use Rattle.cilk_program.specs.Elision.{IsElision}
 use Rattle.cilk_program.specs.SerialRun.{Transcript, IsSerialRun}
-use Rattle.cilk_meaning.specs.Agreement.{IsLimit}
+use Rattle.cilk_program.specs.Agreement.{IsLimit}
 use Rattle.cilk_serial.specs.declared.fault.RunFault.{RunFault}
 use Rattle.cilk_serial.specs.declared.fault.RunFault.TheVariants.{Memory, At}
 

@@ -11,13 +11,13 @@ use Rattle.cilk_program.specs.declared.ask.Callee.TheVariants as callees
 use Rattle.cilk_program.specs.declared.syntax.Place.{Place}
 use Rattle.cilk_program.specs.Inside.{CalleeIsFit}
 use Rattle.cilk_program.specs.SerialRun.{Frame, cell_at, first_place, global_reducer, home_of, itself, own_reducers}
-use Rattle.cilk_meaning.specs.Visible.{FrameSees}
+use Rattle.cilk_program.specs.Visible.{FrameSees}
 use Rattle.cilk_types.specs.Stacks.{from_bottom}
-use Rattle.cilk_activations.specs.declared.activation.Activation as activations
-use Rattle.cilk_activations.specs.declared.call_stack.CallStack as call_stacks
+use Rattle.cilk_frames.specs.declared.activation.Activation as activations
+use Rattle.cilk_frames.specs.declared.call_stack.CallStack as call_stacks
 use Rattle.cilk_frames.specs.Cursor.{CursorView}
-use Rattle.cilk_activations.specs.Sight.{HasScope}
-pub use Rattle.cilk_activations.specs.Sight.{AreSmall, number_in}
+use Rattle.cilk_frames.specs.Sight.{HasScope}
+pub use Rattle.cilk_frames.specs.Sight.{AreSmall, number_in}
 
 -- a frame with its cursor
 abbrev pub Activation : Type 0

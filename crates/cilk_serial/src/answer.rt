@@ -10,7 +10,7 @@ ghost use Rattle.cilk_serial.specs.States.{Tells};
 ghost use Rattle.cilk_serial.specs.declared.answer.Told.TheVariants.{Goes};
 
 use crate::state::State;
-use cilk_activations::call_stack::CallStack;
+use cilk_frames::call_stack::CallStack;
 use cilk_frames::brief::Brief;
 use cilk_frames::cursor::Answer;
 use cilk_program::ask::LoopPart;

@@ -16,9 +16,9 @@ ghost use Rattle.cilk_serial.specs.Scoped.{IsCreator, MayBegin, Parent, Scoped, 
 ghost use Rattle.cilk_serial.specs.States.{Shows};
 
 use crate::state::State;
-use cilk_activations::activation::Activation;
-use cilk_activations::beginnings;
-use cilk_activations::call_stack::CallStack;
+use cilk_frames::activation::Activation;
+use cilk_frames::beginnings;
+use cilk_frames::call_stack::CallStack;
 use cilk_frames::cursor::Cursor;
 use cilk_lower::code::Code;
 use cilk_monoid::kind::MonoidKind;

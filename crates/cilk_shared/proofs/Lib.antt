@@ -1,7 +1,15 @@
+pub mod Along
+pub mod Covering
+pub mod Ends
 pub mod NoBytes
 pub mod Preceding
+pub mod Quiet
+pub mod Ranges
 pub mod Rows
 pub mod Seats
 pub mod Sets
+pub mod Settling
+pub mod Shown
 pub mod Steps
 pub mod Values
+pub mod Worked

@@ -5,12 +5,12 @@
 use Rattle.std.proofs.Common.{◌≡◌, ◌↔◌, ℕ, ◌<◌, ◌≤◌, length, List, Bool, false, true, Option, Some, None, IsTrue, refl, sym, ap, subst, arith}
 use Rattle.std.proofs.lemmas.Bool.{leb-true, le-leb}
 use lib.Dec.{leb}
-use Rattle.cilk_story.specs.declared.story.Story.{Story}
-use Rattle.cilk_story.specs.Word.{WordEvent, plain, read, write, spawn, resume, finish, what, after, IsWord}
-use Rattle.cilk_plan.specs.Along.{IsAlong}
-use Rattle.cilk_plan.specs.Earliest.{earliest}
-use Rattle.cilk_plan.proofs.AlongPlans.{afters, is_word, many, was_word}
-use Rattle.cilk_plan.proofs.Passing.{IsEarliest, earliest_is}
+use Rattle.cilk_tree.specs.declared.story.Story.{Story}
+use Rattle.cilk_tree.specs.Word.{WordEvent, plain, read, write, spawn, resume, finish, what, after, IsWord}
+use Rattle.cilk_tree.specs.Along.{IsAlong}
+use Rattle.cilk_tree.specs.Earliest.{earliest}
+use Rattle.cilk_tree.proofs.AlongPlans.{afters, is_word, many, was_word}
+use Rattle.cilk_tree.proofs.Passing.{IsEarliest, earliest_is}
 use Rattle.cilk_shared.specs.Values.{SegmentValue, HoldsPreceding, MayPass}
 
 pub earliest_next : (g h : SegmentValue) (s : Story) (o o' : Option ℕ) → g ≡ h → IsAlong s h.story → o ≡ earliest (after s g.upto) → o ≡ o' → IsEarliest o' (after h.story h.upto)

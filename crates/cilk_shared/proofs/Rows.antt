@@ -10,13 +10,13 @@ use mathlib.Core.Option.{some, some-injective, some-ne-none}
 use native.Mathlib.Decide.{dec_le, dec_lt, ℕ_discrete}
 use lib.ListN.{get_elem?}
 use Rattle.atomic_table.proofs.Lists.{at_set, set_here, set_else}
-use Rattle.cilk_story.specs.declared.story.Story.{Story}
+use Rattle.cilk_tree.specs.declared.story.Story.{Story}
 use Rattle.cilk_shared.specs.declared.view.View.{View}
 use Rattle.cilk_shared.specs.Rule.{In, Done, IsStart, Parted, IsCut, Sits}
 use Rattle.cilk_shared.proofs.Sets.{word_of_resume}
-use Rattle.cilk_story.specs.Word.{resume, what, after, Before, IsWord, IsLine}
+use Rattle.cilk_tree.specs.Word.{resume, what, after, Before, IsWord, IsLine}
 use Rattle.cilk_tree.specs.Reach.{Among, direct, through}
-use Rattle.cilk_story.specs.Orders.{IsOrderly}
+use Rattle.cilk_tree.specs.Orders.{IsOrderly}
 
 pub at_short : {A : Type 0} (l : List A) (i : ℕ) (a : A) → get_elem? l i ≡ some a → i < length l
 at_short [] i a e = absurd (some-ne-none a (sym e))

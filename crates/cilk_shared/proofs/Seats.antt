@@ -14,17 +14,17 @@ use native.Mathlib.Decide.{dec_le, dec_lt, ℕ_discrete}
 use lib.ListN.{get_elem?}
 use Rattle.atomic_table.specs.Table.{State, Me, Splits, Joins, opening}
 use Rattle.atomic_table.proofs.Lists.{at_set, at_snoc, at_longer, set_again, set_here, set_else}
-use Rattle.cilk_story.specs.declared.story.Story.{Story}
+use Rattle.cilk_tree.specs.declared.story.Story.{Story}
 use Rattle.cilk_shared.specs.declared.view.View.{View}
 use Rattle.cilk_shared.specs.Rule.{view, In, Done, IsStart, Parted, IsCut, Told, HasReached, Kept, Cont, Over, cells, Sits, beside, spent, joined, Shows}
 use Rattle.cilk_shared.specs.Rows.{spanned}
 use Rattle.cilk_shared.proofs.Sets.{shows_along, word_of_write, word_of_spawn, word_of_resume, word_of_finish}
 use Rattle.cilk_shared.proofs.Rows.{at_short, at_once, gap}
-use Rattle.cilk_story.specs.Word.{plain, spawn, what, after, IsWord, finish, write, word}
+use Rattle.cilk_tree.specs.Word.{plain, spawn, what, after, IsWord, finish, write, word}
 use Rattle.cilk_tree.specs.Reach.{Among, direct, through}
-use Rattle.cilk_story.specs.Runs.{IsAsked, IsFollowed}
-use Rattle.cilk_story.specs.Orders.{IsOrderly}
-use Rattle.cilk_story.specs.Values.{HasValues}
+use Rattle.cilk_tree.specs.Runs.{IsAsked, IsFollowed}
+use Rattle.cilk_tree.specs.Orders.{IsOrderly}
+use Rattle.cilk_tree.specs.Values.{HasValues}
 
 -- the same events are done
 module _ (s : Story) (D E : ℕ → Type 0) (to : (q : ℕ) → IsWord (what s q) → D q → E q) (back : (q : ℕ) → IsWord (what s q) → E q → D q) where

@@ -8,11 +8,11 @@
 use Rattle.std.proofs.Common.{◌≡◌, ◌≢◌, ◌⊎◌, ℕ, ◌+◌, ◌<◌, ◌≤◌, List, length, get_or, set, inl, inr, ⊎_elim, refl, sym, ap, ◌∙◌, subst, arith, length-set, get_or-set_same, get_or-set_other}
 use mathlib.Core.Logic.{dite}
 use native.Mathlib.Decide.{dec_le, ℕ_discrete}
-use Rattle.cilk_story.specs.declared.story.Story.{Story}
+use Rattle.cilk_tree.specs.declared.story.Story.{Story}
 use Rattle.cilk_shared.specs.Rule.{Cont, cells, Told, IsCut, Shows, Over}
-use Rattle.cilk_story.specs.Word.{WordEvent, read, write, spawn, resume, what, Before, IsWord, Conflict, finish}
+use Rattle.cilk_tree.specs.Word.{WordEvent, read, write, spawn, resume, what, Before, IsWord, Conflict, finish}
 use Rattle.cilk_tree.specs.Reach.{direct}
-use Rattle.cilk_story.specs.Orders.{IsOrderly}
+use Rattle.cilk_tree.specs.Orders.{IsOrderly}
 
 pub word_of_read : (e : WordEvent) (c v : ℕ) → e ≡ read c v → IsWord e
 word_of_read e c v is = subst IsWord (sym is) tt

@@ -20,17 +20,17 @@ use mathlib.Core.Option.{none, some}
 use native.Mathlib.Decide.{dec_lt, ℕ_discrete}
 use lib.ListN.{get_elem?}
 use Rattle.atomic_table.specs.Table.{State, Me, step, keeps, stepped, Allows}
-use Rattle.cilk_story.specs.declared.story.Story.{Story}
+use Rattle.cilk_tree.specs.declared.story.Story.{Story}
 use Rattle.cilk_shared.specs.declared.view.View.{View}
 use Rattle.cilk_shared.specs.Rule.{view, In, Done, Parted, IsCut, Told, HasReached, Kept, Cont, cells, Sits, IsNext, loads, Moves, takes, ends, Over}
 use Rattle.cilk_shared.specs.Values.{YardValue, SegmentValue}
 use Rattle.cilk_shared.proofs.Sets.{found, cut_more, told_read, told_written, told_opened, told_taken, word_of_read, word_of_write, word_of_spawn, told_finished, word_of_resume, word_of_finish}
 use Rattle.cilk_shared.proofs.Rows.{done_into, done_here, done_keep, parted_set, gap, fresh_line, ready_line}
-use Rattle.cilk_story.specs.Word.{plain, read, write, spawn, resume, WordEvent, what, after, Before, IsWord, IsLine, finish, event}
+use Rattle.cilk_tree.specs.Word.{plain, read, write, spawn, resume, WordEvent, what, after, Before, IsWord, IsLine, finish, event}
 use Rattle.cilk_tree.specs.Reach.{Among, direct, through}
-use Rattle.cilk_story.specs.Runs.{IsAsked, IsFollowed, Departs}
-use Rattle.cilk_story.specs.Orders.{IsOrderly}
-use Rattle.cilk_story.specs.Values.{HasValues}
+use Rattle.cilk_tree.specs.Runs.{IsAsked, IsFollowed, Departs}
+use Rattle.cilk_tree.specs.Orders.{IsOrderly}
+use Rattle.cilk_tree.specs.Values.{HasValues}
 use Rattle.cilk_types.specs.declared.event.Event.TheVariants.{Sync}
 use Rattle.cilk_shared.proofs.Values.{reads_shows}
 

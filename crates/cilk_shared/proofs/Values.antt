@@ -19,12 +19,12 @@ use Rattle.cilk_types.specs.declared.event.Event.TheVariants as events
 use Rattle.cilk_tree.specs.Races.{event_at, Writes}
 use Rattle.cilk_tree.specs.Sources.{last_write, IsLastWrite}
 use Rattle.cilk_tree.proofs.Sources.{sources_last}
-use Rattle.cilk_story.specs.declared.story.Story.{Story}
-use Rattle.cilk_story.specs.Word.{after, read, write, word, what}
-use Rattle.cilk_story.specs.Orders.{IsOrderly}
-use Rattle.cilk_story.specs.Runs.{IsFollowed}
-use Rattle.cilk_story.specs.Values.{HasValue, HasValues}
-use Rattle.cilk_story.proofs.Events.{read_event, write_event, write_what}
+use Rattle.cilk_tree.specs.declared.story.Story.{Story}
+use Rattle.cilk_tree.specs.Word.{after, read, write, word, what}
+use Rattle.cilk_tree.specs.Orders.{IsOrderly}
+use Rattle.cilk_tree.specs.Runs.{IsFollowed}
+use Rattle.cilk_tree.specs.Values.{HasValue, HasValues}
+use Rattle.cilk_tree.proofs.Events.{read_event, write_event, write_what}
 use Rattle.cilk_shared.specs.Rule.{Shows}
 use Rattle.cilk_shared.proofs.Sets.{shows_once, shows_along, word_of_read, word_of_write}
 

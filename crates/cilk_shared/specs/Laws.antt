@@ -1,8 +1,8 @@
 -- What follows from the rule of the words, at each moment.
 use Rattle.std.specs.Prelude.{◌≡◌, ℕ, ◌+◌, slice_index}
 use Rattle.atomic_table.specs.Table.{State}
-use Rattle.cilk_story.specs.declared.story.Story.{Story}
-use Rattle.cilk_story.specs.Word.{spawn, resume, what}
+use Rattle.cilk_tree.specs.declared.story.Story.{Story}
+use Rattle.cilk_tree.specs.Word.{spawn, resume, what}
 use Rattle.cilk_shared.specs.declared.view.View.{View}
 use Rattle.cilk_shared.specs.Rule.{cells, Done, Kept}
 

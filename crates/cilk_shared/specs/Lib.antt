@@ -1,4 +1,10 @@
+pub mod Along
 pub mod Laws
+pub mod Numbers
+pub mod Pieces
+pub mod Reducers
 pub mod Rows
 pub mod Rule
+pub mod Settled
 pub mod Values
+pub mod Worked

@@ -4,9 +4,9 @@ use mathlib.Core.Option.{some}
 use lib.ListN.{get_elem?}
 use Rattle.atomic_table.specs.Table.{State, Me, Step}
 use Rattle.cilk_tree.specs.Reach.{Among}
-use Rattle.cilk_story.specs.declared.story.Story.{Story}
-use Rattle.cilk_story.specs.Word.{read, write, spawn, resume, finish, word, what, after, Before, IsWord}
-use Rattle.cilk_story.specs.Runs.{IsFollowed}
+use Rattle.cilk_tree.specs.declared.story.Story.{Story}
+use Rattle.cilk_tree.specs.Word.{read, write, spawn, resume, finish, word, what, after, Before, IsWord}
+use Rattle.cilk_tree.specs.Runs.{IsFollowed}
 use Rattle.cilk_shared.specs.declared.view.View.{View}
 
 abbrev pub view : Story → ℕ → ℕ → View

@@ -3,9 +3,9 @@ use Rattle.std.specs.Prelude.{◌≡◌, ◌≢◌, ℕ, ◌+◌, ◌<◌, ◌�
 use Rattle.atomic_table.specs.Seated.{TableId}
 use Rattle.cilk_types.specs.declared.event.Event.TheVariants.{Read, Write}
 use Rattle.cilk_tree.specs.Reach.{Among}
-use Rattle.cilk_story.specs.declared.story.Story.{Story}
-use Rattle.cilk_story.specs.Word.{event, what, after, plain, spawn, resume, finish}
-use Rattle.cilk_story.specs.Runs.{IsAsked}
+use Rattle.cilk_tree.specs.declared.story.Story.{Story}
+use Rattle.cilk_tree.specs.Word.{event, what, after, plain, spawn, resume, finish}
+use Rattle.cilk_tree.specs.Runs.{IsAsked}
 use Rattle.cilk_shared.specs.declared.taken.Taken.{Taken}
 use Rattle.cilk_shared.specs.declared.taken.Taken.TheVariants.{Yes, No}
 use Rattle.cilk_shared.specs.Rows.{spanned}

@@ -2,7 +2,7 @@
 
 ghost use Rattle.std.specs.Prelude.{◌≡◌, ℤ, List};
 ghost use Rattle.std.specs.Borrow.{ftrue};
-ghost use Rattle.cilk_story.specs.declared.story.Story.{Story};
+ghost use Rattle.cilk_tree.specs.declared.story.Story.{Story};
 
 use cilk_types::input::Input;
 use std::marker::Model;

@@ -1,6 +1,6 @@
 //! What a seat has done, of which no value is made.
 
-use cilk_story::story::Story;
+use cilk_tree::story::Story;
 
 /// The positions from `from` up to `upto`, `upto` itself not among them.
 pub struct View {

@@ -2,13 +2,13 @@
 
 ghost use Rattle.std.specs.Prelude.{◌≡◌, ◌↔◌, ℕ, ◌+◌, ◌<◌, ◌≤◌, ℤ, List, Option, Some, None, length, slice_index_or, cond, nat_lt, IfErr, IfOk, IsTrue};
 ghost use Rattle.cilk_types.specs.declared.event.Event.TheVariants.{Read};
-ghost use Rattle.cilk_story.specs.declared.story.Story.{Story};
-ghost use Rattle.cilk_story.specs.Orders.{IsOrderly};
-ghost use Rattle.cilk_story.specs.Values.{HasValues, AreFinal};
-ghost use Rattle.cilk_story.specs.Runs.{IsFollowed};
-ghost use Rattle.cilk_story.specs.Word.{event, resume, what};
-ghost use Rattle.cilk_plan.specs.Along.{IsAlong};
-ghost use Rattle.cilk_plan.specs.Resumptions.{AreResumptions};
+ghost use Rattle.cilk_tree.specs.declared.story.Story.{Story};
+ghost use Rattle.cilk_tree.specs.Orders.{IsOrderly};
+ghost use Rattle.cilk_tree.specs.Values.{HasValues, AreFinal};
+ghost use Rattle.cilk_tree.specs.Runs.{IsFollowed};
+ghost use Rattle.cilk_tree.specs.Word.{event, resume, what};
+ghost use Rattle.cilk_tree.specs.Along.{IsAlong};
+ghost use Rattle.cilk_tree.specs.Resumptions.{AreResumptions};
 ghost use Rattle.cilk_shared.specs.Rows.{spanned};
 
 use crate::key::StoryKey;
@@ -16,7 +16,7 @@ use crate::taken::Taken;
 use crate::view::View;
 use crate::words::last_values;
 use atomic_table::{Join, Play, Seat, Split, Table, TableRule};
-use cilk_plan::plan::Plan;
+use cilk_tree::plan::Plan;
 use cilk_types::event::{Cell, Pos};
 use cilk_types::input::Input;
 use std::alloc::{AllocError, Global};
@@ -102,9 +102,9 @@ impl Drop for Yard {
 
 impl Model for Yard {
     ghost use Rattle.std.specs.Prelude.{◌≡◌, ◌+◌, ◌^◌, ◌<◌, length};
-    ghost use Rattle.cilk_story.specs.Orders.{IsOrderly};
-    ghost use Rattle.cilk_story.specs.Values.{HasValues};
-    ghost use Rattle.cilk_plan.specs.Resumptions.{AreResumptions};
+    ghost use Rattle.cilk_tree.specs.Orders.{IsOrderly};
+    ghost use Rattle.cilk_tree.specs.Values.{HasValues};
+    ghost use Rattle.cilk_tree.specs.Resumptions.{AreResumptions};
     ghost use Rattle.cilk_shared.specs.Values.{YardValue};
 
     ghost Value = { YardValue };
@@ -401,8 +401,8 @@ fn span(from: Pos, upto: Pos, begin: Pos, end: Pos) -> (Pos, Pos)
 }
 
 impl Segment {
-    ghost use Rattle.cilk_story.specs.Runs.{IsAsked, IsFollowed, Departs};
-    ghost use Rattle.cilk_story.specs.Word.{event};
+    ghost use Rattle.cilk_tree.specs.Runs.{IsAsked, IsFollowed, Departs};
+    ghost use Rattle.cilk_tree.specs.Word.{event};
     ghost use Rattle.std.specs.Prelude.{◌≢◌, ◌-◌};
     ghost use Rattle.cilk_types.specs.declared.event.Event.TheVariants.{Sync};
     ghost use Rattle.cilk_shared.specs.Values.{OfYard, CanPass, MayPass, HoldsPreceding, IsAhead, moved_on};

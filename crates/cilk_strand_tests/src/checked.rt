@@ -11,7 +11,7 @@ use cilk_checker::refusal::{Fields, Refusal, Unaccepted};
 use cilk_checker::source::{PullFault, Source};
 use cilk_checker::texts::{check, check_from};
 use cilk_names::fault::NameNumber;
-use cilk_texts::fault::TextNumber;
+use cilk_parser::fault::TextNumber;
 use std::alloc::Global;
 use std::process::Abort;
 use std::test::Fail;

@@ -2,11 +2,11 @@
 
 use crate::programs::run_of;
 use cilk_cert_text::line::Frame;
-use cilk_judge::fault::ProgramFault;
-use cilk_judge::judge::program;
-use cilk_listing::columns::columns;
+use cilk_checker::fault::ProgramFault;
+use cilk_checker::judge::program;
+use cilk_cert_maker::columns::columns;
 use cilk_names::fault::NameNumber;
-use cilk_texts::fault::TextNumber;
+use cilk_parser::fault::TextNumber;
 use std::test::Fail;
 
 #[test]

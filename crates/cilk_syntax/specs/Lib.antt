@@ -1,1 +1,9 @@
+pub mod Expected
+pub mod Fronts
+pub mod Gaps
+pub mod Grammar
+pub mod Kinds
+pub mod Lexing
+pub mod Limits
+pub mod Stops
 pub mod Trees

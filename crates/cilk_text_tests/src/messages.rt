@@ -1,12 +1,12 @@
 //! What faults show of themselves, and their numbers.
 
 use cilk_cert_text::fault::CertFault;
-use cilk_lexer::lexer::{Bad, LexFault};
+use cilk_syntax::lexer::{Bad, LexFault};
 use cilk_names::fault::{NameFault, NameNumber};
-use cilk_play::PlayFault;
+use cilk_schedule::PlayFault;
 use cilk_serial::fault::RunFault;
-use cilk_texts::fault::{TextFault, TextNumber};
-use cilk_tool::files::FileFault;
+use cilk_parser::fault::{TextFault, TextNumber};
+use cilk_commands::files::FileFault;
 use cilk_types::fault::Fault;
 use std::alloc::AllocError;
 

@@ -1,6 +1,6 @@
 //! Places of texts by line and column.
 
-use cilk_explain::place::{Location, locate};
+use cilk_messages::place::{Location, locate};
 use std::process::Abort;
 
 fn stands(rt: &impl Abort, text: &[u8], at: usize, line: usize, column: usize) {

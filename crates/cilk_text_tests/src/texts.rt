@@ -6,7 +6,7 @@ use cilk_served::repeats::repeated;
 use cilk_syntax::tree::{
     Assignment, BinaryOperator, Expr, Item, LocalInitializer, Parameter, ReturnType, Stmt,
 };
-use cilk_texts::fault::TextFault;
+use cilk_parser::fault::TextFault;
 use cilk_types::compound::Compound;
 use cilk_types::invocation::Invocation;
 use std::alloc::Global;

@@ -2,15 +2,15 @@
 
 ghost use Rattle.std.specs.Prelude.{◌≡◌};
 ghost use Rattle.cilk_shared.specs.Values.{OfYard};
-ghost use Rattle.cilk_thread_runs.specs.Settings.{AreOf};
+ghost use Rattle.cilk_thread_tests.specs.Settings.{AreOf};
 
-use cilk_plan::plan::Plan;
+use cilk_tree::plan::Plan;
 use cilk_shared::taken::Taken;
 use cilk_shared::yard::{Segment, Yard};
-use cilk_thread_runs::settings::{
+use crate::settings::{
     Setting, squares_on_four, squares_on_three, turns_on_none, turns_on_seven,
 };
-use cilk_thread_runs::steps::{Done, last_values, step, take};
+use crate::steps::{Done, last_values, step, take};
 use cilk_types::event::{Event, Pos};
 use std::process::Abort;
 use std::test::Fail;

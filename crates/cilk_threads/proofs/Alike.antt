@@ -8,25 +8,25 @@ use Rattle.cilk_program.specs.Inside.{body_of}
 use Rattle.cilk_program.specs.SerialRun.{Transcript}
 use Rattle.cilk_program.specs.SerialRun as serial
 use Rattle.cilk_program.specs.Syntax.{Source}
-use Rattle.cilk_meaning.specs.Numbering.{Counts, Block, unbegun, entered, counts_after, block_of, child_at}
+use Rattle.cilk_program.specs.Numbering.{Counts, Block, unbegun, entered, counts_after, block_of, child_at}
 use Rattle.cilk_runs.specs.Machine.{put}
 use Rattle.cilk_runs.specs.Monoids.{on_view, unit_of}
 use Rattle.cilk_runs.specs.Runs.{Cell, Instance, Deed, Does, Invokes, Run, same_name}
 use Rattle.cilk_runs.specs.Runs as runs
 use Rattle.cilk_runs.specs.Serial.{value_after}
 use Rattle.cilk_runs.specs.Views.{view_after}
-use Rattle.cilk_worlds.specs.Machine.{next, opening_values}
-use Rattle.cilk_worlds.specs.Reducers.{View, monoid_of}
-use Rattle.cilk_worlds.specs.Worlds.{World, first_world, child_world}
+use Rattle.cilk_runs.specs.WorldMachine.{next, opening_values}
+use Rattle.cilk_runs.specs.Reducers.{View, monoid_of}
+use Rattle.cilk_runs.specs.Worlds.{World, first_world, child_world}
 use Rattle.cilk_determinacy.specs.Nested.{named, named_from}
 use Rattle.cilk_determinacy.specs.Numbers.{child_runs}
-use Rattle.cilk_inputs.specs.Courses.{Course, stop, act, child, run_of, IsCourse}
-use Rattle.cilk_inputs.specs.Frames.{same_body, same_frame, course_on, ProgramsHaveOneCourse}
-use Rattle.cilk_pieces.specs.declared.reducers.Reducers.{Reducers}
-use Rattle.cilk_pieces.specs.Reducers.{own}
-use Rattle.cilk_settling.specs.Accepted.{reducers_in}
-use Rattle.cilk_settling.specs.Tables.{reducers_of, AreReducersOf}
-use Rattle.cilk_settling.proofs.Opened.{StartsNoRoot}
+use Rattle.cilk_replay.specs.InputCourses.{Course, stop, act, child, run_of, IsCourse}
+use Rattle.cilk_replay.specs.Frames.{same_body, same_frame, course_on, ProgramsHaveOneCourse}
+use Rattle.cilk_shared.specs.declared.reducers.Reducers.{Reducers}
+use Rattle.cilk_shared.specs.Reducers.{own}
+use Rattle.cilk_threads.specs.Accepted.{reducers_in}
+use Rattle.cilk_threads.specs.Tables.{reducers_of, AreReducersOf}
+use Rattle.cilk_threads.proofs.Opened.{StartsNoRoot}
 
 -- ---- by names
 and_right : (x y : Bool) → (x && y) ≡ true → y ≡ true

@@ -3,14 +3,14 @@ use Rattle.std.proofs.Common.{◌≡◌, ◌⊎◌, inl, inr, ℕ, ℤ, ◌-◌,
 use Rattle.cilk_types.specs.declared.event.Event.{Event}
 use Rattle.cilk_types.specs.declared.event.Event.TheVariants as events
 use Rattle.cilk_tree.specs.Races.{event_at}
-use Rattle.cilk_story.specs.declared.story.Story.{Story}
-use Rattle.cilk_story.specs.Word.{event}
-use Rattle.cilk_plan.specs.declared.kind.Kind.TheVariants as kinds
-use Rattle.cilk_plan.specs.Along.{IsAlong}
-use Rattle.cilk_plan.specs.Kinds.{kind_of_event}
+use Rattle.cilk_tree.specs.declared.story.Story.{Story}
+use Rattle.cilk_tree.specs.Word.{event}
+use Rattle.cilk_tree.specs.declared.kind.Kind.TheVariants as kinds
+use Rattle.cilk_tree.specs.Along.{IsAlong}
+use Rattle.cilk_tree.specs.Kinds.{kind_of_event}
 use Rattle.cilk_checker.specs.Determinate.{AcceptedRun}
-use Rattle.cilk_planning.specs.Plans.{IsPlanOf, Names}
-use Rattle.cilk_turns.specs.Shared.{HasCells}
+use Rattle.cilk_plan.specs.Plans.{IsPlanOf, Names}
+use Rattle.cilk_workers.specs.Shared.{HasCells}
 use Rattle.cilk_threads.proofs.Placed.{same_kind_at}
 
 same_cell : (c d : ℕ) → Some (kinds.Read c) ≡ Some (kinds.Read d) → c ≡ d

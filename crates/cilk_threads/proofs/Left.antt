@@ -9,33 +9,33 @@ use Rattle.cilk_program.specs.SerialRun.{Transcript, IsSerialRun}
 use Rattle.cilk_program.specs.Sources.{source}
 use Rattle.cilk_program.specs.Syntax.{Source}
 use Rattle.cilk_types.specs.declared.limits.TheConstants.{MAX_EVENTS, MAX_TICKS}
-use Rattle.cilk_meaning.proofs.Uniqueness.{serial_run_is_one}
-use Rattle.cilk_story.specs.declared.story.Story.{Story}
-use Rattle.cilk_story.specs.Orders.{IsOrderly}
-use Rattle.cilk_story.specs.Runs.{IsAsked, IsFollowed}
-use Rattle.cilk_plan.specs.Along.{DepartsNowhere}
+use Rattle.cilk_program.proofs.Uniqueness.{serial_run_is_one}
+use Rattle.cilk_tree.specs.declared.story.Story.{Story}
+use Rattle.cilk_tree.specs.Orders.{IsOrderly}
+use Rattle.cilk_tree.specs.Runs.{IsAsked, IsFollowed}
+use Rattle.cilk_tree.specs.Along.{DepartsNowhere}
 use Rattle.cilk_tree.specs.Before.{IsPosition}
-use Rattle.cilk_pieces.specs.declared.reducers.Reducers.{Reducers}
+use Rattle.cilk_shared.specs.declared.reducers.Reducers.{Reducers}
 use Rattle.cilk_runs.specs.Runs.{Run}
 use Rattle.cilk_runs.specs.Traces.{trace}
-use Rattle.cilk_worlds.specs.Steps.{result_in}
-use Rattle.cilk_worlds.specs.Worlds.{World}
+use Rattle.cilk_runs.specs.Steps.{result_in}
+use Rattle.cilk_runs.specs.Worlds.{World}
 use Rattle.cilk_determinacy.specs.Nested.{named}
 use Rattle.cilk_determinacy.specs.Words.{InputsAreWords}
-use Rattle.cilk_inputs.specs.Courses.{run_of}
-use Rattle.cilk_inputs.specs.Ends.{RunsAsCourse, InputsRunAlong}
-use Rattle.cilk_inputs.specs.Frames.{course_on, ProgramsHaveOneCourse}
-use Rattle.cilk_inputs.specs.Left.{left_by, RunsAreElided}
-use Rattle.cilk_inputs.specs.Stories.{IsPlannedRun}
-use Rattle.cilk_inputs.proofs.LastEnds.{serial_result}
+use Rattle.cilk_replay.specs.InputCourses.{run_of}
+use Rattle.cilk_replay.specs.Ends.{RunsAsCourse, InputsRunAlong}
+use Rattle.cilk_replay.specs.Frames.{course_on, ProgramsHaveOneCourse}
+use Rattle.cilk_replay.specs.Left.{left_by, RunsAreElided}
+use Rattle.cilk_replay.specs.Stories.{IsPlannedRun}
+use Rattle.cilk_replay.proofs.LastEnds.{serial_result}
 use Rattle.cilk_checker.specs.Determinate.{AcceptedRun, HasDeterminateRun}
-use Rattle.cilk_planning.specs.Plans.{IsPlanOf, IsStoryOn}
-use Rattle.cilk_settling.specs.Accepted.{IsTableOf}
-use Rattle.cilk_settling.specs.Finals.{IsMadeOf}
-use Rattle.cilk_settling.specs.Tables.{AreReducersOf}
-use Rattle.cilk_settling.proofs.CourseLeft.{course_left}
-use Rattle.cilk_settling.proofs.Leaving.{left_is}
-use Rattle.cilk_settling.proofs.Opened.{runs_start_no_root}
+use Rattle.cilk_plan.specs.Plans.{IsPlanOf, IsStoryOn}
+use Rattle.cilk_threads.specs.Accepted.{IsTableOf}
+use Rattle.cilk_threads.specs.Finals.{IsMadeOf}
+use Rattle.cilk_threads.specs.Tables.{AreReducersOf}
+use Rattle.cilk_threads.proofs.CourseLeft.{course_left}
+use Rattle.cilk_threads.proofs.Leaving.{left_is}
+use Rattle.cilk_threads.proofs.Opened.{runs_start_no_root}
 use Rattle.cilk_threads.specs.Outcomes.{LeavesOn, IsOutcomeOn}
 use Rattle.cilk_threads.proofs.Alike.{same_frames, table_along}
 

@@ -3,9 +3,9 @@ use Rattle.std.proofs.Common.{◌≡◌, ℕ, zero, suc, ◌-◌, List, [], ◌�
 use Rattle.cilk_types.specs.declared.event.Event.{Event}
 use Rattle.cilk_types.specs.declared.event.Event.TheVariants as events
 use Rattle.cilk_tree.specs.Races.{event_at}
-use Rattle.cilk_plan.specs.declared.kind.Kind.{Kind}
-use Rattle.cilk_plan.specs.declared.kind.Kind.TheVariants as kinds
-use Rattle.cilk_plan.specs.Kinds.{kind_of, kind_of_event}
+use Rattle.cilk_tree.specs.declared.kind.Kind.{Kind}
+use Rattle.cilk_tree.specs.declared.kind.Kind.TheVariants as kinds
+use Rattle.cilk_tree.specs.Kinds.{kind_of, kind_of_event}
 
 kind_at : (es : List Event) (n : ℕ) → kind_of_event (slice_get es n) ≡ slice_get (map kind_of es) n
 kind_at [] zero = refl

@@ -5,10 +5,10 @@ use Rattle.cilk_types.specs.declared.event.Event.{Event}
 use Rattle.cilk_types.specs.declared.event.Event.TheVariants as events
 use Rattle.cilk_tree.specs.Races.{strand_at}
 use Rattle.cilk_tree.specs.Marks.{mark_of, begun_by}
-use Rattle.cilk_plan.specs.declared.kind.Kind.{Kind}
-use Rattle.cilk_plan.specs.declared.kind.Kind.TheVariants as kinds
-use Rattle.cilk_plan.specs.Kinds.{kind_of}
-use Rattle.cilk_plan.specs.Strands.{AreFirsts, BeginsStrand}
+use Rattle.cilk_tree.specs.declared.kind.Kind.{Kind}
+use Rattle.cilk_tree.specs.declared.kind.Kind.TheVariants as kinds
+use Rattle.cilk_tree.specs.Kinds.{kind_of}
+use Rattle.cilk_tree.specs.PlanStrands.{AreFirsts, BeginsStrand}
 
 -- how many strands an event of this kind begins
 abbrev begun : Kind → ℕ

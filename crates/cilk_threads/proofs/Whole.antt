@@ -5,29 +5,29 @@ use Rattle.cilk_types.specs.declared.event.Event.{Event}
 use Rattle.cilk_types.specs.declared.event.Event.TheVariants.{Sync}
 use Rattle.cilk_program.specs.Sources.{source}
 use Rattle.cilk_program.specs.Syntax.{Source}
-use Rattle.cilk_story.specs.declared.story.Story.{Story}
-use Rattle.cilk_story.specs.Runs.{Departs, IsAsked}
-use Rattle.cilk_story.specs.Word.{event}
+use Rattle.cilk_tree.specs.declared.story.Story.{Story}
+use Rattle.cilk_tree.specs.Runs.{Departs, IsAsked}
+use Rattle.cilk_tree.specs.Word.{event}
 use Rattle.cilk_tree.specs.Before.{IsPosition}
-use Rattle.cilk_plan.specs.Along.{IsAlong}
+use Rattle.cilk_tree.specs.Along.{IsAlong}
 use Rattle.cilk_shared.specs.Values.{YardValue}
-use Rattle.cilk_pieces.specs.Pieces.{PieceValue}
-use Rattle.cilk_pieces.specs.declared.reducers.Reducers.{Reducers}
-use Rattle.cilk_chains.specs.Courses.{CourseValue}
+use Rattle.cilk_shared.specs.Pieces.{PieceValue}
+use Rattle.cilk_shared.specs.declared.reducers.Reducers.{Reducers}
+use Rattle.cilk_replay.specs.Courses.{CourseValue}
 use Rattle.cilk_checker.specs.Determinate.{AcceptedRun}
 use Rattle.cilk_runs.specs.Traces.{trace}
-use Rattle.cilk_worlds.specs.Steps.{result_in}
+use Rattle.cilk_runs.specs.Steps.{result_in}
 use Rattle.cilk_determinacy.specs.Nested.{named}
-use Rattle.cilk_inputs.specs.Courses as courses
-use Rattle.cilk_inputs.specs.Frames.{course_on}
-use Rattle.cilk_inputs.specs.Stories.{OwnStory, IsPlannedRun}
-use Rattle.cilk_planning.specs.Plans.{WholePlan, IsPlanOf, IsStoryOn}
-use Rattle.cilk_planning.proofs.Telling.{own_is_the_plan}
-use Rattle.cilk_turns.specs.Shared.{SharedValue, shared_with}
+use Rattle.cilk_replay.specs.InputCourses as courses
+use Rattle.cilk_replay.specs.Frames.{course_on}
+use Rattle.cilk_replay.specs.Stories.{OwnStory, IsPlannedRun}
+use Rattle.cilk_plan.specs.Plans.{WholePlan, IsPlanOf, IsStoryOn}
+use Rattle.cilk_plan.proofs.Telling.{own_is_the_plan}
+use Rattle.cilk_workers.specs.Shared.{SharedValue, shared_with}
 use Rattle.cilk_workers.specs.Hands.{IsWhole}
-use Rattle.cilk_crew.specs.declared.run.ThreadFault.{ThreadFault}
-use Rattle.cilk_crew.specs.declared.run.ThreadFault.TheVariants as faults
-use Rattle.cilk_crew.specs.Faults.{IsTrueFault}
+use Rattle.cilk_threads.specs.declared.run.ThreadFault.{ThreadFault}
+use Rattle.cilk_threads.specs.declared.run.ThreadFault.TheVariants as faults
+use Rattle.cilk_threads.specs.Faults.{IsTrueFault}
 use Rattle.cilk_threads.specs.Outcomes.{IsFaultOn, IsWholeOf, NamesNoPosition}
 use Rattle.cilk_threads.proofs.Placed.{sync_along}
 

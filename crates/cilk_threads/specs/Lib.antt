@@ -1,1 +1,8 @@
+pub mod Accepted
+pub mod Faults
+pub mod Finals
+pub mod Kits
+pub mod Laws
+pub mod Numbers
 pub mod Outcomes
+pub mod Tables

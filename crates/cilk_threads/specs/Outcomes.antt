@@ -7,27 +7,27 @@ use Rattle.cilk_program.specs.Elision.{IsElision}
 use Rattle.cilk_program.specs.Outcomes.{Leaves}
 use Rattle.cilk_program.specs.SerialRun.{Transcript, IsSerialRun}
 use Rattle.cilk_program.specs.Syntax.{Source}
-use Rattle.cilk_story.specs.declared.story.Story.{Story}
-use Rattle.cilk_story.specs.Runs.{Departs, IsFollowed}
+use Rattle.cilk_tree.specs.declared.story.Story.{Story}
+use Rattle.cilk_tree.specs.Runs.{Departs, IsFollowed}
 use Rattle.cilk_shared.specs.Values.{YardValue}
-use Rattle.cilk_pieces.specs.Pieces.{PieceValue}
-use Rattle.cilk_pieces.specs.declared.reducers.Reducers.{Reducers}
-use Rattle.cilk_boxes.specs.Rows.{IsGood, run_of}
+use Rattle.cilk_shared.specs.Pieces.{PieceValue}
+use Rattle.cilk_shared.specs.declared.reducers.Reducers.{Reducers}
+use Rattle.cilk_workers.specs.Rows.{IsGood, run_of}
 use Rattle.cilk_runs.specs.Costs.{TickTotal, whole}
 use Rattle.cilk_runs.specs.Runs.{Run}
 use Rattle.cilk_runs.specs.Traces.{trace}
-use Rattle.cilk_worlds.specs.Machine.{costs}
-use Rattle.cilk_worlds.specs.Steps.{result_in}
-use Rattle.cilk_worlds.specs.Worlds.{World, first_world}
+use Rattle.cilk_runs.specs.WorldMachine.{costs}
+use Rattle.cilk_runs.specs.Steps.{result_in}
+use Rattle.cilk_runs.specs.Worlds.{World, first_world}
 use Rattle.cilk_determinacy.specs.Nested.{named}
-use Rattle.cilk_inputs.specs.Courses as courses
-use Rattle.cilk_inputs.specs.Frames.{course_on, IsSerialRunOn}
-use Rattle.cilk_inputs.specs.Left.{left_by}
-use Rattle.cilk_inputs.specs.Stories.{IsPlannedRun}
-use Rattle.cilk_planning.specs.Plans.{WholePlan, IsStoryOn}
-use Rattle.cilk_crew.specs.declared.run.ThreadFault.{ThreadFault}
-use Rattle.cilk_crew.specs.declared.run.ThreadFault.TheVariants as faults
-use Rattle.cilk_crew.specs.Faults.{IsCrew}
+use Rattle.cilk_replay.specs.InputCourses as courses
+use Rattle.cilk_replay.specs.Frames.{course_on, IsSerialRunOn}
+use Rattle.cilk_replay.specs.Left.{left_by}
+use Rattle.cilk_replay.specs.Stories.{IsPlannedRun}
+use Rattle.cilk_plan.specs.Plans.{WholePlan, IsStoryOn}
+use Rattle.cilk_threads.specs.declared.run.ThreadFault.{ThreadFault}
+use Rattle.cilk_threads.specs.declared.run.ThreadFault.TheVariants as faults
+use Rattle.cilk_threads.specs.Faults.{IsCrew}
 
 -- a serial run of the program on these inputs leaves this
 abbrev pub LeavesOn : Source → List ℤ → Outcome → Type 0

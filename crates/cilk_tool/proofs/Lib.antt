@@ -1,8 +1,8 @@
-pub mod Lines
-pub mod OneReply
-pub mod OneShown
-pub mod Reading
-pub mod Replying
-pub mod Writing
-pub mod Workers
-pub mod OnePlayed
+pub mod Accepted
+pub mod CheckEntered
+pub mod CheckShowing
+pub mod Checked
+pub mod Entered
+pub mod Helped
+pub mod Kept
+pub mod Showing

@@ -1,6 +1,7 @@
-pub mod Files
-pub mod OneReply
-pub mod Replies
+pub mod CheckWords
+pub mod Endings
+pub mod Helped
 pub mod Serving
 pub mod Shown
-pub mod Streams
+pub mod Sources
+pub mod Words

@@ -1,151 +1,46 @@
 //! From words to a reply that is shown.
 
-ghost use Rattle.std.specs.Prelude.{◌≡◌, ◌<◌, Bool, IfOk, IfErr};
-ghost use Rattle.cilk_tool.specs.OneReply.{HasOneReply};
-ghost use Rattle.cilk_tool.specs.Replies.{Reply, answer_view, failure_view, status_of};
-ghost use Rattle.cilk_tool.specs.Serving.{Answers, IsOrNoMemory, Serves, Shows, ShowsError, world};
-ghost use Rattle.cilk_tool.specs.Streams.{AppendsFront};
-ghost use Rattle.cilk_words.specs.Words.{order_in, order_view, texts};
+ghost use Rattle.std.specs.Prelude.{◌≡◌, ◌<◌, ◌++◌, IfOk, None, OnOk, flat_map, length};
+ghost use Rattle.cilk_report.specs.Explained.{unflagged};
+ghost use Rattle.cilk_commands.specs.Replies.{Refused, Reply, failure_view, place_text, refused_line};
+ghost use Rattle.cilk_commands.specs.Serving.{IsOrNoMemory, Shows, WordsFail};
+ghost use Rattle.cilk_messages.specs.Words.{texts};
+ghost use Rattle.cilk_tool.specs.Endings.{ending_view, place_of};
+ghost use Rattle.cilk_tool.specs.Serving.{IsThreadsReply, ServesParallel, ThreadsThenExplains, is_threads};
+ghost use Rattle.cilk_tool.specs.Words.{order_in};
 
-use crate::files::Files;
-use crate::reply::{Answer, Failure, NO_MEMORY, NO_MEMORY_LINE, WRONG};
-use crate::running::{certify, check, play, run};
-use crate::streams::send;
-use cilk_words::words::{Order, WordsFault, read};
-use std::alloc::Global;
+use crate::check_serving::serve_check;
+use crate::check_words::is_helped;
+use crate::explaining::{of_ending, of_fault};
+use crate::running::{Ending, carry_out};
+use crate::words::read;
+use cilk_report::{Keeps, is_help};
+use cilk_report::{follow, serve_explained, unflagged};
+use cilk_commands::reply::{Failure, REFUSED, WRONG};
+use cilk_commands::streams::send;
+use cilk_commands::{Served, complain, show, tell};
+use cilk_types::event::Pos;
+use cilk_messages::words::WordsFault;
+use itoa::Buffer;
+use std::alloc::{AllocError, Global};
 use std::io::{Read, Write};
+use std::sync::Wait;
+use std::thread::Threads;
 
-/// Does what an order asks for.
-pub fn carry_out<'a, F: Files, R: Read>(
-    alloc: Global,
-    order: Order<'a>,
-    files: &mut F,
-    input: &mut R,
-) -> Result<Answer, Failure<'a>>
-    requires { (F.failed files.old).count < 18446744073709551615 }
-    ensures answer { IfOk result (λ a. Answers (world (F.holds files.old) (R.remaining input.old) (F.failed files.old) (F.failed files.new))
-        (Some (order_view order.entry)) (answer_view a)) }
-    ensures failure { IfErr result (λ e. Answers (world (F.holds files.old) (R.remaining input.old) (F.failed files.old) (F.failed files.new))
-        (Some (order_view order.entry)) (failure_view e)) }
-{
-    match order {
-        Order::Run {
-            program,
-            input: numbers,
-        } => run(alloc, program, numbers, files, input),
-        Order::Certify {
-            program,
-            input: numbers,
-        } => certify(alloc, program, numbers, files, input),
-        Order::Check {
-            program,
-            certificate,
-            input: numbers,
-        } => check(alloc, program, certificate, numbers, files, input),
-        Order::Play {
-            program,
-            script,
-            workers,
-            input: numbers,
-        } => play(alloc, program, script, workers, numbers, files, input),
-    }
-}
+/// The number of the refusal where the workers aren't 1 to 64.
+pub const NO_CREW: u32 = 501;
 
-/// Does what the words ask for.
-fn answer<'a, F: Files, R: Read>(
-    alloc: Global,
-    words: &'a [&'a str],
-    files: &mut F,
-    input: &mut R,
-) -> Result<Answer, Failure<'a>>
-    requires { (F.failed files.old).count < 18446744073709551615 }
-    ensures answer { IfOk result (λ a. Answers (world (F.holds files.old) (R.remaining input.old) (F.failed files.old) (F.failed files.new))
-        (order_in (texts words.entry.now)) (answer_view a)) }
-    ensures failure { IfErr result (λ e. Answers (world (F.holds files.old) (R.remaining input.old) (F.failed files.old) (F.failed files.new))
-        (order_in (texts words.entry.now)) (failure_view e)) }
-{
-    match read(alloc, words) {
-        Ok(order) => carry_out(alloc, order, files, input),
-        Err(WordsFault::Usage(text)) => Err(Failure::Words(text)),
-        Err(WordsFault::Memory) => Err(Failure::Memory),
-    }
-}
+/// The number of the refusal where an input departs from the plan of the certified run.
+pub const DEPARTED: u32 = 502;
 
-/// What a call ends with.
-#[derive(Clone, Copy, PartialEq, Eq, Debug)]
-pub struct Served {
-    /// The status to end with.
-    pub status: u8,
-    /// Whether all that goes to standard error went out: it didn't only where a write there failed.
-    pub told: bool,
-}
+// What stands behind what is said of words that ask for nothing.
+const HINT: &str = "\nhint: `cilk help threads` describes `threads` and its options\n";
 
-/// Writes to standard error, and says whether all of it went out.
-pub fn tell<E: Write>(err: &mut E, text: &[u8]) -> bool
-    ensures { AppendsFront result (E.contents err.old) (E.contents err.new) text.now }
-{
-    send(err, text)
-}
-
-/// Shows a failure.
-pub fn complain<E: Write>(alloc: Global, failure: &Failure<'_>, err: &mut E) -> Served
-    ensures { (r : Reply) × IsOrNoMemory (failure_view failure.now) r × (result.status ≡ status_of r)
-        × ShowsError r result.told (E.contents err.old) (E.contents err.new) }
-{
-    match failure.text(alloc) {
-        Ok(text) => Served {
-            told: tell(err, text.as_slice()),
-            status: failure.status(),
-        },
-        Err(_) => Served {
-            told: tell(err, NO_MEMORY_LINE.as_bytes()),
-            status: NO_MEMORY,
-        },
-    }
-}
-
-/// Shows an answer.
-pub fn show<O: Write, E: Write>(alloc: Global, answer: &Answer, out: &mut O, err: &mut E) -> Served
-    ensures { (r : Reply) × IsOrNoMemory (answer_view answer.now) r × Shows r result.status result.told
-        (O.contents out.old) (O.contents out.new) (E.contents err.old) (E.contents err.new) }
-{
-    match answer.send(alloc, out) {
-        Ok(true) => Served {
-            status: answer.status(),
-            told: true,
-        },
-        Ok(false) => Served {
-            told: tell(err, b"cannot write\n"),
-            status: WRONG,
-        },
-        Err(_) => complain(alloc, &Failure::Memory, err),
-    }
-}
-
-/// Serves the words after the program's own name, and says whether all that goes to standard error went out, as [`serve`] doesn't.
-pub fn serve_and_tell<F: Files, R: Read, O: Write, E: Write>(
-    alloc: Global,
-    words: &[&str],
-    files: &mut F,
-    input: &mut R,
-    out: &mut O,
-    err: &mut E,
-) -> Served
-    requires { (F.failed files.old).count < 18446744073709551615 }
-    ensures served { Serves (texts words.now)
-        (world (F.holds files.old) (R.remaining input.old) (F.failed files.old) (F.failed files.new)) result.status result.told
-        (O.contents out.old) (O.contents out.new) (E.contents err.old) (E.contents err.new) }
-{
-    match answer(alloc, words, files, input) {
-        Ok(answer) => show(alloc, &answer, out, err),
-        Err(failure) => complain(alloc, &failure, err),
-    }
-}
-
-/// Serves the words after the program's own name: reads what they ask for, shows one reply, and answers the status to
-/// end with. A fault of `err` changes nothing else. (Standard input is read only where no words are given, in at most 262,145
-/// reads: `streams::receive` promises the number.)
-pub fn serve<F: Files, R: Read, O: Write, E: Write>(
+/// Serves the words after the program's own name: `threads` runs an accepted program by workers on threads, and waits for them; `check`
+/// with `--helpers` checks a certificate by helpers on threads, and waits for them; other words are served as `serve_explained` serves
+/// them.
+pub fn serve_parallel<H: Threads + Wait + Sync, F: Keeps, R: Read, O: Write, E: Write>(
+    rt: &H,
     alloc: Global,
     words: &[&str],
     files: &mut F,
@@ -154,11 +49,188 @@ pub fn serve<F: Files, R: Read, O: Write, E: Write>(
     err: &mut E,
 ) -> u8
     requires { (F.failed files.old).count < 18446744073709551615 }
-    ensures served { (is_whole : Bool) × Serves (texts words.now)
-        (world (F.holds files.old) (R.remaining input.old) (F.failed files.old) (F.failed files.new)) result is_whole
-        (O.contents out.old) (O.contents out.new) (E.contents err.old) (E.contents err.new) }
-    ensures one { HasOneReply (world (F.holds files.old) (R.remaining input.old) (F.failed files.old) (F.failed files.new))
-        (order_in (texts words.now)) }
+    ensures { ServesParallel (texts words.now) (F.holds files.old) (R.remaining input.old) (F.failed files.old) (F.failed files.new)
+        result (O.contents out.old) (O.contents out.new) (E.contents err.old) (E.contents err.new) }
 {
-    serve_and_tell(alloc, words, files, input, out, err).status
+    if is_threads(words) {
+        serve_threads(rt, alloc, words, files, input, out, err)
+    } else if is_helped(words) {
+        serve_check(rt, alloc, words, files, input, out, err)
+    } else {
+        serve_explained(alloc, words, files, input, out, err)
+    }
+}
+
+/// Whether the first word is `threads`, and what is behind it isn't one word that asks for help.
+fn is_threads(words: &[&str]) -> bool
+    ensures { result ≡ is_threads (texts words.now) }
+{
+    match words {
+        [first, behind @ ..] => *first == "threads" && !is_help(behind),
+        [] => false,
+    }
+}
+
+/// Serves the words of `threads`.
+fn serve_threads<H: Threads + Wait + Sync, F: Keeps, R: Read, O: Write, E: Write>(
+    rt: &H,
+    alloc: Global,
+    words: &[&str],
+    files: &mut F,
+    input: &mut R,
+    out: &mut O,
+    err: &mut E,
+) -> u8
+    requires { (F.failed files.old).count < 18446744073709551615 }
+    ensures served { IsThreadsReply (texts words.now) (F.holds files.old) (R.remaining input.old) (F.failed files.old) (F.failed files.new)
+        result (O.contents out.old) (O.contents out.new) (E.contents err.old) (E.contents err.new) }
+    ensures explained { order_in (texts words.now) ≡ None → length (unflagged (texts words.now)) < length (texts words.now)
+        → ThreadsThenExplains (unflagged (texts words.now)) (F.holds files.old) (R.remaining input.old) (F.failed files.old) (F.failed files.new)
+        result (O.contents out.old) (O.contents out.new) (E.contents err.old) (E.contents err.new) }
+{
+    match read(alloc, words) {
+        Ok(order) => match carry_out(rt, alloc, &order, files, input) {
+            Ok(ending) => show_ending(alloc, &ending, out, err).status,
+            Err(failure) => complain(alloc, &failure, err).status,
+        },
+        Err(WordsFault::Usage(usage)) => {
+            files.keep();
+            serve_unread(rt, alloc, words, usage, files, input, out, err)
+        }
+        Err(WordsFault::Memory) => complain(alloc, &Failure::Memory, err).status,
+    }
+}
+
+/// Serves words of `threads` that ask for nothing as they stand: without `--explain`, where that is among them.
+fn serve_unread<H: Threads + Wait + Sync, F: Keeps, R: Read, O: Write, E: Write>(
+    rt: &H,
+    alloc: Global,
+    words: &[&str],
+    usage: String,
+    files: &mut F,
+    input: &mut R,
+    out: &mut O,
+    err: &mut E,
+) -> u8
+    requires room { (F.failed files.old).count < 18446744073709551615 }
+    requires unread { order_in (texts words.now) ≡ None }
+    ensures served { IsThreadsReply (texts words.now) (F.holds files.old) (R.remaining input.old) (F.failed files.old) (F.failed files.new)
+        result (O.contents out.old) (O.contents out.new) (E.contents err.old) (E.contents err.new) }
+    ensures explained { length (unflagged (texts words.now)) < length (texts words.now)
+        → ThreadsThenExplains (unflagged (texts words.now)) (F.holds files.old) (R.remaining input.old) (F.failed files.old) (F.failed files.new)
+        result (O.contents out.old) (O.contents out.new) (E.contents err.old) (E.contents err.new) }
+{
+    match unflagged(alloc, words) {
+        Ok(plain) if plain.len() < words.len() => {
+            serve_flagged(rt, alloc, plain.as_slice(), files, input, out, err)
+        }
+        Ok(_) => complain(alloc, &advised(usage), err).status,
+        Err(_) => complain(alloc, &Failure::Memory, err).status,
+    }
+}
+
+/// Serves the words of `threads`, and then explains what was shown.
+fn serve_flagged<H: Threads + Wait + Sync, F: Keeps, R: Read, O: Write, E: Write>(
+    rt: &H,
+    alloc: Global,
+    words: &[&str],
+    files: &mut F,
+    input: &mut R,
+    out: &mut O,
+    err: &mut E,
+) -> u8
+    requires { (F.failed files.old).count < 18446744073709551615 }
+    ensures { ThreadsThenExplains (texts words.now) (F.holds files.old) (R.remaining input.old) (F.failed files.old) (F.failed files.new)
+        result (O.contents out.old) (O.contents out.new) (E.contents err.old) (E.contents err.new) }
+{
+    match read(alloc, words) {
+        Ok(order) => match carry_out(rt, alloc, &order, files, input) {
+            Ok(ending) => {
+                let served = show_ending(alloc, &ending, out, err);
+                follow(served, of_ending(alloc, &order, &ending, files.kept()), err)
+            }
+            Err(failure) => {
+                let served = complain(alloc, &failure, err);
+                follow(served, of_fault(alloc, &order, &failure, files.kept()), err)
+            }
+        },
+        Err(WordsFault::Usage(usage)) => complain(alloc, &advised(usage), err).status,
+        Err(WordsFault::Memory) => complain(alloc, &Failure::Memory, err).status,
+    }
+}
+
+/// What is shown of words that ask for nothing: why, and what describes them.
+fn advised<'a>(usage: String) -> Failure<'a>
+    ensures { WordsFail (failure_view result) }
+{
+    let mut text = usage;
+    match text.push_str(HINT) {
+        Ok(()) => Failure::Words(text),
+        Err(_) => Failure::Memory,
+    }
+}
+
+/// Shows what the command ends with.
+fn show_ending<O: Write, E: Write>(
+    alloc: Global,
+    ending: &Ending,
+    out: &mut O,
+    err: &mut E,
+) -> Served
+    ensures { (r : Reply) × IsOrNoMemory (ending_view ending.now) r × Shows r result.status result.told
+        (O.contents out.old) (O.contents out.new) (E.contents err.old) (E.contents err.new) }
+{
+    match ending {
+        Ending::Answer(answer) => show(alloc, answer, out, err),
+        Ending::Workers => show_refusal(alloc, NO_CREW, None, out, err),
+        Ending::Departed(at) => show_refusal(alloc, DEPARTED, Some(*at), out, err),
+    }
+}
+
+/// Shows a refusal by its number and the place that it names, if it names one.
+fn show_refusal<O: Write, E: Write>(
+    alloc: Global,
+    number: u32,
+    place: Option<Pos>,
+    out: &mut O,
+    err: &mut E,
+) -> Served
+    ensures { (r : Reply) × IsOrNoMemory (Refused number (place_of place)) r × Shows r result.status result.told
+        (O.contents out.old) (O.contents out.new) (E.contents err.old) (E.contents err.new) }
+{
+    match line(alloc, number, place) {
+        Ok(text) if send(out, text.as_slice()) => Served {
+            status: REFUSED,
+            told: true,
+        },
+        Ok(_) => Served {
+            told: tell(err, b"cannot write\n"),
+            status: WRONG,
+        },
+        Err(_) => complain(alloc, &Failure::Memory, err),
+    }
+}
+
+/// The line `refused N`, or `refused N PLACE`.
+fn line(alloc: Global, number: u32, place: Option<Pos>) -> Result<Vec<u8>, AllocError>
+    ensures { IfOk result (λ text. text.items ≡ refused_line number (place_of place)) }
+{
+    let mut buffer = Buffer::new();
+    let mut text = Vec::from_slice(alloc, b"refused ")?;
+    text.extend_from_slice(buffer.format(number).as_bytes())?;
+    push_place(&mut text, place)?;
+    text.push(b'\n')?;
+    Ok(text)
+}
+
+/// Puts a space and a place behind a text, if there is one.
+fn push_place(text: &mut Vec<u8>, place: Option<Pos>) -> Result<(), AllocError>
+    ensures { OnOk result (text.new.items ≡ text.old.items ++ flat_map place_text (place_of place)) }
+{
+    let Some(at) = place else {
+        return Ok(());
+    };
+    let mut buffer = Buffer::new();
+    text.push(b' ')?;
+    text.extend_from_slice(buffer.format(at).as_bytes())
 }

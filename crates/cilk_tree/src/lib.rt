@@ -15,10 +15,35 @@
 //! let tree = tree_of(alloc, &trace)?;
 //! let longest = span(alloc, &trace, &tree)?;
 //! ```
+//!
+//! The story of a run: a run as the threads that share its words see it.
+//!
+//! A scheduler that runs a program again along an accepted run needs few facts of that run: which event stands at each position, which
+//! come right before it, and with which values the cells open. That is a [`story::Story`]. Events that touch no word that threads share
+//! are steps of one thread alone; reads, writes, spawns, the `resume` after a spawn and the root's `end` are steps on shared words.
+//! [`laws::race_free_stories_are_orderly`] has what those words' rule stands on: each step on a word comes right after known events, each
+//! spawn has one `resume`, and of two accesses of a cell, at least one of them a write, the earlier is before the later.
+//!
+//! The plan of a run: what workers that run a program again along an accepted run may look at.
+//!
+//! A [`plan::Plan`] has the kinds of the run's events and the values with which its cells open. It holds no value of any event, so
+//! a worker knows only what it loads or computes; to a contract it is the whole run, a story. [`plan::Plan::of`] makes the plan of a run in
+//! which no two accesses race.
 #![tactic(auto)]
 
+pub mod along;
+pub mod blocks;
 pub mod building;
+pub mod earliest;
+pub mod frames;
+pub mod kind;
 pub mod laws;
 pub mod mark;
+mod opening;
+pub mod plan;
+pub mod plan_laws;
+pub mod plan_strands;
 pub mod span;
+pub mod story;
+pub mod story_laws;
 pub mod tree;

@@ -1,19 +1,19 @@
 //! A join box: the pieces of a block's children come in another order than the run's, and the `sync`'s own comes last.
 
 ghost use Rattle.std.specs.Prelude.{◌≡◌, ◌<◌, IfSome, None, length};
-ghost use Rattle.cilk_boxes.specs.Rows.{IsGood};
-ghost use Rattle.cilk_chains.specs.Chains.{standing};
-ghost use Rattle.cilk_turns.specs.Turns.{Works};
+ghost use Rattle.cilk_workers.specs.Rows.{IsGood};
+ghost use Rattle.cilk_replay.specs.Chains.{standing};
+ghost use Rattle.cilk_workers.specs.Turns.{Works};
 ghost use Rattle.cilk_workers.specs.Keys.{AreSyncs};
 
 use crate::works::{Blocks, Trial, tried};
-use cilk_boxes::join::{Boxed, JoinBox};
-use cilk_chains::chain::{Chain, Task};
+use cilk_workers::join::{Boxed, JoinBox};
+use cilk_replay::chain::{Chain, Task};
 use cilk_monoid::kind::MonoidKind;
-use cilk_pieces::piece::{Parts, Piece};
-use cilk_turns::shared::Shared;
-use cilk_turns::turn::{act, begin};
-use cilk_turns::work::{Turn, Work};
+use cilk_shared::piece::{Parts, Piece};
+use cilk_workers::shared::Shared;
+use cilk_workers::turn::{act, begin};
+use cilk_workers::work::{Turn, Work};
 use cilk_types::event::{Instance, Pos};
 use cilk_types::outcome::Final;
 use cilk_workers::doors::{Arrival, block_at, position};

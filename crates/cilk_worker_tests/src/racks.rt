@@ -2,16 +2,16 @@
 //! offered last.
 
 ghost use Rattle.std.specs.Prelude.{◌≡◌};
-ghost use Rattle.cilk_turns.specs.Turns.{Works};
+ghost use Rattle.cilk_workers.specs.Turns.{Works};
 ghost use Rattle.cilk_workers.specs.Names.{IsName};
 
 use crate::works::{Trial, tried};
-use cilk_chains::chain::Task;
-use cilk_racks::naming::Naming;
-use cilk_racks::rack::Rack;
-use cilk_turns::shared::Shared;
-use cilk_turns::turn::act;
-use cilk_turns::work::{Turn, Work};
+use cilk_replay::chain::Task;
+use cilk_workers::naming::Naming;
+use cilk_workers::rack::Rack;
+use cilk_workers::shared::Shared;
+use cilk_workers::turn::act;
+use cilk_workers::work::{Turn, Work};
 use cilk_types::event::Pos;
 use std::alloc::Global;
 use std::process::Abort;

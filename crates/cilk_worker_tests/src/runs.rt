@@ -5,7 +5,7 @@ use crate::gates::Counting;
 use crate::shown::left;
 use crate::texts::{accepted, input_of, planned};
 use crate::waits::{Job, in_time};
-use cilk_planning::program_plan::ProgramPlan;
+use cilk_plan::program_plan::ProgramPlan;
 use cilk_types::event::StrandNo;
 use cilk_types::input::Input;
 use std::alloc::Global;

@@ -1,26 +1,26 @@
 //! What a worker begins with on an accepted program's plan, without a crew.
 
 ghost use Rattle.std.specs.Prelude.{◌≡◌};
-ghost use Rattle.cilk_pieces.specs.Reducers.{HasFew};
-ghost use Rattle.cilk_plan.specs.Along.{IsAlong};
-ghost use Rattle.cilk_planning.specs.Plans.{IsStoryOn};
-ghost use Rattle.cilk_settling.specs.Accepted.{IsTableOf};
+ghost use Rattle.cilk_shared.specs.Reducers.{HasFew};
+ghost use Rattle.cilk_tree.specs.Along.{IsAlong};
+ghost use Rattle.cilk_plan.specs.Plans.{IsStoryOn};
+ghost use Rattle.cilk_threads.specs.Accepted.{IsTableOf};
 ghost use Rattle.cilk_shared.specs.Values.{OfYard};
 
 use crate::boxes::joined;
 use crate::racks::taken;
 use crate::texts::{accepted, input_of, planned};
-use cilk_courses::course::course;
+use cilk_plan::course::course;
 use cilk_determinacy::words::inputs_are_words;
-use cilk_pieces::piece::Piece;
-use cilk_pieces::reducers::Reducers;
-use cilk_planning::program_plan::ProgramPlan;
-use cilk_planning::yards::yard;
-use cilk_settling::laws::accepted_stories_have_numbers;
-use cilk_settling::table::plan_reducers;
+use cilk_shared::piece::Piece;
+use cilk_shared::reducers::Reducers;
+use cilk_plan::program_plan::ProgramPlan;
+use cilk_plan::yards::yard;
+use cilk_threads::laws::accepted_stories_have_numbers;
+use cilk_threads::table::plan_reducers;
 use cilk_shared::yard::{Segment, Yard};
-use cilk_turns::shared::Shared;
-use cilk_turns::turn::first;
+use cilk_workers::shared::Shared;
+use cilk_workers::turn::first;
 use cilk_types::event::Pos;
 use cilk_types::input::Input;
 use std::alloc::Global;

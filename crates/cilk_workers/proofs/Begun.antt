@@ -1,8 +1,8 @@
 -- Where a strand begins.
 use Rattle.std.proofs.Common.{◌≡◌, ℕ, ◌+◌, ◌<◌, ◌≤◌, List, slice_index_or, sym, subst}
 use Rattle.cilk_shared.specs.Values.{SegmentValue}
-use Rattle.cilk_story.specs.declared.story.Story.{Story}
-use Rattle.cilk_plan.specs.Strands.{AreFirsts, BeginsStrand}
+use Rattle.cilk_tree.specs.declared.story.Story.{Story}
+use Rattle.cilk_tree.specs.PlanStrands.{AreFirsts, BeginsStrand}
 use Rattle.cilk_workers.specs.Gates.{EndsWithFirst}
 
 pub begins : (s : Story) (strands : List ℕ) (g : SegmentValue) (p n : ℕ) → AreFirsts s.events strands → g.story ≡ s → n ≡ slice_index_or strands p 0 → 0 < n → p + 1 ≡ g.upto → g.from ≤ p → EndsWithFirst g n

@@ -9,7 +9,7 @@ use Rattle.std.specs.Prelude.{All}
 use Rattle.crossbeam_queue.specs.declared.array_queue.Doing.{Doing}
 use Rattle.crossbeam_queue.specs.declared.array_queue.Slotted.{Slotted}
 use Rattle.crossbeam_queue.specs.Passes.{Pass, IsPassOf}
-use Rattle.cilk_boxes.specs.declared.shelf.Shelf.{Shelf}
+use Rattle.cilk_workers.specs.declared.shelf.Shelf.{Shelf}
 use Rattle.cilk_workers.specs.Keys.{AreKeys, IsKeyAt}
 
 abbrev pub Key : Type 0

@@ -1,2 +1,15 @@
 pub mod Begun
+pub mod BegunTurn
+pub mod Boxes
+pub mod Due
+pub mod Ending
 pub mod Keys
+pub mod Merges
+pub mod Moves
+pub mod Numbered
+pub mod OfKind
+pub mod Planned
+pub mod RackKeys
+pub mod Rows
+pub mod Shelves
+pub mod Waits

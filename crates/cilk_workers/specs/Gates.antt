@@ -1,6 +1,6 @@
 -- Where strands begin.
 use Rattle.std.specs.Prelude.{◌≡◌, ℕ, ◌+◌, ◌≤◌}
-use Rattle.cilk_plan.specs.Strands.{BeginsStrand}
+use Rattle.cilk_tree.specs.PlanStrands.{BeginsStrand}
 use Rattle.cilk_shared.specs.Values.{SegmentValue}
 
 -- the last event of the segment is the strand's first

@@ -1,10 +1,10 @@
 -- What a worker has between two turns, and how it ends.
 use Rattle.std.specs.Prelude.{◌≡◌, ◌≤◌, ℤ}
-use Rattle.cilk_boxes.specs.Rows.{OfRun}
-use Rattle.cilk_pieces.specs.Pieces.{PieceValue}
-use Rattle.cilk_story.specs.Runs.{Departs}
-use Rattle.cilk_turns.specs.Shared.{SharedValue, story_in}
-use Rattle.cilk_turns.specs.Turns.{Works, HasEnded}
+use Rattle.cilk_workers.specs.Rows.{OfRun}
+use Rattle.cilk_shared.specs.Pieces.{PieceValue}
+use Rattle.cilk_tree.specs.Runs.{Departs}
+use Rattle.cilk_workers.specs.Shared.{SharedValue, story_in}
+use Rattle.cilk_workers.specs.Turns.{Works, HasEnded}
 use Rattle.cilk_workers.specs.declared.doors.Met.{Met}
 use Rattle.cilk_workers.specs.declared.doors.Met.TheVariants as mets
 use Rattle.cilk_workers.specs.declared.hand.Finish.{Finish}

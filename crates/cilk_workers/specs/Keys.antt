@@ -4,9 +4,9 @@ use Rattle.crossbeam_queue.specs.declared.array_queue.Doing.{Doing}
 use Rattle.crossbeam_queue.specs.declared.array_queue.Slotted.{Slotted}
 use Rattle.crossbeam_queue.specs.Passes.{Pass, IsPassOf}
 use Rattle.cilk_types.specs.declared.event.Event.TheVariants.{Sync}
-use Rattle.cilk_story.specs.Word.{event}
-use Rattle.cilk_boxes.specs.declared.shelf.Shelf.{Shelf}
-use Rattle.cilk_turns.specs.Shared.{SharedValue, story_in}
+use Rattle.cilk_tree.specs.Word.{event}
+use Rattle.cilk_workers.specs.declared.shelf.Shelf.{Shelf}
+use Rattle.cilk_workers.specs.Shared.{SharedValue, story_in}
 
 -- a `sync` stands at each position
 abbrev pub AreSyncs : SharedValue → List ℕ → Type 0

@@ -1,10 +1,10 @@
 -- The name of a run.
 use Rattle.std.specs.Prelude.{◌≡◌}
-use Rattle.cilk_boxes.specs.Rows.{RunValue}
-use Rattle.cilk_chains.specs.Courses.{CourseValue}
-use Rattle.cilk_chains.specs.declared.chain.Task.{Task}
-use Rattle.cilk_turns.specs.Shared.{SharedValue}
-use Rattle.cilk_racks.specs.Racks.{MayPick}
+use Rattle.cilk_workers.specs.Rows.{RunValue}
+use Rattle.cilk_replay.specs.Courses.{CourseValue}
+use Rattle.cilk_replay.specs.declared.chain.Task.{Task}
+use Rattle.cilk_workers.specs.Shared.{SharedValue}
+use Rattle.cilk_workers.specs.Racks.{MayPick}
 
 -- it names the run that the workers share, and that run's course alone, and its workers may take each other's tasks
 pub record IsName (named : RunValue) (is : CourseValue → Type 0) (taken : Task → Type 0) (y : SharedValue) : Type 0 where

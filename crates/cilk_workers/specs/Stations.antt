@@ -1,8 +1,8 @@
 -- What a worker works with.
-use Rattle.cilk_boxes.specs.Rows.{RunValue}
-use Rattle.cilk_chains.specs.Courses.{CourseValue}
-use Rattle.cilk_chains.specs.declared.chain.Task.{Task}
-use Rattle.cilk_plan.specs.Strands.{AreFirsts}
+use Rattle.cilk_workers.specs.Rows.{RunValue}
+use Rattle.cilk_replay.specs.Courses.{CourseValue}
+use Rattle.cilk_replay.specs.declared.chain.Task.{Task}
+use Rattle.cilk_tree.specs.PlanStrands.{AreFirsts}
 use Rattle.cilk_workers.specs.declared.station.Station.{Station}
 use Rattle.cilk_workers.specs.Keys.{AreSyncs}
 use Rattle.cilk_workers.specs.Names.{IsName}

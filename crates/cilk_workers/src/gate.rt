@@ -1,13 +1,13 @@
 //! What is told of strands as they begin.
 
 ghost use Rattle.std.specs.Prelude.{◌≡◌, slice_index_or};
-ghost use Rattle.cilk_boxes.specs.Rows.{IsGood};
-ghost use Rattle.cilk_plan.specs.Strands.{AreFirsts};
+ghost use Rattle.cilk_workers.specs.Rows.{IsGood};
+ghost use Rattle.cilk_tree.specs.PlanStrands.{AreFirsts};
 ghost use Rattle.cilk_workers.specs.Gates.{EndsWithFirst};
 
-use cilk_pieces::piece::Piece;
+use cilk_shared::piece::Piece;
 use cilk_shared::yard::Segment;
-use cilk_turns::shared::Shared;
+use crate::shared::Shared;
 use cilk_types::event::{Pos, StrandNo};
 
 /// Is called as each strand begins.

@@ -1,10 +1,10 @@
 //! What a worker has between two turns, and how it ends.
 
-use cilk_pieces::piece::Piece;
-use cilk_racks::lock::{Key, Lock};
-use cilk_racks::naming::Naming;
-use cilk_racks::rack::{Picker, Rack};
-use cilk_turns::work::Work;
+use cilk_shared::piece::Piece;
+use crate::lock::{Key, Lock};
+use crate::naming::Naming;
+use crate::rack::{Picker, Rack};
+use crate::work::Work;
 use cilk_types::event::Pos;
 
 /// How a worker ends.

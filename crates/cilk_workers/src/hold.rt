@@ -1,10 +1,10 @@
 //! Turns of a worker that holds a piece.
 
 ghost use Rattle.std.specs.Prelude.{◌≡◌, IfSome};
-ghost use Rattle.cilk_boxes.specs.Rows.{IsGood};
-ghost use Rattle.cilk_chains.specs.Chains.{standing};
-ghost use Rattle.cilk_racks.specs.Racks.{Of};
-ghost use Rattle.cilk_turns.specs.Turns.{HasEnded, Works};
+ghost use Rattle.cilk_workers.specs.Rows.{IsGood};
+ghost use Rattle.cilk_replay.specs.Chains.{standing};
+ghost use Rattle.cilk_workers.specs.Racks.{Of};
+ghost use Rattle.cilk_workers.specs.Turns.{HasEnded, Works};
 ghost use Rattle.cilk_workers.specs.Hands.{IsHand};
 ghost use Rattle.cilk_workers.specs.Keys.{AreKeys};
 ghost use Rattle.cilk_workers.specs.Stations.{IsStation};
@@ -13,13 +13,13 @@ use crate::doors::{Arrival, Met, block_at};
 use crate::gate::Gate;
 use crate::hand::{Finish, Hand, Tools};
 use crate::station::Station;
-use cilk_chains::chain::{Chain, Task};
-use cilk_pieces::piece::Piece;
-use cilk_racks::lock::{Key, wait};
-use cilk_racks::naming::Naming;
-use cilk_racks::rack::Rack;
-use cilk_turns::turn::act;
-use cilk_turns::work::{Turn, Work};
+use cilk_replay::chain::{Chain, Task};
+use cilk_shared::piece::Piece;
+use crate::lock::{Key, wait};
+use crate::naming::Naming;
+use crate::rack::Rack;
+use crate::turn::act;
+use crate::work::{Turn, Work};
 use std::sync::Wait;
 
 /// The most turns that a worker takes before it looks at what the others tell.

@@ -1,8 +1,8 @@
 //! A turn of a worker that has nothing.
 
 ghost use Rattle.std.specs.Prelude.{◌≤◌, IfSome};
-ghost use Rattle.cilk_boxes.specs.Rows.{OfRun};
-ghost use Rattle.cilk_racks.specs.Racks.{MayPick, Of};
+ghost use Rattle.cilk_workers.specs.Rows.{OfRun};
+ghost use Rattle.cilk_workers.specs.Racks.{MayPick, Of};
 ghost use Rattle.cilk_workers.specs.Hands.{IsHand};
 ghost use Rattle.cilk_workers.specs.Keys.{AreKeys};
 ghost use Rattle.cilk_workers.specs.Stations.{IsStation};
@@ -11,12 +11,12 @@ use crate::doors::block_at;
 use crate::gate::Gate;
 use crate::hand::{Finish, Hand, Tools};
 use crate::station::Station;
-use cilk_chains::chain::Task;
-use cilk_pieces::piece::Piece;
-use cilk_racks::lock::{Key, wait};
-use cilk_racks::naming::Naming;
-use cilk_racks::rack::{Picker, Rack};
-use cilk_turns::turn::begin;
+use cilk_replay::chain::Task;
+use cilk_shared::piece::Piece;
+use crate::lock::{Key, wait};
+use crate::naming::Naming;
+use crate::rack::{Picker, Rack};
+use crate::turn::begin;
 use cilk_types::event::Pos;
 use crossbeam_utils::Backoff;
 use std::sync::Wait;

@@ -2,8 +2,8 @@
 
 use crate::gate::{Gate, Watch};
 use crate::hand::Blocks;
-use cilk_racks::naming::Naming;
-use cilk_turns::shared::Shared;
+use crate::naming::Naming;
+use crate::shared::Shared;
 use std::alloc::Global;
 use std::sync::Wait;
 

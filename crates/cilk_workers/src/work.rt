@@ -1,38 +1,31 @@
-//! A worker's turns.
+//! What a worker has, and what a turn leads to.
 
-ghost use Rattle.cilk_workers.specs.Hands.{IsHand, IsFinish};
-ghost use Rattle.cilk_workers.specs.Keys.{AreKeys};
-ghost use Rattle.cilk_workers.specs.Stations.{IsStation};
+use cilk_replay::chain::{Chain, Task};
+use cilk_shared::piece::Piece;
+use cilk_types::event::Pos;
 
-use crate::gate::Gate;
-use crate::hand::{Finish, Hand, Tools};
-use crate::station::Station;
-use cilk_racks::naming::Naming;
-use crossbeam_utils::Backoff;
-use std::sync::Wait;
-use std::sync::atomic::{AtomicBool, Ordering};
+/// What a worker has in its hands: what was done, and where its frame goes on.
+#[derive(Drop)]
+pub struct Work {
+    pub piece: Piece,
+    pub chain: Chain,
+}
 
-impl<'a, 'b, N: Naming, R: Wait, G: Gate> Station<'a, 'b, N, R, G> {
-    /// A worker's turns, up to its end, which the flag tells the others. A worker that sees the flag ends.
-    pub fn work(&self, tools: &mut Tools<N>, stop: &AtomicBool, mut hand: Hand) -> Finish
-        requires station { IsStation N.run N.course N.taken self.now }
-        requires keys { AreKeys self.now.blocks.doors.now.items tools.old.keys.items }
-        requires hand { IsHand self.now.shared.now hand }
-        ensures { IsFinish self.now.shared.now result }
-    {
-        let backoff = Backoff::new();
-        for _ in self.rt.forever() {
-            let stopped = stop.load(Ordering::SeqCst);
-            hand = match hand {
-                Hand::Done(finish) => {
-                    stop.store(true, Ordering::SeqCst);
-                    return finish;
-                }
-                Hand::Holds(_) | Hand::Idle(_) if stopped => return Finish::Stopped,
-                Hand::Holds(work) => self.hold(tools, work),
-                Hand::Idle(piece) => self.pick(tools, &backoff, piece),
-            };
-        }
-        unreachable!()
-    }
+/// What a turn leads to, with the worker's piece and chain as the turn leaves them.
+#[derive(Drop)]
+pub enum Turn {
+    /// The worker goes on.
+    Goes,
+    /// The worker goes on with a child, and the continuation is offered.
+    Offers(Task),
+    /// The piece stands at a `sync`, and children of its block are elsewhere.
+    Arrives,
+    /// A spawned child has ended, or another took the continuation: the worker goes on no further with this chain.
+    Ended,
+    /// The root has ended, with this result.
+    Finished(i64),
+    /// The run departs from the plan there.
+    Departed(Pos),
+    /// There was no memory.
+    Stopped,
 }

@@ -6,8 +6,8 @@ use Rattle.cilk_program.specs.declared.syntax.ReducerPlace.TheVariants as places
 use Rattle.cilk_program.specs.Scopes.{Scope, instances_in}
 use Rattle.cilk_program.specs.SerialRun.{global_reducer}
 use Rattle.cilk_program.specs.Syntax.{Source}
-use Rattle.cilk_activations.specs.declared.activation.Activation.{Activation}
-use Rattle.cilk_activations.specs.Sight.{AreSmall, HasScope}
+use Rattle.cilk_frames.specs.declared.activation.Activation.{Activation}
+use Rattle.cilk_frames.specs.Sight.{AreSmall, HasScope}
 use Rattle.cilk_base_tests.specs.Activations.{turn_scope}
 use Rattle.cilk_base_tests.proofs.activations.three_frames.Goals as goal
 

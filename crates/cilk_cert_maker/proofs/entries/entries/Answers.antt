@@ -1,7 +1,7 @@
 use Rattle.std.proofs.Common.{List, length, ap, refl, subst, arith}
 use Rattle.cilk_types.specs.declared.event.Event.{Event}
-use Rattle.cilk_listing.specs.Listed.{ListsEvent, HasSource}
-use Rattle.cilk_listing.specs.Right.{EachAt}
+use Rattle.cilk_cert_maker.specs.Listed.{ListsEvent, HasSource}
+use Rattle.cilk_cert_maker.specs.Right.{EachAt}
 use Rattle.cilk_cert_maker.proofs.Listing.{lists_first, lists_next, fits_here}
 use Rattle.cilk_cert_maker.proofs.entries.entries.Goals as goal
 

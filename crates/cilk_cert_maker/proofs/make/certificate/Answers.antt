@@ -1,7 +1,7 @@
 use Rattle.std.proofs.Common.{subst, sym, ◌∙◌, rules, w64}
 use Rattle.std.proofs.lemmas.Int.{to_z-of_z}
 use Rattle.cilk_cert_text.specs.Certificates.{Contents, IsCertificate}
-use Rattle.cilk_listing.specs.Right.{IsRight}
+use Rattle.cilk_cert_maker.specs.Right.{IsRight}
 use Rattle.cilk_cert_maker.proofs.Numbered.{labels_fit, classes_fit, events_few, owners_few, is_right, is_certificate}
 use Rattle.cilk_cert_maker.proofs.make.certificate.Goals as goal
 

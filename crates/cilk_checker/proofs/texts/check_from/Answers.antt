@@ -1,6 +1,6 @@
 use Rattle.std.proofs.lemmas.Result.{IfErr-weaker, err_from_is_err_and}
 use Rattle.cilk_program.specs.Sources.{source}
-use Rattle.cilk_judge.specs.Judging.{meant}
+use Rattle.cilk_checker.specs.Judging.{meant}
 use Rattle.cilk_checker.proofs.Judged.{certified_kept, not_of_texts, texts_kept, true_answer}
 use Rattle.cilk_checker.proofs.OneVerdict.{one_by, only_by}
 use Rattle.cilk_checker.proofs.texts.check_from.Goals as goal

@@ -1,6 +1,6 @@
 use Rattle.std.proofs.Common.{refl}
-use Rattle.cilk_retelling.specs.declared.whole.Replay.{Replay}
-use Rattle.cilk_retelling.specs.Whole.{IsKept}
+use Rattle.cilk_helpers.specs.declared.whole.Replay.{Replay}
+use Rattle.cilk_helpers.specs.Whole.{IsKept}
 use Rattle.cilk_helpers.proofs.Blank.{blank, nothing}
 use Rattle.cilk_helpers.proofs.More.{more}
 use Rattle.cilk_helpers.proofs.depths.blanks.Goals as goal

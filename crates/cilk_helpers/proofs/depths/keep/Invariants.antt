@@ -1,7 +1,7 @@
 use Rattle.std.proofs.Common.{All, ℤ, List}
 use Rattle.cilk_program.specs.Syntax.{Source}
 use Rattle.cilk_lower.specs.Code.{CodeView}
-use Rattle.cilk_retelling.specs.Whole.{IsKept}
+use Rattle.cilk_helpers.specs.Whole.{IsKept}
 use Rattle.cilk_helpers.specs.Replayed.{AreReplayed}
 use Rattle.cilk_helpers.proofs.depths.keep.Given as goal
 

@@ -1,6 +1,6 @@
 use Rattle.std.proofs.Common.{All}
 use Rattle.cilk_program.specs.Sources.{source}
-use Rattle.cilk_retelling.specs.Whole.{IsKept}
+use Rattle.cilk_helpers.specs.Whole.{IsKept}
 use Rattle.cilk_helpers.specs.Replayed.{IsFitting}
 use Rattle.cilk_helpers.proofs.depths.replays.Given as goal
 

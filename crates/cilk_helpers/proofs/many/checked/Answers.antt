@@ -1,7 +1,7 @@
 use Rattle.std.proofs.Common.{ℕ, List, Some, IfOk, refl, sym, subst}
 use Rattle.std.proofs.lemmas.Result.{IfErr-weaker, err_from_is_err_and}
 use Rattle.cilk_program.specs.Sources.{source}
-use Rattle.cilk_judge.specs.Judging.{meant}
+use Rattle.cilk_checker.specs.Judging.{meant}
 use Rattle.cilk_checker.specs.Answers.{IsCertified}
 use Rattle.cilk_checker.specs.Texts.{IsTrueAnswer}
 use Rattle.cilk_checker.proofs.Judged.{certified_kept, texts_kept, true_answer}

@@ -1,5 +1,5 @@
 -- One more argument, and the end.
-use Rattle.cilk_scopes.specs.Tables.{names_of}
+use Rattle.cilk_names.specs.Tables.{names_of}
 use Rattle.cilk_names.proofs.Arguments.{faults_step, words_step, reducers_step, faults_end, words_end, reducers_end}
 use Rattle.cilk_names.proofs.calls.arguments.Goals as goal
 

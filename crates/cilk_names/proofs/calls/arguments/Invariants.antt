@@ -2,10 +2,10 @@
 use Rattle.std.proofs.Common.{◌≡◌, ◌++◌, map, drop}
 use Rattle.cilk_syntax.specs.Trees.{arguments_of}
 use Rattle.cilk_program.specs.Programs.{expression}
-use Rattle.cilk_scopes.specs.Faults.{earliest}
+use Rattle.cilk_names.specs.Faults.{earliest}
 use Rattle.cilk_names.specs.Misnamings.{arguments_faults}
 use Rattle.cilk_names.specs.Pass.{words_of, reducers_of}
-use Rattle.cilk_scopes.specs.Tables.{names_of}
+use Rattle.cilk_names.specs.Tables.{names_of}
 use Rattle.cilk_names.proofs.calls.arguments.Given as goal
 
 abbrev pub invariant-each : goal.invariant-each

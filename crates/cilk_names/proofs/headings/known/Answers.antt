@@ -2,9 +2,9 @@
 use Rattle.std.proofs.Common.{◌≡◌, ℕ, List, [], sym, ap, ◌∙◌, arith}
 use Rattle.std.specs.Option.{option_or}
 use Rattle.cilk_syntax.specs.Trees.{item, items_of}
-use Rattle.cilk_scopes.specs.Names.{Names, Scope, empty}
+use Rattle.cilk_names.specs.Names.{Names, Scope, empty}
 use Rattle.cilk_names.specs.Contexts.{functions_known, with_item}
-use Rattle.cilk_scopes.specs.Tables.{names_of, scope_of}
+use Rattle.cilk_names.specs.Tables.{names_of, scope_of}
 use Rattle.cilk_names.proofs.Functions.{known_step, known_end, known_names, counted_most}
 use Rattle.cilk_names.proofs.headings.known.Goals as goal
 

@@ -3,7 +3,7 @@ use Rattle.std.proofs.Common.{◌≡◌, ℕ, ◌≤◌, List, [], drop}
 use Rattle.std.specs.Option.{option_or}
 use Rattle.cilk_syntax.specs.Trees.{items_of}
 use Rattle.cilk_names.specs.Contexts.{functions_known}
-use Rattle.cilk_scopes.specs.Tables.{names_of, scope_of}
+use Rattle.cilk_names.specs.Tables.{names_of, scope_of}
 use Rattle.cilk_names.proofs.headings.known.Given as goal
 
 abbrev pub invariant-each : goal.invariant-each

@@ -7,7 +7,7 @@ use Rattle.cilk_program.specs.Programs.{function, loop}
 use Rattle.std.proofs.Common.{false}
 use Rattle.cilk_names.specs.declared.items.Pass.{Pass}
 use Rattle.cilk_names.specs.Globals.{start, behind_items}
-use Rattle.cilk_scopes.specs.Faults.{earliest}
+use Rattle.cilk_names.specs.Faults.{earliest}
 use Rattle.cilk_names.specs.Misnamings.{items_faults}
 use Rattle.cilk_names.specs.Pass.{items_functions, items_loops}
 use Rattle.cilk_names.specs.States.{known_of}

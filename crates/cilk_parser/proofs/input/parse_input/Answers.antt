@@ -1,7 +1,7 @@
 use Rattle.std.proofs.Common.{◌≡◌, ◌+◌, [], length, arith, rules, append_assoc, append-nil, subst, w64, SFits}
 use Rattle.std.proofs.lemmas.Grind.{common_steps}
 use Rattle.std.proofs.lemmas.Int.{to_z-of_z}
-use Rattle.cilk_texts.specs.Inputs.{Skipped, Found, NoNumber, OneTooMany, Behind, Beyond, Fails}
+use Rattle.cilk_parser.specs.Inputs.{Skipped, Found, NoNumber, OneTooMany, Behind, Beyond, Fails}
 use Rattle.cilk_parser.proofs.InputLaws.{nothing_left}
 use Rattle.cilk_parser.proofs.input.parse_input.Goals as goal
 

@@ -1,6 +1,6 @@
 use Rattle.std.proofs.Common.{ℕ, ◌≤◌, ℤ, List, ◌++◌, length}
-use Rattle.cilk_texts.specs.declared.fault.TextNumber.{TextNumber}
-use Rattle.cilk_texts.specs.Inputs.{Holds, Fails}
+use Rattle.cilk_parser.specs.declared.fault.TextNumber.{TextNumber}
+use Rattle.cilk_parser.specs.Inputs.{Holds, Fails}
 use Rattle.cilk_parser.proofs.input.parse_input.Given as goal
 
 abbrev pub invariant-each : goal.invariant-each

@@ -1,6 +1,6 @@
 use Rattle.std.proofs.Common.{◌≡◌, true, rules, sym, ap, ◌∙◌, w64, SFits}
 use Rattle.std.proofs.lemmas.Int.{to_z-of_z}
-use Rattle.cilk_texts.specs.Inputs.{starts_word, number_in}
+use Rattle.cilk_parser.specs.Inputs.{starts_word, number_in}
 use Rattle.cilk_parser.proofs.InputLaws.{word_behind}
 use Rattle.cilk_parser.proofs.input.piece.Goals as goal
 

@@ -1,8 +1,8 @@
 use Rattle.std.proofs.Common.{◌≡◌, pos, rules, slice_index_or}
-use Rattle.cilk_token.specs.declared.token.Kind.TheVariants as kinds
-use Rattle.cilk_token.specs.declared.token.Token.{Token}
-use Rattle.cilk_grammar.proofs.Lists.{spells_reducer}
-use Rattle.cilk_grammar.proofs.Stopping.{first_is, if_ok}
+use Rattle.cilk_syntax.specs.declared.token.Kind.TheVariants as kinds
+use Rattle.cilk_syntax.specs.declared.token.Token.{Token}
+use Rattle.cilk_syntax.proofs.Lists.{spells_reducer}
+use Rattle.cilk_syntax.proofs.Stopping.{first_is, if_ok}
 use Rattle.cilk_parser.proofs.items.declaration.Goals as goal
 
 pub returns-in_ok-rest-in-CilkReducer-clause-tree : goal.returns-in_ok-rest-in-CilkReducer-clause-tree

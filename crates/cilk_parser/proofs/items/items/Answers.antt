@@ -1,11 +1,11 @@
 use Rattle.std.proofs.Common.{◌≡◌, false, [], ◌∷◌, ◌∙◌, refl}
 use Rattle.cilk_syntax.specs.declared.tree.ReturnType.{ReturnType}
 use Rattle.cilk_syntax.specs.declared.tree.ReturnType.TheVariants as types
-use Rattle.cilk_grammar.specs.Expected.{Items, Goes, behind_type, after}
-use Rattle.cilk_grammar.specs.Grammar.{type_of}
-use Rattle.cilk_grammar.proofs.Lists.{items_push}
-use Rattle.cilk_grammar.proofs.Runs.{takes}
-use Rattle.cilk_grammar.proofs.Stopping.{handed, along}
+use Rattle.cilk_syntax.specs.Expected.{Items, Goes, behind_type, after}
+use Rattle.cilk_syntax.specs.Grammar.{type_of}
+use Rattle.cilk_syntax.proofs.Lists.{items_push}
+use Rattle.cilk_syntax.proofs.Runs.{takes}
+use Rattle.cilk_syntax.proofs.Stopping.{handed, along}
 use Rattle.cilk_parser.proofs.items.items.Goals as goal
 
 typed : (r : ReturnType) → after (Items ∷ []) 0 (type_of r) ≡ Goes false (behind_type r (Items ∷ [])) 0

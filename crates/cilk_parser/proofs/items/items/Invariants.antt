@@ -1,6 +1,6 @@
 use Rattle.std.proofs.Common.{◌≡◌, [], ◌∷◌, length}
-use Rattle.cilk_grammar.specs.Expected.{Items, run}
-use Rattle.cilk_grammar.specs.Grammar.{SpellsItems}
+use Rattle.cilk_syntax.specs.Expected.{Items, run}
+use Rattle.cilk_syntax.specs.Grammar.{SpellsItems}
 use Rattle.cilk_syntax.specs.Trees.{items_of}
 use Rattle.cilk_parser.proofs.items.items.Given as goal
 

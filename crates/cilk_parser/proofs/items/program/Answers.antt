@@ -1,6 +1,6 @@
 use Rattle.std.proofs.Common.{◌≡◌, ◌≤◌, List, [], ◌∷◌, length, refl, arith, ◌∙◌}
-use Rattle.cilk_token.specs.declared.token.Token.{Token}
-use Rattle.cilk_grammar.specs.Expected.{Unexpected, run}
+use Rattle.cilk_syntax.specs.declared.token.Token.{Token}
+use Rattle.cilk_syntax.specs.Expected.{Unexpected, run}
 use Rattle.cilk_parser.proofs.items.program.Goals as goal
 
 -- where nothing is expected, what is left is refused

@@ -1,9 +1,9 @@
 use Rattle.std.proofs.Common.{◌∷◌, ◌∙◌, refl, arith}
 use Rattle.std.proofs.lemmas.Grind.{common_steps}
-use Rattle.cilk_token.specs.declared.token.Kind.TheVariants as kinds
-use Rattle.cilk_grammar.specs.Expected.{Named, Initial, Variables}
-use Rattle.cilk_grammar.proofs.Lists.{variables_push}
-use Rattle.cilk_grammar.proofs.Runs.{takes}
+use Rattle.cilk_syntax.specs.declared.token.Kind.TheVariants as kinds
+use Rattle.cilk_syntax.specs.Expected.{Named, Initial, Variables}
+use Rattle.cilk_syntax.proofs.Lists.{variables_push}
+use Rattle.cilk_syntax.proofs.Runs.{takes}
 use Rattle.cilk_parser.proofs.items.variables.Goals as goal
 
 pub each-preserved : goal.each-preserved

@@ -1,6 +1,6 @@
 use Rattle.std.proofs.Common.{◌≡◌, ◌≤◌, List, ◌∷◌, length}
-use Rattle.cilk_grammar.specs.Expected.{Symbol, Initial, Variables, run}
-use Rattle.cilk_grammar.specs.Grammar.{SpellsVariables}
+use Rattle.cilk_syntax.specs.Expected.{Symbol, Initial, Variables, run}
+use Rattle.cilk_syntax.specs.Grammar.{SpellsVariables}
 use Rattle.cilk_parser.proofs.items.variables.Given as goal
 
 abbrev pub invariant-each : goal.invariant-each

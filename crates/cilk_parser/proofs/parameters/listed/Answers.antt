@@ -1,10 +1,10 @@
 use Rattle.std.proofs.Common.{◌∷◌, ◌∙◌, refl, arith}
 use Rattle.std.proofs.lemmas.Grind.{common_steps}
-use Rattle.cilk_token.specs.declared.token.Kind.TheVariants as kinds
-use Rattle.cilk_grammar.specs.declared.marks.Punct.TheVariants as marks
-use Rattle.cilk_grammar.specs.Expected.{One, Parameter, MoreParameters}
-use Rattle.cilk_grammar.proofs.Lists.{parameters_push}
-use Rattle.cilk_grammar.proofs.Runs.{takes}
+use Rattle.cilk_syntax.specs.declared.token.Kind.TheVariants as kinds
+use Rattle.cilk_syntax.specs.declared.marks.Punct.TheVariants as marks
+use Rattle.cilk_syntax.specs.Expected.{One, Parameter, MoreParameters}
+use Rattle.cilk_syntax.proofs.Lists.{parameters_push}
+use Rattle.cilk_syntax.proofs.Runs.{takes}
 use Rattle.cilk_parser.proofs.parameters.listed.Goals as goal
 
 pub each-preserved : goal.each-preserved

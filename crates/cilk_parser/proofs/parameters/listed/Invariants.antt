@@ -1,6 +1,6 @@
 use Rattle.std.proofs.Common.{◌≡◌, ◌<◌, List, ◌∷◌, length}
-use Rattle.cilk_grammar.specs.Expected.{Symbol, Parameter, MoreParameters, run}
-use Rattle.cilk_grammar.specs.Grammar.{SpellsListed}
+use Rattle.cilk_syntax.specs.Expected.{Symbol, Parameter, MoreParameters, run}
+use Rattle.cilk_syntax.specs.Grammar.{SpellsListed}
 use Rattle.cilk_parser.proofs.parameters.listed.Given as goal
 
 abbrev pub invariant-each : goal.invariant-each

@@ -1,7 +1,7 @@
 use Rattle.std.proofs.Common.{◌≡◌, [], ◌∷◌, ap, ◌∙◌, length, arith, rules}
-use Rattle.cilk_grammar.specs.Expected.{Items, Whole, Unexpected, PastLimit, run}
-use Rattle.cilk_grammar.specs.Grammar.{SpellsProgram}
-use Rattle.cilk_texts.specs.Texts.{place_of}
+use Rattle.cilk_syntax.specs.Expected.{Items, Whole, Unexpected, PastLimit, run}
+use Rattle.cilk_syntax.specs.Grammar.{SpellsProgram}
+use Rattle.cilk_parser.specs.Texts.{place_of}
 use Rattle.cilk_syntax.specs.Trees.{items_of}
 use Rattle.cilk_parser.proofs.Laws.{refusal, past_limit, keeps}
 use Rattle.cilk_parser.proofs.parse.parse.Goals as goal

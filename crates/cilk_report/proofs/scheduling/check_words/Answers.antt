@@ -2,7 +2,7 @@ use Rattle.std.proofs.Common.{◌∷◌, ap, ◌∙◌}
 use Rattle.std.specs.Prelude.{codes}
 use Rattle.cilk_report.proofs.Plain.{plain_texts}
 use Rattle.cilk_report.specs.Explained.{unflagged}
-use Rattle.cilk_words.specs.Words.{texts}
+use Rattle.cilk_messages.specs.Words.{texts}
 use Rattle.cilk_report.proofs.scheduling.check_words.Goals as goal
 
 pub returns : goal.returns

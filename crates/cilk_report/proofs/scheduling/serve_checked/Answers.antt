@@ -1,8 +1,8 @@
 use Rattle.std.proofs.Common.{subst, sym}
 use Rattle.cilk_report.proofs.Replies.{IsUsage, asked_for, ended, failed, refused, silence, starved, unasked}
 use Rattle.cilk_report.specs.Explained.{Checked, Told}
-use Rattle.cilk_tool.specs.Replies.{answer_view}
-use Rattle.cilk_words.specs.declared.words.WordsFault.{WordsFault}
+use Rattle.cilk_commands.specs.Replies.{answer_view}
+use Rattle.cilk_messages.specs.declared.words.WordsFault.{WordsFault}
 use Rattle.cilk_report.proofs.scheduling.serve_checked.Goals as goal
 
 pub returns-in-Ok-Some : goal.returns-in-Ok-Some

@@ -1,8 +1,8 @@
 use Rattle.std.proofs.Common.{List, ap, subst, ◌∙◌}
 use Rattle.cilk_report.proofs.Replies.{silence, starved}
 use Rattle.cilk_report.specs.Explained.{Checked, Schedules}
-use Rattle.cilk_tool.specs.Replies.{Text}
-use Rattle.cilk_words.specs.Words.{texts}
+use Rattle.cilk_commands.specs.Replies.{Text}
+use Rattle.cilk_messages.specs.Words.{texts}
 use Rattle.cilk_report.proofs.scheduling.serve_schedule.Goals as goal
 
 pub returns-in-Ok : goal.returns-in-Ok

@@ -2,8 +2,8 @@ use Rattle.std.proofs.Common.{refl, subst, sym}
 use Rattle.cilk_report.proofs.Measuring as measuring
 use Rattle.cilk_report.proofs.Replies.{IsUsage, ended, failed, of_kept, silence, starved, unasked}
 use Rattle.cilk_report.specs.Explained.{Checked, Measures, Schedules, Served, ServesExplained, ServesThenExplains, unflagged, words_of_check}
-use Rattle.cilk_words.specs.Words.{texts}
-use Rattle.cilk_words.specs.declared.words.WordsFault.{WordsFault}
+use Rattle.cilk_messages.specs.Words.{texts}
+use Rattle.cilk_messages.specs.declared.words.WordsFault.{WordsFault}
 use Rattle.cilk_report.proofs.serving.serve_explained.Goals as goal
 
 pub returns-in-Ok-carry_out-clause-served : goal.returns-in-Ok-carry_out-clause-served

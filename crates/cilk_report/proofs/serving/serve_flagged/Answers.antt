@@ -1,6 +1,6 @@
 use Rattle.std.proofs.Common.{subst, sym}
 use Rattle.cilk_report.proofs.Replies.{IsUsage, ended, failed, refused, silence, starved, unasked}
-use Rattle.cilk_words.specs.declared.words.WordsFault.{WordsFault}
+use Rattle.cilk_messages.specs.declared.words.WordsFault.{WordsFault}
 use Rattle.cilk_report.proofs.serving.serve_flagged.Goals as goal
 
 pub returns-in-Ok-carry_out : goal.returns-in-Ok-carry_out

@@ -1,7 +1,7 @@
 use Rattle.std.proofs.Common.{ap, refl, ◌∙◌}
 use Rattle.cilk_report.proofs.Measuring.{starved}
 use Rattle.cilk_report.proofs.Replies.{silence}
-use Rattle.cilk_words.specs.Words.{texts}
+use Rattle.cilk_messages.specs.Words.{texts}
 use Rattle.cilk_report.proofs.serving.serve_measure.Goals as goal
 
 pub serve_run-requires-clause-plain : goal.serve_run-requires-clause-plain

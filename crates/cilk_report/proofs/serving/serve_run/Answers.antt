@@ -1,8 +1,8 @@
 use Rattle.std.proofs.Common.{refl, subst, sym}
 use Rattle.cilk_report.proofs.Measuring.{named, starved, unnamed}
 use Rattle.cilk_report.proofs.Replies.{IsUsage, silence, unasked}
-use Rattle.cilk_words.specs.Words.{texts}
-use Rattle.cilk_words.specs.declared.words.WordsFault.{WordsFault}
+use Rattle.cilk_messages.specs.Words.{texts}
+use Rattle.cilk_messages.specs.declared.words.WordsFault.{WordsFault}
 use Rattle.cilk_report.proofs.serving.serve_run.Goals as goal
 
 pub show_measured-requires-clause-named : goal.show_measured-requires-clause-named

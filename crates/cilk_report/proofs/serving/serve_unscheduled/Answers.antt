@@ -3,9 +3,9 @@ use Rattle.std.proofs.lemmas.Bool.{true≢false}
 use Rattle.cilk_report.proofs.Plain.{as_many, fewer, plain_texts}
 use Rattle.cilk_report.proofs.Replies.{refused, silence, starved}
 use Rattle.cilk_report.specs.Explained.{About, Explained, Served, ServesThenExplains, unflagged}
-use Rattle.cilk_tool.specs.Replies.{Text}
-use Rattle.cilk_words.specs.Words.{texts}
-use Rattle.cilk_tool.specs.declared.reply.Failure.TheVariants as failures
+use Rattle.cilk_commands.specs.Replies.{Text}
+use Rattle.cilk_messages.specs.Words.{texts}
+use Rattle.cilk_commands.specs.declared.reply.Failure.TheVariants as failures
 use Rattle.cilk_report.proofs.serving.serve_unscheduled.Goals as goal
 
 pub returns-in-Ok-Text-clause-served : goal.returns-in-Ok-Text-clause-served

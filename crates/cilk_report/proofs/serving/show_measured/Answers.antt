@@ -1,10 +1,10 @@
 use Rattle.std.proofs.Common.{refl, subst, sym}
-use Rattle.cilk_measured.specs.Measured.{IsMeasureText}
+use Rattle.cilk_report.specs.Measured.{IsMeasureText}
 use Rattle.cilk_report.proofs.Measuring.{fails, starved}
 use Rattle.cilk_report.proofs.Replies.{silence}
 use Rattle.cilk_report.specs.Explained.{Measured}
-use Rattle.cilk_tool.specs.Replies.{Text}
-use Rattle.cilk_words.specs.Words.{texts}
+use Rattle.cilk_commands.specs.Replies.{Text}
+use Rattle.cilk_messages.specs.Words.{texts}
 use Rattle.cilk_report.proofs.serving.show_measured.Goals as goal
 
 pub returns-in-Ok-text_of : goal.returns-in-Ok-text_of

@@ -1,11 +1,11 @@
 use Rattle.std.proofs.Common.{refl, subst}
-use Rattle.cilk_activations.specs.declared.activation.Activation.{Activation}
+use Rattle.cilk_frames.specs.declared.activation.Activation.{Activation}
 use Rattle.cilk_join.specs.Joins.{MayArrive}
-use Rattle.cilk_board.specs.Events.{block_in}
-use Rattle.cilk_board.specs.declared.seat.Seat.{Seat}
-use Rattle.cilk_board.proofs.Changing.{changed_at}
-use Rattle.cilk_board.proofs.Placed.{get_there}
-use Rattle.cilk_board.proofs.Viewing.{viewing_at}
+use Rattle.cilk_scheduler.specs.Events.{block_in}
+use Rattle.cilk_scheduler.specs.declared.seat.Seat.{Seat}
+use Rattle.cilk_scheduler.proofs.Changing.{changed_at}
+use Rattle.cilk_scheduler.proofs.Placed.{get_there}
+use Rattle.cilk_scheduler.proofs.Viewing.{viewing_at}
 use Rattle.cilk_schedule.proofs.Answering.{always}
 use Rattle.cilk_schedule.proofs.Quieting.{joins}
 use Rattle.cilk_schedule.proofs.Standing.{on_err_stand, stand_joined}

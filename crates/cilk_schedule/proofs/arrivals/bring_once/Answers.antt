@@ -1,7 +1,7 @@
 use Rattle.std.proofs.Common.{refl, ap, ◌∙◌}
-use Rattle.cilk_activations.specs.declared.activation.Activation.{Activation}
-use Rattle.cilk_board.specs.declared.seat.Seat.{Seat}
-use Rattle.cilk_board.proofs.Placed.{get_there}
+use Rattle.cilk_frames.specs.declared.activation.Activation.{Activation}
+use Rattle.cilk_scheduler.specs.declared.seat.Seat.{Seat}
+use Rattle.cilk_scheduler.proofs.Placed.{get_there}
 use Rattle.cilk_schedule.proofs.Arriving.{own_passed}
 use Rattle.cilk_schedule.proofs.Workers.{same_at}
 use Rattle.cilk_schedule.proofs.arrivals.bring_once.Goals as goal

@@ -1,9 +1,9 @@
 use Rattle.std.proofs.Common.{◌+◌, ap}
-use Rattle.cilk_activations.specs.declared.activation.Activation.{Activation}
+use Rattle.cilk_frames.specs.declared.activation.Activation.{Activation}
 use Rattle.cilk_join.specs.Joins.{MayArrive}
-use Rattle.cilk_board.specs.Events.{block_in}
-use Rattle.cilk_board.specs.declared.seat.Seat.{Seat}
-use Rattle.cilk_board.proofs.Placed.{get_there}
+use Rattle.cilk_scheduler.specs.Events.{block_in}
+use Rattle.cilk_scheduler.specs.declared.seat.Seat.{Seat}
+use Rattle.cilk_scheduler.proofs.Placed.{get_there}
 use Rattle.cilk_schedule.proofs.Arriving.{on_if, own_of}
 use Rattle.cilk_schedule.proofs.Workers.{same_at}
 use Rattle.std.proofs.Common.{true, sym, subst}

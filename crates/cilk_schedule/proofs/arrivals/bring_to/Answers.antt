@@ -1,7 +1,7 @@
 use Rattle.std.proofs.Common.{refl, subst}
 use Rattle.cilk_join.specs.Products.{product}
 use Rattle.cilk_join.specs.Waits.{shown}
-use Rattle.cilk_board.specs.Events.{Arrives}
+use Rattle.cilk_scheduler.specs.Events.{Arrives}
 use Rattle.cilk_schedule.specs.Passing.{Arrived}
 use Rattle.cilk_schedule.proofs.Stepping.{if_ok}
 use Rattle.cilk_schedule.proofs.arrivals.bring_to.Goals as goal

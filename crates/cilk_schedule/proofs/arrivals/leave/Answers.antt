@@ -1,5 +1,5 @@
-use Rattle.cilk_board.specs.Parts.{freed}
-use Rattle.cilk_board.proofs.Parts.{altered_at}
+use Rattle.cilk_scheduler.specs.Parts.{freed}
+use Rattle.cilk_scheduler.proofs.Parts.{altered_at}
 use Rattle.cilk_schedule.proofs.arrivals.leave.Goals as goal
 
 pub returns-clause-has : goal.returns-clause-has

@@ -1,7 +1,7 @@
 use Rattle.std.proofs.Common.{rules, ◌≡◌, ℤ, sym, ap, ◌∙◌, subst, to_z, of_z, w64}
-use Rattle.cilk_activations.specs.declared.activation.Activation.{Activation}
-use Rattle.cilk_board.specs.declared.seat.Seat.{Seat}
-use Rattle.cilk_board.proofs.Placed.{get_there}
+use Rattle.cilk_frames.specs.declared.activation.Activation.{Activation}
+use Rattle.cilk_scheduler.specs.declared.seat.Seat.{Seat}
+use Rattle.cilk_scheduler.proofs.Placed.{get_there}
 use Rattle.cilk_schedule.specs.Ends.{PartsTo}
 use Rattle.cilk_schedule.specs.Sound.{IsQuiet}
 use Rattle.cilk_schedule.proofs.Answering.{always, on_ok}

@@ -1,9 +1,9 @@
 use Rattle.std.proofs.Common.{rules, ◌≡◌, ℤ, to_z, of_z, w64, slice_get, slice_set, refl, sym, ap, ◌∙◌, subst}
 use Rattle.std.proofs.lemmas.List.{length-set}
 use Rattle.cilk_program.specs.declared.ask.Ask.TheVariants as asks
-use Rattle.cilk_board.proofs.CellEvents.{written_here}
-use Rattle.cilk_board.proofs.Placed.{get_some, get_there}
-use Rattle.cilk_board.proofs.Viewing.{viewing_at}
+use Rattle.cilk_scheduler.proofs.CellEvents.{written_here}
+use Rattle.cilk_scheduler.proofs.Placed.{get_some, get_there}
+use Rattle.cilk_scheduler.proofs.Viewing.{viewing_at}
 use Rattle.cilk_schedule.specs.Ends.{PartsFrom, FindsParent}
 use Rattle.cilk_schedule.proofs.Turns.{end_ticks, ends_made}
 use Rattle.cilk_schedule.proofs.ending.end.Goals as goal

@@ -1,5 +1,5 @@
 use Rattle.std.proofs.Common.{refl}
-use Rattle.cilk_board.proofs.Placed.{get_there}
+use Rattle.cilk_scheduler.proofs.Placed.{get_there}
 use Rattle.cilk_schedule.specs.Ends.{ReturnsUp}
 use Rattle.cilk_schedule.proofs.ending.go_back.Goals as goal
 

@@ -1,5 +1,5 @@
-use Rattle.cilk_board.specs.Parts.{working}
-use Rattle.cilk_board.proofs.Parts.{altered_at}
+use Rattle.cilk_scheduler.specs.Parts.{working}
+use Rattle.cilk_scheduler.proofs.Parts.{altered_at}
 use Rattle.cilk_schedule.proofs.Quieting.{moved}
 use Rattle.cilk_schedule.proofs.ending.hold.Goals as goal
 

@@ -1,5 +1,5 @@
 use Rattle.std.proofs.Common.{rules, ◌≡◌, ℤ, Some, refl, ap, ◌∙◌, to_z, of_z, w64}
-use Rattle.cilk_outcome.specs.Leaving.{outcome_of}
+use Rattle.cilk_frames.specs.Leaving.{outcome_of}
 use Rattle.cilk_schedule.proofs.Parting.{leaves_by}
 use Rattle.cilk_schedule.proofs.ending.leave_run.Goals as goal
 

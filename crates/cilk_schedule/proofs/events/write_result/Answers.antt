@@ -3,10 +3,10 @@ use Rattle.std.proofs.Common.{ℤ, to_z, of_z, w64, rules}
 use Rattle.std.proofs.lemmas.List.{length-set}
 use Rattle.cilk_program.specs.declared.ask.Ask.TheVariants as asks
 use Rattle.cilk_frames.specs.declared.cursor.Answer.TheVariants as answers
-use Rattle.cilk_board.specs.Seats.{answered}
+use Rattle.cilk_scheduler.specs.Seats.{answered}
 use Rattle.cilk_schedule.proofs.Answering.{settles, ticks}
 use Rattle.cilk_schedule.proofs.Coming.{result_there, some_is}
-use Rattle.cilk_board.proofs.Placed.{get_there}
+use Rattle.cilk_scheduler.proofs.Placed.{get_there}
 use Rattle.cilk_types.specs.declared.event.Event.TheVariants as numbered
 use Rattle.cilk_schedule.specs.Acts as does
 use Rattle.cilk_schedule.specs.Acts.{Acts, MakesEvent}

@@ -5,12 +5,12 @@ use Rattle.cilk_schedule.specs.Sound.{HasCome, Settles}
 use Rattle.cilk_schedule.proofs.Answering.{both, on_ok}
 use Rattle.cilk_schedule.proofs.Turns.{comes, settles_made, strand_settles, strand_ticks}
 use Rattle.cilk_types.specs.declared.event.Event.TheVariants as events
-use Rattle.cilk_board.specs.Seats.{stranded}
+use Rattle.cilk_scheduler.specs.Seats.{stranded}
 use Rattle.cilk_schedule.specs.Acts as does
 use Rattle.cilk_schedule.specs.Acts.{Acts, MakesEvent}
 use Rattle.cilk_schedule.proofs.Started.{makes_start, if_both}
 use Rattle.cilk_schedule.proofs.Stepping.{if_ok, touched_still, touched_views}
-use Rattle.cilk_board.proofs.Placed.{get_some, get_there}
+use Rattle.cilk_scheduler.proofs.Placed.{get_some, get_there}
 use Rattle.cilk_schedule.proofs.making.make.Goals as goal
 use Rattle.cilk_schedule.proofs.Syncing.{none_of}
 use Rattle.cilk_schedule.proofs.Departing.{makes_end}

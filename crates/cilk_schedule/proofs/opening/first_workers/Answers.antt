@@ -1,6 +1,6 @@
 use Rattle.std.proofs.Common.{◌≡◌, ◌∷◌, ◌++◌, [], ℕ, List, length, slice_get, Some, ap, sym, ◌∙◌, subst, length-append, arith}
-use Rattle.cilk_board.specs.Parts.{OpensAs}
-use Rattle.cilk_board.specs.declared.seat.Worker.{Worker}
+use Rattle.cilk_scheduler.specs.Parts.{OpensAs}
+use Rattle.cilk_scheduler.specs.declared.seat.Worker.{Worker}
 use Rattle.cilk_schedule.proofs.FirstBoards.{each_more}
 use Rattle.cilk_schedule.proofs.opening.first_workers.Goals as goal
 

@@ -1,11 +1,11 @@
 use Rattle.std.proofs.Common.{◌≡◌, false, Option, Some, None, ℤ, List, Result, Err, IfOk, IfErr, refl, sym, ◌∙◌, subst}
 use Rattle.std.specs.Option.{is_some}
 use Rattle.cilk_lower.specs.Code.{CodeView}
-use Rattle.cilk_board.specs.declared.board.Board.{Board}
-use Rattle.cilk_board.specs.declared.choice.Choice.{Choice}
-use Rattle.cilk_board.specs.declared.choice.Choice.TheVariants as choices
-use Rattle.cilk_board.specs.declared.choice.Stop.{Stop}
-use Rattle.cilk_board.specs.declared.choice.Told.{Told}
+use Rattle.cilk_scheduler.specs.declared.board.Board.{Board}
+use Rattle.cilk_scheduler.specs.declared.choice.Choice.{Choice}
+use Rattle.cilk_scheduler.specs.declared.choice.Choice.TheVariants as choices
+use Rattle.cilk_scheduler.specs.declared.choice.Stop.{Stop}
+use Rattle.cilk_scheduler.specs.declared.choice.Told.{Told}
 use Rattle.cilk_schedule.specs.Choices.{CanChoose}
 use Rattle.cilk_schedule.specs.Faults.{FaultsAreStops}
 use Rattle.cilk_schedule.specs.Passing.{SkipsAreSteps, StealsAreSteps}

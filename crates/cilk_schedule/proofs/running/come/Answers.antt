@@ -1,9 +1,9 @@
 use Rattle.std.proofs.Common.{◌≡◌, refl, subst}
 use Rattle.cilk_schedule.proofs.Onward.{is_asked, is_ready}
 use Rattle.cilk_schedule.proofs.Workers.{same_at}
-use Rattle.cilk_board.specs.Asking.{IsReady}
-use Rattle.cilk_activations.specs.declared.activation.Activation.{Activation}
-use Rattle.cilk_board.specs.declared.seat.Seat.{Seat}
+use Rattle.cilk_scheduler.specs.Asking.{IsReady}
+use Rattle.cilk_frames.specs.declared.activation.Activation.{Activation}
+use Rattle.cilk_scheduler.specs.declared.seat.Seat.{Seat}
 use Rattle.cilk_schedule.proofs.running.come.Goals as goal
 
 pub go_on-requires-clause-ready : goal.go_on-requires-clause-ready

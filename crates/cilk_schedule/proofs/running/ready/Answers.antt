@@ -1,6 +1,6 @@
 use Rattle.std.proofs.Common.{◌≡◌, ◌∙◌, slice_get, Some, sym, ap}
-use Rattle.cilk_board.specs.Workers.{held_by}
-use Rattle.cilk_board.proofs.Placed.{there_at}
+use Rattle.cilk_scheduler.specs.Workers.{held_by}
+use Rattle.cilk_scheduler.proofs.Placed.{there_at}
 use Rattle.cilk_schedule.proofs.Workers.{is_held, some_of}
 use Rattle.cilk_schedule.proofs.running.ready.Goals as goal
 

@@ -1,5 +1,5 @@
 use Rattle.std.proofs.Common.{◌∙◌, ap, slice_get, arith}
-use Rattle.cilk_board.proofs.Placed.{get_some}
+use Rattle.cilk_scheduler.proofs.Placed.{get_some}
 use Rattle.cilk_schedule.proofs.running.refused.Goals as goal
 
 pub overflow_add-ticks : goal.overflow_add-ticks

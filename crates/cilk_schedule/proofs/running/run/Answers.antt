@@ -1,8 +1,8 @@
 use Rattle.std.proofs.Common.{◌-◌, refl, sym, ap, ◌∙◌, arith, slice_get}
 use Rattle.cilk_schedule.proofs.Started.{told_starts}
 use Rattle.cilk_schedule.proofs.Stepping.{told_steps}
-use Rattle.cilk_board.specs.declared.choice.Choice.TheVariants as choices
-use Rattle.cilk_board.proofs.Placed.{get_some}
+use Rattle.cilk_scheduler.specs.declared.choice.Choice.TheVariants as choices
+use Rattle.cilk_scheduler.proofs.Placed.{get_some}
 use Rattle.cilk_schedule.proofs.running.run.Goals as goal
 use Rattle.cilk_schedule.proofs.Syncing.{syncs_are_steps, waits_are_steps}
 use Rattle.cilk_schedule.proofs.Departing.{told_ends}

@@ -2,8 +2,8 @@ use Rattle.std.proofs.Common.{◌≡◌, length, sym, ap, ◌∙◌, subst, arit
 use Rattle.cilk_program.specs.declared.ask.Callee.TheVariants as callees
 use Rattle.cilk_lower.specs.Layout.{cells_in, function_frame}
 use Rattle.cilk_lower.specs.declared.layout.Layout.{Layout}
-use Rattle.cilk_board.specs.Events.{SeesAt}
-use Rattle.cilk_board.specs.Invoking.{IsChild}
+use Rattle.cilk_scheduler.specs.Events.{SeesAt}
+use Rattle.cilk_scheduler.specs.Invoking.{IsChild}
 use Rattle.cilk_schedule.proofs.Answering.{on_ok}
 use Rattle.cilk_schedule.proofs.Started.{if_both, no_touch, started_by}
 use Rattle.cilk_schedule.proofs.Stepping.{if_ok}

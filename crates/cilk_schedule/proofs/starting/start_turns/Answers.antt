@@ -2,7 +2,7 @@ use Rattle.std.proofs.Common.{◌≡◌, length, ap, ◌∙◌, subst, arith}
 use Rattle.cilk_program.specs.declared.ask.Callee.TheVariants as callees
 use Rattle.cilk_lower.specs.Layout.{cells_in}
 use Rattle.cilk_lower.specs.declared.layout.Layout.{Layout}
-use Rattle.cilk_board.specs.Invoking.{IsChild}
+use Rattle.cilk_scheduler.specs.Invoking.{IsChild}
 use Rattle.cilk_schedule.proofs.Answering.{on_ok}
 use Rattle.cilk_schedule.proofs.Started.{if_both, no_touch, started_by}
 use Rattle.cilk_schedule.proofs.Stepping.{if_ok}

@@ -1,4 +1,4 @@
-use Rattle.cilk_board.proofs.Viewing.{viewing_at}
+use Rattle.cilk_scheduler.proofs.Viewing.{viewing_at}
 use Rattle.cilk_schedule.proofs.thieves.clear.Goals as goal
 
 pub returns-clause-views : goal.returns-clause-views

@@ -1,5 +1,5 @@
 use Rattle.std.proofs.Common.{◌≡◌, true, false, slice_get, Some, None, sym, ap, ◌∙◌, subst}
-use Rattle.cilk_board.specs.Workers.{IsLocated, is_idle, offers}
+use Rattle.cilk_scheduler.specs.Workers.{IsLocated, is_idle, offers}
 use Rattle.cilk_schedule.proofs.Workers.{same_at}
 use Rattle.cilk_schedule.proofs.thieves.find.Goals as goal
 

@@ -2,8 +2,8 @@ use Rattle.std.proofs.Common.{nat_lt, sym, subst, refl, arith}
 use Rattle.std.proofs.lemmas.Bool.{ltb-true}
 use Rattle.cilk_join.specs.Joins.{IsOpen}
 use Rattle.cilk_join.specs.Waits.{shown}
-use Rattle.cilk_board.specs.Events.{block_in}
-use Rattle.cilk_board.proofs.Placed.{there_at}
+use Rattle.cilk_scheduler.specs.Events.{block_in}
+use Rattle.cilk_scheduler.proofs.Placed.{there_at}
 use Rattle.cilk_schedule.proofs.Workers.{holds_true}
 use Rattle.cilk_schedule.proofs.thieves.may_steal.Goals as goal
 

@@ -2,11 +2,11 @@ use Rattle.std.proofs.Common.{◌≡◌, refl, sym, ap, ap₂, ◌∙◌, arith}
 use Rattle.cilk_schedule.proofs.Sounds.{quiet_twice}
 use Rattle.cilk_schedule.proofs.Quieting.{joins, robs}
 use Rattle.cilk_schedule.proofs.Standing.{on_err_stand, stand_joined}
-use Rattle.cilk_activations.specs.declared.activation.Activation.{Activation}
-use Rattle.cilk_board.specs.Seats.{changed, robbed}
-use Rattle.cilk_board.specs.declared.seat.Seat.{Seat}
-use Rattle.cilk_board.proofs.Changing.{changed_at}
-use Rattle.cilk_board.proofs.Placed.{get_there}
+use Rattle.cilk_frames.specs.declared.activation.Activation.{Activation}
+use Rattle.cilk_scheduler.specs.Seats.{changed, robbed}
+use Rattle.cilk_scheduler.specs.declared.seat.Seat.{Seat}
+use Rattle.cilk_scheduler.proofs.Changing.{changed_at}
+use Rattle.cilk_scheduler.proofs.Placed.{get_there}
 use Rattle.cilk_schedule.proofs.Workers.{same_at}
 use Rattle.cilk_schedule.proofs.thieves.rob_at.Goals as goal
 

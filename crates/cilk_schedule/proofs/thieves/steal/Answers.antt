@@ -1,7 +1,7 @@
 use Rattle.std.proofs.Common.{◌≡◌, ◌-◌, ◌<◌, ℕ, suc, length, refl, sym, subst, arith}
-use Rattle.cilk_board.specs.declared.seat.Worker.{Worker}
-use Rattle.cilk_board.specs.declared.choice.Choice.TheVariants as choices
-use Rattle.cilk_board.specs.declared.choice.Told.TheVariants as told
+use Rattle.cilk_scheduler.specs.declared.seat.Worker.{Worker}
+use Rattle.cilk_scheduler.specs.declared.choice.Choice.TheVariants as choices
+use Rattle.cilk_scheduler.specs.declared.choice.Told.TheVariants as told
 use Rattle.cilk_schedule.specs.Choices.{CanSteal}
 use Rattle.cilk_schedule.specs.Passing.{StealsAreSteps}
 use Rattle.cilk_schedule.proofs.Stealing.{steals_are_steps, takes}

@@ -1,6 +1,6 @@
 use Rattle.std.proofs.Common.{◌≡◌, ◌+◌, ◌-◌, ◌<◌, ◌≤◌, suc, ◌∷◌, length, take, drop, sym, ap, ◌∙◌, subst, arith}
-use Rattle.cilk_lexer.specs.Lexing.{behind, front_of}
-use Rattle.cilk_lexer.specs.declared.lexer.Class.TheVariants.{Line}
+use Rattle.cilk_syntax.specs.Lexing.{behind, front_of}
+use Rattle.cilk_syntax.specs.declared.lexer.Class.TheVariants.{Line}
 use Rattle.cilk_script.specs.Scripts.{FailsAtLine, IsLine, IsScript, Last, Later, Long, LongLine, Orders, order_in, steps_of, without_return}
 use Rattle.cilk_script.proofs.Scripts.{handed, last_bad, line_bad, longer, nothing, parted}
 use Rattle.cilk_script.proofs.script.read.Goals as goal

@@ -1,6 +1,6 @@
 use Rattle.std.proofs.Common.{◌≡◌, suc, ◌+◌, ◌∷◌, List, [], length, sym, ap, ◌∙◌, subst, arith, rules}
 use Rattle.cilk_program.specs.declared.ask.Callee.TheVariants.{Function}
-use Rattle.cilk_activations.specs.Sight.{HasScope}
+use Rattle.cilk_frames.specs.Sight.{HasScope}
 use Rattle.cilk_frames.specs.Cursor.{CursorView}
 use Rattle.cilk_frames.specs.Following.{Stands}
 use Rattle.cilk_serial.specs.Scoped.{Activation}

@@ -5,7 +5,7 @@ use Rattle.cilk_program.specs.declared.program.GlobalReducer.{GlobalReducer}
 use Rattle.cilk_program.specs.Outcomes.{finals_from}
 use Rattle.cilk_program.specs.Sources.{source}
 use Rattle.cilk_program.specs.SerialRun.{global_reducer}
-use Rattle.cilk_meaning.proofs.Naming.{well_named_parts}
+use Rattle.cilk_program.proofs.Naming.{well_named_parts}
 use Rattle.cilk_serial.proofs.Endings.{leaves}
 use Rattle.cilk_serial.proofs.Finals.{kinds}
 use Rattle.cilk_serial.proofs.outcome.outcome.Goals as goal

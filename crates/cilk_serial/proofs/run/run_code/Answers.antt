@@ -4,7 +4,7 @@ use Rattle.cilk_types.specs.declared.fault.Fault.{Fault}
 use Rattle.cilk_types.specs.declared.limits.TheConstants.{MAX_EVENTS}
 use Rattle.cilk_program.specs.Outcomes.{StopsBy}
 use Rattle.cilk_program.specs.Sources.{source}
-use Rattle.cilk_meaning.proofs.Existence.{serial_run_is_short}
+use Rattle.cilk_program.proofs.Existence.{serial_run_is_short}
 use Rattle.cilk_serial.specs.SoFar.{HaltsHere}
 use Rattle.cilk_serial.proofs.run.run_code.Goals as goal
 

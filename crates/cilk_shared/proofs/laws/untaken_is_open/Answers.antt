@@ -1,6 +1,6 @@
 use Rattle.std.proofs.Common.{◌≡◌, ℕ, inl, inr}
-use Rattle.cilk_story.specs.declared.story.Story.{Story}
-use Rattle.cilk_story.specs.Word.{resume, what}
+use Rattle.cilk_tree.specs.declared.story.Story.{Story}
+use Rattle.cilk_tree.specs.Word.{resume, what}
 use Rattle.cilk_shared.specs.Rule.{Cont}
 use Rattle.cilk_shared.proofs.laws.untaken_is_open.Goals as goal
 

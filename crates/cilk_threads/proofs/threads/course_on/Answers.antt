@@ -1,7 +1,7 @@
 use Rattle.std.proofs.Common.{ℤ, List, sym, subst}
 use Rattle.std.proofs.lemmas.Result.{IfOk-weaker}
-use Rattle.cilk_courses.specs.Courses.{IsCourseOn}
-use Rattle.cilk_planning.specs.Plans.{IsStoryOn}
+use Rattle.cilk_plan.specs.Courses.{IsCourseOn}
+use Rattle.cilk_plan.specs.Plans.{IsStoryOn}
 use Rattle.cilk_threads.proofs.threads.course_on.Goals as goal
 
 pub course-requires : goal.course-requires

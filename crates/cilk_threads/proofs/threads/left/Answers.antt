@@ -4,10 +4,10 @@ use Rattle.cilk_lower.specs.Layout.{LaysOut}
 use Rattle.cilk_lower.specs.declared.layout.Layout.{Layout}
 use Rattle.cilk_program.specs.declared.program.Program.{Program}
 use Rattle.cilk_program.specs.Sources.{source}
-use Rattle.cilk_meaning.specs.Answered.{opening_cells}
-use Rattle.cilk_story.specs.declared.story.Story.{Story}
-use Rattle.cilk_planning.proofs.Telling.{for_ok}
-use Rattle.cilk_settling.specs.Finals.{IsMadeOf}
+use Rattle.cilk_program.specs.Answered.{opening_cells}
+use Rattle.cilk_tree.specs.declared.story.Story.{Story}
+use Rattle.cilk_plan.proofs.Telling.{for_ok}
+use Rattle.cilk_threads.specs.Finals.{IsMadeOf}
 use Rattle.cilk_threads.proofs.Left.{left_on, nowhere}
 use Rattle.cilk_threads.proofs.threads.left.Goals as goal
 

@@ -1,17 +1,27 @@
 use Rattle.std.proofs.Common.{ap₂, rules}
-use Rattle.cilk_judge.specs.Judging.{meant}
-use Rattle.cilk_tool.proofs.Replying.{refused_err, refused_ok, refused_whole}
+use Rattle.cilk_checker.specs.Judging.{meant}
+use Rattle.cilk_commands.proofs.Replying.{refused_whole}
+use Rattle.cilk_tool.proofs.Checked.{refuses, stays, unread}
 use Rattle.cilk_tool.proofs.running.checked.Goals as goal
 
-pub returns-in-Err-Refusal-clause-answer : goal.returns-in-Err-Refusal-clause-answer
-returns-in-Err-Refusal-clause-answer g c =
+pub returns-in-Ok-clause-beside : goal.returns-in-Ok-clause-beside
+returns-in-Ok-clause-beside g c =
     let made = c.new-source.ensures in
-    refused_ok c.refused.result c.args.path.now (g.F.Files.holds c.args.files.now c.args.path.now) (λ files. g.F.Files.failed files) c.args.files.now _
-    (meant c.args.program) c.args.input c.in-Err-Refusal.refusal c.refused.ensures.answer
+    stays (λ files. g.F.Files.failed files) (λ files. g.F.Files.holds files) c.args.files.now c.new-source.result.files.now c.check_run.new.source.files.now _
+    _ _ _ _ c.args.path.now c.args.other.now made.files made.path made.other c.check_run.ensures.kept (search rules) c.in-Ok.ensures.uncounted
+
+pub returns-in-Err-Unread-clause-failure : goal.returns-in-Err-Unread-clause-failure
+returns-in-Err-Unread-clause-failure g c =
+    let made = c.new-source.ensures in
+    unread (λ files. g.F.Files.failed files) (λ files. g.F.Files.holds files) c.args.files.now c.new-source.result.files.now c.check_run.new.source.files.now _
+    _ _ _ _ c.args.path.now c.args.other.now made.files made.path made.other c.check_run.ensures.kept (search rules)
+    (g.F.Files.holds c.args.files.now c.args.path.now) _ (meant c.args.program) c.args.input
+    c.in-Err-Unread.field-0 c.in-Err-Unread.field-0-is c.in-Err-Unread.ensures.unaccepted
+
+pub returns-in_ok-refused-in-Err-Refusal-clause-verdict : goal.returns-in_ok-refused-in-Err-Refusal-clause-verdict
+returns-in_ok-refused-in-Err-Refusal-clause-verdict g c =
+    let made = c.new-source.ensures in
+    refuses (λ files. g.F.Files.failed files) c.args.files.now _ c.in_ok-refused-in-Err-Refusal.field-0 c.args.path.now
+    (g.F.Files.holds c.args.files.now c.args.path.now) (meant c.args.program) c.args.input c.in-Err-Refusal.refusal c.in_ok-refused-in-Err-Refusal.ensures.answer
     (refused_whole _ _ _ _ _ _ _ c.in-Err-Refusal.field-0 _ (ap₂ (λ files path. g.F.Files.holds files path) made.files made.path)
     made.at (search rules) c.in-Err-Refusal.ensures.unaccepted)
-
-pub returns-in-Err-Refusal-clause-failure : goal.returns-in-Err-Refusal-clause-failure
-returns-in-Err-Refusal-clause-failure g c =
-    refused_err c.refused.result c.args.path.now (g.F.Files.holds c.args.files.now c.args.path.now) (λ files. g.F.Files.failed files) c.args.files.now _
-    (meant c.args.program) c.args.input c.refused.ensures.failure

@@ -1,19 +1,16 @@
-use Rattle.cilk_judge.specs.Judging.{meant}
-use Rattle.cilk_tool.specs.Serving.{Unjudged}
-use Rattle.cilk_tool.specs.Shown.{RunShows}
-use Rattle.cilk_tool.proofs.Replying.{handed, judged_err, judged_ok}
+use Rattle.std.proofs.Common.{sym}
+use Rattle.cilk_tool.proofs.Accepted.{departs, ran, starved}
 use Rattle.cilk_tool.proofs.running.run.Goals as goal
 
-pub returns-in_err-program-clause-failure : goal.returns-in_err-program-clause-failure
-returns-in_err-program-clause-failure g c =
-    handed c.from_residual.result c.in_err-program.field-0.0 _ c.from_residual.ensures.1 (Unjudged c.in_err-program.ensures.failure)
+pub returns-in-Ok-clause-answer : goal.returns-in-Ok-clause-answer
+returns-in-Ok-clause-answer g c =
+    ran c.in_ok-plan.plan c.args.accepted.now c.args.numbers.now c.args.workers c.in-Ok.outcome c.ended.result c.in_ok-plan.ensures c.in-Ok.ensures.ok
+    c.in-Ok.ensures.own c.ended.ensures.answer
 
-pub returns-clause-answer : goal.returns-clause-answer
-returns-clause-answer g c =
-    judged_ok RunShows c.run.result _ _ _ (meant c.in_ok-program.program) c.in_ok-program.input
-    c.in_ok-program.ensures.given c.run.ensures.ok
+pub returns-in-Ok-clause-failure : goal.returns-in-Ok-clause-failure
+returns-in-Ok-clause-failure g c = starved c.args.accepted.now c.args.numbers.now c.args.workers c.ended.result c.ended.ensures.failure
 
-pub returns-clause-failure : goal.returns-clause-failure
-returns-clause-failure g c =
-    judged_err RunShows c.run.result _ _ _ (meant c.in_ok-program.program) c.in_ok-program.input
-    c.in_ok-program.ensures.given c.run.ensures.err
+pub returns-in-Err-Departs-clause-answer : goal.returns-in-Err-Departs-clause-answer
+returns-in-Err-Departs-clause-answer g c =
+    departs c.in_ok-plan.plan c.args.accepted.now c.args.numbers.now c.args.workers _ c.in-Err-Departs.at _ c.in_ok-plan.ensures c.in-Err-Departs.field-0-is
+    (sym c.in-Err-Departs.at-is) c.laws.ensures.plan c.in-Err-Departs.ensures.err c.in-Err-Departs.ensures.stays

@@ -1,8 +1,8 @@
 use Rattle.std.proofs.Common.{◌≡◌, ℕ, Some, sym, subst}
 use Rattle.cilk_types.specs.declared.event.Event.TheVariants.{Sync}
-use Rattle.cilk_story.specs.Word.{event}
+use Rattle.cilk_tree.specs.Word.{event}
 use Rattle.cilk_shared.specs.Values.{YardValue}
-use Rattle.cilk_turns.specs.Shared.{story_in}
+use Rattle.cilk_workers.specs.Shared.{story_in}
 use Rattle.cilk_workers.proofs.Keys.{number_at}
 use Rattle.cilk_worker_tests.proofs.boxes.box_of.Goals as goal
 

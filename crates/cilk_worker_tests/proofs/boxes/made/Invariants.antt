@@ -1,5 +1,5 @@
 use Rattle.std.specs.Prelude.{◌≡◌, IfSome}
-use Rattle.cilk_turns.specs.Turns.{Works}
+use Rattle.cilk_workers.specs.Turns.{Works}
 use Rattle.cilk_worker_tests.proofs.boxes.made.Given as goal
 
 abbrev pub invariant-each : goal.invariant-each

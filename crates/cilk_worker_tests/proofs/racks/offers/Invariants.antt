@@ -1,4 +1,4 @@
-use Rattle.cilk_turns.specs.Turns.{Works}
+use Rattle.cilk_workers.specs.Turns.{Works}
 use Rattle.cilk_worker_tests.proofs.racks.offers.Given as goal
 
 abbrev pub invariant-each : goal.invariant-each

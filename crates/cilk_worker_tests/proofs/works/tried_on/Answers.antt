@@ -1,14 +1,14 @@
 use Rattle.std.proofs.Common.{◌≡◌, [], Some, refl, sym, subst}
 use Rattle.std.specs.Prelude.{All}
 use Rattle.cilk_types.specs.declared.event.Event.TheVariants.{Sync}
-use Rattle.cilk_story.specs.declared.story.Story.{Story}
-use Rattle.cilk_story.specs.Word.{event}
-use Rattle.cilk_plan.specs.Along.{IsAlong}
-use Rattle.cilk_pieces.specs.Pieces.{PieceValue}
-use Rattle.cilk_pieces.specs.Reducers.{events_at}
-use Rattle.cilk_pieces.specs.Settled.{AreSettled}
-use Rattle.cilk_boxes.specs.Rows.{OfRun, run_of}
-use Rattle.cilk_turns.specs.Shared.{SharedValue}
+use Rattle.cilk_tree.specs.declared.story.Story.{Story}
+use Rattle.cilk_tree.specs.Word.{event}
+use Rattle.cilk_tree.specs.Along.{IsAlong}
+use Rattle.cilk_shared.specs.Pieces.{PieceValue}
+use Rattle.cilk_shared.specs.Reducers.{events_at}
+use Rattle.cilk_shared.specs.Settled.{AreSettled}
+use Rattle.cilk_workers.specs.Rows.{OfRun, run_of}
+use Rattle.cilk_workers.specs.Shared.{SharedValue}
 use Rattle.cilk_threads.proofs.Cells.{cells_along}
 use Rattle.cilk_threads.proofs.Whole.{syncs_along}
 use Rattle.cilk_worker_tests.proofs.works.tried_on.Goals as goal

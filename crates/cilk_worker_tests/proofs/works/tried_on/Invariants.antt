@@ -1,7 +1,7 @@
 use Rattle.std.proofs.Common.{◌≡◌}
 use Rattle.std.specs.Prelude.{⊤}
-use Rattle.cilk_chains.specs.Courses.{CourseValue}
-use Rattle.cilk_chains.specs.declared.chain.Task.{Task}
+use Rattle.cilk_replay.specs.Courses.{CourseValue}
+use Rattle.cilk_replay.specs.declared.chain.Task.{Task}
 use Rattle.cilk_worker_tests.proofs.works.tried_on.Given as goal
 
 abbrev pub ghosts-taken : goal.ghosts-taken

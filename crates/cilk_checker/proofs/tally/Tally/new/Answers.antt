@@ -1,5 +1,5 @@
 use Rattle.std.proofs.Common.{refl, subst, sym}
-use Rattle.cilk_listing.specs.Sources.{AllFit}
+use Rattle.cilk_cert_maker.specs.Sources.{AllFit}
 use Rattle.cilk_checker.proofs.Firsts.{agrees_none}
 use Rattle.cilk_checker.proofs.tally.Tally.new.Goals as goal
 

@@ -2,13 +2,13 @@
 use Rattle.std.proofs.Common.{◌≡◌, ◌+◌, [], ◌∷◌, ◌++◌, length, map, refl, ap, ◌∙◌, length-append, rules}
 use Rattle.cilk_syntax.specs.Trees as trees
 use Rattle.cilk_program.specs.Programs.{function, statements}
-use Rattle.cilk_scopes.specs.declared.table.Meaning.TheVariants as meanings
-use Rattle.cilk_scopes.specs.Names.{declare}
-use Rattle.cilk_scopes.specs.Tables.{names_of}
+use Rattle.cilk_names.specs.declared.table.Meaning.TheVariants as meanings
+use Rattle.cilk_names.specs.Names.{declare}
+use Rattle.cilk_names.specs.Tables.{names_of}
 use Rattle.cilk_names.specs.States.{context_of, known_of}
 use Rattle.cilk_names.specs.declared.items.Pass.{Pass}
 use Rattle.cilk_names.proofs.AllItems.{function_known, function_made}
-use Rattle.cilk_scopes.proofs.Tables.{map_append}
+use Rattle.cilk_names.proofs.Tables.{map_append}
 use Rattle.cilk_names.proofs.items.Pass.function.Goals as goal
 
 pub returns-clause-known : goal.returns-clause-known

@@ -1,7 +1,7 @@
 -- What the variables so far come to, and those that are left.
 use Rattle.std.proofs.Common.{◌≡◌, drop}
 use Rattle.cilk_names.specs.Globals.{behind_line}
-use Rattle.cilk_scopes.specs.Faults.{earliest}
+use Rattle.cilk_names.specs.Faults.{earliest}
 use Rattle.cilk_names.specs.Misnamings.{line_faults}
 use Rattle.cilk_names.specs.States.{known_of}
 use Rattle.cilk_names.proofs.items.Pass.globals.Given as goal

@@ -3,7 +3,7 @@ use Rattle.std.proofs.Common.{◌≡◌, ◌++◌, map, drop}
 use Rattle.cilk_syntax.specs.Trees.{items_of}
 use Rattle.cilk_program.specs.Programs.{function, loop}
 use Rattle.cilk_names.specs.Globals.{behind_items}
-use Rattle.cilk_scopes.specs.Faults.{earliest}
+use Rattle.cilk_names.specs.Faults.{earliest}
 use Rattle.cilk_names.specs.Misnamings.{items_faults}
 use Rattle.cilk_names.specs.Pass.{items_functions, items_loops}
 use Rattle.cilk_names.specs.States.{known_of}

@@ -4,7 +4,7 @@ use Rattle.cilk_syntax.specs.Trees as trees
 use Rattle.cilk_program.specs.Programs.{loop, statement}
 use Rattle.cilk_names.specs.declared.scene.Frame.{Frame}
 use Rattle.cilk_names.specs.Contexts.{inside}
-use Rattle.cilk_scopes.specs.Faults.{earliest}
+use Rattle.cilk_names.specs.Faults.{earliest}
 use Rattle.cilk_names.specs.Misnamings.{statement_faults}
 use Rattle.cilk_names.specs.Pass.{loops_of}
 use Rattle.cilk_names.specs.States.{context_of}

@@ -3,7 +3,7 @@ use Rattle.std.proofs.Common.{◌≡◌, ◌++◌, map, drop}
 use Rattle.cilk_syntax.specs.Trees as trees
 use Rattle.cilk_program.specs.Programs.{loop}
 use Rattle.cilk_names.specs.Contexts.{behind_row}
-use Rattle.cilk_scopes.specs.Faults.{earliest}
+use Rattle.cilk_names.specs.Faults.{earliest}
 use Rattle.cilk_names.specs.Misnamings.{row_faults}
 use Rattle.cilk_names.specs.Pass.{row_of, row_loops}
 use Rattle.cilk_names.specs.States.{context_of}

@@ -2,11 +2,11 @@
 use Rattle.std.proofs.Common.{◌≡◌, ◌+◌, [], ◌∷◌, ◌++◌, length, map, ap, ◌∙◌, length-append, arith, rules}
 use Rattle.cilk_program.specs.declared.program.Loop.{Loop}
 use Rattle.cilk_program.specs.Programs.{loop}
-use Rattle.cilk_scopes.specs.Faults.{earliest}
-use Rattle.cilk_scopes.specs.Tables.{names_of}
+use Rattle.cilk_names.specs.Faults.{earliest}
+use Rattle.cilk_names.specs.Tables.{names_of}
 use Rattle.cilk_names.specs.States.{context_of}
 use Rattle.cilk_names.proofs.Behinds.{entered, not_again}
-use Rattle.cilk_scopes.proofs.Tables.{map_append}
+use Rattle.cilk_names.proofs.Tables.{map_append}
 use Rattle.cilk_names.proofs.scene.Resolver.enter.Goals as goal
 
 pub returns-clause-context : goal.returns-clause-context

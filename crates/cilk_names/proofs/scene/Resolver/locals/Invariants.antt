@@ -3,7 +3,7 @@ use Rattle.std.proofs.Common.{◌≡◌, ◌++◌, map, drop}
 use Rattle.cilk_syntax.specs.Trees.{locals_of}
 use Rattle.cilk_program.specs.Programs.{declaration}
 use Rattle.cilk_names.specs.Contexts.{behind_locals}
-use Rattle.cilk_scopes.specs.Faults.{earliest}
+use Rattle.cilk_names.specs.Faults.{earliest}
 use Rattle.cilk_names.specs.Misnamings.{locals_faults}
 use Rattle.cilk_names.specs.Pass.{declarations_of}
 use Rattle.cilk_names.specs.States.{context_of}

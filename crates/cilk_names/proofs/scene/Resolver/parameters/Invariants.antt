@@ -1,7 +1,7 @@
 -- What the parameters so far come to, and those that are left.
 use Rattle.std.proofs.Common.{◌≡◌, drop}
 use Rattle.cilk_names.specs.Contexts.{with_parameters}
-use Rattle.cilk_scopes.specs.Faults.{earliest}
+use Rattle.cilk_names.specs.Faults.{earliest}
 use Rattle.cilk_names.specs.Misnamings.{parameters_faults}
 use Rattle.cilk_names.specs.States.{context_of}
 use Rattle.cilk_names.proofs.scene.Resolver.parameters.Given as goal

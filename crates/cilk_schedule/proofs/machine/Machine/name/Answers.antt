@@ -1,7 +1,7 @@
 use Rattle.std.proofs.Common.{◌≡◌, ◌<◌, ◌++◌, ◌∷◌, [], MatchOption, length, sym, ap, ap₂, ◌∙◌, subst, arith}
-use Rattle.cilk_board.specs.Numbered.{AreNamed}
-use Rattle.cilk_board.specs.declared.choice.Stop.TheVariants as stops
-use Rattle.cilk_board.specs.declared.choice.Strand.{Strand}
+use Rattle.cilk_scheduler.specs.Numbered.{AreNamed}
+use Rattle.cilk_scheduler.specs.declared.choice.Stop.TheVariants as stops
+use Rattle.cilk_scheduler.specs.declared.choice.Strand.{Strand}
 use Rattle.cilk_schedule.proofs.machine.Machine.name.Goals as goal
 
 pub returns-clause-name : goal.returns-clause-name

@@ -1,6 +1,6 @@
 use Rattle.std.proofs.Common.{◌≡◌, length, rules}
 use Rattle.std.proofs.lemmas.Result.{IfOk-weaker}
-use Rattle.cilk_shown.specs.Showing.{ShowsBoard}
+use Rattle.cilk_schedule.specs.Showing.{ShowsBoard}
 use Rattle.cilk_schedule.specs.Shown.{ShowsReached}
 use Rattle.cilk_schedule.proofs.Shown.{shows_reached}
 use Rattle.cilk_schedule.proofs.machine.Machine.shown.Goals as goal

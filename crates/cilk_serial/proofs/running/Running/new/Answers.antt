@@ -2,7 +2,7 @@ use Rattle.std.proofs.Common.{refl, ap, sym, subst, ◌∙◌}
 use Rattle.cilk_types.specs.declared.limits.TheConstants.{MAX_TICKS}
 use Rattle.cilk_program.specs.Sources.{source}
 use Rattle.cilk_program.specs.declared.ask.Ask.{Ask}
-use Rattle.cilk_meaning.proofs.Naming.{well_named_parts}
+use Rattle.cilk_program.proofs.Naming.{well_named_parts}
 use Rattle.cilk_serial.specs.declared.state.State.{State}
 use Rattle.cilk_serial.specs.Going.{Going}
 use Rattle.cilk_serial.proofs.Driving.{first_shows, goes_first}

@@ -1,7 +1,7 @@
 use Rattle.std.proofs.Common.{◌≡◌, ◌≤◌, length, ap, sym, ◌∙◌, subst}
-use Rattle.cilk_story.specs.declared.story.Story.{Story}
-use Rattle.cilk_story.specs.Orders.{IsOrderly}
-use Rattle.cilk_story.specs.Runs.{IsAsked, Departs}
+use Rattle.cilk_tree.specs.declared.story.Story.{Story}
+use Rattle.cilk_tree.specs.Orders.{IsOrderly}
+use Rattle.cilk_tree.specs.Runs.{IsAsked, Departs}
 use Rattle.cilk_shared.specs.Values.{SegmentValue, IsAhead}
 use Rattle.cilk_shared.proofs.Steps.{departing, along}
 use Rattle.cilk_shared.proofs.yard.Segment.departs.Goals as goal

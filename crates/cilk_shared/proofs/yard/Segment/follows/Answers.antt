@@ -1,9 +1,9 @@
 use Rattle.std.proofs.Common.{◌≡◌, ◌≢◌, Some, ap, sym, ◌∙◌, subst}
 use Rattle.cilk_types.specs.declared.event.Event.TheVariants.{Sync}
-use Rattle.cilk_story.specs.declared.story.Story.{Story}
-use Rattle.cilk_story.specs.Word.{event}
-use Rattle.cilk_story.specs.Orders.{IsOrderly}
-use Rattle.cilk_story.specs.Runs.{IsAsked, IsFollowed}
+use Rattle.cilk_tree.specs.declared.story.Story.{Story}
+use Rattle.cilk_tree.specs.Word.{event}
+use Rattle.cilk_tree.specs.Orders.{IsOrderly}
+use Rattle.cilk_tree.specs.Runs.{IsAsked, IsFollowed}
 use Rattle.cilk_shared.specs.Values.{SegmentValue, IsAhead}
 use Rattle.cilk_shared.proofs.Steps.{up_event, along}
 use Rattle.cilk_shared.proofs.yard.Segment.follows.Goals as goal

@@ -1,5 +1,5 @@
 use Rattle.std.proofs.Common.{◌-◌, ◌<◌, subst, arith}
-use Rattle.cilk_story.specs.Runs.{IsFollowed}
+use Rattle.cilk_tree.specs.Runs.{IsFollowed}
 use Rattle.cilk_shared.specs.Values.{SegmentValue}
 use Rattle.cilk_shared.proofs.Steps.{along}
 use Rattle.cilk_shared.proofs.yard.Segment.has_followed.Goals as goal

@@ -1,5 +1,5 @@
 use Rattle.std.proofs.Common.{◌≡◌, ℕ, true, false, sym, ap, ◌∙◌, subst, arith}
-use Rattle.cilk_story.specs.Word.{what, IsWord}
+use Rattle.cilk_tree.specs.Word.{what, IsWord}
 use Rattle.cilk_shared.specs.Values.{SegmentValue}
 use Rattle.cilk_shared.proofs.Preceding.{refused, has_no_next, is_past, is_step, is_passed}
 use Rattle.cilk_shared.proofs.yard.Segment.may_pass.Goals as goal

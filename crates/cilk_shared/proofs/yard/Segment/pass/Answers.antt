@@ -1,6 +1,6 @@
 use Rattle.std.proofs.Common.{◌≡◌, ap, sym, ◌∙◌, subst, arith}
-use Rattle.cilk_story.specs.declared.story.Story.{Story}
-use Rattle.cilk_story.specs.Orders.{IsOrderly}
+use Rattle.cilk_tree.specs.declared.story.Story.{Story}
+use Rattle.cilk_tree.specs.Orders.{IsOrderly}
 use Rattle.cilk_shared.specs.Values.{SegmentValue, CanPass}
 use Rattle.cilk_shared.proofs.Steps.{passes, along}
 use Rattle.cilk_shared.proofs.yard.Segment.pass.Goals as goal

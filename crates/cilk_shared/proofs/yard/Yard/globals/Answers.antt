@@ -1,7 +1,7 @@
 use Rattle.std.proofs.Common.{◌≡◌, ◌+◌, ℕ, ℤ, length, get_or, sym, ap, ◌∙◌, subst, arith}
 use Rattle.std.specs.Int.{cast_signed, w64}
-use Rattle.cilk_story.specs.declared.story.Story.{Story}
-use Rattle.cilk_story.specs.Values.{HasValue, AreFinal}
+use Rattle.cilk_tree.specs.declared.story.Story.{Story}
+use Rattle.cilk_tree.specs.Values.{HasValue, AreFinal}
 use Rattle.cilk_shared.specs.Rule.{Sits}
 use Rattle.cilk_shared.specs.Values.{OfYard, YardValue}
 use Rattle.cilk_shared.proofs.Steps.{both}

@@ -1,7 +1,7 @@
 use Rattle.std.proofs.Common.{◌≡◌, sym, subst, arith}
-use Rattle.cilk_story.specs.declared.story.Story.{Story}
-use Rattle.cilk_story.specs.Word.{event, after, read, word, what, IsLine}
-use Rattle.cilk_story.proofs.Events.{read_what}
+use Rattle.cilk_tree.specs.declared.story.Story.{Story}
+use Rattle.cilk_tree.specs.Word.{event, after, read, word, what, IsLine}
+use Rattle.cilk_tree.proofs.Events.{read_what}
 use Rattle.cilk_shared.specs.Values.{OfYard, NextRead}
 use Rattle.cilk_shared.proofs.Steps.{both, stands, has_room, load_at, moves, moved_at}
 use Rattle.cilk_shared.proofs.yard.Yard.load.Goals as goal

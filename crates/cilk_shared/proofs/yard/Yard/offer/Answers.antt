@@ -1,6 +1,6 @@
 use Rattle.std.proofs.Common.{◌+◌, sym, ap, subst, arith}
-use Rattle.cilk_story.specs.declared.story.Story.{Story}
-use Rattle.cilk_story.specs.Word.{IsLine}
+use Rattle.cilk_tree.specs.declared.story.Story.{Story}
+use Rattle.cilk_tree.specs.Word.{IsLine}
 use Rattle.cilk_shared.specs.Values.{OfYard, NextSpawn}
 use Rattle.cilk_shared.proofs.Steps.{both, stands, is_inside, offer_at, moved_at}
 use Rattle.cilk_shared.proofs.yard.Yard.offer.Goals as goal

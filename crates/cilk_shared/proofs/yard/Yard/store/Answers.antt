@@ -1,9 +1,9 @@
 use Rattle.std.proofs.Common.{◌≡◌, sym, ap, ◌∙◌, subst, arith}
 use Rattle.std.specs.Int.{cast_unsigned, w64}
 use Rattle.std.proofs.lemmas.Int.{to_z-of_z}
-use Rattle.cilk_story.specs.declared.story.Story.{Story}
-use Rattle.cilk_story.specs.Word.{event, after, write, word, what, IsLine}
-use Rattle.cilk_story.proofs.Events.{write_what}
+use Rattle.cilk_tree.specs.declared.story.Story.{Story}
+use Rattle.cilk_tree.specs.Word.{event, after, write, word, what, IsLine}
+use Rattle.cilk_tree.proofs.Events.{write_what}
 use Rattle.cilk_shared.specs.Values.{OfYard, NextWrite}
 use Rattle.cilk_shared.proofs.Steps.{both, stands, has_room, store_at, moved_at}
 use Rattle.cilk_shared.proofs.yard.Yard.store.Goals as goal

@@ -1,6 +1,6 @@
 use Rattle.std.proofs.Common.{◌≡◌, ℕ, ◌+◌, sym, ap, subst, arith}
-use Rattle.cilk_story.specs.declared.story.Story.{Story}
-use Rattle.cilk_story.specs.Word.{resume, what}
+use Rattle.cilk_tree.specs.declared.story.Story.{Story}
+use Rattle.cilk_tree.specs.Word.{resume, what}
 use Rattle.cilk_shared.specs.Rule.{Sits}
 use Rattle.cilk_shared.specs.Values.{YardValue, OfYard, CanTake}
 use Rattle.cilk_shared.proofs.Steps.{both, spawn_within, take_at, sits_taken}

@@ -1,13 +1,13 @@
 use Rattle.std.proofs.Common.{◌≡◌, ℕ, ◌+◌, ◌^◌, ◌<◌, ℤ, List, [], ◌++◌, length, map, replicate, sym, ap, ◌∙◌, subst, arith, length-append}
 use Rattle.std.proofs.lemmas.List.{length-replicate, length-map}
-use Rattle.cilk_story.specs.declared.story.Story.{Story}
-use Rattle.cilk_story.specs.Word.{word}
-use Rattle.cilk_story.specs.Orders.{IsOrderly}
-use Rattle.cilk_story.specs.Values.{HasValues}
+use Rattle.cilk_tree.specs.declared.story.Story.{Story}
+use Rattle.cilk_tree.specs.Word.{word}
+use Rattle.cilk_tree.specs.Orders.{IsOrderly}
+use Rattle.cilk_tree.specs.Values.{HasValues}
 use Rattle.atomic_table.specs.Table.{opening}
-use Rattle.cilk_plan.specs.Along.{IsAlong}
-use Rattle.cilk_plan.specs.Resumptions.{AreResumptions}
-use Rattle.cilk_plan.proofs.AlongPlans.{along_orderly, many, same_resume}
+use Rattle.cilk_tree.specs.Along.{IsAlong}
+use Rattle.cilk_tree.specs.Resumptions.{AreResumptions}
+use Rattle.cilk_tree.proofs.AlongPlans.{along_orderly, many, same_resume}
 use Rattle.cilk_shared.specs.declared.key.StoryKey.{StoryKey}
 use Rattle.cilk_shared.specs.declared.view.View.{View}
 use Rattle.cilk_shared.specs.Rule.{view, Kept, Sits}

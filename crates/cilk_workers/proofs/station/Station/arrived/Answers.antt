@@ -1,7 +1,7 @@
 use Rattle.std.proofs.Common.{◌≡◌, sym, subst}
 use Rattle.std.specs.Prelude.{IfSome}
-use Rattle.cilk_chains.specs.Chains.{standing}
-use Rattle.cilk_pieces.specs.Pieces.{PieceValue}
+use Rattle.cilk_replay.specs.Chains.{standing}
+use Rattle.cilk_shared.specs.Pieces.{PieceValue}
 use Rattle.cilk_workers.proofs.station.Station.arrived.Goals as goal
 
 pub arrive-requires-clause-chain : goal.arrive-requires-clause-chain

@@ -1,4 +1,4 @@
-use Rattle.cilk_turns.specs.Turns.{Works}
+use Rattle.cilk_workers.specs.Turns.{Works}
 use Rattle.cilk_workers.specs.Keys.{AreKeys}
 use Rattle.cilk_workers.proofs.station.Station.hold.Given as goal
 

@@ -1,7 +1,7 @@
 use Rattle.std.proofs.Common.{◌≡◌, ◌<◌, ℕ, Some, length, sym, subst, arith}
 use Rattle.cilk_types.specs.declared.event.Event.TheVariants.{Sync}
-use Rattle.cilk_story.specs.Word.{event}
-use Rattle.cilk_turns.specs.Shared.{story_in}
+use Rattle.cilk_tree.specs.Word.{event}
+use Rattle.cilk_workers.specs.Shared.{story_in}
 use Rattle.cilk_workers.proofs.Keys.{widths, at, changed, number_at}
 use Rattle.cilk_workers.proofs.station.Station.steal.Goals as goal
 

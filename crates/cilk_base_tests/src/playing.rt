@@ -1,0 +1,150 @@
+//! Worked programs, and how they are played.
+
+ghost use Rattle.std.specs.Prelude.{◌≡◌, None};
+ghost use Rattle.cilk_schedule.specs.Sound.{IsCode, Runs};
+
+use cilk_scheduler::choice::{Choice, Stop};
+use cilk_checker::judge::program;
+use cilk_lower::code::Code;
+use cilk_lower::lower::lower;
+use cilk_schedule::machine::{Machine, play};
+use cilk_schedule::showing::Shown;
+use cilk_types::input::Input;
+use cilk_types::outcome::Outcome;
+use cilk_types::word_list::WordList;
+use std::alloc::Global;
+use std::process::Abort;
+
+pub fn code_of(rt: &impl Abort, alloc: Global, text: &str) -> Code
+    ensures { IsCode result }
+{
+    let Ok(program) = program(alloc, text.as_bytes()) else {
+        panic!(rt; "no program: {text}");
+    };
+    let Ok(code) = lower(alloc, &program) else {
+        panic!(rt; "no memory");
+    };
+    code
+}
+
+pub fn no_input(alloc: Global) -> Input {
+    Input::new(WordList::new(alloc))
+}
+
+/// Lines of a script: a worker makes so many choices of going on with its frame, or takes the continuation at a place.
+#[derive(Clone, Copy)]
+pub enum Line {
+    Run(u32, u32),
+    Steal(u32, usize),
+}
+
+/// The choices of these lines, one after another.
+pub fn script(rt: &impl Abort, alloc: Global, lines: &[Line]) -> Vec<Choice> {
+    let mut choices = Vec::new(alloc);
+    for line in lines {
+        let (choice, count) = choice_of(*line);
+        for _ in 0..count {
+            let Ok(()) = choices.push(choice) else {
+                panic!(rt; "no memory");
+            };
+        }
+    }
+    choices
+}
+
+// The choice of a line, and how often it is made.
+fn choice_of(line: Line) -> (Choice, u32) {
+    match line {
+        Line::Run(worker, count) => (Choice::Run(worker), count),
+        Line::Steal(worker, place) => (Choice::Steal(worker, place), 1),
+    }
+}
+
+/// What is shown behind the choices of these lines.
+pub fn played(rt: &impl Abort, alloc: Global, code: &Code, workers: u32, lines: &[Line]) -> Shown
+    requires { IsCode code.now }
+{
+    let choices = script(rt, alloc, lines);
+    match play(alloc, code, &no_input(alloc), workers, choices.as_slice()) {
+        Ok(shown) => shown,
+        Err((stop, name)) => panic!(rt; "{stop:?} {name:?}"),
+    }
+}
+
+/// Rounds of so many workers until the run has ended.
+pub fn rounds(alloc: Global, machine: &mut Machine<'_>, workers: u32) -> Result<(), Stop>
+    requires { machine.old.board.stopped ≡ None → Runs machine.old.code.now machine.old.input.now machine.old.board }
+    ensures { machine.new.board.stopped ≡ None → Runs machine.new.code.now machine.new.input.now machine.new.board }
+{
+    'choices: for number in 0..4_000_000u32 {
+        if machine.ended() {
+            break;
+        }
+        let worker = number.checked_rem(workers).unwrap_or(0).saturating_add(1);
+        machine.choose(alloc, turn(machine, worker))?;
+    }
+    Ok(())
+}
+
+// A worker goes on with its frame, or takes the first continuation that is offered.
+fn turn(machine: &Machine<'_>, worker: u32) -> Choice {
+    if machine.holds(worker) {
+        Choice::Run(worker)
+    } else {
+        Choice::Steal(worker, 0)
+    }
+}
+
+/// What is shown behind rounds of so many workers, which end the run.
+pub fn all(rt: &impl Abort, alloc: Global, code: &Code, workers: u32) -> Shown
+    requires { IsCode code.now }
+{
+    let input = no_input(alloc);
+    let Ok(mut machine) = Machine::new(alloc, code, &input, workers) else {
+        panic!(rt; "no memory");
+    };
+    if let Err(stop) = rounds(alloc, &mut machine, workers) {
+        panic!(rt; "{stop:?}");
+    }
+    assert!(rt; machine.ended() && machine.offered() == 0);
+    let Ok(shown) = machine.shown(alloc) else {
+        panic!(rt; "no memory");
+    };
+    shown
+}
+
+pub fn outcome_of<'a>(rt: &impl Abort, shown: &'a Shown) -> &'a Outcome {
+    match shown.outcome() {
+        Some(outcome) => outcome,
+        None => panic!(rt; "not ended"),
+    }
+}
+
+pub const FIB: &str =
+    "int fib(int n) { if (n < 2) { return n; } int x; int y; x = cilk_spawn fib(n - 1); y = fib(n - 2); cilk_sync; \
+    return x + y; } int main() { int r; r = fib(10); return r; }";
+
+pub const RACE: &str =
+    "int one() { return 1; } int main() { int x; int y; x = cilk_spawn one(); y = x; cilk_sync; return y; }";
+
+pub const SUM: &str =
+    "int cilk_reducer(add) s; int main() { cilk_for (int i = 1; i < 101; i++) { update(s, i); } return value(s); }";
+
+pub const LIST: &str =
+    "int cilk_reducer(append) l; int main() { cilk_for (int i = 0; i < 5; i++) { update(l, i); } return value(l); }";
+
+pub const LOCAL: &str =
+    "int f(int n) { int cilk_reducer(add) s; cilk_for (int i = 0; i < n; i++) { update(s, i); } return value(s); } \
+    int main() { int x; int y; x = cilk_spawn f(4); y = cilk_spawn f(5); cilk_sync; return x + y; }";
+
+pub const DIVIDE: &str =
+    "int d(int k) { return 6 / k; } int main() { int x; int y; x = cilk_spawn d(2); y = cilk_spawn d(0); \
+    cilk_sync; return x + y; }";
+
+pub const PRINTS: &str =
+    "void p(int n) { print(n); } int main() { cilk_spawn p(1); cilk_spawn p(2); cilk_spawn p(3); cilk_sync; return \
+    0; }";
+
+pub const GIVEN: &str =
+    "void put(int cilk_reducer(append) l, int x) { update(l, x); } int main() { int cilk_reducer(append) a; \
+    cilk_spawn put(a, 1); cilk_spawn put(a, 2); cilk_sync; return value(a); }";

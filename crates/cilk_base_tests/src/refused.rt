@@ -1,0 +1,255 @@
+//! Rounds of two workers where memory may be refused: the run ends with its result, or it stops for good, and what it shows then begins
+//! the serial run. The gate's tests have memory; `tools/each_failure.py` runs these with each allocation refused in turn.
+
+ghost use Rattle.std.specs.Prelude.{◌≡◌, None, IfOk};
+ghost use Rattle.cilk_schedule.specs.Sound.{IsCode, Runs};
+
+use crate::playing::{LIST, LOCAL, no_input, rounds};
+use cilk_scheduler::choice::{Choice, Stop};
+use cilk_checker::fault::ProgramFault;
+use cilk_checker::judge::program;
+use cilk_lower::code::Code;
+use cilk_lower::lower::lower;
+use cilk_schedule::machine::Machine;
+use cilk_schedule::naming::{CellName, ReducerName, ShownEvent};
+use cilk_schedule::showing::Shown;
+use std::alloc::{AllocError, Global};
+use std::process::Abort;
+
+// Two results, the first with its output, by rounds of two workers.
+const ROWS: [(&str, i64); 2] = [(LIST, 5), (LOCAL, 16)];
+
+#[test]
+fn rows_by_two_workers(rt: HostRuntime) {
+    for (text, wanted) in ROWS {
+        let Ok(()) = ends_or_stops(&rt, rt.alloc(), text, wanted) else {
+            panic!(rt; "no memory ahead of the run, or to look at it");
+        };
+    }
+}
+
+// A program's run by rounds of two workers ends with this result; or it stops for want of memory, and so does each of three more choices,
+// and what is shown is the run before the stop. Memory may be refused ahead of the run and behind it.
+fn ends_or_stops(
+    rt: &impl Abort,
+    alloc: Global,
+    text: &str,
+    wanted: i64,
+) -> Result<(), AllocError> {
+    let code = code_in(rt, alloc, text)?;
+    let serial = serial(alloc, &code)?;
+    let (shown, is_stopped) = by_two(rt, alloc, &code)?;
+    assert!(rt; is_beginning(alloc, &shown, &serial)?, "{text}");
+    assert!(rt; is_stopped || gives(&shown, wanted), "{text}");
+    Ok(())
+}
+
+// What is shown of a run by one worker.
+fn serial(alloc: Global, code: &Code) -> Result<Shown, AllocError>
+    requires { IsCode code.now }
+{
+    let input = no_input(alloc);
+    let mut machine = Machine::new(alloc, code, &input, 1)?;
+    match rounds(alloc, &mut machine, 1) {
+        Ok(()) => machine.shown(alloc),
+        Err(_) => Err(AllocError),
+    }
+}
+
+// What is shown of a run by two workers, and whether it was stopped.
+fn by_two(rt: &impl Abort, alloc: Global, code: &Code) -> Result<(Shown, bool), AllocError>
+    requires { IsCode code.now }
+{
+    let input = no_input(alloc);
+    let mut machine = Machine::new(alloc, code, &input, 2)?;
+    let is_stopped = stops(rt, alloc, &mut machine);
+    let shown = machine.shown(alloc)?;
+    Ok((shown, is_stopped))
+}
+
+// Whether rounds of two workers stop for want of memory; then each of three more choices does.
+fn stops(rt: &impl Abort, alloc: Global, machine: &mut Machine<'_>) -> bool
+    requires { machine.old.board.stopped ≡ None → Runs machine.old.code.now machine.old.input.now machine.old.board }
+    ensures { machine.new.board.stopped ≡ None → Runs machine.new.code.now machine.new.input.now machine.new.board }
+{
+    match rounds(alloc, machine, 2) {
+        Ok(()) => false,
+        Err(stop) => {
+            assert!(rt; stop == Stop::Memory);
+            stays_stopped(rt, alloc, machine);
+            true
+        }
+    }
+}
+
+// Whether the run has ended with this result.
+fn gives(shown: &Shown, wanted: i64) -> bool {
+    match shown.outcome() {
+        Some(outcome) => outcome.result == wanted,
+        None => false,
+    }
+}
+
+// The code of a text, where there is memory for it.
+fn code_in(rt: &impl Abort, alloc: Global, text: &str) -> Result<Code, AllocError>
+    ensures { IfOk result IsCode }
+{
+    match program(alloc, text.as_bytes()) {
+        Ok(program) => lower(alloc, &program),
+        Err(ProgramFault::Memory) => Err(AllocError),
+        Err(fault) => panic!(rt; "{fault}: {text}"),
+    }
+}
+
+// Three more choices give the same stop.
+fn stays_stopped(rt: &impl Abort, alloc: Global, machine: &mut Machine<'_>)
+    requires { machine.old.board.stopped ≡ None → Runs machine.old.code.now machine.old.input.now machine.old.board }
+    ensures { machine.new.board.stopped ≡ None → Runs machine.new.code.now machine.new.input.now machine.new.board }
+{
+    'choices: for choice in [Choice::Run(1), Choice::Steal(2, 0), Choice::Run(2)] {
+        assert!(rt; matches!(machine.choose(alloc, choice), Err(Stop::Memory)));
+    }
+}
+
+// Whether each frame that is shown did what begins that frame's events in the other run.
+fn is_beginning(alloc: Global, shown: &Shown, whole: &Shown) -> Result<bool, AllocError> {
+    let mut place: u32 = 0;
+    for _ in 0..shown.frames() {
+        let path = path_of(alloc, shown, place)?;
+        let Some(begun) = shown.events(path.as_slice()) else {
+            return Ok(false);
+        };
+        let Some(all) = whole.events(path.as_slice()) else {
+            return Ok(false);
+        };
+        if !are_first(shown, begun, whole, all) {
+            return Ok(false);
+        }
+        place = place.saturating_add(1);
+    }
+    Ok(true)
+}
+
+// The ordinals from the first frame down to the one at a place.
+fn path_of(alloc: Global, shown: &Shown, place: u32) -> Result<Vec<u32>, AllocError> {
+    let mut path = Vec::new(alloc);
+    let mut at = place;
+    for _ in 0..shown.frames() {
+        if at == 0 {
+            break;
+        }
+        let Some(link) = shown.link(at) else {
+            break;
+        };
+        path.push(link.ordinal)?;
+        at = link.parent;
+    }
+    path.reverse();
+    Ok(path)
+}
+
+// Whether these events of one run are the first ones of those of another.
+fn are_first(shown: &Shown, begun: &[ShownEvent], whole: &Shown, all: &[ShownEvent]) -> bool {
+    begun.len() <= all.len()
+        && begun
+            .iter()
+            .zip(all)
+            .all(|(one, other)| is_same_event(shown, *one, whole, *other))
+}
+
+// Whether an event of one run is an event of another: its frames go by their places, which depend on the schedule.
+fn is_same_event(shown: &Shown, one: ShownEvent, whole: &Shown, other: ShownEvent) -> bool {
+    moved(one) == moved(other) && is_same_frame(shown, owner(one), whole, owner(other))
+}
+
+// The place of the frame whose cell or reducer an event is of; 0 for an event of neither.
+fn owner(event: ShownEvent) -> u32 {
+    let frame = match event {
+        ShownEvent::Read { cell, .. } | ShownEvent::Write { cell, .. } => cell_owner(cell),
+        ShownEvent::Create { reducer }
+        | ShownEvent::Update { reducer, .. }
+        | ShownEvent::Set { reducer, .. }
+        | ShownEvent::Value { reducer, .. } => reducer_owner(reducer),
+        _ => 0,
+    };
+    u32::try_from(frame).unwrap_or(u32::MAX)
+}
+
+fn cell_owner(cell: CellName) -> usize {
+    match cell {
+        CellName::Global(_) => 0,
+        CellName::Own { frame, place: _ } => frame,
+    }
+}
+
+fn reducer_owner(reducer: ReducerName) -> usize {
+    match reducer {
+        ReducerName::Output => 0,
+        ReducerName::Own { frame, place: _ } => frame,
+    }
+}
+
+// The event as if the first frame owned what it is of.
+fn moved(event: ShownEvent) -> ShownEvent {
+    match event {
+        ShownEvent::Read { cell, value } => {
+            let cell = moved_cell(cell);
+            ShownEvent::Read { cell, value }
+        }
+        ShownEvent::Write { cell, value } => {
+            let cell = moved_cell(cell);
+            ShownEvent::Write { cell, value }
+        }
+        ShownEvent::Create { reducer } => {
+            let reducer = moved_reducer(reducer);
+            ShownEvent::Create { reducer }
+        }
+        ShownEvent::Update { reducer, value } => {
+            let reducer = moved_reducer(reducer);
+            ShownEvent::Update { reducer, value }
+        }
+        ShownEvent::Set { reducer, value } => {
+            let reducer = moved_reducer(reducer);
+            ShownEvent::Set { reducer, value }
+        }
+        ShownEvent::Value { reducer, value } => {
+            let reducer = moved_reducer(reducer);
+            ShownEvent::Value { reducer, value }
+        }
+        _ => event,
+    }
+}
+
+fn moved_cell(cell: CellName) -> CellName {
+    match cell {
+        CellName::Global(_) => cell,
+        CellName::Own { frame: _, place } => CellName::Own { frame: 0, place },
+    }
+}
+
+fn moved_reducer(reducer: ReducerName) -> ReducerName {
+    match reducer {
+        ReducerName::Output => reducer,
+        ReducerName::Own { frame: _, place } => ReducerName::Own { frame: 0, place },
+    }
+}
+
+// Whether the frame at a place of one run is that at a place of another: from both the same ordinals lead up to the first frame.
+fn is_same_frame(shown: &Shown, place: u32, whole: &Shown, other: u32) -> bool {
+    let mut place = place;
+    let mut other = other;
+    for _ in 0..shown.frames() {
+        if place == 0 || other == 0 {
+            break;
+        }
+        let (Some(one), Some(two)) = (shown.link(place), whole.link(other)) else {
+            return false;
+        };
+        if one.ordinal != two.ordinal {
+            return false;
+        }
+        place = one.parent;
+        other = two.parent;
+    }
+    place == 0 && other == 0
+}

@@ -1,5 +1,0 @@
-use Rattle.cilk_board.proofs.Thieves.{steals_are_shown}
-use Rattle.cilk_board.proofs.laws_of_blocks.steals_are_shown.Goals as goal
-
-pub returns : goal.returns
-returns c = steals_are_shown

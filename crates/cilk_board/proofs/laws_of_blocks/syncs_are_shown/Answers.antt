@@ -1,5 +1,0 @@
-use Rattle.cilk_board.proofs.Synced.{syncs_are_shown}
-use Rattle.cilk_board.proofs.laws_of_blocks.syncs_are_shown.Goals as goal
-
-pub returns : goal.returns
-returns c = syncs_are_shown

@@ -1,5 +1,0 @@
-use Rattle.cilk_board.proofs.HandingIn.{arrivals_are_shown}
-use Rattle.cilk_board.proofs.laws_of_ends.arrivals_are_shown.Goals as goal
-
-pub returns : goal.returns
-returns c = arrivals_are_shown

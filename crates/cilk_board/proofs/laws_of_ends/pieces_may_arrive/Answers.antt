@@ -1,5 +1,0 @@
-use Rattle.cilk_board.proofs.Awaited.{may_arrive}
-use Rattle.cilk_board.proofs.laws_of_ends.pieces_may_arrive.Goals as goal
-
-pub returns : goal.returns
-returns c = may_arrive

@@ -1,5 +1,0 @@
-use Rattle.cilk_board.proofs.RunsEnd.{runs_end}
-use Rattle.cilk_board.proofs.laws_of_ends.runs_end.Goals as goal
-
-pub returns : goal.returns
-returns c = runs_end

@@ -1,5 +1,0 @@
-use Rattle.cilk_board.proofs.Openings.{openings_fit}
-use Rattle.cilk_board.proofs.laws_of_openings.openings_fit.Goals as goal
-
-pub returns : goal.returns
-returns c = openings_fit

@@ -1,5 +1,0 @@
-use Rattle.cilk_board.proofs.Starting.{children_see}
-use Rattle.cilk_board.proofs.laws_of_starts.children_see.Goals as goal
-
-pub returns : goal.returns
-returns c = children_see

@@ -1,5 +1,0 @@
-use Rattle.cilk_board.proofs.Invocations.{invocations_are_shown}
-use Rattle.cilk_board.proofs.laws_of_starts.invocations_are_shown.Goals as goal
-
-pub returns : goal.returns
-returns c = invocations_are_shown

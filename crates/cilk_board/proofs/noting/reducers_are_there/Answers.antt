@@ -1,5 +1,0 @@
-use Rattle.cilk_board.proofs.Noted.{reducer_there}
-use Rattle.cilk_board.proofs.noting.reducers_are_there.Goals as goal
-
-pub returns : goal.returns
-returns c = reducer_there

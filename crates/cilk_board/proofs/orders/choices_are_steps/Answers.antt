@@ -1,5 +1,0 @@
-use Rattle.cilk_board.proofs.Choosing.{choices_are_steps}
-use Rattle.cilk_board.proofs.orders.choices_are_steps.Goals as goal
-
-pub returns : goal.returns
-returns c = choices_are_steps

@@ -1,5 +1,0 @@
-use Rattle.cilk_board.proofs.Histories.{does_as_asked}
-use Rattle.cilk_board.proofs.orders.frames_do_as_asked.Goals as goal
-
-pub returns : goal.returns
-returns c = does_as_asked

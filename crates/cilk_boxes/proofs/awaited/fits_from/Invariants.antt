@@ -1,7 +1,0 @@
-use Rattle.std.proofs.Common.{◌↔◌, map, drop}
-use Rattle.cilk_boxes.specs.Rows.{FitsFrom}
-use Rattle.cilk_boxes.specs.Waits.{wait_of}
-use Rattle.cilk_boxes.proofs.awaited.fits_from.Given as goal
-
-abbrev pub invariant-each : goal.invariant-each
-invariant-each l = FitsFrom l.at (map wait_of (drop l.place l.awaited.items)) l.key l.piece ↔ FitsFrom l.begin (map wait_of l.awaited.items) l.key l.piece

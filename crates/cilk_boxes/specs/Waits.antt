@@ -1,6 +1,0 @@
--- What the code's list shows.
-use Rattle.cilk_boxes.specs.declared.awaited.Awaited.{Awaited}
-use Rattle.cilk_boxes.specs.Rows.{Wait, wait}
-
-abbrev pub wait_of : Awaited → Wait
-wait_of a = wait a.key a.goes_on a.after

@@ -1,9 +1,0 @@
-pub mod Asking
-pub mod Chains
-pub mod Children
-pub mod Courses
-pub mod Reducing
-pub mod Resumes
-pub mod Sights
-pub mod Sorts
-pub mod Standing

@@ -1,0 +1,78 @@
+//! The serial run up to its end, whatever that is.
+
+ghost use Rattle.std.specs.Prelude.{IfOk};
+ghost use Rattle.cilk_lower.specs.Behaves.{Behaves};
+ghost use Rattle.cilk_lower.specs.Layout.{LaysOut};
+ghost use Rattle.cilk_program.specs.Sources.{source};
+ghost use Rattle.cilk_checker.specs.Runs.{EndsWith};
+
+use crate::frames::{PlannedFrame, begin, of_callee, of_next};
+use cilk_lower::code::Code;
+use cilk_lower::lower::lower;
+use cilk_program::ask::Callee;
+use cilk_program::program::Program;
+use cilk_serial::serial_run::{Next, SerialRun};
+use cilk_types::fault::Fault;
+use cilk_types::input::Input;
+use cilk_types::outcome::Outcome;
+use cilk_types::trace::Trace;
+use std::alloc::{AllocError, Global};
+
+/// How a serial run ends.
+#[derive(Drop, Debug)]
+pub enum End {
+    /// By itself: it leaves this, and these are its frames, in the order of their numbers.
+    Left(Outcome, Vec<PlannedFrame>),
+    /// By this fault, in place of the event behind the last.
+    Stopped(Fault),
+}
+
+/// The end of the program's serial run on this input, and the events up to it. Cost: that of the run; memory: linear in the events and
+/// the frames.
+pub fn run_to_end(
+    alloc: Global,
+    program: &Program,
+    input: &Input,
+) -> Result<(End, Trace), AllocError>
+    ensures { IfOk result (λ r. EndsWith (source program.now) input.now r.0 r.1) }
+{
+    let code = lower(alloc, program)?;
+    run_code(alloc, program, &code, input)
+}
+
+// The same by the program's code.
+fn run_code(
+    alloc: Global,
+    program: &Program,
+    code: &Code,
+    input: &Input,
+) -> Result<(End, Trace), AllocError>
+    requires asks { Behaves (source program.now) code.now }
+    requires layout { LaysOut (source program.now) code.now.layout }
+    ensures { IfOk result (λ r. EndsWith (source program.now) input.now r.0 r.1) }
+{
+    let mut serial = SerialRun::new(alloc, program, code, input)?;
+    let mut frames = Vec::new(alloc);
+    let globals = program.globals.len() as u64;
+    let layout = code.layout();
+    let mut cells = begin(
+        &mut frames,
+        globals,
+        of_callee(program, layout, &Callee::Root),
+    )?;
+    'each: loop {
+        let next = of_next(&serial, program, layout);
+        match serial.next()? {
+            Next::Made(_) => {
+                if let Some(own) = next {
+                    cells = begin(&mut frames, cells, own)?;
+                }
+            }
+            Next::Ended => {
+                let (outcome, trace) = serial.finish()?;
+                return Ok((End::Left(outcome, frames), trace));
+            }
+            Next::Stops(fault) => return Ok((End::Stopped(fault), serial.into_trace())),
+        }
+    }
+}

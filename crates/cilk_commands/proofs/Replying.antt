@@ -1,0 +1,293 @@
+-- How a reply comes about.
+--
+-- `front_of`: what was sent is a text, or a part of it. `keeps`: nothing went out. `no_memory`: a want of memory answers
+-- anything. `fails`, `ends`: a failure, or an answer, is served. `handed`: an error that was handed on.
+-- `program_refused`, `input_unread`, `input_refused`: no program and input are given. `both_given`: both are.
+-- `judged_ok`, `judged_err`: the answer to a command over both, and its failure. `given_later`: they are given whatever is
+-- read afterwards. `checked_ok`, `checked_err`: the answer to a check, and its failure. `refused_ok`,
+-- `refused_err`: a refusal that is told, or a want of memory. `refused_whole`: a refusal of a file's text.
+-- `fault_shown`: a fault of a script's steps. `steps_shown`, `steps_fail`: what the steps of a script's text show. `script_unread`, `text_played`: a script that isn't read, and what its text shows. `played_ok`, `played_err`: the answer to a
+-- wish to play it, and its failure.
+use Rattle.std.proofs.Common.{◌≡◌, ℕ, List, [], Bool, true, false, Option, Some, None, option_map, drop, length, refl, sym, ap, subst, inl, inr, ◌∙◌, arith}
+use Rattle.std.specs.Prelude.{◌≢◌, ◌<◌, IsTrue, IsFalse, Result, Ok, Err, IfOk, IfErr, IsErrAnd, ℤ}
+use Rattle.std.specs.Io.KnownBytes.{Appends}
+use Rattle.std.proofs.lemmas.List.{append-nil}
+use Rattle.cilk_checker.specs.Answers.{IsRefusedText, IsUnaccepted}
+use Rattle.cilk_checker.specs.Numbers.{fields_of, number_of}
+use Rattle.cilk_checker.specs.declared.refusal.Refusal.{Refusal}
+use Rattle.cilk_checker.specs.declared.refusal.Refusal.TheVariants as refusals
+use Rattle.cilk_checker.specs.declared.refusal.Unaccepted.{Unaccepted}
+use Rattle.cilk_checker.specs.declared.refusal.Unaccepted.TheVariants as unaccepted
+use Rattle.cilk_program.specs.Syntax.{Source}
+use Rattle.cilk_commands.specs.Replies as replies
+use Rattle.cilk_commands.specs.Replies.{NoMemory, Refused, Reply, Text, Unreadable, answer_view, failure_view, out_text, places_of, status_of}
+use Rattle.cilk_parser.specs.Inputs.{IsInput}
+use Rattle.cilk_checker.specs.Judging.{IsProgramText, Meant}
+use Rattle.cilk_commands.specs.Files.{Failures, IsHeld}
+use Rattle.cilk_commands.specs.Serving.{Answers, AreGiven, FileFails, GivesInput, GivesProgram, InputFileFails, InputRefused, InputUnread, IsOrNoMemory, Judged, JudgedReply, NoneGiven, ProgramRefused, ProgramUnread, Serves, Shows, ShowsError, Unjudged, Surroundings, world}
+use Rattle.cilk_script.specs.Scripts.{IsScript}
+use Rattle.cilk_script.specs.declared.script.Step.{Step}
+use Rattle.cilk_commands.specs.Shown.{CheckShows, InputFails, PlayShows, ProgramFails, StepsShow, TextShows, play_fault_view}
+use Rattle.cilk_schedule.specs.Playing.{Ends, FailsAsSettled, IsFault}
+use Rattle.cilk_schedule.specs.declared.fault.PlayFault.{PlayFault}
+use Rattle.cilk_schedule.specs.declared.fault.PlayFault.TheVariants as play_faults
+use Rattle.cilk_commands.specs.Streams.{AppendsFront, AppendsPart}
+use Rattle.cilk_messages.specs.Words.{Requested, Certify, Check, File, Play, Run, Origin, Standard, order_in}
+use Rattle.cilk_commands.specs.declared.reply.Answer.{Answer}
+use Rattle.cilk_commands.specs.declared.reply.Failure.{Failure}
+use Rattle.cilk_commands.specs.declared.reply.Failure.TheVariants as failures
+
+-- all of a text, or a part of it, is a beginning of it
+pub front_of : (sent : Bool) (o n : Option Text) (text : Text) → (IsTrue sent → Appends o n text) → (IsFalse sent → AppendsPart o n text)
+    → AppendsFront sent o n text
+front_of true o n text all part = all refl
+front_of false o n text all part = part refl
+
+pub keeps : (o : Option Text) → Appends o o []
+keeps None = tt
+keeps (Some bytes) = sym (append-nil bytes)
+
+-- a want of memory answers anything
+pub no_memory : (w : Surroundings) (asked : Option Requested) → Answers w asked NoMemory
+no_memory w None = tt
+no_memory w (Some (Run Standard input)) = Unjudged (ProgramUnread tt)
+no_memory w (Some (Run (File path) input)) = Unjudged (ProgramUnread tt)
+no_memory w (Some (Certify path input)) = Unjudged (ProgramUnread tt)
+no_memory w (Some (Check path certificate input)) = Unjudged (ProgramUnread tt)
+no_memory w (Some (Play path script workers input)) = Unjudged (ProgramUnread tt)
+
+or_no_memory : (w : Surroundings) (asked : Option Requested) (wanted r : Reply) → Answers w asked wanted → IsOrNoMemory wanted r → Answers w asked r
+or_no_memory w asked wanted r h (inl e) = subst (λ (x : Reply). Answers w asked x) (sym e) h
+or_no_memory w asked wanted r h (inr e) = subst (λ (x : Reply). Answers w asked x) (sym e) (no_memory w asked)
+
+-- a failure has nothing for standard output
+silent : (f : Failure) → out_text (failure_view f) ≡ []
+silent (failures.Words text) = refl
+silent (failures.Unreadable name) = refl
+silent (failures.Program number place) = refl
+silent (failures.Input number place) = refl
+silent (failures.Run number at) = refl
+silent (failures.Strand number name) = refl
+silent (failures.Script at) = refl
+silent failures.Memory = refl
+
+still_silent : (f : Failure) (r : Reply) → IsOrNoMemory (failure_view f) r → out_text r ≡ []
+still_silent f r (inl e) = ap out_text e ∙ silent f
+still_silent f r (inr e) = ap out_text e
+
+pub fails : (words : List Text) (w : Surroundings) (f : Failure) (status : ℕ) (told : Bool) (o e e' : Option Text)
+    → Answers w (order_in words) (failure_view f)
+    → (r : Reply) × IsOrNoMemory (failure_view f) r × (status ≡ status_of r) × ShowsError r told e e' → Serves words w status told o o e e'
+fails words w f status told o e e' h shown =
+    let r = shown.0 in
+    let out : Appends o o (out_text r) = subst (λ (t : Text). Appends o o t) (sym (still_silent f r shown.1)) (keeps o) in
+    (r, or_no_memory w (order_in words) (failure_view f) r h shown.1, inl (shown.2, out, shown.3))
+
+pub ends : (words : List Text) (w : Surroundings) (wanted : Reply) (status : ℕ) (told : Bool) (o o' e e' : Option Text)
+    → Answers w (order_in words) wanted
+    → (r : Reply) × IsOrNoMemory wanted r × Shows r status told o o' e e' → Serves words w status told o o' e e'
+ends words w wanted status told o o' e e' h shown = (shown.0, or_no_memory w (order_in words) wanted shown.0 h shown.1, shown.2)
+
+-- an error that was handed on
+pub handed : {T : Type 0} (x : Result T Failure) (f : Failure) (P : Failure → Type 0) → IsErrAnd x (λ e. e ≡ f) → P f → IfErr x P
+handed (Ok v) f P h p = absurd h
+handed (Err e) f P h p = subst P (sym h) p
+
+-- the same files hold the same, and the same count is below
+same_input : (files files' : Text → Option Text) (i : Option Text) (text : Text) → ((path : Text) → files path ≡ files' path) → GivesInput files i text → GivesInput files' i text
+same_input files files' None text same h = h
+same_input files files' (Some path) text same h = subst (λ (known : Option Text). IsHeld known text) (same path) h
+
+pub program_refused : (w : Surroundings) (p : Origin) (i : Option Text) (r : Reply) (text slice : Text) → GivesProgram w.files w.input p text → slice ≡ text
+    → ProgramFails slice r → NoneGiven w p i r
+program_refused w p i r text slice given e h = ProgramRefused text given (subst (λ (t : Text). ProgramFails t r) e h)
+
+pub input_unread : (w : Surroundings) (p : Origin) (i : Option Text) (r : Reply) (text slice : Text) (q : Meant) (failed : Failures) → GivesProgram w.files w.input p text → slice ≡ text
+    → IsProgramText slice q → failed ≡ w.failed → InputFileFails failed w.failed' i r → NoneGiven w p i r
+input_unread w p i r text slice q failed given e h same unread =
+    InputUnread text q given (subst (λ (t : Text). IsProgramText t q) e h) (subst (λ (n : Failures). InputFileFails n w.failed' i r) same unread)
+
+pub input_refused : (w : Surroundings) (p : Origin) (i : Option Text) (r : Reply) (text slice : Text) (q : Meant) (files : Text → Option Text) (numbers slice' : Text)
+    → GivesProgram w.files w.input p text → slice ≡ text → IsProgramText slice q → ((path : Text) → files path ≡ w.files path) → GivesInput files i numbers → slice' ≡ numbers
+    → InputFails slice' r → NoneGiven w p i r
+input_refused w p i r text slice q files numbers slice' given e h same input e' fault =
+    InputRefused text q numbers given (subst (λ (t : Text). IsProgramText t q) e h) (same_input files w.files i numbers same input) (subst (λ (t : Text). InputFails t r) e' fault)
+
+pub both_given : (w : Surroundings) (p : Origin) (i : Option Text) (text slice : Text) (q : Meant)
+    (files : Text → Option Text) (numbers slice' : Text) (inputs : List ℤ)
+    → GivesProgram w.files w.input p text → slice ≡ text → IsProgramText slice q → ((path : Text) → files path ≡ w.files path) → GivesInput files i numbers → slice' ≡ numbers
+    → IsInput slice' inputs → AreGiven w p i q inputs
+both_given w p i text slice q files numbers slice' inputs given e h same input e' spelled = record {
+  text = text;
+  text_is = given;
+  program_is = subst (λ (t : Text). IsProgramText t q) e h;
+  numbers = numbers;
+  numbers_are = same_input files w.files i numbers same input;
+  input_is = subst (λ (t : Text). IsInput t inputs) e' spelled;
+}
+
+-- the answer to a command over a program and its input
+pub judged_ok : {T : Type 0} (IsShown : Meant → List ℤ → Reply → Type 0) (x : Result Answer T) (w : Surroundings) (p : Origin)
+    (i : Option Text) (q : Meant) (inputs : List ℤ)
+    → AreGiven w p i q inputs → IfOk x (λ a. IsShown q inputs (answer_view a))
+    → IfOk x (λ a. JudgedReply IsShown w p i (answer_view a))
+judged_ok IsShown (Ok a) w p i q inputs given h = Judged q inputs given h
+judged_ok IsShown (Err e) w p i q inputs given h = tt
+
+-- its failure
+pub judged_err : {T : Type 0} (IsShown : Meant → List ℤ → Reply → Type 0) (x : Result T Failure) (w : Surroundings) (p : Origin)
+    (i : Option Text) (q : Meant) (inputs : List ℤ)
+    → AreGiven w p i q inputs → IfErr x (λ e. IsShown q inputs (failure_view e))
+    → IfErr x (λ e. JudgedReply IsShown w p i (failure_view e))
+judged_err IsShown (Ok a) w p i q inputs given h = tt
+judged_err IsShown (Err e) w p i q inputs given h = Judged q inputs given h
+
+-- a program and its input are given whatever is read afterwards
+pub given_later : (files : Text → Option Text) (input : Option Text) (failed before after : Failures) (p : Origin)
+    (i : Option Text) (q : Meant) (inputs : List ℤ)
+    → AreGiven (world files input failed before) p i q inputs → AreGiven (world files input failed after) p i q inputs
+given_later files input failed before after p i q inputs h = record {
+  text = h.text;
+  text_is = h.text_is;
+  program_is = h.program_is;
+  numbers = h.numbers;
+  numbers_are = h.numbers_are;
+  input_is = h.input_is;
+}
+
+-- the answer to a check, by what was known before the two texts were read
+pub checked_ok : {T : Type 0} (x : Result Answer T) (path : Text) (known known' : Option Text) (n m failed : Failures) (q : Meant)
+    (inputs : List ℤ) → known ≡ known' → n ≡ m
+    → IfOk x (λ a. CheckShows path known n failed q inputs (answer_view a))
+    → IfOk x (λ a. CheckShows path known' m failed q inputs (answer_view a))
+checked_ok x path known known' n m failed q inputs e d h =
+    let P : Option Text → Failures → Type 0 = λ k f. IfOk x (λ a. CheckShows path k f failed q inputs (answer_view a)) in
+    subst (λ k. P k m) e (subst (λ f. P known f) d h)
+
+-- its failure
+pub checked_err : {T : Type 0} (x : Result T Failure) (path : Text) (known known' : Option Text) (n m failed : Failures) (q : Meant)
+    (inputs : List ℤ) → known ≡ known' → n ≡ m
+    → IfErr x (λ a. CheckShows path known n failed q inputs (failure_view a))
+    → IfErr x (λ a. CheckShows path known' m failed q inputs (failure_view a))
+checked_err x path known known' n m failed q inputs e d h =
+    let P : Option Text → Failures → Type 0 = λ k f. IfErr x (λ a. CheckShows path k f failed q inputs (failure_view a)) in
+    subst (λ k. P k m) e (subst (λ f. P known f) d h)
+
+-- a refusal that is told is shown
+pub refused_ok : {F T : Type 0} (x : Result Answer T) (path : Text) (known : Option Text) (failed : F → Failures) (old new : F)
+    (q : Meant) (inputs : List ℤ) (f : Refusal)
+    → IfOk x (λ a. (f ≢ refusals.Memory) × (answer_view a ≡ Refused (number_of f) (places_of (fields_of f))))
+    → IsRefusedText q.source inputs known f
+    → IfOk x (λ a. CheckShows path known (failed old) (failed new) q inputs (answer_view a))
+refused_ok (Ok a) path known failed old new q inputs f h k =
+    subst (λ (r : Reply). CheckShows path known (failed old) (failed new) q inputs r) (sym h.1) (f, h.0, refl, refl, k)
+refused_ok (Err e) path known failed old new q inputs f h k = tt
+
+pub refused_err : {F T : Type 0} (x : Result T Failure) (path : Text) (known : Option Text) (failed : F → Failures) (old new : F)
+    (q : Meant) (inputs : List ℤ) → IfErr x (λ e. failure_view e ≡ NoMemory)
+    → IfErr x (λ e. CheckShows path known (failed old) (failed new) q inputs (failure_view e))
+refused_err (Ok a) path known failed old new q inputs h = tt
+refused_err (Err e) path known failed old new q inputs h =
+    subst (λ (r : Reply). CheckShows path known (failed old) (failed new) q inputs r) (sym h) tt
+
+known_whole : (known : Option Text) → option_map (drop 0) known ≡ known
+known_whole None = refl
+known_whole (Some all) = refl
+
+-- a refusal of the text that comes from a file's first byte on is one of the file
+pub refused_whole : (p : Source) (inputs : List ℤ) (known known' : Option Text) (at n m : ℕ) (u : Unaccepted) (f : Refusal)
+    → known' ≡ known → at ≡ 0 → u ≡ unaccepted.Refusal f
+    → IsUnaccepted p inputs (option_map (drop at) known') n m u → IsRefusedText p inputs known f
+refused_whole p inputs known known' at n m u f e d k h =
+    let whole : option_map (drop at) known' ≡ known = rw (e, d) (known_whole known) in
+    subst (λ (x : Option Text). IsRefusedText p inputs x f) whole
+    (subst (λ (x : Unaccepted). IsUnaccepted p inputs (option_map (drop at) known') n m x) k h)
+
+told_of : (workers : ℕ) (steps : List Step) (q : Meant) (inputs : List ℤ) (f : PlayFault) → (0 < workers → IsFault (Ends q.source inputs workers steps) f) → (0 < workers → FailsAsSettled q.source inputs f)
+    → StepsShow workers steps q inputs (play_fault_view f)
+told_of workers steps q inputs play_faults.Memory h never = tt
+told_of workers steps q inputs (play_faults.Line at) h never = h
+told_of workers steps q inputs (play_faults.Stop fault name) h never = (fault, refl, h, never)
+
+-- a fault that is told of a script's steps
+pub fault_shown : (workers : ℕ) (steps : List Step) (q : Meant) (inputs : List ℤ) (f : PlayFault) (r : Reply) → (0 < workers → IsFault (Ends q.source inputs workers steps) f) → (0 < workers → FailsAsSettled q.source inputs f)
+    → r ≡ play_fault_view f → StepsShow workers steps q inputs r
+fault_shown workers steps q inputs f r h never e = subst (λ x. StepsShow workers steps q inputs x) (sym e) (told_of workers steps q inputs f h never)
+
+-- what the steps of a script's text show
+pub steps_shown : {T : Type 0} (x : Result Answer T) (workers : ℕ) (text : Text) (steps slice : List Step) (q : Meant) (inputs : List ℤ) → IsScript text steps
+    → slice ≡ steps → IfOk x (λ a. StepsShow workers slice q inputs (answer_view a)) → IfOk x (λ a. TextShows workers text q inputs (answer_view a))
+steps_shown (Ok a) workers text steps slice q inputs is e h = inr (steps, is, subst (λ s. StepsShow workers s q inputs (answer_view a)) e h)
+steps_shown (Err f) workers text steps slice q inputs is e h = tt
+
+pub steps_fail : {T : Type 0} (x : Result T Failure) (workers : ℕ) (text : Text) (steps slice : List Step) (q : Meant) (inputs : List ℤ) → IsScript text steps
+    → slice ≡ steps → IfErr x (λ f. StepsShow workers slice q inputs (failure_view f)) → IfErr x (λ f. TextShows workers text q inputs (failure_view f))
+steps_fail (Ok a) workers text steps slice q inputs is e h = tt
+steps_fail (Err f) workers text steps slice q inputs is e h = inr (steps, is, subst (λ s. StepsShow workers s q inputs (failure_view f)) e h)
+
+-- a script that isn't read
+pub script_unread : (path : Text) (known : Option Text) (failed failed' : Failures) (workers : ℕ) (q : Meant) (inputs : List ℤ) (r : Reply)
+    → FileFails failed failed' path r → PlayShows path known failed failed' workers q inputs r
+script_unread path known failed failed' workers q inputs (Unreadable name) h = h
+script_unread path known failed failed' workers q inputs NoMemory h = tt
+script_unread path known failed failed' workers q inputs _ h = absurd h
+
+-- what a script's text shows
+pub text_played : (path : Text) (known : Option Text) (failed failed' : Failures) (workers : ℕ) (q : Meant) (inputs : List ℤ) (r : Reply)
+    (text slice : Text) → IsHeld known text → slice ≡ text → TextShows workers slice q inputs r → PlayShows path known failed failed' workers q inputs r
+text_played path known failed failed' workers q inputs (Unreadable name) text slice held e h = elim h [ inl k ↦ absurd k | inr k ↦ absurd k.2 ]
+text_played path known failed failed' workers q inputs NoMemory text slice held e h = tt
+text_played path known failed failed' workers q inputs replies.BadWords text slice held e h =
+    (text, held, subst (λ t. TextShows workers t q inputs replies.BadWords) e h)
+text_played path known failed failed' workers q inputs (replies.BadProgram n p) text slice held e h =
+    (text, held, subst (λ t. TextShows workers t q inputs (replies.BadProgram n p)) e h)
+text_played path known failed failed' workers q inputs (replies.BadInput n p) text slice held e h =
+    (text, held, subst (λ t. TextShows workers t q inputs (replies.BadInput n p)) e h)
+text_played path known failed failed' workers q inputs (replies.Faulted n at) text slice held e h =
+    (text, held, subst (λ t. TextShows workers t q inputs (replies.Faulted n at)) e h)
+text_played path known failed failed' workers q inputs (replies.FaultedIn n name) text slice held e h =
+    (text, held, subst (λ t. TextShows workers t q inputs (replies.FaultedIn n name)) e h)
+text_played path known failed failed' workers q inputs (replies.BadScript at) text slice held e h =
+    (text, held, subst (λ t. TextShows workers t q inputs (replies.BadScript at)) e h)
+text_played path known failed failed' workers q inputs (replies.Ended names o) text slice held e h =
+    (text, held, subst (λ t. TextShows workers t q inputs (replies.Ended names o)) e h)
+text_played path known failed failed' workers q inputs (replies.Certified c) text slice held e h =
+    (text, held, subst (λ t. TextShows workers t q inputs (replies.Certified c)) e h)
+text_played path known failed failed' workers q inputs replies.Accepted text slice held e h =
+    (text, held, subst (λ t. TextShows workers t q inputs replies.Accepted) e h)
+text_played path known failed failed' workers q inputs (replies.Refused n ps) text slice held e h =
+    (text, held, subst (λ t. TextShows workers t q inputs (replies.Refused n ps)) e h)
+text_played path known failed failed' workers q inputs replies.NotEnded text slice held e h =
+    (text, held, subst (λ t. TextShows workers t q inputs replies.NotEnded) e h)
+
+pub texts_played : {T : Type 0} (x : Result Answer T) (path : Text) (known : Option Text) (failed failed' : Failures) (workers : ℕ) (q : Meant)
+    (inputs : List ℤ) (text slice : Text) → IsHeld known text → slice ≡ text → IfOk x (λ a. TextShows workers slice q inputs (answer_view a))
+    → IfOk x (λ a. PlayShows path known failed failed' workers q inputs (answer_view a))
+texts_played (Ok a) path known failed failed' workers q inputs text slice held e h =
+    text_played path known failed failed' workers q inputs (answer_view a) text slice held e h
+texts_played (Err f) path known failed failed' workers q inputs text slice held e h = tt
+
+pub texts_fail : {T : Type 0} (x : Result T Failure) (path : Text) (known : Option Text) (failed failed' : Failures) (workers : ℕ) (q : Meant)
+    (inputs : List ℤ) (text slice : Text) → IsHeld known text → slice ≡ text → IfErr x (λ f. TextShows workers slice q inputs (failure_view f))
+    → IfErr x (λ f. PlayShows path known failed failed' workers q inputs (failure_view f))
+texts_fail (Ok a) path known failed failed' workers q inputs text slice held e h = tt
+texts_fail (Err f) path known failed failed' workers q inputs text slice held e h =
+    text_played path known failed failed' workers q inputs (failure_view f) text slice held e h
+
+-- the answer to a wish to play a script, by what was known before the two texts were read
+pub played_ok : {T : Type 0} (x : Result Answer T) (path : Text) (known known' : Option Text) (n m failed : Failures) (workers : ℕ) (q : Meant)
+    (inputs : List ℤ) → known ≡ known' → n ≡ m
+    → IfOk x (λ a. PlayShows path known n failed workers q inputs (answer_view a))
+    → IfOk x (λ a. PlayShows path known' m failed workers q inputs (answer_view a))
+played_ok x path known known' n m failed workers q inputs e d h =
+    let P : Option Text → Failures → Type 0 = λ k f. IfOk x (λ a. PlayShows path k f failed workers q inputs (answer_view a)) in
+    subst (λ k. P k m) e (subst (λ f. P known f) d h)
+
+-- its failure
+pub played_err : {T : Type 0} (x : Result T Failure) (path : Text) (known known' : Option Text) (n m failed : Failures) (workers : ℕ) (q : Meant)
+    (inputs : List ℤ) → known ≡ known' → n ≡ m
+    → IfErr x (λ a. PlayShows path known n failed workers q inputs (failure_view a))
+    → IfErr x (λ a. PlayShows path known' m failed workers q inputs (failure_view a))
+played_err x path known known' n m failed workers q inputs e d h =
+    let P : Option Text → Failures → Type 0 = λ k f. IfErr x (λ a. PlayShows path k f failed workers q inputs (failure_view a)) in
+    subst (λ k. P k m) e (subst (λ f. P known f) d h)

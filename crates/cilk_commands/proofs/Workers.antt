@@ -1,0 +1,93 @@
+-- Words that order a script name one worker or more.
+--
+-- - `by_count`, `by_words`, `by_command`: what a word of digits names, what the matches of `play` do, and a command's;
+-- - `has_workers`: the law.
+use Rattle.std.proofs.Common.{◌≡◌, ◌<◌, ◌≤◌, ℕ, Bool, true, false, List, [], ◌∷◌, Option, Some, None, refl, sym, ap, ◌∙◌, subst, arith, leb-true}
+use Rattle.std.specs.Prelude.{◌&&◌, if◌then◌else◌, codes, nat_le, option_map, option_and_then}
+use Rattle.std.specs.Str.{bytes_eq}
+use Rattle.std.proofs.lemmas.Bool.{and_parts}
+use Rattle.clap.specs.Words.{Row, Text, fault_of, first_of, subcommand_of}
+use Rattle.clap.specs.Walk.{is_empty}
+use Rattle.cilk_syntax.specs.Lexing.{all_digits, value_of}
+use Rattle.cilk_messages.specs.declared.words.TheConstants.{MAX_WORKERS}
+use Rattle.cilk_messages.specs.Words as words
+use Rattle.cilk_messages.specs.Words.{Certify, Check, Play, Requested, Run, certify_with, check_with, cilk_app, named, order_by, order_in, paths_in, play_with, run_with, script_with, worker_count, workers_in}
+
+-- what is asked for has workers, where it is a script
+abbrev pub HasWorkers : Option Requested → Type 0
+HasWorkers None = Unit {0}
+HasWorkers (Some (Run program input)) = Unit {0}
+HasWorkers (Some (Certify program input)) = Unit {0}
+HasWorkers (Some (Check program certificate input)) = Unit {0}
+HasWorkers (Some (Play program script workers input)) = 0 < workers
+
+counted : (n : ℕ) (b : Bool) → (b ≡ true → 1 ≤ n) → (workers : ℕ) → (if b then Some n else None) ≡ Some workers → 0 < workers
+counted n true some workers e = let z : Some n ≡ Some workers = e in let q : n ≡ workers = cc in let l = some refl in omega (arith, q, l)
+counted n false some workers e = let z : None ≡ Some workers = e in let f : ⊥ = cc in absurd f
+
+by_count : (digits : Option Text) (workers : ℕ) → workers_in digits ≡ Some workers → 0 < workers
+by_count None workers e = let z : Some 2 ≡ Some workers = e in let q : 2 ≡ workers = cc in omega (arith, q)
+by_count (Some digits) workers e =
+    counted (value_of digits) (all_digits digits && (nat_le 1 (value_of digits) && nat_le (value_of digits) MAX_WORKERS))
+    (λ h. let a = and_parts (all_digits digits) (nat_le 1 (value_of digits) && nat_le (value_of digits) MAX_WORKERS) h in let b = and_parts (nat_le 1 (value_of digits)) (nat_le (value_of digits) MAX_WORKERS) a.1 in leb-true 1 (value_of digits) b.0)
+    workers e
+
+by_words : (rows : List Row) (script : Text) → HasWorkers (script_with rows script)
+by_words rows script = by (paths_in rows)
+  where
+    given : (program : Text) (input : Option Text) (o : Option ℕ) → workers_in (first_of (codes "workers") rows) ≡ o → HasWorkers (option_map (λ workers. Play program script workers input) o)
+    given program input None e = tt
+    given program input (Some workers) e = by_count (first_of (codes "workers") rows) workers e
+
+    by : (o : Option (Text × Option Text)) → HasWorkers (option_and_then (λ paths. option_map (λ workers. Play paths.0 script workers paths.1) (workers_in (first_of (codes "workers") rows))) o)
+    by None = tt
+    by (Some paths) = given paths.0 paths.1 (workers_in (first_of (codes "workers") rows)) refl
+
+by_play : (rows : List Row) → HasWorkers (play_with rows)
+by_play rows = by (first_of (codes "script") rows)
+  where
+    by : (o : Option Text) → HasWorkers (option_and_then (script_with rows) o)
+    by None = tt
+    by (Some script) = by_words rows script
+
+by_run : (rows : List Row) → HasWorkers (run_with rows)
+by_run rows = by (paths_in rows)
+  where
+    by : (o : Option (Text × Option Text)) → HasWorkers (option_map (λ paths. Run (words.File paths.0) paths.1) o)
+    by None = tt
+    by (Some paths) = tt
+
+by_certify : (rows : List Row) → HasWorkers (certify_with rows)
+by_certify rows = by (paths_in rows)
+  where
+    by : (o : Option (Text × Option Text)) → HasWorkers (option_map (λ paths. Certify paths.0 paths.1) o)
+    by None = tt
+    by (Some paths) = tt
+
+by_check : (rows : List Row) → HasWorkers (check_with rows)
+by_check rows = by (first_of (codes "certificate") rows)
+  where
+    given : (certificate : Text) (o : Option (Text × Option Text)) → HasWorkers (option_map (λ paths. Check paths.0 certificate paths.1) o)
+    given certificate None = tt
+    given certificate (Some paths) = tt
+
+    by : (o : Option Text) → HasWorkers (option_and_then (λ certificate. option_map (λ paths. Check paths.0 certificate paths.1) (paths_in rows)) o)
+    by None = tt
+    by (Some certificate) = given certificate (paths_in rows)
+
+chosen : (b : Bool) (x y : Option Requested) → HasWorkers x → HasWorkers y → HasWorkers (if b then x else y)
+chosen true x y h k = h
+chosen false x y h k = k
+
+by_command : (entered : Option (Text × List Row)) → HasWorkers (order_by entered)
+by_command None = tt
+by_command (Some p) =
+    let a = chosen (bytes_eq p.0 (codes "play")) (play_with p.1) None (by_play p.1) tt in
+    let b = chosen (bytes_eq p.0 (codes "check")) (check_with p.1) _ (by_check p.1) a in
+    let c = chosen (bytes_eq p.0 (codes "certify")) (certify_with p.1) _ (by_certify p.1) b in
+    chosen (bytes_eq p.0 (codes "run")) (run_with p.1) _ (by_run p.1) c
+
+pub has_workers : (line : List Text) → HasWorkers (order_in line)
+unfolding order_in
+has_workers [] = tt
+has_workers (w ∷ line) = chosen (is_empty (fault_of cilk_app (w ∷ line))) (order_by (subcommand_of cilk_app (w ∷ line))) None (by_command (subcommand_of cilk_app (w ∷ line))) tt

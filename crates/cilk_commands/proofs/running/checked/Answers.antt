@@ -1,0 +1,17 @@
+use Rattle.std.proofs.Common.{ap₂, rules}
+use Rattle.cilk_checker.specs.Judging.{meant}
+use Rattle.cilk_commands.proofs.Replying.{refused_err, refused_ok, refused_whole}
+use Rattle.cilk_commands.proofs.running.checked.Goals as goal
+
+pub returns-in-Err-Refusal-clause-answer : goal.returns-in-Err-Refusal-clause-answer
+returns-in-Err-Refusal-clause-answer g c =
+    let made = c.new-source.ensures in
+    refused_ok c.refused.result c.args.path.now (g.F.Files.holds c.args.files.now c.args.path.now) (λ files. g.F.Files.failed files) c.args.files.now _
+    (meant c.args.program) c.args.input c.in-Err-Refusal.refusal c.refused.ensures.answer
+    (refused_whole _ _ _ _ _ _ _ c.in-Err-Refusal.field-0 _ (ap₂ (λ files path. g.F.Files.holds files path) made.files made.path)
+    made.at (search rules) c.in-Err-Refusal.ensures.unaccepted)
+
+pub returns-in-Err-Refusal-clause-failure : goal.returns-in-Err-Refusal-clause-failure
+returns-in-Err-Refusal-clause-failure g c =
+    refused_err c.refused.result c.args.path.now (g.F.Files.holds c.args.files.now c.args.path.now) (λ files. g.F.Files.failed files) c.args.files.now _
+    (meant c.args.program) c.args.input c.refused.ensures.failure

@@ -1,0 +1,6 @@
+pub mod Files
+pub mod OneReply
+pub mod Replies
+pub mod Serving
+pub mod Shown
+pub mod Streams

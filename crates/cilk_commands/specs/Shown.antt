@@ -1,0 +1,115 @@
+-- What is shown of a text with a fault, of a run, of a certificate, and of a script.
+use Rattle.std.specs.Prelude.{◌≡◌, ◌≢◌, ◌⊎◌, ◌<◌, ℕ, ℤ, List, Option, Some, None}
+use Rattle.cilk_types.specs.Fault as run_faults
+use Rattle.cilk_types.specs.declared.event.Event.{Event}
+use Rattle.cilk_types.specs.declared.fault.Fault.{Fault}
+use Rattle.cilk_types.specs.declared.outcome.Outcome.{Outcome}
+use Rattle.cilk_parser.specs.Inputs.{IsInputFault}
+use Rattle.cilk_parser.specs.Texts as texts
+use Rattle.cilk_parser.specs.declared.fault.TextFault.{TextFault}
+use Rattle.cilk_parser.specs.declared.fault.TextFault.TheVariants as text_faults
+use Rattle.cilk_names.specs.Faults as names
+use Rattle.cilk_checker.specs.Judging.{IsProgramFault, Meant}
+use Rattle.cilk_checker.specs.declared.fault.ProgramFault.{ProgramFault}
+use Rattle.cilk_checker.specs.declared.fault.ProgramFault.TheVariants as program_faults
+use Rattle.cilk_serial.specs.Ran.{Ran, IsRunFault}
+use Rattle.cilk_serial.specs.declared.fault.RunFault.{RunFault}
+use Rattle.cilk_serial.specs.declared.fault.RunFault.TheVariants as stops
+use Rattle.cilk_cert_text.specs.Certificates.{IsCertificate}
+use Rattle.cilk_cert_text.specs.declared.line.Version.TheVariants.{Two}
+use Rattle.cilk_cert_maker.specs.Certified as made
+use Rattle.cilk_checker.specs.Answers.{IsCertified, IsRefusedText}
+use Rattle.cilk_checker.specs.Numbers.{fields_of, number_of}
+use Rattle.cilk_checker.specs.declared.refusal.Refusal.{Refusal}
+use Rattle.cilk_checker.specs.declared.refusal.Refusal.TheVariants as refusals
+use Rattle.cilk_script.specs.Scripts.{IsNoScript, IsScript}
+use Rattle.cilk_script.specs.declared.script.Step.{Step}
+use Rattle.cilk_determinacy.specs.Settled.{IsSettled}
+use Rattle.cilk_schedule.specs.declared.fault.PlayFault.{PlayFault}
+use Rattle.cilk_schedule.specs.declared.fault.PlayFault.TheVariants as play_faults
+use Rattle.cilk_schedule.specs.Playing.{Ends, IsLeft, LeavesAsSettled, Passed, StopsBy}
+use Rattle.cilk_commands.specs.Files.{Failures, HasFailed, IsHeld}
+use Rattle.cilk_commands.specs.Replies.{Accepted, BadInput, BadProgram, BadScript, Certified, Ended, Faulted, FaultedIn, NoMemory, NotEnded, Refused, Reply, Text, Unreadable, places_of}
+
+abbrev pub program_fault_view : ProgramFault → Reply
+program_fault_view program_faults.Memory = NoMemory
+program_fault_view (program_faults.Text n place) = BadProgram (texts.number n) place
+program_fault_view (program_faults.Name n place) = BadProgram (names.number_of n) place
+
+abbrev pub input_fault_view : TextFault → Reply
+input_fault_view text_faults.Memory = NoMemory
+input_fault_view (text_faults.At n place) = BadInput (texts.number n) place
+
+abbrev pub run_fault_view : RunFault → Reply
+run_fault_view stops.Memory = NoMemory
+run_fault_view (stops.At fault at) = Faulted (run_faults.number_of fault) at
+
+abbrev pub play_fault_view : PlayFault → Reply
+play_fault_view play_faults.Memory = NoMemory
+play_fault_view (play_faults.Line at) = BadScript at
+play_fault_view (play_faults.Stop fault name) = FaultedIn (run_faults.number_of fault) (let n = name in n.items)
+
+-- what is shown of a program text with a fault
+abbrev pub ProgramFails : Text → Reply → Type 0
+ProgramFails text r = (f : ProgramFault) × (r ≡ program_fault_view f) × IsProgramFault f text
+
+-- what is shown of an input text with a fault
+abbrev pub InputFails : Text → Reply → Type 0
+InputFails text r = (f : TextFault) × (r ≡ input_fault_view f) × IsInputFault f text
+
+-- what is shown of a run that stops
+abbrev pub RunFails : Meant → List ℤ → Reply → Type 0
+RunFails m inputs r = (f : RunFault) × (r ≡ run_fault_view f) × IsRunFault m.source inputs f
+
+-- what is shown of a program's run: its outcome, or the fault that stops it, by number and position
+abbrev pub RunShows : Meant → List ℤ → Reply → Type 0
+RunShows m inputs (Ended names o) = (names ≡ m.names) × ((events : List Event) × Ran m.source inputs o events)
+RunShows m inputs r = RunFails m inputs r
+
+-- what is shown of a wish for a certificate: the right one of the program's run, in version 2, or the fault that stops the
+-- run
+abbrev pub CertifyShows : Meant → List ℤ → Reply → Type 0
+CertifyShows m inputs (Certified c) = (c.version ≡ Two) × IsCertificate c × made.IsCertificateOf m.source inputs c
+CertifyShows m inputs r = RunFails m inputs r
+
+-- what is shown of the certificate in the file of this path, of which so much is known, where these reads of files met a
+-- failing device before and up to its end: that it is accepted, or refused, or that the file can't be read
+abbrev pub CheckShows : Text → Option Text → Failures → Failures → Meant → List ℤ → Reply → Type 0
+CheckShows path known failed failed' m inputs Accepted =
+    (events : List Event) × (o : Outcome) × IsCertified m.source inputs known events o
+CheckShows path known failed failed' m inputs (Refused number places) =
+    (f : Refusal) × (f ≢ refusals.Memory) × (number ≡ number_of f) × (places ≡ places_of (fields_of f))
+    × IsRefusedText m.source inputs known f
+CheckShows path known failed failed' m inputs (Unreadable name) = (name ≡ path) × HasFailed path failed failed'
+CheckShows path known failed failed' m inputs NoMemory = Unit {0}
+CheckShows path known failed failed' m inputs _ = ⊥
+
+-- what is shown of a text that is no script
+abbrev pub ScriptFails : Text → Reply → Type 0
+ScriptFails text (BadScript at) = IsNoScript text at
+ScriptFails text NoMemory = Unit {0}
+ScriptFails text _ = ⊥
+
+-- What is shown of the steps of a script, with so many workers, of which there is one or more: the one end that they have. That is what the run
+-- has left, that it hasn't ended, the line whose choices go past the limit, or the fault of the choice that stopped it, with its strand. Where one
+-- serial run settles every parallel one, an outcome is that run's, and no fault comes.
+abbrev pub StepsShow : ℕ → List Step → Meant → List ℤ → Reply → Type 0
+StepsShow workers steps m inputs (Ended names o) = (names ≡ m.names) × (0 < workers → IsLeft m.source inputs workers steps (Some o)) × (0 < workers → LeavesAsSettled m.source inputs (Some o))
+StepsShow workers steps m inputs NotEnded = 0 < workers → IsLeft m.source inputs workers steps None
+StepsShow workers steps m inputs (BadScript at) = 0 < workers → Ends m.source inputs workers steps (Passed at)
+StepsShow workers steps m inputs (FaultedIn number name) =
+    (fault : Fault) × (number ≡ run_faults.number_of fault) × (0 < workers → StopsBy (Ends m.source inputs workers steps) fault name)
+    × (0 < workers → (outcome : Outcome) → IsSettled m.source inputs outcome → ⊥)
+StepsShow workers steps m inputs NoMemory = Unit {0}
+StepsShow workers steps m inputs _ = ⊥
+
+-- what is shown of a script's text: the line that makes it none, or what is shown of its steps
+abbrev pub TextShows : ℕ → Text → Meant → List ℤ → Reply → Type 0
+TextShows workers text m inputs r = ScriptFails text r ⊎ ((steps : List Step) × IsScript text steps × StepsShow workers steps m inputs r)
+
+-- what is shown of the script in the file of this path, of which so much is known, where these reads of files met a failing
+-- device before and up to its end: that the file can't be read, or what is shown of its text
+abbrev pub PlayShows : Text → Option Text → Failures → Failures → ℕ → Meant → List ℤ → Reply → Type 0
+PlayShows path known failed failed' workers m inputs (Unreadable name) = (name ≡ path) × HasFailed path failed failed'
+PlayShows path known failed failed' workers m inputs NoMemory = Unit {0}
+PlayShows path known failed failed' workers m inputs r = (text : Text) × IsHeld known text × TextShows workers text m inputs r

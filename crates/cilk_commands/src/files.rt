@@ -1,0 +1,75 @@
+//! Files by path, read whole or in parts.
+
+ghost use Rattle.std.specs.Prelude.{◌≡◌, ℕ, ◌+◌, ◌<◌, ◌≤◌, List, Option, IfOk, OnOk, Err, length};
+ghost use Rattle.cilk_commands.specs.Files.{EndsAt, Failures, IsHeld, IsPart};
+ghost use Rattle.cilk_commands.specs.declared.disk.TheConstants.{MAX_FILE};
+
+use std::alloc::{AllocError, AllocFailed, Global};
+use thiserror::Error;
+
+/// Why a file, or standard input, wasn't read.
+#[derive(Clone, Copy, PartialEq, Eq, Debug, Error)]
+pub enum FileFault {
+    /// The file isn't there, can't be read, or is too large.
+    #[error("cannot read")]
+    Device,
+    #[error("no memory")]
+    Memory,
+}
+
+impl From<AllocError> for FileFault {
+    ghost use Rattle.cilk_commands.specs.declared.files.FileFault.TheVariants.{Memory};
+
+    ghost from_gives = { λ _ e. e ≡ Memory };
+
+    fn from(_: AllocError) -> FileFault {
+        FileFault::Memory
+    }
+}
+
+impl<T: Drop> From<AllocFailed<T>> for FileFault {
+    ghost use Rattle.cilk_commands.specs.declared.files.FileFault.TheVariants.{Memory};
+
+    ghost from_gives = { λ _ e. e ≡ Memory };
+
+    fn from(_: AllocFailed<T>) -> FileFault {
+        FileFault::Memory
+    }
+}
+
+/// Files as the tool reads them: those of the system, or those of a test.
+pub trait Files {
+    /// How many reads met a failing device so far, and how many of them were of other files than that of a path: none where
+    /// these files don't tell paths apart. Whoever reads any files whatever knows by it which file failed.
+    ghost failed: { Self → Failures };
+
+    /// What the file of a path holds, where that is known. It stays so over all reads.
+    ghost holds: { Self → List ℕ → Option (List ℕ) };
+
+    /// The whole file of a path. A fault of the device is counted.
+    fn read(&mut self, alloc: Global, path: &str) -> Result<Vec<u8>, FileFault>
+        requires { (failed self.old).count < 18446744073709551615 }
+        ensures held { IfOk result (λ bytes. IsHeld (holds self.old path.now) bytes.items) }
+        ensures counted { result ≡ Err FileFault.Device → (failed self.old).count < (failed self.new).count }
+        ensures uncounted { OnOk result (failed self.new ≡ failed self.old) }
+        ensures elsewhere { (failed self.new).elsewhere path.now ≡ (failed self.old).elsewhere path.now }
+        ensures same { (p : List ℕ) → holds self.new p ≡ holds self.old p };
+
+    /// Bytes of the file of a path from a byte on, counted from 0, by one read: how many stand at the front of `into`
+    /// afterwards. None in an `into` that isn't empty means that the file ends there. No byte past the greatest size of
+    /// a file is given. A fault of the device is counted.
+    fn part(&mut self, path: &str, at: u64, into: &mut [u8]) -> Result<usize, FileFault>
+        requires { (failed self.old).count < 18446744073709551615 }
+        ensures within { IfOk result (λ n. n ≤ length into.old) }
+        ensures small { IfOk result (λ n. at + n ≤ MAX_FILE) }
+        ensures held { IfOk result (λ n. IsPart (holds self.old path.now) at n into.new) }
+        ensures last { IfOk result (λ n. n ≡ 0 → 0 < length into.old → EndsAt (holds self.old path.now) at) }
+        ensures counted { result ≡ Err FileFault.Device → (failed self.old).count < (failed self.new).count }
+        ensures uncounted { OnOk result (failed self.new ≡ failed self.old) }
+        ensures elsewhere { (failed self.new).elsewhere path.now ≡ (failed self.old).elsewhere path.now }
+        ensures same { (p : List ℕ) → holds self.new p ≡ holds self.old p };
+
+    /// How many reads met a failing device so far.
+    fn failures(&self) -> u64
+        ensures { result ≡ (failed self.now).count };
+}

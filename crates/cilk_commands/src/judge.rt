@@ -1,0 +1,177 @@
+//! Texts are judged, and a program is run, its run certified, or a script played: what fails is told as what is shown
+//! in place of an answer.
+
+ghost use Rattle.std.specs.Prelude.{◌≡◌, IfOk, IfErr, map};
+ghost use Rattle.cilk_checker.specs.Judging.{IsProgramText, meant};
+ghost use Rattle.cilk_commands.specs.Replies.{answer_view, failure_view};
+ghost use Rattle.cilk_script.specs.Scripts.{IsScript};
+ghost use Rattle.cilk_commands.specs.Shown.{CertifyShows, InputFails, ProgramFails, RunShows, ScriptFails, StepsShow, TextShows, play_fault_view, run_fault_view};
+ghost use Rattle.cilk_parser.specs.Inputs.{IsInput};
+
+use crate::reply::{Answer, Failure};
+use cilk_cert_maker::make::make;
+use cilk_checker::fault::ProgramFault;
+use cilk_checker::judge;
+use cilk_parser::input::parse_input;
+use cilk_schedule::{PlayFault, play as play_steps};
+use cilk_program::program::{GlobalReducer, Program};
+use cilk_script::script::{ScriptFault, Step, read};
+use cilk_serial::fault::RunFault;
+use cilk_serial::run::run as run_serially;
+use cilk_parser::fault::TextFault;
+use cilk_types::input::Input;
+use cilk_types::sequence::Sequence;
+use std::alloc::{AllocError, Global};
+
+/// The program of a text.
+pub fn program<'a>(alloc: Global, text: &[u8]) -> Result<Program, Failure<'a>>
+    ensures ok { IfOk result (λ p. IsProgramText text.now (meant p)) }
+    ensures err { IfErr result (λ e. ProgramFails text.now (failure_view e)) }
+{
+    match judge::program(alloc, text) {
+        Ok(program) => Ok(program),
+        Err(ProgramFault::Memory) => Err(Failure::Memory),
+        Err(ProgramFault::Text(fault, place)) => Err(Failure::Program {
+            number: fault.number(),
+            place,
+        }),
+        Err(ProgramFault::Name(fault, place)) => Err(Failure::Program {
+            number: fault.number(),
+            place,
+        }),
+    }
+}
+
+/// The numbers of an input text.
+pub fn input<'a>(alloc: Global, text: &[u8]) -> Result<Input, Failure<'a>>
+    ensures ok { IfOk result (λ i. IsInput text.now i) }
+    ensures err { IfErr result (λ e. InputFails text.now (failure_view e)) }
+{
+    match parse_input(alloc, text) {
+        Ok(input) => Ok(input),
+        Err(TextFault::Memory) => Err(Failure::Memory),
+        Err(TextFault::At(fault, place)) => Err(Failure::Input {
+            number: fault.number(),
+            place,
+        }),
+    }
+}
+
+/// The names of reducers, in order.
+pub fn names(
+    alloc: Global,
+    reducers: &[GlobalReducer],
+) -> Result<Sequence<Sequence<u8>>, AllocError>
+    ensures { IfOk result (λ names. names ≡ map (λ r. r.name) reducers.now) }
+{
+    let mut names = Vec::new(alloc);
+    for reducer in reducers {
+        let name = reducer.name.as_slice().to_vec(alloc)?;
+        names.push(Sequence::new(name))?;
+    }
+    Ok(Sequence::new(names))
+}
+
+/// What is shown of a run that stops.
+pub fn stopped<'a>(fault: &RunFault) -> Failure<'a>
+    ensures { failure_view result ≡ run_fault_view fault.now }
+{
+    match fault {
+        RunFault::Memory => Failure::Memory,
+        RunFault::At { fault, at } => Failure::Run {
+            number: fault.number(),
+            at: *at,
+        },
+    }
+}
+
+/// What the run of a program on an input leaves.
+pub fn run<'a>(alloc: Global, program: &Program, input: &Input) -> Result<Answer, Failure<'a>>
+    ensures ok { IfOk result (λ a. RunShows (meant program.now) input.now (answer_view a)) }
+    ensures err { IfErr result (λ e. RunShows (meant program.now) input.now (failure_view e)) }
+{
+    match run_serially(alloc, program, input) {
+        Ok((outcome, _trace)) => Ok(Answer::Outcome {
+            names: names(alloc, program.reducers.as_slice())?,
+            outcome,
+        }),
+        Err(fault) => Err(stopped(&fault)),
+    }
+}
+
+/// The certificate of the run of a program on an input.
+pub fn certificate<'a>(
+    alloc: Global,
+    program: &Program,
+    input: &Input,
+) -> Result<Answer, Failure<'a>>
+    ensures ok { IfOk result (λ a. CertifyShows (meant program.now) input.now (answer_view a)) }
+    ensures err { IfErr result (λ e. CertifyShows (meant program.now) input.now (failure_view e)) }
+{
+    match make(alloc, program, input) {
+        Ok(certificate) => Ok(Answer::Certificate(certificate)),
+        Err(fault) => Err(stopped(&fault)),
+    }
+}
+
+/// The steps of a script's text.
+fn steps<'a>(alloc: Global, text: &[u8]) -> Result<Vec<Step>, Failure<'a>>
+    ensures ok { IfOk result (λ steps. IsScript text.now steps.items) }
+    ensures err { IfErr result (λ e. ScriptFails text.now (failure_view e)) }
+{
+    match read(alloc, text) {
+        Ok(steps) => Ok(steps),
+        Err(ScriptFault::Memory) => Err(Failure::Memory),
+        Err(ScriptFault::Line(line)) => Err(Failure::Script(line)),
+    }
+}
+
+/// What is shown of a script that doesn't come to its end.
+fn unplayed<'a>(fault: PlayFault) -> Failure<'a>
+    ensures { failure_view result ≡ play_fault_view fault }
+{
+    match fault {
+        PlayFault::Line(line) => Failure::Script(line),
+        PlayFault::Stop { fault, name } => Failure::Strand {
+            number: fault.number(),
+            name,
+        },
+        PlayFault::Memory => Failure::Memory,
+    }
+}
+
+/// What the steps of a script leave, with so many workers.
+fn steps_left<'a>(
+    alloc: Global,
+    program: &Program,
+    input: &Input,
+    workers: u32,
+    steps: &[Step],
+) -> Result<Answer, Failure<'a>>
+    ensures ok { IfOk result (λ a. StepsShow workers steps.now (meant program.now) input.now (answer_view a)) }
+    ensures err { IfErr result (λ e. StepsShow workers steps.now (meant program.now) input.now (failure_view e)) }
+{
+    match play_steps(alloc, program, input, workers, steps) {
+        Ok(Some(outcome)) => Ok(Answer::Outcome {
+            names: names(alloc, program.reducers.as_slice())?,
+            outcome,
+        }),
+        Ok(None) => Ok(Answer::NotEnded),
+        Err(fault) => Err(unplayed(fault)),
+    }
+}
+
+/// What the script of a text leaves, with so many workers.
+pub fn script<'a>(
+    alloc: Global,
+    program: &Program,
+    input: &Input,
+    workers: u32,
+    text: &[u8],
+) -> Result<Answer, Failure<'a>>
+    ensures ok { IfOk result (λ a. TextShows workers text.now (meant program.now) input.now (answer_view a)) }
+    ensures err { IfErr result (λ e. TextShows workers text.now (meant program.now) input.now (failure_view e)) }
+{
+    let steps = steps(alloc, text)?;
+    steps_left(alloc, program, input, workers, steps.as_slice())
+}

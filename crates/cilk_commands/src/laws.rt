@@ -1,0 +1,23 @@
+//! Laws of what the tool answers, and its limits by number. Each is a function that does nothing: its contract is the law.
+
+ghost use Rattle.std.specs.Prelude.{◌≡◌, List};
+ghost use Rattle.cilk_commands.specs.OneReply.{HasOneReply};
+ghost use Rattle.cilk_commands.specs.Replies.{Text};
+ghost use Rattle.cilk_commands.specs.Serving.{Surroundings};
+ghost use Rattle.cilk_messages.specs.Words.{order_in};
+ghost use Rattle.cilk_commands.specs.declared.disk.TheConstants.{MAX_FILE};
+ghost use Rattle.cilk_commands.specs.declared.streams.TheConstants.{MAX_READ};
+ghost use Rattle.cilk_messages.specs.declared.words.TheConstants.{MAX_WORKERS};
+
+/// Two replies to the same words, files and input that are no want of memory and blame no device are equal.
+pub fn reply_is_one()
+    ensures { (w : Surroundings) (words : List Text) → HasOneReply w (order_in words) }
+{}
+
+/// The bytes of the largest file and of the longest text that is taken from standard input, and the most workers of a script, by
+/// number.
+pub fn limits_are()
+    ensures file { MAX_FILE ≡ 268435456 }
+    ensures input { MAX_READ ≡ 262145 }
+    ensures workers { MAX_WORKERS ≡ 64 }
+{}

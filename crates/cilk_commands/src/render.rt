@@ -1,0 +1,186 @@
+//! The texts of replies.
+
+ghost use Rattle.std.specs.Prelude.{◌≡◌, ◌++◌, [], ◌∷◌, codes, decimal, flat_map, OnOk, IfOk};
+ghost use Rattle.std.specs.Fmt.{signed_decimal};
+ghost use Rattle.cilk_checker.specs.Numbers.{fields_of, number_of};
+ghost use Rattle.cilk_commands.specs.Replies.{number_line, element, elements, reducer_line, reducer_lines, outcome_text, place_line, place_text, places_of, refused_line, line, script_line, strand_line, strand_text};
+
+use cilk_checker::refusal::{Fields, Refusal};
+use cilk_types::outcome::{Final, Outcome};
+use cilk_types::sequence::Sequence;
+use itoa::Buffer;
+use std::alloc::{AllocError, Global};
+
+fn push_number(text: &mut Vec<u8>, value: i64) -> Result<(), AllocError>
+    ensures { OnOk result (text.new.items ≡ text.old.items ++ signed_decimal value) }
+{
+    let mut buffer = Buffer::new();
+    text.extend_from_slice(buffer.format(value).as_bytes())
+}
+
+fn push_lines(text: &mut Vec<u8>, values: &[i64]) -> Result<(), AllocError>
+    ensures { OnOk result (text.new.items ≡ text.old.items ++ flat_map number_line values.now) }
+{
+    for value in values {
+        push_number(text, *value)?;
+        text.push(b'\n')?;
+    }
+    Ok(())
+}
+
+fn push_elements(text: &mut Vec<u8>, values: &[i64]) -> Result<(), AllocError>
+    ensures { OnOk result (text.new.items ≡ text.old.items ++ flat_map element values.now) }
+{
+    for value in values {
+        text.push(b' ')?;
+        push_number(text, *value)?;
+    }
+    Ok(())
+}
+
+fn push_final(text: &mut Vec<u8>, last: &Final) -> Result<(), AllocError>
+    ensures { OnOk result (text.new.items ≡ text.old.items ++ elements last.now) }
+{
+    match last {
+        Final::Number(value) => {
+            text.push(b' ')?;
+            push_number(text, *value)
+        }
+        Final::List(values) => push_elements(text, values.as_slice()),
+    }
+}
+
+fn push_reducer(text: &mut Vec<u8>, name: &[u8], last: &Final) -> Result<(), AllocError>
+    ensures { OnOk result (text.new.items ≡ text.old.items ++ reducer_line name.now last.now) }
+{
+    text.extend_from_slice(b"reducer ")?;
+    text.extend_from_slice(name)?;
+    push_final(text, last)?;
+    text.push(b'\n')?;
+    Ok(())
+}
+
+fn push_reducers(
+    text: &mut Vec<u8>,
+    names: &[Sequence<u8>],
+    reducers: &[Final],
+) -> Result<(), AllocError>
+    ensures { OnOk result (text.new.items ≡ text.old.items ++ reducer_lines names.now reducers.now) }
+{
+    for (name, last) in names.iter().zip(reducers.iter()) {
+        push_reducer(text, name.as_slice(), last)?;
+    }
+    Ok(())
+}
+
+/// An outcome's text: a line for each printed number, a line for each global reducer, and the result.
+pub fn outcome(
+    alloc: Global,
+    names: &[Sequence<u8>],
+    outcome: &Outcome,
+) -> Result<Vec<u8>, AllocError>
+    ensures { IfOk result (λ text. text.items ≡ outcome_text names.now outcome.now) }
+{
+    let mut text = Vec::new(alloc);
+    push_lines(&mut text, outcome.output.as_slice())?;
+    push_reducers(&mut text, names, outcome.reducers.as_slice())?;
+    text.extend_from_slice(b"result ")?;
+    push_number(&mut text, outcome.result)?;
+    text.push(b'\n')?;
+    Ok(text)
+}
+
+/// The line `WHAT N at PLACE`.
+pub fn place(alloc: Global, what: &[u8], number: u16, place: usize) -> Result<Vec<u8>, AllocError>
+    ensures { IfOk result (λ text. text.items ≡ place_line what.now number place) }
+{
+    let mut buffer = Buffer::new();
+    let mut text = Vec::from_slice(alloc, what)?;
+    text.push(b' ')?;
+    text.extend_from_slice(buffer.format(number).as_bytes())?;
+    text.extend_from_slice(b" at ")?;
+    text.extend_from_slice(buffer.format(place).as_bytes())?;
+    text.push(b'\n')?;
+    Ok(text)
+}
+
+/// The line `script at LINE`.
+pub fn script(alloc: Global, at: usize) -> Result<Vec<u8>, AllocError>
+    ensures { IfOk result (λ text. text.items ≡ script_line at) }
+{
+    let mut buffer = Buffer::new();
+    let mut text = Vec::from_slice(alloc, b"script at ")?;
+    text.extend_from_slice(buffer.format(at).as_bytes())?;
+    text.push(b'\n')?;
+    Ok(text)
+}
+
+// A strand's name behind the first frame's: the ordinals of its frame's path, and its number there.
+fn push_strand(text: &mut Vec<u8>, name: &[u32]) -> Result<(), AllocError>
+    ensures { OnOk result (text.new.items ≡ text.old.items ++ strand_text name.now) }
+{
+    let mut buffer = Buffer::new();
+    let mut rest = name;
+    'each: while let [number, behind @ ..] = rest {
+        text.push(if behind.is_empty() { b':' } else { b'.' })?;
+        text.extend_from_slice(buffer.format(*number).as_bytes())?;
+        rest = behind;
+    }
+    Ok(())
+}
+
+/// The line `fault N in STRAND`.
+pub fn strand(alloc: Global, number: u16, name: &[u32]) -> Result<Vec<u8>, AllocError>
+    ensures { IfOk result (λ text. text.items ≡ strand_line number name.now) }
+{
+    let mut buffer = Buffer::new();
+    let mut text = Vec::from_slice(alloc, b"fault ")?;
+    text.extend_from_slice(buffer.format(number).as_bytes())?;
+    text.extend_from_slice(b" in r")?;
+    push_strand(&mut text, name)?;
+    text.push(b'\n')?;
+    Ok(text)
+}
+
+fn push_place(text: &mut Vec<u8>, place: u64) -> Result<(), AllocError>
+    ensures { OnOk result (text.new.items ≡ text.old.items ++ place_text place) }
+{
+    let mut buffer = Buffer::new();
+    text.push(b' ')?;
+    text.extend_from_slice(buffer.format(place).as_bytes())
+}
+
+fn push_places(text: &mut Vec<u8>, places: Fields) -> Result<(), AllocError>
+    ensures { OnOk result (text.new.items ≡ text.old.items ++ flat_map place_text (places_of places)) }
+{
+    match places {
+        Fields::None => Ok(()),
+        Fields::One(place) => push_place(text, place),
+        Fields::Two(earlier, later) => {
+            push_place(text, earlier)?;
+            push_place(text, later)
+        }
+    }
+}
+
+/// The line `refused N`, with the places that the refusal names.
+pub fn refused(alloc: Global, refusal: Refusal) -> Result<Vec<u8>, AllocError>
+    ensures { IfOk result (λ text. text.items ≡ refused_line (number_of refusal) (places_of (fields_of refusal))) }
+{
+    let mut buffer = Buffer::new();
+    let mut text = Vec::from_slice(alloc, b"refused ")?;
+    text.extend_from_slice(buffer.format(refusal.number()).as_bytes())?;
+    push_places(&mut text, refusal.fields())?;
+    text.push(b'\n')?;
+    Ok(text)
+}
+
+/// The line `cannot read NAME`.
+pub fn unreadable(alloc: Global, name: &str) -> Result<Vec<u8>, AllocError>
+    ensures { IfOk result (λ text. text.items ≡ line (codes "cannot read " ++ name.now)) }
+{
+    let mut text = Vec::from_slice(alloc, b"cannot read ")?;
+    text.extend_from_slice(name.as_bytes())?;
+    text.push(b'\n')?;
+    Ok(text)
+}

@@ -1,0 +1,164 @@
+//! From words to a reply that is shown.
+
+ghost use Rattle.std.specs.Prelude.{◌≡◌, ◌<◌, Bool, IfOk, IfErr};
+ghost use Rattle.cilk_commands.specs.OneReply.{HasOneReply};
+ghost use Rattle.cilk_commands.specs.Replies.{Reply, answer_view, failure_view, status_of};
+ghost use Rattle.cilk_commands.specs.Serving.{Answers, IsOrNoMemory, Serves, Shows, ShowsError, world};
+ghost use Rattle.cilk_commands.specs.Streams.{AppendsFront};
+ghost use Rattle.cilk_messages.specs.Words.{order_in, order_view, texts};
+
+use crate::files::Files;
+use crate::reply::{Answer, Failure, NO_MEMORY, NO_MEMORY_LINE, WRONG};
+use crate::running::{certify, check, play, run};
+use crate::streams::send;
+use cilk_messages::words::{Order, WordsFault, read};
+use std::alloc::Global;
+use std::io::{Read, Write};
+
+/// Does what an order asks for.
+pub fn carry_out<'a, F: Files, R: Read>(
+    alloc: Global,
+    order: Order<'a>,
+    files: &mut F,
+    input: &mut R,
+) -> Result<Answer, Failure<'a>>
+    requires { (F.failed files.old).count < 18446744073709551615 }
+    ensures answer { IfOk result (λ a. Answers (world (F.holds files.old) (R.remaining input.old) (F.failed files.old) (F.failed files.new))
+        (Some (order_view order.entry)) (answer_view a)) }
+    ensures failure { IfErr result (λ e. Answers (world (F.holds files.old) (R.remaining input.old) (F.failed files.old) (F.failed files.new))
+        (Some (order_view order.entry)) (failure_view e)) }
+{
+    match order {
+        Order::Run {
+            program,
+            input: numbers,
+        } => run(alloc, program, numbers, files, input),
+        Order::Certify {
+            program,
+            input: numbers,
+        } => certify(alloc, program, numbers, files, input),
+        Order::Check {
+            program,
+            certificate,
+            input: numbers,
+        } => check(alloc, program, certificate, numbers, files, input),
+        Order::Play {
+            program,
+            script,
+            workers,
+            input: numbers,
+        } => play(alloc, program, script, workers, numbers, files, input),
+    }
+}
+
+/// Does what the words ask for.
+fn answer<'a, F: Files, R: Read>(
+    alloc: Global,
+    words: &'a [&'a str],
+    files: &mut F,
+    input: &mut R,
+) -> Result<Answer, Failure<'a>>
+    requires { (F.failed files.old).count < 18446744073709551615 }
+    ensures answer { IfOk result (λ a. Answers (world (F.holds files.old) (R.remaining input.old) (F.failed files.old) (F.failed files.new))
+        (order_in (texts words.entry.now)) (answer_view a)) }
+    ensures failure { IfErr result (λ e. Answers (world (F.holds files.old) (R.remaining input.old) (F.failed files.old) (F.failed files.new))
+        (order_in (texts words.entry.now)) (failure_view e)) }
+{
+    match read(alloc, words) {
+        Ok(order) => carry_out(alloc, order, files, input),
+        Err(WordsFault::Usage(text)) => Err(Failure::Words(text)),
+        Err(WordsFault::Memory) => Err(Failure::Memory),
+    }
+}
+
+/// What a call ends with.
+#[derive(Clone, Copy, PartialEq, Eq, Debug)]
+pub struct Served {
+    /// The status to end with.
+    pub status: u8,
+    /// Whether all that goes to standard error went out: it didn't only where a write there failed.
+    pub told: bool,
+}
+
+/// Writes to standard error, and says whether all of it went out.
+pub fn tell<E: Write>(err: &mut E, text: &[u8]) -> bool
+    ensures { AppendsFront result (E.contents err.old) (E.contents err.new) text.now }
+{
+    send(err, text)
+}
+
+/// Shows a failure.
+pub fn complain<E: Write>(alloc: Global, failure: &Failure<'_>, err: &mut E) -> Served
+    ensures { (r : Reply) × IsOrNoMemory (failure_view failure.now) r × (result.status ≡ status_of r)
+        × ShowsError r result.told (E.contents err.old) (E.contents err.new) }
+{
+    match failure.text(alloc) {
+        Ok(text) => Served {
+            told: tell(err, text.as_slice()),
+            status: failure.status(),
+        },
+        Err(_) => Served {
+            told: tell(err, NO_MEMORY_LINE.as_bytes()),
+            status: NO_MEMORY,
+        },
+    }
+}
+
+/// Shows an answer.
+pub fn show<O: Write, E: Write>(alloc: Global, answer: &Answer, out: &mut O, err: &mut E) -> Served
+    ensures { (r : Reply) × IsOrNoMemory (answer_view answer.now) r × Shows r result.status result.told
+        (O.contents out.old) (O.contents out.new) (E.contents err.old) (E.contents err.new) }
+{
+    match answer.send(alloc, out) {
+        Ok(true) => Served {
+            status: answer.status(),
+            told: true,
+        },
+        Ok(false) => Served {
+            told: tell(err, b"cannot write\n"),
+            status: WRONG,
+        },
+        Err(_) => complain(alloc, &Failure::Memory, err),
+    }
+}
+
+/// Serves the words after the program's own name, and says whether all that goes to standard error went out, as [`serve`] doesn't.
+pub fn serve_and_tell<F: Files, R: Read, O: Write, E: Write>(
+    alloc: Global,
+    words: &[&str],
+    files: &mut F,
+    input: &mut R,
+    out: &mut O,
+    err: &mut E,
+) -> Served
+    requires { (F.failed files.old).count < 18446744073709551615 }
+    ensures served { Serves (texts words.now)
+        (world (F.holds files.old) (R.remaining input.old) (F.failed files.old) (F.failed files.new)) result.status result.told
+        (O.contents out.old) (O.contents out.new) (E.contents err.old) (E.contents err.new) }
+{
+    match answer(alloc, words, files, input) {
+        Ok(answer) => show(alloc, &answer, out, err),
+        Err(failure) => complain(alloc, &failure, err),
+    }
+}
+
+/// Serves the words after the program's own name: reads what they ask for, shows one reply, and answers the status to
+/// end with. A fault of `err` changes nothing else. (Standard input is read only where no words are given, in at most 262,145
+/// reads: `streams::receive` promises the number.)
+pub fn serve<F: Files, R: Read, O: Write, E: Write>(
+    alloc: Global,
+    words: &[&str],
+    files: &mut F,
+    input: &mut R,
+    out: &mut O,
+    err: &mut E,
+) -> u8
+    requires { (F.failed files.old).count < 18446744073709551615 }
+    ensures served { (is_whole : Bool) × Serves (texts words.now)
+        (world (F.holds files.old) (R.remaining input.old) (F.failed files.old) (F.failed files.new)) result is_whole
+        (O.contents out.old) (O.contents out.new) (E.contents err.old) (E.contents err.new) }
+    ensures one { HasOneReply (world (F.holds files.old) (R.remaining input.old) (F.failed files.old) (F.failed files.new))
+        (order_in (texts words.now)) }
+{
+    serve_and_tell(alloc, words, files, input, out, err).status
+}

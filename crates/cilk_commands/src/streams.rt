@@ -1,0 +1,102 @@
+//! Bytes in from a reader and out to a writer.
+
+ghost use Rattle.std.specs.Prelude.{◌≡◌, ℕ, ◌+◌, ◌^◌, ◌≤◌, ◌<◌, length, take, IsTrue, IsFalse, IfOk, IfSome};
+ghost use Rattle.std.specs.Io.KnownBytes.{Appends, Consumes};
+ghost use Rattle.cilk_cert_text.specs.Certificates.{text_of};
+ghost use Rattle.cilk_commands.specs.Streams.{AppendsPart, ReadsOn};
+
+use crate::counted::CountedReader;
+use crate::files::FileFault;
+use cilk_cert_text::certificate::Certificate;
+use cilk_cert_text::writer::LineWriter;
+use cilk_types::limits::MAX_TEXT;
+use std::alloc::Global;
+use std::io::{Read, Write};
+
+/// The bytes after which a program text on standard input is read no further: one more than it may have.
+pub const MAX_READ: usize = MAX_TEXT + 1;
+
+const PIECE: usize = 4096;
+
+/// The most bytes of a certificate's text that are put together before they are written.
+const MAX_PIECE: usize = 16_384;
+
+/// Reads once, and puts what came at the end of the text. No byte came only at the input's end.
+fn receive_some<R: Read>(
+    input: &mut CountedReader<'_, R>,
+    text: &mut Vec<u8>,
+    piece: &mut [u8],
+) -> Result<usize, FileFault>
+    requires room { 0 < length piece.old }
+    requires few { input.old.reads + 1 < 2 ^ 32 }
+    ensures grows { IfOk result (λ n. ReadsOn (R.remaining input.old.reader.now) (R.remaining input.new.reader.now)
+        text.old.items text.new.items n) }
+    ensures within { IfOk result (λ n. n ≤ length piece.old) }
+    ensures counted { input.new.reads ≡ input.old.reads + 1 }
+{
+    let Ok(count) = input.read(piece) else {
+        return Err(FileFault::Device);
+    };
+    text.extend_from_slice(&piece[..count])?;
+    Ok(count)
+}
+
+/// Reads a text of at most [`MAX_READ`] bytes, in at most 262,145 reads, also where one of them fails: that ends the reading. What
+/// stands after those bytes stays unread.
+pub fn receive<R: Read>(
+    alloc: Global,
+    input: &mut CountedReader<'_, R>,
+) -> Result<Vec<u8>, FileFault>
+    requires { input.old.reads + 262145 < 2 ^ 32 }
+    ensures few { input.new.reads ≤ input.old.reads + 262145 }
+    ensures whole { IfOk result (λ text. IfSome (R.remaining input.old.reader.now) (λ all. text.items ≡ take MAX_READ all)) }
+    ensures taken { IfOk result (λ text. Consumes (R.remaining input.old.reader.now) (R.remaining input.new.reader.now) text.items) }
+{
+    let mut text = Vec::new(alloc);
+    let mut buffer = [0u8; PIECE];
+    for _turn in 0..MAX_READ {
+        let room = (MAX_READ - text.len()).min(PIECE);
+        if room == 0 {
+            return Ok(text);
+        }
+        let count = receive_some(input, &mut text, &mut buffer[..room])?;
+        if count == 0 {
+            return Ok(text);
+        }
+    }
+    Ok(text)
+}
+
+/// Writes a text, and says whether all of it went out. A write that fails, or takes nothing, ends the writing, and
+/// then a beginning of the text, less than all of it, went out.
+pub fn send<W: Write>(out: &mut W, text: &[u8]) -> bool
+    ensures all { IsTrue result → Appends (W.contents out.old) (W.contents out.new) text.now }
+    ensures part { IsFalse result → AppendsPart (W.contents out.old) (W.contents out.new) text.now }
+{
+    let mut done = 0;
+    while done < text.len() {
+        match out.write(&text[done..]) {
+            Ok(count) if count > 0 => done += count,
+            _ => return false,
+        }
+    }
+    true
+}
+
+/// Writes the text of a certificate in pieces, without taking memory, and says whether all of it went out. A write that
+/// fails, or takes nothing, ends the writing, and then a beginning of the text, less than all of it, went out.
+pub fn send_certificate<W: Write>(out: &mut W, certificate: &Certificate) -> bool
+    ensures all { IsTrue result → Appends (W.contents out.old) (W.contents out.new) (text_of certificate.now) }
+    ensures part { IsFalse result → AppendsPart (W.contents out.old) (W.contents out.new) (text_of certificate.now) }
+{
+    let mut lines = LineWriter::new(certificate);
+    let mut piece = [0u8; MAX_PIECE];
+    let mut count = lines.fill(&mut piece);
+    'pieces: while count > 0 {
+        if !send(out, &piece[..count]) {
+            return false;
+        }
+        count = lines.fill(&mut piece);
+    }
+    true
+}

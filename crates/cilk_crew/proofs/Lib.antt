@@ -1,3 +1,0 @@
-pub mod Crossing
-pub mod Popped
-pub mod Sent

@@ -1,0 +1,154 @@
+//! The instructions of expressions, assignments and calls.
+
+use crate::map::CallSpot;
+use crate::walker::Walker;
+use cilk_syntax::tree::{Assignment, BinaryOperator, Call, Expr, Lvalue};
+use cilk_syntax::token::Kind;
+use cilk_types::invocation::Invocation;
+use std::alloc::AllocError;
+
+impl Walker<'_> {
+    /// An expression.
+    pub fn expression(&mut self, tree: &Expr) -> Result<(), AllocError> {
+        match tree {
+            Expr::Number(_) | Expr::Variable(_) => {
+                let at = self.take();
+                self.put(at)
+            }
+            Expr::Element(_, index) => {
+                let at = self.take();
+                self.take();
+                self.expression(index)?;
+                self.take();
+                self.put(at)
+            }
+            Expr::Group(inner) => {
+                self.take();
+                self.expression(inner)?;
+                self.take();
+                Ok(())
+            }
+            Expr::Unary(_, operand) => {
+                let at = self.take();
+                self.expression(operand)?;
+                self.put(at)
+            }
+            Expr::Binary(operator, left, right) => {
+                self.expression(left)?;
+                let at = self.take();
+                self.put_times(at, instructions_ahead(*operator))?;
+                self.expression(right)?;
+                self.put_times(at, instructions_behind(*operator))
+            }
+            Expr::Value(_) => {
+                self.pass(2);
+                let at = self.take();
+                self.take();
+                self.put(at)
+            }
+            Expr::Input(place) => {
+                let at = self.take();
+                self.take();
+                self.expression(place)?;
+                self.take();
+                self.put(at)
+            }
+            Expr::InputCount => {
+                let at = self.take();
+                self.pass(2);
+                self.put(at)
+            }
+        }
+    }
+
+    /// An assignment: `at` is where its statement begins.
+    pub fn assignment(&mut self, at: usize, tree: &Assignment) -> Result<(), AllocError> {
+        self.put(at)?;
+        match tree {
+            Assignment::Set(place, value) => {
+                let name = self.index(place)?;
+                self.take();
+                self.expression(value)?;
+                self.put(name)
+            }
+            Assignment::Compound(_, place, value) => {
+                let name = self.index(place)?;
+                self.put(name)?;
+                let operator = self.take();
+                self.expression(value)?;
+                self.put(operator)?;
+                self.put(name)
+            }
+            Assignment::Increment(place) | Assignment::Decrement(place) => self.step(place),
+        }
+    }
+
+    // `++` and `--` stand ahead of their place or behind it.
+    fn step(&mut self, place: &Lvalue) -> Result<(), AllocError> {
+        let is_ahead = matches!(self.kind(), Some(Kind::Increment | Kind::Decrement));
+        if is_ahead {
+            self.take();
+        }
+        let name = self.index(place)?;
+        if !is_ahead {
+            self.take();
+        }
+        self.put_times(name, 3)
+    }
+
+    // What is written to: its index, if it has one. The place of its name is the result.
+    fn index(&mut self, place: &Lvalue) -> Result<usize, AllocError> {
+        let at = self.take();
+        if let Lvalue::Element(_, index) = place {
+            self.take();
+            self.expression(index)?;
+            self.take();
+        }
+        Ok(at)
+    }
+
+    /// A call or spawn, from the word `cilk_spawn` or the function's name on.
+    pub fn call(&mut self, how: Invocation, tree: &Call, takes: bool) -> Result<(), AllocError> {
+        let at = self.take();
+        if how == Invocation::Spawn {
+            self.take();
+        }
+        self.take();
+        let function = self.function(tree.name).unwrap_or(0);
+        for (number, argument) in tree.arguments.iter().enumerate() {
+            if number > 0 {
+                self.take();
+            }
+            if self.is_reducer(function, number) {
+                self.take();
+            } else {
+                self.expression(&argument.value)?;
+            }
+        }
+        self.take();
+        let function = u32::try_from(function).unwrap_or(0);
+        let call = CallSpot {
+            how,
+            function,
+            takes,
+        };
+        self.put_call(at, call)
+    }
+}
+
+// How many instructions an operator has between its operands.
+fn instructions_ahead(operator: BinaryOperator) -> usize {
+    match operator {
+        BinaryOperator::And => 1,
+        BinaryOperator::Or => 3,
+        _ => 0,
+    }
+}
+
+// How many it has behind them.
+fn instructions_behind(operator: BinaryOperator) -> usize {
+    match operator {
+        BinaryOperator::And => 3,
+        _ => 1,
+    }
+}

@@ -1,0 +1,228 @@
+//! Where a sync can be written that parts a spawn from what comes later.
+
+use crate::case::Case;
+use crate::notes::place_of;
+use cilk_messages::tokens::Tokens;
+use cilk_syntax::token::Kind;
+use std::alloc::AllocError;
+
+/// Where a sync parts a spawn from what comes later, by a byte.
+#[derive(Clone, Copy, PartialEq, Eq)]
+enum Parting {
+    /// Ahead of the statement that begins there.
+    Ahead(usize),
+    /// Ahead of the statement that begins there, which is the body of a loop, or a part of an `if`, without braces.
+    Within(usize),
+    /// Ahead of the brace that ends a loop's body there.
+    AtEnd(usize),
+    /// Behind the statement that begins there, and is a loop's body without braces.
+    Behind(usize),
+    /// Ahead of the name there, in the middle of a declaration.
+    Between(usize),
+}
+
+/// Where a sync parts the spawn at one byte from what stands at another and comes later, in words.
+pub fn parted_at(case: &Case<'_>, spawn: usize, at: usize) -> Result<String, AllocError> {
+    let alloc = case.alloc;
+    let tokens = Tokens::new(alloc, case.text)?;
+    let parting = parting_of(&tokens, tokens.number_at(spawn), tokens.number_at(at));
+    let place = match parting {
+        Parting::Ahead(place) | Parting::Within(place) | Parting::AtEnd(place) => place,
+        Parting::Behind(place) | Parting::Between(place) => place,
+    };
+    let place = place_of(case, place)?;
+    let place = place.as_str();
+    match parting {
+        Parting::Ahead(_) => format!(in alloc; "ahead of {place}"),
+        Parting::Within(_) => format!(in alloc;
+            "ahead of {place}, in braces with what stands there"
+        ),
+        Parting::AtEnd(_) => format!(in alloc; "ahead of {place}, at the end of the loop's body"),
+        Parting::Behind(_) => {
+            format!(in alloc; "behind the statement at {place}, in braces with it")
+        }
+        Parting::Between(_) => {
+            format!(in alloc; "ahead of {place}, where a declaration of its own has to begin")
+        }
+    }
+}
+
+// The same by tokens.
+fn parting_of(tokens: &Tokens<'_>, spawn: usize, access: usize) -> Parting {
+    let first = statement_of(tokens, access);
+    if is_repeated(tokens, first, access) && stands_in(tokens, first, spawn) {
+        return at_end(tokens, first);
+    }
+    if let Some(name) = declared_at(tokens, first, access) {
+        if first <= spawn && spawn < name {
+            return Parting::Between(tokens.place(name));
+        }
+    }
+    ahead(tokens, first, spawn)
+}
+
+// The first token of the innermost statement that a token stands in. A head belongs to its loop or condition, what follows it doesn't.
+fn statement_of(tokens: &Tokens<'_>, number: usize) -> usize {
+    let mut first: usize = 0;
+    let mut depth: usize = 0;
+    let mut is_head = false;
+    for earlier in 0..number {
+        match tokens.kind(earlier) {
+            Some(Kind::Open) => {
+                if depth == 0 {
+                    is_head = has_head(tokens.kind_back(earlier, 1));
+                }
+                depth = depth.saturating_add(1);
+            }
+            Some(Kind::Close) => {
+                depth = depth.saturating_sub(1);
+                if depth == 0 && is_head {
+                    first = earlier.saturating_add(1);
+                }
+            }
+            Some(Kind::Semicolon | Kind::OpenBrace | Kind::CloseBrace) if depth == 0 => {
+                first = earlier.saturating_add(1);
+            }
+            Some(Kind::Else) => first = earlier.saturating_add(1),
+            _ => {}
+        }
+    }
+    first
+}
+
+fn has_head(kind: Option<Kind>) -> bool {
+    matches!(
+        kind,
+        Some(Kind::If | Kind::While | Kind::For | Kind::CilkFor)
+    )
+}
+
+// The token behind a statement.
+fn end_of(tokens: &Tokens<'_>, first: usize) -> usize {
+    let mut depth: usize = 0;
+    for number in first..tokens.count() {
+        let kind = tokens.kind(number);
+        match kind {
+            Some(Kind::Open | Kind::OpenBrace) => depth = depth.saturating_add(1),
+            Some(Kind::Close | Kind::CloseBrace) => depth = depth.saturating_sub(1),
+            _ => {}
+        }
+        let ends = matches!(kind, Some(Kind::Semicolon | Kind::CloseBrace));
+        if depth == 0 && ends && !matches!(tokens.kind_behind(number), Some(Kind::Else)) {
+            return number.saturating_add(1);
+        }
+    }
+    tokens.count()
+}
+
+/// Whether a token stands in the statement that begins at another one.
+pub fn stands_in(tokens: &Tokens<'_>, first: usize, number: usize) -> bool {
+    first <= number && number < end_of(tokens, first)
+}
+
+/// The innermost `while` or `for` in which a token stands.
+pub fn loop_round(tokens: &Tokens<'_>, number: usize) -> Option<usize> {
+    let mut found = None;
+    for first in 0..number {
+        if matches!(tokens.kind(first), Some(Kind::While | Kind::For))
+            && stands_in(tokens, first, number)
+        {
+            found = Some(first);
+        }
+    }
+    found
+}
+
+// Whether a token stands in a loop's head where that is come to again behind each turn.
+fn is_repeated(tokens: &Tokens<'_>, first: usize, number: usize) -> bool {
+    let mut parts: usize = 0;
+    for earlier in first..number {
+        if let Some(Kind::Semicolon) = tokens.kind(earlier) {
+            parts = parts.saturating_add(1);
+        }
+    }
+    match tokens.kind(first) {
+        Some(Kind::While) => true,
+        Some(Kind::For) => parts > 0,
+        _ => false,
+    }
+}
+
+// The end of the body of the loop that begins at a token.
+fn at_end(tokens: &Tokens<'_>, first: usize) -> Parting {
+    let body = behind_head(tokens, first);
+    match tokens.kind(body) {
+        Some(Kind::OpenBrace) => {
+            let brace = end_of(tokens, body).saturating_sub(1);
+            Parting::AtEnd(tokens.place(brace))
+        }
+        _ => Parting::Behind(tokens.place(body)),
+    }
+}
+
+/// The token behind the head of a loop, or behind a condition.
+pub fn behind_head(tokens: &Tokens<'_>, first: usize) -> usize {
+    let mut depth: usize = 0;
+    for number in first..tokens.count() {
+        match tokens.kind(number) {
+            Some(Kind::Open) => depth = depth.saturating_add(1),
+            Some(Kind::Close) if depth == 1 => return number.saturating_add(1),
+            Some(Kind::Close) => depth = depth.saturating_sub(1),
+            _ => {}
+        }
+    }
+    tokens.count()
+}
+
+// The name behind the last comma of a declaration that a token stands in.
+fn declared_at(tokens: &Tokens<'_>, first: usize, number: usize) -> Option<usize> {
+    if !matches!(tokens.kind(first), Some(Kind::Int)) {
+        return None;
+    }
+    let mut name = None;
+    let mut depth: usize = 0;
+    for earlier in first..number {
+        match tokens.kind(earlier) {
+            Some(Kind::Open | Kind::OpenBracket) => depth = depth.saturating_add(1),
+            Some(Kind::Close | Kind::CloseBracket) => depth = depth.saturating_sub(1),
+            Some(Kind::Comma) if depth == 0 => name = Some(earlier.saturating_add(1)),
+            _ => {}
+        }
+    }
+    name
+}
+
+// Ahead of a statement, or of the one whose body it is without braces, where the spawn isn't in that one as well.
+fn ahead(tokens: &Tokens<'_>, first: usize, spawn: usize) -> Parting {
+    let mut start = first;
+    for _level in 0..tokens.count() {
+        match headed(tokens, start) {
+            Some(outer) if !stands_in(tokens, outer, spawn) => start = outer,
+            _ => break,
+        }
+    }
+    let place = tokens.place(start);
+    match tokens.kind_back(start, 1) {
+        Some(Kind::Close | Kind::Else) => Parting::Within(place),
+        _ => Parting::Ahead(place),
+    }
+}
+
+// The loop or condition whose head ends ahead of a token.
+fn headed(tokens: &Tokens<'_>, number: usize) -> Option<usize> {
+    if !matches!(tokens.kind_back(number, 1), Some(Kind::Close)) {
+        return None;
+    }
+    let mut depth: usize = 0;
+    for back in 1..number.saturating_add(1) {
+        match tokens.kind_back(number, back) {
+            Some(Kind::Close) => depth = depth.saturating_add(1),
+            Some(Kind::Open) if depth == 1 => {
+                return number.checked_sub(back)?.checked_sub(1);
+            }
+            Some(Kind::Open) => depth = depth.saturating_sub(1),
+            _ => {}
+        }
+    }
+    None
+}

@@ -1,0 +1,132 @@
+//! A walk over the tokens of a text, along its tree.
+
+use crate::map::{BodyMap, CallSpot, Spot};
+use cilk_syntax::tree::Name;
+use cilk_syntax::token::{Kind, Token};
+use std::alloc::{AllocError, Global};
+
+/// What a function is called, and which of its parameters are reducers.
+#[derive(Drop)]
+pub struct Heading<'a> {
+    pub word: &'a [u8],
+    pub reducers: Vec<bool>,
+}
+
+/// A walk: the next token, the body that is gone over, and the loops so far.
+#[derive(Drop)]
+pub struct Walker<'a> {
+    pub alloc: Global,
+    pub text: &'a [u8],
+    pub tokens: &'a [Token],
+    pub headings: &'a [Heading<'a>],
+    pub next: usize,
+    pub body: BodyMap,
+    pub loops: Vec<BodyMap>,
+}
+
+/// The bytes of a name.
+pub fn word_of(text: &[u8], name: Name) -> &[u8] {
+    match text.get(name.at..name.end) {
+        Some(word) => word,
+        None => &[],
+    }
+}
+
+impl Walker<'_> {
+    /// What the next token is.
+    pub fn kind(&self) -> Option<Kind> {
+        match self.tokens.get(self.next) {
+            Some(token) => Some(token.kind),
+            None => None,
+        }
+    }
+
+    /// Where the next token stands; behind the last one the text ends.
+    pub fn here(&self) -> usize {
+        match self.tokens.get(self.next) {
+            Some(token) => token.at,
+            None => self.text.len(),
+        }
+    }
+
+    /// Passes a token, and gives its place.
+    pub fn take(&mut self) -> usize {
+        let at = self.here();
+        self.next = self.next.saturating_add(1);
+        at
+    }
+
+    /// Passes so many tokens.
+    pub fn pass(&mut self, count: usize) {
+        self.next = self.next.saturating_add(count);
+    }
+
+    /// Passes the tokens up to the first semicolon or opening brace, and that one.
+    pub fn pass_line(&mut self) {
+        for _token in 0..self.tokens.len() {
+            match self.kind() {
+                Some(Kind::Semicolon | Kind::OpenBrace) | None => break,
+                _ => self.pass(1),
+            }
+        }
+        self.pass(1);
+    }
+
+    /// Passes the tokens up to the first closing parenthesis, and that one.
+    pub fn pass_close(&mut self) {
+        for _token in 0..self.tokens.len() {
+            match self.kind() {
+                Some(Kind::Close) | None => break,
+                _ => self.pass(1),
+            }
+        }
+        self.pass(1);
+    }
+
+    /// An instruction that comes from the token at a place.
+    pub fn put(&mut self, at: usize) -> Result<(), AllocError> {
+        self.body.spots.push(Spot { at, call: None })?;
+        Ok(())
+    }
+
+    /// Several of them.
+    pub fn put_times(&mut self, at: usize, count: usize) -> Result<(), AllocError> {
+        for _instruction in 0..count {
+            self.put(at)?;
+        }
+        Ok(())
+    }
+
+    /// A call, and the instruction that goes on behind it.
+    pub fn put_call(&mut self, at: usize, call: CallSpot) -> Result<(), AllocError> {
+        self.body.spots.push(Spot {
+            at,
+            call: Some(call),
+        })?;
+        self.put(at)
+    }
+
+    /// The number of the function with a name.
+    pub fn function(&self, name: Name) -> Option<usize> {
+        let word = word_of(self.text, name);
+        let mut number: usize = 0;
+        for heading in self.headings {
+            if heading.word == word {
+                return Some(number);
+            }
+            number = number.saturating_add(1);
+        }
+        None
+    }
+
+    /// Whether a function's parameter is a reducer.
+    pub fn is_reducer(&self, function: usize, parameter: usize) -> bool {
+        match self.headings.get(function) {
+            Some(heading) => match heading.reducers.get(parameter) {
+                Some(is_reducer) => *is_reducer,
+                None => false,
+            },
+            None => false,
+        }
+    }
+}

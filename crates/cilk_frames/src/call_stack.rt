@@ -1,0 +1,91 @@
+//! The frames of a run in which each frame waits for the one that it called or spawned.
+
+ghost use Rattle.std.specs.Prelude.{◌≡◌, ◌<◌, ◌^◌, ◌∷◌, ◌++◌, [], ℕ, true, false, length, OnErr, OnOk};
+ghost use Rattle.cilk_types.specs.declared.event.Instance.{Instance};
+ghost use Rattle.cilk_program.specs.Scopes.{Scope, cell_in, instance_in};
+ghost use Rattle.cilk_program.specs.SerialRun.{global_reducer, itself};
+ghost use Rattle.cilk_frames.specs.Sight.{HasScope, number_in};
+
+use crate::activation::Activation;
+use crate::places::{cell, instance};
+use cilk_program::syntax::{Place, ReducerPlace};
+use cilk_types::event::{Cell, Instance};
+use std::alloc::{AllocError, Global};
+use std::mem;
+
+/// The frame that runs, and those that wait below it, from the bottom up.
+#[derive(Drop)]
+pub struct CallStack<C> {
+    pub top: Activation<C>,
+    pub below: Vec<Activation<C>>,
+}
+
+impl<C> CallStack<C> {
+    /// One frame alone.
+    pub fn new(alloc: Global, top: Activation<C>) -> Self
+        ensures top { result.top ≡ top }
+        ensures below { result.below.items ≡ [] }
+    {
+        CallStack {
+            top,
+            below: Vec::new(alloc),
+        }
+    }
+
+    /// How many frames wait.
+    pub fn depth(&self) -> usize
+        ensures { result ≡ length self.now.below.items }
+    {
+        self.below.len()
+    }
+
+    /// The cell that a place means to the frame that runs.
+    #[inline(always)]
+    pub fn cell(&self, place: Place) -> Cell
+        requires { (scope : Scope ℕ Instance) × HasScope self.now.below.items self.now.top scope × (cell_in itself scope place < 2 ^ 32) }
+        ensures { (scope : Scope ℕ Instance) → HasScope self.now.below.items self.now.top scope → result ≡ cell_in itself scope place }
+    {
+        cell(self.below.as_slice(), &self.top, place)
+    }
+
+    /// The reducer that a place means to the frame that runs.
+    #[inline(always)]
+    pub fn reducer(&self, place: ReducerPlace) -> Instance
+        requires sees { (scope : Scope ℕ Instance) × HasScope self.now.below.items self.now.top scope }
+        requires small { number_in place < 65536 }
+        ensures { (scope : Scope ℕ Instance) → HasScope self.now.below.items self.now.top scope → result ≡ instance_in global_reducer scope place }
+    {
+        instance(self.below.as_slice(), &self.top, place)
+    }
+
+    /// Another frame runs, and the one that ran waits for it. Where memory is refused, the frames are as they were, and
+    /// the new one is dropped.
+    pub fn push(&mut self, frame: Activation<C>) -> Result<(), AllocError>
+    where
+        C: Drop,
+        ensures top { OnOk result (self.new.top ≡ frame) }
+        ensures below { OnOk result (self.new.below.items ≡ self.old.below.items ++ self.old.top ∷ []) }
+        ensures err { OnErr result ((self.new.top ≡ self.old.top) × (self.new.below.items ≡ self.old.below.items)) }
+    {
+        self.below.reserve(1)?;
+        self.below.push_reserved(mem::replace(&mut self.top, frame));
+        Ok(())
+    }
+
+    /// The frame that runs is dropped and the uppermost one that waits goes on; or there is none, and nothing is
+    /// changed.
+    pub fn pop(&mut self) -> bool
+    where
+        C: Drop,
+        ensures some { result ≡ true → self.old.below.items ≡ self.new.below.items ++ self.new.top ∷ [] }
+        ensures none { result ≡ false → (self.old.below.items ≡ []) × (self.new.below.items ≡ []) × (self.new.top ≡ self.old.top) }
+    {
+        match self.below.pop() {
+            None => false,
+            Some(frame) => {
+                self.top = frame;
+                true
+            }
+        }
+    }
+}

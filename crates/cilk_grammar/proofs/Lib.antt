@@ -1,4 +1,0 @@
-pub mod Lists
-pub mod MarkLaws
-pub mod Runs
-pub mod Stopping

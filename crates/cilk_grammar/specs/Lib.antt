@@ -1,4 +1,0 @@
-pub mod Expected
-pub mod Grammar
-pub mod Limits
-pub mod Stops

@@ -1,0 +1,8 @@
+use Rattle.std.proofs.Common.{◌≡◌, ◌≤◌, drop, length}
+use Rattle.cilk_helpers.proofs.note.references.Given as goal
+
+abbrev pub invariant-each : goal.invariant-each
+invariant-each l = (l.next ≤ length l.list) × (l.references ≡ drop l.next l.list)
+
+abbrev pub decreases-each : goal.decreases-each
+decreases-each l = l.next

@@ -1,0 +1,63 @@
+-- What a note keeps.
+use Rattle.std.specs.Prelude.{ℕ, ℤ, ◌≤◌, Bool, true, false, length, Option, Some, None, option_map}
+use Rattle.cilk_program.specs.declared.ask.Ask.{Ask}
+use Rattle.cilk_program.specs.declared.ask.Ask.TheVariants as asks
+use Rattle.cilk_program.specs.declared.ask.Callee.{Callee}
+use Rattle.cilk_program.specs.declared.ask.Callee.TheVariants as callees
+use Rattle.cilk_program.specs.declared.ask.FunctionCall.{FunctionCall}
+use Rattle.cilk_frames.specs.AskSlot.{in_full}
+use Rattle.cilk_frames.specs.declared.cursor.Answer.{Answer}
+use Rattle.cilk_frames.specs.declared.cursor.Answer.TheVariants.{Done, Value}
+use Rattle.cilk_helpers.specs.declared.note.Asked.{Asked}
+use Rattle.cilk_helpers.specs.declared.note.Asked.TheVariants as asked
+use Rattle.cilk_helpers.specs.declared.note.Given.{Given}
+use Rattle.cilk_helpers.specs.declared.note.Parts.{Parts}
+use Rattle.cilk_helpers.specs.declared.note.Parts.TheVariants as parts
+
+-- the call of a function
+abbrev pub call_in : Given → FunctionCall
+call_in g = record { function = g.function; words = g.words.items; reducers = g.reducers.items; result = g.result }
+
+-- the ask
+abbrev pub ask_in : Asked → Ask
+ask_in (asked.Brief b) = in_full b
+ask_in (asked.Function how given) = asks.Invoke how (callees.Function (call_in given.value))
+
+-- the answer, if it is a word or none
+abbrev pub answer_of : Bool → ℤ → Answer
+answer_of true word = Value word
+answer_of false word = Done
+
+-- what callers see of a note: what a frame is told, what it asks for then, and how many ticks are left to it
+pub record NoteView : Type 0 where
+  pub told : Answer
+  pub ask : Ask
+  pub left : ℕ
+
+abbrev pub note_of : Parts → NoteView
+note_of (parts.Brief is_word left word brief) = record { told = answer_of is_word word; ask = in_full brief; left = left }
+note_of (parts.Function is_word how left word given) = record { told = answer_of is_word word; ask = asks.Invoke how (callees.Function (call_in given.value)); left = left }
+
+-- no function runs that is given no more than a function can be
+abbrev pub IsTooMuch : Option Callee → Type 0
+IsTooMuch None = Unit {0}
+IsTooMuch (Some callees.Root) = ⊥
+IsTooMuch (Some (callees.Function call)) = (length call.words ≤ 16) × (length call.reducers ≤ 16) → ⊥
+IsTooMuch (Some (callees.Loop part)) = ⊥
+
+-- the answer to an ask, if it has one, and if the word is there that it brings
+abbrev pub answer_with : Ask → Option ℤ → Option Answer
+answer_with asks.Begin word = Some Done
+answer_with (asks.Read x) word = option_map (λ w. Value w) word
+answer_with (asks.Write x v) word = Some Done
+answer_with (asks.Create r) word = Some Done
+answer_with (asks.Update r v) word = Some Done
+answer_with (asks.Set r v) word = Some Done
+answer_with (asks.Value r) word = option_map (λ w. Value w) word
+answer_with (asks.Print v) word = Some Done
+answer_with (asks.Invoke how callee) word = Some Done
+answer_with asks.Resume word = Some Done
+answer_with asks.Sync word = Some Done
+answer_with (asks.Result v) word = Some Done
+answer_with (asks.End v) word = None
+answer_with (asks.Fault f) word = None

@@ -1,6 +1,0 @@
--- The worked stories, computed.
-use Rattle.std.proofs.Common.{refl}
-use Rattle.cilk_inputs.specs.Worked.{WorkedStories}
-
-pub worked_stories : WorkedStories
-worked_stories = record { own = refl; none = (refl, refl); two = (refl, refl) }

@@ -1,5 +1,0 @@
-use Rattle.cilk_inputs.proofs.CourseFrames.{courses_are_runs}
-use Rattle.cilk_inputs.proofs.laws.asked_courses_are_serial_runs.Goals as goal
-
-pub returns : goal.returns
-returns c = courses_are_runs

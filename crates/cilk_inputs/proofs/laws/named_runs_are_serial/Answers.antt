@@ -1,5 +1,0 @@
-use Rattle.cilk_inputs.proofs.OneRun.{named_runs_are_serial as law}
-use Rattle.cilk_inputs.proofs.laws.named_runs_are_serial.Goals as goal
-
-pub returns : goal.returns
-returns c = law

@@ -1,5 +1,0 @@
-use Rattle.cilk_inputs.proofs.CourseRuns.{own_course as own}
-use Rattle.cilk_inputs.proofs.laws.own_course.Goals as goal
-
-pub returns : goal.returns
-returns types c = λ M next same. own _ _ M next same

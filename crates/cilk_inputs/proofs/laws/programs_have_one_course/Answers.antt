@@ -1,5 +1,0 @@
-use Rattle.cilk_inputs.proofs.CourseFrames.{programs_have_one}
-use Rattle.cilk_inputs.proofs.laws.programs_have_one_course.Goals as goal
-
-pub returns : goal.returns
-returns c = programs_have_one

@@ -1,5 +1,0 @@
-use Rattle.cilk_inputs.proofs.Elided.{runs_are_elided as law}
-use Rattle.cilk_inputs.proofs.laws.runs_are_elided.Goals as goal
-
-pub returns : goal.returns
-returns c = law

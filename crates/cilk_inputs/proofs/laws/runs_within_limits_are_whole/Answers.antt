@@ -1,5 +1,0 @@
-use Rattle.cilk_inputs.proofs.RunsEnd.{within_limits}
-use Rattle.cilk_inputs.proofs.laws.runs_within_limits_are_whole.Goals as goal
-
-pub returns : goal.returns
-returns c = within_limits

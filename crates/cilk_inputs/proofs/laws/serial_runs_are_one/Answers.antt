@@ -1,5 +1,0 @@
-use Rattle.cilk_inputs.proofs.OneRun.{runs_are_one}
-use Rattle.cilk_inputs.proofs.laws.serial_runs_are_one.Goals as goal
-
-pub returns : goal.returns
-returns types c = λ M next same. runs_are_one _ _ M next same

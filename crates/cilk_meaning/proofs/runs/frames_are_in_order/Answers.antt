@@ -1,5 +1,0 @@
-use Rattle.cilk_meaning.proofs.Orderly.{runs_orderly}
-use Rattle.cilk_meaning.proofs.runs.frames_are_in_order.Goals as goal
-
-pub returns : goal.returns
-returns c = runs_orderly

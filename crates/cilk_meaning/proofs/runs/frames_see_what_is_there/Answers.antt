@@ -1,5 +1,0 @@
-use Rattle.cilk_meaning.proofs.Visible.{frames_see}
-use Rattle.cilk_meaning.proofs.runs.frames_see_what_is_there.Goals as goal
-
-pub returns : goal.returns
-returns c = frames_see

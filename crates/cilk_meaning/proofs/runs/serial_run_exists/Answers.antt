@@ -1,5 +1,0 @@
-use Rattle.cilk_meaning.proofs.Uniqueness.{serial_run_exists}
-use Rattle.cilk_meaning.proofs.runs.serial_run_exists.Goals as goal
-
-pub returns : goal.returns
-returns c = serial_run_exists

@@ -1,5 +1,0 @@
-use Rattle.cilk_meaning.proofs.Existence.{serial_run_is_short}
-use Rattle.cilk_meaning.proofs.runs.serial_run_is_short.Goals as goal
-
-pub returns : goal.returns
-returns c = serial_run_is_short

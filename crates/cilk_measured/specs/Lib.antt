@@ -1,3 +1,0 @@
-pub mod Measured
-pub mod Table
-pub mod Words

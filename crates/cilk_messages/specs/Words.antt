@@ -1,0 +1,162 @@
+-- What the words of a command line ask for, by clap's own account of how a simple command matches words.
+use Rattle.std.specs.Prelude.{◌≡◌, ◌≢◌, ◌∷◌, [], ℕ, nat_le, ◌&&◌, List, Option, Some, None, map, codes, true, false, if◌then◌else◌, option_map, option_and_then}
+use Rattle.std.specs.Str.{bytes_eq}
+use Rattle.std.specs.Borrow.{Bor}
+use Rattle.clap.specs.Words.{App, Row, Rule, Text, app_of, fault_of, first_of, new_app, new_rule, subcommand_of, with_rule, with_subcommand}
+use Rattle.clap.specs.Simple.{on_top}
+use Rattle.clap.specs.Walk.{is_empty}
+use Rattle.clap.specs.declared.builder.action.ArgAction.TheVariants.{Set}
+use Rattle.clap.specs.declared.builder.command.Command.{Command}
+use Rattle.clap.specs.declared.builder.command.Command.TheViews.{out-Command}
+use Rattle.clap.specs.declared.error.kind.ErrorKind.{ErrorKind}
+use Rattle.clap.specs.declared.error.kind.ErrorKind.TheVariants.{OutOfMemory}
+use Rattle.cilk_syntax.specs.Lexing.{all_digits, value_of}
+use Rattle.cilk_messages.specs.declared.words.TheConstants.{MAX_WORKERS, WORKERS}
+use Rattle.cilk_messages.specs.declared.words.Order.{Order}
+use Rattle.cilk_messages.specs.declared.words.Order.TheVariants as orders
+use Rattle.cilk_messages.specs.declared.words.Origin.TheVariants as origins
+use Rattle.cilk_messages.specs.declared.words.Origin as code
+use Rattle.cilk_messages.specs.declared.words.WordsFault.{WordsFault}
+use Rattle.cilk_messages.specs.declared.words.WordsFault.TheVariants.{Usage, Memory}
+
+-- the texts behind references
+abbrev pub texts : List (Bor Text) → List Text
+texts words = map (λ w. w.now) words
+
+-- where a program text comes from
+pub data Origin : Type 0 where
+  Standard : Origin
+  File : (path : Text) → Origin
+
+-- what is asked for; a command without an input file has the empty input
+pub data Requested : Type 0 where
+  Run : (program : Origin) (input : Option Text) → Requested
+  Certify : (program : Text) (input : Option Text) → Requested
+  Check : (program certificate : Text) (input : Option Text) → Requested
+  -- with so many workers
+  Play : (program script : Text) (workers : ℕ) (input : Option Text) → Requested
+
+abbrev pub origin_view : code.Origin → Origin
+origin_view origins.Standard = Standard
+origin_view (origins.File path) = File path.now
+
+abbrev pub order_view : Order → Requested
+order_view (orders.Run program input) = Run (origin_view program) (option_map (λ path. path.now) input)
+order_view (orders.Certify program input) = Certify program.now (option_map (λ path. path.now) input)
+order_view (orders.Check program certificate input) =
+    Check program.now certificate.now (option_map (λ path. path.now) input)
+order_view (orders.Play program script workers input) =
+    Play program.now script.now workers (option_map (λ path. path.now) input)
+
+abbrev pub program_rule : Rule
+program_rule = record (new_rule (codes "program")) { required = true }
+
+abbrev pub certificate_rule : Rule
+certificate_rule = record (new_rule (codes "certificate")) { required = true }
+
+abbrev pub script_rule : Rule
+script_rule = record (new_rule (codes "script")) { required = true }
+
+abbrev pub workers_rule : Rule
+workers_rule = record (new_rule (codes "workers")) { long = Some (codes "workers"); action = Some Set }
+
+abbrev pub input_rule : Rule
+input_rule = record (new_rule (codes "input")) { long = Some (codes "input"); action = Some Set }
+
+-- `NAME PROGRAM [--input FILE]`
+abbrev pub program_app : Text → App
+program_app name = with_rule (with_rule (new_app name) program_rule) input_rule
+
+-- `check PROGRAM CERTIFICATE [--input FILE]`
+abbrev pub check_app : App
+check_app = with_rule (with_rule (with_rule (new_app (codes "check")) program_rule) certificate_rule) input_rule
+
+-- `play PROGRAM SCRIPT`
+abbrev pub script_app : App
+script_app = with_rule (with_rule (new_app (codes "play")) program_rule) script_rule
+
+-- the same with `[--workers N] [--input FILE]`
+abbrev pub play_app : App
+play_app = with_rule (with_rule script_app workers_rule) input_rule
+
+-- a program of commands, none of which it has yet
+abbrev pub empty_app : App
+empty_app = on_top (λ s. record s { no_binary_name = true; subcommand_required = true }) (new_app (codes "cilk"))
+
+-- the commands: `run`, `certify`, `check` and `play`
+abbrev pub cilk_app : App
+cilk_app =
+    with_subcommand (with_subcommand (with_subcommand (with_subcommand empty_app (program_app (codes "run")).top)
+    (program_app (codes "certify")).top) check_app.top) play_app.top
+
+-- the command is this one to clap's parser
+abbrev pub HasShape : Command → App → Type 0
+HasShape c a = (app_of c ≡ a) × ((out-Command c).has_globals ≡ false)
+
+-- two paths, without the references
+abbrev pub paths_view : Bor Text × Option (Bor Text) → Text × Option Text
+paths_view paths = (paths.0.now, option_map (λ path. path.now) paths.1)
+
+-- the paths of the program and of the input that these matches name
+abbrev pub paths_in : List Row → Option (Text × Option Text)
+paths_in rows = option_map (λ program. (program, first_of (codes "input") rows)) (first_of (codes "program") rows)
+
+-- `run` with these matches
+abbrev pub run_with : List Row → Option Requested
+run_with rows = option_map (λ paths. Run (File paths.0) paths.1) (paths_in rows)
+
+-- `certify` with these matches
+abbrev pub certify_with : List Row → Option Requested
+certify_with rows = option_map (λ paths. Certify paths.0 paths.1) (paths_in rows)
+
+-- `check` with these matches
+abbrev pub check_with : List Row → Option Requested
+check_with rows =
+    option_and_then (λ certificate. option_map (λ paths. Check paths.0 certificate paths.1) (paths_in rows))
+    (first_of (codes "certificate") rows)
+
+-- how many workers a word names: plain digits, from 1 to 64
+abbrev pub worker_count : Text → Option ℕ
+worker_count digits =
+    if all_digits digits && (nat_le 1 (value_of digits) && nat_le (value_of digits) MAX_WORKERS) then Some (value_of digits) else None
+
+-- where no word names them, there are two
+abbrev pub workers_in : Option Text → Option ℕ
+workers_in None = Some WORKERS
+workers_in (Some digits) = worker_count digits
+
+-- `play` of a script with these matches
+abbrev pub script_with : List Row → Text → Option Requested
+script_with rows script =
+    option_and_then (λ paths. option_map (λ workers. Play paths.0 script workers paths.1) (workers_in (first_of (codes "workers") rows)))
+    (paths_in rows)
+
+-- `play` with these matches
+abbrev pub play_with : List Row → Option Requested
+play_with rows = option_and_then (script_with rows) (first_of (codes "script") rows)
+
+abbrev pub named : Text × List Row → Option Requested
+named p =
+    if bytes_eq p.0 (codes "run") then run_with p.1
+    else (if bytes_eq p.0 (codes "certify") then certify_with p.1
+    else (if bytes_eq p.0 (codes "check") then check_with p.1
+    else (if bytes_eq p.0 (codes "play") then play_with p.1 else None)))
+
+-- what the subcommand with its matches asks for
+abbrev pub order_by : Option (Text × List Row) → Option Requested
+order_by entered = option_and_then named entered
+
+-- what the words after the program's own name ask for: nothing where clap finds a fault in them, or help is asked for
+unfoldable pub order_in : List Text → Option Requested
+order_in [] = Some (Run Standard None)
+order_in (w ∷ words) = if is_empty (fault_of cilk_app (w ∷ words)) then order_by (subcommand_of cilk_app (w ∷ words)) else None
+
+-- an error of clap's is shown, unless memory ran out
+abbrev pub IsRefusal : ErrorKind → WordsFault → Type 0
+IsRefusal k (Usage text) = k ≢ OutOfMemory
+IsRefusal k Memory = Unit {0}
+
+-- the words ask for nothing, or memory ran out
+abbrev pub IsWordsFault : List Text → WordsFault → Type 0
+IsWordsFault words (Usage text) = order_in words ≡ None
+IsWordsFault words Memory = Unit {0}

@@ -1,0 +1,210 @@
+//! What to write in place of bytes with which no token begins.
+
+use crate::place::line_at;
+use crate::sentences::{BITS, FRACTIONS, INPUT, LIBRARY, PRINT, REDUCER, STRUCTURES, VIEW_MEMBERS};
+use crate::around::{before, byte_at, is_name, is_number, word_after, word_at, word_before};
+
+/// A byte over 127.
+pub fn odd_byte(text: &[u8], at: usize) -> &'static str {
+    if at == 0 && text.starts_with(b"\xEF\xBB\xBF") {
+        "the file begins with a byte order mark: save it without one"
+    } else {
+        "letters outside ASCII may stand in comments alone"
+    }
+}
+
+/// No token begins with this.
+pub fn no_token(text: &[u8], at: usize) -> Option<&'static str> {
+    match word_at(text, at) {
+        b"\"" => Some(no_string(text, at)),
+        b"'" => Some(no_character(text, at)),
+        b"#" => Some(no_directive(text, at)),
+        b":" => Some(no_colon(text, at)),
+        b"?" => Some(CHOICE),
+        b"&" => Some(no_ampersand(text, at)),
+        b"|" => Some(
+            "there are no operators on bits: put numbers together by `*` and `+`, as `2 * x + 1` for `x << 1 | 1`",
+        ),
+        b"^" | b"~" => Some(BITS),
+        b"." => Some(no_point(text, at)),
+        b"/" => Some("a comment ends with `*/`"),
+        word if is_number(word) => Some(no_number(word)),
+        _ => None,
+    }
+}
+
+const CHOICE: &str = "there is no `? :`: write `if` and `else`";
+
+const LINE_END: &str = "`print` ends each line itself: leave this away";
+
+// The word ahead of the parenthesis that is ahead of a place.
+fn called(text: &[u8], at: usize) -> &[u8] {
+    match before(text, at) {
+        Some(open) if byte_at(text, open) == b'(' => word_before(text, open),
+        _ => &[],
+    }
+}
+
+// What stands for a string: what is read, or what is printed.
+fn no_string(text: &[u8], at: usize) -> &'static str {
+    let is_line_end = text.get(at..).unwrap_or(&[]).starts_with(b"\"\\n\"");
+    match called(text, at) {
+        b"scanf" => INPUT,
+        b"printf" | b"puts" | b"print" if is_line_end => LINE_END,
+        _ => "there are no strings: `print(e);` writes a number on a line of its own",
+    }
+}
+
+// What stands for a character: its number, but for a line's end that is printed.
+fn no_character(text: &[u8], at: usize) -> &'static str {
+    let is_line_end = text.get(at..).unwrap_or(&[]).starts_with(b"'\\n'");
+    match called(text, at) {
+        b"putchar" | b"print" if is_line_end => LINE_END,
+        _ => "there are no characters: write their numbers",
+    }
+}
+
+// A line of the preprocessor.
+fn no_directive(text: &[u8], at: usize) -> &'static str {
+    let word = word_after(text, at.saturating_add(1));
+    match word_at(text, word) {
+        b"define" => {
+            let name = word_after(text, word.saturating_add(b"define".len()));
+            let end = name.saturating_add(word_at(text, name).len());
+            if byte_at(text, end) == b'(' {
+                "there is no preprocessor: a function stands for a macro with arguments, `int least(int a, int b) { .. }`"
+            } else {
+                DEFINITION
+            }
+        }
+        b"if" | b"ifdef" | b"ifndef" | b"else" | b"elif" | b"endif" | b"undef" | b"error" =>
+            "there is no preprocessor: leave this line away",
+        _ => DEFINITION,
+    }
+}
+
+const DEFINITION: &str =
+    "there is no preprocessor: a global `int n = 8;` can stand for `#define N 8`";
+
+// A colon: of a name of C++, of a `switch`, of a label, or of another loop's head.
+fn no_colon(text: &[u8], at: usize) -> &'static str {
+    let ahead = word_before(text, at);
+    let behind = at.saturating_add(1);
+    match byte_at(text, behind) {
+        b':' if ahead == b"std".as_slice() => of_std(word_at(text, behind.saturating_add(1))),
+        b':' => REDUCER,
+        b'=' => "an assignment is `x = e;`",
+        _ if is_case(text, at) => "write `if` and `else if`",
+        _ if is_label(text, at) => "there are no labels: a flag in the loop's condition ends it",
+        _ if is_name(ahead) =>
+            "a loop counts, and has no `:` in its head: `for (int i = 0; i < n; i++)`",
+        _ => CHOICE,
+    }
+}
+
+// What stands for a name of C++'s library.
+fn of_std(name: &[u8]) -> &'static str {
+    match name {
+        b"cout" | b"endl" => PRINT,
+        b"cin" => INPUT,
+        _ => LIBRARY,
+    }
+}
+
+// Whether a colon ends a `case` or a `default`.
+fn is_case(text: &[u8], at: usize) -> bool {
+    let Some(ahead) = before(text, at) else {
+        return false;
+    };
+    let is_default = word_at(text, ahead) == b"default".as_slice();
+    is_default || word_before(text, ahead) == b"case".as_slice()
+}
+
+// Whether a colon ends a label: a name that begins its line, or stands behind a statement.
+fn is_label(text: &[u8], at: usize) -> bool {
+    let Some(name) = before(text, at) else {
+        return false;
+    };
+    if !is_name(word_at(text, name)) {
+        return false;
+    }
+    let (_line, first) = line_at(text, name);
+    match before(text, name) {
+        Some(ahead) => {
+            ahead < first || matches!(byte_at(text, ahead), b';' | b'{' | b'}' | b')')
+        }
+        None => true,
+    }
+}
+
+// A `&` behind an operand takes bits, and else an address.
+fn no_ampersand(text: &[u8], at: usize) -> &'static str {
+    match word_before(text, at) {
+        b")" | b"]" => BITS,
+        word if is_name(word) || is_number(word) => BITS,
+        _ =>
+            "there are no pointers: a place in a global array stands for an address, as `i` for `&a[i]`",
+    }
+}
+
+// A point: of a fraction, of a member of a reducer's view, or of another structure.
+fn no_point(text: &[u8], at: usize) -> &'static str {
+    let ahead = word_before(text, at);
+    let is_digit = byte_at(text, at.saturating_add(1)).is_ascii_digit();
+    if is_number(ahead) || is_digit {
+        FRACTIONS
+    } else if is_view(text, at) || is_reducer(text, ahead) {
+        VIEW_MEMBERS
+    } else {
+        STRUCTURES
+    }
+}
+
+// Whether a point stands behind the view of a reducer, as OpenCilk's first reducers have it.
+fn is_view(text: &[u8], at: usize) -> bool {
+    let Some(front) = text.get(..at) else {
+        return false;
+    };
+    let mut open = front.len();
+    for back in 1..front.len().saturating_add(1).min(64) {
+        let place = front.len().saturating_sub(back);
+        if byte_at(front, place) == b'(' {
+            open = place;
+            break;
+        }
+    }
+    word_before(text, open) == b"REDUCER_VIEW".as_slice()
+}
+
+// Whether a text declares a reducer of this name.
+fn is_reducer(text: &[u8], name: &[u8]) -> bool {
+    let word = b"cilk_reducer".as_slice();
+    for place in 0..text.len() {
+        let rest = text.get(place..).unwrap_or(&[]);
+        if rest.starts_with(word) && is_name(name) && named_behind(rest) == name {
+            return true;
+        }
+    }
+    false
+}
+
+// The word behind the first parenthesis that closes, where one does nearby.
+fn named_behind(text: &[u8]) -> &[u8] {
+    for (place, byte) in text.iter().enumerate().take(128) {
+        if *byte == b')' {
+            return word_at(text, word_after(text, place.saturating_add(1)));
+        }
+    }
+    &[]
+}
+
+// A number of C that is none here.
+fn no_number(word: &[u8]) -> &'static str {
+    match word {
+        [b'0', b'x' | b'X', ..] => "write the number with decimal digits",
+        [.., b'l' | b'L' | b'u' | b'U'] =>
+            "`int` is the only type: write the number without letters",
+        _ if word.contains(&b'e') || word.contains(&b'E') || word.ends_with(b"f") => FRACTIONS,
+        _ => "a number has digits alone, and doesn't begin with 0",
+    }
+}

@@ -1,0 +1,166 @@
+//! Where a token stands: in which parentheses, head, block or declaration.
+
+use crate::tokens::{Declared, Tokens};
+use crate::vocabulary::is_type_word;
+use cilk_syntax::token::Kind;
+
+/// The parenthesis that is open at a token, in its own statement; of one that closes, the one that it closes.
+pub fn enclosing(tokens: &Tokens<'_>, number: usize) -> Option<usize> {
+    let mut depth: usize = 0;
+    for back in 1..number.saturating_add(1) {
+        match tokens.kind_back(number, back) {
+            Some(Kind::Close) => depth = depth.saturating_add(1),
+            Some(Kind::Open) if depth == 0 => return number.checked_sub(back),
+            Some(Kind::Open) => depth = depth.saturating_sub(1),
+            Some(Kind::OpenBrace | Kind::CloseBrace) => return None,
+            _ => {}
+        }
+    }
+    None
+}
+
+/// The token ahead of the parentheses that a token stands in.
+pub fn head_of(tokens: &Tokens<'_>, number: usize) -> Option<usize> {
+    enclosing(tokens, number)?.checked_sub(1)
+}
+
+/// What the token ahead of the parentheses is that a token stands in.
+pub fn head_kind(tokens: &Tokens<'_>, number: usize) -> Option<Kind> {
+    tokens.kind(head_of(tokens, number)?)
+}
+
+/// The token ahead of the parentheses that end ahead of a token.
+pub fn closed_head(tokens: &Tokens<'_>, number: usize) -> Option<usize> {
+    let ahead = number.checked_sub(1)?;
+    match tokens.kind(ahead) {
+        Some(Kind::Close) => enclosing(tokens, ahead)?.checked_sub(1),
+        _ => None,
+    }
+}
+
+/// Whether a token stands between the parentheses behind a function's name, where that is declared.
+pub fn is_in_head_of_function(tokens: &Tokens<'_>, number: usize) -> bool {
+    match head_of(tokens, number) {
+        Some(named) => matches!(tokens.declared(named), Some(Declared::Function { .. })),
+        None => false,
+    }
+}
+
+/// Whether that function is `main`.
+pub fn is_in_head_of_main(tokens: &Tokens<'_>, number: usize) -> bool {
+    match head_of(tokens, number) {
+        Some(named) => {
+            tokens.word(named) == b"main".as_slice() && is_in_head_of_function(tokens, number)
+        }
+        None => false,
+    }
+}
+
+/// Whether a token stands where a reducer is declared: at the marks of its monoid, or behind its name.
+pub fn is_in_reducer(tokens: &Tokens<'_>, number: usize) -> bool {
+    matches!(head_kind(tokens, number), Some(Kind::CilkReducer))
+        || matches!(tokens.kind_back(number, 5), Some(Kind::CilkReducer))
+}
+
+/// Whether a token stands in no function's body.
+pub fn is_global(tokens: &Tokens<'_>, number: usize) -> bool {
+    let mut depth: usize = 0;
+    for earlier in 0..number {
+        match tokens.kind(earlier) {
+            Some(Kind::OpenBrace) => depth = depth.saturating_add(1),
+            Some(Kind::CloseBrace) => depth = depth.saturating_sub(1),
+            _ => {}
+        }
+    }
+    depth == 0
+}
+
+/// Whether a statement or an item could begin with a token.
+pub fn begins(tokens: &Tokens<'_>, number: usize) -> bool {
+    matches!(
+        tokens.kind_back(number, 1),
+        None | Some(Kind::Semicolon | Kind::OpenBrace | Kind::CloseBrace | Kind::Else)
+    ) || is_condition(tokens, closed_head(tokens, number))
+}
+
+// Whether a token is the word ahead of a condition, or of a loop's head.
+fn is_condition(tokens: &Tokens<'_>, named: Option<usize>) -> bool {
+    match named {
+        Some(named) => matches!(
+            tokens.kind(named),
+            Some(Kind::If | Kind::While | Kind::For | Kind::CilkFor)
+        ),
+        None => false,
+    }
+}
+
+/// Whether a token stands in the length of an array that is declared.
+pub fn is_in_length(tokens: &Tokens<'_>, number: usize) -> bool {
+    for back in 1..number.saturating_add(1) {
+        match tokens.kind_back(number, back) {
+            Some(Kind::OpenBracket) => {
+                let name = number.saturating_sub(back).saturating_sub(1);
+                return matches!(tokens.declared(name), Some(Declared::Array));
+            }
+            Some(Kind::CloseBracket | Kind::Semicolon | Kind::OpenBrace | Kind::CloseBrace) => {
+                return false;
+            }
+            _ => {}
+        }
+    }
+    false
+}
+
+/// Whether a token stands in the first value of a global.
+pub fn is_in_first_value(tokens: &Tokens<'_>, number: usize) -> bool {
+    for back in 1..number.saturating_add(1) {
+        match tokens.kind_back(number, back) {
+            Some(Kind::Assign) => {
+                let name = number.saturating_sub(back).saturating_sub(1);
+                return tokens.declared(name).is_some() && is_global(tokens, number);
+            }
+            Some(Kind::Comma | Kind::Semicolon | Kind::OpenBrace | Kind::CloseBrace) => {
+                return false;
+            }
+            _ => {}
+        }
+    }
+    false
+}
+
+/// The first token of the type that stands between parentheses at a token or ahead of it, as a cast.
+pub fn cast_at(tokens: &Tokens<'_>, number: usize) -> Option<usize> {
+    let ahead = number.checked_sub(1)?;
+    let open = match tokens.kind(ahead) {
+        Some(Kind::Close) => enclosing(tokens, ahead)?,
+        _ => enclosing(tokens, number)?,
+    };
+    let first = open.saturating_add(1);
+    let is_type = first <= number && is_type_word(tokens.word(first));
+    if is_type
+        && !matches!(
+            tokens.kind(open.checked_sub(1)?),
+            Some(Kind::Name | Kind::For | Kind::CilkFor)
+        )
+    {
+        Some(first)
+    } else {
+        None
+    }
+}
+
+/// Whether the bracket or parenthesis that is open at a token is a bracket.
+pub fn is_in_brackets(tokens: &Tokens<'_>, number: usize) -> bool {
+    let mut depth: usize = 0;
+    for back in 1..number.saturating_add(1) {
+        match tokens.kind_back(number, back) {
+            Some(Kind::Close | Kind::CloseBracket) => depth = depth.saturating_add(1),
+            Some(Kind::OpenBracket) if depth == 0 => return true,
+            Some(Kind::Open) if depth == 0 => return false,
+            Some(Kind::Open | Kind::OpenBracket) => depth = depth.saturating_sub(1),
+            Some(Kind::Semicolon | Kind::OpenBrace | Kind::CloseBrace) => return false,
+            _ => {}
+        }
+    }
+    false
+}

@@ -1,0 +1,162 @@
+//! Marks that may be missing ahead of a token that is refused.
+
+use crate::hints::Hint;
+use crate::place::locate;
+use crate::report::Wanted;
+use crate::sites::{closed_head, enclosing, is_in_brackets};
+use crate::tokens::Tokens;
+use cilk_syntax::token::Kind;
+
+/// A mark that may be missing ahead of a token: one that ends what is there, where the grammar has that mark and what follows could go on
+/// behind it.
+pub fn missing_mark<'a>(
+    tokens: &Tokens<'a>,
+    number: usize,
+    wanted: &Wanted<'_>,
+) -> Option<Hint<'a>> {
+    let has_line = is_on_later_line(tokens, number);
+    let could_end = ends_statement(tokens, number) && follows(tokens, number, has_line);
+    if wanted.semicolon && could_end {
+        missing(tokens, number, ";")
+    } else if wanted.words.contains("`]`") && is_behind_index(tokens, number) {
+        missing(tokens, number, "]")
+    } else if wanted.words.contains("`)`") && follows_parenthesis(tokens, number, has_line) {
+        missing(tokens, number, ")")
+    } else {
+        None
+    }
+}
+
+/// What is said of a function without its body, of a mark that closes nothing, and of a text that ends too early.
+pub fn unpaired(tokens: &Tokens<'_>, number: usize, wanted: &Wanted<'_>) -> Option<&'static str> {
+    if wanted.words == "`{`" {
+        return Some("a function's body stands between `{` and `}`");
+    }
+    match tokens.kind(number) {
+        None => Some("a `}` may be missing at the end, or ahead of it"),
+        Some(Kind::Close) if enclosing(tokens, number).is_none() => {
+            Some("there is a `)` too many, here or ahead")
+        }
+        _ => None,
+    }
+}
+
+// Whether the token ahead stands on an earlier line.
+fn is_on_later_line(tokens: &Tokens<'_>, number: usize) -> bool {
+    match number.checked_sub(1) {
+        Some(ahead) => {
+            locate(tokens.text, tokens.place(ahead)).line
+                < locate(tokens.text, tokens.place(number)).line
+        }
+        None => false,
+    }
+}
+
+// A mark that is missing between a token and the one ahead of it.
+fn missing<'a>(tokens: &Tokens<'a>, number: usize, mark: &'static str) -> Option<Hint<'a>> {
+    let ahead = number.checked_sub(1)?;
+    if is_on_later_line(tokens, number) || tokens.kind(number).is_none() {
+        let line = locate(tokens.text, tokens.place(ahead)).line;
+        Some(Hint::EndOfLine { mark, line })
+    } else {
+        let word = tokens.word(number);
+        Some(Hint::AheadOf { mark, word })
+    }
+}
+
+// Whether the token ahead could be the last one of a statement but for its semicolon.
+fn ends_statement(tokens: &Tokens<'_>, number: usize) -> bool {
+    match tokens.kind_back(number, 1) {
+        Some(Kind::Close) => match closed_head(tokens, number) {
+            Some(named) => is_called(tokens, named),
+            None => true,
+        },
+        Some(
+            Kind::Name
+            | Kind::Number(_)
+            | Kind::CloseBracket
+            | Kind::Increment
+            | Kind::Decrement
+            | Kind::CilkSync
+            | Kind::Return,
+        ) => true,
+        _ => false,
+    }
+}
+
+// Whether a token ahead of parentheses makes a statement with them: no condition, and no function that the text doesn't have.
+fn is_called(tokens: &Tokens<'_>, named: usize) -> bool {
+    match tokens.kind(named) {
+        Some(Kind::If | Kind::While | Kind::For | Kind::CilkFor) => false,
+        Some(Kind::Name) => tokens.declaration_of(named).is_some(),
+        _ => true,
+    }
+}
+
+// Whether a statement could begin with a token, or a block end; a name alone, or a spawn, begins one on a line of its own.
+fn follows(tokens: &Tokens<'_>, number: usize, has_line: bool) -> bool {
+    match tokens.kind(number) {
+        None | Some(Kind::CloseBrace) => true,
+        Some(
+            Kind::Name
+            | Kind::Increment
+            | Kind::Decrement
+            | Kind::OpenBrace
+            | Kind::CilkSpawn
+            | Kind::Void,
+        ) => has_line,
+        Some(kind) => begins_statement(kind),
+    }
+}
+
+fn begins_statement(kind: Kind) -> bool {
+    matches!(
+        kind,
+        Kind::Int
+            | Kind::If
+            | Kind::Else
+            | Kind::While
+            | Kind::For
+            | Kind::Return
+            | Kind::CilkSync
+            | Kind::CilkFor
+            | Kind::Print
+            | Kind::Update
+            | Kind::Set
+    )
+}
+
+// Whether what stands at a token could come behind a parenthesis that closes.
+fn follows_parenthesis(tokens: &Tokens<'_>, number: usize, has_line: bool) -> bool {
+    match tokens.kind(number) {
+        Some(Kind::Semicolon | Kind::OpenBrace) => true,
+        _ => follows(tokens, number, has_line),
+    }
+}
+
+// Whether what stands at a token could come behind a bracket that closes: the end of a part round it, or an assignment, where no
+// bracket closes later.
+fn is_behind_index(tokens: &Tokens<'_>, number: usize) -> bool {
+    match tokens.kind(number) {
+        Some(Kind::Close | Kind::Semicolon | Kind::OpenBrace) => is_in_brackets(tokens, number),
+        Some(Kind::Assign | Kind::PlusAssign | Kind::MinusAssign | Kind::StarAssign) => {
+            is_in_brackets(tokens, number) && !is_closed_later(tokens, number)
+        }
+        _ => false,
+    }
+}
+
+// Whether a bracket that is open at a token closes in its statement.
+fn is_closed_later(tokens: &Tokens<'_>, number: usize) -> bool {
+    let mut depth: usize = 0;
+    for later in number..tokens.count() {
+        match tokens.kind(later) {
+            Some(Kind::OpenBracket) => depth = depth.saturating_add(1),
+            Some(Kind::CloseBracket) if depth == 0 => return true,
+            Some(Kind::CloseBracket) => depth = depth.saturating_sub(1),
+            Some(Kind::Semicolon | Kind::OpenBrace | Kind::CloseBrace) => return false,
+            _ => {}
+        }
+    }
+    false
+}

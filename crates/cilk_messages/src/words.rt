@@ -1,0 +1,297 @@
+//! The words of a command line.
+//!
+//! With no words a program text is read from standard input and run. Else the words are read by `clap`: a command and
+//! what it takes.
+
+ghost use Rattle.std.specs.Prelude.{◌≡◌, ℕ, option_map, IfOk, IfErr, Some};
+ghost use Rattle.clap.specs.Words.{App, found_of, kind_of, rows_of, subcommand_rows_of, with_subcommand};
+ghost use Rattle.cilk_messages.specs.Words.{HasShape, program_app, check_app, cilk_app, empty_app, order_in, order_by, paths_in, paths_view, play_app, play_with, script_app, run_with, certify_with, check_with, IsWordsFault, order_view, IsRefusal, texts, worker_count, workers_in};
+
+use cilk_syntax::lexer::{all_digits, value_of};
+use clap::error::ErrorKind;
+use clap::{Arg, ArgAction, ArgMatches, Command, Error};
+use std::alloc::{AllocError, Global};
+
+/// How many workers play a script where no word names them.
+pub const WORKERS: u32 = 2;
+
+/// The most workers that play a script.
+pub const MAX_WORKERS: u64 = 64;
+
+// What is said of words that clap matches and that still ask for nothing.
+const NO_ORDER: &str = "error: the number of workers is 1 to 64\n";
+
+// What clap says of each command.
+const RUN: &str = "Run a program serially";
+
+const CERTIFY: &str = "Write the certificate of a program's serial run";
+
+const CHECK: &str = "Check a certificate, and whether the run that it is of has a race";
+
+const PLAY: &str = "Run a program in parallel, step by step, by a script";
+
+/// Where a program text comes from.
+#[derive(Clone, Copy, PartialEq, Eq)]
+pub enum Origin<'a> {
+    /// Standard input.
+    Standard,
+    /// The file of a path.
+    File(&'a str),
+}
+
+/// What the words ask for.
+#[derive(Clone, Copy)]
+pub enum Order<'a> {
+    /// Run a program, on the input of a file or on the empty input.
+    Run {
+        program: Origin<'a>,
+        input: Option<&'a str>,
+    },
+    /// Show the certificate of a program's run, on the input of a file or on the empty input.
+    Certify {
+        program: &'a str,
+        input: Option<&'a str>,
+    },
+    /// Check a certificate of a program's run, on the input of a file or on the empty input.
+    Check {
+        program: &'a str,
+        certificate: &'a str,
+        input: Option<&'a str>,
+    },
+    /// Play a script with so many workers, on the input of a file or on the empty input.
+    Play {
+        program: &'a str,
+        script: &'a str,
+        workers: u32,
+        input: Option<&'a str>,
+    },
+}
+
+/// Why words are no order.
+#[derive(Drop)]
+pub enum WordsFault {
+    /// They are no command, or ask for help: clap's own text.
+    Usage(String),
+    Memory,
+}
+
+impl From<AllocError> for WordsFault {
+    ghost use Rattle.cilk_messages.specs.declared.words.WordsFault.TheVariants.{Memory};
+
+    ghost from_gives = { λ _ e. e ≡ Memory };
+
+    fn from(_: AllocError) -> WordsFault {
+        WordsFault::Memory
+    }
+}
+
+/// `NAME PROGRAM [--input FILE]`.
+fn program_command<'a>(alloc: Global, name: &'a str) -> Result<Command<'a>, AllocError>
+    ensures { IfOk result (λ c. HasShape c (program_app name.entry.now)) }
+{
+    Command::new(alloc, name)
+        .arg(Arg::new(alloc, "program").required(true))?
+        .arg(
+            Arg::new(alloc, "input")
+                .long("input")
+                .action(ArgAction::Set),
+        )
+}
+
+/// `check PROGRAM CERTIFICATE [--input FILE]`.
+fn check_command<'a>(alloc: Global) -> Result<Command<'a>, AllocError>
+    ensures { IfOk result (λ c. HasShape c check_app) }
+{
+    Command::new(alloc, "check")
+        .arg(Arg::new(alloc, "program").required(true))?
+        .arg(Arg::new(alloc, "certificate").required(true))?
+        .arg(
+            Arg::new(alloc, "input")
+                .long("input")
+                .action(ArgAction::Set),
+        )
+}
+
+/// `play PROGRAM SCRIPT`.
+fn script_command<'a>(alloc: Global) -> Result<Command<'a>, AllocError>
+    ensures { IfOk result (λ c. HasShape c script_app) }
+{
+    Command::new(alloc, "play")
+        .arg(Arg::new(alloc, "program").required(true))?
+        .arg(Arg::new(alloc, "script").required(true))
+}
+
+/// `play PROGRAM SCRIPT [--workers N] [--input FILE]`.
+fn play_command<'a>(alloc: Global) -> Result<Command<'a>, AllocError>
+    ensures { IfOk result (λ c. HasShape c play_app) }
+{
+    script_command(alloc)?
+        .arg(
+            Arg::new(alloc, "workers")
+                .long("workers")
+                .action(ArgAction::Set),
+        )?
+        .arg(
+            Arg::new(alloc, "input")
+                .long("input")
+                .action(ArgAction::Set),
+        )
+}
+
+/// An app with one more command and what is said of it. Taking the command as it was made leaves one value to drop, here, where it failed.
+pub fn with<'a>(
+    app: Command<'a>,
+    command: Result<Command<'a>, AllocError>,
+    about: &'a str,
+) -> Result<Command<'a>, AllocError>
+    ensures { (a b : App) → HasShape app.entry a → IfOk command.entry (λ c. HasShape c b) → IfOk result (λ r. HasShape r (with_subcommand a b.top)) }
+{
+    let described = command?.about(about);
+    app.subcommand(described)
+}
+
+/// The program, which has no command yet.
+pub fn empty<'a>(alloc: Global) -> Result<Command<'a>, AllocError>
+    ensures { IfOk result (λ c. HasShape c empty_app) }
+{
+    Command::new(alloc, "cilk")
+        .no_binary_name(true)
+        .subcommand_required(true)
+        .bin_name("cilk")
+}
+
+/// The commands, each a simple one.
+fn command<'a>(alloc: Global) -> Result<Command<'a>, AllocError>
+    ensures { IfOk result (λ c. HasShape c cilk_app) }
+{
+    let one = with(empty(alloc)?, program_command(alloc, "run"), RUN)?;
+    let two = with(one, program_command(alloc, "certify"), CERTIFY)?;
+    let three = with(two, check_command(alloc), CHECK)?;
+    with(three, play_command(alloc), PLAY)
+}
+
+/// The paths of the program and of the input that the matches of a command name.
+fn paths<'a>(matches: &ArgMatches<'a>) -> Option<(&'a str, Option<&'a str>)>
+    ensures { option_map paths_view result ≡ paths_in (rows_of (found_of matches.now)) }
+{
+    let program = matches.get_str("program")?;
+    let input = matches.get_str("input");
+    Some((program, input))
+}
+
+/// What the matches of `run` ask for.
+fn run_order<'a>(run: &ArgMatches<'a>) -> Option<Order<'a>>
+    ensures { option_map order_view result ≡ run_with (rows_of (found_of run.now)) }
+{
+    let (program, input) = paths(run)?;
+    Some(Order::Run {
+        program: Origin::File(program),
+        input,
+    })
+}
+
+/// What the matches of `certify` ask for.
+fn certify_order<'a>(certify: &ArgMatches<'a>) -> Option<Order<'a>>
+    ensures { option_map order_view result ≡ certify_with (rows_of (found_of certify.now)) }
+{
+    let (program, input) = paths(certify)?;
+    Some(Order::Certify { program, input })
+}
+
+/// What the matches of `check` ask for.
+fn check_order<'a>(check: &ArgMatches<'a>) -> Option<Order<'a>>
+    ensures { option_map order_view result ≡ check_with (rows_of (found_of check.now)) }
+{
+    let certificate = check.get_str("certificate")?;
+    let (program, input) = paths(check)?;
+    Some(Order::Check {
+        program,
+        certificate,
+        input,
+    })
+}
+
+/// How many workers digits name, if they name a number from 1 to 64.
+fn worker_count(digits: &[u8]) -> Option<u32>
+    ensures { result ≡ worker_count digits.now }
+{
+    if !all_digits(digits) {
+        return None;
+    }
+    match value_of(digits) {
+        Some(count) if count >= 1 && count <= MAX_WORKERS => Some(count as u32),
+        _ => None,
+    }
+}
+
+/// How many workers there are, by the word that may name them.
+pub fn workers_in(word: Option<&str>) -> Option<u32>
+    ensures { result ≡ workers_in (option_map (λ w. w.now) word.entry) }
+{
+    match word {
+        Some(digits) => worker_count(digits.as_bytes()),
+        None => Some(WORKERS),
+    }
+}
+
+/// What the matches of `play` ask for.
+fn play_order<'a>(play: &ArgMatches<'a>) -> Option<Order<'a>>
+    ensures { option_map order_view result ≡ play_with (rows_of (found_of play.now)) }
+{
+    let script = play.get_str("script")?;
+    let (program, input) = paths(play)?;
+    let word = play.get_str("workers");
+    let workers = workers_in(word)?;
+    Some(Order::Play {
+        program,
+        script,
+        workers,
+        input,
+    })
+}
+
+/// What the matches ask for.
+fn order_of<'a>(matches: &ArgMatches<'a>) -> Option<Order<'a>>
+    ensures { option_map order_view result ≡ order_by (subcommand_rows_of matches.now) }
+{
+    match matches.subcommand() {
+        Some(("run", run)) => run_order(run),
+        Some(("certify", certify)) => certify_order(certify),
+        Some(("check", check)) => check_order(check),
+        Some(("play", play)) => play_order(play),
+        _ => None,
+    }
+}
+
+/// What is shown in place of an order.
+pub fn refusal(alloc: Global, error: &Error) -> WordsFault
+    ensures { IsRefusal (kind_of error.now) result }
+{
+    match error.kind() {
+        ErrorKind::OutOfMemory => WordsFault::Memory,
+        _ => match format!(in alloc; "{error}") {
+            Ok(text) => WordsFault::Usage(text),
+            Err(_) => WordsFault::Memory,
+        },
+    }
+}
+
+/// Reads the words after the program's own name.
+pub fn read<'a>(alloc: Global, words: &'a [&'a str]) -> Result<Order<'a>, WordsFault>
+    ensures order { IfOk result (λ o. order_in (texts words.now) ≡ Some (order_view o)) }
+    ensures fault { IfErr result (λ e. IsWordsFault (texts words.now) e) }
+{
+    if words.is_empty() {
+        return Ok(Order::Run {
+            program: Origin::Standard,
+            input: None,
+        });
+    }
+    match command(alloc)?.try_get_matches_from(words) {
+        Ok(matches) => match order_of(&matches) {
+            Some(order) => Ok(order),
+            None => Err(WordsFault::Usage(String::from_str(alloc, NO_ORDER)?)),
+        },
+        Err(error) => Err(refusal(alloc, &error)),
+    }
+}

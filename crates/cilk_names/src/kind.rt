@@ -1,0 +1,79 @@
+//! What is wrong at a name.
+
+ghost use Rattle.std.specs.Prelude.{◌≡◌};
+ghost use Rattle.cilk_names.specs.Faults.{number_of, earlier, is_before};
+
+use thiserror::Error;
+
+/// What is wrong at a name.
+#[derive(Clone, Copy, PartialEq, Eq, Debug, Error)]
+pub enum NameNumber {
+    #[error("an unknown name")]
+    Unknown,
+    #[error("a name that is declared twice in a scope")]
+    DeclaredTwice,
+    #[error("a wrong count of arguments")]
+    WrongCount,
+    #[error("a name of the wrong kind")]
+    WrongKind,
+    #[error("no `int main` without parameters")]
+    NoMain,
+    #[error("a `return` inside a `cilk_for`")]
+    ReturnInLoop,
+    #[error("a `cilk_for`'s variable that is written")]
+    LoopVariable,
+    #[error("a reducer that isn't first in a function's body")]
+    ReducerNotFirst,
+    #[error("past a limit of a program")]
+    OverLimit,
+}
+
+impl NameNumber {
+    /// The number by which the fault is reported: 111 to 119.
+    pub fn number(self) -> u16
+        ensures { result ≡ number_of self }
+    {
+        match self {
+            NameNumber::Unknown => 111,
+            NameNumber::DeclaredTwice => 112,
+            NameNumber::WrongCount => 113,
+            NameNumber::WrongKind => 114,
+            NameNumber::NoMain => 115,
+            NameNumber::ReturnInLoop => 116,
+            NameNumber::LoopVariable => 117,
+            NameNumber::ReducerNotFirst => 118,
+            NameNumber::OverLimit => 119,
+        }
+    }
+}
+
+/// What is wrong, and at which byte of the text, counted from 0.
+#[derive(Clone, Copy, PartialEq, Eq)]
+pub struct Misnaming {
+    pub number: NameNumber,
+    pub place: usize,
+}
+
+impl Misnaming {
+    /// Whether it stands before another: by place, and at one place by number.
+    pub fn is_before(self, other: Misnaming) -> bool
+        ensures { result ≡ is_before self other }
+    {
+        self.place < other.place
+            || (self.place == other.place && self.number.number() < other.number.number())
+    }
+
+    /// Keeps the earlier of two: by place, and at one place by number.
+    pub fn note(self, first: &mut Option<Misnaming>)
+        ensures { first.new ≡ earlier first.old self }
+    {
+        match *first {
+            None => *first = Some(self),
+            Some(other) => {
+                if self.is_before(other) {
+                    *first = Some(self);
+                }
+            }
+        }
+    }
+}

@@ -1,0 +1,270 @@
+//! What a name is to a frame: a variable, an array, a reducer or a function.
+
+ghost use Rattle.std.specs.Prelude.{◌≡◌};
+ghost use Rattle.cilk_names.specs.Faults.{array_faults, earliest, function_faults, monoid_faults, name_faults, reducer_faults, unless, variable_faults, written_faults};
+ghost use Rattle.cilk_names.specs.Names.{meaning, monoid_at, monoid_of};
+ghost use Rattle.cilk_names.specs.Sights.{array, array_of, called, function_of, is_reducer_of, is_same, is_turn, place_of, reducer, reducer_of, reducer_place, variable};
+ghost use Rattle.cilk_names.specs.Tables.{names_of};
+
+use crate::kind::{Misnaming, NameNumber};
+use crate::table::{Home, Meaning, Table, bytes_of};
+use cilk_monoid::kind::MonoidKind;
+use cilk_program::syntax::{Array, Place, Reducer, ReducerPlace};
+use cilk_syntax::tree;
+use cilk_syntax::tree::Name;
+
+impl Home {
+    /// Where the frame that stands in so many loop bodies finds the reducer.
+    fn place(self, level: u32) -> ReducerPlace
+        ensures { result ≡ reducer_place level self }
+    {
+        match self {
+            Home::Global(number) => ReducerPlace::Global(number),
+            Home::Own(number) => ReducerPlace::Own(level, number),
+            Home::Given(number) => ReducerPlace::Given(level, number),
+        }
+    }
+}
+
+impl Meaning {
+    /// Where a variable lies, seen from so many loop bodies.
+    fn place(self, level: u32) -> Option<Place>
+        ensures { result ≡ place_of level self }
+    {
+        match self {
+            Meaning::Global(number) => Some(Place::Global(number)),
+            Meaning::Local(home, number) => {
+                Some(Place::Local(level.saturating_sub(home), number))
+            }
+            Meaning::Turn(home) => Some(Place::Local(level.saturating_sub(home), 0)),
+            Meaning::Array(_) | Meaning::Reducer(_, _) | Meaning::Function(_) => None,
+        }
+    }
+
+    /// Whether it is the variable of a parallel loop.
+    fn is_turn(self) -> bool
+        ensures { result ≡ is_turn self }
+    {
+        match self {
+            Meaning::Turn(_) => true,
+            Meaning::Global(_)
+            | Meaning::Array(_)
+            | Meaning::Local(_, _)
+            | Meaning::Reducer(_, _)
+            | Meaning::Function(_) => false,
+        }
+    }
+
+    /// An array.
+    fn array(self) -> Option<Array>
+        ensures { result ≡ array_of self }
+    {
+        match self {
+            Meaning::Array(array) => Some(array),
+            Meaning::Global(_)
+            | Meaning::Local(_, _)
+            | Meaning::Turn(_)
+            | Meaning::Reducer(_, _)
+            | Meaning::Function(_) => None,
+        }
+    }
+
+    /// A reducer, seen from so many loop bodies. One whose monoid is unknown counts as a sum.
+    fn reducer(self, level: u32) -> Option<Reducer>
+        ensures { result ≡ reducer_of level self }
+    {
+        match self {
+            Meaning::Reducer(home, kind) => Some(Reducer {
+                place: home.place(level),
+                kind: kind.unwrap_or(MonoidKind::Add),
+            }),
+            Meaning::Global(_)
+            | Meaning::Array(_)
+            | Meaning::Local(_, _)
+            | Meaning::Turn(_)
+            | Meaning::Function(_) => None,
+        }
+    }
+
+    /// Whether it is a reducer of this monoid; none has an unknown one.
+    fn is_reducer_of(self, kind: Option<MonoidKind>) -> bool
+        ensures { result ≡ is_reducer_of kind self }
+    {
+        match self {
+            Meaning::Reducer(_, own) => is_same(own, kind),
+            Meaning::Global(_)
+            | Meaning::Array(_)
+            | Meaning::Local(_, _)
+            | Meaning::Turn(_)
+            | Meaning::Function(_) => false,
+        }
+    }
+
+    /// A function, by its number.
+    fn function(self) -> Option<u32>
+        ensures { result ≡ function_of self }
+    {
+        match self {
+            Meaning::Function(number) => Some(number),
+            Meaning::Global(_)
+            | Meaning::Array(_)
+            | Meaning::Local(_, _)
+            | Meaning::Turn(_)
+            | Meaning::Reducer(_, _) => None,
+        }
+    }
+}
+
+/// Whether two monoids are known, and one.
+#[tactic(auto, using(cilk_monoid::proofs::SameKinds::kind_itself))]
+fn is_same(first: Option<MonoidKind>, second: Option<MonoidKind>) -> bool
+    ensures { result ≡ is_same first second }
+{
+    match (first, second) {
+        (Some(first), Some(second)) => first == second,
+        (None, _) | (_, None) => false,
+    }
+}
+
+/// Notes a fault, unless this holds.
+pub fn note_unless(holds: bool, number: NameNumber, place: usize, first: &mut Option<Misnaming>)
+    ensures { first.new ≡ earliest first.old (unless holds number place) }
+{
+    if !holds {
+        Misnaming { number, place }.note(first);
+    }
+}
+
+/// Notes a name that is unknown, or of which this doesn't hold.
+fn note_name(meaning: Option<Meaning>, holds: bool, place: usize, first: &mut Option<Misnaming>)
+    ensures { first.new ≡ earliest first.old (name_faults (λ _. holds) meaning place) }
+{
+    match meaning {
+        Some(_) => note_unless(holds, NameNumber::WrongKind, place, first),
+        None => note_unless(false, NameNumber::Unknown, place, first),
+    }
+}
+
+/// Where a name's variable lies, or none with a fault noted.
+pub fn variable(table: &Table, name: Name, first: &mut Option<Misnaming>) -> Option<Place>
+    ensures place { result ≡ variable (names_of table.now) name }
+    ensures faults { first.new ≡ earliest first.old (variable_faults (names_of table.now) name) }
+{
+    let meaning = table.meaning(name);
+    let place = match meaning {
+        Some(meaning) => meaning.place(table.level),
+        None => None,
+    };
+    note_name(meaning, place.is_some(), name.at, first);
+    place
+}
+
+/// Where a name's variable lies that is written: it isn't that of a parallel loop.
+#[tactic(auto, using(crate::proofs::Earliest::earliest_append))]
+pub fn written(table: &Table, name: Name, first: &mut Option<Misnaming>) -> Option<Place>
+    ensures place { result ≡ variable (names_of table.now) name }
+    ensures faults { first.new ≡ earliest first.old (written_faults (names_of table.now) name) }
+{
+    let place = variable(table, name, first);
+    if let Some(meaning) = table.meaning(name) {
+        let is_turn = meaning.is_turn();
+        note_unless(!is_turn, NameNumber::LoopVariable, name.at, first);
+    }
+    place
+}
+
+/// A name's array, or none with a fault noted.
+pub fn array(table: &Table, name: Name, first: &mut Option<Misnaming>) -> Option<Array>
+    ensures array { result ≡ array (names_of table.now) name }
+    ensures faults { first.new ≡ earliest first.old (array_faults (names_of table.now) name) }
+{
+    let meaning = table.meaning(name);
+    let array = match meaning {
+        Some(meaning) => meaning.array(),
+        None => None,
+    };
+    note_name(meaning, array.is_some(), name.at, first);
+    array
+}
+
+/// A name's reducer, or none with a fault noted.
+pub fn reducer(table: &Table, name: Name, first: &mut Option<Misnaming>) -> Option<Reducer>
+    ensures reducer { result ≡ reducer (names_of table.now) name }
+    ensures faults { first.new ≡ earliest first.old (reducer_faults (names_of table.now) name) }
+{
+    let meaning = table.meaning(name);
+    let reducer = match meaning {
+        Some(meaning) => meaning.reducer(table.level),
+        None => None,
+    };
+    note_name(meaning, reducer.is_some(), name.at, first);
+    reducer
+}
+
+/// The reducer of a name that is given where one of this monoid is taken, or none; a fault is noted at the place.
+pub fn given(
+    table: &Table,
+    name: Name,
+    kind: Option<MonoidKind>,
+    place: usize,
+    first: &mut Option<Misnaming>,
+) -> Option<Reducer>
+    ensures reducer { result ≡ reducer (names_of table.now) name }
+    ensures faults { first.new ≡ earliest first.old (name_faults (is_reducer_of kind) (meaning (names_of table.now) name) place) }
+{
+    let Some(meaning) = table.meaning(name) else {
+        note_name(None, false, place, first);
+        return None;
+    };
+    let is_right = meaning.is_reducer_of(kind);
+    note_name(Some(meaning), is_right, place, first);
+    meaning.reducer(table.level)
+}
+
+/// The function that a name calls, or none with a fault noted.
+pub fn function(table: &Table, name: Name, first: &mut Option<Misnaming>) -> Option<u32>
+    ensures function { result ≡ called (names_of table.now) name }
+    ensures faults { first.new ≡ earliest first.old (function_faults (names_of table.now) name) }
+{
+    let meaning = table.meaning(name);
+    let function = match meaning {
+        Some(meaning) => meaning.function(),
+        None => None,
+    };
+    note_name(meaning, function.is_some(), name.at, first);
+    function
+}
+
+/// The monoid of a declared reducer, or none with a fault noted.
+pub fn monoid(
+    table: &Table,
+    reducer: tree::Reducer,
+    first: &mut Option<Misnaming>,
+) -> Option<MonoidKind>
+    ensures monoid { result ≡ monoid_at (names_of table.now) reducer }
+    ensures faults { first.new ≡ earliest first.old (monoid_faults (names_of table.now) reducer) }
+{
+    let kind = monoid_of(bytes_of(table.text, reducer.monoid));
+    let place = reducer.monoid.at;
+    note_unless(kind.is_some(), NameNumber::Unknown, place, first);
+    kind
+}
+
+/// The monoid of a name.
+pub fn monoid_of(name: &[u8]) -> Option<MonoidKind>
+    ensures { result ≡ monoid_of name.now }
+{
+    if name == b"add".as_slice() {
+        Some(MonoidKind::Add)
+    } else if name == b"min".as_slice() {
+        Some(MonoidKind::Least)
+    } else if name == b"max".as_slice() {
+        Some(MonoidKind::Greatest)
+    } else if name == b"append".as_slice() {
+        Some(MonoidKind::Append)
+    } else if name == b"affine".as_slice() {
+        Some(MonoidKind::Affine)
+    } else {
+        None
+    }
+}

@@ -1,3 +1,0 @@
-pub mod OfferLists
-pub mod Slots
-pub mod Tallies

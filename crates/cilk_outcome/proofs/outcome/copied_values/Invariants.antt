@@ -1,5 +1,0 @@
-use Rattle.std.proofs.Common.{◌≡◌, take}
-use Rattle.cilk_outcome.proofs.outcome.copied_values.Given as goal
-
-abbrev pub invariant-each : goal.invariant-each
-invariant-each l = l.list.items ≡ take l.value-index l.values

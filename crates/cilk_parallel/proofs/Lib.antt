@@ -1,8 +1,0 @@
-pub mod Accepted
-pub mod CheckEntered
-pub mod CheckShowing
-pub mod Checked
-pub mod Entered
-pub mod Helped
-pub mod Kept
-pub mod Showing

@@ -1,4 +1,0 @@
-use Rattle.cilk_parallel.proofs.words.command.Goals as goal
-
-pub returns : goal.returns
-returns c = c.with.ensures _ _ c.in_ok-empty.ensures c.threads_command.ensures

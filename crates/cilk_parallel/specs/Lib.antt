@@ -1,7 +1,0 @@
-pub mod CheckWords
-pub mod Endings
-pub mod Helped
-pub mod Serving
-pub mod Shown
-pub mod Sources
-pub mod Words

@@ -1,0 +1,72 @@
+//! What is wrong with a program text or an input text.
+
+ghost use Rattle.std.specs.Prelude.{◌≡◌};
+ghost use Rattle.cilk_parser.specs.Texts;
+ghost use Rattle.cilk_parser.specs.declared.fault.TextFault.TheVariants.{Memory};
+
+use std::alloc::{AllocError, AllocFailed};
+use thiserror::Error;
+
+/// What is wrong at a place of a text.
+#[derive(Clone, Copy, Debug, Error)]
+pub enum TextNumber {
+    #[error("a byte over 127")]
+    NotAscii,
+    #[error("no token")]
+    BadToken,
+    #[error("an unexpected token, or the end")]
+    Unexpected,
+    #[error("nested too deep, or too many operators")]
+    TooDeep,
+    #[error("a number over 9223372036854775807")]
+    TooLarge,
+    #[error("the text is too long")]
+    TooLong,
+    #[error("no number of the input")]
+    BadNumber,
+    #[error("too many numbers in the input")]
+    TooManyNumbers,
+}
+
+impl TextNumber {
+    /// The number by which the fault is reported: 101 to 106 in a program, 121 and 122 in an input.
+    pub fn number(self) -> u16
+        ensures { result ≡ Texts.number self }
+    {
+        match self {
+            TextNumber::NotAscii => 101,
+            TextNumber::BadToken => 102,
+            TextNumber::Unexpected => 103,
+            TextNumber::TooDeep => 104,
+            TextNumber::TooLarge => 105,
+            TextNumber::TooLong => 106,
+            TextNumber::BadNumber => 121,
+            TextNumber::TooManyNumbers => 122,
+        }
+    }
+}
+
+/// Why a text isn't read: memory ran out, or what is wrong at which byte, counted from 0.
+#[derive(Debug, Drop, Error)]
+pub enum TextFault {
+    #[error("no memory")]
+    Memory,
+    #[error("{0} at byte {1}")]
+    At(TextNumber, usize),
+}
+
+impl From<AllocError> for TextFault {
+    ghost from_gives = { λ _ e. e ≡ Memory };
+
+    fn from(_error: AllocError) -> Self {
+        TextFault::Memory
+    }
+}
+
+impl<T: Drop> From<AllocFailed<T>> for TextFault {
+    ghost from_gives = { λ _ e. e ≡ Memory };
+
+    fn from(_error: AllocFailed<T>) -> Self {
+        TextFault::Memory
+    }
+}

@@ -1,0 +1,273 @@
+//! From tokens to the heads of loops.
+
+ghost use Rattle.std.specs.Prelude.{◌≡◌, ◌<◌, ◌≤◌, List, ◌∷◌, IfOk, IfErr, length};
+ghost use Rattle.cilk_syntax.specs.Expected as expected;
+ghost use Rattle.cilk_syntax.specs.Expected.{Symbol, One, Named, Operand, Tail, Anew, Optional, Step, UnitStep, UnitStepRest, kind_of, run};
+ghost use Rattle.cilk_syntax.specs.Grammar.{Is, SpellsAssignment, SpellsBeginning, SpellsBounds, SpellsDefined, SpellsHead, SpellsStep, SpellsTested, SpellsUnit, SpellsUnitStep};
+ghost use Rattle.cilk_syntax.specs.Stops.{IsStop};
+ghost use Rattle.cilk_syntax.specs.Trees as trees;
+
+use crate::assignments::assignment;
+use crate::expressions::{ended, optional};
+use cilk_syntax::marks::{Punct, name, one, single, then_one};
+use cilk_syntax::stop::Stop;
+use cilk_syntax::tree::{Assignment, Beginning, Bounds, Expr, Name};
+use cilk_syntax::token::{Kind, Token};
+use std::alloc::Global;
+
+/// The three parts of the head of a `for`.
+#[derive(Drop)]
+pub struct Head {
+    pub beginning: Option<Beginning>,
+    pub test: Option<Box<Expr>>,
+    pub step: Option<Assignment>,
+}
+
+/// A variable with its value, and the semicolon behind it.
+#[tactic(auto, unfolding(cilk_syntax::specs::Grammar::SpellsDefined))]
+fn defined<'a>(
+    alloc: Global,
+    tokens: &'a [Token],
+    depth: u32,
+) -> Result<(Name, Box<Expr>, &'a [Token]), Stop<'a>>
+    ensures tree { IfOk result (λ x. SpellsDefined x.0 (trees.expression x.1.value) tokens.now x.2.now) }
+    ensures shorter { IfOk result (λ x. length x.2.now < length tokens.now) }
+    ensures reads { IfOk result (λ x. (stack : List Symbol) →
+        run tokens.now (Named ∷ One Punct.Assign ∷ Operand depth ∷ Tail depth ∷ Anew ∷ One Punct.Semicolon ∷ stack) 0 ≡ run x.2.now stack 0) }
+    ensures stops { IfErr result (λ e. (stack : List Symbol) →
+        IsStop e (run tokens.now (Named ∷ One Punct.Assign ∷ Operand depth ∷ Tail depth ∷ Anew ∷ One Punct.Semicolon ∷ stack) 0)) }
+{
+    let (variable, rest) = name(tokens)?;
+    let rest = one(rest, Punct::Assign)?;
+    let (value, rest) = ended(alloc, rest, depth)?;
+    Ok((variable, value, rest))
+}
+
+/// A variable with its bound, and the semicolon behind it.
+#[tactic(auto, unfolding(cilk_syntax::specs::Grammar::SpellsTested))]
+fn tested<'a>(
+    alloc: Global,
+    tokens: &'a [Token],
+    depth: u32,
+) -> Result<(Name, Box<Expr>, &'a [Token]), Stop<'a>>
+    ensures tree { IfOk result (λ x. SpellsTested x.0 (trees.expression x.1.value) tokens.now x.2.now) }
+    ensures shorter { IfOk result (λ x. length x.2.now < length tokens.now) }
+    ensures reads { IfOk result (λ x. (stack : List Symbol) →
+        run tokens.now (Named ∷ One Punct.Less ∷ Operand depth ∷ Tail depth ∷ Anew ∷ One Punct.Semicolon ∷ stack) 0 ≡ run x.2.now stack 0) }
+    ensures stops { IfErr result (λ e. (stack : List Symbol) →
+        IsStop e (run tokens.now (Named ∷ One Punct.Less ∷ Operand depth ∷ Tail depth ∷ Anew ∷ One Punct.Semicolon ∷ stack) 0)) }
+{
+    let (variable, rest) = name(tokens)?;
+    let rest = one(rest, Punct::Less)?;
+    let (bound, rest) = ended(alloc, rest, depth)?;
+    Ok((variable, bound, rest))
+}
+
+/// The tokens behind `++` or `+= 1`.
+fn unit<'a>(tokens: &'a [Token]) -> Result<&'a [Token], Stop<'a>>
+    ensures tree { IfOk result (λ rest. SpellsUnit tokens.now rest.now) }
+    ensures shorter { IfOk result (λ rest. length rest.now < length tokens.now) }
+    ensures reads { IfOk result (λ rest. (stack : List Symbol) →
+        run tokens.now (UnitStepRest ∷ stack) 0 ≡ run rest.now stack 0) }
+    ensures stops { IfErr result (λ e. (stack : List Symbol) →
+        IsStop e (run tokens.now (UnitStepRest ∷ stack) 0)) }
+{
+    match tokens {
+        [
+            Token {
+                kind: Kind::Increment,
+                ..
+            },
+            rest @ ..,
+        ] => Ok(rest),
+        [
+            Token {
+                kind: Kind::PlusAssign,
+                ..
+            },
+            after @ ..,
+        ] => single(after),
+        _ => Err(Stop::Unexpected(tokens)),
+    }
+}
+
+/// The name that 1 is added to.
+#[tactic(auto, unfolding(cilk_syntax::specs::Grammar::SpellsUnitStep))]
+fn unit_step<'a>(tokens: &'a [Token]) -> Result<(Name, &'a [Token]), Stop<'a>>
+    ensures tree { IfOk result (λ x. SpellsUnitStep x.0 tokens.now x.1.now) }
+    ensures shorter { IfOk result (λ x. length x.1.now < length tokens.now) }
+    ensures reads { IfOk result (λ x. (stack : List Symbol) →
+        run tokens.now (UnitStep ∷ stack) 0 ≡ run x.1.now stack 0) }
+    ensures stops { IfErr result (λ e. (stack : List Symbol) →
+        IsStop e (run tokens.now (UnitStep ∷ stack) 0)) }
+{
+    match tokens {
+        [
+            Token {
+                kind: Kind::Increment,
+                ..
+            },
+            after @ ..,
+        ] => name(after),
+        [
+            Token {
+                kind: Kind::Name,
+                at,
+                end,
+            },
+            after @ ..,
+        ] => {
+            let rest = unit(after)?;
+            Ok((Name { at: *at, end: *end }, rest))
+        }
+        _ => Err(Stop::Unexpected(tokens)),
+    }
+}
+
+/// The head of a `cilk_for`.
+#[tactic(auto, unfolding(cilk_syntax::specs::Grammar::SpellsBounds))]
+pub fn bounds<'a>(
+    alloc: Global,
+    tokens: &'a [Token],
+    depth: u32,
+) -> Result<(Bounds, &'a [Token]), Stop<'a>>
+    ensures tree { IfOk result (λ x. SpellsBounds (trees.bounds x.0) tokens.now x.1.now) }
+    ensures shorter { IfOk result (λ x. length x.1.now < length tokens.now) }
+    ensures reads { IfOk result (λ x. (stack : List Symbol) →
+        run tokens.now (One Punct.Open ∷ One Punct.Int ∷ Named ∷ One Punct.Assign ∷ Operand depth ∷ Tail depth ∷ Anew ∷ One Punct.Semicolon
+        ∷ Named ∷ One Punct.Less ∷ Operand depth ∷ Tail depth ∷ Anew ∷ One Punct.Semicolon ∷ UnitStep ∷ One Punct.Close ∷ stack) 0 ≡ run x.1.now stack 0) }
+    ensures stops { IfErr result (λ e. (stack : List Symbol) →
+        IsStop e (run tokens.now (One Punct.Open ∷ One Punct.Int ∷ Named ∷ One Punct.Assign ∷ Operand depth ∷ Tail depth ∷ Anew ∷ One Punct.Semicolon
+        ∷ Named ∷ One Punct.Less ∷ Operand depth ∷ Tail depth ∷ Anew ∷ One Punct.Semicolon ∷ UnitStep ∷ One Punct.Close ∷ stack) 0)) }
+{
+    let rest = one(tokens, Punct::Open)?;
+    let rest = one(rest, Punct::Int)?;
+    let (variable, low, rest) = defined(alloc, rest, depth)?;
+    let (tested, high, rest) = tested(alloc, rest, depth)?;
+    let (stepped, rest) = unit_step(rest)?;
+    let rest = one(rest, Punct::Close)?;
+    let bounds = Bounds {
+        variable,
+        low,
+        tested,
+        high,
+        stepped,
+    };
+    Ok((bounds, rest))
+}
+
+/// An assignment, and the mark behind it.
+fn closed<'a>(
+    alloc: Global,
+    tokens: &'a [Token],
+    depth: u32,
+    close: Punct,
+) -> Result<(Assignment, &'a [Token]), Stop<'a>>
+    requires { depth ≤ 64 }
+    ensures tree { IfOk result (λ x. (ts : List Token) × SpellsAssignment (trees.assignment x.0) tokens.now ts × Is (kind_of close) ts x.1.now) }
+    ensures shorter { IfOk result (λ x. length x.1.now < length tokens.now) }
+    ensures reads { IfOk result (λ x. (stack : List Symbol) →
+        run tokens.now (expected.Assignment depth ∷ One close ∷ stack) 0 ≡ run x.1.now stack 0) }
+    ensures stops { IfErr result (λ e. (stack : List Symbol) →
+        IsStop e (run tokens.now (expected.Assignment depth ∷ One close ∷ stack) 0)) }
+{
+    let (assignment, rest) = assignment(alloc, tokens, depth)?;
+    then_one(assignment, rest, close)
+}
+
+/// The first part of the head of a `for`, and the semicolon behind it.
+#[tactic(auto, using(cilk_syntax::proofs::Runs::begins_assigning), unfolding(cilk_syntax::specs::Grammar::SpellsBeginning))]
+fn beginning<'a>(
+    alloc: Global,
+    tokens: &'a [Token],
+    depth: u32,
+) -> Result<(Option<Beginning>, &'a [Token]), Stop<'a>>
+    requires { depth ≤ 64 }
+    ensures tree { IfOk result (λ x. SpellsBeginning (trees.optional_beginning x.0) tokens.now x.1.now) }
+    ensures shorter { IfOk result (λ x. length x.1.now < length tokens.now) }
+    ensures reads { IfOk result (λ x. (stack : List Symbol) →
+        run tokens.now (expected.Beginning depth ∷ stack) 0 ≡ run x.1.now stack 0) }
+    ensures stops { IfErr result (λ e. (stack : List Symbol) →
+        IsStop e (run tokens.now (expected.Beginning depth ∷ stack) 0)) }
+{
+    match tokens {
+        [
+            Token {
+                kind: Kind::Semicolon,
+                ..
+            },
+            rest @ ..,
+        ] => Ok((None, rest)),
+        [
+            Token {
+                kind: Kind::Int,
+                ..
+            },
+            after @ ..,
+        ] => {
+            let (variable, value, rest) = defined(alloc, after, depth)?;
+            Ok((Some(Beginning::Declares(variable, value)), rest))
+        }
+        _ => {
+            let (first, rest) = closed(alloc, tokens, depth, Punct::Semicolon)?;
+            Ok((Some(Beginning::Assigns(first)), rest))
+        }
+    }
+}
+
+/// The last part of the head of a `for`, and the parenthesis behind it.
+#[tactic(auto, using(cilk_syntax::proofs::Runs::steps_assigning), unfolding(cilk_syntax::specs::Grammar::SpellsStep))]
+fn step<'a>(
+    alloc: Global,
+    tokens: &'a [Token],
+    depth: u32,
+) -> Result<(Option<Assignment>, &'a [Token]), Stop<'a>>
+    requires { depth ≤ 64 }
+    ensures tree { IfOk result (λ x. SpellsStep (trees.optional_assignment x.0) tokens.now x.1.now) }
+    ensures shorter { IfOk result (λ x. length x.1.now < length tokens.now) }
+    ensures reads { IfOk result (λ x. (stack : List Symbol) →
+        run tokens.now (Step depth ∷ stack) 0 ≡ run x.1.now stack 0) }
+    ensures stops { IfErr result (λ e. (stack : List Symbol) →
+        IsStop e (run tokens.now (Step depth ∷ stack) 0)) }
+{
+    match tokens {
+        [
+            Token {
+                kind: Kind::Close,
+                ..
+            },
+            rest @ ..,
+        ] => Ok((None, rest)),
+        _ => {
+            let (step, rest) = closed(alloc, tokens, depth, Punct::Close)?;
+            Ok((Some(step), rest))
+        }
+    }
+}
+
+/// The head of a `for`.
+#[tactic(auto, unfolding(cilk_syntax::specs::Grammar::SpellsHead))]
+pub fn loop_head<'a>(
+    alloc: Global,
+    tokens: &'a [Token],
+    depth: u32,
+) -> Result<(Head, &'a [Token]), Stop<'a>>
+    requires { depth ≤ 64 }
+    ensures tree { IfOk result (λ x. SpellsHead (trees.optional_beginning x.0.beginning) (trees.optional x.0.test) (trees.optional_assignment x.0.step) tokens.now x.1.now) }
+    ensures shorter { IfOk result (λ x. length x.1.now < length tokens.now) }
+    ensures reads { IfOk result (λ x. (stack : List Symbol) →
+        run tokens.now (One Punct.Open ∷ expected.Beginning depth ∷ Optional depth ∷ Step depth ∷ stack) 0 ≡ run x.1.now stack 0) }
+    ensures stops { IfErr result (λ e. (stack : List Symbol) →
+        IsStop e (run tokens.now (One Punct.Open ∷ expected.Beginning depth ∷ Optional depth ∷ Step depth ∷ stack) 0)) }
+{
+    let rest = one(tokens, Punct::Open)?;
+    let (beginning, rest) = beginning(alloc, rest, depth)?;
+    let (test, rest) = optional(alloc, rest, depth)?;
+    let (step, rest) = step(alloc, rest, depth)?;
+    let head = Head {
+        beginning,
+        test,
+        step,
+    };
+    Ok((head, rest))
+}

@@ -1,9 +1,0 @@
--- Whose frame an event is in, along a plan.
-use Rattle.std.specs.Prelude.{ℕ}
-use Rattle.cilk_plan.specs.Along.{IsAlong}
-use Rattle.cilk_plan.specs.Frames.{IsInFrame}
-use Rattle.cilk_story.specs.declared.story.Story.{Story}
-
--- A story along a plan has each event in the frame that the plan says.
-abbrev pub FramesAreAlong : Type 0
-FramesAreAlong = (plan s : Story) → IsAlong plan s → (p f : ℕ) → IsInFrame plan.events p f → IsInFrame s.events p f

@@ -1,7 +1,0 @@
-use Rattle.std.proofs.Common.{subst}
-use Rattle.cilk_plan.specs.Planned.{HasOneAhead}
-use Rattle.cilk_plan.proofs.Passing.{one_ahead}
-use Rattle.cilk_plan.proofs.plan.Plan.laws.Goals as goal
-
-pub returns-clause-ahead : goal.returns-clause-ahead
-returns-clause-ahead c = subst HasOneAhead c.self.view_is (one_ahead c.self.inside.events.value c.self.inside.opening.items)

@@ -1,5 +1,0 @@
-use Rattle.cilk_plan.proofs.Resuming.{SoFar}
-use Rattle.cilk_plan.proofs.plan.Plan.resumptions.Given as goal
-
-abbrev pub invariant-loop-behind : goal.invariant-loop-behind
-invariant-loop-behind l = SoFar l.self l.behind l.column.items

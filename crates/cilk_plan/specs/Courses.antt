@@ -1,0 +1,27 @@
+-- The course of an accepted program's plan on an input.
+use Rattle.std.specs.Prelude.{◌≡◌, ℤ, List, map}
+use Rattle.cilk_program.specs.Outcomes.{Leaves}
+use Rattle.cilk_program.specs.SerialRun.{Transcript, IsSerialRun}
+use Rattle.cilk_program.specs.Sources.{source}
+use Rattle.cilk_shared.specs.Values.{YardValue}
+use Rattle.cilk_replay.specs.declared.course.FrameHome.{FrameHome}
+use Rattle.cilk_replay.specs.Courses.{CourseValue}
+use Rattle.cilk_checker.specs.Determinate.{AcceptedRun}
+use Rattle.cilk_checker.specs.declared.frames.PlannedFrame.{PlannedFrame}
+use Rattle.cilk_checker.specs.Frames.{frames_of}
+
+-- along the yard's story, of the accepted run's program, on these inputs
+pub record IsCourseOn (a : AcceptedRun) (y : YardValue) (input : List ℤ) (c : CourseValue) : Type 0 where
+  pub yard : c.yard ≡ y
+  pub program : c.program ≡ a.program
+  pub own : c.own ≡ a.input
+  pub inputs : c.inputs ≡ input
+
+-- what a frame runs, and where its cells lie
+abbrev pub home_in : PlannedFrame → FrameHome
+home_in f = record { body = f.body; block = record { first = f.first_cell; cells = f.cells } }
+
+-- of the accepted run's frames
+abbrev pub AreHomesIn : AcceptedRun → List FrameHome → Type 0
+AreHomesIn a homes =
+    (run : Transcript) → IsSerialRun (source a.program) a.input run a.trace (Leaves a.outcome) → homes ≡ map home_in (frames_of (source a.program) run)

@@ -1,0 +1,64 @@
+//! The course of a plan's run on an input.
+
+ghost use Rattle.std.specs.Prelude.{◌≡◌, IfOk};
+ghost use Rattle.cilk_plan.specs.Courses.{AreHomesIn, IsCourseOn, home_in};
+ghost use Rattle.cilk_plan.specs.Plans.{IsStoryOn};
+
+use cilk_replay::course::{Course, FrameHome};
+use cilk_replay::home::CellBlock;
+use cilk_determinacy::words::inputs_are_words;
+use cilk_checker::frames::{PlannedFrame, frames_stand_at_their_numbers};
+use cilk_replay::laws::stories_along_have_values;
+use cilk_lower::lower::lower;
+use crate::program_plan::ProgramPlan;
+use cilk_shared::yard::Yard;
+use cilk_types::event::FrameNo;
+use cilk_types::input::Input;
+use std::alloc::{AllocError, Global};
+
+/// The course of a plan's run on an input, its own or another, where the yard is the plan's on that input. The only error
+/// is a want of memory. Cost and memory: linear in the run's frames and in the program.
+pub fn course(
+    alloc: Global,
+    plan: &ProgramPlan,
+    yard: &Yard,
+    input: Input,
+) -> Result<Course, AllocError>
+    requires { IsStoryOn plan.now.run plan.now.story.opening input yard.now.story }
+    ensures { IfOk result (λ c. IsCourseOn plan.now.run yard.now input c) }
+{
+    stories_along_have_values();
+    frames_stand_at_their_numbers();
+    plan.laws();
+    yard.laws();
+    inputs_are_words(&input);
+    let code = lower(alloc, plan.program())?;
+    let homes = homes(alloc, plan)?;
+    Ok(Course::new(yard, plan.program(), plan.input(), code, input, homes))
+}
+
+// What the plan's run has of each frame, in the order of their numbers. No run has as many frames as there are numbers.
+fn homes(alloc: Global, plan: &ProgramPlan) -> Result<Vec<FrameHome>, AllocError>
+    ensures { IfOk result (λ v. AreHomesIn plan.now.run v.items) }
+{
+    let mut homes = Vec::with_capacity(alloc, plan.frames().len())?;
+    for made in 0..FrameNo::MAX {
+        let Some(frame) = plan.frame(made + 1) else {
+            return Ok(homes);
+        };
+        homes.push(home(frame))?;
+    }
+    Err(AllocError)
+}
+
+fn home(frame: PlannedFrame) -> FrameHome
+    ensures { result ≡ home_in frame }
+{
+    FrameHome {
+        body: frame.body,
+        block: CellBlock {
+            first: frame.first_cell,
+            cells: frame.cells,
+        },
+    }
+}

@@ -1,0 +1,58 @@
+//! The plan of an accepted run's events.
+
+ghost use Rattle.std.specs.Prelude.{◌≡◌, ◌≤◌, ℕ, length, pos, slice_index_or, IfOk};
+ghost use Rattle.cilk_program.specs.Sources.{source};
+ghost use Rattle.cilk_types.specs.declared.limits.TheConstants.{MAX_CELLS};
+ghost use Rattle.cilk_plan.specs.Frames.{end_from};
+ghost use Rattle.cilk_plan.specs.Plans.{AllNamed, IsPlanOf};
+
+use cilk_checker::accepted::Accepted;
+use cilk_checker::frames::PlannedFrame;
+use cilk_tree::plan::Plan;
+use std::alloc::{AllocError, Global};
+
+/// The plan of an accepted run's events: it is the story of the program's serial run on its input, in which each event is asked for, and its
+/// cells are those of the run. Cost and memory: linear in the run.
+pub fn events(alloc: Global, accepted: &Accepted) -> Result<Plan, AllocError>
+    ensures { IfOk result (λ plan. IsPlanOf accepted.now plan) }
+{
+    let trace = accepted.trace();
+    let globals = accepted.program().globals.as_slice();
+    let cells = cells_of(accepted);
+    let opening = opening(alloc, globals, cells)?;
+    let plan = Plan::of(alloc, trace, opening)?;
+    Ok(plan)
+}
+
+// How many cells the run has: the globals and those of its frames. It names no other.
+fn cells_of(accepted: &Accepted) -> usize
+    ensures globals { length (source accepted.now.program).openings ≤ result }
+    ensures named { AllNamed result accepted.now.trace }
+    ensures few { result ≤ MAX_CELLS }
+{
+    let globals = accepted.program().globals.len();
+    end_of(accepted.frames(), globals)
+}
+
+// Where the cells of frames end that begin one after the other, the first of them behind so many.
+fn end_of(frames: &[PlannedFrame], first: usize) -> usize
+    ensures { result ≡ end_from first frames.now }
+{
+    match frames.last() {
+        Some(frame) => frame.first_cell as usize + frame.cells as usize,
+        None => first,
+    }
+}
+
+// The opening values of so many cells: those of the globals, then a 0 for each other cell.
+fn opening(alloc: Global, globals: &[i64], cells: usize) -> Result<Vec<i64>, AllocError>
+    requires globals { length globals.now ≤ cells }
+    requires few { cells ≤ MAX_CELLS }
+    ensures values { IfOk result (λ v. (c : ℕ) → slice_index_or v.items c (pos 0) ≡ slice_index_or globals.now c (pos 0)) }
+    ensures cells { IfOk result (λ v. length v.items ≡ cells) }
+{
+    let mut values = Vec::with_capacity(alloc, cells)?;
+    values.extend_from_slice(globals)?;
+    values.resize(cells, 0)?;
+    Ok(values)
+}

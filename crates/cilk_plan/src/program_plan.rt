@@ -1,0 +1,277 @@
+//! All that a worker may know of the run of an accepted program that it runs again.
+
+ghost use Rattle.std.specs.Prelude.{◌≡◌, ◌↔◌, ◌≤◌, ℕ, All, Some, None, slice_get, slice_index_or, IfOk, IsSome};
+ghost use Rattle.cilk_checker.specs.Determinate.{AreFramesOf, HasDeterminateRun};
+ghost use Rattle.cilk_lower.specs.Behaves.{Behaves};
+ghost use Rattle.cilk_lower.specs.Layout.{LaysOut};
+ghost use Rattle.cilk_lower.specs.Rooms.{RoomsFit};
+ghost use Rattle.cilk_tree.specs.Blocks.{IsContinuationOf};
+ghost use Rattle.cilk_tree.specs.Resumptions.{AreResumptions};
+ghost use Rattle.cilk_tree.specs.PlanStrands.{AreFirsts, BeginsStrand};
+ghost use Rattle.cilk_tree.specs.declared.blocks.Continuation.{Continuation};
+ghost use Rattle.cilk_program.specs.Sources.{source};
+ghost use Rattle.cilk_tree.specs.Orders.{IsOrderly};
+ghost use Rattle.cilk_tree.specs.Word.{event, spawn, what};
+ghost use Rattle.cilk_types.specs.declared.event.Event.TheVariants.{Sync};
+ghost use Rattle.cilk_plan.specs.Continuations.{SpawnsHaveContinuations};
+ghost use Rattle.cilk_plan.specs.Frames.{IsFrameOf};
+ghost use Rattle.cilk_plan.specs.Plans.{IsPlanOf};
+
+use crate::laws::plans_have_continuations;
+use crate::places::{blocks, strands};
+use crate::planning::events;
+use cilk_checker::accepted::Accepted;
+use cilk_checker::frames::PlannedFrame;
+use cilk_lower::code::Code;
+use cilk_lower::lower::lower;
+use cilk_tree::blocks::{Continuation, continuations};
+use cilk_tree::plan::Plan;
+use cilk_tree::plan_strands::starts;
+use cilk_program::program::Program;
+use cilk_types::event::{FrameNo, Pos, StrandNo};
+use cilk_types::input::Input;
+use std::alloc::{AllocError, Global};
+use std::marker::Model;
+use std::snapshot::Snapshot;
+
+/// The plan of a program's run: the program, its code and the run's input; the plan of its events; what each frame runs, and where its
+/// cells lie; the continuation of each spawn, and where each strand begins. It has no value of any event and no outcome, so a worker knows
+/// only what it loads or computes. To a contract it is the accepted run and its story.
+pub struct ProgramPlan<'a> {
+    program: &'a Program,
+    input: &'a Input,
+    code: Code,
+    events: Plan,
+    frames: &'a [PlannedFrame],
+    continuations: Vec<Option<Continuation>>,
+    starts: Vec<Pos>,
+    syncs: Vec<Pos>,
+    blocks: Vec<u32>,
+    strands: Vec<StrandNo>,
+    resumptions: Vec<Pos>,
+    accepted: Snapshot<Accepted>,
+}
+
+// A function of its own, so that a proof follows one call where a plan is dropped.
+impl Drop for ProgramPlan<'_> {
+    fn drop(self) {
+        let ProgramPlan {
+            program: _program,
+            input: _input,
+            code: _code,
+            events: _events,
+            frames: _frames,
+            continuations: _continuations,
+            starts: _starts,
+            syncs: _syncs,
+            blocks: _blocks,
+            strands: _strands,
+            resumptions: _resumptions,
+            accepted: _accepted,
+        } = self;
+    }
+}
+
+impl<'a> Model for ProgramPlan<'a> {
+    ghost use Rattle.std.specs.Prelude.{◌≡◌, All, Some};
+    ghost use Rattle.cilk_checker.specs.Determinate.{AreFramesOf, HasDeterminateRun};
+    ghost use Rattle.cilk_lower.specs.Behaves.{Behaves};
+    ghost use Rattle.cilk_lower.specs.Layout.{LaysOut};
+    ghost use Rattle.cilk_lower.specs.Rooms.{RoomsFit};
+    ghost use Rattle.cilk_tree.specs.Blocks.{AreContinuations};
+    ghost use Rattle.cilk_tree.specs.Resumptions.{AreResumptions};
+    ghost use Rattle.cilk_tree.specs.PlanStrands.{AreFirsts, AreStarts};
+    ghost use Rattle.cilk_program.specs.Sources.{source};
+    ghost use Rattle.cilk_tree.specs.Word.{event};
+    ghost use Rattle.cilk_types.specs.declared.event.Event.TheVariants.{Sync};
+    ghost use Rattle.cilk_plan.specs.Plans.{IsPlanOf, WholePlan, whole_code};
+
+    ghost Value = { WholePlan };
+
+    ghost coded = { whole_code };
+
+    ghost view = { λ p. record { run = p.accepted.value; story = p.events } };
+
+    ghost invariant = { λ p. HasDeterminateRun p.accepted.value × (p.program.now ≡ p.accepted.value.program) × (p.input.now ≡ p.accepted.value.input) × Behaves (source p.accepted.value.program) p.code × RoomsFit (source p.accepted.value.program) p.code × LaysOut (source p.accepted.value.program) p.code.layout × IsPlanOf p.accepted.value p.events × AreFramesOf p.accepted.value p.frames.now × AreContinuations p.events p.continuations.items × AreStarts p.accepted.value.trace p.starts.items × All (λ at. event p.events at ≡ Some Sync) p.syncs.items × AreFirsts p.accepted.value.trace p.strands.items × AreResumptions p.events p.resumptions.items };
+}
+
+/// The plan of an accepted program's run. Cost and memory: linear in the run's events and the program.
+pub fn plan<'a>(alloc: Global, accepted: &'a Accepted) -> Result<ProgramPlan<'a>, AllocError>
+    ensures { IfOk result (λ plan. plan.run ≡ accepted.now) }
+{
+    let program = accepted.program();
+    let code = lower(alloc, program)?;
+    let events = events(alloc, accepted)?;
+    let continuations = continuations(alloc, &events)?;
+    let (syncs, blocks) = blocks(alloc, &events, continuations.as_slice())?;
+    let starts = starts(alloc, accepted.trace())?;
+    let strands = strands(alloc, accepted.trace(), starts.as_slice())?;
+    let resumptions = events.resumptions(alloc)?;
+    Ok(ProgramPlan {
+        program,
+        input: accepted.input(),
+        code,
+        events,
+        frames: accepted.frames(),
+        continuations,
+        starts,
+        syncs,
+        blocks,
+        strands,
+        resumptions,
+        accepted: Snapshot::of(accepted),
+    })
+}
+
+impl<'a> ProgramPlan<'a> {
+    /// The run is determinate: of no other order of its events does another state come. Each spawn has one continuation: one `resume`, and
+    /// the `sync` that ends its block.
+    pub fn laws(&self)
+        ensures determinate { HasDeterminateRun self.now.run }
+        ensures plan { IsPlanOf self.now.run self.now.story }
+        ensures order { IsOrderly self.now.story }
+        ensures continuations { SpawnsHaveContinuations self.now.story }
+    {
+        plans_have_continuations();
+        self.events.laws();
+    }
+
+    /// The program of the plan's run.
+    pub fn program(&self) -> &Program
+        ensures { result.now ≡ self.now.run.program }
+    {
+        self.program
+    }
+
+    /// The input of the run.
+    pub fn input(&self) -> &Input
+        ensures { result.now ≡ self.now.run.input }
+    {
+        self.input
+    }
+
+    /// The program's code.
+    pub fn code(&self) -> &Code
+        ensures asks { Behaves (source self.now.run.program) result.now }
+        ensures rooms { RoomsFit (source self.now.run.program) result.now }
+        ensures layout { LaysOut (source self.now.run.program) result.now.layout }
+    {
+        &self.code
+    }
+
+    /// The plan of the run's events: their kinds, with cells and reducers, whose frames they are in, and how the cells open.
+    pub fn events(&self) -> &Plan
+        ensures story { result.now ≡ self.now.story }
+        ensures plan { IsPlanOf self.now.run self.now.story }
+    {
+        &self.events
+    }
+
+    /// The plan of the run's events alone.
+    pub fn into_events(self) -> Plan
+        ensures { result ≡ self.entry.story }
+    {
+        let ProgramPlan {
+            program: _program,
+            input: _input,
+            code: _code,
+            events,
+            frames: _frames,
+            continuations: _continuations,
+            starts: _starts,
+            syncs: _syncs,
+            blocks: _blocks,
+            strands: _strands,
+            resumptions: _resumptions,
+            accepted: _accepted,
+        } = self;
+        events
+    }
+
+    /// The accepted run, as contracts see it.
+    pub fn accepted(&self) -> &Snapshot<Accepted>
+        ensures { result.now.value ≡ self.now.run }
+    {
+        &self.accepted
+    }
+
+    /// What each frame of the run runs, and where its cells lie, in the order of the frames' numbers.
+    pub fn frames(&self) -> &[PlannedFrame]
+        ensures { AreFramesOf self.now.run result.now }
+    {
+        self.frames
+    }
+
+    /// What the frame with a number runs, and where its cells lie; none where the run has no such frame.
+    pub fn frame(&self, number: FrameNo) -> Option<PlannedFrame>
+        ensures { IsFrameOf self.now.run number result }
+    {
+        match number {
+            0 => None,
+            _ => self.frames.get(number as usize - 1).copied(),
+        }
+    }
+
+    /// The continuation of the spawn at a position; none where no spawn stands there.
+    pub fn continuation(&self, at: Pos) -> Option<Continuation>
+        ensures exact { (c : Continuation) → (result ≡ Some c) ↔ IsContinuationOf self.now.story at c }
+        ensures there { IsSome result ↔ (what self.now.story at ≡ spawn) }
+    {
+        self.laws();
+        continuation_in(&self.continuations, at as usize)
+    }
+
+    /// The position of a strand's first event; none where the run has no such strand. Strands are numbered from 1.
+    pub fn strand(&self, number: StrandNo) -> Option<Pos>
+        ensures { (p : ℕ) → (result ≡ Some p) ↔ ((1 ≤ number) × BeginsStrand self.now.story.events number p) }
+    {
+        if number == 0 {
+            return None;
+        }
+        start_in(&self.starts, number as usize - 1)
+    }
+
+    /// The positions of the `sync`s that end blocks with spawns, which are the run's blocks.
+    pub fn syncs(&self) -> &[Pos]
+        ensures { All (λ at. event self.now.story at ≡ Some Sync) result.now }
+    {
+        self.syncs.as_slice()
+    }
+
+    /// For each position its block, where the position is that of the block's `sync` or of the `resume` after one of its
+    /// spawns; for all others a number past the last.
+    pub fn blocks(&self) -> &[u32] {
+        self.blocks.as_slice()
+    }
+
+    /// For each position the strand that begins there; 0 where none does.
+    pub fn strands(&self) -> &[StrandNo]
+        ensures { AreFirsts self.now.story.events result.now }
+    {
+        self.strands.as_slice()
+    }
+
+    /// For each position at which a spawn stands, that of the `resume` after it; 0 for all others.
+    pub fn resumptions(&self) -> &[Pos]
+        ensures { AreResumptions self.now.story result.now }
+    {
+        self.resumptions.as_slice()
+    }
+}
+
+// The continuation at a place, if there is one.
+fn continuation_in(column: &Vec<Option<Continuation>>, place: usize) -> Option<Continuation>
+    ensures { result ≡ slice_index_or column.now.items place None }
+{
+    match column.get(place) {
+        Some(continuation) => *continuation,
+        None => None,
+    }
+}
+
+// The position at a place, if there is one.
+fn start_in(starts: &Vec<Pos>, place: usize) -> Option<Pos>
+    ensures { result ≡ slice_get starts.now.items place }
+{
+    starts.get(place).copied()
+}

@@ -1,6 +1,0 @@
-pub mod Blocked
-pub mod Having
-pub mod Naming
-pub mod Placed
-pub mod Telling
-pub mod Whole

@@ -1,5 +1,0 @@
-use Rattle.cilk_planning.proofs.Blocked.{blocks_end}
-use Rattle.cilk_planning.proofs.laws.blocks_of_spawns_end.Goals as goal
-
-pub returns : goal.returns
-returns c = blocks_end

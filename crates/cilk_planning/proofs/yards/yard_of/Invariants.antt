@@ -1,4 +1,0 @@
-use Rattle.cilk_planning.proofs.yards.yard_of.Given as goal
-
-abbrev pub ghost-with_resumptions : goal.ghost-with_resumptions
-ghost-with_resumptions g a = g.along

@@ -1,3 +1,0 @@
-pub mod Continuations
-pub mod Frames
-pub mod Plans

@@ -1,4 +1,0 @@
-pub mod Following
-pub mod Keeping
-pub mod OneEnd
-pub mod Whole

@@ -1,5 +1,0 @@
-use Rattle.cilk_schedule.proofs.FirstBoards.{first_reached}
-use Rattle.cilk_play.proofs.laws.openings_are_reached.Goals as goal
-
-pub returns : goal.returns
-returns c = λ code p inputs b idle opened. first_reached code p inputs b idle opened

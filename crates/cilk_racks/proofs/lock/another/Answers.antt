@@ -1,5 +1,0 @@
-use Rattle.cilk_racks.proofs.Keys.{forks}
-use Rattle.cilk_racks.proofs.lock.another.Goals as goal
-
-pub another-requires-clause-rule : goal.another-requires-clause-rule
-another-requires-clause-rule g c = forks g.N.Naming.run g.N.Naming.course _ _

@@ -1,5 +1,0 @@
-use Rattle.cilk_racks.proofs.Keys.{locks}
-use Rattle.cilk_racks.proofs.lock.lock.Goals as goal
-
-pub pop_as-requires-clause-rule : goal.pop_as-requires-clause-rule
-pop_as-requires-clause-rule g c = (locks g.N.Naming.run g.N.Naming.course _ _, λ _ _ _ _. tt)

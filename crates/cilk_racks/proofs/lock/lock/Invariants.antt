@@ -1,5 +1,0 @@
-use Rattle.crossbeam_queue.specs.Passes.{IsPassOf}
-use Rattle.cilk_racks.proofs.lock.lock.Given as goal
-
-abbrev pub invariant-loop : goal.invariant-loop
-invariant-loop g l = IsPassOf l.lock l.key

@@ -1,5 +1,0 @@
-use Rattle.cilk_racks.proofs.Moves.{pushes}
-use Rattle.cilk_racks.proofs.rack.Rack.offer.Goals as goal
-
-pub push_as-requires-clause-pushes : goal.push_as-requires-clause-pushes
-push_as-requires-clause-pushes g c = pushes g.N.Naming.course g.N.Naming.taken _ _ c.args.self.now.owner c.requires _ c.args.self.now.first

@@ -1,5 +1,0 @@
-use Rattle.cilk_racks.proofs.Moves.{parts}
-use Rattle.cilk_racks.proofs.rack.Rack.picker.Goals as goal
-
-pub another-pass-requires : goal.another-pass-requires
-another-pass-requires g c = parts g.N.Naming.course g.N.Naming.taken _ c.args.self.now.owner _ c.args.self.now.first

@@ -1,4 +1,0 @@
-pub mod Held
-pub mod Locks
-pub mod Namings
-pub mod Racks

@@ -1,0 +1,18 @@
+use Rattle.std.proofs.Common.{◌∙◌, ap, ℕ, subst}
+use Rattle.cilk_frames.specs.AskSlot.{in_full}
+use Rattle.cilk_program.specs.declared.ask.Callee.TheVariants as callees
+use Rattle.cilk_replay.specs.Sights.{IsSightOf}
+use Rattle.cilk_replay.proofs.Along.{begun_by}
+use Rattle.cilk_replay.proofs.level.Level.begun.Goals as goal
+use Rattle.cilk_replay.proofs.level.Level.begun.Goals.{in-None+in_ok-cursor-in-None, in-Some-Turns+in_ok-cursor-in-Some-Turns}
+
+pub returns-clause-stands : goal.returns-clause-stands
+returns-clause-stands c = elim c.match-brief.branch [
+  | in-None+in_ok-cursor-in-None w ↦ begun_by c.args.course.now.code _ c.args.course.now.inputs c.args.asked.now w.invocation.result.0 (callees.Function w.invocation.result.1.now) _ c.match-brief.cursor
+      w.invocation.ensures c.code-code.ensures w.cursor-is w.in_ok-cursor-in-None.ensures.stands
+  | in-Some-Turns+in_ok-cursor-in-Some-Turns w ↦ begun_by c.args.course.now.code _ c.args.course.now.inputs c.args.asked.now _ (callees.Loop w.in-Some-Turns.part) _ c.match-brief.cursor
+      (w.in-Some-Turns.ensures ∙ ap in_full w.in-Some-Turns.field-0-is) c.code-code.ensures w.cursor-is w.in_ok-cursor-in-Some-Turns.ensures.stands
+]
+
+pub returns-clause-sight : goal.returns-clause-sight
+returns-clause-sight c = λ how callee is. subst (λ (n : ℕ). IsSightOf n callee c.args.home c.args.caller.now c.in_ok-sight.sight) c.globals.ensures (c.in_ok-sight.ensures how callee is)

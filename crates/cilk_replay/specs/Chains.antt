@@ -1,0 +1,29 @@
+-- What contracts see of frames that go on, and of a continuation to be taken.
+use Rattle.std.specs.Prelude.{ℕ, refl}
+use Rattle.std.specs.Coded.{Coded, code_by, coded×, coded_ℕ}
+use Rattle.cilk_replay.specs.Courses.{CourseValue, course_code}
+
+-- a frame and its callers go on at a position of a course
+pub record ChainValue : Type 0 where
+  pub of : CourseValue
+  pub at : ℕ
+
+abbrev pub chain_code : Coded ChainValue
+chain_code = code_by (CourseValue × ℕ) (coded× course_code coded_ℕ) (λ c. (c.of, c.at)) (λ t. record { of = t.0; at = t.1 }) (λ c. refl)
+
+abbrev pub standing : CourseValue → ℕ → ChainValue
+standing c p = record { of = c; at = p }
+
+-- the continuation after the spawn at the ticket, which goes on at a position
+pub record TaskValue : Type 0 where
+  pub of : CourseValue
+  pub ticket : ℕ
+  pub at : ℕ
+
+abbrev pub task_code : Coded TaskValue
+task_code =
+    code_by (CourseValue × (ℕ × ℕ)) (coded× course_code (coded× coded_ℕ coded_ℕ)) (λ t. (t.of, (t.ticket, t.at)))
+    (λ t. record { of = t.0; ticket = t.1.0; at = t.1.1 }) (λ t. refl)
+
+abbrev pub task_of : ℕ → ChainValue → TaskValue
+task_of k c = record { of = c.of; ticket = k; at = c.at }

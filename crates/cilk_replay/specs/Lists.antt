@@ -1,0 +1,68 @@
+-- The list of a course's events by numbers, and its story. What a story tells of its course.
+use Rattle.std.specs.Prelude.{ℕ, ℤ, Bool, List, [], ◌∷◌, Option}
+use Rattle.cilk_types.specs.declared.event.Event as numbers
+use Rattle.cilk_types.specs.declared.event.Event.TheVariants as events
+use Rattle.cilk_types.specs.declared.event.Instance as numbered
+use Rattle.cilk_monoid.specs.Laws.{MonoidStructure}
+use Rattle.cilk_runs.specs.Runs.{Cell, Instance, Ask, Updates, Sets, Values, Prints, Reads, Writes, Passes, Deed, Does, Run}
+use Rattle.cilk_program.specs.Syntax.{Source}
+use Rattle.cilk_runs.specs.Traces.{trace, AreWritten}
+use Rattle.cilk_tree.specs.Before.{IsPosition}
+use Rattle.cilk_tree.specs.declared.story.Story.{Story}
+use Rattle.cilk_tree.specs.Orders.{IsOrderly}
+use Rattle.cilk_tree.specs.Runs.{IsAsked}
+use Rattle.cilk_tree.specs.Along.{IsAlong, DepartsNowhere}
+use Rattle.cilk_tree.specs.Passes.{predecessors_in}
+use Rattle.cilk_tree.specs.Planned.{planned}
+use Rattle.cilk_runs.specs.Worlds.{World}
+use Rattle.cilk_replay.specs.InputCourses.{Course, run_of, asked_in, IsAskedThroughout, IsCourse}
+use Rattle.cilk_replay.specs.Frames.{IsSerialRunOn, IsCourseOn}
+
+-- the story of a course whose events by numbers are these, along the plan of these events
+abbrev pub story_of : {W : Type 0} → List numbers.Event → List ℤ → List numbers.Event → Course W → Story
+story_of es opening es' c = record { events = es'; preceding = predecessors_in es; opening = opening; asked = asked_in c }
+
+-- an event by numbers, with the value that a deed has
+abbrev pub with_value : {W : Type 0} → numbers.Event → Deed W → numbers.Event
+with_value (events.Read c v) (Does (Reads d x)) = events.Read c x
+with_value (events.Write c v) (Does (Writes d x)) = events.Write c x
+with_value (events.Update i v) (Does (Passes (Updates j x))) = events.Update i x
+with_value (events.Set i v) (Does (Passes (Sets j x))) = events.Set i x
+with_value (events.Value i v) (Does (Passes (Values j x))) = events.Value i x
+with_value (events.Print v) (Does (Passes (Prints x))) = events.Print x
+with_value e d = e
+
+-- a list of events by numbers, with the values of these deeds
+abbrev pub with_values : {W : Type 0} → List numbers.Event → List (Deed W) → List numbers.Event
+with_values (e ∷ es) (d ∷ ds) = with_value e d ∷ with_values es ds
+with_values es ds = es
+
+-- the story of a course along the plan of these events: their kinds, with the values of the course
+abbrev pub story_along : {W : Type 0} → List numbers.Event → List ℤ → Course W → Story
+story_along es opening c = story_of es opening (with_values es (trace (run_of c))) c
+
+-- The events of a course of a run, by the numbers that the run's cells and reducers have, are the run's with the values of the course,
+-- and the story of the course is along the run's plan.
+abbrev pub CoursesAreAlongPlans : (W V : Type 0) → (Instance → MonoidStructure V) → (W → List (Deed W) → Option (Ask W)) → (W → W → Bool) → Type 0
+CoursesAreAlongPlans W V M next same =
+    (cell : Cell → ℕ) (instance : Instance → numbered.Instance) (w : W) (memory : Cell → ℤ) (views : Instance → V) (t : Run W) (c : Course W)
+    (es : List numbers.Event) (opening : List ℤ)
+    → IsCourse W V M next same w [] memory views t c → AreWritten cell instance (trace t) es
+    → AreWritten cell instance (trace (run_of c)) (with_values es (trace (run_of c))) × IsAlong (planned es opening) (story_along es opening c)
+
+-- Where the story of a course asks for the event at each position, each event of the course is asked for.
+abbrev pub AskedStoriesAreOfAskedCourses : Type 0 → Type 0
+AskedStoriesAreOfAskedCourses W =
+    (cell : Cell → ℕ) (instance : Instance → numbered.Instance) (c : Course W) (es es' : List numbers.Event) (opening : List ℤ)
+    → AreWritten cell instance (trace (run_of c)) es'
+    → ((p : ℕ) → IsPosition es' p → IsAsked (story_of es opening es' c) p) → IsAskedThroughout c
+
+-- Along an orderly plan of a program's serial run: where the story of a course on other inputs departs nowhere, the course is a serial
+-- run of the program on those.
+abbrev pub InputsThatDepartNowhere : Type 0
+InputsThatDepartNowhere =
+    (p : Source) (inputs others : List ℤ) (t : Run World) (c : Course World) (cell : Cell → ℕ) (instance : Instance → numbered.Instance)
+    (es es' : List numbers.Event) (opening : List ℤ) → IsSerialRunOn p inputs t → IsCourseOn p others t c
+    → AreWritten cell instance (trace (run_of c)) es' → IsOrderly (planned es opening)
+    → IsAlong (planned es opening) (story_of es opening es' c) → IsAsked (story_of es opening es' c) 1
+    → DepartsNowhere (story_of es opening es' c) → IsSerialRunOn p others (run_of c)

@@ -1,0 +1,105 @@
+-- Frames that stand at a position of a course: the one at hand, and its callers.
+use Rattle.std.specs.Prelude.{◌≡◌, ◌⊎◌, ◌≤◌, ℕ, suc, pos, false, List, [], ◌∷◌, ◌++◌, reverse, Some}
+use Rattle.cilk_types.specs.declared.invocation.Invocation.{Invocation}
+use Rattle.cilk_types.specs.declared.invocation.Invocation.TheVariants.{Spawn}
+use Rattle.cilk_types.specs.declared.limits.TheConstants.{MAX_TICKS}
+use Rattle.cilk_program.specs.declared.ask.Ask.{Ask}
+use Rattle.cilk_program.specs.Inside.{CalleeIsFit}
+use Rattle.cilk_program.specs.SerialRun.{Transcript}
+use Rattle.cilk_lower.specs.declared.code.Owed.TheVariants.{Nothing}
+use Rattle.cilk_frames.specs.Following.{Stands}
+use Rattle.cilk_runs.specs.Runs.{Deed, Invokes}
+use Rattle.cilk_runs.specs.WorldMachine.{answer_of, answers_of, has_ended}
+use Rattle.cilk_runs.specs.Worlds.{World}
+use Rattle.cilk_replay.specs.Points.{Point}
+use Rattle.cilk_replay.specs.declared.level.Level.{Level}
+use Rattle.cilk_replay.specs.Asking.{HasAsked}
+use Rattle.cilk_replay.specs.Sights.{Sees}
+use Rattle.cilk_replay.specs.Courses.{CourseValue, IsOfProgram, Setting, setting_of, point_at}
+
+-- the frame at hand at a position has asked for this, after the answers that it had so far in the story
+pub record Asks (c : Setting) (at : ℕ) (k : Ask) (l : Level) : Type 0 where
+  pub behind : ℕ
+  pub place : suc behind ≡ at
+  pub point : Point World
+  pub is : point_at c behind ≡ Some point
+  pub goes_on : has_ended point.past ≡ false
+  pub fit : let w = point.frame in CalleeIsFit c.program w.callee
+  pub sees : Sees c.program c.run point.frame l.sight
+  pub asked : let w = point.frame in HasAsked c.code c.inputs c.program w.callee (answers_of point.past) k l
+
+-- The frame at hand at a position has had all answers but the last, which is 0, and hasn't gone on with that.
+pub record Rests (c : Setting) (at : ℕ) (l : Level) : Type 0 where
+  pub behind : ℕ
+  pub place : suc behind ≡ at
+  pub point : Point World
+  pub is : point_at c behind ≡ Some point
+  pub goes_on : has_ended point.past ≡ false
+  pub fit : let w = point.frame in CalleeIsFit c.program w.callee
+  pub sees : Sees c.program c.run point.frame l.sight
+  pub before : List (Deed World)
+  pub last : Deed World
+  pub past : point.past ≡ before ++ last ∷ []
+  pub answer : answer_of last ≡ pos 0
+  pub stands : let w = point.frame in Stands c.code c.inputs c.program w.callee l.cursor (answers_of before) l.took
+  pub owes : let v = l.cursor in v.owed ≡ Nothing
+  pub small : l.took ≤ MAX_TICKS
+
+-- a frame that waits for its child, whose first event stands behind so many
+pub record Waits (c : Setting) (since : ℕ) (l : Level) : Type 0 where
+  pub behind : ℕ
+  pub place : suc behind ≡ since
+  pub point : Point World
+  pub is : point_at c behind ≡ Some point
+  pub goes_on : has_ended point.past ≡ false
+  pub how : Invocation
+  pub child : World
+  pub started : point.deed ≡ Invokes how child
+  pub fit : let w = point.frame in CalleeIsFit c.program w.callee
+  pub sees : Sees c.program c.run point.frame l.sight
+  pub stands : let w = point.frame in Stands c.code c.inputs c.program w.callee l.cursor (answers_of point.past) l.took
+  pub owes : let v = l.cursor in v.owed ≡ Nothing
+  pub small : l.took ≤ MAX_TICKS
+
+-- the frame whose first event stands there is the root's, or was spawned
+pub record IsSpawned (c : Setting) (since : ℕ) : Type 0 where
+  pub behind : ℕ
+  pub place : suc behind ≡ since
+  pub point : Point World
+  pub is : point_at c behind ≡ Some point
+  pub child : World
+  pub started : point.deed ≡ Invokes Spawn child
+
+abbrev pub IsOutermost : Setting → ℕ → Type 0
+IsOutermost c since = (since ≡ 0) ⊎ IsSpawned c since
+
+-- the callers of the frame whose first event stands behind so many, the innermost first, up to the nearest frame that was spawned
+abbrev pub Linked : Setting → ℕ → List Level → Type 0
+Linked c since [] = IsOutermost c since
+Linked c since (l ∷ ls) = (w : Waits c since l) × (let x = w.point in Linked c x.since ls)
+
+-- a frame and its callers, the outermost first
+pub record StandsAt (c : Setting) (at : ℕ) (k : Ask) (top : Level) (below : List Level) : Type 0 where
+  pub asks : Asks c at k top
+  pub callers : let x = asks.point in Linked c x.since (reverse below)
+
+pub record RestsAt (c : Setting) (at : ℕ) (top : Level) (below : List Level) : Type 0 where
+  pub rests : Rests c at top
+  pub callers : let x = rests.point in Linked c x.since (reverse below)
+
+-- of a course
+abbrev pub Stand : CourseValue → ℕ → Ask → Level → List Level → Type 0
+Stand c at k top below = (run : Transcript) × IsOfProgram (setting_of c run) × StandsAt (setting_of c run) at k top below
+
+abbrev pub Rest : CourseValue → ℕ → Level → List Level → Type 0
+Rest c at top below = (run : Transcript) × IsOfProgram (setting_of c run) × RestsAt (setting_of c run) at top below
+
+-- the frame at hand at a position was spawned, or is the root's
+pub record IsTheOutermost (c : CourseValue) (at : ℕ) : Type 0 where
+  pub run : Transcript
+  pub of_program : IsOfProgram (setting_of c run)
+  pub behind : ℕ
+  pub place : suc behind ≡ at
+  pub point : Point World
+  pub is : point_at (setting_of c run) behind ≡ Some point
+  pub outermost : IsOutermost (setting_of c run) point.since

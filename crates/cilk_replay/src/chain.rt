@@ -1,0 +1,314 @@
+//! Frames that go on at a position of a run.
+
+ghost use Rattle.std.specs.Prelude.{◌≡◌, ◌+◌, ◌<◌, false, IfOk, IsTrue, OnErr, OnOk};
+ghost use Rattle.cilk_types.specs.declared.event.Event.TheVariants.{End};
+ghost use Rattle.cilk_tree.specs.Word.{resume, what};
+ghost use Rattle.cilk_replay.specs.Chains.{standing, task_of};
+
+use crate::child::{body_asked, look_at_body};
+use crate::course::Course;
+use crate::level::{Level, go_on};
+use crate::looked::Looked;
+use crate::reducer::{look_at_reducer, reducer_asked};
+use crate::sight::{cell_asked, look_at_cell};
+use crate::sort::{asked_sort, kind_sort};
+use cilk_frames::asked::AskSlot;
+use cilk_frames::brief::Brief;
+use cilk_frames::cursor::Answer;
+use cilk_tree::kind::Kind;
+use cilk_types::event::{FrameNo, Pos};
+use std::alloc::{AllocError, Global};
+use std::marker::Model;
+use std::mem;
+use std::snapshot::Snapshot;
+
+/// A frame that has asked for an event, and its callers up to the nearest frame that was spawned.
+pub struct Chain {
+    of: Snapshot<Course>,
+    at: Pos,
+    asked: AskSlot,
+    top: Box<Level>,
+    below: Vec<Level>,
+}
+
+// A function of its own, so that a proof follows one call where a chain is dropped.
+impl Drop for Chain {
+    fn drop(self) {
+        let Chain {
+            of: _of,
+            at: _at,
+            asked: _asked,
+            top: _top,
+            below: _below,
+        } = self;
+    }
+}
+
+impl Model for Chain {
+    ghost use Rattle.cilk_replay.specs.Chains.{ChainValue, chain_code, standing};
+    ghost use Rattle.cilk_replay.specs.Standing.{Stand};
+
+    ghost Value = { ChainValue };
+
+    ghost coded = { chain_code };
+
+    ghost view = { λ c. standing c.of.value c.at };
+
+    ghost invariant = { λ c. Stand c.of.value c.at c.asked c.top.value c.below.items };
+}
+
+/// A frame that has yet to go on once its child, called or spawned, is left, and its callers up to the nearest frame
+/// that was spawned.
+#[derive(Drop)]
+pub struct Rest {
+    of: Snapshot<Course>,
+    at: Pos,
+    top: Box<Level>,
+    below: Vec<Level>,
+}
+
+impl Model for Rest {
+    ghost use Rattle.cilk_replay.specs.Chains.{ChainValue, chain_code, standing};
+    ghost use Rattle.cilk_replay.specs.Standing.{Rest};
+
+    ghost Value = { ChainValue };
+
+    ghost coded = { chain_code };
+
+    ghost view = { λ c. standing c.of.value c.at };
+
+    ghost invariant = { λ c. Rest c.of.value c.at c.top.value c.below.items };
+}
+
+impl Chain {
+    ghost use Rattle.std.specs.Prelude.{Some};
+    ghost use Rattle.cilk_tree.specs.Kinds.{kind_of_event};
+    ghost use Rattle.cilk_tree.specs.Word.{event};
+    ghost use Rattle.cilk_replay.specs.Sorts.{Says};
+    ghost use Rattle.cilk_replay.specs.Asking.{BeginsNext, Calls, Follows, IsAnswered, IsNextAsk, Spawns};
+    ghost use Rattle.cilk_replay.specs.Standing.{IsTheOutermost};
+
+    /// The root's frame, before it begins.
+    pub fn root(alloc: Global, course: &Course) -> Result<Chain, AllocError>
+        ensures { IfOk result (λ c. c ≡ standing course.now 1) }
+    {
+        course.laws();
+        let level = Level::root(alloc, course, course.root())?;
+        let top = Box::new(alloc, level)?;
+        Ok(Chain {
+            of: Snapshot::of(course),
+            at: 1,
+            asked: AskSlot::new(),
+            top,
+            below: Vec::new(alloc),
+        })
+    }
+
+    /// The position at which the frame goes on.
+    pub fn at(&self) -> Pos
+        ensures { result ≡ self.now.at }
+    {
+        let Chain { at, .. } = self;
+        *at
+    }
+
+    /// What the frame asks for next. Where the run follows its story, it is the story's event.
+    pub fn ask(&self) -> &AskSlot
+        ensures { IsNextAsk self.now.of self.now.at result.now }
+    {
+        &self.asked
+    }
+
+    /// Whether the frame asks for the plan's event at its position, whose kind is this.
+    pub fn look(&self, course: &Course, kind: Kind) -> Looked
+        requires course { course.now ≡ self.now.of }
+        requires kind { kind_of_event (event self.now.of.yard.story self.now.at) ≡ Some kind }
+        ensures { Says self.now.of.yard.story self.now.at kind result }
+    {
+        let level = &*self.top;
+        if asked_sort(&self.asked) != kind_sort(kind) {
+            return Looked::Differs;
+        }
+        match kind {
+            Kind::Read { cell } | Kind::Write { cell } => look_at_cell(
+                cell_asked(course.globals(), &level.sight, &self.asked),
+                cell,
+            ),
+            Kind::Begin { .. } | Kind::Resume { .. } | Kind::Sync | Kind::End | Kind::Print => {
+                Looked::Asked
+            }
+            Kind::Spawn { child } | Kind::Call { child } => {
+                look_at_body(course.body(child), body_asked(&self.asked))
+            }
+            Kind::Create { instance }
+            | Kind::Update { instance }
+            | Kind::Set { instance }
+            | Kind::Value { instance } => look_at_reducer(
+                reducer_asked(&level.sight, &self.asked),
+                instance,
+            ),
+        }
+    }
+
+    /// The frame goes on with the answer to its event.
+    pub fn answer(&mut self, course: &Course, answer: Answer)
+        requires course { course.now ≡ self.old.of }
+        requires answer { IsAnswered self.old.of.yard.story self.old.at answer }
+        ensures { self.new ≡ standing self.old.of (self.old.at + 1) }
+    {
+        go_on(&mut self.top, course, answer, &mut self.asked);
+        self.at += 1;
+    }
+
+    /// The frame that is called begins, and its caller waits. `frame` is its number, which stands in its `begin`. Without
+    /// memory nothing changes.
+    pub fn call(&mut self, alloc: Global, course: &Course, frame: FrameNo) -> Result<(), AllocError>
+        requires course { course.now ≡ self.old.of }
+        requires calls { Calls self.old.of.yard.story self.old.at }
+        requires begins { BeginsNext self.old.of.yard.story self.old.at frame }
+        ensures ok { OnOk result (self.new ≡ standing self.old.of (self.old.at + 1)) }
+        ensures err { OnErr result (self.new ≡ self.old) }
+    {
+        self.below.reserve(1)?;
+        let home = course.child(frame);
+        let child = Level::begun(alloc, course, &self.asked, home, &self.top.sight)?;
+        let caller = mem::replace(&mut *self.top, child);
+        self.below.push_reserved(caller);
+        self.asked.put(Brief::Begin);
+        self.at += 1;
+        Ok(())
+    }
+
+    /// The frame that is spawned begins, alone, and its parent with its callers rests until it goes on at `next`.
+    /// `frame` is the child's number, which stands in its `begin`. Without memory nothing changes.
+    pub fn spawn(
+        &mut self,
+        alloc: Global,
+        course: &Course,
+        frame: FrameNo,
+        next: Pos,
+    ) -> Result<Rest, AllocError>
+        requires course { course.now ≡ self.old.of }
+        requires spawns { Spawns self.old.of.yard.story self.old.at next }
+        requires begins { BeginsNext self.old.of.yard.story self.old.at frame }
+        ensures child { OnOk result (self.new ≡ standing self.old.of (self.old.at + 1)) }
+        ensures parent { IfOk result (λ rest. rest ≡ standing self.old.of next) }
+        ensures err { OnErr result (self.new ≡ self.old) }
+    {
+        let home = course.child(frame);
+        let level = Level::begun(alloc, course, &self.asked, home, &self.top.sight)?;
+        let child = Box::new(alloc, level)?;
+        let rest = Rest {
+            of: Snapshot::of(course),
+            at: next,
+            top: mem::replace(&mut self.top, child),
+            below: mem::replace(&mut self.below, Vec::new(alloc)),
+        };
+        self.asked.put(Brief::Begin);
+        self.at += 1;
+        Ok(rest)
+    }
+
+    /// The frame ends, and its caller goes on. False where there is none, since it was spawned, or is the root's: then nothing changes.
+    pub fn end(&mut self, course: &Course) -> bool
+        requires course { course.now ≡ self.old.of }
+        requires end { Follows self.old.of.yard.story self.old.at End }
+        ensures caller { IsTrue result → self.new ≡ standing self.old.of (self.old.at + 1) }
+        ensures outermost { result ≡ false → (self.new ≡ self.old) × IsTheOutermost self.old.of self.old.at }
+    {
+        let Some(caller) = self.below.pop() else {
+            return false;
+        };
+        *self.top = caller;
+        go_on(&mut self.top, course, Answer::Done, &mut self.asked);
+        self.at += 1;
+        true
+    }
+}
+
+impl Rest {
+    /// The position at which the frame goes on.
+    pub fn at(&self) -> Pos
+        ensures { result ≡ self.now.at }
+    {
+        let Rest { at, .. } = self;
+        *at
+    }
+
+    /// The frame goes on.
+    pub fn wake(self, course: &Course) -> Chain
+        requires { course.now ≡ self.of }
+        ensures { result ≡ self }
+    {
+        let Rest {
+            of,
+            at,
+            mut top,
+            below,
+        } = self;
+        let mut asked = AskSlot::new();
+        go_on(&mut top, course, Answer::Done, &mut asked);
+        Chain {
+            of,
+            at,
+            asked,
+            top,
+            below,
+        }
+    }
+}
+
+/// A continuation to be taken: its ticket, and the frames that go on there.
+#[derive(Drop)]
+pub struct Task {
+    ticket: Pos,
+    rest: Rest,
+}
+
+impl Model for Task {
+    ghost use Rattle.std.specs.Prelude.{◌≡◌};
+    ghost use Rattle.cilk_tree.specs.Word.{resume, what};
+    ghost use Rattle.cilk_replay.specs.Chains.{TaskValue, task_code, task_of};
+
+    ghost Value = { TaskValue };
+
+    ghost coded = { task_code };
+
+    ghost view = { λ t. task_of t.ticket t.rest };
+
+    ghost invariant = { λ t. what t.rest.of.yard.story t.rest.at ≡ resume t.ticket };
+}
+
+impl Task {
+    /// The continuation after the spawn at `ticket`, where its frame goes on with its `resume`.
+    pub fn new(ticket: Pos, rest: Rest) -> Task
+        requires { what rest.of.yard.story rest.at ≡ resume ticket }
+        ensures { result ≡ task_of ticket rest }
+    {
+        Task { ticket, rest }
+    }
+
+    /// The ticket.
+    pub fn ticket(&self) -> Pos
+        ensures { result ≡ self.now.ticket }
+    {
+        self.ticket
+    }
+
+    /// The position of the continuation.
+    pub fn at(&self) -> Pos
+        ensures place { result ≡ self.now.at }
+        ensures resumption { what self.now.of.yard.story result ≡ resume self.now.ticket }
+    {
+        self.rest.at()
+    }
+
+    /// The frames that go on there.
+    pub fn rest(self) -> Rest
+        ensures rest { result ≡ standing self.of self.at }
+        ensures resumption { what self.of.yard.story self.at ≡ resume self.ticket }
+    {
+        let Task { ticket: _, rest } = self;
+        rest
+    }
+}

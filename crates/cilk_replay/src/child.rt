@@ -1,0 +1,42 @@
+//! Whether a frame asks for the child that a plan's run begins.
+
+ghost use Rattle.std.specs.Prelude.{◌≡◌};
+ghost use Rattle.cilk_replay.specs.Frames.{same_body};
+ghost use Rattle.cilk_replay.specs.Children.{LooksAtBody, body_asked};
+
+use crate::looked::Looked;
+use cilk_frames::asked::AskSlot;
+use cilk_frames::brief::Brief;
+use cilk_program::program::Body;
+
+/// What the child runs that a frame asks for.
+pub(crate) fn body_asked(asked: &AskSlot) -> Body
+    ensures { result ≡ body_asked asked.now }
+{
+    match asked.brief() {
+        None => Body::Function(asked.invocation().1.function),
+        Some(Brief::Turns(_, part)) => Body::Loop(part.number),
+        Some(_) => Body::Function(0),
+    }
+}
+
+/// Whether a child that a frame asks for runs what the plan's does.
+pub(crate) fn look_at_body(planned: Body, asked: Body) -> Looked
+    ensures { LooksAtBody planned asked result }
+{
+    if same_body(planned, asked) {
+        Looked::Asked
+    } else {
+        Looked::Differs
+    }
+}
+
+fn same_body(a: Body, b: Body) -> bool
+    ensures { result ≡ same_body a b }
+{
+    match (a, b) {
+        (Body::Function(n), Body::Function(m)) => n == m,
+        (Body::Loop(n), Body::Loop(m)) => n == m,
+        _ => false,
+    }
+}

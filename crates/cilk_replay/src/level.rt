@@ -1,0 +1,125 @@
+//! One frame of a chain.
+
+ghost use Rattle.std.specs.Prelude.{◌≡◌, ◌≢◌, ◌≤◌, ◌∷◌, ◌++◌, [], ℤ, List, IfOk, length};
+ghost use Rattle.cilk_types.specs.declared.limits.TheConstants.{MAX_TICKS};
+ghost use Rattle.cilk_types.specs.declared.invocation.Invocation.{Invocation};
+ghost use Rattle.cilk_program.specs.declared.ask.Ask.TheVariants as asks;
+ghost use Rattle.cilk_program.specs.declared.ask.Callee.{Callee};
+ghost use Rattle.cilk_program.specs.declared.ask.Callee.TheVariants.{Root};
+ghost use Rattle.cilk_program.specs.Inside.{CalleeIsFit};
+ghost use Rattle.cilk_program.specs.Sources.{source};
+ghost use Rattle.cilk_program.specs.Syntax.{Source};
+ghost use Rattle.cilk_lower.specs.Behaves.{Behaves};
+ghost use Rattle.cilk_frames.specs.Following.{Fits, Runs, Stands, owed_for, word_in};
+ghost use Rattle.cilk_replay.specs.Asking.{HasAsked};
+ghost use Rattle.cilk_replay.specs.Sights.{found_global, homes_of};
+
+use crate::course::Course;
+use crate::home::Home;
+use crate::sight::Sight;
+use cilk_frames::asked::AskSlot;
+use cilk_frames::brief::Brief;
+use cilk_frames::cursor::{Answer, Cursor};
+use cilk_frames::stepping::step_into;
+use cilk_types::limits::MAX_TICKS;
+use std::alloc::{AllocError, Global};
+
+/// A frame: where it stands in its code, the ticks that it took, and the cells and reducers that it sees. It counts them as if it had all those of a run
+/// for itself.
+#[derive(Drop)]
+pub struct Level {
+    pub cursor: Cursor,
+    pub took: u32,
+    pub sight: Sight,
+}
+
+impl Level {
+    ghost use Rattle.cilk_replay.specs.Asking.{HasAsked};
+    ghost use Rattle.cilk_replay.specs.Courses.{IsSightIn};
+
+    /// The root's frame before it begins.
+    pub fn root(alloc: Global, course: &Course, home: Home) -> Result<Level, AllocError>
+        ensures stands { IfOk result (λ l. (p : Source) → Behaves p course.now.code
+            → Stands course.now.code course.now.inputs p Root l.cursor [] 0) }
+        ensures owes { IfOk result (λ l. l.cursor.owed ≡ owed_for asks.Begin) }
+        ensures took { IfOk result (λ l. l.took ≡ 0) }
+        ensures homes { IfOk result (λ l. homes_of l.sight ≡ home ∷ []) }
+        ensures given { IfOk result (λ l. l.sight.given.items ≡ []) }
+        ensures result { let p = source course.now.program in IfOk result (λ l. l.sight.result ≡ found_global (length p.openings) 0) }
+    {
+        let cursor = Cursor::root(alloc, course.code())?;
+        let sight = Sight::root(alloc, course.globals(), home);
+        let level = Level {
+            cursor,
+            took: 0,
+            sight,
+        };
+        Ok(level)
+    }
+
+    /// The frame that a frame asks for, before it begins, which has this itself.
+    pub fn begun(
+        alloc: Global,
+        course: &Course,
+        asked: &AskSlot,
+        home: Home,
+        caller: &Sight,
+    ) -> Result<Level, AllocError>
+        requires { (how : Invocation) × (callee : Callee) × (callee ≢ Root) × (asked.now ≡ asks.Invoke how callee) }
+        ensures stands { IfOk result (λ l. (p : Source) (how : Invocation) (callee : Callee)
+            → asked.now ≡ asks.Invoke how callee → Behaves p course.now.code → CalleeIsFit p callee
+            → Stands course.now.code course.now.inputs p callee l.cursor [] 0) }
+        ensures owes { IfOk result (λ l. l.cursor.owed ≡ owed_for asks.Begin) }
+        ensures took { IfOk result (λ l. l.took ≡ 0) }
+        ensures sight { IfOk result (λ l. (how : Invocation) (callee : Callee) → asked.now ≡ asks.Invoke how callee
+            → IsSightIn course.now callee home caller.now l.sight) }
+    {
+        let code = course.code();
+        let cursor = match asked.brief() {
+            None => Cursor::function(alloc, code, asked.invocation().1)?,
+            Some(Brief::Turns(_, part)) => Cursor::turns(alloc, code, part)?,
+            Some(_) => unreachable!(),
+        };
+        let sight = Sight::begun(alloc, course.globals(), home, caller, asked)?;
+        Ok(Level {
+            cursor,
+            took: 0,
+            sight,
+        })
+    }
+
+    /// The frame goes on with the answer to its last ask, to the next one.
+    pub fn step(&mut self, course: &Course, answer: Answer, asked: &mut AskSlot)
+        requires runs { Runs course.now.code course.now.inputs self.old.cursor }
+        requires fits { Fits self.old.cursor.owed answer }
+        requires small { self.old.took ≤ MAX_TICKS }
+        ensures sight { self.new.sight ≡ self.old.sight }
+        ensures asks { (p : Source) (callee : Callee) (history : List ℤ)
+            → Stands course.now.code course.now.inputs p callee self.old.cursor history self.old.took
+            → HasAsked course.now.code course.now.inputs p callee (history ++ word_in answer ∷ []) asked.new self.new }
+    {
+        let mut left = MAX_TICKS - self.took;
+        step_into(
+            course.code(),
+            course.input(),
+            &mut self.cursor,
+            answer,
+            &mut left,
+            asked,
+        );
+        self.took = MAX_TICKS - left;
+    }
+}
+
+/// A frame on the heap goes on with the answer to its last ask, to the next one.
+pub(crate) fn go_on(frame: &mut Box<Level>, course: &Course, answer: Answer, asked: &mut AskSlot)
+    requires runs { let l = frame.old.value in Runs course.now.code course.now.inputs l.cursor }
+    requires fits { let l = frame.old.value in Fits l.cursor.owed answer }
+    requires small { let l = frame.old.value in l.took ≤ MAX_TICKS }
+    ensures sight { let l = frame.new.value in let o = frame.old.value in l.sight ≡ o.sight }
+    ensures asks { (p : Source) (callee : Callee) (history : List ℤ)
+        → (let o = frame.old.value in Stands course.now.code course.now.inputs p callee o.cursor history o.took)
+        → HasAsked course.now.code course.now.inputs p callee (history ++ word_in answer ∷ []) asked.new frame.new.value }
+{
+    frame.step(course, answer, asked);
+}

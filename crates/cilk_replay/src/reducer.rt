@@ -1,0 +1,119 @@
+//! The reducers that a frame sees, by the numbers that a plan's run gives to them.
+
+ghost use Rattle.std.specs.Prelude.{◌≡◌, IfOk, map, slice_get, unwrap_or};
+ghost use Rattle.cilk_program.specs.declared.syntax.Reducer.{Reducer};
+ghost use Rattle.cilk_replay.specs.Reducing.{LooksAtReducer, global_reducer, outer_given, own_reducer, reducer_asked, reducer_in};
+ghost use Rattle.cilk_replay.specs.Sights.{homes_of};
+
+use crate::home::{Home, ReducerNumber};
+use crate::looked::Looked;
+use crate::sight::Sight;
+use cilk_frames::asked::AskSlot;
+use cilk_frames::brief::Brief;
+use cilk_program::syntax::{Reducer, ReducerPlace};
+use cilk_types::event::Instance;
+use std::alloc::{AllocError, Global};
+
+// The reducer that a place means.
+fn number(sight: &Sight, place: ReducerPlace) -> ReducerNumber
+    ensures { result ≡ reducer_in (homes_of sight.now) sight.now.given.items place }
+{
+    match place {
+        ReducerPlace::Global(number) => global(number),
+        ReducerPlace::Own(up, number) => match sight.home(up) {
+            Some(home) => own(home, number),
+            None => global(number),
+        },
+        ReducerPlace::Given(up, number) => {
+            if up as usize == sight.outer.len() {
+                among(&sight.given, number)
+            } else {
+                global(number)
+            }
+        }
+    }
+}
+
+// A global reducer, which the root's frame creates.
+fn global(number: u32) -> ReducerNumber
+    ensures { result ≡ global_reducer number }
+{
+    ReducerNumber {
+        frame: 1,
+        place: u64::from(number) + 1,
+    }
+}
+
+// A reducer that a frame creates for itself.
+fn own(home: Home, number: u32) -> ReducerNumber
+    ensures { result ≡ own_reducer home number }
+{
+    ReducerNumber {
+        frame: home.frame,
+        place: u64::from(home.before) + u64::from(number) + 1,
+    }
+}
+
+// A reducer that a function was given.
+fn among(given: &[ReducerNumber], number: u32) -> ReducerNumber
+    ensures { result ≡ unwrap_or (slice_get given.now number) (global_reducer number) }
+{
+    match given.get(number as usize) {
+        Some(reducer) => *reducer,
+        None => global(number),
+    }
+}
+
+/// The reducers that a function is given by a frame that sees this.
+pub(crate) fn given_to(
+    alloc: Global,
+    sight: &Sight,
+    reducers: &[Reducer],
+) -> Result<Vec<ReducerNumber>, AllocError>
+    ensures { IfOk result (λ v. v.items ≡ map (λ (r : Reducer). reducer_in (homes_of sight.now) sight.now.given.items r.place) reducers.now) }
+{
+    let mut numbers = Vec::new(alloc);
+    'each: for reducer in reducers {
+        numbers.push(number(sight, reducer.place))?;
+    }
+    Ok(numbers)
+}
+
+/// Those that a function was given, for a loop that stands in its body.
+pub(crate) fn given_outer(
+    alloc: Global,
+    outer: &[Home],
+    given: &[ReducerNumber],
+) -> Result<Vec<ReducerNumber>, AllocError>
+    ensures { IfOk result (λ v. v.items ≡ outer_given outer.now given.now) }
+{
+    let mut copied = Vec::new(alloc);
+    if !outer.is_empty() {
+        copied.extend_from_slice(given)?;
+    }
+    Ok(copied)
+}
+
+/// The reducer that a frame asks for, which sees this.
+pub(crate) fn reducer_asked(sight: &Sight, asked: &AskSlot) -> ReducerNumber
+    ensures { result ≡ reducer_asked (homes_of sight.now) sight.now.given.items asked.now }
+{
+    match asked.brief() {
+        Some(Brief::Create(reducer))
+        | Some(Brief::Update(reducer, _))
+        | Some(Brief::Set(reducer, _))
+        | Some(Brief::Value(reducer)) => number(sight, reducer.place),
+        _ => global(0),
+    }
+}
+
+/// Whether a reducer that a frame asks for is the plan's.
+pub(crate) fn look_at_reducer(found: ReducerNumber, instance: Instance) -> Looked
+    ensures { LooksAtReducer found instance result }
+{
+    if found.frame == instance.frame && found.place == u64::from(instance.place) {
+        Looked::Asked
+    } else {
+        Looked::Differs
+    }
+}

@@ -1,0 +1,178 @@
+//! The cells and reducers that a frame sees, by the numbers that a plan's run gives to them.
+
+ghost use Rattle.std.specs.Prelude.{◌≡◌, ◌≢◌, ◌∷◌, [], IfOk, drop, slice_get};
+ghost use Rattle.cilk_types.specs.declared.invocation.Invocation.{Invocation};
+ghost use Rattle.cilk_program.specs.declared.ask.Ask.TheVariants.{Invoke};
+ghost use Rattle.cilk_program.specs.declared.ask.Callee.{Callee};
+ghost use Rattle.cilk_program.specs.declared.ask.Callee.TheVariants.{Root};
+ghost use Rattle.cilk_replay.specs.Sights.{IsSightOf, LooksAt, cell_asked, found_global, found_in, found_inside, homes_of, number_taking};
+
+use crate::home::{CellBlock, Home, ReducerNumber};
+use crate::looked::Looked;
+use crate::reducer::{given_outer, given_to};
+use cilk_frames::asked::AskSlot;
+use cilk_frames::brief::Brief;
+use cilk_program::syntax::Place;
+use cilk_types::event::Cell;
+use std::alloc::{AllocError, Global};
+
+/// What a frame sees: what it has itself; by its static links, what the frames round it have; the reducers that the
+/// function was given whose body it runs or stands in; and the number of the cell that its result goes to. A cell that
+/// the plan's run doesn't have has no number.
+#[derive(Drop)]
+pub struct Sight {
+    pub own: Home,
+    pub outer: Vec<Home>,
+    pub given: Vec<ReducerNumber>,
+    pub result: Option<u64>,
+}
+
+impl Sight {
+    /// What the root's frame sees.
+    pub fn root(alloc: Global, globals: usize, home: Home) -> Sight
+        ensures homes { homes_of result ≡ home ∷ [] }
+        ensures given { result.given.items ≡ [] }
+        ensures result { result.result ≡ found_global globals 0 }
+    {
+        Sight {
+            own: home,
+            outer: Vec::new(alloc),
+            given: Vec::new(alloc),
+            result: global(globals, 0),
+        }
+    }
+
+    /// What the frame sees that a frame asks for, which has this itself.
+    pub fn begun(
+        alloc: Global,
+        globals: usize,
+        home: Home,
+        caller: &Sight,
+        asked: &AskSlot,
+    ) -> Result<Sight, AllocError>
+        requires { (how : Invocation) × (callee : Callee) × (callee ≢ Root) × (asked.now ≡ Invoke how callee) }
+        ensures { IfOk result (λ s. (how : Invocation) (callee : Callee) → asked.now ≡ Invoke how callee
+            → IsSightOf globals callee home caller.now s) }
+    {
+        match asked.brief() {
+            None => {
+                let call = asked.invocation().1;
+                let result = caller.taking(globals, call.result);
+                let given = given_to(alloc, caller, call.reducers.as_slice())?;
+                Ok(Sight {
+                    own: home,
+                    outer: Vec::new(alloc),
+                    given,
+                    result,
+                })
+            }
+            Some(Brief::Turns(_, part)) => {
+                let result = global(globals, 0);
+                let outer = caller.outer(alloc, part.up)?;
+                let given = given_outer(alloc, &outer, &caller.given)?;
+                Ok(Sight {
+                    own: home,
+                    outer,
+                    given,
+                    result,
+                })
+            }
+            Some(_) => unreachable!(),
+        }
+    }
+
+    // What lies so many static links up, and further out.
+    fn outer(&self, alloc: Global, up: u32) -> Result<Vec<Home>, AllocError>
+        ensures { IfOk result (λ v. v.items ≡ drop up (homes_of self.now)) }
+    {
+        let mut outer = Vec::new(alloc);
+        if up == 0 {
+            outer.push(self.own)?;
+            outer.extend_from_slice(&self.outer)?;
+        } else {
+            outer.extend_from_slice(behind(&self.outer, up - 1))?;
+        }
+        Ok(outer)
+    }
+
+    /// What the frame has that lies so many static links up.
+    pub(crate) fn home(&self, up: u32) -> Option<Home>
+        ensures { result ≡ slice_get (homes_of self.now) up }
+    {
+        if up == 0 {
+            return Some(self.own);
+        }
+        self.outer.get(up as usize - 1).copied()
+    }
+
+    // The number of the cell that a place means.
+    fn number(&self, globals: usize, place: Place) -> Option<u64>
+        ensures { result ≡ found_in globals (homes_of self.now) place }
+    {
+        match place {
+            Place::Global(number) => global(globals, number),
+            Place::Local(up, number) => match self.home(up) {
+                Some(home) => inside(home.block, number),
+                None => global(globals, number),
+            },
+        }
+    }
+
+    // The number of the cell that takes a result.
+    fn taking(&self, globals: usize, place: Option<Place>) -> Option<u64>
+        ensures { result ≡ number_taking globals (homes_of self.now) place }
+    {
+        match place {
+            Some(place) => self.number(globals, place),
+            None => global(globals, 0),
+        }
+    }
+}
+
+// So many fewer.
+fn behind(homes: &[Home], first: u32) -> &[Home]
+    ensures { result.now ≡ drop first homes.now }
+{
+    homes.get(first as usize..).unwrap_or(&[])
+}
+
+fn global(globals: usize, number: u32) -> Option<u64>
+    ensures { result ≡ found_global globals number }
+{
+    if (number as usize) < globals {
+        Some(u64::from(number))
+    } else {
+        None
+    }
+}
+
+fn inside(block: CellBlock, number: u32) -> Option<u64>
+    ensures { result ≡ found_inside block number }
+{
+    if number < block.cells {
+        Some(u64::from(block.first) + u64::from(number))
+    } else {
+        None
+    }
+}
+
+/// The number of the cell that a frame asks for, which sees this.
+pub(crate) fn cell_asked(globals: usize, sight: &Sight, asked: &AskSlot) -> Option<u64>
+    ensures { result ≡ cell_asked globals sight.now asked.now }
+{
+    match asked.brief() {
+        Some(Brief::Read(place)) | Some(Brief::Write(place, _)) => { sight.number(globals, *place) }
+        Some(Brief::Result(_)) => sight.result,
+        _ => None,
+    }
+}
+
+/// Whether a cell that a frame asks for is the plan's.
+pub(crate) fn look_at_cell(found: Option<u64>, cell: Cell) -> Looked
+    ensures { LooksAt found cell result }
+{
+    match found {
+        Some(number) if number == u64::from(cell) => Looked::Asked,
+        _ => Looked::Differs,
+    }
+}

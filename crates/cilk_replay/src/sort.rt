@@ -1,0 +1,84 @@
+//! What sort of event an ask and a plan's kind are of, whatever their cells, reducers and frames.
+
+ghost use Rattle.std.specs.Prelude.{◌≡◌};
+ghost use Rattle.cilk_replay.specs.Sorts.{sort_asked, sort_of, sort_started};
+
+use cilk_frames::asked::AskSlot;
+use cilk_frames::brief::Brief;
+use cilk_tree::kind::Kind;
+use cilk_types::invocation::Invocation;
+
+/// A sort of events.
+#[derive(Clone, Copy, PartialEq, Eq)]
+pub enum Sort {
+    Begin,
+    Spawn,
+    Call,
+    Resume,
+    Sync,
+    End,
+    Read,
+    Write,
+    Create,
+    Update,
+    Set,
+    Value,
+    Print,
+    /// A fault makes no event.
+    Nothing,
+}
+
+// The sort of a child's start.
+fn started(how: Invocation) -> Sort
+    ensures { result ≡ sort_started how }
+{
+    match how {
+        Invocation::Call => Sort::Call,
+        Invocation::Spawn => Sort::Spawn,
+    }
+}
+
+/// The sort of what a frame asks for.
+pub(crate) fn asked_sort(asked: &AskSlot) -> Sort
+    ensures { result ≡ sort_asked asked.now }
+{
+    let Some(brief) = asked.brief() else {
+        return started(asked.invocation().0);
+    };
+    match brief {
+        Brief::Begin => Sort::Begin,
+        Brief::Read(_) => Sort::Read,
+        Brief::Write(_, _) | Brief::Result(_) => Sort::Write,
+        Brief::Create(_) => Sort::Create,
+        Brief::Update(_, _) => Sort::Update,
+        Brief::Set(_, _) => Sort::Set,
+        Brief::Value(_) => Sort::Value,
+        Brief::Print(_) => Sort::Print,
+        Brief::Turns(how, _) => started(*how),
+        Brief::Resume => Sort::Resume,
+        Brief::Sync => Sort::Sync,
+        Brief::End(_) => Sort::End,
+        Brief::Fault(_) => Sort::Nothing,
+    }
+}
+
+/// The sort of a plan's event.
+pub(crate) fn kind_sort(kind: Kind) -> Sort
+    ensures { result ≡ sort_of kind }
+{
+    match kind {
+        Kind::Begin { .. } => Sort::Begin,
+        Kind::Spawn { .. } => Sort::Spawn,
+        Kind::Call { .. } => Sort::Call,
+        Kind::Resume { .. } => Sort::Resume,
+        Kind::Sync => Sort::Sync,
+        Kind::End => Sort::End,
+        Kind::Read { .. } => Sort::Read,
+        Kind::Write { .. } => Sort::Write,
+        Kind::Create { .. } => Sort::Create,
+        Kind::Update { .. } => Sort::Update,
+        Kind::Set { .. } => Sort::Set,
+        Kind::Value { .. } => Sort::Value,
+        Kind::Print => Sort::Print,
+    }
+}

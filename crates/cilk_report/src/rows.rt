@@ -1,0 +1,182 @@
+//! What a run takes besides its totals: a row for each function and loop.
+
+use cilk_messages::place::{Location, locate};
+use cilk_findings::case::Case;
+use cilk_findings::fault::CaseFault;
+use cilk_findings::runs::Run;
+use cilk_findings::shares::{Share, shares};
+use cilk_findings::map::BodyMap;
+use cilk_program::program::Body;
+use std::alloc::{AllocError, Global};
+
+// What stands above the numbers of a row.
+const HEADINGS: [&str; 5] = ["frames", "strands", "events", "work", "span"];
+
+/// A row of the table.
+#[derive(Drop)]
+struct Row {
+    name: String,
+    share: Share,
+}
+
+/// What is told of a run behind its totals.
+#[derive(Drop)]
+pub struct Details {
+    /// The ticks that it took.
+    pub ticks: u64,
+    /// By function and loop what its frames take, a line each, below an empty line and a head: how many frames there are, the strands and events
+    /// that they make themselves, the work from the begins to the ends of these frames, and the largest span of one of them.
+    pub bodies: String,
+}
+
+/// What is told of the case's run after its totals, in columns or with commas. The run has to end.
+pub fn details_of(case: &Case<'_>, commas: bool) -> Result<Details, CaseFault> {
+    let run = Run::of(case)?;
+    if run.fault.is_some() {
+        return Err(CaseFault::Unfit);
+    }
+    let mut bodies = String::new(case.alloc);
+    push_rows(case, &run, &mut bodies, commas)?;
+    Ok(Details {
+        ticks: u64::from(run.replay.ticks),
+        bodies,
+    })
+}
+
+// The functions and loops that ran, functions first, each list in the order of the text.
+fn push_rows(
+    case: &Case<'_>,
+    run: &Run,
+    text: &mut String,
+    commas: bool,
+) -> Result<(), AllocError> {
+    let alloc = case.alloc;
+    let rows = rows_of(case, run)?;
+    let mut width: usize = 4;
+    for row in &rows {
+        width = width.max(row.name.len());
+    }
+    text.push('\n')?;
+    push_cells(text, "body", HEADINGS, width, commas)?;
+    for row in &rows {
+        push_row(alloc, text, row, width, commas)?;
+    }
+    Ok(())
+}
+
+fn push_row(
+    alloc: Global,
+    text: &mut String,
+    row: &Row,
+    width: usize,
+    commas: bool,
+) -> Result<(), AllocError> {
+    let Share {
+        frames,
+        strands,
+        events,
+        work,
+        span,
+    } = row.share;
+    let frames = format!(in alloc; "{frames}")?;
+    let strands = format!(in alloc; "{strands}")?;
+    let events = format!(in alloc; "{events}")?;
+    let work = format!(in alloc; "{work}")?;
+    let span = format!(in alloc; "{span}")?;
+    let cells = [
+        frames.as_str(),
+        strands.as_str(),
+        events.as_str(),
+        work.as_str(),
+        span.as_str(),
+    ];
+    push_cells(text, row.name.as_str(), cells, width, commas)
+}
+
+// A row for each body that ran.
+fn rows_of(case: &Case<'_>, run: &Run) -> Result<Vec<Row>, AllocError> {
+    let functions = case.map.functions.len();
+    let shares = shares_of(case, run)?;
+    let mut rows: Vec<Row> = Vec::new(case.alloc);
+    for (number, share) in shares.iter().enumerate() {
+        let body = match number.checked_sub(functions) {
+            Some(number) => Body::Loop(u32::try_from(number).unwrap_or(0)),
+            None => Body::Function(u32::try_from(number).unwrap_or(0)),
+        };
+        if share.frames > 0 {
+            rows.push(Row {
+                name: title_of(case, body)?,
+                share: *share,
+            })?;
+        }
+    }
+    Ok(rows)
+}
+
+// A line of the table.
+fn push_cells(
+    text: &mut String,
+    name: &str,
+    cells: [&str; 5],
+    width: usize,
+    commas: bool,
+) -> Result<(), AllocError> {
+    text.push_str(name)?;
+    if !commas {
+        push_blanks(text, width.saturating_sub(name.len()))?;
+    }
+    for cell in cells {
+        if commas {
+            text.push(',')?;
+        } else {
+            push_blanks(text, 9_usize.saturating_sub(cell.len()).saturating_add(1))?;
+        }
+        text.push_str(cell)?;
+    }
+    text.push('\n')
+}
+
+fn push_blanks(text: &mut String, count: usize) -> Result<(), AllocError> {
+    for _blank in 0..count {
+        text.push(' ')?;
+    }
+    Ok(())
+}
+
+// A function's name, or where a loop stands.
+fn title_of(case: &Case<'_>, body: Body) -> Result<String, AllocError> {
+    let alloc = case.alloc;
+    let Some(BodyMap { name: head, .. }) = case.map.body(body) else {
+        return Ok(String::new(alloc));
+    };
+    let bytes = match case.text.get(head.at..head.end) {
+        Some(bytes) => bytes,
+        None => &[],
+    };
+    let name = String::from_utf8_lossy(alloc, bytes)?;
+    if let Body::Function(_) = body {
+        return Ok(name);
+    }
+    let Location { line, column } = locate(case.text, head.at);
+    let name = name.as_str();
+    format!(in alloc; "{name} at {line}:{column}")
+}
+
+// What the frames of each body take: functions first, then loops.
+fn shares_of(case: &Case<'_>, run: &Run) -> Result<Vec<Share>, AllocError> {
+    let functions = case.map.functions.len();
+    let mut members: Vec<usize> = Vec::new(case.alloc);
+    for note in &run.replay.frames {
+        members.push(place_in(functions, note.body))?;
+    }
+    let count = functions.saturating_add(case.map.loops.len());
+    shares(case.alloc, &run.trace, members.as_slice(), count)
+}
+
+// Where a body stands among all.
+fn place_in(functions: usize, body: Body) -> usize {
+    match body {
+        Body::Function(number) => number as usize,
+        Body::Loop(number) => functions.saturating_add(number as usize),
+    }
+}

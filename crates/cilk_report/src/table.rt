@@ -1,0 +1,95 @@
+//! The totals of a run as lines of text.
+
+ghost use Rattle.std.specs.Prelude.{◌≡◌, ◌++◌, IfOk, OnOk};
+ghost use Rattle.cilk_report.specs.Table.{decimal_point, hundredths, known_line, parallelism_line, total_line, totals_text};
+
+use cilk_findings::totals::Totals;
+use itoa::Buffer;
+use std::alloc::{AllocError, Global};
+
+/// What stands between a name and its number in a table with columns.
+pub const BLANK: u8 = b' ';
+
+/// What stands there in a table with commas.
+pub const COMMA: u8 = b',';
+
+// `NAME MARK NUMBER`.
+fn push_total(text: &mut Vec<u8>, name: &[u8], mark: u8, number: u64) -> Result<(), AllocError>
+    ensures { OnOk result (text.new.items ≡ text.old.items ++ total_line name.now mark number) }
+{
+    let mut buffer = Buffer::new();
+    text.extend_from_slice(name)?;
+    text.push(mark)?;
+    text.extend_from_slice(buffer.format(number).as_bytes())?;
+    text.push(b'\n')?;
+    Ok(())
+}
+
+// The same of a number that is known; else nothing.
+fn push_known(
+    text: &mut Vec<u8>,
+    name: &[u8],
+    mark: u8,
+    number: Option<u64>,
+) -> Result<(), AllocError>
+    ensures { OnOk result (text.new.items ≡ text.old.items ++ known_line name.now mark number) }
+{
+    match number {
+        Some(number) => push_total(text, name, mark, number),
+        None => Ok(()),
+    }
+}
+
+// How many hundredths of the span the work is, rounded down.
+fn hundredths(totals: &Totals) -> u128
+    ensures { result ≡ hundredths totals.now }
+{
+    let work = totals.work as u128 * 100;
+    match totals.span {
+        0 => 0,
+        span => work / u128::from(span),
+    }
+}
+
+// A number of hundredths, with a point ahead of the last two digits.
+fn push_point(text: &mut Vec<u8>, number: u128) -> Result<(), AllocError>
+    ensures { OnOk result (text.new.items ≡ text.old.items ++ decimal_point number) }
+{
+    let mut buffer = Buffer::new();
+    text.extend_from_slice(buffer.format(number / 100).as_bytes())?;
+    text.push(b'.')?;
+    text.extend_from_slice(buffer.format(number / 10 % 10).as_bytes())?;
+    text.extend_from_slice(buffer.format(number % 10).as_bytes())
+}
+
+// The work over the span, to two digits behind the point.
+fn push_parallelism(text: &mut Vec<u8>, mark: u8, totals: &Totals) -> Result<(), AllocError>
+    ensures { OnOk result (text.new.items ≡ text.old.items ++ parallelism_line mark totals.now) }
+{
+    text.extend_from_slice(b"parallelism")?;
+    text.push(mark)?;
+    push_point(text, hundredths(totals))?;
+    text.push(b'\n')?;
+    Ok(())
+}
+
+/// The totals, each on a line of its own with this mark ahead of its number: events, ticks where they are known, frames, strands,
+/// work, span, and parallelism with two digits behind the point, rounded down.
+pub fn totals_text(
+    alloc: Global,
+    mark: u8,
+    totals: &Totals,
+    ticks: Option<u64>,
+) -> Result<Vec<u8>, AllocError>
+    ensures { IfOk result (λ text. text.items ≡ totals_text mark totals.now ticks) }
+{
+    let mut text = Vec::new(alloc);
+    push_total(&mut text, b"events", mark, totals.work as u64)?;
+    push_known(&mut text, b"ticks", mark, ticks)?;
+    push_total(&mut text, b"frames", mark, totals.frames as u64)?;
+    push_total(&mut text, b"strands", mark, totals.strands as u64)?;
+    push_total(&mut text, b"work", mark, totals.work as u64)?;
+    push_total(&mut text, b"span", mark, totals.span)?;
+    push_parallelism(&mut text, mark, totals)?;
+    Ok(text)
+}

@@ -1,0 +1,36 @@
+//! The totals of a run, from files to numbers.
+
+ghost use Rattle.std.specs.Prelude.{◌≡◌, ◌<◌, IfErr, IfOk, option_map};
+ghost use Rattle.cilk_report.specs.Measured.{AreTotalsOf};
+ghost use Rattle.cilk_commands.specs.Replies.{failure_view};
+ghost use Rattle.cilk_commands.specs.Serving.{RunReply, world};
+ghost use Rattle.cilk_messages.specs.Words.{origin_view};
+
+use cilk_findings::totals::{Totals, measure};
+use cilk_commands::files::Files;
+use cilk_commands::reply::Failure;
+use cilk_commands::{given, stopped};
+use cilk_messages::words::Origin;
+use std::alloc::Global;
+use std::io::Read;
+
+/// The totals of a program's run on its input. What fails is what `run` shows.
+pub fn totals_of<'a, F: Files, R: Read>(
+    alloc: Global,
+    program: Origin<'a>,
+    numbers: Option<&'a str>,
+    files: &mut F,
+    input: &mut R,
+) -> Result<Totals, Failure<'a>>
+    requires { (F.failed files.old).count < 18446744073709551615 }
+    ensures totals { IfOk result (λ t. AreTotalsOf (world (F.holds files.old) (R.remaining input.old) (F.failed files.old) (F.failed files.new))
+        (origin_view program.entry) (option_map (λ p. p.now) numbers.entry) t) }
+    ensures failure { IfErr result (λ e. RunReply (world (F.holds files.old) (R.remaining input.old) (F.failed files.old) (F.failed files.new))
+        (origin_view program.entry) (option_map (λ p. p.now) numbers.entry) (failure_view e)) }
+{
+    let (program, numbers) = given(alloc, program, numbers, files, input)?;
+    match measure(alloc, &program, &numbers) {
+        Ok((totals, _trace)) => Ok(totals),
+        Err(fault) => Err(stopped(&fault)),
+    }
+}

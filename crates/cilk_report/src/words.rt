@@ -1,0 +1,107 @@
+//! The words of `measure`.
+
+ghost use Rattle.std.specs.Prelude.{◌≡◌, IfOk, Some, filter, not, option_map};
+ghost use Rattle.cilk_report.specs.Words.{asks, behind_first, is_form, is_help, is_measure, run_of, words_of_run};
+ghost use Rattle.cilk_commands.specs.Replies.{failure_view};
+ghost use Rattle.cilk_commands.specs.Serving.{WordsFail};
+ghost use Rattle.cilk_messages.specs.Words.{order_view, origin_view, texts};
+
+use cilk_commands::reply::Failure;
+use cilk_messages::words::{Order, Origin};
+use std::alloc::{AllocError, Global};
+
+// What is said of words that don't say what to measure.
+const USAGE: &str =
+    "error: these words name no program to measure: `cilk measure PROGRAM [--input FILE] [--csv | --svg | --dot] [--explain]`\n\
+    hint: what it shows goes to standard output, a picture too: `cilk measure prog.c --svg > prog.svg`\n";
+
+/// What is shown of words that don't say what to measure.
+pub fn usage_of_measure<'a>(alloc: Global) -> Failure<'a>
+    ensures { WordsFail (failure_view result) }
+{
+    match String::from_str(alloc, USAGE) {
+        Ok(text) => Failure::Words(text),
+        Err(_) => Failure::Memory,
+    }
+}
+
+/// Whether words are one alone, which asks for help.
+pub fn is_help(words: &[&str]) -> bool
+    ensures { result ≡ is_help (texts words.now) }
+{
+    match words {
+        [word] => *word == "--help" || *word == "-h",
+        _ => false,
+    }
+}
+
+/// Whether the first word is `measure`, and what is behind it isn't one word that asks for help.
+pub fn is_measure(words: &[&str]) -> bool
+    ensures { result ≡ is_measure (texts words.now) }
+{
+    match words {
+        [first, behind @ ..] => *first == "measure" && !is_help(behind),
+        [] => false,
+    }
+}
+
+/// Whether one of the words is this one.
+pub fn asks(words: &[&str], wanted: &str) -> bool
+    ensures { result ≡ asks wanted.now (texts words.now) }
+{
+    let mut rest = words;
+    'each: while let [first, behind @ ..] = rest {
+        if *first == wanted {
+            return true;
+        }
+        rest = behind;
+    }
+    false
+}
+
+/// Whether a word says how a measured run is shown, or asks for an explanation.
+fn is_form(word: &str) -> bool
+    ensures { result ≡ is_form word.now }
+{
+    word == "--csv" || word == "--svg" || word == "--dot" || word == "--explain"
+}
+
+// The words but for those.
+fn unformed<'a>(alloc: Global, words: &[&'a str]) -> Result<Vec<&'a str>, AllocError>
+    ensures { IfOk result (λ plain. plain.items ≡ filter (λ w. not (is_form w.now)) words.now) }
+{
+    words
+        .iter()
+        .copied()
+        .filter(|word| !is_form(word))
+        .collect(alloc)
+}
+
+/// All but the first.
+pub fn behind_first<'a, 'b>(words: &'b [&'a str]) -> &'b [&'a str]
+    ensures { texts result.now ≡ behind_first (texts words.entry.now) }
+{
+    match words {
+        [_, behind @ ..] => behind,
+        [] => words,
+    }
+}
+
+/// The words that run what these measure: `run` in place of the first.
+pub fn run_words<'a>(alloc: Global, words: &[&'a str]) -> Result<Vec<&'a str>, AllocError>
+    ensures { IfOk result (λ plain. texts plain.items ≡ words_of_run (texts words.now)) }
+{
+    let mut plain = unformed(alloc, behind_first(words))?;
+    plain.insert(0, "run")?;
+    Ok(plain)
+}
+
+/// The program and the input of a run, where that is what is asked for.
+pub fn run_of<'a>(order: Order<'a>) -> Option<(Origin<'a>, Option<&'a str>)>
+    ensures { option_map (λ run. (origin_view run.0, option_map (λ p. p.now) run.1)) result ≡ run_of (Some (order_view order.entry)) }
+{
+    match order {
+        Order::Run { program, input } => Some((program, input)),
+        Order::Certify { .. } | Order::Check { .. } | Order::Play { .. } => None,
+    }
+}

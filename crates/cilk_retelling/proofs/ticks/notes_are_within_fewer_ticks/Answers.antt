@@ -1,5 +1,0 @@
-use Rattle.cilk_retelling.proofs.Within.{within}
-use Rattle.cilk_retelling.proofs.ticks.notes_are_within_fewer_ticks.Goals as goal
-
-pub returns : goal.returns
-returns c = within

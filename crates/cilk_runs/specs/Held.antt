@@ -1,0 +1,43 @@
+-- What frames hold is views of the language.
+use Rattle.std.specs.Prelude.{◌≡◌, ◌≤◌, ℕ, ℤ, List, [], ◌∷◌, ◌++◌, Some}
+use Rattle.cilk_monoid.specs.Values.{ViewValue}
+use Rattle.cilk_types.specs.Word.{IsWord}
+use Rattle.cilk_program.specs.Syntax.{Source}
+use Rattle.cilk_runs.specs.Runs.{Name, Instance, Wish, Begin, Resume, Create, Update, Set, Value, Print, Ask, Read, Write, Invoke, Sync, End, Pass, Fail, Deed}
+use Rattle.cilk_runs.specs.Machine.{Frame, State, started, IsAsking}
+use Rattle.cilk_runs.specs.WorldMachine.{costs}
+use Rattle.cilk_runs.specs.Reducers.{View, kind_of, monoid_of}
+use Rattle.cilk_runs.specs.Steps.{Next, IsFirst, OneStep}
+use Rattle.cilk_runs.specs.WorldViews.{IsViewOf}
+use Rattle.cilk_runs.specs.Worlds.{World}
+
+-- Each view in the piece of each frame is a view of the language, of its reducer's monoid; and the children that a frame has started are there.
+pub record HoldsViews (s : State World View) : Type 0 where
+  pub views : (n : Name) (f : Frame World) (i : Instance) → s.frames n ≡ Some f → (x : ViewValue) × IsViewOf (kind_of i) (s.piece n i) x
+  pub children : (n : Name) (f : Frame World) (k : ℕ) → s.frames n ≡ Some f → 1 ≤ k → k ≤ started f.deeds → (g : Frame World) × (s.frames (n ++ k ∷ []) ≡ Some g)
+
+-- What is put into a view is a word; and a frame that has started so many children resumes only after one.
+abbrev pub WishIsSound : Wish → ℕ → Type 0
+WishIsSound Begin k = Unit {0}
+WishIsSound Resume k = 1 ≤ k
+WishIsSound (Create i) k = Unit {0}
+WishIsSound (Update i v) k = IsWord v
+WishIsSound (Set i v) k = IsWord v
+WishIsSound (Value i) k = Unit {0}
+WishIsSound (Print v) k = IsWord v
+
+-- the same of what a frame with this history asks for
+abbrev pub AskIsSound : Ask World → List (Deed World) → Type 0
+AskIsSound (Read c) past = Unit {0}
+AskIsSound (Write c v) past = Unit {0}
+AskIsSound (Invoke k w) past = Unit {0}
+AskIsSound Sync past = Unit {0}
+AskIsSound (End v gone) past = Unit {0}
+AskIsSound (Pass a) past = WishIsSound a (started past)
+AskIsSound (Fail f) past = Unit {0}
+
+-- frames hold views as a program begins, and after each step by which a frame asks so
+pub record StepsKeepViews (p : Source) (inputs : List ℤ) : Type 0 where
+  pub opens : (s : State World View) → IsFirst p inputs s → HoldsViews s
+  pub keeps : (s s' : State World View) (n : Name) → HoldsViews s → ((f : Frame World) (a : Ask World) → IsAsking World View monoid_of (Next p inputs) (costs p inputs) s n f a → AskIsSound a f.deeds)
+      → OneStep p inputs s n s' → HoldsViews s'

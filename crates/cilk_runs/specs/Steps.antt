@@ -1,0 +1,59 @@
+-- The steps of the free machine at the language, and what a state has made of a program.
+use Rattle.std.specs.Prelude.{◌≡◌, ℕ, suc, ℤ, pos, List, [], ◌∷◌, length}
+use Rattle.cilk_types.specs.declared.outcome.Final.{Final}
+use Rattle.cilk_types.specs.declared.outcome.Outcome.{Outcome}
+use Rattle.cilk_monoid.specs.declared.kind.MonoidKind.{MonoidKind}
+use Rattle.cilk_monoid.specs.declared.kind.MonoidKind.TheVariants.{Append}
+use Rattle.cilk_monoid.specs.Kinds.{final_of}
+use Rattle.cilk_program.specs.Outcomes.{cells_from}
+use Rattle.cilk_program.specs.Syntax.{Source}
+use Rattle.cilk_runs.specs.Runs.{Name, Ask, Global, Instance, Output, Reads, Writes, Syncs, Ends, Passes, Deed, Does, Invokes}
+use Rattle.cilk_runs.specs.Machine.{State, deeds_at, Step, Steps, IsOpening}
+use Rattle.cilk_runs.specs.Progress.{HasProgress}
+use Rattle.cilk_runs.specs.Theorem.{follows}
+use Rattle.cilk_runs.specs.Reducers.{View, value_of, monoid_of, elements_of}
+use Rattle.cilk_runs.specs.Worlds.{World, first_world, global_named}
+use Rattle.cilk_runs.specs.WorldMachine.{next, costs, opening_values}
+
+-- what a frame's end gave
+abbrev pub result_in : List (Deed World) → ℤ
+result_in [] = pos 0
+result_in (Does (Reads c v) ∷ ds) = result_in ds
+result_in (Does (Writes c v) ∷ ds) = result_in ds
+result_in (Does Syncs ∷ ds) = result_in ds
+result_in (Does (Ends v gone) ∷ ds) = v
+result_in (Does (Passes m) ∷ ds) = result_in ds
+result_in (Invokes k w ∷ ds) = result_in ds
+
+-- the last values of the global reducers with these monoids, from one on
+abbrev pub finals_in : (Instance → View) → ℕ → List MonoidKind → List Final
+finals_in views n [] = []
+finals_in views n (k ∷ ks) = final_of (value_of k (views (global_named n k))) ∷ finals_in views (suc n) ks
+
+-- what a state of the free machine has made of a program whose first frame has ended
+abbrev pub outcome_in : Source → State World View → Outcome
+outcome_in p s = record {
+  result = result_in (deeds_at (s.frames []));
+  globals = cells_from 0 (length p.openings) (λ n. s.memory (Global n));
+  output = elements_of (value_of Append (s.piece [] Output));
+  reducers = finals_in (s.piece []) 0 p.reducers;
+}
+
+module _ (p : Source) (inputs : List ℤ) where
+  -- what a frame asks for next
+  abbrev pub Next : World → List (Deed World) → Ask World → Type 0
+  Next = follows (next p inputs)
+
+  abbrev pub IsFirst : State World View → Type 0
+  IsFirst s = IsOpening World View monoid_of Next (costs p inputs) (first_world p) (opening_values p inputs) s
+
+  abbrev pub OneStep : State World View → Name → State World View → Type 0
+  OneStep s n s' = Step World View monoid_of Next (costs p inputs) s n s'
+
+  -- lists of steps lead there from the opening state
+  abbrev pub Reaches : List Name → State World View → Type 0
+  Reaches ns s' = (s : State World View) × IsFirst s × Steps World View monoid_of Next (costs p inputs) ns s s'
+
+  -- the machine makes the steps that the program's behaviour asks for
+  abbrev pub MachineHasProgress : Type 0
+  MachineHasProgress = HasProgress World View monoid_of Next (costs p inputs)

@@ -1,0 +1,34 @@
+-- The way from a frame to the first one, by parents.
+--
+-- - `begins`, `onward`: one step of it;
+-- - `ended`: at the first frame.
+use Rattle.std.proofs.Common.{◌≡◌, ◌+◌, ◌<◌, ◌≤◌, ℕ, zero, suc, List, [], ◌∷◌, ◌++◌, reverse, slice_get, Some, sym, ap, ◌∙◌, append_assoc, arith}
+use Rattle.std.proofs.lemmas.List.{append-nil, reverse-append}
+use Rattle.cilk_frames.specs.declared.activation.Activation.{Activation}
+use Rattle.cilk_runs.specs.Runs.{Name}
+use Rattle.cilk_scheduler.specs.Numbered.{AreNamed}
+use Rattle.cilk_scheduler.specs.declared.seat.Seat.{Seat}
+
+-- The frame's name is that of the frame at this place, and then the ordinals told so far, last first. Each step leads to an earlier frame.
+pub record IsOnWay (name : ℕ → Name) (frame : ℕ) (told : List ℕ) (place counter : ℕ) : Type 0 where
+  pub whole : name frame ≡ name place ++ reverse told
+  pub near : place + counter ≤ frame
+
+pub begins : (name : ℕ → Name) (frame : ℕ) → IsOnWay name frame [] frame 0
+begins name frame = record { whole = sym (append-nil (name frame)); near = omega arith }
+
+module _ (frames : List (Activation Seat)) (name : ℕ → Name) (named : AreNamed frames name) (frame : ℕ) (told : List ℕ) where
+  pub onward : (place counter : ℕ) → IsOnWay name frame told place counter → 0 < place → (a : Activation Seat) → slice_get frames place ≡ Some a → (let x = a.cursor in IsOnWay name frame (told ++ x.ordinal ∷ []) x.parent (counter + 1))
+  onward zero counter h some a at = absurd (omega (arith, some))
+  onward (suc k) counter h some a at =
+      let x = a.cursor in
+      let c = named.child k a at in
+      let less = c.0 in
+      let near = h.near in
+      record {
+        whole = h.whole ∙ ap (λ n. n ++ reverse told) c.1 ∙ append_assoc (name x.parent) (x.ordinal ∷ []) (reverse told) ∙ ap (λ l. name x.parent ++ l) (sym (reverse-append told (x.ordinal ∷ [])));
+        near = omega (arith, less, near);
+      }
+
+  pub ended : (place counter : ℕ) → IsOnWay name frame told place counter → place ≡ 0 → reverse told ≡ name frame
+  ended place counter h first = sym (h.whole ∙ ap (λ k. name k ++ reverse told) first ∙ ap (λ n. n ++ reverse told) named.root)

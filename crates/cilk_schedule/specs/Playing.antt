@@ -1,0 +1,173 @@
+-- What a script makes of a program's run.
+use Rattle.std.specs.Prelude.{◌≡◌, ◌-◌, ◌<◌, ℕ, zero, suc, ℤ, Bool, true, false, if◌then◌else◌, List, [], ◌∷◌, ◌++◌, length, map, slice_get, None, Some, Option, IfSome}
+use Rattle.std.specs.Option.{is_some}
+use Rattle.cilk_types.specs.declared.fault.Fault.{Fault}
+use Rattle.cilk_types.specs.declared.outcome.Outcome.{Outcome}
+use Rattle.cilk_program.specs.SerialRun.{Transcript}
+use Rattle.cilk_program.specs.Syntax.{Source}
+use Rattle.cilk_lower.specs.Code.{CodeView}
+use Rattle.cilk_runs.specs.Machine.{State, Stop}
+use Rattle.cilk_runs.specs.Runs.{Name}
+use Rattle.cilk_runs.specs.Reducers.{View}
+use Rattle.cilk_runs.specs.Steps.{IsFirst, outcome_in}
+use Rattle.cilk_runs.specs.Worlds.{World}
+use Rattle.cilk_scheduler.specs.Desks.{Chooses, Comes, Desk, IsOver, StopsAt}
+use Rattle.cilk_scheduler.specs.Openings.{first_desk}
+use Rattle.cilk_scheduler.specs.declared.board.Board.{Board}
+use Rattle.cilk_scheduler.specs.declared.choice.Choice.{Choice}
+use Rattle.cilk_scheduler.specs.declared.choice.Choice.TheVariants as choices
+use Rattle.cilk_scheduler.specs.declared.choice.Stop as stopping
+use Rattle.cilk_scheduler.specs.declared.choice.Stop.TheVariants as stops
+use Rattle.cilk_scheduler.specs.declared.choice.Strand.{Strand}
+use Rattle.cilk_schedule.specs.Deciding.{Agree}
+use Rattle.cilk_scheduler.specs.Numbered.{AreNamed}
+use Rattle.cilk_schedule.specs.Played.{IsAt, Leaves}
+use Rattle.cilk_schedule.specs.Reached.{HasOpened, HasReached}
+use Rattle.cilk_schedule.specs.Sound.{IsCodeOf}
+use Rattle.cilk_schedule.specs.declared.machine.Machine.{Machine}
+use Rattle.cilk_determinacy.specs.Settled.{AlwaysAsSerial, IsSettled}
+use Rattle.cilk_determinacy.specs.Theorem.{IsAsSerial}
+use Rattle.cilk_script.specs.Choices.{choices_within}
+use Rattle.cilk_script.specs.declared.choices.Next.{Next}
+use Rattle.cilk_script.specs.declared.choices.Next.TheVariants as nexts
+use Rattle.cilk_script.specs.declared.choices.TheConstants.{MAX_CHOICES}
+use Rattle.cilk_script.specs.declared.script.Step.{Step}
+use Rattle.cilk_schedule.specs.declared.fault.PlayFault.{PlayFault}
+use Rattle.cilk_schedule.specs.declared.fault.PlayFault.TheVariants as faults
+use Rattle.cilk_schedule.specs.declared.player.TheConstants.{MAX_ROUNDS}
+
+-- what is to be done of a script
+pub data Task : Type 0 where
+  -- a choice is made
+  Choose : Choice → Task
+  -- a worker goes on with its frame, or takes the first continuation that is offered
+  Turn : (worker : ℕ) → Task
+  -- rounds are made until the run has ended, at most so many
+  Rounds : (count : ℕ) → Task
+  -- the choices of this line would go past the limit
+  Pass : (line : ℕ) → Task
+
+abbrev pub task_of : Next → Task
+task_of (nexts.Run worker) = Choose (choices.Run worker)
+task_of (nexts.Steal worker place) = Choose (choices.Steal worker place)
+task_of nexts.Rounds = Rounds MAX_ROUNDS
+task_of (nexts.Past line) = Pass line
+
+-- what the steps of a script stand for
+abbrev pub tasks_of : List Step → List Task
+tasks_of steps = map task_of (choices_within MAX_CHOICES steps)
+
+-- there is such a worker, and it has a frame
+abbrev pub has_frame : Option (Option Name) → Bool
+has_frame None = false
+has_frame (Some hand) = is_some hand
+
+abbrev pub is_busy : Desk → ℕ → Bool
+is_busy d zero = false
+is_busy d (suc w) = has_frame (slice_get d.hands w)
+
+-- what a worker does in its turn
+abbrev pub turn_of : Desk → ℕ → Choice
+turn_of d worker = if is_busy d worker then choices.Run worker else choices.Steal worker 0
+
+-- a round: so many workers' turns, from this worker on
+abbrev pub turns : ℕ → ℕ → List Task
+turns first zero = []
+turns first (suc more) = Turn first ∷ turns (suc first) more
+
+-- How a script ends: all of it is done, and the run has come to this state; a choice has stopped the run; or the choices of a line
+-- would go past the limit.
+pub data End : Type 0 where
+  Done : (state : State World View) (desk : Desk) → End
+  Stopped : (stop : Stop) → End
+  Passed : (line : ℕ) → End
+
+module _ (p : Source) (inputs : List ℤ) where
+  -- with so many workers these tasks, one after another, lead from a state and a desk of the free machine to this end
+  pub data Plays (workers : ℕ) : List Task → State World View → Desk → End → Type 0 where
+    Finished : (s : State World View) (d : Desk) → Plays workers [] s d (Done s d)
+    Chosen : (choice : Choice) (told : Comes) (rest : List Task) (s s' : State World View) (d d' : Desk) (e : End) → Chooses p inputs s d choice told s' d' → Plays workers rest s' d' e → Plays workers (Choose choice ∷ rest) s d e
+    Stops : (choice : Choice) (stop : Stop) (rest : List Task) (s s' : State World View) (d : Desk) → StopsAt p inputs s d choice s' → s'.stopped ≡ Some stop → Plays workers (Choose choice ∷ rest) s d (Stopped stop)
+    Turns : (worker : ℕ) (rest : List Task) (s : State World View) (d : Desk) (e : End) → Plays workers (Choose (turn_of d worker) ∷ rest) s d e → Plays workers (Turn worker ∷ rest) s d e
+    Ended : (count : ℕ) (rest : List Task) (s : State World View) (d : Desk) (e : End) → IsOver s → Plays workers rest s d e → Plays workers (Rounds count ∷ rest) s d e
+    Enough : (rest : List Task) (s : State World View) (d : Desk) (e : End) → Plays workers rest s d e → Plays workers (Rounds zero ∷ rest) s d e
+    Round : (count : ℕ) (rest : List Task) (s : State World View) (d : Desk) (e : End) → ¬ (IsOver s) → Plays workers (turns 1 workers ++ (Rounds count ∷ rest)) s d e → Plays workers (Rounds (suc count) ∷ rest) s d e
+    Passes : (line : ℕ) (rest : List Task) (s : State World View) (d : Desk) → Plays workers (Pass line ∷ rest) s d (Passed line)
+
+  -- The steps of a script lead from the opening state, in which the first of so many workers has the first frame, to this end.
+  abbrev pub Ends : ℕ → List Step → End → Type 0
+  Ends workers steps e = (s : State World View) × IsFirst p inputs s × Plays workers (tasks_of steps) s (first_desk (workers - 1)) e
+
+  -- one end is the other, but for the views of frames that haven't begun
+  abbrev pub SameEnd : End → End → Type 0
+  SameEnd (Done s d) (Done t d') = (d' ≡ d) × Agree s t
+  SameEnd (Stopped stop) (Stopped stop') = stop' ≡ stop
+  SameEnd (Passed line) (Passed line') = line' ≡ line
+  SameEnd _ _ = ⊥
+
+  -- A script has at most one end, of a program on an input, with so many workers.
+  abbrev pub ScriptsHaveOneEnd : Type 0
+  ScriptsHaveOneEnd = (workers : ℕ) (steps : List Step) (e e' : End) → Ends workers steps e → Ends workers steps e' → SameEnd e e'
+
+-- what the steps of a script leave, all of which are done
+abbrev pub IsLeft : Source → List ℤ → ℕ → List Step → Option Outcome → Type 0
+IsLeft p inputs workers steps left = (s : State World View) × (d : Desk) × Ends p inputs workers steps (Done s d) × Leaves p s left
+
+-- the run stops by this fault, in the strand of this name
+abbrev pub StopsBy : (End → Type 0) → Fault → List ℕ → Type 0
+StopsBy IsEnd fault name = (stop : Stop) × IsEnd (Stopped stop) × (fault ≡ stop.fault) × (name ≡ stop.frame ++ stop.strand ∷ [])
+
+-- Of a stop the fault is told, and the strand's name: its frame's name, and then its number in its frame.
+abbrev pub IsFault : (End → Type 0) → PlayFault → Type 0
+IsFault IsEnd (faults.Line line) = IsEnd (Passed line)
+IsFault IsEnd (faults.Stop fault name) = StopsBy IsEnd fault (let n = name in n.items)
+IsFault IsEnd faults.Memory = Unit {0}
+
+-- A strand's name by the names that a board's frames have: its frame's, and then the strand's number.
+abbrev pub IsNameIn : Board → Strand → List ℕ → Type 0
+IsNameIn b strand name =
+    (names : ℕ → Name) (place : ℕ) → strand.frame ≡ suc place → AreNamed (let f = b.frames in f.items) names → place < length (let f = b.frames in f.items)
+    → name ≡ names place ++ strand.number ∷ []
+
+-- a fault tells of this stop at a board
+abbrev pub IsFaultOf : Board → stopping.Stop → PlayFault → Type 0
+IsFaultOf b stop (faults.Line line) = ⊥
+IsFaultOf b stop (faults.Stop fault name) = (strand : Strand) × (stop ≡ stops.At fault strand) × IsNameIn b strand (let n = name in n.items)
+IsFaultOf b stop faults.Memory = Unit {0}
+
+-- these tasks come down to those, from another state and desk on
+abbrev pub Follows : Source → List ℤ → ℕ → List Task → State World View → Desk → List Task → State World View → Desk → Type 0
+Follows p inputs workers tasks s d left s' d' = (rest : List Task) (e : End) → Plays p inputs workers (left ++ rest) s' d' e → Plays p inputs workers (tasks ++ rest) s d e
+
+-- The machine has its code and its input, and from each state that its board showed these tasks come down to those, from a state on that it shows.
+pub record Leads (workers : ℕ) (tasks : List Task) (m : Machine) (left : List Task) (m' : Machine) : Type 0 where
+  pub code : m'.code ≡ m.code
+  pub input : m'.input ≡ m.input
+  pub reached : (p : Source) → IsCodeOf p (let c = m.code in c.now) → (h : IsAt m p) → (h' : IsAt m' p) × Follows p (let i = m.input in i.now) workers tasks h.state h.desk left h'.state h'.desk
+
+-- one of these tasks comes to this fault
+abbrev pub ComesToFault : ℕ → List Task → Machine → PlayFault → Type 0
+ComesToFault workers tasks m f = (p : Source) → IsCodeOf p (let c = m.code in c.now) → (h : IsAt m p) → (rest : List Task) → IsFault (λ e. Plays p (let i = m.input in i.now) workers (tasks ++ rest) h.state h.desk e) f
+
+-- Where one serial run settles every parallel one, an outcome that is left is that run's.
+abbrev pub LeavesAsSettled : Source → List ℤ → Option Outcome → Type 0
+LeavesAsSettled p inputs left = (outcome : Outcome) → IsSettled p inputs outcome → IfSome left (λ o. o ≡ outcome)
+
+-- a fault that no strand stopped by
+abbrev pub IsNoStop : PlayFault → Type 0
+IsNoStop (faults.Line line) = Unit {0}
+IsNoStop (faults.Stop fault name) = ⊥
+IsNoStop faults.Memory = Unit {0}
+
+-- Where one serial run settles every parallel one, no strand stops by a fault.
+abbrev pub FailsAsSettled : Source → List ℤ → PlayFault → Type 0
+FailsAsSettled p inputs f = (outcome : Outcome) → IsSettled p inputs outcome → IsNoStop f
+
+-- Where whatever steps are made the state is as one serial run, so is each state that a board shows, and to which steps lead.
+abbrev pub SettlesEachState : Type 0
+SettlesEachState =
+    (code : CodeView) (p : Source) (inputs : List ℤ) (b : Board) (run : Transcript) (outcome : Outcome) (h : HasReached code p inputs b) → AlwaysAsSerial p inputs run outcome → IsAsSerial p inputs run outcome h.state
+
+-- a board that shows the opening state shows one to which steps lead
+abbrev pub OpeningsAreReached : Type 0
+OpeningsAreReached = (code : CodeView) (p : Source) (inputs : List ℤ) (b : Board) (idle : ℕ) → HasOpened code p inputs b idle → HasReached code p inputs b

@@ -1,0 +1,156 @@
+//! Events by the places of frames in the order in which they began, and the paths of frames, which no schedule changes.
+
+ghost use Rattle.std.specs.Prelude.{◌≡◌, ◌<◌, ℕ, length, IfOk};
+ghost use Rattle.cilk_scheduler.specs.Numbered.{AreNamed};
+ghost use Rattle.cilk_runs.specs.Runs.{Name};
+ghost use Rattle.cilk_schedule.specs.Showing.{IsCellOf, IsNamedAs, ordinal_of, reducer_of};
+
+use cilk_frames::activation::Activation;
+use cilk_scheduler::seat::Seat;
+use cilk_types::event::{Cell, Event, FrameNo, Instance};
+use std::alloc::{AllocError, Global};
+
+/// A cell by its frame's place among all frames and its own place there, from 0; or a global one by its number.
+#[derive(Clone, Copy, PartialEq, Eq, Debug)]
+pub enum CellName {
+    Global(u32),
+    Own { frame: usize, place: u32 },
+}
+
+/// A reducer by the place of the frame that created it, and its own place there, from 0; or the ordered output.
+#[derive(Clone, Copy, PartialEq, Eq, Debug)]
+pub enum ReducerName {
+    Output,
+    Own { frame: usize, place: u32 },
+}
+
+/// An event of a frame. A child is known by its ordinal.
+#[derive(Clone, Copy, PartialEq, Eq, Debug)]
+pub enum ShownEvent {
+    Begin,
+    Spawn { ordinal: u32 },
+    Call { ordinal: u32 },
+    Resume,
+    Sync,
+    End,
+    Read { cell: CellName, value: i64 },
+    Write { cell: CellName, value: i64 },
+    Create { reducer: ReducerName },
+    Update { reducer: ReducerName, value: i64 },
+    Set { reducer: ReducerName, value: i64 },
+    Value { reducer: ReducerName, value: i64 },
+    Print { value: i64 },
+}
+
+/// An event by names. The first so many cells are global.
+pub fn named(frames: &[Activation<Seat>], globals: usize, event: Event) -> ShownEvent
+    ensures { IsNamedAs frames.now globals event result }
+{
+    match event {
+        Event::Begin { frame: _ } => ShownEvent::Begin,
+        Event::Spawn { child } => {
+            let ordinal = ordinal(frames, child);
+            ShownEvent::Spawn { ordinal }
+        }
+        Event::Call { child } => {
+            let ordinal = ordinal(frames, child);
+            ShownEvent::Call { ordinal }
+        }
+        Event::Resume { parent: _ } => ShownEvent::Resume,
+        Event::Sync => ShownEvent::Sync,
+        Event::End => ShownEvent::End,
+        Event::Read { cell, value } => {
+            let cell = named_cell(frames, globals, cell);
+            ShownEvent::Read { cell, value }
+        }
+        Event::Write { cell, value } => {
+            let cell = named_cell(frames, globals, cell);
+            ShownEvent::Write { cell, value }
+        }
+        Event::Print { value } => ShownEvent::Print { value },
+        Event::Create { instance } => {
+            let reducer = named_reducer(instance);
+            ShownEvent::Create { reducer }
+        }
+        Event::Update { instance, value } => {
+            let reducer = named_reducer(instance);
+            ShownEvent::Update { reducer, value }
+        }
+        Event::Set { instance, value } => {
+            let reducer = named_reducer(instance);
+            ShownEvent::Set { reducer, value }
+        }
+        Event::Value { instance, value } => {
+            let reducer = named_reducer(instance);
+            ShownEvent::Value { reducer, value }
+        }
+    }
+}
+
+// The ordinal of the frame with this number; 0 where there is none.
+fn ordinal(frames: &[Activation<Seat>], number: FrameNo) -> u32
+    ensures { result ≡ ordinal_of frames.now number }
+{
+    let Some(place) = number.checked_sub(1) else {
+        return 0;
+    };
+    match frames.get(place as usize) {
+        Some(frame) => frame.cursor.ordinal,
+        None => 0,
+    }
+}
+
+// A cell that isn't global is in the last frame whose first cell isn't past it.
+fn named_cell(frames: &[Activation<Seat>], globals: usize, cell: Cell) -> CellName
+    ensures { IsCellOf frames.now globals cell result }
+{
+    if (cell as usize) < globals {
+        return CellName::Global(cell);
+    }
+    let past = frames.partition_point(|frame| frame.base <= cell);
+    let frame = past.saturating_sub(1);
+    match frames.get(frame) {
+        Some(owner) => CellName::Own {
+            frame,
+            place: cell.saturating_sub(owner.base),
+        },
+        None => CellName::Global(cell),
+    }
+}
+
+// A reducer by its frame's place, and its own from 0.
+fn named_reducer(instance: Instance) -> ReducerName
+    ensures { result ≡ reducer_of instance }
+{
+    if instance.frame == 0 {
+        return ReducerName::Output;
+    }
+    ReducerName::Own {
+        frame: (instance.frame - 1) as usize,
+        place: instance.place.saturating_sub(1),
+    }
+}
+
+/// The path of the frame at a place: the ordinals of the frames from the first one's child down to it.
+pub fn path(
+    alloc: Global,
+    frames: &[Activation<Seat>],
+    frame: usize,
+) -> Result<Vec<u32>, AllocError>
+    ensures { (name : ℕ → Name) → AreNamed frames.now name → frame < length frames.now → IfOk result (λ list. list.items ≡ name frame) }
+{
+    let mut path = Vec::new(alloc);
+    let mut place = frame;
+    'each: for _ in 0..frames.len() {
+        if place == 0 {
+            break;
+        }
+        let Some(seat) = frames.get(place) else {
+            break;
+        };
+        path.push(seat.cursor.ordinal)?;
+        place = seat.cursor.parent as usize;
+    }
+    path.reverse();
+    Ok(path)
+}

@@ -1,0 +1,209 @@
+//! What a run shows: the events of each frame by names that no schedule changes, which children were joined, and the outcome.
+
+ghost use Rattle.std.specs.Prelude.{◌≡◌, ◌<◌, ◌++◌, ◌∷◌, [], ℕ, None, Some, cond, false, length, slice_get, IfOk, IfSome, MatchOption, OnOk};
+ghost use Rattle.std.specs.Option.{option_map};
+ghost use Rattle.cilk_program.specs.Syntax.{Source};
+ghost use Rattle.cilk_runs.specs.Cuts.{times};
+ghost use Rattle.cilk_runs.specs.Machine.{Frame, HasEnd, State, deeds_at};
+ghost use Rattle.cilk_runs.specs.Runs.{Name};
+ghost use Rattle.cilk_runs.specs.Reducers.{View};
+ghost use Rattle.cilk_runs.specs.Steps.{outcome_in};
+ghost use Rattle.cilk_runs.specs.Worlds.{World};
+ghost use Rattle.cilk_schedule.specs.Gathering.{AddsChild, AreGathered, Gathers, HaveLinks};
+ghost use Rattle.cilk_schedule.specs.Links.{links_in, links_of};
+ghost use Rattle.cilk_schedule.specs.Showing.{AreLinked, AreShown, ShowsBoard, ShowsRun, joins_child};
+ghost use Rattle.cilk_schedule.specs.declared.showing.ShownFrame.{ShownFrame};
+
+use crate::naming::{ShownEvent, named};
+use cilk_frames::activation::Activation;
+use cilk_scheduler::board::Board;
+use cilk_scheduler::seat::{JournalEntry, Seat};
+use cilk_frames::outcome::copied;
+use cilk_types::outcome::Outcome;
+use std::alloc::{AllocError, Global};
+
+/// A frame by links: the place of its parent among all frames, and its ordinal there, from 1; 0 for both of the first frame.
+#[derive(Clone, Copy, PartialEq, Eq)]
+pub struct Link {
+    pub parent: u32,
+    pub ordinal: u32,
+}
+
+/// A frame: its link, the places of the frames that it started, and its events, each in order.
+#[derive(Drop)]
+struct ShownFrame {
+    link: Link,
+    children: Vec<usize>,
+    events: Vec<ShownEvent>,
+}
+
+/// What a run shows.
+#[derive(Drop)]
+pub struct Shown {
+    frames: Vec<ShownFrame>,
+    outcome: Option<Outcome>,
+}
+
+impl Shown {
+    /// What the first frame's end left, once it has ended.
+    pub fn outcome(&self) -> Option<&Outcome>
+        ensures kept { MatchOption result (self.now.outcome ≡ None) (λ left. self.now.outcome ≡ Some left.now) }
+        ensures left { (p : Source) (name : ℕ → Name) (s : State World View) → ShowsRun p name s self.now → MatchOption result (¬ (HasEnd (deeds_at (s.frames [])))) (λ left. HasEnd (deeds_at (s.frames [])) × (left.now ≡ outcome_in p s)) }
+    {
+        self.outcome.as_ref()
+    }
+
+    /// How many frames have begun. They have places from 0 on, in the order in which they began.
+    pub fn frames(&self) -> usize
+        ensures { result ≡ length self.now.frames.items }
+    {
+        self.frames.len()
+    }
+
+    /// The link of the frame at a place, if there is one.
+    pub fn link(&self, place: u32) -> Option<Link>
+        ensures kept { result ≡ option_map (λ (f : ShownFrame). f.link) (slice_get self.now.frames.items place) }
+        ensures named { (name : ℕ → Name) → AreLinked self.now.frames.items name → IfSome result (λ l. 0 < place → (l.parent < place) × (name place ≡ name l.parent ++ l.ordinal ∷ [])) }
+    {
+        let frame = self.frames.get(place as usize)?;
+        Some(frame.link)
+    }
+
+    /// The events of a frame in order, if it has begun: the frame by its path, which has an ordinal for each frame from the
+    /// first one's child down.
+    pub fn events(&self, path: &[u32]) -> Option<&[ShownEvent]>
+        ensures { (p : Source) (name : ℕ → Name) (s : State World View) → ShowsRun p name s self.now →
+            MatchOption result (s.frames path.now ≡ None) (λ events. (x : Frame World) × (s.frames path.now ≡ Some x) × AreShown name (length self.now.frames.items) path.now 1 x.deeds events.now) }
+    {
+        let place = self.place(path)?;
+        let frame = self.frames.get(place)?;
+        Some(frame.events.as_slice())
+    }
+
+    /// Whether a frame has begun and a sync has joined it: the frame by its path. It takes the events of the frame's parent one by one.
+    pub fn is_joined(&self, path: &[u32]) -> bool
+        ensures joined { (p : Source) (name : ℕ → Name) (s : State World View) (n : Name) (q : ℕ) → ShowsRun p name s self.now → path.now ≡ n ++ q ∷ [] → times path.now s.joins ≡ cond result 1 0 }
+        ensures first { path.now ≡ [] → result ≡ false }
+    {
+        let Some((ordinal, parent)) = path.split_last() else {
+            return false;
+        };
+        match self.events(parent) {
+            Some(events) => joins_child(events, *ordinal),
+            None => false,
+        }
+    }
+
+    /// The place of a frame among all, if it has begun: the frame by its path.
+    pub fn place(&self, path: &[u32]) -> Option<usize>
+        ensures { (name : ℕ → Name) → AreLinked self.now.frames.items name → MatchOption result ((k : ℕ) → k < length self.now.frames.items → name k ≡ path.now → ⊥) (λ k. (k < length self.now.frames.items) × (name k ≡ path.now)) }
+    {
+        let mut place = 0;
+        let _root = self.frames.get(place)?;
+        'each: for ordinal in path {
+            place = self.child(place, *ordinal)?;
+        }
+        Some(place)
+    }
+
+    // The place of a frame's child.
+    fn child(&self, parent: usize, ordinal: u32) -> Option<usize>
+        ensures { (name : ℕ → Name) → AreLinked self.now.frames.items name → parent < length self.now.frames.items
+            → MatchOption result ((k : ℕ) → k < length self.now.frames.items → name k ≡ name parent ++ ordinal ∷ [] → ⊥) (λ k. (k < length self.now.frames.items) × (name k ≡ name parent ++ ordinal ∷ [])) }
+    {
+        let frame = self.frames.get(parent)?;
+        let before = ordinal.checked_sub(1)?;
+        let place = frame.children.get(before as usize)?;
+        Some(*place)
+    }
+}
+
+// Whether a sync stands behind the spawn of the child with this ordinal.
+fn joins_child(events: &[ShownEvent], ordinal: u32) -> bool
+    ensures { result ≡ joins_child ordinal events.now }
+{
+    let mut spawned = false;
+    'each: for event in events {
+        match *event {
+            ShownEvent::Spawn { ordinal: other } if other == ordinal => spawned = true,
+            ShownEvent::Sync if spawned => return true,
+            _ => {}
+        }
+    }
+    false
+}
+
+/// What a board shows. The first so many cells are global. The time is linear in frames and events, but for the search for a
+/// cell's frame.
+pub fn show(alloc: Global, board: &Board, globals: usize) -> Result<Shown, AllocError>
+    ensures outcome { IfOk result (λ shown. shown.outcome ≡ board.now.outcome) }
+    ensures links { IfOk result (λ shown. links_in shown.frames.items ≡ links_of board.now.frames.items) }
+    ensures run { IfOk result (ShowsBoard globals board.now) }
+{
+    let mut frames = links(alloc, board.frames.as_slice())?;
+    'each: for entry in board.journal.as_slice() {
+        place(board.frames.as_slice(), globals, &mut frames, *entry)?;
+    }
+    let outcome = left(alloc, &board.outcome)?;
+    Ok(Shown { frames, outcome })
+}
+
+// The same outcome, if there is one.
+fn left(alloc: Global, outcome: &Option<Outcome>) -> Result<Option<Outcome>, AllocError>
+    ensures { IfOk result (λ same. same ≡ outcome.now) }
+{
+    match outcome {
+        Some(outcome) => Ok(Some(copied(alloc, outcome)?)),
+        None => Ok(None),
+    }
+}
+
+// The frames' links, with no events yet.
+fn links(alloc: Global, frames: &[Activation<Seat>]) -> Result<Vec<ShownFrame>, AllocError>
+    ensures { IfOk result (λ list. HaveLinks frames.now (length frames.now) list.items) }
+{
+    let mut list = Vec::with_capacity(alloc, frames.len())?;
+    'each: for frame in frames {
+        let link = Link {
+            parent: frame.cursor.parent,
+            ordinal: frame.cursor.ordinal,
+        };
+        add_child(&mut list, link.parent)?;
+        list.push(ShownFrame {
+            link,
+            children: Vec::new(alloc),
+            events: Vec::new(alloc),
+        })?;
+    }
+    Ok(list)
+}
+
+// The next frame is a child of this one, but for the first frame, which has no parent.
+fn add_child(list: &mut Vec<ShownFrame>, parent: u32) -> Result<(), AllocError>
+    ensures { OnOk result (AddsChild list.old.items list.new.items parent) }
+{
+    let place = list.len();
+    if place == 0 {
+        return Ok(());
+    }
+    if let Some(parent) = list.get_mut(parent as usize) {
+        parent.children.push(place)?;
+    }
+    Ok(())
+}
+
+// An event goes to its frame.
+fn place(
+    frames: &[Activation<Seat>],
+    globals: usize,
+    list: &mut Vec<ShownFrame>,
+    entry: JournalEntry,
+) -> Result<(), AllocError>
+    ensures { OnOk result (Gathers frames.now globals list.old.items list.new.items entry) }
+{
+    let Some(frame) = list.get_mut(entry.frame as usize) else {
+        return Ok(());
+    };
+    frame.events.push(named(frames, globals, entry.event))?;
+    Ok(())
+}

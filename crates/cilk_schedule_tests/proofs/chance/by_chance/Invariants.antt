@@ -1,6 +1,0 @@
-use Rattle.std.proofs.Common.{◌≡◌, None}
-use Rattle.cilk_schedule.specs.Sound.{Runs}
-use Rattle.cilk_schedule_tests.proofs.chance.by_chance.Given as goal
-
-abbrev pub invariant-choices : goal.invariant-choices
-invariant-choices g l = l.machine.board.stopped ≡ None → Runs l.machine.code.now l.machine.input.now l.machine.board

@@ -1,0 +1,31 @@
+-- A frame goes on behind each child that it spawned, in each state that steps lead to.
+use Rattle.std.specs.Prelude.{◌≡◌, ◌⊎◌, true, ℤ, List, ◌∷◌, ◌++◌, Some, None}
+use Rattle.cilk_types.specs.declared.invocation.Invocation.TheVariants.{Spawn}
+use Rattle.cilk_program.specs.Syntax.{Source}
+use Rattle.cilk_runs.specs.Machine.{Frame, State, deeds_at}
+use Rattle.cilk_runs.specs.Progress.{GoesOn, HasEnded, child_after}
+use Rattle.cilk_runs.specs.Runs.{Name, Deed, Invokes}
+use Rattle.cilk_runs.specs.Reducers.{View}
+use Rattle.cilk_runs.specs.Steps.{IsFirst, OneStep, Reaches}
+use Rattle.cilk_runs.specs.Worlds.{World}
+use Rattle.cilk_scheduler.specs.declared.choice.Choice.{Choice}
+use Rattle.cilk_scheduler.specs.Desks.{Desk, Chooses, Comes}
+
+-- Each child that frame n spawned has ended, or the continuation beside it was stolen: the frame went on behind each.
+abbrev pub WentOnBehind : State World View → Name → List (Deed World) → Type 0
+WentOnBehind s n deeds = (before after : List (Deed World)) (what : World) → deeds ≡ before ++ Invokes Spawn what ∷ after → HasEnded World View s (child_after n before) ⊎ (s.stolen (child_after n before) ≡ true)
+
+-- So it is of each child that a frame spawned before its last deed, for each frame.
+abbrev pub HaveGoneOn : State World View → Type 0
+HaveGoneOn s =
+    (n : Name) (f : Frame World) → s.frames n ≡ Some f → (before after : List (Deed World)) (what : World) (d : Deed World) → f.deeds ≡ before ++ Invokes Spawn what ∷ d ∷ after
+    → HasEnded World View s (child_after n before) ⊎ (s.stolen (child_after n before) ≡ true)
+
+module _ (p : Source) (inputs : List ℤ) where
+  -- It is so in each state that steps lead to, and in each that a choice leads to; and a frame that goes on went on behind its last child too.
+  pub record FramesGoOnBehind : Type 0 where
+    pub opens : (s : State World View) → IsFirst p inputs s → HaveGoneOn s
+    pub keeps : (s s' : State World View) (n : Name) → HaveGoneOn s → OneStep p inputs s n s' → HaveGoneOn s'
+    pub reached : (ns : List Name) (s : State World View) → Reaches p inputs ns s → HaveGoneOn s
+    pub chosen : (s s' : State World View) (d d' : Desk) (c : Choice) (t : Comes) → s.stopped ≡ None → HaveGoneOn s → Chooses p inputs s d c t s' d' → HaveGoneOn s'
+    pub behind : (s : State World View) (n : Name) → HaveGoneOn s → GoesOn World View s n (deeds_at (s.frames n)) → WentOnBehind s n (deeds_at (s.frames n))

@@ -1,0 +1,119 @@
+-- A worker's frame starts another, by a call or a spawn: the board before and after, by numbers.
+use Rattle.std.specs.Prelude.{◌≡◌, ◌+◌, ◌-◌, ℕ, suc, ℤ, pos, List, [], ◌∷◌, ◌++◌, length, replicate, slice_get, Some}
+use Rattle.cilk_types.specs.declared.event.Event.{Event}
+use Rattle.cilk_types.specs.declared.invocation.Invocation.{Invocation}
+use Rattle.cilk_types.specs.declared.invocation.Invocation.TheVariants.{Call, Spawn}
+use Rattle.cilk_program.specs.SerialRun.{invocation}
+use Rattle.cilk_program.specs.Syntax.{Source}
+use Rattle.cilk_program.specs.declared.ask.Ask.TheVariants as asks
+use Rattle.cilk_program.specs.declared.ask.Callee.{Callee}
+use Rattle.cilk_lower.specs.Behaves.{Behaves}
+use Rattle.cilk_lower.specs.Code.{CodeView}
+use Rattle.cilk_lower.specs.Layout.{cells_in}
+use Rattle.cilk_frames.specs.declared.activation.Activation.{Activation}
+use Rattle.cilk_runs.specs.Machine.{State, deeds_at, started}
+use Rattle.cilk_runs.specs.Runs.{Name}
+use Rattle.cilk_runs.specs.Reducers.{View}
+use Rattle.cilk_runs.specs.Worlds.{World}
+use Rattle.cilk_scheduler.specs.declared.board.Board.{Board}
+use Rattle.cilk_scheduler.specs.declared.choice.Choice.TheVariants.{Run}
+use Rattle.cilk_scheduler.specs.declared.seat.Seat.{Seat}
+use Rattle.cilk_scheduler.specs.declared.seat.Status.{Status}
+use Rattle.cilk_scheduler.specs.declared.seat.Status.TheVariants.{Calling, Offered}
+use Rattle.cilk_scheduler.specs.declared.seat.Worker.{Worker}
+use Rattle.cilk_scheduler.specs.Acting.{IsShown}
+use Rattle.cilk_scheduler.specs.Boards.{ShowsBy}
+use Rattle.cilk_scheduler.specs.Desks.{Desk, Did, Chooses}
+use Rattle.cilk_scheduler.specs.Invoking.{IsChild}
+use Rattle.cilk_scheduler.specs.Ordinals.{AreCounted}
+use Rattle.cilk_scheduler.specs.Seats.{changed, counted, started_at}
+use Rattle.cilk_scheduler.specs.Starting.{named_at}
+use Rattle.cilk_scheduler.specs.Steps.{HasCome}
+use Rattle.cilk_scheduler.specs.Workers.{altered}
+
+-- where a frame is that has started another
+abbrev pub left_at : Invocation → ℕ → Status
+left_at Call w = Calling
+left_at Spawn w = Offered w
+
+-- what its worker offers then: after a spawn the frame's continuation too, as its newest
+abbrev pub offering : Invocation → ℕ → List ℕ → List ℕ
+offering Call k ks = ks
+offering Spawn k ks = ks ++ k ∷ []
+
+abbrev pub newly_offered : Invocation → ℕ
+newly_offered Call = 0
+newly_offered Spawn = 1
+
+-- the worker goes on with the frame at a place, and offers the continuation of the one that it had, at place k, where that spawned it
+abbrev pub HandsOver : Invocation → ℕ → ℕ → Worker → Worker → Type 0
+HandsOver how k place u v = (v.frame ≡ Some place) × (v.views ≡ u.views) × (let o = u.offered in let q = v.offered in q.items ≡ offering how k o.items)
+
+-- The frame at place k has gone on as this seat, and nothing else has changed.
+pub record HasGoneOn (b b' : Board) (k : ℕ) (came : Seat) : Type 0 where
+  pub frames : let f = b.frames in let g = b'.frames in g.items ≡ changed (λ _. came) f.items k
+  pub cells : let c = b.cells in let d = b'.cells in d.items ≡ c.items
+  pub workers : let l = b.workers in let m = b'.workers in m.items ≡ l.items
+  pub offered : b'.offered ≡ b.offered
+  pub journal : let e = b.journal in let l = b'.journal in l.items ≡ e.items
+  pub ticks : b'.ticks ≡ b.ticks
+  pub outcome : b'.outcome ≡ b.outcome
+
+-- A frame that the one at place k has started begins, with so many cells: worker w goes on with it, and the starter is elsewhere.
+pub record ChildBegins (b b' : Board) (w k : ℕ) (how : Invocation) (child : Activation Seat) (count : ℕ) : Type 0 where
+  pub before : Worker
+  pub after : Worker
+  pub at : let l = b.workers in slice_get l.items w ≡ Some before
+  pub hands : let f = b.frames in HandsOver how k (length f.items) before after
+  pub workers : let l = b.workers in let m = b'.workers in m.items ≡ altered (λ _. after) l.items w
+  pub frames : let f = b.frames in let g = b'.frames in g.items ≡ changed (started_at (left_at how w) (length f.items)) (f.items ++ child ∷ []) k
+  pub cells : let c = b.cells in let d = b'.cells in d.items ≡ c.items ++ replicate count (pos 0)
+  pub offered : b'.offered ≡ b.offered + newly_offered how
+  pub journal : let e = b.journal in let l = b'.journal in l.items ≡ e.items
+  pub ticks : b'.ticks ≡ b.ticks
+  pub outcome : b'.outcome ≡ b.outcome
+
+-- An event of the frame at place k is written down, its ticks are counted, and nothing else has changed.
+pub record IsNoted (b b' : Board) (k : ℕ) (event : Event) : Type 0 where
+  pub frames : let f = b.frames in let g = b'.frames in g.items ≡ changed counted f.items k
+  pub journal : let e = b.journal in let l = b'.journal in l.items ≡ e.items ++ (record { frame = k; event = event }) ∷ []
+  pub ticks : (a : Activation Seat) → (let f = b.frames in slice_get f.items k ≡ Some a) → b'.ticks ≡ b.ticks + (let x = a.cursor in x.took - x.counted)
+  pub cells : let c = b.cells in let d = b'.cells in d.items ≡ c.items
+  pub workers : let l = b.workers in let m = b'.workers in m.items ≡ l.items
+  pub offered : b'.offered ≡ b.offered
+  pub outcome : b'.outcome ≡ b.outcome
+
+module _ (code : CodeView) (p : Source) (inputs : List ℤ) where
+  -- Worker w has the frame at place k, which has come to an invocation. The new frame is the last then, with its cells behind all others, each 0;
+  -- the worker has it, with the views that it had.
+  pub record GoesToChild (b b' : Board) (w k : ℕ) (how : Invocation) (callee : Callee) (h : HasCome code p inputs b w k (asks.Invoke how callee)) : Type 0 where
+    pub child : Activation Seat
+    pub worker : Worker
+    pub is_child : let f = b.frames in let c = b.cells in IsChild code (changed (λ _. h.came) f.items k) k w (length c.items) how callee child
+    pub frames : let f = b.frames in let g = b'.frames in g.items ≡ changed (λ _. counted (started_at (left_at how w) (length f.items) h.came)) f.items k ++ child ∷ []
+    pub cells : let c = b.cells in let d = b'.cells in d.items ≡ c.items ++ replicate (cells_in code.layout callee) (pos 0)
+    pub has : let f = b.frames in worker.frame ≡ Some (length f.items)
+    pub views : let u = h.worker in worker.views ≡ u.views
+    pub offers : let u = h.worker in let o = u.offered in let q = worker.offered in q.items ≡ offering how k o.items
+    pub workers : let l = b.workers in let m = b'.workers in m.items ≡ altered (λ _. worker) l.items w
+    pub offered : b'.offered ≡ b.offered + newly_offered how
+    pub journal : let f = b.frames in let e = b.journal in let l = b'.journal in l.items ≡ e.items ++ (record { frame = k; event = invocation how (suc (length f.items)) }) ∷ []
+    pub ticks : let y = h.came in b'.ticks ≡ b.ticks + (y.took - y.counted)
+    pub outcome : b'.outcome ≡ b.outcome
+
+  -- So does a board where the frame has gone on, the other was made and begun, the event was written down and its ticks were counted, one after
+  -- the other.
+  abbrev pub InvocationsAreNoted : Type 0
+  InvocationsAreNoted =
+      (b went begun b' : Board) (w k : ℕ) (how : Invocation) (callee : Callee) (h : HasCome code p inputs b w k (asks.Invoke how callee)) (child : Activation Seat)
+      → HasGoneOn b went k h.came → (let f = went.frames in let c = went.cells in IsChild code f.items k w (length c.items) how callee child) → ChildBegins went begun w k how child (cells_in code.layout callee)
+      → IsNoted begun b' k (let f = went.frames in invocation how (suc (length f.items))) → GoesToChild b b' w k how callee h
+
+  -- A worker's frame that has come to an invocation starts the other: a step of the free machine, and the choice of that worker, by names. The
+  -- board shows what comes of it, by the names that it had and the new frame's.
+  abbrev pub InvocationsAreShown : Type 0
+  InvocationsAreShown =
+      (name : ℕ → Name) (b b' : Board) (d : Desk) (s : State World View) (w k : ℕ) (how : Invocation) (callee : Callee) → Behaves p code → IsShown code p inputs name b d s → AreCounted s.frames
+      → (h : HasCome code p inputs b w k (asks.Invoke how callee)) → GoesToChild b b' w k how callee h
+      → (s' : State World View) × (d' : Desk) × Chooses p inputs s d (Run (suc w)) Did s' d'
+      × (let f = b.frames in ShowsBy code p inputs (named_at name (length f.items) (name k ++ suc (started (deeds_at (s.frames (name k)))) ∷ [])) b' d' s')

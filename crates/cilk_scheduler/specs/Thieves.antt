@@ -1,0 +1,62 @@
+-- An idle worker takes a continuation: the board before and after, by numbers.
+use Rattle.std.specs.Prelude.{◌≡◌, ◌-◌, ℕ, suc, ℤ, List, slice_get, remove, Some, None}
+use Rattle.cilk_types.specs.declared.event.Instance.{Instance}
+use Rattle.cilk_program.specs.Syntax.{Source}
+use Rattle.cilk_lower.specs.Code.{CodeView}
+use Rattle.cilk_frames.specs.declared.activation.Activation.{Activation}
+use Rattle.cilk_hypermap.specs.Hypermap.{EachKind, view_in}
+use Rattle.cilk_hypermap.specs.declared.hypermap.Hypermap.{Hypermap}
+use Rattle.cilk_runs.specs.Machine.{State}
+use Rattle.cilk_runs.specs.Runs.{Name}
+use Rattle.cilk_runs.specs.Reducers.{View}
+use Rattle.cilk_runs.specs.Worlds.{World}
+use Rattle.cilk_scheduler.specs.declared.board.Board.{Board}
+use Rattle.cilk_scheduler.specs.declared.choice.Choice.TheVariants.{Steal}
+use Rattle.cilk_scheduler.specs.declared.seat.Seat.{Seat}
+use Rattle.cilk_scheduler.specs.declared.seat.Status.TheVariants.{Held}
+use Rattle.cilk_scheduler.specs.declared.seat.Worker.{Worker}
+use Rattle.cilk_scheduler.specs.Boards.{ShowsBy}
+use Rattle.cilk_scheduler.specs.Desks.{Desk, Stole, Chooses}
+use Rattle.cilk_scheduler.specs.Events.{AwaitsLast}
+use Rattle.cilk_scheduler.specs.Seats.{changed, moved_to, robbed}
+use Rattle.cilk_scheduler.specs.Workers.{altered, holding, offers}
+
+-- Worker w is idle. The frame at place k offers the continuation at this place among all, by this worker at this place of his list.
+pub record IsOffered (b : Board) (w place k : ℕ) : Type 0 where
+  pub thief : Worker
+  pub owner : Worker
+  pub victim : ℕ
+  pub at : ℕ
+  pub seat : Activation Seat
+  pub idles : let l = b.workers in slice_get l.items w ≡ Some thief
+  pub free : thief.frame ≡ None
+  pub owns : let l = b.workers in slice_get l.items victim ≡ Some owner
+  pub stands : let o = owner.offered in slice_get o.items at ≡ Some k
+  pub is_place : let l = b.workers in slice_get (offers l.items) place ≡ Some k
+  pub sits : let f = b.frames in slice_get f.items k ≡ Some seat
+  pub was_open : b.outcome ≡ None
+
+-- The worker has the frame then, with no views; its last child is marked, and that child's piece is awaited at its block.
+pub record TakesOver (b b' : Board) (w place k : ℕ) (h : IsOffered b w place k) : Type 0 where
+  pub awaiting : Seat
+  pub awaits : let a = h.seat in AwaitsLast a.cursor awaiting
+  pub without : Worker
+  pub same_frame : let u = h.owner in without.frame ≡ u.frame
+  pub same_views : let u = h.owner in without.views ≡ u.views
+  pub withdrawn : let u = h.owner in let o = u.offered in let l = without.offered in l.items ≡ remove o.items h.at
+  pub views : Hypermap
+  pub empty : EachKind (λ q. (j : Instance) → view_in views q j ≡ None)
+  pub frames : let a = h.seat in let x = a.cursor in let f = b.frames in let g = b'.frames in g.items ≡ changed (moved_to (Held w)) (changed robbed (changed (λ _. awaiting) f.items k) x.last) k
+  pub workers : let l = b.workers in let m = b'.workers in m.items ≡ altered (holding k views) (altered (λ _. without) l.items h.victim) w
+  pub offered : b'.offered ≡ b.offered - 1
+  pub cells : let c = b.cells in let d = b'.cells in d.items ≡ c.items
+  pub journal : let e = b.journal in let l = b'.journal in l.items ≡ e.items
+  pub ticks : b'.ticks ≡ b.ticks
+  pub outcome : b'.outcome ≡ b.outcome
+
+module _ (code : CodeView) (p : Source) (inputs : List ℤ) where
+  -- A thief's choice is a step of the free machine from a state that the board shows, and the board shows what comes of it.
+  abbrev pub StealsAreShown : Type 0
+  StealsAreShown =
+      (name : ℕ → Name) (b b' : Board) (d : Desk) (s : State World View) (w place k : ℕ) → ShowsBy code p inputs name b d s → (h : IsOffered b w place k) → TakesOver b b' w place k h
+      → (s' : State World View) × (d' : Desk) × Chooses p inputs s d (Steal (suc w) place) Stole s' d' × ShowsBy code p inputs name b' d' s'

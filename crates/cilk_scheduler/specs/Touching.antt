@@ -1,0 +1,111 @@
+-- An event of a worker's frame that starts and ends no frame: it leaves the frame's block as it is, or it is a sync, which begins another.
+use Rattle.std.specs.Prelude.{◌≡◌, ◌+◌, ℕ, Bool, true, false, cond, ℤ, List, [], ◌∷◌, ◌++◌, length, slice_get, Some, None}
+use Rattle.cilk_types.specs.declared.event.Instance as numbered
+use Rattle.cilk_monoid.specs.declared.kind.MonoidKind.{MonoidKind}
+use Rattle.cilk_program.specs.Syntax.{Source}
+use Rattle.cilk_lower.specs.Code.{CodeView}
+use Rattle.cilk_frames.specs.Cursor.{CursorView}
+use Rattle.cilk_frames.specs.declared.cursor.Answer.{Answer}
+use Rattle.cilk_frames.specs.declared.activation.Activation.{Activation}
+use Rattle.cilk_hypermap.specs.Hypermap.{value_in}
+use Rattle.cilk_hypermap.specs.declared.hypermap.Hypermap.{Hypermap}
+use Rattle.cilk_runs.specs.Costs.{TickTotal, EventTotal, FrameTotal, CellTotal}
+use Rattle.cilk_runs.specs.Machine.{Frame, State, after_deed, joined_by, strands}
+use Rattle.cilk_runs.specs.Monoids.{unit_of}
+use Rattle.cilk_runs.specs.Runs.{Name, same_name, Cell, Own, Instance, Reducer, Event, Reads, Writes, Syncs, Ends, Passes, Sync, Deed, Does}
+use Rattle.cilk_runs.specs.KeptWorld.{IsTold}
+use Rattle.cilk_runs.specs.WorldMachine.{has_ended, taken}
+use Rattle.cilk_runs.specs.Reducers.{View, kind_of, monoid_of}
+use Rattle.cilk_runs.specs.WorldViews.{IsViewOf}
+use Rattle.cilk_runs.specs.Worlds.{World}
+use Rattle.cilk_scheduler.specs.declared.board.Board.{Board}
+use Rattle.cilk_scheduler.specs.declared.seat.Due.TheVariants as due
+use Rattle.cilk_scheduler.specs.declared.seat.JournalEntry.{JournalEntry}
+use Rattle.cilk_scheduler.specs.declared.seat.Seat.{Seat}
+use Rattle.cilk_scheduler.specs.declared.seat.Worker.{Worker}
+use Rattle.cilk_scheduler.specs.Boards.{IsBare, ShowsBy}
+use Rattle.cilk_scheduler.specs.Desks.{Desk}
+use Rattle.cilk_scheduler.specs.Numbered.{IsAbsent, IsCell, IsInstance, IsDeed}
+use Rattle.cilk_scheduler.specs.Seats.{changed}
+use Rattle.cilk_scheduler.specs.Workers.{viewing}
+
+-- the event is no sync and no end
+abbrev pub IsPlain : Event → Type 0
+IsPlain (Reads c v) = Unit {0}
+IsPlain (Writes c v) = Unit {0}
+IsPlain Syncs = ⊥
+IsPlain (Ends v gone) = ⊥
+IsPlain (Passes m) = Unit {0}
+
+-- an event that leaves the frame's block as it is, or a sync
+abbrev pub IsInBlock : Bool → Event → Type 0
+IsInBlock true e = IsPlain e
+IsInBlock false e = e ≡ Syncs
+
+-- the children that enter the joins with it
+abbrev pub joined_with : Bool → Name → List (Deed World) → List Name
+joined_with true n deeds = []
+joined_with false n deeds = joined_by {W = World} Sync n deeds
+
+-- the frame has begun so many strands, took so many ticks, which are counted, and goes on with this answer, in the same block or in another
+abbrev pub touched : Bool → ℕ → ℕ → CursorView → Answer → Seat → Seat
+touched same begun took c a x = record x { strands = begun; took = took; counted = took; due = due.Answer a; cursor = Some c; join = cond same x.join None; merged = cond same x.merged false }
+
+module _ (code : CodeView) (p : Source) (inputs : List ℤ) where
+  module _ (name : ℕ → Name) (b b' : Board) (s s' : State World View) where
+    -- Worker w's frame, at place k, makes this event: what it leaves of the state and of the board.
+    pub record Touches (w k : ℕ) (e : Event) (entry : JournalEntry) : Type 0 where
+      pub worker : Worker
+      pub seat : Activation Seat
+      pub frame : Frame World
+      -- The worker has the frame, which goes on; its block hasn't passed, unless it begins another.
+      pub at : let l = b.workers in slice_get l.items w ≡ Some worker
+      pub has : worker.frame ≡ Some k
+      pub sits : let f = b.frames in slice_get f.items k ≡ Some seat
+      pub here : s.frames (name k) ≡ Some frame
+      pub same_block : Bool
+      pub unmerged : same_block ≡ true → let x = seat.cursor in x.merged ≡ false
+      pub goes : has_ended frame.deeds ≡ false
+      pub is_plain : IsInBlock same_block e
+      -- The frame has one more deed; flags stay, and so does each other frame's piece; a sync's children enter the joins.
+      pub frames : s'.frames ≡ after_deed s.frames (name k) frame (Does e)
+      pub stolen : s'.stolen ≡ s.stolen
+      pub joins : s'.joins ≡ joined_with same_block (name k) frame.deeds ++ s.joins
+      pub running : s'.stopped ≡ s.stopped
+      pub others : (i : Instance) (m : Name) → same_name (name k) m ≡ false → s'.piece m i ≡ s.piece m i
+      -- Its cursor waits for an answer, and its ticks and strands are counted.
+      pub begun : ℕ
+      pub took : ℕ
+      pub cursor : CursorView
+      pub answer : Answer
+      pub seats_are : let f = b'.frames in let g = b.frames in f.items ≡ changed (touched same_block begun took cursor answer) g.items k
+      pub told : IsTold code p inputs frame.what (frame.deeds ++ Does e ∷ []) cursor answer took
+      pub took_is : took ≡ taken p inputs frame.what frame.deeds
+      pub strands_are : strands (frame.deeds ++ Does e ∷ []) ≡ begun
+      -- The event is written down.
+      pub written : let l = b'.journal in let j = b.journal in l.items ≡ j.items ++ entry ∷ []
+      pub by_frame : entry.frame ≡ k
+      pub means : let f = b.frames in IsDeed p f.items name s k (Does e) entry.event
+      -- The cells are the state's.
+      pub cells : let l = b'.cells in let m = b.cells in length l.items ≡ length m.items
+      pub memory : let f = b.frames in (c : Cell) (n : ℕ) → IsCell p f.items name s c n → let l = b'.cells in slice_get l.items n ≡ Some (s'.memory c)
+      pub unwritten : let f = b.frames in (n : Name) (q : ℕ) → IsAbsent f.items name n → s'.memory (Own n q) ≡ s.memory (Own n q)
+      -- The worker's views are the frame's piece.
+      pub views : Hypermap
+      pub workers_are : let l = b'.workers in let m = b.workers in l.items ≡ viewing views m.items w
+      pub views_are : let f = b.frames in (i : Instance) (j : numbered.Instance) → IsInstance p f.items name i j → IsViewOf (kind_of i) (s'.piece (name k) i) (value_in views (kind_of i) j)
+      pub bare_views : let f = b.frames in IsBare (length f.items) (value_in views)
+      pub bare : let f = b.frames in (n : Name) (q : ℕ) (kind : MonoidKind) → IsAbsent f.items name n → s'.piece (name k) (Reducer n q kind) ≡ unit_of monoid_of (Reducer n q kind)
+      pub offered : b'.offered ≡ b.offered
+      pub was_open : b.outcome ≡ None
+      pub is_open : b'.outcome ≡ None
+      -- What is counted.
+      pub ticks : s'.totals TickTotal ≡ b'.ticks
+      pub events : s'.totals EventTotal ≡ s.totals EventTotal + 1
+      pub frame_total : s'.totals FrameTotal ≡ s.totals FrameTotal
+      pub cell_total : s'.totals CellTotal ≡ s.totals CellTotal
+
+  -- A board that shows a state shows the next one after such an event, by the same names and with the same desk.
+  abbrev pub TouchesAreShown : Type 0
+  TouchesAreShown =
+      (name : ℕ → Name) (b b' : Board) (d : Desk) (s s' : State World View) (w k : ℕ) (e : Event) (entry : JournalEntry) → ShowsBy code p inputs name b d s → Touches name b b' s s' w k e entry → ShowsBy code p inputs name b' d s'

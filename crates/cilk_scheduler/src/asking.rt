@@ -1,0 +1,120 @@
+//! How a frame comes to what it asks for next, and what stands in its place.
+
+ghost use Rattle.std.specs.Prelude.{◌≡◌, ◌+◌, ◌<◌, ◌^◌, IfSome, None, Option, Some, length, slice_get};
+ghost use Rattle.cilk_frames.specs.declared.activation.Activation.{Activation};
+ghost use Rattle.cilk_program.specs.declared.ask.Ask.TheVariants as asks;
+ghost use Rattle.cilk_types.specs.declared.fault.Fault.{Fault};
+ghost use Rattle.cilk_scheduler.specs.declared.seat.Seat.{Seat};
+ghost use Rattle.cilk_scheduler.specs.Asking.{IsReady, WentOn, cells_asked, crowded, own_fault, refusal};
+ghost use Rattle.cilk_scheduler.specs.Seats.{changed};
+
+use crate::seat::{Due, Seat};
+use cilk_frames::activation::Activation;
+use cilk_frames::asked::AskSlot;
+use cilk_frames::brief::Brief;
+use cilk_frames::stepping::step_into;
+use cilk_lower::code::Code;
+use cilk_lower::layout::Layout;
+use cilk_types::fault::Fault;
+use cilk_types::input::Input;
+use cilk_types::limits::{MAX_CELLS, MAX_EVENTS, MAX_FRAMES, MAX_TICKS};
+
+/// The frame at a place goes on to what it asks for next. It takes ticks as if it had all those of a run but those that it took
+/// itself.
+pub fn go_on(
+    code: &Code,
+    input: &Input,
+    frames: &mut Vec<Activation<Seat>>,
+    frame: usize,
+    asked: &mut AskSlot,
+)
+    requires here { frame < length frames.old.items }
+    requires ready { (a : Activation Seat) → slice_get frames.old.items frame ≡ Some a → IsReady code.now input.now a.cursor }
+    ensures { (a : Activation Seat) → slice_get frames.old.items frame ≡ Some a → (x : Seat) × WentOn code.now input.now a.cursor asked.new x × (frames.new.items ≡ changed (λ _. x) frames.old.items frame) }
+{
+    advance(code, input, &mut frames[frame].cursor, asked);
+}
+
+// The same of what is kept of a frame.
+fn advance(code: &Code, input: &Input, seat: &mut Seat, asked: &mut AskSlot)
+    requires { IsReady code.now input.now seat.old }
+    ensures { WentOn code.now input.now seat.old asked.new seat.new }
+{
+    match seat.due {
+        Due::Begin => asked.put(Brief::Begin),
+        Due::Sync => asked.put(Brief::Sync),
+        Due::Answer(answer) => {
+            let Some(cursor) = &mut seat.cursor else {
+                unreachable!()
+            };
+            let mut left = MAX_TICKS - seat.took;
+            step_into(code, input, cursor, answer, &mut left, asked);
+            seat.took = MAX_TICKS - left;
+        }
+    }
+}
+
+/// How many cells the frame has that is asked for, if one is.
+pub fn cells_asked(layout: &Layout, asked: &AskSlot) -> Option<u32>
+    ensures { result ≡ cells_asked layout.now asked.now }
+{
+    match asked.brief() {
+        None => Some(layout.function_cells(asked.invocation().1.function)),
+        Some(Brief::Turns(_, part)) => Some(layout.part_cells(part)),
+        Some(_) => None,
+    }
+}
+
+/// The fault that stands in place of what is asked for, where so many ticks would be counted, and so many events, frames and
+/// cells are: too many ticks before the frame's own fault, before too many events, frames, cells.
+pub fn refusal(
+    ticks: u32,
+    events: usize,
+    frames: usize,
+    cells: usize,
+    layout: &Layout,
+    asked: &AskSlot,
+) -> Option<Fault>
+    requires events { events < 2 ^ 63 }
+    requires frames { frames < 2 ^ 63 }
+    requires cells { cells < 2 ^ 63 }
+    ensures { result ≡ refusal ticks events frames cells layout.now asked.now }
+{
+    if ticks > MAX_TICKS {
+        return Some(Fault::TooManyEvents);
+    }
+    if let Some(fault) = own_fault(asked) {
+        return Some(fault);
+    }
+    if events + 1 > MAX_EVENTS as usize {
+        return Some(Fault::TooManyEvents);
+    }
+    crowded(frames, cells, cells_asked(layout, asked))
+}
+
+// The frame's own fault.
+fn own_fault(asked: &AskSlot) -> Option<Fault>
+    ensures some { IfSome result (λ f. asked.now ≡ asks.Fault f) }
+    ensures none { result ≡ None → (other : Option Fault) → own_fault asked.now other ≡ other }
+{
+    match asked.brief() {
+        Some(Brief::Fault(fault)) => Some(*fault),
+        _ => None,
+    }
+}
+
+// One more frame, with so many cells, is one too many, or its cells are.
+fn crowded(frames: usize, cells: usize, child: Option<u32>) -> Option<Fault>
+    requires frames { frames < 2 ^ 63 }
+    requires cells { cells < 2 ^ 63 }
+    ensures { result ≡ crowded frames cells child }
+{
+    let count = child?;
+    if frames + 1 > MAX_FRAMES as usize {
+        return Some(Fault::TooManyFrames);
+    }
+    if cells + count as usize > MAX_CELLS as usize {
+        return Some(Fault::TooManyCells);
+    }
+    None
+}

@@ -1,0 +1,95 @@
+//! A frame that another starts begins.
+
+ghost use Rattle.std.specs.Prelude.{◌≡◌, ◌+◌, ◌<◌, ◌^◌, ◌++◌, suc, pos, Some, length, replicate, slice_get, IfOk, OnErr, OnOk, ℤ, List};
+ghost use Rattle.cilk_program.specs.SerialRun.{invocation};
+ghost use Rattle.cilk_program.specs.Syntax.{Source};
+ghost use Rattle.cilk_lower.specs.Code.{CodeView};
+ghost use Rattle.cilk_frames.specs.declared.activation.Activation.{Activation};
+ghost use Rattle.cilk_scheduler.specs.declared.seat.Seat.{Seat};
+ghost use Rattle.cilk_scheduler.specs.Invocations.{ChildBegins, InvocationsAreNoted, offering};
+
+use crate::board::Board;
+use crate::seat::{Seat, Status, Worker};
+use crate::seats::start;
+use cilk_frames::activation::Activation;
+use cilk_types::event::Event;
+use cilk_types::invocation::Invocation;
+use std::alloc::AllocError;
+
+/// So many cells more, which hold 0.
+pub fn add_cells(cells: &mut Vec<i64>, count: u32) -> Result<(), AllocError>
+    ensures { OnOk result (cells.new.items ≡ cells.old.items ++ replicate count (pos 0)) }
+{
+    'each: for _ in 0..count {
+        cells.push(0)?;
+    }
+    Ok(())
+}
+
+/// The worker offers the continuation of a frame that starts a child, its newest, where that is a spawn.
+pub fn offer(own: &mut Worker, how: Invocation, frame: u32, child: u32) -> Result<(), AllocError>
+    ensures offers { OnOk result (own.new.offered.items ≡ offering how frame own.old.offered.items) }
+    ensures frame { own.new.frame ≡ own.old.frame }
+    ensures views { own.new.views ≡ own.old.views }
+{
+    match how {
+        Invocation::Call => Ok(()),
+        Invocation::Spawn => {
+            own.offered.push(frame, child)?;
+            Ok(())
+        }
+    }
+}
+
+/// The frame begins that the one at the place of the list has started, with so many cells: the worker goes on with it, and the starter
+/// waits for it or offers its continuation. The event, which is still to be written down. Where memory is refused, frames, journal,
+/// ticks, outcome and stop are as they were.
+pub fn begin(
+    board: &mut Board,
+    worker: u32,
+    frame: u32,
+    how: Invocation,
+    child: Activation<Seat>,
+    count: u32,
+) -> Result<Event, AllocError>
+    requires here { frame < length board.old.frames.items }
+    requires works { worker < length board.old.workers.items }
+    requires few { length board.old.frames.items < 65536 }
+    requires children { (top : Activation Seat) → slice_get board.old.frames.items frame ≡ Some top → top.cursor.children < 2 ^ 31 }
+    requires offered { board.old.offered < 2 ^ 31 }
+    ensures event { IfOk result (λ e. e ≡ invocation how (suc (length board.old.frames.items))) }
+    ensures begins { OnOk result (ChildBegins board.old board.new worker frame how child count) }
+    ensures frames { OnErr result (board.new.frames.items ≡ board.old.frames.items) }
+    ensures journal { board.new.journal ≡ board.old.journal }
+    ensures ticks { board.new.ticks ≡ board.old.ticks }
+    ensures outcome { board.new.outcome ≡ board.old.outcome }
+    ensures stopped { board.new.stopped ≡ board.old.stopped }
+{
+    let place = board.frames.len() as u32;
+    offer(&mut board.workers[worker as usize], how, frame, place)?;
+    add_cells(&mut board.cells, count)?;
+    board.frames.push(child)?;
+    board.workers[worker as usize].frame = Some(place);
+    match how {
+        Invocation::Call => {
+            start(&mut board.frames, frame as usize, place, Status::Calling);
+            Ok(Event::Call { child: place + 1 })
+        }
+        Invocation::Spawn => {
+            start(
+                &mut board.frames,
+                frame as usize,
+                place,
+                Status::Offered(worker),
+            );
+            board.offered += 1;
+            Ok(Event::Spawn { child: place + 1 })
+        }
+    }
+}
+
+/// A worker's frame that has gone on to an invocation, where the other was made and begun, and where the event was written down and its ticks
+/// were counted, has started the other as the law of invocations wants it.
+pub fn invocations_are_noted()
+    ensures { (code : CodeView) (p : Source) (inputs : List ℤ) → InvocationsAreNoted code p inputs }
+{}

@@ -1,0 +1,69 @@
+//! A frame that ends.
+
+ghost use Rattle.std.specs.Prelude.{◌≡◌, ◌<◌, ◌≤◌, ℕ, false, Some, length, IfOk};
+ghost use Rattle.cilk_join.specs.Joins.{MayArrive};
+ghost use Rattle.cilk_join.specs.Waits.{shown};
+ghost use Rattle.cilk_scheduler.specs.declared.seat.Status.TheVariants.{Offered};
+ghost use Rattle.cilk_scheduler.specs.EndParts.{Brings, Seeks};
+ghost use Rattle.cilk_scheduler.specs.Ending.{RetiresOwn, created_by};
+
+use crate::arriving::arrive;
+use crate::offers::withdraw;
+use crate::own_reducers::retire;
+use crate::seat::{Seat, Status, Worker};
+use cilk_frames::activation::Activation;
+use cilk_hypermap::hypermap::Hypermap;
+use cilk_lower::layout::Layout;
+use std::alloc::{AllocError, Global};
+
+/// The views lose the reducers that a frame made for itself.
+pub fn retire_own(layout: &Layout, top: &Activation<Seat>, views: &mut Hypermap)
+    requires low { top.now.first < 65536 }
+    requires few { length (created_by layout.now top.now.creator) ≤ 64 }
+    ensures { RetiresOwn layout.now top.now views.old views.new }
+{
+    let Some(creator) = top.creator else { return };
+    let kinds = layout.function_reducers(creator);
+    retire(views, top.number, top.first, kinds);
+}
+
+/// The continuation of the frame at a place, which is where its status says, is no longer offered. How many are offered then.
+pub fn take_back(
+    workers: &mut Vec<Worker>,
+    frames: &[Activation<Seat>],
+    offered: usize,
+    status: Status,
+    frame: u32,
+) -> usize
+    requires { (v : ℕ) → status ≡ Offered v → v < length workers.old.items }
+    ensures { Seeks frame status workers.old.items workers.new.items offered result }
+{
+    match status {
+        Status::Offered(other) => {
+            if withdraw(&mut workers[other as usize].offered, frames, frame) {
+                offered.saturating_sub(1)
+            } else {
+                offered
+            }
+        }
+        _ => offered,
+    }
+}
+
+/// These views arrive with this key at the block of a frame, where its piece may come. Whether the block passes: then they are the whole
+/// block's. Where memory is refused, they are lost.
+pub fn bring(
+    alloc: Global,
+    seat: &mut Seat,
+    views: &mut Hypermap,
+    key: u32,
+) -> Result<bool, AllocError>
+    requires { (l : _) × (seat.old.join ≡ Some l) × MayArrive (shown l.value) key false }
+    ensures brings { IfOk result (λ passes. Brings seat.old key views.old passes seat.new views.new) }
+    ensures same { seat.new ≡ record seat.old { join = seat.new.join } }
+{
+    match &mut seat.join {
+        Some(join) => arrive(alloc, join, views, key, false),
+        None => unreachable!(),
+    }
+}

@@ -1,0 +1,79 @@
+//! Frames that others start.
+
+ghost use Rattle.std.specs.Prelude.{◌≡◌, ◌<◌, ◌^◌, ◌≤◌, ℕ, Some, length, slice_get, IfOk};
+ghost use Rattle.cilk_types.specs.declared.event.Instance.{Instance};
+ghost use Rattle.cilk_program.specs.Scopes.{Scope};
+ghost use Rattle.cilk_program.specs.declared.ask.Callee.TheVariants as callees;
+ghost use Rattle.cilk_frames.specs.Sight.{AreSmall, ResultFits};
+ghost use Rattle.cilk_frames.specs.declared.activation.Activation.{Activation};
+ghost use Rattle.cilk_scheduler.specs.declared.seat.Seat.{Seat};
+ghost use Rattle.cilk_scheduler.specs.Events.{SeesAt};
+ghost use Rattle.cilk_scheduler.specs.Invoking.{IsChild};
+
+use crate::seat::Seat;
+use cilk_frames::activation::Activation;
+use cilk_frames::beginnings::{function, turns};
+use cilk_frames::cursor::Cursor;
+use cilk_lower::code::Code;
+use cilk_program::ask::{FunctionCall, LoopPart};
+use cilk_types::event::Cell;
+use cilk_types::invocation::Invocation;
+use std::alloc::{AllocError, Global};
+
+/// Who starts a frame: the place of the frame that does, and the worker that has it; and where the new frame's cells begin.
+#[derive(Clone, Copy)]
+pub struct Starter {
+    pub frame: u32,
+    pub worker: u32,
+    pub base: Cell,
+}
+
+/// The frame of a function.
+pub fn function_child(
+    alloc: Global,
+    code: &Code,
+    frames: &[Activation<Seat>],
+    starter: Starter,
+    how: Invocation,
+    call: &FunctionCall,
+) -> Result<Activation<Seat>, AllocError>
+    requires here { starter.frame < length frames.now }
+    requires few { length frames.now < 65536 }
+    requires children { (top : Activation Seat) → slice_get frames.now starter.frame ≡ Some top → top.cursor.children < 2 ^ 31 }
+    requires sees { (scope : Scope ℕ Instance) × SeesAt frames.now starter.frame scope × AreSmall call.now.reducers × ResultFits scope call.now.result }
+    ensures { IfOk result (λ a. IsChild code.now frames.now starter.frame starter.worker starter.base how (callees.Function call.now) a) }
+{
+    let here = starter.frame as usize;
+    let top = &frames[here];
+    let number = frames.len() as u32 + 1;
+    let cursor = Cursor::function(alloc, code, call)?;
+    let ordinal = top.cursor.children + 1;
+    let seat = Seat::new(starter.frame, ordinal, how, starter.worker, cursor);
+    let child = function(alloc, seat, number, starter.base, frames, top, call)?;
+    Ok(child)
+}
+
+/// The frame of some turns of a loop.
+pub fn turns_child(
+    alloc: Global,
+    code: &Code,
+    frames: &[Activation<Seat>],
+    starter: Starter,
+    how: Invocation,
+    part: &LoopPart,
+) -> Result<Activation<Seat>, AllocError>
+    requires here { starter.frame < length frames.now }
+    requires few { length frames.now < 65536 }
+    requires children { (top : Activation Seat) → slice_get frames.now starter.frame ≡ Some top → top.cursor.children < 2 ^ 31 }
+    requires up { part.now.up ≤ 1 }
+    ensures { IfOk result (λ a. IsChild code.now frames.now starter.frame starter.worker starter.base how (callees.Loop part.now) a) }
+{
+    let here = starter.frame as usize;
+    let top = &frames[here];
+    let number = frames.len() as u32 + 1;
+    let cursor = Cursor::turns(alloc, code, part)?;
+    let ordinal = top.cursor.children + 1;
+    let seat = Seat::new(starter.frame, ordinal, how, starter.worker, cursor);
+    let child = turns(alloc, seat, number, starter.base, here, top, part);
+    Ok(child)
+}

@@ -1,0 +1,39 @@
+//! Continuations that are offered, by all workers.
+
+ghost use Rattle.std.specs.Prelude.{◌≡◌, ℕ, None, slice_get, MatchOption};
+ghost use Rattle.cilk_scheduler.specs.Workers.{IsLocated, offers};
+ghost use Rattle.cilk_scheduler.specs.OfferLists.{Withdraws};
+
+use crate::seat::{Seat, Worker};
+use cilk_frames::activation::Activation;
+use crate::offer_list::Offers;
+
+/// The worker that offers the continuation at a place among all, and its place in that worker's list; none behind the last.
+pub fn locate(workers: &[Worker], place: usize) -> Option<(usize, usize)>
+    ensures { MatchOption result (slice_get (offers workers.now) place ≡ None) (λ at. IsLocated workers.now place at.0 at.1) }
+{
+    let mut rest = place;
+    'each: for victim in 0..workers.len() {
+        let count = workers[victim].offered.len();
+        if rest < count {
+            return Some((victim, rest));
+        }
+        rest -= count;
+    }
+    None
+}
+
+/// A frame that stands beside its last child goes from a list. Whether it was there.
+pub fn withdraw(offered: &mut Offers, frames: &[Activation<Seat>], frame: u32) -> bool
+    ensures { Withdraws offered.old.items frame result offered.new.items }
+{
+    offered.withdraw(frame, last_child(frames, frame))
+}
+
+// The place of the last child of a frame, as far as there is one.
+fn last_child(frames: &[Activation<Seat>], frame: u32) -> u32 {
+    match frames.get(frame as usize) {
+        Some(frame) => frame.cursor.last,
+        None => 0,
+    }
+}

@@ -1,5 +1,0 @@
-use Rattle.cilk_settling.proofs.Settled.{runs_settled}
-use Rattle.cilk_settling.proofs.laws.race_free_runs_are_settled.Goals as goal
-
-pub returns : goal.returns
-returns c = runs_settled

@@ -1,5 +1,0 @@
-use Rattle.cilk_settling.proofs.Lasting.{whole_last}
-use Rattle.cilk_settling.proofs.laws.whole_views_are_last.Goals as goal
-
-pub returns : goal.returns
-returns c = whole_last

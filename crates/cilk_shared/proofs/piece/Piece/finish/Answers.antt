@@ -1,0 +1,24 @@
+use Rattle.std.proofs.Common.{◌≡◌, sym, ap, ◌∙◌, subst}
+use Rattle.cilk_tree.specs.Frames.{IsInFrame}
+use Rattle.cilk_shared.specs.Values.{NextFinish}
+use Rattle.cilk_tree.specs.declared.story.Story.{Story}
+use Rattle.cilk_tree.specs.Orders.{IsOrderly}
+use Rattle.cilk_tree.specs.Word.{what, event, after, finish, IsLine}
+use Rattle.cilk_shared.specs.Pieces.{PieceValue, IsPieceOf, segment_of}
+use Rattle.cilk_shared.proofs.Covering.{of_piece, covers_end, behind_line}
+use Rattle.cilk_shared.proofs.Quiet.{finish_event}
+use Rattle.cilk_shared.proofs.piece.Piece.finish.Goals as goal
+
+pub invariant_of-self : goal.invariant_of-self
+invariant_of-self c =
+    let y = c.args.yard.now in
+    let g = c.self.inside.segment in
+    let r = c.self.inside.reducers.value in
+    let of = of_piece (IsPieceOf y) c.self.view_is c.requires.yard in
+    let next = of_piece (λ (p : PieceValue). NextFinish y (segment_of p)) c.self.view_is c.requires.next in
+    let law : IsOrderly g.story = subst IsOrderly (sym of.1) c.laws.ensures.order in
+    let is : what g.story g.upto ≡ finish = ap (λ (z : Story). what z g.upto) of.1 ∙ next.1 in
+    let mine = of_piece (λ (p : PieceValue). IsInFrame p.story.events p.upto c.args.root) c.self.view_is c.requires.root in
+    let same = of_piece (λ (p : PieceValue). c.args.reducers.now ≡ p.reducers) c.self.view_is c.requires.reducers.0 in
+    covers_end c.self.inside.views c.retire_own.new.views r g c.self.invariant next.0.0 (behind_line g.story law g.from g.upto next.0.0 (subst IsLine (sym is) tt))
+    (finish_event g.story.events g.upto (event g.story g.upto) (after g.story g.upto) is) c.args.root mine c.args.reducers.now same c.retire_own.ensures _ c.finish.ensures

@@ -1,0 +1,17 @@
+use Rattle.std.proofs.Common.{subst, sym}
+use Rattle.cilk_shared.specs.Values.{NextRead}
+use Rattle.cilk_tree.specs.Word.{event, after, IsLine}
+use Rattle.cilk_tree.proofs.Events.{read_what}
+use Rattle.cilk_shared.specs.Pieces.{PieceValue, IsPieceOf, segment_of}
+use Rattle.cilk_shared.proofs.Covering.{of_piece, covers_line}
+use Rattle.cilk_shared.proofs.Quiet.{quiet_read}
+use Rattle.cilk_shared.proofs.piece.Piece.load.Goals as goal
+
+pub invariant_of-self : goal.invariant_of-self
+invariant_of-self c =
+    let y = c.args.yard.now in
+    let g = c.self.inside.segment in
+    let r = c.self.inside.reducers.value in
+    let of = of_piece (IsPieceOf y) c.self.view_is c.requires.yard in
+    let next = of_piece (λ (p : PieceValue). NextRead y (segment_of p) c.args.cell) c.self.view_is c.requires.next in
+    covers_line y c.laws.ensures.order c.self.inside.views r g of c.self.invariant next.0.0 (subst IsLine (sym (read_what y.story.events g.upto (event y.story g.upto) (after y.story g.upto) c.args.cell next.2.0 next.2.1)) tt) (quiet_read y.story r g.upto c.args.cell next.2.0 next.2.1) _ c.load.ensures.segment

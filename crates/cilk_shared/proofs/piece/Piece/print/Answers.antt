@@ -1,0 +1,32 @@
+use Rattle.std.proofs.Common.{◌∙◌, refl, ap}
+use Rattle.std.specs.Int.{w64}
+use Rattle.std.proofs.lemmas.Int.{to_z-of_z}
+use Rattle.cilk_types.specs.declared.event.Event.TheVariants as events
+use Rattle.cilk_monoid.specs.Kinds.{structure_of}
+use Rattle.cilk_monoid.specs.Ranges.{Updated}
+use Rattle.cilk_monoid.specs.declared.kind.MonoidKind.TheVariants.{Append}
+use Rattle.cilk_hypermap.specs.Hypermap.{value_in}
+use Rattle.cilk_hypermap.specs.Views.{output}
+use Rattle.cilk_shared.specs.Pieces.{PieceValue, PassesOn}
+use Rattle.cilk_shared.specs.Reducers.{kind_in, events_over, frame_in, of_event}
+use Rattle.cilk_shared.proofs.Covering.{of_piece, covers_event, covers_kept, after_updated}
+use Rattle.cilk_shared.proofs.Shown.{shows_kept}
+use Rattle.cilk_shared.proofs.piece.Piece.print.Goals as goal
+
+pub pass-requires-clause-next : goal.pass-requires-clause-next
+pass-requires-clause-next c = (of_piece (λ (p : PieceValue). PassesOn p (events.Print c.args.value)) c.self.view_is c.requires.next).0
+
+pub invariant_of-self : goal.invariant_of-self
+invariant_of-self c =
+    let g = c.self.inside.segment in
+    let r = c.self.inside.reducers.value in
+    covers_kept r c.self.inside.views c.print.new.self g (shows_kept (kind_in r) c.self.inside.views c.print.new.self (events_over g.story r g.from g.upto) c.in_err-print.ensures.err c.self.invariant.shows) c.self.invariant
+
+pub invariant_of-self-2 : goal.invariant_of-self-2
+invariant_of-self-2 c =
+    let g = c.self.inside.segment in
+    let r = c.self.inside.reducers.value in
+    let next = of_piece (λ (p : PieceValue). PassesOn p (events.Print c.args.value)) c.self.view_is c.requires.next in
+    let kind = refl in
+    covers_event c.self.inside.views c.print.new.self r g c.self.invariant next.0 output (Updated output c.args.value) refl c.ranges.value
+    (ap (of_event r (frame_in g.story.events g.upto)) next.1) Append kind _ c.in_ok-print.ensures.ok (ap (λ x. (structure_of Append).combine (value_in c.self.inside.views Append output) ((structure_of Append).single x)) (to_z-of_z w64 c.args.value c.ranges.value) ∙ after_updated (structure_of Append) output c.args.value (value_in c.self.inside.views Append output)) _ c.pass.ensures

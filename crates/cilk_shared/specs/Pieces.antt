@@ -1,0 +1,77 @@
+-- What contracts see of a piece, and what its type keeps.
+use Rattle.std.specs.Prelude.{◌≡◌, ℕ, ℤ, ◌<◌, Some}
+use Rattle.atomic_table.specs.Seated.{TableId}
+use Rattle.cilk_types.specs.declared.event.Event.{Event}
+use Rattle.cilk_types.specs.declared.event.Instance.{Instance}
+use Rattle.cilk_monoid.specs.Kinds.{structure_of}
+use Rattle.cilk_monoid.specs.Ranges.{HaveWords, view_of}
+use Rattle.cilk_hypermap.specs.declared.hypermap.Hypermap.{Hypermap}
+use Rattle.cilk_hypermap.specs.Ranges.{ShowsRange}
+use Rattle.cilk_shared.specs.Rule.{IsStart, Whole}
+use Rattle.cilk_shared.specs.Values.{YardValue, SegmentValue, OfYard, moved_on, taken_at, empty_beside, both_of, Adjoin, CanPass}
+use Rattle.cilk_shared.specs.declared.taken.Taken.{Taken}
+use Rattle.cilk_shared.specs.declared.taken.Taken.TheVariants.{Yes, No}
+use Rattle.cilk_tree.specs.declared.story.Story.{Story}
+use Rattle.cilk_tree.specs.Word.{event, what, resume}
+use Rattle.cilk_shared.specs.declared.reducers.Reducers.{Reducers}
+use Rattle.cilk_shared.specs.Reducers.{kind_in, events_over}
+use Rattle.cilk_shared.specs.Settled.{AreSettled}
+
+-- a segment, and the reducers of its run
+pub record PieceValue : Type 0 where
+  pub of : TableId
+  pub story : Story
+  pub reducers : Reducers
+  pub from : ℕ
+  pub upto : ℕ
+
+abbrev pub piece_of : Reducers → SegmentValue → PieceValue
+piece_of r g = record { of = g.of; story = g.story; reducers = r; from = g.from; upto = g.upto }
+
+abbrev pub segment_of : PieceValue → SegmentValue
+segment_of p = record { of = p.of; story = p.story; from = p.from; upto = p.upto }
+
+-- These views are those of the segment's range. It begins where the run does or a continuation is resumed, and what comes right before
+-- each of its events but such a resumption is in it.
+pub record Covers (views : Hypermap) (r : Reducers) (g : SegmentValue) : Type 0 where
+  pub settled : AreSettled g.story r
+  pub begins : g.from < g.upto → IsStart g.story g.from
+  pub whole : Whole g.story g.from g.upto
+  pub words : HaveWords (events_over g.story r g.from g.upto)
+  pub shows : ShowsRange (kind_in r) views (events_over g.story r g.from g.upto)
+
+-- it belongs to the yard
+abbrev pub IsPieceOf : YardValue → PieceValue → Type 0
+IsPieceOf y p = OfYard y (segment_of p)
+
+-- the two belong to the yard, and to one run's reducers
+abbrev pub AreOfOne : YardValue → PieceValue → PieceValue → Type 0
+AreOfOne y p q = IsPieceOf y p × IsPieceOf y q × (q.reducers ≡ p.reducers)
+
+-- one event more
+abbrev pub grown : PieceValue → PieceValue
+grown p = piece_of p.reducers (moved_on (segment_of p))
+
+-- an empty piece
+abbrev pub none_beside : PieceValue → PieceValue
+none_beside p = piece_of p.reducers (empty_beside (segment_of p))
+
+-- one piece of two that adjoin
+abbrev pub joined : PieceValue → PieceValue → PieceValue
+joined p q = piece_of p.reducers (both_of (segment_of p) (segment_of q))
+
+abbrev pub Adjoining : PieceValue → PieceValue → Type 0
+Adjoining p q = Adjoin (segment_of p) (segment_of q)
+
+-- the continuation after the spawn at k is taken, and p has become q, or nothing has changed
+abbrev pub IsPieceTaken : YardValue → PieceValue → ℕ → PieceValue → Taken → Type 0
+IsPieceTaken y p k q Yes = (at : ℕ) × (what y.story at ≡ resume k) × (q ≡ piece_of p.reducers (taken_at (segment_of p) at))
+IsPieceTaken y p k q No = q ≡ p
+
+-- the piece's frame goes on by this event, which is no step on a shared word
+abbrev pub PassesOn : PieceValue → Event → Type 0
+PassesOn p e = CanPass (segment_of p) × (event p.story p.upto ≡ Some e)
+
+-- the number of a reducer's view over the events of the run ahead of the next one
+abbrev pub number_ahead : PieceValue → Instance → ℤ
+number_ahead p i = (structure_of (kind_in p.reducers i)).number (view_of (structure_of (kind_in p.reducers i)) i (events_over p.story p.reducers 1 p.upto))

@@ -1,0 +1,405 @@
+//! A piece of a run.
+
+ghost use Rattle.std.specs.Prelude.{◌≡◌, ◌<◌, ℤ, [], length, Some, IfOk, IsTrue, MatchResult, OnOk, OnErr};
+ghost use Rattle.cilk_types.specs.declared.event.Event.TheVariants.{Read, Create, Update, Set, Value, Print, End};
+ghost use Rattle.cilk_hypermap.specs.Ranges.{ShowsRange};
+ghost use Rattle.cilk_tree.specs.Frames.{IsInFrame};
+ghost use Rattle.cilk_shared.specs.Values.{OfYard, NextRead, NextWrite, NextSpawn, NextFinish, CanTake, CanPass};
+ghost use Rattle.cilk_tree.specs.Runs.{IsFollowed};
+ghost use Rattle.cilk_tree.specs.Word.{event};
+ghost use Rattle.cilk_shared.specs.Pieces.{AreOfOne, Adjoining, IsPieceOf, IsPieceTaken, PassesOn, grown, joined, none_beside, number_ahead, piece_of, segment_of};
+ghost use Rattle.cilk_shared.specs.Reducers.{HasFew, events_at, events_over, kind_in};
+ghost use Rattle.cilk_shared.specs.Settled.{AreSettled};
+
+use crate::reducers::Reducers;
+use crate::views::retire_own;
+use cilk_hypermap::hypermap::Hypermap;
+use cilk_monoid::kind::MonoidKind;
+use crate::taken::Taken;
+use crate::yard::{Segment, Yard};
+use cilk_types::event::{Cell, FrameNo, Instance, Pos};
+use std::alloc::{AllocError, Global};
+use std::marker::Model;
+use std::snapshot::Snapshot;
+
+/// A stretch of the run's positions that one worker has done, and the views that were made there. To a contract it is its range; the views
+/// are those of the range's events.
+#[derive(Drop)]
+pub struct Piece {
+    views: Hypermap,
+    segment: Segment,
+    reducers: Snapshot<Reducers>,
+}
+
+impl Model for Piece {
+    ghost use Rattle.cilk_shared.specs.Pieces.{PieceValue, Covers, piece_of};
+
+    ghost Value = { PieceValue };
+
+    ghost view = { λ p. piece_of p.reducers.value p.segment };
+
+    ghost invariant = { λ p. Covers p.views p.reducers.value p.segment };
+}
+
+/// What a piece has.
+#[derive(Drop)]
+pub struct Parts {
+    pub views: Hypermap,
+    pub segment: Segment,
+}
+
+impl Piece {
+    /// The piece of a yard's first segment.
+    pub fn new(alloc: Global, yard: &Yard, segment: Segment, reducers: &Reducers) -> Piece
+        requires yard { OfYard yard.now segment }
+        requires first { (segment.from ≡ 1) × (segment.upto ≡ 2) }
+        requires settled { AreSettled segment.story reducers.now }
+        requires quiet { events_at segment.story reducers.now 1 ≡ [] }
+        ensures { result ≡ piece_of reducers.now segment }
+    {
+        yard.laws();
+        Piece {
+            views: Hypermap::new(alloc),
+            segment,
+            reducers: Snapshot::of(reducers),
+        }
+    }
+
+    /// The views, and the segment.
+    pub fn parted(self) -> Parts
+        ensures views { ShowsRange (kind_in self.reducers) result.views (events_over self.story self.reducers self.from self.upto) }
+        ensures segment { result.segment ≡ segment_of self }
+    {
+        Parts {
+            views: self.views,
+            segment: self.segment,
+        }
+    }
+
+    /// The piece, and an empty one.
+    pub fn apart(self, alloc: Global, yard: &Yard, reducers: &Reducers) -> (Piece, Piece)
+        requires yard { IsPieceOf yard.now self }
+        requires reducers { reducers.now ≡ self.reducers }
+        ensures first { result.0 ≡ self }
+        ensures second { result.1 ≡ none_beside self }
+    {
+        let Piece {
+            views,
+            segment,
+            reducers: same,
+        } = self;
+        let (segment, other) = yard.apart(segment);
+        (
+            Piece {
+                views,
+                segment,
+                reducers: same,
+            },
+            Piece {
+                views: Hypermap::new(alloc),
+                segment: other,
+                reducers: Snapshot::of(reducers),
+            },
+        )
+    }
+
+    /// The segment.
+    pub fn segment(&self) -> &Segment
+        ensures { result.now ≡ segment_of self.now }
+    {
+        &self.segment
+    }
+
+    /// The first position, where there is one.
+    pub fn from(&self) -> Pos
+        ensures { result ≡ self.now.from }
+    {
+        self.segment.from()
+    }
+
+    /// The position after the last one.
+    pub fn upto(&self) -> Pos
+        ensures { result ≡ self.now.upto }
+    {
+        self.segment.upto()
+    }
+
+    /// The value that the run reads at the piece's next event, a read of the cell.
+    pub fn load(&mut self, yard: &Yard, cell: Cell) -> i64
+        requires yard { IsPieceOf yard.now self.old }
+        requires next { NextRead yard.now (segment_of self.old) cell }
+        ensures piece { self.new ≡ grown self.old }
+        ensures value { event yard.now.story self.old.upto ≡ Some (Read cell result) }
+    {
+        yard.laws();
+        yard.load(&mut self.segment, cell)
+    }
+
+    /// Writes the value to the cell, as the piece's next event does.
+    pub fn store(&mut self, yard: &Yard, cell: Cell, value: i64)
+        requires yard { IsPieceOf yard.now self.old }
+        requires next { NextWrite yard.now (segment_of self.old) cell value }
+        ensures { self.new ≡ grown self.old }
+    {
+        yard.laws();
+        yard.store(&mut self.segment, cell, value);
+    }
+
+    /// Lets any thread take the continuation after the spawn that is the piece's next event. The ticket is the spawn's position.
+    pub fn offer(&mut self, yard: &Yard) -> Pos
+        requires yard { IsPieceOf yard.now self.old }
+        requires next { NextSpawn yard.now (segment_of self.old) }
+        ensures piece { self.new ≡ grown self.old }
+        ensures ticket { result ≡ self.old.upto }
+    {
+        yard.laws();
+        yard.offer(&mut self.segment)
+    }
+
+    /// Takes the continuation after the spawn at `ticket`, unless it was taken: then the piece goes on with its `resume`.
+    pub fn take(&mut self, yard: &Yard, ticket: Pos) -> Taken
+        requires yard { IsPieceOf yard.now self.old }
+        requires next { CanTake yard.now (segment_of self.old) ticket }
+        ensures { IsPieceTaken yard.now self.old ticket self.new result }
+    {
+        yard.laws();
+        yard.take(&mut self.segment, ticket)
+    }
+
+    /// Whether the run was seen to have ended; a thread may see the end late. Then its frames asked for each of its events.
+    pub fn ended(&mut self, yard: &Yard) -> bool
+        requires { IsPieceOf yard.now self.old }
+        ensures piece { self.new ≡ self.old }
+        ensures whole { IsTrue result → IsFollowed self.old.story (length self.old.story.events) }
+    {
+        yard.ended(&mut self.segment)
+    }
+
+    /// Adds the next event, which is neither a step on a shared word nor an event of a reducer.
+    pub fn pass(&mut self, yard: &Yard)
+        requires yard { IsPieceOf yard.now self.old }
+        requires next { CanPass (segment_of self.old) }
+        requires quiet { events_at self.old.story self.old.reducers self.old.upto ≡ [] }
+        ensures { self.new ≡ grown self.old }
+    {
+        self.segment.pass(yard);
+    }
+
+    /// Begins the reducer with its monoid's unit, as the next event does. Without memory nothing changes; so for the events below.
+    pub fn create(
+        &mut self,
+        alloc: Global,
+        yard: &Yard,
+        instance: Instance,
+        kind: MonoidKind,
+    ) -> Result<(), AllocError>
+        requires yard { IsPieceOf yard.now self.old }
+        requires next { PassesOn self.old (Create instance) }
+        requires kind { kind ≡ kind_in self.old.reducers instance }
+        ensures ok { OnOk result (self.new ≡ grown self.old) }
+        ensures err { OnErr result (self.new ≡ self.old) }
+    {
+        self.views.create(alloc, instance, kind)?;
+        self.segment.pass(yard);
+        Ok(())
+    }
+
+    /// Multiplies the reducer's view by the number from the right, as the next event does.
+    pub fn update(
+        &mut self,
+        alloc: Global,
+        yard: &Yard,
+        instance: Instance,
+        kind: MonoidKind,
+        value: i64,
+    ) -> Result<(), AllocError>
+        requires yard { IsPieceOf yard.now self.old }
+        requires next { PassesOn self.old (Update instance value) }
+        requires kind { kind ≡ kind_in self.old.reducers instance }
+        ensures ok { OnOk result (self.new ≡ grown self.old) }
+        ensures err { OnErr result (self.new ≡ self.old) }
+    {
+        self.views.update(alloc, instance, kind, value)?;
+        self.segment.pass(yard);
+        Ok(())
+    }
+
+    /// Makes the reducer's view that of the number alone, as the next event does.
+    pub fn set(
+        &mut self,
+        alloc: Global,
+        yard: &Yard,
+        instance: Instance,
+        kind: MonoidKind,
+        value: i64,
+    ) -> Result<(), AllocError>
+        requires yard { IsPieceOf yard.now self.old }
+        requires next { PassesOn self.old (Set instance value) }
+        requires kind { kind ≡ kind_in self.old.reducers instance }
+        ensures ok { OnOk result (self.new ≡ grown self.old) }
+        ensures err { OnErr result (self.new ≡ self.old) }
+    {
+        self.views.set(alloc, instance, kind, value)?;
+        self.segment.pass(yard);
+        Ok(())
+    }
+
+    /// The number of the reducer's view over all events of the run ahead of the next one, which reads it: the piece has all of the reducer's.
+    pub fn value(
+        &mut self,
+        alloc: Global,
+        yard: &Yard,
+        instance: Instance,
+        kind: MonoidKind,
+    ) -> Result<i64, AllocError>
+        requires yard { IsPieceOf yard.now self.old }
+        requires next { (v : ℤ) × PassesOn self.old (Value instance v) }
+        requires kind { kind ≡ kind_in self.old.reducers instance }
+        ensures number { IfOk result (λ n. n ≡ number_ahead self.old instance) }
+        ensures ok { OnOk result (self.new ≡ grown self.old) }
+        ensures err { OnErr result (self.new ≡ self.old) }
+    {
+        yard.laws();
+        let number = self.views.value(alloc, instance, kind)?;
+        self.segment.pass(yard);
+        Ok(number)
+    }
+
+    /// Appends the number to the output, as the next event does.
+    pub fn print(&mut self, alloc: Global, yard: &Yard, value: i64) -> Result<(), AllocError>
+        requires yard { IsPieceOf yard.now self.old }
+        requires next { PassesOn self.old (Print value) }
+        ensures ok { OnOk result (self.new ≡ grown self.old) }
+        ensures err { OnErr result (self.new ≡ self.old) }
+    {
+        self.views.print(alloc, value)?;
+        self.segment.pass(yard);
+        Ok(())
+    }
+
+    /// Ends the frame, as the next event does: its reducers have no view from then on.
+    pub fn end(&mut self, yard: &Yard, reducers: &Reducers, frame: FrameNo)
+        requires yard { IsPieceOf yard.now self.old }
+        requires reducers { (reducers.now ≡ self.old.reducers) × HasFew reducers.now }
+        requires next { PassesOn self.old End }
+        requires frame { IsInFrame self.old.story.events self.old.upto frame }
+        ensures { self.new ≡ grown self.old }
+    {
+        retire_own(&mut self.views, reducers, frame);
+        self.segment.pass(yard);
+    }
+
+    /// Ends the run, where the next event is the root's `end`; the reducers that outlive the root keep their views.
+    pub fn finish(&mut self, yard: &Yard, reducers: &Reducers, root: FrameNo)
+        requires yard { IsPieceOf yard.now self.old }
+        requires reducers { (reducers.now ≡ self.old.reducers) × HasFew reducers.now }
+        requires next { NextFinish yard.now (segment_of self.old) }
+        requires root { IsInFrame self.old.story.events self.old.upto root }
+        ensures { self.new ≡ grown self.old }
+    {
+        yard.laws();
+        retire_own(&mut self.views, reducers, root);
+        yard.finish(&mut self.segment);
+    }
+
+    /// One piece of two that adjoin. Without memory both come back.
+    pub fn join(
+        alloc: Global,
+        yard: &Yard,
+        left: Piece,
+        right: Piece,
+    ) -> Result<Piece, (Piece, Piece)>
+        requires one { AreOfOne yard.now left right }
+        requires near { Adjoining left right }
+        ensures { MatchResult result (λ p. p ≡ joined left right) (λ r. (r.0 ≡ left) × (r.1 ≡ right)) }
+    {
+        yard.laws();
+        let Piece {
+            views,
+            segment,
+            reducers,
+        } = left;
+        let Piece {
+            views: later_views,
+            segment: later,
+            reducers: later_reducers,
+        } = right;
+        match Hypermap::merge(alloc, views, later_views) {
+            Ok(views) => Ok(Piece {
+                views,
+                segment: yard.together(segment, later),
+                reducers,
+            }),
+            Err((views, later_views)) => Err((
+                Piece {
+                    views,
+                    segment,
+                    reducers,
+                },
+                Piece {
+                    views: later_views,
+                    segment: later,
+                    reducers: later_reducers,
+                },
+            )),
+        }
+    }
+
+    /// One piece of three that adjoin. Without memory all come back.
+    pub fn join3(
+        alloc: Global,
+        yard: &Yard,
+        left: Piece,
+        middle: Piece,
+        right: Piece,
+    ) -> Result<Piece, (Piece, Piece, Piece)>
+        requires one { AreOfOne yard.now left middle × AreOfOne yard.now left right }
+        requires near { Adjoining left middle × Adjoining (joined left middle) right }
+        ensures { MatchResult result (λ p. p ≡ joined (joined left middle) right) (λ r. (r.0 ≡ left) × (r.1 ≡ middle) × (r.2 ≡ right)) }
+    {
+        yard.laws();
+        let Piece {
+            views: first,
+            segment: one,
+            reducers,
+        } = left;
+        let Piece {
+            views: second,
+            segment: two,
+            reducers: second_reducers,
+        } = middle;
+        let Piece {
+            views: third,
+            segment: three,
+            reducers: third_reducers,
+        } = right;
+        match Hypermap::merge3(alloc, first, second, third) {
+            Ok(views) => {
+                let both = yard.together(one, two);
+                let all = yard.together(both, three);
+                Ok(Piece {
+                    views,
+                    segment: all,
+                    reducers,
+                })
+            }
+            Err((first, second, third)) => Err((
+                Piece {
+                    views: first,
+                    segment: one,
+                    reducers,
+                },
+                Piece {
+                    views: second,
+                    segment: two,
+                    reducers: second_reducers,
+                },
+                Piece {
+                    views: third,
+                    segment: three,
+                    reducers: third_reducers,
+                },
+            )),
+        }
+    }
+}

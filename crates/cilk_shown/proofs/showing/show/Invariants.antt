@@ -1,6 +1,0 @@
-use Rattle.std.specs.Prelude.{take}
-use Rattle.cilk_shown.specs.Gathering.{AreGathered}
-use Rattle.cilk_shown.proofs.showing.show.Given as goal
-
-abbrev pub invariant-each : goal.invariant-each
-invariant-each l = let b = l.board in let f = b.frames in let e = b.journal in AreGathered f.items l.globals (take l.entry-index e.items) l.frames.items

@@ -1,4 +1,0 @@
-pub mod Orders
-pub mod Runs
-pub mod Values
-pub mod Word

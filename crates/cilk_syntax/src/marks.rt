@@ -1,0 +1,160 @@
+//! Tokens that the grammar asks for at one place.
+
+ghost use Rattle.std.specs.Prelude.{◌≡◌, ℕ, pos, ◌<◌, List, ◌∷◌, IfOk, IfErr, IfSome, IfNone, length};
+ghost use Rattle.cilk_syntax.specs.Expected.{Symbol, One, Named, Numeral, Single, run, kind_of, fits};
+ghost use Rattle.cilk_syntax.specs.Grammar.{Is, IsName};
+ghost use Rattle.cilk_syntax.specs.Stops.{IsStop, NotFirst};
+ghost use Rattle.cilk_syntax.specs.declared.token.Kind.TheVariants as kinds;
+
+use crate::stop::Stop;
+use crate::tree::Name;
+use crate::token::{Kind, Token};
+
+/// A mark or a reserved word that stands at a fixed place of a form.
+#[derive(Clone, Copy)]
+pub enum Punct {
+    Open,
+    Close,
+    OpenBrace,
+    CloseBrace,
+    CloseBracket,
+    Semicolon,
+    Comma,
+    Assign,
+    Less,
+    Int,
+}
+
+/// Tells whether a token of this kind is the mark.
+fn fits(mark: Punct, kind: Kind) -> bool
+    ensures { result ≡ fits mark kind }
+{
+    matches!(
+        (mark, kind),
+        (Punct::Open, Kind::Open)
+            | (Punct::Close, Kind::Close)
+            | (Punct::OpenBrace, Kind::OpenBrace)
+            | (Punct::CloseBrace, Kind::CloseBrace)
+            | (Punct::CloseBracket, Kind::CloseBracket)
+            | (Punct::Semicolon, Kind::Semicolon)
+            | (Punct::Comma, Kind::Comma)
+            | (Punct::Assign, Kind::Assign)
+            | (Punct::Less, Kind::Less)
+            | (Punct::Int, Kind::Int)
+    )
+}
+
+/// The tokens behind this mark.
+#[tactic(auto, using(crate::proofs::MarkLaws::is_mark))]
+pub fn one<'a>(tokens: &'a [Token], mark: Punct) -> Result<&'a [Token], Stop<'a>>
+    ensures token { IfOk result (λ rest. Is (kind_of mark) tokens.now rest.now) }
+    ensures shorter { IfOk result (λ rest. length rest.now < length tokens.now) }
+    ensures reads { IfOk result (λ rest. (stack : List Symbol) (n : ℕ) →
+        run tokens.now (One mark ∷ stack) n ≡ run rest.now stack n) }
+    ensures stops { IfErr result (λ e. (stack : List Symbol) (n : ℕ) →
+        IsStop e (run tokens.now (One mark ∷ stack) n)) }
+{
+    let [first, rest @ ..] = tokens else {
+        return Err(Stop::Unexpected(tokens));
+    };
+    if fits(mark, first.kind) {
+        Ok(rest)
+    } else {
+        Err(Stop::Unexpected(tokens))
+    }
+}
+
+/// A value that was read, and the tokens behind this mark, which follows it.
+pub fn then_one<'a, T: Drop>(
+    value: T,
+    tokens: &'a [Token],
+    mark: Punct,
+) -> Result<(T, &'a [Token]), Stop<'a>>
+    ensures value { IfOk result (λ x. x.0 ≡ value) }
+    ensures token { IfOk result (λ x. Is (kind_of mark) tokens.now x.1.now) }
+    ensures shorter { IfOk result (λ x. length x.1.now < length tokens.now) }
+    ensures reads { IfOk result (λ x. (stack : List Symbol) (n : ℕ) →
+        run tokens.now (One mark ∷ stack) n ≡ run x.1.now stack n) }
+    ensures stops { IfErr result (λ e. (stack : List Symbol) (n : ℕ) →
+        IsStop e (run tokens.now (One mark ∷ stack) n)) }
+{
+    let rest = one(tokens, mark)?;
+    Ok((value, rest))
+}
+
+/// The tokens behind this mark, if they begin with it.
+#[tactic(auto, using(crate::proofs::MarkLaws::is_mark, crate::proofs::MarkLaws::not_mark))]
+pub fn behind<'a>(tokens: &'a [Token], mark: Punct) -> Option<&'a [Token]>
+    ensures found { IfSome result (λ rest. Is (kind_of mark) tokens.now rest.now) }
+    ensures shorter { IfSome result (λ rest. length rest.now < length tokens.now) }
+    ensures none { IfNone result (NotFirst (kind_of mark) tokens.now) }
+{
+    match tokens {
+        [first, rest @ ..] if fits(mark, first.kind) => Some(rest),
+        _ => None,
+    }
+}
+
+/// A name, and the tokens behind it.
+pub fn name<'a>(tokens: &'a [Token]) -> Result<(Name, &'a [Token]), Stop<'a>>
+    ensures token { IfOk result (λ x. IsName x.0 tokens.now x.1.now) }
+    ensures shorter { IfOk result (λ x. length x.1.now < length tokens.now) }
+    ensures reads { IfOk result (λ x. (stack : List Symbol) (n : ℕ) →
+        run tokens.now (Named ∷ stack) n ≡ run x.1.now stack n) }
+    ensures stops { IfErr result (λ e. (stack : List Symbol) (n : ℕ) →
+        IsStop e (run tokens.now (Named ∷ stack) n)) }
+{
+    match tokens {
+        [
+            Token {
+                kind: Kind::Name,
+                at,
+                end,
+            },
+            rest @ ..,
+        ] => Ok((Name { at: *at, end: *end }, rest)),
+        _ => Err(Stop::Unexpected(tokens)),
+    }
+}
+
+/// A number, and the tokens behind it.
+pub fn numeral<'a>(tokens: &'a [Token]) -> Result<(i64, &'a [Token]), Stop<'a>>
+    ensures token { IfOk result (λ x. Is (kinds.Number x.0) tokens.now x.1.now) }
+    ensures shorter { IfOk result (λ x. length x.1.now < length tokens.now) }
+    ensures reads { IfOk result (λ x. (stack : List Symbol) (n : ℕ) →
+        run tokens.now (Numeral ∷ stack) n ≡ run x.1.now stack n) }
+    ensures stops { IfErr result (λ e. (stack : List Symbol) (n : ℕ) →
+        IsStop e (run tokens.now (Numeral ∷ stack) n)) }
+{
+    match tokens {
+        [
+            Token {
+                kind: Kind::Number(value),
+                ..
+            },
+            rest @ ..,
+        ] => Ok((*value, rest)),
+        _ => Err(Stop::Unexpected(tokens)),
+    }
+}
+
+/// The tokens behind the number 1.
+pub fn single<'a>(tokens: &'a [Token]) -> Result<&'a [Token], Stop<'a>>
+    ensures token { IfOk result (λ rest. Is (kinds.Number (pos 1)) tokens.now rest.now) }
+    ensures shorter { IfOk result (λ rest. length rest.now < length tokens.now) }
+    ensures reads { IfOk result (λ rest. (stack : List Symbol) (n : ℕ) →
+        run tokens.now (Single ∷ stack) n ≡ run rest.now stack n) }
+    ensures stops { IfErr result (λ e. (stack : List Symbol) (n : ℕ) →
+        IsStop e (run tokens.now (Single ∷ stack) n)) }
+{
+    match tokens {
+        [
+            Token {
+                kind: Kind::Number(1),
+                ..
+            },
+            rest @ ..,
+        ] => Ok(rest),
+        _ => Err(Stop::Unexpected(tokens)),
+    }
+}

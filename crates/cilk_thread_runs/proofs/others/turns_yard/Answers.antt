@@ -1,5 +1,0 @@
-use Rattle.cilk_thread_runs.proofs.OtherRuns.{turns_along}
-use Rattle.cilk_thread_runs.proofs.others.turns_yard.Goals as goal
-
-pub new-requires : goal.new-requires
-new-requires c = turns_along c.args.plan.now c.args.input.now c.requires.plan c.requires.input c.laws.ensures.values

@@ -1,5 +1,0 @@
-use Rattle.cilk_thread_runs.specs.Others.{turns_on}
-use Rattle.cilk_thread_runs.proofs.others.turns_yard.Given as goal
-
-abbrev pub ghost-new : goal.ghost-new
-ghost-new a = turns_on

@@ -1,0 +1,15 @@
+-- The worked stories, computed: `stories_are_of_programs`.
+use Rattle.std.proofs.Common.{refl}
+use Rattle.std.specs.Int.{int_wrap}
+use Rattle.cilk_thread_tests.specs.Programs.{StoriesAreOfPrograms}
+
+pub stories_are_of_programs : StoriesAreOfPrograms
+unfolding int_wrap
+stories_are_of_programs = record {
+  squares_own = refl;
+  squares_four = refl;
+  squares_three = refl;
+  turns_own = refl;
+  turns_none = refl;
+  turns_seven = refl;
+}

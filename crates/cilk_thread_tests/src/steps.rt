@@ -1,0 +1,173 @@
+//! A segment's next event, made as a yard's story has it.
+
+ghost use Rattle.std.specs.Prelude.{◌≡◌, ◌↔◌, ℕ, ◌<◌, length, IfSome, IsSome, IsTrue};
+ghost use Rattle.cilk_tree.specs.Runs.{IsAsked};
+ghost use Rattle.cilk_tree.specs.Word.{event, resume, what};
+ghost use Rattle.cilk_tree.specs.Along.{IsAlong};
+ghost use Rattle.cilk_shared.specs.Values.{CanTake, IsTaken, OfYard};
+ghost use Rattle.cilk_thread_tests.specs.Settings.{AreOf};
+
+use cilk_tree::plan::Plan;
+use cilk_shared::taken::Taken;
+use cilk_shared::yard::{Segment, Yard};
+use cilk_types::event::{Cell, Event, Pos};
+use std::alloc::Global;
+
+/// What was done.
+#[derive(Clone, Copy, PartialEq, Eq, Debug)]
+pub enum Done {
+    /// A read gave this value.
+    Loaded(i64),
+    Stored,
+    /// A spawn was offered under this ticket.
+    Offered(Pos),
+    /// An event that is no step on a shared word was passed.
+    Passed,
+    /// The root's `end` was made.
+    Finished,
+    /// The run doesn't ask for the event at this position.
+    Departed(Pos),
+    /// The next event can't be made here.
+    Nothing,
+}
+
+/// Makes the segment's next event, unless it is the `resume` after a spawn, where the yard lets it. `events` are those of the yard's
+/// story, and `asked` says which of them it asks for.
+pub fn step(
+    yard: &Yard,
+    plan: &Plan,
+    events: &[Event],
+    asked: &[bool],
+    segment: &mut Segment,
+) -> Done
+    requires yard { OfYard yard.now segment.old }
+    requires run { AreOf yard.now.story plan.now events.now asked.now }
+    ensures { OfYard yard.now segment.new }
+{
+    let at = segment.upto();
+    let has_next = segment.from() < at && at as usize <= events.len();
+    if !has_next || yard_resumes(yard, plan, at) {
+        Done::Nothing
+    } else if is_asked(yard, asked, at) {
+        made(yard, plan, events, segment)
+    } else {
+        Done::Departed(segment.departs(yard))
+    }
+}
+
+// Makes the next event, which is asked for.
+fn made(yard: &Yard, plan: &Plan, events: &[Event], segment: &mut Segment) -> Done
+    requires yard { OfYard yard.now segment.old }
+    requires along { IsAlong plan.now yard.now.story }
+    requires events { events.now ≡ yard.now.story.events }
+    requires some { segment.old.from < segment.old.upto }
+    requires asked { IsAsked yard.now.story segment.old.upto }
+    ensures { OfYard yard.now segment.new }
+{
+    let at = segment.upto();
+    let Some(event) = event_at(yard, events, at) else {
+        return Done::Nothing;
+    };
+    match event {
+        Event::Read { cell, .. } if has_cell(yard, plan, cell) => {
+            Done::Loaded(yard.load(segment, cell))
+        }
+        Event::Write { cell, value } if has_cell(yard, plan, cell) => {
+            yard.store(segment, cell, value);
+            Done::Stored
+        }
+        Event::Spawn { .. } => Done::Offered(yard.offer(segment)),
+        Event::End if at as usize == events.len() => {
+            yard.finish(segment);
+            Done::Finished
+        }
+        _ => passed(yard, plan, segment),
+    }
+}
+
+// Passes the next event, which is asked for, where it is no step on a shared word and the segment holds what comes right before it.
+fn passed(yard: &Yard, plan: &Plan, segment: &mut Segment) -> Done
+    requires yard { OfYard yard.now segment.old }
+    requires along { IsAlong plan.now segment.old.story }
+    requires asked { IsAsked segment.old.story segment.old.upto }
+    ensures { OfYard yard.now segment.new }
+{
+    if segment.may_pass(plan) {
+        segment.pass(yard);
+        Done::Passed
+    } else {
+        Done::Nothing
+    }
+}
+
+/// Takes the continuation after the spawn at a position, for a segment that is empty or that ends right before the `resume`: what the yard
+/// answers. None where the yard isn't asked, and then its `take` couldn't be called, or no spawn stands there.
+pub fn take(yard: &Yard, asked: &[bool], segment: &mut Segment, ticket: Pos) -> Option<Taken>
+    requires yard { OfYard yard.now segment.old }
+    requires asked { asked.now ≡ yard.now.story.asked }
+    ensures yard { OfYard yard.now segment.new }
+    ensures tried { IfSome result (λ taken. IsTaken yard.now segment.old ticket segment.new taken) }
+    ensures untried { (p : ℕ) → what yard.now.story p ≡ resume ticket → CanTake yard.now segment.old ticket → IsSome result }
+{
+    let at = yard.resumption(ticket)?;
+    let goes_on = segment.from() < segment.upto();
+    if goes_on && segment.upto() != at {
+        return None;
+    }
+    if !is_asked(yard, asked, at) {
+        return None;
+    }
+    Some(yard.take(segment, ticket))
+}
+
+/// The cells' values after the run, where the segment has all of it and there is memory for them.
+pub fn last_values(
+    alloc: Global,
+    yard: Yard,
+    events: &[Event],
+    segment: Segment,
+) -> Option<Vec<i64>>
+    requires yard { OfYard yard segment }
+    requires events { events.now ≡ yard.story.events }
+{
+    let whole = segment.from() == 1 && segment.last() as usize == events.len();
+    if !whole || events.is_empty() {
+        return None;
+    }
+    yard.globals(alloc, segment).ok()
+}
+
+// The event at a position.
+fn event_at(yard: &Yard, events: &[Event], at: Pos) -> Option<Event>
+    requires { events.now ≡ yard.now.story.events }
+    ensures { result ≡ event yard.now.story at }
+{
+    events.get(at.saturating_sub(1) as usize).copied()
+}
+
+// Whether the event at a position is asked for.
+fn is_asked(yard: &Yard, asked: &[bool], at: Pos) -> bool
+    requires { asked.now ≡ yard.now.story.asked }
+    ensures { IsTrue result ↔ IsAsked yard.now.story at }
+{
+    match asked.get(at.saturating_sub(1) as usize) {
+        Some(found) => *found,
+        None => false,
+    }
+}
+
+// Whether the event at a position is the `resume` after a spawn.
+fn yard_resumes(yard: &Yard, plan: &Plan, at: Pos) -> bool
+    requires { IsAlong plan.now yard.now.story }
+    ensures { (k : ℕ) → what yard.now.story at ≡ resume k → IsTrue result }
+{
+    plan.resumed_by(at).is_some()
+}
+
+// Whether the run has this cell.
+fn has_cell(yard: &Yard, plan: &Plan, cell: Cell) -> bool
+    requires { IsAlong plan.now yard.now.story }
+    ensures { IsTrue result → cell < length yard.now.story.opening }
+{
+    (cell as usize) < plan.opening().len()
+}

@@ -1,0 +1,41 @@
+//! What a run leaves, from the piece of all its events.
+
+ghost use Rattle.std.specs.Prelude.{◌≡◌, ◌+◌, ◌≤◌, ℕ, pos, [], length, slice_index_or, IfOk};
+ghost use Rattle.cilk_lower.specs.Layout.{LaysOut};
+ghost use Rattle.cilk_program.specs.Answered.{opening_cells};
+ghost use Rattle.cilk_shared.specs.Pieces.{IsPieceOf};
+ghost use Rattle.cilk_program.specs.Sources.{source};
+ghost use Rattle.cilk_threads.specs.Finals.{IsMadeOf};
+
+use cilk_lower::layout::Layout;
+use cilk_shared::piece::{Parts, Piece};
+use cilk_program::program::Program;
+use cilk_shared::yard::Yard;
+use cilk_types::outcome::Outcome;
+use std::alloc::{AllocError, Global};
+
+/// What a run leaves whose root gave this result, where the piece covers all its events: the last values of the yard's cells, and of the
+/// views in the piece. The run by names along the plan leaves the same on that input, and so does each serial run with these events.
+/// Cost and memory: linear in the yard and the views.
+pub fn outcome(
+    alloc: Global,
+    program: &Program,
+    layout: &Layout,
+    yard: Yard,
+    piece: Piece,
+    value: i64,
+) -> Result<Outcome, AllocError>
+    requires yard { IsPieceOf yard piece }
+    requires all { (piece.from ≡ 1) × (piece.upto ≡ length piece.story.events + 1) }
+    requires layout { LaysOut (source program.now) layout.now }
+    requires globals { length (source program.now).openings ≤ length piece.story.opening }
+    requires opens { (c : ℕ) → slice_index_or piece.story.opening c (pos 0) ≡ opening_cells (source program.now) [] c }
+    ensures { IfOk result (λ o. IsMadeOf (source program.now) piece.story piece.reducers value o) }
+{
+    let _main = program.main;
+    let Parts { mut views, segment } = piece.parted();
+    let Ok(cells) = yard.globals(alloc, segment) else {
+        return Err(AllocError);
+    };
+    cilk_frames::outcome::outcome(alloc, layout, cells.as_slice(), &mut views, value)
+}

@@ -1,0 +1,103 @@
+//! A run of a plan by several workers.
+
+ghost use Rattle.std.specs.Prelude.{◌≡◌, All, Some, IfOk, IfErr};
+ghost use Rattle.cilk_tree.specs.Word.{event};
+ghost use Rattle.cilk_workers.specs.Turns.{Works};
+ghost use Rattle.cilk_types.specs.declared.event.Event.TheVariants.{Sync};
+ghost use Rattle.cilk_tree.specs.PlanStrands.{AreFirsts};
+ghost use Rattle.cilk_workers.specs.Hands.{IsWhole};
+ghost use Rattle.cilk_workers.specs.Names.{IsName};
+ghost use Rattle.cilk_threads.specs.Faults.{IsCrew, IsTrueFault, number_of};
+
+use crate::crew::crewed;
+use crate::layout::Layout;
+use cilk_shared::piece::Piece;
+use cilk_workers::naming::Naming;
+use cilk_workers::shared::Shared;
+use cilk_workers::work::Work;
+use cilk_types::event::Pos;
+use cilk_workers::gate::Gate;
+use cilk_workers::hand::Finish;
+use std::alloc::Global;
+use std::marker::Brand;
+use std::sync::Wait;
+use std::thread::Threads;
+use thiserror::Error;
+
+/// The most workers that may run together.
+pub const MAX_WORKERS: u32 = 64;
+
+/// Why a run has no outcome.
+#[derive(Drop, Debug, Error)]
+pub enum ThreadFault {
+    /// There was no memory, or no thread.
+    #[error("there is no memory for the run, or no thread")]
+    Memory,
+    /// The number of workers is not from 1 to 64.
+    #[error("the number of workers is 1 to 64")]
+    Workers,
+    /// The input departs from the plan at this position.
+    #[error("the input departs from the plan at {0}")]
+    Departs(Pos),
+}
+
+impl ThreadFault {
+    /// The number by which it is reported: 401 for memory, 501 for the number of workers, 502 where the input departs.
+    pub fn number(&self) -> u16
+        ensures { result ≡ number_of self.now }
+    {
+        match self {
+            ThreadFault::Memory => 401,
+            ThreadFault::Workers => 501,
+            ThreadFault::Departs(_) => 502,
+        }
+    }
+}
+
+// The workers of a run that is named.
+fn run_as<N: Naming + Send + Sync, R: Threads + Wait + Sync, G: Gate + Sync>(
+    rt: &R,
+    alloc: Global,
+    shared: &Shared<'_>,
+    layout: &Layout<'_>,
+    gate: &G,
+    work: Work,
+    workers: u32,
+) -> Result<(Piece, i64), ThreadFault>
+    requires name { IsName N.run N.course N.taken shared.now }
+    requires syncs { All (λ at. event shared.now.run.story at ≡ Some Sync) layout.now.syncs.now }
+    requires strands { AreFirsts shared.now.run.story.events layout.now.strands.now }
+    requires works { Works shared.now work }
+    requires crew { IsCrew workers }
+    ensures ok { IfOk result (λ r. IsWhole shared.now r.0 r.1) }
+    ensures err { IfErr result (IsTrueFault shared.now.run.story workers) }
+{
+    match crewed::<N, R, G>(rt, alloc, shared, layout, gate, work, workers) {
+        Ok(Finish::Whole(piece, value)) => Ok((piece, value)),
+        Ok(Finish::Departed(at)) => Err(ThreadFault::Departs(at)),
+        Ok(Finish::Stopped) | Err(_) => Err(ThreadFault::Memory),
+    }
+}
+
+/// Runs the plan by some workers, from what the first has behind the run's first event. Ok is the piece of the
+/// whole run, and its result.
+pub fn run<R: Threads + Wait + Sync, G: Gate + Sync>(
+    rt: &R,
+    alloc: Global,
+    shared: &Shared<'_>,
+    layout: &Layout<'_>,
+    gate: &G,
+    work: Work,
+    workers: u32,
+) -> Result<(Piece, i64), ThreadFault>
+    requires syncs { All (λ at. event shared.now.run.story at ≡ Some Sync) layout.now.syncs.now }
+    requires strands { AreFirsts shared.now.run.story.events layout.now.strands.now }
+    requires works { Works shared.now work }
+    ensures ok { IfOk result (λ r. IsWhole shared.now r.0 r.1 × IsCrew workers) }
+    ensures err { IfErr result (IsTrueFault shared.now.run.story workers) }
+{
+    if workers == 0 || workers > MAX_WORKERS {
+        return Err(ThreadFault::Workers);
+    }
+    run_as::<Brand, R, G>(rt, alloc, shared, layout, gate, work, workers)
+}

@@ -1,0 +1,66 @@
+-- How the reply to words of `check` that name helpers comes about.
+--
+-- - `answered`: what is answered to what the words ask for; `no_words`: to words that ask for nothing;
+-- - `fails`, `ends`: a failure, or an answer, is served; `starved`: a want of memory is;
+-- - `told_status`: the status is that of what was shown; `asked`: words that ask for something aren't words that ask for nothing; `unasked`: words that clap
+--   refuses ask for nothing.
+use Rattle.std.proofs.Common.{◌≡◌, ℕ, List, Bool, true, Option, Some, None, refl, sym, ap, subst, inl, inr, ◌∙◌}
+use Rattle.std.proofs.lemmas.Bool.{true≢false}
+use Rattle.std.specs.Prelude.{IsSome}
+use Rattle.std.specs.Io.KnownBytes.{Appends}
+use Rattle.cilk_commands.specs.Replies.{NoMemory, Reply, Text, failure_view, out_text, status_of}
+use Rattle.cilk_commands.specs.Serving.{IsOrNoMemory, ProgramUnread, Shows, ShowsError, Surroundings, Unjudged, WordsFail}
+use Rattle.cilk_commands.specs.declared.reply.Failure.{Failure}
+use Rattle.cilk_commands.specs.declared.reply.Failure.TheVariants as failures
+use Rattle.cilk_messages.specs.declared.words.WordsFault.{WordsFault}
+use Rattle.cilk_messages.specs.declared.words.WordsFault.TheVariants as faults
+use Rattle.cilk_report.proofs.Replies.{IsUsage}
+use Rattle.cilk_commands.proofs.Replying.{keeps, no_memory}
+use Rattle.cilk_tool.specs.CheckWords.{Helped, IsWordsFault, check_in}
+use Rattle.cilk_tool.specs.Helped.{Answers, ServesHelped}
+use Rattle.cilk_tool.proofs.Showing.{still_silent}
+
+starving : (w : Surroundings) (asked : Option Helped) → Answers w asked NoMemory
+starving w None = tt
+starving w (Some asked) = no_memory w (Some asked.check)
+
+or_starving : (w : Surroundings) (asked : Option Helped) (wanted r : Reply) → Answers w asked wanted → IsOrNoMemory wanted r → Answers w asked r
+or_starving w asked wanted r h (inl e) = subst (λ (x : Reply). Answers w asked x) (sym e) h
+or_starving w asked wanted r h (inr e) = subst (λ (x : Reply). Answers w asked x) (sym e) (starving w asked)
+
+pub answered : (words : List Text) (w : Surroundings) (asked : Option Helped) (r : Reply) → check_in words ≡ asked → Answers w asked r
+    → Answers w (check_in words) r
+answered words w asked r e h = subst (λ (x : Option Helped). Answers w x r) (sym e) h
+
+pub no_words : (words : List Text) (w : Surroundings) (r : Reply) → check_in words ≡ None → WordsFail r → Answers w (check_in words) r
+no_words words w r e h = answered words w None r e h
+
+module _ (words : List Text) (w : Surroundings) (status : ℕ) (told : Bool) where
+  pub fails : (f : Failure) (o e e' : Option Text) → Answers w (check_in words) (failure_view f)
+      → (r : Reply) × IsOrNoMemory (failure_view f) r × (status ≡ status_of r) × ShowsError r told e e' → ServesHelped words w status told o o e e'
+  fails f o e e' h shown =
+      let r = shown.0 in
+      let out : Appends o o (out_text r) = subst (λ (t : Text). Appends o o t) (sym (still_silent f r shown.1)) (keeps o) in
+      (r, or_starving w (check_in words) (failure_view f) r h shown.1, inl (shown.2, out, shown.3))
+
+  pub starved : (o e e' : Option Text)
+      → (r : Reply) × IsOrNoMemory (failure_view failures.Memory) r × (status ≡ status_of r) × ShowsError r told e e' → ServesHelped words w status told o o e e'
+  starved o e e' shown = fails failures.Memory o e e' (starving w (check_in words)) shown
+
+  pub ends : (wanted : Reply) (o o' e e' : Option Text) → Answers w (check_in words) wanted
+      → (r : Reply) × IsOrNoMemory wanted r × Shows r status told o o' e e' → ServesHelped words w status told o o' e e'
+  ends wanted o o' e e' h shown = (shown.0, or_starving w (check_in words) wanted shown.0 h shown.1, shown.2)
+
+-- the status is that of what was shown
+pub told_status : (words : List Text) (w : Surroundings) (status status' : ℕ) (told : Bool) (o o' e e' : Option Text)
+    → ServesHelped words w status told o o' e e' → status' ≡ status → ServesHelped words w status' told o o' e e'
+told_status words w status status' told o o' e e' h same = subst (λ (s : ℕ). ServesHelped words w s told o o' e e') (sym same) h
+
+-- words that ask for something aren't words that ask for nothing
+pub asked : (asked : Option Helped) (r : Helped) → asked ≡ Some r → asked ≡ None → ⊥
+asked a r some none = true≢false (sym (subst IsSome (sym some ∙ none) refl))
+
+-- words that clap refuses ask for nothing
+pub unasked : (words : List Text) (e : WordsFault) → IsUsage e → IsWordsFault words e → check_in words ≡ None
+unasked words (faults.Usage text) u h = h
+unasked words faults.Memory u h = absurd u

@@ -1,0 +1,50 @@
+-- What a source of a certificate's text keeps beside it.
+--
+-- - `parted`: texts of one length ahead of others;
+-- - `kept_beside`: where what is kept is the same, no read of another file than the first failed, and what the second holds is still known.
+use Rattle.std.proofs.Common.{◌≡◌, ℕ, List, [], ◌∷◌, ◌++◌, length, Option, Some, None, refl, ap, ap₂, arith}
+use Rattle.cilk_commands.specs.Files.{Failures}
+use Rattle.cilk_commands.specs.Replies.{Text}
+use Rattle.cilk_tool.specs.Sources.{kept_of, numbers_of, text_ahead}
+
+pub parted : (xs ys r s : List ℕ) → length xs ≡ length ys → xs ++ r ≡ ys ++ s → (xs ≡ ys) × (r ≡ s)
+parted [] [] r s l e = (refl, e)
+parted [] (y ∷ ys) r s l e = absurd (omega (arith, l))
+parted (x ∷ xs) [] r s l e = absurd (omega (arith, l))
+parted (x ∷ xs) (y ∷ ys) r s l e =
+    let head : x ≡ y = cc e in
+    let tail : xs ++ r ≡ ys ++ s = cc e in
+    let rest = parted xs ys r s (omega (arith, l)) tail in
+    (ap₂ (λ (z : ℕ) (zs : List ℕ). z ∷ zs) head rest.0, rest.1)
+
+ahead : (xs ys r s : List ℕ) → text_ahead xs r ≡ text_ahead ys s → (xs ≡ ys) × (r ≡ s)
+ahead xs ys r s e =
+    let l : length xs ≡ length ys = cc e in
+    let t : xs ++ r ≡ ys ++ s = cc e in
+    parted xs ys r s l t
+
+known_same : (a b : Option Text) → numbers_of a ≡ numbers_of b → a ≡ b
+known_same None None e = refl
+known_same None (Some y) e = absurd (cc e)
+known_same (Some x) None e = absurd (cc e)
+known_same (Some x) (Some y) e = ap (λ (t : Text). Some t) (let z : x ≡ y = cc e in z)
+
+-- what is the same of both
+pub record Beside (f g : Failures) (p q o n : Text) (k l : Option Text) : Type 0 where
+  pub path : p ≡ q
+  pub other : o ≡ n
+  pub first : f.elsewhere p ≡ g.elsewhere q
+  pub known : k ≡ l
+
+pub kept_beside : (f g : Failures) (p q o n : Text) (k l : Option Text) → kept_of f p o k ≡ kept_of g q n l → Beside f g p q o n k l
+kept_beside f g p q o n k l e =
+    let first : f.elsewhere p ≡ g.elsewhere q = cc e in
+    let rest : text_ahead p (text_ahead o (numbers_of k)) ≡ text_ahead q (text_ahead n (numbers_of l)) = cc e in
+    let paths = ahead p q _ _ rest in
+    let others = ahead o n _ _ paths.1 in
+    record { path = paths.0; other = others.0; first = first; known = known_same k l others.1 }
+
+-- what is kept stays
+pub same_kept : (f g : Failures) (path other : Text) (k l : Option Text) → g.elsewhere path ≡ f.elsewhere path → l ≡ k
+    → kept_of g path other l ≡ kept_of f path other k
+same_kept f g path other k l e d = ap₂ (λ (n : ℕ) (t : Option Text). n ∷ text_ahead path (text_ahead other (numbers_of t))) e d

@@ -1,0 +1,33 @@
+use Rattle.std.proofs.Common.{ap₂, rules}
+use Rattle.cilk_checker.specs.Judging.{meant}
+use Rattle.cilk_commands.proofs.Replying.{refused_err, refused_ok, refused_whole}
+use Rattle.cilk_tool.proofs.Checked.{unread}
+use Rattle.cilk_tool.proofs.Helped.{certifies}
+use Rattle.cilk_tool.proofs.helping.compared.Goals as goal
+
+pub returns-in-Ok-clause-answer : goal.returns-in-Ok-clause-answer
+returns-in-Ok-clause-answer g c =
+    let made = c.new-source.ensures in
+    certifies c.args.path.now (g.F.Files.holds c.args.files.now c.args.path.now) _ _ (g.F.Files.failed c.args.files.now) (g.F.Files.failed c.args.files.now) (meant c.args.program)
+    c.args.input c.in-Ok._accepted.trace c.in-Ok._accepted.outcome (ap₂ (λ files path. g.F.Files.holds files path) made.files made.path) made.at c.in-Ok.ensures.accepted
+
+pub returns-in-Err-Unread-clause-failure : goal.returns-in-Err-Unread-clause-failure
+returns-in-Err-Unread-clause-failure g c =
+    let made = c.new-source.ensures in
+    (unread (λ files. g.F.Files.failed files) (λ files. g.F.Files.holds files) c.args.files.now c.new-source.result.files.now c.check_end.new.source.files.now _
+    _ _ _ _ c.args.path.now c.args.path.now made.files made.path made.other c.check_end.ensures.kept (search rules)
+    (g.F.Files.holds c.args.files.now c.args.path.now) _ (meant c.args.program) c.args.input
+    c.in-Err-Unread.field-0 c.in-Err-Unread.field-0-is c.in-Err-Unread.ensures.unaccepted).1
+
+pub returns-in-Err-Refusal-clause-answer : goal.returns-in-Err-Refusal-clause-answer
+returns-in-Err-Refusal-clause-answer g c =
+    let made = c.new-source.ensures in
+    refused_ok c.refused.result c.args.path.now (g.F.Files.holds c.args.files.now c.args.path.now) (λ files. g.F.Files.failed files) c.args.files.now _
+    (meant c.args.program) c.args.input c.in-Err-Refusal.refusal c.refused.ensures.answer
+    (refused_whole _ _ _ _ _ _ _ c.in-Err-Refusal.field-0 _ (ap₂ (λ files path. g.F.Files.holds files path) made.files made.path)
+    made.at (search rules) c.in-Err-Refusal.ensures.unaccepted)
+
+pub returns-in-Err-Refusal-clause-failure : goal.returns-in-Err-Refusal-clause-failure
+returns-in-Err-Refusal-clause-failure g c =
+    refused_err c.refused.result c.args.path.now (g.F.Files.holds c.args.files.now c.args.path.now) (λ files. g.F.Files.failed files) c.args.files.now _
+    (meant c.args.program) c.args.input c.refused.ensures.failure

@@ -1,5 +1,0 @@
-use Rattle.cilk_tool.proofs.OneReply.{one_reply}
-use Rattle.cilk_tool.proofs.laws.reply_is_one.Goals as goal
-
-pub returns : goal.returns
-returns c = λ w line. one_reply w line

@@ -1,7 +1,0 @@
-use Rattle.std.proofs.Common.{◌≡◌, ◌++◌, take}
-use Rattle.std.specs.Prelude.{flat_map}
-use Rattle.cilk_tool.specs.Replies.{element}
-use Rattle.cilk_tool.proofs.render.push_elements.Given as goal
-
-abbrev pub invariant-loop-value : goal.invariant-loop-value
-invariant-loop-value l = l.text.items ≡ l.initial.text.items ++ flat_map element (take l.value-index l.values)

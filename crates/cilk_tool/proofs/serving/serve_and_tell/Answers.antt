@@ -1,8 +1,0 @@
-use Rattle.cilk_tool.proofs.Replying.{ends, fails}
-use Rattle.cilk_tool.proofs.serving.serve_and_tell.Goals as goal
-
-pub returns-in-Ok : goal.returns-in-Ok
-returns-in-Ok g c = record { served = ends _ _ _ _ _ _ _ _ _ c.in-Ok.ensures.answer c.show.ensures }
-
-pub returns-in-Err : goal.returns-in-Err
-returns-in-Err g c = record { served = fails _ _ c.in-Err.failure _ _ _ _ _ c.in-Err.ensures.failure c.complain.ensures }

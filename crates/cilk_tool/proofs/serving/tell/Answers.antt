@@ -1,5 +1,0 @@
-use Rattle.cilk_tool.proofs.Replying.{front_of}
-use Rattle.cilk_tool.proofs.serving.tell.Goals as goal
-
-pub returns : goal.returns
-returns g c = front_of c.send.result _ _ _ c.send.ensures.all c.send.ensures.part

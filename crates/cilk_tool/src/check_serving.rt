@@ -1,0 +1,130 @@
+//! From words of `check` that name helpers to a reply that is shown.
+
+ghost use Rattle.std.specs.Prelude.{◌≡◌, ◌<◌, None, length};
+ghost use Rattle.cilk_report.specs.Explained.{unflagged};
+ghost use Rattle.cilk_commands.specs.Replies.{failure_view};
+ghost use Rattle.cilk_commands.specs.Serving.{WordsFail, world};
+ghost use Rattle.cilk_messages.specs.Words.{texts};
+ghost use Rattle.cilk_tool.specs.CheckWords.{check_in};
+ghost use Rattle.cilk_tool.specs.Helped.{HelpedThenExplains, IsHelpedReply};
+
+use crate::check_words::read_check;
+use crate::helping::check_by_helpers;
+use cilk_report::Keeps;
+use cilk_report::{follow, of_answer, of_failure, unflagged};
+use cilk_commands::reply::Failure;
+use cilk_commands::{complain, show};
+use cilk_messages::words::WordsFault;
+use std::alloc::Global;
+use std::io::{Read, Write};
+use std::thread::Threads;
+
+// What stands after what is said of words that ask for nothing.
+const HINT: &str = "\nhint: `cilk help check` describes `check` and its options\n";
+
+/// Serves words of `check` that name helpers, and waits for the helpers.
+pub fn serve_check<H: Threads + Sync, F: Keeps, R: Read, O: Write, E: Write>(
+    rt: &H,
+    alloc: Global,
+    words: &[&str],
+    files: &mut F,
+    input: &mut R,
+    out: &mut O,
+    err: &mut E,
+) -> u8
+    requires { (F.failed files.old).count < 18446744073709551615 }
+    ensures served { IsHelpedReply (texts words.now) (world (F.holds files.old) (R.remaining input.old) (F.failed files.old) (F.failed files.new))
+        result (O.contents out.old) (O.contents out.new) (E.contents err.old) (E.contents err.new) }
+    ensures explained { check_in (texts words.now) ≡ None → length (unflagged (texts words.now)) < length (texts words.now)
+        → HelpedThenExplains (unflagged (texts words.now)) (world (F.holds files.old) (R.remaining input.old) (F.failed files.old) (F.failed files.new))
+        result (O.contents out.old) (O.contents out.new) (E.contents err.old) (E.contents err.new) }
+{
+    match read_check(alloc, words) {
+        Ok(order) => match check_by_helpers(rt, alloc, &order, files, input) {
+            Ok(answer) => show(alloc, &answer, out, err).status,
+            Err(failure) => complain(alloc, &failure, err).status,
+        },
+        Err(WordsFault::Usage(usage)) => {
+            files.keep();
+            serve_unread(rt, alloc, words, usage, files, input, out, err)
+        }
+        Err(WordsFault::Memory) => complain(alloc, &Failure::Memory, err).status,
+    }
+}
+
+/// Serves words that ask for nothing as they stand: without `--explain`, where that is among them.
+fn serve_unread<H: Threads + Sync, F: Keeps, R: Read, O: Write, E: Write>(
+    rt: &H,
+    alloc: Global,
+    words: &[&str],
+    usage: String,
+    files: &mut F,
+    input: &mut R,
+    out: &mut O,
+    err: &mut E,
+) -> u8
+    requires room { (F.failed files.old).count < 18446744073709551615 }
+    requires unread { check_in (texts words.now) ≡ None }
+    ensures served { IsHelpedReply (texts words.now) (world (F.holds files.old) (R.remaining input.old) (F.failed files.old) (F.failed files.new))
+        result (O.contents out.old) (O.contents out.new) (E.contents err.old) (E.contents err.new) }
+    ensures explained { length (unflagged (texts words.now)) < length (texts words.now)
+        → HelpedThenExplains (unflagged (texts words.now)) (world (F.holds files.old) (R.remaining input.old) (F.failed files.old) (F.failed files.new))
+        result (O.contents out.old) (O.contents out.new) (E.contents err.old) (E.contents err.new) }
+{
+    match unflagged(alloc, words) {
+        Ok(plain) if plain.len() < words.len() => {
+            serve_flagged(rt, alloc, plain.as_slice(), files, input, out, err)
+        }
+        Ok(_) => complain(alloc, &advised(usage), err).status,
+        Err(_) => complain(alloc, &Failure::Memory, err).status,
+    }
+}
+
+/// Serves the words, and then explains what was shown.
+fn serve_flagged<H: Threads + Sync, F: Keeps, R: Read, O: Write, E: Write>(
+    rt: &H,
+    alloc: Global,
+    words: &[&str],
+    files: &mut F,
+    input: &mut R,
+    out: &mut O,
+    err: &mut E,
+) -> u8
+    requires { (F.failed files.old).count < 18446744073709551615 }
+    ensures { HelpedThenExplains (texts words.now) (world (F.holds files.old) (R.remaining input.old) (F.failed files.old) (F.failed files.new))
+        result (O.contents out.old) (O.contents out.new) (E.contents err.old) (E.contents err.new) }
+{
+    match read_check(alloc, words) {
+        Ok(order) => match check_by_helpers(rt, alloc, &order, files, input) {
+            Ok(answer) => {
+                let served = show(alloc, &answer, out, err);
+                follow(
+                    served,
+                    of_answer(alloc, &order.alone(), &answer, files.kept()),
+                    err,
+                )
+            }
+            Err(failure) => {
+                let served = complain(alloc, &failure, err);
+                follow(
+                    served,
+                    of_failure(alloc, &order.alone(), &failure, files.kept()),
+                    err,
+                )
+            }
+        },
+        Err(WordsFault::Usage(usage)) => complain(alloc, &advised(usage), err).status,
+        Err(WordsFault::Memory) => complain(alloc, &Failure::Memory, err).status,
+    }
+}
+
+/// What is shown of words that ask for nothing: why, and what describes them.
+fn advised<'a>(usage: String) -> Failure<'a>
+    ensures { WordsFail (failure_view result) }
+{
+    let mut text = usage;
+    match text.push_str(HINT) {
+        Ok(()) => Failure::Words(text),
+        Err(_) => Failure::Memory,
+    }
+}

@@ -1,0 +1,164 @@
+//! The words of `check` that name helpers.
+
+ghost use Rattle.std.specs.Prelude.{◌≡◌, IfOk, IfErr, Some, option_map};
+ghost use Rattle.clap.specs.Words.{found_of, rows_of, subcommand_rows_of};
+ghost use Rattle.cilk_messages.specs.Words.{HasShape, check_app, order_view, texts};
+ghost use Rattle.cilk_tool.specs.CheckWords.{IsWordsFault, check_by, check_in, check_view, checked_with, commands_app, helped_app, helper_count, helpers_in, is_helped, is_helpers, name_helpers};
+
+use crate::words::{two_paths, two_texts};
+use cilk_helpers::many::MAX_HELPERS;
+use cilk_syntax::lexer::{all_digits, value_of};
+use cilk_messages::words::{Order, WordsFault, empty, refusal, with};
+use clap::{Arg, ArgAction, ArgMatches, Command};
+use std::alloc::{AllocError, Global};
+
+// What is said of words that clap matches and that still ask for nothing.
+const NO_ORDER: &str = "error: the number of helpers is 1 to 16\n";
+
+// What clap says of the command.
+const CHECK: &str = "Check a certificate, and whether the run that it is of has a race";
+
+/// What such words ask for: to check the certificate of a program on an input, of a file or the empty one, by so many helpers.
+#[derive(Clone, Copy)]
+pub struct CheckOrder<'a> {
+    pub program: &'a str,
+    pub certificate: &'a str,
+    pub input: Option<&'a str>,
+    pub helpers: u32,
+}
+
+impl<'a> CheckOrder<'a> {
+    /// What the words ask for but for the helpers.
+    pub fn alone(&self) -> Order<'a>
+        ensures { let asked = check_view self.now in order_view result ≡ asked.check }
+    {
+        Order::Check {
+            program: self.program,
+            certificate: self.certificate,
+            input: self.input,
+        }
+    }
+}
+
+/// Whether the first word is `check`, and one of those after it names helpers.
+pub fn is_helped(words: &[&str]) -> bool
+    ensures { result ≡ is_helped (texts words.now) }
+{
+    match words {
+        [first, others @ ..] => *first == "check" && name_helpers(others),
+        [] => false,
+    }
+}
+
+/// Whether one of the words names helpers.
+fn name_helpers(words: &[&str]) -> bool
+    ensures { result ≡ name_helpers (texts words.now) }
+{
+    let mut rest = words;
+    'each: while let [first, others @ ..] = rest {
+        if is_helpers(first) {
+            return true;
+        }
+        rest = others;
+    }
+    false
+}
+
+/// Whether a word names helpers: the number is in it, or comes next.
+fn is_helpers(word: &str) -> bool
+    ensures { result ≡ is_helpers word.now }
+{
+    word == "--helpers" || word.starts_with("--helpers=")
+}
+
+/// `check PROGRAM CERTIFICATE [--input FILE]`.
+fn check_command<'a>(alloc: Global) -> Result<Command<'a>, AllocError>
+    ensures { IfOk result (λ c. HasShape c check_app) }
+{
+    two_texts(alloc, "check")?.arg(
+        Arg::new(alloc, "input")
+            .long("input")
+            .action(ArgAction::Set),
+    )
+}
+
+/// `check PROGRAM CERTIFICATE [--input FILE] [--helpers N]`.
+fn helped_command<'a>(alloc: Global) -> Result<Command<'a>, AllocError>
+    ensures { IfOk result (λ c. HasShape c helped_app) }
+{
+    check_command(alloc)?.arg(
+        Arg::new(alloc, "helpers")
+            .long("helpers")
+            .action(ArgAction::Set),
+    )
+}
+
+/// The command, a simple one.
+fn command<'a>(alloc: Global) -> Result<Command<'a>, AllocError>
+    ensures { IfOk result (λ c. HasShape c commands_app) }
+{
+    with(empty(alloc)?, helped_command(alloc), CHECK)
+}
+
+/// How many helpers digits name, if they name a number from 1 to 16.
+fn helper_count(digits: &[u8]) -> Option<u32>
+    ensures { result ≡ helper_count digits.now }
+{
+    if !all_digits(digits) {
+        return None;
+    }
+    match value_of(digits) {
+        Some(count) if count >= 1 && count <= MAX_HELPERS as u64 => Some(count as u32),
+        _ => None,
+    }
+}
+
+/// How many helpers there are, by the word that may name them: one where there is none.
+fn helpers_in(word: Option<&str>) -> Option<u32>
+    ensures { result ≡ helpers_in (option_map (λ w. w.now) word.entry) }
+{
+    match word {
+        Some(digits) => helper_count(digits.as_bytes()),
+        None => Some(1),
+    }
+}
+
+/// What the matches of `check` ask for.
+fn check_order<'a>(check: &ArgMatches<'a>) -> Option<CheckOrder<'a>>
+    ensures { option_map check_view result ≡ checked_with (rows_of (found_of check.now)) }
+{
+    let (program, certificate) = two_paths(check)?;
+    let word = check.get_str("helpers");
+    let helpers = helpers_in(word)?;
+    let input = check.get_str("input");
+    Some(CheckOrder {
+        program,
+        certificate,
+        input,
+        helpers,
+    })
+}
+
+/// What the matches ask for.
+fn order_of<'a>(matches: &ArgMatches<'a>) -> Option<CheckOrder<'a>>
+    ensures { option_map check_view result ≡ check_by (subcommand_rows_of matches.now) }
+{
+    match matches.subcommand() {
+        Some(("check", check)) => check_order(check),
+        _ => None,
+    }
+}
+
+/// Reads the words after the program's own name.
+pub fn read_check<'a>(alloc: Global, words: &'a [&'a str]) -> Result<CheckOrder<'a>, WordsFault>
+    ensures order { IfOk result (λ o. check_in (texts words.now) ≡ Some (check_view o)) }
+    ensures fault { IfErr result (λ e. IsWordsFault (texts words.now) e) }
+{
+    match command(alloc)?.try_get_matches_from(words) {
+        Ok(matches) => match order_of(&matches) {
+            Some(order) => Ok(order),
+            None => Err(WordsFault::Usage(String::from_str(alloc, NO_ORDER)?)),
+        },
+        Err(error) => Err(refusal(alloc, &error)),
+    }
+}

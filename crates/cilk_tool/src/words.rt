@@ -1,0 +1,119 @@
+//! The words of the command `threads`.
+
+ghost use Rattle.std.specs.Prelude.{◌≡◌, IfOk, IfErr, Some, option_map};
+ghost use Rattle.clap.specs.Words.{found_of, rows_of, subcommand_rows_of};
+ghost use Rattle.cilk_messages.specs.Words.{HasShape, texts};
+ghost use Rattle.cilk_tool.specs.Words.{IsWordsFault, checked_app, order_by, order_in, order_view, parallel_app, texts_in, texts_view, threads_app, threads_with, two_texts_app};
+
+use cilk_messages::words::{WordsFault, empty, refusal, with, workers_in};
+use clap::{Arg, ArgAction, ArgMatches, Command};
+use std::alloc::{AllocError, Global};
+
+// What is said of words that clap matches and that still ask for nothing.
+const NO_ORDER: &str = "error: the number of workers is 1 to 64\n";
+
+// What clap says of the command.
+const THREADS: &str =
+    "Check a certificate, and where it is accepted run the program by workers on threads";
+
+/// What the words of `threads` ask for: to check the certificate of a program on an input, of a file or the empty one, and
+/// then to run it by so many workers, on that input or on the one of another file.
+#[derive(Clone, Copy)]
+pub struct Order<'a> {
+    pub program: &'a str,
+    pub certificate: &'a str,
+    pub workers: u32,
+    pub input: Option<&'a str>,
+    pub on: Option<&'a str>,
+}
+
+/// `NAME PROGRAM CERTIFICATE`.
+pub(crate) fn two_texts<'a>(alloc: Global, name: &'a str) -> Result<Command<'a>, AllocError>
+    ensures { IfOk result (λ c. HasShape c (two_texts_app name.entry.now)) }
+{
+    Command::new(alloc, name)
+        .arg(Arg::new(alloc, "program").required(true))?
+        .arg(Arg::new(alloc, "certificate").required(true))
+}
+
+/// `threads PROGRAM CERTIFICATE [--workers N] [--input FILE]`.
+fn checked_texts<'a>(alloc: Global) -> Result<Command<'a>, AllocError>
+    ensures { IfOk result (λ c. HasShape c checked_app) }
+{
+    two_texts(alloc, "threads")?
+        .arg(
+            Arg::new(alloc, "workers")
+                .long("workers")
+                .action(ArgAction::Set),
+        )?
+        .arg(
+            Arg::new(alloc, "input")
+                .long("input")
+                .action(ArgAction::Set),
+        )
+}
+
+/// `threads PROGRAM CERTIFICATE [--workers N] [--input FILE] [--on FILE]`.
+fn threads_command<'a>(alloc: Global) -> Result<Command<'a>, AllocError>
+    ensures { IfOk result (λ c. HasShape c threads_app) }
+{
+    checked_texts(alloc)?.arg(Arg::new(alloc, "on").long("on").action(ArgAction::Set))
+}
+
+/// The command, a simple one.
+fn command<'a>(alloc: Global) -> Result<Command<'a>, AllocError>
+    ensures { IfOk result (λ c. HasShape c parallel_app) }
+{
+    with(empty(alloc)?, threads_command(alloc), THREADS)
+}
+
+/// The paths of the program and of the certificate that the matches name.
+pub(crate) fn two_paths<'a>(matches: &ArgMatches<'a>) -> Option<(&'a str, &'a str)>
+    ensures { option_map texts_view result ≡ texts_in (rows_of (found_of matches.now)) }
+{
+    let program = matches.get_str("program")?;
+    let certificate = matches.get_str("certificate")?;
+    Some((program, certificate))
+}
+
+/// What the matches of `threads` ask for.
+fn threads_order<'a>(threads: &ArgMatches<'a>) -> Option<Order<'a>>
+    ensures { option_map order_view result ≡ threads_with (rows_of (found_of threads.now)) }
+{
+    let (program, certificate) = two_paths(threads)?;
+    let word = threads.get_str("workers");
+    let workers = workers_in(word)?;
+    let input = threads.get_str("input");
+    let on = threads.get_str("on");
+    Some(Order {
+        program,
+        certificate,
+        workers,
+        input,
+        on,
+    })
+}
+
+/// What the matches ask for.
+fn order_of<'a>(matches: &ArgMatches<'a>) -> Option<Order<'a>>
+    ensures { option_map order_view result ≡ order_by (subcommand_rows_of matches.now) }
+{
+    match matches.subcommand() {
+        Some(("threads", threads)) => threads_order(threads),
+        _ => None,
+    }
+}
+
+/// Reads the words after the program's own name.
+pub fn read<'a>(alloc: Global, words: &'a [&'a str]) -> Result<Order<'a>, WordsFault>
+    ensures order { IfOk result (λ o. order_in (texts words.now) ≡ Some (order_view o)) }
+    ensures fault { IfErr result (λ e. IsWordsFault (texts words.now) e) }
+{
+    match command(alloc)?.try_get_matches_from(words) {
+        Ok(matches) => match order_of(&matches) {
+            Some(order) => Ok(order),
+            None => Err(WordsFault::Usage(String::from_str(alloc, NO_ORDER)?)),
+        },
+        Err(error) => Err(refusal(alloc, &error)),
+    }
+}

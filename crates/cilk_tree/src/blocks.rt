@@ -1,0 +1,99 @@
+//! The continuations of a run's spawns, and the blocks that they are in, in one pass from the run's end.
+
+ghost use Rattle.std.specs.Prelude.{◌≡◌, ◌↔◌, ◌<◌, ◌^◌, ℕ, Some, None, length, slice_index_or, slice_set, IfOk, IfSome, MatchOption, OnOk};
+ghost use Rattle.cilk_tree.specs.declared.blocks.Continuation.{Continuation};
+ghost use Rattle.cilk_tree.specs.Blocks.{resumed_at, AreContinuations, HasResume, IsPut};
+
+use crate::kind::{Asked, Kind};
+use crate::plan::Plan;
+use cilk_types::event::Pos;
+use std::alloc::{AllocError, Global};
+
+/// What follows a spawn in its frame: the position of the `resume` by which it goes on, and that of the `sync` that ends its block.
+#[derive(Clone, Copy, PartialEq, Eq, Debug)]
+pub struct Continuation {
+    pub resume: Pos,
+    pub sync: Pos,
+}
+
+/// For each position at which a spawn stands, its continuation. Cost and memory: linear in the events.
+pub fn continuations(alloc: Global, plan: &Plan) -> Result<Vec<Option<Continuation>>, AllocError>
+    ensures { IfOk result (λ column. AreContinuations plan.now column.items) }
+{
+    plan.laws();
+    let count = plan.count();
+    let mut ahead = Vec::new(alloc);
+    let mut column = Vec::with_capacity(alloc, count + 1)?;
+    column.resize(count + 1, None)?;
+    for met in 0..count {
+        let at = (count - met) as Pos;
+        if let Asked::Next { frame, kind } = plan.next(at - 1) {
+            match kind {
+                Kind::Spawn { .. } => {
+                    let resume = resume_in(&column, at as usize);
+                    let sync = position_in(&ahead, frame as usize);
+                    column[at as usize] = both(resume, sync);
+                }
+                Kind::Resume { .. } => note(&mut column, plan.resumed_by(at), at),
+                Kind::Sync => put(&mut ahead, frame as usize, at)?,
+                _ => {}
+            }
+        }
+    }
+    Ok(column)
+}
+
+// The `resume` that was noted at a place, if one was.
+fn resume_in(column: &Vec<Option<Continuation>>, place: usize) -> Option<Pos>
+    ensures { (p : ℕ) → (result ≡ Some p) ↔ HasResume column.now.items place p }
+{
+    match column.get(place) {
+        Some(Some(noted)) => Some(noted.resume),
+        _ => None,
+    }
+}
+
+// Where an event resumes what a spawn left, notes it at the spawn, whose `sync` isn't known yet.
+fn note(column: &mut Vec<Option<Continuation>>, spawned: Option<Pos>, at: Pos)
+    requires { IfSome spawned (λ place. place < length column.old.items) }
+    ensures { MatchOption spawned (column.new.items ≡ column.old.items) (λ place. column.new.items ≡ slice_set column.old.items place (Some (resumed_at at))) }
+{
+    if let Some(place) = spawned {
+        column[place as usize] = Some(Continuation {
+            resume: at,
+            sync: 0,
+        });
+    }
+}
+
+// The position at a place, if there is one.
+fn position_in(column: &Vec<Option<Pos>>, place: usize) -> Option<Pos>
+    ensures { result ≡ slice_index_or column.now.items place None }
+{
+    match column.get(place) {
+        Some(position) => *position,
+        None => None,
+    }
+}
+
+// A continuation that has both.
+fn both(resume: Option<Pos>, sync: Option<Pos>) -> Option<Continuation>
+    ensures { (c : Continuation) → (result ≡ Some c) ↔ ((resume ≡ Some c.resume) × (sync ≡ Some c.sync)) }
+{
+    match (resume, sync) {
+        (Some(resume), Some(sync)) => Some(Continuation { resume, sync }),
+        _ => None,
+    }
+}
+
+// Puts a position at a place.
+fn put(column: &mut Vec<Option<Pos>>, place: usize, at: Pos) -> Result<(), AllocError>
+    requires { place < 2 ^ 32 }
+    ensures { OnOk result (IsPut column.old.items place at column.new.items) }
+{
+    if place >= column.len() {
+        column.resize(place + 1, None)?;
+    }
+    column[place] = Some(at);
+    Ok(())
+}

@@ -1,0 +1,123 @@
+//! For each event of a run the earliest of those that come right before it, in one pass.
+
+ghost use Rattle.std.specs.Prelude.{◌≡◌, ◌+◌, ◌<◌, ◌^◌, length, IfOk};
+ghost use Rattle.cilk_tree.specs.Earliest.{all_earliest, ends_of, ahead_of, given, goes_on, met, nothing, returned, sooner, starts};
+
+use crate::mark::Mark;
+use cilk_types::event::Pos;
+use cilk_types::invocation::Invocation;
+use cilk_types::stack::Stack;
+use cilk_types::trace::Trace;
+use std::alloc::{AllocError, Global};
+use std::marker::Model;
+
+/// A frame that has started a child: how and where, and the earliest `end` that its block awaits.
+#[derive(Clone, Copy)]
+pub struct Parent {
+    pub how: Invocation,
+    pub at: Pos,
+    pub ends: Option<Pos>,
+}
+
+// What comes right before the next event at the earliest, the earliest `end` that the block at hand awaits, and the frames that wait.
+#[derive(Drop)]
+struct Pass {
+    ahead: Option<Pos>,
+    ends: Option<Pos>,
+    waiting: Stack<Parent>,
+}
+
+impl Model for Pass {
+    ghost use Rattle.cilk_tree.specs.Earliest.{Known};
+
+    ghost Value = { Known };
+
+    ghost view = { λ p. record { ahead = p.ahead; ends = p.ends; waiting = p.waiting } };
+}
+
+impl Pass {
+    fn new(alloc: Global) -> Pass
+        ensures { result ≡ nothing }
+    {
+        Pass {
+            ahead: None,
+            ends: None,
+            waiting: Stack::new(alloc),
+        }
+    }
+
+    // Meets the event at a position: the earliest of those that come right before it.
+    fn meet(&mut self, mark: Mark, at: Pos) -> Result<Option<Pos>, AllocError>
+        ensures earliest { IfOk result (λ first. first ≡ given mark self.old) }
+        ensures met { IfOk result (λ _. self.new ≡ met mark at self.old) }
+    {
+        let mut first = self.ahead;
+        match mark {
+            Mark::Plain | Mark::Begin | Mark::Resume => self.ahead = Some(at),
+            Mark::Sync => {
+                first = earlier(self.ahead, self.ends);
+                self.ahead = Some(at);
+                self.ends = None;
+            }
+            Mark::Spawn => self.start(Invocation::Spawn, at)?,
+            Mark::Call => self.start(Invocation::Call, at)?,
+            Mark::End => self.end(at),
+        }
+        Ok(first)
+    }
+
+    // The frame at hand starts a child.
+    fn start(&mut self, how: Invocation, at: Pos) -> Result<(), AllocError>
+        ensures { IfOk result (λ _. self.new ≡ starts how at self.old) }
+    {
+        let ends = self.ends;
+        self.waiting.push(Parent { how, at, ends })?;
+        self.ahead = Some(at);
+        self.ends = None;
+        Ok(())
+    }
+
+    // The frame at hand ends.
+    fn end(&mut self, at: Pos)
+        ensures { self.new ≡ returned at self.old.ends self.old.waiting }
+    {
+        match self.waiting.pop() {
+            None => self.ahead = Some(at),
+            Some(parent) => match parent.how {
+                Invocation::Call => {
+                    self.ahead = Some(at);
+                    self.ends = parent.ends;
+                }
+                Invocation::Spawn => {
+                    self.ahead = Some(parent.at);
+                    self.ends = earlier(Some(at), parent.ends);
+                }
+            },
+        }
+    }
+}
+
+// The earlier of two positions, where there are any.
+fn earlier(first: Option<Pos>, second: Option<Pos>) -> Option<Pos>
+    ensures { result ≡ sooner first second }
+{
+    match (first, second) {
+        (None, _) => second,
+        (Some(_), None) => first,
+        (Some(a), Some(b)) => { if b < a { Some(b) } else { Some(a) } }
+    }
+}
+
+/// For each event the earliest of those that come right before it. Cost and memory: linear in the events.
+pub(crate) fn earliest(alloc: Global, trace: &Trace) -> Result<Vec<Option<Pos>>, AllocError>
+    ensures { IfOk result (λ v. v.items ≡ all_earliest trace.now) }
+{
+    let mut pass = Pass::new(alloc);
+    let mut column = Vec::with_capacity(alloc, trace.len())?;
+    for event in trace.as_slice() {
+        let at = column.len() as Pos + 1;
+        let first = pass.meet(Mark::of(event), at)?;
+        column.push(first)?;
+    }
+    Ok(column)
+}

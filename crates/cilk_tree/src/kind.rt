@@ -1,0 +1,101 @@
+//! What stands at a position of a plan: an event without its value.
+
+ghost use Rattle.std.specs.Prelude.{◌≡◌, All, map, FitsSigned, IfOk};
+ghost use Rattle.std.specs.Int.{w64};
+ghost use Rattle.cilk_tree.specs.Kinds.{kind_of, IsOfWords};
+
+use cilk_types::event::{Cell, Event, FrameNo, Instance};
+use cilk_types::trace::Trace;
+use std::alloc::{AllocError, Global};
+
+/// An event of a run without its value.
+#[derive(Clone, Copy, PartialEq, Eq, Debug)]
+pub enum Kind {
+    Begin { frame: FrameNo },
+    Spawn { child: FrameNo },
+    Call { child: FrameNo },
+    Resume { parent: FrameNo },
+    Sync,
+    End,
+    Read { cell: Cell },
+    Write { cell: Cell },
+    Create { instance: Instance },
+    Update { instance: Instance },
+    Set { instance: Instance },
+    Value { instance: Instance },
+    Print,
+}
+
+/// What a run's frames do next.
+#[derive(Clone, Copy, PartialEq, Eq, Debug)]
+pub enum Asked {
+    /// The frame makes an event of this kind.
+    Next { frame: FrameNo, kind: Kind },
+    /// The run has ended.
+    Nothing,
+}
+
+/// The event without its value.
+pub fn without_value(event: &Event) -> Kind
+    ensures { result ≡ kind_of event.now }
+{
+    match *event {
+        Event::Begin { frame } => Kind::Begin { frame },
+        Event::Spawn { child } => Kind::Spawn { child },
+        Event::Call { child } => Kind::Call { child },
+        Event::Resume { parent } => Kind::Resume { parent },
+        Event::Sync => Kind::Sync,
+        Event::End => Kind::End,
+        Event::Read { cell, value: _ } => Kind::Read { cell },
+        Event::Write { cell, value: _ } => Kind::Write { cell },
+        Event::Create { instance } => Kind::Create { instance },
+        Event::Update { instance, value: _ } => Kind::Update { instance },
+        Event::Set { instance, value: _ } => Kind::Set { instance },
+        Event::Value { instance, value: _ } => Kind::Value { instance },
+        Event::Print { value: _ } => Kind::Print,
+    }
+}
+
+/// The kinds of a trace's events, in order.
+pub(crate) fn kinds(alloc: Global, trace: &Trace) -> Result<Vec<Kind>, AllocError>
+    ensures { IfOk result (λ v. v.items ≡ map kind_of trace.now) }
+{
+    let mut kinds = Vec::with_capacity(alloc, trace.len())?;
+    for event in trace.as_slice() {
+        kinds.push(without_value(event))?;
+    }
+    Ok(kinds)
+}
+
+// What an event reads or writes is a word.
+fn of_words(event: &Event)
+    ensures { IsOfWords event.now }
+{
+    if let Event::Read { value, .. } | Event::Write { value, .. } = *event {
+        let _read = value;
+    }
+}
+
+fn word(value: &i64)
+    ensures { FitsSigned w64 value.now }
+{
+    let _read = *value;
+}
+
+/// What a trace's events read and write are words.
+pub(crate) fn events_of_words(trace: &Trace)
+    ensures { All IsOfWords trace.now }
+{
+    'each: for event in trace.as_slice() {
+        of_words(event);
+    }
+}
+
+/// Numbers of the code are words.
+pub(crate) fn words(values: &[i64])
+    ensures { All (FitsSigned w64) values.now }
+{
+    'each: for value in values {
+        word(value);
+    }
+}

@@ -1,0 +1,209 @@
+//! The plan of a run.
+
+ghost use Rattle.std.specs.Prelude.{◌≡◌, ◌↔◌, ℕ, ◌+◌, ◌<◌, ◌≤◌, ◌++◌, Option, Some, length, map, replicate, slice_set, IfOk, IfSome, IsTrue, MatchOption};
+ghost use Rattle.cilk_types.specs.declared.limits.TheConstants.{MAX_EVENTS};
+ghost use Rattle.cilk_tree.specs.Before.{IsPosition};
+ghost use Rattle.cilk_tree.specs.Orders.{IsOrderly};
+ghost use Rattle.cilk_tree.specs.Runs.{IsAsked};
+ghost use Rattle.cilk_tree.specs.Values.{HasValues};
+ghost use Rattle.cilk_tree.specs.Word.{after, event, resume, what, word, IsWord};
+ghost use Rattle.cilk_tree.specs.Earliest.{earliest as earliest_of};
+ghost use Rattle.cilk_tree.specs.Kinds.{kind_of_event, IsBehind};
+ghost use Rattle.cilk_tree.specs.Planned.{planned, HasOneAhead, HasPlan};
+ghost use Rattle.cilk_tree.specs.Resumptions.{AreResumptions};
+
+use crate::earliest::earliest;
+use crate::frames::frames;
+use crate::kind::{Asked, Kind, events_of_words, kinds, words};
+use crate::opening::first_words;
+use cilk_types::event::{FrameNo, Pos};
+use cilk_types::trace::Trace;
+use std::alloc::{AllocError, Global};
+use std::marker::Model;
+use std::snapshot::Snapshot;
+
+/// The plan of a run: to a contract the run's story, in memory its places alone. It has no value of any event.
+pub struct Plan {
+    opening: Vec<i64>,
+    words: Vec<u64>,
+    kinds: Vec<Kind>,
+    frames: Vec<FrameNo>,
+    earliest: Vec<Option<Pos>>,
+    events: Snapshot<Trace>,
+}
+
+// A function of its own, so that a proof follows one call where a plan is dropped.
+impl Drop for Plan {
+    fn drop(self) {
+        let Plan {
+            opening: _opening,
+            words: _words,
+            kinds: _kinds,
+            frames: _frames,
+            earliest: _earliest,
+            events: _events,
+        } = self;
+    }
+}
+
+impl Model for Plan {
+    ghost use Rattle.std.specs.Prelude.{◌≡◌, ◌≤◌, ◌+◌, ◌++◌, length, map, replicate};
+    ghost use Rattle.cilk_tree.specs.Word.{word};
+    ghost use Rattle.cilk_tree.specs.Kinds.{kind_of};
+    ghost use Rattle.cilk_types.specs.declared.limits.TheConstants.{MAX_EVENTS};
+    ghost use Rattle.cilk_tree.specs.declared.story.Story.{Story};
+    ghost use Rattle.cilk_tree.specs.Orders.{IsOrderly};
+    ghost use Rattle.cilk_tree.specs.Values.{HasValues};
+    ghost use Rattle.cilk_tree.specs.Earliest.{all_earliest};
+    ghost use Rattle.cilk_tree.specs.Frames.{AreFrames};
+    ghost use Rattle.cilk_tree.specs.Planned.{planned};
+
+    ghost Value = { Story };
+
+    ghost view = { λ p. planned p.events.value p.opening.items };
+
+    ghost invariant = { λ p. IsOrderly (planned p.events.value p.opening.items) × HasValues (planned p.events.value p.opening.items) × (p.kinds.items ≡ map kind_of p.events.value) × (length p.events.value ≤ MAX_EVENTS) × (p.earliest.items ≡ all_earliest p.events.value) × AreFrames p.events.value p.frames.items × (p.words.items ≡ map word p.opening.items ++ replicate (length p.events.value + 1) 0) };
+}
+
+impl Plan {
+    /// The plan of the run of a trace, whose cells open with these values.
+    pub fn of(alloc: Global, trace: &Trace, opening: Vec<i64>) -> Result<Plan, AllocError>
+        requires { HasPlan trace.now opening.items }
+        ensures story { IfOk result (λ plan. plan ≡ planned trace.now opening.items) }
+        ensures asked { IfOk result (λ plan. (p : ℕ) → IsPosition trace.now p → IsAsked plan p) }
+    {
+        words(opening.as_slice());
+        events_of_words(trace);
+        let words = first_words(alloc, opening.as_slice(), trace.len())?;
+        let kinds = kinds(alloc, trace)?;
+        let frames = frames(alloc, trace)?;
+        let earliest = earliest(alloc, trace)?;
+        Ok(Plan {
+            opening,
+            words,
+            kinds,
+            frames,
+            earliest,
+            events: Snapshot::of(trace),
+        })
+    }
+
+    /// What comes after so many events: the next event's kind, and whose frame it is in; nothing past the last.
+    pub fn next(&self, after: Pos) -> Asked
+        ensures { IsBehind self.now after result }
+    {
+        let place = after as usize;
+        if place < self.kinds.len() {
+            Asked::Next {
+                frame: self.frames[place],
+                kind: self.kinds[place],
+            }
+        } else {
+            Asked::Nothing
+        }
+    }
+
+    /// The earliest of the events that come right before the one at a position: before a `sync` come the event ahead of it and the `end`s
+    /// of the children that were spawned in its block. None comes before the first event.
+    pub fn earliest_before(&self, at: Pos) -> Option<Pos>
+        ensures { result ≡ earliest_of (after self.now at) }
+    {
+        match self.earliest.get(at.saturating_sub(1) as usize) {
+            Some(first) => *first,
+            None => None,
+        }
+    }
+
+    /// The spawn whose continuation the event at a position resumes, where it is the `resume` after a spawn.
+    pub fn resumed_by(&self, at: Pos) -> Option<Pos>
+        ensures { (k : ℕ) → (result ≡ Some k) ↔ (what self.now at ≡ resume k) }
+    {
+        self.laws();
+        let Some(Kind::Resume { .. }) = self.kind_at(at) else {
+            return None;
+        };
+        let spawned = self.earliest_before(at)?;
+        match self.kind_at(spawned) {
+            Some(Kind::Spawn { .. }) => Some(spawned),
+            _ => None,
+        }
+    }
+
+    /// Whether the event at a position is a step on a word that threads share.
+    pub fn is_word(&self, at: Pos) -> bool
+        ensures { IsTrue result ↔ IsWord (what self.now at) }
+    {
+        match self.kind_at(at) {
+            Some(Kind::Read { .. } | Kind::Write { .. } | Kind::Spawn { .. }) => true,
+            Some(Kind::Resume { .. }) => self.resumed_by(at).is_some(),
+            Some(Kind::End) => at as usize == self.kinds.len(),
+            _ => false,
+        }
+    }
+
+    /// For each position at which a spawn stands, that of the `resume` after it; 0, which is no position, for all others. Cost and memory:
+    /// linear in the events.
+    pub fn resumptions(&self, alloc: Global) -> Result<Vec<Pos>, AllocError>
+        ensures { IfOk result (λ column. AreResumptions self.now column.items) }
+    {
+        self.laws();
+        let count = self.count();
+        let mut column = Vec::with_capacity(alloc, count + 1)?;
+        column.resize(count + 1, 0)?;
+        for behind in 0..count {
+            if let Kind::Resume { .. } = self.kinds[behind] {
+                let at = behind as Pos + 1;
+                note(&mut column, self.resumed_by(at), at);
+            }
+        }
+        Ok(column)
+    }
+
+    // The kind of the event at a position; that of the first at 0.
+    fn kind_at(&self, at: Pos) -> Option<Kind>
+        ensures { result ≡ kind_of_event (event self.now at) }
+    {
+        self.kinds.get(at.saturating_sub(1) as usize).copied()
+    }
+
+    /// How many events the run has.
+    pub fn count(&self) -> usize
+        ensures events { result ≡ length self.now.events }
+        ensures within { result ≤ MAX_EVENTS }
+    {
+        self.kinds.len()
+    }
+
+    /// The values with which the cells open.
+    pub fn opening(&self) -> &[i64]
+        ensures { result.now ≡ self.now.opening }
+    {
+        self.opening.as_slice()
+    }
+
+    /// The words of a run as it begins: the cells' opening values in the form of words, then a 0 for the end and for each position.
+    pub fn first_words(&self) -> &[u64]
+        ensures { result.now ≡ map word self.now.opening ++ replicate (length self.now.events + 1) 0 }
+    {
+        self.words.as_slice()
+    }
+
+    /// What holds of the plan's story.
+    pub fn laws(&self)
+        ensures order { IsOrderly self.now }
+        ensures values { HasValues self.now }
+        ensures ahead { HasOneAhead self.now }
+    {
+        let _cells = self.opening.len();
+    }
+}
+
+// Where an event resumes what a spawn left, notes it at the spawn.
+fn note(column: &mut Vec<Pos>, spawned: Option<Pos>, at: Pos)
+    requires { IfSome spawned (λ place. place < length column.old.items) }
+    ensures { MatchOption spawned (column.new.items ≡ column.old.items) (λ place. column.new.items ≡ slice_set column.old.items place at) }
+{
+    if let Some(place) = spawned {
+        column[place as usize] = at;
+    }
+}

@@ -1,6 +1,0 @@
-pub mod Begun
-pub mod Due
-pub mod Ending
-pub mod Numbered
-pub mod OfKind
-pub mod Planned

@@ -1,4 +1,0 @@
-pub mod Asks
-pub mod Begun
-pub mod Shared
-pub mod Turns

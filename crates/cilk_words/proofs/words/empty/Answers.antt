@@ -1,5 +1,0 @@
-use Rattle.std.proofs.Common.{rules}
-use Rattle.cilk_words.proofs.words.empty.Goals as goal
-
-pub returns : goal.returns
-returns c = search rules

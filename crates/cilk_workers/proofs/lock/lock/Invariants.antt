@@ -1,0 +1,5 @@
+use Rattle.crossbeam_queue.specs.Passes.{IsPassOf}
+use Rattle.cilk_workers.proofs.lock.lock.Given as goal
+
+abbrev pub invariant-loop : goal.invariant-loop
+invariant-loop g l = IsPassOf l.lock l.key

@@ -1,0 +1,11 @@
+use Rattle.std.proofs.Common.{sym, subst}
+use Rattle.cilk_workers.specs.Rows.{Run, run_of, IsGoodRun, EndsAt, BeginsAt}
+use Rattle.cilk_workers.proofs.Merges.{three_near}
+use Rattle.cilk_workers.proofs.merging.merge.Goals as goal
+
+pub join3-requires-clause-near : goal.join3-requires-clause-near
+join3-requires-clause-near c =
+    let y = run_of c.args.yard.now c.args.parts.piece.reducers in
+    three_near y c.in-Some-Some.left c.args.parts.piece c.in-Some-Some.right
+    (subst (IsGoodRun y) c.in-Some-Some.is-0 c.requires.good.0) c.requires.good.1 (subst (IsGoodRun y) c.in-Some-Some.is-1 c.requires.good.2)
+    (subst (λ (o : Run). EndsAt o c.args.parts.piece.from) c.in-Some-Some.is-0 c.requires.near.0) (sym (subst (λ (o : Run). BeginsAt o c.args.parts.piece.upto) c.in-Some-Some.is-1 c.requires.near.1))

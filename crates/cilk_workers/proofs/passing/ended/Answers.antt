@@ -1,0 +1,24 @@
+use Rattle.cilk_types.specs.declared.event.Event.TheVariants.{End}
+use Rattle.cilk_tree.specs.declared.kind.Kind.TheVariants as kinds
+use Rattle.cilk_tree.specs.Word.{event}
+use Rattle.cilk_workers.specs.Shared.{story_in}
+use Rattle.cilk_workers.proofs.Due.{can_pass, chain_follows, here, passes}
+use Rattle.cilk_workers.proofs.OfKind.{no_sync, what_end}
+use Rattle.cilk_workers.proofs.passing.ended.Goals as goal
+
+pub end-requires-clause-next : goal.end-requires-clause-next
+end-requires-clause-next c =
+    let y = c.args.shared.now in
+    let p = c.args.work.now.piece in
+    let due = c.requires.due in
+    let works = due.works in
+    let is = due.kind_is in
+    passes y p End works.good
+    (can_pass y p works.good c.laws.ensures.order due.asked c.requires.more (what_end (story_in y) p.upto is c.requires.more) (no_sync (event (story_in y) p.upto) kinds.End is (λ q. cc q)))
+    (here y c.args.work.now kinds.End due c.requires.more c.laws.ensures.same).1
+
+pub end-requires-2-clause-end : goal.end-requires-2-clause-end
+end-requires-2-clause-end c =
+    let y = c.args.shared.now in
+    let due = c.requires.due in
+    chain_follows y c.args.work.now kinds.End due c.requires.more c.laws.ensures.same End (here y c.args.work.now kinds.End due c.requires.more c.laws.ensures.same).1

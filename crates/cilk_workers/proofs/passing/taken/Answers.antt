@@ -1,0 +1,20 @@
+use Rattle.std.proofs.Common.{inr, refl}
+use Rattle.cilk_workers.proofs.Due.{answered_done, can_take, took}
+use Rattle.cilk_workers.proofs.OfKind.{silent_done}
+use Rattle.cilk_workers.proofs.passing.taken.Goals as goal
+
+pub take-requires-clause-next : goal.take-requires-clause-next
+take-requires-clause-next c =
+    let due = c.requires.due.1 in
+    let works = due.works in
+    let p = c.args.work.now.piece in
+    can_take c.args.shared.now _ p c.args.ticket p.upto c.yard.ensures c.laws.ensures.order due.asked c.requires.resumes (inr (works.good.1, refl))
+
+pub answer-requires-clause-answer : goal.answer-requires-clause-answer
+answer-requires-clause-answer c =
+    answered_done c.args.shared.now c.args.work.now c.requires.due.0 c.requires.due.1 c.requires.more c.laws.ensures.same (silent_done c.requires.due.0 c.requires.due.2)
+
+pub returns-in-Yes : goal.returns-in-Yes
+returns-in-Yes c =
+    let due = c.requires.due.1 in
+    took c.args.shared.now c.yard.result.now c.args.work.now c.args.ticket c.take.new.self c.answer.new.self c.yard.ensures c.laws.ensures.order due.works c.requires.resumes c.in-Yes.ensures c.answer.ensures

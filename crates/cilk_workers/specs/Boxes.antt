@@ -1,0 +1,110 @@
+-- What waits at a sync block.
+use Rattle.std.specs.Prelude.{◌≡◌, ◌<◌, ◌≤◌, ◌⊎◌, ℕ, nat_eq, nat_lt, Bool, true, false, if◌then◌else◌, List, [], ◌∷◌, Option, Some, None}
+use Rattle.cilk_shared.specs.Pieces.{PieceValue}
+use Rattle.cilk_replay.specs.Chains.{ChainValue}
+use Rattle.cilk_replay.specs.Courses.{CourseValue}
+use Rattle.cilk_workers.specs.Rows.{Run, RunValue, Wait, Rows, row, rows, placed_in, awaiting, end_in, is_empty, parts_in}
+
+-- the rows; the course of the run; the block's sync; the greatest key that was stolen, and the greatest that has arrived, 0 where there is none; and
+-- whether the sync's own piece has arrived, as it has of a block that has passed
+pub record BoxValue : Type 0 where
+  pub rows : Rows
+  pub course : CourseValue
+  pub sync : ℕ
+  pub stolen : ℕ
+  pub arrived : ℕ
+  pub closed : Bool
+
+abbrev pub is_some : Option ChainValue → Bool
+is_some None = false
+is_some (Some c) = true
+
+-- the chain that came, if one did
+abbrev pub later : Option ChainValue → Option ChainValue → Option ChainValue
+later c None = c
+later c (Some d) = Some d
+
+abbrev pub opening : RunValue → CourseValue → ℕ → BoxValue
+opening y c s = record { rows = rows y (row None []); course = c; sync = s; stolen = 0; arrived = 0; closed = false }
+
+-- the key is among the awaited ones
+abbrev pub Stands : List Wait → ℕ → Type 0
+Stands [] k = ⊥
+Stands (w ∷ ws) k = (w.key ≡ k) ⊎ Stands ws k
+
+abbrev pub IsAbsent : List Wait → ℕ → Type 0
+IsAbsent [] k = Unit {0}
+IsAbsent (w ∷ ws) k = (nat_eq w.key k ≡ false) × IsAbsent ws k
+
+-- whether the key is awaited is told
+abbrev pub IsAwaitedIf : Bool → List Wait → ℕ → Type 0
+IsAwaitedIf true ws k = Stands ws k × (IsAbsent ws k → ⊥)
+IsAwaitedIf false ws k = IsAbsent ws k × (Stands ws k → ⊥)
+
+-- there is a run, and it ends at the place
+abbrev pub IsUpTo : Run → ℕ → Type 0
+IsUpTo None s = ⊥
+IsUpTo (Some p) s = p.upto ≡ s
+
+-- the last run of a row
+abbrev pub Closes : Run → List Wait → ℕ → Type 0
+Closes run [] s = IsUpTo run s
+Closes run (w ∷ ws) s = Closes w.run ws s
+
+-- the sync's chain, once it is there: it stands at the sync, where the last run ends
+abbrev pub IsClosed : Rows → CourseValue → ℕ → Option ChainValue → Type 0
+IsClosed j u s None = Unit {0}
+IsClosed j u s (Some c) = (c.of ≡ u) × (c.at ≡ s) × (let r = j.row in Closes r.run r.waits s)
+
+-- whether the sync's own piece has arrived: it waits with its chain, or has passed
+abbrev pub closed_by : Bool → Option ChainValue → Bool
+closed_by true c = true
+closed_by false c = is_some c
+
+-- of a block that has passed nothing is left
+abbrev pub IsGone : Bool → Rows → Option ChainValue → Type 0
+IsGone false j c = Unit {0}
+IsGone true j c = (j.row ≡ row None []) × (c ≡ None)
+
+-- no piece is there, and no key is awaited
+abbrev pub IsUnused : BoxValue → Type 0
+IsUnused j = (parts_in j.rows ≡ 0) × (let r = j.rows in let w = r.row in is_empty w.waits ≡ true)
+
+-- k is above every key that was stolen or has arrived, and the sync's piece hasn't arrived
+abbrev pub IsFresh : BoxValue → ℕ → Type 0
+IsFresh j k = (j.closed ≡ false) × (j.stolen < k) × (j.arrived < k)
+
+-- k may be stolen: it is above every key that was stolen and every other that has arrived, and the sync's piece hasn't arrived; and its parent goes
+-- on at a, behind all that is there
+abbrev pub IsOpen : BoxValue → ℕ → ℕ → Type 0
+IsOpen j k a = (j.closed ≡ false) × (j.stolen < k) × (j.arrived ≤ k) × (end_in j.rows ≤ a)
+
+-- a child's piece comes by an awaited key, or a fresh one; the sync's own piece, with its chain, by a fresh one, and it ends at the sync
+abbrev pub MayArrive : BoxValue → ℕ → PieceValue → Option ChainValue → Type 0
+MayArrive j k x None = (let r = j.rows in let w = r.row in Stands w.waits k) ⊎ IsFresh j k
+MayArrive j k x (Some c) = IsFresh j k × (let r = j.rows in let w = r.row in (c.of ≡ j.course) × (c.at ≡ j.sync) × (x.upto ≡ j.sync) × IsAbsent w.waits k)
+
+-- after k was stolen: it is awaited, unless it has arrived
+abbrev pub stolen_at : BoxValue → ℕ → ℕ → BoxValue
+stolen_at j k a = record j { rows = if nat_eq j.arrived k then j.rows else awaiting j.rows k a; stolen = k }
+
+-- after a piece has come to its place
+abbrev pub arrived_at : BoxValue → ℕ → PieceValue → Bool → BoxValue
+arrived_at j k x last = record j { rows = placed_in j.rows k x; arrived = if nat_lt j.arrived k then k else j.arrived; closed = if last then true else j.closed }
+
+abbrev pub is_there : Run → Bool
+is_there None = false
+is_there (Some p) = true
+
+-- the sync's piece is there, and no key is awaited
+abbrev pub passes : BoxValue → Bool
+passes j = if j.closed then (let r = j.rows in let w = r.row in if is_empty w.waits then is_there w.run else false) else false
+
+-- the one run that is left is moved out
+abbrev pub passed : BoxValue → BoxValue
+passed j = record j { rows = (let r = j.rows in rows r.of (row None [])) }
+
+-- the same of the piece alone, which a test can tell
+abbrev pub Comes : BoxValue → ℕ → PieceValue → Bool → Type 0
+Comes j k x false = MayArrive j k x None
+Comes j k x true = IsFresh j k × (let r = j.rows in let w = r.row in (x.upto ≡ j.sync) × IsAbsent w.waits k)

@@ -1,0 +1,37 @@
+-- What contracts see of a rack.
+use Rattle.std.specs.Prelude.{◌≡◌, ℕ, ◌+◌, ◌≤◌, true, List, [], ◌∷◌, ◌++◌, Result, MatchResult}
+use Rattle.crossbeam_deque.specs.Handles.{worker_deque, worker_view, worker_capacity, worker_index, stealer_deque}
+use Rattle.cilk_replay.specs.declared.chain.Task.{Task}
+use Rattle.cilk_workers.specs.declared.rack.Rack.{Rack}
+use Rattle.cilk_workers.specs.declared.rack.Picker.{Picker}
+
+module _ {N : Type 0} where
+  -- the tasks that were offered and not given back, the oldest first
+  abbrev pub waiting : Rack N → List Task
+  waiting r = (worker_view r.worker).waiting
+
+  -- no picker has been made
+  abbrev pub IsAlone : Rack N → Type 0
+  IsAlone r = (worker_view r.worker).alone ≡ true
+
+  -- how many offers there is room for
+  abbrev pub room : Rack N → ℕ
+  room r = worker_capacity r.worker
+
+  -- no more than the offers so far
+  abbrev pub offered : Rack N → ℕ
+  offered r = worker_index r.worker
+
+  -- the picker takes from the rack's deque
+  abbrev pub IsPickerOf : Rack N → Picker N → Type 0
+  IsPickerOf r p = stealer_deque p.stealer ≡ worker_deque r.worker
+
+  -- the deque is the same, with no less room
+  abbrev pub IsSameRack : Rack N → Rack N → Type 0
+  IsSameRack r r' = (worker_deque r'.worker ≡ worker_deque r.worker) × (room r ≤ room r')
+
+  -- the task is put behind the others, or comes back where there is no room
+  abbrev pub IsOffered : Rack N → Task → Result (Unit {0}) Task → Rack N → Type 0
+  IsOffered r t result r' = MatchResult result
+      (λ _. (waiting r' ≡ waiting r ++ t ∷ []) × (offered r' ≡ offered r + 1))
+      (λ u. (u ≡ t) × (waiting r' ≡ waiting r) × (room r ≤ offered r))

@@ -1,0 +1,18 @@
+-- The name of no run.
+use Rattle.std.specs.Prelude.{[]}
+use Rattle.cilk_workers.specs.Rows.{RunValue}
+use Rattle.cilk_replay.specs.Courses.{CourseValue}
+use Rattle.cilk_replay.specs.declared.chain.Task.{Task}
+
+abbrev pub no_run : RunValue
+no_run = record {
+  of = record { words = 0; slots = 0; views_name = 0; atom = 0; block = 0; offset = 0; slot_names = [] };
+  story = record { events = []; preceding = []; opening = []; asked = [] };
+  reducers = record { frames = [] };
+}
+
+abbrev pub no_course : CourseValue → Type 0
+no_course c = ⊥
+
+abbrev pub no_taken : Task → Type 0
+no_taken t = ⊥

@@ -1,0 +1,198 @@
+-- A row of awaited keys, with the runs of arrived keys between them.
+use Rattle.std.specs.Prelude.{◌≡◌, ◌+◌, ◌<◌, ◌≤◌, ℕ, zero, suc, nat_eq, Bool, true, false, if◌then◌else◌, List, [], ◌∷◌, ◌++◌, Option, Some, None}
+use Rattle.atomic_table.specs.Seated.{TableId}
+use Rattle.cilk_tree.specs.declared.story.Story.{Story}
+use Rattle.cilk_shared.specs.Values.{YardValue}
+use Rattle.cilk_shared.specs.declared.reducers.Reducers.{Reducers}
+use Rattle.cilk_shared.specs.Pieces.{PieceValue}
+
+-- a yard, and the reducers of its run
+pub record RunValue : Type 0 where
+  pub of : TableId
+  pub story : Story
+  pub reducers : Reducers
+
+abbrev pub run_of : YardValue → Reducers → RunValue
+run_of y r = record { of = y.of; story = y.story; reducers = r }
+
+abbrev pub yard_of : RunValue → YardValue
+yard_of y = record { of = y.of; story = y.story }
+
+-- the piece of a run of arrived keys, if there is one
+abbrev pub Run : Type 0
+Run = Option PieceValue
+
+-- a stolen child that hasn't arrived, the place at which its parent goes on, and the run from there on
+pub record Wait : Type 0 where
+  pub key : ℕ
+  pub goes_on : ℕ
+  pub run : Run
+
+-- the run ahead of the first awaited key, and the awaited keys in ascending order
+pub record Row : Type 0 where
+  pub run : Run
+  pub waits : List Wait
+
+-- of a run of the program
+pub record Rows : Type 0 where
+  pub of : RunValue
+  pub row : Row
+
+abbrev pub row : Run → List Wait → Row
+row run waits = record { run = run; waits = waits }
+
+abbrev pub rows : RunValue → Row → Rows
+rows y r = record { of = y; row = r }
+
+abbrev pub wait : ℕ → ℕ → Run → Wait
+wait key goes_on run = record { key = key; goes_on = goes_on; run = run }
+
+-- ---- pieces beside one another
+
+abbrev pub begin_of : Run → ℕ → ℕ
+begin_of None a = a
+begin_of (Some p) a = p.from
+
+abbrev pub end_of : Run → ℕ → ℕ
+end_of None b = b
+end_of (Some p) b = p.upto
+
+-- one piece of a piece and the runs beside it
+abbrev pub between : Run → PieceValue → Run → PieceValue
+between left x right = record { of = x.of; story = x.story; reducers = x.reducers; from = begin_of left x.from; upto = end_of right x.upto }
+
+-- it belongs to the program's run
+abbrev pub OfRun : RunValue → PieceValue → Type 0
+OfRun y p = (p.of ≡ y.of) × (p.story ≡ y.story) × (p.reducers ≡ y.reducers)
+
+-- and is not empty
+abbrev pub IsGood : RunValue → PieceValue → Type 0
+IsGood y p = OfRun y p × (p.from < p.upto)
+
+abbrev pub IsGoodRun : RunValue → Run → Type 0
+IsGoodRun y None = Unit {0}
+IsGoodRun y (Some p) = IsGood y p
+
+abbrev pub AreGood : RunValue → Run → PieceValue → Run → Type 0
+AreGood y left x right = IsGoodRun y left × IsGood y x × IsGoodRun y right
+
+abbrev pub EndsAt : Run → ℕ → Type 0
+EndsAt None a = Unit {0}
+EndsAt (Some p) a = p.upto ≡ a
+
+abbrev pub BeginsAt : Run → ℕ → Type 0
+BeginsAt None a = Unit {0}
+BeginsAt (Some p) a = p.from ≡ a
+
+-- ---- what holds of a row
+
+-- where a piece must begin behind a run, or where there is none
+abbrev pub behind : Run → ℕ → ℕ
+behind None a = a
+behind (Some p) a = p.upto
+
+-- Behind what ends at `b`: each run after an awaited key begins where the parent goes on, and that is where what lies ahead ends or later. So the
+-- pieces lie apart, in the order of the run.
+abbrev pub Met : RunValue → ℕ → List Wait → Type 0
+Met y b [] = Unit {0}
+Met y b (w ∷ ws) = (b ≤ w.goes_on) × IsGoodRun y w.run × BeginsAt w.run w.goes_on × Met y (behind w.run w.goes_on) ws
+
+abbrev pub MetRows : Rows → Type 0
+MetRows j = let r = j.row in IsGoodRun j.of r.run × Met j.of (behind r.run 0) r.waits
+
+-- where all ends, behind what ends at `b`
+abbrev pub last_end : ℕ → List Wait → ℕ
+last_end b [] = b
+last_end b (w ∷ ws) = last_end (behind w.run w.goes_on) ws
+
+abbrev pub end_in : Rows → ℕ
+end_in j = let r = j.row in last_end (behind r.run 0) r.waits
+
+-- the pieces, in order
+abbrev pub pieces_of : Run → List Wait → List PieceValue
+pieces_of None [] = []
+pieces_of None (w ∷ ws) = pieces_of w.run ws
+pieces_of (Some p) [] = p ∷ []
+pieces_of (Some p) (w ∷ ws) = p ∷ pieces_of w.run ws
+
+-- each is of the run and has events, and begins at b or later, behind the end of the one ahead
+abbrev pub LieApart : RunValue → ℕ → List PieceValue → Type 0
+LieApart y b [] = Unit {0}
+LieApart y b (p ∷ ps) = (b ≤ p.from) × IsGood y p × LieApart y p.upto ps
+
+abbrev pub PiecesLieApart : Rows → Type 0
+PiecesLieApart j = let r = j.row in LieApart j.of 0 (pieces_of r.run r.waits)
+
+-- ---- a piece comes
+
+-- a run ahead of a row, with an awaited key between
+abbrev pub ahead : Run → ℕ → ℕ → Row → Row
+ahead run key goes_on r = row run (wait key goes_on r.run ∷ r.waits)
+
+-- It makes one run of those beside it: in place of its key where that is awaited, and else behind all.
+abbrev pub placed : Run → List Wait → ℕ → PieceValue → Row
+placed run [] k x = row (Some (between run x None)) []
+placed run (w ∷ ws) k x = if nat_eq w.key k then row (Some (between run x w.run)) ws else ahead run w.key w.goes_on (placed w.run ws k x)
+
+abbrev pub IfHere : Bool → Type 0 → Type 0 → Type 0
+IfHere true A B = A
+IfHere false A B = B
+
+-- The piece begins where the run before it ends, or else at `a`; and it ends where its key's parent goes on.
+abbrev pub FitsRow : ℕ → Run → List Wait → ℕ → PieceValue → Type 0
+FitsRow a run [] k x = x.from ≡ behind run a
+FitsRow a run (w ∷ ws) k x = IfHere (nat_eq w.key k) ((x.from ≡ behind run a) × (x.upto ≡ w.goes_on)) (FitsRow w.goes_on w.run ws k x)
+
+-- ahead of all runs and keys it may begin anywhere
+abbrev pub FitsIn : Rows → ℕ → PieceValue → Type 0
+FitsIn j k x = let r = j.row in FitsRow x.from r.run r.waits k x
+
+abbrev pub placed_in : Rows → ℕ → PieceValue → Rows
+placed_in j k x = let r = j.row in rows j.of (placed r.run r.waits k x)
+
+abbrev pub awaiting : Rows → ℕ → ℕ → Rows
+awaiting j k a = let r = j.row in rows j.of (row r.run (r.waits ++ wait k a None ∷ []))
+
+-- ---- how many
+
+abbrev pub count : Run → ℕ
+count None = 0
+count (Some p) = 1
+
+abbrev pub runs_in : List Wait → ℕ
+runs_in [] = 0
+runs_in (w ∷ ws) = count w.run + runs_in ws
+
+abbrev pub parts_in : Rows → ℕ
+parts_in j = let r = j.row in count r.run + runs_in r.waits
+
+-- ---- by places: run 0 is ahead of the first awaited key, run n + 1 follows the one at place n
+
+abbrev pub place_of : List Wait → ℕ → ℕ
+place_of [] k = 0
+place_of (w ∷ ws) k = if nat_eq w.key k then 0 else suc (place_of ws k)
+
+abbrev pub run_at : Run → List Wait → ℕ → Run
+run_at run ws zero = run
+run_at run [] (suc n) = None
+run_at run (w ∷ ws) (suc n) = run_at w.run ws n
+
+abbrev pub with_run : Run → List Wait → ℕ → Run → Row
+with_run run ws zero x = row x ws
+with_run run [] (suc n) x = row run []
+with_run run (w ∷ ws) (suc n) x = ahead run w.key w.goes_on (with_run w.run ws n x)
+
+-- without the awaited key at a place and the run after it
+abbrev pub without : List Wait → ℕ → List Wait
+without [] n = []
+without (w ∷ ws) zero = ws
+without (w ∷ ws) (suc n) = w ∷ without ws n
+
+abbrev pub is_empty : List Wait → Bool
+is_empty [] = true
+is_empty (w ∷ ws) = false
+
+-- the same as `FitsRow`, from the place where the piece must begin
+abbrev pub FitsFrom : ℕ → List Wait → ℕ → PieceValue → Type 0
+FitsFrom b [] k x = x.from ≡ b
+FitsFrom b (w ∷ ws) k x = IfHere (nat_eq w.key k) ((x.from ≡ b) × (x.upto ≡ w.goes_on)) (FitsFrom (behind w.run w.goes_on) ws k x)

@@ -1,0 +1,34 @@
+-- What contracts see of what the workers of a run share.
+use Rattle.std.specs.Prelude.{◌≡◌, ◌≤◌, ◌<◌, ◌⊎◌, ℕ, length, Some}
+use Rattle.cilk_workers.specs.Rows.{RunValue, run_of}
+use Rattle.cilk_replay.specs.Courses.{CourseValue}
+use Rattle.cilk_shared.specs.declared.reducers.Reducers.{Reducers}
+use Rattle.cilk_tree.specs.Frames.{IsInFrame}
+use Rattle.cilk_tree.specs.Kinds.{kind_of_event}
+use Rattle.cilk_tree.specs.declared.kind.Asked.{Asked}
+use Rattle.cilk_tree.specs.declared.kind.Asked.TheVariants.{Next, Nothing}
+use Rattle.cilk_tree.specs.declared.kind.Kind.TheVariants as kinds
+use Rattle.cilk_shared.specs.Values.{YardValue}
+use Rattle.cilk_tree.specs.declared.story.Story.{Story}
+use Rattle.cilk_tree.specs.Word.{event}
+
+-- a run of the program, and its course
+pub record SharedValue : Type 0 where
+  pub run : RunValue
+  pub course : CourseValue
+
+abbrev pub shared_with : YardValue → Reducers → CourseValue → SharedValue
+shared_with y r c = record { run = run_of y r; course = c }
+
+-- its story
+abbrev pub story_in : SharedValue → Story
+story_in y = let r = y.run in r.story
+
+-- the cells that the story's events name open with values
+abbrev pub HasCells : Story → Type 0
+HasCells s = (p c : ℕ) → (kind_of_event (event s p) ≡ Some (kinds.Read c)) ⊎ (kind_of_event (event s p) ≡ Some (kinds.Write c)) → c < length s.opening
+
+-- the kind of the event at a position, and whose frame it is in
+abbrev pub IsNext : Story → ℕ → Asked → Type 0
+IsNext s at Nothing = (at ≡ 0) ⊎ (length s.events < at)
+IsNext s at (Next frame kind) = (kind_of_event (event s at) ≡ Some kind) × IsInFrame s.events at frame × (1 ≤ at) × (at ≤ length s.events)

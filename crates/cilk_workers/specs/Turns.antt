@@ -1,0 +1,84 @@
+-- What a worker has in its hands, and what a turn leads to.
+use Rattle.std.specs.Prelude.{◌≡◌, ◌+◌, ◌<◌, ◌⊎◌, ℕ, ℤ, List, length, reverse, Some}
+use Rattle.cilk_types.specs.declared.event.Event.{Event}
+use Rattle.cilk_types.specs.declared.event.Event.TheVariants as events
+use Rattle.cilk_program.specs.SerialRun.{Transcript}
+use Rattle.cilk_program.specs.Sources.{source}
+use Rattle.cilk_workers.specs.Rows.{IsGood}
+use Rattle.cilk_replay.specs.Chains.{standing}
+use Rattle.cilk_determinacy.specs.Nested.{named}
+use Rattle.cilk_replay.specs.InputCourses.{run_of}
+use Rattle.cilk_replay.specs.Frames.{course_on}
+use Rattle.cilk_replay.specs.Stories.{IsPlannedRun}
+use Rattle.cilk_shared.specs.Pieces.{PieceValue, grown, segment_of}
+use Rattle.cilk_tree.specs.Kinds.{kind_of_event}
+use Rattle.cilk_tree.specs.declared.kind.Kind.{Kind}
+use Rattle.cilk_tree.specs.declared.kind.Kind.TheVariants as kinds
+use Rattle.cilk_runs.specs.Traces.{trace}
+use Rattle.cilk_shared.specs.Values.{MayPass}
+use Rattle.cilk_tree.specs.Runs.{Departs, IsAsked, IsFollowed}
+use Rattle.cilk_tree.specs.Word.{event, resume, what}
+use Rattle.cilk_workers.specs.Shared.{SharedValue, story_in}
+use Rattle.cilk_workers.specs.declared.work.Work.{Work}
+use Rattle.cilk_workers.specs.declared.work.Turn.{Turn}
+use Rattle.cilk_workers.specs.declared.work.Turn.TheVariants.{Goes, Offers, Arrives, Ended, Finished, Departed, Stopped}
+use Rattle.cilk_runs.specs.Steps.{result_in}
+
+-- a piece of the run that is not empty, and a chain that stands at its next event
+pub record Works (y : SharedValue) (w : Work) : Type 0 where
+  pub good : IsGood y.run w.piece
+  pub stands : let p = w.piece in w.chain ≡ standing y.course p.upto
+
+-- The course that the plan's run has on the inputs at hand ends with this result, however many ticks it takes: the last end among its deeds,
+-- the root's, gave it.
+abbrev pub IsResult : SharedValue → ℤ → Type 0
+IsResult y value =
+    let u = y.course in (run : Transcript) (es : List Event) (opening : List ℤ)
+    → IsPlannedRun (source u.program) u.own run es opening
+    → result_in (reverse (trace (run_of (course_on (source u.program) u.inputs (named (source u.program) run))))) ≡ value
+
+-- The root has ended with this result: the piece goes up to the run's last event, and its frames asked for that and for all before it.
+pub record HasEnded (y : SharedValue) (p : PieceValue) (value : ℤ) : Type 0 where
+  pub good : IsGood y.run p
+  pub last : let s = story_in y in p.upto ≡ length s.events + 1
+  pub followed : let s = story_in y in IsFollowed s (length s.events)
+  pub result : IsResult y value
+
+-- the piece's next event is a `sync`, and what comes right before it isn't all in the piece: children of its block are elsewhere
+abbrev pub IsHeldUp : SharedValue → PieceValue → Type 0
+IsHeldUp y p = (event (story_in y) p.upto ≡ Some events.Sync) × (MayPass (segment_of p) → ⊥)
+
+-- the piece has the next event, by which a spawned child has ended; or it stays, and that event resumes what a spawn left
+abbrev pub GoesNoFurther : SharedValue → PieceValue → PieceValue → Type 0
+GoesNoFurther y before p =
+    ((p ≡ grown before) × (event (story_in y) before.upto ≡ Some events.End))
+    ⊎ ((p ≡ before) × ((k : ℕ) × (what (story_in y) before.upto ≡ resume k)))
+
+-- What a turn of a piece leads to with what is in the hands then: the worker goes on with one event more, or has an end; the task that it
+-- offers is the continuation of the spawn that it made. The piece stays as it was where it arrives, which is ahead of a `sync`, and where
+-- another took the continuation. A departure is a true one, and of a want of memory nothing more is said.
+abbrev pub Turned : SharedValue → PieceValue → Work → Turn → Type 0
+Turned y before w Goes = Works y w × (let p = w.piece in p ≡ grown before)
+Turned y before w (Offers t) = Works y w × (let p = w.piece in p ≡ grown before) × (t.of ≡ y.course) × (t.ticket ≡ before.upto)
+Turned y before w Arrives = Works y w × (let p = w.piece in p ≡ before) × IsHeldUp y before
+Turned y before w Ended = (let p = w.piece in IsGood y.run p × GoesNoFurther y before p)
+Turned y before w (Finished value) = (let p = w.piece in HasEnded y p value × (p ≡ grown before))
+Turned y before w (Departed at) = Departs (story_in y) at
+Turned y before w Stopped = Unit {0}
+
+-- The piece's next event is of this kind, and its frame asks for it.
+pub record IsDue (y : SharedValue) (w : Work) (kind : Kind) : Type 0 where
+  pub works : Works y w
+  pub asked : let p = w.piece in IsAsked (story_in y) p.upto
+  pub kind_is : let p = w.piece in kind_of_event (event (story_in y) p.upto) ≡ Some kind
+
+-- it isn't the run's last
+abbrev pub HasMore : SharedValue → Work → Type 0
+HasMore y w = let p = w.piece in p.upto < length (let s = story_in y in s.events)
+
+-- an event that is nothing to shared words and reducers: a `begin`, a `resume` or a `sync`
+abbrev pub IsSilent : Kind → Type 0
+IsSilent (kinds.Begin f) = Unit {0}
+IsSilent (kinds.Resume f) = Unit {0}
+IsSilent kinds.Sync = Unit {0}
+IsSilent _ = ⊥

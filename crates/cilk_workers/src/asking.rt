@@ -1,0 +1,56 @@
+//! What frames ask for: the numbers of asks, and where the frames that they start begin.
+
+ghost use Rattle.std.specs.Prelude.{◌≡◌, ◌≤◌, Some, length};
+ghost use Rattle.cilk_replay.specs.Asking.{IsNextAsk};
+ghost use Rattle.cilk_program.specs.declared.ask.Ask.TheVariants as asks;
+ghost use Rattle.cilk_tree.specs.Runs.{IsAsked};
+ghost use Rattle.cilk_tree.specs.Word.{event};
+ghost use Rattle.cilk_workers.specs.Asks.{Carries, HasNumber, number_in};
+ghost use Rattle.cilk_types.specs.declared.event.Event.TheVariants.{End};
+
+use cilk_replay::chain::Chain;
+use cilk_frames::asked::AskSlot;
+use cilk_frames::brief::Brief;
+
+// The number of an ask, where it has one.
+fn number_in(asked: &AskSlot) -> Option<i64>
+    ensures { result ≡ number_in asked.now }
+{
+    match asked.brief() {
+        Some(Brief::Write(_, number)) | Some(Brief::Update(_, number)) => Some(*number),
+        Some(Brief::Set(_, number)) | Some(Brief::Print(number)) => Some(*number),
+        Some(Brief::Result(number)) | Some(Brief::End(number)) => Some(*number),
+        _ => None,
+    }
+}
+
+/// The number of the next event, for which the frame asks and which has one.
+pub(crate) fn number_asked(chain: &Chain) -> i64
+    requires asked { IsAsked chain.now.of.yard.story chain.now.at }
+    requires number { HasNumber (event chain.now.of.yard.story chain.now.at) }
+    ensures { Carries (event chain.now.of.yard.story chain.now.at) result }
+{
+    let Some(number) = number_in(chain.ask()) else {
+        unreachable!();
+    };
+    number
+}
+
+/// The number with which the frame asks to end.
+pub(crate) fn result_asked(chain: &Chain) -> i64
+    requires asked { IsAsked chain.now.of.yard.story chain.now.at }
+    requires end { event chain.now.of.yard.story chain.now.at ≡ Some End }
+    ensures { IsNextAsk chain.now.of chain.now.at (asks.End result) }
+{
+    let Some(number) = number_in(chain.ask()) else {
+        unreachable!();
+    };
+    number
+}
+
+/// The position of a chain is one of its story.
+pub(crate) fn stands_within(chain: &Chain)
+    ensures { (1 ≤ chain.now.at) × (chain.now.at ≤ length chain.now.of.yard.story.events) }
+{
+    let _asked = chain.ask();
+}

@@ -1,0 +1,222 @@
+//! The join box of a sync block.
+//!
+//! A key is the position of a spawn, or that of the sync for the block's own piece, which arrives last.
+
+ghost use Rattle.std.specs.Prelude.{nat_lt, if◌then◌else◌, Some, None, ◌≡◌, ◌<◌, ◌↔◌, IfOk, IfErr, OnOk, OnErr, IsTrue, true, false};
+ghost use Rattle.cilk_types.specs.declared.event.Event.TheVariants.{Sync};
+ghost use Rattle.cilk_tree.specs.Word.{event};
+ghost use Rattle.cilk_workers.specs.Rows.{FitsIn, IsGood, PiecesLieApart, parts_in, run_of, yard_of};
+ghost use Rattle.cilk_workers.specs.Boxes.{is_some, later, opening, Comes, IsFresh, IsOpen, IsUnused, MayArrive, stolen_at, arrived_at};
+ghost use Rattle.cilk_workers.specs.Answers.{Answers};
+
+use crate::runs::Runs;
+use cilk_replay::chain::Chain;
+use cilk_replay::course::Course;
+use cilk_shared::piece::Piece;
+use cilk_shared::reducers::Reducers;
+use cilk_shared::yard::Yard;
+use cilk_types::event::Pos;
+use std::alloc::{AllocError, Global};
+use std::marker::Model;
+use std::snapshot::Snapshot;
+
+/// What an arrival comes to.
+#[derive(Drop)]
+pub enum Boxed {
+    /// The sync's piece or a stolen child is still to come.
+    Waits,
+    /// All have arrived: their piece, and the chain that stands at the sync.
+    Passes(Piece, Chain),
+}
+
+/// What waits at a sync block.
+#[derive(Drop)]
+pub struct JoinBox {
+    course: Snapshot<Course>,
+    sync: Pos,
+    runs: Runs,
+    stolen: Pos,
+    arrived: Pos,
+    gone: bool,
+    chain: Option<Chain>,
+}
+
+impl Model for JoinBox {
+    ghost use Rattle.std.specs.Prelude.{◌≡◌, Some};
+    ghost use Rattle.cilk_types.specs.declared.event.Event.TheVariants.{Sync};
+    ghost use Rattle.cilk_tree.specs.Word.{event};
+    ghost use Rattle.std.specs.Coded.{codes};
+    ghost use Rattle.cilk_replay.specs.Courses.{course_code};
+    ghost use Rattle.cilk_workers.specs.Boxes.{BoxValue, IsClosed, IsGone, closed_by};
+
+    ghost Value = { BoxValue };
+
+    ghost coded = { Prim.hlevel (codes, course_code) };
+
+    ghost view = { λ b. record { rows = b.runs; course = b.course.value; sync = b.sync; stolen = b.stolen; arrived = b.arrived; closed = closed_by b.gone b.chain } };
+
+    ghost invariant = { λ b. IsClosed b.runs b.course.value b.sync b.chain × IsGone b.gone b.runs b.chain × (event b.runs.of.story b.sync ≡ Some Sync) };
+}
+
+// The greater of two keys.
+fn most(one: Pos, other: Pos) -> Pos
+    ensures { result ≡ if nat_lt one other then other else one }
+{
+    if one < other { other } else { one }
+}
+
+// The chain that came, if one did.
+fn settle(chain: &mut Option<Chain>, other: Option<Chain>)
+    requires { is_some other ≡ true → is_some chain.old ≡ false }
+    ensures { chain.new ≡ later chain.old other }
+{
+    if other.is_some() {
+        *chain = other;
+    }
+}
+
+impl JoinBox {
+    /// Nothing was stolen, and nothing has arrived.
+    pub fn new(
+        alloc: Global,
+        yard: &Yard,
+        reducers: &Reducers,
+        course: &Course,
+        sync: Pos,
+    ) -> JoinBox
+        requires { event yard.now.story sync ≡ Some Sync }
+        ensures { result ≡ opening (run_of yard.now reducers.now) course.now sync }
+    {
+        JoinBox {
+            course: Snapshot::of(course),
+            sync,
+            runs: Runs::new(alloc, yard, reducers),
+            stolen: 0,
+            arrived: 0,
+            gone: false,
+            chain: None,
+        }
+    }
+
+    /// The place of the block's sync.
+    pub fn sync(&self) -> Pos
+        ensures { result ≡ self.now.sync }
+    {
+        self.sync
+    }
+
+    /// The pieces that are there lie apart, in the order of the run, and the block's sync is one.
+    pub fn laws(&self)
+        ensures apart { PiecesLieApart self.now.rows }
+        ensures sync { event self.now.rows.of.story self.now.sync ≡ Some Sync }
+    {
+        self.runs.laws();
+        let _sync = self.sync;
+    }
+
+    // Whether the sync's own piece has arrived.
+    fn is_closed(&self) -> bool
+        ensures { result ≡ self.now.closed }
+    {
+        self.gone || self.chain.is_some()
+    }
+
+    /// Whether the key is above every key that was stolen or has arrived, as long as the sync's piece hasn't.
+    pub fn fresh(&self, key: Pos) -> bool
+        ensures { IsTrue result ↔ IsFresh self.now key }
+    {
+        !self.is_closed() && self.stolen < key && self.arrived < key
+    }
+
+    /// Whether the key may be stolen, whose parent goes on at `goes_on`.
+    pub fn open(&self, key: Pos, goes_on: Pos) -> bool
+        ensures { IsTrue result ↔ IsOpen self.now key goes_on }
+    {
+        !self.is_closed() && self.stolen < key && self.arrived <= key && self.runs.end() <= goes_on
+    }
+
+    /// The number of runs of arrived keys, which is the number of pieces kept.
+    pub fn parts(&self) -> usize
+        ensures { result ≡ parts_in self.now.rows }
+    {
+        self.runs.parts()
+    }
+
+    /// Whether nothing waits in it: no piece is there, and no key is awaited.
+    pub fn is_empty(&self) -> bool
+        ensures { IsTrue result ↔ IsUnused self.now }
+    {
+        self.runs.is_whole() && self.runs.parts() == 0
+    }
+
+    /// The continuation beside child `key`, which goes on at `goes_on`, was taken by a thief.
+    pub fn steal(&mut self, key: Pos, goes_on: Pos) -> Result<(), AllocError>
+        requires { IsOpen self.old key goes_on }
+        ensures ok { OnOk result (self.new ≡ stolen_at self.old key goes_on) }
+        ensures err { OnErr result (self.new ≡ self.old) }
+    {
+        if self.arrived != key {
+            self.runs.wait(key, goes_on)?;
+        }
+        self.stolen = key;
+        Ok(())
+    }
+
+    /// Whether the piece may arrive by this key; `last` is whether it is the sync's own.
+    pub fn fits(&self, key: Pos, piece: &Piece, last: bool) -> bool
+        ensures { IsTrue result ↔ (FitsIn self.now.rows key piece.now × Comes self.now key piece.now last) }
+    {
+        if !self.runs.fits(key, piece) {
+            return false;
+        }
+        if last {
+            self.fresh(key) && piece.upto() == self.sync && !self.runs.awaits(key)
+        } else {
+            self.runs.awaits(key) || self.fresh(key)
+        }
+    }
+
+    // The block passes, once its own piece is there and no key is awaited.
+    fn answer(&mut self) -> Boxed
+        ensures { Answers self.old result self.new }
+    {
+        if !self.runs.is_whole() {
+            return Boxed::Waits;
+        }
+        let Some(chain) = self.chain.take() else {
+            return Boxed::Waits;
+        };
+        let Some(piece) = self.runs.take() else {
+            unreachable!()
+        };
+        self.gone = true;
+        Boxed::Passes(piece, chain)
+    }
+
+    /// A piece arrives: a child's at its end, or the sync's own, with its chain. Without memory both come back.
+    pub fn arrive(
+        &mut self,
+        alloc: Global,
+        yard: &Yard,
+        key: Pos,
+        piece: Piece,
+        chain: Option<Chain>,
+    ) -> Result<Boxed, (Piece, Option<Chain>)>
+        requires yard { yard_of self.old.rows.of ≡ yard.now }
+        requires good { IsGood self.old.rows.of piece }
+        requires fits { FitsIn self.old.rows key piece }
+        requires comes { MayArrive self.old key piece chain }
+        ensures ok { IfOk result (λ b. Answers (arrived_at self.old key piece (is_some chain)) b self.new) }
+        ensures err { IfErr result (λ r. (r.0 ≡ piece) × (r.1 ≡ chain)) }
+        ensures unchanged { OnErr result (self.new ≡ self.old) }
+    {
+        match self.runs.put(alloc, yard, key, piece) {
+            Ok(()) => {
+                self.arrived = most(self.arrived, key);
+                settle(&mut self.chain, chain);
+                Ok(self.answer())
+            }
+            Err(piece) => Err((piece, chain)),
+        }
+    }
+}

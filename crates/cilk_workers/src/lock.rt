@@ -1,0 +1,124 @@
+//! A shelf of join boxes, and the queue of one place that is its lock.
+//!
+//! A worker has a key for each shelf's queue; keys are made before the threads start.
+
+ghost use Rattle.std.specs.Prelude.{◌≡◌, true, false, IfOk};
+ghost use Rattle.crossbeam_queue.specs.Passes.{IsPassOf};
+ghost use Rattle.cilk_workers.specs.Locks.{IsShelf};
+
+use crate::naming::Naming;
+use crate::shelf::Shelf;
+use crossbeam_queue::protocol::{Free, Lesson, Outcome, Protocol, Split};
+use crossbeam_queue::{Pass, RuledArrayQueue};
+use crossbeam_utils::Backoff;
+use std::alloc::{AllocError, Global};
+use std::marker::PhantomData;
+use std::sync::Wait;
+
+/// The rule of a shelf's queue.
+pub struct OfShelf<N: Naming> {
+    of: PhantomData<N>,
+}
+
+impl<N: Naming> Protocol<Shelf, ()> for OfShelf<N> {
+    ghost use Rattle.cilk_workers.specs.Locks.{Shelved};
+
+    ghost holds = { λ items views. Shelved N.run N.course items };
+
+    ghost first = { tt };
+}
+
+/// The shelf is taken out.
+pub struct Locks<N: Naming> {
+    of: PhantomData<N>,
+}
+
+impl<N: Naming> Outcome<Shelf, ()> for Locks<N> {
+    ghost use Rattle.cilk_workers.specs.Locks.{IsShelf};
+
+    ghost then = { λ v x w. IsShelf N.run N.course x };
+}
+
+impl<N: Naming> Lesson<Shelf, ()> for Locks<N> {
+    ghost use Rattle.std.specs.Prelude.{⊤};
+
+    ghost fact = { λ v items. ⊤ };
+}
+
+/// Another key is like this one.
+pub struct Same;
+
+impl Split<()> for Same {
+    ghost left = { λ v. v };
+
+    ghost right = { λ v. v };
+}
+
+/// A shelf's queue.
+pub type Lock<N> = RuledArrayQueue<Shelf, (), OfShelf<N>>;
+
+/// A worker's key of a shelf's queue.
+pub type Key = Pass<Shelf, ()>;
+
+/// A lock with its shelf in it. An error where it found no memory.
+pub fn closed<N: Naming, R: Wait>(
+    rt: &R,
+    alloc: Global,
+    first: Shelf,
+) -> Result<(Lock<N>, Key), AllocError>
+    requires { IsShelf N.run N.course first }
+    ensures { IfOk result (λ r. IsPassOf r.0 r.1) }
+{
+    let (lock, mut key) = Lock::<N>::ruled(alloc, 1)?;
+    if lock.push_as::<Free, R>(rt, &mut key, first).is_err() {
+        wait(rt);
+    }
+    Ok((lock, key))
+}
+
+/// Waits for ever.
+pub fn wait<R: Wait>(rt: &R)
+    ensures { false ≡ true }
+{
+    let rest = Backoff::new();
+    for _ in rt.forever() {
+        rest.snooze();
+    }
+    unreachable!()
+}
+
+/// Takes the shelf out, once it is there.
+pub fn lock<N: Naming, R: Wait>(rt: &R, lock: &Lock<N>, key: &mut Key) -> Shelf
+    requires { IsPassOf lock.now key.old }
+    ensures key { IsPassOf lock.now key.new }
+    ensures found { IsShelf N.run N.course result }
+{
+    let backoff = Backoff::new();
+    for _ in rt.forever() {
+        if let Some(found) = lock.pop_as::<Locks<N>, R>(rt, key) {
+            return found;
+        }
+        backoff.snooze();
+    }
+    unreachable!()
+}
+
+/// Puts the shelf back.
+pub fn free<N: Naming, R: Wait>(rt: &R, lock: &Lock<N>, key: &mut Key, back: Shelf)
+    requires key { IsPassOf lock.now key.old }
+    requires back { IsShelf N.run N.course back }
+    ensures { IsPassOf lock.now key.new }
+{
+    if lock.push_as::<Free, R>(rt, key, back).is_err() {
+        wait(rt);
+    }
+}
+
+/// A key for another worker.
+pub fn another<N: Naming>(lock: &Lock<N>, key: &mut Key) -> Key
+    requires { IsPassOf lock.now key.old }
+    ensures old { IsPassOf lock.now key.new }
+    ensures new { IsPassOf lock.now result }
+{
+    lock.another::<Same>(key)
+}

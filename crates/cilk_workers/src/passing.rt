@@ -1,0 +1,94 @@
+//! The events by which a frame goes on, waits, or ends: each asks that the frame asks for its event.
+
+ghost use Rattle.std.specs.Prelude.{◌≡◌, Some, length};
+ghost use Rattle.cilk_tree.specs.Frames.{IsInFrame};
+ghost use Rattle.cilk_tree.specs.declared.kind.Kind.{Kind};
+ghost use Rattle.cilk_tree.specs.declared.kind.Kind.TheVariants as kinds;
+ghost use Rattle.cilk_tree.specs.Runs.{IsAsked};
+ghost use Rattle.cilk_tree.specs.Word.{event, plain, resume, what};
+ghost use Rattle.cilk_types.specs.declared.event.Event.TheVariants.{Sync};
+ghost use Rattle.cilk_workers.specs.Shared.{story_in};
+ghost use Rattle.cilk_workers.specs.Turns.{HasMore, IsDue, IsSilent, Turned, Works};
+
+use crate::asking::result_asked;
+use crate::shared::Shared;
+use crate::work::{Turn, Work};
+use cilk_frames::cursor::Answer;
+use cilk_shared::taken::Taken;
+use cilk_types::event::{FrameNo, Pos};
+
+/// A `begin`, or the `resume` after a call.
+pub(crate) fn passed(shared: &Shared<'_>, work: &mut Work) -> Turn
+    requires due { (kind : Kind) × IsDue shared.now work.old kind × IsSilent kind }
+    requires more { HasMore shared.now work.old }
+    requires plain { what (story_in shared.now) work.old.piece.upto ≡ plain }
+    requires ordinary { event (story_in shared.now) work.old.piece.upto ≡ Some Sync → ⊥ }
+    ensures { Turned shared.now work.old.piece work.new result }
+{
+    shared.laws();
+    work.piece.pass(shared.yard());
+    work.chain.answer(shared.course(), Answer::Done);
+    Turn::Goes
+}
+
+/// A `sync`.
+pub(crate) fn synced(shared: &Shared<'_>, work: &mut Work) -> Turn
+    requires due { IsDue shared.now work.old kinds.Sync }
+    requires more { HasMore shared.now work.old }
+    ensures { Turned shared.now work.old.piece work.new result }
+{
+    if !work.piece.segment().may_pass(shared.plan()) {
+        return Turn::Arrives;
+    }
+    work.piece.pass(shared.yard());
+    work.chain.answer(shared.course(), Answer::Done);
+    Turn::Goes
+}
+
+/// The `resume` after the spawn at `ticket`.
+pub(crate) fn taken(shared: &Shared<'_>, work: &mut Work, ticket: Pos) -> Turn
+    requires due { (kind : Kind) × IsDue shared.now work.old kind × IsSilent kind }
+    requires more { HasMore shared.now work.old }
+    requires resumes { what (story_in shared.now) work.old.piece.upto ≡ resume ticket }
+    ensures { Turned shared.now work.old.piece work.new result }
+{
+    shared.laws();
+    match work.piece.take(shared.yard(), ticket) {
+        Taken::Yes => {
+            work.chain.answer(shared.course(), Answer::Done);
+            Turn::Goes
+        }
+        Taken::No => Turn::Ended,
+    }
+}
+
+/// A child's `end`.
+pub(crate) fn ended(shared: &Shared<'_>, work: &mut Work, frame: FrameNo) -> Turn
+    requires due { IsDue shared.now work.old kinds.End }
+    requires more { HasMore shared.now work.old }
+    requires frame { IsInFrame (story_in shared.now).events work.old.piece.upto frame }
+    ensures { Turned shared.now work.old.piece work.new result }
+{
+    shared.laws();
+    work.piece.end(shared.yard(), shared.reducers(), frame);
+    if work.chain.end(shared.course()) {
+        Turn::Goes
+    } else {
+        Turn::Ended
+    }
+}
+
+/// The root's `end`.
+pub(crate) fn finished(shared: &Shared<'_>, work: &mut Work, root: FrameNo) -> Turn
+    requires works { Works shared.now work.old }
+    requires asked { IsAsked (story_in shared.now) work.old.piece.upto }
+    requires last { work.old.piece.upto ≡ length (story_in shared.now).events }
+    requires root { IsInFrame (story_in shared.now).events work.old.piece.upto root }
+    ensures { Turned shared.now work.old.piece work.new result }
+{
+    shared.laws();
+    work.piece.segment().follows(shared.yard());
+    let value = result_asked(&work.chain);
+    work.piece.finish(shared.yard(), shared.reducers(), root);
+    Turn::Finished(value)
+}

@@ -1,0 +1,191 @@
+//! A worker's tasks. Its owner takes the newest, and others the oldest.
+
+ghost use Rattle.std.specs.Prelude.{◌≡◌, ◌+◌, ◌≤◌, ◌<◌, true, false, [], ◌∷◌, ◌++◌, All, IfOk, IfErr, IfSome, MatchOption};
+ghost use Rattle.crossbeam_deque.specs.Handles.{view, IsPassOf, worker_flavor, worker_port, worker_view, stealer_deque};
+ghost use Rattle.cilk_workers.specs.Racks.{MayPick, Of, offers};
+
+use crate::naming::Naming;
+use cilk_replay::chain::Task;
+use crossbeam_deque::protocol::{Outcome, Protocol, Split};
+use crossbeam_deque::{Pass, Steal, Stealer, Worker};
+use std::alloc::{AllocError, Global};
+use std::collections::LinkedList;
+use std::marker::PhantomData;
+
+/// What a pass knows: the owner's, whether no picker has been made, and the tasks that were offered and not given back.
+/// No value of it is made.
+pub struct Offers {
+    pub owner: bool,
+    pub alone: bool,
+    pub waiting: LinkedList<Task>,
+}
+
+/// The rule of a rack.
+pub struct OfRun<N: Naming> {
+    of: PhantomData<N>,
+}
+
+impl<N: Naming> Protocol<Task, Offers> for OfRun<N> {
+    ghost use Rattle.std.specs.Prelude.{true, false, []};
+    ghost use Rattle.cilk_workers.specs.Racks.{offers, Racked};
+
+    ghost holds = { λ items views. Racked N.course N.taken items views };
+
+    ghost first = { offers true true [] };
+
+    ghost guest = { offers false false [] };
+}
+
+/// A task is put behind the others.
+pub struct Offered;
+
+impl Outcome<Task, Offers> for Offered {
+    ghost then = { λ v xs w. w ≡ offers v.owner v.alone (v.waiting ++ xs) };
+}
+
+/// The task that was offered last comes back.
+pub struct GivenBack<N: Naming> {
+    of: PhantomData<N>,
+}
+
+impl<N: Naming> Outcome<Task, Offers> for GivenBack<N> {
+    ghost use Rattle.std.specs.Prelude.{◌≡◌, true, [], ◌++◌, All};
+    ghost use Rattle.cilk_workers.specs.Racks.{Of};
+
+    ghost then = { λ v xs w. (w.owner ≡ v.owner) × (w.alone ≡ v.alone) × (v.waiting ≡ w.waiting ++ xs) × All (Of N.course) xs };
+
+    ghost empty = { λ v. All N.taken v.waiting × (v.alone ≡ true → v.waiting ≡ []) };
+}
+
+/// The oldest task is taken.
+pub struct Taken<N: Naming> {
+    of: PhantomData<N>,
+}
+
+impl<N: Naming> Outcome<Task, Offers> for Taken<N> {
+    ghost use Rattle.std.specs.Prelude.{◌≡◌, All};
+    ghost use Rattle.cilk_workers.specs.Racks.{Of};
+
+    ghost then = { λ v xs w. (w ≡ v) × All (Of N.course) xs };
+}
+
+/// A pass for a picker is made of the owner's.
+pub struct Parts;
+
+impl Split<Offers> for Parts {
+    ghost use Rattle.std.specs.Prelude.{false, []};
+    ghost use Rattle.cilk_workers.specs.Racks.{offers};
+
+    ghost left = { λ v. offers v.owner false v.waiting };
+
+    ghost right = { λ v. offers false false [] };
+}
+
+/// A worker's own end.
+#[derive(Drop)]
+pub struct Rack<N: Naming> {
+    worker: Worker<Task, Global, Offers, OfRun<N>>,
+    ghost lifo: { worker_flavor worker ≡ 1 },
+    ghost first: { worker_port worker ≡ 0 },
+    ghost owner: { (worker_view worker).owner ≡ true },
+}
+
+/// Another worker's end.
+#[derive(Drop)]
+pub struct Picker<N: Naming> {
+    stealer: Stealer<Task, Global, Offers, OfRun<N>>,
+    pass: Pass<Task, Offers>,
+    ghost tied: { IsPassOf (stealer_deque stealer) pass },
+    ghost guest: { (view pass).owner ≡ false },
+}
+
+impl<N: Naming> Rack<N> {
+    ghost use Rattle.cilk_workers.specs.Held.{IsAlone, IsOffered, IsPickerOf, IsSameRack, waiting, room, offered};
+
+    /// A rack without tasks, with room for this many at first.
+    pub fn new(alloc: Global, first: usize) -> Result<Rack<N>, AllocError>
+        ensures { IfOk result (λ r. (waiting r ≡ []) × IsAlone r × (offered r ≡ 0) × (first ≤ room r)) }
+    {
+        let worker = Worker::lifo_as(alloc, first)?;
+        Ok(Rack { worker })
+    }
+
+    /// Puts a task behind the others; the rack grows where there is no room. It comes back where there was no memory for that.
+    pub fn offer(&mut self, task: Task) -> Result<(), Task>
+        requires { Of N.course task }
+        ensures rule { IsOffered self.old task result self.new }
+        ensures same { IsSameRack self.old self.new × (IsAlone self.old → IsAlone self.new) }
+    {
+        self.worker.push_as::<Offered>(task)
+    }
+
+    /// The task that was offered last and not given back, or `None` where the deque was found empty: pickers have taken
+    /// each task that waits. Where no picker has been made it is `None` only if none waits.
+    pub fn newest(&mut self) -> Option<Task>
+        ensures rule { MatchOption result ((waiting self.new ≡ waiting self.old) × All N.taken (waiting self.old) × (IsAlone self.old → waiting self.old ≡ [])) (λ t. (waiting self.old ≡ waiting self.new ++ t ∷ []) × Of N.course t) }
+        ensures same { IsSameRack self.old self.new × (IsAlone self.old → IsAlone self.new) × (offered self.new ≤ offered self.old) }
+    {
+        self.worker.pop_as::<GivenBack<N>>()
+    }
+
+    /// Another worker's end.
+    pub fn picker(&mut self) -> Result<Picker<N>, AllocError>
+        ensures picker { IfOk result (λ p. IsPickerOf self.new p) }
+        ensures same { IsSameRack self.old self.new × (waiting self.new ≡ waiting self.old) × (offered self.new ≡ offered self.old) }
+        ensures alone { IfErr result (λ _. IsAlone self.old → IsAlone self.new) }
+    {
+        let stealer = self.worker.stealer()?;
+        let pass = self.worker.another::<Parts>();
+        Ok(Picker { stealer, pass })
+    }
+}
+
+/// The deque of a rack.
+pub type Tasks<N> = Worker<Task, Global, Offers, OfRun<N>>;
+
+/// The other end of a rack's deque.
+pub type Takes<N> = Stealer<Task, Global, Offers, OfRun<N>>;
+
+impl<N: Naming> Rack<N> {
+    /// The deque alone, to be sent to a thread.
+    pub fn parted(self) -> Tasks<N>
+        ensures { (worker_flavor result ≡ 1) × (worker_port result ≡ 0) × ((worker_view result).owner ≡ true) }
+    {
+        self.worker
+    }
+
+    /// The rack of such a deque.
+    pub fn of(worker: Tasks<N>) -> Rack<N>
+        requires { (worker_flavor worker ≡ 1) × (worker_port worker ≡ 0) × ((worker_view worker).owner ≡ true) }
+    {
+        Rack { worker }
+    }
+}
+
+impl<N: Naming> Picker<N> {
+    /// The deque's other end and its pass, to be sent to a thread.
+    pub fn parted(self) -> (Takes<N>, Pass<Task, Offers>)
+        ensures { IsPassOf (stealer_deque result.0) result.1 × ((view result.1).owner ≡ false) }
+    {
+        (self.stealer, self.pass)
+    }
+
+    /// The picker of such an end.
+    pub fn of(stealer: Takes<N>, pass: Pass<Task, Offers>) -> Picker<N>
+        requires { IsPassOf (stealer_deque stealer) pass × ((view pass).owner ≡ false) }
+    {
+        Picker { stealer, pass }
+    }
+
+    /// The oldest task, or `None` where none was had.
+    pub fn oldest(&mut self) -> Option<Task>
+        requires { MayPick N.taken }
+        ensures rule { IfSome result (λ t. Of N.course t) }
+        ensures same { stealer_deque self.new.stealer ≡ stealer_deque self.old.stealer }
+    {
+        match self.stealer.steal_as::<Taken<N>>(&mut self.pass) {
+            Steal::Success(task) => Some(task),
+            Steal::Empty | Steal::Retry => None,
+        }
+    }
+}

@@ -1,0 +1,146 @@
+//! What the workers of a run share.
+
+ghost use Rattle.std.specs.Prelude.{◌≡◌, ◌↔◌, ℕ, Some, length, IsTrue};
+ghost use Rattle.cilk_workers.specs.Rows.{yard_of};
+ghost use Rattle.cilk_replay.specs.Courses.{IsCourse};
+ghost use Rattle.cilk_determinacy.specs.Words.{InputsAreWords};
+ghost use Rattle.cilk_shared.specs.Numbers.{HasNumbers};
+ghost use Rattle.cilk_shared.specs.Reducers.{HasFew};
+ghost use Rattle.cilk_tree.specs.Along.{IsAlong};
+ghost use Rattle.cilk_tree.specs.Orders.{IsOrderly};
+ghost use Rattle.cilk_tree.specs.Values.{HasValues};
+ghost use Rattle.cilk_tree.specs.Word.{resume, what};
+ghost use Rattle.cilk_workers.specs.Shared.{HasCells, IsNext, shared_with, story_in};
+
+use cilk_replay::course::Course;
+use cilk_determinacy::words::inputs_are_words;
+use cilk_shared::piece_laws::frames_are_along;
+use cilk_shared::reducers::Reducers;
+use cilk_tree::kind::Asked;
+use cilk_tree::plan::Plan;
+use cilk_shared::yard::Yard;
+use cilk_types::event::Pos;
+use std::marker::Model;
+
+/// A run's yard, the plan that it goes along, the reducers of its frames, and its course.
+#[derive(Drop)]
+pub struct Shared<'a> {
+    yard: &'a Yard,
+    plan: &'a Plan,
+    reducers: &'a Reducers,
+    course: &'a Course,
+}
+
+impl<'a> Model for Shared<'a> {
+    ghost use Rattle.std.specs.Prelude.{◌≡◌};
+    ghost use Rattle.std.specs.Coded.{codes};
+    ghost use Rattle.cilk_replay.specs.Courses.{course_code};
+    ghost use Rattle.cilk_shared.specs.Numbers.{HasNumbers};
+    ghost use Rattle.cilk_shared.specs.Reducers.{HasFew};
+    ghost use Rattle.cilk_tree.specs.Along.{IsAlong};
+    ghost use Rattle.cilk_workers.specs.Shared.{HasCells, SharedValue, shared_with};
+
+    ghost Value = { SharedValue };
+
+    ghost coded = { Prim.hlevel (codes, course_code) };
+
+    ghost view = { λ c. shared_with c.yard.now c.reducers.now c.course.now };
+
+    ghost invariant = { λ c. IsAlong c.plan.now c.yard.now.story × HasFew c.reducers.now × (c.course.now.yard ≡ c.yard.now)
+        × HasCells c.yard.now.story × HasNumbers c.yard.now.story c.reducers.now };
+}
+
+impl<'a> Shared<'a> {
+    /// The run of a yard along a plan, which has each cell that its events name. What the run reads from reducers are the numbers of the
+    /// views that pieces show.
+    pub fn new(
+        yard: &'a Yard,
+        plan: &'a Plan,
+        reducers: &'a Reducers,
+        course: &'a Course,
+    ) -> Shared<'a>
+        requires along { IsAlong plan.now yard.now.story }
+        requires few { HasFew reducers.now }
+        requires cells { HasCells yard.now.story }
+        requires numbers { HasNumbers yard.now.story reducers.now }
+        requires course { course.now.yard ≡ yard.now }
+        ensures { result ≡ shared_with yard.now reducers.now course.now }
+    {
+        Shared {
+            yard,
+            plan,
+            reducers,
+            course,
+        }
+    }
+
+    /// What holds of the run.
+    pub fn laws(&self)
+        ensures order { IsOrderly (story_in self.now) }
+        ensures values { HasValues (story_in self.now) }
+        ensures course { IsCourse self.now.course }
+        ensures same { self.now.course.yard ≡ yard_of self.now.run }
+        ensures words { InputsAreWords self.now.course.inputs }
+        ensures cells { HasCells (story_in self.now) }
+        ensures numbers { HasNumbers (story_in self.now) self.now.run.reducers }
+    {
+        self.yard.laws();
+        self.course.laws();
+        inputs_are_words(self.course.input());
+    }
+
+    /// The run's yard.
+    pub fn yard(&self) -> &Yard
+        ensures { result.now ≡ yard_of self.now.run }
+    {
+        self.yard
+    }
+
+    /// The run's plan.
+    pub fn plan(&self) -> &Plan
+        ensures { IsAlong result.now (story_in self.now) }
+    {
+        self.plan
+    }
+
+    /// The reducers of the run's frames.
+    pub fn reducers(&self) -> &Reducers
+        ensures reducers { result.now ≡ self.now.run.reducers }
+        ensures few { HasFew result.now }
+    {
+        self.reducers
+    }
+
+    /// The run's course.
+    pub fn course(&self) -> &Course
+        ensures course { result.now ≡ self.now.course }
+        ensures yard { self.now.course.yard ≡ yard_of self.now.run }
+    {
+        self.course
+    }
+
+    /// The event at a position, and whose it is; nothing where there is none.
+    pub fn next(&self, at: Pos) -> Asked
+        ensures { IsNext (story_in self.now) at result }
+    {
+        frames_are_along();
+        if at == 0 {
+            return Asked::Nothing;
+        }
+        self.plan.next(at - 1)
+    }
+
+    /// Whether the position is that of the last event, the root's `end`.
+    pub fn is_last(&self, at: Pos) -> bool
+        ensures { IsTrue result ↔ (at ≡ length (story_in self.now).events) }
+    {
+        at as usize == self.plan.count()
+    }
+
+    /// The spawn whose continuation the event at a position resumes, where it is the `resume` after a spawn.
+    pub fn resumed_by(&self, at: Pos) -> Option<Pos>
+        ensures { (k : ℕ) → (result ≡ Some k) ↔ (what (story_in self.now) at ≡ resume k) }
+    {
+        self.plan.resumed_by(at)
+    }
+}

@@ -1,0 +1,120 @@
+//! The join boxes of several sync blocks.
+
+ghost use Rattle.std.specs.Prelude.{◌≡◌, ◌≤◌, ℕ, [], All, length, IfOk, IfSome, MatchOption, OnErr, Some};
+ghost use Rattle.std.specs.Vec.{vec_capacity};
+ghost use Rattle.cilk_types.specs.declared.event.Event.TheVariants.{Sync};
+ghost use Rattle.cilk_tree.specs.Word.{event};
+ghost use Rattle.cilk_workers.specs.Rows.{run_of};
+ghost use Rattle.cilk_workers.specs.Shelves.{ComesOut, HasNone, HasRoom, IsSameShelf, LiesOn, PutsBack, TakesOff};
+
+use crate::join::JoinBox;
+use cilk_replay::course::Course;
+use cilk_shared::reducers::Reducers;
+use cilk_shared::yard::Yard;
+use cilk_types::event::Pos;
+use std::alloc::{AllocError, Global};
+use std::marker::Model;
+use std::snapshot::Snapshot;
+
+/// The boxes of the blocks, among some, in which something waits. The box of another block is as it is at first, and takes no room. To a
+/// contract it is the run whose blocks they are, and the boxes.
+#[derive(Drop)]
+pub struct Shelf {
+    of: Snapshot<Yard>,
+    reducers: Snapshot<Reducers>,
+    course: Snapshot<Course>,
+    boxes: Vec<JoinBox>,
+}
+
+impl Model for Shelf {
+    ghost use Rattle.std.specs.Prelude.{All};
+    ghost use Rattle.std.specs.Vec.{vec_capacity};
+    ghost use Rattle.std.specs.Coded.{codes};
+    ghost use Rattle.cilk_replay.specs.Courses.{course_code};
+    ghost use Rattle.cilk_workers.specs.Rows.{run_of};
+    ghost use Rattle.cilk_workers.specs.Shelves.{LiesOn, ShelfValue, shelf};
+
+    ghost Value = { ShelfValue };
+
+    ghost coded = { Prim.hlevel (codes, course_code) };
+
+    ghost view = { λ s. shelf (run_of s.of.value s.reducers.value) s.course.value s.boxes.items (vec_capacity s.boxes) };
+
+    ghost invariant = { λ s. All (LiesOn (run_of s.of.value s.reducers.value) s.course.value) s.boxes.items };
+}
+
+// The box of a block comes out, where it is there.
+fn taken(
+    yard: &Yard,
+    reducers: &Reducers,
+    course: &Course,
+    boxes: &mut Vec<JoinBox>,
+    sync: Pos,
+) -> Option<JoinBox>
+    requires { All (LiesOn (run_of yard.now reducers.now) course.now) boxes.old.items }
+    ensures rest { All (LiesOn (run_of yard.now reducers.now) course.now) boxes.new.items }
+    ensures found { IfSome result (λ b. LiesOn (run_of yard.now reducers.now) course.now b × (b.sync ≡ sync)) }
+    ensures taken { MatchOption result (HasNone boxes.old.items sync × (boxes.new.items ≡ boxes.old.items)) (λ b. (k : ℕ) × ComesOut boxes.old.items k b boxes.new.items) }
+    ensures room { (length boxes.new.items ≤ length boxes.old.items) × (vec_capacity boxes.new ≡ vec_capacity boxes.old) }
+{
+    let _ = yard;
+    let _ = reducers;
+    let _ = course;
+    'each: for at in 0..boxes.len() {
+        let found = &boxes[at];
+        if found.sync() == sync {
+            return Some(boxes.remove(at));
+        }
+    }
+    None
+}
+
+impl Shelf {
+    /// No box.
+    pub fn new(alloc: Global, yard: &Yard, reducers: &Reducers, course: &Course) -> Shelf
+        ensures { (result.of ≡ run_of yard.now reducers.now) × (result.course ≡ course.now) × (result.boxes ≡ []) }
+    {
+        Shelf {
+            of: Snapshot::of(yard),
+            reducers: Snapshot::of(reducers),
+            course: Snapshot::of(course),
+            boxes: Vec::new(alloc),
+        }
+    }
+
+    /// The box of the block that ends with the `sync` at this position comes off the shelf, on which there is room then to put
+    /// it back. Without memory for that nothing changes.
+    pub fn take(
+        &mut self,
+        alloc: Global,
+        yard: &Yard,
+        reducers: &Reducers,
+        course: &Course,
+        sync: Pos,
+    ) -> Result<JoinBox, AllocError>
+        requires of { (self.old.of ≡ run_of yard.now reducers.now) × (self.old.course ≡ course.now) }
+        requires sync { event yard.now.story sync ≡ Some Sync }
+        ensures found { IfOk result (λ b. LiesOn self.old.of self.old.course b × (b.sync ≡ sync)) }
+        ensures taken { IfOk result (λ b. TakesOff self.old sync b self.new × HasRoom self.new) }
+        ensures err { OnErr result (self.new.boxes ≡ self.old.boxes) }
+        ensures same { IsSameShelf self.old self.new }
+    {
+        self.boxes.reserve(1)?;
+        if let Some(found) = taken(yard, reducers, course, &mut self.boxes, sync) {
+            return Ok(found);
+        }
+        Ok(JoinBox::new(alloc, yard, reducers, course, sync))
+    }
+
+    /// A box is put back, where there is room for it. It is forgotten where nothing waits in it any more.
+    pub fn put(&mut self, back: JoinBox)
+        requires of { LiesOn self.old.of self.old.course back }
+        requires room { HasRoom self.old }
+        ensures put { PutsBack self.old back self.new }
+        ensures same { IsSameShelf self.old self.new }
+    {
+        if !back.is_empty() {
+            self.boxes.push_reserved(back);
+        }
+    }
+}

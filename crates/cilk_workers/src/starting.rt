@@ -1,0 +1,68 @@
+//! Spawns and calls: a child begins.
+
+ghost use Rattle.std.specs.Prelude.{◌≡◌, ℕ, ◌+◌, ◌<◌, ◌≤◌, Some, length};
+ghost use Rattle.cilk_tree.specs.declared.kind.Kind.TheVariants as kinds;
+ghost use Rattle.cilk_tree.specs.Word.{event};
+ghost use Rattle.cilk_workers.specs.BegunTurn.{IsStart};
+ghost use Rattle.cilk_workers.specs.Shared.{story_in};
+ghost use Rattle.cilk_workers.specs.Turns.{HasMore, IsDue, Turned};
+ghost use Rattle.cilk_types.specs.declared.event.Event.TheVariants.{Begin};
+
+use crate::shared::Shared;
+use crate::work::{Turn, Work};
+use cilk_replay::chain::Task;
+use cilk_tree::kind::{Asked, Kind};
+use cilk_types::event::{FrameNo, Pos};
+use std::alloc::Global;
+
+// The number of the frame that begins right behind a spawn or a call.
+fn frame_begun(shared: &Shared<'_>, at: Pos) -> FrameNo
+    requires first { 1 ≤ at }
+    requires start { IsStart (event (story_in shared.now) at) }
+    requires more { at < length (story_in shared.now).events }
+    ensures { event (story_in shared.now) (at + 1) ≡ Some (Begin result) }
+{
+    shared.laws();
+    let Asked::Next { frame: _, kind } = shared.next(at + 1) else {
+        unreachable!();
+    };
+    match kind {
+        Kind::Begin { frame } => frame,
+        _ => unreachable!(),
+    }
+}
+
+/// A child is spawned: the worker goes on with it, and the continuation is offered.
+pub(crate) fn spawned(alloc: Global, shared: &Shared<'_>, work: &mut Work) -> Turn
+    requires due { (child : ℕ) × IsDue shared.now work.old (kinds.Spawn child) }
+    requires more { HasMore shared.now work.old }
+    ensures { Turned shared.now work.old.piece work.new result }
+{
+    let at = work.piece.upto();
+    shared.laws();
+    let Some(next) = shared.yard().resumption(at) else {
+        unreachable!();
+    };
+    let frame = frame_begun(shared, at);
+    let Ok(rest) = work.chain.spawn(alloc, shared.course(), frame, next) else {
+        return Turn::Stopped;
+    };
+    let ticket = work.piece.offer(shared.yard());
+    Turn::Offers(Task::new(ticket, rest))
+}
+
+/// A child is called.
+pub(crate) fn called(alloc: Global, shared: &Shared<'_>, work: &mut Work) -> Turn
+    requires due { (child : ℕ) × IsDue shared.now work.old (kinds.Call child) }
+    requires more { HasMore shared.now work.old }
+    ensures { Turned shared.now work.old.piece work.new result }
+{
+    let at = work.piece.upto();
+    shared.laws();
+    let frame = frame_begun(shared, at);
+    let Ok(()) = work.chain.call(alloc, shared.course(), frame) else {
+        return Turn::Stopped;
+    };
+    work.piece.pass(shared.yard());
+    Turn::Goes
+}

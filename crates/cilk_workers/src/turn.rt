@@ -1,0 +1,128 @@
+//! A turn of a worker: one event of the run.
+
+ghost use Rattle.std.specs.Prelude.{◌≡◌, ◌≤◌, ℕ, Some, length, IfOk, MatchResult};
+ghost use Rattle.cilk_workers.specs.Rows.{OfRun};
+ghost use Rattle.cilk_tree.specs.Frames.{IsInFrame};
+ghost use Rattle.cilk_tree.specs.declared.kind.Kind.TheVariants as kinds;
+ghost use Rattle.cilk_tree.specs.Runs.{IsAsked};
+ghost use Rattle.cilk_workers.specs.Shared.{story_in};
+ghost use Rattle.cilk_workers.specs.Turns.{HasMore, IsDue, Turned, Works};
+
+use crate::asking::stands_within;
+use crate::cells::{loaded, stored};
+use crate::passing::{ended, finished, passed, synced, taken};
+use crate::reducing::{created, printed, set, updated, valued};
+use crate::shared::Shared;
+use crate::starting::{called, spawned};
+use crate::work::{Turn, Work};
+use cilk_replay::chain::{Chain, Task};
+use cilk_replay::looked::Looked;
+use cilk_frames::cursor::Answer;
+use cilk_shared::piece::Piece;
+use cilk_tree::kind::{Asked, Kind};
+use cilk_shared::taken::Taken;
+use cilk_types::event::FrameNo;
+use std::alloc::{AllocError, Global};
+
+/// What a worker has once the root has begun.
+pub fn first(alloc: Global, shared: &Shared<'_>, piece: Piece) -> Result<Work, AllocError>
+    requires piece { OfRun shared.now.run piece × (piece.from ≡ 1) × (piece.upto ≡ 2) }
+    ensures { IfOk result (Works shared.now) }
+{
+    shared.laws();
+    let mut chain = Chain::root(alloc, shared.course())?;
+    chain.answer(shared.course(), Answer::Done);
+    Ok(Work { piece, chain })
+}
+
+// The frame asks for something else than the plan has. That is no `resume` after a spawn, which the frame asked for.
+fn departed(shared: &Shared<'_>, work: &Work) -> Turn
+    requires works { Works shared.now work.now }
+    requires within { work.now.piece.upto ≤ length (story_in shared.now).events }
+    requires differs { IsAsked (story_in shared.now) work.now.piece.upto → ⊥ }
+    ensures { Turned shared.now work.now.piece work.now result }
+{
+    shared.course().resumes();
+    let segment = work.piece.segment();
+    segment.has_followed();
+    Turn::Departed(segment.departs(shared.yard()))
+}
+
+// A `resume`, after a spawn or after a call.
+fn resumed(shared: &Shared<'_>, work: &mut Work) -> Turn
+    requires due { (parent : ℕ) × IsDue shared.now work.old (kinds.Resume parent) }
+    requires more { HasMore shared.now work.old }
+    ensures { Turned shared.now work.old.piece work.new result }
+{
+    match shared.resumed_by(work.piece.upto()) {
+        Some(ticket) => taken(shared, work, ticket),
+        None => passed(shared, work),
+    }
+}
+
+// An event that isn't the run's last.
+fn made(alloc: Global, shared: &Shared<'_>, work: &mut Work, frame: FrameNo, kind: Kind) -> Turn
+    requires due { IsDue shared.now work.old kind }
+    requires more { HasMore shared.now work.old }
+    requires frame { IsInFrame (story_in shared.now).events work.old.piece.upto frame }
+    ensures { Turned shared.now work.old.piece work.new result }
+{
+    match kind {
+        Kind::Begin { .. } => passed(shared, work),
+        Kind::Spawn { .. } => spawned(alloc, shared, work),
+        Kind::Call { .. } => called(alloc, shared, work),
+        Kind::Resume { .. } => resumed(shared, work),
+        Kind::Sync => synced(shared, work),
+        Kind::End => ended(shared, work, frame),
+        Kind::Read { cell } => loaded(shared, work, cell),
+        Kind::Write { cell } => stored(shared, work, cell),
+        Kind::Create { instance } => created(alloc, shared, work, instance),
+        Kind::Update { instance } => updated(alloc, shared, work, instance),
+        Kind::Set { instance } => set(alloc, shared, work, instance),
+        Kind::Value { instance } => valued(alloc, shared, work, instance),
+        Kind::Print => printed(alloc, shared, work),
+    }
+}
+
+/// Makes one event of the run.
+pub fn act(alloc: Global, shared: &Shared<'_>, work: &mut Work) -> Turn
+    requires { Works shared.now work.old }
+    ensures { Turned shared.now work.old.piece work.new result }
+{
+    let at = work.piece.upto();
+    shared.laws();
+    stands_within(&work.chain);
+    let Asked::Next { frame, kind } = shared.next(at) else {
+        unreachable!();
+    };
+    match work.chain.look(shared.course(), kind) {
+        Looked::Asked if shared.is_last(at) => finished(shared, work, frame),
+        Looked::Asked => made(alloc, shared, work, frame, kind),
+        Looked::Differs => departed(shared, work),
+    }
+}
+
+/// A thief begins with an empty piece. The piece comes back where another took the continuation.
+pub fn begin(shared: &Shared<'_>, mut piece: Piece, task: Task) -> Result<Work, Piece>
+    requires piece { OfRun shared.now.run piece × (piece.upto ≤ piece.from) }
+    requires task { task.of ≡ shared.now.course }
+    ensures { MatchResult result (Works shared.now) (λ p. p ≡ piece) }
+{
+    let ticket = task.ticket();
+    let at = task.at();
+    let Asked::Next { frame: _, kind } = shared.next(at) else {
+        return Err(piece);
+    };
+    let mut chain = task.rest().wake(shared.course());
+    let Looked::Asked = chain.look(shared.course(), kind) else {
+        return Err(piece);
+    };
+    shared.laws();
+    match piece.take(shared.yard(), ticket) {
+        Taken::Yes => {
+            chain.answer(shared.course(), Answer::Done);
+            Ok(Work { piece, chain })
+        }
+        Taken::No => Err(piece),
+    }
+}
