@@ -2,10 +2,10 @@
 //! is the program's. Only here are threads and waiting given away: `threads` needs both, and `check` with `--helpers` threads alone.
 #![tactic(auto)]
 
-use cilk_report::KeptFiles;
-use cilk_tool::serve_parallel;
 use cilk_commands::disk::Disk;
 use cilk_commands::reply::{NO_MEMORY, NO_MEMORY_LINE, WRONG};
+use cilk_report::KeptFiles;
+use cilk_tool::serve_parallel;
 use std::alloc::{AllocError, Global};
 use std::io::ErrorKind;
 use std::process::ExitCode;

@@ -3,11 +3,11 @@
 ghost use Rattle.cilk_schedule.specs.Sound.{IsCode};
 
 use crate::playing::{DIVIDE, code_of, no_input};
-use cilk_scheduler::choice::{Choice, Stop};
 use cilk_checker::judge::program;
 use cilk_lower::code::Code;
 use cilk_parser::input::parse_input;
 use cilk_schedule::machine::Machine;
+use cilk_scheduler::choice::{Choice, Stop};
 use cilk_serial::run::run;
 use cilk_types::input::Input;
 use cilk_types::outcome::{Final, Outcome};

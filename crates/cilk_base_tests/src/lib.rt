@@ -8,45 +8,31 @@
 
 #[cfg(test)]
 mod activations;
-
 #[cfg(test)]
 mod certificates;
-
 #[cfg(test)]
 mod chance;
-
 #[cfg(test)]
 mod examples;
-
 #[cfg(test)]
 mod frames;
-
 #[cfg(test)]
 mod gallery;
-
 #[cfg(test)]
 mod hypermaps;
-
 #[cfg(test)]
 mod joins;
-
 #[cfg(test)]
 mod machine;
-
 #[cfg(test)]
 mod monoids;
-
 #[cfg(test)]
 mod playing;
-
 #[cfg(test)]
 mod programs;
-
 #[cfg(test)]
 mod refused;
-
 #[cfg(test)]
 mod settled;
-
 #[cfg(test)]
 mod views;

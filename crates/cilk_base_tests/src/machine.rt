@@ -4,10 +4,10 @@ use crate::playing::{
     DIVIDE, FIB, GIVEN, LIST, LOCAL, Line, PRINTS, RACE, SUM, all, code_of, no_input, outcome_of,
     played, script,
 };
-use cilk_scheduler::choice::Stop;
 use cilk_schedule::machine::play;
 use cilk_schedule::naming::ShownEvent;
 use cilk_schedule::showing::Shown;
+use cilk_scheduler::choice::Stop;
 use cilk_types::fault::Fault;
 use cilk_types::outcome::{Final, Outcome};
 use std::alloc::Global;

@@ -3,12 +3,12 @@
 ghost use Rattle.std.specs.Prelude.{◌≡◌, None};
 ghost use Rattle.cilk_schedule.specs.Sound.{IsCode, Runs};
 
-use cilk_scheduler::choice::{Choice, Stop};
 use cilk_checker::judge::program;
 use cilk_lower::code::Code;
 use cilk_lower::lower::lower;
 use cilk_schedule::machine::{Machine, play};
 use cilk_schedule::showing::Shown;
+use cilk_scheduler::choice::{Choice, Stop};
 use cilk_types::input::Input;
 use cilk_types::outcome::Outcome;
 use cilk_types::word_list::WordList;

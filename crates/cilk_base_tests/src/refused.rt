@@ -5,7 +5,6 @@ ghost use Rattle.std.specs.Prelude.{◌≡◌, None, IfOk};
 ghost use Rattle.cilk_schedule.specs.Sound.{IsCode, Runs};
 
 use crate::playing::{LIST, LOCAL, no_input, rounds};
-use cilk_scheduler::choice::{Choice, Stop};
 use cilk_checker::fault::ProgramFault;
 use cilk_checker::judge::program;
 use cilk_lower::code::Code;
@@ -13,6 +12,7 @@ use cilk_lower::lower::lower;
 use cilk_schedule::machine::Machine;
 use cilk_schedule::naming::{CellName, ReducerName, ShownEvent};
 use cilk_schedule::showing::Shown;
+use cilk_scheduler::choice::{Choice, Stop};
 use std::alloc::{AllocError, Global};
 use std::process::Abort;
 

@@ -8,9 +8,9 @@ ghost use Rattle.cilk_cert_text.specs.Certificates.{IsEntry};
 ghost use Rattle.cilk_cert_maker.specs.Listed.{ListsEvent, HasSource};
 ghost use Rattle.cilk_cert_maker.specs.Right.{EachAt};
 
-use cilk_cert_text::line::Entry;
 use crate::listed_entries::entry;
 use crate::sources::{LastWrites, cells_written};
+use cilk_cert_text::line::Entry;
 use cilk_types::event::Pos;
 use cilk_types::trace::Trace;
 use std::alloc::{AllocError, Global};

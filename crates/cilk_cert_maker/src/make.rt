@@ -13,13 +13,13 @@ ghost use Rattle.cilk_cert_maker.specs.Frames.{frames_of};
 ghost use Rattle.cilk_cert_maker.specs.Right.{IsRight};
 ghost use Rattle.cilk_cert_maker.specs.Certified.{IsCertificateOf};
 
+use crate::column::Columns;
+use crate::columns::columns;
 use crate::entries::entries;
 use crate::strands::strands;
 use cilk_cert_text::certificate::Certificate;
 use cilk_cert_text::line::Version;
 use cilk_labels::{Labels, label};
-use crate::column::Columns;
-use crate::columns::columns;
 use cilk_peers::class::Classes;
 use cilk_peers::walk::classes;
 use cilk_program::program::Program;

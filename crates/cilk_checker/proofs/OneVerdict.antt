@@ -42,7 +42,7 @@ use Rattle.cilk_program.proofs.Uniqueness.{serial_run_is_one}
 use Rattle.cilk_serial.specs.Ran.{StopsAfter}
 use Rattle.cilk_tree.specs.Shape.{Shape, Spells}
 use Rattle.cilk_tree.proofs.Spelled.{spells_one}
-use Rattle.cilk_parser.specs.declared.fault.TextNumber.{TextNumber}
+use Rattle.cilk_parser.specs.declared.fault.SyntaxErrorKind.{SyntaxErrorKind}
 use Rattle.cilk_parser.specs.declared.fault.TextFault.TheVariants as text_faults
 use Rattle.cilk_parser.specs.Inputs.{IsInputFault}
 use Rattle.cilk_parser.proofs.UniqueInputs.{one_input}
@@ -143,7 +143,7 @@ module _ (program input certificate : List ℕ) where
   -- what a true refusal is of
   data Kind (r : Refusal) : Type 0 where
     OfProgram : (f : ProgramFault) → f ≢ program_faults.Memory → IsProgramFault f program → r ≡ of_program f → Kind r
-    OfInput : (n : TextNumber) (place : ℕ) (m : Meant) → IsProgramText program m
+    OfInput : (n : SyntaxErrorKind) (place : ℕ) (m : Meant) → IsProgramText program m
         → IsInputFault (text_faults.At n place) input → r ≡ refusals.Input n place → Kind r
     OfText : (f : CertFault) → f ≢ cert_faults.Memory → (m : Meant) (inputs : List ℤ) → AreTexts program input m inputs
         → (reading_of certificate).fault ≡ Some f → r ≡ of_text f → Kind r
@@ -185,7 +185,7 @@ module _ (program input certificate : List ℕ) where
       → IsProgramFault f program → ⊥
   no_program_fault m f v t h = (one_meaning program).apart m f v t h
 
-  no_input_fault : (inputs : List ℤ) (n : TextNumber) (place : ℕ) (m : Meant) → AreTexts program input m inputs
+  no_input_fault : (inputs : List ℤ) (n : SyntaxErrorKind) (place : ℕ) (m : Meant) → AreTexts program input m inputs
       → IsInputFault (text_faults.At n place) input → ⊥
   no_input_fault inputs n place m t h = (one_input input).apart inputs n place t.input_is h
 
@@ -210,7 +210,7 @@ module _ (program input certificate : List ℕ) where
   same_kind r r' (OfInput n place m t h e) (OfProgram g w k i) = absurd (no_program_fault m g w t k)
   same_kind r r' (OfInput n place m t h e) (OfInput n' place' m' t' k i) =
       let q = (one_input input).faults n n' place place' h k in
-      e ∙ ap (λ (x : TextNumber). refusals.Input x place) q.0 ∙ ap (λ (x : ℕ). refusals.Input n' x) q.1 ∙ sym i
+      e ∙ ap (λ (x : SyntaxErrorKind). refusals.Input x place) q.0 ∙ ap (λ (x : ℕ). refusals.Input n' x) q.1 ∙ sym i
   same_kind r r' (OfInput n place m t h e) (OfText g w m' inputs t' k i) =
       absurd (no_input_fault inputs n place m' t' h)
   same_kind r r' (OfInput n place m t h e) (OfRun m' inputs t' k) = absurd (no_input_fault inputs n place m' t' h)

@@ -7,11 +7,11 @@ ghost use Rattle.cilk_checker.specs.Answers.{IsCertified, IsUnaccepted};
 
 use crate::accepted::Accepted;
 use crate::compare::{ended, stopped};
+use crate::ending::{End, run_to_end};
 use crate::passes::{events_of, right_of};
 use crate::refusal::Unaccepted;
 use crate::source::Source;
 use cilk_determinacy::settle::serial_runs_settle;
-use crate::ending::{End, run_to_end};
 use cilk_program::program::Program;
 use cilk_types::input::Input;
 use cilk_types::trace::Trace;

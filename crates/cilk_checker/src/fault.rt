@@ -1,7 +1,7 @@
 //! What is wrong with a program text.
 
-use cilk_names::fault::NameNumber;
-use cilk_parser::fault::TextNumber;
+use cilk_names::fault::NameErrorKind;
+use cilk_parser::fault::SyntaxErrorKind;
 use thiserror::Error;
 
 /// Why a text is no program: memory ran out, or what is wrong at which byte, counted from 0.
@@ -11,8 +11,8 @@ pub enum ProgramFault {
     Memory,
     /// Its spelling is wrong.
     #[error("{0} at byte {1}")]
-    Text(TextNumber, usize),
+    Text(SyntaxErrorKind, usize),
     /// It spells a tree, of which a name is wrong.
     #[error("{0} at byte {1}")]
-    Name(NameNumber, usize),
+    Name(NameErrorKind, usize),
 }

@@ -8,10 +8,10 @@ ghost use Rattle.cilk_parser.specs.Texts.{IsText};
 use crate::fault::ProgramFault;
 use cilk_names::fault::NameFault;
 use cilk_names::resolve::resolve;
+use cilk_parser::fault::TextFault;
 use cilk_parser::parse::parse;
 use cilk_program::program::Program;
 use cilk_syntax::tree::Tree;
-use cilk_parser::fault::TextFault;
 use std::alloc::Global;
 
 /// The tree of a program text.

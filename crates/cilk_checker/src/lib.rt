@@ -13,7 +13,7 @@
 //! ```text
 //! check(alloc, b"int main(){return 0;}", b"", certificate)       // Ok(accepted), and accepted.outcome().result is 0
 //! check(alloc, b"int main(){return 0;}", b"", b"")               // Err(Refusal::Truncated { line: 1 })
-//! check(alloc, b"int main(){return x;}", b"", certificate)       // Err(Refusal::Name(NameNumber::Unknown, 18))
+//! check(alloc, b"int main(){return x;}", b"", certificate)       // Err(Refusal::Name(NameErrorKind::Unknown, 18))
 //! ```
 //!
 //! Program texts are judged: what each means, or what is wrong with it first.
@@ -23,7 +23,7 @@
 //! ([`laws::text_has_one_meaning`]). An input text is judged by `cilk_parser` alone.
 //!
 //! ```text
-//! program(alloc, b"int main(){return x;}")       // Err(ProgramFault::Name(NameNumber::Unknown, 18))
+//! program(alloc, b"int main(){return x;}")       // Err(ProgramFault::Name(NameErrorKind::Unknown, 18))
 //! ```
 //!
 //! The serial run of a program up to its end, with what its frames run.

@@ -9,10 +9,10 @@ ghost use Rattle.cilk_checker.specs.Columns.{HasColumns};
 ghost use Rattle.cilk_checker.specs.Tallies.{AreFew};
 
 use crate::right::Right;
-use cilk_labels::{Labels, label};
 use cilk_cert_maker::column::Columns;
 use cilk_cert_maker::columns::columns;
 use cilk_cert_maker::listing_laws::columns_are_counted;
+use cilk_labels::{Labels, label};
 use cilk_peers::class::Classes;
 use cilk_peers::walk::classes;
 use cilk_tree::building::tree_of;

@@ -7,8 +7,8 @@ ghost use Rattle.cilk_checker.specs.Numbers.{number_of, fields_of};
 
 use crate::hearing::Stop;
 use cilk_cert_text::fault::CertFault;
-use cilk_names::fault::NameNumber;
-use cilk_parser::fault::TextNumber;
+use cilk_names::fault::NameErrorKind;
+use cilk_parser::fault::SyntaxErrorKind;
 use cilk_types::event::Pos;
 use std::alloc::{AllocError, AllocFailed};
 use thiserror::Error;
@@ -18,11 +18,11 @@ use thiserror::Error;
 #[derive(Clone, Copy, Debug, Error)]
 pub enum Refusal {
     #[error("{0} in the program at byte {1}")]
-    Program(TextNumber, usize),
+    Program(SyntaxErrorKind, usize),
     #[error("{0} in the program at byte {1}")]
-    Name(NameNumber, usize),
+    Name(NameErrorKind, usize),
     #[error("{0} in the input at byte {1}")]
-    Input(TextNumber, usize),
+    Input(SyntaxErrorKind, usize),
     /// The certificate isn't in its grammar at this line, counted from 1.
     #[error("malformed certificate at line {line}")]
     Malformed { line: u32 },

@@ -8,9 +8,9 @@ ghost use Rattle.cilk_cert_maker.specs.Listed.{event_in, source_at, source_in};
 
 use crate::first::First;
 use crate::right::{Right, event_behind, has, has_class, has_frame, has_hebrew};
-use cilk_cert_text::line::{Entry, Frame, Line, Strand};
 use cilk_cert_maker::listed_entries::{Creations, entry, source_due, source_of};
 use cilk_cert_maker::sources::{LastWrites, cells_written};
+use cilk_cert_text::line::{Entry, Frame, Line, Strand};
 use cilk_types::event::Event;
 use std::alloc::{AllocError, Global};
 

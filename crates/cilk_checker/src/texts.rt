@@ -10,13 +10,13 @@ ghost use Rattle.cilk_checker.specs.Texts.{AreTexts, IsOfTexts, IsTrueAnswer, Is
 
 use crate::accepted::Accepted;
 use crate::check::check_run;
-use crate::refusal::{Refusal, Unaccepted};
-use crate::source::{Source, Whole};
 use crate::fault::ProgramFault;
 use crate::judge::program;
+use crate::refusal::{Refusal, Unaccepted};
+use crate::source::{Source, Whole};
+use cilk_parser::fault::TextFault;
 use cilk_parser::input::parse_input;
 use cilk_program::program::Program;
-use cilk_parser::fault::TextFault;
 use cilk_types::input::Input;
 use std::alloc::Global;
 

@@ -18,9 +18,9 @@ use crate::reply::{Answer, Failure};
 use crate::streams::receive;
 use cilk_checker::check::check_run;
 use cilk_checker::refusal::{Refusal, Unaccepted};
+use cilk_messages::words::Origin;
 use cilk_program::program::Program;
 use cilk_types::input::Input;
-use cilk_messages::words::Origin;
 use std::alloc::Global;
 use std::io::Read;
 

@@ -24,8 +24,8 @@ use Rattle.cilk_monoid.specs.Laws.{IsLawful}
 use Rattle.cilk_runs.specs.Monoids.{IsValue, unit_of}
 use Rattle.cilk_runs.specs.Traces.{trace, begin_due, IsFramed}
 use Rattle.cilk_runs.specs.Reducers.{monoid_of}
-use Rattle.cilk_runs.specs.Worlds.{World, first_world}
-use Rattle.cilk_runs.specs.WorldMachine.{used, limit, costs, opening_values}
+use Rattle.cilk_runs.specs.FrameEnvs.{FrameEnv, first_world}
+use Rattle.cilk_runs.specs.FrameEnvMachine.{used, limit, costs, opening_values}
 use Rattle.cilk_determinacy.specs.Nested.{named}
 use Rattle.cilk_determinacy.specs.Theorem.{SetWords, IsSerial, IsCounted, CountsAsSerial}
 use Rattle.cilk_determinacy.proofs.Behaving.{run_holds}
@@ -53,7 +53,7 @@ module _ (p : Source) (inputs : List ℤ) (well : IsTrue (is_well_named p)) (r :
   run : serial.IsSerialRun p inputs r es (Leaves (outcome_of global_reducer p v m.store))
   run = (Finished v left m, d, refl)
 
-  abbrev t : Run World
+  abbrev t : Run FrameEnv
   t = named p r
 
   opening_same : Same p r (opening_values p inputs) (unit_of monoid_of) (opening p.openings)

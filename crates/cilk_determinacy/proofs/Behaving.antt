@@ -15,9 +15,9 @@ use Rattle.cilk_runs.specs.Costs.{TickTotal, weight}
 use Rattle.cilk_runs.specs.Serial.{Behaves}
 use Rattle.cilk_runs.specs.Theorem.{follows}
 use Rattle.cilk_runs.proofs.Started.{started_does, started_invokes}
-use Rattle.cilk_runs.specs.Worlds.{World, child_world}
-use Rattle.cilk_runs.specs.WorldMachine.{retired_by, named_ask, answer_of, answers_of, is_end, has_ended, but_last, asked_after, next, taken, costs}
-use Rattle.cilk_runs.proofs.KeptWorld.{but_last_more, answers_more, ended_more}
+use Rattle.cilk_runs.specs.FrameEnvs.{FrameEnv, child_world}
+use Rattle.cilk_runs.specs.FrameEnvMachine.{retired_by, named_ask, answer_of, answers_of, is_end, has_ended, but_last, asked_after, next, taken, costs}
+use Rattle.cilk_runs.proofs.KeptFrameEnv.{but_last_more, answers_more, ended_more}
 use Rattle.cilk_determinacy.specs.Nested.{named_event, named_from}
 use Rattle.cilk_program.proofs.Parts.{is_out}
 use Rattle.cilk_program.proofs.Ticking.{at_full, frame_further}
@@ -25,12 +25,12 @@ use Rattle.cilk_program.proofs.Ticking.{at_full, frame_further}
 -- ---- lists of deeds
 
 -- a history is empty or has a last deed
-last_of : (past : List (Deed World)) → (past ≡ []) ⊎ ((d : Deed World) × (past ≡ but_last past ++ d ∷ []))
+last_of : (past : List (Deed FrameEnv)) → (past ≡ []) ⊎ ((d : Deed FrameEnv) × (past ≡ but_last past ++ d ∷ []))
 last_of [] = inl refl
 last_of (d ∷ []) = inr (d, refl)
 last_of (d ∷ e ∷ past) = longer (last_of (e ∷ past))
   where
-    longer : ((e ∷ past) ≡ []) ⊎ ((c : Deed World) × ((e ∷ past) ≡ but_last (e ∷ past) ++ c ∷ [])) → ((d ∷ e ∷ past) ≡ []) ⊎ ((c : Deed World) × ((d ∷ e ∷ past) ≡ but_last (d ∷ e ∷ past) ++ c ∷ []))
+    longer : ((e ∷ past) ≡ []) ⊎ ((c : Deed FrameEnv) × ((e ∷ past) ≡ but_last (e ∷ past) ++ c ∷ [])) → ((d ∷ e ∷ past) ≡ []) ⊎ ((c : Deed FrameEnv) × ((d ∷ e ∷ past) ≡ but_last (d ∷ e ∷ past) ++ c ∷ []))
     longer (inl h) = absurd (no_nil h)
       where
         no_nil : ¬ ((e ∷ past) ≡ [])
@@ -39,7 +39,7 @@ last_of (d ∷ e ∷ past) = longer (last_of (e ∷ past))
 
 -- ---- events
 
-pub inner_asks : (p : Source) (w : World) (k : ℕ) (a : language.Ask) (v : ℤ) → IsInner a → ask_of (named_event p w a v) ≡ named_ask p w k a
+pub inner_asks : (p : Source) (w : FrameEnv) (k : ℕ) (a : language.Ask) (v : ℤ) → IsInner a → ask_of (named_event p w a v) ≡ named_ask p w k a
 inner_asks p w k asks.Begin v i = refl
 inner_asks p w k (asks.Read x) v i = refl
 inner_asks p w k (asks.Write x y) v i = refl
@@ -55,7 +55,7 @@ inner_asks p w k (asks.Result y) v i = refl
 inner_asks p w k (asks.End y) v i = absurd i
 inner_asks p w k (asks.Fault f) v i = absurd i
 
-pub inner_answers : (p : Source) (w : World) (fr : Frame) (m : Memory) (a : language.Ask) → answer_of (Does (named_event p w a (answer_to fr m a))) ≡ answer_to fr m a
+pub inner_answers : (p : Source) (w : FrameEnv) (fr : Frame) (m : Memory) (a : language.Ask) → answer_of (Does (named_event p w a (answer_to fr m a))) ≡ answer_to fr m a
 inner_answers p w fr m asks.Begin = refl
 inner_answers p w fr m (asks.Read x) = refl
 inner_answers p w fr m (asks.Write x y) = refl
@@ -71,7 +71,7 @@ inner_answers p w fr m (asks.Result y) = refl
 inner_answers p w fr m (asks.End y) = refl
 inner_answers p w fr m (asks.Fault f) = refl
 
-inner_ends : (p : Source) (w : World) (a : language.Ask) (v : ℤ) → IsInner a → is_end (Does (named_event p w a v)) ≡ false
+inner_ends : (p : Source) (w : FrameEnv) (a : language.Ask) (v : ℤ) → IsInner a → is_end (Does (named_event p w a v)) ≡ false
 inner_ends p w asks.Begin v i = refl
 inner_ends p w (asks.Read x) v i = refl
 inner_ends p w (asks.Write x y) v i = refl
@@ -107,30 +107,30 @@ inner_goes (asks.Fault f) i = absurd i
 
 module _ (p : Source) (inputs : List ℤ) where
   -- where a frame by names stands at this history of answers
-  pub record At (w : World) (fr : Frame) (past : List (Deed World)) (history : List ℤ) (k : ℕ) : Type 0 where
+  pub record At (w : FrameEnv) (fr : Frame) (past : List (Deed FrameEnv)) (history : List ℤ) (k : ℕ) : Type 0 where
     pub callee : w.callee ≡ fr.callee
     pub answers : answers_of past ≡ history
     pub going : has_ended past ≡ false
     pub ordinal : suc (started past) ≡ k
 
   -- what is asked there, and the ticks taken by then
-  record Asking (w : World) (past : List (Deed World)) (k : ℕ) (a : language.Ask) (start left : ℕ) : Type 0 where
+  record Asking (w : FrameEnv) (past : List (Deed FrameEnv)) (k : ℕ) (a : language.Ask) (start left : ℕ) : Type 0 where
     asks : next p inputs w past ≡ Some (named_ask p w k a)
     took : taken p inputs w past ≡ start - left
     low : left ≤ start
     before : taken p inputs w (but_last past) ≤ taken p inputs w past
 
-  before_taken : (w : World) (past : List (Deed World)) → taken p inputs w (but_last past) ≤ taken p inputs w past
+  before_taken : (w : FrameEnv) (past : List (Deed FrameEnv)) → taken p inputs w (but_last past) ≤ taken p inputs w past
   before_taken w past = by (last_of past)
     where
-      by : (past ≡ []) ⊎ ((d : Deed World) × (past ≡ but_last past ++ d ∷ [])) → taken p inputs w (but_last past) ≤ taken p inputs w past
+      by : (past ≡ []) ⊎ ((d : Deed FrameEnv) × (past ≡ but_last past ++ d ∷ [])) → taken p inputs w (but_last past) ≤ taken p inputs w past
       by (inl h) = subst (λ past. taken p inputs w (but_last past) ≤ taken p inputs w past) (sym h) (omega arith)
       by (inr (d, h)) =
           let less = frame_further p inputs w.callee (answer_of d) (answers_of (but_last past)) MAX_TICKS in
           let more = subst (λ hs. (frame_asks p inputs w.callee hs MAX_TICKS).left ≤ (asked_after p inputs w (but_last past)).left) (sym (answers_more (but_last past) d)) less in
           subst (λ other. taken p inputs w (but_last past) ≤ taken p inputs w other) (sym h) (omega (arith, more))
 
-  asking : (w : World) (fr : Frame) (past : List (Deed World)) (history : List ℤ) (k : ℕ) (a : language.Ask) (start left : ℕ) → At w fr past history k → frame_asks p inputs fr.callee history start ≡ asks_for a left → is_out a ≡ false → start ≤ MAX_TICKS
+  asking : (w : FrameEnv) (fr : Frame) (past : List (Deed FrameEnv)) (history : List ℤ) (k : ℕ) (a : language.Ask) (start left : ℕ) → At w fr past history k → frame_asks p inputs fr.callee history start ≡ asks_for a left → is_out a ≡ false → start ≤ MAX_TICKS
       → Asking w past k a start left
   asking w fr past history k a start left at q out low =
       let full = at_full p inputs fr.callee MAX_TICKS history start left a q out low in
@@ -145,7 +145,7 @@ module _ (p : Source) (inputs : List ℤ) where
         before = before_taken w past;
       }
 
-  at_act : (w : World) (fr : Frame) (past : List (Deed World)) (history : List ℤ) (k : ℕ) (m : Memory) (a : language.Ask) → IsInner a → At w fr past history k
+  at_act : (w : FrameEnv) (fr : Frame) (past : List (Deed FrameEnv)) (history : List ℤ) (k : ℕ) (m : Memory) (a : language.Ask) → IsInner a → At w fr past history k
       → At w fr (past ++ Does (named_event p w a (answer_to fr m a)) ∷ []) (history ++ answer_to fr m a ∷ []) k
   at_act w fr past history k m a inner at =
       let e = named_event p w a (answer_to fr m a) in
@@ -156,7 +156,7 @@ module _ (p : Source) (inputs : List ℤ) where
         ordinal = ap suc (started_does past e) ∙ at.ordinal;
       }
 
-  at_child : (w : World) (fr : Frame) (past : List (Deed World)) (history : List ℤ) (k : ℕ) (kind : _) (v : World) → At w fr past history k → At w fr (past ++ Invokes kind v ∷ []) (history ++ pos 0 ∷ []) (suc k)
+  at_child : (w : FrameEnv) (fr : Frame) (past : List (Deed FrameEnv)) (history : List ℤ) (k : ℕ) (kind : _) (v : FrameEnv) → At w fr past history k → At w fr (past ++ Invokes kind v ∷ []) (history ++ pos 0 ∷ []) (suc k)
   at_child w fr past history k kind v at = record {
     callee = at.callee;
     answers = answers_more past (Invokes kind v) ∙ ap (λ hs. hs ++ pos 0 ∷ []) at.answers;
@@ -165,12 +165,12 @@ module _ (p : Source) (inputs : List ℤ) where
   }
 
   -- what is shown of a run, with the ticks that it leaves
-  abbrev pub Holds : Ending → World → List (Deed World) → Run World → ℕ → Type 0
+  abbrev pub Holds : Ending → FrameEnv → List (Deed FrameEnv) → Run FrameEnv → ℕ → Type 0
   Holds (Finished v left m) w past t start =
-      Behaves World (follows (next p inputs)) w past t × (weight (costs p inputs) TickTotal w past t + left + taken p inputs w (but_last past) ≡ start)
+      Behaves FrameEnv (follows (next p inputs)) w past t × (weight (costs p inputs) TickTotal w past t + left + taken p inputs w (but_last past) ≡ start)
   Holds (serial.Stopped f) w past t start = Unit {0}
 
-  act_holds : (end : Ending) (w : World) (past : List (Deed World)) (k : ℕ) (a : language.Ask) (e : Happens) (t : Run World) (start left : ℕ) → ask_of e ≡ named_ask p w k a → Asking w past k a start left
+  act_holds : (end : Ending) (w : FrameEnv) (past : List (Deed FrameEnv)) (k : ℕ) (a : language.Ask) (e : Happens) (t : Run FrameEnv) (start left : ℕ) → ask_of e ≡ named_ask p w k a → Asking w past k a start left
       → Holds end w (past ++ Does e ∷ []) t start → Holds end w past (act e t) start
   act_holds (Finished v left' m) w past k a e t start left same asked (behaves, adds) =
       let last : taken p inputs w (but_last (past ++ Does e ∷ [])) ≡ taken p inputs w past = ap (taken p inputs w) (but_last_more past (Does e)) in
@@ -180,7 +180,7 @@ module _ (p : Source) (inputs : List ℤ) where
       )
   act_holds (serial.Stopped f) w past k a e t start left same asked h = tt
 
-  child_holds : (end : Ending) (w v : World) (past : List (Deed World)) (k : ℕ) (how : _) (callee : Callee) (u t : Run World) (start left left' : ℕ) (x : ℤ) (m' : Memory) → v ≡ child_world p w k callee → Asking w past k (asks.Invoke how callee) start left → left' ≤ left
+  child_holds : (end : Ending) (w v : FrameEnv) (past : List (Deed FrameEnv)) (k : ℕ) (how : _) (callee : Callee) (u t : Run FrameEnv) (start left left' : ℕ) (x : ℤ) (m' : Memory) → v ≡ child_world p w k callee → Asking w past k (asks.Invoke how callee) start left → left' ≤ left
       → Holds (Finished x left' m') v [] u left → Holds end w (past ++ Invokes how v ∷ []) t (left' + (start - left)) → Holds end w past (child how v u t) start
   child_holds (Finished y left'' m) w v past k how callee u t start left left' x m' same asked less (behaves, adds) (goes_on, adds') =
       let last : taken p inputs w (but_last (past ++ Invokes how v ∷ [])) ≡ taken p inputs w past = ap (taken p inputs w) (but_last_more past (Invokes how v)) in
@@ -193,23 +193,23 @@ module _ (p : Source) (inputs : List ℤ) where
       )
   child_holds (serial.Stopped f) w v past k how callee u t start left left' x m' same asked less inner rest = tt
 
-  end_asks_nothing : (w : World) (past : List (Deed World)) (v : ℤ) → has_ended past ≡ false → (a : Ask World) → next p inputs w (past ++ Does (Ends v (retired_by p w)) ∷ []) ≡ Some a → ⊥
+  end_asks_nothing : (w : FrameEnv) (past : List (Deed FrameEnv)) (v : ℤ) → has_ended past ≡ false → (a : Ask FrameEnv) → next p inputs w (past ++ Does (Ends v (retired_by p w)) ∷ []) ≡ Some a → ⊥
   end_asks_nothing w past v going a h =
       let nothing : None ≡ Some a = sym (ap (λ t. cond t None (Some (named_ask p w (suc (started (past ++ Does (Ends v (retired_by p w)) ∷ []))) (asked_after p inputs w (past ++ Does (Ends v (retired_by p w)) ∷ [])).ask))) (ended_more past (Does (Ends v (retired_by p w))) going)) ∙ h in
       grind arith
 
-  end_holds : (w : World) (fr : Frame) (past : List (Deed World)) (history : List ℤ) (k : ℕ) (v : ℤ) (start left : ℕ) (m : Memory) → At w fr past history k → Asking w past k (asks.End v) start left
+  end_holds : (w : FrameEnv) (fr : Frame) (past : List (Deed FrameEnv)) (history : List ℤ) (k : ℕ) (v : ℤ) (start left : ℕ) (m : Memory) → At w fr past history k → Asking w past k (asks.End v) start left
       → Holds (Finished v left m) w past (act (Ends v (retired_by p w)) stop) start
   end_holds w fr past history k v start left m at asked =
       let before = asked.before in
       let took = asked.took in
       let low = asked.low in ((asked.asks, end_asks_nothing w past v at.going), omega (arith, before, took, low))
 
-  holds_lower : (v : ℤ) (left : ℕ) (m : Memory) (w : World) (past : List (Deed World)) (t : Run World) (start : ℕ) → Holds (Finished v left m) w past t start → left ≤ start
+  holds_lower : (v : ℤ) (left : ℕ) (m : Memory) (w : FrameEnv) (past : List (Deed FrameEnv)) (t : Run FrameEnv) (start : ℕ) → Holds (Finished v left m) w past t start → left ≤ start
   holds_lower v left m w past t start (behaves, adds) = omega (arith, adds)
 
   pub run_holds : {fr : Frame} {start : ℕ} {history : List ℤ} {m : Memory} {r : serial.Transcript} {es : List Event} {end : Ending} → Serial p inputs fr start history m r es end
-      → (w : World) (past : List (Deed World)) (k : ℕ) → At w fr past history k → start ≤ MAX_TICKS → Holds end w past (named_from p w k r) start
+      → (w : FrameEnv) (past : List (Deed FrameEnv)) (k : ℕ) → At w fr past history k → start ≤ MAX_TICKS → Holds end w past (named_from p w k r) start
   run_holds (Made {fr = fr} {start = start} {history = history} {m = m} {r = r} {end = end} a left q inner ok rest) w past k at low =
       act_holds end w past k a (named_event p w a (answer_to fr m a)) (named_from p w k r) start left (inner_asks p w k a (answer_to fr m a) inner) (asking w fr past history k a start left at q (inner_goes a inner) low)
       (run_holds rest w (past ++ Does (named_event p w a (answer_to fr m a)) ∷ []) k (at_act w fr past history k m a inner at) low)

@@ -11,7 +11,7 @@ use Rattle.cilk_program.proofs.Naming.{well_named_parts}
 use Rattle.cilk_program.specs.Visible.{CanInvoke}
 use Rattle.cilk_program.proofs.Visible.{none_given, root_sees, called_sees, part_sees}
 use Rattle.cilk_runs.specs.Runs.{Global, Own}
-use Rattle.cilk_runs.specs.Worlds.{global_named, own_named, home_named, given_named, World, first_world, child_world}
+use Rattle.cilk_runs.specs.FrameEnvs.{global_named, own_named, home_named, given_named, FrameEnv, first_world, child_world}
 use Rattle.cilk_determinacy.specs.Numbers.{child_runs, frame_runs, IsHere, HasCell}
 use Rattle.cilk_determinacy.proofs.Numbers.{up_more}
 use Rattle.cilk_determinacy.proofs.Sights.{HasOne, Stands, Ahead, root_here, globals_here, own_here, tied_home, tied_outer, tied_to, tied_result}
@@ -65,7 +65,7 @@ module _ (p : Source) (r : Transcript) where
 
   -- ---- a child
 
-  abbrev pub child_here : (w : World) (here : IsHere p r w.name) (j : ℕ) (how : _) (callee : Callee) (u rest : Transcript) (n : Counts) → Ahead p r here.path j (child how callee u rest) n → IsHere p r (w.name ++ suc j ∷ [])
+  abbrev pub child_here : (w : FrameEnv) (here : IsHere p r w.name) (j : ℕ) (how : _) (callee : Callee) (u rest : Transcript) (n : Counts) → Ahead p r here.path j (child how callee u rest) n → IsHere p r (w.name ++ suc j ∷ [])
   child_here w here j how callee u rest n a = record {
     path = here.path ++ j ∷ [];
     named = ap (λ name. name ++ suc j ∷ []) here.named ∙ sym (up_more here.path j);
@@ -76,7 +76,7 @@ module _ (p : Source) (r : Transcript) where
   child_run : (path : List ℕ) (j : ℕ) (how : _) (callee : Callee) (u rest : Transcript) (n : Counts) → Ahead p r path j (child how callee u rest) n → frame_runs r (path ++ j ∷ []) ≡ Some callee
   child_run path j how callee u rest n a = let e : j + 0 ≡ j = omega arith in subst (λ j. frame_runs r (path ++ j ∷ []) ≡ Some callee) e (a.runs 0 [])
 
-  pub child_stands : IsTrue (is_well_named p) → (w : World) (fr : Frame) (h : Stands p r w fr) (j : ℕ) (how : _) (callee : Callee) (u rest : Transcript) (m : Memory) → (let here = h.here in Ahead p r here.path j (child how callee u rest) (counts_of m))
+  pub child_stands : IsTrue (is_well_named p) → (w : FrameEnv) (fr : Frame) (h : Stands p r w fr) (j : ℕ) (how : _) (callee : Callee) (u rest : Transcript) (m : Memory) → (let here = h.here in Ahead p r here.path j (child how callee u rest) (counts_of m))
       → CalleeIsThere p (body_of p w.callee) callee → CanInvoke w.callee callee → Stands p r (child_world p w (suc j) callee) (next_frame p fr.scope m callee)
   child_stands well w fr h j how callees.Root u rest m a there can = absurd there
   child_stands well w fr h j how (callees.Function c) u rest m a there can =
@@ -111,7 +111,7 @@ module _ (p : Source) (r : Transcript) where
             (here, omega (arith, own, many)));
       }
 
-  pub child_path : (well : IsTrue (is_well_named p)) (w : World) (fr : Frame) (h : Stands p r w fr) (j : ℕ) (how : _) (callee : Callee) (u rest : Transcript) (m : Memory) (a : let here = h.here in Ahead p r here.path j (child how callee u rest) (counts_of m))
+  pub child_path : (well : IsTrue (is_well_named p)) (w : FrameEnv) (fr : Frame) (h : Stands p r w fr) (j : ℕ) (how : _) (callee : Callee) (u rest : Transcript) (m : Memory) (a : let here = h.here in Ahead p r here.path j (child how callee u rest) (counts_of m))
       (there : CalleeIsThere p (body_of p w.callee) callee) (can : CanInvoke w.callee callee) → let g = child_stands well w fr h j how callee u rest m a there can in let here = g.here in let above = h.here in here.path ≡ above.path ++ j ∷ []
   unfolding child_stands
   child_path well w fr h j how callees.Root u rest m a there can = absurd there

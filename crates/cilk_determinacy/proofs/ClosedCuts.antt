@@ -10,7 +10,7 @@ use Rattle.cilk_runs.specs.Traces.{shape_of}
 use Rattle.cilk_runs.proofs.Positions.{cuts_closed as closed_before}
 use Rattle.cilk_tree.specs.Tree.{tree}
 use Rattle.cilk_tree.proofs.Spelled.{spells_one}
-use Rattle.cilk_runs.specs.Worlds.{World}
+use Rattle.cilk_runs.specs.FrameEnvs.{FrameEnv}
 use Rattle.cilk_determinacy.specs.Nested.{named}
 use Rattle.cilk_determinacy.specs.Numbers.{cell_number, instance_number}
 use Rattle.cilk_determinacy.specs.Positions.{made, CutsAreClosed}
@@ -19,5 +19,5 @@ use Rattle.cilk_determinacy.proofs.Determinate.{serial_numbered}
 pub cuts_closed : (p : Source) (inputs : List ℤ) → CutsAreClosed p inputs
 cuts_closed p inputs r es outcome well runs shape spells s cut =
     let n = serial_numbered p inputs r es outcome well runs in
-    let closed = closed_before World (cell_number p r) (instance_number p r) (named p r) es (deeds_at (s.frames [])) (below s.frames) n.framed n.written cut.cut in
+    let closed = closed_before FrameEnv (cell_number p r) (instance_number p r) (named p r) es (deeds_at (s.frames [])) (below s.frames) n.framed n.written cut.cut in
     subst (λ t. IsClosedBefore es (tree t) (made p r s)) (spells_one (shape_of (named p r)) shape es n.spells spells) closed

@@ -20,7 +20,7 @@ use Rattle.cilk_runs.specs.Runs.{Cell, Global, Instance, Output, Does, Deed}
 use Rattle.cilk_runs.specs.Machine.{State, deeds_at, HasEnd}
 use Rattle.cilk_runs.specs.Serial.{own_deeds}
 use Rattle.cilk_runs.specs.Reducers.{View, value_of, elements_of}
-use Rattle.cilk_runs.specs.Worlds.{World, global_named}
+use Rattle.cilk_runs.specs.FrameEnvs.{FrameEnv, global_named}
 use Rattle.cilk_determinacy.specs.Nested.{named_event, named_from}
 use Rattle.cilk_runs.specs.Steps.{result_in, finals_in, outcome_in}
 use Rattle.cilk_determinacy.specs.Numbers.{HasInstance}
@@ -29,7 +29,7 @@ use Rattle.cilk_determinacy.proofs.Sights.{global_tied, global_here}
 use Rattle.cilk_determinacy.proofs.Stores.{Same}
 
 -- an event after which the frame goes on gives no result
-inner_result : (p : Source) (w : World) (a : language.Ask) (v : ℤ) (ds : List (Deed World)) → IsInner a → result_in (Does (named_event p w a v) ∷ ds) ≡ result_in ds
+inner_result : (p : Source) (w : FrameEnv) (a : language.Ask) (v : ℤ) (ds : List (Deed FrameEnv)) → IsInner a → result_in (Does (named_event p w a v) ∷ ds) ≡ result_in ds
 inner_result p w asks.Begin v ds i = refl
 inner_result p w (asks.Read x) v ds i = refl
 inner_result p w (asks.Write x y) v ds i = refl
@@ -45,16 +45,16 @@ inner_result p w (asks.Result y) v ds i = refl
 inner_result p w (asks.End y) v ds i = absurd i
 inner_result p w (asks.Fault f) v ds i = absurd i
 
-abbrev GivesResult : Ending → List (Deed World) → Type 0
+abbrev GivesResult : Ending → List (Deed FrameEnv) → Type 0
 GivesResult (Finished v left m) ds = result_in ds ≡ v
 GivesResult (serial.Stopped f) ds = Unit {0}
 
-result_before : (end : Ending) (ds ds' : List (Deed World)) → result_in ds' ≡ result_in ds → GivesResult end ds → GivesResult end ds'
+result_before : (end : Ending) (ds ds' : List (Deed FrameEnv)) → result_in ds' ≡ result_in ds → GivesResult end ds → GivesResult end ds'
 result_before (Finished v left m) ds ds' e h = e ∙ h
 result_before (serial.Stopped f) ds ds' e h = tt
 
 pub run_result : {p : Source} {inputs : List ℤ} {fr : _} {start : ℕ} {history : List ℤ} {m : Memory} {r : serial.Transcript} {es : List Event} {end : Ending} → Serial p inputs fr start history m r es end
-    → (w : World) (k : ℕ) → GivesResult end (own_deeds (named_from p w k r))
+    → (w : FrameEnv) (k : ℕ) → GivesResult end (own_deeds (named_from p w k r))
 run_result {p = p} (Made {fr = fr} {m = m} {r = r} {end = end} a left q inner ok rest) w k =
     result_before end (own_deeds (named_from p w k r)) (own_deeds (named_from p w k (serial.act a (answer_to fr m a) r))) (inner_result p w a (answer_to fr m a) (own_deeds (named_from p w k r)) inner) (run_result rest w k)
 run_result (Ended v left q ok) w k = refl
@@ -64,7 +64,7 @@ run_result (serial.Broke how callee left f q ok inner) w k = tt
 run_result (serial.Refused k' left f q bad) w k = tt
 
 -- a run that finishes has its first frame's end
-goes_on : (p : Source) (w : World) (a : language.Ask) (v : ℤ) (ds : List (Deed World)) → IsInner a → HasEnd ds → HasEnd (Does (named_event p w a v) ∷ ds)
+goes_on : (p : Source) (w : FrameEnv) (a : language.Ask) (v : ℤ) (ds : List (Deed FrameEnv)) → IsInner a → HasEnd ds → HasEnd (Does (named_event p w a v) ∷ ds)
 goes_on p w asks.Begin v ds i h = h
 goes_on p w (asks.Read x) v ds i h = h
 goes_on p w (asks.Write x y) v ds i h = h
@@ -85,7 +85,7 @@ Finishes (Finished v left m) = Unit {0}
 Finishes (serial.Stopped f) = ⊥
 
 pub run_ends : {p : Source} {inputs : List ℤ} {fr : _} {start : ℕ} {history : List ℤ} {m : Memory} {r : serial.Transcript} {es : List Event} {end : Ending} → Serial p inputs fr start history m r es end
-    → Finishes end → (w : World) (k : ℕ) → HasEnd (own_deeds (named_from p w k r))
+    → Finishes end → (w : FrameEnv) (k : ℕ) → HasEnd (own_deeds (named_from p w k r))
 run_ends {p = p} (Made {fr = fr} {m = m} {r = r} a left q inner ok rest) h w k = goes_on p w a (answer_to fr m a) (own_deeds (named_from p w k r)) inner (run_ends rest h w k)
 run_ends (Ended v left q ok) h w k = tt
 run_ends (Went how callee left v left' m' q ok inner rest) h w k = run_ends rest h w (suc k)
@@ -112,7 +112,7 @@ module _ (p : Source) (r : serial.Transcript) where
       (same_finals memory views store same (suc n) ks (λ i j is. let e' : n + suc i ≡ suc n + i = omega arith in subst (λ n. HasInstance p r (global_named n j)) e' (has (suc i) j is)))
 
   -- a state whose memory and views are those of a store, with this result
-  pub same_outcome : (s : State World View) (v : ℤ) (memory : Cell → ℤ) (views : Instance → View) (store : Store numbered.Instance) → Same p r memory views store → result_in (deeds_at (s.frames [])) ≡ v → ((c : Cell) → s.memory c ≡ memory c)
+  pub same_outcome : (s : State FrameEnv View) (v : ℤ) (memory : Cell → ℤ) (views : Instance → View) (store : Store numbered.Instance) → Same p r memory views store → result_in (deeds_at (s.frames [])) ≡ v → ((c : Cell) → s.memory c ≡ memory c)
       → ((i : Instance) → s.piece [] i ≡ views i) → outcome_in p s ≡ outcome_of global_reducer p v store
   same_outcome s v memory views store same result cells pieces =
       let globals : cells_from 0 (length p.openings) (λ n. s.memory (Global n)) ≡ cells_from 0 (length p.openings) store.cells = same_cells_from 0 (length p.openings) _ _ (λ i less. cells (Global i) ∙ same.cells (Global i) (omega (arith, less))) in

@@ -32,13 +32,13 @@ use Rattle.cilk_runs.specs.Monoids.{numbers_of}
 use Rattle.cilk_runs.proofs.Basics.{same_name-refl}
 use Rattle.cilk_runs.proofs.Started.{started_invokes}
 use Rattle.cilk_runs.specs.Held.{HoldsViews, AskIsSound}
-use Rattle.cilk_runs.specs.WorldMachine.{named_ask, answer_of, answers_of, is_end, has_ended, asked_after, next, costs, opening_values}
+use Rattle.cilk_runs.specs.FrameEnvMachine.{named_ask, answer_of, answers_of, is_end, has_ended, asked_after, next, costs, opening_values}
 use Rattle.cilk_runs.specs.Reducers.{View, value_of, kind_of, monoid_of}
 use Rattle.cilk_runs.specs.Steps.{Next, IsFirst, OneStep, Reaches}
-use Rattle.cilk_runs.specs.Worlds.{World, first_world, child_world, cell_seen, reducer_seen, result_cell}
+use Rattle.cilk_runs.specs.FrameEnvs.{FrameEnv, first_world, child_world, cell_seen, reducer_seen, result_cell}
 use Rattle.cilk_runs.proofs.Held.{HasView, views_kept}
-use Rattle.cilk_runs.proofs.KeptWorld.{answers_more, ended_more}
-use Rattle.cilk_runs.proofs.WorldViews.{are_multiplied}
+use Rattle.cilk_runs.proofs.KeptFrameEnv.{answers_more, ended_more}
+use Rattle.cilk_runs.proofs.FrameEnvViews.{are_multiplied}
 use Rattle.cilk_determinacy.specs.Held.{LengthIsWord, LengthsAreWords, ViewsAreHeld}
 use Rattle.cilk_determinacy.specs.Lengths.{HasShortLists, ListsAreShort}
 use Rattle.cilk_determinacy.specs.Words.{AreWords, HasWords, InputsAreWords}
@@ -203,21 +203,21 @@ view_word i v (x, h) g =
     let same : (monoid_of i).number v ≡ (structure_of (kind_of i)).number x = m.number (kind_of i) v x h in
     subst IsWord (sym same) (member_word (kind_of i) x h.member (λ list. subst IsWord same (g list)))
 
-last_length : (past : List (Deed World)) (d : Deed World) → LengthsAreWords (past ++ d ∷ []) → LengthIsWord d
+last_length : (past : List (Deed FrameEnv)) (d : Deed FrameEnv) → LengthsAreWords (past ++ d ∷ []) → LengthIsWord d
 last_length [] d h = h.0
 last_length (e ∷ past) d h = last_length past d h.1
 
-more_lengths : (past : List (Deed World)) (d : Deed World) → LengthsAreWords past → LengthIsWord d → LengthsAreWords (past ++ d ∷ [])
+more_lengths : (past : List (Deed FrameEnv)) (d : Deed FrameEnv) → LengthsAreWords past → LengthIsWord d → LengthsAreWords (past ++ d ∷ [])
 more_lengths [] d h g = (g, tt)
 more_lengths (e ∷ past) d h g = (h.0, more_lengths past d h.1 g)
 
-not_child : (e : runs.Event) (i : Invocation) (v : World) → Does e ≡ Invokes i v → ⊥
+not_child : (e : runs.Event) (i : Invocation) (v : FrameEnv) → Does e ≡ Invokes i v → ⊥
 not_child e i v q = cc
 
-same_child : (i i' : Invocation) (w v : World) → Invokes i w ≡ Invokes i' v → w ≡ v
+same_child : (i i' : Invocation) (w v : FrameEnv) → Invokes i w ≡ Invokes i' v → w ≡ v
 same_child i i' w v q = cc
 
-module _ (p : Source) (w : World) (j : ℕ) (memory : Cell → ℤ) (number : Instance → ℤ) (words : (c : Cell) → IsWord (memory c)) where
+module _ (p : Source) (w : FrameEnv) (j : ℕ) (memory : Cell → ℤ) (number : Instance → ℤ) (words : (c : Cell) → IsWord (memory c)) where
   deed_word : (k : language.Ask) → ((i : Instance) → (kind_of i ≡ Append → IsWord (number i)) → IsWord (number i)) → LengthIsWord (deed_of memory number (named_ask p w j k)) → IsWord (answer_of (deed_of memory number (named_ask p w j k)))
   deed_word asks.Begin g h = zero_word
   deed_word (asks.Read x) g h = words _
@@ -254,7 +254,7 @@ module _ (p : Source) (w : World) (j : ℕ) (memory : Cell → ℤ) (number : In
   write_word (asks.End v) h c = words c
   write_word (asks.Fault f) h c = words c
 
-  ask_sound : (k : language.Ask) (past : List (Deed World)) → AskWords k → (IsNoResume k ⊎ (1 ≤ started past)) → AskIsSound (named_ask p w j k) past
+  ask_sound : (k : language.Ask) (past : List (Deed FrameEnv)) → AskWords k → (IsNoResume k ⊎ (1 ≤ started past)) → AskIsSound (named_ask p w j k) past
   ask_sound asks.Begin past h r = tt
   ask_sound (asks.Read x) past h r = tt
   ask_sound (asks.Write x v) past h r = tt
@@ -271,11 +271,11 @@ module _ (p : Source) (w : World) (j : ℕ) (memory : Cell → ℤ) (number : In
   ask_sound (asks.Fault f) past h r = tt
 
   -- the child that an ask starts
-  abbrev ChildIs : language.Ask → Invocation → World → Type 0
+  abbrev ChildIs : language.Ask → Invocation → FrameEnv → Type 0
   ChildIs (asks.Invoke how callee) i v = v ≡ child_world p w j callee
   ChildIs k i v = ⊥
 
-  child_is : (k : language.Ask) (i : Invocation) (v : World) → deed_of memory number (named_ask p w j k) ≡ Invokes i v → ChildIs k i v
+  child_is : (k : language.Ask) (i : Invocation) (v : FrameEnv) → deed_of memory number (named_ask p w j k) ≡ Invokes i v → ChildIs k i v
   child_is asks.Begin i v q = absurd (not_child _ i v q)
   child_is (asks.Read x) i v q = absurd (not_child _ i v q)
   child_is (asks.Write x y) i v q = absurd (not_child _ i v q)
@@ -309,7 +309,7 @@ module _ (p : Source) (w : World) (j : ℕ) (memory : Cell → ℤ) (number : In
   end_ends (asks.Fault f) h = absurd h
 
   -- a deed that starts a child, and one that comes after a child
-  deed_invokes : (k : language.Ask) (past : List (Deed World)) → waiting false (past ++ deed_of memory number (named_ask p w j k) ∷ []) ≡ invoke_bit k
+  deed_invokes : (k : language.Ask) (past : List (Deed FrameEnv)) → waiting false (past ++ deed_of memory number (named_ask p w j k) ∷ []) ≡ invoke_bit k
   deed_invokes asks.Begin past = waiting_does false past _
   deed_invokes (asks.Read x) past = waiting_does false past _
   deed_invokes (asks.Write x v) past = waiting_does false past _
@@ -358,7 +358,7 @@ module _ (p : Source) (w : World) (j : ℕ) (memory : Cell → ℤ) (number : In
   long_ask (asks.End v) g = tt
   long_ask (asks.Fault f) g = tt
 
-  more_started : (k : language.Ask) (past : List (Deed World)) → IsInvoke k → 1 ≤ started (past ++ deed_of memory number (named_ask p w j k) ∷ [])
+  more_started : (k : language.Ask) (past : List (Deed FrameEnv)) → IsInvoke k → 1 ≤ started (past ++ deed_of memory number (named_ask p w j k) ∷ [])
   more_started asks.Begin past h = absurd h
   more_started (asks.Read x) past h = absurd h
   more_started (asks.Write x y) past h = absurd h
@@ -375,13 +375,13 @@ module _ (p : Source) (w : World) (j : ℕ) (memory : Cell → ℤ) (number : In
   more_started (asks.Fault f) past h = absurd h
 
 -- the length that a frame's last deed read
-long_deed : (frames : Frames World) (n : Name) (f : Frame World) (d : Deed World) → ((g : Frame World) → after_deed frames n f d n ≡ Some g → LengthsAreWords g.deeds) → LengthIsWord d
+long_deed : (frames : Frames FrameEnv) (n : Name) (f : Frame FrameEnv) (d : Deed FrameEnv) → ((g : Frame FrameEnv) → after_deed frames n f d n ≡ Some g → LengthsAreWords g.deeds) → LengthIsWord d
 long_deed frames n f (Does e) h = last_length f.deeds (Does e) (h (record f { deeds = f.deeds ++ Does e ∷ [] }) (cond-true (same_name n n) (Some (record f { deeds = f.deeds ++ Does e ∷ [] })) (frames n) (same_name-refl n)))
 long_deed frames n f (Invokes i v) h = tt
 
 -- the frames after a deed are those before, the one with one more deed, and a child that it starts
-all_after : (P : Frame World → Type 0) (frames : Frames World) (n : Name) (f : Frame World) (d : Deed World) → ((m : Name) (g : Frame World) → frames m ≡ Some g → P g)
-    → P (record f { deeds = f.deeds ++ d ∷ [] }) → ((i : Invocation) (v : World) → d ≡ Invokes i v → P (begun v)) → (m : Name) (g : Frame World) → after_deed frames n f d m ≡ Some g → P g
+all_after : (P : Frame FrameEnv → Type 0) (frames : Frames FrameEnv) (n : Name) (f : Frame FrameEnv) (d : Deed FrameEnv) → ((m : Name) (g : Frame FrameEnv) → frames m ≡ Some g → P g)
+    → P (record f { deeds = f.deeds ++ d ∷ [] }) → ((i : Invocation) (v : FrameEnv) → d ≡ Invokes i v → P (begun v)) → (m : Name) (g : Frame FrameEnv) → after_deed frames n f d m ≡ Some g → P g
 all_after P frames n f (Does e) old mine child m g q = by (same_name n m) q
   where
     by : (b : Bool) → cond b (Some (record f { deeds = f.deeds ++ Does e ∷ [] })) (frames m) ≡ Some g → P g
@@ -408,7 +408,7 @@ event_off : (b : Bool) (x : Fault) (o : Option Fault) → cond b (Some x) o ≡ 
 event_off true x o h = let no : Some x ≡ None = h in let z : ⊥ = cc in absurd z
 event_off false x o h = (refl, h)
 
-own_off : (a : Ask World) (o : Option Fault) → own_fault a o ≡ None → o ≡ None
+own_off : (a : Ask FrameEnv) (o : Option Fault) → own_fault a o ≡ None → o ≡ None
 own_off (runs.Read c) o h = h
 own_off (runs.Write c v) o h = h
 own_off (runs.Invoke k v) o h = h
@@ -417,7 +417,7 @@ own_off (runs.End v gone) o h = h
 own_off (runs.Pass m) o h = h
 own_off (runs.Fail x) o h = let no : Some x ≡ None = h in let z : ⊥ = cc in absurd z
 
-events_within : (C : Costs World) (totals : Total → ℕ) (w : World) (past : List (Deed World)) (a : Ask World) → fault_of C totals w past a ≡ None → totals EventTotal + 1 ≤ C.limit EventTotal
+events_within : (C : Costs FrameEnv) (totals : Total → ℕ) (w : FrameEnv) (past : List (Deed FrameEnv)) (a : Ask FrameEnv) → fault_of C totals w past a ≡ None → totals EventTotal + 1 ≤ C.limit EventTotal
 events_within C totals w past a h =
     let ticks = event_off (is_over C TickTotal totals w past a) _ _ h in
     let own = own_off a _ ticks.1 in
@@ -426,7 +426,7 @@ events_within C totals w past a h =
 
 module _ (p : Source) (inputs : List ℤ) where
   -- a frame that hasn't ended comes in order for so many asks more
-  record Standing (f : Frame World) (r : ℕ) : Type 0 where
+  record Standing (f : Frame FrameEnv) (r : ℕ) : Type 0 where
     stage : Stage
     sound : IsSound stage
     more : ℕ
@@ -438,18 +438,18 @@ module _ (p : Source) (inputs : List ℤ) where
     waits : waiting false f.deeds ≡ resuming_bit stage
 
   -- a frame that was started with words, and was answered words
-  record FrameFits (r : ℕ) (f : Frame World) : Type 0 where
+  record FrameFits (r : ℕ) (f : Frame FrameEnv) : Type 0 where
     callee : CalleeWords f.what.callee
     answers : AreWords (answers_of f.deeds)
     standing : has_ended f.deeds ≡ false → Standing f r
 
   -- a state for so many steps more
-  record Fit (r : ℕ) (s : State World View) : Type 0 where
+  record Fit (r : ℕ) (s : State FrameEnv View) : Type 0 where
     holds : HoldsViews s
     cells : (c : Cell) → IsWord (s.memory c)
-    frames : (n : Name) (f : Frame World) → s.frames n ≡ Some f → FrameFits r f
+    frames : (n : Name) (f : Frame FrameEnv) → s.frames n ≡ Some f → FrameFits r f
 
-  fewer_steps : (r : ℕ) (f : Frame World) → FrameFits (suc r) f → FrameFits r f
+  fewer_steps : (r : ℕ) (f : Frame FrameEnv) → FrameFits (suc r) f → FrameFits r f
   fewer_steps r f h = record {
     callee = h.callee;
     answers = h.answers;
@@ -457,7 +457,7 @@ module _ (p : Source) (inputs : List ℤ) where
   }
 
   -- a frame that begins
-  begun_fits : (r : ℕ) (w : World) → CalleeWords w.callee → FrameFits r (begun w)
+  begun_fits : (r : ℕ) (w : FrameEnv) → CalleeWords w.callee → FrameFits r (begun w)
   begun_fits r w words = record {
     callee = words;
     answers = tt;
@@ -475,10 +475,10 @@ module _ (p : Source) (inputs : List ℤ) where
   }
 
   -- what a frame asks for next, in the language's words
-  abbrev asks_now : Frame World → language.Ask
+  abbrev asks_now : Frame FrameEnv → language.Ask
   asks_now f = (asked_after p inputs f.what f.deeds).ask
 
-  next_is : (f : Frame World) (a : Ask World) → next p inputs f.what f.deeds ≡ Some a → (has_ended f.deeds ≡ false) × (a ≡ named_ask p f.what (suc (started f.deeds)) (asks_now f))
+  next_is : (f : Frame FrameEnv) (a : Ask FrameEnv) → next p inputs f.what f.deeds ≡ Some a → (has_ended f.deeds ≡ false) × (a ≡ named_ask p f.what (suc (started f.deeds)) (asks_now f))
   next_is f a q = by (has_ended f.deeds) refl q
     where
       by : (b : Bool) → has_ended f.deeds ≡ b → cond b None (Some (named_ask p f.what (suc (started f.deeds)) (asks_now f))) ≡ Some a → (has_ended f.deeds ≡ false) × (a ≡ named_ask p f.what (suc (started f.deeds)) (asks_now f))
@@ -489,7 +489,7 @@ module _ (p : Source) (inputs : List ℤ) where
           (e, sym same)
 
   -- a frame that makes an event has met no fault
-  never_faults : (f : Frame World) (totals : Total → ℕ) (a : Ask World) → a ≡ named_ask p f.what (suc (started f.deeds)) (asks_now f) → fault_of (costs p inputs) totals f.what f.deeds a ≡ None → (x : Fault) → asks_now f ≡ asks.Fault x → ⊥
+  never_faults : (f : Frame FrameEnv) (totals : Total → ℕ) (a : Ask FrameEnv) → a ≡ named_ask p f.what (suc (started f.deeds)) (asks_now f) → fault_of (costs p inputs) totals f.what f.deeds a ≡ None → (x : Fault) → asks_now f ≡ asks.Fault x → ⊥
   never_faults f totals a is within x q =
       let fails : a ≡ runs.Fail x = is ∙ ap (named_ask p f.what (suc (started f.deeds))) q in
       found (is_over (costs p inputs) TickTotal totals f.what f.deeds (runs.Fail x)) TooManyEvents x (subst (λ a. fault_of (costs p inputs) totals f.what f.deeds a ≡ None) fails within)
@@ -499,14 +499,14 @@ module _ (p : Source) (inputs : List ℤ) where
       found false x y q = let r : Some y ≡ None = q in cc
 
   module _ (has : HasWords p) (inputs_words : InputsAreWords inputs) where
-    now_words : (r : ℕ) (f : Frame World) → FrameFits r f → AskWords (asks_now f)
+    now_words : (r : ℕ) (f : Frame FrameEnv) → FrameFits r f → AskWords (asks_now f)
     now_words r f h = asks_words p has inputs inputs_words f.what.callee h.callee (answers_of f.deeds) h.answers MAX_TICKS
 
     -- the frame's ask in its order
-    abbrev Onward : (f : Frame World) (rest : Rest) (more : ℕ) → Stage → Type 0
+    abbrev Onward : (f : Frame FrameEnv) (rest : Rest) (more : ℕ) → Stage → Type 0
     Onward f rest more s = (a : ℤ) → IsLegal MAX_TICKS s (after a rest) more
 
-    comes : (r : ℕ) (f : Frame World) → ((x : Fault) → asks_now f ≡ asks.Fault x → ⊥) → (t : Standing f (suc r)) → (more : ℕ) × (r ≤ more) × Advance (Onward f t.rest more) t.stage (asks_now f)
+    comes : (r : ℕ) (f : Frame FrameEnv) → ((x : Fault) → asks_now f ≡ asks.Fault x → ⊥) → (t : Standing f (suc r)) → (more : ℕ) × (r ≤ more) × Advance (Onward f t.rest more) t.stage (asks_now f)
     comes r f never t = by t.more t.enough t.legal
       where
         here : (t.rest [] MAX_TICKS).ask ≡ asks_now f
@@ -519,7 +519,7 @@ module _ (p : Source) (inputs : List ℤ) where
             (n, omega arith, advance t.stage (asks_now f) t.sound (view t.stage (asks_now f) (Onward f t.rest n) (no_fault (asks_now f) (follows t.stage (asks_now f) (Onward f t.rest n)) never now)))
 
     -- the frame that made the event
-    grown_fits : (r : ℕ) (f : Frame World) (memory : Cell → ℤ) (number : Instance → ℤ) → ((c : Cell) → IsWord (memory c)) → ((i : Instance) → (kind_of i ≡ Append → IsWord (number i)) → IsWord (number i))
+    grown_fits : (r : ℕ) (f : Frame FrameEnv) (memory : Cell → ℤ) (number : Instance → ℤ) → ((c : Cell) → IsWord (memory c)) → ((i : Instance) → (kind_of i ≡ Append → IsWord (number i)) → IsWord (number i))
         → has_ended f.deeds ≡ false → ((x : Fault) → asks_now f ≡ asks.Fault x → ⊥) → FrameFits (suc r) f
         → LengthIsWord (deed_of memory number (named_ask p f.what (suc (started f.deeds)) (asks_now f)))
         → FrameFits r (record f { deeds = f.deeds ++ deed_of memory number (named_ask p f.what (suc (started f.deeds)) (asks_now f)) ∷ [] })
@@ -551,7 +551,7 @@ module _ (p : Source) (inputs : List ℤ) where
               step.next_stage;
         }
 
-    child_fits : (r : ℕ) (w : World) (j : ℕ) (k : language.Ask) (memory : Cell → ℤ) (number : Instance → ℤ) (cells : (c : Cell) → IsWord (memory c)) → AskWords k → (i : Invocation) (v : World) → ChildIs p w j memory number cells k i v → FrameFits r (begun v)
+    child_fits : (r : ℕ) (w : FrameEnv) (j : ℕ) (k : language.Ask) (memory : Cell → ℤ) (number : Instance → ℤ) (cells : (c : Cell) → IsWord (memory c)) → AskWords k → (i : Invocation) (v : FrameEnv) → ChildIs p w j memory number cells k i v → FrameFits r (begun v)
     child_fits r w j asks.Begin memory number cells words i v h = absurd h
     child_fits r w j (asks.Read x) memory number cells words i v h = absurd h
     child_fits r w j (asks.Write x y) memory number cells words i v h = absurd h
@@ -567,7 +567,7 @@ module _ (p : Source) (inputs : List ℤ) where
     child_fits r w j (asks.End y) memory number cells words i v h = absurd h
     child_fits r w j (asks.Fault f) memory number cells words i v h = absurd h
 
-    sound_now : (r : ℕ) (f : Frame World) → FrameFits (suc r) f → has_ended f.deeds ≡ false → AskIsSound (named_ask p f.what (suc (started f.deeds)) (asks_now f)) f.deeds
+    sound_now : (r : ℕ) (f : Frame FrameEnv) → FrameFits (suc r) f → has_ended f.deeds ≡ false → AskIsSound (named_ask p f.what (suc (started f.deeds)) (asks_now f)) f.deeds
     sound_now r f h going =
         let j = suc (started f.deeds) in
         ⊎_elim
@@ -577,17 +577,17 @@ module _ (p : Source) (inputs : List ℤ) where
         (λ fault. subst (λ k. AskIsSound (named_ask p f.what j k) f.deeds) (sym fault.1) tt)
         (fault_or_not (asks_now f))
 
-    sound_ask : (r : ℕ) (s : State World View) (n : Name) → Fit (suc r) s → (f : Frame World) (a : Ask World) → IsAsking World View monoid_of (Next p inputs) (costs p inputs) s n f a → AskIsSound a f.deeds
+    sound_ask : (r : ℕ) (s : State FrameEnv View) (n : Name) → Fit (suc r) s → (f : Frame FrameEnv) (a : Ask FrameEnv) → IsAsking FrameEnv View monoid_of (Next p inputs) (costs p inputs) s n f a → AskIsSound a f.deeds
     sound_ask r s n fit f a asking =
         let (going, is) = next_is f a asking.next in
         subst (λ a. AskIsSound a f.deeds) (sym is) (sound_now r f (fit.frames n f asking.here) going)
 
     -- a frame resumes where its last deed started a child, and there alone
-    resumes_now : (r : ℕ) (f : Frame World) → FrameFits (suc r) f → has_ended f.deeds ≡ false → ((x : Fault) → asks_now f ≡ asks.Fault x → ⊥) → resume_bit (asks_now f) ≡ waiting false f.deeds
+    resumes_now : (r : ℕ) (f : Frame FrameEnv) → FrameFits (suc r) f → has_ended f.deeds ≡ false → ((x : Fault) → asks_now f ≡ asks.Fault x → ⊥) → resume_bit (asks_now f) ≡ waiting false f.deeds
     resumes_now r f h going never = let t = h.standing going in let (more, low, step) = comes r f never t in step.comes_after ∙ sym t.waits
 
-    makes_fits : (r : ℕ) (s s' : State World View) (n : Name) → Fit (suc r) s → HoldsViews s' → Makes World View monoid_of (Next p inputs) (costs p inputs) s n s'
-        → ((m : Name) (g : Frame World) → s'.frames m ≡ Some g → LengthsAreWords g.deeds) → Fit r s'
+    makes_fits : (r : ℕ) (s s' : State FrameEnv View) (n : Name) → Fit (suc r) s → HoldsViews s' → Makes FrameEnv View monoid_of (Next p inputs) (costs p inputs) s n s'
+        → ((m : Name) (g : Frame FrameEnv) → s'.frames m ≡ Some g → LengthsAreWords g.deeds) → Fit r s'
     makes_fits r s s' n fit holds m long =
         let f = m.frame in
         let number = numbers_of monoid_of (s.piece n) in
@@ -601,25 +601,25 @@ module _ (p : Source) (inputs : List ℤ) where
         let numbers : (i : Instance) → (kind_of i ≡ Append → IsWord (number i)) → IsWord (number i) = λ i. view_word i (s.piece n i) (views.views n f i m.asking.here) in
         let frames : s'.frames ≡ after_deed s.frames n f d = m.frames ∙ ap (λ a. after_deed s.frames n f (deed_of s.memory number a)) is in
         let memory : s'.memory ≡ (λ c. effect d c (s.memory c)) = m.memory ∙ ap (λ a c. effect (deed_of s.memory number a) c (s.memory c)) is in
-        let word : LengthIsWord d = long_deed s.frames n f d (λ g q. long n g (ap (λ (t : Frames World). t n) frames ∙ q)) in
+        let word : LengthIsWord d = long_deed s.frames n f d (λ g q. long n g (ap (λ (t : Frames FrameEnv). t n) frames ∙ q)) in
         let asks = now_words (suc r) f mine in
         record {
           holds = holds;
           cells = λ c. subst (λ (t : Cell → ℤ). IsWord (t c)) (sym memory) (write_word p f.what j s.memory number fit.cells k asks c);
           frames = λ z g q.
               all_after (FrameFits r) s.frames n f d (λ m g q. fewer_steps r g (fit.frames m g q)) (grown_fits r f s.memory number fit.cells numbers going never mine word)
-              (λ i v e. child_fits r f.what j k s.memory number fit.cells asks i v (child_is p f.what j s.memory number fit.cells k i v e)) z g (sym (ap (λ (t : Frames World). t z) frames) ∙ q);
+              (λ i v e. child_fits r f.what j k s.memory number fit.cells asks i v (child_is p f.what j s.memory number fit.cells k i v e)) z g (sym (ap (λ (t : Frames FrameEnv). t z) frames) ∙ q);
         }
 
     -- nothing but pieces changes
-    same_fits : (r : ℕ) (s s' : State World View) → Fit (suc r) s → HoldsViews s' → s'.frames ≡ s.frames → s'.memory ≡ s.memory → Fit r s'
+    same_fits : (r : ℕ) (s s' : State FrameEnv View) → Fit (suc r) s → HoldsViews s' → s'.frames ≡ s.frames → s'.memory ≡ s.memory → Fit r s'
     same_fits r s s' fit holds frames memory = record {
       holds = holds;
       cells = λ c. subst (λ (t : Cell → ℤ). IsWord (t c)) (sym memory) (fit.cells c);
-      frames = λ z g q. fewer_steps r g (fit.frames z g (sym (ap (λ (t : Frames World). t z) frames) ∙ q));
+      frames = λ z g q. fewer_steps r g (fit.frames z g (sym (ap (λ (t : Frames FrameEnv). t z) frames) ∙ q));
     }
 
-    step_fits : (r : ℕ) (s s' : State World View) (n : Name) → Fit (suc r) s → OneStep p inputs s n s' → ((m : Name) (g : Frame World) → s'.frames m ≡ Some g → LengthsAreWords g.deeds) → Fit r s'
+    step_fits : (r : ℕ) (s s' : State FrameEnv View) (n : Name) → Fit (suc r) s → OneStep p inputs s n s' → ((m : Name) (g : Frame FrameEnv) → s'.frames m ≡ Some g → LengthsAreWords g.deeds) → Fit r s'
     step_fits r s s' n fit step long =
         let kept = views_kept p inputs in
         let holds : HoldsViews s' = kept.keeps s s' n fit.holds (sound_ask r s n fit) step in
@@ -627,11 +627,11 @@ module _ (p : Source) (inputs : List ℤ) where
         (λ m. makes_fits r s s' n fit holds m long)
         (λ other. ⊎_elim
         (λ m. same_fits r s s' fit holds m.frames m.memory)
-        (λ m. same_fits r s s' fit holds (ap (λ (t : State World View). t.frames) m.after) (ap (λ (t : State World View). t.memory) m.after))
+        (λ m. same_fits r s s' fit holds (ap (λ (t : State FrameEnv View). t.frames) m.after) (ap (λ (t : State FrameEnv View). t.memory) m.after))
         other)
         step.1
 
-    opening_fits : (r : ℕ) (s : State World View) → IsFirst p inputs s → Fit r s
+    opening_fits : (r : ℕ) (s : State FrameEnv View) → IsFirst p inputs s → Fit r s
     opening_fits r s o =
         let kept = views_kept p inputs in
         record {
@@ -644,7 +644,7 @@ module _ (p : Source) (inputs : List ℤ) where
         opening_cell (runs.Global n) = opening_word p has inputs inputs_words p.openings has.openings n
         opening_cell (runs.Own name n) = zero_word
 
-        opened_frame : (n : Name) (f : Frame World) → s.frames n ≡ Some f → FrameFits r f
+        opened_frame : (n : Name) (f : Frame FrameEnv) → s.frames n ≡ Some f → FrameFits r f
         opened_frame [] f q =
             let found : Some f ≡ Some (begun (first_world p)) = sym q ∙ o.0 [] in
             let same : f ≡ begun (first_world p) = cc in
@@ -652,15 +652,15 @@ module _ (p : Source) (inputs : List ℤ) where
         opened_frame (k ∷ n) f q = let none : None ≡ Some f = sym (o.0 (k ∷ n)) ∙ q in absurd (cc)
 
     -- what holds of a state beside
-    record Long (s : State World View) : Type 0 where
+    record Long (s : State FrameEnv View) : Type 0 where
       sized : Sized s.frames s.piece s.stolen (s.totals EventTotal)
       events : s.totals EventTotal ≤ 1000000
-      lengths : (n : Name) (f : Frame World) → s.frames n ≡ Some f → LengthsAreWords f.deeds
+      lengths : (n : Name) (f : Frame FrameEnv) → s.frames n ≡ Some f → LengthsAreWords f.deeds
 
-    kids_there : (r : ℕ) (s : State World View) (n : Name) (f : Frame World) → Fit r s → s.frames n ≡ Some f → (k : ℕ) → 1 ≤ k → k ≤ started f.deeds → (h : Frame World) × (s.frames (n ++ k ∷ []) ≡ Some h)
+    kids_there : (r : ℕ) (s : State FrameEnv View) (n : Name) (f : Frame FrameEnv) → Fit r s → s.frames n ≡ Some f → (k : ℕ) → 1 ≤ k → k ≤ started f.deeds → (h : Frame FrameEnv) × (s.frames (n ++ k ∷ []) ≡ Some h)
     kids_there r s n f fit q k low high = let v = fit.holds in v.children n f k q low high
 
-    makes_long : (r : ℕ) (s s' : State World View) (n : Name) → Fit (suc r) s → Long s → Makes World View monoid_of (Next p inputs) (costs p inputs) s n s' → Long s'
+    makes_long : (r : ℕ) (s s' : State FrameEnv View) (n : Name) → Fit (suc r) s → Long s → Makes FrameEnv View monoid_of (Next p inputs) (costs p inputs) s n s' → Long s'
     makes_long r s s' n fit l m =
         let f = m.frame in
         let number = numbers_of monoid_of (s.piece n) in
@@ -683,10 +683,10 @@ module _ (p : Source) (inputs : List ℤ) where
           events = (let t = events_within (costs p inputs) s.totals f.what f.deeds m.ask m.within in omega (arith, count, t));
           lengths = λ z g q.
               all_after (λ g. LengthsAreWords g.deeds) s.frames n f (deed_of s.memory number m.ask) l.lengths (more_lengths f.deeds (deed_of s.memory number m.ask) (l.lengths n f m.asking.here) word) (λ i v e. tt) z g
-              (sym (ap (λ (t : Frames World). t z) m.frames) ∙ q);
+              (sym (ap (λ (t : Frames FrameEnv). t z) m.frames) ∙ q);
         }
 
-    steals_long : (r : ℕ) (s s' : State World View) (n : Name) → Fit (suc r) s → Long s → Steals World View monoid_of (Next p inputs) (costs p inputs) s n s' → Long s'
+    steals_long : (r : ℕ) (s s' : State FrameEnv View) (n : Name) → Fit (suc r) s → Long s → Steals FrameEnv View monoid_of (Next p inputs) (costs p inputs) s n s' → Long s'
     steals_long r s s' n fit l m =
         let count : s'.totals EventTotal ≡ s.totals EventTotal = ap (λ (t : Total → ℕ). t EventTotal) m.totals in
         let once = steals_sized s.frames s.piece s.stolen (s.totals EventTotal) l.sized n m.frame m.here (kids_there (suc r) s n m.frame fit m.here) m.before m.what m.spawned m.not_yet s'.piece m.piece in
@@ -695,17 +695,17 @@ module _ (p : Source) (inputs : List ℤ) where
         record {
           sized = subst (λ t. Sized s'.frames s'.piece s'.stolen t) (sym count) kept;
           events = (let c = l.events in omega (arith, count, c));
-          lengths = λ z g q. l.lengths z g (sym (ap (λ (t : Frames World). t z) m.frames) ∙ q);
+          lengths = λ z g q. l.lengths z g (sym (ap (λ (t : Frames FrameEnv). t z) m.frames) ∙ q);
         }
 
-    stops_long : (s s' : State World View) (n : Name) → Long s → Stops World View monoid_of (Next p inputs) (costs p inputs) s n s' → Long s'
+    stops_long : (s s' : State FrameEnv View) (n : Name) → Long s → Stops FrameEnv View monoid_of (Next p inputs) (costs p inputs) s n s' → Long s'
     stops_long s s' n l m = subst Long (sym m.after) (record { sized = l.sized; events = l.events; lengths = l.lengths })
 
-    step_long : (r : ℕ) (s s' : State World View) (n : Name) → Fit (suc r) s → Long s → OneStep p inputs s n s' → Long s'
+    step_long : (r : ℕ) (s s' : State FrameEnv View) (n : Name) → Fit (suc r) s → Long s → OneStep p inputs s n s' → Long s'
     step_long r s s' n fit l step =
         ⊎_elim (λ m. makes_long r s s' n fit l m) (λ other. ⊎_elim (λ m. steals_long r s s' n fit l m) (λ m. stops_long s s' n l m) other) step.1
 
-    opening_long : (s : State World View) → IsFirst p inputs s → Long s
+    opening_long : (s : State FrameEnv View) → IsFirst p inputs s → Long s
     opening_long s o =
         record {
           sized = record {
@@ -722,19 +722,19 @@ module _ (p : Source) (inputs : List ℤ) where
           lengths = λ n f q. subst LengthsAreWords (sym (none n f q)) tt;
         }
       where
-        none : (n : Name) (f : Frame World) → s.frames n ≡ Some f → f.deeds ≡ []
-        none [] f q = let found : Some f ≡ Some (begun (first_world p)) = sym q ∙ o.0 [] in let same : f ≡ begun (first_world p) = cc in ap (λ (g : Frame World). g.deeds) same
+        none : (n : Name) (f : Frame FrameEnv) → s.frames n ≡ Some f → f.deeds ≡ []
+        none [] f q = let found : Some f ≡ Some (begun (first_world p)) = sym q ∙ o.0 [] in let same : f ≡ begun (first_world p) = cc in ap (λ (g : Frame FrameEnv). g.deeds) same
         none (k ∷ n) f q = let no : None ≡ Some f = sym (o.0 (k ∷ n)) ∙ q in absurd (cc)
 
         no_root : (n : Name) (k : ℕ) → same_name [] (n ++ k ∷ []) ≡ false
         no_root [] k = refl
         no_root (j ∷ n) k = refl
 
-        small : (n : Name) (f : Frame World) (i : Instance) → s.frames n ≡ Some f → Small (kind_of i) 0 (s.piece n i)
+        small : (n : Name) (f : Frame FrameEnv) (i : Instance) → s.frames n ≡ Some f → Small (kind_of i) 0 (s.piece n i)
         small [] f i q = subst (Small (kind_of i) 0) (sym (o.5 i)) (small_unit (kind_of i) 0)
         small (k ∷ n) f i q = let no : None ≡ Some f = sym (o.0 (k ∷ n)) ∙ q in absurd (cc)
 
-    short_lists : (s : State World View) → Long s → HasShortLists s
+    short_lists : (s : State FrameEnv View) → Long s → HasShortLists s
     short_lists s l = record {
       events = l.events;
       sizes = λ n f i q.
@@ -748,13 +748,13 @@ module _ (p : Source) (inputs : List ℤ) where
       lengths = l.lengths;
     }
 
-    all_fit : (todo : List Name) (mid s' : State World View) → Fit (length todo) mid → Long mid → Steps World View monoid_of (Next p inputs) (costs p inputs) todo mid s' → HoldsViews s' × HasShortLists s'
+    all_fit : (todo : List Name) (mid s' : State FrameEnv View) → Fit (length todo) mid → Long mid → Steps FrameEnv View monoid_of (Next p inputs) (costs p inputs) todo mid s' → HoldsViews s' × HasShortLists s'
     all_fit [] mid s' fit l same = subst (λ t. HoldsViews t × HasShortLists t) (sym same) (fit.holds, short_lists mid l)
     all_fit (n ∷ todo) mid s' fit l (next_state, step, rest) =
         let l' = step_long (length todo) mid next_state n fit l step in
         all_fit todo next_state s' (step_fits (length todo) mid next_state n fit step l'.lengths) l' rest
 
-both : (p : Source) (inputs : List ℤ) (has : HasWords p) (inputs_words : InputsAreWords inputs) (ns : List Name) (s' : State World View) → Reaches p inputs ns s' → HoldsViews s' × HasShortLists s'
+both : (p : Source) (inputs : List ℤ) (has : HasWords p) (inputs_words : InputsAreWords inputs) (ns : List Name) (s' : State FrameEnv View) → Reaches p inputs ns s' → HoldsViews s' × HasShortLists s'
 both p inputs has inputs_words ns s' (s, o, steps) = all_fit p inputs has inputs_words ns s s' (opening_fits p inputs has inputs_words (length ns) s o) (opening_long p inputs has inputs_words s o) steps
 
 pub views_held : (p : Source) (inputs : List ℤ) → ViewsAreHeld p inputs

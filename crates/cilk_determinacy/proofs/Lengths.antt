@@ -18,9 +18,9 @@ use Rattle.cilk_runs.proofs.Basics.{same_name-refl, same_name-eq}
 use Rattle.cilk_runs.proofs.Started.{started_does, started_invokes}
 use Rattle.cilk_runs.specs.Held.{WishIsSound, AskIsSound}
 use Rattle.cilk_runs.specs.Reducers.{View, views_of, kind_of, monoid_of}
-use Rattle.cilk_runs.specs.WorldViews.{IsViewOf}
-use Rattle.cilk_runs.specs.Worlds.{World}
-use Rattle.cilk_runs.proofs.WorldViews.{are_multiplied}
+use Rattle.cilk_runs.specs.FrameEnvViews.{IsViewOf}
+use Rattle.cilk_runs.specs.FrameEnvs.{FrameEnv}
+use Rattle.cilk_runs.proofs.FrameEnvViews.{are_multiplied}
 use Rattle.cilk_determinacy.proofs.Wordy.{length_word}
 use Rattle.cilk_determinacy.proofs.Owed.{waiting, lies, onward, onward_does, onward_invokes, onward_settled, onward_waiting, lies_does, lies_sync, lies_invokes, lies_least, grown_most, same_lies, same_onward, under, under_self, under_child, under_least, way, under_way}
 
@@ -89,7 +89,7 @@ module _ (k : MonoidKind) where
   small_more a b v low (x, h, l) = (x, h, omega (arith, low, l))
 
   module _ (kid : ℕ → View) (loose : ℕ → Bool) (t : ℕ → ℕ) where
-    block_small : (acc : View) (a j : ℕ) (ds : List (Deed World)) → Small k a acc → ((h : ℕ) → j ≤ h → h < j + started ds → Small k (t h) (kid h)) → Small k (lies loose t a j ds) (block_view (views_of k) kid loose acc j ds)
+    block_small : (acc : View) (a j : ℕ) (ds : List (Deed FrameEnv)) → Small k a acc → ((h : ℕ) → j ≤ h → h < j + started ds → Small k (t h) (kid h)) → Small k (lies loose t a j ds) (block_view (views_of k) kid loose acc j ds)
     block_small acc a j [] s g = s
     block_small acc a j (Does (Reads c v) ∷ ds) s g = block_small acc a j ds s g
     block_small acc a j (Does (Writes c v) ∷ ds) s g = block_small acc a j ds s g
@@ -131,22 +131,22 @@ there_not x y h g = let z : Some x ≡ None = sym h ∙ g in cc
 -- ---- states
 
 -- What each piece has at most, and what the pieces that the frame and all below it still hand on have together at most.
-pub record Sized (frames : Frames World) (piece : Name → Instance → View) (stolen : Name → Bool) (events : ℕ) : Type 0 where
+pub record Sized (frames : Frames FrameEnv) (piece : Name → Instance → View) (stolen : Name → Bool) (events : ℕ) : Type 0 where
   pub own : Name → ℕ
   pub total : Name → ℕ
-  pub small : (n : Name) (f : Frame World) (i : Instance) → frames n ≡ Some f → Small (kind_of i) (own n) (piece n i)
+  pub small : (n : Name) (f : Frame FrameEnv) (i : Instance) → frames n ≡ Some f → Small (kind_of i) (own n) (piece n i)
   pub within : (n : Name) → own n ≤ total n
   pub below : (n : Name) → total n ≤ events
-  pub paid : (n : Name) (f : Frame World) → frames n ≡ Some f → lies (λ k. stolen (n ++ k ∷ [])) (λ k. total (n ++ k ∷ [])) 0 1 f.deeds + onward (λ k. stolen (n ++ k ∷ [])) (λ k. total (n ++ k ∷ [])) (own n) (own n) 1 f.deeds ≤ total n
+  pub paid : (n : Name) (f : Frame FrameEnv) → frames n ≡ Some f → lies (λ k. stolen (n ++ k ∷ [])) (λ k. total (n ++ k ∷ [])) 0 1 f.deeds + onward (λ k. stolen (n ++ k ∷ [])) (λ k. total (n ++ k ∷ [])) (own n) (own n) 1 f.deeds ≤ total n
   pub fresh : (n : Name) → frames n ≡ None → stolen n ≡ false
   pub late : (n : Name) (k : ℕ) → started (deeds_at (frames n)) < k → frames (n ++ k ∷ []) ≡ None
 
-abbrev pub is_resume : Ask World → Bool
+abbrev pub is_resume : Ask FrameEnv → Bool
 is_resume (Pass Resume) = true
 is_resume a = false
 
-module _ (frames : Frames World) (piece : Name → Instance → View) (stolen : Name → Bool) (events : ℕ) (sized : Sized frames piece stolen events) (n : Name) (f : Frame World) (here : frames n ≡ Some f)
-    (children : (k : ℕ) → 1 ≤ k → k ≤ started f.deeds → (h : Frame World) × (frames (n ++ k ∷ []) ≡ Some h)) where
+module _ (frames : Frames FrameEnv) (piece : Name → Instance → View) (stolen : Name → Bool) (events : ℕ) (sized : Sized frames piece stolen events) (n : Name) (f : Frame FrameEnv) (here : frames n ≡ Some f)
+    (children : (k : ℕ) → 1 ≤ k → k ≤ started f.deeds → (h : Frame FrameEnv) × (frames (n ++ k ∷ []) ≡ Some h)) where
   abbrev loose : ℕ → Bool
   loose k = stolen (n ++ k ∷ [])
 
@@ -163,7 +163,7 @@ module _ (frames : Frames World) (piece : Name → Instance → View) (stolen : 
   paid_here = let s = sized in s.paid n f here
 
   module _ (e : Event) (g : ℕ) (view : Instance → View) (fits : (i : Instance) → Small (kind_of i) (suc g) (view i)) (pays : lies loose kids 0 1 (f.deeds ++ Does e ∷ []) + g ≤ all) where
-    abbrev after_does : Frame World
+    abbrev after_does : Frame FrameEnv
     after_does = record f { deeds = f.deeds ++ Does e ∷ [] }
 
     abbrev own_does : Name → ℕ
@@ -172,7 +172,7 @@ module _ (frames : Frames World) (piece : Name → Instance → View) (stolen : 
     abbrev total_does : Name → ℕ
     total_does m = let s = sized in s.total m + under m n
 
-    does_small : (m : Name) (b : Bool) (x : Frame World) (i : Instance) → cond b (Some after_does) (frames m) ≡ Some x → Small (kind_of i) (let s = sized in cond b (suc g) (s.own m)) (cond b (view i) (piece m i))
+    does_small : (m : Name) (b : Bool) (x : Frame FrameEnv) (i : Instance) → cond b (Some after_does) (frames m) ≡ Some x → Small (kind_of i) (let s = sized in cond b (suc g) (s.own m)) (cond b (view i) (piece m i))
     does_small m true x i q = fits i
     does_small m false x i q = let s = sized in s.small m x i q
 
@@ -182,7 +182,7 @@ module _ (frames : Frames World) (piece : Name → Instance → View) (stolen : 
         subst (λ z. suc g ≤ total_does z) (same_name-eq n m q) (omega (arith, u, pays))
     does_within m false q = let s = sized in let w = s.within m in omega (arith, w)
 
-    does_paid : (m : Name) (b : Bool) (x : Frame World) → same_name n m ≡ b → cond b (Some after_does) (frames m) ≡ Some x
+    does_paid : (m : Name) (b : Bool) (x : Frame FrameEnv) → same_name n m ≡ b → cond b (Some after_does) (frames m) ≡ Some x
         → lies (λ k. stolen (m ++ k ∷ [])) (λ k. total_does (m ++ k ∷ [])) 0 1 x.deeds + onward (λ k. stolen (m ++ k ∷ [])) (λ k. total_does (m ++ k ∷ [])) (let s = sized in cond b (suc g) (s.own m)) (let s = sized in cond b (suc g) (s.own m)) 1 x.deeds ≤ total_does m
     does_paid m true x q r =
         let is : f.deeds ++ Does e ∷ [] ≡ x.deeds = ap deeds_at r in
@@ -228,11 +228,11 @@ module _ (frames : Frames World) (piece : Name → Instance → View) (stolen : 
     }
 
   -- a frame that isn't waiting starts another
-  module _ (settled : waiting false f.deeds ≡ false) (i' : Invocation) (w : World) where
+  module _ (settled : waiting false f.deeds ≡ false) (i' : Invocation) (w : FrameEnv) where
     abbrev kid_name : Name
     kid_name = n ++ suc (started f.deeds) ∷ []
 
-    abbrev after_invokes : Frame World
+    abbrev after_invokes : Frame FrameEnv
     after_invokes = record f { deeds = f.deeds ++ Invokes i' w ∷ [] }
 
     abbrev own_invokes : Name → ℕ
@@ -247,7 +247,7 @@ module _ (frames : Frames World) (piece : Name → Instance → View) (stolen : 
     not_kid : (m : Name) → n ≡ m → kid_name ≡ m → ⊥
     not_kid m a b = let u = under_child n (suc (started f.deeds)) in let v = under_self n in let e : under kid_name n ≡ under n n = ap (λ z. under z n) (b ∙ sym a) in omega (arith, u, v, e)
 
-    invokes_small : (m : Name) (c b : Bool) (x : Frame World) (i : Instance) → same_name n m ≡ b → cond c (Some (begun w)) (cond b (Some after_invokes) (frames m)) ≡ Some x
+    invokes_small : (m : Name) (c b : Bool) (x : Frame FrameEnv) (i : Instance) → same_name n m ≡ b → cond c (Some (begun w)) (cond b (Some after_invokes) (frames m)) ≡ Some x
         → Small (kind_of i) (let s = sized in cond c mine (s.own m)) (cond c (piece n i) (piece m i))
     invokes_small m true b x i e q = let s = sized in s.small n f i here
     invokes_small m false true x i e q = let s = sized in subst (λ z. Small (kind_of i) (s.own z) (piece z i)) (same_name-eq n m e) (s.small n f i here)
@@ -282,7 +282,7 @@ module _ (frames : Frames World) (piece : Name → Instance → View) (stolen : 
         let h = settled_pays in
         omega (arith, now, old, more, none, on, onto, h)
 
-    invokes_paid : (m : Name) (c b : Bool) (x : Frame World) → same_name kid_name m ≡ c → same_name n m ≡ b → cond c (Some (begun w)) (cond b (Some after_invokes) (frames m)) ≡ Some x
+    invokes_paid : (m : Name) (c b : Bool) (x : Frame FrameEnv) → same_name kid_name m ≡ c → same_name n m ≡ b → cond c (Some (begun w)) (cond b (Some after_invokes) (frames m)) ≡ Some x
         → lies (λ k. stolen (m ++ k ∷ [])) (λ k. total_invokes (m ++ k ∷ [])) 0 1 x.deeds
         + onward (λ k. stolen (m ++ k ∷ [])) (λ k. total_invokes (m ++ k ∷ [])) (let s = sized in cond c mine (s.own m)) (let s = sized in cond c mine (s.own m)) 1 x.deeds ≤ (let s = sized in cond c mine (s.total m + under m n))
     invokes_paid m true b x p e q =
@@ -339,7 +339,7 @@ module _ (frames : Frames World) (piece : Name → Instance → View) (stolen : 
     }
 
   -- a thief takes the continuation beside the last child
-  module _ (before : List (Deed World)) (what : World) (spawned : f.deeds ≡ before ++ Invokes Spawn what ∷ []) (not_yet : stolen (n ++ suc (started before) ∷ []) ≡ false) where
+  module _ (before : List (Deed FrameEnv)) (what : FrameEnv) (spawned : f.deeds ≡ before ++ Invokes Spawn what ∷ []) (not_yet : stolen (n ++ suc (started before) ∷ []) ≡ false) where
     abbrev taken_name : Name
     taken_name = n ++ suc (started before) ∷ []
 
@@ -349,7 +349,7 @@ module _ (frames : Frames World) (piece : Name → Instance → View) (stolen : 
     abbrev own_steals : Name → ℕ
     own_steals m = let s = sized in cond (same_name n m) 0 (s.own m)
 
-    steals_small : (m : Name) (b : Bool) (x : Frame World) (i : Instance) → frames m ≡ Some x → Small (kind_of i) (let s = sized in cond b 0 (s.own m)) (cond b ((views_of (kind_of i)).unit) (piece m i))
+    steals_small : (m : Name) (b : Bool) (x : Frame FrameEnv) (i : Instance) → frames m ≡ Some x → Small (kind_of i) (let s = sized in cond b 0 (s.own m)) (cond b ((views_of (kind_of i)).unit) (piece m i))
     steals_small m true x i q = small_unit (kind_of i) 0
     steals_small m false x i q = let s = sized in s.small m x i q
 
@@ -375,7 +375,7 @@ module _ (frames : Frames World) (piece : Name → Instance → View) (stolen : 
         let h = subst (λ d. lies loose kids 0 1 d + onward loose kids mine mine 1 d ≤ all) spawned paid_here in
         omega (arith, old, more, add, on, none, was, so, least, h)
 
-    steals_paid : (m : Name) (b : Bool) (x : Frame World) → same_name n m ≡ b → frames m ≡ Some x
+    steals_paid : (m : Name) (b : Bool) (x : Frame FrameEnv) → same_name n m ≡ b → frames m ≡ Some x
         → lies (λ k. stolen_now (m ++ k ∷ [])) (λ k. let s = sized in s.total (m ++ k ∷ [])) 0 1 x.deeds
         + onward (λ k. stolen_now (m ++ k ∷ [])) (λ k. let s = sized in s.total (m ++ k ∷ [])) (let s = sized in cond b 0 (s.own m)) (let s = sized in cond b 0 (s.own m)) 1 x.deeds ≤ (let s = sized in s.total m)
     steals_paid m true x e q =
@@ -428,7 +428,7 @@ module _ (frames : Frames World) (piece : Name → Instance → View) (stolen : 
   abbrev viewed : Event → Instance → View
   viewed e i = own_view (monoid_of i) i (block i) (loose (started f.deeds)) (piece (n ++ started f.deeds ∷ []) i) e (piece n i)
 
-  abbrev AfterDeed : Deed World → Type 0
+  abbrev AfterDeed : Deed FrameEnv → Type 0
   AfterDeed d = (piece' : Name → Instance → View) → ((i : Instance) (m : Name) → piece' m i ≡ after_views (monoid_of i) i stolen n f.deeds d (λ z. piece z i) m) → Sized (after_deed frames n f d) piece' stolen (suc events)
 
   plain_sized : waiting false f.deeds ≡ false → (e : Event) → ((i : Instance) → Small (kind_of i) (suc mine) (viewed e i)) → AfterDeed (Does e)
@@ -466,7 +466,7 @@ module _ (frames : Frames World) (piece : Name → Instance → View) (stolen : 
           let h = paid_here in
           omega (arith, on, l, h)
 
-  pub ask_sized : (memory : Cell → ℤ) (number : Instance → ℤ) (a : Ask World) → AskIsSound a f.deeds → is_resume a ≡ waiting false f.deeds → AfterDeed (deed_of memory number a)
+  pub ask_sized : (memory : Cell → ℤ) (number : Instance → ℤ) (a : Ask FrameEnv) → AskIsSound a f.deeds → is_resume a ≡ waiting false f.deeds → AfterDeed (deed_of memory number a)
   ask_sized memory number (Read c) s q = plain_sized (sym q) (Reads c (memory c)) more_small
   ask_sized memory number (Write c v) s q = plain_sized (sym q) (Writes c v) more_small
   ask_sized memory number (Invoke k w) s q = invokes_sized (sym q) k w

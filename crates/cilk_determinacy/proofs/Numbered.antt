@@ -25,7 +25,7 @@ use Rattle.cilk_runs.specs.Runs.{Cell, Global, Event, Reads, Writes, Syncs, Ends
 use Rattle.cilk_runs.specs.Traces.{trace, IsWrittenEvent, IsWritten, AreWritten}
 use Rattle.cilk_determinacy.specs.Nested.{named_event, named_from}
 use Rattle.cilk_determinacy.specs.Numbers.{frame_number, cell_number, instance_number, start_event, numbered_event, numbered_events, IsHere, HasCell, EventIsHere, AreHere, EventsHaveNumbers}
-use Rattle.cilk_runs.specs.Worlds.{World, first_world, child_world, global_named, cell_seen, result_cell}
+use Rattle.cilk_runs.specs.FrameEnvs.{FrameEnv, first_world, child_world, global_named, cell_seen, result_cell}
 use Rattle.cilk_determinacy.proofs.Numbers.{frame_is}
 use Rattle.cilk_determinacy.proofs.Remembered.{written_both}
 use Rattle.cilk_determinacy.proofs.Sights.{IsNumbered, tied_cell, tied_reducer, Stands}
@@ -37,7 +37,7 @@ module _ (p : Source) (whole : serial.Transcript) where
     number : n ≡ numbered_event p whole name e
     here : EventIsHere p whole e
 
-  module _ (w : World) (fr : Frame) (h : Stands p whole w fr) (m : Memory) where
+  module _ (w : FrameEnv) (fr : Frame) (h : Stands p whole w fr) (m : Memory) where
     frame : fr.number ≡ frame_number p whole w.name
     frame = sym (frame_is p whole w.name h.here ∙ h.number)
 
@@ -74,7 +74,7 @@ module _ (p : Source) (whole : serial.Transcript) where
     act_numbered (asks.Fault f) there inner = absurd inner
 
   -- what is shown of a frame's run from some point on
-  record AreEvents (name : List ℕ) (t : Run World) (es : List numbers.Event) : Type 0 where
+  record AreEvents (name : List ℕ) (t : Run FrameEnv) (es : List numbers.Event) : Type 0 where
     number : es ≡ numbered_events p whole name t
     here : AreHere p whole t
 
@@ -82,13 +82,13 @@ module _ (p : Source) (whole : serial.Transcript) where
   start_numbered Call n m e = ap events.Call e
   start_numbered Spawn n m e = ap events.Spawn e
 
-  act_events : (name : List ℕ) (e : Event) (n : numbers.Event) (t : Run World) (es : List numbers.Event) → IsEvent name e n → AreEvents name t es → AreEvents name (act e t) (n ∷ es)
+  act_events : (name : List ℕ) (e : Event) (n : numbers.Event) (t : Run FrameEnv) (es : List numbers.Event) → IsEvent name e n → AreEvents name t es → AreEvents name (act e t) (n ∷ es)
   act_events name e n t es f h = record {
     number = ap (λ n. n ∷ es) f.number ∙ ap (λ es. numbered_event p whole name e ∷ es) h.number;
     here = (f.here, h.here);
   }
 
-  child_events : (name : List ℕ) (how : Invocation) (n : ℕ) (w : World) (u t : Run World) (es es' : List numbers.Event) → IsHere p whole w.name → n ≡ frame_number p whole w.name
+  child_events : (name : List ℕ) (how : Invocation) (n : ℕ) (w : FrameEnv) (u t : Run FrameEnv) (es es' : List numbers.Event) → IsHere p whole w.name → n ≡ frame_number p whole w.name
       → AreEvents w.name u es → AreEvents name t es' → AreEvents name (child how w u t) (invocation how n ∷ (es ++ es'))
   child_events name how n w u t es es' here e h g = record {
     number = ap (λ x. x ∷ (es ++ es')) (start_numbered how n (frame_number p whole w.name) e)
@@ -101,7 +101,7 @@ module _ (p : Source) (whole : serial.Transcript) where
 
   module _ (inputs : List ℤ) (well : IsTrue (is_well_named p)) where
     run_numbered : {fr : Frame} {start : ℕ} {history : List ℤ} {m : Memory} {rest : serial.Transcript} {es : List numbers.Event} {end : Ending} → Serial p inputs fr start history m rest es end
-        → (w : World) (j : ℕ) → Standing p inputs well whole w fr j rest (counts_of m) → AreEvents w.name (named_from p w (suc j) rest) es
+        → (w : FrameEnv) (j : ℕ) → Standing p inputs well whole w fr j rest (counts_of m) → AreEvents w.name (named_from p w (suc j) rest) es
     run_numbered (Made {fr = fr} {start = start} {history = history} {m = m} {r = r} {es = es} a left q inner ok rest) w j standing =
         let there = asked_there p inputs well whole w fr history start left a standing.stands q in
         act_events w.name (named_event p w a (answer_to fr m a)) (event_of fr m a) (named_from p w (suc j) r) es
@@ -146,11 +146,11 @@ module _ (p : Source) (whole : serial.Transcript) where
   event_written name (Passes (Values i v)) = refl
   event_written name (Passes (Prints x)) = refl
 
-  start_written : (k : Invocation) (w : World) (n : ℕ) → IsWritten (cell_number p whole) (instance_number p whole) (Invokes k w) (start_event k n)
+  start_written : (k : Invocation) (w : FrameEnv) (n : ℕ) → IsWritten (cell_number p whole) (instance_number p whole) (Invokes k w) (start_event k n)
   start_written Call w n = (n, refl)
   start_written Spawn w n = (n, refl)
 
-  pub are_written : (name : List ℕ) (t : Run World) → AreWritten (cell_number p whole) (instance_number p whole) (trace t) (numbered_events p whole name t)
+  pub are_written : (name : List ℕ) (t : Run FrameEnv) → AreWritten (cell_number p whole) (instance_number p whole) (trace t) (numbered_events p whole name t)
   are_written name stop = tt
   are_written name (act e t) = (event_written name e, are_written name t)
   are_written name (child k w u t) = (start_written k w (frame_number p whole w.name), written_both (cell_number p whole) (instance_number p whole) (trace u) (trace t) _ _ (are_written w.name u) (are_written name t))

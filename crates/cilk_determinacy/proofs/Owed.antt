@@ -9,27 +9,27 @@ use Rattle.cilk_types.specs.declared.invocation.Invocation.{Invocation}
 use Rattle.cilk_types.specs.declared.invocation.Invocation.TheVariants.{Call, Spawn}
 use Rattle.cilk_runs.specs.Runs.{Name, Event, Reads, Writes, Syncs, Ends, Passes, Deed, Does, Invokes}
 use Rattle.cilk_runs.specs.Machine.{started}
-use Rattle.cilk_runs.specs.Worlds.{World}
+use Rattle.cilk_runs.specs.FrameEnvs.{FrameEnv}
 
 -- the last deed started a frame
-abbrev pub waiting : Bool → List (Deed World) → Bool
+abbrev pub waiting : Bool → List (Deed FrameEnv) → Bool
 waiting b [] = b
 waiting b (Does e ∷ ds) = waiting false ds
 waiting b (Invokes i w ∷ ds) = waiting true ds
 
-pub waiting_does : (b : Bool) (ds : List (Deed World)) (e : Event) → waiting b (ds ++ Does e ∷ []) ≡ false
+pub waiting_does : (b : Bool) (ds : List (Deed FrameEnv)) (e : Event) → waiting b (ds ++ Does e ∷ []) ≡ false
 waiting_does b [] e = refl
 waiting_does b (Does x ∷ ds) e = waiting_does false ds e
 waiting_does b (Invokes i w ∷ ds) e = waiting_does true ds e
 
-pub waiting_invokes : (b : Bool) (ds : List (Deed World)) (i : Invocation) (w : World) → waiting b (ds ++ Invokes i w ∷ []) ≡ true
+pub waiting_invokes : (b : Bool) (ds : List (Deed FrameEnv)) (i : Invocation) (w : FrameEnv) → waiting b (ds ++ Invokes i w ∷ []) ≡ true
 waiting_invokes b [] i w = refl
 waiting_invokes b (Does x ∷ ds) i w = waiting_invokes false ds i w
 waiting_invokes b (Invokes j v ∷ ds) i w = waiting_invokes true ds i w
 
 module _ (loose : ℕ → Bool) (t : ℕ → ℕ) where
   -- bounds of the pieces at the open block
-  abbrev pub lies : ℕ → ℕ → List (Deed World) → ℕ
+  abbrev pub lies : ℕ → ℕ → List (Deed FrameEnv) → ℕ
   lies acc k [] = acc
   lies acc k (Does (Reads c v) ∷ ds) = lies acc k ds
   lies acc k (Does (Writes c v) ∷ ds) = lies acc k ds
@@ -40,34 +40,34 @@ module _ (loose : ℕ → Bool) (t : ℕ → ℕ) where
   lies acc k (Invokes Spawn w ∷ ds) = lies (cond (loose k) (acc + t k) acc) (suc k) ds
 
   -- a bound of the piece that the frame goes on with: its own, or that of a child that it waits for
-  abbrev pub onward : ℕ → ℕ → ℕ → List (Deed World) → ℕ
+  abbrev pub onward : ℕ → ℕ → ℕ → List (Deed FrameEnv) → ℕ
   onward c now k [] = now
   onward c now k (Does e ∷ ds) = onward c c k ds
   onward c now k (Invokes i w ∷ ds) = onward c (cond (loose k) c (t k)) (suc k) ds
 
-  pub onward_does : (c now k : ℕ) (ds : List (Deed World)) (e : Event) → onward c now k (ds ++ Does e ∷ []) ≡ c
+  pub onward_does : (c now k : ℕ) (ds : List (Deed FrameEnv)) (e : Event) → onward c now k (ds ++ Does e ∷ []) ≡ c
   onward_does c now k [] e = refl
   onward_does c now k (Does x ∷ ds) e = onward_does c c k ds e
   onward_does c now k (Invokes i w ∷ ds) e = onward_does c (cond (loose k) c (t k)) (suc k) ds e
 
-  pub onward_invokes : (c now k j : ℕ) (ds : List (Deed World)) (i : Invocation) (w : World) → k + started ds ≡ j → onward c now k (ds ++ Invokes i w ∷ []) ≡ cond (loose j) c (t j)
+  pub onward_invokes : (c now k j : ℕ) (ds : List (Deed FrameEnv)) (i : Invocation) (w : FrameEnv) → k + started ds ≡ j → onward c now k (ds ++ Invokes i w ∷ []) ≡ cond (loose j) c (t j)
   onward_invokes c now k j [] i w q = let e : k ≡ j = omega (arith, q) in ap (λ k. cond (loose k) c (t k)) e
   onward_invokes c now k j (Does x ∷ ds) i w q = onward_invokes c c k j ds i w q
   onward_invokes c now k j (Invokes h v ∷ ds) i w q = onward_invokes c (cond (loose k) c (t k)) (suc k) j ds i w (omega (arith, q))
 
-  pub onward_settled : (b : Bool) (c now k : ℕ) (ds : List (Deed World)) → (b ≡ false → now ≡ c) → waiting b ds ≡ false → onward c now k ds ≡ c
+  pub onward_settled : (b : Bool) (c now k : ℕ) (ds : List (Deed FrameEnv)) → (b ≡ false → now ≡ c) → waiting b ds ≡ false → onward c now k ds ≡ c
   onward_settled b c now k [] g h = g h
   onward_settled b c now k (Does x ∷ ds) g h = onward_settled false c c k ds (λ z. refl) h
   onward_settled b c now k (Invokes i v ∷ ds) g h = onward_settled true c (cond (loose k) c (t k)) (suc k) ds (λ z. absurd (true≢false z)) h
 
-  pub onward_waiting : (b : Bool) (c now k j : ℕ) (ds : List (Deed World)) → (b ≡ true → (last : ℕ) → suc last ≡ k → now ≡ cond (loose last) c (t last)) → suc j ≡ k + started ds → waiting b ds ≡ true
+  pub onward_waiting : (b : Bool) (c now k j : ℕ) (ds : List (Deed FrameEnv)) → (b ≡ true → (last : ℕ) → suc last ≡ k → now ≡ cond (loose last) c (t last)) → suc j ≡ k + started ds → waiting b ds ≡ true
       → onward c now k ds ≡ cond (loose j) c (t j)
   onward_waiting b c now k j [] g q h = g h j (omega (arith, q))
   onward_waiting b c now k j (Does x ∷ ds) g q h = onward_waiting false c c k j ds (λ z. absurd (true≢false (sym z))) q h
   onward_waiting b c now k j (Invokes i v ∷ ds) g q h =
       onward_waiting true c (cond (loose k) c (t k)) (suc k) j ds (λ z last r. let e : k ≡ last = omega (arith, r) in ap (λ k. cond (loose k) c (t k)) e) (omega (arith, q)) h
 
-  pub lies_does : (acc k : ℕ) (ds : List (Deed World)) (e : Event) → lies acc k (ds ++ Does e ∷ []) ≤ lies acc k ds
+  pub lies_does : (acc k : ℕ) (ds : List (Deed FrameEnv)) (e : Event) → lies acc k (ds ++ Does e ∷ []) ≤ lies acc k ds
   lies_does acc k [] (Reads c v) = omega arith
   lies_does acc k [] (Writes c v) = omega arith
   lies_does acc k [] Syncs = omega arith
@@ -81,7 +81,7 @@ module _ (loose : ℕ → Bool) (t : ℕ → ℕ) where
   lies_does acc k (Invokes Call w ∷ ds) e = lies_does acc (suc k) ds e
   lies_does acc k (Invokes Spawn w ∷ ds) e = lies_does (cond (loose k) (acc + t k) acc) (suc k) ds e
 
-  pub lies_sync : (acc k : ℕ) (ds : List (Deed World)) → lies acc k (ds ++ Does Syncs ∷ []) ≡ 0
+  pub lies_sync : (acc k : ℕ) (ds : List (Deed FrameEnv)) → lies acc k (ds ++ Does Syncs ∷ []) ≡ 0
   lies_sync acc k [] = refl
   lies_sync acc k (Does (Reads c v) ∷ ds) = lies_sync acc k ds
   lies_sync acc k (Does (Writes c v) ∷ ds) = lies_sync acc k ds
@@ -91,7 +91,7 @@ module _ (loose : ℕ → Bool) (t : ℕ → ℕ) where
   lies_sync acc k (Invokes Call w ∷ ds) = lies_sync acc (suc k) ds
   lies_sync acc k (Invokes Spawn w ∷ ds) = lies_sync (cond (loose k) (acc + t k) acc) (suc k) ds
 
-  pub lies_invokes : (acc k j : ℕ) (ds : List (Deed World)) (i : Invocation) (w : World) → k + started ds ≡ j → lies acc k (ds ++ Invokes i w ∷ []) ≤ lies acc k ds + cond (loose j) (t j) 0
+  pub lies_invokes : (acc k j : ℕ) (ds : List (Deed FrameEnv)) (i : Invocation) (w : FrameEnv) → k + started ds ≡ j → lies acc k (ds ++ Invokes i w ∷ []) ≤ lies acc k ds + cond (loose j) (t j) 0
   lies_invokes acc k j [] Call w q = omega arith
   lies_invokes acc k j [] Spawn w q = let e : k ≡ j = omega (arith, q) in subst (λ j. cond (loose k) (acc + t k) acc ≤ acc + cond (loose j) (t j) 0) e (by (loose k))
     where
@@ -106,7 +106,7 @@ module _ (loose : ℕ → Bool) (t : ℕ → ℕ) where
   lies_invokes acc k j (Invokes Call v ∷ ds) i w q = lies_invokes acc (suc k) j ds i w (omega (arith, q))
   lies_invokes acc k j (Invokes Spawn v ∷ ds) i w q = lies_invokes (cond (loose k) (acc + t k) acc) (suc k) j ds i w (omega (arith, q))
 
-  pub lies_least : (acc k : ℕ) (ds : List (Deed World)) (i : Invocation) (w : World) → lies acc k ds ≤ lies acc k (ds ++ Invokes i w ∷ [])
+  pub lies_least : (acc k : ℕ) (ds : List (Deed FrameEnv)) (i : Invocation) (w : FrameEnv) → lies acc k ds ≤ lies acc k (ds ++ Invokes i w ∷ [])
   lies_least acc k [] Call w = omega arith
   lies_least acc k [] Spawn w = by (loose k)
     where
@@ -135,7 +135,7 @@ module _ (loose : ℕ → Bool) (t t' : ℕ → ℕ) (c j u : ℕ) where
   alone_added true a a' x x' n h g = omega (arith, h, g)
   alone_added false a a' x x' n h g = omega (arith, h, g)
 
-  past_most : (acc acc' now now' k : ℕ) (ds : List (Deed World)) → ((h : ℕ) → k ≤ h → t' h ≤ t h) → acc' ≤ acc + u → acc' + now' ≤ acc + now + u
+  past_most : (acc acc' now now' k : ℕ) (ds : List (Deed FrameEnv)) → ((h : ℕ) → k ≤ h → t' h ≤ t h) → acc' ≤ acc + u → acc' + now' ≤ acc + now + u
       → lies loose t' acc' k ds + onward loose t' c now' k ds ≤ lies loose t acc k ds + onward loose t c now k ds + u
   past_most acc acc' now now' k [] g a b = b
   past_most acc acc' now now' k (Does (Reads x v) ∷ ds) g a b = past_most acc acc' c c k ds g a (omega (arith, a))
@@ -179,7 +179,7 @@ module _ (loose : ℕ → Bool) (t t' : ℕ → ℕ) (c j u : ℕ) where
     same_added true a a' x x' h g = omega (arith, h, g)
     same_added false a a' x x' h g = h
 
-    grown_from : (acc acc' now now' k : ℕ) (ds : List (Deed World)) → acc' ≤ acc → now' ≤ now → lies loose t' acc' k ds + onward loose t' c now' k ds ≤ lies loose t acc k ds + onward loose t c now k ds + u
+    grown_from : (acc acc' now now' k : ℕ) (ds : List (Deed FrameEnv)) → acc' ≤ acc → now' ≤ now → lies loose t' acc' k ds + onward loose t' c now' k ds ≤ lies loose t acc k ds + onward loose t c now k ds + u
     grown_from acc acc' now now' k [] a b = omega (arith, a, b)
     grown_from acc acc' now now' k (Does (Reads x v) ∷ ds) a b = grown_from acc acc' c c k ds a (omega arith)
     grown_from acc acc' now now' k (Does (Writes x v) ∷ ds) a b = grown_from acc acc' c c k ds a (omega arith)
@@ -209,12 +209,12 @@ module _ (loose : ℕ → Bool) (t t' : ℕ → ℕ) (c j u : ℕ) where
             past_most (cond (loose k) (acc + t k) acc) (cond (loose k) (acc' + t' k) acc') (cond (loose k) c (t k)) (cond (loose k) c (t' k)) (suc k) ds (λ h low. later k h q low) (first (loose k)) (whole (loose k))
         by false q rest = rest q
 
-    pub grown_most : (ds : List (Deed World)) → lies loose t' 0 1 ds + onward loose t' c c 1 ds ≤ lies loose t 0 1 ds + onward loose t c c 1 ds + u
+    pub grown_most : (ds : List (Deed FrameEnv)) → lies loose t' 0 1 ds + onward loose t' c c 1 ds ≤ lies loose t 0 1 ds + onward loose t c c 1 ds + u
     grown_most ds = grown_from 0 0 c c 1 ds (omega arith) (omega arith)
 
 -- the same continuations stolen below, and the same bounds
 module _ (loose loose' : ℕ → Bool) (t t' : ℕ → ℕ) where
-  pub same_lies : (acc k : ℕ) (ds : List (Deed World)) → ((h : ℕ) → h < k + started ds → (loose' h ≡ loose h) × (t' h ≡ t h)) → lies loose' t' acc k ds ≡ lies loose t acc k ds
+  pub same_lies : (acc k : ℕ) (ds : List (Deed FrameEnv)) → ((h : ℕ) → h < k + started ds → (loose' h ≡ loose h) × (t' h ≡ t h)) → lies loose' t' acc k ds ≡ lies loose t acc k ds
   same_lies acc k [] g = refl
   same_lies acc k (Does (Reads c v) ∷ ds) g = same_lies acc k ds g
   same_lies acc k (Does (Writes c v) ∷ ds) g = same_lies acc k ds g
@@ -227,7 +227,7 @@ module _ (loose loose' : ℕ → Bool) (t t' : ℕ → ℕ) where
       ap (λ a. lies loose' t' a (suc k) ds) (ap (λ b. cond b (acc + t' k) acc) now.0 ∙ ap (λ x. cond (loose k) (acc + x) acc) now.1)
       ∙ same_lies (cond (loose k) (acc + t k) acc) (suc k) ds (λ h low. g h (omega (arith, low)))
 
-  pub same_onward : (c now k : ℕ) (ds : List (Deed World)) → ((h : ℕ) → h < k + started ds → (loose' h ≡ loose h) × (t' h ≡ t h)) → onward loose' t' c now k ds ≡ onward loose t c now k ds
+  pub same_onward : (c now k : ℕ) (ds : List (Deed FrameEnv)) → ((h : ℕ) → h < k + started ds → (loose' h ≡ loose h) × (t' h ≡ t h)) → onward loose' t' c now k ds ≡ onward loose t c now k ds
   same_onward c now k [] g = refl
   same_onward c now k (Does e ∷ ds) g = same_onward c c k ds g
   same_onward c now k (Invokes i w ∷ ds) g =

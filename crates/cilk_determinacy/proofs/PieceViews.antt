@@ -7,10 +7,10 @@ use Rattle.cilk_runs.specs.Runs.{Output}
 use Rattle.cilk_runs.proofs.Stretched.{are_stretches}
 use Rattle.cilk_runs.proofs.StretchViews.{are_views}
 use Rattle.cilk_runs.proofs.Theorem.{follows_determined}
-use Rattle.cilk_runs.specs.WorldMachine.{next, costs, opening_values}
+use Rattle.cilk_runs.specs.FrameEnvMachine.{next, costs, opening_values}
 use Rattle.cilk_runs.specs.Reducers.{monoid_of}
 use Rattle.cilk_runs.specs.Steps.{Next}
-use Rattle.cilk_runs.specs.Worlds.{first_world}
+use Rattle.cilk_runs.specs.FrameEnvs.{first_world}
 use Rattle.cilk_determinacy.specs.Nested.{named}
 use Rattle.cilk_determinacy.specs.Pieces.{PiecesCover}
 use Rattle.cilk_determinacy.proofs.Assembled.{views_lawful}

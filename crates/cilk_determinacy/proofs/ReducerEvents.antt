@@ -34,11 +34,11 @@ use Rattle.cilk_program.proofs.Numbers.{serial_counts}
 use Rattle.cilk_runs.specs.Runs.{Instance, Event, Deed, Does, Invokes, Run, stop, act, child}
 use Rattle.cilk_runs.specs.Traces.{trace}
 use Rattle.cilk_monoid.proofs.SameKinds.{same_kind-eq}
-use Rattle.cilk_runs.specs.WorldMachine.{retired_by, retired_from}
+use Rattle.cilk_runs.specs.FrameEnvMachine.{retired_by, retired_from}
 use Rattle.cilk_determinacy.specs.Nested.{named_event, named_from, named}
 use Rattle.cilk_determinacy.specs.ReducerEvents.{OfKind, only, view_over, of_instance, retired_all, of_event, reducer_events, finals_over, ValuesAreViewed, FinalsAreViewed}
 use Rattle.cilk_runs.specs.Reducers.{kind_of}
-use Rattle.cilk_runs.specs.Worlds.{Reducers, World, first_world, child_world, global_named, own_named}
+use Rattle.cilk_runs.specs.FrameEnvs.{Reducers, FrameEnv, first_world, child_world, global_named, own_named}
 use Rattle.cilk_determinacy.specs.Numbers.{instance_number, HasInstance}
 use Rattle.cilk_determinacy.proofs.Determinate.{ran}
 use Rattle.cilk_determinacy.proofs.Sights.{IsNumbered, tied_reducer, own_tied, Stands}
@@ -126,7 +126,7 @@ module _ (p : Source) (whole : serial.Transcript) where
       subst (Holds (clear_all same_instance own' n (k ∷ ks) s)) (append_assoc ts (of_instance p whole (own n k) Retired ∷ []) (retired_all p whole (retired_from own (suc n) ks)))
       (retire_holds own own' numbers (suc n) ks (put_view same_instance k (own' n) ((structure_of k).unit) s) (ts ++ of_instance p whole (own n k) Retired ∷ []) one)
 
-  module _ (w : World) (fr : Frame) (h : Stands p whole w fr) (m : Memory) (ts : List OfKind) (holds : Holds m.store ts) where
+  module _ (w : FrameEnv) (fr : Frame) (h : Stands p whole w fr) (m : Memory) (ts : List OfKind) (holds : Holds m.store ts) where
     number : (x : syntax.Reducer) → IsNumbered p whole (instance_in global_named w.sight x.place) (reducer_at fr x)
     number x = tied_reducer p whole w.sight fr.scope h.tied x.place
 
@@ -184,33 +184,33 @@ module _ (p : Source) (whole : serial.Transcript) where
 
   -- ---- along a run
 
-  abbrev after : List OfKind → Deed World → List OfKind
+  abbrev after : List OfKind → Deed FrameEnv → List OfKind
   after ts (Does e) = ts ++ of_event p whole e
   after ts (Invokes k w) = ts
 
-  after_more : (ts : List OfKind) (d : Deed World) (ds : List (Deed World)) → after ts d ++ reducer_events p whole ds ≡ ts ++ reducer_events p whole (d ∷ ds)
+  after_more : (ts : List OfKind) (d : Deed FrameEnv) (ds : List (Deed FrameEnv)) → after ts d ++ reducer_events p whole ds ≡ ts ++ reducer_events p whole (d ∷ ds)
   after_more ts (Does e) ds = append_assoc ts (of_event p whole e) (reducer_events p whole ds)
   after_more ts (Invokes k w) ds = refl
 
-  events_both : (ds es : List (Deed World)) → reducer_events p whole (ds ++ es) ≡ reducer_events p whole ds ++ reducer_events p whole es
+  events_both : (ds es : List (Deed FrameEnv)) → reducer_events p whole (ds ++ es) ≡ reducer_events p whole ds ++ reducer_events p whole es
   events_both [] es = refl
   events_both (Does e ∷ ds) es = ap (λ l. of_event p whole e ++ l) (events_both ds es) ∙ sym (append_assoc (of_event p whole e) (reducer_events p whole ds) (reducer_events p whole es))
   events_both (Invokes k w ∷ ds) es = events_both ds es
 
   -- each value that is read, where these events stand ahead of the list
-  abbrev AreOver : List OfKind → List (Deed World) → List numbers.Event → Type 0
+  abbrev AreOver : List OfKind → List (Deed FrameEnv) → List numbers.Event → Type 0
   AreOver ts [] [] = Unit {0}
   AreOver ts [] (e ∷ es) = ⊥
   AreOver ts (d ∷ ds) [] = ⊥
   AreOver ts (d ∷ ds) (e ∷ es) = ValueIs e ts × AreOver (after ts d) ds es
 
-  over_both : (ts : List OfKind) (ds ds' : List (Deed World)) (es es' : List numbers.Event) → AreOver ts ds es → AreOver (ts ++ reducer_events p whole ds) ds' es' → AreOver ts (ds ++ ds') (es ++ es')
+  over_both : (ts : List OfKind) (ds ds' : List (Deed FrameEnv)) (es es' : List numbers.Event) → AreOver ts ds es → AreOver (ts ++ reducer_events p whole ds) ds' es' → AreOver ts (ds ++ ds') (es ++ es')
   over_both ts [] ds' [] es' h g = subst (λ ts. AreOver ts ds' es') (append-nil ts) g
   over_both ts [] ds' (e ∷ es) es' h g = absurd h
   over_both ts (d ∷ ds) ds' [] es' h g = absurd h
   over_both ts (d ∷ ds) ds' (e ∷ es) es' h g = (h.0, over_both (after ts d) ds ds' es es' h.1 (subst (λ ts. AreOver ts ds' es') (sym (after_more ts d ds)) g))
 
-  over_at : (ts : List OfKind) (ds : List (Deed World)) (es : List numbers.Event) → AreOver ts ds es → (n : ℕ) (i : numbered.Instance) (v : ℤ) → slice_get es n ≡ Some (events.Value i v) → IsOver (ts ++ reducer_events p whole (take n ds)) i v
+  over_at : (ts : List OfKind) (ds : List (Deed FrameEnv)) (es : List numbers.Event) → AreOver ts ds es → (n : ℕ) (i : numbered.Instance) (v : ℤ) → slice_get es n ≡ Some (events.Value i v) → IsOver (ts ++ reducer_events p whole (take n ds)) i v
   over_at ts ds [] h n i v is = let z : None ≡ Some (events.Value i v) = is in absurd (cc)
   over_at ts [] (e ∷ es) h n i v is = absurd h
   over_at ts (d ∷ ds) (e ∷ es) h zero i v is =
@@ -222,17 +222,17 @@ module _ (p : Source) (whole : serial.Transcript) where
   HoldsAt (Finished v left m) ts = Holds m.store ts
   HoldsAt (serial.Stopped f) ts = Unit {0}
 
-  record Viewed (end : Ending) (t : Run World) (es : List numbers.Event) (ts : List OfKind) : Type 0 where
+  record Viewed (end : Ending) (t : Run FrameEnv) (es : List numbers.Event) (ts : List OfKind) : Type 0 where
     values : AreOver ts (trace t) es
     holds : HoldsAt end (ts ++ reducer_events p whole (trace t))
 
-  act_viewed : (end : Ending) (e : Event) (n : numbers.Event) (t : Run World) (es : List numbers.Event) (ts : List OfKind) → ValueIs n ts → Viewed end t es (ts ++ of_event p whole e) → Viewed end (act e t) (n ∷ es) ts
+  act_viewed : (end : Ending) (e : Event) (n : numbers.Event) (t : Run FrameEnv) (es : List numbers.Event) (ts : List OfKind) → ValueIs n ts → Viewed end t es (ts ++ of_event p whole e) → Viewed end (act e t) (n ∷ es) ts
   act_viewed end e n t es ts value h = record {
     values = (value, h.values);
     holds = subst (HoldsAt end) (append_assoc ts (of_event p whole e) (reducer_events p whole (trace t))) h.holds;
   }
 
-  child_viewed : (end : Ending) (how : Invocation) (n : ℕ) (w : World) (u t : Run World) (es es' : List numbers.Event) (ts : List OfKind) → AreOver ts (trace u) es
+  child_viewed : (end : Ending) (how : Invocation) (n : ℕ) (w : FrameEnv) (u t : Run FrameEnv) (es es' : List numbers.Event) (ts : List OfKind) → AreOver ts (trace u) es
       → Viewed end t es' (ts ++ reducer_events p whole (trace u)) → Viewed end (child how w u t) (invocation how n ∷ (es ++ es')) ts
   child_viewed end how n w u t es es' ts h g = record {
     values = (no_value_invoked how n ts, over_both ts (trace u) (trace t) es es' h g.values);
@@ -241,7 +241,7 @@ module _ (p : Source) (whole : serial.Transcript) where
 
   module _ (inputs : List ℤ) (well : IsTrue (is_well_named p)) where
     run_viewed : {fr : Frame} {start : ℕ} {history : List ℤ} {m : Memory} {rest : serial.Transcript} {es : List numbers.Event} {end : Ending} → Serial p inputs fr start history m rest es end
-        → (w : World) (j : ℕ) → Standing p inputs well whole w fr j rest (counts_of m) → (ts : List OfKind) → Holds m.store ts → Viewed end (named_from p w (suc j) rest) es ts
+        → (w : FrameEnv) (j : ℕ) → Standing p inputs well whole w fr j rest (counts_of m) → (ts : List OfKind) → Holds m.store ts → Viewed end (named_from p w (suc j) rest) es ts
     run_viewed (Made {fr = fr} {start = start} {history = history} {m = m} {r = r} {es = es} {end = end} a left q inner ok rest) w j standing ts holds =
         act_viewed end (named_event p w a (answer_to fr m a)) (event_of fr m a) (named_from p w (suc j) r) es ts
         (act_value w fr standing.stands m ts holds a (asked_there p inputs well whole w fr history start left a standing.stands q))

@@ -28,8 +28,8 @@ use Rattle.cilk_runs.specs.Serial.{value_after, IsReadRight, IsSerial}
 use Rattle.cilk_runs.specs.Traces.{trace, IsWrittenEvent, IsWritten, AreWritten}
 use Rattle.cilk_runs.specs.Views.{view_after, IsViewRight, IsSerialViews}
 use Rattle.cilk_runs.specs.Reducers.{View, value_of, kind_of, monoid_of}
-use Rattle.cilk_runs.specs.Worlds.{Reducers, own_named, global_named, World, child_world, cell_seen, result_cell}
-use Rattle.cilk_runs.specs.WorldMachine.{retired_by}
+use Rattle.cilk_runs.specs.FrameEnvs.{Reducers, own_named, global_named, FrameEnv, child_world, cell_seen, result_cell}
+use Rattle.cilk_runs.specs.FrameEnvMachine.{retired_by}
 use Rattle.cilk_determinacy.specs.Nested.{named_event, named_from}
 use Rattle.cilk_determinacy.specs.Theorem.{SetsWord, SetWords}
 use Rattle.cilk_determinacy.specs.Numbers.{cell_number, instance_number, HasCell, HasInstance}
@@ -66,7 +66,7 @@ module _ (p : Source) (whole : serial.Transcript) where
   EventHas (Passes (Values i v)) = HasInstance p whole i
   EventHas (Passes (Prints x)) = Unit {0}
 
-  abbrev pub RunHas : Run World → Type 0
+  abbrev pub RunHas : Run FrameEnv → Type 0
   RunHas stop = Unit {0}
   RunHas (act e t) = EventHas e × RunHas t
   RunHas (child k w u t) = RunHas u × RunHas t
@@ -85,7 +85,7 @@ module _ (p : Source) (whole : serial.Transcript) where
   set_alone : (k : MonoidKind) (x : ℤ) → IsWord x → (structure_of k).combine ((structure_of k).unit) ((structure_of k).single x) ≡ (structure_of k).single x
   set_alone k x h = let law = lawful k in law.left_neutral ((structure_of k).single x) (law.single_member x h)
 
-  module _ (w : World) (fr : Frame) (h : Stands p whole w fr) (m : Memory) (memory : Cell → ℤ) (views : Instance → View) (same : Same p whole memory views m.store) where
+  module _ (w : FrameEnv) (fr : Frame) (h : Stands p whole w fr) (m : Memory) (memory : Cell → ℤ) (views : Instance → View) (same : Same p whole memory views m.store) where
     numbers_of : (x : syntax.Reducer) → IsNumbered p whole (instance_in global_named w.sight x.place) (reducer_at fr x)
     numbers_of x = tied_reducer p whole w.sight fr.scope h.tied x.place
 
@@ -203,18 +203,18 @@ module _ (p : Source) (whole : serial.Transcript) where
         }
 
   -- what is shown of a run
-  pub record Remembers (t : Run World) (es : List numbers.Event) (memory : Cell → ℤ) (views : Instance → View) (store : Store numbered.Instance) : Type 0 where
+  pub record Remembers (t : Run FrameEnv) (es : List numbers.Event) (memory : Cell → ℤ) (views : Instance → View) (store : Store numbered.Instance) : Type 0 where
     pub serial : IsSerial t memory
     pub serial_views : IsSerialViews monoid_of t views
     pub same : Same p whole (λ c. value_after t c (memory c)) (λ i. view_after (monoid_of i) i t (views i)) store
     pub written : AreWritten (cell_number p whole) (instance_number p whole) (trace t) es
     pub has : RunHas t
 
-  abbrev pub RemembersAt : Ending → Run World → List numbers.Event → (Cell → ℤ) → (Instance → View) → Type 0
+  abbrev pub RemembersAt : Ending → Run FrameEnv → List numbers.Event → (Cell → ℤ) → (Instance → View) → Type 0
   RemembersAt (Finished v left m) t es memory views = Remembers t es memory views m.store
   RemembersAt (serial.Stopped f) t es memory views = Unit {0}
 
-  act_remembers : (end : Ending) (t : Run World) (e : Event) (n : numbers.Event) (es : List numbers.Event) (memory : Cell → ℤ) (views : Instance → View) (store : Store numbered.Instance) → Follows memory views store e n
+  act_remembers : (end : Ending) (t : Run FrameEnv) (e : Event) (n : numbers.Event) (es : List numbers.Event) (memory : Cell → ℤ) (views : Instance → View) (store : Store numbered.Instance) → Follows memory views store e n
       → RemembersAt end t es (λ c. put e c (memory c)) (λ i. on_view (monoid_of i) i e (views i)) → RemembersAt end (act e t) (n ∷ es) memory views
   act_remembers (Finished v left m) t e n es memory views store f h = record {
     serial = (f.right, h.serial);
@@ -225,11 +225,11 @@ module _ (p : Source) (whole : serial.Transcript) where
   }
   act_remembers (serial.Stopped g) t e n es memory views store f h = tt
 
-  child_written : (how : Invocation) (w : World) (n : ℕ) → IsWritten (cell_number p whole) (instance_number p whole) (Invokes how w) (invocation how n)
+  child_written : (how : Invocation) (w : FrameEnv) (n : ℕ) → IsWritten (cell_number p whole) (instance_number p whole) (Invokes how w) (invocation how n)
   child_written Call w n = (n, refl)
   child_written Spawn w n = (n, refl)
 
-  child_remembers : (end : Ending) (how : Invocation) (n : ℕ) (w : World) (u t : Run World) (es es' : List numbers.Event) (memory : Cell → ℤ) (views : Instance → View) (v : ℤ) (left : ℕ) (m : Memory) → RemembersAt (Finished v left m) u es memory views
+  child_remembers : (end : Ending) (how : Invocation) (n : ℕ) (w : FrameEnv) (u t : Run FrameEnv) (es es' : List numbers.Event) (memory : Cell → ℤ) (views : Instance → View) (v : ℤ) (left : ℕ) (m : Memory) → RemembersAt (Finished v left m) u es memory views
       → RemembersAt end t es' (λ c. value_after u c (memory c)) (λ i. view_after (monoid_of i) i u (views i)) → RemembersAt end (child how w u t) (invocation how n ∷ (es ++ es')) memory views
   child_remembers (Finished v' left' m') how n w u t es es' memory views v left m h g = record {
     serial = (h.serial, g.serial);
@@ -242,7 +242,7 @@ module _ (p : Source) (whole : serial.Transcript) where
 
   module _ (inputs : List ℤ) (well : IsTrue (is_well_named p)) where
     pub run_remembers : {fr : Frame} {start : ℕ} {history : List ℤ} {m : Memory} {rest : serial.Transcript} {es : List numbers.Event} {end : Ending} → Serial p inputs fr start history m rest es end
-        → (w : World) (j : ℕ) → Standing p inputs well whole w fr j rest (counts_of m) → SetWords es → (memory : Cell → ℤ) (views : Instance → View) → Same p whole memory views m.store → RemembersAt end (named_from p w (suc j) rest) es memory views
+        → (w : FrameEnv) (j : ℕ) → Standing p inputs well whole w fr j rest (counts_of m) → SetWords es → (memory : Cell → ℤ) (views : Instance → View) → Same p whole memory views m.store → RemembersAt end (named_from p w (suc j) rest) es memory views
     run_remembers (Made {fr = fr} {start = start} {history = history} {m = m} {r = r} {es = es} {end = end} a left q inner ok rest) w j standing words memory views same =
         let there = asked_there p inputs well whole w fr history start left a standing.stands q in
         let f = act_follows w fr standing.stands m memory views same a there inner words.0 in

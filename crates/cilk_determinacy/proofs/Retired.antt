@@ -17,8 +17,8 @@ use Rattle.cilk_program.proofs.Closings.{IsOpening, IsSound, AreOpening, opening
 use Rattle.cilk_runs.specs.Runs.{Instance, has_instance, same_instance}
 use Rattle.cilk_runs.specs.Views.{IsCreate, IsRetire, IsRetiredAtHome}
 use Rattle.cilk_runs.proofs.Basics.{same_instance-eq}
-use Rattle.cilk_runs.specs.Worlds.{Reducers, own_named, World, world_of, first_world, child_world, reducer_seen}
-use Rattle.cilk_runs.specs.WorldMachine.{retired_from, retired_by}
+use Rattle.cilk_runs.specs.FrameEnvs.{Reducers, own_named, FrameEnv, world_of, first_world, child_world, reducer_seen}
+use Rattle.cilk_runs.specs.FrameEnvMachine.{retired_from, retired_by}
 use Rattle.cilk_determinacy.specs.Nested.{named_event, named_from, named}
 
 -- ---- ends retire what was created
@@ -36,12 +36,12 @@ due_opened [] = refl
 due_opened (k ∷ due) = refl
 
 -- the creation of an instance is due
-abbrev DueCreates : World → Instance → List Ask → Type 0
+abbrev DueCreates : FrameEnv → Instance → List Ask → Type 0
 DueCreates w i [] = ⊥
 DueCreates w i (asks.Create c ∷ due) = (reducer_seen w c ≡ i) ⊎ DueCreates w i due
 DueCreates w i (k ∷ due) = DueCreates w i due
 
-due_both : (w : World) (i : Instance) (a b : List Ask) → DueCreates w i b → DueCreates w i (a ++ b)
+due_both : (w : FrameEnv) (i : Instance) (a b : List Ask) → DueCreates w i b → DueCreates w i (a ++ b)
 due_both w i [] b h = h
 due_both w i (asks.Begin ∷ a) b h = due_both w i a b h
 due_both w i (asks.Read x ∷ a) b h = due_both w i a b h
@@ -59,7 +59,7 @@ due_both w i (asks.End y ∷ a) b h = due_both w i a b h
 due_both w i (asks.Fault f ∷ a) b h = due_both w i a b h
 
 -- what is retired has been created, or is due
-due_retired : (p : Source) (w : World) (i : Instance) (own : ℕ → Reducers) (place : ℕ → ReducerPlace) → ((n : ℕ) (k : MonoidKind) → reducer_seen w (record { place = place n; kind = k }) ≡ own n k) → (n : ℕ) (ks : List MonoidKind)
+due_retired : (p : Source) (w : FrameEnv) (i : Instance) (own : ℕ → Reducers) (place : ℕ → ReducerPlace) → ((n : ℕ) (k : MonoidKind) → reducer_seen w (record { place = place n; kind = k }) ≡ own n k) → (n : ℕ) (ks : List MonoidKind)
     → has_instance (retired_from own n ks) i ≡ true → DueCreates w i (creations place n ks)
 due_retired p w i own place same n [] h = absurd (true≢false (sym h))
 due_retired p w i own place same n (k ∷ ks) h = by (same_instance (own n k) i) refl h (due_retired p w i own place same (suc n) ks)
@@ -71,20 +71,20 @@ due_retired p w i own place same n (k ∷ ks) h = by (same_instance (own n k) i)
 
 module _ (p : Source) (i : Instance) where
   -- a frame's stage: what it retires it has created, or is due
-  abbrev Covers : World → Type 0 → List Ask → Type 0
+  abbrev Covers : FrameEnv → Type 0 → List Ask → Type 0
   Covers w mine due = has_instance (retired_by p w) i ≡ true → mine ⊎ DueCreates w i due
 
-  record OneStep (w : World) (s : Stage) (k : Ask) (v : ℤ) (G : Stage → Type 0) (mine : Type 0) : Type 0 where
+  record OneStep (w : FrameEnv) (s : Stage) (k : Ask) (v : ℤ) (G : Stage → Type 0) (mine : Type 0) : Type 0 where
     to : Stage
     sound : IsSound to
     goes : G to
     quiet : ¬ (IsRetire i (named_event p w k v))
     covers : Covers w mine (due_of s) → Covers w (mine ⊎ IsCreate i (named_event p w k v)) (due_of to)
 
-  still : (w : World) (mine other : Type 0) (due due' : List Ask) → due ≡ due' → Covers w mine due → Covers w (mine ⊎ other) due'
+  still : (w : FrameEnv) (mine other : Type 0) (due due' : List Ask) → due ≡ due' → Covers w mine due → Covers w (mine ⊎ other) due'
   still w mine other due due' e c h = subst (λ due. (mine ⊎ other) ⊎ DueCreates w i due) e (⊎_elim (λ m. inl (inl m)) (λ d. inr d) (c h))
 
-  plain_quiet : (w : World) (k : Ask) (v : ℤ) → IsPlain k → ¬ (IsRetire i (named_event p w k v))
+  plain_quiet : (w : FrameEnv) (k : Ask) (v : ℤ) → IsPlain k → ¬ (IsRetire i (named_event p w k v))
   plain_quiet w asks.Begin v h = absurd h
   plain_quiet w (asks.Read x) v h = λ x. x
   plain_quiet w (asks.Write x y) v h = λ x. x
@@ -100,7 +100,7 @@ module _ (p : Source) (i : Instance) where
   plain_quiet w (asks.End y) v h = absurd h
   plain_quiet w (asks.Fault f) v h = absurd h
 
-  opens : (w : World) (k : Ask) (due : List Ask) (v : ℤ) (G : Stage → Type 0) (mine : Type 0) → IsOpening k → AreOpening due → G (opened due) → OneStep w (Due k due) k v G mine
+  opens : (w : FrameEnv) (k : Ask) (due : List Ask) (v : ℤ) (G : Stage → Type 0) (mine : Type 0) → IsOpening k → AreOpening due → G (opened due) → OneStep w (Due k due) k v G mine
   opens w (asks.Write x y) due v G mine o sound g = record { to = opened due; sound = opened_sound due sound; goes = g; quiet = λ x. x; covers = λ c. still w mine _ due (due_of (opened due)) (sym (due_opened due)) c }
   opens w (asks.Create r) due v G mine o sound g = record {
     to = opened due;
@@ -123,7 +123,7 @@ module _ (p : Source) (i : Instance) where
   opens w (asks.Fault f) due v G mine o sound g = absurd o
 
   -- an event after which the frame goes on, or its end
-  one_step : (w : World) (G : Stage → Type 0) (mine : Type 0) (v : ℤ) (s : Stage) (k : Ask) → IsSound s → View G s k → (¬ ((how : Invocation) × (c : Callee) × (k ≡ asks.Invoke how c))) → OneStep w s k v G mine ⊎ ((due_of s ≡ []) × ((y : ℤ) × (k ≡ asks.End y)))
+  one_step : (w : FrameEnv) (G : Stage → Type 0) (mine : Type 0) (v : ℤ) (s : Stage) (k : Ask) → IsSound s → View G s k → (¬ ((how : Invocation) × (c : Callee) × (k ≡ asks.Invoke how c))) → OneStep w s k v G mine ⊎ ((due_of s ≡ []) × ((y : ℤ) × (k ≡ asks.End y)))
   one_step w G mine v (Fresh due) k sound (BeginsNow g) own = inl (record { to = opened due; sound = opened_sound due sound; goes = g; quiet = λ x. x; covers = λ c. still w mine _ due (due_of (opened due)) (sym (due_opened due)) c })
   one_step w G mine v (Due k due) k' sound (Opens g) own = inl (opens w k due v G mine sound.0 sound.1 g)
   one_step w G mine v (Going b) k sound (Goes plain g) own = inl (record { to = Going b; sound = tt; goes = g; quiet = plain_quiet w k v plain; covers = λ c. still w mine _ [] [] refl c })
@@ -143,7 +143,7 @@ module _ (p : Source) (i : Instance) where
   no_invoke : (k : Ask) (r : serial.Transcript) → IsOwnAt k r → ¬ ((how : Invocation) × (c : Callee) × (k ≡ asks.Invoke how c))
   no_invoke k r own (how, c, e) = subst (λ k. IsOwnAt k r) e own
 
-  at_end : (w : World) (n : ℕ) (k : Ask) (v : ℤ) (r : serial.Transcript) (mine other : Type 0) → Covers w mine [] → IsOwnAt k r → (y : ℤ) → k ≡ asks.End y → (IsRetire i (named_event p w k v) → mine) × IsRetiredAtHome i (named_from p w n r) other
+  at_end : (w : FrameEnv) (n : ℕ) (k : Ask) (v : ℤ) (r : serial.Transcript) (mine other : Type 0) → Covers w mine [] → IsOwnAt k r → (y : ℤ) → k ≡ asks.End y → (IsRetire i (named_event p w k v) → mine) × IsRetiredAtHome i (named_from p w n r) other
   at_end w n k v r mine other c own y e = (
     subst (λ k. IsRetire i (named_event p w k v) → mine) (sym e) (λ h. ⊎_elim (λ m. m) (λ d. absurd_of d) (c h)),
     subst (λ r. IsRetiredAtHome i (named_from p w n r) other) (sym (subst (λ k. IsOwnAt k r) e own)) tt,
@@ -164,18 +164,18 @@ module _ (p : Source) (i : Instance) where
   child_step G how callee Closing sound h = elim h [ ]
 
   -- as a frame begins all is due
-  world_covers : (name : _) (sight : _) (callee : Callee) → let w : World = world_of p name sight callee in Covers w ⊥ (opening_asks p callee)
+  world_covers : (name : _) (sight : _) (callee : Callee) → let w : FrameEnv = world_of p name sight callee in Covers w ⊥ (opening_asks p callee)
   world_covers name sight callees.Root h =
       let f = main_of p in
-      let w : World = world_of p name sight callees.Root in
+      let w : FrameEnv = world_of p name sight callees.Root in
       inr (due_both w i (creations reducers.Global 0 p.reducers) (creations (reducers.Own 0) 0 f.reducers) (due_retired p w i (own_named p callees.Root name) (reducers.Own 0) (λ n k. refl) 0 f.reducers h))
   world_covers name sight (callees.Function c) h =
       let f = function_at p c.function in
-      let w : World = world_of p name sight (callees.Function c) in
+      let w : FrameEnv = world_of p name sight (callees.Function c) in
       inr (due_both w i (writings 0 c.words) (creations (reducers.Own 0) 0 f.reducers) (due_retired p w i (own_named p (callees.Function c) name) (reducers.Own 0) (λ n k. refl) 0 f.reducers h))
   world_covers name sight (callees.Loop l) h = absurd (true≢false (sym h))
 
-  pub retired_at_home : (w : World) (n : ℕ) (s : Stage) (r : serial.Transcript) → IsSound s → IsOrderly p s r → (mine : Type 0) → Covers w mine (due_of s) → IsRetiredAtHome i (named_from p w n r) mine
+  pub retired_at_home : (w : FrameEnv) (n : ℕ) (s : Stage) (r : serial.Transcript) → IsSound s → IsOrderly p s r → (mine : Type 0) → Covers w mine (due_of s) → IsRetiredAtHome i (named_from p w n r) mine
   retired_at_home w n s serial.stop sound orderly mine c = tt
   retired_at_home w n s (serial.act k v r) sound orderly mine c =
       by (one_step w (λ s'. IsOrderly p s' r) mine v s k sound (view s k (λ s'. IsOrderly p s' r) orderly.0) (no_invoke k r orderly.1)) (λ to sound' goes other c'. retired_at_home w n to r sound' goes other c')

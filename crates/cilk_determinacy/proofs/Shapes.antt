@@ -12,7 +12,7 @@ use Rattle.cilk_types.specs.declared.invocation.Invocation.TheVariants.{Call, Sp
 use Rattle.cilk_runs.specs.Runs.{Reads, Writes, Syncs, Ends, Passes, Begins, Resumes, Creates, Updates, Sets, Values, Prints, Deed, Does, Run, stop, act, child}
 use Rattle.cilk_runs.specs.Serial.{SyncAhead, GoesOn, ComesAfter, IsClosed}
 use Rattle.cilk_runs.specs.Traces.{Due, begin_due, resume_due, neither_due, IsFramed}
-use Rattle.cilk_runs.specs.Worlds.{World, child_world}
+use Rattle.cilk_runs.specs.FrameEnvs.{FrameEnv, child_world}
 use Rattle.cilk_determinacy.specs.Nested.{named_from}
 
 -- ---- from the language's run
@@ -85,7 +85,7 @@ not_resume : {k : Ask} → k ≡ asks.Resume → is_resume k
 not_resume {k} e = subst is_resume (sym e) tt
 
 module _ (p : Source) where
-  pub framed : (d : Due) (w : World) (n : ℕ) (r : serial.Transcript) → IsProper r → Stage d r → IsFramed d (named_from p w n r)
+  pub framed : (d : Due) (w : FrameEnv) (n : ℕ) (r : serial.Transcript) → IsProper r → Stage d r → IsFramed d (named_from p w n r)
   framed d w n serial.stop h g = absurd h
   framed begin_due w n (serial.act asks.Begin v r) h g = framed neither_due w n r h (g.0.1, g.1.1)
   framed begin_due w n (serial.act (asks.Read x) v r) h g = absurd (not_begin g.0.0)
@@ -134,13 +134,13 @@ module _ (p : Source) where
   framed neither_due w n (serial.child how callee u r) h g = (framed begin_due (child_world p w n callee) 1 u h.0 (g.0.0, g.1.0), framed resume_due w (suc n) r h.1 (g.0.1, g.1.1))
 
 -- each spawned child is waited for
-abbrev pub IsSynced : Run World → Type 0
+abbrev pub IsSynced : Run FrameEnv → Type 0
 IsSynced stop = Unit {0}
 IsSynced (act e t) = IsSynced t
 IsSynced (child k w u t) = SyncAhead t × IsSynced u × IsSynced t
 
 module _ (p : Source) where
-  sync_ahead : (w : World) (n : ℕ) (r : serial.Transcript) → language.HasSync r → SyncAhead (named_from p w n r)
+  sync_ahead : (w : FrameEnv) (n : ℕ) (r : serial.Transcript) → language.HasSync r → SyncAhead (named_from p w n r)
   sync_ahead w n serial.stop h = absurd h
   sync_ahead w n (serial.act asks.Begin v r) h = sync_ahead w n r h
   sync_ahead w n (serial.act (asks.Read x) v r) h = sync_ahead w n r h
@@ -158,7 +158,7 @@ module _ (p : Source) where
   sync_ahead w n (serial.act (asks.Fault f) v r) h = sync_ahead w n r h
   sync_ahead w n (serial.child how callee u r) h = sync_ahead w (suc n) r h
 
-  pub synced : (w : World) (n : ℕ) (r : serial.Transcript) → language.IsClosed r → IsSynced (named_from p w n r)
+  pub synced : (w : FrameEnv) (n : ℕ) (r : serial.Transcript) → language.IsClosed r → IsSynced (named_from p w n r)
   synced w n serial.stop h = absurd h
   synced w n (serial.act asks.Begin v r) h = synced w n r h
   synced w n (serial.act (asks.Read x) v r) h = synced w n r h
@@ -187,7 +187,7 @@ comes_after : {W : Type 0} (k : Invocation) (t : Run W) → SyncAhead t → Come
 comes_after Call t h = goes_on t h
 comes_after Spawn t h = h
 
-pub closed : (d : Due) (t : Run World) → IsFramed d t → IsSynced t → IsClosed t
+pub closed : (d : Due) (t : Run FrameEnv) → IsFramed d t → IsSynced t → IsClosed t
 closed begin_due (act (Passes Begins) r) h g = closed neither_due r h g
 closed resume_due (act (Passes Resumes) r) h g = closed neither_due r h g
 closed neither_due (act (Reads c v) r) h g = closed neither_due r h g

@@ -18,7 +18,7 @@ use Rattle.cilk_program.specs.Numbering.{Counts, unbegun, block_of, child_at, fr
 use Rattle.cilk_program.specs.Visible.{GlobalsAreThere, FrameSees}
 use Rattle.cilk_runs.specs.Runs.{Name, Cell, Global}
 use Rattle.cilk_runs.specs.Reducers.{kind_of}
-use Rattle.cilk_runs.specs.Worlds.{Reducers, Sight, global_named, before_own, own_named, home_named, outer_named, given_named, result_named, World}
+use Rattle.cilk_runs.specs.FrameEnvs.{Reducers, Sight, global_named, before_own, own_named, home_named, outer_named, given_named, result_named, FrameEnv}
 use Rattle.cilk_determinacy.specs.Numbers.{up, child_runs, frame_runs, all_reducers, cell_number, instance_number, IsHere, HasCell, HasReducer, HasInstance}
 use Rattle.cilk_determinacy.proofs.Numbers.{cell_is, number_is}
 
@@ -172,7 +172,7 @@ module _ (p : Source) (r : Transcript) where
   -- ---- frames
 
   -- a frame by names is this frame of the serial run, and sees what is there
-  pub record Stands (w : World) (fr : Frame) : Type 0 where
+  pub record Stands (w : FrameEnv) (fr : Frame) : Type 0 where
     pub here : IsHere p r w.name
     pub number : here.block.number ≡ fr.number
     pub runs : frame_runs r here.path ≡ Some w.callee

@@ -13,24 +13,24 @@ use Rattle.cilk_program.specs.SerialRun.{Transcript, act, child, Memory, Frame, 
 use Rattle.cilk_program.specs.Numbering.{Counts, counts_of, counts_after, unbegun, entered}
 use Rattle.cilk_program.proofs.Asked.{asks_there}
 use Rattle.cilk_program.proofs.Visible.{can_invoke}
-use Rattle.cilk_runs.specs.Worlds.{World, first_world, child_world}
+use Rattle.cilk_runs.specs.FrameEnvs.{FrameEnv, first_world, child_world}
 use Rattle.cilk_determinacy.proofs.Sights.{Stands, Ahead}
 use Rattle.cilk_determinacy.proofs.Children.{root_ahead, child_ahead, past_ahead, root_stands, root_path, child_stands, child_path}
 
 module _ (p : Source) (inputs : List ℤ) (well : IsTrue (is_well_named p)) (r : Transcript) where
-  pub record Standing (w : World) (fr : Frame) (j : ℕ) (rest : Transcript) (n : Counts) : Type 0 where
+  pub record Standing (w : FrameEnv) (fr : Frame) (j : ℕ) (rest : Transcript) (n : Counts) : Type 0 where
     pub stands : Stands p r w fr
     pub ahead : let here = stands.here in Ahead p r here.path j rest n
 
   -- what a frame asks for is there
-  pub asked_there : (w : World) (fr : Frame) (history : List ℤ) (start left : ℕ) (a : Ask) → Stands p r w fr → frame_asks p inputs fr.callee history start ≡ asks_for a left → AskIsThere p w.callee a
+  pub asked_there : (w : FrameEnv) (fr : Frame) (history : List ℤ) (start left : ℕ) (a : Ask) → Stands p r w fr → frame_asks p inputs fr.callee history start ≡ asks_for a left → AskIsThere p w.callee a
   asked_there w fr history start left a h q =
       subst (λ (q : OpenAsk). AskIsThere p w.callee q.ask) (ap (λ callee. frame_asks p inputs callee history start) h.callee ∙ q) (asks_there p well w.callee h.sees.fit inputs history start)
 
-  pub standing_act : (w : World) (fr : Frame) (j : ℕ) (a : Ask) (v : ℤ) (rest : Transcript) (n : Counts) → Standing w fr j (act a v rest) n → Standing w fr j rest n
+  pub standing_act : (w : FrameEnv) (fr : Frame) (j : ℕ) (a : Ask) (v : ℤ) (rest : Transcript) (n : Counts) → Standing w fr j (act a v rest) n → Standing w fr j rest n
   standing_act w fr j a v rest n h = record { stands = h.stands; ahead = let ahead = h.ahead in record { blocks = ahead.blocks; runs = ahead.runs } }
 
-  pub standing_child : (w : World) (fr : Frame) (j : ℕ) (how : Invocation) (callee : Callee) (u rest : Transcript) (m : Memory) (history : List ℤ) (start left : ℕ) → Standing w fr j (child how callee u rest) (counts_of m)
+  pub standing_child : (w : FrameEnv) (fr : Frame) (j : ℕ) (how : Invocation) (callee : Callee) (u rest : Transcript) (m : Memory) (history : List ℤ) (start left : ℕ) → Standing w fr j (child how callee u rest) (counts_of m)
       → frame_asks p inputs fr.callee history start ≡ asks_for (asks.Invoke how callee) left
       → Standing (child_world p w (suc j) callee) (next_frame p fr.scope m callee) 0 u (entered p callee (counts_of m))
   standing_child w fr j how callee u rest m history start left h q =
@@ -43,7 +43,7 @@ module _ (p : Source) (inputs : List ℤ) (well : IsTrue (is_well_named p)) (r :
         ahead = subst (λ path. Ahead p r path 0 u (entered p callee (counts_of m))) (sym (child_path p r well w fr h.stands j how callee u rest m h.ahead there can)) (child_ahead p r here.path j how callee u rest (counts_of m) h.ahead);
       }
 
-  pub standing_past : (w : World) (fr : Frame) (j : ℕ) (how : Invocation) (callee : Callee) (u rest : Transcript) (n n' : Counts) → n' ≡ counts_after p u (entered p callee n) → Standing w fr j (child how callee u rest) n → Standing w fr (suc j) rest n'
+  pub standing_past : (w : FrameEnv) (fr : Frame) (j : ℕ) (how : Invocation) (callee : Callee) (u rest : Transcript) (n n' : Counts) → n' ≡ counts_after p u (entered p callee n) → Standing w fr j (child how callee u rest) n → Standing w fr (suc j) rest n'
   standing_past w fr j how callee u rest n n' e h =
       let stands = h.stands in
       let here = stands.here in

@@ -18,7 +18,7 @@ use Rattle.cilk_runs.specs.Traces.{trace}
 use Rattle.cilk_tree.specs.Marks.{mark_of, begun_by}
 use Rattle.cilk_tree.specs.Races.{strand_at}
 use Rattle.cilk_runs.specs.Traces.{Due, begin_due, resume_due, neither_due, IsFramed, IsWrittenEvent, IsWritten, AreWritten}
-use Rattle.cilk_runs.specs.Worlds.{World, first_world, child_world}
+use Rattle.cilk_runs.specs.FrameEnvs.{FrameEnv, first_world, child_world}
 use Rattle.cilk_determinacy.specs.Nested.{named, named_from, named_event}
 use Rattle.cilk_determinacy.specs.Numbers.{cell_number, instance_number}
 use Rattle.cilk_runs.specs.Machine.{begins_strand}
@@ -68,7 +68,7 @@ length_bit true x = refl
 length_bit false x = refl
 
 module _ (cell : Cell → ℕ) (instance : Instance → numbered.Instance) where
-  written_split : (xs ys : List (Deed World)) (es : List numbers.Event) → AreWritten cell instance (xs ++ ys) es
+  written_split : (xs ys : List (Deed FrameEnv)) (es : List numbers.Event) → AreWritten cell instance (xs ++ ys) es
       → (front : List numbers.Event) × (back : List numbers.Event) × (es ≡ front ++ back) × AreWritten cell instance xs front × AreWritten cell instance ys back
   written_split [] ys es w = ([], es, refl, tt, w)
   written_split (x ∷ xs) ys [] w = absurd w
@@ -87,25 +87,25 @@ module _ (cell : Cell → ℕ) (instance : Instance → numbered.Instance) where
   event_begins (Passes (Values i v)) e' w = ap (λ x. begun_by (mark_of x)) w
   event_begins (Passes (Prints v)) e' w = ap (λ x. begun_by (mark_of x)) w
 
-  start_begins : (i : Invocation) (w : World) (e' : numbers.Event) → IsWritten cell instance (Invokes i w) e' → begun_by (mark_of e') ≡ 0
+  start_begins : (i : Invocation) (w : FrameEnv) (e' : numbers.Event) → IsWritten cell instance (Invokes i w) e' → begun_by (mark_of e') ≡ 0
   start_begins Call w e' (f, q) = ap (λ x. begun_by (mark_of x)) q
   start_begins Spawn w e' (f, q) = ap (λ x. begun_by (mark_of x)) q
 
   -- a strand has begun with the first event
-  some_begun : (e : Event) (t : Run World) (es : List numbers.Event) (m : ℕ) → bit e ≡ 1 → AreWritten cell instance (trace (act e t)) es → m < length es → 1 ≤ strand_at es (suc m)
+  some_begun : (e : Event) (t : Run FrameEnv) (es : List numbers.Event) (m : ℕ) → bit e ≡ 1 → AreWritten cell instance (trace (act e t)) es → m < length es → 1 ≤ strand_at es (suc m)
   some_begun e t [] m one w h = absurd w
   some_begun e t (e' ∷ es) m one w h = let b = event_begins e e' w.0 in omega (arith, b, one)
 
-  begin_first : (t : Run World) (es : List numbers.Event) (m : ℕ) → IsFramed begin_due t → AreWritten cell instance (trace t) es → m < length es → 1 ≤ strand_at es (suc m)
+  begin_first : (t : Run FrameEnv) (es : List numbers.Event) (m : ℕ) → IsFramed begin_due t → AreWritten cell instance (trace t) es → m < length es → 1 ≤ strand_at es (suc m)
   begin_first (act (Passes Begins) t) es m framed w h = some_begun (Passes Begins) t es m refl w h
   begin_first _ es m framed w h = absurd framed
 
-  resume_first : (t : Run World) (es : List numbers.Event) (m : ℕ) → IsFramed resume_due t → AreWritten cell instance (trace t) es → m < length es → 1 ≤ strand_at es (suc m)
+  resume_first : (t : Run FrameEnv) (es : List numbers.Event) (m : ℕ) → IsFramed resume_due t → AreWritten cell instance (trace t) es → m < length es → 1 ≤ strand_at es (suc m)
   resume_first (act (Passes Resumes) t) es m framed w h = some_begun (Passes Resumes) t es m refl w h
   resume_first _ es m framed w h = absurd framed
 
   -- a frame goes on: what is due then
-  after_act : (d : Due) (e : Event) (t : Run World) → IsFramed d (act e t) → ((d' : Due) × IsFramed d' t) ⊎ (t ≡ stop)
+  after_act : (d : Due) (e : Event) (t : Run FrameEnv) → IsFramed d (act e t) → ((d' : Due) × IsFramed d' t) ⊎ (t ≡ stop)
   after_act begin_due (Passes Begins) t h = inl (neither_due, h)
   after_act resume_due (Passes Resumes) t h = inl (neither_due, h)
   after_act neither_due (Reads c v) t h = inl (neither_due, h)
@@ -120,12 +120,12 @@ module _ (cell : Cell → ℕ) (instance : Instance → numbered.Instance) where
   after_act _ _ t h = absurd h
 
   -- the children of a framed run, and what follows them
-  after_child : (d : Due) (i : Invocation) (w : World) (u t : Run World) → IsFramed d (child i w u t) → IsFramed begin_due u × IsFramed resume_due t
+  after_child : (d : Due) (i : Invocation) (w : FrameEnv) (u t : Run FrameEnv) → IsFramed d (child i w u t) → IsFramed begin_due u × IsFramed resume_due t
   after_child neither_due i w u t h = h
   after_child begin_due i w u t h = absurd h
   after_child resume_due i w u t h = absurd h
 
-  count_from_point : (n : Name) (k : ℕ) (t : Run World) (es : List numbers.Event) → AreWritten cell instance (trace t) es → strand_at es (length es) ≡ length (strands_from n k t)
+  count_from_point : (n : Name) (k : ℕ) (t : Run FrameEnv) (es : List numbers.Event) → AreWritten cell instance (trace t) es → strand_at es (length es) ≡ length (strands_from n k t)
   count_from_point n k stop [] w = refl
   count_from_point n k stop (e ∷ es) w = absurd w
   count_from_point n k (act e t) [] w = absurd w
@@ -145,7 +145,7 @@ module _ (cell : Cell → ℕ) (instance : Instance → numbered.Instance) where
       let whole : strand_at es (length es) ≡ strand_at front (length front) + strand_at back (length back) = ap (λ l. strand_at l (length l)) q ∙ ap (strand_at (front ++ back)) (length-append front back) ∙ strand_right front back (length back) in
       omega (arith, iu, it, b, both, whole)
 
-  many_events : (n : Name) (k : ℕ) (t : Run World) (es : List numbers.Event) → AreWritten cell instance (trace t) es → length (strand_of_each n k t) ≡ length es
+  many_events : (n : Name) (k : ℕ) (t : Run FrameEnv) (es : List numbers.Event) → AreWritten cell instance (trace t) es → length (strand_of_each n k t) ≡ length es
   many_events n k stop [] w = refl
   many_events n k stop (e ∷ es) w = absurd w
   many_events n k (act e t) [] w = absurd w
@@ -180,7 +180,7 @@ module _ (cell : Cell → ℕ) (instance : Instance → numbered.Instance) where
       ap (slice_get (strand n k ∷ names k)) e ∙ ih m refl
 
   -- the event at a place is of the strand that began last
-  named_at : (d : Due) (n : Name) (k : ℕ) (t : Run World) (es : List numbers.Event) → IsFramed d t ⊎ (t ≡ stop) → AreWritten cell instance (trace t) es → (m : ℕ) → m < length es
+  named_at : (d : Due) (n : Name) (k : ℕ) (t : Run FrameEnv) (es : List numbers.Event) → IsFramed d t ⊎ (t ≡ stop) → AreWritten cell instance (trace t) es → (m : ℕ) → m < length es
       → slice_get (strand n k ∷ strands_from n k t) (strand_at es (suc m)) ≡ slice_get (strand_of_each n k t) m
   named_at d n k stop [] framed w m h = absurd (omega arith)
   named_at d n k stop (e ∷ es) framed w m h = absurd w
@@ -271,7 +271,7 @@ act_within true n k j xs h = (inl (refl, omega arith), all_weaker n k (suc k) j 
 act_within false n k j xs h = h
 
 module _ (p : Source) where
-  all_within : (w : World) (j k : ℕ) (r : serial.Transcript) → AllWithin w.name k j (strands_from w.name k (named_from p w j r))
+  all_within : (w : FrameEnv) (j k : ℕ) (r : serial.Transcript) → AllWithin w.name k j (strands_from w.name k (named_from p w j r))
   all_within w j k serial.stop = tt
   all_within w j k (serial.act a v r) =
       let b = begins_strand (named_event p w a v) in
@@ -329,7 +329,7 @@ never_both n k j x h (inl (q, g)) = let (rest, e) = below_child n j x h in no_lo
 never_both n k j x h (inr (c, other, q, g)) = let (rest, e) = below_child n j x h in let same = same_head n j c rest other (sym e ∙ q) in omega (arith, same, g)
 
 module _ (p : Source) where
-  all_apart : (w : World) (j k : ℕ) (r : serial.Transcript) → Apart (strands_from w.name k (named_from p w j r))
+  all_apart : (w : FrameEnv) (j k : ℕ) (r : serial.Transcript) → Apart (strands_from w.name k (named_from p w j r))
   all_apart w j k serial.stop = tt
   all_apart w j k (serial.act a v r) =
       let b = begins_strand (named_event p w a v) in

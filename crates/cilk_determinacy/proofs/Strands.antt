@@ -30,7 +30,7 @@ use Rattle.cilk_runs.specs.Traces.{Due, begin_due, resume_due, neither_due, IsFr
 use Rattle.cilk_runs.proofs.Spells.{ahead}
 use Rattle.cilk_determinacy.specs.Nested.{named_from, named}
 use Rattle.cilk_determinacy.specs.Strands.{SpellOneShape}
-use Rattle.cilk_runs.specs.Worlds.{World, first_world, child_world}
+use Rattle.cilk_runs.specs.FrameEnvs.{FrameEnv, first_world, child_world}
 use Rattle.cilk_determinacy.proofs.Assembled.{is_framed}
 use Rattle.cilk_determinacy.proofs.Determinate.{ran}
 use Rattle.cilk_determinacy.proofs.Shapes.{IsProper, ProperAt, Stage, IsSynced, serial_proper, synced}
@@ -43,7 +43,7 @@ how_starts ways.Spawn n = refl
 
 module _ (p : Source) where
   -- what is to be shown of a frame's run from some point on
-  abbrev Spelled : Due → World → ℕ → Frame → Counts → serial.Transcript → Type 0
+  abbrev Spelled : Due → FrameEnv → ℕ → Frame → Counts → serial.Transcript → Type 0
   Spelled d w k fr n r = map mark_of (events_of p fr n r) ≡ ahead d ++ marks (shape_of (named_from p w k r))
 
   -- an event of a mark that begins no child, and the rest
@@ -54,7 +54,7 @@ module _ (p : Source) where
   result_next None v e = next_mark mark.Plain e
   result_next (Some c) v e = next_mark mark.Plain e
 
-  ended : (w : World) (k : ℕ) (fr : Frame) (n : Counts) (y v : ℤ) (r : serial.Transcript) → r ≡ serial.stop
+  ended : (w : FrameEnv) (k : ℕ) (fr : Frame) (n : Counts) (y v : ℤ) (r : serial.Transcript) → r ≡ serial.stop
       → Spelled neither_due w k fr n (serial.act (asks.End y) v r)
   ended w k fr n y v r e = ap (λ (r : serial.Transcript). mark.End ∷ map mark_of (events_of p fr n r)) e
 
@@ -65,7 +65,7 @@ module _ (p : Source) where
       ∙ next_mark (start_of how)
       (map-append mark_of u r ∙ (ap (λ l. l ++ map mark_of r) e ∙ ap (λ l. mark.Begin ∷ (a ++ l)) f))
 
-  spelled : (d : Due) (w : World) (k : ℕ) (fr : Frame) (n : Counts) (r : serial.Transcript) → IsProper r → Stage d r → Spelled d w k fr n r
+  spelled : (d : Due) (w : FrameEnv) (k : ℕ) (fr : Frame) (n : Counts) (r : serial.Transcript) → IsProper r → Stage d r → Spelled d w k fr n r
   spelled d w k fr n serial.stop h g = absurd h
   spelled begin_due w k fr n (serial.act a v r) h g =
       subst (λ (a : Ask). Spelled begin_due w k fr n (serial.act a v r)) (sym g.0.0)
@@ -97,7 +97,7 @@ module _ (p : Source) where
 
 -- ---- each frame syncs after it spawned
 
-has_sync : (d : Due) (t : Run World) → IsFramed d t → SyncAhead t → reach.HasSync (shape_of t)
+has_sync : (d : Due) (t : Run FrameEnv) → IsFramed d t → SyncAhead t → reach.HasSync (shape_of t)
 has_sync begin_due (act (Passes Begins) r) h g = has_sync neither_due r h g
 has_sync resume_due (act (Passes Resumes) r) h g = has_sync neither_due r h g
 has_sync neither_due (act (Reads c v) r) h g = has_sync neither_due r h g
@@ -116,7 +116,7 @@ sync_if : (k : Invocation) (s : Shape) → reach.HasSync s → reach.HasSyncIf k
 sync_if ways.Call s h = tt
 sync_if ways.Spawn s h = h
 
-synced_shape : (d : Due) (t : Run World) → IsFramed d t → IsSynced t → reach.IsSynced (shape_of t)
+synced_shape : (d : Due) (t : Run FrameEnv) → IsFramed d t → IsSynced t → reach.IsSynced (shape_of t)
 synced_shape begin_due (act (Passes Begins) r) h g = synced_shape neither_due r h g
 synced_shape resume_due (act (Passes Resumes) r) h g = synced_shape neither_due r h g
 synced_shape neither_due (act (Reads c v) r) h g = synced_shape neither_due r h g

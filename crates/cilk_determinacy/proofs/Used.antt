@@ -10,7 +10,7 @@ use Rattle.cilk_types.specs.declared.invocation.Invocation.TheVariants.{Call, Sp
 use Rattle.cilk_runs.specs.Runs.{Instance, Output, Reducer, Event, Reads, Writes, Syncs, Ends, Passes, Begins, Resumes, Creates, Updates, Sets, Values, Prints, Deed, Invokes, Run, stop, act, child}
 use Rattle.cilk_runs.specs.Views.{HasEventWith, IsReducerRead, IsUpdate, IsCreatedFirst, IsCreated as IsCreatedOrUnread}
 use Rattle.cilk_runs.specs.Traces.{trace, IsWrittenEvent, IsWritten, AreWritten}
-use Rattle.cilk_runs.specs.Worlds.{World}
+use Rattle.cilk_runs.specs.FrameEnvs.{FrameEnv}
 use Rattle.cilk_determinacy.specs.Numbers.{cell_number, instance_number, HasInstance}
 use Rattle.cilk_determinacy.proofs.Numbers.{declared_one}
 use Rattle.cilk_determinacy.proofs.Remembered.{EventHas, RunHas}
@@ -43,7 +43,7 @@ module _ (p : Source) (whole : serial.Transcript) (i : Instance) where
   abbrev N : Instance → numbered.Instance
   N = instance_number p whole
 
-  abbrev Written : List (Deed World) → List numbers.Event → Type 0
+  abbrev Written : List (Deed FrameEnv) → List numbers.Event → Type 0
   Written = AreWritten (cell_number p whole) N
 
   one_instance : (i j : Instance) → HasInstance p whole i → HasInstance p whole j → N j ≡ N i → j ≡ i
@@ -92,7 +92,7 @@ module _ (p : Source) (whole : serial.Transcript) (i : Instance) where
       is_output (Reducer name n k) = ⊥
 
   -- what a run adds
-  run_adds : (t : Run World) (es : List numbers.Event) (made : List numbered.Instance) → Written (trace t) es → RunHas p whole t → HasInstance p whole i → Among (N i) (created es made) → Among (N i) made ⊎ HasEventWith (IsReducerRead i) t
+  run_adds : (t : Run FrameEnv) (es : List numbers.Event) (made : List numbered.Instance) → Written (trace t) es → RunHas p whole t → HasInstance p whole i → Among (N i) (created es made) → Among (N i) made ⊎ HasEventWith (IsReducerRead i) t
   run_adds stop [] made w has here a = inl a
   run_adds stop (n ∷ es) made w has here a = absurd w
   run_adds (act e t) [] made w has here a = absurd w
@@ -106,7 +106,7 @@ module _ (p : Source) (whole : serial.Transcript) (i : Instance) where
       let a'' = subst (Among (N i)) (created_append split.0 split.1 made) (subst (λ es. Among (N i) (created es made)) split.2 a') in
       ⊎_elim (λ b. ⊎_elim (λ c. inl c) (λ c. inr (inl c)) (run_adds u split.0 made split.3 has.0 here b)) (λ b. inr (inr b)) (run_adds t split.1 (created split.0 made) split.4 has.1 here a'')
 
-  created_first : (name : _) (place : _) (kind : _) → i ≡ Reducer name place kind → (t : Run World) (es : List numbers.Event) (made : List numbered.Instance) (seen : Type 0) → Written (trace t) es → RunHas p whole t → (HasInstance p whole i → Among (N i) made → seen) → AreCreated made es
+  created_first : (name : _) (place : _) (kind : _) → i ≡ Reducer name place kind → (t : Run FrameEnv) (es : List numbers.Event) (made : List numbered.Instance) (seen : Type 0) → Written (trace t) es → RunHas p whole t → (HasInstance p whole i → Among (N i) made → seen) → AreCreated made es
       → IsCreatedFirst i t seen
   created_first name place kind is stop es made seen w has s h = tt
   created_first name place kind is (act e t) [] made seen w has s h = absurd w
@@ -138,13 +138,13 @@ module _ (p : Source) (whole : serial.Transcript) (i : Instance) where
   event_unread (Passes (Values j x)) has is h = subst (HasInstance p whole) (h ∙ is) has
   event_unread (Passes (Prints x)) has is h = h
 
-  output_unread : (t : Run World) → RunHas p whole t → i ≡ Output → ¬ (HasEventWith (IsReducerRead i) t)
+  output_unread : (t : Run FrameEnv) → RunHas p whole t → i ≡ Output → ¬ (HasEventWith (IsReducerRead i) t)
   output_unread stop has is h = h
   output_unread (act e t) has is (inl h) = event_unread e has.0 is h
   output_unread (act e t) has is (inr h) = output_unread t has.1 is h
   output_unread (child k w u t) has is (inl h) = output_unread u has.0 is h
   output_unread (child k w u t) has is (inr h) = output_unread t has.1 is h
 
-pub run_created : (p : Source) (whole : serial.Transcript) (i : Instance) (t : Run World) (es : List numbers.Event) → AreWritten (cell_number p whole) (instance_number p whole) (trace t) es → RunHas p whole t → AreCreated [] es → IsCreatedOrUnread i t
+pub run_created : (p : Source) (whole : serial.Transcript) (i : Instance) (t : Run FrameEnv) (es : List numbers.Event) → AreWritten (cell_number p whole) (instance_number p whole) (trace t) es → RunHas p whole t → AreCreated [] es → IsCreatedOrUnread i t
 run_created p whole Output t es w has h = inr (output_unread p whole Output t has refl)
 run_created p whole (Reducer name n k) t es w has h = inl (created_first p whole (Reducer name n k) name n k refl t es [] ⊥ w has (λ here a. a) h)

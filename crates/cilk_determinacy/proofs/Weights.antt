@@ -8,8 +8,8 @@ use Rattle.cilk_program.specs.Numbering.{Counts, counts_after, entered}
 use Rattle.cilk_runs.specs.Runs.{Event, Reads, Writes, Syncs, Ends, Passes, Deed, Does, Invokes, Run, stop, act, child, ask_of}
 use Rattle.cilk_runs.specs.Costs.{EventTotal, FrameTotal, CellTotal, frame_cost, cells_of as cells_begun, weight}
 use Rattle.cilk_runs.specs.Traces.{trace, AreWritten}
-use Rattle.cilk_runs.specs.Worlds.{World, child_world}
-use Rattle.cilk_runs.specs.WorldMachine.{costs}
+use Rattle.cilk_runs.specs.FrameEnvs.{FrameEnv, child_world}
+use Rattle.cilk_runs.specs.FrameEnvMachine.{costs}
 use Rattle.cilk_determinacy.specs.Nested.{named_event, named_from}
 
 no_frames : (W : Type 0) (e : Event) → frame_cost {W = W} (ask_of e) ≡ 0
@@ -33,7 +33,7 @@ written_length cell instance (d ∷ ds) [] h = absurd h
 written_length cell instance (d ∷ ds) (e ∷ es) h = ap suc (written_length cell instance ds es h.1)
 
 module _ (p : Source) (inputs : List ℤ) where
-  pub events_weigh : (w : World) (past : List (Deed World)) (t : Run World) → weight (costs p inputs) EventTotal w past t ≡ length (trace t)
+  pub events_weigh : (w : FrameEnv) (past : List (Deed FrameEnv)) (t : Run FrameEnv) → weight (costs p inputs) EventTotal w past t ≡ length (trace t)
   events_weigh w past stop = refl
   events_weigh w past (act e t) = let h = events_weigh w (past ++ Does e ∷ []) t in omega (arith, h)
   events_weigh w past (child k v u t) =
@@ -42,10 +42,10 @@ module _ (p : Source) (inputs : List ℤ) where
       let both = length-append (trace u) (trace t) in
       omega (arith, h, g, both)
 
-  pub frames_weigh : (w : World) (past : List (Deed World)) (n : ℕ) (r : serial.Transcript) (c : Counts) → c.frames + weight (costs p inputs) FrameTotal w past (named_from p w n r) ≡ (counts_after p r c).frames
+  pub frames_weigh : (w : FrameEnv) (past : List (Deed FrameEnv)) (n : ℕ) (r : serial.Transcript) (c : Counts) → c.frames + weight (costs p inputs) FrameTotal w past (named_from p w n r) ≡ (counts_after p r c).frames
   frames_weigh w past n serial.stop c = omega arith
   frames_weigh w past n (serial.act a v r) c =
-      let none = no_frames World (named_event p w a v) in
+      let none = no_frames FrameEnv (named_event p w a v) in
       let h = frames_weigh w (past ++ Does (named_event p w a v) ∷ []) n r c in
       omega (arith, none, h)
   frames_weigh w past n (serial.child how callee u r) c =
@@ -54,10 +54,10 @@ module _ (p : Source) (inputs : List ℤ) where
       let g = frames_weigh w (past ++ Invokes how v ∷ []) (suc n) r (counts_after p u (entered p callee c)) in
       omega (arith, h, g)
 
-  pub cells_weigh : (w : World) (past : List (Deed World)) (n : ℕ) (r : serial.Transcript) (c : Counts) → c.cells + weight (costs p inputs) CellTotal w past (named_from p w n r) ≡ (counts_after p r c).cells
+  pub cells_weigh : (w : FrameEnv) (past : List (Deed FrameEnv)) (n : ℕ) (r : serial.Transcript) (c : Counts) → c.cells + weight (costs p inputs) CellTotal w past (named_from p w n r) ≡ (counts_after p r c).cells
   cells_weigh w past n serial.stop c = omega arith
   cells_weigh w past n (serial.act a v r) c =
-      let none = no_cells (λ (w : World). cells_of p w.callee) (named_event p w a v) in
+      let none = no_cells (λ (w : FrameEnv). cells_of p w.callee) (named_event p w a v) in
       let h = cells_weigh w (past ++ Does (named_event p w a v) ∷ []) n r c in
       omega (arith, none, h)
   cells_weigh w past n (serial.child how callee u r) c =

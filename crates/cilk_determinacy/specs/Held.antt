@@ -8,11 +8,11 @@ use Rattle.cilk_runs.specs.Machine.{State}
 use Rattle.cilk_runs.specs.Held.{HoldsViews}
 use Rattle.cilk_runs.specs.Reducers.{View, kind_of}
 use Rattle.cilk_runs.specs.Steps.{Reaches}
-use Rattle.cilk_runs.specs.Worlds.{World}
+use Rattle.cilk_runs.specs.FrameEnvs.{FrameEnv}
 use Rattle.cilk_determinacy.specs.Words.{HasWords, InputsAreWords}
 
 -- the length of a list, where it is read, is a word
-abbrev pub LengthIsWord : Deed World → Type 0
+abbrev pub LengthIsWord : Deed FrameEnv → Type 0
 LengthIsWord (Does (Reads c v)) = Unit {0}
 LengthIsWord (Does (Writes c v)) = Unit {0}
 LengthIsWord (Does Syncs) = Unit {0}
@@ -26,10 +26,10 @@ LengthIsWord (Does (Passes (Values i v))) = kind_of i ≡ Append → IsWord v
 LengthIsWord (Does (Passes (Prints v))) = Unit {0}
 LengthIsWord (Invokes k w) = Unit {0}
 
-abbrev pub LengthsAreWords : List (Deed World) → Type 0
+abbrev pub LengthsAreWords : List (Deed FrameEnv) → Type 0
 LengthsAreWords [] = Unit {0}
 LengthsAreWords (d ∷ ds) = LengthIsWord d × LengthsAreWords ds
 
 -- whatever steps are made, each view in the piece of each frame is a view of the language
 abbrev pub ViewsAreHeld : Source → List ℤ → Type 0
-ViewsAreHeld p inputs = HasWords p → InputsAreWords inputs → (ns : List Name) (s : State World View) → Reaches p inputs ns s → HoldsViews s
+ViewsAreHeld p inputs = HasWords p → InputsAreWords inputs → (ns : List Name) (s : State FrameEnv View) → Reaches p inputs ns s → HoldsViews s

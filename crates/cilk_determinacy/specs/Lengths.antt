@@ -8,16 +8,16 @@ use Rattle.cilk_runs.specs.Runs.{Name, Instance}
 use Rattle.cilk_runs.specs.Machine.{Frame, State}
 use Rattle.cilk_runs.specs.Reducers.{View, kind_of, value_of}
 use Rattle.cilk_runs.specs.Steps.{Reaches}
-use Rattle.cilk_runs.specs.Worlds.{World}
+use Rattle.cilk_runs.specs.FrameEnvs.{FrameEnv}
 use Rattle.cilk_determinacy.specs.Held.{LengthsAreWords}
 use Rattle.cilk_determinacy.specs.Words.{HasWords, InputsAreWords}
 
 -- the events made are within their limit, each view in a piece has at most as many elements, and each length of a list that a frame has read is a word
-pub record HasShortLists (s : State World View) : Type 0 where
+pub record HasShortLists (s : State FrameEnv View) : Type 0 where
   pub events : s.totals EventTotal ≤ MAX_EVENTS
-  pub sizes : (n : Name) (f : Frame World) (i : Instance) → s.frames n ≡ Some f → size_of (value_of (kind_of i) (s.piece n i)) ≤ s.totals EventTotal
-  pub lengths : (n : Name) (f : Frame World) → s.frames n ≡ Some f → LengthsAreWords f.deeds
+  pub sizes : (n : Name) (f : Frame FrameEnv) (i : Instance) → s.frames n ≡ Some f → size_of (value_of (kind_of i) (s.piece n i)) ≤ s.totals EventTotal
+  pub lengths : (n : Name) (f : Frame FrameEnv) → s.frames n ≡ Some f → LengthsAreWords f.deeds
 
 -- so it is whatever steps are made
 abbrev pub ListsAreShort : Source → List ℤ → Type 0
-ListsAreShort p inputs = HasWords p → InputsAreWords inputs → (ns : List Name) (s : State World View) → Reaches p inputs ns s → HasShortLists s
+ListsAreShort p inputs = HasWords p → InputsAreWords inputs → (ns : List Name) (s : State FrameEnv View) → Reaches p inputs ns s → HasShortLists s

@@ -5,11 +5,11 @@ use Rattle.cilk_program.specs.declared.ask.Ask.TheVariants as asks
 use Rattle.cilk_program.specs.Syntax.{Source}
 use Rattle.cilk_program.specs.SerialRun as serial
 use Rattle.cilk_runs.specs.Runs.{Event, Reads, Writes, Syncs, Ends, Passes, Begins, Resumes, Creates, Updates, Sets, Values, Prints, Run, stop, act, child}
-use Rattle.cilk_runs.specs.Worlds.{World, first_world, child_world, cell_seen, reducer_seen, result_cell}
-use Rattle.cilk_runs.specs.WorldMachine.{retired_by}
+use Rattle.cilk_runs.specs.FrameEnvs.{FrameEnv, first_world, child_world, cell_seen, reducer_seen, result_cell}
+use Rattle.cilk_runs.specs.FrameEnvMachine.{retired_by}
 
 -- the event of an ask that was answered so; a frame of a run doesn't ask for a child or a fault so
-abbrev pub named_event : Source → World → language.Ask → ℤ → Event
+abbrev pub named_event : Source → FrameEnv → language.Ask → ℤ → Event
 named_event p w asks.Begin a = Passes Begins
 named_event p w (asks.Read x) a = Reads (cell_seen w x) a
 named_event p w (asks.Write x v) a = Writes (cell_seen w x) v
@@ -26,12 +26,12 @@ named_event p w (asks.End v) a = Ends v (retired_by p w)
 named_event p w (asks.Fault f) a = Passes Begins
 
 -- a frame's run from a point on, where its next child has this ordinal
-abbrev pub named_from : Source → World → ℕ → serial.Transcript → Run World
+abbrev pub named_from : Source → FrameEnv → ℕ → serial.Transcript → Run FrameEnv
 named_from p w k serial.stop = stop
 named_from p w k (serial.act a v r) = act (named_event p w a v) (named_from p w k r)
 named_from p w k (serial.child how callee u r) =
     child how (child_world p w k callee) (named_from p (child_world p w k callee) 1 u) (named_from p w (suc k) r)
 
 -- the run of the first frame
-abbrev pub named : Source → serial.Transcript → Run World
+abbrev pub named : Source → serial.Transcript → Run FrameEnv
 named p r = named_from p (first_world p) 1 r

@@ -15,7 +15,7 @@ use Rattle.cilk_types.specs.declared.invocation.Invocation.{Invocation}
 use Rattle.cilk_types.specs.declared.invocation.Invocation.TheVariants.{Call, Spawn}
 use Rattle.cilk_runs.specs.Runs.{Name, Cell, Global, Own, Instance, Output, Reducer, Event, Reads, Writes, Syncs, Ends, Passes, Granted, Begins, Resumes, Creates, Updates, Sets, Values, Prints, Run, stop, act, child}
 use Rattle.cilk_determinacy.specs.Nested.{named}
-use Rattle.cilk_runs.specs.Worlds.{World}
+use Rattle.cilk_runs.specs.FrameEnvs.{FrameEnv}
 
 -- names count children from 1, paths from 0
 abbrev pub up : List ℕ → Name
@@ -122,7 +122,7 @@ module _ (p : Source) (r : serial.Transcript) where
   numbered_event name (Passes m) = numbered_mark name m
 
   -- the events of a run by names, of the frame with this name and those that it starts, in serial order
-  abbrev pub numbered_events : Name → Run World → List numbers.Event
+  abbrev pub numbered_events : Name → Run FrameEnv → List numbers.Event
   numbered_events name stop = []
   numbered_events name (act e t) = numbered_event name e ∷ numbered_events name t
   numbered_events name (child k w u t) = start_event k (frame_number w.name) ∷ (numbered_events w.name u ++ numbered_events name t)
@@ -145,7 +145,7 @@ module _ (p : Source) (r : serial.Transcript) where
   EventIsHere (Passes m) = MarkIsHere m
 
   -- the frames that a run by names starts, and the cells and reducers that its events name, are the run's
-  abbrev pub AreHere : Run World → Type 0
+  abbrev pub AreHere : Run FrameEnv → Type 0
   AreHere stop = Unit {0}
   AreHere (act e t) = EventIsHere e × AreHere t
   AreHere (child k w u t) = IsHere w.name × AreHere u × AreHere t

@@ -7,12 +7,12 @@ use Rattle.cilk_program.specs.Syntax.{Source}
 use Rattle.cilk_runs.specs.Machine.{State}
 use Rattle.cilk_runs.specs.Stretches.{AreStretches, PiecesAreViews}
 use Rattle.cilk_runs.specs.Reducers.{View, monoid_of}
-use Rattle.cilk_runs.specs.Worlds.{World}
+use Rattle.cilk_runs.specs.FrameEnvs.{FrameEnv}
 use Rattle.cilk_determinacy.specs.Nested.{named}
 use Rattle.cilk_determinacy.specs.Theorem.{RunsFree, IsCut}
 
 -- in each consistent cut of a serial run without races each piece covers one stretch of the run, and has the views of that stretch
 abbrev pub PiecesCover : Source → List ℤ → Type 0
 PiecesCover p inputs =
-    (r : serial.Transcript) (es : List Event) (outcome : Outcome) → RunsFree p inputs r es outcome → (s : State World View) → IsCut p inputs r s
+    (r : serial.Transcript) (es : List Event) (outcome : Outcome) → RunsFree p inputs r es outcome → (s : State FrameEnv View) → IsCut p inputs r s
     → AreStretches (named p r) s × PiecesAreViews monoid_of (named p r) s

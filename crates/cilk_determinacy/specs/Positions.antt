@@ -12,11 +12,11 @@ use Rattle.cilk_runs.specs.Positions.{made_at, IsClosedBefore}
 use Rattle.cilk_tree.specs.Shape.{Shape, Spells}
 use Rattle.cilk_tree.specs.Tree.{tree}
 use Rattle.cilk_runs.specs.Reducers.{View}
-use Rattle.cilk_runs.specs.Worlds.{World}
+use Rattle.cilk_runs.specs.FrameEnvs.{FrameEnv}
 use Rattle.cilk_determinacy.specs.Nested.{named}
 use Rattle.cilk_determinacy.specs.Theorem.{IsCut}
 
-module _ (p : Source) (r : serial.Transcript) (s : State World View) where
+module _ (p : Source) (r : serial.Transcript) (s : State FrameEnv View) where
   -- for each event of the serial run, in order: whether the state has made it
   abbrev pub made : List Bool
   made = made_at (named p r) 1 (deeds_at (s.frames [])) (below s.frames)
@@ -25,4 +25,4 @@ module _ (p : Source) (r : serial.Transcript) (s : State World View) where
 abbrev pub CutsAreClosed : Source → List ℤ → Type 0
 CutsAreClosed p inputs =
     (r : serial.Transcript) (es : List Event) (outcome : Outcome) → IsTrue (is_well_named p) → serial.IsSerialRun p inputs r es (Leaves outcome)
-    → (shape : Shape) → Spells shape es → (s : State World View) → IsCut p inputs r s → IsClosedBefore es (tree shape) (made p r s)
+    → (shape : Shape) → Spells shape es → (s : State FrameEnv View) → IsCut p inputs r s → IsClosedBefore es (tree shape) (made p r s)

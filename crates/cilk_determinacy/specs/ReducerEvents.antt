@@ -20,7 +20,7 @@ use Rattle.cilk_tree.specs.Races.{event_at}
 use Rattle.cilk_determinacy.specs.Nested.{named}
 use Rattle.cilk_determinacy.specs.Numbers.{instance_number, HasInstance}
 use Rattle.cilk_runs.specs.Reducers.{kind_of}
-use Rattle.cilk_runs.specs.Worlds.{World}
+use Rattle.cilk_runs.specs.FrameEnvs.{FrameEnv}
 
 -- an event of a reducer with this monoid
 pub record OfKind : Type 0 where
@@ -62,7 +62,7 @@ module _ (p : Source) (r : serial.Transcript) where
   of_event (Passes m) = of_mark m
 
   -- the events of reducers among what is done, in order
-  abbrev pub reducer_events : List (Deed World) → List OfKind
+  abbrev pub reducer_events : List (Deed FrameEnv) → List OfKind
   reducer_events [] = []
   reducer_events (Does e ∷ ds) = of_event e ++ reducer_events ds
   reducer_events (Invokes k w ∷ ds) = reducer_events ds

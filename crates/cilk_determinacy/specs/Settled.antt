@@ -13,7 +13,7 @@ use Rattle.cilk_peers.specs.ViewRaces.{IsViewRace}
 use Rattle.cilk_runs.specs.Runs.{Name}
 use Rattle.cilk_runs.specs.Machine.{State}
 use Rattle.cilk_runs.specs.Reducers.{View}
-use Rattle.cilk_runs.specs.Worlds.{World}
+use Rattle.cilk_runs.specs.FrameEnvs.{FrameEnv}
 use Rattle.cilk_peers.specs.RaceFree.{IsRaceFree}
 use Rattle.cilk_determinacy.specs.Theorem.{IsAsSerial}
 use Rattle.cilk_runs.specs.Steps.{Reaches}
@@ -34,7 +34,7 @@ IsJudged false es = IsRacy es
 module _ (p : Source) (inputs : List ℤ) where
   -- whatever steps are made, in whatever order, the state is as this serial run, which leaves this outcome
   abbrev pub AlwaysAsSerial : Transcript → Outcome → Type 0
-  AlwaysAsSerial r outcome = (ns : List Name) (s : State World View) → Reaches p inputs ns s → IsAsSerial p inputs r outcome s
+  AlwaysAsSerial r outcome = (ns : List Name) (s : State FrameEnv View) → Reaches p inputs ns s → IsAsSerial p inputs r outcome s
 
   -- a serial run that ends without a fault, and has no race, settles every parallel one
   abbrev pub SerialRunsSettle : Type 0

@@ -10,7 +10,7 @@ use Rattle.cilk_runs.specs.Machine.{begins_strand}
 use Rattle.cilk_runs.specs.Runs.{Name, Run, stop, act, child}
 use Rattle.cilk_tree.specs.Before.{IsPosition}
 use Rattle.cilk_tree.specs.Races.{strand_at}
-use Rattle.cilk_runs.specs.Worlds.{World}
+use Rattle.cilk_runs.specs.FrameEnvs.{FrameEnv}
 use Rattle.cilk_determinacy.specs.Nested.{named}
 
 -- a strand by its frame's name, and its place among the frame's strands, from 1
@@ -22,14 +22,14 @@ abbrev pub strand : Name → ℕ → StrandName
 strand n k = record { frame = n; place = k }
 
 -- the strands that begin from a point of frame n on, where k of its own have begun, in serial order
-abbrev pub strands_from : Name → ℕ → Run World → List StrandName
+abbrev pub strands_from : Name → ℕ → Run FrameEnv → List StrandName
 strands_from n k stop = []
 strands_from n k (act e t) =
     cond (begins_strand e) (strand n (suc k) ∷ []) [] ++ strands_from n (cond (begins_strand e) (suc k) k) t
 strands_from n k (child i w u t) = strands_from w.name 0 u ++ strands_from n k t
 
 -- for each event from that point on, in serial order: its strand
-abbrev pub strand_of_each : Name → ℕ → Run World → List StrandName
+abbrev pub strand_of_each : Name → ℕ → Run FrameEnv → List StrandName
 strand_of_each n k stop = []
 strand_of_each n k (act e t) = strand n (cond (begins_strand e) (suc k) k) ∷ strand_of_each n (cond (begins_strand e) (suc k) k) t
 strand_of_each n k (child i w u t) = strand n k ∷ (strand_of_each w.name 0 u ++ strand_of_each n k t)

@@ -23,8 +23,8 @@ use Rattle.cilk_runs.specs.Cuts.{IsConsistent}
 use Rattle.cilk_runs.specs.Theorem.{IsNestedSerialRun, Agrees}
 use Rattle.cilk_runs.specs.Traces.{trace, begin_due, IsFramed, shape_of, AreWritten}
 use Rattle.cilk_runs.specs.Reducers.{View, monoid_of}
-use Rattle.cilk_runs.specs.Worlds.{World, first_world}
-use Rattle.cilk_runs.specs.WorldMachine.{used, costs, opening_values}
+use Rattle.cilk_runs.specs.FrameEnvs.{FrameEnv, first_world}
+use Rattle.cilk_runs.specs.FrameEnvMachine.{used, costs, opening_values}
 use Rattle.cilk_runs.specs.Steps.{Next, IsFirst, OneStep, Reaches, outcome_in}
 use Rattle.cilk_determinacy.specs.Nested.{named}
 use Rattle.cilk_determinacy.specs.Numbers.{cell_number, instance_number}
@@ -41,10 +41,10 @@ SetWords (e ∷ es) = SetsWord e × SetWords es
 module _ (p : Source) (inputs : List ℤ) where
   -- the serial run, by names, is one in the sense of the theorem on free machines
   abbrev pub IsSerial : serial.Transcript → Type 0
-  IsSerial r = IsNestedSerialRun World View monoid_of (Next p inputs) (costs p inputs) (first_world p) (named p r) (opening_values p inputs)
+  IsSerial r = IsNestedSerialRun FrameEnv View monoid_of (Next p inputs) (costs p inputs) (first_world p) (named p r) (opening_values p inputs)
 
   -- the state is a consistent cut of the serial run by names
-  abbrev pub IsCut : serial.Transcript → State World View → Type 0
+  abbrev pub IsCut : serial.Transcript → State FrameEnv View → Type 0
   IsCut r s = IsConsistent monoid_of (costs p inputs) (first_world p) (named p r) (opening_values p inputs) s
 
   -- what the serial run uses as a whole, as the free machine counts it
@@ -55,8 +55,8 @@ module _ (p : Source) (inputs : List ℤ) where
   -- its serial events with the same values; each child is at most once in the joins; no total is more than the serial run's. Once the first frame has
   -- ended, result, globals, output and reducers are the serial elision's, each spawned child is in the joins exactly once, and the totals are
   -- the serial run's; until then fewer events are made.
-  pub record IsAsSerial (r : serial.Transcript) (outcome : Outcome) (s : State World View) : Type 0 where
-    pub agrees : Agrees World View monoid_of (Next p inputs) (costs p inputs) (first_world p) (named p r) (opening_values p inputs) s
+  pub record IsAsSerial (r : serial.Transcript) (outcome : Outcome) (s : State FrameEnv View) : Type 0 where
+    pub agrees : Agrees FrameEnv View monoid_of (Next p inputs) (costs p inputs) (first_world p) (named p r) (opening_values p inputs) s
     pub not_stopped : s.stopped ≡ None
     pub outcome_is : HasEnd (deeds_at (s.frames [])) → outcome_in p s ≡ outcome
     pub elided : HasEnd (deeds_at (s.frames [])) → IsElision p inputs (Leaves (outcome_in p s))
@@ -104,14 +104,14 @@ module _ (p : Source) (inputs : List ℤ) where
       → serial.Serial p inputs (serial.root_frame p inputs) MAX_TICKS [] (serial.begun p callees.Root (serial.before_root p inputs MAX_EVENTS)) r es (serial.Finished value left m) → SetWords es → IsCounted r es left m
 
   abbrev pub OpensAsCut : Type 0
-  OpensAsCut = (r : serial.Transcript) (s : State World View) → IsFirst p inputs s → IsCut r s
+  OpensAsCut = (r : serial.Transcript) (s : State FrameEnv View) → IsFirst p inputs s → IsCut r s
 
   abbrev pub StepsKeepCuts : Type 0
-  StepsKeepCuts = (r : serial.Transcript) (es : List Event) (outcome : Outcome) → RunsFree r es outcome → (s s' : State World View) (n : Name) → IsCut r s → OneStep p inputs s n s' → IsCut r s'
+  StepsKeepCuts = (r : serial.Transcript) (es : List Event) (outcome : Outcome) → RunsFree r es outcome → (s s' : State FrameEnv View) (n : Name) → IsCut r s → OneStep p inputs s n s' → IsCut r s'
 
   -- each consistent cut of a serial run that ended and has no race is as that run, however it came about
   abbrev pub CutsAreAsSerial : Type 0
-  CutsAreAsSerial = (r : serial.Transcript) (es : List Event) (outcome : Outcome) → RunsFree r es outcome → (s : State World View) → IsCut r s → IsAsSerial r outcome s
+  CutsAreAsSerial = (r : serial.Transcript) (es : List Event) (outcome : Outcome) → RunsFree r es outcome → (s : State FrameEnv View) → IsCut r s → IsAsSerial r outcome s
 
   abbrev pub IsDeterminateProgram : Type 0
-  IsDeterminateProgram = (r : serial.Transcript) (es : List Event) (outcome : Outcome) → RunsFree r es outcome → (ns : List Name) (s : State World View) → Reaches p inputs ns s → IsAsSerial r outcome s
+  IsDeterminateProgram = (r : serial.Transcript) (es : List Event) (outcome : Outcome) → RunsFree r es outcome → (ns : List Name) (s : State FrameEnv View) → Reaches p inputs ns s → IsAsSerial r outcome s

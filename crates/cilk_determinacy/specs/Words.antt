@@ -10,7 +10,7 @@ use Rattle.cilk_program.specs.SerialRun.{Transcript, IsSerialRun}
 use Rattle.cilk_runs.specs.Runs.{Name}
 use Rattle.cilk_runs.specs.Machine.{State}
 use Rattle.cilk_runs.specs.Reducers.{View}
-use Rattle.cilk_runs.specs.Worlds.{World}
+use Rattle.cilk_runs.specs.FrameEnvs.{FrameEnv}
 use Rattle.cilk_peers.specs.RaceFree.{IsRaceFree}
 use Rattle.cilk_determinacy.specs.Theorem.{SetWords, IsAsSerial}
 use Rattle.cilk_runs.specs.Steps.{Reaches}
@@ -105,4 +105,4 @@ SetsWords p inputs = HasWords p → InputsAreWords inputs → (r : Transcript) (
 abbrev pub IsDeterminateInWords : Source → List ℤ → Type 0
 IsDeterminateInWords p inputs =
     IsTrue (is_well_named p) → HasWords p → InputsAreWords inputs → (r : Transcript) (es : List Event) (outcome : Outcome) → IsSerialRun p inputs r es (Leaves outcome) → IsRaceFree es
-    → (ns : List Name) (s : State World View) → Reaches p inputs ns s → IsAsSerial p inputs r outcome s
+    → (ns : List Name) (s : State FrameEnv View) → Reaches p inputs ns s → IsAsSerial p inputs r outcome s

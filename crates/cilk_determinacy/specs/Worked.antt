@@ -10,7 +10,7 @@ use Rattle.cilk_program.specs.WorkedReducers.{changed, lent, again}
 use Rattle.cilk_runs.specs.Runs.{Name}
 use Rattle.cilk_runs.specs.Machine.{State, deeds_at, HasEnd}
 use Rattle.cilk_runs.specs.Reducers.{View}
-use Rattle.cilk_runs.specs.Worlds.{World}
+use Rattle.cilk_runs.specs.FrameEnvs.{FrameEnv}
 use Rattle.cilk_determinacy.specs.Theorem.{RunsFree}
 use Rattle.cilk_runs.specs.Steps.{Reaches, outcome_in}
 
@@ -21,7 +21,7 @@ IsFree p inputs outcome = (r : Transcript) × (es : List Event) × RunsFree p in
 -- whatever steps are made, nothing stops the run, and once the first frame has ended it has left this
 abbrev pub AlwaysLeaves : Source → List ℤ → Outcome → Type 0
 AlwaysLeaves p inputs outcome =
-    (ns : List Name) (s : State World View) → Reaches p inputs ns s → (s.stopped ≡ None) × (HasEnd (deeds_at (s.frames [])) → outcome_in p s ≡ outcome)
+    (ns : List Name) (s : State FrameEnv View) → Reaches p inputs ns s → (s.stopped ≡ None) × (HasEnd (deeds_at (s.frames [])) → outcome_in p s ≡ outcome)
 
 -- two spawned children read a global, and each gives its result
 abbrev pub got : Outcome

@@ -1,13 +1,13 @@
 //! A program with its input, and the map of its text.
 
 use crate::fault::CaseFault;
-use cilk_syntax::lexer::lex;
+use crate::items::map_of;
+use crate::map::TextMap;
 use cilk_names::resolve::resolve;
 use cilk_parser::input::parse_input;
 use cilk_parser::parse::parse;
-use crate::items::map_of;
-use crate::map::TextMap;
 use cilk_program::program::Program;
+use cilk_syntax::lexer::lex;
 use cilk_types::input::Input;
 use std::alloc::Global;
 

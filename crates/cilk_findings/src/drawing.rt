@@ -1,10 +1,10 @@
 //! A run as a picture: how much of it could run at each step, and its tree.
 
 use crate::case::Case;
-use crate::fault::CaseFault;
-use crate::runs::Run;
 use crate::dot::dot;
+use crate::fault::CaseFault;
 use crate::profile::profile;
+use crate::runs::Run;
 use cilk_tree::building::tree_of;
 use cilk_types::trace::Trace;
 use std::alloc::{AllocError, Global};

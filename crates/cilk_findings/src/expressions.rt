@@ -2,8 +2,8 @@
 
 use crate::map::CallSpot;
 use crate::walker::Walker;
-use cilk_syntax::tree::{Assignment, BinaryOperator, Call, Expr, Lvalue};
 use cilk_syntax::token::Kind;
+use cilk_syntax::tree::{Assignment, BinaryOperator, Call, Expr, Lvalue};
 use cilk_types::invocation::Invocation;
 use std::alloc::AllocError;
 

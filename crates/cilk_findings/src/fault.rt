@@ -1,8 +1,8 @@
 //! Why nothing is told of a run.
 
-use cilk_syntax::lexer::LexFault;
 use cilk_names::fault::NameFault;
 use cilk_parser::fault::TextFault;
+use cilk_syntax::lexer::LexFault;
 use std::alloc::AllocError;
 
 /// Why nothing is told of a run.

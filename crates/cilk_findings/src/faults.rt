@@ -2,14 +2,14 @@
 
 use crate::case::Case;
 use crate::fault::CaseFault;
+use crate::map::GlobalName;
 use crate::naming::word;
 use crate::notes::{plural, push_line, push_place};
 use crate::paths::{chain, push_path};
 use crate::repeats::of_repeated;
+use crate::replay::{Replay, StepNote, StopNote};
 use crate::runs::Run;
 use cilk_messages::reasons::reason_of;
-use crate::map::GlobalName;
-use crate::replay::{Replay, StepNote, StopNote};
 use cilk_program::program::Body;
 use cilk_types::event::Event;
 use cilk_types::fault::Fault;

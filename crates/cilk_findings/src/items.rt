@@ -2,8 +2,8 @@
 
 use crate::map::{BodyMap, GlobalName, TextMap};
 use crate::walker::{Heading, Walker, word_of};
-use cilk_syntax::tree::{GlobalVariable, Item, Name, Parameter, Stmt, Tree};
 use cilk_syntax::token::Token;
+use cilk_syntax::tree::{GlobalVariable, Item, Name, Parameter, Stmt, Tree};
 use std::alloc::{AllocError, Global};
 use std::mem;
 

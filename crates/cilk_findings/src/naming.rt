@@ -1,9 +1,9 @@
 //! What a text calls the cells and reducers of a run.
 
 use crate::case::Case;
-use crate::runs::Run;
 use crate::map::{BodyMap, GlobalName};
 use crate::replay::FrameNote;
+use crate::runs::Run;
 use cilk_program::program::Body;
 use cilk_syntax::tree::Name;
 use cilk_types::event::{Event, Instance};

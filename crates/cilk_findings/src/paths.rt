@@ -1,11 +1,11 @@
 //! The way from a frame up to the one with which the run began.
 
 use crate::case::Case;
+use crate::map::BodyMap;
 use crate::naming::{body_name, word};
 use crate::notes::{place_of, plural};
-use crate::runs::Run;
-use crate::map::BodyMap;
 use crate::replay::{FrameNote, StepNote};
+use crate::runs::Run;
 use cilk_program::program::Body;
 use cilk_types::invocation::Invocation;
 use std::alloc::{AllocError, Global};

@@ -248,8 +248,8 @@ impl<'a> Player<'a> {
                 self.compute(*instr)
             }
             Instr::Negate | Instr::Not | Instr::Apply(_) | Instr::Truth => self.compute(*instr),
-            Instr::Input | Instr::InputCount | Instr::Hold => self.compute(*instr),
-            Instr::SkipIfZero(_) | Instr::SkipUnlessOne(_) | Instr::GoOn(_) | Instr::GoBack(_) =>
+            Instr::Input | Instr::InputCount | Instr::SetResult => self.compute(*instr),
+            Instr::JumpIfZero(_) | Instr::SkipUnlessOne(_) | Instr::Jump(_) | Instr::JumpBack(_) =>
                 self.jump(*instr),
             Instr::Invoke(_) | Instr::CallLoop(_) | Instr::SpawnHalf | Instr::CallHalf => {
                 self.invoke(*instr)
@@ -296,7 +296,7 @@ impl<'a> Player<'a> {
                 self.checked(word)
             }
             Instr::InputCount => self.give(self.input.count()),
-            Instr::Hold => {
+            Instr::SetResult => {
                 self.pop();
                 self.skip(0)
             }
@@ -315,7 +315,7 @@ impl<'a> Player<'a> {
 
     fn jump(&mut self, instr: Instr) -> Result<Moved, AllocError> {
         match instr {
-            Instr::SkipIfZero(count) => {
+            Instr::JumpIfZero(count) => {
                 let skips = self.pop() == 0;
                 self.skip(if skips { count } else { 0 })
             }
@@ -323,8 +323,8 @@ impl<'a> Player<'a> {
                 let skips = !has_one(self.seat.part);
                 self.skip(if skips { count } else { 0 })
             }
-            Instr::GoOn(count) => self.skip(count),
-            Instr::GoBack(count) => {
+            Instr::Jump(count) => self.skip(count),
+            Instr::JumpBack(count) => {
                 self.seat.place = self.seat.place.saturating_sub(count);
                 Ok(Moved::On)
             }
@@ -336,7 +336,7 @@ impl<'a> Player<'a> {
     fn access(&mut self, instr: Instr) -> Result<Moved, AllocError> {
         match instr {
             Instr::Load(_) | Instr::Value(_) => self.load(),
-            Instr::Fetch(_) => self.ask(),
+            Instr::LoadUncounted(_) => self.ask(),
             Instr::LoadElement(array) => {
                 let index = self.pop();
                 if self.has(array, index) {

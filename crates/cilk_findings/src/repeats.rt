@@ -2,11 +2,11 @@
 
 use crate::case::Case;
 use crate::notes::place_of;
-use crate::paths::halves;
-use crate::runs::Run;
 use crate::partings::loop_round;
-use cilk_messages::tokens::Tokens;
+use crate::paths::halves;
 use crate::replay::StepNote;
+use crate::runs::Run;
+use cilk_messages::tokens::Tokens;
 use cilk_program::program::Body;
 use std::alloc::AllocError;
 

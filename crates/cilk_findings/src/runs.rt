@@ -5,9 +5,9 @@ ghost use Rattle.cilk_program.specs.Sources.{source};
 
 use crate::case::Case;
 use crate::fault::CaseFault;
+use crate::replay::{FrameNote, Replay, StepNote, follow};
 use cilk_lower::code::{Code, Instr};
 use cilk_lower::lower::lower;
-use crate::replay::{FrameNote, Replay, StepNote, follow};
 use cilk_program::program::Body;
 use cilk_serial::serial_run::SerialRun;
 use cilk_types::event::Event;

@@ -1,8 +1,8 @@
 //! A walk over the tokens of a text, along its tree.
 
 use crate::map::{BodyMap, CallSpot, Spot};
-use cilk_syntax::tree::Name;
 use cilk_syntax::token::{Kind, Token};
+use cilk_syntax::tree::Name;
 use std::alloc::{AllocError, Global};
 
 /// What a function is called, and which of its parameters are reducers.

@@ -194,7 +194,7 @@ module _ (m : Setting) (place : ℕ) (stack : List ℤ) (held : ℤ) where
       (straight_waits (loop_called n low high) Nothing (place + 1) [] held refl)
       (straight_goes (place + 2) [] held)))
 
-  straight_skip_if_zero : (n : ℕ) → Straight (move m (Some (instrs.SkipIfZero n)) place stack held)
+  straight_skip_if_zero : (n : ℕ) → Straight (move m (Some (instrs.JumpIfZero n)) place stack held)
   straight_skip_if_zero n =
       straight_top stack (λ v rest l. if is_zero v then Goes (place + 1 + n) rest held l else Goes (place + 1) rest held l)
       (λ v rest. straight_if (is_zero v) (Goes (place + 1 + n) rest held) (Goes (place + 1) rest held) (straight_goes (place + 1 + n) rest held) (straight_goes (place + 1) rest held))
@@ -210,7 +210,7 @@ module _ (m : Setting) (place : ℕ) (stack : List ℤ) (held : ℤ) where
   straight (Some (instrs.Push n)) = straight_give m.room (place + 1) n stack held
   straight (Some (instrs.Load x)) = straight_then_waits (asks.Read x) Word (place + 1) stack held refl
   straight (Some (instrs.LoadElement a)) = straight_load_element a
-  straight (Some (instrs.Fetch x)) = straight_waits (asks.Read x) Word (place + 1) stack held refl
+  straight (Some (instrs.LoadUncounted x)) = straight_waits (asks.Read x) Word (place + 1) stack held refl
   straight (Some (instrs.FetchElement a)) = straight_fetch_element a
   straight (Some (instrs.Store x)) = straight_send (λ v. asks.Write x v) (λ v. refl)
   straight (Some (instrs.StoreElement a)) = straight_store_element a
@@ -241,11 +241,11 @@ module _ (m : Setting) (place : ℕ) (stack : List ℤ) (held : ℤ) where
   straight (Some instrs.SpawnHalf) = straight_half first_half (λ l. refl)
   straight (Some instrs.CallHalf) = straight_half second_half (λ l. refl)
   straight (Some instrs.Resume) = straight_waits asks.Resume Nothing (place + 1) stack held refl
-  straight (Some (instrs.SkipIfZero n)) = straight_skip_if_zero n
+  straight (Some (instrs.JumpIfZero n)) = straight_skip_if_zero n
   straight (Some (instrs.SkipUnlessOne n)) = straight_skip_unless_one n
-  straight (Some (instrs.GoOn n)) = straight_goes (place + 1 + n) stack held
-  straight (Some (instrs.GoBack n)) = straight_goes (place - n) stack held
-  straight (Some instrs.Hold) = straight_top stack (λ v rest. Goes (place + 1) rest v) (λ v rest. straight_goes (place + 1) rest v)
+  straight (Some (instrs.Jump n)) = straight_goes (place + 1 + n) stack held
+  straight (Some (instrs.JumpBack n)) = straight_goes (place - n) stack held
+  straight (Some instrs.SetResult) = straight_top stack (λ v rest. Goes (place + 1) rest v) (λ v rest. straight_goes (place + 1) rest v)
   straight (Some instrs.Sync) = straight_none stack (Waits asks.Sync Nothing (place + 1) [] held) (straight_waits asks.Sync Nothing (place + 1) [] held refl)
   straight (Some instrs.GiveResult) =
       straight_if m.given.takes (Waits (asks.Result held) Nothing (place + 1) stack held) (Goes (place + 1) stack held)

@@ -5,11 +5,11 @@ use Rattle.cilk_program.specs.declared.ask.Ask.TheVariants as asks
 use Rattle.cilk_program.specs.declared.ask.Callee.TheVariants as callees
 use Rattle.cilk_program.specs.declared.ask.FunctionCall.{FunctionCall}
 use Rattle.cilk_types.specs.declared.invocation.Invocation.{Invocation}
-use Rattle.cilk_frames.specs.declared.brief.Brief.{Brief}
-use Rattle.cilk_frames.specs.declared.brief.Brief.TheVariants as brief
+use Rattle.cilk_frames.specs.declared.small_ask.SmallAsk.{SmallAsk}
+use Rattle.cilk_frames.specs.declared.small_ask.SmallAsk.TheVariants as brief
 
 -- an ask in full
-abbrev pub in_full : Brief → Ask
+abbrev pub in_full : SmallAsk → Ask
 in_full brief.Begin = asks.Begin
 in_full (brief.Read x) = asks.Read x
 in_full (brief.Write x v) = asks.Write x v
@@ -26,7 +26,7 @@ in_full (brief.End v) = asks.End v
 in_full (brief.Fault f) = asks.Fault f
 
 -- the ask of these parts: where there is no brief one, a function is invoked
-abbrev pub ask_of : Option Brief → Invocation → FunctionCall → Ask
+abbrev pub ask_of : Option SmallAsk → Invocation → FunctionCall → Ask
 ask_of (Some b) how call = in_full b
 ask_of None how call = asks.Invoke how (callees.Function call)
 

@@ -6,8 +6,8 @@ ghost use Rattle.cilk_program.specs.declared.ask.Callee.TheVariants as callees;
 ghost use Rattle.cilk_lower.specs.Machine.{Move, invoked, on_words};
 ghost use Rattle.cilk_frames.specs.AskSlot.{IsFunctionCall, in_full, words_in};
 
-use crate::brief::Brief;
 use crate::cursor::Cursor;
+use crate::small_ask::SmallAsk;
 use cilk_lower::code::Site;
 use cilk_program::ask::{Ask, Callee, FunctionCall};
 use cilk_program::given::{References, Words};
@@ -19,7 +19,7 @@ use std::marker::Model;
 #[derive(Drop)]
 pub struct AskSlot {
     // None where a function is invoked.
-    brief: Option<Brief>,
+    brief: Option<SmallAsk>,
     how: Invocation,
     call: FunctionCall,
 }
@@ -39,7 +39,7 @@ impl AskSlot {
         ensures { result ≡ Begin }
     {
         AskSlot {
-            brief: Some(Brief::Begin),
+            brief: Some(SmallAsk::Begin),
             how: Invocation::Call,
             call: FunctionCall {
                 function: 0,
@@ -51,7 +51,7 @@ impl AskSlot {
     }
 
     /// The ask but for the invocation of a function.
-    pub fn brief(&self) -> Option<&Brief>
+    pub fn brief(&self) -> Option<&SmallAsk>
         ensures { MatchOption result (IsFunctionCall self.now) (λ b. self.now ≡ in_full b.now) }
     {
         self.brief.as_ref()
@@ -76,7 +76,7 @@ impl AskSlot {
     }
 
     /// An ask that is no invocation of a function.
-    pub fn put(&mut self, brief: Brief)
+    pub fn put(&mut self, brief: SmallAsk)
         ensures { self.new ≡ in_full brief }
     {
         self.brief = Some(brief);

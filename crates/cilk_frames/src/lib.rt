@@ -23,8 +23,8 @@
 //! let mut asked = AskSlot::new();              // the frame begins
 //! step_into(&code, &input, &mut cursor, Answer::Done, &mut left, &mut asked);
 //! match asked.brief() {
-//!     Some(Brief::Read(place)) => ..,        // it waits for the value
-//!     Some(Brief::End(result)) => ..,        // it has ended
+//!     Some(SmallAsk::Read(place)) => ..,        // it waits for the value
+//!     Some(SmallAsk::End(result)) => ..,        // it has ended
 //!     ..
 //! }
 //! ```
@@ -54,7 +54,6 @@
 pub mod activation;
 pub mod asked;
 pub mod beginnings;
-pub mod brief;
 pub mod call_stack;
 pub mod cursor;
 pub mod halves;
@@ -63,4 +62,5 @@ mod operands;
 mod operators;
 pub mod outcome;
 pub mod places;
+pub mod small_ask;
 pub mod stepping;

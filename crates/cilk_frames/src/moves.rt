@@ -12,9 +12,9 @@ ghost use Rattle.cilk_frames.specs.AskSlot.{in_full};
 ghost use Rattle.cilk_frames.specs.Moving.{IsGoing, TakesTick, moved};
 
 use crate::asked::AskSlot;
-use crate::brief::Brief;
 use crate::cursor::Cursor;
 use crate::operators::element;
+use crate::small_ask::SmallAsk;
 use cilk_lower::code::Owed;
 use cilk_program::ask::LoopPart;
 use cilk_program::syntax::{Array, Place};
@@ -32,7 +32,7 @@ pub enum Moved {
 }
 
 /// On to the next instruction, which waits for the answer to an ask.
-pub fn wait(cursor: &mut Cursor, ask: Brief, owed: Owed, asked: &mut AskSlot) -> Moved
+pub fn wait(cursor: &mut Cursor, ask: SmallAsk, owed: Owed, asked: &mut AskSlot) -> Moved
     requires { cursor.old.place < 2 ^ 63 }
     ensures moved { result ≡ Moved.Waits }
     ensures asked { asked.new ≡ in_full ask }
@@ -44,7 +44,7 @@ pub fn wait(cursor: &mut Cursor, ask: Brief, owed: Owed, asked: &mut AskSlot) ->
 }
 
 /// The last ask.
-pub fn stop(ask: Brief, asked: &mut AskSlot) -> Moved
+pub fn stop(ask: SmallAsk, asked: &mut AskSlot) -> Moved
     ensures moved { result ≡ Moved.Stops }
     ensures asked { asked.new ≡ in_full ask }
 {
@@ -74,14 +74,14 @@ pub fn tick(cursor: &mut Cursor, left: &mut u32, asked: &mut AskSlot) -> Moved
     ensures falls { IsGoing result → left.old ≡ suc left.new }
 {
     if !take_tick(left) {
-        return stop(Brief::Fault(Fault::TooManyEvents), asked);
+        return stop(SmallAsk::Fault(Fault::TooManyEvents), asked);
     }
     cursor.next();
     Moved::Goes
 }
 
 /// A value is asked for, which takes its tick first.
-pub fn load(cursor: &mut Cursor, ask: Brief, left: &mut u32, asked: &mut AskSlot) -> Moved
+pub fn load(cursor: &mut Cursor, ask: SmallAsk, left: &mut u32, asked: &mut AskSlot) -> Moved
     requires { cursor.old.place < 2 ^ 63 }
     ensures moves { (code : CodeView) → ticked left.old
         (Waits (in_full ask) Word (cursor.old.place + 1) cursor.old.stack cursor.old.held)
@@ -91,7 +91,7 @@ pub fn load(cursor: &mut Cursor, ask: Brief, left: &mut u32, asked: &mut AskSlot
     ensures asks { IsGoing result → ⊥ }
 {
     if !take_tick(left) {
-        return stop(Brief::Fault(Fault::TooManyEvents), asked);
+        return stop(SmallAsk::Fault(Fault::TooManyEvents), asked);
     }
     wait(cursor, ask, Owed::Word, asked)
 }
@@ -111,8 +111,8 @@ pub fn load_element(cursor: &mut Cursor, array: Array, left: &mut u32, asked: &m
 {
     let index = cursor.pop();
     match element(array, index) {
-        Some(place) => load(cursor, Brief::Read(place), left, asked),
-        None => stop(Brief::Fault(Fault::IndexOutside), asked),
+        Some(place) => load(cursor, SmallAsk::Read(place), left, asked),
+        None => stop(SmallAsk::Fault(Fault::IndexOutside), asked),
     }
 }
 
@@ -131,8 +131,8 @@ pub fn fetch_element(cursor: &mut Cursor, array: Array, asked: &mut AskSlot) -> 
     let index = cursor.pop();
     cursor.push(index);
     match element(array, index) {
-        Some(place) => wait(cursor, Brief::Read(place), Owed::Word, asked),
-        None => stop(Brief::Fault(Fault::IndexOutside), asked),
+        Some(place) => wait(cursor, SmallAsk::Read(place), Owed::Word, asked),
+        None => stop(SmallAsk::Fault(Fault::IndexOutside), asked),
     }
 }
 
@@ -143,7 +143,7 @@ pub fn store(cursor: &mut Cursor, place: Place, word: i64, asked: &mut AskSlot) 
     ensures asked { asked.new ≡ asks.Write place word }
     ensures cursor { cursor.new ≡ record cursor.old { place = cursor.old.place + 1; owed = Nothing } }
 {
-    wait(cursor, Brief::Write(place, word), Owed::Nothing, asked)
+    wait(cursor, SmallAsk::Write(place, word), Owed::Nothing, asked)
 }
 
 /// A word goes into an array's element, once its index is checked.
@@ -162,7 +162,7 @@ pub fn store_element(cursor: &mut Cursor, array: Array, asked: &mut AskSlot) -> 
     let index = cursor.pop();
     match element(array, index) {
         Some(place) => store(cursor, place, word, asked),
-        None => stop(Brief::Fault(Fault::IndexOutside), asked),
+        None => stop(SmallAsk::Fault(Fault::IndexOutside), asked),
     }
 }
 
@@ -206,7 +206,7 @@ pub fn invoke_turns(
     ensures asked { asked.new ≡ asks.Invoke how (callees.Loop turns) }
     ensures cursor { cursor.new ≡ record cursor.old { place = cursor.old.place + 1; owed = Nothing } }
 {
-    wait(cursor, Brief::Turns(how, turns), Owed::Nothing, asked)
+    wait(cursor, SmallAsk::Turns(how, turns), Owed::Nothing, asked)
 }
 
 /// On behind so many instructions where it says so, else to the next one.
@@ -237,7 +237,7 @@ pub fn give_result(cursor: &mut Cursor, asked: &mut AskSlot) -> Moved
 {
     if cursor.gives_result() {
         let word = cursor.held();
-        return wait(cursor, Brief::Result(word), Owed::Nothing, asked);
+        return wait(cursor, SmallAsk::Result(word), Owed::Nothing, asked);
     }
     cursor.next();
     Moved::Goes
@@ -256,7 +256,7 @@ pub fn give(cursor: &mut Cursor, word: i64, left: &mut u32, asked: &mut AskSlot)
     ensures falls { IsGoing result → left.old ≡ suc left.new }
 {
     if !take_tick(left) {
-        return stop(Brief::Fault(Fault::TooManyEvents), asked);
+        return stop(SmallAsk::Fault(Fault::TooManyEvents), asked);
     }
     put(cursor, word)
 }
@@ -280,7 +280,7 @@ pub fn give_checked(
 {
     match word {
         Some(word) => give(cursor, word, left, asked),
-        None => stop(Brief::Fault(fault), asked),
+        None => stop(SmallAsk::Fault(fault), asked),
     }
 }
 

@@ -8,7 +8,6 @@ ghost use Rattle.cilk_frames.specs.Following.{Fits, GoesOn, Runs, Stands, Steps}
 ghost use Rattle.cilk_frames.specs.Moving.{IsGoing, effort, invoking, move_at, moved};
 
 use crate::asked::AskSlot;
-use crate::brief::Brief;
 use crate::cursor::{Answer, Cursor};
 use crate::halves::{first_half, has_one, second_half};
 use crate::moves::{
@@ -16,6 +15,7 @@ use crate::moves::{
     load_element, put, skip_if, stop, store, store_element, tick, wait,
 };
 use crate::operators::{apply, change, negation, truth};
+use crate::small_ask::SmallAsk;
 use cilk_lower::code::{Code, Instr, Owed};
 use cilk_program::ask::Ask;
 use cilk_program::syntax::Place;
@@ -77,7 +77,7 @@ fn go_on(
     cursor.receive(answer);
     let instrs = code.instrs();
     'each: loop {
-        match advance(code, instrs, input, cursor, left, asked) {
+        match exec_instr(code, instrs, input, cursor, left, asked) {
             Moved::Goes => {}
             Moved::Waits => return,
             Moved::Stops => return,
@@ -89,7 +89,7 @@ fn go_on(
 // One instruction.
 #[inline(always)]
 #[tactic(auto, using(crate::proofs::Effort::effort_back))]
-fn advance(
+fn exec_instr(
     code: &Code,
     instrs: &[Instr],
     input: &Input,
@@ -107,9 +107,9 @@ fn advance(
     match code.at(instrs, cursor.place()) {
         Instr::Tick => tick(cursor, left, asked),
         Instr::Push(word) => give(cursor, *word, left, asked),
-        Instr::Load(place) => load(cursor, Brief::Read(*place), left, asked),
+        Instr::Load(place) => load(cursor, SmallAsk::Read(*place), left, asked),
         Instr::LoadElement(array) => load_element(cursor, *array, left, asked),
-        Instr::Fetch(place) => wait(cursor, Brief::Read(*place), Owed::Word, asked),
+        Instr::LoadUncounted(place) => wait(cursor, SmallAsk::Read(*place), Owed::Word, asked),
         Instr::FetchElement(array) => fetch_element(cursor, *array, asked),
         Instr::Store(place) => {
             let word = cursor.pop();
@@ -144,7 +144,7 @@ fn advance(
             let x = cursor.pop();
             give(cursor, truth(x), left, asked)
         }
-        Instr::Value(reducer) => load(cursor, Brief::Value(*reducer), left, asked),
+        Instr::Value(reducer) => load(cursor, SmallAsk::Value(*reducer), left, asked),
         Instr::Input => {
             let x = cursor.pop();
             give_checked(cursor, input.at(x), Fault::InputOutside, left, asked)
@@ -152,16 +152,21 @@ fn advance(
         Instr::InputCount => give(cursor, input.count(), left, asked),
         Instr::Print => {
             let word = cursor.pop();
-            wait(cursor, Brief::Print(word), Owed::Nothing, asked)
+            wait(cursor, SmallAsk::Print(word), Owed::Nothing, asked)
         }
-        Instr::Create(reducer) => wait(cursor, Brief::Create(*reducer), Owed::Nothing, asked),
+        Instr::Create(reducer) => wait(cursor, SmallAsk::Create(*reducer), Owed::Nothing, asked),
         Instr::Update(reducer) => {
             let word = cursor.pop();
-            wait(cursor, Brief::Update(*reducer, word), Owed::Nothing, asked)
+            wait(
+                cursor,
+                SmallAsk::Update(*reducer, word),
+                Owed::Nothing,
+                asked,
+            )
         }
         Instr::Set(reducer) => {
             let word = cursor.pop();
-            wait(cursor, Brief::Set(*reducer, word), Owed::Nothing, asked)
+            wait(cursor, SmallAsk::Set(*reducer, word), Owed::Nothing, asked)
         }
         Instr::Word(number) => {
             let word = cursor.word(*number as usize);
@@ -186,8 +191,8 @@ fn advance(
             let half = second_half(cursor.part());
             invoke_turns(cursor, Invocation::Call, half, asked)
         }
-        Instr::Resume => wait(cursor, Brief::Resume, Owed::Nothing, asked),
-        Instr::SkipIfZero(count) => {
+        Instr::Resume => wait(cursor, SmallAsk::Resume, Owed::Nothing, asked),
+        Instr::JumpIfZero(count) => {
             let word = cursor.pop();
             skip_if(cursor, word == 0, *count)
         }
@@ -195,12 +200,12 @@ fn advance(
             let one = has_one(cursor.part());
             skip_if(cursor, !one, *count)
         }
-        Instr::GoOn(count) => skip_if(cursor, true, *count),
-        Instr::GoBack(count) => {
+        Instr::Jump(count) => skip_if(cursor, true, *count),
+        Instr::JumpBack(count) => {
             cursor.go_back(*count);
             Moved::Goes
         }
-        Instr::Hold => {
+        Instr::SetResult => {
             let word = cursor.pop();
             cursor.hold(word);
             cursor.next();
@@ -208,10 +213,10 @@ fn advance(
         }
         Instr::Sync => {
             cursor.no_operand_waits();
-            wait(cursor, Brief::Sync, Owed::Nothing, asked)
+            wait(cursor, SmallAsk::Sync, Owed::Nothing, asked)
         }
         Instr::GiveResult => give_result(cursor, asked),
-        Instr::End => stop(Brief::End(cursor.held()), asked),
+        Instr::End => stop(SmallAsk::End(cursor.held()), asked),
     }
 }
 

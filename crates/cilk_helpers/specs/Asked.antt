@@ -20,7 +20,7 @@ call_in g = record { function = g.function; words = g.words.items; reducers = g.
 
 -- the ask
 abbrev pub ask_in : Asked → Ask
-ask_in (asked.Brief b) = in_full b
+ask_in (asked.SmallAsk b) = in_full b
 ask_in (asked.Function how given) = asks.Invoke how (callees.Function (call_in given.value))
 
 -- the answer, if it is a word or none
@@ -35,7 +35,7 @@ pub record NoteView : Type 0 where
   pub left : ℕ
 
 abbrev pub note_of : Parts → NoteView
-note_of (parts.Brief is_word left word brief) = record { told = answer_of is_word word; ask = in_full brief; left = left }
+note_of (parts.SmallAsk is_word left word brief) = record { told = answer_of is_word word; ask = in_full brief; left = left }
 note_of (parts.Function is_word how left word given) = record { told = answer_of is_word word; ask = asks.Invoke how (callees.Function (call_in given.value)); left = left }
 
 -- no function runs that is given no more than a function can be

@@ -9,14 +9,14 @@ ghost use Rattle.cilk_helpers.specs.Whole.{IsKept};
 ghost use Rattle.cilk_helpers.specs.Replayed.{AreFitting, AreReplayed, IsFitting, IsReplayed};
 
 use crate::fits::fits;
+use crate::listing::{FrameHint, Hints, place_of};
 use crate::replayed::{Due, Replayed};
 use crate::rounds::{Share, round};
 use crate::watch::Watch;
+use crate::whole::Replay;
 use cilk_lower::code::Code;
 use cilk_program::ask::{Callee, LoopPart};
 use cilk_program::program::Program;
-use crate::listing::{FrameHint, Hints, place_of};
-use crate::whole::Replay;
 use cilk_types::event::FrameNo;
 use cilk_types::input::Input;
 use cilk_types::limits::MAX_TICKS;

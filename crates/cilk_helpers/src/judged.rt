@@ -5,12 +5,12 @@ ghost use Rattle.cilk_parser.specs.Inputs.{IsInput};
 ghost use Rattle.cilk_checker.specs.Judging.{IsProgramText, Meant, meant as meant_by};
 ghost use Rattle.cilk_checker.specs.Texts.{IsTrueRefusal};
 
-use cilk_checker::refusal::Refusal;
 use cilk_checker::fault::ProgramFault;
 use cilk_checker::judge::program;
+use cilk_checker::refusal::Refusal;
+use cilk_parser::fault::TextFault;
 use cilk_parser::input::parse_input;
 use cilk_program::program::Program;
-use cilk_parser::fault::TextFault;
 use cilk_types::input::Input;
 use std::alloc::Global;
 

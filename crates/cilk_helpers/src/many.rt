@@ -9,18 +9,18 @@ ghost use Rattle.cilk_checker.specs.OneVerdict.{AnswersOne, AnswersOnly, IsNoVer
 ghost use Rattle.cilk_checker.specs.Texts.{AreTexts, IsTrueAnswer, IsTrueRefusal};
 
 use crate::depths::replays;
+use crate::hints::hints;
 use crate::judged::{meaning, numbers};
+use crate::listing::Hints;
 use crate::watch::Watch;
+use crate::whole::retell;
 use cilk_checker::accepted::Accepted;
 use cilk_checker::check::check_end;
+use cilk_checker::ending::{End, run_to_end};
 use cilk_checker::refusal::{Refusal, Unaccepted};
 use cilk_checker::source::Whole;
-use cilk_checker::ending::{End, run_to_end};
 use cilk_lower::lower::lower;
 use cilk_program::program::Program;
-use crate::hints::hints;
-use crate::listing::Hints;
-use crate::whole::retell;
 use cilk_types::input::Input;
 use cilk_types::trace::Trace;
 use std::alloc::{AllocError, Global};

@@ -6,8 +6,8 @@ ghost use Rattle.cilk_frames.specs.declared.cursor.Answer.TheVariants.{Value};
 ghost use Rattle.cilk_helpers.specs.Asked.{IsTooMuch, answer_of, answer_with, ask_in, call_in};
 
 use cilk_frames::asked::AskSlot;
-use cilk_frames::brief::Brief;
 use cilk_frames::cursor::Answer;
+use cilk_frames::small_ask::SmallAsk;
 use cilk_program::ask::{Callee, FunctionCall};
 use cilk_program::given::{References, Words};
 use cilk_program::syntax::{Place, Reducer};
@@ -27,7 +27,7 @@ pub struct Given {
 /// What a frame asks for.
 #[derive(Drop)]
 pub enum Asked {
-    Brief(Brief),
+    SmallAsk(SmallAsk),
     /// A function is called or spawned.
     Function(Invocation, Box<Given>),
 }
@@ -36,7 +36,7 @@ pub enum Asked {
 // the ticks.
 #[derive(Drop)]
 pub enum Parts {
-    Brief(bool, u32, i64, Brief),
+    SmallAsk(bool, u32, i64, SmallAsk),
     Function(bool, Invocation, u32, i64, Box<Given>),
 }
 
@@ -63,7 +63,7 @@ impl Note {
     {
         let (is_word, word) = coded(told);
         let parts = match asked {
-            Asked::Brief(brief) => Parts::Brief(is_word, left, word, brief),
+            Asked::SmallAsk(brief) => Parts::SmallAsk(is_word, left, word, brief),
             Asked::Function(how, given) => Parts::Function(is_word, how, left, word, given),
         };
         Note { parts }
@@ -78,8 +78,8 @@ impl Note {
     {
         let Note { parts } = self;
         match parts {
-            Parts::Brief(is_word, left, word, brief) => {
-                (answer(is_word, word), Asked::Brief(brief), left)
+            Parts::SmallAsk(is_word, left, word, brief) => {
+                (answer(is_word, word), Asked::SmallAsk(brief), left)
             }
             Parts::Function(is_word, how, left, word, given) => {
                 (answer(is_word, word), Asked::Function(how, given), left)
@@ -92,7 +92,7 @@ impl Note {
         ensures { result ≡ self.now.left }
     {
         match &self.parts {
-            Parts::Brief(_, left, _, _) => *left,
+            Parts::SmallAsk(_, left, _, _) => *left,
             Parts::Function(_, _, left, _, _) => *left,
         }
     }
@@ -103,8 +103,8 @@ impl Note {
         ensures { MatchOption result (IsTooMuch (child_of self.now.ask)) (λ callee. child_of self.now.ask ≡ Some callee) }
     {
         match &self.parts {
-            Parts::Brief(_, _, _, Brief::Turns(_, part)) => Some(Callee::Loop(*part)),
-            Parts::Brief(_, _, _, _) => None,
+            Parts::SmallAsk(_, _, _, SmallAsk::Turns(_, part)) => Some(Callee::Loop(*part)),
+            Parts::SmallAsk(_, _, _, _) => None,
             Parts::Function(_, _, _, _, given) => match call(given) {
                 Some(call) => Some(Callee::Function(call)),
                 None => None,
@@ -119,7 +119,7 @@ impl Asked {
         ensures { IfOk result (λ asked. ask_in asked ≡ slot.now) }
     {
         match slot.brief() {
-            Some(brief) => Ok(Asked::Brief(*brief)),
+            Some(brief) => Ok(Asked::SmallAsk(*brief)),
             None => {
                 let (how, call) = slot.invocation();
                 Ok(Asked::Function(how, boxed(alloc, call)?))
@@ -132,11 +132,11 @@ impl Asked {
         ensures { result ≡ answer_with (ask_in self.now) word }
     {
         match self {
-            Asked::Brief(Brief::Read(_)) => valued(word),
-            Asked::Brief(Brief::Value(_)) => valued(word),
-            Asked::Brief(Brief::End(_)) => None,
-            Asked::Brief(Brief::Fault(_)) => None,
-            Asked::Brief(_) => Some(Answer::Done),
+            Asked::SmallAsk(SmallAsk::Read(_)) => valued(word),
+            Asked::SmallAsk(SmallAsk::Value(_)) => valued(word),
+            Asked::SmallAsk(SmallAsk::End(_)) => None,
+            Asked::SmallAsk(SmallAsk::Fault(_)) => None,
+            Asked::SmallAsk(_) => Some(Answer::Done),
             Asked::Function(_, _) => Some(Answer::Done),
         }
     }

@@ -8,13 +8,13 @@ ghost use Rattle.cilk_lower.specs.Behaves.{Behaves};
 ghost use Rattle.cilk_frames.specs.Following.{Stands, owed_for};
 ghost use Rattle.cilk_helpers.specs.Replayed.{IsReplayed};
 
-use cilk_frames::cursor::Cursor;
-use cilk_lower::code::Code;
-use cilk_program::ask::Callee;
 use crate::listing::FrameHint;
 use crate::note::Note;
 use crate::replay::replay;
 use crate::whole::Replay;
+use cilk_frames::cursor::Cursor;
+use cilk_lower::code::Code;
+use cilk_program::ask::Callee;
 use cilk_types::event::FrameNo;
 use cilk_types::input::Input;
 use cilk_types::limits::MAX_TICKS;

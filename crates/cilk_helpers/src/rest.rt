@@ -7,8 +7,8 @@ ghost use Rattle.cilk_helpers.specs.Retold.{IsTaken, held};
 ghost use Rattle.cilk_helpers.specs.Telling.{held_of};
 
 use crate::note::{Asked, Note};
-use cilk_frames::brief::Brief;
 use cilk_frames::cursor::Answer;
+use cilk_frames::small_ask::SmallAsk;
 
 /// The notes that are left of a frame, the next one last, and the ticks that it has left by itself.
 #[derive(Drop)]
@@ -40,7 +40,7 @@ fn goes_on(asked: &Asked) -> bool
     ensures { IsTrue result → IsWithin (ask_in asked.now) }
 {
     match asked {
-        Asked::Brief(Brief::Fault(_)) => false,
+        Asked::SmallAsk(SmallAsk::Fault(_)) => false,
         _ => true,
     }
 }

@@ -17,8 +17,8 @@ use crate::note::{Asked, Note};
 use crate::rest::{Rest, Taken};
 use cilk_frames::beginnings::{function, root, turns};
 use cilk_frames::call_stack::CallStack;
-use cilk_frames::brief::Brief;
 use cilk_frames::cursor::Answer;
+use cilk_frames::small_ask::SmallAsk;
 use cilk_hypermap::hypermap::Hypermap;
 use cilk_program::ask::{FunctionCall, LoopPart};
 use cilk_program::program::Program;
@@ -103,13 +103,13 @@ impl Retelling {
         Ok(Retelling {
             state,
             frames: CallStack::new(alloc, frame),
-            asked: Asked::Brief(Brief::Begin),
+            asked: Asked::SmallAsk(SmallAsk::Begin),
             left: MAX_TICKS,
         })
     }
 
     /// Makes the event of a small ask, if the frame goes on at once, and goes on to what it asks for then.
-    pub fn go_on(&mut self, alloc: Global, brief: Brief) -> Result<Gone, AllocError>
+    pub fn go_on(&mut self, alloc: Global, brief: SmallAsk) -> Result<Gone, AllocError>
         requires asked { ask_in self.old.asked ≡ in_full brief }
         requires room { HasRoom self.old.state }
         requires tells { (code : CodeView) × (p : Source) × (inputs : List ℤ) × IsTrue (is_well_named p) × Tells code p inputs self.old }
@@ -184,7 +184,7 @@ impl Retelling {
         let frame = turns(alloc, rest, number, base, here, &self.frames.top, &part);
         self.state.begin(how, cells)?;
         self.frames.push(frame)?;
-        self.asked = Asked::Brief(Brief::Begin);
+        self.asked = Asked::SmallAsk(SmallAsk::Begin);
         Ok(true)
     }
 
@@ -218,7 +218,7 @@ impl Retelling {
         let frame = function(alloc, rest, number, base, below, &self.frames.top, call)?;
         self.state.begin(how, cells)?;
         self.frames.push(frame)?;
-        self.asked = Asked::Brief(Brief::Begin);
+        self.asked = Asked::SmallAsk(SmallAsk::Begin);
         Ok(true)
     }
 

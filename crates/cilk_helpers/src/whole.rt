@@ -161,7 +161,7 @@ fn make_event(
     if is_full(&run.state) {
         return Ok(Step::Departs);
     }
-    let Asked::Brief(brief) = run.asked else {
+    let Asked::SmallAsk(brief) = run.asked else {
         return match next(code, program, input, replays) {
             Some(replay) => begin_function(alloc, program, code, input, run, replay),
             None => Ok(Step::Departs),

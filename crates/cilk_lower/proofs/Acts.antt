@@ -83,7 +83,7 @@ module _ (m : Setting) where
     for_acts None pc answers left fits has =
         let p2 = pc + length cs in
         let p3 = p2 + length cp in
-        let jump = instrs.GoBack (length (cs ++ cp)) in
+        let jump = instrs.JumpBack (length (cs ++ cp)) in
         let turn = has_front m.code.instrs pc (cs ++ cp) _ has in
         let l1 = length-append cs cp in
         let same : pc + length (cs ++ cp) ≡ p3 = omega arith in
@@ -99,15 +99,15 @@ module _ (m : Setting) where
         let p3 = p2 + length cp in
         let n = length (cs ++ cp) + 1 in
         let d = length ce + 1 + length (cs ++ cp) in
-        let jump = instrs.GoBack d in
-        let rest = has_back m.code.instrs pc ce (instrs.SkipIfZero n ∷ ((cs ++ cp) ++ jump ∷ [])) has in
+        let jump = instrs.JumpBack d in
+        let rest = has_back m.code.instrs pc ce (instrs.JumpIfZero n ∷ ((cs ++ cp) ++ jump ∷ [])) has in
         let turn = has_front m.code.instrs (p1 + 1) (cs ++ cp) (jump ∷ []) rest.1 in
         let l1 = length-append cs cp in
         let same : p1 + 1 + length (cs ++ cp) ≡ p3 = omega arith in
         let behind = subst (λ n. HasAt m.code.instrs n (jump ∷ [])) same (has_back m.code.instrs (p1 + 1) (cs ++ cp) (jump ∷ []) rest.1) in
         let there : p3 - d ≡ pc = omega arith in
         let room_e : 0 + depth e ≤ m.room = omega arith in
-        let len : p1 + 1 + n ≡ pc + length (ce ++ (instrs.SkipIfZero n ∷ ((cs ++ cp) ++ jump ∷ []))) = omega (arith, length-append ce (instrs.SkipIfZero n ∷ ((cs ++ cp) ++ jump ∷ [])), length-append (cs ++ cp) (jump ∷ [])) in
+        let len : p1 + 1 + n ≡ pc + length (ce ++ (instrs.JumpIfZero n ∷ ((cs ++ cp) ++ jump ∷ []))) = omega (arith, length-append ce (instrs.JumpIfZero n ∷ ((cs ++ cp) ++ jump ∷ [])), length-append (cs ++ cp) (jump ∷ [])) in
         subst (λ n. Acts m pc [] [] answers left n (turns (suc left) (value m.inputs e) body step answers left)) len
         (turns_act m pc (p1 + 1) p2 p3 (p1 + 1 + n) d (value m.inputs e) body step
         (bodies (p1 + 1) (has_front m.code.instrs (p1 + 1) cs cp turn)) takes (steps p2 (has_back m.code.instrs (p1 + 1) cs cp turn)) keeps
@@ -150,7 +150,7 @@ module _ (m : Setting) where
         let room_e : 1 + depth e ≤ m.room = omega arith in
         let len : p1 + 1 + 1 ≡ pc + length (stmt_code k (Change (ToVariable x) op e)) = omega (arith, length-append ce (instrs.Combine op ∷ (instrs.Store x ∷ []))) in
         subst (λ n. Acts m pc [] [] answers left n (does m.inputs (Change (ToVariable x) op e) answers left)) len
-        (tick_acts m pc (p1 + 1 + 1) [] answers left _ has.0 (λ a l. word_acts m (pc + 1) (p1 + 1 + 1) [] [] [] a l (instrs.Fetch x) (asks.Read x) _ has.1.0 refl low
+        (tick_acts m pc (p1 + 1 + 1) [] answers left _ has.0 (λ a l. word_acts m (pc + 1) (p1 + 1 + 1) [] [] [] a l (instrs.LoadUncounted x) (asks.Read x) _ has.1.0 refl low
         (λ old a l. above_acts e (pc + 1 + 1) (p1 + 1 + 1) (old ∷ []) a l _ room_e (has_front m.code.instrs (pc + 1 + 1) ce _ has.1.1)
         (λ v a l. quiet_acts m p1 (p1 + 1) (p1 + 1 + 1) (v ∷ old ∷ []) (change op old v ∷ []) [] a l (instrs.Combine op) _ behind.0 refl
         (last_asks m (p1 + 1) (change op old v ∷ []) [] a l (instrs.Store x) (asks.Write x (change op old v)) behind.1.0 refl)))))
@@ -176,7 +176,7 @@ module _ (m : Setting) where
         let low : 0 < m.room = omega arith in
         let len : p ≡ pc + length (stmt_code k (Step (ToVariable x) n)) = omega arith in
         subst (λ q. Acts m pc [] [] answers left q (does m.inputs (Step (ToVariable x) n) answers left)) len
-        (tick_acts m pc p [] answers left _ has.0 (λ a l. word_acts m (pc + 1) p [] [] [] a l (instrs.Fetch x) (asks.Read x) _ has.1.0 refl low
+        (tick_acts m pc p [] answers left _ has.0 (λ a l. word_acts m (pc + 1) p [] [] [] a l (instrs.LoadUncounted x) (asks.Read x) _ has.1.0 refl low
         (λ old a l. quiet_acts m (pc + 1 + 1) (pc + 1 + 1 + 1) p (old ∷ []) (word_of (old +ℤ n) ∷ []) [] a l (instrs.AddNumber n) _ has.1.1.0 refl
         (last_asks m (pc + 1 + 1 + 1) (word_of (old +ℤ n) ∷ []) [] a l (instrs.Store x) (asks.Write x (word_of (old +ℤ n))) has.1.1.1.0 refl))))
     acts (Step (ToElement arr f) n) k pc answers left fits has called =
@@ -233,10 +233,10 @@ module _ (m : Setting) where
     acts (If e s) k pc answers left fits has called =
         let ce = expr_code e in let cs = stmt_code k s in
         let p1 = pc + 1 + length ce in
-        let behind = has_back m.code.instrs (pc + 1) ce (instrs.SkipIfZero (length cs) ∷ cs) has.1 in
+        let behind = has_back m.code.instrs (pc + 1) ce (instrs.JumpIfZero (length cs) ∷ cs) has.1 in
         let room_e : 0 + depth e ≤ m.room = omega arith in
         let room_s : deepest s ≤ m.room = omega arith in
-        let len : p1 + 1 + length cs ≡ pc + length (stmt_code k (If e s)) = omega (arith, length-append ce (instrs.SkipIfZero (length cs) ∷ cs)) in
+        let len : p1 + 1 + length cs ≡ pc + length (stmt_code k (If e s)) = omega (arith, length-append ce (instrs.JumpIfZero (length cs) ∷ cs)) in
         subst (λ n. Acts m pc [] [] answers left n (does m.inputs (If e s) answers left)) len
         (tick_acts m pc (p1 + 1 + length cs) [] answers left _ has.0 (λ a l. above_acts e (pc + 1) (p1 + 1 + length cs) [] a l (λ v a l. chosen v (does m.inputs s a l) (Gives None a l)) room_e (has_front m.code.instrs (pc + 1) ce _ has.1)
         (λ v a l. choose_acts m (is_zero v) p1 (length cs) (p1 + 1 + length cs) v [] a l (does m.inputs s a l) (Gives None a l) refl behind.0
@@ -247,14 +247,14 @@ module _ (m : Setting) where
         let ce = expr_code e in let cs = stmt_code k s in let ct = stmt_code k1 t in
         let p1 = pc + 1 + length ce in
         let p2 = p1 + 1 + length cs in
-        let tail = cs ++ (instrs.GoOn (length ct) ∷ ct) in
-        let behind = has_back m.code.instrs (pc + 1) ce (instrs.SkipIfZero (length cs + 1) ∷ tail) has.1 in
-        let after = has_back m.code.instrs (p1 + 1) cs (instrs.GoOn (length ct) ∷ ct) behind.1 in
+        let tail = cs ++ (instrs.Jump (length ct) ∷ ct) in
+        let behind = has_back m.code.instrs (pc + 1) ce (instrs.JumpIfZero (length cs + 1) ∷ tail) has.1 in
+        let after = has_back m.code.instrs (p1 + 1) cs (instrs.Jump (length ct) ∷ ct) behind.1 in
         let room_e : 0 + depth e ≤ m.room = omega arith in
         let room_s : deepest s ≤ m.room = omega arith in
         let room_t : deepest t ≤ m.room = omega arith in
         let second : p2 + 1 ≡ p1 + 1 + (length cs + 1) = omega arith in
-        let len : p2 + 1 + length ct ≡ pc + length (stmt_code k (IfElse e s t)) = omega (arith, length-append ce (instrs.SkipIfZero (length cs + 1) ∷ tail), length-append cs (instrs.GoOn (length ct) ∷ ct)) in
+        let len : p2 + 1 + length ct ≡ pc + length (stmt_code k (IfElse e s t)) = omega (arith, length-append ce (instrs.JumpIfZero (length cs + 1) ∷ tail), length-append cs (instrs.Jump (length ct) ∷ ct)) in
         subst (λ n. Acts m pc [] [] answers left n (does m.inputs (IfElse e s t) answers left)) len
         (tick_acts m pc (p2 + 1 + length ct) [] answers left _ has.0 (λ a l. above_acts e (pc + 1) (p2 + 1 + length ct) [] a l (λ v a l. chosen v (does m.inputs s a l) (does m.inputs t a l)) room_e (has_front m.code.instrs (pc + 1) ce _ has.1)
         (λ v a l. choose_acts m (is_zero v) p1 (length cs + 1) (p2 + 1 + length ct) v [] a l (does m.inputs s a l) (does m.inputs t a l) refl behind.0

@@ -77,7 +77,7 @@ module _ (m : Setting) (place : ℕ) (stack : List ℤ) (held : ℤ) (left : ℕ
   is_clear (Some (instrs.LoadElement a)) =
       clear_top stack (λ i rest. or_stops IndexOutside (element a i) left (λ x. ticked left (Waits (asks.Read x) Word (place + 1) rest held)))
       (λ i rest. clear_check IndexOutside (element a i) left (λ x. ticked left (Waits (asks.Read x) Word (place + 1) rest held)) (λ x. clear_ticked left (Waits (asks.Read x) Word (place + 1) rest held) (λ l e. absurd e)))
-  is_clear (Some (instrs.Fetch x)) = λ e. absurd e
+  is_clear (Some (instrs.LoadUncounted x)) = λ e. absurd e
   is_clear (Some (instrs.FetchElement a)) =
       clear_top stack (λ i rest. or_stops IndexOutside (element a i) left (λ x. Waits (asks.Read x) Word (place + 1) (i ∷ rest) held left))
       (λ i rest. clear_check IndexOutside (element a i) left (λ x. Waits (asks.Read x) Word (place + 1) (i ∷ rest) held left) (λ x e. absurd e))
@@ -116,15 +116,15 @@ module _ (m : Setting) (place : ℕ) (stack : List ℤ) (held : ℤ) (left : ℕ
   is_clear (Some instrs.SpawnHalf) = clear_half first_half
   is_clear (Some instrs.CallHalf) = clear_half second_half
   is_clear (Some instrs.Resume) = λ e. absurd e
-  is_clear (Some (instrs.SkipIfZero n)) =
+  is_clear (Some (instrs.JumpIfZero n)) =
       clear_top stack (λ v rest. if is_zero v then Goes (place + 1 + n) rest held left else Goes (place + 1) rest held left)
       (λ v rest. clear_if (is_zero v) (Goes (place + 1 + n) rest held left) (Goes (place + 1) rest held left) tt tt)
   is_clear (Some (instrs.SkipUnlessOne n)) =
       clear_some m.given.part (λ p. if has_one p then Goes (place + 1) stack held left else Goes (place + 1 + n) stack held left)
       (λ p. clear_if (has_one p) (Goes (place + 1) stack held left) (Goes (place + 1 + n) stack held left) tt tt)
-  is_clear (Some (instrs.GoOn n)) = tt
-  is_clear (Some (instrs.GoBack n)) = tt
-  is_clear (Some instrs.Hold) = clear_top stack (λ v rest. Goes (place + 1) rest v left) (λ v rest. tt)
+  is_clear (Some (instrs.Jump n)) = tt
+  is_clear (Some (instrs.JumpBack n)) = tt
+  is_clear (Some instrs.SetResult) = clear_top stack (λ v rest. Goes (place + 1) rest v left) (λ v rest. tt)
   is_clear (Some instrs.Sync) = clear_none stack (Waits asks.Sync Nothing (place + 1) [] held left) (λ e. refl)
   is_clear (Some instrs.GiveResult) =
       clear_if m.given.takes (Waits (asks.Result held) Nothing (place + 1) stack held left) (Goes (place + 1) stack held left) (λ e. absurd e) tt

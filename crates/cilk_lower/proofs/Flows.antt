@@ -106,7 +106,7 @@ module _ (m : Setting) where
       (suc r.0, step_on pc held (a ∷ answers) left instrs.Sync has.0 r.0 ∙ r.1)
 
   -- a result is held, and then the frame ends
-  pub hold_comes : (pc : ℕ) (v : ℤ) (answers : List ℤ) (left : ℕ) → Stands m pc instrs.Hold → HasAt m.code.instrs (pc + 1) ends → Comes m pc (v ∷ []) answers left (ended (finishes m.given.takes (Some v) answers left))
+  pub hold_comes : (pc : ℕ) (v : ℤ) (answers : List ℤ) (left : ℕ) → Stands m pc instrs.SetResult → HasAt m.code.instrs (pc + 1) ends → Comes m pc (v ∷ []) answers left (ended (finishes m.given.takes (Some v) answers left))
   hold_comes pc v answers left at has =
       let r = ends_comes v (pc + 1) answers left has in
       (suc r.0, ap (λ o. going m.room (move m o pc (v ∷ []) (pos 0) left) answers (exec m r.0)) at ∙ r.1)

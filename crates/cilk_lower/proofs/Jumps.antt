@@ -80,8 +80,8 @@ module _ (code : List Instr) where
       both_land pc (expr_code a) _ (expr_lands a pc (omega arith)) (both_land (pc + length (expr_code a)) (expr_code b) _ (expr_lands b (pc + length (expr_code a)) (omega arith)) (tt, tt))
   expr_lands (And a b) pc fits =
       let ca = expr_code a in let cb = expr_code b in
-      let post = instrs.Truth ∷ (instrs.GoOn 1 ∷ (instrs.Push (pos 0) ∷ [])) in
-      let l1 = length-append ca (instrs.SkipIfZero (length cb + 2) ∷ (cb ++ post)) in
+      let post = instrs.Truth ∷ (instrs.Jump 1 ∷ (instrs.Push (pos 0) ∷ [])) in
+      let l1 = length-append ca (instrs.JumpIfZero (length cb + 2) ∷ (cb ++ post)) in
       let l2 = length-append cb post in
       both_land pc ca _ (expr_lands a pc (omega arith)) (
         omega arith,
@@ -90,7 +90,7 @@ module _ (code : List Instr) where
   expr_lands (Or a b) pc fits =
       let ca = expr_code a in let cb = expr_code b in
       let p3 = pc + length ca + 1 + 1 + 1 in
-      let l1 = length-append ca (instrs.SkipIfZero 2 ∷ (instrs.Push (pos 1) ∷ (instrs.GoOn (length cb + 1) ∷ (cb ++ instrs.Truth ∷ [])))) in
+      let l1 = length-append ca (instrs.JumpIfZero 2 ∷ (instrs.Push (pos 1) ∷ (instrs.Jump (length cb + 1) ∷ (cb ++ instrs.Truth ∷ [])))) in
       let l2 = length-append cb (instrs.Truth ∷ []) in
       both_land pc ca _ (expr_lands a pc (omega arith)) (omega arith, (tt, (omega arith, both_land p3 cb _ (expr_lands b p3 (omega arith)) (tt, tt))))
 
@@ -137,7 +137,7 @@ module _ (code : List Instr) where
   turns_land : (test : Option Expression) (turn : List Instr) (pc : ℕ) → HasAt code pc (turns_code test turn) → pc + length (turns_code test turn) ≤ length code →
       ((p : ℕ) → HasAt code p turn → ticks (slice_get code p) ≡ true) → ((p : ℕ) → HasAt code p turn → p + length turn ≤ length code → AllLand code p turn) → AllLand code pc (turns_code test turn)
   turns_land None turn pc has fits first lands =
-      let l = length-append turn (instrs.GoBack (length turn) ∷ []) in
+      let l = length-append turn (instrs.JumpBack (length turn) ∷ []) in
       let front = has_front code pc turn _ has in
       let there : pc ≡ pc + length turn - length turn = omega arith in
       let back : length turn ≤ pc + length turn = omega arith in
@@ -146,10 +146,10 @@ module _ (code : List Instr) where
       let ce = expr_code e in
       let p1 = pc + length ce in
       let d = length ce + 1 + length turn in
-      let rest = instrs.SkipIfZero (length turn + 1) ∷ (turn ++ instrs.GoBack d ∷ []) in
+      let rest = instrs.JumpIfZero (length turn + 1) ∷ (turn ++ instrs.JumpBack d ∷ []) in
       let behind = has_back code pc ce rest has in
       let l1 = length-append ce rest in
-      let l2 = length-append turn (instrs.GoBack d ∷ []) in
+      let l2 = length-append turn (instrs.JumpBack d ∷ []) in
       let there : pc ≡ p1 + 1 + length turn - d = omega arith in
       let back : d ≤ p1 + 1 + length turn = omega arith in
       let jump : p1 + 1 + (length turn + 1) ≤ length code = omega arith in
@@ -176,7 +176,7 @@ module _ (code : List Instr) where
     stmt_lands (Update r e) k pc has fits = (tt, value_lands e (pc + 1) (instrs.Update r ∷ []) (omega arith) (tt, tt))
     stmt_lands (Set r e) k pc has fits = (tt, value_lands e (pc + 1) (instrs.Set r ∷ []) (omega arith) (tt, tt))
     stmt_lands (Return None) k pc has fits = (tt, (tt, (tt, (tt, tt))))
-    stmt_lands (Return (Some e)) k pc has fits = (tt, value_lands e (pc + 1) (instrs.Hold ∷ ends) (omega arith) (tt, (tt, (tt, (tt, tt)))))
+    stmt_lands (Return (Some e)) k pc has fits = (tt, value_lands e (pc + 1) (instrs.SetResult ∷ ends) (omega arith) (tt, (tt, (tt, (tt, tt)))))
     stmt_lands (ParallelFor e f n) k pc has fits =
         let tail = instrs.CallLoop n ∷ (instrs.Resume ∷ []) in
         let l1 = length-append (expr_code e) (expr_code f ++ tail) in
@@ -185,19 +185,19 @@ module _ (code : List Instr) where
     stmt_lands (If e s) k pc has fits =
         let ce = expr_code e in let cs = stmt_code k s in
         let p1 = pc + 1 + length ce in
-        let behind = has_back code (pc + 1) ce (instrs.SkipIfZero (length cs) ∷ cs) has.1 in
-        let l = length-append ce (instrs.SkipIfZero (length cs) ∷ cs) in
+        let behind = has_back code (pc + 1) ce (instrs.JumpIfZero (length cs) ∷ cs) has.1 in
+        let l = length-append ce (instrs.JumpIfZero (length cs) ∷ cs) in
         (tt, value_lands e (pc + 1) _ (omega arith) (omega arith, stmt_lands s k (p1 + 1) behind.1 (omega arith)))
     stmt_lands (IfElse e s t) k pc has fits =
         let k1 = k + length (stmt_sites s) in
         let ce = expr_code e in let cs = stmt_code k s in let ct = stmt_code k1 t in
         let p1 = pc + 1 + length ce in
         let p2 = p1 + 1 + length cs in
-        let tail = cs ++ (instrs.GoOn (length ct) ∷ ct) in
-        let behind = has_back code (pc + 1) ce (instrs.SkipIfZero (length cs + 1) ∷ tail) has.1 in
-        let after = has_back code (p1 + 1) cs (instrs.GoOn (length ct) ∷ ct) behind.1 in
-        let l1 = length-append ce (instrs.SkipIfZero (length cs + 1) ∷ tail) in
-        let l2 = length-append cs (instrs.GoOn (length ct) ∷ ct) in (
+        let tail = cs ++ (instrs.Jump (length ct) ∷ ct) in
+        let behind = has_back code (pc + 1) ce (instrs.JumpIfZero (length cs + 1) ∷ tail) has.1 in
+        let after = has_back code (p1 + 1) cs (instrs.Jump (length ct) ∷ ct) behind.1 in
+        let l1 = length-append ce (instrs.JumpIfZero (length cs + 1) ∷ tail) in
+        let l2 = length-append cs (instrs.Jump (length ct) ∷ ct) in (
           tt,
           value_lands e (pc + 1) _ (omega arith) (
             omega arith,
@@ -257,10 +257,10 @@ module _ (code : List Instr) where
 -- more code behind it changes nothing
 lands_more : (code more : List Instr) (place : ℕ) (i : Instr) → Lands code place i → Lands (code ++ more) place i
 lands_more code more place (instrs.CallLoop n) h = omega (arith, h, length-append code more)
-lands_more code more place (instrs.SkipIfZero n) h = omega (arith, h, length-append code more)
+lands_more code more place (instrs.JumpIfZero n) h = omega (arith, h, length-append code more)
 lands_more code more place (instrs.SkipUnlessOne n) h = omega (arith, h, length-append code more)
-lands_more code more place (instrs.GoOn n) h = omega (arith, h, length-append code more)
-lands_more code more place (instrs.GoBack n) h = (h.0, ticks_more (slice_get code (place - n)) refl h.1)
+lands_more code more place (instrs.Jump n) h = omega (arith, h, length-append code more)
+lands_more code more place (instrs.JumpBack n) h = (h.0, ticks_more (slice_get code (place - n)) refl h.1)
   where
     ticks_more : (o : Option Instr) → slice_get code (place - n) ≡ o → ticks o ≡ true → ticks (slice_get (code ++ more) (place - n)) ≡ true
     ticks_more None e h = cc

@@ -126,24 +126,24 @@ module _ (m : Setting) where
   quiet_acts pc pc1 pc' from s1 stack answers left i g at e r = then_acts pc pc1 pc' stack from s1 answers answers left left g (leads_one pc from answers left i pc1 s1 left at e) r
 
   -- a jump behind a stretch
-  pub jump_does : (pc pc1 n : ℕ) (from stack answers : List ℤ) (left : ℕ) (g : Got ℤ) → Stands m pc1 (instrs.GoOn n) → Does m pc from stack answers left pc1 g → Does m pc from stack answers left (pc1 + 1 + n) g
+  pub jump_does : (pc pc1 n : ℕ) (from stack answers : List ℤ) (left : ℕ) (g : Got ℤ) → Stands m pc1 (instrs.Jump n) → Does m pc from stack answers left pc1 g → Does m pc from stack answers left (pc1 + 1 + n) g
   jump_does pc pc1 n from stack answers left (Asks k) at r = r
-  jump_does pc pc1 n from stack answers left (Gives v a l) at r = leads_on pc pc1 (pc1 + 1 + n) from (v ∷ stack) (v ∷ stack) answers a a left l l r (leads_one pc1 (v ∷ stack) a l (instrs.GoOn n) _ _ _ at refl)
+  jump_does pc pc1 n from stack answers left (Gives v a l) at r = leads_on pc pc1 (pc1 + 1 + n) from (v ∷ stack) (v ∷ stack) answers a a left l l r (leads_one pc1 (v ∷ stack) a l (instrs.Jump n) _ _ _ at refl)
 
-  pub jump_acts : (pc pc1 n : ℕ) (from stack answers : List ℤ) (left : ℕ) (g : Got Flow) → Stands m pc1 (instrs.GoOn n) → Acts m pc from stack answers left pc1 g → Acts m pc from stack answers left (pc1 + 1 + n) g
+  pub jump_acts : (pc pc1 n : ℕ) (from stack answers : List ℤ) (left : ℕ) (g : Got Flow) → Stands m pc1 (instrs.Jump n) → Acts m pc from stack answers left pc1 g → Acts m pc from stack answers left (pc1 + 1 + n) g
   jump_acts pc pc1 n from stack answers left (Asks k) at r = r
   jump_acts pc pc1 n from stack answers left (Gives (Some v) a l) at r = r
-  jump_acts pc pc1 n from stack answers left (Gives None a l) at r = leads_on pc pc1 (pc1 + 1 + n) from stack stack answers a a left l l r (leads_one pc1 stack a l (instrs.GoOn n) _ _ _ at refl)
+  jump_acts pc pc1 n from stack answers left (Gives None a l) at r = leads_on pc pc1 (pc1 + 1 + n) from stack stack answers a a left l l r (leads_one pc1 stack a l (instrs.Jump n) _ _ _ at refl)
 
-  skips : (t : Bool) (pc n : ℕ) (v : ℤ) (stack answers : List ℤ) (left : ℕ) → is_zero v ≡ t → Stands m pc (instrs.SkipIfZero n) → Leads m pc (v ∷ stack) answers left (if t then pc + 1 + n else pc + 1) stack answers left
-  skips true pc n v stack answers left e at = leads_one pc (v ∷ stack) answers left (instrs.SkipIfZero n) _ _ _ at (ap (λ t. if t then Goes (pc + 1 + n) stack (pos 0) left else Goes (pc + 1) stack (pos 0) left) e)
-  skips false pc n v stack answers left e at = leads_one pc (v ∷ stack) answers left (instrs.SkipIfZero n) _ _ _ at (ap (λ t. if t then Goes (pc + 1 + n) stack (pos 0) left else Goes (pc + 1) stack (pos 0) left) e)
+  skips : (t : Bool) (pc n : ℕ) (v : ℤ) (stack answers : List ℤ) (left : ℕ) → is_zero v ≡ t → Stands m pc (instrs.JumpIfZero n) → Leads m pc (v ∷ stack) answers left (if t then pc + 1 + n else pc + 1) stack answers left
+  skips true pc n v stack answers left e at = leads_one pc (v ∷ stack) answers left (instrs.JumpIfZero n) _ _ _ at (ap (λ t. if t then Goes (pc + 1 + n) stack (pos 0) left else Goes (pc + 1) stack (pos 0) left) e)
+  skips false pc n v stack answers left e at = leads_one pc (v ∷ stack) answers left (instrs.JumpIfZero n) _ _ _ at (ap (λ t. if t then Goes (pc + 1 + n) stack (pos 0) left else Goes (pc + 1) stack (pos 0) left) e)
 
   -- a choice, with the value of its test on the stack
-  pub choose_does : (t : Bool) (pc n pc' : ℕ) (v : ℤ) (stack answers : List ℤ) (left : ℕ) (x y : Got ℤ) → is_zero v ≡ t → Stands m pc (instrs.SkipIfZero n) → Does m (pc + 1) stack stack answers left pc' x → Does m (pc + 1 + n) stack stack answers left pc' y → Does m pc (v ∷ stack) stack answers left pc' (if t then y else x)
+  pub choose_does : (t : Bool) (pc n pc' : ℕ) (v : ℤ) (stack answers : List ℤ) (left : ℕ) (x y : Got ℤ) → is_zero v ≡ t → Stands m pc (instrs.JumpIfZero n) → Does m (pc + 1) stack stack answers left pc' x → Does m (pc + 1 + n) stack stack answers left pc' y → Does m pc (v ∷ stack) stack answers left pc' (if t then y else x)
   choose_does true pc n pc' v stack answers left x y e at rx ry = then_does pc (pc + 1 + n) pc' stack (v ∷ stack) stack answers answers left left y (skips true pc n v stack answers left e at) ry
   choose_does false pc n pc' v stack answers left x y e at rx ry = then_does pc (pc + 1) pc' stack (v ∷ stack) stack answers answers left left x (skips false pc n v stack answers left e at) rx
 
-  pub choose_acts : (t : Bool) (pc n pc' : ℕ) (v : ℤ) (stack answers : List ℤ) (left : ℕ) (x y : Got Flow) → is_zero v ≡ t → Stands m pc (instrs.SkipIfZero n) → Acts m (pc + 1) stack stack answers left pc' x → Acts m (pc + 1 + n) stack stack answers left pc' y → Acts m pc (v ∷ stack) stack answers left pc' (if t then y else x)
+  pub choose_acts : (t : Bool) (pc n pc' : ℕ) (v : ℤ) (stack answers : List ℤ) (left : ℕ) (x y : Got Flow) → is_zero v ≡ t → Stands m pc (instrs.JumpIfZero n) → Acts m (pc + 1) stack stack answers left pc' x → Acts m (pc + 1 + n) stack stack answers left pc' y → Acts m pc (v ∷ stack) stack answers left pc' (if t then y else x)
   choose_acts true pc n pc' v stack answers left x y e at rx ry = then_acts pc (pc + 1 + n) pc' stack (v ∷ stack) stack answers answers left left y (skips true pc n v stack answers left e at) ry
   choose_acts false pc n pc' v stack answers left x y e at rx ry = then_acts pc (pc + 1) pc' stack (v ∷ stack) stack answers answers left left x (skips false pc n v stack answers left e at) rx

@@ -24,6 +24,6 @@ pub called : (base low high c1 c2 c3 c4 : List Instr) (first last : Instr) → c
 called base low high c1 c2 c3 c4 first last e1 e2 e3 e4 =
     e4 ∙ ap (λ l. l ++ last ∷ []) (e3 ∙ ap (λ l. l ++ first ∷ []) (e2 ∙ ap (λ l. l ++ high) e1)) ∙ simp append_assoc
 
-pub returned_value : (base value c1 c2 c3 : List Instr) → c1 ≡ base ++ (instrs.Tick ∷ value) → c2 ≡ c1 ++ instrs.Hold ∷ [] → c3 ≡ c2 ++ ends → c3 ≡ base ++ (instrs.Tick ∷ (value ++ (instrs.Hold ∷ ends)))
+pub returned_value : (base value c1 c2 c3 : List Instr) → c1 ≡ base ++ (instrs.Tick ∷ value) → c2 ≡ c1 ++ instrs.SetResult ∷ [] → c3 ≡ c2 ++ ends → c3 ≡ base ++ (instrs.Tick ∷ (value ++ (instrs.SetResult ∷ ends)))
 returned_value base value c1 c2 c3 e1 e2 e3 =
-    e3 ∙ ap (λ l. l ++ ends) (e2 ∙ ap (λ l. l ++ instrs.Hold ∷ []) e1) ∙ simp append_assoc
+    e3 ∙ ap (λ l. l ++ ends) (e2 ∙ ap (λ l. l ++ instrs.SetResult ∷ []) e1) ∙ simp append_assoc

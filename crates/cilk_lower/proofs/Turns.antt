@@ -11,7 +11,7 @@ use Rattle.cilk_lower.proofs.Ticks.{Takes, Keeps}
 module _ (m : Setting) (top here after end out d : ℕ) (test : List ℤ → ℕ → Got ℤ) (body step : List ℤ → ℕ → Got Flow)
     (bodies : (a : List ℤ) (l : ℕ) → Acts m here [] [] a l after (body a l)) (takes : (a : List ℤ) (l : ℕ) → Takes l (body a l))
     (steps : (a : List ℤ) (l : ℕ) → Acts m after [] [] a l end (step a l)) (keeps : (a : List ℤ) (l : ℕ) → Keeps l (step a l))
-    (backs : Stands m end (instrs.GoBack d)) (there : end - d ≡ top) where
+    (backs : Stands m end (instrs.JumpBack d)) (there : end - d ≡ top) where
   -- the turns from here on do what so many turns do
   abbrev Again : ℕ → Type 0
   Again k = (a : List ℤ) (l : ℕ) → l < k → Acts m top [] [] a l out (turns k test body step a l)
@@ -21,7 +21,7 @@ module _ (m : Setting) (top here after end out d : ℕ) (test : List ℤ → ℕ
   step_acts k again answers left low (Asks x) r kept = r
   step_acts k again answers left low (Gives (Some v) a l) r kept = r
   step_acts k again answers left low (Gives None a l) r kept =
-      let back : Leads m end [] a l top [] a l = subst (λ p. Leads m end [] a l p [] a l) there (leads_one m end [] a l (instrs.GoBack d) _ _ _ backs refl) in
+      let back : Leads m end [] a l top [] a l = subst (λ p. Leads m end [] a l p [] a l) there (leads_one m end [] a l (instrs.JumpBack d) _ _ _ backs refl) in
       then_acts m after end out [] [] [] answers a left l (turns k test body step a l) r
       (then_acts m end top out [] [] [] a a l l (turns k test body step a l) back (again a l (omega arith)))
 
@@ -41,7 +41,7 @@ module _ (m : Setting) (top here after end out d : ℕ) (test : List ℤ → ℕ
       (body_acts k (forever_act same holds k) answers left low (body answers left) (bodies answers left) (takes answers left)))
 
   module _ (pc n : ℕ) (begins : here ≡ pc + 1) (leaves : out ≡ pc + 1 + n)
-      (tests : (a : List ℤ) (l : ℕ) → Does m top [] [] a l pc (test a l)) (kept : (a : List ℤ) (l : ℕ) → Keeps l (test a l)) (skips : Stands m pc (instrs.SkipIfZero n)) where
+      (tests : (a : List ℤ) (l : ℕ) → Does m top [] [] a l pc (test a l)) (kept : (a : List ℤ) (l : ℕ) → Keeps l (test a l)) (skips : Stands m pc (instrs.JumpIfZero n)) where
     turn_acts : (k : ℕ) → Again k → (answers : List ℤ) (left : ℕ) → left < suc k → (g : Got ℤ) → Does m top [] [] answers left pc g → Keeps left g → Acts m top [] [] answers left out (g >>= λ v a l. chosen v (body a l >>= λ f. unless_returned f (λ a l. step a l >>= λ f. unless_returned f (turns k test body step))) (Gives None a l))
     turn_acts k again answers left low (Asks x) r took = r
     turn_acts k again answers left low (Gives v a l) r took =

@@ -43,11 +43,11 @@ depth_short (Binary op a b) =
     let l = length-append (expr_code a) (expr_code b ++ instrs.Apply op ∷ []) in
     omega (arith, depth_short a, depth_short b, length-append (expr_code b) (instrs.Apply op ∷ []))
 depth_short (And a b) =
-    let post = instrs.Truth ∷ (instrs.GoOn 1 ∷ (instrs.Push (pos 0) ∷ [])) in
-    let l = length-append (expr_code a) (instrs.SkipIfZero (length (expr_code b) + 2) ∷ (expr_code b ++ post)) in
+    let post = instrs.Truth ∷ (instrs.Jump 1 ∷ (instrs.Push (pos 0) ∷ [])) in
+    let l = length-append (expr_code a) (instrs.JumpIfZero (length (expr_code b) + 2) ∷ (expr_code b ++ post)) in
     omega (arith, depth_short a, depth_short b, length-append (expr_code b) post)
 depth_short (Or a b) =
-    let l = length-append (expr_code a) (instrs.SkipIfZero 2 ∷ (instrs.Push (pos 1) ∷ (instrs.GoOn (length (expr_code b) + 1) ∷ (expr_code b ++ instrs.Truth ∷ [])))) in
+    let l = length-append (expr_code a) (instrs.JumpIfZero 2 ∷ (instrs.Push (pos 1) ∷ (instrs.Jump (length (expr_code b) + 1) ∷ (expr_code b ++ instrs.Truth ∷ [])))) in
     omega (arith, depth_short a, depth_short b, length-append (expr_code b) (instrs.Truth ∷ []))
 depth_short (Value r) = omega arith
 depth_short (Input e) = omega (arith, depth_short e, length-append (expr_code e) (instrs.Input ∷ []))
@@ -112,8 +112,8 @@ module _ (m : Setting) where
       (λ y a l. checked_does m p2 (y ∷ x ∷ stack) stack a l (instrs.Apply op) DivisionByZero (apply op x y) at refl)))
   expr_does (And e f) pc stack answers left fits has =
       let ca = expr_code e in let cb = expr_code f in
-      let post = instrs.Truth ∷ (instrs.GoOn 1 ∷ (instrs.Push (pos 0) ∷ [])) in
-      let rest = instrs.SkipIfZero (length cb + 2) ∷ (cb ++ post) in
+      let post = instrs.Truth ∷ (instrs.Jump 1 ∷ (instrs.Push (pos 0) ∷ [])) in
+      let rest = instrs.JumpIfZero (length cb + 2) ∷ (cb ++ post) in
       let p1 = pc + length ca in
       let p2 = p1 + 1 + length cb in
       let behind = has_back m.code.instrs pc ca rest has in
@@ -135,7 +135,7 @@ module _ (m : Setting) where
   expr_does (Or e f) pc stack answers left fits has =
       let ca = expr_code e in let cb = expr_code f in
       let tail = cb ++ instrs.Truth ∷ [] in
-      let rest = instrs.SkipIfZero 2 ∷ (instrs.Push (pos 1) ∷ (instrs.GoOn (length cb + 1) ∷ tail)) in
+      let rest = instrs.JumpIfZero 2 ∷ (instrs.Push (pos 1) ∷ (instrs.Jump (length cb + 1) ∷ tail)) in
       let p1 = pc + length ca in
       let p3 = p1 + 1 + 1 + 1 in
       let p4 = p3 + length cb in

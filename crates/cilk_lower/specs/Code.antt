@@ -30,10 +30,10 @@ entry_of c (callees.Function call) = unwrap_or (slice_get c.functions call.funct
 entry_of c (callees.Loop part) = unwrap_or (slice_get c.loops part.number) c.root
 
 abbrev pub and_code : List Instr → List Instr → List Instr
-and_code a b = a ++ (instrs.SkipIfZero (length b + 2) ∷ (b ++ (instrs.Truth ∷ (instrs.GoOn 1 ∷ (instrs.Push (pos 0) ∷ [])))))
+and_code a b = a ++ (instrs.JumpIfZero (length b + 2) ∷ (b ++ (instrs.Truth ∷ (instrs.Jump 1 ∷ (instrs.Push (pos 0) ∷ [])))))
 
 abbrev pub or_code : List Instr → List Instr → List Instr
-or_code a b = a ++ (instrs.SkipIfZero 2 ∷ (instrs.Push (pos 1) ∷ (instrs.GoOn (length b + 1) ∷ (b ++ instrs.Truth ∷ []))))
+or_code a b = a ++ (instrs.JumpIfZero 2 ∷ (instrs.Push (pos 1) ∷ (instrs.Jump (length b + 1) ∷ (b ++ instrs.Truth ∷ []))))
 
 abbrev pub expr_code : Expression → List Instr
 expr_code (Number n) = instrs.Push n ∷ []
@@ -60,7 +60,7 @@ index_code (ToElement a e) = expr_code e
 
 -- a target's old value; its index stays on the stack
 abbrev pub fetch : Target → Instr
-fetch (ToVariable x) = instrs.Fetch x
+fetch (ToVariable x) = instrs.LoadUncounted x
 fetch (ToElement a e) = instrs.FetchElement a
 
 -- a target's new value, above its index
@@ -120,19 +120,19 @@ declarations_code k [] = []
 declarations_code k (d ∷ ds) = declaration_code k d ++ declarations_code (k + length (declaration_sites d)) ds
 
 abbrev pub if_code : List Instr → List Instr → List Instr
-if_code test a = test ++ (instrs.SkipIfZero (length a) ∷ a)
+if_code test a = test ++ (instrs.JumpIfZero (length a) ∷ a)
 
 abbrev pub if_else_code : List Instr → List Instr → List Instr → List Instr
-if_else_code test a b = test ++ (instrs.SkipIfZero (length a + 1) ∷ (a ++ (instrs.GoOn (length b) ∷ b)))
+if_else_code test a b = test ++ (instrs.JumpIfZero (length a + 1) ∷ (a ++ (instrs.Jump (length b) ∷ b)))
 
 -- turns with a condition; a turn is a body and a step
 abbrev pub while_code : List Instr → List Instr → List Instr
 while_code test turn =
-    test ++ (instrs.SkipIfZero (length turn + 1) ∷ (turn ++ instrs.GoBack (length test + 1 + length turn) ∷ []))
+    test ++ (instrs.JumpIfZero (length turn + 1) ∷ (turn ++ instrs.JumpBack (length test + 1 + length turn) ∷ []))
 
 -- turns without one
 abbrev pub forever_code : List Instr → List Instr
-forever_code turn = turn ++ instrs.GoBack (length turn) ∷ []
+forever_code turn = turn ++ instrs.JumpBack (length turn) ∷ []
 
 abbrev pub turns_code : Option Expression → List Instr → List Instr
 turns_code None turn = forever_code turn
@@ -144,7 +144,7 @@ ends = instrs.Sync ∷ (instrs.GiveResult ∷ (instrs.End ∷ []))
 
 abbrev pub return_code : Option Expression → List Instr
 return_code None = ends
-return_code (Some e) = expr_code e ++ (instrs.Hold ∷ ends)
+return_code (Some e) = expr_code e ++ (instrs.SetResult ∷ ends)
 
 abbrev mutual
   -- a statement; call sites are counted from this number on
@@ -199,7 +199,7 @@ ticks (Some instrs.Tick) = true
 ticks (Some (instrs.Push n)) = true
 ticks (Some (instrs.Load x)) = true
 ticks (Some (instrs.LoadElement a)) = true
-ticks (Some (instrs.Fetch x)) = false
+ticks (Some (instrs.LoadUncounted x)) = false
 ticks (Some (instrs.FetchElement a)) = false
 ticks (Some (instrs.Store x)) = false
 ticks (Some (instrs.StoreElement a)) = false
@@ -224,11 +224,11 @@ ticks (Some (instrs.CallLoop n)) = false
 ticks (Some instrs.SpawnHalf) = false
 ticks (Some instrs.CallHalf) = false
 ticks (Some instrs.Resume) = false
-ticks (Some (instrs.SkipIfZero n)) = false
+ticks (Some (instrs.JumpIfZero n)) = false
 ticks (Some (instrs.SkipUnlessOne n)) = false
-ticks (Some (instrs.GoOn n)) = false
-ticks (Some (instrs.GoBack n)) = false
-ticks (Some instrs.Hold) = false
+ticks (Some (instrs.Jump n)) = false
+ticks (Some (instrs.JumpBack n)) = false
+ticks (Some instrs.SetResult) = false
 ticks (Some instrs.Sync) = false
 ticks (Some instrs.GiveResult) = false
 ticks (Some instrs.End) = false
@@ -236,10 +236,10 @@ ticks (Some instrs.End) = false
 -- A jump stays within the code, and a jump back leads to an instruction that takes a tick.
 abbrev pub Lands : List Instr → ℕ → Instr → Type 0
 Lands code place (instrs.CallLoop n) = place + 2 ≤ length code
-Lands code place (instrs.SkipIfZero n) = place + 1 + n ≤ length code
+Lands code place (instrs.JumpIfZero n) = place + 1 + n ≤ length code
 Lands code place (instrs.SkipUnlessOne n) = place + 1 + n ≤ length code
-Lands code place (instrs.GoOn n) = place + 1 + n ≤ length code
-Lands code place (instrs.GoBack n) = (n ≤ place) × IsTrue (ticks (slice_get code (place - n)))
+Lands code place (instrs.Jump n) = place + 1 + n ≤ length code
+Lands code place (instrs.JumpBack n) = (n ≤ place) × IsTrue (ticks (slice_get code (place - n)))
 Lands code place _ = Unit {0}
 
 abbrev pub JumpsLand : List Instr → Type 0

@@ -108,7 +108,7 @@ module _ (m : Setting) where
   move (Some (instrs.Load x)) place stack held left = ticked left (Waits (asks.Read x) Word (place + 1) stack held)
   move (Some (instrs.LoadElement a)) place stack held left =
       on_top stack (λ i rest. or_stops IndexOutside (element a i) left (λ x. ticked left (Waits (asks.Read x) Word (place + 1) rest held)))
-  move (Some (instrs.Fetch x)) place stack held left = Waits (asks.Read x) Word (place + 1) stack held left
+  move (Some (instrs.LoadUncounted x)) place stack held left = Waits (asks.Read x) Word (place + 1) stack held left
   move (Some (instrs.FetchElement a)) place stack held left =
       on_top stack (λ i rest. or_stops IndexOutside (element a i) left (λ x. Waits (asks.Read x) Word (place + 1) (i ∷ rest) held left))
   move (Some (instrs.Store x)) place stack held left = on_top stack (λ v rest. Waits (asks.Write x v) Nothing (place + 1) rest held left)
@@ -146,13 +146,13 @@ module _ (m : Setting) where
   move (Some instrs.CallHalf) place stack held left =
       on_some m.given.part (λ l. on_none stack (Waits (second_half l) Nothing (place + 1) [] held left))
   move (Some instrs.Resume) place stack held left = Waits asks.Resume Nothing (place + 1) stack held left
-  move (Some (instrs.SkipIfZero n)) place stack held left =
+  move (Some (instrs.JumpIfZero n)) place stack held left =
       on_top stack (λ v rest. if is_zero v then Goes (place + 1 + n) rest held left else Goes (place + 1) rest held left)
   move (Some (instrs.SkipUnlessOne n)) place stack held left =
       on_some m.given.part (λ l. if has_one l then Goes (place + 1) stack held left else Goes (place + 1 + n) stack held left)
-  move (Some (instrs.GoOn n)) place stack held left = Goes (place + 1 + n) stack held left
-  move (Some (instrs.GoBack n)) place stack held left = Goes (place - n) stack held left
-  move (Some instrs.Hold) place stack held left = on_top stack (λ v rest. Goes (place + 1) rest v left)
+  move (Some (instrs.Jump n)) place stack held left = Goes (place + 1 + n) stack held left
+  move (Some (instrs.JumpBack n)) place stack held left = Goes (place - n) stack held left
+  move (Some instrs.SetResult) place stack held left = on_top stack (λ v rest. Goes (place + 1) rest v left)
   move (Some instrs.Sync) place stack held left = on_none stack (Waits asks.Sync Nothing (place + 1) [] held left)
   move (Some instrs.GiveResult) place stack held left =
       if m.given.takes then Waits (asks.Result held) Nothing (place + 1) stack held left else Goes (place + 1) stack held left

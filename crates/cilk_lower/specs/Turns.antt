@@ -8,7 +8,7 @@ use Rattle.cilk_lower.specs.Code.{expr_code}
 -- a condition, with a jump that doesn't yet say what it passes
 abbrev pub test_code : Option Expression → List Instr
 test_code None = []
-test_code (Some e) = expr_code e ++ instrs.SkipIfZero 0 ∷ []
+test_code (Some e) = expr_code e ++ instrs.JumpIfZero 0 ∷ []
 
 -- the place of that jump, behind so many instructions
 abbrev pub exit_of : ℕ → Option Expression → Option ℕ
@@ -18,8 +18,8 @@ exit_of n (Some e) = Some (n + length (expr_code e))
 -- the jump, once its place is known, passes what stands behind it
 abbrev pub exits : Option ℕ → List Instr → List Instr
 exits None code = code
-exits (Some n) code = slice_set code n (instrs.SkipIfZero (length code - n - 1))
+exits (Some n) code = slice_set code n (instrs.JumpIfZero (length code - n - 1))
 
 -- behind a turn: back to a place
 abbrev pub turned : ℕ → Option ℕ → List Instr → List Instr
-turned start exit code = exits exit (code ++ instrs.GoBack (length code - start) ∷ [])
+turned start exit code = exits exit (code ++ instrs.JumpBack (length code - start) ∷ [])

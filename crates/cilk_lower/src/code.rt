@@ -23,7 +23,7 @@ pub enum Instr {
     /// A tick, and the value of the element whose index is the top in place of it.
     LoadElement(Array),
     /// The value at a place onto the stack, without a tick.
-    Fetch(Place),
+    LoadUncounted(Place),
     /// The value of the element whose index is the top above it, without a tick.
     FetchElement(Array),
     /// The top of the stack to a place.
@@ -73,15 +73,15 @@ pub enum Instr {
     /// The frame goes on after an invocation.
     Resume,
     /// Goes on behind so many instructions where the top is 0.
-    SkipIfZero(usize),
+    JumpIfZero(usize),
     /// Goes on behind so many instructions where the frame has several turns.
     SkipUnlessOne(usize),
     /// Goes on behind so many instructions.
-    GoOn(usize),
+    Jump(usize),
     /// Goes back by so many instructions.
-    GoBack(usize),
+    JumpBack(usize),
     /// The top is held for the frame's result.
-    Hold,
+    SetResult,
     /// The frame waits for the children that it spawned.
     Sync,
     /// The result goes to the caller's variable, where it takes one.

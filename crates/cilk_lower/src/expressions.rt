@@ -78,7 +78,7 @@ fn emit_expr(code: &mut Vec<Instr>, e: &Expr) -> Result<usize, AllocError>
         }
         Expr::And(a, b) => {
             let left = emit_expr(code, a)?;
-            let skip = put_jump(code, Instr::SkipIfZero(0))?;
+            let skip = put_jump(code, Instr::JumpIfZero(0))?;
             let right = emit_expr(code, b)?;
             end_and(code, skip)?;
             Ok(left.max(right))

@@ -9,7 +9,7 @@
 //!  1 Load x          7 Push 1
 //!  2 Push 3          8 Apply Add
 //!  3 Apply Less      9 Store x
-//!  4 SkipIfZero 6   10 GoBack 9
+//!  4 JumpIfZero 6   10 JumpBack 9
 //!  5 Tick
 //! ```
 //!

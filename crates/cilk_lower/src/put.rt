@@ -54,29 +54,29 @@ pub fn put_halves(code: &mut Vec<Instr>) -> Result<(), AllocError>
 #[tactic(auto, using(crate::proofs::Patch::and_ends))]
 pub fn end_and(code: &mut Vec<Instr>, skip: usize) -> Result<(), AllocError>
     requires { skip < length code.old.items }
-    ensures { OnOk result (code.new.items ≡ slice_set code.old.items skip (Instr.SkipIfZero (length code.old.items - skip + 1)) ++ (Instr.Truth ∷ (Instr.GoOn 1 ∷ (Instr.Push (pos 0) ∷ [])))) }
+    ensures { OnOk result (code.new.items ≡ slice_set code.old.items skip (Instr.JumpIfZero (length code.old.items - skip + 1)) ++ (Instr.Truth ∷ (Instr.Jump 1 ∷ (Instr.Push (pos 0) ∷ [])))) }
 {
     put(code, Instr::Truth)?;
-    put(code, Instr::GoOn(1))?;
+    put(code, Instr::Jump(1))?;
     pass_if_zero(code, skip);
     put(code, Instr::Push(0))
 }
 
 /// Between the sides of `||`: 1 where the left side wasn't 0, and then a jump behind the right side, whose place is the result.
 pub fn begin_or(code: &mut Vec<Instr>) -> Result<usize, AllocError>
-    ensures code { OnOk result (code.new.items ≡ code.old.items ++ (Instr.SkipIfZero 2 ∷ (Instr.Push (pos 1) ∷ (Instr.GoOn 0 ∷ [])))) }
+    ensures code { OnOk result (code.new.items ≡ code.old.items ++ (Instr.JumpIfZero 2 ∷ (Instr.Push (pos 1) ∷ (Instr.Jump 0 ∷ [])))) }
     ensures place { IfOk result (λ n. n ≡ length code.old.items + 2) }
 {
-    put(code, Instr::SkipIfZero(2))?;
+    put(code, Instr::JumpIfZero(2))?;
     put(code, Instr::Push(1))?;
-    put_jump(code, Instr::GoOn(0))
+    put_jump(code, Instr::Jump(0))
 }
 
 /// Behind the right side of `||`: its truth.
 #[tactic(auto, using(crate::proofs::Patch::or_ends))]
 pub fn end_or(code: &mut Vec<Instr>, jump: usize) -> Result<(), AllocError>
     requires { jump < length code.old.items }
-    ensures { OnOk result (code.new.items ≡ slice_set code.old.items jump (Instr.GoOn (length code.old.items - jump)) ++ Instr.Truth ∷ []) }
+    ensures { OnOk result (code.new.items ≡ slice_set code.old.items jump (Instr.Jump (length code.old.items - jump)) ++ Instr.Truth ∷ []) }
 {
     put(code, Instr::Truth)?;
     pass(code, jump);
@@ -86,10 +86,10 @@ pub fn end_or(code: &mut Vec<Instr>, jump: usize) -> Result<(), AllocError>
 /// Between the branches of a choice: a jump behind the second, whose place is the result. The test at `skip` passes it too.
 pub fn begin_else(code: &mut Vec<Instr>, skip: usize) -> Result<usize, AllocError>
     requires { skip < length code.old.items }
-    ensures code { OnOk result (code.new.items ≡ slice_set (code.old.items ++ Instr.GoOn 0 ∷ []) skip (Instr.SkipIfZero (length code.old.items - skip))) }
+    ensures code { OnOk result (code.new.items ≡ slice_set (code.old.items ++ Instr.Jump 0 ∷ []) skip (Instr.JumpIfZero (length code.old.items - skip))) }
     ensures place { IfOk result (λ n. n ≡ length code.old.items) }
 {
-    let jump = put_jump(code, Instr::GoOn(0))?;
+    let jump = put_jump(code, Instr::Jump(0))?;
     pass_if_zero(code, skip);
     Ok(jump)
 }
@@ -110,18 +110,18 @@ pub fn end_turn(code: &mut Vec<Instr>, start: usize, exit: Option<usize>) -> Res
 /// A jump back to a place.
 fn go_back(code: &mut Vec<Instr>, start: usize) -> Result<(), AllocError>
     requires { start < length code.old.items }
-    ensures { OnOk result (code.new.items ≡ code.old.items ++ Instr.GoBack (length code.old.items - start) ∷ []) }
+    ensures { OnOk result (code.new.items ≡ code.old.items ++ Instr.JumpBack (length code.old.items - start) ∷ []) }
 {
     let end = code.len();
-    put(code, Instr::GoBack(end - start))
+    put(code, Instr::JumpBack(end - start))
 }
 
 /// The test at the place passes all that stands behind it.
 pub fn pass_if_zero(code: &mut Vec<Instr>, place: usize)
     requires { place < length code.old.items }
-    ensures { code.new.items ≡ slice_set code.old.items place (Instr.SkipIfZero (length code.old.items - place - 1)) }
+    ensures { code.new.items ≡ slice_set code.old.items place (Instr.JumpIfZero (length code.old.items - place - 1)) }
 {
-    code[place] = Instr::SkipIfZero(code.len() - place - 1);
+    code[place] = Instr::JumpIfZero(code.len() - place - 1);
 }
 
 /// The test for one turn at the place passes all that stands behind it.
@@ -135,9 +135,9 @@ pub fn pass_unless_one(code: &mut Vec<Instr>, place: usize)
 /// The jump at the place passes all that stands behind it.
 pub fn pass(code: &mut Vec<Instr>, place: usize)
     requires { place < length code.old.items }
-    ensures { code.new.items ≡ slice_set code.old.items place (Instr.GoOn (length code.old.items - place - 1)) }
+    ensures { code.new.items ≡ slice_set code.old.items place (Instr.Jump (length code.old.items - place - 1)) }
 {
-    code[place] = Instr::GoOn(code.len() - place - 1);
+    code[place] = Instr::Jump(code.len() - place - 1);
 }
 
 /// One more instruction, and its place.

@@ -34,12 +34,12 @@ pub fn emit_choice(
     room: &mut usize,
     test: &Expr,
 ) -> Result<usize, AllocError>
-    ensures code { OnOk result (code.new.items ≡ code.old.items ++ (Instr.Tick ∷ (expr_code (expression test.now) ++ Instr.SkipIfZero 0 ∷ []))) }
+    ensures code { OnOk result (code.new.items ≡ code.old.items ++ (Instr.Tick ∷ (expr_code (expression test.now) ++ Instr.JumpIfZero 0 ∷ []))) }
     ensures place { IfOk result (λ n. n ≡ length code.old.items + 1 + length (expr_code (expression test.now))) }
     ensures room { OnOk result (room.new ≡ max room.old (depth (expression test.now))) }
 {
     emit_begun(code, room, test)?;
-    put_jump(code, Instr::SkipIfZero(0))
+    put_jump(code, Instr::JumpIfZero(0))
 }
 
 /// The condition of the turns of a `for`, where it has one, and then a jump that doesn't yet say what it passes, whose place
@@ -56,7 +56,7 @@ pub fn emit_test(
     match test {
         Some(e) => {
             emit_value(code, room, e)?;
-            let exit = put_jump(code, Instr::SkipIfZero(0))?;
+            let exit = put_jump(code, Instr::JumpIfZero(0))?;
             Ok(Some(exit))
         }
         None => Ok(None),
@@ -157,7 +157,7 @@ pub fn emit_return(
     match e {
         Some(e) => {
             emit_begun(code, room, e)?;
-            put(code, Instr::Hold)?;
+            put(code, Instr::SetResult)?;
             put_ends(code)
         }
         None => {
@@ -187,7 +187,7 @@ fn fetch_from(to: &Target) -> Instr
     ensures { result ≡ fetch (target to.now) }
 {
     match to {
-        Target::Variable(x) => Instr::Fetch(*x),
+        Target::Variable(x) => Instr::LoadUncounted(*x),
         Target::Element(array, _) => Instr::FetchElement(*array),
     }
 }

@@ -1,10 +1,10 @@
 //! Why a place is refused, with the name or token that stands there.
 
+use crate::around::word_at;
 use crate::misuses::{is_argument, is_in_cilk_for, wants_reducer};
 use crate::place::{Location, locate};
 use crate::sites::enclosing;
 use crate::tokens::{Declared, Main, Tokens};
-use crate::around::word_at;
 use cilk_syntax::token::Kind;
 use std::alloc::{AllocError, Global};
 

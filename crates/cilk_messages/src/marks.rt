@@ -1,8 +1,8 @@
 //! What to write in place of bytes with which no token begins.
 
+use crate::around::{before, byte_at, is_name, is_number, word_after, word_at, word_before};
 use crate::place::line_at;
 use crate::sentences::{BITS, FRACTIONS, INPUT, LIBRARY, PRINT, REDUCER, STRUCTURES, VIEW_MEMBERS};
-use crate::around::{before, byte_at, is_name, is_number, word_after, word_at, word_before};
 
 /// A byte over 127.
 pub fn odd_byte(text: &[u8], at: usize) -> &'static str {

@@ -1,9 +1,9 @@
 //! What to write in place of a name of another kind, of a declaration past a limit, and of a number that is too great.
 
+use crate::around::word_before;
 use crate::sentences::{ARRAY_PARAMETER, ARRAYS, HEAD, REDUCER_ARRAY};
 use crate::sites::{head_kind, head_of};
 use crate::tokens::{Declared, Tokens};
-use crate::around::word_before;
 use cilk_syntax::token::Kind;
 
 /// A number that has no 64 bits with a sign.

@@ -1,5 +1,6 @@
 //! Tokens that a statement, a call, a head or an item has no place for.
 
+use crate::around::is_name;
 use crate::sentences::{
     ARRAY_PARAMETER, ARRAYS, CALL, HEAD, MEMORY, ONE_INDEX, ONE_TYPE, POINTER, PRINT, REDUCER,
     REDUCER_ARRAY, REDUCER_USE, SPAWN,
@@ -9,7 +10,6 @@ use crate::sites::{
     begins, closed_head, head_kind, is_global, is_in_brackets, is_in_head_of_function,
 };
 use crate::tokens::{Declared, Tokens};
-use crate::around::is_name;
 use cilk_syntax::token::Kind;
 
 /// What is said of a token that a statement, a call, a head or an item has no place for.

@@ -4,7 +4,7 @@ use Rattle.std.proofs.lemmas.List.Elements.{All-cons, All-head, All-tail, Contai
 use Rattle.std.proofs.lemmas.Bool.Decides.{nat_tests}
 use Rattle.cilk_syntax.specs.declared.tree.Tree.{Tree}
 use Rattle.cilk_syntax.specs.Trees.{program}
-use Rattle.cilk_names.specs.declared.kind.NameNumber.TheVariants.{NoMain}
+use Rattle.cilk_names.specs.declared.kind.NameErrorKind.TheVariants.{NoMain}
 use Rattle.cilk_names.specs.declared.kind.Misnaming.{Misnaming}
 use Rattle.cilk_names.specs.Globals.{start, main_of}
 use Rattle.cilk_names.specs.Faults.{number_of, is_before, earliest}

@@ -7,7 +7,7 @@ use Rattle.cilk_syntax.specs.declared.tree.Name.{Name}
 use Rattle.cilk_syntax.specs.declared.tree.Reducer as parsed
 use Rattle.cilk_syntax.specs.Trees as trees
 use Rattle.cilk_names.specs.declared.limits.TheConstants.{MAX_CELLS, MAX_REDUCERS}
-use Rattle.cilk_names.specs.declared.kind.NameNumber.TheVariants.{OverLimit, ReducerNotFirst}
+use Rattle.cilk_names.specs.declared.kind.NameErrorKind.TheVariants.{OverLimit, ReducerNotFirst}
 use Rattle.cilk_names.specs.Contexts.{Context, inside, behind_scope, ahead, counted, with_variable, with_reducer, behind_locals, behind_beginning, in_body, behind_loop, behind, behind_row}
 use Rattle.cilk_names.specs.Faults.{unless, again_faults, monoid_faults}
 use Rattle.cilk_names.specs.Misnamings.{limit_faults, own_faults, expression_faults, head_faults, statement_faults, row_faults}

@@ -3,8 +3,8 @@ use Rattle.std.proofs.Common.{◌≡◌, ℕ, false, ◌||◌, ◌&&◌, [], ref
 use Rattle.std.proofs.lemmas.Bool.Decides.{nat_tests}
 use Rattle.cilk_syntax.specs.declared.tree.Tree.{Tree}
 use Rattle.cilk_program.specs.Syntax.{Source}
-use Rattle.cilk_names.specs.declared.kind.NameNumber.{NameNumber}
-use Rattle.cilk_names.specs.declared.kind.NameNumber.TheVariants as numbers
+use Rattle.cilk_names.specs.declared.kind.NameErrorKind.{NameErrorKind}
+use Rattle.cilk_names.specs.declared.kind.NameErrorKind.TheVariants as numbers
 use Rattle.cilk_names.specs.declared.fault.NameFault.TheVariants.{At}
 use Rattle.cilk_names.specs.declared.kind.Misnaming.{Misnaming}
 use Rattle.cilk_names.specs.Faults.{number_of, is_before}
@@ -21,7 +21,7 @@ same_rank : (p n q m : ℕ) → (nat_lt p q || (nat_eq p q && nat_lt n m)) ≡ f
 same_rank p n q m a b = grind (arith, nat_tests)
 
 -- the numbers tell the faults apart
-same_number : (n m : NameNumber) → number_of n ≡ number_of m → n ≡ m
+same_number : (n m : NameErrorKind) → number_of n ≡ number_of m → n ≡ m
 same_number numbers.Unknown numbers.Unknown e = refl
 same_number numbers.DeclaredTwice numbers.DeclaredTwice e = refl
 same_number numbers.WrongCount numbers.WrongCount e = refl
@@ -34,7 +34,7 @@ same_number numbers.OverLimit numbers.OverLimit e = refl
 same_number _ _ e = absurd (omega arith)
 
 -- of two firsts of a list neither is before the other
-pub one_fault : (t : Tree) (n m : NameNumber) (p q : ℕ) → IsNameFault (At n p) t → IsNameFault (At m q) t
+pub one_fault : (t : Tree) (n m : NameErrorKind) (p q : ℕ) → IsNameFault (At n p) t → IsNameFault (At m q) t
     → (n ≡ m) × (p ≡ q)
 one_fault t n m p q h k =
     let f : Misnaming = record { number = n; place = p } in
@@ -44,7 +44,7 @@ one_fault t n m p q h k =
     (same_number n m (same_rank p (number_of n) q (number_of m) b a), same_place p (number_of n) q (number_of m) b a)
 
 -- an empty list has no first
-pub none_where_resolved : (t : Tree) (s : Source) (n : NameNumber) (p : ℕ) → Resolves t s → IsNameFault (At n p) t → ⊥
+pub none_where_resolved : (t : Tree) (s : Source) (n : NameErrorKind) (p : ℕ) → Resolves t s → IsNameFault (At n p) t → ⊥
 none_where_resolved t s n p r h =
     let f : Misnaming = record { number = n; place = p } in
     let k : IsFirst f [] = subst (IsFirst f) r.right h in absurd (omega (arith, k.0.1))

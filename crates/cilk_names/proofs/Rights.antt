@@ -11,8 +11,8 @@ use Rattle.cilk_program.specs.declared.syntax.Place.{Place}
 use Rattle.cilk_program.specs.declared.syntax.Place.TheVariants.{Local}
 use Rattle.cilk_program.specs.declared.syntax.Reducer.{Reducer}
 use Rattle.cilk_program.specs.Syntax.{Target, ToVariable, ToElement, Invoke, Assign, Change, Step, Invokes, Update, Set}
-use Rattle.cilk_names.specs.declared.kind.NameNumber.{NameNumber}
-use Rattle.cilk_names.specs.declared.kind.NameNumber.TheVariants.{WrongCount, WrongKind}
+use Rattle.cilk_names.specs.declared.kind.NameErrorKind.{NameErrorKind}
+use Rattle.cilk_names.specs.declared.kind.NameErrorKind.TheVariants.{WrongCount, WrongKind}
 use Rattle.cilk_names.specs.declared.table.Meaning.{Meaning}
 use Rattle.cilk_names.specs.declared.table.Meaning.TheVariants as meanings
 use Rattle.cilk_names.specs.declared.signature.ParameterKind.{ParameterKind}
@@ -32,7 +32,7 @@ pub both_nil : {A : Type 0} (xs ys : List A) → xs ++ ys ≡ [] → (xs ≡ [])
 both_nil [] ys h = (refl, h)
 both_nil (x ∷ xs) ys h = absurd cc
 
-pub unless_right : (b : Bool) (n : NameNumber) (place : ℕ) → unless b n place ≡ [] → b ≡ true
+pub unless_right : (b : Bool) (n : NameErrorKind) (place : ℕ) → unless b n place ≡ [] → b ≡ true
 unless_right true n place h = refl
 unless_right false n place h = absurd cc
 

@@ -21,7 +21,7 @@ use Rattle.cilk_program.specs.Syntax as syntax
 use Rattle.cilk_program.specs.Syntax.{Function, Loop, Source, Statements, idle, function_at}
 use Rattle.cilk_program.specs.WellNamed.{Level, function_level, levels, at_most, has_cell, is_kind, has_given, row_is_named, stands_in, function_is_named, functions_are_named, loops_are_named, main_is_plain, is_well_named}
 use Rattle.cilk_names.specs.declared.limits.TheConstants.{MAX_CELLS, MAX_GLOBALS, MAX_PARAMETERS, MAX_REDUCERS}
-use Rattle.cilk_names.specs.declared.kind.NameNumber.TheVariants.{OverLimit}
+use Rattle.cilk_names.specs.declared.kind.NameErrorKind.TheVariants.{OverLimit}
 use Rattle.cilk_names.specs.declared.table.Binding.{Binding}
 use Rattle.cilk_names.specs.declared.table.Meaning.{Meaning}
 use Rattle.cilk_names.specs.declared.table.Meaning.TheVariants as meanings

@@ -5,14 +5,14 @@ use Rattle.cilk_syntax.specs.declared.tree.Name.{Name}
 use Rattle.cilk_syntax.specs.declared.tree.Reducer.{Reducer}
 use Rattle.cilk_syntax.specs.Trees.{bytes_of}
 use Rattle.cilk_names.specs.declared.table.Meaning.{Meaning}
-use Rattle.cilk_names.specs.declared.kind.NameNumber.{NameNumber}
-use Rattle.cilk_names.specs.declared.kind.NameNumber.TheVariants.{Unknown, DeclaredTwice, WrongCount, WrongKind, NoMain, ReturnInLoop, LoopVariable, ReducerNotFirst, OverLimit}
+use Rattle.cilk_names.specs.declared.kind.NameErrorKind.{NameErrorKind}
+use Rattle.cilk_names.specs.declared.kind.NameErrorKind.TheVariants.{Unknown, DeclaredTwice, WrongCount, WrongKind, NoMain, ReturnInLoop, LoopVariable, ReducerNotFirst, OverLimit}
 use Rattle.cilk_names.specs.declared.kind.Misnaming.{Misnaming}
 use Rattle.cilk_names.specs.Names.{Names, meaning, is_declared, monoid_at}
 use Rattle.cilk_names.specs.Sights.{place_of, is_turn, array_of, reducer_of, function_of}
 
 -- the number that a fault is reported by
-abbrev pub number_of : NameNumber → ℕ
+abbrev pub number_of : NameErrorKind → ℕ
 number_of Unknown = 111
 number_of DeclaredTwice = 112
 number_of WrongCount = 113
@@ -24,10 +24,10 @@ number_of ReducerNotFirst = 118
 number_of OverLimit = 119
 
 -- one fault at a place
-abbrev pub at : NameNumber → ℕ → List Misnaming
+abbrev pub at : NameErrorKind → ℕ → List Misnaming
 at number place = record { number = number; place = place } ∷ []
 
-abbrev pub unless : Bool → NameNumber → ℕ → List Misnaming
+abbrev pub unless : Bool → NameErrorKind → ℕ → List Misnaming
 unless right number place = if right then [] else at number place
 
 -- a name has to be known, and of the right kind

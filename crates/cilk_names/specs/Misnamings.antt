@@ -17,7 +17,7 @@ use Rattle.cilk_names.specs.declared.limits.TheConstants.{MAX_CELLS, MAX_FUNCTIO
 use Rattle.cilk_names.specs.declared.signature.ParameterKind.{ParameterKind}
 use Rattle.cilk_names.specs.declared.signature.ParameterKind.TheVariants as kinds
 use Rattle.cilk_names.specs.declared.signature.Signature.{Signature}
-use Rattle.cilk_names.specs.declared.kind.NameNumber.TheVariants.{WrongCount, WrongKind, NoMain, ReturnInLoop, ReducerNotFirst, OverLimit}
+use Rattle.cilk_names.specs.declared.kind.NameErrorKind.TheVariants.{WrongCount, WrongKind, NoMain, ReturnInLoop, ReducerNotFirst, OverLimit}
 use Rattle.cilk_names.specs.declared.kind.Misnaming.{Misnaming}
 use Rattle.cilk_names.specs.declared.fault.NameFault.{NameFault}
 use Rattle.cilk_names.specs.declared.fault.NameFault.TheVariants as faults

@@ -12,12 +12,12 @@ ghost use Rattle.cilk_names.specs.Tables.{names_of};
 ghost use Rattle.cilk_names.specs.declared.signature.ParameterKind.TheVariants.{Word};
 
 use crate::expressions::expression;
-use cilk_monoid::kind::MonoidKind;
-use cilk_program::syntax::{Expr, Invoke, Place, Reducer};
-use crate::kind::{Misnaming, NameNumber};
+use crate::kind::{Misnaming, NameErrorKind};
 use crate::sights::{function, given, note_unless};
 use crate::signature::ParameterKind;
 use crate::table::{Table, signature};
+use cilk_monoid::kind::MonoidKind;
+use cilk_program::syntax::{Expr, Invoke, Place, Reducer};
 use cilk_syntax::tree;
 use cilk_syntax::tree::{Argument, Name, ReturnType};
 use cilk_types::invocation::Invocation;
@@ -64,7 +64,7 @@ fn bare(
     match bare_name(&argument.value) {
         Some(name) => Ok(given(table, name, kind, argument.at, first)),
         None => {
-            note_unless(false, NameNumber::WrongKind, argument.at, first);
+            note_unless(false, NameErrorKind::WrongKind, argument.at, first);
             let _value = expression(alloc, table, &argument.value, first)?;
             Ok(None)
         }
@@ -192,8 +192,8 @@ fn fit<'a>(
 {
     let (returns, kinds): (ReturnType, &'a [ParameterKind]) = signature(table, function);
     let is_whole = call.arguments.len() == kinds.len();
-    note_unless(is_whole, NameNumber::WrongCount, call.name.at, first);
+    note_unless(is_whole, NameErrorKind::WrongCount, call.name.at, first);
     let gives = gives(returns, is_taken);
-    note_unless(gives, NameNumber::WrongKind, call.name.at, first);
+    note_unless(gives, NameErrorKind::WrongKind, call.name.at, first);
     kinds
 }

@@ -9,11 +9,11 @@ ghost use Rattle.cilk_names.specs.Misnamings.{expression_faults, optional_faults
 ghost use Rattle.cilk_names.specs.Pass.{assignment_of, element_of, expression_of, optional_of, or_empty, read_of, target_of, value_of};
 ghost use Rattle.cilk_names.specs.Tables.{names_of};
 
-use cilk_program::syntax::{Array, Expr, Literal, Place, Reducer, Stmt, Target};
 use crate::kind::Misnaming;
 use crate::operators::{between, in_front};
 use crate::sights::{array, reducer, variable, written};
 use crate::table::Table;
+use cilk_program::syntax::{Array, Expr, Literal, Place, Reducer, Stmt, Target};
 use cilk_syntax::tree;
 use cilk_types::compound::Compound;
 use std::alloc::{AllocError, Global};

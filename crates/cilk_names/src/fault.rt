@@ -3,7 +3,7 @@
 ghost use Rattle.std.specs.Prelude.{◌≡◌};
 ghost use Rattle.cilk_names.specs.declared.fault.NameFault.TheVariants.{Memory};
 
-pub use crate::kind::NameNumber;
+pub use crate::kind::NameErrorKind;
 use std::alloc::{AllocError, AllocFailed};
 use thiserror::Error;
 
@@ -13,7 +13,7 @@ pub enum NameFault {
     #[error("no memory")]
     Memory,
     #[error("{0} at byte {1}")]
-    At(NameNumber, usize),
+    At(NameErrorKind, usize),
 }
 
 impl From<AllocError> for NameFault {

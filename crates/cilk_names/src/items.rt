@@ -10,16 +10,16 @@ ghost use Rattle.cilk_names.specs.Misnamings.{global_faults, item_faults, items_
 ghost use Rattle.cilk_names.specs.Pass.{item_functions, item_loops, items_functions, items_loops};
 ghost use Rattle.cilk_names.specs.Tables.{names_of};
 ghost use Rattle.cilk_names.specs.States.{context_of, known_of};
-ghost use Rattle.cilk_names.specs.declared.kind.NameNumber.TheVariants.{OverLimit};
+ghost use Rattle.cilk_names.specs.declared.kind.NameErrorKind.TheVariants.{OverLimit};
 
+use crate::kind::NameErrorKind;
 use crate::limits::{MAX_FUNCTIONS, MAX_GLOBALS, MAX_REDUCERS};
 use crate::scene::{Frame, Resolver, counted, number_of};
+use crate::sights::{monoid, note_unless};
+use crate::table::{Home, Meaning, bytes_of};
 use cilk_monoid::kind::MonoidKind;
 use cilk_program::program::{Body, Function, GlobalReducer};
 use cilk_program::syntax::{Array, Stmt};
-use crate::kind::NameNumber;
-use crate::sights::{monoid, note_unless};
-use crate::table::{Home, Meaning, bytes_of};
 use cilk_syntax::tree;
 use cilk_syntax::tree::{GlobalVariable, Initializer, Item, Name, Parameter, ReturnType};
 use cilk_types::sequence::Sequence;
@@ -76,7 +76,7 @@ impl Resolver<'_> {
         ensures faults { self.new.first ≡ earliest self.old.first (unless is_within OverLimit place) }
         ensures same { (self.new.table ≡ self.old.table) × (self.new.loops ≡ self.old.loops) × (self.new.reducers ≡ self.old.reducers) }
     {
-        note_unless(is_within, NameNumber::OverLimit, place, &mut self.first);
+        note_unless(is_within, NameErrorKind::OverLimit, place, &mut self.first);
     }
 
     /// Declares a reducer between items, whose number this is, and gives its monoid, if that is one.

@@ -7,7 +7,7 @@ use thiserror::Error;
 
 /// What is wrong at a name.
 #[derive(Clone, Copy, PartialEq, Eq, Debug, Error)]
-pub enum NameNumber {
+pub enum NameErrorKind {
     #[error("an unknown name")]
     Unknown,
     #[error("a name that is declared twice in a scope")]
@@ -28,21 +28,21 @@ pub enum NameNumber {
     OverLimit,
 }
 
-impl NameNumber {
+impl NameErrorKind {
     /// The number by which the fault is reported: 111 to 119.
     pub fn number(self) -> u16
         ensures { result ≡ number_of self }
     {
         match self {
-            NameNumber::Unknown => 111,
-            NameNumber::DeclaredTwice => 112,
-            NameNumber::WrongCount => 113,
-            NameNumber::WrongKind => 114,
-            NameNumber::NoMain => 115,
-            NameNumber::ReturnInLoop => 116,
-            NameNumber::LoopVariable => 117,
-            NameNumber::ReducerNotFirst => 118,
-            NameNumber::OverLimit => 119,
+            NameErrorKind::Unknown => 111,
+            NameErrorKind::DeclaredTwice => 112,
+            NameErrorKind::WrongCount => 113,
+            NameErrorKind::WrongKind => 114,
+            NameErrorKind::NoMain => 115,
+            NameErrorKind::ReturnInLoop => 116,
+            NameErrorKind::LoopVariable => 117,
+            NameErrorKind::ReducerNotFirst => 118,
+            NameErrorKind::OverLimit => 119,
         }
     }
 }
@@ -50,7 +50,7 @@ impl NameNumber {
 /// What is wrong, and at which byte of the text, counted from 0.
 #[derive(Clone, Copy, PartialEq, Eq)]
 pub struct Misnaming {
-    pub number: NameNumber,
+    pub number: NameErrorKind,
     pub place: usize,
 }
 

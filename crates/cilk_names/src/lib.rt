@@ -9,7 +9,7 @@
 //!
 //! ```text
 //! let tree = parse(alloc, b"int main(){return x;}")?;
-//! resolve(alloc, &tree)                      // Err(NameFault::At(NameNumber::Unknown, 18))
+//! resolve(alloc, &tree)                      // Err(NameFault::At(NameErrorKind::Unknown, 18))
 //! ```
 //!
 //! The scopes of a program text: what a name means at a place of it, and what is wrong with a name.

@@ -8,7 +8,7 @@ ghost use Rattle.cilk_names.specs.Misnamings.{IsNameFault, faults_of};
 ghost use Rattle.cilk_names.specs.Resolution.{Resolves};
 ghost use Rattle.cilk_names.specs.declared.fault.NameFault.TheVariants as faults;
 ghost use Rattle.cilk_names.specs.declared.limits.TheConstants.{MAX_CELLS, MAX_FUNCTIONS, MAX_GLOBALS, MAX_PARAMETERS, MAX_REDUCERS};
-ghost use Rattle.cilk_names.specs.declared.kind.NameNumber.{NameNumber};
+ghost use Rattle.cilk_names.specs.declared.kind.NameErrorKind.{NameErrorKind};
 
 /// A tree resolves to at most one program.
 pub fn one_program()
@@ -28,9 +28,9 @@ pub fn resolves_well_named()
 /// A tree has at most one first fault of its names, and none where it resolves.
 #[tactic(auto, using(crate::proofs::OneFault::one_fault, crate::proofs::OneFault::none_where_resolved))]
 pub fn one_fault()
-    ensures one { (t : Tree) (n m : NameNumber) (p q : ℕ) → IsNameFault (faults.At n p) t → IsNameFault (faults.At m q) t
+    ensures one { (t : Tree) (n m : NameErrorKind) (p q : ℕ) → IsNameFault (faults.At n p) t → IsNameFault (faults.At m q) t
         → (n ≡ m) × (p ≡ q) }
-    ensures apart { (t : Tree) (s : Source) (n : NameNumber) (p : ℕ) → Resolves t s
+    ensures apart { (t : Tree) (s : Source) (n : NameErrorKind) (p : ℕ) → Resolves t s
         → IsNameFault (faults.At n p) t → ⊥ }
 {}
 

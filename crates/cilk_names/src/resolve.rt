@@ -9,12 +9,12 @@ ghost use Rattle.cilk_names.specs.Misnamings.{IsNameFault};
 ghost use Rattle.cilk_names.specs.Resolution.{Resolves, shared_of};
 ghost use Rattle.cilk_names.specs.States.{Comes};
 
-use crate::fault::{NameFault, NameNumber};
+use crate::fault::{NameErrorKind, NameFault};
 use crate::headings::{known, main_of, signatures_of};
 use crate::items::Pass;
 use crate::scene::{Frame, Resolver, number_of};
-use cilk_program::program::{Body, Program};
 use crate::signature::Signature;
+use cilk_program::program::{Body, Program};
 use cilk_syntax::tree::{Item, ReturnType, Tree};
 use cilk_types::word_list::WordList;
 use std::alloc::{AllocError, Global};
@@ -83,7 +83,7 @@ pub fn resolve(alloc: Global, tree: &Tree) -> Result<Program, NameFault>
         return Err(NameFault::At(wrong.number, wrong.place));
     }
     let Some(main) = main_of(text, items) else {
-        return Err(NameFault::At(NameNumber::NoMain, text.len()));
+        return Err(NameFault::At(NameErrorKind::NoMain, text.len()));
     };
     Ok(Program {
         globals: openings,

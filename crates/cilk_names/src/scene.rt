@@ -14,13 +14,13 @@ ghost use Rattle.cilk_names.specs.States.{context_of};
 
 use crate::calls::call;
 use crate::expressions::{assignment, expression};
+use crate::kind::{Misnaming, NameErrorKind};
 use crate::limits::{MAX_CELLS, MAX_PARAMETERS, MAX_REDUCERS};
+use crate::sights::{monoid, note_unless};
+use crate::table::{Home, Meaning, Table};
 use cilk_monoid::kind::MonoidKind;
 use cilk_program::program::{Body, Loop};
 use cilk_program::syntax::{Declaration, Place, Stmt};
-use crate::kind::{Misnaming, NameNumber};
-use crate::sights::{monoid, note_unless};
-use crate::table::{Home, Meaning, Table};
 use cilk_syntax::tree;
 use cilk_syntax::tree::{Beginning, Local, LocalInitializer, Name, Parameter, ReturnType};
 use std::alloc::{AllocError, Global};
@@ -88,7 +88,12 @@ impl Resolver<'_> {
         self.table
             .declare(name, Meaning::Local(level, cells), &mut self.first)?;
         let is_within = cells < MAX_CELLS;
-        note_unless(is_within, NameNumber::OverLimit, name.at, &mut self.first);
+        note_unless(
+            is_within,
+            NameErrorKind::OverLimit,
+            name.at,
+            &mut self.first,
+        );
         self.frame.cells = counted(MAX_CELLS, cells);
         Ok(())
     }
@@ -108,12 +113,12 @@ impl Resolver<'_> {
         let place = reducer.name.at;
         note_unless(
             is_first,
-            NameNumber::ReducerNotFirst,
+            NameErrorKind::ReducerNotFirst,
             place,
             &mut self.first,
         );
         let is_within = self.reducers < MAX_REDUCERS;
-        note_unless(is_within, NameNumber::OverLimit, place, &mut self.first);
+        note_unless(is_within, NameErrorKind::OverLimit, place, &mut self.first);
         self.reducers = counted(MAX_REDUCERS, self.reducers);
         self.own.push(kind.unwrap_or(MonoidKind::Add))?;
         Ok(())
@@ -236,13 +241,18 @@ impl Resolver<'_> {
         let is_within = self.has_room();
         match parameter {
             Parameter::Variable(name) => {
-                note_unless(is_within, NameNumber::OverLimit, name.at, &mut self.first);
+                note_unless(
+                    is_within,
+                    NameErrorKind::OverLimit,
+                    name.at,
+                    &mut self.first,
+                );
                 self.variable(name)
             }
             Parameter::Reducer(reducer) => {
                 let kind = monoid(&self.table, reducer, &mut self.first);
                 let place = reducer.name.at;
-                note_unless(is_within, NameNumber::OverLimit, place, &mut self.first);
+                note_unless(is_within, NameErrorKind::OverLimit, place, &mut self.first);
                 let number = number_of(self.given.len())?;
                 let meaning = Meaning::Reducer(Home::Given(number), kind);
                 self.table.declare(reducer.name, meaning, &mut self.first)?;

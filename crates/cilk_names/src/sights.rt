@@ -6,7 +6,7 @@ ghost use Rattle.cilk_names.specs.Names.{meaning, monoid_at, monoid_of};
 ghost use Rattle.cilk_names.specs.Sights.{array, array_of, called, function_of, is_reducer_of, is_same, is_turn, place_of, reducer, reducer_of, reducer_place, variable};
 ghost use Rattle.cilk_names.specs.Tables.{names_of};
 
-use crate::kind::{Misnaming, NameNumber};
+use crate::kind::{Misnaming, NameErrorKind};
 use crate::table::{Home, Meaning, Table, bytes_of};
 use cilk_monoid::kind::MonoidKind;
 use cilk_program::syntax::{Array, Place, Reducer, ReducerPlace};
@@ -127,7 +127,7 @@ fn is_same(first: Option<MonoidKind>, second: Option<MonoidKind>) -> bool
 }
 
 /// Notes a fault, unless this holds.
-pub fn note_unless(holds: bool, number: NameNumber, place: usize, first: &mut Option<Misnaming>)
+pub fn note_unless(holds: bool, number: NameErrorKind, place: usize, first: &mut Option<Misnaming>)
     ensures { first.new ≡ earliest first.old (unless holds number place) }
 {
     if !holds {
@@ -140,8 +140,8 @@ fn note_name(meaning: Option<Meaning>, holds: bool, place: usize, first: &mut Op
     ensures { first.new ≡ earliest first.old (name_faults (λ _. holds) meaning place) }
 {
     match meaning {
-        Some(_) => note_unless(holds, NameNumber::WrongKind, place, first),
-        None => note_unless(false, NameNumber::Unknown, place, first),
+        Some(_) => note_unless(holds, NameErrorKind::WrongKind, place, first),
+        None => note_unless(false, NameErrorKind::Unknown, place, first),
     }
 }
 
@@ -168,7 +168,7 @@ pub fn written(table: &Table, name: Name, first: &mut Option<Misnaming>) -> Opti
     let place = variable(table, name, first);
     if let Some(meaning) = table.meaning(name) {
         let is_turn = meaning.is_turn();
-        note_unless(!is_turn, NameNumber::LoopVariable, name.at, first);
+        note_unless(!is_turn, NameErrorKind::LoopVariable, name.at, first);
     }
     place
 }
@@ -246,7 +246,7 @@ pub fn monoid(
 {
     let kind = monoid_of(bytes_of(table.text, reducer.monoid));
     let place = reducer.monoid.at;
-    note_unless(kind.is_some(), NameNumber::Unknown, place, first);
+    note_unless(kind.is_some(), NameErrorKind::Unknown, place, first);
     kind
 }
 

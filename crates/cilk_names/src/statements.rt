@@ -17,12 +17,12 @@ ghost use Rattle.cilk_names.specs.States.{context_of};
 
 use crate::calls::call;
 use crate::expressions::{assignment, expression, optional};
+use crate::kind::{Misnaming, NameErrorKind};
 use crate::scene::{Frame, Resolver, number_of, row_of_one};
-use cilk_program::program::{Body, Loop};
-use cilk_program::syntax::{Expr, Invoke, Stmt};
-use crate::kind::{Misnaming, NameNumber};
 use crate::sights::{note_unless, reducer, written};
 use crate::table::{Meaning, Table, bytes_of};
+use cilk_program::program::{Body, Loop};
+use cilk_program::syntax::{Expr, Invoke, Stmt};
 use cilk_syntax::tree;
 use cilk_syntax::tree::{Beginning, Bounds, Name, ReturnType};
 use cilk_types::invocation::Invocation;
@@ -62,9 +62,9 @@ fn returned(
     ensures value { IfOk result (λ r. statement r ≡ Return (optional_of (names_of table.now) (trees.optional value.now))) }
 {
     let is_outside = table.level == 0;
-    note_unless(is_outside, NameNumber::ReturnInLoop, place, first);
+    note_unless(is_outside, NameErrorKind::ReturnInLoop, place, first);
     let gives = gives_what_it_returns(returns, value);
-    note_unless(gives, NameNumber::WrongKind, place, first);
+    note_unless(gives, NameErrorKind::WrongKind, place, first);
     Ok(Stmt::Return(optional(alloc, table, value, first)?))
 }
 
@@ -197,7 +197,7 @@ fn same(table: &Table, name: Name, other: Name, first: &mut Option<Misnaming>)
     ensures { first.new ≡ earliest first.old (same_faults (names_of table.now) name other) }
 {
     let is_same = bytes_of(table.text, other) == bytes_of(table.text, name);
-    note_unless(is_same, NameNumber::WrongKind, other.at, first);
+    note_unless(is_same, NameErrorKind::WrongKind, other.at, first);
 }
 
 /// The bounds of a `cilk_for`, which don't know its variable.

@@ -7,7 +7,7 @@ ghost use Rattle.cilk_names.specs.Faults.{earliest, again_faults};
 ghost use Rattle.cilk_names.specs.Sights.{signature_of};
 ghost use Rattle.cilk_names.specs.Tables.{names_of, scope_of};
 
-use crate::kind::{Misnaming, NameNumber};
+use crate::kind::{Misnaming, NameErrorKind};
 use crate::signature::{ParameterKind, Signature};
 use cilk_monoid::kind::MonoidKind;
 use cilk_program::syntax::Array;
@@ -119,7 +119,7 @@ impl<'a> Table<'a> {
     {
         if self.is_declared(name) {
             Misnaming {
-                number: NameNumber::DeclaredTwice,
+                number: NameErrorKind::DeclaredTwice,
                 place: name.at,
             }
             .note(first);

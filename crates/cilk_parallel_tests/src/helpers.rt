@@ -2,10 +2,10 @@
 
 ghost use Rattle.std.specs.Prelude.{◌≡◌};
 
-use cilk_report::KeptFiles;
-use cilk_tool::serve_parallel;
-use cilk_served::served::{Broken, Ended, Folder};
 use cilk_commands::files::{FileFault, Files};
+use cilk_report::KeptFiles;
+use cilk_served::served::{Broken, Ended, Folder};
+use cilk_tool::serve_parallel;
 use std::alloc::Global;
 use std::sync::Wait;
 use std::thread::Threads;

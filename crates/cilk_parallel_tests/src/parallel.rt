@@ -1,8 +1,8 @@
 //! What `threads` shows of programs, on their own inputs and on others, and of certificates that are refused.
 
 use cilk_report::KeptFiles;
-use cilk_tool::serve_parallel;
 use cilk_served::served::{Broken, Ended, Folder};
+use cilk_tool::serve_parallel;
 use crossbeam_channel::{Receiver, Sender, bounded};
 use std::alloc::{AllocError, Global};
 use std::process::Abort;

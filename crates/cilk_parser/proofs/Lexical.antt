@@ -12,8 +12,8 @@ use Rattle.cilk_syntax.specs.Kinds.{is_reserved, spelling}
 use Rattle.cilk_syntax.specs.declared.lexer.Class.TheVariants as classes
 use Rattle.cilk_syntax.specs.Gaps.{Gap}
 use Rattle.cilk_syntax.specs.Gaps as gaps
-use Rattle.cilk_syntax.specs.declared.lexer.Bad.{Bad}
-use Rattle.cilk_syntax.specs.declared.lexer.Bad.TheVariants as bads
+use Rattle.cilk_syntax.specs.declared.lexer.LexErrorKind.{LexErrorKind}
+use Rattle.cilk_syntax.specs.declared.lexer.LexErrorKind.TheVariants as bads
 use Rattle.cilk_syntax.specs.Lexing.{IsBad, BeginsNone, Faults, Here, Behind, Beyond, IsFirstFault, is_numeral, is_blank, is_digit, is_letter, front_of, begins_with, after_close, value_of, starts_digit, starts_letter, Passes, Spells, Directs, directive_of, Lexes, Ended, Skipped, Found, AreTokens}
 use Rattle.cilk_syntax.proofs.Unique.{unique, Skips, Cuts, same_byte, low_no_letter, digit_no_letter, blank_low, below_47, letter_of, not_same, spells_front, passes_front}
 use Rattle.cilk_parser.specs.Answers.{IsCutOnce}
@@ -37,7 +37,7 @@ abbrev sorted : List ℕ → Option Sort
 sorted [] = None
 sorted (b ∷ bs) = Some (sort_of b)
 
-abbrev sort_bad : Bad → Sort
+abbrev sort_bad : LexErrorKind → Sort
 sort_bad bads.NotAscii = High
 sort_bad bads.Unclosed = Other
 sort_bad bads.Directive = Hash
@@ -136,7 +136,7 @@ other_sort b tail l h =
     picked (is_letter b) (is_digit b) (is_blank b) (b == 35) (nat_lt 127 b) false false false false w.0 w.1 h.0
     (not_is b 35 h.2) (low_no_high b l)
 
-bad_sort : (bad : Bad) (fresh : Bool) (bytes : List ℕ) → IsBad fresh bad bytes → sorted bytes ≡ Some (sort_bad bad)
+bad_sort : (bad : LexErrorKind) (fresh : Bool) (bytes : List ℕ) → IsBad fresh bad bytes → sorted bytes ≡ Some (sort_bad bad)
 bad_sort bads.NotAscii fresh bytes h = ap sorted h.2 ∙ ap (λ x. Some x) (high_sort h.0 h.3)
 bad_sort bads.Unclosed fresh bytes h = ap sorted h.1
 bad_sort bads.Directive fresh bytes h = ap sorted h.1
@@ -165,7 +165,7 @@ no_slash b tail more bytes e h k = absurd (h.3 kinds.Slash more refl (sym e ∙ 
 clash : {A : Type 0} (b : Bool) → b ≡ true → b ≡ false → A
 clash b h k = let x : true ≡ false = sym h ∙ k in cc
 
-one_bad : (x y : Bad) (fresh : Bool) (bytes : List ℕ) → sort_bad x ≡ sort_bad y → IsBad fresh x bytes
+one_bad : (x y : LexErrorKind) (fresh : Bool) (bytes : List ℕ) → sort_bad x ≡ sort_bad y → IsBad fresh x bytes
     → IsBad fresh y bytes → x ≡ y
 one_bad bads.NotAscii bads.NotAscii fresh bytes e h k = refl
 one_bad bads.Unclosed bads.Unclosed fresh bytes e h k = refl
@@ -219,7 +219,7 @@ no_token_gap gaps.LineComment fresh b tail bytes fresh' rest e h n k = no_slash 
 no_token_gap gaps.BlockComment fresh b tail bytes fresh' rest e h n k = no_slash b tail (42 ∷ k.0) bytes h n k.1
 no_token_gap gaps.Directive fresh b tail bytes fresh' rest e h n k = cc
 
-bad_gap : {A : Type 0} (x : Bad) (gap : Gap) (fresh : Bool) (bytes : List ℕ) (fresh' : Bool) (rest : List ℕ)
+bad_gap : {A : Type 0} (x : LexErrorKind) (gap : Gap) (fresh : Bool) (bytes : List ℕ) (fresh' : Bool) (rest : List ℕ)
     → sort_bad x ≡ sort_gap gap → IsBad fresh x bytes → Passes gap fresh bytes fresh' rest → A
 bad_gap bads.NotAscii gap fresh bytes fresh' rest e h k = high_gap gap e
 bad_gap bads.Unclosed gap fresh bytes fresh' rest e h k = unclosed_gap gap fresh h.0 bytes fresh' rest e h.1 h.2 k
@@ -301,7 +301,7 @@ unclosed_kind k tail bytes rest e p s = clash (begins_with 47 bytes) (ap (begins
 too_large : {A : Type 0} (v : ℕ) → 9223372036854775807 < v → v ≤ 9223372036854775807 → A
 too_large v h k = absurd (omega arith)
 
-bad_kind : {A : Type 0} (x : Bad) (k : Kind) (fresh : Bool) (bytes rest : List ℕ) → sort_bad x ≡ sort_kind k
+bad_kind : {A : Type 0} (x : LexErrorKind) (k : Kind) (fresh : Bool) (bytes rest : List ℕ) → sort_bad x ≡ sort_kind k
     → IsBad fresh x bytes → Spells k bytes rest → A
 bad_kind bads.NotAscii (kinds.Number n) fresh bytes rest e h s = cc
 bad_kind bads.Unclosed k fresh bytes rest e h s = unclosed_kind k h.0 bytes rest e h.1 s
@@ -313,26 +313,26 @@ bad_kind bads.NoToken k fresh bytes rest e h s = no_token_kind k h.0 h.1 bytes r
 bad_kind _ _ fresh bytes rest e h s = cc
 
 -- what a fault of the bytes begins with
-data Fault (total : ℕ) (fresh : Bool) (bytes : List ℕ) (bad : Bad) (place : ℕ) : Type 0 where
+data Fault (total : ℕ) (fresh : Bool) (bytes : List ℕ) (bad : LexErrorKind) (place : ℕ) : Type 0 where
   Stop : IsBad fresh bad bytes → place + length bytes ≡ total → Fault total fresh bytes bad place
   Skip : (gap : Gap) (fresh' : Bool) (rest : List ℕ) → Passes gap fresh bytes fresh' rest
       → Faults total fresh' rest bad place → Fault total fresh bytes bad place
   Cut : (kind : Kind) (rest : List ℕ) → Spells kind bytes rest → Faults total false rest bad place
       → Fault total fresh bytes bad place
 
-fault : (total : ℕ) (fresh : Bool) (bytes : List ℕ) (bad : Bad) (place : ℕ) → Faults total fresh bytes bad place
+fault : (total : ℕ) (fresh : Bool) (bytes : List ℕ) (bad : LexErrorKind) (place : ℕ) → Faults total fresh bytes bad place
     → Fault total fresh bytes bad place
 fault total fresh bytes bad place (Here i e) = Stop i e
 fault total fresh bytes bad place (Behind {fresh' = f} {rest = r} gap p h) = Skip gap f r p h
 fault total fresh bytes bad place (Beyond {rest = r} kind s h) = Cut kind r s h
 
-stop_skip : {A : Type 0} (x : Bad) (gap : Gap) (fresh : Bool) (bytes : List ℕ) (f : Bool) (r : List ℕ)
+stop_skip : {A : Type 0} (x : LexErrorKind) (gap : Gap) (fresh : Bool) (bytes : List ℕ) (f : Bool) (r : List ℕ)
     → IsBad fresh x bytes → Passes gap fresh bytes f r → A
 stop_skip x gap fresh bytes f r h k =
     bad_gap x gap fresh bytes f r (same_sort (sort_bad x) (sort_gap gap) (sym (bad_sort x fresh bytes h)
     ∙ gap_sort gap fresh bytes f r k)) h k
 
-stop_cut : {A : Type 0} (x : Bad) (k : Kind) (fresh : Bool) (bytes r : List ℕ) → IsBad fresh x bytes
+stop_cut : {A : Type 0} (x : LexErrorKind) (k : Kind) (fresh : Bool) (bytes r : List ℕ) → IsBad fresh x bytes
     → Spells k bytes r → A
 stop_cut x k fresh bytes r h s =
     bad_kind x k fresh bytes r (same_sort (sort_bad x) (sort_kind k) (sym (bad_sort x fresh bytes h)
@@ -353,10 +353,10 @@ same_cut : (i j : Kind) (bytes r s : List ℕ) → Spells i bytes r → Spells j
 same_cut i j bytes r s p q =
     let x : Cuts i r ≡ Cuts j s = sym (spells_front i false bytes r p) ∙ spells_front j false bytes s q in cc
 
-abbrev Alike : Bad → Bad → ℕ → ℕ → Type 0
+abbrev Alike : LexErrorKind → LexErrorKind → ℕ → ℕ → Type 0
 Alike x y p q = (x ≡ y) × (p ≡ q)
 
-here_step : (total : ℕ) (fresh : Bool) (bytes : List ℕ) (x y : Bad) (p q : ℕ) → IsBad fresh x bytes
+here_step : (total : ℕ) (fresh : Bool) (bytes : List ℕ) (x y : LexErrorKind) (p q : ℕ) → IsBad fresh x bytes
     → p + length bytes ≡ total → Fault total fresh bytes y q → Alike x y p q
 here_step total fresh bytes x y p q h e (Stop k f) = (
   one_bad x y fresh bytes (same_sort (sort_bad x) (sort_bad y) (sym (bad_sort x fresh bytes h)
@@ -366,8 +366,8 @@ here_step total fresh bytes x y p q h e (Stop k f) = (
 here_step total fresh bytes x y p q h e (Skip gap f r k j) = stop_skip x gap fresh bytes f r h k
 here_step total fresh bytes x y p q h e (Cut kind r k j) = stop_cut x kind fresh bytes r h k
 
-behind_step : (total : ℕ) (fresh : Bool) (bytes : List ℕ) (x y : Bad) (p q : ℕ) (gap : Gap) (f : Bool) (r : List ℕ)
-    → Passes gap fresh bytes f r → ((z : Bad) (o : ℕ) → Faults total f r z o → Alike x z p o)
+behind_step : (total : ℕ) (fresh : Bool) (bytes : List ℕ) (x y : LexErrorKind) (p q : ℕ) (gap : Gap) (f : Bool) (r : List ℕ)
+    → Passes gap fresh bytes f r → ((z : LexErrorKind) (o : ℕ) → Faults total f r z o → Alike x z p o)
     → Fault total fresh bytes y q → Alike x y p q
 behind_step total fresh bytes x y p q gap f r h go (Stop k e) = stop_skip y gap fresh bytes f r k h
 behind_step total fresh bytes x y p q gap f r h go (Skip other g s k j) =
@@ -375,15 +375,15 @@ behind_step total fresh bytes x y p q gap f r h go (Skip other g s k j) =
     go y q (subst (λ v. Faults total v r y q) (sym e.0) (subst (λ v. Faults total g v y q) (sym e.1) j))
 behind_step total fresh bytes x y p q gap f r h go (Cut kind s k j) = skip_cut gap kind fresh bytes f r s h k
 
-beyond_step : (total : ℕ) (fresh : Bool) (bytes : List ℕ) (x y : Bad) (p q : ℕ) (kind : Kind) (r : List ℕ)
-    → Spells kind bytes r → ((z : Bad) (o : ℕ) → Faults total false r z o → Alike x z p o)
+beyond_step : (total : ℕ) (fresh : Bool) (bytes : List ℕ) (x y : LexErrorKind) (p q : ℕ) (kind : Kind) (r : List ℕ)
+    → Spells kind bytes r → ((z : LexErrorKind) (o : ℕ) → Faults total false r z o → Alike x z p o)
     → Fault total fresh bytes y q → Alike x y p q
 beyond_step total fresh bytes x y p q kind r h go (Stop k e) = stop_cut y kind fresh bytes r k h
 beyond_step total fresh bytes x y p q kind r h go (Skip gap g s k j) = skip_cut gap kind fresh bytes g s r k h
 beyond_step total fresh bytes x y p q kind r h go (Cut other s k j) =
     go y q (subst (λ v. Faults total false v y q) (sym (same_cut kind other bytes r s h k)) j)
 
-one_fault : (total : ℕ) (fresh : Bool) (bytes : List ℕ) (x y : Bad) (p q : ℕ) → Faults total fresh bytes x p
+one_fault : (total : ℕ) (fresh : Bool) (bytes : List ℕ) (x y : LexErrorKind) (p q : ℕ) → Faults total fresh bytes x p
     → Faults total fresh bytes y q → Alike x y p q
 one_fault total fresh bytes x y p q (Here h e) k =
     here_step total fresh bytes x y p q h e (fault total fresh bytes y q k)
@@ -398,12 +398,12 @@ one_fault total fresh bytes x y p q (Beyond {rest = r} kind h j) k =
 none_sort : {A : Type 0} (x : Sort) → ◌≡◌ {A = Option Sort} None (Some x) → A
 none_sort x h = cc
 
-ended_fault : (total : ℕ) (fresh : Bool) (y : Bad) (q : ℕ) → Fault total fresh [] y q → ⊥
+ended_fault : (total : ℕ) (fresh : Bool) (y : LexErrorKind) (q : ℕ) → Fault total fresh [] y q → ⊥
 ended_fault total fresh y q (Stop k e) = none_sort (sort_bad y) (bad_sort y fresh [] k)
 ended_fault total fresh y q (Skip gap f r k j) = none_sort (sort_gap gap) (gap_sort gap fresh [] f r k)
 ended_fault total fresh y q (Cut kind r k j) = none_sort (sort_kind kind) (kind_sort kind [] r k)
 
-skipped_fault : (total : ℕ) (fresh : Bool) (bytes : List ℕ) (y : Bad) (q : ℕ) (gap : Gap) (f : Bool) (r : List ℕ)
+skipped_fault : (total : ℕ) (fresh : Bool) (bytes : List ℕ) (y : LexErrorKind) (q : ℕ) (gap : Gap) (f : Bool) (r : List ℕ)
     → Passes gap fresh bytes f r → (Faults total f r y q → ⊥) → Fault total fresh bytes y q → ⊥
 skipped_fault total fresh bytes y q gap f r h go (Stop k e) = stop_skip y gap fresh bytes f r k h
 skipped_fault total fresh bytes y q gap f r h go (Skip other g s k j) =
@@ -411,14 +411,14 @@ skipped_fault total fresh bytes y q gap f r h go (Skip other g s k j) =
     go (subst (λ v. Faults total v r y q) (sym e.0) (subst (λ v. Faults total g v y q) (sym e.1) j))
 skipped_fault total fresh bytes y q gap f r h go (Cut kind s k j) = skip_cut gap kind fresh bytes f r s h k
 
-found_fault : (total : ℕ) (fresh : Bool) (bytes : List ℕ) (y : Bad) (q : ℕ) (kind : Kind) (r : List ℕ)
+found_fault : (total : ℕ) (fresh : Bool) (bytes : List ℕ) (y : LexErrorKind) (q : ℕ) (kind : Kind) (r : List ℕ)
     → Spells kind bytes r → (Faults total false r y q → ⊥) → Fault total fresh bytes y q → ⊥
 found_fault total fresh bytes y q kind r h go (Stop k e) = stop_cut y kind fresh bytes r k h
 found_fault total fresh bytes y q kind r h go (Skip gap g s k j) = skip_cut gap kind fresh bytes g s r k h
 found_fault total fresh bytes y q kind r h go (Cut other s k j) =
     go (subst (λ v. Faults total false v y q) (sym (same_cut kind other bytes r s h k)) j)
 
-no_fault : (total : ℕ) (fresh : Bool) (bytes : List ℕ) (ts : List Token) (y : Bad) (q : ℕ)
+no_fault : (total : ℕ) (fresh : Bool) (bytes : List ℕ) (ts : List Token) (y : LexErrorKind) (q : ℕ)
     → Lexes total fresh bytes ts → Faults total fresh bytes y q → ⊥
 no_fault total fresh _ _ y q Ended k = ended_fault total fresh y q (fault total fresh [] y q k)
 no_fault total fresh bytes ts y q (Skipped {fresh' = f} {rest = r} gap p h) k =
@@ -427,7 +427,7 @@ no_fault total fresh bytes _ y q (Found {rest = r} {ts = more} t s at end h) k =
     found_fault total fresh bytes y q t.kind r s (λ j. no_fault total false r more y q h j)
     (fault total fresh bytes y q k)
 
-pub tokens_or_fault : (bytes : List ℕ) (ts : List Token) (x : Bad) (p : ℕ) → AreTokens bytes ts
+pub tokens_or_fault : (bytes : List ℕ) (ts : List Token) (x : LexErrorKind) (p : ℕ) → AreTokens bytes ts
     → IsFirstFault bytes x p → ⊥
 tokens_or_fault bytes ts x p h k = no_fault (length bytes) true bytes ts x p h k
 

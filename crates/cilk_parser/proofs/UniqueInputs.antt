@@ -2,8 +2,8 @@
 --
 -- `one_list`, `one_fault`, `no_fault`: by what stands first in the bytes. `one_input`: all three.
 use Rattle.std.proofs.Common.{◌≡◌, ℕ, ℤ, ◌+◌, ◌<◌, ◌≤◌, true, false, List, [], ◌∷◌, length, Option, Some, None, refl, sym, ap, ◌∙◌, subst, arith}
-use Rattle.cilk_parser.specs.declared.fault.TextNumber.{TextNumber}
-use Rattle.cilk_parser.specs.declared.fault.TextNumber.TheVariants.{BadNumber, TooManyNumbers}
+use Rattle.cilk_parser.specs.declared.fault.SyntaxErrorKind.{SyntaxErrorKind}
+use Rattle.cilk_parser.specs.declared.fault.SyntaxErrorKind.TheVariants.{BadNumber, TooManyNumbers}
 use Rattle.cilk_parser.specs.Inputs.{starts_word, IsGap, IsNumber, IsBadWord, Holds, Ended, Skipped, Found, Fails, NoNumber, OneTooMany, Behind, Beyond}
 use Rattle.cilk_parser.specs.Answers.{HasOneInput}
 
@@ -74,57 +74,57 @@ one_list bytes _ ms (Found {rest = r} {ns = more} n g h) k =
     number_step bytes r n more ms g (λ os j. one_list r more os h j) (view bytes ms k)
 
 -- what a fault of the bytes begins with
-data Fault (total count : ℕ) (bytes : List ℕ) (f : TextNumber) (place : ℕ) : Type 0 where
-  Bad : IsBadWord bytes → f ≡ BadNumber → place + length bytes ≡ total → Fault total count bytes f place
+data Fault (total count : ℕ) (bytes : List ℕ) (f : SyntaxErrorKind) (place : ℕ) : Type 0 where
+  LexErrorKind : IsBadWord bytes → f ≡ BadNumber → place + length bytes ≡ total → Fault total count bytes f place
   Many : (n : ℤ) (rest : List ℕ) → IsNumber n bytes rest → count ≡ 65536 → f ≡ TooManyNumbers
       → place + length bytes ≡ total → Fault total count bytes f place
   Gap : (rest : List ℕ) → IsGap bytes rest → Fails total count rest f place → Fault total count bytes f place
   Number : (n : ℤ) (rest : List ℕ) → IsNumber n bytes rest → count < 65536 → Fails total (count + 1) rest f place
       → Fault total count bytes f place
 
-fault : (total count : ℕ) (bytes : List ℕ) (f : TextNumber) (place : ℕ) → Fails total count bytes f place
+fault : (total count : ℕ) (bytes : List ℕ) (f : SyntaxErrorKind) (place : ℕ) → Fails total count bytes f place
     → Fault total count bytes f place
-fault total count bytes _ place (NoNumber w e) = Bad w refl e
+fault total count bytes _ place (NoNumber w e) = LexErrorKind w refl e
 fault total count bytes _ place (OneTooMany {rest = r} n g c e) = Many n r g c refl e
 fault total count bytes f place (Behind {rest = r} g h) = Gap r g h
 fault total count bytes f place (Beyond {rest = r} n g c h) = Number n r g c h
 
-abbrev Alike : TextNumber → TextNumber → ℕ → ℕ → Type 0
+abbrev Alike : SyntaxErrorKind → SyntaxErrorKind → ℕ → ℕ → Type 0
 Alike f g p q = (f ≡ g) × (p ≡ q)
 
-bad_step : (total count : ℕ) (bytes : List ℕ) (f : TextNumber) (p q : ℕ) → IsBadWord bytes → p + length bytes ≡ total
+bad_step : (total count : ℕ) (bytes : List ℕ) (f : SyntaxErrorKind) (p q : ℕ) → IsBadWord bytes → p + length bytes ≡ total
     → Fault total count bytes f q → Alike BadNumber f p q
-bad_step total count bytes f p q w e (Bad v x y) = (sym x, omega arith)
+bad_step total count bytes f p q w e (LexErrorKind v x y) = (sym x, omega arith)
 bad_step total count bytes f p q w e (Many n r g c x y) = number_bad n bytes r g w
 bad_step total count bytes f p q w e (Gap r g h) = gap_word bytes r g w.0
 bad_step total count bytes f p q w e (Number n r g c h) = number_bad n bytes r g w
 
-many_step : (total count : ℕ) (bytes rest : List ℕ) (n : ℤ) (f : TextNumber) (p q : ℕ) → IsNumber n bytes rest
+many_step : (total count : ℕ) (bytes rest : List ℕ) (n : ℤ) (f : SyntaxErrorKind) (p q : ℕ) → IsNumber n bytes rest
     → count ≡ 65536 → p + length bytes ≡ total → Fault total count bytes f q → Alike TooManyNumbers f p q
-many_step total count bytes rest n f p q g c e (Bad v x y) = number_bad n bytes rest g v
+many_step total count bytes rest n f p q g c e (LexErrorKind v x y) = number_bad n bytes rest g v
 many_step total count bytes rest n f p q g c e (Many m r k d x y) = (sym x, omega arith)
 many_step total count bytes rest n f p q g c e (Gap r k h) = gap_word bytes r k g.0
 many_step total count bytes rest n f p q g c e (Number m r k d h) = absurd (omega arith)
 
-gap_step : (total count : ℕ) (bytes rest : List ℕ) (f g : TextNumber) (p q : ℕ) → IsGap bytes rest
-    → ((o : TextNumber) (z : ℕ) → Fails total count rest o z → Alike f o p z) → Fault total count bytes g q
+gap_step : (total count : ℕ) (bytes rest : List ℕ) (f g : SyntaxErrorKind) (p q : ℕ) → IsGap bytes rest
+    → ((o : SyntaxErrorKind) (z : ℕ) → Fails total count rest o z → Alike f o p z) → Fault total count bytes g q
     → Alike f g p q
-gap_step total count bytes rest f g p q k go (Bad v x y) = gap_word bytes rest k v.0
+gap_step total count bytes rest f g p q k go (LexErrorKind v x y) = gap_word bytes rest k v.0
 gap_step total count bytes rest f g p q k go (Many m r l d x y) = gap_word bytes rest k l.0
 gap_step total count bytes rest f g p q k go (Gap r l h) =
     go g q (subst (λ y. Fails total count y g q) (same_gap bytes r rest l k) h)
 gap_step total count bytes rest f g p q k go (Number m r l d h) = gap_word bytes rest k l.0
 
-count_step : (total count : ℕ) (bytes rest : List ℕ) (n : ℤ) (f g : TextNumber) (p q : ℕ) → IsNumber n bytes rest
-    → count < 65536 → ((o : TextNumber) (z : ℕ) → Fails total (count + 1) rest o z → Alike f o p z)
+count_step : (total count : ℕ) (bytes rest : List ℕ) (n : ℤ) (f g : SyntaxErrorKind) (p q : ℕ) → IsNumber n bytes rest
+    → count < 65536 → ((o : SyntaxErrorKind) (z : ℕ) → Fails total (count + 1) rest o z → Alike f o p z)
     → Fault total count bytes g q → Alike f g p q
-count_step total count bytes rest n f g p q k c go (Bad v x y) = number_bad n bytes rest k v
+count_step total count bytes rest n f g p q k c go (LexErrorKind v x y) = number_bad n bytes rest k v
 count_step total count bytes rest n f g p q k c go (Many m r l d x y) = absurd (omega arith)
 count_step total count bytes rest n f g p q k c go (Gap r l h) = gap_word bytes r l k.0
 count_step total count bytes rest n f g p q k c go (Number m r l d h) =
     go g q (subst (λ y. Fails total (count + 1) y g q) (sym (same_number n m bytes rest r k l).1) h)
 
-one_fault : (total count : ℕ) (bytes : List ℕ) (f g : TextNumber) (p q : ℕ) → Fails total count bytes f p
+one_fault : (total count : ℕ) (bytes : List ℕ) (f g : SyntaxErrorKind) (p q : ℕ) → Fails total count bytes f p
     → Fails total count bytes g q → Alike f g p q
 one_fault total count bytes _ g p q (NoNumber w e) k =
     bad_step total count bytes g p q w e (fault total count bytes g q k)
@@ -138,29 +138,29 @@ one_fault total count bytes f g p q (Beyond {rest = r} n l c h) k =
     (fault total count bytes g q k)
 
 -- numbers up to the end, and no more than may be, leave no fault
-no_last : (total count : ℕ) (f : TextNumber) (p : ℕ) → Fault total count [] f p → ⊥
-no_last total count f p (Bad v x y) = empty_word [] refl v.0
+no_last : (total count : ℕ) (f : SyntaxErrorKind) (p : ℕ) → Fault total count [] f p → ⊥
+no_last total count f p (LexErrorKind v x y) = empty_word [] refl v.0
 no_last total count f p (Many m r l d x y) = empty_word [] refl l.0
 no_last total count f p (Gap r l h) = empty_gap [] r refl l
 no_last total count f p (Number m r l d h) = empty_word [] refl l.0
 
-no_gap : (total count : ℕ) (bytes rest : List ℕ) (f : TextNumber) (p : ℕ) → IsGap bytes rest
+no_gap : (total count : ℕ) (bytes rest : List ℕ) (f : SyntaxErrorKind) (p : ℕ) → IsGap bytes rest
     → (Fails total count rest f p → ⊥) → Fault total count bytes f p → ⊥
-no_gap total count bytes rest f p k go (Bad v x y) = gap_word bytes rest k v.0
+no_gap total count bytes rest f p k go (LexErrorKind v x y) = gap_word bytes rest k v.0
 no_gap total count bytes rest f p k go (Many m r l d x y) = gap_word bytes rest k l.0
 no_gap total count bytes rest f p k go (Gap r l h) =
     go (subst (λ y. Fails total count y f p) (same_gap bytes r rest l k) h)
 no_gap total count bytes rest f p k go (Number m r l d h) = gap_word bytes rest k l.0
 
-no_number : (total count : ℕ) (bytes rest : List ℕ) (n : ℤ) (f : TextNumber) (p : ℕ) → IsNumber n bytes rest
+no_number : (total count : ℕ) (bytes rest : List ℕ) (n : ℤ) (f : SyntaxErrorKind) (p : ℕ) → IsNumber n bytes rest
     → count < 65536 → (Fails total (count + 1) rest f p → ⊥) → Fault total count bytes f p → ⊥
-no_number total count bytes rest n f p k c go (Bad v x y) = number_bad n bytes rest k v
+no_number total count bytes rest n f p k c go (LexErrorKind v x y) = number_bad n bytes rest k v
 no_number total count bytes rest n f p k c go (Many m r l d x y) = absurd (omega arith)
 no_number total count bytes rest n f p k c go (Gap r l h) = gap_word bytes r l k.0
 no_number total count bytes rest n f p k c go (Number m r l d h) =
     go (subst (λ y. Fails total (count + 1) y f p) (sym (same_number n m bytes rest r k l).1) h)
 
-no_fault : (total count : ℕ) (bytes : List ℕ) (ns : List ℤ) (f : TextNumber) (p : ℕ) → Holds bytes ns
+no_fault : (total count : ℕ) (bytes : List ℕ) (ns : List ℤ) (f : SyntaxErrorKind) (p : ℕ) → Holds bytes ns
     → count + length ns ≤ 65536 → Fails total count bytes f p → ⊥
 no_fault total count _ _ f p Ended l k = no_last total count f p (fault total count [] f p k)
 no_fault total count bytes ns f p (Skipped {rest = r} g h) l k =

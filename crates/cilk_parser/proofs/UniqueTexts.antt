@@ -4,11 +4,11 @@
 -- `one_answer`: all three.
 use Rattle.std.proofs.Common.{◌≡◌, ℕ, ◌<◌, ◌≤◌, List, length, refl, sym, ap, ◌∙◌, subst, arith}
 use Rattle.cilk_syntax.specs.declared.token.Token.{Token}
-use Rattle.cilk_syntax.specs.declared.lexer.Bad.{Bad}
+use Rattle.cilk_syntax.specs.declared.lexer.LexErrorKind.{LexErrorKind}
 use Rattle.cilk_syntax.specs.Lexing.{AreTokens, IsFirstFault}
 use Rattle.cilk_syntax.proofs.Unique.{unique}
-use Rattle.cilk_parser.specs.declared.fault.TextNumber.{TextNumber}
-use Rattle.cilk_parser.specs.declared.fault.TextNumber.TheVariants as numbers
+use Rattle.cilk_parser.specs.declared.fault.SyntaxErrorKind.{SyntaxErrorKind}
+use Rattle.cilk_parser.specs.declared.fault.SyntaxErrorKind.TheVariants as numbers
 use Rattle.cilk_parser.specs.declared.fault.TextFault.TheVariants.{At}
 use Rattle.cilk_syntax.specs.declared.tree.Tree.{Tree}
 use Rattle.cilk_syntax.specs.Trees.{program}
@@ -29,15 +29,15 @@ one_text bytes t u h k =
     )
 
 -- why a text is refused
-data Why (bytes : List ℕ) (n : TextNumber) (place : ℕ) : Type 0 where
+data Why (bytes : List ℕ) (n : SyntaxErrorKind) (place : ℕ) : Type 0 where
   Long : n ≡ numbers.TooLong → 262144 < length bytes → place ≡ 262144 → Why bytes n place
   Stopped : n ≡ numbers.Unexpected → length bytes ≤ 262144 → (ts used rest : List Token) → AreTokens bytes ts
       → IsRefusal ts used rest → place ≡ place_of (length bytes) rest → Why bytes n place
   Past : n ≡ numbers.TooDeep → length bytes ≤ 262144 → (ts used : List Token) (x : Token) (rest : List Token)
       → AreTokens bytes ts → IsPastLimit ts used x rest → place ≡ x.at → Why bytes n place
-  Lexical : length bytes ≤ 262144 → (bad : Bad) → number_of bad ≡ n → IsFirstFault bytes bad place → Why bytes n place
+  Lexical : length bytes ≤ 262144 → (bad : LexErrorKind) → number_of bad ≡ n → IsFirstFault bytes bad place → Why bytes n place
 
-why : (n : TextNumber) (place : ℕ) (bytes : List ℕ) → IsTextFault (At n place) bytes → Why bytes n place
+why : (n : SyntaxErrorKind) (place : ℕ) (bytes : List ℕ) → IsTextFault (At n place) bytes → Why bytes n place
 why numbers.NotAscii place bytes h = Lexical h.0 h.1.0 h.1.1 h.1.2
 why numbers.BadToken place bytes h = Lexical h.0 h.1.0 h.1.1 h.1.2
 why numbers.Unexpected place bytes h = Stopped refl h.0 h.1.0 h.1.1 h.1.2 h.1.3 h.1.4 h.1.5
@@ -50,10 +50,10 @@ why numbers.TooManyNumbers place bytes h = absurd h.1
 long_or : {A : Type 0} (n : ℕ) → 262144 < n → n ≤ 262144 → A
 long_or n h k = absurd (omega arith)
 
-abbrev Alike : TextNumber → TextNumber → ℕ → ℕ → Type 0
+abbrev Alike : SyntaxErrorKind → SyntaxErrorKind → ℕ → ℕ → Type 0
 Alike n m p q = (n ≡ m) × (p ≡ q)
 
-one_why : (bytes : List ℕ) (n m : TextNumber) (p q : ℕ) → Why bytes n p → Why bytes m q → Alike n m p q
+one_why : (bytes : List ℕ) (n m : SyntaxErrorKind) (p q : ℕ) → Why bytes n p → Why bytes m q → Alike n m p q
 one_why bytes n m p q (Long e l f) (Long g k i) = (e ∙ sym g, f ∙ sym i)
 one_why bytes n m p q (Long e l f) (Stopped g k us v w a h i) = long_or (length bytes) l k
 one_why bytes n m p q (Long e l f) (Past g k us v y w a h i) = long_or (length bytes) l k
@@ -78,7 +78,7 @@ one_why bytes n m p q (Lexical l bad e h) (Past g k us v y s b j i) = absurd (to
 one_why bytes n m p q (Lexical l bad e h) (Lexical k other g j) =
     let o = (cut_once bytes).faults bad other p q h j in (sym e ∙ (ap number_of o.0 ∙ g), o.1)
 
-no_why : (bytes : List ℕ) (t : Tree) (n : TextNumber) (p : ℕ) → IsText bytes t → Why bytes n p → ⊥
+no_why : (bytes : List ℕ) (t : Tree) (n : SyntaxErrorKind) (p : ℕ) → IsText bytes t → Why bytes n p → ⊥
 no_why bytes t n p h (Long e l f) = long_or (length bytes) l h.length
 no_why bytes t n p h (Stopped e l us v s b j i) =
     let o = unique bytes h.tokens.0 us h.tokens.1 b in

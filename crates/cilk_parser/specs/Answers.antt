@@ -1,13 +1,13 @@
 -- One list of tokens, one tree; one text, one answer.
 use Rattle.std.specs.Prelude.{◌≡◌, ℕ, ℤ, List}
 use Rattle.cilk_syntax.specs.declared.token.Token.{Token}
-use Rattle.cilk_syntax.specs.declared.lexer.Bad.{Bad}
+use Rattle.cilk_syntax.specs.declared.lexer.LexErrorKind.{LexErrorKind}
 use Rattle.cilk_syntax.specs.Lexing.{AreTokens, IsFirstFault}
 use Rattle.cilk_syntax.specs.declared.tree.Tree.{Tree}
 use Rattle.cilk_syntax.specs.Trees.{Item, program}
 use Rattle.cilk_syntax.specs.Grammar.{SpellsProgram}
 use Rattle.cilk_syntax.specs.Limits.{Within, excess_items}
-use Rattle.cilk_parser.specs.declared.fault.TextNumber.{TextNumber}
+use Rattle.cilk_parser.specs.declared.fault.SyntaxErrorKind.{SyntaxErrorKind}
 use Rattle.cilk_parser.specs.declared.fault.TextFault.TheVariants.{At}
 use Rattle.cilk_parser.specs.Inputs.{IsInput, IsInputFault}
 use Rattle.cilk_parser.specs.Refused.{IsRefusal, IsPastLimit}
@@ -32,8 +32,8 @@ pub record StopsOnce (ts : List Token) : Type 0 where
 -- a text is one list of tokens, or has one first byte from which no token goes on, or neither
 pub record IsCutOnce (bytes : List ℕ) : Type 0 where
   pub tokens : (ts us : List Token) → AreTokens bytes ts → AreTokens bytes us → ts ≡ us
-  pub faults : (x y : Bad) (p q : ℕ) → IsFirstFault bytes x p → IsFirstFault bytes y q → (x ≡ y) × (p ≡ q)
-  pub apart : (ts : List Token) (x : Bad) (p : ℕ) → AreTokens bytes ts → IsFirstFault bytes x p → ⊥
+  pub faults : (x y : LexErrorKind) (p q : ℕ) → IsFirstFault bytes x p → IsFirstFault bytes y q → (x ≡ y) × (p ≡ q)
+  pub apart : (ts : List Token) (x : LexErrorKind) (p : ℕ) → AreTokens bytes ts → IsFirstFault bytes x p → ⊥
 
 -- the trees of a text have one program and hold the same bytes
 abbrev pub HasOneProgram : List ℕ → Type 0
@@ -43,13 +43,13 @@ HasOneProgram bytes = (t u : Tree) → IsText bytes t → IsText bytes u
 -- a text has one program, or one first fault, or neither
 pub record HasOneAnswer (bytes : List ℕ) : Type 0 where
   pub programs : HasOneProgram bytes
-  pub faults : (n m : TextNumber) (p q : ℕ) → IsTextFault (At n p) bytes → IsTextFault (At m q) bytes
+  pub faults : (n m : SyntaxErrorKind) (p q : ℕ) → IsTextFault (At n p) bytes → IsTextFault (At m q) bytes
       → (n ≡ m) × (p ≡ q)
-  pub apart : (t : Tree) (n : TextNumber) (p : ℕ) → IsText bytes t → IsTextFault (At n p) bytes → ⊥
+  pub apart : (t : Tree) (n : SyntaxErrorKind) (p : ℕ) → IsText bytes t → IsTextFault (At n p) bytes → ⊥
 
 -- an input text has one list of numbers, or one first fault, or neither
 pub record HasOneInput (bytes : List ℕ) : Type 0 where
   pub numbers : (ns ms : List ℤ) → IsInput bytes ns → IsInput bytes ms → ns ≡ ms
-  pub faults : (n m : TextNumber) (p q : ℕ) → IsInputFault (At n p) bytes → IsInputFault (At m q) bytes
+  pub faults : (n m : SyntaxErrorKind) (p q : ℕ) → IsInputFault (At n p) bytes → IsInputFault (At m q) bytes
       → (n ≡ m) × (p ≡ q)
-  pub apart : (ns : List ℤ) (n : TextNumber) (p : ℕ) → IsInput bytes ns → IsInputFault (At n p) bytes → ⊥
+  pub apart : (ns : List ℤ) (n : SyntaxErrorKind) (p : ℕ) → IsInput bytes ns → IsInputFault (At n p) bytes → ⊥

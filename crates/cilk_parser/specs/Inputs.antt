@@ -2,8 +2,8 @@
 use Rattle.std.specs.Prelude.{◌≡◌, ℕ, ◌+◌, ◌≤◌, ◌<◌, nat_le, Bool, true, false, ◌&&◌, ◌==◌, if◌then◌else◌, ℤ, pos, neg_ℤ, List, [], ◌∷◌, length, Option, Some, None}
 use Rattle.cilk_syntax.specs.declared.lexer.Class.TheVariants.{Solid}
 use Rattle.cilk_syntax.specs.Lexing.{belongs, front_of, behind, value_of, all_digits}
-use Rattle.cilk_parser.specs.declared.fault.TextNumber.{TextNumber}
-use Rattle.cilk_parser.specs.declared.fault.TextNumber.TheVariants.{BadNumber, TooManyNumbers}
+use Rattle.cilk_parser.specs.declared.fault.SyntaxErrorKind.{SyntaxErrorKind}
+use Rattle.cilk_parser.specs.declared.fault.SyntaxErrorKind.TheVariants.{BadNumber, TooManyNumbers}
 use Rattle.cilk_parser.specs.declared.fault.TextFault.{TextFault}
 use Rattle.cilk_parser.specs.declared.fault.TextFault.TheVariants.{Memory, At}
 
@@ -54,11 +54,11 @@ pub data Holds : List ℕ → List ℤ → Type 0 where
   Found : {bytes rest : List ℕ} {ns : List ℤ} (n : ℤ) → IsNumber n bytes rest → Holds rest ns → Holds bytes (n ∷ ns)
 
 -- Behind count numbers, the words before the place are numbers and not too many; total is the length of the whole text.
-pub data Fails (total : ℕ) : ℕ → List ℕ → TextNumber → ℕ → Type 0 where
+pub data Fails (total : ℕ) : ℕ → List ℕ → SyntaxErrorKind → ℕ → Type 0 where
   NoNumber : {count : ℕ} {bytes : List ℕ} {place : ℕ} → IsBadWord bytes → place + length bytes ≡ total → Fails total count bytes BadNumber place
   OneTooMany : {count : ℕ} {bytes rest : List ℕ} {place : ℕ} (n : ℤ) → IsNumber n bytes rest → count ≡ 65536 → place + length bytes ≡ total → Fails total count bytes TooManyNumbers place
-  Behind : {count : ℕ} {bytes rest : List ℕ} {fault : TextNumber} {place : ℕ} → IsGap bytes rest → Fails total count rest fault place → Fails total count bytes fault place
-  Beyond : {count : ℕ} {bytes rest : List ℕ} {fault : TextNumber} {place : ℕ} (n : ℤ) → IsNumber n bytes rest → count < 65536 → Fails total (count + 1) rest fault place → Fails total count bytes fault place
+  Behind : {count : ℕ} {bytes rest : List ℕ} {fault : SyntaxErrorKind} {place : ℕ} → IsGap bytes rest → Fails total count rest fault place → Fails total count bytes fault place
+  Beyond : {count : ℕ} {bytes rest : List ℕ} {fault : SyntaxErrorKind} {place : ℕ} (n : ℤ) → IsNumber n bytes rest → count < 65536 → Fails total (count + 1) rest fault place → Fails total count bytes fault place
 
 -- the numbers of an input text
 pub record IsInput (bytes : List ℕ) (ns : List ℤ) : Type 0 where

@@ -1,12 +1,12 @@
 -- The tree of a program text, and its faults.
 use Rattle.std.specs.Prelude.{◌≡◌, ℕ, ◌≤◌, ◌<◌, List, [], ◌∷◌, length}
 use Rattle.cilk_syntax.specs.declared.token.Token.{Token}
-use Rattle.cilk_syntax.specs.declared.lexer.Bad.{Bad}
-use Rattle.cilk_syntax.specs.declared.lexer.Bad.TheVariants as bads
+use Rattle.cilk_syntax.specs.declared.lexer.LexErrorKind.{LexErrorKind}
+use Rattle.cilk_syntax.specs.declared.lexer.LexErrorKind.TheVariants as bads
 use Rattle.cilk_syntax.specs.Lexing.{AreTokens, IsFirstFault}
 use Rattle.cilk_syntax.specs.declared.tree.Tree.{Tree}
-use Rattle.cilk_parser.specs.declared.fault.TextNumber.{TextNumber}
-use Rattle.cilk_parser.specs.declared.fault.TextNumber.TheVariants.{NotAscii, BadToken, Unexpected, TooDeep, TooLarge, TooLong, BadNumber, TooManyNumbers}
+use Rattle.cilk_parser.specs.declared.fault.SyntaxErrorKind.{SyntaxErrorKind}
+use Rattle.cilk_parser.specs.declared.fault.SyntaxErrorKind.TheVariants.{NotAscii, BadToken, Unexpected, TooDeep, TooLarge, TooLong, BadNumber, TooManyNumbers}
 use Rattle.cilk_parser.specs.declared.fault.TextFault.{TextFault}
 use Rattle.cilk_parser.specs.declared.fault.TextFault.TheVariants.{Memory, At}
 use Rattle.cilk_syntax.specs.Grammar.{SpellsProgram}
@@ -15,7 +15,7 @@ use Rattle.cilk_parser.specs.Refused.{IsRefusal, IsPastLimit}
 use Rattle.cilk_syntax.specs.Trees.{program}
 
 -- the numbers by which faults of texts are reported
-abbrev pub number : TextNumber → ℕ
+abbrev pub number : SyntaxErrorKind → ℕ
 number NotAscii = 101
 number BadToken = 102
 number Unexpected = 103
@@ -25,7 +25,7 @@ number TooLong = 106
 number BadNumber = 121
 number TooManyNumbers = 122
 
-abbrev pub number_of : Bad → TextNumber
+abbrev pub number_of : LexErrorKind → SyntaxErrorKind
 number_of bads.NotAscii = NotAscii
 number_of bads.TooLarge = TooLarge
 number_of _ = BadToken
@@ -42,11 +42,11 @@ pub record IsText (bytes : List ℕ) (t : Tree) : Type 0 where
   pub tokens : (ts : List Token) × AreTokens bytes ts × SpellsProgram (program t) ts × Within ts (excess_items (program t) ts)
 
 -- a fault of the tokens is the first by place
-abbrev pub LexicalFault : TextNumber → List ℕ → ℕ → Type 0
-LexicalFault n bytes place = (bad : Bad) × (number_of bad ≡ n) × IsFirstFault bytes bad place
+abbrev pub LexicalFault : SyntaxErrorKind → List ℕ → ℕ → Type 0
+LexicalFault n bytes place = (bad : LexErrorKind) × (number_of bad ≡ n) × IsFirstFault bytes bad place
 
 -- which fault it is, where the text isn't too long
-abbrev pub IsFault : TextNumber → List ℕ → ℕ → Type 0
+abbrev pub IsFault : SyntaxErrorKind → List ℕ → ℕ → Type 0
 IsFault Unexpected bytes place =
     (ts used rest : List Token) × AreTokens bytes ts × IsRefusal ts used rest × (place ≡ place_of (length bytes) rest)
 IsFault TooDeep bytes place =

@@ -10,8 +10,8 @@ ghost use Rattle.cilk_syntax.specs.Trees as trees;
 use crate::expressions::expr;
 use cilk_syntax::marks::{Punct, name, then_one};
 use cilk_syntax::stop::Stop;
-use cilk_syntax::tree::{Assignment, Lvalue, Name};
 use cilk_syntax::token::{Kind, Token};
+use cilk_syntax::tree::{Assignment, Lvalue, Name};
 use cilk_types::compound::Compound;
 use std::alloc::Global;
 

@@ -13,8 +13,8 @@ use crate::expressions::expr;
 use cilk_syntax::firsts::begins_call;
 use cilk_syntax::marks::{Punct, behind, name, one};
 use cilk_syntax::stop::Stop;
-use cilk_syntax::tree::{Argument, Call, Expr};
 use cilk_syntax::token::{Kind, Token};
+use cilk_syntax::tree::{Argument, Call, Expr};
 use cilk_types::invocation::Invocation;
 use std::alloc::Global;
 

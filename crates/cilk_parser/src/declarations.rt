@@ -10,8 +10,8 @@ ghost use Rattle.cilk_syntax.specs.Trees as trees;
 use crate::calls::{Source, right_side};
 use cilk_syntax::marks::{Punct, behind, name, one};
 use cilk_syntax::stop::Stop;
-use cilk_syntax::tree::{Local, LocalInitializer, Reducer, Stmt};
 use cilk_syntax::token::{Kind, Token};
+use cilk_syntax::tree::{Local, LocalInitializer, Reducer, Stmt};
 use std::alloc::Global;
 
 /// A reducer, from behind its `cilk_reducer`.

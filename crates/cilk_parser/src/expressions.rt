@@ -14,8 +14,8 @@ use cilk_syntax::firsts::begins_part;
 use cilk_syntax::marks::{Punct, name, one, then_one};
 use cilk_syntax::operators::next_operator;
 use cilk_syntax::stop::{DEEPEST, MOST_OPERATORS, Stop};
-use cilk_syntax::tree::{Expr, Name, UnaryOperator};
 use cilk_syntax::token::{Kind, Token};
+use cilk_syntax::tree::{Expr, Name, UnaryOperator};
 use std::alloc::Global;
 
 /// The value of a reducer, from behind the `value`.

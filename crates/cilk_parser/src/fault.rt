@@ -9,7 +9,7 @@ use thiserror::Error;
 
 /// What is wrong at a place of a text.
 #[derive(Clone, Copy, Debug, Error)]
-pub enum TextNumber {
+pub enum SyntaxErrorKind {
     #[error("a byte over 127")]
     NotAscii,
     #[error("no token")]
@@ -28,20 +28,20 @@ pub enum TextNumber {
     TooManyNumbers,
 }
 
-impl TextNumber {
+impl SyntaxErrorKind {
     /// The number by which the fault is reported: 101 to 106 in a program, 121 and 122 in an input.
     pub fn number(self) -> u16
         ensures { result ≡ Texts.number self }
     {
         match self {
-            TextNumber::NotAscii => 101,
-            TextNumber::BadToken => 102,
-            TextNumber::Unexpected => 103,
-            TextNumber::TooDeep => 104,
-            TextNumber::TooLarge => 105,
-            TextNumber::TooLong => 106,
-            TextNumber::BadNumber => 121,
-            TextNumber::TooManyNumbers => 122,
+            SyntaxErrorKind::NotAscii => 101,
+            SyntaxErrorKind::BadToken => 102,
+            SyntaxErrorKind::Unexpected => 103,
+            SyntaxErrorKind::TooDeep => 104,
+            SyntaxErrorKind::TooLarge => 105,
+            SyntaxErrorKind::TooLong => 106,
+            SyntaxErrorKind::BadNumber => 121,
+            SyntaxErrorKind::TooManyNumbers => 122,
         }
     }
 }
@@ -52,7 +52,7 @@ pub enum TextFault {
     #[error("no memory")]
     Memory,
     #[error("{0} at byte {1}")]
-    At(TextNumber, usize),
+    At(SyntaxErrorKind, usize),
 }
 
 impl From<AllocError> for TextFault {

@@ -5,8 +5,8 @@ ghost use Rattle.cilk_parser.specs.Inputs;
 ghost use Rattle.cilk_parser.specs.Inputs.{IsInput, IsInputFault, number_in};
 ghost use Rattle.cilk_parser.specs.Fronts.{IsFront};
 
+use crate::fault::{SyntaxErrorKind, TextFault};
 use cilk_syntax::lexer::{Class, all_digits, belongs, split, value_of};
-use crate::fault::{TextFault, TextNumber};
 use cilk_types::input::Input;
 use cilk_types::limits::MAX_INPUTS;
 use cilk_types::word_list::WordList;
@@ -56,7 +56,7 @@ fn number_in(word: &[u8]) -> Option<i64>
 enum Front<'a> {
     Gap(&'a [u8]),
     Number(i64, &'a [u8]),
-    Bad,
+    LexErrorKind,
 }
 
 /// What the bytes begin with: a byte between words, a number, or a word that is none.
@@ -71,7 +71,7 @@ fn piece<'a>(first: u8, tail: &'a [u8], bytes: &'a [u8]) -> Front<'a>
     let (word, after) = split(Class::Solid, bytes);
     match number_in(word) {
         Some(number) => Front::Number(number, after),
-        None => Front::Bad,
+        None => Front::LexErrorKind,
     }
 }
 
@@ -91,13 +91,13 @@ pub fn parse_input(alloc: Global, text: &[u8]) -> Result<Input, TextFault>
             }
             Front::Number(number, after) => {
                 if numbers.len() == MAX_INPUTS {
-                    return Err(TextFault::At(TextNumber::TooManyNumbers, place));
+                    return Err(TextFault::At(SyntaxErrorKind::TooManyNumbers, place));
                 }
                 numbers.push(number)?;
                 rest = after;
             }
-            Front::Bad => {
-                return Err(TextFault::At(TextNumber::BadNumber, place));
+            Front::LexErrorKind => {
+                return Err(TextFault::At(SyntaxErrorKind::BadNumber, place));
             }
         }
     }

@@ -9,13 +9,13 @@ ghost use Rattle.cilk_syntax.specs.declared.token.Kind.TheVariants as kinds;
 ghost use Rattle.cilk_syntax.specs.Trees as trees;
 ghost use Rattle.cilk_syntax.specs.declared.tree.ReturnType.TheVariants as types;
 
+use crate::declarations::reducer;
 use crate::parameters::parameters;
+use crate::statements::statements;
 use cilk_syntax::marks::{Punct, behind, name, numeral, one};
 use cilk_syntax::stop::Stop;
-use crate::declarations::reducer;
-use crate::statements::statements;
-use cilk_syntax::tree::{GlobalVariable, Initializer, Item, Name, Parameter, ReturnType, Stmt};
 use cilk_syntax::token::{Kind, Token};
+use cilk_syntax::tree::{GlobalVariable, Initializer, Item, Name, Parameter, ReturnType, Stmt};
 use std::alloc::Global;
 
 /// What stands behind the `=` of a global variable.

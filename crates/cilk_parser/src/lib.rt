@@ -10,7 +10,7 @@
 //!
 //! ```text
 //! parse(alloc, b"int main(){return 0;}")?    // one item: a function
-//! parse(alloc, b"int main(){return 0}")      // Err(TextFault::At(TextNumber::Unexpected, 19))
+//! parse(alloc, b"int main(){return 0}")      // Err(TextFault::At(SyntaxErrorKind::Unexpected, 19))
 //! ```
 //!
 //! What a program text and an input text are, and what is wrong with a text that is neither.

@@ -11,8 +11,8 @@ use crate::assignments::assignment;
 use crate::expressions::{ended, optional};
 use cilk_syntax::marks::{Punct, name, one, single, then_one};
 use cilk_syntax::stop::Stop;
-use cilk_syntax::tree::{Assignment, Beginning, Bounds, Expr, Name};
 use cilk_syntax::token::{Kind, Token};
+use cilk_syntax::tree::{Assignment, Beginning, Bounds, Expr, Name};
 use std::alloc::Global;
 
 /// The three parts of the head of a `for`.

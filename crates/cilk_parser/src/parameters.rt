@@ -7,11 +7,11 @@ ghost use Rattle.cilk_syntax.specs.Grammar.{SpellsListed, SpellsParameter, Spell
 ghost use Rattle.cilk_syntax.specs.Stops.{IsStop, NotFirst};
 ghost use Rattle.cilk_syntax.specs.declared.token.Kind.TheVariants as kinds;
 
+use crate::declarations::reducer;
 use cilk_syntax::marks::{Punct, behind, one};
 use cilk_syntax::stop::Stop;
-use crate::declarations::reducer;
-use cilk_syntax::tree::{Name, Parameter};
 use cilk_syntax::token::{Kind, Token};
+use cilk_syntax::tree::{Name, Parameter};
 use std::alloc::Global;
 
 /// A parameter, from behind its `int`.

@@ -4,22 +4,22 @@ ghost use Rattle.std.specs.Prelude.{IfErr, IfOk, length, ◌≡◌};
 ghost use Rattle.cilk_parser.specs.Texts;
 ghost use Rattle.cilk_parser.specs.Texts.{IsText, IsTextFault, place_of};
 
+use crate::fault::{SyntaxErrorKind, TextFault};
 use crate::items::program;
+use cilk_syntax::lexer::{LexErrorKind, LexFault, lex};
 use cilk_syntax::stop::Stop;
-use cilk_syntax::lexer::{Bad, LexFault, lex};
-use cilk_syntax::tree::Tree;
-use crate::fault::{TextFault, TextNumber};
 use cilk_syntax::token::Token;
+use cilk_syntax::tree::Tree;
 use cilk_types::limits::MAX_TEXT;
 use std::alloc::Global;
 
-fn number_of(bad: Bad) -> TextNumber
+fn number_of(bad: LexErrorKind) -> SyntaxErrorKind
     ensures { result ≡ Texts.number_of bad }
 {
     match bad {
-        Bad::NotAscii => TextNumber::NotAscii,
-        Bad::TooLarge => TextNumber::TooLarge,
-        _ => TextNumber::BadToken,
+        LexErrorKind::NotAscii => SyntaxErrorKind::NotAscii,
+        LexErrorKind::TooLarge => SyntaxErrorKind::TooLarge,
+        _ => SyntaxErrorKind::BadToken,
     }
 }
 
@@ -43,7 +43,7 @@ pub fn parse(alloc: Global, text: &[u8]) -> Result<Tree, TextFault>
     ensures fault { IfErr result (λ e. IsTextFault e text.now) }
 {
     if text.len() > MAX_TEXT {
-        return Err(TextFault::At(TextNumber::TooLong, MAX_TEXT));
+        return Err(TextFault::At(SyntaxErrorKind::TooLong, MAX_TEXT));
     }
     let tokens = match lex(alloc, text) {
         Ok(tokens) => tokens,
@@ -61,10 +61,10 @@ pub fn parse(alloc: Global, text: &[u8]) -> Result<Tree, TextFault>
         },
         Err(Stop::Memory) => Err(TextFault::Memory),
         Err(Stop::Unexpected(rest)) => {
-            Err(TextFault::At(TextNumber::Unexpected, place_of(text, rest)))
+            Err(TextFault::At(SyntaxErrorKind::Unexpected, place_of(text, rest)))
         }
         Err(Stop::PastLimit(rest)) => {
-            Err(TextFault::At(TextNumber::TooDeep, place_of(text, rest)))
+            Err(TextFault::At(SyntaxErrorKind::TooDeep, place_of(text, rest)))
         }
     }
 }

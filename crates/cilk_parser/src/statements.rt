@@ -8,16 +8,16 @@ ghost use Rattle.cilk_syntax.specs.Stops.{IsStop};
 ghost use Rattle.cilk_syntax.specs.declared.token.Kind.TheVariants as kinds;
 ghost use Rattle.cilk_syntax.specs.Trees as trees;
 
-use crate::declarations::declaration;
-use crate::loops::{bounds, loop_head};
 use crate::assignments::{assigned, target};
 use crate::calls::{Source, arguments, call, right_side};
+use crate::declarations::declaration;
 use crate::expressions::{expr, optional, parenthesized};
+use crate::loops::{bounds, loop_head};
 use cilk_syntax::firsts::{begins_statement, may_begin};
 use cilk_syntax::marks::{Punct, name, one, then_one};
 use cilk_syntax::stop::{DEEPEST, Stop};
-use cilk_syntax::tree::{Assignment, Call, Expr, Lvalue, Name, Stmt};
 use cilk_syntax::token::{Kind, Token};
+use cilk_syntax::tree::{Assignment, Call, Expr, Lvalue, Name, Stmt};
 use cilk_types::invocation::Invocation;
 use std::alloc::Global;
 

@@ -18,7 +18,7 @@ use Rattle.cilk_program.specs.Syntax.{Source}
 use Rattle.cilk_program.proofs.Closings.{runs_end}
 use Rattle.cilk_tree.specs.declared.mark.Mark.TheVariants as mark
 use Rattle.cilk_tree.specs.Races.{event_at}
-use Rattle.cilk_tree.specs.declared.story.Story.{Story}
+use Rattle.cilk_tree.specs.declared.event_order.EventOrder.{EventOrder}
 use Rattle.cilk_tree.specs.Word.{event, after}
 use Rattle.cilk_tree.proofs.Events.{mark_at, spawn_mark}
 use Rattle.cilk_tree.specs.Blocks.{SyncsAt, IsNextSync, EndsBlockOf}
@@ -28,7 +28,7 @@ use Rattle.cilk_tree.proofs.Framed.{begins}
 use Rattle.cilk_runs.specs.Runs.{Name, Begins, Resumes, Creates, Updates, Sets, Values, Prints, Reads, Writes, Syncs, Ends, Passes, Run, stop, act, child}
 use Rattle.cilk_runs.specs.Runs as runs
 use Rattle.cilk_runs.specs.Serial.{SyncAhead}
-use Rattle.cilk_runs.specs.Worlds.{World, first_world}
+use Rattle.cilk_runs.specs.FrameEnvs.{FrameEnv, first_world}
 use Rattle.cilk_determinacy.specs.Nested.{named}
 use Rattle.cilk_determinacy.specs.Numbers.{frame_number, numbered_event, numbered_events}
 use Rattle.cilk_determinacy.proofs.Numbered.{events_numbered}
@@ -100,14 +100,14 @@ both (e ∷ es) es' (m ∷ ms) ms' long each (suc i) n left is = dite (dec_lt i 
 -- ---- of a run by names
 
 module _ (p : Source) (r : Transcript) where
-  made_many : (name : Name) (t : Run World) → length (makers name t) ≡ length (numbered_events p r name t)
+  made_many : (name : Name) (t : Run FrameEnv) → length (makers name t) ≡ length (numbered_events p r name t)
   made_many name stop = refl
   made_many name (act e t) = ap suc (made_many name t)
   made_many name (child k w u t) =
       ap suc (length-append (makers w.name u) (makers name t) ∙ ap₂ (λ (a b : ℕ). a + b) (made_many w.name u) (made_many name t)
       ∙ sym (length-append (numbered_events p r w.name u) (numbered_events p r name t)))
 
-  ahead : (name : Name) (t : Run World) → SyncAhead t → SyncOf name (numbered_events p r name t) (makers name t)
+  ahead : (name : Name) (t : Run FrameEnv) → SyncAhead t → SyncOf name (numbered_events p r name t) (makers name t)
   ahead name stop h = absurd h
   ahead name (act Syncs t) h = record { place = 0; sync = refl; made = refl }
   ahead name (act (Reads c v) t) h = sync_later name _ _ _ _ (ahead name t h)
@@ -130,7 +130,7 @@ module _ (p : Source) (r : Transcript) where
   no_spawn name (Passes (Values i x)) n is = cc is
   no_spawn name (Passes (Prints x)) n is = cc is
 
-  behind : (name : Name) (t : Run World) → IsSynced t → EachSpawn (numbered_events p r name t) (makers name t)
+  behind : (name : Name) (t : Run FrameEnv) → IsSynced t → EachSpawn (numbered_events p r name t) (makers name t)
   behind name stop h i n is = absurd (let z : None ≡ Some (events.Spawn n) = is in cc z)
   behind name (act e t) h zero n is = absurd (no_spawn name e n (let z : Some (numbered_event p r name e) ≡ Some (events.Spawn n) = is in cc z))
   behind name (act e t) h (suc i) n is = behind_later _ _ _ _ i (behind name t h i n is)
@@ -240,7 +240,7 @@ spawned_event o is = absurd (cc is)
 pub have_continuations : PlansHaveContinuations
 have_continuations a s run is law k spawned =
     let ran = run.1.ended.ran in
-    let same : s.events ≡ a.trace = ap (λ (x : Story). x.events) is.story in
+    let same : s.events ≡ a.trace = ap (λ (x : EventOrder). x.events) is.story in
     let at = spawned_event (event s k) (spawn_mark s.events k (event s k) (after s k) spawned) in
     let block = blocks_end (source a.program) a.input ran.run a.trace a.outcome a.program.well_named ran.serial k at.0 (subst (λ (es : List Event). event_at es k ≡ Some (events.Spawn at.0)) same at.1) in
     let ends : EndsBlockOf s.events k block.0 = subst (λ (es : List Event). EndsBlockOf es k block.0) (sym same) block.1 in

@@ -9,27 +9,27 @@ use Rattle.cilk_program.specs.Sources.{source}
 use Rattle.cilk_program.proofs.Uniqueness.{serial_run_is_one}
 use Rattle.cilk_lower.specs.Behaves.{Behaves}
 use Rattle.cilk_lower.specs.Code.{CodeView}
-use Rattle.cilk_tree.specs.declared.story.Story.{Story}
+use Rattle.cilk_tree.specs.declared.event_order.EventOrder.{EventOrder}
 use Rattle.cilk_tree.specs.Orders.{IsOrderly}
 use Rattle.cilk_tree.specs.Along.{IsAlong}
 use Rattle.cilk_tree.specs.Planned.{planned}
 use Rattle.cilk_shared.specs.Values.{YardValue}
 use Rattle.cilk_determinacy.specs.Words.{InputsAreWords}
-use Rattle.cilk_replay.specs.Stories.{story_on, IsPlannedRun, StoriesAlongHaveValues}
+use Rattle.cilk_replay.specs.EventOrders.{story_on, IsPlannedRun, EventOrdersAlongHaveValues}
 use Rattle.cilk_replay.specs.declared.course.FrameHome.{FrameHome}
 use Rattle.cilk_replay.specs.Courses.{AreHomesOf, IsCourse, course_with}
 use Rattle.cilk_checker.specs.Determinate.{AcceptedRun, HasDeterminateRun}
 use Rattle.cilk_checker.specs.declared.frames.PlannedFrame.{PlannedFrame}
 use Rattle.cilk_checker.specs.Frames.{FramesStandAtTheirNumbers, frames_of}
 use Rattle.cilk_plan.specs.Frames.{IsFrameOf, frame_numbered}
-use Rattle.cilk_plan.specs.Plans.{IsPlanOf, IsStoryOn}
+use Rattle.cilk_plan.specs.Plans.{IsPlanOf, IsEventOrderOn}
 use Rattle.cilk_plan.proofs.Telling.{along_it}
 use Rattle.cilk_plan.specs.Courses.{AreHomesIn, home_in}
 
-pub is_course : StoriesAlongHaveValues → (a : AcceptedRun) (plan : Story) → IsPlanOf a plan → (inputs : List ℤ) → InputsAreWords inputs → (y : YardValue) → IsOrderly y.story → IsStoryOn a plan.opening inputs y.story
+pub is_course : EventOrdersAlongHaveValues → (a : AcceptedRun) (plan : EventOrder) → IsPlanOf a plan → (inputs : List ℤ) → InputsAreWords inputs → (y : YardValue) → IsOrderly y.story → IsEventOrderOn a plan.opening inputs y.story
     → (code : CodeView) → Behaves (source a.program) code → IsCourse (course_with y a.program code a.input inputs)
 is_course law a plan is inputs words y orderly told code behaves =
-    let opening : (let s = y.story in s.opening) ≡ plan.opening = ap (λ (s : Story). s.opening) told.is in (
+    let opening : (let s = y.story in s.opening) ≡ plan.opening = ap (λ (s : EventOrder). s.opening) told.is in (
       told.run,
       record {
         behaves = behaves;
@@ -37,7 +37,7 @@ is_course law a plan is inputs words y orderly told code behaves =
         is = subst (IsPlannedRun (source a.program) a.input told.run a.trace) (sym opening) told.of_run;
         told = told.is ∙ ap (story_on (source a.program) inputs told.run a.trace) (sym opening);
         orderly = orderly;
-        along = subst (λ (z : Story). IsAlong z y.story) (is.story ∙ ap (planned a.trace) (sym opening)) (along_it law a plan is inputs words y.story told).0;
+        along = subst (λ (z : EventOrder). IsAlong z y.story) (is.story ∙ ap (planned a.trace) (sym opening)) (along_it law a plan is inputs words y.story told).0;
       },
     )
 

@@ -22,7 +22,7 @@ use Rattle.cilk_program.proofs.Remembered.{runs_small}
 use Rattle.cilk_runs.specs.Runs as runs
 use Rattle.cilk_runs.specs.Runs.{Name, Run, Cell, Global, Own, Reads, Writes, Syncs, Ends, Passes, Begins, Resumes, Creates, Updates, Sets, Values, Prints}
 use Rattle.cilk_serial.specs.SoFar.{callees_of}
-use Rattle.cilk_runs.specs.Worlds.{World}
+use Rattle.cilk_runs.specs.FrameEnvs.{FrameEnv}
 use Rattle.cilk_determinacy.specs.Nested.{named}
 use Rattle.cilk_determinacy.specs.Numbers.{frame_number, cell_number, numbered_event, numbered_events, start_event, HasCell, EventIsHere, AreHere, AreNumbered}
 use Rattle.cilk_determinacy.proofs.Numbered.{events_numbered}
@@ -136,7 +136,7 @@ module _ (p : Source) where
     start_named Call n = tt
     start_named Spawn n = tt
 
-    run_named : (name : Name) (t : Run World) → AreHere p r t → AllNamed all_cells (numbered_events p r name t)
+    run_named : (name : Name) (t : Run FrameEnv) → AreHere p r t → AllNamed all_cells (numbered_events p r name t)
     run_named name runs.stop h = none_named all_cells
     run_named name (runs.act e t) h = one_named all_cells (numbered_event p r name e) (numbered_events p r name t) (event_named name e h.0) (run_named name t h.1)
     run_named name (runs.child k w u t) h =

@@ -6,7 +6,7 @@ use Rattle.std.specs.List.{All}
 use Rattle.cilk_types.specs.declared.event.Event.{Event}
 use Rattle.cilk_types.specs.declared.event.Event.TheVariants as events
 use Rattle.cilk_tree.specs.Races.{event_at}
-use Rattle.cilk_tree.specs.declared.story.Story.{Story}
+use Rattle.cilk_tree.specs.declared.event_order.EventOrder.{EventOrder}
 use Rattle.cilk_tree.specs.Word.{event}
 use Rattle.cilk_tree.specs.declared.blocks.Continuation.{Continuation}
 use Rattle.cilk_tree.specs.Blocks.{AreContinuations}
@@ -17,7 +17,7 @@ pub sync_more : (es : List Event) (at : ℕ) (old new : List ℕ) → new ≡ ol
 sync_more es at old new is all h = subst (All (λ p. event_at es p ≡ Some events.Sync)) (sym is) (All-push (λ p. event_at es p ≡ Some events.Sync) old at all h)
 
 -- the block of a spawn ends with a `sync`
-pub sync_there : (s : Story) (column : List (Option Continuation)) (k : ℕ) (c : Continuation) → AreContinuations s column → slice_index_or column k None ≡ Some c → event s c.sync ≡ Some events.Sync
+pub sync_there : (s : EventOrder) (column : List (Option Continuation)) (k : ℕ) (c : Continuation) → AreContinuations s column → slice_index_or column k None ≡ Some c → event s c.sync ≡ Some events.Sync
 sync_there s column k c are is =
     let h = (are k c).0 is in
     let ends = h.ends in

@@ -4,16 +4,16 @@ use Rattle.std.specs.declared.result.Result.TheVariants.{Ok, Err}
 use Rattle.std.specs.Result.{IfOk}
 use Rattle.std.proofs.Common.{◌≡◌, ℤ, List, refl, sym, ◌∙◌, subst}
 use Rattle.cilk_program.specs.Sources.{source}
-use Rattle.cilk_tree.specs.declared.story.Story.{Story}
+use Rattle.cilk_tree.specs.declared.event_order.EventOrder.{EventOrder}
 use Rattle.cilk_tree.specs.Values.{HasValues}
 use Rattle.cilk_tree.specs.Along.{IsAlong}
 use Rattle.cilk_tree.specs.Planned.{planned}
 use Rattle.cilk_determinacy.specs.Words.{HasWords, InputsAreWords}
-use Rattle.cilk_replay.specs.Stories.{story_on, OwnStory, StoriesAlongHaveValues}
+use Rattle.cilk_replay.specs.EventOrders.{story_on, OwnEventOrder, EventOrdersAlongHaveValues}
 use Rattle.cilk_checker.specs.Determinate.{AcceptedRun, HasDeterminateRun}
-use Rattle.cilk_plan.specs.Plans.{HasStoryOn, IsPlanOf, IsStoryOn}
+use Rattle.cilk_plan.specs.Plans.{HasEventOrderOn, IsPlanOf, IsEventOrderOn}
 
-pub has_story : (a : AcceptedRun) → HasDeterminateRun a → HasWords (source a.program) → InputsAreWords a.input → (plan : Story) → IsPlanOf a plan → (inputs : List ℤ) → HasStoryOn a plan.opening inputs
+pub has_story : (a : AcceptedRun) → HasDeterminateRun a → HasWords (source a.program) → InputsAreWords a.input → (plan : EventOrder) → IsPlanOf a plan → (inputs : List ℤ) → HasEventOrderOn a plan.opening inputs
 has_story a run words own plan is inputs =
     let ran = run.1.ended.ran in (
       story_on (source a.program) inputs ran.run a.trace plan.opening,
@@ -24,12 +24,12 @@ has_story a run words own plan is inputs =
       },
     )
 
-pub along_it : StoriesAlongHaveValues → (a : AcceptedRun) (plan : Story) → IsPlanOf a plan → (inputs : List ℤ) → InputsAreWords inputs → (s : Story) → IsStoryOn a plan.opening inputs s → IsAlong plan s × HasValues s
+pub along_it : EventOrdersAlongHaveValues → (a : AcceptedRun) (plan : EventOrder) → IsPlanOf a plan → (inputs : List ℤ) → InputsAreWords inputs → (s : EventOrder) → IsEventOrderOn a plan.opening inputs s → IsAlong plan s × HasValues s
 along_it law a plan is inputs words s told =
     let h = law (source a.program) a.input inputs told.run a.trace plan.opening told.of_run words in
-    subst (λ (z : Story). IsAlong plan z × HasValues z) (sym told.is) (subst (λ (z : Story). IsAlong z (story_on (source a.program) inputs told.run a.trace plan.opening)) (sym is.story) h.0, h.1)
+    subst (λ (z : EventOrder). IsAlong plan z × HasValues z) (sym told.is) (subst (λ (z : EventOrder). IsAlong z (story_on (source a.program) inputs told.run a.trace plan.opening)) (sym is.story) h.0, h.1)
 
-pub own_is_the_plan : OwnStory → (a : AcceptedRun) (plan : Story) → IsPlanOf a plan → (inputs : List ℤ) (s : Story) → IsStoryOn a plan.opening inputs s → inputs ≡ a.input → s ≡ plan
+pub own_is_the_plan : OwnEventOrder → (a : AcceptedRun) (plan : EventOrder) → IsPlanOf a plan → (inputs : List ℤ) (s : EventOrder) → IsEventOrderOn a plan.opening inputs s → inputs ≡ a.input → s ≡ plan
 own_is_the_plan law a plan is inputs s told same =
     told.is ∙ subst (λ (xs : List ℤ). story_on (source a.program) xs told.run a.trace plan.opening ≡ planned a.trace plan.opening) (sym same) (law (source a.program) a.input told.run a.trace plan.opening told.of_run) ∙ sym is.story
 

@@ -8,7 +8,7 @@ use Rattle.cilk_program.specs.SerialRun.{Transcript, IsSerialRun}
 use Rattle.cilk_program.specs.Syntax.{Source}
 use Rattle.cilk_program.specs.WellNamed.{is_well_named}
 use Rattle.cilk_tree.specs.Races.{event_at}
-use Rattle.cilk_tree.specs.declared.story.Story.{Story}
+use Rattle.cilk_tree.specs.declared.event_order.EventOrder.{EventOrder}
 use Rattle.cilk_tree.specs.Orders.{IsOrderly}
 use Rattle.cilk_tree.specs.Word.{spawn, what}
 use Rattle.cilk_tree.specs.declared.blocks.Continuation.{Continuation}
@@ -23,15 +23,15 @@ BlocksOfSpawnsEnd =
     → IsSerialRun p inputs r es (Leaves outcome) → (k child : ℕ) → event_at es k ≡ Some (Spawn child) → (q : ℕ) × EndsBlockOf es k q
 
 -- the spawn at k has one continuation
-pub record HasContinuation (s : Story) (k : ℕ) : Type 0 where
+pub record HasContinuation (s : EventOrder) (k : ℕ) : Type 0 where
   pub continuation : Continuation
   pub is : IsContinuationOf s k continuation
   pub one : (c : Continuation) → IsContinuationOf s k c → c ≡ continuation
 
 -- each spawn of a story has one
-abbrev pub SpawnsHaveContinuations : Story → Type 0
+abbrev pub SpawnsHaveContinuations : EventOrder → Type 0
 SpawnsHaveContinuations s = (k : ℕ) → what s k ≡ spawn → HasContinuation s k
 
 -- In the plan of an accepted run each spawn has one continuation.
 abbrev pub PlansHaveContinuations : Type 0
-PlansHaveContinuations = (a : AcceptedRun) (s : Story) → HasDeterminateRun a → IsPlanOf a s → IsOrderly s → SpawnsHaveContinuations s
+PlansHaveContinuations = (a : AcceptedRun) (s : EventOrder) → HasDeterminateRun a → IsPlanOf a s → IsOrderly s → SpawnsHaveContinuations s

@@ -2,15 +2,15 @@
 
 ghost use Rattle.std.specs.Prelude.{◌≡◌, IfOk};
 ghost use Rattle.cilk_plan.specs.Courses.{AreHomesIn, IsCourseOn, home_in};
-ghost use Rattle.cilk_plan.specs.Plans.{IsStoryOn};
+ghost use Rattle.cilk_plan.specs.Plans.{IsEventOrderOn};
 
+use crate::program_plan::ProgramPlan;
+use cilk_checker::frames::{PlannedFrame, frames_stand_at_their_numbers};
+use cilk_determinacy::words::inputs_are_words;
+use cilk_lower::lower::lower;
 use cilk_replay::course::{Course, FrameHome};
 use cilk_replay::home::CellBlock;
-use cilk_determinacy::words::inputs_are_words;
-use cilk_checker::frames::{PlannedFrame, frames_stand_at_their_numbers};
 use cilk_replay::laws::stories_along_have_values;
-use cilk_lower::lower::lower;
-use crate::program_plan::ProgramPlan;
 use cilk_shared::yard::Yard;
 use cilk_types::event::FrameNo;
 use cilk_types::input::Input;
@@ -24,7 +24,7 @@ pub fn course(
     yard: &Yard,
     input: Input,
 ) -> Result<Course, AllocError>
-    requires { IsStoryOn plan.now.run plan.now.story.opening input yard.now.story }
+    requires { IsEventOrderOn plan.now.run plan.now.story.opening input yard.now.story }
     ensures { IfOk result (λ c. IsCourseOn plan.now.run yard.now input c) }
 {
     stories_along_have_values();

@@ -5,16 +5,16 @@ ghost use Rattle.std.specs.Borrow.{ftrue};
 ghost use Rattle.cilk_checker.specs.Determinate.{AcceptedRun};
 ghost use Rattle.cilk_tree.specs.Along.{IsAlong};
 ghost use Rattle.cilk_tree.specs.Resumptions.{AreResumptions};
-ghost use Rattle.cilk_plan.specs.Plans.{HasStoryOn, IsStoryOn};
+ghost use Rattle.cilk_plan.specs.Plans.{HasEventOrderOn, IsEventOrderOn};
 ghost use Rattle.cilk_shared.specs.Values.{OfYard};
-ghost use Rattle.cilk_tree.specs.declared.story.Story.{Story};
+ghost use Rattle.cilk_tree.specs.declared.event_order.EventOrder.{EventOrder};
 ghost use Rattle.cilk_tree.specs.Values.{HasValues};
 
 use crate::program_plan::ProgramPlan;
 use cilk_determinacy::words::{inputs_are_words, programs_are_of_words};
 use cilk_replay::laws::{own_story, stories_along_have_values};
-use cilk_tree::plan::Plan;
 use cilk_shared::yard::{Segment, Yard};
+use cilk_tree::plan::Plan;
 use cilk_types::event::Pos;
 use cilk_types::input::Input;
 use std::alloc::{AllocError, Global};
@@ -23,7 +23,7 @@ use std::marker::Model;
 // A story that contracts alone see. It takes no bytes.
 #[derive(Drop)]
 struct Told {
-    ghost story: { Story },
+    ghost story: { EventOrder },
 }
 
 impl Model for Told {
@@ -34,8 +34,8 @@ impl Told {
     // The story that the program of this run makes of its plan on this input.
     fn of(plan: &Plan, input: &Input) -> Told
         ghost run: { AcceptedRun }
-        requires { HasStoryOn run plan.now.opening input.now }
-        ensures { IsStoryOn run plan.now.opening input.now result.story }
+        requires { HasEventOrderOn run plan.now.opening input.now }
+        ensures { IsEventOrderOn run plan.now.opening input.now result.story }
     {
         let _ = plan;
         let _ = input;
@@ -47,7 +47,7 @@ impl Told {
 /// makes of the plan on this input: its frames' asks, and the values that stand in its cells. On the input of the plan's run it is the
 /// plan's.
 pub fn yard(alloc: Global, plan: &ProgramPlan, input: &Input) -> Result<(Yard, Segment), AllocError>
-    ensures story { IfOk result (λ r. IsStoryOn plan.now.run plan.now.story.opening input.now r.0.story) }
+    ensures story { IfOk result (λ r. IsEventOrderOn plan.now.run plan.now.story.opening input.now r.0.story) }
     ensures along { IfOk result (λ r. IsAlong plan.now.story r.0.story) }
     ensures own { IfOk result (λ r. input.now ≡ plan.now.run.input → r.0.story ≡ plan.now.story) }
     ensures segment { IfOk result (λ r. OfYard r.0 r.1 × (r.1.from ≡ 1) × (r.1.upto ≡ 2)) }
@@ -65,8 +65,8 @@ pub fn yard(alloc: Global, plan: &ProgramPlan, input: &Input) -> Result<(Yard, S
 // The story that the program of this run makes of its plan on this input.
 fn tell(plan: &ProgramPlan, input: &Input) -> Told
     ghost run: { AcceptedRun }
-    requires { HasStoryOn run plan.now.story.opening input.now }
-    ensures { IsStoryOn run plan.now.story.opening input.now result.story }
+    requires { HasEventOrderOn run plan.now.story.opening input.now }
+    ensures { IsEventOrderOn run plan.now.story.opening input.now result.story }
 {
     Told::of(plan.events(), input)
 }
@@ -79,7 +79,7 @@ fn yard_of(
     input: &Input,
     told: &Told,
 ) -> Result<(Yard, Segment), AllocError>
-    ghost along: { List ℤ → Story }
+    ghost along: { List ℤ → EventOrder }
     requires told { along input.now ≡ told.now.story }
     requires plan { IsAlong plan.now told.now.story }
     requires values { HasValues told.now.story }

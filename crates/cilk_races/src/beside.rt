@@ -1,7 +1,7 @@
 //! The child beside which a reducer is read or set.
 
-use cilk_findings::runs::Run;
 use cilk_findings::replay::FrameNote;
+use cilk_findings::runs::Run;
 use cilk_types::event::{Event, Instance};
 use cilk_types::invocation::Invocation;
 use std::alloc::{AllocError, Global};

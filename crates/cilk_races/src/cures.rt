@@ -1,9 +1,9 @@
 //! What to write in place of two accesses that race, by what they access.
 
 use cilk_findings::case::Case;
+use cilk_findings::map::GlobalName;
 use cilk_findings::naming::word;
 use cilk_findings::runs::Run;
-use cilk_findings::map::GlobalName;
 use cilk_syntax::tree::Name;
 use cilk_types::event::Event;
 use std::alloc::AllocError;

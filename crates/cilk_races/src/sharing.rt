@@ -2,13 +2,13 @@
 //! of a recursion share, a count of the places that are filled, and a reducer that is read to keep the greater of two
 //! numbers.
 
-use cilk_messages::tokens::Tokens;
 use cilk_findings::case::Case;
+use cilk_findings::map::GlobalName;
 use cilk_findings::naming::{body_name, word};
+use cilk_findings::partings::{behind_head, loop_round, stands_in};
 use cilk_findings::paths::invoked_at;
 use cilk_findings::runs::Run;
-use cilk_findings::partings::{behind_head, loop_round, stands_in};
-use cilk_findings::map::GlobalName;
+use cilk_messages::tokens::Tokens;
 use cilk_program::program::Body;
 use cilk_syntax::token::Kind;
 use cilk_types::event::Event;

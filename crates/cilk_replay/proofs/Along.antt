@@ -18,7 +18,7 @@ use Rattle.cilk_frames.specs.Cursor.{CursorView}
 use Rattle.cilk_frames.specs.declared.cursor.Answer.{Answer}
 use Rattle.cilk_frames.specs.declared.cursor.Answer.TheVariants.{Done}
 use Rattle.cilk_frames.specs.Following.{Fits, Runs, Stands, owed_for, word_in}
-use Rattle.cilk_tree.specs.declared.story.Story.{Story}
+use Rattle.cilk_tree.specs.declared.event_order.EventOrder.{EventOrder}
 use Rattle.cilk_tree.specs.Runs.{IsAsked}
 use Rattle.cilk_tree.specs.Word.{event, resume, what}
 use Rattle.cilk_tree.specs.declared.kind.Kind.{Kind}
@@ -42,11 +42,11 @@ use Rattle.cilk_replay.proofs.Looking.{IsOfCell, IsOfChild, IsOfReducer}
 use Rattle.cilk_replay.proofs.Resuming.{resumed}
 
 -- the story of a chain's course
-abbrev pub story_of : CourseValue → Story
+abbrev pub story_of : CourseValue → EventOrder
 story_of c = let y = c.yard in y.story
 
 -- a fact of a position of a story, of the chain at hand
-pub of_chain : (P : Story → ℕ → Type 0) (u : CourseValue) (at : ℕ) (v : ChainValue) → standing u at ≡ v → P (let c = v.of in let y = c.yard in y.story) v.at → P (story_of u) at
+pub of_chain : (P : EventOrder → ℕ → Type 0) (u : CourseValue) (at : ℕ) (v : ChainValue) → standing u at ≡ v → P (let c = v.of in let y = c.yard in y.story) v.at → P (story_of u) at
 of_chain P u at v is h = subst (λ (z : ChainValue). P (let c = z.of in let y = c.yard in y.story) z.at) (sym is) h
 
 -- a frame that is begun by an ask

@@ -17,11 +17,11 @@ use Rattle.cilk_tree.specs.Shape.{Shape, finish, act, sync, child, start_of}
 use Rattle.cilk_tree.proofs.Lines.{Laid, laid_whole, line_of, long, plain, whole}
 use Rattle.cilk_tree.proofs.Reaches.{among_here, first}
 use Rattle.cilk_tree.proofs.Tied.{long_whole}
-use Rattle.cilk_tree.specs.declared.story.Story.{Story}
-use Rattle.cilk_tree.specs.Orders.{IsStoryOf}
+use Rattle.cilk_tree.specs.declared.event_order.EventOrder.{EventOrder}
+use Rattle.cilk_tree.specs.Orders.{IsEventOrderOf}
 use Rattle.cilk_tree.specs.Word.{event, after, what, resume, Before}
 use Rattle.cilk_tree.proofs.Events.{mark_at, resume_mark, spawn_of}
-use Rattle.cilk_tree.proofs.StoryLines.{IsReturn, Marked, end_of, ends_last, marked_shape, start_not_resume}
+use Rattle.cilk_tree.proofs.EventOrderLines.{IsReturn, Marked, end_of, ends_last, marked_shape, start_not_resume}
 
 module _ (f : ℕ → List ℕ) (m : ℕ → Mark) where
   not_here : {k q : ℕ} (p : ℕ) (x : Mark) → q ≡ p → m p ≡ x → (x ≡ Resume → ⊥) → IsReturn f m k q → ⊥
@@ -70,7 +70,7 @@ marks_at [] (suc i) = refl
 marks_at (e ∷ es) zero = refl
 marks_at (e ∷ es) (suc i) = marks_at es i
 
-module _ (shape : Shape) (s : Story) (is_story : IsStoryOf shape s) where
+module _ (shape : Shape) (s : EventOrder) (is_story : IsEventOrderOf shape s) where
   abbrev mark : ℕ → Mark
   mark p = mark_at (event_at s.events p)
 

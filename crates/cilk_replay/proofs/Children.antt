@@ -17,7 +17,7 @@ use Rattle.cilk_program.specs.Numbering.{Block, Counts, child_at, counts_after, 
 use Rattle.cilk_program.proofs.Numbers.{serial_counts}
 use Rattle.cilk_runs.specs.Runs.{Name, Run, Deed, Does, Invokes}
 use Rattle.cilk_runs.specs.Runs as runs
-use Rattle.cilk_runs.specs.Worlds.{World, child_world}
+use Rattle.cilk_runs.specs.FrameEnvs.{FrameEnv, child_world}
 use Rattle.cilk_determinacy.specs.Nested.{named_from}
 use Rattle.cilk_determinacy.specs.Numbers.{IsHere, child_runs, frame_number, frame_runs, start_event}
 use Rattle.cilk_determinacy.proofs.Sights.{Stands}
@@ -30,34 +30,34 @@ not_root p b (callees.Loop l) h = λ q. cc q
 
 module _ (p : Source) (r : serial.Transcript) where
   -- the frame of this name starts it as this child, and the run has it
-  pub record IsChild (name : Name) (k : ℕ) (w : World) : Type 0 where
+  pub record IsChild (name : Name) (k : ℕ) (w : FrameEnv) : Type 0 where
     pub named : w.name ≡ name ++ k ∷ []
     pub here : IsHere p r w.name
     pub runs : frame_runs r here.path ≡ Some w.callee
     pub callee : w.callee ≢ callees.Root
 
   -- each child that a frame starts from this one on, and those that these start
-  abbrev pub AreChildren : Name → ℕ → Run World → Type 0
+  abbrev pub AreChildren : Name → ℕ → Run FrameEnv → Type 0
   AreChildren name k runs.stop = Unit {0}
   AreChildren name k (runs.act e t) = AreChildren name k t
   AreChildren name k (runs.child how w u t) = IsChild name k w × AreChildren w.name 1 u × AreChildren name (suc k) t
 
   -- a deed that starts a child starts the next one
-  abbrev pub IsStarted : Name → ℕ → Deed World → Type 0
+  abbrev pub IsStarted : Name → ℕ → Deed FrameEnv → Type 0
   IsStarted name k (Does e) = Unit {0}
   IsStarted name k (Invokes how w) = IsChild name k w
 
   -- the event that starts a child has its number
-  abbrev pub StartsAs : Event → Deed World → Type 0
+  abbrev pub StartsAs : Event → Deed FrameEnv → Type 0
   StartsAs e (Does d) = Unit {0}
   StartsAs e (Invokes how w) = e ≡ start_event how (frame_number p r w.name)
 
-  is_child : (name : Name) (k : ℕ) (callee : Callee) (w : World) (fr : Frame) → callee ≢ callees.Root → w.callee ≡ callee → w.name ≡ name ++ k ∷ [] → Stands p r w fr → IsChild name k w
+  is_child : (name : Name) (k : ℕ) (callee : Callee) (w : FrameEnv) (fr : Frame) → callee ≢ callees.Root → w.callee ≡ callee → w.name ≡ name ++ k ∷ [] → Stands p r w fr → IsChild name k w
   is_child name k callee w fr other is at h = record { named = at; here = h.here; runs = h.runs; callee = λ q. other (sym is ∙ q) }
 
   module _ (inputs : List ℤ) (well : IsTrue (is_well_named p)) where
     pub serial_children : {fr : Frame} {start : ℕ} {history : List ℤ} {m : Memory} {rest : serial.Transcript} {es : List Event} {end : Ending} → Serial p inputs fr start history m rest es end
-        → (w : World) (j : ℕ) → Standing p inputs well r w fr j rest (counts_of m) → AreChildren w.name (suc j) (named_from p w (suc j) rest)
+        → (w : FrameEnv) (j : ℕ) → Standing p inputs well r w fr j rest (counts_of m) → AreChildren w.name (suc j) (named_from p w (suc j) rest)
     serial_children (Made {fr = fr} {m = m} {r = more} a left q inner ok rest) w j standing =
         serial_children rest w j (standing_act p inputs well r w fr j a (answer_to fr m a) more (counts_of m) standing)
     serial_children (Ended v left q ok) w j standing = tt

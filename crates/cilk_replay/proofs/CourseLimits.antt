@@ -28,9 +28,9 @@ use Rattle.cilk_runs.specs.Serial.{value_after, Behaves}
 use Rattle.cilk_runs.specs.Theorem.{follows}
 use Rattle.cilk_runs.specs.Traces.{Due, begin_due, resume_due, neither_due, IsFramed}
 use Rattle.cilk_runs.specs.Views.{view_after}
-use Rattle.cilk_runs.specs.WorldMachine.{named_ask, next, costs}
+use Rattle.cilk_runs.specs.FrameEnvMachine.{named_ask, next, costs}
 use Rattle.cilk_runs.specs.Reducers.{View, monoid_of}
-use Rattle.cilk_runs.specs.Worlds.{World}
+use Rattle.cilk_runs.specs.FrameEnvs.{FrameEnv}
 use Rattle.cilk_replay.specs.InputCourses.{Course, stop, act, child, run_of, IsCourse}
 use Rattle.cilk_replay.specs.Frames.{same_body, same_frame}
 use Rattle.cilk_replay.proofs.OneRun.{invoked}
@@ -63,14 +63,14 @@ asked_first p inputs l = by (single l)
     by false = refl
 
 -- after its `begin` the frame starts another
-abbrev child_first : Run World → Bool
+abbrev child_first : Run FrameEnv → Bool
 child_first runs.stop = false
 child_first (runs.act e runs.stop) = false
 child_first (runs.act e (runs.act x r)) = false
 child_first (runs.act e (runs.child k v u r)) = true
 child_first (runs.child k v u r) = false
 
-abbrev BeginsOn : Run World → Type 0
+abbrev BeginsOn : Run FrameEnv → Type 0
 BeginsOn (runs.act (Passes Begins) (runs.act e r)) = Unit {0}
 BeginsOn (runs.act (Passes Begins) (runs.child k v u r)) = Unit {0}
 BeginsOn _ = ⊥
@@ -82,24 +82,24 @@ both_asks : (W : Type 0) (o : Option (Ask W)) (a b : Ask W) → o ≡ Some a →
 both_asks W o a b g h = cc
 
 module _ (p : Source) (inputs : List ℤ) where
-  loop_next : (w : World) (l : LoopPart) → w.callee ≡ callees.Loop l → (b : Bool) → single l ≡ b
+  loop_next : (w : FrameEnv) (l : LoopPart) → w.callee ≡ callees.Loop l → (b : Bool) → single l ≡ b
       → next p inputs w (Does (Passes Begins) ∷ []) ≡ Some (named_ask p w 1 (loop_ask l b))
   loop_next w l is b e =
       ap (λ (c : Callee). Some (named_ask p w 1 (frame_asks p inputs c (pos 0 ∷ []) MAX_TICKS).ask)) is
       ∙ ap (λ (a : language.Ask). Some (named_ask p w 1 a)) (asked_first p inputs l)
       ∙ ap (λ (b : Bool). Some (named_ask p w 1 (loop_ask l b))) e
 
-  head_is : (w : World) (l : LoopPart) → w.callee ≡ callees.Loop l → (d : Run World) → BeginsOn d → Behaves World (follows (next p inputs)) w [] d
+  head_is : (w : FrameEnv) (l : LoopPart) → w.callee ≡ callees.Loop l → (d : Run FrameEnv) → BeginsOn d → Behaves FrameEnv (follows (next p inputs)) w [] d
       → child_first d ≡ opposite (single l)
   head_is w l is (runs.act (Passes Begins) (runs.act x r)) on b = by (single l) refl
     where
       by : (s : Bool) → single l ≡ s → false ≡ opposite s
       by true e = refl
-      by false e = absurd (invoked x Spawn _ (both_asks World _ _ _ b.1.0 (loop_next w l is false e)))
+      by false e = absurd (invoked x Spawn _ (both_asks FrameEnv _ _ _ b.1.0 (loop_next w l is false e)))
   head_is w l is (runs.act (Passes Begins) (runs.child k v u r)) on b = by (single l) refl
     where
       by : (s : Bool) → single l ≡ s → true ≡ opposite s
-      by true e = absurd (write_invoke World _ _ _ k v (loop_next w l is true e) b.1.0)
+      by true e = absurd (write_invoke FrameEnv _ _ _ k v (loop_next w l is true e) b.1.0)
       by false e = refl
   head_is w l is d on b = absurd on
 
@@ -120,18 +120,18 @@ same_cells p (callees.Loop l) (callees.Loop m) h loops =
 
 -- ---- each frame begins and goes on
 
-abbrev pub IsOpened : Run World → Type 0
+abbrev pub IsOpened : Run FrameEnv → Type 0
 IsOpened runs.stop = Unit {0}
 IsOpened (runs.act e r) = IsOpened r
 IsOpened (runs.child k v u r) = BeginsOn u × IsOpened u × IsOpened r
 
-begins_on : (u : Run World) → IsFramed begin_due u → BeginsOn u
+begins_on : (u : Run FrameEnv) → IsFramed begin_due u → BeginsOn u
 begins_on (runs.act (Passes Begins) runs.stop) f = f
 begins_on (runs.act (Passes Begins) (runs.act e r)) f = tt
 begins_on (runs.act (Passes Begins) (runs.child k v u r)) f = tt
 begins_on u f = absurd f
 
-pub opened : (due : Due) (t : Run World) → IsFramed due t → IsOpened t
+pub opened : (due : Due) (t : Run FrameEnv) → IsFramed due t → IsOpened t
 opened begin_due (runs.act (Passes Begins) r) f = opened neither_due r f
 opened resume_due (runs.act (Passes Resumes) r) f = opened neither_due r f
 opened neither_due (runs.act (Reads c v) r) f = opened neither_due r f
@@ -148,14 +148,14 @@ opened due t f = absurd f
 
 -- ---- what a course weighs
 
-no_frames : (e : Event) → frame_cost {W = World} (ask_of e) ≡ 0
+no_frames : (e : Event) → frame_cost {W = FrameEnv} (ask_of e) ≡ 0
 no_frames (Reads c v) = refl
 no_frames (Writes c v) = refl
 no_frames Syncs = refl
 no_frames (Ends v gone) = refl
 no_frames (Passes m) = refl
 
-no_cells : (cells : World → ℕ) (e : Event) → cells_begun cells (ask_of e) ≡ 0
+no_cells : (cells : FrameEnv → ℕ) (e : Event) → cells_begun cells (ask_of e) ≡ 0
 no_cells cells (Reads c v) = refl
 no_cells cells (Writes c v) = refl
 no_cells cells Syncs = refl
@@ -163,7 +163,7 @@ no_cells cells (Ends v gone) = refl
 no_cells cells (Passes m) = refl
 
 -- the runs have children where the other has, of as many cells
-abbrev pub AreLike : Source → Run World → Run World → Type 0
+abbrev pub AreLike : Source → Run FrameEnv → Run FrameEnv → Type 0
 AreLike p runs.stop runs.stop = Unit {0}
 AreLike p (runs.act e r) (runs.act x s) = AreLike p r s
 AreLike p (runs.child k v u r) (runs.child j y d s) = (cells_of p v.callee ≡ cells_of p y.callee) × AreLike p u d × AreLike p r s
@@ -171,12 +171,12 @@ AreLike p _ _ = ⊥
 
 module _ (p : Source) (inputs others : List ℤ) where
   -- the run from a point on uses as much as the other
-  pub record IsAsMuch (w x : World) (past past' : List (Deed World)) (t u : Run World) : Type 0 where
+  pub record IsAsMuch (w x : FrameEnv) (past past' : List (Deed FrameEnv)) (t u : Run FrameEnv) : Type 0 where
     pub events : weight (costs p inputs) EventTotal w past t ≡ weight (costs p others) EventTotal x past' u
     pub frames : weight (costs p inputs) FrameTotal w past t ≡ weight (costs p others) FrameTotal x past' u
     pub cells : weight (costs p inputs) CellTotal w past t ≡ weight (costs p others) CellTotal x past' u
 
-  pub as_much : (w x : World) (past past' : List (Deed World)) (t u : Run World) → AreLike p t u → IsAsMuch w x past past' t u
+  pub as_much : (w x : FrameEnv) (past past' : List (Deed FrameEnv)) (t u : Run FrameEnv) → AreLike p t u → IsAsMuch w x past past' t u
   as_much w x past past' runs.stop runs.stop h = record { events = refl; frames = refl; cells = refl }
   as_much w x past past' runs.stop (runs.act y s) h = absurd h
   as_much w x past past' runs.stop (runs.child j y d s) h = absurd h
@@ -186,8 +186,8 @@ module _ (p : Source) (inputs others : List ℤ) where
       let rest = as_much w x (past ++ Does e ∷ []) (past' ++ Does y ∷ []) r s h in
       let f = no_frames e in
       let f' = no_frames y in
-      let n = no_cells (λ (w : World). cells_of p w.callee) e in
-      let n' = no_cells (λ (w : World). cells_of p w.callee) y in
+      let n = no_cells (λ (w : FrameEnv). cells_of p w.callee) e in
+      let n' = no_cells (λ (w : FrameEnv). cells_of p w.callee) y in
       let re = rest.events in
       let rf = rest.frames in
       let rc = rest.cells in
@@ -206,8 +206,8 @@ module _ (p : Source) (inputs others : List ℤ) where
       let rc = rest.cells in
       record { events = omega (arith, ie, re); frames = omega (arith, jf, rf); cells = omega (arith, cells, ic, rc) }
 
-  first_same : (w : World) (past : List (Deed World)) (memory : Cell → ℤ) (views : Instance → View) (t : Run World) (c : Course World)
-      → IsCourse World View monoid_of (next p others) (same_frame p) w past memory views t c → child_first t ≡ child_first (run_of c)
+  first_same : (w : FrameEnv) (past : List (Deed FrameEnv)) (memory : Cell → ℤ) (views : Instance → View) (t : Run FrameEnv) (c : Course FrameEnv)
+      → IsCourse FrameEnv View monoid_of (next p others) (same_frame p) w past memory views t c → child_first t ≡ child_first (run_of c)
   first_same w past memory views runs.stop stop h = refl
   first_same w past memory views runs.stop (act b x c) h = absurd h
   first_same w past memory views runs.stop (child b j x d c) h = absurd h
@@ -227,9 +227,9 @@ module _ (p : Source) (inputs others : List ℤ) where
   first_same w past memory views (runs.child k v u r) (child b j x d c) h = refl
 
   -- a course is like the plan's run
-  pub are_like : (w x : World) (past past' : List (Deed World)) (memory : Cell → ℤ) (views : Instance → View) (t : Run World) (c : Course World)
-      → IsCourse World View monoid_of (next p others) (same_frame p) x past' memory views t c
-      → Behaves World (follows (next p inputs)) w past t → IsOpened t → Behaves World (follows (next p others)) x past' (run_of c)
+  pub are_like : (w x : FrameEnv) (past past' : List (Deed FrameEnv)) (memory : Cell → ℤ) (views : Instance → View) (t : Run FrameEnv) (c : Course FrameEnv)
+      → IsCourse FrameEnv View monoid_of (next p others) (same_frame p) x past' memory views t c
+      → Behaves FrameEnv (follows (next p inputs)) w past t → IsOpened t → Behaves FrameEnv (follows (next p others)) x past' (run_of c)
       → IsOpened (run_of c) → AreLike p t (run_of c)
   are_like w x past past' memory views runs.stop stop h b o b' o' = tt
   are_like w x past past' memory views runs.stop (act z y c) h b o b' o' = absurd h

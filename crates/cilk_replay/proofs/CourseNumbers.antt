@@ -23,9 +23,9 @@ use Rattle.cilk_runs.specs.Serial.{value_after}
 use Rattle.cilk_runs.specs.Traces.{trace}
 use Rattle.cilk_runs.specs.Views.{view_after}
 use Rattle.cilk_runs.proofs.Basics.{same_name-eq}
-use Rattle.cilk_runs.specs.WorldMachine.{next}
+use Rattle.cilk_runs.specs.FrameEnvMachine.{next}
 use Rattle.cilk_runs.specs.Reducers.{View, monoid_of}
-use Rattle.cilk_runs.specs.Worlds.{World, child_world}
+use Rattle.cilk_runs.specs.FrameEnvs.{FrameEnv, child_world}
 use Rattle.cilk_determinacy.specs.Nested.{named_from}
 use Rattle.cilk_determinacy.specs.Numbers.{down, number_of, first_cell, frame_number, cell_number, instance_number, start_event, numbered_event, numbered_events}
 use Rattle.cilk_determinacy.proofs.Numbered.{are_written}
@@ -43,7 +43,7 @@ IsShaped p (serial.act a v r) (serial.act b x s) = IsShaped p r s
 IsShaped p (serial.child k c u r) (serial.child j d v s) = (cells_of p c ≡ cells_of p d) × IsShaped p u v × IsShaped p r s
 IsShaped p _ _ = ⊥
 
-shaped : (p : Source) (w x : World) (i j : ℕ) (r s : Transcript) → AreLike p (named_from p w i r) (named_from p x j s) → IsShaped p r s
+shaped : (p : Source) (w x : FrameEnv) (i j : ℕ) (r s : Transcript) → AreLike p (named_from p w i r) (named_from p x j s) → IsShaped p r s
 shaped p w x i j serial.stop serial.stop h = tt
 shaped p w x i j serial.stop (serial.act b y s) h = absurd h
 shaped p w x i j serial.stop (serial.child k d v s) h = absurd h
@@ -124,7 +124,7 @@ module _ (p : Source) (r s : Transcript) (alike : IsShaped p r s) where
   same_event_number name (Passes (Values i v)) = ap (λ j. events.Value j v) (same_reducers i)
   same_event_number name (Passes (Prints v)) = refl
 
-  same_events : (name : Name) (t : Run World) → numbered_events p r name t ≡ numbered_events p s name t
+  same_events : (name : Name) (t : Run FrameEnv) → numbered_events p r name t ≡ numbered_events p s name t
   same_events name runs.stop = refl
   same_events name (runs.act e t) = ap₂ (λ (n : numbers.Event) l. n ∷ l) (same_event_number name e) (same_events name t)
   same_events name (runs.child k w u t) =
@@ -132,16 +132,16 @@ module _ (p : Source) (r s : Transcript) (alike : IsShaped p r s) where
 
 -- ---- the values of a course
 
-started_value : (k : Invocation) (n : ℕ) (d : Deed World) → with_value (start_event k n) d ≡ start_event k n
+started_value : (k : Invocation) (n : ℕ) (d : Deed FrameEnv) → with_value (start_event k n) d ≡ start_event k n
 started_value Call n d = refl
 started_value Spawn n d = refl
 
-values_long : (es : List numbers.Event) (ds : List (Deed World)) → length (with_values es ds) ≡ length es
+values_long : (es : List numbers.Event) (ds : List (Deed FrameEnv)) → length (with_values es ds) ≡ length es
 values_long [] ds = refl
 values_long (e ∷ es) [] = refl
 values_long (e ∷ es) (d ∷ ds) = ap suc (values_long es ds)
 
-values_both : (es xs : List numbers.Event) (ds ms : List (Deed World)) → length es ≡ length ds
+values_both : (es xs : List numbers.Event) (ds ms : List (Deed FrameEnv)) → length es ≡ length ds
     → with_values (es ++ xs) (ds ++ ms) ≡ with_values es ds ++ with_values xs ms
 values_both [] xs [] ms h = refl
 values_both [] xs (d ∷ ds) ms h = absurd (omega (arith, h))
@@ -149,10 +149,10 @@ values_both (e ∷ es) xs [] ms h = absurd (omega (arith, h))
 values_both (e ∷ es) xs (d ∷ ds) ms h = let less : length es ≡ length ds = omega (arith, h) in ap (λ (l : List numbers.Event). with_value e d ∷ l) (values_both es xs ds ms less)
 
 module _ (p : Source) (r : Transcript) (others : List ℤ) where
-  long : (name : Name) (t : Run World) → length (trace t) ≡ length (numbered_events p r name t)
+  long : (name : Name) (t : Run FrameEnv) → length (trace t) ≡ length (numbered_events p r name t)
   long name t = written_length (cell_number p r) (instance_number p r) (trace t) (numbered_events p r name t) (are_written p r name t)
 
-  one_value : (name : Name) (e x : Event) → IsLike e x → numbered_event p r name x ≡ with_value {W = World} (numbered_event p r name e) (Does x)
+  one_value : (name : Name) (e x : Event) → IsLike e x → numbered_event p r name x ≡ with_value {W = FrameEnv} (numbered_event p r name e) (Does x)
   one_value name (Reads c v) (Reads d w) h = ap (λ (c : Cell). events.Read (cell_number p r c) w) (sym h)
   one_value name (Writes c v) (Writes d w) h = ap (λ (c : Cell). events.Write (cell_number p r c) w) (sym h)
   one_value name Syncs Syncs h = refl
@@ -166,8 +166,8 @@ module _ (p : Source) (r : Transcript) (others : List ℤ) where
   one_value name (Passes (Prints v)) (Passes (Prints w)) h = refl
   one_value name e x h = absurd h
 
-  valued : (name : Name) (w : World) (past : List (Deed World)) (memory : Cell → ℤ) (views : Instance → View) (t : Run World) (c : Course World)
-      → IsCourse World View monoid_of (next p others) (same_frame p) w past memory views t c
+  valued : (name : Name) (w : FrameEnv) (past : List (Deed FrameEnv)) (memory : Cell → ℤ) (views : Instance → View) (t : Run FrameEnv) (c : Course FrameEnv)
+      → IsCourse FrameEnv View monoid_of (next p others) (same_frame p) w past memory views t c
       → numbered_events p r name (run_of c) ≡ with_values (numbered_events p r name t) (trace (run_of c))
   valued name w past memory views runs.stop stop h = refl
   valued name w past memory views runs.stop (act b x c) h = absurd h
@@ -193,9 +193,9 @@ module _ (p : Source) (r : Transcript) (others : List ℤ) where
 
 -- ---- a run whose named run is a course
 
-pub events_are : (p : Source) (others : List ℤ) (r s : Transcript) (w : World) (memory : Cell → ℤ) (views : Instance → View) (c : Course World)
+pub events_are : (p : Source) (others : List ℤ) (r s : Transcript) (w : FrameEnv) (memory : Cell → ℤ) (views : Instance → View) (c : Course FrameEnv)
     → AreLike p (named_from p w 1 r) (run_of c) → named_from p w 1 s ≡ run_of c
-    → IsCourse World View monoid_of (next p others) (same_frame p) w [] memory views (named_from p w 1 r) c
+    → IsCourse FrameEnv View monoid_of (next p others) (same_frame p) w [] memory views (named_from p w 1 r) c
     → numbered_events p s [] (named_from p w 1 s) ≡ with_values (numbered_events p r [] (named_from p w 1 r)) (trace (run_of c))
 events_are p others r s w memory views c like is course =
     let alike = shaped p w w 1 1 r s (subst (AreLike p (named_from p w 1 r)) (sym is) like) in

@@ -15,7 +15,7 @@ use Rattle.cilk_runs.specs.Serial.{value_after, IsReadRight}
 use Rattle.cilk_runs.specs.Traces.{trace, IsWrittenEvent, IsWritten, AreWritten}
 use Rattle.cilk_runs.specs.Views.{view_after}
 use Rattle.cilk_replay.specs.InputCourses.{Course, stop, act, child, run_of, asked_in, IsLike, IsCourse}
-use Rattle.cilk_replay.proofs.AskedStories.{long, written_long}
+use Rattle.cilk_replay.proofs.AskedEventOrders.{long, written_long}
 use Rattle.cilk_replay.proofs.LastWrites.{Cells, cells_after_both, AreAskedRight, right_both}
 
 chosen : (b d : Bool) (v x y : ℤ) → b ≡ d → x ≡ y → cond b v x ≡ (if d then v else y)

@@ -16,12 +16,12 @@ use Rattle.cilk_runs.specs.Monoids.{on_view}
 use Rattle.cilk_runs.specs.Serial.{value_after, IsReadRight}
 use Rattle.cilk_runs.specs.Traces.{trace}
 use Rattle.cilk_runs.specs.Views.{view_after, IsViewRight}
-use Rattle.cilk_runs.specs.WorldMachine.{named_ask, answer_of, answers_of, has_ended, asked_after, next}
+use Rattle.cilk_runs.specs.FrameEnvMachine.{named_ask, answer_of, answers_of, has_ended, asked_after, next}
 use Rattle.cilk_runs.specs.Reducers.{View, kind_of, views_of, monoid_of}
-use Rattle.cilk_runs.specs.WorldViews.{IsViewOf}
-use Rattle.cilk_runs.specs.Worlds.{World}
-use Rattle.cilk_runs.proofs.KeptWorld.{answers_more}
-use Rattle.cilk_runs.proofs.WorldViews.{are_multiplied}
+use Rattle.cilk_runs.specs.FrameEnvViews.{IsViewOf}
+use Rattle.cilk_runs.specs.FrameEnvs.{FrameEnv}
+use Rattle.cilk_runs.proofs.KeptFrameEnv.{answers_more}
+use Rattle.cilk_runs.proofs.FrameEnvViews.{are_multiplied}
 use Rattle.cilk_determinacy.specs.Words.{AreWords, HasWords, InputsAreWords}
 use Rattle.cilk_determinacy.proofs.Worded.{zero_word, AskWords, CalleeWords, asks_words}
 use Rattle.cilk_determinacy.proofs.Wordy.{more_words, number_word, update_size, single_size, unit_size}
@@ -82,18 +82,18 @@ EventWords (Passes (Sets i x)) = IsWord x
 EventWords (Passes (Values i x)) = IsWord x
 EventWords (Passes (Prints x)) = IsWord x
 
-abbrev pub RunWords : Run World → Type 0
+abbrev pub RunWords : Run FrameEnv → Type 0
 RunWords runs.stop = Unit {0}
 RunWords (runs.act e r) = EventWords e × RunWords r
 RunWords (runs.child k v u r) = CalleeWords v.callee × RunWords u × RunWords r
 
 -- what isn't asked for is of words
-abbrev pub IsElseWords : Run World → Course World → Type 0
+abbrev pub IsElseWords : Run FrameEnv → Course FrameEnv → Type 0
 IsElseWords (runs.act e r) (act b x c) = (b ≡ false → EventWords e) × IsElseWords r c
 IsElseWords (runs.child k v u r) (child b j x d c) = (b ≡ false → CalleeWords v.callee) × IsElseWords u d × IsElseWords r c
 IsElseWords _ _ = Unit {0}
 
-pub words_else : (t : Run World) (c : Course World) → RunWords t → IsElseWords t c
+pub words_else : (t : Run FrameEnv) (c : Course FrameEnv) → RunWords t → IsElseWords t c
 words_else runs.stop c h = tt
 words_else (runs.act e r) stop h = tt
 words_else (runs.act e r) (child b j x d c) h = tt
@@ -102,12 +102,12 @@ words_else (runs.child k v u r) stop h = tt
 words_else (runs.child k v u r) (act b x c) h = tt
 words_else (runs.child k v u r) (child b j x d c) h = (λ _. h.0, words_else u d h.1, words_else r c h.2)
 
-pub all_else : (t : Run World) → IsElseWords t (all_asked t)
+pub all_else : (t : Run FrameEnv) → IsElseWords t (all_asked t)
 all_else runs.stop = tt
 all_else (runs.act e r) = (λ z. absurd (cc z), all_else r)
 all_else (runs.child k v u r) = (λ z. absurd (cc z), all_else u, all_else r)
 
-abbrev NamedWords : Option (Ask World) → Type 0
+abbrev NamedWords : Option (Ask FrameEnv) → Type 0
 NamedWords None = Unit {0}
 NamedWords (Some (Read c)) = Unit {0}
 NamedWords (Some (Write c v)) = IsWord v
@@ -123,7 +123,7 @@ NamedWords (Some (Pass (Value i))) = Unit {0}
 NamedWords (Some (Pass (Print x))) = IsWord x
 NamedWords (Some (Fail f)) = Unit {0}
 
-named_words : (p : Source) (w : World) (k : ℕ) (a : language.Ask) → AskWords a → NamedWords (Some (named_ask p w k a))
+named_words : (p : Source) (w : FrameEnv) (k : ℕ) (a : language.Ask) → AskWords a → NamedWords (Some (named_ask p w k a))
 named_words p w k asks.Begin h = tt
 named_words p w k (asks.Read x) h = tt
 named_words p w k (asks.Write x v) h = h
@@ -139,11 +139,11 @@ named_words p w k (asks.Result v) h = h
 named_words p w k (asks.End v) h = tt
 named_words p w k (asks.Fault f) h = tt
 
-unless_ended : (b : Bool) (a : Option (Ask World)) → NamedWords a → NamedWords (cond b None a)
+unless_ended : (b : Bool) (a : Option (Ask FrameEnv)) → NamedWords a → NamedWords (cond b None a)
 unless_ended true a h = tt
 unless_ended false a h = h
 
-pub next_words : (p : Source) (inputs : List ℤ) → HasWords p → InputsAreWords inputs → (w : World) (past : List (Deed World)) → CalleeWords w.callee
+pub next_words : (p : Source) (inputs : List ℤ) → HasWords p → InputsAreWords inputs → (w : FrameEnv) (past : List (Deed FrameEnv)) → CalleeWords w.callee
     → AreWords (answers_of past) → NamedWords (next p inputs w past)
 next_words p inputs has are w past callee answers =
     unless_ended (has_ended past) (Some (named_ask p w (suc (started past)) (asked_after p inputs w past).ask))
@@ -218,38 +218,38 @@ on_viewed e views n h viewed i = by e h
 
 -- ---- whole courses
 
-record Fits (w : World) (past : List (Deed World)) (memory : Cell → ℤ) (views : Instance → View) (n : ℕ) : Type 0 where
+record Fits (w : FrameEnv) (past : List (Deed FrameEnv)) (memory : Cell → ℤ) (views : Instance → View) (n : ℕ) : Type 0 where
   callee : CalleeWords w.callee
   answers : AreWords (answers_of past)
   cells : (c : Cell) → IsWord (memory c)
   viewed : AreViewed views n
 
 -- of a run: its events, and what it leaves
-record LeavesWords (t : Run World) (memory : Cell → ℤ) (views : Instance → View) (n : ℕ) : Type 0 where
+record LeavesWords (t : Run FrameEnv) (memory : Cell → ℤ) (views : Instance → View) (n : ℕ) : Type 0 where
   events : RunWords t
   cells : (c : Cell) → IsWord (value_after t c (memory c))
   viewed : AreViewed (λ i. view_after (monoid_of i) i t (views i)) n
 
-module _ (next : World → List (Deed World) → Option (Ask World)) (same : World → World → Bool) (asks_so : (w : World) (past : List (Deed World)) → CalleeWords w.callee → AreWords (answers_of past) → NamedWords (next w past)) where
-  event_words : (w : World) (past : List (Deed World)) (memory : Cell → ℤ) (views : Instance → View) (n : ℕ) (e x : Event) (b : Bool) → n ≤ 1000000
+module _ (next : FrameEnv → List (Deed FrameEnv) → Option (Ask FrameEnv)) (same : FrameEnv → FrameEnv → Bool) (asks_so : (w : FrameEnv) (past : List (Deed FrameEnv)) → CalleeWords w.callee → AreWords (answers_of past) → NamedWords (next w past)) where
+  event_words : (w : FrameEnv) (past : List (Deed FrameEnv)) (memory : Cell → ℤ) (views : Instance → View) (n : ℕ) (e x : Event) (b : Bool) → n ≤ 1000000
       → Fits w past memory views n
-      → IsMadeFor World View monoid_of next same w past memory views e x b → (b ≡ false → EventWords e) → EventWords x
+      → IsMadeFor FrameEnv View monoid_of next same w past memory views e x b → (b ≡ false → EventWords e) → EventWords x
   event_words w past memory views n e x true few fits made other =
       let m = made.made refl in
       asked_words x memory views n few fits.cells fits.viewed (subst NamedWords m.0 (asks_so w past fits.callee fits.answers)) m.1 m.2
   event_words w past memory views n e x false few fits made other = subst EventWords (sym (made.kept refl)) (other refl)
 
-  callee_words : (w : World) (past : List (Deed World)) (j k : Invocation) (v x : World) (b : Bool) → CalleeWords w.callee → AreWords (answers_of past)
-      → IsStartedFor World View monoid_of next same w past j k v x b → (b ≡ false → CalleeWords v.callee) → CalleeWords x.callee
+  callee_words : (w : FrameEnv) (past : List (Deed FrameEnv)) (j k : Invocation) (v x : FrameEnv) (b : Bool) → CalleeWords w.callee → AreWords (answers_of past)
+      → IsStartedFor FrameEnv View monoid_of next same w past j k v x b → (b ≡ false → CalleeWords v.callee) → CalleeWords x.callee
   callee_words w past j k v x true callee answers made other = subst NamedWords (made.made refl) (asks_so w past callee answers)
-  callee_words w past j k v x false callee answers made other = subst (λ (z : World). CalleeWords z.callee) (sym (made.kept refl)) (other refl)
+  callee_words w past j k v x false callee answers made other = subst (λ (z : FrameEnv). CalleeWords z.callee) (sym (made.kept refl)) (other refl)
 
-  more_answers : (past : List (Deed World)) (d : Deed World) → AreWords (answers_of past) → IsWord (answer_of d) → AreWords (answers_of (past ++ d ∷ []))
+  more_answers : (past : List (Deed FrameEnv)) (d : Deed FrameEnv) → AreWords (answers_of past) → IsWord (answer_of d) → AreWords (answers_of (past ++ d ∷ []))
   more_answers past d h w = subst AreWords (sym (answers_more past d)) (more_words (answers_of past) (answer_of d) h w)
 
-  course_words : (w : World) (past : List (Deed World)) (memory : Cell → ℤ) (views : Instance → View) (n m : ℕ) (t : Run World) (c : Course World)
+  course_words : (w : FrameEnv) (past : List (Deed FrameEnv)) (memory : Cell → ℤ) (views : Instance → View) (n m : ℕ) (t : Run FrameEnv) (c : Course FrameEnv)
       → m ≡ n + length (trace t) → m ≤ 1000000
-      → Fits w past memory views n → IsCourse World View monoid_of next same w past memory views t c → IsElseWords t c → LeavesWords (run_of c) memory views m
+      → Fits w past memory views n → IsCourse FrameEnv View monoid_of next same w past memory views t c → IsElseWords t c → LeavesWords (run_of c) memory views m
   course_words w past memory views n m runs.stop stop long few fits h other = record { events = tt; cells = fits.cells; viewed = λ i. longer (kind_of i) (views i) n m (omega (arith, long)) (fits.viewed i) }
   course_words w past memory views n m runs.stop (act b x c) long few fits h other = absurd h
   course_words w past memory views n m runs.stop (child b j x d c) long few fits h other = absurd h
@@ -271,9 +271,9 @@ module _ (next : World → List (Deed World) → Option (Ask World)) (same : Wor
       (record { callee = fits.callee; answers = more_answers past (Invokes j x) fits.answers zero_word; cells = inner.cells; viewed = inner.viewed }) h.2 other.2 in
       record { events = (callee, inner.events, rest.events); cells = rest.cells; viewed = rest.viewed }
 
-  pub whole_words : (w : World) (memory : Cell → ℤ) (views : Instance → View) (t : Run World) (c : Course World) → length (trace t) ≤ 1000000
+  pub whole_words : (w : FrameEnv) (memory : Cell → ℤ) (views : Instance → View) (t : Run FrameEnv) (c : Course FrameEnv) → length (trace t) ≤ 1000000
       → CalleeWords w.callee → ((c : Cell) → IsWord (memory c))
-      → ((i : Instance) → views i ≡ (monoid_of i).unit) → IsCourse World View monoid_of next same w [] memory views t c → IsElseWords t c → RunWords (run_of c)
+      → ((i : Instance) → views i ≡ (monoid_of i).unit) → IsCourse FrameEnv View monoid_of next same w [] memory views t c → IsElseWords t c → RunWords (run_of c)
   whole_words w memory views t c few callee cells units h other =
       let l = course_words w [] memory views 0 (length (trace t)) t c (omega arith) few
       (record { callee = callee; answers = tt; cells = cells; viewed = λ i. subst (λ (v : View). IsViewed (kind_of i) v 0) (sym (units i)) (unit_viewed (kind_of i) 0) }) h other in

@@ -22,10 +22,10 @@ use Rattle.cilk_runs.specs.Runs.{Cell, Global, Instance}
 use Rattle.cilk_runs.specs.Serial.{value_after}
 use Rattle.cilk_runs.specs.Traces.{trace}
 use Rattle.cilk_runs.specs.Views.{view_after}
-use Rattle.cilk_runs.specs.WorldMachine.{costs, opening_values}
+use Rattle.cilk_runs.specs.FrameEnvMachine.{costs, opening_values}
 use Rattle.cilk_runs.specs.Reducers.{View, monoid_of}
 use Rattle.cilk_runs.specs.Steps.{result_in, finals_in}
-use Rattle.cilk_runs.specs.Worlds.{first_world, global_named}
+use Rattle.cilk_runs.specs.FrameEnvs.{first_world, global_named}
 use Rattle.cilk_determinacy.specs.Nested.{named}
 use Rattle.cilk_determinacy.specs.Numbers.{cell_number, instance_number, HasInstance}
 use Rattle.cilk_determinacy.proofs.Remembered.{run_remembers, view_at}

@@ -45,12 +45,12 @@ use Rattle.cilk_tree.specs.Kinds.{kind_of}
 use Rattle.cilk_tree.specs.Planned.{planned}
 use Rattle.cilk_runs.specs.Runs.{Deed, Invokes}
 use Rattle.cilk_runs.specs.Machine.{started}
-use Rattle.cilk_tree.specs.declared.story.Story.{Story}
+use Rattle.cilk_tree.specs.declared.event_order.EventOrder.{EventOrder}
 use Rattle.cilk_tree.specs.Runs.{IsAsked}
 use Rattle.cilk_tree.specs.Word.{event}
-use Rattle.cilk_runs.specs.WorldMachine.{answer_of, answers_of, asked_after, has_ended, is_end, named_ask, next, opening_values}
-use Rattle.cilk_runs.specs.Worlds.{World, child_world, first_world}
-use Rattle.cilk_runs.proofs.KeptWorld.{answers_more}
+use Rattle.cilk_runs.specs.FrameEnvMachine.{answer_of, answers_of, asked_after, has_ended, is_end, named_ask, next, opening_values}
+use Rattle.cilk_runs.specs.FrameEnvs.{FrameEnv, child_world, first_world}
+use Rattle.cilk_runs.proofs.KeptFrameEnv.{answers_more}
 use Rattle.cilk_determinacy.specs.Numbers.{AreNumbered, IsHere, cell_number, frame_number, instance_number, numbered_events}
 use Rattle.cilk_replay.specs.Frames.{course_on, same_body, same_frame}
 use Rattle.cilk_replay.specs.Points.{Point, points_on, IsPoint, IsTold, IsAskedBy, IsEventOf, IsLikeDeed, IsLater, IsFirst, IsReturn, AreTold, answer_in}
@@ -78,8 +78,8 @@ kind_begins (events.Begin g) f q = ap events.Begin (let z : g ≡ f = cc q in z)
 kind_begins e f q = absurd (cc q)
 
 -- the same frame, of which the same is known
-same_sight : (p : Source) (r : Transcript) (w w' : World) (a b : Sight) → w' ≡ w → b ≡ a → Sees p r w a → Sees p r w' b
-same_sight p r w w' a b frame sight h = subst (λ (z : World). Sees p r z b) (sym frame) (subst (Sees p r w) (sym sight) h)
+same_sight : (p : Source) (r : Transcript) (w w' : FrameEnv) (a b : Sight) → w' ≡ w → b ≡ a → Sees p r w a → Sees p r w' b
+same_sight p r w w' a b frame sight h = subst (λ (z : FrameEnv). Sees p r z b) (sym frame) (subst (Sees p r w) (sym sight) h)
 
 child_fit : (p : Source) (b : Body) (callee : Callee) → CalleeIsThere p b callee → (callee ≢ callees.Root) × CalleeIsFit p callee
 child_fit p b callees.Root h = absurd h
@@ -87,13 +87,13 @@ child_fit p b (callees.Function c) h = (λ q. cc q, h.0)
 child_fit p b (callees.Loop l) h = (λ q. cc q, h.0)
 
 module _ (s : Setting) (h : IsOfProgram s) where
-  abbrev story : Story
+  abbrev story : EventOrder
   story = s.story
 
   told : AreTold s.program s.run s.inputs h.events s.story
-  told = subst (λ (z : Story). AreTold s.program s.run s.inputs h.events z) (sym h.told) (asked_by_positions s.program s.own s.inputs s.run h.events story.opening h.is)
+  told = subst (λ (z : EventOrder). AreTold s.program s.run s.inputs h.events z) (sym h.told) (asked_by_positions s.program s.own s.inputs s.run h.events story.opening h.is)
 
-  pub here : (i : ℕ) (x : Point World) → point_at s i ≡ Some x
+  pub here : (i : ℕ) (x : Point FrameEnv) → point_at s i ≡ Some x
       → IsPoint (next s.program s.inputs) (same_frame s.program) (point_at s) i x × IsTold s.program s.run s.inputs h.events s.story i x
   unfolding point_at
   here i x is = told.each i x is
@@ -101,11 +101,11 @@ module _ (s : Setting) (h : IsOfProgram s) where
   long : length (points_on s.program s.inputs s.run) ≡ length story.events
   long = told.all
 
-  pub following : (i : ℕ) → i < length story.events → (y : Point World) × (point_at s i ≡ Some y)
+  pub following : (i : ℕ) → i < length story.events → (y : Point FrameEnv) × (point_at s i ≡ Some y)
   unfolding point_at
   following i less = got (points_on s.program s.inputs s.run) i (let q = long in omega (arith, less, q))
 
-  pub within : (i : ℕ) (x : Point World) → point_at s i ≡ Some x → i < length story.events
+  pub within : (i : ℕ) (x : Point FrameEnv) → point_at s i ≡ Some x → i < length story.events
   unfolding point_at
   within i x is = let q = long in let less = slice_get_inside (points_on s.program s.inputs s.run) i x is in omega (arith, q, less)
     where
@@ -114,7 +114,7 @@ module _ (s : Setting) (h : IsOfProgram s) where
       slice_get_inside (y ∷ xs) zero x q = omega arith
       slice_get_inside (y ∷ xs) (suc k) x q = let less = slice_get_inside xs k x q in omega (arith, less)
 
-  pub first : (x : Point World) → point_at s 0 ≡ Some x → (x.frame ≡ first_world s.program) × (x.past ≡ []) × (x.since ≡ 0)
+  pub first : (x : Point FrameEnv) → point_at s 0 ≡ Some x → (x.frame ≡ first_world s.program) × (x.past ≡ []) × (x.since ≡ 0)
   unfolding point_at
   first x is = told.begins x is
 
@@ -132,12 +132,12 @@ module _ (s : Setting) (h : IsOfProgram s) where
   numbered : AreNumbered s.program s.run h.events
   numbered = events_numbered s.program s.own s.run h.events (Leaves h.is.outcome) h.is.named h.is.runs
 
-  frame_here : (i : ℕ) (x : Point World) → point_at s i ≡ Some x → (let w = x.frame in IsHere s.program s.run w.name)
+  frame_here : (i : ℕ) (x : Point FrameEnv) → point_at s i ≡ Some x → (let w = x.frame in IsHere s.program s.run w.name)
   frame_here i x is =
       let t = (here i x is).1 in
       maker_here s.program s.run [] (named s.program s.run) i (let w = x.frame in w.name) (root_here s.program s.run) numbered.here t.owner
 
-  begin_number : (i : ℕ) (x : Point World) (f : ℕ) → point_at s i ≡ Some x → event story (suc i) ≡ Some (events.Begin f) → (let w = x.frame in f ≡ frame_number s.program s.run w.name)
+  begin_number : (i : ℕ) (x : Point FrameEnv) (f : ℕ) → point_at s i ≡ Some x → event story (suc i) ≡ Some (events.Begin f) → (let w = x.frame in f ≡ frame_number s.program s.run w.name)
   begin_number i x f is there =
       let t = (here i x is).1 in
       let e = plan_event i (events.Begin f) there in
@@ -149,7 +149,7 @@ module _ (s : Setting) (h : IsOfProgram s) where
       let d = h.is.runs in
       serial_children s.program s.run s.own h.is.named d.1 (first_world s.program) 0 (standing_root s.program s.own h.is.named s.run)
 
-  pub known : (i : ℕ) (x : Point World) → point_at s i ≡ Some x → IsKnown s.program s.run x
+  pub known : (i : ℕ) (x : Point FrameEnv) → point_at s i ≡ Some x → IsKnown s.program s.run x
   unfolding point_at
   known i x is =
       known_at s.program s.run (points_on s.program s.inputs s.run) i x
@@ -157,7 +157,7 @@ module _ (s : Setting) (h : IsOfProgram s) where
       numbered.here children (programs_have_one s.program s.inputs (named s.program s.run)).0) is
 
   -- the event that starts a child has its number
-  pub starts_as : (i : ℕ) (x : Point World) (e : Event) → point_at s i ≡ Some x → slice_get h.events i ≡ Some e → StartsAs s.program s.run e x.planned
+  pub starts_as : (i : ℕ) (x : Point FrameEnv) (e : Event) → point_at s i ≡ Some x → slice_get h.events i ≡ Some e → StartsAs s.program s.run e x.planned
   unfolding point_at
   starts_as i x e is there =
       start_at s.program s.run View monoid_of (next s.program s.inputs) (numbered_events s.program s.run [] (named s.program s.run)) (points_on s.program s.inputs s.run) i e x
@@ -166,20 +166,20 @@ module _ (s : Setting) (h : IsOfProgram s) where
       (ap (λ l. slice_get l i) (sym numbered.events) ∙ there) is
 
   -- the plan's deed of an event of the plan
-  pub plan_deed : (i : ℕ) (x : Point World) (p : Event) → point_at s i ≡ Some x → slice_get h.events i ≡ Some p → IsOfKind (kind_of p) x.planned
+  pub plan_deed : (i : ℕ) (x : Point FrameEnv) (p : Event) → point_at s i ≡ Some x → slice_get h.events i ≡ Some p → IsOfKind (kind_of p) x.planned
   plan_deed i x p is there = let tell = (here i x is).1 in made (cell_number s.program s.run) (instance_number s.program s.run) x.planned p (tell.plan p there)
 
   -- the plan's deed is of the event's kind
-  pub planned_kind : (i : ℕ) (x : Point World) (e : Event) → point_at s i ≡ Some x → event story (suc i) ≡ Some e → IsOfKind (kind_of e) x.planned
+  pub planned_kind : (i : ℕ) (x : Point FrameEnv) (e : Event) → point_at s i ≡ Some x → event story (suc i) ≡ Some e → IsOfKind (kind_of e) x.planned
   planned_kind i x e is there =
       let found = plan_event i e there in
       subst (λ k. IsOfKind k x.planned) found.2 (plan_deed i x found.0 is found.1)
 
   module _ (at : ℕ) (k : Ask) (l : Level) (A : Asks s at k l) where
-    abbrev x : Point World
+    abbrev x : Point FrameEnv
     x = A.point
 
-    abbrev w : World
+    abbrev w : FrameEnv
     w = x.frame
 
     pub asked_ask : (asked_after s.program s.inputs w x.past).ask ≡ k
@@ -225,13 +225,13 @@ module _ (s : Setting) (h : IsOfProgram s) where
         ((_, A.asked.stands fit.has), subst (λ o. Fits o a) (sym (A.asked.owes fit.has)) fit.fits)
 
   -- a frame's next event, where it has this history
-  later_asks : (x y : Point World) (a : ℤ) (k : Ask) (l : Level) → IsLater x y → a ≡ answer_of x.deed
+  later_asks : (x y : Point FrameEnv) (a : ℤ) (k : Ask) (l : Level) → IsLater x y → a ≡ answer_of x.deed
       → (let w = x.frame in HasAsked s.code s.inputs s.program w.callee (answers_of x.past ++ a ∷ []) k l)
       → (let w = y.frame in HasAsked s.code s.inputs s.program w.callee (answers_of y.past) k l)
   later_asks x y a k l later is asked =
       let history : answers_of x.past ++ a ∷ [] ≡ answers_of y.past =
       ap (λ v. answers_of x.past ++ v ∷ []) is ∙ sym (answers_more x.past x.deed) ∙ ap answers_of (sym later.past) in
-      subst (λ (v : World). HasAsked s.code s.inputs s.program v.callee (answers_of y.past) k l) (sym later.frame)
+      subst (λ (v : FrameEnv). HasAsked s.code s.inputs s.program v.callee (answers_of y.past) k l) (sym later.frame)
       (let w = x.frame in subst (λ z. HasAsked s.code s.inputs s.program w.callee z k l) history asked)
 
   -- what a step does to a frame
@@ -258,7 +258,7 @@ module _ (s : Setting) (h : IsOfProgram s) where
           point = y.0;
           is = y.1;
           goes_on = ap has_ended later.past ∙ ended_more (let x = A.point in x.past) (let x = A.point in x.deed) A.goes_on (deed_goes at k l A f.asked fit.has);
-          fit = subst (λ (v : World). CalleeIsFit s.program v.callee) (sym later.frame) A.fit;
+          fit = subst (λ (v : FrameEnv). CalleeIsFit s.program v.callee) (sym later.frame) A.fit;
           sees = same_sight s.program s.run _ _ l.sight l'.sight later.frame sight A.sees;
           asked = later_asks A.point y.0 (word_in a) k' l' later (fit.word ∙ sym answer) (step s.program _ _ (A.asked.stands fit.has));
         };
@@ -268,7 +268,7 @@ module _ (s : Setting) (h : IsOfProgram s) where
   -- ---- a child begins
 
   -- the first ask of a frame
-  first_asked : (callee : Callee) (c : Level) (past : List (Deed World)) → past ≡ [] → c.took ≡ 0 → Stands s.code s.inputs s.program callee c.cursor [] 0
+  first_asked : (callee : Callee) (c : Level) (past : List (Deed FrameEnv)) → past ≡ [] → c.took ≡ 0 → Stands s.code s.inputs s.program callee c.cursor [] 0
       → (let v = c.cursor in v.owed ≡ owed_for asks.Begin) → HasAsked s.code s.inputs s.program callee (answers_of past) asks.Begin c
   first_asked callee c past none took stands owes =
       subst (λ z. HasAsked s.code s.inputs s.program callee (answers_of z) asks.Begin c) (sym none) (record {
@@ -278,7 +278,7 @@ module _ (s : Setting) (h : IsOfProgram s) where
         small = let z = took in omega (arith, z);
       })
 
-  pub record Begun (at : ℕ) (A : Point World) (i : ℕ) (how : Invocation) (c : Level) : Type 0 where
+  pub record Begun (at : ℕ) (A : Point FrameEnv) (i : ℕ) (how : Invocation) (c : Level) : Type 0 where
     pub asks : Asks s (at + 1) asks.Begin c
     pub since : let y = asks.point in y.since ≡ suc i
     pub deed : let y = asks.point in A.deed ≡ Invokes how y.frame
@@ -313,17 +313,17 @@ module _ (s : Setting) (h : IsOfProgram s) where
       Stands s.code s.inputs s.program callee c.cursor [] 0 × (let v = c.cursor in v.owed ≡ owed_for asks.Begin) × (c.took ≡ 0) × Placed at l.sight c.sight callee
 
   -- the plan's child, which runs the same
-  record Alike (x : Point World) (callee : Callee) : Type 0 where
-    planned : World
+  record Alike (x : Point FrameEnv) (callee : Callee) : Type 0 where
+    planned : FrameEnv
     child : IsChild s.program s.run (let w = x.frame in w.name) (suc (started x.past)) planned
     same : same_body (body_of s.program planned.callee) (body_of s.program callee) ≡ true
 
-  alike : (i : ℕ) (x : Point World) (how : Invocation) (v : World) (callee : Callee) → point_at s i ≡ Some x → x.planned ≡ Invokes how v
+  alike : (i : ℕ) (x : Point FrameEnv) (how : Invocation) (v : FrameEnv) (callee : Callee) → point_at s i ≡ Some x → x.planned ≡ Invokes how v
       → x.deed ≡ Invokes how (child_world s.program x.frame (suc (started x.past)) callee) → Alike x callee
   alike i x how v callee is planned deed =
       let know = known i x is in
       let c = child_world s.program x.frame (suc (started x.past)) callee in
-      let like = subst (IsLikeDeed (same_frame s.program) (Invokes how v)) deed (subst (λ (d : Deed World). IsLikeDeed (same_frame s.program) d x.deed) planned know.like) in
+      let like = subst (IsLikeDeed (same_frame s.program) (Invokes how v)) deed (subst (λ (d : Deed FrameEnv). IsLikeDeed (same_frame s.program) d x.deed) planned know.like) in
       record {
         planned = v;
         child = subst (IsStarted s.program s.run (let w = x.frame in w.name) (suc (started x.past))) planned know.starts;
@@ -331,16 +331,16 @@ module _ (s : Setting) (h : IsOfProgram s) where
       }
 
   -- the child's sight
-  placed_sees : (at i : ℕ) (k : Ask) (l : Level) (A : Asks s at k l) (how : Invocation) (callee : Callee) (y : Point World) (sight : Sight) → k ≡ asks.Invoke how callee → suc i ≡ at + 1 → point_at s i ≡ Some y
+  placed_sees : (at i : ℕ) (k : Ask) (l : Level) (A : Asks s at k l) (how : Invocation) (callee : Callee) (y : Point FrameEnv) (sight : Sight) → k ≡ asks.Invoke how callee → suc i ≡ at + 1 → point_at s i ≡ Some y
       → (let x = A.point in child_world s.program x.frame (suc (started x.past)) callee ≡ y.frame) → Alike A.point callee → Placed at l.sight sight callee → Sees s.program s.run y.frame sight
   placed_sees at i k l A how callee y sight asked place is frame like P =
       let x = A.point in
       let w = x.frame in
       let n = suc (started x.past) in
-      let name : (let v = y.frame in v.name) ≡ w.name ++ n ∷ [] = sym (ap (λ (v : World). v.name) frame) in
+      let name : (let v = y.frame in v.name) ≡ w.name ++ n ∷ [] = sym (ap (λ (v : FrameEnv). v.name) frame) in
       let its = subst (IsHere s.program s.run) name (frame_here i y is) in
       let number = begin_number i y P.number is (ap (event story) place ∙ P.begins) ∙ ap (frame_number s.program s.run) name ∙ frame_is s.program s.run (w.name ++ n ∷ []) its in
-      subst (λ (v : World). Sees s.program s.run v sight) frame
+      subst (λ (v : FrameEnv). Sees s.program s.run v sight) frame
       (child_sees s.program s.run w l.sight A.sees n callee P.home sight (record {
         well = h.is.named;
         other = (there at k l A how callee asked).0;
@@ -355,7 +355,7 @@ module _ (s : Setting) (h : IsOfProgram s) where
         before = P.before;
       }) P.sight)
 
-  begun_asks : (at : ℕ) (k : Ask) (l c : Level) (A : Asks s at k l) (how : Invocation) (callee : Callee) (e : Event) (w : World) → k ≡ asks.Invoke how callee
+  begun_asks : (at : ℕ) (k : Ask) (l c : Level) (A : Asks s at k l) (how : Invocation) (callee : Callee) (e : Event) (w : FrameEnv) → k ≡ asks.Invoke how callee
       → Follows story at e → (let x = A.point in x.planned ≡ Invokes how w) → IsNew at l c callee → Begun at A.point A.behind how c
   begun_asks at k l c A how callee e w is f planned new =
       let x = A.point in
@@ -366,7 +366,7 @@ module _ (s : Setting) (h : IsOfProgram s) where
       let by = asked_by at k l A e f.asked f.is in
       let made_child : x.deed ≡ Invokes how (child_world s.program x.frame (suc (started x.past)) callee) = by.starts how callee (asked_ask at k l A ∙ is) in
       let frame : child_world s.program x.frame (suc (started x.past)) callee ≡ (let z = y.0 in z.frame) = invoked how _ _ (sym made_child ∙ begun.started) in
-      let same : callee ≡ (let z = y.0 in let v = z.frame in v.callee) = ap (λ (v : World). v.callee) frame in
+      let same : callee ≡ (let z = y.0 in let v = z.frame in v.callee) = ap (λ (v : FrameEnv). v.callee) frame in
       record {
         asks = record {
           behind = suc A.behind;
@@ -382,7 +382,7 @@ module _ (s : Setting) (h : IsOfProgram s) where
         deed = begun.started;
       }
     where
-      invoked : (how : Invocation) (v w : World) → Invokes how v ≡ Invokes how w → v ≡ w
+      invoked : (how : Invocation) (v w : FrameEnv) → Invokes how v ≡ Invokes how w → v ≡ w
       invoked how v w q = cc q
 
   -- an invocation is answered with nothing
@@ -443,12 +443,12 @@ module _ (s : Setting) (h : IsOfProgram s) where
     pub parent : RestsAt s next l below
 
   -- where a spawn's continuation stands: the parent's next event
-  abbrev pub IsResumed : ℕ → Point World → Type 0
-  IsResumed next x = (j : ℕ) × (suc j ≡ next) × (y : Point World) × (point_at s j ≡ Some y) × IsLater x y
+  abbrev pub IsResumed : ℕ → Point FrameEnv → Type 0
+  IsResumed next x = (j : ℕ) × (suc j ≡ next) × (y : Point FrameEnv) × (point_at s j ≡ Some y) × IsLater x y
 
   pub spawned_on : (at : ℕ) (k : Ask) (l c : Level) (below : List Level) (S : StandsAt s at k l below) (f next : ℕ) → Follows story at (events.Spawn f)
       → ((callee : Callee) → k ≡ asks.Invoke Spawn callee → CalleeIsFit s.program callee → IsNew at l c callee)
-      → ((i : ℕ) (x : Point World) → suc i ≡ at → point_at s i ≡ Some x → IsResumed next x) → Parted at next c l below
+      → ((i : ℕ) (x : Point FrameEnv) → suc i ≡ at → point_at s i ≡ Some x → IsResumed next x) → Parted at next c l below
   spawned_on at k l c below S f next F new resumed =
       let A = S.asks in
       let callee = ask_for s.program s.run (let x = A.point in x.frame) k (events.Spawn f) (event_is at k l A (events.Spawn f) F.asked F.is) in
@@ -468,13 +468,13 @@ module _ (s : Setting) (h : IsOfProgram s) where
             point = z.2;
             is = z.3;
             goes_on = ap has_ended z.4.past ∙ ended_more (let x = A.point in x.past) (let x = A.point in x.deed) A.goes_on (ap is_end B.deed);
-            fit = subst (λ (v : World). CalleeIsFit s.program v.callee) (sym z.4.frame) A.fit;
-            sees = subst (λ (v : World). Sees s.program s.run v l.sight) (sym z.4.frame) A.sees;
+            fit = subst (λ (v : FrameEnv). CalleeIsFit s.program v.callee) (sym z.4.frame) A.fit;
+            sees = subst (λ (v : FrameEnv). Sees s.program s.run v l.sight) (sym z.4.frame) A.sees;
             before = (let x = A.point in x.past);
             last = (let x = A.point in x.deed);
             past = z.4.past;
             answer = ap answer_of B.deed;
-            stands = subst (λ (v : World). Stands s.code s.inputs s.program v.callee l.cursor (answers_of (let x = A.point in x.past)) l.took) (sym z.4.frame) (A.asked.stands owes.0);
+            stands = subst (λ (v : FrameEnv). Stands s.code s.inputs s.program v.callee l.cursor (answers_of (let x = A.point in x.past)) l.took) (sym z.4.frame) (A.asked.stands owes.0);
             owes = A.asked.owes owes.0 ∙ owes.1;
             small = A.asked.small;
           };
@@ -511,13 +511,13 @@ module _ (s : Setting) (h : IsOfProgram s) where
           point = y.0;
           is = y.1;
           goes_on = ap has_ended later.past ∙ ended_more (let z = waits.point in z.past) (let z = waits.point in z.deed) waits.goes_on (ap is_end waits.started);
-          fit = subst (λ (v : World). CalleeIsFit s.program v.callee) (sym later.frame) waits.fit;
-          sees = subst (λ (v : World). Sees s.program s.run v top.sight) (sym later.frame) waits.sees;
+          fit = subst (λ (v : FrameEnv). CalleeIsFit s.program v.callee) (sym later.frame) waits.fit;
+          sees = subst (λ (v : FrameEnv). Sees s.program s.run v top.sight) (sym later.frame) waits.sees;
           before = (let z = waits.point in z.past);
           last = (let z = waits.point in z.deed);
           past = later.past;
           answer = ap answer_of waits.started;
-          stands = subst (λ (v : World). Stands s.code s.inputs s.program v.callee top.cursor (answers_of (let z = waits.point in z.past)) top.took) (sym later.frame) waits.stands;
+          stands = subst (λ (v : FrameEnv). Stands s.code s.inputs s.program v.callee top.cursor (answers_of (let z = waits.point in z.past)) top.took) (sym later.frame) waits.stands;
           owes = waits.owes;
           small = waits.small;
         };
@@ -568,7 +568,7 @@ module _ (s : Setting) (h : IsOfProgram s) where
       let some = h.orderly.root.1 in
       let x = following 0 (omega (arith, some)) in
       let is = first x.0 x.1 in
-      let same : callees.Root ≡ (let z = x.0 in let v = z.frame in v.callee) = ap (λ (v : World). v.callee) (sym is.0) in
+      let same : callees.Root ≡ (let z = x.0 in let v = z.frame in v.callee) = ap (λ (v : FrameEnv). v.callee) (sym is.0) in
       record {
         asks = record {
           behind = 0;
@@ -577,7 +577,7 @@ module _ (s : Setting) (h : IsOfProgram s) where
           is = x.1;
           goes_on = ap has_ended is.1;
           fit = subst (CalleeIsFit s.program) same tt;
-          sees = subst (λ (v : World). Sees s.program s.run v c.sight) (sym is.0)
+          sees = subst (λ (v : FrameEnv). Sees s.program s.run v c.sight) (sym is.0)
               (root_sees s.program s.run h.is.named (root_here s.program s.run) R.home c.sight (R.lies [] (block_of s.program callees.Root (unbegun s.program)) refl refl) (sym R.frame) R.before R.homes R.given R.none);
           asked = subst (λ z. HasAsked s.code s.inputs s.program z (answers_of (let z = x.0 in z.past)) asks.Begin c) same (first_asked callees.Root c (let z = x.0 in z.past) is.1 took stands owes);
         };

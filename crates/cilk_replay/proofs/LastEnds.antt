@@ -10,12 +10,12 @@ use Rattle.cilk_program.specs.Syntax.{Source}
 use Rattle.cilk_runs.specs.Runs.{Instance, Ends, Deed, Does, Invokes}
 use Rattle.cilk_runs.specs.Traces.{trace}
 use Rattle.cilk_runs.specs.Steps.{result_in}
-use Rattle.cilk_runs.specs.Worlds.{World, first_world, child_world}
+use Rattle.cilk_runs.specs.FrameEnvs.{FrameEnv, first_world, child_world}
 use Rattle.cilk_determinacy.specs.Nested.{named, named_event, named_from}
 
 -- the last deed is an end with this value
-abbrev pub IsLast : List (Deed World) → ℤ → Type 0
-IsLast ds v = (front : List (Deed World)) × (gone : List Instance) × (ds ≡ front ++ Does (Ends v gone) ∷ [])
+abbrev pub IsLast : List (Deed FrameEnv) → ℤ → Type 0
+IsLast ds v = (front : List (Deed FrameEnv)) × (gone : List Instance) × (ds ≡ front ++ Does (Ends v gone) ∷ [])
 
 -- where a frame ends with a value, that holds of the value
 abbrev pub AtEnd : Ending → (ℤ → Type 0) → Type 0
@@ -26,16 +26,16 @@ at_end : (end : Ending) (P Q : ℤ → Type 0) → ((v : ℤ) → P v → Q v) �
 at_end (Finished v left m) P Q f h = f v h
 at_end (Stopped f') P Q f h = tt
 
-one_more : (d : Deed World) (ds : List (Deed World)) (v : ℤ) → IsLast ds v → IsLast (d ∷ ds) v
-one_more d ds v (front, gone, is) = (d ∷ front, gone, ap (λ (l : List (Deed World)). d ∷ l) is)
+one_more : (d : Deed FrameEnv) (ds : List (Deed FrameEnv)) (v : ℤ) → IsLast ds v → IsLast (d ∷ ds) v
+one_more d ds v (front, gone, is) = (d ∷ front, gone, ap (λ (l : List (Deed FrameEnv)). d ∷ l) is)
 
-many_more : (xs ds : List (Deed World)) (v : ℤ) → IsLast ds v → IsLast (xs ++ ds) v
+many_more : (xs ds : List (Deed FrameEnv)) (v : ℤ) → IsLast ds v → IsLast (xs ++ ds) v
 many_more [] ds v h = h
 many_more (x ∷ xs) ds v h = one_more x (xs ++ ds) v (many_more xs ds v h)
 
 module _ (p : Source) (inputs : List ℤ) where
   pub ends_last : {fr : Frame} {start : ℕ} {history : List ℤ} {m : Memory} {r : Transcript} {es : List numbers.Event} {end : Ending} → Serial p inputs fr start history m r es end
-      → (w : World) (k : ℕ) → AtEnd end (IsLast (trace (named_from p w k r)))
+      → (w : FrameEnv) (k : ℕ) → AtEnd end (IsLast (trace (named_from p w k r)))
   ends_last (Made {fr = fr} {m = m} {r = r} {end = end} a left q inner ok rest) w k =
       at_end end (IsLast (trace (named_from p w k r))) (IsLast (trace (named_from p w k (serial.act a (answer_to fr m a) r))))
       (λ v h. one_more (Does (named_event p w a (answer_to fr m a))) (trace (named_from p w k r)) v h) (ends_last rest w k)
@@ -57,8 +57,8 @@ module _ (p : Source) (inputs : List ℤ) where
       by (Stopped f) h e = absurd (cc e)
 
 -- the result in such deeds
-pub result_of : (ds : List (Deed World)) (v : ℤ) → IsLast ds v → result_in (reverse ds) ≡ v
-result_of ds v (front, gone, is) = ap (λ (l : List (Deed World)). result_in (reverse l)) is ∙ ap result_in (reverse-append front (Does (Ends v gone) ∷ []))
+pub result_of : (ds : List (Deed FrameEnv)) (v : ℤ) → IsLast ds v → result_in (reverse ds) ≡ v
+result_of ds v (front, gone, is) = ap (λ (l : List (Deed FrameEnv)). result_in (reverse l)) is ∙ ap result_in (reverse-append front (Does (Ends v gone) ∷ []))
 
 -- what a serial run leaves has the result that its last end gave
 pub serial_result : (p : Source) (inputs : List ℤ) (r : Transcript) (es : List numbers.Event) (o : Outcome) → IsSerialRun p inputs r es (Leaves o) → result_in (reverse (trace (named p r))) ≡ o.result

@@ -4,7 +4,7 @@ use Rattle.std.proofs.lemmas.Bool.{cases_Bool, false≢true}
 use Rattle.cilk_types.specs.declared.event.Event.{Event}
 use Rattle.cilk_types.specs.declared.event.Event.TheVariants as events
 use Rattle.cilk_program.specs.Answered.{written, IsRightRead, cells_after}
-use Rattle.cilk_tree.specs.declared.story.Story.{Story}
+use Rattle.cilk_tree.specs.declared.event_order.EventOrder.{EventOrder}
 use Rattle.cilk_tree.specs.Values.{HasValue}
 use Rattle.cilk_tree.specs.Races.{event_at}
 use Rattle.cilk_tree.specs.Sources.{writes, last_write}
@@ -91,7 +91,7 @@ last_written cells es c (suc n) = by (last_written cells es c n) (cases_Bool (wr
         (subst (λ x. IsLastWritten cells es c x (last_write es c n)) (sym same) h)
 
 -- what a cell of a story holds, where its cells open so
-pub last_value : (s : Story) (cells : Cells) → ((c : ℕ) → slice_index_or s.opening c (pos 0) ≡ cells c) → (c n : ℕ) (v : ℤ)
+pub last_value : (s : EventOrder) (cells : Cells) → ((c : ℕ) → slice_index_or s.opening c (pos 0) ≡ cells c) → (c n : ℕ) (v : ℤ)
     → v ≡ cells_after (take n s.events) cells c → HasValue s c n v
 last_value s cells opens c n v e =
     let h = last_written cells s.events c n in

@@ -12,9 +12,9 @@ use Rattle.cilk_runs.specs.Monoids.{unit_of}
 use Rattle.cilk_runs.specs.Runs.{Cell, Instance, Reads, Writes, Syncs, Ends, Passes, Begins, Resumes, Creates, Updates, Sets, Values, Prints, Deed, Does, Invokes}
 use Rattle.cilk_runs.specs.Serial.{value_after}
 use Rattle.cilk_runs.specs.Traces.{trace, IsWritten, AreWritten}
-use Rattle.cilk_runs.specs.WorldMachine.{next, opening_values}
+use Rattle.cilk_runs.specs.FrameEnvMachine.{next, opening_values}
 use Rattle.cilk_runs.specs.Reducers.{View, monoid_of}
-use Rattle.cilk_runs.specs.Worlds.{World, first_world}
+use Rattle.cilk_runs.specs.FrameEnvs.{FrameEnv, first_world}
 use Rattle.cilk_determinacy.specs.Nested.{named}
 use Rattle.cilk_determinacy.specs.Numbers.{cell_number, instance_number, HasCell}
 use Rattle.cilk_determinacy.specs.Words.{InputsAreWords}
@@ -24,13 +24,13 @@ use Rattle.cilk_replay.specs.InputCourses.{Course, run_of}
 use Rattle.cilk_replay.specs.Frames.{same_frame, course_on}
 use Rattle.cilk_replay.specs.Left.{printed_by, printed_in}
 use Rattle.cilk_replay.specs.Lists.{with_values}
-use Rattle.cilk_replay.specs.Stories.{IsPlannedRun}
+use Rattle.cilk_replay.specs.EventOrders.{IsPlannedRun}
 use Rattle.cilk_replay.proofs.CourseValues.{course_known, tied_after}
-use Rattle.cilk_replay.proofs.StoryValues.{cells_open, course, known_here, written}
+use Rattle.cilk_replay.proofs.EventOrderValues.{cells_open, course, known_here, written}
 
 -- ---- what is printed
 module _ (cell : Cell → ℕ) (instance : Instance → numbered.Instance) where
-  print_is : (d : Deed World) (e : numbers.Event) → IsWritten cell instance d e → printed_by d ≡ answered.printed_by e
+  print_is : (d : Deed FrameEnv) (e : numbers.Event) → IsWritten cell instance d e → printed_by d ≡ answered.printed_by e
   print_is (Does (Reads c v)) e is = ap answered.printed_by (sym is)
   print_is (Does (Writes c v)) e is = ap answered.printed_by (sym is)
   print_is (Does Syncs) e is = ap answered.printed_by (sym is)
@@ -45,7 +45,7 @@ module _ (cell : Cell → ℕ) (instance : Instance → numbered.Instance) where
   print_is (Invokes Call w) e is = ap answered.printed_by (sym is.1)
   print_is (Invokes Spawn w) e is = ap answered.printed_by (sym is.1)
 
-  pub prints_are : (ds : List (Deed World)) (es : List numbers.Event) → AreWritten cell instance ds es → printed_in ds ≡ prints es
+  pub prints_are : (ds : List (Deed FrameEnv)) (es : List numbers.Event) → AreWritten cell instance ds es → printed_in ds ≡ prints es
   prints_are [] [] h = refl
   prints_are [] (e ∷ es) h = absurd h
   prints_are (d ∷ ds) [] h = absurd h
@@ -53,7 +53,7 @@ module _ (cell : Cell → ℕ) (instance : Instance → numbered.Instance) where
 
 -- ---- along a plan
 module _ (p : Source) (inputs : List ℤ) (r : Transcript) (es : List numbers.Event) (opening : List ℤ) (is : IsPlannedRun p inputs r es opening) (others : List ℤ) (are : InputsAreWords others) where
-  abbrev c : Course World
+  abbrev c : Course FrameEnv
   c = course_on p others (named p r)
 
   abbrev list : List numbers.Event
@@ -63,9 +63,9 @@ module _ (p : Source) (inputs : List ℤ) (r : Transcript) (es : List numbers.Ev
   pub cells_left : (i : Cell) → HasCell p r i → value_after (run_of c) i (opening_values p others i) ≡ cells_after list (opening_cells p inputs) (cell_number p r i)
   cells_left i has =
       let n = events_numbered p inputs r es (Leaves is.outcome) is.named is.runs in
-      tied_after (cell_number p r) (instance_number p r) (HasCell p r) (same_cells p r) World (opening_values p others) (opening_cells p inputs) (run_of c) list
+      tied_after (cell_number p r) (instance_number p r) (HasCell p r) (same_cells p r) FrameEnv (opening_values p others) (opening_cells p inputs) (run_of c) list
       (written p inputs r es opening is others are)
-      (course_known (cell_number p r) (instance_number p r) (HasCell p r) (same_cells p r) World View monoid_of (next p others) (same_frame p) (first_world p) [] (opening_values p others) (unit_of monoid_of) (named p r) c
+      (course_known (cell_number p r) (instance_number p r) (HasCell p r) (same_cells p r) FrameEnv View monoid_of (next p others) (same_frame p) (first_world p) [] (opening_values p others) (unit_of monoid_of) (named p r) c
       (course p inputs r es opening is others are) (known_here p r (named p r) n.here))
       (cells_open p inputs r) i has
 

@@ -1,5 +1,5 @@
 pub mod Along
-pub mod AskedStories
+pub mod AskedEventOrders
 pub mod Behind
 pub mod Children
 pub mod CourseFrames
@@ -27,6 +27,6 @@ pub mod Resumes
 pub mod Resuming
 pub mod RunsEnd
 pub mod Seeing
-pub mod StoryValues
+pub mod EventOrderValues
 pub mod Unended
 pub mod Worked

@@ -31,8 +31,8 @@ use Rattle.cilk_runs.specs.Runs.{Name, same_name, Cell, Instance, Ask, Write, De
 use Rattle.cilk_runs.specs.Traces.{IsWritten}
 use Rattle.cilk_tree.specs.Runs.{IsAsked}
 use Rattle.cilk_tree.specs.Word.{event}
-use Rattle.cilk_runs.specs.WorldMachine.{asked_after, has_ended, named_ask, next, retired_by}
-use Rattle.cilk_runs.specs.Worlds.{World, cell_seen, child_world, reducer_seen}
+use Rattle.cilk_runs.specs.FrameEnvMachine.{asked_after, has_ended, named_ask, next, retired_by}
+use Rattle.cilk_runs.specs.FrameEnvs.{FrameEnv, cell_seen, child_world, reducer_seen}
 use Rattle.cilk_determinacy.specs.Numbers.{HasCell, HasInstance, cell_number, frame_number, frame_runs, instance_number, start_event}
 use Rattle.cilk_determinacy.proofs.Numbers.{cells_one, frame_is, one_to_one}
 use Rattle.cilk_replay.specs.Frames.{same_body, same_frame}
@@ -58,7 +58,7 @@ kind_inside (Some e) k q = (e, refl, cc q)
 
 -- ---- sorts of the plan's deeds
 
-abbrev sort_done : Deed World → Sort
+abbrev sort_done : Deed FrameEnv → Sort
 sort_done (Does (Reads c v)) = sorts.Read
 sort_done (Does (Writes c v)) = sorts.Write
 sort_done (Does Syncs) = sorts.Sync
@@ -74,7 +74,7 @@ sort_done (Invokes invocations.Call w) = sorts.Call
 sort_done (Invokes invocations.Spawn w) = sorts.Spawn
 
 module _ (cell : Cell → ℕ) (instance : Instance → numbered.Instance) where
-  written_sort : (d : Deed World) (e : Event) → IsWritten cell instance d e → sort_of (kind_of e) ≡ sort_done d
+  written_sort : (d : Deed FrameEnv) (e : Event) → IsWritten cell instance d e → sort_of (kind_of e) ≡ sort_done d
   written_sort (Does (Reads c v)) e h = ap (λ (z : Event). sort_of (kind_of z)) h
   written_sort (Does (Writes c v)) e h = ap (λ (z : Event). sort_of (kind_of z)) h
   written_sort (Does Syncs) e h = ap (λ (z : Event). sort_of (kind_of z)) h
@@ -91,7 +91,7 @@ module _ (cell : Cell → ℕ) (instance : Instance → numbered.Instance) where
 
 -- ---- what is asked for is of the event's sort
 
-module _ (p : Source) (r : Transcript) (w : World) where
+module _ (p : Source) (r : Transcript) (w : FrameEnv) where
   event_sort : (k : language.Ask) (e : Event) → IsEventOf p r w k e → sort_of (kind_of e) ≡ sort_asked k
   event_sort asks.Begin e h = ap (λ (z : Event). sort_of (kind_of z)) h.1
   event_sort (asks.Read x) e h = ap (λ (z : Event). sort_of (kind_of z)) h.1
@@ -111,47 +111,47 @@ module _ (p : Source) (r : Transcript) (w : World) where
 
 -- ---- what names nothing is asked for where its sort is
 
-is_begin : (d : Deed World) → sort_done d ≡ sorts.Begin → d ≡ Does (Passes Begins)
+is_begin : (d : Deed FrameEnv) → sort_done d ≡ sorts.Begin → d ≡ Does (Passes Begins)
 is_begin (Does (Passes Begins)) q = refl
 is_begin (Invokes invocations.Call w) q = absurd (cc q)
 is_begin (Invokes invocations.Spawn w) q = absurd (cc q)
 is_begin d q = absurd (cc q)
 
-is_resume : (d : Deed World) → sort_done d ≡ sorts.Resume → d ≡ Does (Passes Resumes)
+is_resume : (d : Deed FrameEnv) → sort_done d ≡ sorts.Resume → d ≡ Does (Passes Resumes)
 is_resume (Does (Passes Resumes)) q = refl
 is_resume (Invokes invocations.Call w) q = absurd (cc q)
 is_resume (Invokes invocations.Spawn w) q = absurd (cc q)
 is_resume d q = absurd (cc q)
 
-is_sync : (d : Deed World) → sort_done d ≡ sorts.Sync → d ≡ Does Syncs
+is_sync : (d : Deed FrameEnv) → sort_done d ≡ sorts.Sync → d ≡ Does Syncs
 is_sync (Does Syncs) q = refl
 is_sync (Does (Passes Begins)) q = absurd (cc q)
 is_sync (Invokes invocations.Call w) q = absurd (cc q)
 is_sync (Invokes invocations.Spawn w) q = absurd (cc q)
 is_sync d q = absurd (cc q)
 
-is_ended : (d : Deed World) → sort_done d ≡ sorts.End → (v : ℤ) × (gone : List Instance) × (d ≡ Does (Ends v gone))
+is_ended : (d : Deed FrameEnv) → sort_done d ≡ sorts.End → (v : ℤ) × (gone : List Instance) × (d ≡ Does (Ends v gone))
 is_ended (Does (Ends v gone)) q = (v, gone, refl)
 is_ended (Does (Passes Begins)) q = absurd (cc q)
 is_ended (Invokes invocations.Call w) q = absurd (cc q)
 is_ended (Invokes invocations.Spawn w) q = absurd (cc q)
 is_ended d q = absurd (cc q)
 
-is_print : (d : Deed World) → sort_done d ≡ sorts.Print → (v : ℤ) × (d ≡ Does (Passes (Prints v)))
+is_print : (d : Deed FrameEnv) → sort_done d ≡ sorts.Print → (v : ℤ) × (d ≡ Does (Passes (Prints v)))
 is_print (Does (Passes (Prints v))) q = (v, refl)
 is_print (Invokes invocations.Call w) q = absurd (cc q)
 is_print (Invokes invocations.Spawn w) q = absurd (cc q)
 is_print d q = absurd (cc q)
 
-module _ (p : Source) (w : World) where
+module _ (p : Source) (w : FrameEnv) where
   -- a deed of the plan's kind that the ask comes to
-  abbrev IsMade : ℕ → language.Ask → Deed World → Type 0
-  IsMade n k d = (m : Deed World) × IsLikeDeed (same_frame p) d m × (named_ask p w n k ≡ asked_for m)
+  abbrev IsMade : ℕ → language.Ask → Deed FrameEnv → Type 0
+  IsMade n k d = (m : Deed FrameEnv) × IsLikeDeed (same_frame p) d m × (named_ask p w n k ≡ asked_for m)
 
-  made_like : (n : ℕ) (k : language.Ask) (d d' : Deed World) → d ≡ d' → IsMade n k d' → IsMade n k d
+  made_like : (n : ℕ) (k : language.Ask) (d d' : Deed FrameEnv) → d ≡ d' → IsMade n k d' → IsMade n k d
   made_like n k d d' q h = subst (IsMade n k) (sym q) h
 
-  makes : (n : ℕ) (k : language.Ask) (d : Deed World) → NamesNothing (sort_asked k) → sort_done d ≡ sort_asked k → IsMade n k d
+  makes : (n : ℕ) (k : language.Ask) (d : Deed FrameEnv) → NamesNothing (sort_asked k) → sort_done d ≡ sort_asked k → IsMade n k d
   makes n asks.Begin d sure q = made_like n asks.Begin d (Does (Passes Begins)) (is_begin d q) (Does (Passes Begins), tt, refl)
   makes n asks.Resume d sure q = made_like n asks.Resume d (Does (Passes Resumes)) (is_resume d q) (Does (Passes Resumes), tt, refl)
   makes n asks.Sync d sure q = made_like n asks.Sync d (Does Syncs) (is_sync d q) (Does Syncs, tt, refl)
@@ -169,28 +169,28 @@ IsOfCell c (kinds.Read d) = d ≡ c
 IsOfCell c (kinds.Write d) = d ≡ c
 IsOfCell c k = ⊥
 
-is_read : (d : Deed World) → sort_done d ≡ sorts.Read → (c : Cell) × (v : ℤ) × (d ≡ Does (Reads c v))
+is_read : (d : Deed FrameEnv) → sort_done d ≡ sorts.Read → (c : Cell) × (v : ℤ) × (d ≡ Does (Reads c v))
 is_read (Does (Reads c v)) q = (c, v, refl)
 is_read (Does (Passes Begins)) q = absurd (cc q)
 is_read (Invokes invocations.Call w) q = absurd (cc q)
 is_read (Invokes invocations.Spawn w) q = absurd (cc q)
 is_read d q = absurd (cc q)
 
-is_write : (d : Deed World) → sort_done d ≡ sorts.Write → (c : Cell) × (v : ℤ) × (d ≡ Does (Writes c v))
+is_write : (d : Deed FrameEnv) → sort_done d ≡ sorts.Write → (c : Cell) × (v : ℤ) × (d ≡ Does (Writes c v))
 is_write (Does (Writes c v)) q = (c, v, refl)
 is_write (Does (Passes Begins)) q = absurd (cc q)
 is_write (Invokes invocations.Call w) q = absurd (cc q)
 is_write (Invokes invocations.Spawn w) q = absurd (cc q)
 is_write d q = absurd (cc q)
 
-module _ (p : Source) (r : Transcript) (w : World) (n : ℕ) where
+module _ (p : Source) (r : Transcript) (w : FrameEnv) (n : ℕ) where
   -- the plan's deed and an ask of its sort: the deed's cell is the run's, and the ask comes to the deed where it names that cell, and there alone
-  record OfCell (k : language.Ask) (d : Deed World) (c : ℕ) : Type 0 where
+  record OfCell (k : language.Ask) (d : Deed FrameEnv) (c : ℕ) : Type 0 where
     there : Cell
     has : HasCell p r there
     number : cell_number p r there ≡ c
     makes : there ≡ asked_cell p r w k → IsMade p w n k d
-    meets : (m : Deed World) → IsLikeDeed (same_frame p) d m → named_ask p w n k ≡ asked_for m → asked_cell p r w k ≡ there
+    meets : (m : Deed FrameEnv) → IsLikeDeed (same_frame p) d m → named_ask p w n k ≡ asked_for m → asked_cell p r w k ≡ there
 
   of_read : (x : Place) (a : Cell) (v : ℤ) (e : Event) (c : ℕ) → e ≡ events.Read (cell_number p r a) v → HasCell p r a → IsOfCell c (kind_of e) → OfCell (asks.Read x) (Does (Reads a v)) c
   of_read x a v e c written has cell = record {
@@ -201,7 +201,7 @@ module _ (p : Source) (r : Transcript) (w : World) (n : ℕ) where
     meets = met;
   }
     where
-      met : (m : Deed World) → IsLikeDeed (same_frame p) (Does (Reads a v)) m → named_ask p w n (asks.Read x) ≡ asked_for m → cell_seen w x ≡ a
+      met : (m : Deed FrameEnv) → IsLikeDeed (same_frame p) (Does (Reads a v)) m → named_ask p w n (asks.Read x) ≡ asked_for m → cell_seen w x ≡ a
       met (Does (Reads b u)) like q = let z : cell_seen w x ≡ b = cc q in z ∙ sym like
       met (Invokes j u) like q = absurd like
       met m like q = absurd like
@@ -216,26 +216,26 @@ module _ (p : Source) (r : Transcript) (w : World) (n : ℕ) where
     meets = met;
   }
     where
-      met : (m : Deed World) → IsLikeDeed (same_frame p) (Does (Writes a v)) m → named_ask p w n k ≡ asked_for m → asked_cell p r w k ≡ a
+      met : (m : Deed FrameEnv) → IsLikeDeed (same_frame p) (Does (Writes a v)) m → named_ask p w n k ≡ asked_for m → asked_cell p r w k ≡ a
       met (Does (Writes b u)) like q = let f : Write (asked_cell p r w k) y ≡ Write b u = sym names ∙ q in let z : asked_cell p r w k ≡ b = cc f in z ∙ sym like
       met (Invokes j u) like q = absurd like
       met m like q = absurd like
 
-  abbrev Written : Deed World → Event → Type 0
+  abbrev Written : Deed FrameEnv → Event → Type 0
   Written = IsWritten (cell_number p r) (instance_number p r)
 
-  of_cell : (k : language.Ask) (d : Deed World) (e : Event) (c : ℕ) → AsksForCell p r k → sort_done d ≡ sort_asked k → Written d e → DeedIsHere p r d → IsOfCell c (kind_of e) → OfCell k d c
+  of_cell : (k : language.Ask) (d : Deed FrameEnv) (e : Event) (c : ℕ) → AsksForCell p r k → sort_done d ≡ sort_asked k → Written d e → DeedIsHere p r d → IsOfCell c (kind_of e) → OfCell k d c
   of_cell (asks.Read x) d e c u q written here cell =
       let f = is_read d q in
-      subst (λ (z : Deed World). OfCell (asks.Read x) z c) (sym f.2) (of_read x f.0 f.1 e c (subst (λ (z : Deed World). Written z e) f.2 written) (subst (DeedIsHere p r) f.2 here) cell)
+      subst (λ (z : Deed FrameEnv). OfCell (asks.Read x) z c) (sym f.2) (of_read x f.0 f.1 e c (subst (λ (z : Deed FrameEnv). Written z e) f.2 written) (subst (DeedIsHere p r) f.2 here) cell)
   of_cell (asks.Write x v) d e c u q written here cell =
       let f = is_write d q in
-      subst (λ (z : Deed World). OfCell (asks.Write x v) z c) (sym f.2)
-      (of_write (asks.Write x v) v refl f.0 f.1 e c (subst (λ (z : Deed World). Written z e) f.2 written) (subst (DeedIsHere p r) f.2 here) cell)
+      subst (λ (z : Deed FrameEnv). OfCell (asks.Write x v) z c) (sym f.2)
+      (of_write (asks.Write x v) v refl f.0 f.1 e c (subst (λ (z : Deed FrameEnv). Written z e) f.2 written) (subst (DeedIsHere p r) f.2 here) cell)
   of_cell (asks.Result v) d e c u q written here cell =
       let f = is_write d q in
-      subst (λ (z : Deed World). OfCell (asks.Result v) z c) (sym f.2)
-      (of_write (asks.Result v) v refl f.0 f.1 e c (subst (λ (z : Deed World). Written z e) f.2 written) (subst (DeedIsHere p r) f.2 here) cell)
+      subst (λ (z : Deed FrameEnv). OfCell (asks.Result v) z c) (sym f.2)
+      (of_write (asks.Result v) v refl f.0 f.1 e c (subst (λ (z : Deed FrameEnv). Written z e) f.2 written) (subst (DeedIsHere p r) f.2 here) cell)
   of_cell k d e c u q written here cell = absurd u
 
   -- an ask of the sort of an event of a cell names a cell
@@ -268,7 +268,7 @@ IsOfChild f (kinds.Spawn g) = g ≡ f
 IsOfChild f (kinds.Call g) = g ≡ f
 IsOfChild f k = ⊥
 
-is_start : (how : Invocation) (d : Deed World) → sort_done d ≡ sort_started how → (w : World) × (d ≡ Invokes how w)
+is_start : (how : Invocation) (d : Deed FrameEnv) → sort_done d ≡ sort_started how → (w : FrameEnv) × (d ≡ Invokes how w)
 is_start invocations.Call (Invokes invocations.Call w) q = (w, refl)
 is_start invocations.Call (Invokes invocations.Spawn w) q = absurd (cc q)
 is_start invocations.Call (Does (Passes Begins)) q = absurd (cc q)
@@ -311,39 +311,39 @@ IsOfReducer i (kinds.Set j) = j ≡ i
 IsOfReducer i (kinds.Value j) = j ≡ i
 IsOfReducer i k = ⊥
 
-is_create : (d : Deed World) → sort_done d ≡ sorts.Create → (i : Instance) × (d ≡ Does (Passes (Creates i)))
+is_create : (d : Deed FrameEnv) → sort_done d ≡ sorts.Create → (i : Instance) × (d ≡ Does (Passes (Creates i)))
 is_create (Does (Passes (Creates i))) q = (i, refl)
 is_create (Invokes invocations.Call w) q = absurd (cc q)
 is_create (Invokes invocations.Spawn w) q = absurd (cc q)
 is_create d q = absurd (cc q)
 
-is_update : (d : Deed World) → sort_done d ≡ sorts.Update → (i : Instance) × (x : ℤ) × (d ≡ Does (Passes (Updates i x)))
+is_update : (d : Deed FrameEnv) → sort_done d ≡ sorts.Update → (i : Instance) × (x : ℤ) × (d ≡ Does (Passes (Updates i x)))
 is_update (Does (Passes (Updates i x))) q = (i, x, refl)
 is_update (Invokes invocations.Call w) q = absurd (cc q)
 is_update (Invokes invocations.Spawn w) q = absurd (cc q)
 is_update d q = absurd (cc q)
 
-is_set : (d : Deed World) → sort_done d ≡ sorts.Set → (i : Instance) × (x : ℤ) × (d ≡ Does (Passes (Sets i x)))
+is_set : (d : Deed FrameEnv) → sort_done d ≡ sorts.Set → (i : Instance) × (x : ℤ) × (d ≡ Does (Passes (Sets i x)))
 is_set (Does (Passes (Sets i x))) q = (i, x, refl)
 is_set (Invokes invocations.Call w) q = absurd (cc q)
 is_set (Invokes invocations.Spawn w) q = absurd (cc q)
 is_set d q = absurd (cc q)
 
-is_value : (d : Deed World) → sort_done d ≡ sorts.Value → (i : Instance) × (x : ℤ) × (d ≡ Does (Passes (Values i x)))
+is_value : (d : Deed FrameEnv) → sort_done d ≡ sorts.Value → (i : Instance) × (x : ℤ) × (d ≡ Does (Passes (Values i x)))
 is_value (Does (Passes (Values i x))) q = (i, x, refl)
 is_value (Invokes invocations.Call w) q = absurd (cc q)
 is_value (Invokes invocations.Spawn w) q = absurd (cc q)
 is_value d q = absurd (cc q)
 
-module _ (p : Source) (r : Transcript) (w : World) (n : ℕ) where
+module _ (p : Source) (r : Transcript) (w : FrameEnv) (n : ℕ) where
   -- the plan's deed and an ask of its sort: the deed's reducer is the run's, and the ask comes to the deed where it names that reducer, and
   -- there alone
-  record OfReducer (k : language.Ask) (d : Deed World) (i : numbered.Instance) : Type 0 where
+  record OfReducer (k : language.Ask) (d : Deed FrameEnv) (i : numbered.Instance) : Type 0 where
     there : Instance
     has : HasInstance p r there
     number : instance_number p r there ≡ i
     makes : there ≡ asked_instance p r w k → IsMade p w n k d
-    meets : (m : Deed World) → IsLikeDeed (same_frame p) d m → named_ask p w n k ≡ asked_for m → asked_instance p r w k ≡ there
+    meets : (m : Deed FrameEnv) → IsLikeDeed (same_frame p) d m → named_ask p w n k ≡ asked_for m → asked_instance p r w k ≡ there
 
   of_create : (q : Reducer) (j : Instance) (e : Event) (i : numbered.Instance) → e ≡ events.Create (instance_number p r j) → HasInstance p r j → IsOfReducer i (kind_of e) → OfReducer (asks.Create q) (Does (Passes (Creates j))) i
   of_create q j e i written has of = record {
@@ -354,7 +354,7 @@ module _ (p : Source) (r : Transcript) (w : World) (n : ℕ) where
     meets = met;
   }
     where
-      met : (m : Deed World) → IsLikeDeed (same_frame p) (Does (Passes (Creates j))) m → named_ask p w n (asks.Create q) ≡ asked_for m → reducer_seen w q ≡ j
+      met : (m : Deed FrameEnv) → IsLikeDeed (same_frame p) (Does (Passes (Creates j))) m → named_ask p w n (asks.Create q) ≡ asked_for m → reducer_seen w q ≡ j
       met (Does (Passes (Creates b))) like f = let z : reducer_seen w q ≡ b = cc f in z ∙ sym like
       met (Invokes a u) like f = absurd like
       met m like f = absurd like
@@ -369,7 +369,7 @@ module _ (p : Source) (r : Transcript) (w : World) (n : ℕ) where
     meets = met;
   }
     where
-      met : (m : Deed World) → IsLikeDeed (same_frame p) (Does (Passes (Updates j x))) m → named_ask p w n (asks.Update q v) ≡ asked_for m → reducer_seen w q ≡ j
+      met : (m : Deed FrameEnv) → IsLikeDeed (same_frame p) (Does (Passes (Updates j x))) m → named_ask p w n (asks.Update q v) ≡ asked_for m → reducer_seen w q ≡ j
       met (Does (Passes (Updates b y))) like f = let z : reducer_seen w q ≡ b = cc f in z ∙ sym like
       met (Invokes a u) like f = absurd like
       met m like f = absurd like
@@ -384,7 +384,7 @@ module _ (p : Source) (r : Transcript) (w : World) (n : ℕ) where
     meets = met;
   }
     where
-      met : (m : Deed World) → IsLikeDeed (same_frame p) (Does (Passes (Sets j x))) m → named_ask p w n (asks.Set q v) ≡ asked_for m → reducer_seen w q ≡ j
+      met : (m : Deed FrameEnv) → IsLikeDeed (same_frame p) (Does (Passes (Sets j x))) m → named_ask p w n (asks.Set q v) ≡ asked_for m → reducer_seen w q ≡ j
       met (Does (Passes (Sets b y))) like f = let z : reducer_seen w q ≡ b = cc f in z ∙ sym like
       met (Invokes a u) like f = absurd like
       met m like f = absurd like
@@ -399,31 +399,31 @@ module _ (p : Source) (r : Transcript) (w : World) (n : ℕ) where
     meets = met;
   }
     where
-      met : (m : Deed World) → IsLikeDeed (same_frame p) (Does (Passes (Values j x))) m → named_ask p w n (asks.Value q) ≡ asked_for m → reducer_seen w q ≡ j
+      met : (m : Deed FrameEnv) → IsLikeDeed (same_frame p) (Does (Passes (Values j x))) m → named_ask p w n (asks.Value q) ≡ asked_for m → reducer_seen w q ≡ j
       met (Does (Passes (Values b y))) like f = let z : reducer_seen w q ≡ b = cc f in z ∙ sym like
       met (Invokes a u) like f = absurd like
       met m like f = absurd like
 
-  abbrev WrittenSo : Deed World → Event → Type 0
+  abbrev WrittenSo : Deed FrameEnv → Event → Type 0
   WrittenSo = IsWritten (cell_number p r) (instance_number p r)
 
-  of_reducer : (k : language.Ask) (d : Deed World) (e : Event) (i : numbered.Instance) → AsksForReducer p r k → sort_done d ≡ sort_asked k → WrittenSo d e → DeedIsHere p r d → IsOfReducer i (kind_of e) → OfReducer k d i
+  of_reducer : (k : language.Ask) (d : Deed FrameEnv) (e : Event) (i : numbered.Instance) → AsksForReducer p r k → sort_done d ≡ sort_asked k → WrittenSo d e → DeedIsHere p r d → IsOfReducer i (kind_of e) → OfReducer k d i
   of_reducer (asks.Create q) d e i u same written here of =
       let f = is_create d same in
-      subst (λ (z : Deed World). OfReducer (asks.Create q) z i) (sym f.1)
-      (of_create q f.0 e i (subst (λ (z : Deed World). WrittenSo z e) f.1 written) (subst (DeedIsHere p r) f.1 here) of)
+      subst (λ (z : Deed FrameEnv). OfReducer (asks.Create q) z i) (sym f.1)
+      (of_create q f.0 e i (subst (λ (z : Deed FrameEnv). WrittenSo z e) f.1 written) (subst (DeedIsHere p r) f.1 here) of)
   of_reducer (asks.Update q v) d e i u same written here of =
       let f = is_update d same in
-      subst (λ (z : Deed World). OfReducer (asks.Update q v) z i) (sym f.2)
-      (of_update q v f.0 f.1 e i (subst (λ (z : Deed World). WrittenSo z e) f.2 written) (subst (DeedIsHere p r) f.2 here) of)
+      subst (λ (z : Deed FrameEnv). OfReducer (asks.Update q v) z i) (sym f.2)
+      (of_update q v f.0 f.1 e i (subst (λ (z : Deed FrameEnv). WrittenSo z e) f.2 written) (subst (DeedIsHere p r) f.2 here) of)
   of_reducer (asks.Set q v) d e i u same written here of =
       let f = is_set d same in
-      subst (λ (z : Deed World). OfReducer (asks.Set q v) z i) (sym f.2)
-      (of_set q v f.0 f.1 e i (subst (λ (z : Deed World). WrittenSo z e) f.2 written) (subst (DeedIsHere p r) f.2 here) of)
+      subst (λ (z : Deed FrameEnv). OfReducer (asks.Set q v) z i) (sym f.2)
+      (of_set q v f.0 f.1 e i (subst (λ (z : Deed FrameEnv). WrittenSo z e) f.2 written) (subst (DeedIsHere p r) f.2 here) of)
   of_reducer (asks.Value q) d e i u same written here of =
       let f = is_value d same in
-      subst (λ (z : Deed World). OfReducer (asks.Value q) z i) (sym f.2)
-      (of_value q f.0 f.1 e i (subst (λ (z : Deed World). WrittenSo z e) f.2 written) (subst (DeedIsHere p r) f.2 here) of)
+      subst (λ (z : Deed FrameEnv). OfReducer (asks.Value q) z i) (sym f.2)
+      (of_value q f.0 f.1 e i (subst (λ (z : Deed FrameEnv). WrittenSo z e) f.2 written) (subst (DeedIsHere p r) f.2 here) of)
   of_reducer k d e i u same written here of = absurd u
 
   -- an ask of the sort of an event of a reducer names a reducer
@@ -459,7 +459,7 @@ module _ (p : Source) (r : Transcript) (w : World) (n : ℕ) where
   names_reducer k kind i of same = absurd of
 
 module _ (s : Setting) (h : IsOfProgram s) (at : ℕ) (k : language.Ask) (l : Level) (A : Asks s at k l) where
-  abbrev x : Point World
+  abbrev x : Point FrameEnv
   x = A.point
 
   -- what the frame asks for comes to this deed, of the plan's kind
@@ -471,7 +471,7 @@ module _ (s : Setting) (h : IsOfProgram s) (at : ℕ) (k : language.Ask) (l : Le
       ap (λ (b : Bool). cond b None (Some (named_ask s.program w n (asked_after s.program s.inputs w x.past).ask))) A.goes_on
       ∙ ap (λ (a : language.Ask). Some (named_ask s.program w n a)) (asked_ask s h at k l A) in
       let t = tell s h at k l A in
-      subst (IsAsked s.story) A.place (t.asked.1 ((here s h A.behind x A.is).0.only m.0 m.1 (asks_next ∙ ap (λ (a : Ask World). Some a) m.2)))
+      subst (IsAsked s.story) A.place (t.asked.1 ((here s h A.behind x A.is).0.only m.0 m.1 (asks_next ∙ ap (λ (a : Ask FrameEnv). Some a) m.2)))
 
   module _ (kind : Kind) (is : kind_of_event (event s.story at) ≡ Some kind) where
     planned_sort : sort_done x.planned ≡ sort_of kind
@@ -530,7 +530,7 @@ module _ (s : Setting) (h : IsOfProgram s) (at : ℕ) (k : language.Ask) (l : Le
       -- the plan's child, and the one that is asked for
       record Starts : Type 0 where
         how : Invocation
-        planned : World
+        planned : FrameEnv
         does : x.planned ≡ Invokes how planned
         runs : body ≡ body_of s.program planned.callee
         child : IsChild s.program s.run (let w = x.frame in w.name) (suc (started x.past)) planned
@@ -561,7 +561,7 @@ module _ (s : Setting) (h : IsOfProgram s) (at : ℕ) (k : language.Ask) (l : Le
           }
 
       -- what it comes to
-      abbrev asked_for_child : World
+      abbrev asked_for_child : FrameEnv
       asked_for_child = let S = starts in child_world s.program x.frame (suc (started x.past)) S.callee
 
       bodies : (let S = starts in let v = S.planned in same_body body (body_asked k) ≡ same_body (body_of s.program v.callee) (body_of s.program S.callee))
@@ -577,7 +577,7 @@ module _ (s : Setting) (h : IsOfProgram s) (at : ℕ) (k : language.Ask) (l : Le
           let fits = and_from (same_name v.name (w.name ++ n ∷ [])) (same_body (body_of s.program v.callee) (body_of s.program S.callee)) name (sym bodies ∙ same) in
           asked_by_deed (
             Invokes S.how asked_for_child,
-            subst (λ (d : Deed World). IsLikeDeed (same_frame s.program) d (Invokes S.how asked_for_child)) (sym S.does) (refl, fits),
+            subst (λ (d : Deed FrameEnv). IsLikeDeed (same_frame s.program) d (Invokes S.how asked_for_child)) (sym S.does) (refl, fits),
             ap (named_ask s.program w n) S.asks,
           )
 
@@ -587,7 +587,7 @@ module _ (s : Setting) (h : IsOfProgram s) (at : ℕ) (k : language.Ask) (l : Le
           let e = kind_inside (event s.story at) kind is in
           let by = asked_by s h at k l A e.0 asked e.1 in
           let deed = by.starts S.how S.callee (asked_ask s h at k l A ∙ S.asks) in
-          let like = subst (IsLikeDeed (same_frame s.program) (Invokes S.how S.planned)) deed (subst (λ (d : Deed World). IsLikeDeed (same_frame s.program) d x.deed) S.does (let z = known s h A.behind x A.is in z.like)) in
+          let like = subst (IsLikeDeed (same_frame s.program) (Invokes S.how S.planned)) deed (subst (λ (d : Deed FrameEnv). IsLikeDeed (same_frame s.program) d x.deed) S.does (let z = known s h A.behind x A.is in z.like)) in
           false≢true (sym other ∙ bodies ∙ like_body s.program S.planned asked_for_child like.1)
 
     module _ (i : numbered.Instance) (of : IsOfReducer i kind) (alike : sort_asked k ≡ sort_of kind) where

@@ -22,7 +22,7 @@ use Rattle.cilk_runs.specs.Serial.{value_after}
 use Rattle.cilk_runs.specs.Views.{view_after}
 use Rattle.cilk_runs.proofs.Basics.{same_name-eq}
 use Rattle.cilk_runs.proofs.Started.{started_does, started_invokes}
-use Rattle.cilk_runs.specs.Worlds.{World}
+use Rattle.cilk_runs.specs.FrameEnvs.{FrameEnv}
 use Rattle.cilk_determinacy.specs.Numbers.{frame_number, start_event, numbered_event, numbered_events, IsHere, EventIsHere, AreHere}
 use Rattle.cilk_replay.specs.InputCourses.{Course, stop, act, child, run_of, asked_in, IsCourse}
 use Rattle.cilk_replay.specs.Frames.{same_body, same_frame}
@@ -34,10 +34,10 @@ some_inner : {A : Type 0} (x y : A) → Some x ≡ Some y → x ≡ y
 some_inner x y h = cc
 
 -- frames that are alike have one name, and run one body
-pub like_name : (p : Source) (v w : World) → same_frame p v w ≡ true → v.name ≡ w.name
+pub like_name : (p : Source) (v w : FrameEnv) → same_frame p v w ≡ true → v.name ≡ w.name
 like_name p v w h = same_name-eq v.name w.name (and_parts (same_name v.name w.name) (same_body (body_of p v.callee) (body_of p w.callee)) h).0
 
-pub like_body : (p : Source) (v w : World) → same_frame p v w ≡ true → same_body (body_of p v.callee) (body_of p w.callee) ≡ true
+pub like_body : (p : Source) (v w : FrameEnv) → same_frame p v w ≡ true → same_body (body_of p v.callee) (body_of p w.callee) ≡ true
 like_body p v w h = (and_parts (same_name v.name w.name) (same_body (body_of p v.callee) (body_of p w.callee)) h).1
 
 module _ (p : Source) (r : Transcript) where
@@ -56,12 +56,12 @@ module _ (p : Source) (r : Transcript) where
   here_at (m ∷ ns) zero n a is = subst (IsHere p r) (some_inner m n is) a.0
   here_at (m ∷ ns) (suc i) n a is = here_at ns i n a.1 is
 
-  makers_here : (name : Name) (t : Run World) → IsHere p r name → AreHere p r t → AllHere (makers name t)
+  makers_here : (name : Name) (t : Run FrameEnv) → IsHere p r name → AreHere p r t → AllHere (makers name t)
   makers_here name runs.stop n h = tt
   makers_here name (runs.act e t) n h = (n, makers_here name t n h.1)
   makers_here name (runs.child k w u t) n h = (n, here_append (makers w.name u) (makers name t) (makers_here w.name u h.0 h.1) (makers_here name t n h.2))
 
-  pub maker_here : (name : Name) (t : Run World) (i : ℕ) (n : Name) → IsHere p r name → AreHere p r t → slice_get (makers name t) i ≡ Some n → IsHere p r n
+  pub maker_here : (name : Name) (t : Run FrameEnv) (i : ℕ) (n : Name) → IsHere p r name → AreHere p r t → slice_get (makers name t) i ≡ Some n → IsHere p r n
   maker_here name t i n here h is = here_at (makers name t) i n (makers_here name t here h) is
 
   -- ---- frames begin with their numbers
@@ -103,43 +103,43 @@ module _ (p : Source) (r : Transcript) where
   start_begins name Call n f q = absurd (cc q)
   start_begins name Spawn n f q = absurd (cc q)
 
-  all_begin : (name : Name) (t : Run World) → Both (numbered_events p r name t) (makers name t)
+  all_begin : (name : Name) (t : Run FrameEnv) → Both (numbered_events p r name t) (makers name t)
   all_begin name runs.stop = tt
   all_begin name (runs.act e t) = (event_begins name e, all_begin name t)
   all_begin name (runs.child k w u t) =
       (start_begins name k (frame_number p r w.name), both_append (numbered_events p r w.name u) (numbered_events p r name t) (makers w.name u) (makers name t) (all_begin w.name u) (all_begin name t))
 
-  pub begun_by : (name : Name) (t : Run World) (i : ℕ) (e : Event) (n : Name) (f : ℕ) → slice_get (numbered_events p r name t) i ≡ Some e → slice_get (makers name t) i ≡ Some n
+  pub begun_by : (name : Name) (t : Run FrameEnv) (i : ℕ) (e : Event) (n : Name) (f : ℕ) → slice_get (numbered_events p r name t) i ≡ Some e → slice_get (makers name t) i ≡ Some n
       → e ≡ events.Begin f → f ≡ frame_number p r n
   begun_by name t i e n f is at begins = both_at (numbered_events p r name t) (makers name t) i e n (all_begin name t) is at f begins
 
   -- ---- points
 
-  abbrev pub DeedIsHere : Deed World → Type 0
+  abbrev pub DeedIsHere : Deed FrameEnv → Type 0
   DeedIsHere (Does e) = EventIsHere p r e
   DeedIsHere (Invokes k w) = IsHere p r w.name
 
-  pub record IsKnown (x : Point World) : Type 0 where
+  pub record IsKnown (x : Point FrameEnv) : Type 0 where
     pub here : DeedIsHere x.planned
     pub like : IsLikeDeed (same_frame p) x.planned x.deed
     pub starts : let w = x.frame in IsStarted p r w.name (suc (started x.past)) x.planned
 
-  abbrev AllKnown : List (Point World) → Type 0
+  abbrev AllKnown : List (Point FrameEnv) → Type 0
   AllKnown [] = Unit {0}
   AllKnown (x ∷ xs) = IsKnown x × AllKnown xs
 
-  known_append : (xs ys : List (Point World)) → AllKnown xs → AllKnown ys → AllKnown (xs ++ ys)
+  known_append : (xs ys : List (Point FrameEnv)) → AllKnown xs → AllKnown ys → AllKnown (xs ++ ys)
   known_append [] ys a b = b
   known_append (x ∷ xs) ys a b = (a.0, known_append xs ys a.1 b)
 
-  pub known_at : (xs : List (Point World)) (i : ℕ) (x : Point World) → AllKnown xs → slice_get xs i ≡ Some x → IsKnown x
+  pub known_at : (xs : List (Point FrameEnv)) (i : ℕ) (x : Point FrameEnv) → AllKnown xs → slice_get xs i ≡ Some x → IsKnown x
   known_at [] i x a is = absurd (let z : None ≡ Some x = is in cc z)
   known_at (y ∷ xs) zero x a is = subst IsKnown (some_inner y x is) a.0
   known_at (y ∷ xs) (suc i) x a is = known_at xs i x a.1 is
 
-  module _ (V : Type 0) (M : Instance → MonoidStructure V) (next : World → List (Deed World) → Option (Ask World)) where
-    pub all_known : (w : World) (past : List (Deed World)) (memory : Cell → ℤ) (views : Instance → V) (b o : ℕ) (t : Run World) (c : Course World) → AreHere p r t
-        → AreChildren p r w.name (suc (started past)) t → IsCourse World V M next (same_frame p) w past memory views t c → AllKnown (points w past b o t c)
+  module _ (V : Type 0) (M : Instance → MonoidStructure V) (next : FrameEnv → List (Deed FrameEnv) → Option (Ask FrameEnv)) where
+    pub all_known : (w : FrameEnv) (past : List (Deed FrameEnv)) (memory : Cell → ℤ) (views : Instance → V) (b o : ℕ) (t : Run FrameEnv) (c : Course FrameEnv) → AreHere p r t
+        → AreChildren p r w.name (suc (started past)) t → IsCourse FrameEnv V M next (same_frame p) w past memory views t c → AllKnown (points w past b o t c)
     all_known w past memory views b o runs.stop stop here kids h = tt
     all_known w past memory views b o (runs.act e t) (act a e' t') here kids h = (
       record { here = here.0; like = h.0.like; starts = tt },
@@ -157,25 +157,25 @@ module _ (p : Source) (r : Transcript) where
 
     -- ---- the events that start children
 
-    abbrev AllStart : List Event → List (Point World) → Type 0
+    abbrev AllStart : List Event → List (Point FrameEnv) → Type 0
     AllStart [] [] = Unit {0}
     AllStart (e ∷ es) (x ∷ xs) = StartsAs p r e x.planned × AllStart es xs
     AllStart _ _ = ⊥
 
-    start_append : (es es' : List Event) (xs xs' : List (Point World)) → AllStart es xs → AllStart es' xs' → AllStart (es ++ es') (xs ++ xs')
+    start_append : (es es' : List Event) (xs xs' : List (Point FrameEnv)) → AllStart es xs → AllStart es' xs' → AllStart (es ++ es') (xs ++ xs')
     start_append [] es' [] xs' a b = b
     start_append [] es' (x ∷ xs) xs' a b = absurd a
     start_append (e ∷ es) es' [] xs' a b = absurd a
     start_append (e ∷ es) es' (x ∷ xs) xs' a b = (a.0, start_append es es' xs xs' a.1 b)
 
-    pub start_at : (es : List Event) (xs : List (Point World)) (i : ℕ) (e : Event) (x : Point World) → AllStart es xs → slice_get es i ≡ Some e → slice_get xs i ≡ Some x → StartsAs p r e x.planned
+    pub start_at : (es : List Event) (xs : List (Point FrameEnv)) (i : ℕ) (e : Event) (x : Point FrameEnv) → AllStart es xs → slice_get es i ≡ Some e → slice_get xs i ≡ Some x → StartsAs p r e x.planned
     start_at [] xs i e x a p q = absurd (let z : None ≡ Some e = p in cc z)
     start_at (d ∷ es) [] i e x a p q = absurd a
-    start_at (d ∷ es) (y ∷ xs) zero e x a is at = subst (λ (z : Event). StartsAs p r z x.planned) (some_inner d e is) (subst (λ (z : Point World). StartsAs p r d z.planned) (some_inner y x at) a.0)
+    start_at (d ∷ es) (y ∷ xs) zero e x a is at = subst (λ (z : Event). StartsAs p r z x.planned) (some_inner d e is) (subst (λ (z : Point FrameEnv). StartsAs p r d z.planned) (some_inner y x at) a.0)
     start_at (d ∷ es) (y ∷ xs) (suc i) e x a is at = start_at es xs i e x a.1 is at
 
-    pub all_start : (name : Name) (w : World) (past : List (Deed World)) (memory : Cell → ℤ) (views : Instance → V) (b o : ℕ) (t : Run World) (c : Course World)
-        → IsCourse World V M next (same_frame p) w past memory views t c → AllStart (numbered_events p r name t) (points w past b o t c)
+    pub all_start : (name : Name) (w : FrameEnv) (past : List (Deed FrameEnv)) (memory : Cell → ℤ) (views : Instance → V) (b o : ℕ) (t : Run FrameEnv) (c : Course FrameEnv)
+        → IsCourse FrameEnv V M next (same_frame p) w past memory views t c → AllStart (numbered_events p r name t) (points w past b o t c)
     all_start name w past memory views b o runs.stop stop h = tt
     all_start name w past memory views b o (runs.act e t) (act a e' t') h = (
       tt,

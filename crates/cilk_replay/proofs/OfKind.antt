@@ -26,7 +26,7 @@ use Rattle.cilk_tree.specs.Kinds.{kind_of}
 use Rattle.cilk_runs.specs.Runs.{Cell, Instance, Reads, Writes, Syncs, Ends, Passes, Begins, Resumes, Creates, Updates, Sets, Values, Prints, Deed, Does, Invokes}
 use Rattle.cilk_runs.specs.Runs as runs
 use Rattle.cilk_runs.specs.Traces.{IsWritten}
-use Rattle.cilk_runs.specs.Worlds.{World}
+use Rattle.cilk_runs.specs.FrameEnvs.{FrameEnv}
 use Rattle.cilk_replay.specs.Points.{Continues, IsEventOf, answer_in}
 use Rattle.cilk_replay.specs.Asking.{IsAnswerTo, IsDone, Gives}
 
@@ -35,13 +35,13 @@ some_inner x y h = cc
 
 -- ---- the plan's deed
 
-abbrev pub GoesOn : Deed World → Type 0
+abbrev pub GoesOn : Deed FrameEnv → Type 0
 GoesOn d = (v : runs.Event) × (d ≡ Does v) × Continues v
 
-abbrev pub IsOfKind : Kind → Deed World → Type 0
+abbrev pub IsOfKind : Kind → Deed FrameEnv → Type 0
 IsOfKind (kinds.Begin f) d = GoesOn d
-IsOfKind (kinds.Spawn f) d = (w : World) × (d ≡ Invokes Spawn w)
-IsOfKind (kinds.Call f) d = (w : World) × (d ≡ Invokes Call w)
+IsOfKind (kinds.Spawn f) d = (w : FrameEnv) × (d ≡ Invokes Spawn w)
+IsOfKind (kinds.Call f) d = (w : FrameEnv) × (d ≡ Invokes Call w)
 IsOfKind (kinds.Resume f) d = GoesOn d
 IsOfKind kinds.Sync d = GoesOn d
 IsOfKind kinds.End d = (v : ℤ) × (gone : List Instance) × (d ≡ Does (Ends v gone))
@@ -54,10 +54,10 @@ IsOfKind (kinds.Value i) d = GoesOn d
 IsOfKind kinds.Print d = GoesOn d
 
 module _ (cell : Cell → ℕ) (instance : Instance → numbered.Instance) where
-  kind_by : (d : Deed World) (e e' : Event) → e ≡ e' → IsOfKind (kind_of e') d → IsOfKind (kind_of e) d
+  kind_by : (d : Deed FrameEnv) (e e' : Event) → e ≡ e' → IsOfKind (kind_of e') d → IsOfKind (kind_of e) d
   kind_by d e e' q h = subst (λ (z : Event). IsOfKind (kind_of z) d) (sym q) h
 
-  pub made : (d : Deed World) (e : Event) → IsWritten cell instance d e → IsOfKind (kind_of e) d
+  pub made : (d : Deed FrameEnv) (e : Event) → IsWritten cell instance d e → IsOfKind (kind_of e) d
   made (Does (Reads c v)) e h = kind_by _ e _ h (Reads c v, refl, tt)
   made (Does (Writes c v)) e h = kind_by _ e _ h (Writes c v, refl, tt)
   made (Does Syncs) e h = kind_by _ e _ h (Syncs, refl, tt)
@@ -72,7 +72,7 @@ module _ (cell : Cell → ℕ) (instance : Instance → numbered.Instance) where
   made (Invokes Call w) e h = kind_by _ e _ h.1 (w, refl)
   made (Invokes Spawn w) e h = kind_by _ e _ h.1 (w, refl)
 
-pub goes_on : (e : Event) (a : Answer) (d : Deed World) → IsAnswerTo e a → IsOfKind (kind_of e) d → GoesOn d
+pub goes_on : (e : Event) (a : Answer) (d : Deed FrameEnv) → IsAnswerTo e a → IsOfKind (kind_of e) d → GoesOn d
 goes_on (events.Begin f) a d h k = k
 goes_on (events.Spawn f) a d h k = absurd h
 goes_on (events.Call f) a d h k = absurd h
@@ -123,7 +123,7 @@ valued : (k : Ask) (e : Event) (a : Answer) (v : ℤ) → HasAnswer k → owed_f
 valued k e Done v has owed is g = absurd g
 valued k e (Value w) v has owed is g = record { has = has; fits = subst (λ (o : Owed). Fits o (Value w)) (sym owed) tt; word = g ∙ sym is }
 
-module _ (p : Source) (r : Transcript) (w : World) where
+module _ (p : Source) (r : Transcript) (w : FrameEnv) where
   ask_by : (k : Ask) (e e' : Event) → e ≡ e' → IsAskFor e' k → IsAskFor e k
   ask_by k e e' q h = subst (λ (z : Event). IsAskFor z k) (sym q) h
 

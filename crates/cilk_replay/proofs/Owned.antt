@@ -18,7 +18,7 @@ use Rattle.cilk_tree.specs.Frames.{Enters, IsInFrame, BeginsAFrame, AreFrames}
 use Rattle.cilk_tree.proofs.Framed.{SoFar, frames_first, frames_next, frames_all, begins}
 use Rattle.cilk_runs.specs.Runs.{Name, Begins, Resumes, Creates, Updates, Sets, Values, Prints, Reads, Writes, Syncs, Ends, Passes, Run, act, child}
 use Rattle.cilk_runs.specs.Traces.{Due, begin_due, resume_due, neither_due, IsFramed, shape_of}
-use Rattle.cilk_runs.specs.Worlds.{World}
+use Rattle.cilk_runs.specs.FrameEnvs.{FrameEnv}
 use Rattle.cilk_determinacy.specs.Nested.{named}
 use Rattle.cilk_determinacy.specs.Numbers.{frame_number, start_event, numbered_events}
 use Rattle.cilk_determinacy.proofs.Determinate.{serial_numbered}
@@ -101,20 +101,20 @@ module _ (p : Source) (r : Transcript) where
   Since resume_due g name = Unit {0}
   Since neither_due g name = g ≡ frame_number p r name
 
-  abbrev Passing : ℕ → Name → Run World → Type 0
+  abbrev Passing : ℕ → Name → Run FrameEnv → Type 0
   Passing g name t = frames_from g (numbered_events p r name t) ≡ map (frame_number p r) (makers name t)
 
   started : (k : Invocation) (n g : ℕ) → entered (start_event k n) g ≡ g
   started Call n g = refl
   started Spawn n g = refl
 
-  passes : (due : Due) (g : ℕ) (name : Name) (t : Run World) → IsFramed due t → Since due g name → Passing g name t
+  passes : (due : Due) (g : ℕ) (name : Name) (t : Run FrameEnv) → IsFramed due t → Since due g name → Passing g name t
   passes begin_due g name (act (Passes Begins) t) f h = ap (λ (z : List ℕ). frame_number p r name ∷ z) (passes neither_due (frame_number p r name) name t f refl)
   passes resume_due g name (act (Passes Resumes) t) f h = ap (λ (z : List ℕ). frame_number p r name ∷ z) (passes neither_due (frame_number p r name) name t f refl)
   passes neither_due g name (act (Reads c v) t) f h = ap₂ (λ (n : ℕ) (z : List ℕ). n ∷ z) h (passes neither_due g name t f h)
   passes neither_due g name (act (Writes c v) t) f h = ap₂ (λ (n : ℕ) (z : List ℕ). n ∷ z) h (passes neither_due g name t f h)
   passes neither_due g name (act Syncs t) f h = ap₂ (λ (n : ℕ) (z : List ℕ). n ∷ z) h (passes neither_due g name t f h)
-  passes neither_due g name (act (Ends v gone) t) f h = subst (λ (z : Run World). Passing g name (act (Ends v gone) z)) (sym f) (ap (λ (n : ℕ). n ∷ []) h)
+  passes neither_due g name (act (Ends v gone) t) f h = subst (λ (z : Run FrameEnv). Passing g name (act (Ends v gone) z)) (sym f) (ap (λ (n : ℕ). n ∷ []) h)
   passes neither_due g name (act (Passes (Creates i)) t) f h = ap₂ (λ (n : ℕ) (z : List ℕ). n ∷ z) h (passes neither_due g name t f h)
   passes neither_due g name (act (Passes (Updates i x)) t) f h = ap₂ (λ (n : ℕ) (z : List ℕ). n ∷ z) h (passes neither_due g name t f h)
   passes neither_due g name (act (Passes (Sets i x)) t) f h = ap₂ (λ (n : ℕ) (z : List ℕ). n ∷ z) h (passes neither_due g name t f h)

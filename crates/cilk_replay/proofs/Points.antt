@@ -27,10 +27,10 @@ use Rattle.cilk_runs.specs.Serial.{value_after}
 use Rattle.cilk_runs.specs.Views.{view_after}
 use Rattle.cilk_runs.specs.Traces.{trace, Due, begin_due, resume_due, neither_due, IsFramed, IsWritten, AreWritten}
 use Rattle.cilk_runs.proofs.Basics.{same_name-eq}
-use Rattle.cilk_tree.specs.declared.story.Story.{Story}
-use Rattle.cilk_runs.specs.WorldMachine.{named_ask, answer_of, has_ended, asked_after, next, opening_values}
+use Rattle.cilk_tree.specs.declared.event_order.EventOrder.{EventOrder}
+use Rattle.cilk_runs.specs.FrameEnvMachine.{named_ask, answer_of, has_ended, asked_after, next, opening_values}
 use Rattle.cilk_runs.specs.Reducers.{View, monoid_of}
-use Rattle.cilk_runs.specs.Worlds.{World, first_world, child_world, cell_seen, reducer_seen, result_cell}
+use Rattle.cilk_runs.specs.FrameEnvs.{FrameEnv, first_world, child_world, cell_seen, reducer_seen, result_cell}
 use Rattle.cilk_determinacy.specs.Nested.{named}
 use Rattle.cilk_determinacy.specs.Numbers.{cell_number, instance_number}
 use Rattle.cilk_determinacy.proofs.Determinate.{serial_numbered}
@@ -38,9 +38,9 @@ use Rattle.cilk_replay.specs.InputCourses.{Course, stop, act, child, run_of, ask
 use Rattle.cilk_replay.specs.Frames.{same_frame, course_on}
 use Rattle.cilk_replay.specs.Lists.{with_values}
 use Rattle.cilk_replay.specs.Owned.{makers}
-use Rattle.cilk_replay.specs.Points.{Point, points, asked_for, IsLikeDeed, Continues, IsLater, IsReturn, IsPoint, points_on, answer_in, IsEventOf, IsAskedBy, IsTold, StoriesAreAskedByPositions}
-use Rattle.cilk_replay.specs.Stories.{story_on, IsPlannedRun}
-use Rattle.cilk_replay.proofs.AskedStories.{long, written_long}
+use Rattle.cilk_replay.specs.Points.{Point, points, asked_for, IsLikeDeed, Continues, IsLater, IsReturn, IsPoint, points_on, answer_in, IsEventOf, IsAskedBy, IsTold, EventOrdersAreAskedByPositions}
+use Rattle.cilk_replay.specs.EventOrders.{story_on, IsPlannedRun}
+use Rattle.cilk_replay.proofs.AskedEventOrders.{long, written_long}
 use Rattle.cilk_replay.proofs.CourseFrames.{programs_have_one}
 use Rattle.cilk_replay.proofs.CourseLists.{course_written}
 use Rattle.cilk_replay.proofs.NoFault.{failed}
@@ -368,9 +368,9 @@ asked_at (x ∷ bs) (suc i) b is = asked_at bs i b is
 -- ---- at the language
 
 -- the points of a run are in the frames that make its events
-owners : (p : Source) (V : Type 0) (M : Instance → MonoidStructure V) (next : World → List (Deed World) → Option (Ask World)) (w : World) (past : List (Deed World))
-    (memory : Cell → ℤ) (views : Instance → V) (b o : ℕ) (t : Run World) (c : Course World) (name : Name)
-    → IsCourse World V M next (same_frame p) w past memory views t c → w.name ≡ name → map (λ (x : Point World). x.frame.name) (points w past b o t c) ≡ makers name t
+owners : (p : Source) (V : Type 0) (M : Instance → MonoidStructure V) (next : FrameEnv → List (Deed FrameEnv) → Option (Ask FrameEnv)) (w : FrameEnv) (past : List (Deed FrameEnv))
+    (memory : Cell → ℤ) (views : Instance → V) (b o : ℕ) (t : Run FrameEnv) (c : Course FrameEnv) (name : Name)
+    → IsCourse FrameEnv V M next (same_frame p) w past memory views t c → w.name ≡ name → map (λ (x : Point FrameEnv). x.frame.name) (points w past b o t c) ≡ makers name t
 owners p V M next w past memory views b o runs.stop stop name h is = refl
 owners p V M next w past memory views b o (runs.act e r) (act a e' r') name h is =
     let rest = owners p V M next w (past ++ Does e' ∷ []) (λ y. put e' y (memory y)) (λ j. on_view (M j) j e' (views j)) b (suc o) r r' name h.1 is in
@@ -379,21 +379,21 @@ owners p V M next w past memory views b o (runs.child k v u r) (child a k' v' u'
     let inner = owners p V M next v' [] memory views (suc o) (suc o) u u' v.name h.1 (sym (same_name-eq v.name v'.name (and_parts (same_name v.name v'.name) _ h.0.fits).0)) in
     let rest = owners p V M next w (past ++ Invokes k' v' ∷ []) (λ y. value_after (run_of u') y (memory y)) (λ j. view_after (M j) j (run_of u') (views j)) b (suc o + size u') r r' name h.2 is in
     ap₂ (λ (n : Name) (l : List Name). n ∷ l) is
-    (two (λ (x : Point World). x.frame.name) (points v' [] (suc o) (suc o) u u') (points w (past ++ Invokes k' v' ∷ []) b (suc o + size u') r r') _ _ inner rest)
+    (two (λ (x : Point FrameEnv). x.frame.name) (points v' [] (suc o) (suc o) u u') (points w (past ++ Invokes k' v' ∷ []) b (suc o + size u') r r') _ _ inner rest)
 owners p V M next w past memory views b o t c name h is = absurd h
 
-unended : (b : Bool) (a a' : Ask World) → cond b None (Some a) ≡ Some a' → (b ≡ false) × (a ≡ a')
+unended : (b : Bool) (a a' : Ask FrameEnv) → cond b None (Some a) ≡ Some a' → (b ≡ false) × (a ≡ a')
 unended true a a' h = absurd (cc h)
 unended false a a' h = (refl, some_inner a a' h)
 
-started_is : (d : Deed World) (how : Invocation) (v : World) → Invoke how v ≡ asked_for d → d ≡ Invokes how v
+started_is : (d : Deed FrameEnv) (how : Invocation) (v : FrameEnv) → Invoke how v ≡ asked_for d → d ≡ Invokes how v
 started_is (Does e) how v q = absurd (invoked e how v (sym q))
 started_is (Invokes j x) how v q =
     let h : j ≡ how = cc q in
     let k : x ≡ v = cc q in
     ap (λ i. Invokes i x) h ∙ ap (Invokes how) k
 
-answer_written : (cell : Cell → ℕ) (instance : Instance → numbered.Instance) (d : Deed World) (e : numbers.Event) → IsWritten cell instance d e → answer_of d ≡ answer_in e
+answer_written : (cell : Cell → ℕ) (instance : Instance → numbered.Instance) (d : Deed FrameEnv) (e : numbers.Event) → IsWritten cell instance d e → answer_of d ≡ answer_in e
 answer_written cell instance (Does (Reads c v)) e h = sym (ap answer_in h)
 answer_written cell instance (Does (Writes c v)) e h = sym (ap answer_in h)
 answer_written cell instance (Does Syncs) e h = sym (ap answer_in h)
@@ -409,7 +409,7 @@ answer_written cell instance (Invokes Call w) e h = sym (ap answer_in h.1)
 answer_written cell instance (Invokes Spawn w) e h = sym (ap answer_in h.1)
 
 module _ (p : Source) (r : Transcript) where
-  event_of : (w : World) (k : ℕ) (a : language.Ask) (d : Deed World) (e : numbers.Event) → named_ask p w k a ≡ asked_for d
+  event_of : (w : FrameEnv) (k : ℕ) (a : language.Ask) (d : Deed FrameEnv) (e : numbers.Event) → named_ask p w k a ≡ asked_for d
       → IsWritten (cell_number p r) (instance_number p r) d e → IsEventOf p r w a e
   event_of w k asks.Begin (Does (Passes Begins)) e q h = h
   event_of w k (asks.Read x) (Does (Reads c v)) e q h = let s : c ≡ cell_seen w x = cc q in (v, h ∙ ap (λ (z : Cell). events.Read (cell_number p r z) v) s)
@@ -444,7 +444,7 @@ module _ (p : Source) (r : Transcript) where
   event_of w k (asks.End y) (Does (Ends v gone)) e q h = h
   event_of w k a d e q h = absurd (cc q)
 
-  asked_by : (inputs : List ℤ) (x : Point World) (e : numbers.Event) → next p inputs x.frame x.past ≡ Some (asked_for x.deed)
+  asked_by : (inputs : List ℤ) (x : Point FrameEnv) (e : numbers.Event) → next p inputs x.frame x.past ≡ Some (asked_for x.deed)
       → IsWritten (cell_number p r) (instance_number p r) x.deed e → IsAskedBy p r inputs x e
   asked_by inputs x e asks written =
       let k = suc (started x.past) in
@@ -457,16 +457,16 @@ module _ (p : Source) (r : Transcript) where
       }
 
 module _ (p : Source) (inputs others : List ℤ) (r : Transcript) (es : List numbers.Event) (opening : List ℤ) (is : IsPlannedRun p inputs r es opening) where
-  abbrev t : Run World
+  abbrev t : Run FrameEnv
   t = named p r
 
-  abbrev c : Course World
+  abbrev c : Course FrameEnv
   c = course_on p others t
 
-  abbrev list : List (Point World)
+  abbrev list : List (Point FrameEnv)
   list = points_on p others r
 
-  abbrev story : Story
+  abbrev story : EventOrder
   story = story_on p others r es opening
 
   abbrev values : Cell → ℤ
@@ -475,7 +475,7 @@ module _ (p : Source) (inputs others : List ℤ) (r : Transcript) (es : List num
   abbrev units : Instance → View
   units = unit_of monoid_of
 
-  course : IsCourse World View monoid_of (next p others) (same_frame p) (first_world p) [] values units t c
+  course : IsCourse FrameEnv View monoid_of (next p others) (same_frame p) (first_world p) [] values units t c
   course = (programs_have_one p others t).0
 
   framed : IsFramed begin_due t
@@ -485,43 +485,43 @@ module _ (p : Source) (inputs others : List ℤ) (r : Transcript) (es : List num
   planned = (serial_numbered p inputs r es is.outcome is.named is.runs).written
 
   written : AreWritten (cell_number p r) (instance_number p r) (trace (run_of c)) story.events
-  written = course_written World View monoid_of (next p others) (same_frame p) (cell_number p r) (instance_number p r) (first_world p) [] values units t c es course planned
+  written = course_written FrameEnv View monoid_of (next p others) (same_frame p) (cell_number p r) (instance_number p r) (first_world p) [] values units t c es course planned
 
   many : length list ≡ size c
-  many = points_long World View monoid_of (next p others) (same_frame p) (first_world p) [] values units 0 0 t c course
+  many = points_long FrameEnv View monoid_of (next p others) (same_frame p) (first_world p) [] values units 0 0 t c course
 
   in_place : Laid (slice_get list) (first_world p) [] 0 0 t c
-  in_place = laid World View monoid_of (next p others) (same_frame p) list (first_world p) [] values units 0 0 t c course
+  in_place = laid FrameEnv View monoid_of (next p others) (same_frame p) list (first_world p) [] values units 0 0 t c course
       (record { pre = []; post = []; place = refl; is = sym (append-nil list) })
 
-  behind : Behind World View monoid_of (next p others) (same_frame p) (slice_get list) (0 + size c) 0 (first_world p)
+  behind : Behind FrameEnv View monoid_of (next p others) (same_frame p) (slice_get list) (0 + size c) 0 (first_world p)
   behind y there x since frame =
       let less = slice_get_within list (0 + size c) y there in
       let e = many in
       absurd (omega (arith, less, e))
 
-  within : (i : ℕ) (x : Point World) → slice_get list i ≡ Some x → i < 0 + size c
+  within : (i : ℕ) (x : Point FrameEnv) → slice_get list i ≡ Some x → i < 0 + size c
   within i x there = let less = slice_get_within list i x there in let e = many in omega (arith, less, e)
 
-  point : (i : ℕ) (x : Point World) → slice_get list i ≡ Some x → IsPoint (next p others) (same_frame p) (slice_get list) i x
+  point : (i : ℕ) (x : Point FrameEnv) → slice_get list i ≡ Some x → IsPoint (next p others) (same_frame p) (slice_get list) i x
   point i x there =
-      walk World View monoid_of (next p others) (same_frame p) (slice_get list) begin_due (first_world p) [] values units 0 0 t c framed course in_place behind i x (omega arith) (within i x there) there
+      walk FrameEnv View monoid_of (next p others) (same_frame p) (slice_get list) begin_due (first_world p) [] values units 0 0 t c framed course in_place behind i x (omega arith) (within i x there) there
 
   -- a column of the points at a place
-  at_place : {B : Type 0} (f : Point World → B) (l : List B) (i : ℕ) (x : Point World) → map f list ≡ l → slice_get list i ≡ Some x → slice_get l i ≡ Some (f x)
+  at_place : {B : Type 0} (f : Point FrameEnv → B) (l : List B) (i : ℕ) (x : Point FrameEnv) → map f list ≡ l → slice_get list i ≡ Some x → slice_get l i ≡ Some (f x)
   at_place f l i x q there = ap (λ z. slice_get z i) (sym q) ∙ slice_get-map f list i ∙ ap (option_map f) there
 
-  told : (i : ℕ) (x : Point World) → slice_get list i ≡ Some x → IsTold p r others es story i x
+  told : (i : ℕ) (x : Point FrameEnv) → slice_get list i ≡ Some x → IsTold p r others es story i x
   told i x there =
-      let cols = columns World View monoid_of (next p others) (same_frame p) (first_world p) [] values units 0 0 t c course in
-      let at = written_at (cell_number p r) (instance_number p r) (trace (run_of c)) story.events i x.deed written (at_place (λ (y : Point World). y.deed) (trace (run_of c)) i x cols.deeds there) in
-      let from = written_at (cell_number p r) (instance_number p r) (trace t) es i x.planned planned (at_place (λ (y : Point World). y.planned) (trace t) i x cols.planned there) in
+      let cols = columns FrameEnv View monoid_of (next p others) (same_frame p) (first_world p) [] values units 0 0 t c course in
+      let at = written_at (cell_number p r) (instance_number p r) (trace (run_of c)) story.events i x.deed written (at_place (λ (y : Point FrameEnv). y.deed) (trace (run_of c)) i x cols.deeds there) in
+      let from = written_at (cell_number p r) (instance_number p r) (trace t) es i x.planned planned (at_place (λ (y : Point FrameEnv). y.planned) (trace t) i x cols.planned there) in
       let back : suc i - 1 ≡ i = omega arith in
       let here : slice_index_or story.asked (suc i - 1) false ≡ x.asked =
-      ap (λ (n : ℕ). slice_index_or story.asked n false) back ∙ asked_at (asked_in c) i x.asked (at_place (λ (y : Point World). y.asked) (asked_in c) i x cols.asked there) in
+      ap (λ (n : ℕ). slice_index_or story.asked n false) back ∙ asked_at (asked_in c) i x.asked (at_place (λ (y : Point FrameEnv). y.asked) (asked_in c) i x cols.asked there) in
       record {
         plan = λ e e_is. subst (IsWritten (cell_number p r) (instance_number p r) x.planned) (some_inner from.here e (sym from.is ∙ e_is)) from.written;
-        owner = at_place (λ (y : Point World). y.frame.name) (makers [] t) i x
+        owner = at_place (λ (y : Point FrameEnv). y.frame.name) (makers [] t) i x
             (owners p View monoid_of (next p others) (first_world p) [] values units 0 0 t c [] course refl) there;
         here = at.here;
         is = ap (slice_get story.events) back ∙ at.is;
@@ -530,10 +530,10 @@ module _ (p : Source) (inputs others : List ℤ) (r : Transcript) (es : List num
         asks = λ yes. asked_by p r others x at.here ((point i x there).asks (sym here ∙ yes)) at.written;
       }
 
-  begun : (x : Point World) → slice_get list 0 ≡ Some x → (x.frame ≡ first_world p) × (x.past ≡ []) × (x.since ≡ 0)
+  begun : (x : Point FrameEnv) → slice_get list 0 ≡ Some x → (x.frame ≡ first_world p) × (x.past ≡ []) × (x.since ≡ 0)
   begun x there = let h = head (slice_get list) begin_due (first_world p) [] 0 0 t c framed in_place x there in (h.frame, h.past, h.since)
 
-pub asked_by_positions : StoriesAreAskedByPositions
+pub asked_by_positions : EventOrdersAreAskedByPositions
 asked_by_positions p inputs others r es opening is = record {
   all = many p inputs others r es opening is ∙ sym (long (course_on p others (named p r)))
       ∙ sym (written_long (cell_number p r) (instance_number p r) (trace (run_of (course_on p others (named p r)))) (with_values es (trace (run_of (course_on p others (named p r))))) (written p inputs others r es opening is));

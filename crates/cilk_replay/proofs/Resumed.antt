@@ -24,9 +24,9 @@ use Rattle.cilk_program.specs.Syntax.{Expression, Number, Variable, Element, Neg
 use Rattle.cilk_program.specs.Behaviour.{asks_for, Got, Gives, Asks, ◌>>=◌, tick, ask, tick_gives, or_fault, value, values, index_of, Flow, unless_returned, invokes, invokes_function, declares, all_declare, condition, turns, return_value, does, all_do, returned, gives_result, finishes, writes_words, creates, function_gives, middle, part, loop_gives, frame_gives, ended, frame_asks}
 use Rattle.cilk_runs.specs.Machine.{started}
 use Rattle.cilk_runs.specs.Runs as runs
-use Rattle.cilk_runs.specs.WorldMachine.{answers_of, asked_after, has_ended, named_ask, next}
-use Rattle.cilk_runs.specs.Worlds.{World}
-use Rattle.cilk_runs.proofs.KeptWorld.{answers_more, ended_more}
+use Rattle.cilk_runs.specs.FrameEnvMachine.{answers_of, asked_after, has_ended, named_ask, next}
+use Rattle.cilk_runs.specs.FrameEnvs.{FrameEnv}
+use Rattle.cilk_runs.proofs.KeptFrameEnv.{answers_more, ended_more}
 use Rattle.cilk_replay.specs.InputResumes.{FramesResume}
 
 abbrev IsStart : Ask → Type 0
@@ -223,25 +223,25 @@ resume_asked p inputs callee (a ∷ answers) answer ticks how child is =
 
 -- ---- by names
 
-goes_on_with : (b : Bool) (a a' : runs.Ask World) → cond b None (Some a) ≡ Some a' → (b ≡ false) × (a ≡ a')
+goes_on_with : (b : Bool) (a a' : runs.Ask FrameEnv) → cond b None (Some a) ≡ Some a' → (b ≡ false) × (a ≡ a')
 goes_on_with true a a' is = absurd (cc is)
 goes_on_with false a a' is = (refl, cc is)
 
-starts_named : (p : Source) (w : World) (n : ℕ) (k : Ask) (how : Invocation) (child : World) → named_ask p w n k ≡ runs.Invoke how child → (i : Invocation) × (c : Callee) × (k ≡ asks.Invoke i c)
+starts_named : (p : Source) (w : FrameEnv) (n : ℕ) (k : Ask) (how : Invocation) (child : FrameEnv) → named_ask p w n k ≡ runs.Invoke how child → (i : Invocation) × (c : Callee) × (k ≡ asks.Invoke i c)
 starts_named p w n (asks.Invoke i c) how child is = (i, c, refl)
 starts_named p w n k how child is = absurd (cc is)
 
-resumes_named : (p : Source) (w : World) (n : ℕ) (b : Bool) (k : Ask) → b ≡ false → k ≡ asks.Resume → cond b None (Some (named_ask p w n k)) ≡ Some (runs.Pass runs.Resume)
+resumes_named : (p : Source) (w : FrameEnv) (n : ℕ) (b : Bool) (k : Ask) → b ≡ false → k ≡ asks.Resume → cond b None (Some (named_ask p w n k)) ≡ Some (runs.Pass runs.Resume)
 resumes_named p w n true k going is = absurd (cc going)
 resumes_named p w n false k going is = ap (λ (j : Ask). Some (named_ask p w n j)) is
 
-resume_next : (p : Source) (inputs : List ℤ) (w : World) (past : List (runs.Deed World)) (how : Invocation) (child : World)
+resume_next : (p : Source) (inputs : List ℤ) (w : FrameEnv) (past : List (runs.Deed FrameEnv)) (how : Invocation) (child : FrameEnv)
     → next p inputs w past ≡ Some (runs.Invoke how child) → next p inputs w (past ++ runs.Invokes how child ∷ []) ≡ Some (runs.Pass runs.Resume)
 resume_next p inputs w past how child is =
     let asks_now : Ask = (asked_after p inputs w past).ask in
     let now = goes_on_with (has_ended past) (named_ask p w (suc (started past)) asks_now) (runs.Invoke how child) is in
     let start = starts_named p w (suc (started past)) asks_now how child now.1 in
-    let more : List (runs.Deed World) = past ++ runs.Invokes how child ∷ [] in
+    let more : List (runs.Deed FrameEnv) = past ++ runs.Invokes how child ∷ [] in
     let resumes : (asked_after p inputs w more).ask ≡ asks.Resume =
     ap (λ l. (frame_asks p inputs w.callee l MAX_TICKS).ask) (answers_more past (runs.Invokes how child)) ∙ resume_asked p inputs w.callee (answers_of past) (pos 0) MAX_TICKS start.0 start.1 start.2 in
     resumes_named p w (suc (started more)) (has_ended more) (asked_after p inputs w more).ask (ended_more past (runs.Invokes how child) now.0) resumes

@@ -17,13 +17,13 @@ use Rattle.cilk_tree.proofs.Passed.{gives_predecessors}
 use Rattle.cilk_runs.specs.Runs.{Cell, Instance, Reads, Writes, Syncs, Ends, Passes, Begins, Resumes, Creates, Updates, Sets, Values, Prints, Deed, Does, Invokes, Invoke, Pass, Resume}
 use Rattle.cilk_runs.specs.Machine.{started}
 use Rattle.cilk_runs.specs.Traces.{IsWritten, shape_of}
-use Rattle.cilk_tree.specs.declared.story.Story.{Story}
-use Rattle.cilk_tree.specs.Orders.{IsStoryOf}
+use Rattle.cilk_tree.specs.declared.event_order.EventOrder.{EventOrder}
+use Rattle.cilk_tree.specs.Orders.{IsEventOrderOf}
 use Rattle.cilk_tree.specs.Runs.{IsAsked, IsFollowed}
 use Rattle.cilk_tree.specs.Word.{event, after, plain, resume, what, IsWord}
 use Rattle.cilk_tree.proofs.Events.{mark_at, resume_mark, spawn_of}
-use Rattle.cilk_runs.specs.WorldMachine.{asked_after, next}
-use Rattle.cilk_runs.specs.Worlds.{World, child_world}
+use Rattle.cilk_runs.specs.FrameEnvMachine.{asked_after, next}
+use Rattle.cilk_runs.specs.FrameEnvs.{FrameEnv, child_world}
 use Rattle.cilk_determinacy.specs.Nested.{named}
 use Rattle.cilk_determinacy.specs.Numbers.{cell_number, instance_number}
 use Rattle.cilk_determinacy.proofs.Determinate.{serial_numbered}
@@ -60,7 +60,7 @@ resume_event e is = absurd (cc is)
 
 module _ (cell : Cell → ℕ) (instance : Instance → numbered.Instance) where
   -- the plan's deed of a `resume`
-  resume_deed : (d : Deed World) (f : ℕ) → IsWritten cell instance d (events.Resume f) → d ≡ Does (Passes Resumes)
+  resume_deed : (d : Deed FrameEnv) (f : ℕ) → IsWritten cell instance d (events.Resume f) → d ≡ Does (Passes Resumes)
   resume_deed (Does (Passes Resumes)) f is = refl
   resume_deed (Does (Passes Begins)) f is = absurd (let no = is.1 in cc no)
   resume_deed (Invokes Call w) f is = absurd (let no = is.1 in cc no)
@@ -78,36 +78,36 @@ module _ (cell : Cell → ℕ) (instance : Instance → numbered.Instance) where
 -- ---- the story
 
 module _ (s : Setting) (h : IsOfProgram s) where
-  abbrev story : Story
+  abbrev story : EventOrder
   story = s.story
 
   abbrev shape : Shape
   shape = shape_of (named s.program s.run)
 
-  of_shape : IsStoryOf shape story
+  of_shape : IsEventOrderOf shape story
   of_shape =
       let n = serial_numbered s.program s.own s.run h.events h.is.outcome h.is.named h.is.runs in
       record { spells = same_marks story.events h.events h.along.kinds ∙ n.spells; preceding = h.along.preceding ∙ gives_predecessors shape h.events n.spells }
 
-  goes_on : (i : ℕ) (x : Point World) → point_at s i ≡ Some x → IsAsked story (suc i) → (f : ℕ) → event story (suc i) ≡ Some (events.Spawn f)
-      → (j : ℕ) (y : Point World) → point_at s j ≡ Some y → IsLater x y → (g : ℕ) → event story (suc j) ≡ Some (events.Resume g) → IsAsked story (suc j)
+  goes_on : (i : ℕ) (x : Point FrameEnv) → point_at s i ≡ Some x → IsAsked story (suc i) → (f : ℕ) → event story (suc i) ≡ Some (events.Spawn f)
+      → (j : ℕ) (y : Point FrameEnv) → point_at s j ≡ Some y → IsLater x y → (g : ℕ) → event story (suc j) ≡ Some (events.Resume g) → IsAsked story (suc j)
   goes_on i x is asked f spawns j y yis later g resumes =
       let at_spawn = here s h i x is in
       let a = at_spawn.1.asks asked in
       let k : Ask = (asked_after s.program s.inputs x.frame x.past).ask in
       let same : at_spawn.1.here ≡ events.Spawn f = some_inner at_spawn.1.here (events.Spawn f) (sym at_spawn.1.is ∙ spawns) in
       let callee = ask_for s.program s.run x.frame k (events.Spawn f) (subst (IsEventOf s.program s.run x.frame k) same a.event) in
-      let child : World = child_world s.program x.frame (suc (started x.past)) callee.0 in
+      let child : FrameEnv = child_world s.program x.frame (suc (started x.past)) callee.0 in
       let deed : x.deed ≡ Invokes Spawn child = a.starts Spawn callee.0 callee.1 in
-      let now : next s.program s.inputs x.frame x.past ≡ Some (Invoke Spawn child) = at_spawn.0.asks (at_spawn.1.asked.0 asked) ∙ ap (λ (d : Deed World). Some (asked_for d)) deed in
-      let past : y.past ≡ x.past ++ Invokes Spawn child ∷ [] = later.past ∙ ap (λ (d : Deed World). x.past ++ d ∷ []) deed in
+      let now : next s.program s.inputs x.frame x.past ≡ Some (Invoke Spawn child) = at_spawn.0.asks (at_spawn.1.asked.0 asked) ∙ ap (λ (d : Deed FrameEnv). Some (asked_for d)) deed in
+      let past : y.past ≡ x.past ++ Invokes Spawn child ∷ [] = later.past ∙ ap (λ (d : Deed FrameEnv). x.past ++ d ∷ []) deed in
       let then_asks : next s.program s.inputs y.frame y.past ≡ Some (Pass Resume) =
-      ap₂ (λ (w : World) (l : List (Deed World)). next s.program s.inputs w l) later.frame past ∙ frames_resume.next_is s.program s.inputs x.frame x.past Spawn child now in
+      ap₂ (λ (w : FrameEnv) (l : List (Deed FrameEnv)). next s.program s.inputs w l) later.frame past ∙ frames_resume.next_is s.program s.inputs x.frame x.past Spawn child now in
       let at_resume = here s h j y yis in
       let plan = plan_event s h j (events.Resume g) resumes in
       let written = subst (IsWritten (cell_number s.program s.run) (instance_number s.program s.run) y.planned) (kind_resumes plan.0 g plan.2) (at_resume.1.plan plan.0 plan.1) in
       let planned : y.planned ≡ Does (Passes Resumes) = resume_deed (cell_number s.program s.run) (instance_number s.program s.run) y.planned g written in
-      at_resume.1.asked.1 (at_resume.0.only (Does (Passes Resumes)) (subst (λ (d : Deed World). IsLikeDeed (same_frame s.program) d (Does (Passes Resumes))) (sym planned) tt) then_asks)
+      at_resume.1.asked.1 (at_resume.0.only (Does (Passes Resumes)) (subst (λ (d : Deed FrameEnv). IsLikeDeed (same_frame s.program) d (Does (Passes Resumes))) (sym planned) tt) then_asks)
 
   position : (p : ℕ) → IsWord (what story p) → (suc (p - 1) ≡ p) × (p - 1 < length story.events)
   position p is = let i = h.orderly.inside p is in let low = i.0 in let high = i.1 in (omega (arith, low), omega (arith, low, high))

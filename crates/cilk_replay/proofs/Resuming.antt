@@ -21,10 +21,10 @@ use Rattle.cilk_tree.specs.declared.kind.Kind.TheVariants as kinds
 use Rattle.cilk_tree.specs.Passes.{Waiting, pass, predecessors_in}
 use Rattle.cilk_runs.specs.Runs.{Instance, Deed, Does, Invokes, Ends}
 use Rattle.cilk_runs.specs.Traces.{shape_of}
-use Rattle.cilk_tree.specs.declared.story.Story.{Story}
+use Rattle.cilk_tree.specs.declared.event_order.EventOrder.{EventOrder}
 use Rattle.cilk_tree.specs.Word.{event, after, what, resume, IsWord}
 use Rattle.cilk_tree.proofs.Events.{mark_at, resume_mark, spawn_of}
-use Rattle.cilk_runs.specs.Worlds.{World}
+use Rattle.cilk_runs.specs.FrameEnvs.{FrameEnv}
 use Rattle.cilk_determinacy.specs.Nested.{named}
 use Rattle.cilk_determinacy.proofs.Determinate.{serial_numbered}
 use Rattle.cilk_replay.specs.Points.{Point, IsLater, IsFirst, IsReturn}
@@ -60,16 +60,16 @@ good_shape (shapes.child invocations.Spawn u r) tail g = (
 
 -- ---- the plan's deed, by marks
 
-abbrev IsOfMark : Mark → Deed World → Type 0
+abbrev IsOfMark : Mark → Deed FrameEnv → Type 0
 IsOfMark Begin d = GoesOn d
 IsOfMark End d = (v : _) × (gone : List Instance) × (d ≡ Does (Ends v gone))
 IsOfMark Sync d = GoesOn d
 IsOfMark Resume d = GoesOn d
-IsOfMark Spawn d = (w : World) × (d ≡ Invokes invocations.Spawn w)
-IsOfMark Call d = (w : World) × (d ≡ Invokes invocations.Call w)
+IsOfMark Spawn d = (w : FrameEnv) × (d ≡ Invokes invocations.Spawn w)
+IsOfMark Call d = (w : FrameEnv) × (d ≡ Invokes invocations.Call w)
 IsOfMark Plain d = GoesOn d
 
-of_mark : (e : Event) (d : Deed World) → IsOfKind (kind_of e) d → IsOfMark (mark_of e) d
+of_mark : (e : Event) (d : Deed FrameEnv) → IsOfKind (kind_of e) d → IsOfMark (mark_of e) d
 of_mark (events.Begin f) d h = h
 of_mark (events.Spawn f) d h = h
 of_mark (events.Call f) d h = h
@@ -127,43 +127,43 @@ module _ (s : Setting) (h : IsOfProgram s) where
   abbrev all : List Mark
   all = map mark_of h.events
 
-  abbrev story : Story
+  abbrev story : EventOrder
   story = s.story
 
   -- the frames that wait for a child, the innermost first, where the frame at hand has its first event there
   abbrev Chained : ℕ → List Waiting → Type 0
   Chained since [] = since ≡ 0
-  Chained since (w ∷ ws) = (b : ℕ) × (z : Point World) × (suc b ≡ since) × (point_at s b ≡ Some z) × (w.at ≡ since) × Chained z.since ws
+  Chained since (w ∷ ws) = (b : ℕ) × (z : Point FrameEnv) × (suc b ≡ since) × (point_at s b ≡ Some z) × (w.at ≡ since) × Chained z.since ws
 
   abbrev NoSpawnAhead : ℕ → Type 0
   NoSpawnAhead i = (j : ℕ) → suc j ≡ i → slice_get all j ≡ Some Spawn → ⊥
 
   -- what comes right before the event at hand: nothing, the event ahead of it, or what its frame did last
-  abbrev Ahead : ℕ → List Mark → List ℕ → Point World → Type 0
+  abbrev Ahead : ℕ → List Mark → List ℕ → Point FrameEnv → Type 0
   Ahead i ms ahead x =
       (ahead ≡ []) ⊎ ((ahead ≡ i ∷ []) × (Begins ms ⊎ NoSpawnAhead i))
-      ⊎ ((b : ℕ) × (z : Point World) × (ahead ≡ suc b ∷ []) × (point_at s b ≡ Some z) × IsLater z x)
+      ⊎ ((b : ℕ) × (z : Point FrameEnv) × (ahead ≡ suc b ∷ []) × (point_at s b ≡ Some z) × IsLater z x)
 
-  record State (i : ℕ) (ms : List Mark) (ahead : List ℕ) (ws : List Waiting) (x : Point World) : Type 0 where
+  record State (i : ℕ) (ms : List Mark) (ahead : List ℕ) (ws : List Waiting) (x : Point FrameEnv) : Type 0 where
     ahead_is : Ahead i ms ahead x
     chained : Chained x.since ws
 
   abbrev States : ℕ → List Mark → List ℕ → List Waiting → Type 0
-  States i ms ahead ws = (x : Point World) → point_at s i ≡ Some x → State i ms ahead ws x
+  States i ms ahead ws = (x : Point FrameEnv) → point_at s i ≡ Some x → State i ms ahead ws x
 
-  deed : (i : ℕ) (x : Point World) (m : Mark) → point_at s i ≡ Some x → slice_get all i ≡ Some m → IsOfMark m x.planned
+  deed : (i : ℕ) (x : Point FrameEnv) (m : Mark) → point_at s i ≡ Some x → slice_get all i ≡ Some m → IsOfMark m x.planned
   deed i x m is at =
       let found = event_there (slice_get h.events i) m (sym (slice_get-map mark_of h.events i) ∙ at) in
       subst (λ n. IsOfMark n x.planned) found.2 (of_mark found.0 x.planned (plan_deed s h i x found.0 is found.1))
 
   -- the point ahead of one
-  before : (i : ℕ) (y : Point World) → point_at s (suc i) ≡ Some y → (x : Point World) × (point_at s i ≡ Some x)
+  before : (i : ℕ) (y : Point FrameEnv) → point_at s (suc i) ≡ Some y → (x : Point FrameEnv) × (point_at s i ≡ Some x)
   before i y is = following s h i (let less = within s h (suc i) y is in omega (arith, less))
 
   no_spawn : (i : ℕ) (m : Mark) → slice_get all i ≡ Some m → (m ≡ Spawn → ⊥) → NoSpawnAhead (suc i)
   no_spawn i m at not j q spawn = not (some_inner m Spawn (sym at ∙ ap (slice_get all) (let e : i ≡ j = omega (arith, q) in e) ∙ spawn))
 
-  on : (i : ℕ) (m : Mark) (ms : List Mark) (ahead : List ℕ) (ws : List Waiting) → slice_get all i ≡ Some m → (m ≡ Spawn → ⊥) → ((d : Deed World) → IsOfMark m d → GoesOn d)
+  on : (i : ℕ) (m : Mark) (ms : List Mark) (ahead : List ℕ) (ws : List Waiting) → slice_get all i ≡ Some m → (m ≡ Spawn → ⊥) → ((d : Deed FrameEnv) → IsOfMark m d → GoesOn d)
       → States i (m ∷ ms) ahead ws → States (suc i) ms (suc i ∷ []) ws
   on i m ms ahead ws at not goes st y yis =
       let x = before i y yis in
@@ -175,7 +175,7 @@ module _ (s : Setting) (h : IsOfProgram s) where
       }
 
   starts : (i : ℕ) (m : Mark) (how : Invocation) (ms : List Mark) (ahead ends : List ℕ) (ws : List Waiting) → slice_get all i ≡ Some m
-      → ((d : Deed World) → IsOfMark m d → (w : World) × (d ≡ Invokes how w)) → Begins ms ⊎ NoSpawnAhead (suc i)
+      → ((d : Deed FrameEnv) → IsOfMark m d → (w : FrameEnv) × (d ≡ Invokes how w)) → Begins ms ⊎ NoSpawnAhead (suc i)
       → States i (m ∷ ms) ahead ws → States (suc i) ms (suc i ∷ []) (record { how = how; at = suc i; ends = ends } ∷ ws)
   starts i m how ms ahead ends ws at invokes begins st y yis =
       let x = before i y yis in
@@ -212,12 +212,12 @@ module _ (s : Setting) (h : IsOfProgram s) where
         chained = subst (λ n. Chained n ws) (sym later.since) c.5;
       }
     where
-      by : (how : Invocation) {b : ℕ} {z : Point World} → w.at ≡ suc b → point_at s b ≡ Some z → IsLater z y → Ahead (suc i) ms (resumed_from how w.at (suc i)) y
+      by : (how : Invocation) {b : ℕ} {z : Point FrameEnv} → w.at ≡ suc b → point_at s b ≡ Some z → IsLater z y → Ahead (suc i) ms (resumed_from how w.at (suc i)) y
       by invocations.Call q is later = inr (inl (refl, inr (no_spawn i End at (λ z. cc z))))
       by invocations.Spawn {b = b} {z = z} q is later = inr (inr (b, z, ap (λ n. n ∷ []) q, is, later))
 
   -- a `resume` right after a spawn
-  found : (i : ℕ) (ms : List Mark) (ahead : List ℕ) (ws : List Waiting) (k : ℕ) (z y : Point World) → slice_get ms 0 ≡ Some Resume → ahead ≡ suc k ∷ [] → slice_get all k ≡ Some Spawn
+  found : (i : ℕ) (ms : List Mark) (ahead : List ℕ) (ws : List Waiting) (k : ℕ) (z y : Point FrameEnv) → slice_get ms 0 ≡ Some Resume → ahead ≡ suc k ∷ [] → slice_get all k ≡ Some Spawn
       → point_at s k ≡ Some z → Ahead i ms ahead y → IsLater z y
   found i ms ahead ws k z y first_is alone spawn zis a = ⊎_elim
       (λ (none : ahead ≡ []). absurd (let q : [] ≡ suc k ∷ [] = sym none ∙ alone in cc q))
@@ -226,7 +226,7 @@ module _ (s : Setting) (h : IsOfProgram s) where
       let q : i ∷ [] ≡ suc k ∷ [] = sym one.0 ∙ alone in
       let e : suc k ≡ i = cc q in
       ⊎_elim (λ (b : Begins ms). absurd (let r = b Resume first_is in cc r)) (λ (n : NoSpawnAhead i). absurd (n k e spawn)) one.1)
-      (λ (last : (b : ℕ) × (x : Point World) × (ahead ≡ suc b ∷ []) × (point_at s b ≡ Some x) × IsLater x y).
+      (λ (last : (b : ℕ) × (x : Point FrameEnv) × (ahead ≡ suc b ∷ []) × (point_at s b ≡ Some x) × IsLater x y).
       let q : suc last.0 ∷ [] ≡ suc k ∷ [] = sym last.2 ∙ alone in
       let e : last.0 ≡ k = cc q in
       subst (λ x. IsLater x y) (some_inner last.1 z (sym last.3 ∙ ap (point_at s) e ∙ zis)) last.4) some)
@@ -234,7 +234,7 @@ module _ (s : Setting) (h : IsOfProgram s) where
 
   walk : (n : ℕ) (ms : List Mark) (i : ℕ) (ahead ends : List ℕ) (ws : List Waiting) → ((k t : ℕ) → t ≡ i + k → slice_get ms k ≡ slice_get all t) → IsGood ms → States i ms ahead ws
       → (k : ℕ) → slice_get (pass ms (suc i) ahead ends ws) n ≡ Some (suc k ∷ []) → slice_get ms n ≡ Some Resume → slice_get all k ≡ Some Spawn
-      → (z y : Point World) (t : ℕ) → t ≡ i + n → point_at s k ≡ Some z → point_at s t ≡ Some y → IsLater z y
+      → (z y : Point FrameEnv) (t : ℕ) → t ≡ i + n → point_at s k ≡ Some z → point_at s t ≡ Some y → IsLater z y
   walk n [] i ahead ends ws at good st k preds is spawn z y t q zis yis = absurd (let e : None ≡ Some Resume = is in cc e)
   walk zero (Resume ∷ ms) i ahead ends ws at good st k preds is spawn z y t q zis yis =
       let here_is : point_at s i ≡ Some y = ap (point_at s) (let e : i ≡ t = omega (arith, q) in e) ∙ yis in
@@ -271,7 +271,7 @@ module _ (s : Setting) (h : IsOfProgram s) where
       let p = plan_event s h i e there in
       slice_get-map mark_of h.events i ∙ ap (option_map mark_of) p.1 ∙ ap Some (mark_is p.0 ∙ ap mark_in p.2 ∙ sym (mark_is e) ∙ is)
 
-  pub resumed : (i next : ℕ) (x : Point World) → what story next ≡ resume (suc i) → point_at s i ≡ Some x → IsResumed s h next x
+  pub resumed : (i next : ℕ) (x : Point FrameEnv) → what story next ≡ resume (suc i) → point_at s i ≡ Some x → IsResumed s h next x
   resumed i next x is there =
       let r = resume_mark story.events next (event story next) (after story next) (suc i) is in
       let inside = h.orderly.inside next (subst IsWord (sym is) tt) in

@@ -5,9 +5,9 @@ use Rattle.cilk_types.specs.declared.event.Event.{Event}
 use Rattle.cilk_types.specs.declared.outcome.Outcome.{Outcome}
 use Rattle.cilk_program.specs.Answered.{cells_after, opening_cells}
 use Rattle.cilk_program.proofs.Remembered.{runs_leave}
-use Rattle.cilk_tree.specs.declared.story.Story.{Story}
+use Rattle.cilk_tree.specs.declared.event_order.EventOrder.{EventOrder}
 use Rattle.cilk_tree.specs.Values.{HasValue}
-use Rattle.cilk_replay.specs.Stories.{story_on}
+use Rattle.cilk_replay.specs.EventOrders.{story_on}
 use Rattle.cilk_replay.proofs.LastWrites.{last_value}
 use Rattle.std.proofs.Math.Seq.{take-length}
 use Rattle.cilk_types.specs.declared.limits.TheConstants.{MAX_TICKS, MAX_EVENTS}
@@ -22,9 +22,9 @@ use Rattle.cilk_runs.specs.Costs.{Total, TickTotal, EventTotal, FrameTotal, Cell
 use Rattle.cilk_runs.specs.Monoids.{unit_of}
 use Rattle.cilk_runs.specs.Runs.{Run}
 use Rattle.cilk_runs.specs.Traces.{trace, begin_due}
-use Rattle.cilk_runs.specs.WorldMachine.{next, opening_values, limit, costs}
+use Rattle.cilk_runs.specs.FrameEnvMachine.{next, opening_values, limit, costs}
 use Rattle.cilk_runs.specs.Reducers.{View, monoid_of}
-use Rattle.cilk_runs.specs.Worlds.{World, first_world}
+use Rattle.cilk_runs.specs.FrameEnvs.{FrameEnv, first_world}
 use Rattle.cilk_determinacy.specs.Nested.{named}
 use Rattle.cilk_determinacy.specs.Numbers.{cell_number, instance_number}
 use Rattle.cilk_determinacy.specs.Theorem.{IsSerial, SetWords}
@@ -40,15 +40,15 @@ use Rattle.cilk_replay.specs.Ends.{KeepsLimits, RunsWithinLimitsAreWhole, Inputs
 use Rattle.cilk_replay.specs.Frames.{same_frame, course_on, IsSerialRunOn}
 use Rattle.cilk_replay.specs.Left.{KeepsCounts}
 use Rattle.cilk_replay.specs.Lists.{with_values}
-use Rattle.cilk_replay.proofs.AskedStories.{departs_nowhere}
+use Rattle.cilk_replay.proofs.AskedEventOrders.{departs_nowhere}
 use Rattle.cilk_replay.proofs.CourseLimits.{opened, IsAsMuch, as_much, are_like}
 use Rattle.cilk_replay.proofs.CourseNumbers.{events_are}
 use Rattle.cilk_replay.proofs.NoFault.{EndsAs, Goes, goes_along, at_begin}
 use Rattle.cilk_replay.proofs.OneRun.{runs_are_one, named_runs_are_serial}
-use Rattle.cilk_replay.proofs.StoryValues.{stories_have_values, course, written, serial, cells_open, own_words}
+use Rattle.cilk_replay.proofs.EventOrderValues.{stories_have_values, course, written, serial, cells_open, own_words}
 
 -- the program's serial run within so many ticks is the run by names, which ends without a fault
-pub record IsRunWithin (p : Source) (inputs : List ℤ) (ticks : ℕ) (u : Run World) : Type 0 where
+pub record IsRunWithin (p : Source) (inputs : List ℤ) (ticks : ℕ) (u : Run FrameEnv) : Type 0 where
   pub transcript : Transcript
   pub events : List Event
   pub value : ℤ
@@ -63,7 +63,7 @@ pub record IsRunWithin (p : Source) (inputs : List ℤ) (ticks : ℕ) (u : Run W
 pub opens_same : (p : Source) (inputs : List ℤ) (r : Transcript) → Same p r (opening_values p inputs) (unit_of monoid_of) (opening p.openings)
 opens_same p inputs r = record { cells = cells_open p inputs r; reducers = λ i has. refl; output = refl }
 
-pub runs_within : (p : Source) (inputs : List ℤ) (u : Run World) → IsTrue (is_well_named p) → HasWords p → InputsAreWords inputs
+pub runs_within : (p : Source) (inputs : List ℤ) (u : Run FrameEnv) → IsTrue (is_well_named p) → HasWords p → InputsAreWords inputs
     → IsSerialRunOn p inputs u → KeepsCounts p inputs u → (ticks : ℕ) → whole (costs p inputs) (first_world p) u TickTotal ≤ ticks
     → IsRunWithin p inputs ticks u
 runs_within p inputs u well has are run keeps ticks enough =
@@ -112,7 +112,7 @@ within_limits p inputs u well has are run keeps =
       names = h.names;
     }
 
-counted : (p : Source) (inputs others : List ℤ) (t u : Run World) → IsAsMuch p inputs others (first_world p) (first_world p) [] [] t u
+counted : (p : Source) (inputs others : List ℤ) (t u : Run FrameEnv) → IsAsMuch p inputs others (first_world p) (first_world p) [] [] t u
     → ((total : Total) → whole (costs p inputs) (first_world p) t total ≤ limit p inputs total) → KeepsCounts p others u
 counted p inputs others t u much within = record {
   events = let h = within EventTotal in let e = much.events in omega (arith, h, e);
@@ -120,7 +120,7 @@ counted p inputs others t u much within = record {
   cells = let h = within CellTotal in let e = much.cells in omega (arith, h, e);
 }
 
-keeps : (p : Source) (others : List ℤ) (u : Run World) → whole (costs p others) (first_world p) u TickTotal ≤ MAX_TICKS → KeepsCounts p others u
+keeps : (p : Source) (others : List ℤ) (u : Run FrameEnv) → whole (costs p others) (first_world p) u TickTotal ≤ MAX_TICKS → KeepsCounts p others u
     → KeepsLimits p others u
 keeps p others u ticks counts TickTotal = ticks
 keeps p others u ticks counts EventTotal = counts.events
@@ -135,7 +135,7 @@ from_at k (suc n) f (suc i) less =
     from_at (suc k) n f i (omega (arith, less)) ∙ ap f e
 
 -- a global of the run's outcome is what the cell's last write wrote
-last_global : (p : Source) (s : Story) (opening : List ℤ) → ((c : ℕ) → slice_index_or s.opening c (pos 0) ≡ opening_cells p [] c) → (es : List Event) (outcome : Outcome) → es ≡ s.events
+last_global : (p : Source) (s : EventOrder) (opening : List ℤ) → ((c : ℕ) → slice_index_or s.opening c (pos 0) ≡ opening_cells p [] c) → (es : List Event) (outcome : Outcome) → es ≡ s.events
     → outcome.globals ≡ cells_from 0 (length p.openings) (cells_after es (opening_cells p [])) → (c : ℕ) → c < length p.openings
     → HasValue s c (length s.events) (slice_index_or outcome.globals c (pos 0))
 last_global p s opening opens es outcome same left c less =
@@ -163,7 +163,7 @@ inputs_run_along p inputs others r es opening is are orderly nowhere =
     let only : (r' : Transcript) (es' : List Event) (outcome : Outcome) → IsSerialRun p others r' es' (Leaves outcome) → (named p r' ≡ run_of c) × (es' ≡ s.events) =
     λ r' es' outcome runs.
     let same : named p r' ≡ run_of c =
-    runs_are_one World View monoid_of (next p others) (same_frame p) (first_world p) (opening_values p others) (unit_of monoid_of) (named p r') (run_of c)
+    runs_are_one FrameEnv View monoid_of (next p others) (same_frame p) (first_world p) (opening_values p others) (unit_of monoid_of) (named p r') (run_of c)
     (named_runs_are_serial p others r' es' outcome is.named is.words are runs) run in
     let list = events_numbered p inputs r es (Leaves is.outcome) is.named is.runs in
     let list' = events_numbered p others r' es' (Leaves outcome) is.named runs in (

@@ -29,7 +29,7 @@ use Rattle.cilk_program.specs.Visible.{CanInvoke, FrameSees, GlobalsAreThere}
 use Rattle.cilk_program.proofs.Naming.{well_named_parts}
 use Rattle.cilk_program.proofs.Visible.{root_sees as first_sees, called_sees, none_given, part_sees}
 use Rattle.cilk_runs.specs.Runs.{Name, Cell, Global, Own, Instance, Output}
-use Rattle.cilk_runs.specs.Worlds.{World, Reducers, Sight as Seen, before_own, child_world, first_world, given_named, global_named, home_named, outer_named, own_named, result_named, cell_seen, reducer_seen, result_cell}
+use Rattle.cilk_runs.specs.FrameEnvs.{FrameEnv, Reducers, Sight as Seen, before_own, child_world, first_world, given_named, global_named, home_named, outer_named, own_named, result_named, cell_seen, reducer_seen, result_cell}
 use Rattle.cilk_determinacy.specs.Numbers.{up, down, instance_number, IsHere, HasInstance, HasReducer}
 use Rattle.cilk_determinacy.proofs.Numbers.{cell_is, down_up, number_is}
 use Rattle.cilk_determinacy.proofs.Sights.{global_here, own_here, root_here}
@@ -204,7 +204,7 @@ module _ (p : Source) (r : Transcript) where
   same_function : (f g : ℕ) → same_body (bodies.Function f) (bodies.Function g) ≡ true → f ≡ g
   same_function f g h = eqb-true f g h
 
-  child_own : (name : Name) (k : ℕ) (v : World) → IsChild p r name k v → (callee : Callee) → callee ≢ callees.Root → same_body (body_of p v.callee) (body_of p callee) ≡ true
+  child_own : (name : Name) (k : ℕ) (v : FrameEnv) → IsChild p r name k v → (callee : Callee) → callee ≢ callees.Root → same_body (body_of p v.callee) (body_of p callee) ≡ true
       → (n : ℕ) (kind : MonoidKind) → IsTrue (is_kind (slice_get (own_reducers p callee) n) kind) → HasInstance p r (own_named p callee (name ++ k ∷ []) n kind)
   child_own name k v c callees.Root other same n kind is = absurd (other refl)
   child_own name k v c (callees.Loop l) other same n kind is = absurd (false≢true is)
@@ -256,12 +256,12 @@ module _ (p : Source) (r : Transcript) where
   given_have (callees.Loop l) name hs bs given h g = none_given_to (home_named p (callees.Loop l) name []) (drop l.up hs) (drop l.up bs) given refl (dropped l.up hs bs h) (given_dropped l.up hs given g)
 
   -- what is known of a child: what it runs is there, the plan's child runs the same, and what it has itself
-  pub record Begins (w : World) (k : ℕ) (callee : Callee) (home : Home) : Type 0 where
+  pub record Begins (w : FrameEnv) (k : ℕ) (callee : Callee) (home : Home) : Type 0 where
     pub well : IsTrue (is_well_named p)
     pub other : callee ≢ callees.Root
     pub there : CalleeIsThere p (body_of p w.callee) callee
     pub can : CanInvoke w.callee callee
-    pub planned : World
+    pub planned : FrameEnv
     pub child : IsChild p r w.name k planned
     pub same : same_body (body_of p planned.callee) (body_of p callee) ≡ true
     pub here : IsHere p r (w.name ++ k ∷ [])
@@ -274,7 +274,7 @@ module _ (p : Source) (r : Transcript) where
   none_before (callees.Function c) other = refl
   none_before (callees.Loop l) other = refl
 
-  child_see : (w : World) (k : ℕ) (callee : Callee) (home : Home) → Begins w k callee home → See w.callee w.sight w.result → (let c = child_world p w k callee in See c.callee c.sight c.result)
+  child_see : (w : FrameEnv) (k : ℕ) (callee : Callee) (home : Home) → Begins w k callee home → See w.callee w.sight w.result → (let c = child_world p w k callee in See c.callee c.sight c.result)
   child_see w k callees.Root home b see = absurd (b.other refl)
   child_see w k (callees.Function c) home b see =
       called_sees p Global global_named (λ c. Unit {0}) HasOne w.callee w.sight w.result c (Own (w.name ++ k ∷ [])) (own_named p (callees.Function c) (w.name ++ k ∷ [])) globals_are_there see b.there b.can
@@ -282,7 +282,7 @@ module _ (p : Source) (r : Transcript) where
   child_see w k (callees.Loop l) home b see =
       part_sees p Global global_named (λ c. Unit {0}) HasOne b.well w.callee w.sight w.result l (home_named p (callees.Loop l) (w.name ++ k ∷ []) []) see b.there b.can (λ whole n less. tt)
 
-  pub child_sees : (w : World) (caller : Sight) → Sees p r w caller → (k : ℕ) (callee : Callee) (home : Home) (s : Sight) → Begins w k callee home
+  pub child_sees : (w : FrameEnv) (caller : Sight) → Sees p r w caller → (k : ℕ) (callee : Callee) (home : Home) (s : Sight) → Begins w k callee home
       → IsSightOf (length p.openings) callee home caller s → Sees p r (child_world p w k callee) s
   child_sees w caller sees k callee home s b of = record {
     homes = subst (λ (bs : List Home). HaveHomes p r (child_world p w k callee).sight bs) (sym of.0)
@@ -293,7 +293,7 @@ module _ (p : Source) (r : Transcript) where
   }
 
   -- the cell that a frame asks for
-  abbrev pub asked_cell : World → Ask → Cell
+  abbrev pub asked_cell : FrameEnv → Ask → Cell
   asked_cell w (asks.Read x) = cell_seen w x
   asked_cell w (asks.Write x v) = cell_seen w x
   asked_cell w (asks.Result v) = result_cell w
@@ -305,7 +305,7 @@ module _ (p : Source) (r : Transcript) where
   AsksForCell (asks.Result v) = Unit {0}
   AsksForCell k = ⊥
 
-  pub cell_found : (w : World) (s : Sight) → Sees p r w s → (k : Ask) → AsksForCell k → Is (asked_cell w k) (cell_asked (length p.openings) s k)
+  pub cell_found : (w : FrameEnv) (s : Sight) → Sees p r w s → (k : Ask) → AsksForCell k → Is (asked_cell w k) (cell_asked (length p.openings) s k)
   cell_found w s h (asks.Read x) u = seen w.sight (homes_of s) h.homes x
   cell_found w s h (asks.Write x v) u = seen w.sight (homes_of s) h.homes x
   cell_found w s h (asks.Result v) u = h.result
@@ -313,7 +313,7 @@ module _ (p : Source) (r : Transcript) where
 
 -- the reducer that a frame asks for
 module _ (p : Source) (r : Transcript) where
-  abbrev pub asked_instance : World → Ask → Instance
+  abbrev pub asked_instance : FrameEnv → Ask → Instance
   asked_instance w (asks.Create x) = reducer_seen w x
   asked_instance w (asks.Update x v) = reducer_seen w x
   asked_instance w (asks.Set x v) = reducer_seen w x
@@ -328,11 +328,11 @@ module _ (p : Source) (r : Transcript) where
   AsksForReducer k = ⊥
 
   -- it is the run's, and has this number
-  pub record IsFound (w : World) (s : Sight) (k : Ask) : Type 0 where
+  pub record IsFound (w : FrameEnv) (s : Sight) (k : Ask) : Type 0 where
     pub has : HasInstance p r (asked_instance w k)
     pub number : instance_number p r (asked_instance w k) ≡ as_instance (reducer_asked (homes_of s) s.given.items k)
 
-  pub reducer_found : (w : World) (s : Sight) → Sees p r w s → (k : Ask) → AsksForReducer k → AskIsThere p w.callee k → IsFound w s k
+  pub reducer_found : (w : FrameEnv) (s : Sight) → Sees p r w s → (k : Ask) → AsksForReducer k → AskIsThere p w.callee k → IsFound w s k
   reducer_found w s h (asks.Create x) u there = record { has = (h.reducers.own there.0).reducers x.place x.kind there.1; number = reducer_is p r w.sight (homes_of s) s.given.items h.homes h.given x.place x.kind }
   reducer_found w s h (asks.Update x v) u there = record { has = (h.reducers.own there.0).reducers x.place x.kind there.1; number = reducer_is p r w.sight (homes_of s) s.given.items h.homes h.given x.place x.kind }
   reducer_found w s h (asks.Set x v) u there = record { has = (h.reducers.own there.0).reducers x.place x.kind there.1; number = reducer_is p r w.sight (homes_of s) s.given.items h.homes h.given x.place x.kind }

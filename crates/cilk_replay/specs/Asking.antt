@@ -13,11 +13,11 @@ use Rattle.cilk_lower.specs.Code.{CodeView}
 use Rattle.cilk_frames.specs.declared.cursor.Answer.{Answer}
 use Rattle.cilk_frames.specs.declared.cursor.Answer.TheVariants.{Done, Value}
 use Rattle.cilk_frames.specs.Following.{HasAnswer, Stands, owed_for}
-use Rattle.cilk_tree.specs.declared.story.Story.{Story}
+use Rattle.cilk_tree.specs.declared.event_order.EventOrder.{EventOrder}
 use Rattle.cilk_tree.specs.Runs.{IsAsked}
 use Rattle.cilk_tree.specs.Word.{event, what, resume}
-use Rattle.cilk_runs.specs.WorldMachine.{asked_after}
-use Rattle.cilk_runs.specs.Worlds.{World}
+use Rattle.cilk_runs.specs.FrameEnvMachine.{asked_after}
+use Rattle.cilk_runs.specs.FrameEnvs.{FrameEnv}
 use Rattle.cilk_replay.specs.Points.{Point, IsEventOf}
 use Rattle.cilk_replay.specs.declared.level.Level.{Level}
 use Rattle.cilk_replay.specs.Courses.{CourseValue, IsOfProgram, setting_of, point_at}
@@ -29,7 +29,7 @@ pub record IsNextAsk (c : CourseValue) (at : ℕ) (k : Ask) : Type 0 where
   pub of_program : IsOfProgram (setting_of c run)
   pub behind : ℕ
   pub place : suc behind ≡ at
-  pub point : Point World
+  pub point : Point FrameEnv
   pub is : point_at (setting_of c run) behind ≡ Some point
   pub asks : k ≡ (asked_after (source c.program) c.inputs point.frame point.past).ask
   -- where it asks for the story's event, that is what the ask comes to: of its kind, with its cell or its reducer by the run's numbers,
@@ -63,26 +63,26 @@ IsAnswerTo (events.Value i v) a = Gives v a
 IsAnswerTo (events.Print v) a = IsDone a
 
 -- the frame at hand asks for the story's event at a position, which isn't the last one
-pub record Follows (s : Story) (at : ℕ) (e : Event) : Type 0 where
+pub record Follows (s : EventOrder) (at : ℕ) (e : Event) : Type 0 where
   pub first : 1 ≤ at
   pub asked : IsAsked s at
   pub is : event s at ≡ Some e
   pub more : at < length s.events
 
 -- and this is the answer to it
-abbrev pub IsAnswered : Story → ℕ → Answer → Type 0
+abbrev pub IsAnswered : EventOrder → ℕ → Answer → Type 0
 IsAnswered s at a = (e : Event) × Follows s at e × IsAnswerTo e a
 
 -- it calls a child
-abbrev pub Calls : Story → ℕ → Type 0
+abbrev pub Calls : EventOrder → ℕ → Type 0
 Calls s at = (f : ℕ) × Follows s at (events.Call f)
 
 -- the frame with this number is begun right behind
-abbrev pub BeginsNext : Story → ℕ → ℕ → Type 0
+abbrev pub BeginsNext : EventOrder → ℕ → ℕ → Type 0
 BeginsNext s at frame = event s (at + 1) ≡ Some (events.Begin frame)
 
 -- it spawns a child, and goes on at `next`
-abbrev pub Spawns : Story → ℕ → ℕ → Type 0
+abbrev pub Spawns : EventOrder → ℕ → ℕ → Type 0
 Spawns s at next = ((f : ℕ) × Follows s at (events.Spawn f)) × (what s next ≡ resume at)
 
 -- A frame of this callee that had these answers has asked for this: its cursor, with the ticks that it took.

@@ -11,15 +11,15 @@ use Rattle.cilk_program.specs.Syntax.{Source}
 use Rattle.cilk_lower.specs.Behaves.{Behaves}
 use Rattle.cilk_lower.specs.Code.{CodeView}
 use Rattle.cilk_lower.specs.contracts.code.Code as code
-use Rattle.cilk_tree.specs.declared.story.Story.{Story}
+use Rattle.cilk_tree.specs.declared.event_order.EventOrder.{EventOrder}
 use Rattle.cilk_tree.specs.Orders.{IsOrderly}
 use Rattle.cilk_tree.specs.Along.{IsAlong}
 use Rattle.cilk_tree.specs.Planned.{planned}
 use Rattle.cilk_shared.specs.Values.{YardValue}
 use Rattle.cilk_shared.specs.contracts.yard.Yard as yard
-use Rattle.cilk_runs.specs.Worlds.{World}
+use Rattle.cilk_runs.specs.FrameEnvs.{FrameEnv}
 use Rattle.cilk_replay.specs.Points.{Point, points_on}
-use Rattle.cilk_replay.specs.Stories.{story_on, IsPlannedRun}
+use Rattle.cilk_replay.specs.EventOrders.{story_on, IsPlannedRun}
 use Rattle.cilk_program.specs.Numbering.{Block, frame_at}
 use Rattle.cilk_program.specs.declared.program.Body.{Body}
 use Rattle.cilk_program.specs.Inside.{body_of}
@@ -56,13 +56,13 @@ pub record Setting : Type 0 where
   pub own : List ℤ
   pub inputs : List ℤ
   pub run : Transcript
-  pub story : Story
+  pub story : EventOrder
 
 abbrev pub setting_of : CourseValue → Transcript → Setting
 setting_of c r = let y = c.yard in record { program = source c.program; code = c.code; own = c.own; inputs = c.inputs; run = r; story = y.story }
 
 -- the frame at hand at the event behind so many, and all that the frame has done before
-unfoldable pub point_at : Setting → ℕ → Option (Point World)
+unfoldable pub point_at : Setting → ℕ → Option (Point FrameEnv)
 point_at s behind = slice_get (points_on s.program s.inputs s.run) behind
 
 -- The code asks what the program asks; the plan is that of the program's serial run on its inputs; and the story is what the program makes of

@@ -9,19 +9,19 @@ use Rattle.cilk_program.specs.Syntax.{Source}
 use Rattle.cilk_program.specs.WellNamed.{is_well_named}
 use Rattle.cilk_tree.specs.Along.{DepartsNowhere}
 use Rattle.cilk_tree.specs.Planned.{planned}
-use Rattle.cilk_tree.specs.declared.story.Story.{Story}
+use Rattle.cilk_tree.specs.declared.event_order.EventOrder.{EventOrder}
 use Rattle.cilk_tree.specs.Orders.{IsOrderly}
 use Rattle.cilk_tree.specs.Values.{HasValue}
 use Rattle.cilk_runs.specs.Costs.{Total, TickTotal, whole}
 use Rattle.cilk_runs.specs.Runs.{Run}
-use Rattle.cilk_runs.specs.WorldMachine.{limit, costs}
-use Rattle.cilk_runs.specs.Worlds.{World, first_world}
+use Rattle.cilk_runs.specs.FrameEnvMachine.{limit, costs}
+use Rattle.cilk_runs.specs.FrameEnvs.{FrameEnv, first_world}
 use Rattle.cilk_determinacy.specs.Nested.{named}
 use Rattle.cilk_determinacy.specs.Words.{HasWords, InputsAreWords}
 use Rattle.cilk_replay.specs.InputCourses.{run_of}
 use Rattle.cilk_replay.specs.Frames.{course_on, IsSerialRunOn}
 use Rattle.cilk_replay.specs.Left.{KeepsCounts}
-use Rattle.cilk_replay.specs.Stories.{story_on, IsPlannedRun}
+use Rattle.cilk_replay.specs.EventOrders.{story_on, IsPlannedRun}
 
 -- The serial run of a program of words, by names, is its serial run in the sense of courses.
 abbrev pub NamedRunsAreSerial : Type 0
@@ -30,11 +30,11 @@ NamedRunsAreSerial =
     → IsSerialRun p inputs r es (Leaves outcome) → IsSerialRunOn p inputs (named p r)
 
 -- the run takes no more ticks, events, frames and cells than a run may
-abbrev pub KeepsLimits : Source → List ℤ → Run World → Type 0
+abbrev pub KeepsLimits : Source → List ℤ → Run FrameEnv → Type 0
 KeepsLimits p inputs u = (total : Total) → whole (costs p inputs) (first_world p) u total ≤ limit p inputs total
 
 -- the run by names is the program's serial run on the inputs, which ends without a fault
-pub record IsWholeRun (p : Source) (inputs : List ℤ) (u : Run World) : Type 0 where
+pub record IsWholeRun (p : Source) (inputs : List ℤ) (u : Run FrameEnv) : Type 0 where
   pub transcript : Transcript
   pub events : List Event
   pub outcome : Outcome
@@ -45,13 +45,13 @@ pub record IsWholeRun (p : Source) (inputs : List ℤ) (u : Run World) : Type 0 
 -- limits of a run.
 abbrev pub RunsWithinLimitsAreWhole : Type 0
 RunsWithinLimitsAreWhole =
-    (p : Source) (inputs : List ℤ) (u : Run World) → IsTrue (is_well_named p) → HasWords p → InputsAreWords inputs
+    (p : Source) (inputs : List ℤ) (u : Run FrameEnv) → IsTrue (is_well_named p) → HasWords p → InputsAreWords inputs
     → IsSerialRunOn p inputs u → KeepsLimits p inputs u → IsWholeRun p inputs u
 
 -- Along an orderly plan: where the story on some inputs departs nowhere, the course is a serial run on them, with as many events, frames
 -- and cells as the plan's. It is the program's serial run on them, which ends without a fault, where all its frames together take no more
 -- ticks than a run may; and each serial run of the program on them that ends without a fault is it, with the story's events by numbers.
-pub record RunsAsCourse (p : Source) (others : List ℤ) (u : Run World) (story : Story) : Type 0 where
+pub record RunsAsCourse (p : Source) (others : List ℤ) (u : Run FrameEnv) (story : EventOrder) : Type 0 where
   pub course : IsSerialRunOn p others u
   pub counts : KeepsCounts p others u
   pub ends : whole (costs p others) (first_world p) u TickTotal ≤ MAX_TICKS → IsWholeRun p others u

@@ -6,8 +6,8 @@ use Rattle.cilk_program.specs.declared.ask.Callee.{Callee}
 use Rattle.cilk_program.specs.Behaviour.{frame_asks}
 use Rattle.cilk_program.specs.Syntax.{Source}
 use Rattle.cilk_runs.specs.Runs.{Deed, Invokes, Invoke, Pass, Resume}
-use Rattle.cilk_runs.specs.WorldMachine.{next}
-use Rattle.cilk_runs.specs.Worlds.{World}
+use Rattle.cilk_runs.specs.FrameEnvMachine.{next}
+use Rattle.cilk_runs.specs.FrameEnvs.{FrameEnv}
 
 -- What a frame asks for right after a child, called or spawned, is the `resume` behind it, whatever it was answered: it takes no tick
 -- between the two, so no fault can come there.
@@ -15,5 +15,5 @@ pub record FramesResume : Type 0 where
   pub asked : (p : Source) (inputs : List ℤ) (callee : Callee) (answers : List ℤ) (answer : ℤ) (ticks : ℕ) (how : Invocation) (child : Callee)
       → (frame_asks p inputs callee answers ticks).ask ≡ asks.Invoke how child → (frame_asks p inputs callee (answers ++ answer ∷ []) ticks).ask ≡ asks.Resume
   -- by names
-  pub next_is : (p : Source) (inputs : List ℤ) (w : World) (past : List (Deed World)) (how : Invocation) (child : World)
+  pub next_is : (p : Source) (inputs : List ℤ) (w : FrameEnv) (past : List (Deed FrameEnv)) (how : Invocation) (child : FrameEnv)
       → next p inputs w past ≡ Some (Invoke how child) → next p inputs w (past ++ Invokes how child ∷ []) ≡ Some (Pass Resume)

@@ -12,26 +12,26 @@ use Rattle.cilk_runs.specs.Runs.{Global, Passes, Prints, Deed, Does, Run}
 use Rattle.cilk_runs.specs.Serial.{value_after}
 use Rattle.cilk_runs.specs.Traces.{trace}
 use Rattle.cilk_runs.specs.Views.{view_after}
-use Rattle.cilk_runs.specs.WorldMachine.{opening_values, costs}
+use Rattle.cilk_runs.specs.FrameEnvMachine.{opening_values, costs}
 use Rattle.cilk_runs.specs.Reducers.{monoid_of}
 use Rattle.cilk_runs.specs.Steps.{finals_in, result_in}
-use Rattle.cilk_runs.specs.Worlds.{World, first_world}
+use Rattle.cilk_runs.specs.FrameEnvs.{FrameEnv, first_world}
 use Rattle.cilk_determinacy.specs.Words.{HasWords, InputsAreWords}
 use Rattle.cilk_replay.specs.Frames.{IsSerialRunOn}
 
 -- what a deed prints
-abbrev pub printed_by : Deed World → List ℤ
+abbrev pub printed_by : Deed FrameEnv → List ℤ
 printed_by (Does (Passes (Prints x))) = x ∷ []
 printed_by d = []
 
 -- what is printed, in order
-abbrev pub printed_in : List (Deed World) → List ℤ
+abbrev pub printed_in : List (Deed FrameEnv) → List ℤ
 printed_in [] = []
 printed_in (d ∷ ds) = printed_by d ++ printed_in ds
 
 -- What a run of a program on these inputs leaves: what its last end gave, the values that its events leave in the global cells, all that they
 -- printed, and the last values of the global reducers.
-abbrev pub left_by : Source → List ℤ → Run World → Outcome
+abbrev pub left_by : Source → List ℤ → Run FrameEnv → Outcome
 left_by p inputs t = record {
   result = result_in (reverse (trace t));
   globals = cells_from 0 (length p.openings) (λ n. value_after t (Global n) (opening_values p inputs (Global n)));
@@ -40,7 +40,7 @@ left_by p inputs t = record {
 }
 
 -- the run makes no more events, frames and cells than a run may, however many ticks it takes
-pub record KeepsCounts (p : Source) (inputs : List ℤ) (u : Run World) : Type 0 where
+pub record KeepsCounts (p : Source) (inputs : List ℤ) (u : Run FrameEnv) : Type 0 where
   pub events : whole (costs p inputs) (first_world p) u EventTotal ≤ MAX_EVENTS
   pub frames : whole (costs p inputs) (first_world p) u FrameTotal ≤ MAX_FRAMES
   pub cells : whole (costs p inputs) (first_world p) u CellTotal ≤ MAX_CELLS
@@ -49,5 +49,5 @@ pub record KeepsCounts (p : Source) (inputs : List ℤ) (u : Run World) : Type 0
 -- many ticks all its frames take together.
 abbrev pub RunsAreElided : Type 0
 RunsAreElided =
-    (p : Source) (inputs : List ℤ) (u : Run World) → IsTrue (is_well_named p) → HasWords p → InputsAreWords inputs
+    (p : Source) (inputs : List ℤ) (u : Run FrameEnv) → IsTrue (is_well_named p) → HasWords p → InputsAreWords inputs
     → IsSerialRunOn p inputs u → KeepsCounts p inputs u → IsElision p inputs (Leaves (left_by p inputs u))

@@ -15,5 +15,5 @@ pub mod Resumes
 pub mod Sights
 pub mod Sorts
 pub mod Standing
-pub mod Stories
+pub mod EventOrders
 pub mod Worked

@@ -8,18 +8,18 @@ use Rattle.cilk_runs.specs.Runs.{Cell, Instance, Ask, Updates, Sets, Values, Pri
 use Rattle.cilk_program.specs.Syntax.{Source}
 use Rattle.cilk_runs.specs.Traces.{trace, AreWritten}
 use Rattle.cilk_tree.specs.Before.{IsPosition}
-use Rattle.cilk_tree.specs.declared.story.Story.{Story}
+use Rattle.cilk_tree.specs.declared.event_order.EventOrder.{EventOrder}
 use Rattle.cilk_tree.specs.Orders.{IsOrderly}
 use Rattle.cilk_tree.specs.Runs.{IsAsked}
 use Rattle.cilk_tree.specs.Along.{IsAlong, DepartsNowhere}
 use Rattle.cilk_tree.specs.Passes.{predecessors_in}
 use Rattle.cilk_tree.specs.Planned.{planned}
-use Rattle.cilk_runs.specs.Worlds.{World}
+use Rattle.cilk_runs.specs.FrameEnvs.{FrameEnv}
 use Rattle.cilk_replay.specs.InputCourses.{Course, run_of, asked_in, IsAskedThroughout, IsCourse}
 use Rattle.cilk_replay.specs.Frames.{IsSerialRunOn, IsCourseOn}
 
 -- the story of a course whose events by numbers are these, along the plan of these events
-abbrev pub story_of : {W : Type 0} → List numbers.Event → List ℤ → List numbers.Event → Course W → Story
+abbrev pub story_of : {W : Type 0} → List numbers.Event → List ℤ → List numbers.Event → Course W → EventOrder
 story_of es opening es' c = record { events = es'; preceding = predecessors_in es; opening = opening; asked = asked_in c }
 
 -- an event by numbers, with the value that a deed has
@@ -38,7 +38,7 @@ with_values (e ∷ es) (d ∷ ds) = with_value e d ∷ with_values es ds
 with_values es ds = es
 
 -- the story of a course along the plan of these events: their kinds, with the values of the course
-abbrev pub story_along : {W : Type 0} → List numbers.Event → List ℤ → Course W → Story
+abbrev pub story_along : {W : Type 0} → List numbers.Event → List ℤ → Course W → EventOrder
 story_along es opening c = story_of es opening (with_values es (trace (run_of c))) c
 
 -- The events of a course of a run, by the numbers that the run's cells and reducers have, are the run's with the values of the course,
@@ -51,8 +51,8 @@ CoursesAreAlongPlans W V M next same =
     → AreWritten cell instance (trace (run_of c)) (with_values es (trace (run_of c))) × IsAlong (planned es opening) (story_along es opening c)
 
 -- Where the story of a course asks for the event at each position, each event of the course is asked for.
-abbrev pub AskedStoriesAreOfAskedCourses : Type 0 → Type 0
-AskedStoriesAreOfAskedCourses W =
+abbrev pub AskedEventOrdersAreOfAskedCourses : Type 0 → Type 0
+AskedEventOrdersAreOfAskedCourses W =
     (cell : Cell → ℕ) (instance : Instance → numbered.Instance) (c : Course W) (es es' : List numbers.Event) (opening : List ℤ)
     → AreWritten cell instance (trace (run_of c)) es'
     → ((p : ℕ) → IsPosition es' p → IsAsked (story_of es opening es' c) p) → IsAskedThroughout c
@@ -61,7 +61,7 @@ AskedStoriesAreOfAskedCourses W =
 -- run of the program on those.
 abbrev pub InputsThatDepartNowhere : Type 0
 InputsThatDepartNowhere =
-    (p : Source) (inputs others : List ℤ) (t : Run World) (c : Course World) (cell : Cell → ℕ) (instance : Instance → numbered.Instance)
+    (p : Source) (inputs others : List ℤ) (t : Run FrameEnv) (c : Course FrameEnv) (cell : Cell → ℕ) (instance : Instance → numbered.Instance)
     (es es' : List numbers.Event) (opening : List ℤ) → IsSerialRunOn p inputs t → IsCourseOn p others t c
     → AreWritten cell instance (trace (run_of c)) es' → IsOrderly (planned es opening)
     → IsAlong (planned es opening) (story_of es opening es' c) → IsAsked (story_of es opening es' c) 1

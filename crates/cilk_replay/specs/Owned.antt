@@ -8,12 +8,12 @@ use Rattle.cilk_program.specs.Syntax.{Source}
 use Rattle.cilk_program.specs.WellNamed.{is_well_named}
 use Rattle.cilk_tree.specs.Frames.{IsInFrame, AreFrames}
 use Rattle.cilk_runs.specs.Runs.{Name, Run, stop, act, child}
-use Rattle.cilk_runs.specs.Worlds.{World}
+use Rattle.cilk_runs.specs.FrameEnvs.{FrameEnv}
 use Rattle.cilk_determinacy.specs.Nested.{named}
 use Rattle.cilk_determinacy.specs.Numbers.{frame_number}
 
 -- the name of the frame that makes each event of a run of the frame of this name, in serial order
-abbrev pub makers : Name → Run World → List Name
+abbrev pub makers : Name → Run FrameEnv → List Name
 makers name stop = []
 makers name (act e r) = name ∷ makers name r
 makers name (child k w u r) = name ∷ (makers w.name u ++ makers name r)

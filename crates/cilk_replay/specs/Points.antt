@@ -13,17 +13,17 @@ use Rattle.cilk_runs.specs.Machine.{started}
 use Rattle.cilk_runs.specs.Runs.{Instance, Ask, Invoke, Event, Reads, Writes, Syncs, Ends, Passes, Deed, Does, Invokes, Run, ask_of}
 use Rattle.cilk_runs.specs.Runs as runs
 use Rattle.cilk_runs.specs.Traces.{IsWritten}
-use Rattle.cilk_tree.specs.declared.story.Story.{Story}
+use Rattle.cilk_tree.specs.declared.event_order.EventOrder.{EventOrder}
 use Rattle.cilk_tree.specs.Runs.{IsAsked}
 use Rattle.cilk_tree.specs.Word.{event}
-use Rattle.cilk_runs.specs.WorldMachine.{answer_of, has_ended, asked_after, next}
-use Rattle.cilk_runs.specs.Worlds.{World, first_world, child_world, cell_seen, reducer_seen, result_cell}
+use Rattle.cilk_runs.specs.FrameEnvMachine.{answer_of, has_ended, asked_after, next}
+use Rattle.cilk_runs.specs.FrameEnvs.{FrameEnv, first_world, child_world, cell_seen, reducer_seen, result_cell}
 use Rattle.cilk_determinacy.specs.Nested.{named}
 use Rattle.cilk_determinacy.specs.Numbers.{cell_number, instance_number}
 use Rattle.cilk_replay.specs.InputCourses.{Course, act, child, asked_in, IsLike}
 use Rattle.cilk_replay.specs.Frames.{same_frame, course_on}
 use Rattle.cilk_replay.specs.Owned.{makers}
-use Rattle.cilk_replay.specs.Stories.{story_on, IsPlannedRun}
+use Rattle.cilk_replay.specs.EventOrders.{story_on, IsPlannedRun}
 
 -- The frame at hand: what it was started as, what it has done before, and where its first event stands. Then the plan's event, the
 -- course's, and whether the frame asks for it.
@@ -95,7 +95,7 @@ pub record IsPoint {W : Type 0} (next : W → List (Deed W) → Option (Ask W)) 
   pub returns : (v : ℤ) (gone : List Instance) → x.planned ≡ Does (Ends v gone) → (y : Point W) → at (suc i) ≡ Some y → IsReturn at x y
 
 -- of the story of a plan's run on some inputs
-abbrev pub points_on : Source → List ℤ → Transcript → List (Point World)
+abbrev pub points_on : Source → List ℤ → Transcript → List (Point FrameEnv)
 points_on p inputs r = points (first_world p) [] 0 0 (named p r) (course_on p inputs (named p r))
 
 -- what an event answers: what is read, else 0
@@ -106,7 +106,7 @@ answer_in e = pos 0
 
 module _ (p : Source) (r : Transcript) where
   -- The event that comes of what a frame of this program asks for, by the numbers that the run gives to names.
-  abbrev pub IsEventOf : World → language.Ask → numbers.Event → Type 0
+  abbrev pub IsEventOf : FrameEnv → language.Ask → numbers.Event → Type 0
   IsEventOf w asks.Begin e = (f : ℕ) × (e ≡ events.Begin f)
   IsEventOf w (asks.Read x) e = (v : ℤ) × (e ≡ events.Read (cell_number p r (cell_seen w x)) v)
   IsEventOf w (asks.Write x v) e = e ≡ events.Write (cell_number p r (cell_seen w x)) v
@@ -125,14 +125,14 @@ module _ (p : Source) (r : Transcript) where
 
   -- The frame, which has not ended, asks for the event, where its behaviour is asked with the answers that it had so far; and what it
   -- starts is what it asks for.
-  pub record IsAskedBy (inputs : List ℤ) (x : Point World) (here : numbers.Event) : Type 0 where
+  pub record IsAskedBy (inputs : List ℤ) (x : Point FrameEnv) (here : numbers.Event) : Type 0 where
     pub goes_on : has_ended x.past ≡ false
     pub event : IsEventOf x.frame (asked_after p inputs x.frame x.past).ask here
     pub starts : (how : Invocation) (callee : Callee) → (asked_after p inputs x.frame x.past).ask ≡ asks.Invoke how callee
         → x.deed ≡ Invokes how (child_world p x.frame (suc (started x.past)) callee)
 
   -- what the story of these inputs tells at a position
-  pub record IsTold (inputs : List ℤ) (es : List numbers.Event) (s : Story) (i : ℕ) (x : Point World) : Type 0 where
+  pub record IsTold (inputs : List ℤ) (es : List numbers.Event) (s : EventOrder) (i : ℕ) (x : Point FrameEnv) : Type 0 where
     -- the plan's event, and whose frame it is in
     pub plan : (e : numbers.Event) → slice_get es i ≡ Some e → IsWritten (cell_number p r) (instance_number p r) x.planned e
     pub owner : slice_get (makers [] (named p r)) i ≡ Some x.frame.name
@@ -143,15 +143,15 @@ module _ (p : Source) (r : Transcript) where
     pub asked : IsAsked s (suc i) ↔ (x.asked ≡ true)
     pub asks : IsAsked s (suc i) → IsAskedBy inputs x here
 
-  pub record AreTold (inputs : List ℤ) (es : List numbers.Event) (s : Story) : Type 0 where
+  pub record AreTold (inputs : List ℤ) (es : List numbers.Event) (s : EventOrder) : Type 0 where
     pub all : length (points_on p inputs r) ≡ length s.events
     -- the first frame begins
-    pub begins : (x : Point World) → slice_get (points_on p inputs r) 0 ≡ Some x → (x.frame ≡ first_world p) × (x.past ≡ []) × (x.since ≡ 0)
-    pub each : (i : ℕ) (x : Point World) → slice_get (points_on p inputs r) i ≡ Some x
+    pub begins : (x : Point FrameEnv) → slice_get (points_on p inputs r) 0 ≡ Some x → (x.frame ≡ first_world p) × (x.past ≡ []) × (x.since ≡ 0)
+    pub each : (i : ℕ) (x : Point FrameEnv) → slice_get (points_on p inputs r) i ≡ Some x
         → IsPoint (next p inputs) (same_frame p) (slice_get (points_on p inputs r)) i x × IsTold inputs es s i x
 
 -- On all inputs: what each frame has done so far tells whether it asks for the story's next event, and with which values.
-abbrev pub StoriesAreAskedByPositions : Type 0
-StoriesAreAskedByPositions =
+abbrev pub EventOrdersAreAskedByPositions : Type 0
+EventOrdersAreAskedByPositions =
     (p : Source) (inputs others : List ℤ) (r : Transcript) (es : List numbers.Event) (opening : List ℤ)
     → IsPlannedRun p inputs r es opening → AreTold p r others es (story_on p others r es opening)

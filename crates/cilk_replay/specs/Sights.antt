@@ -13,7 +13,7 @@ use Rattle.cilk_monoid.specs.declared.kind.MonoidKind.{MonoidKind}
 use Rattle.cilk_program.specs.Numbering.{Block}
 use Rattle.cilk_program.specs.Visible.{FrameSees}
 use Rattle.cilk_runs.specs.Runs.{Cell, Global}
-use Rattle.cilk_runs.specs.Worlds.{World, Reducers, Sight as Seen, global_named, result_cell}
+use Rattle.cilk_runs.specs.FrameEnvs.{FrameEnv, Reducers, Sight as Seen, global_named, result_cell}
 use Rattle.cilk_determinacy.specs.Numbers.{cell_number, instance_number, HasCell, HasInstance}
 use Rattle.cilk_replay.specs.declared.looked.Looked.{Looked}
 use Rattle.cilk_replay.specs.declared.looked.Looked.TheVariants.{Asked, Differs}
@@ -110,7 +110,7 @@ module _ (p : Source) (r : Transcript) where
   HaveGiven (h ∷ h' ∷ hs) given = (h.given ≡ []) × HaveGiven (h' ∷ hs) given
 
   -- what is known of a frame is what it sees; and all reducers that it can name are the run's
-  pub record Sees (w : World) (s : Sight) : Type 0 where
+  pub record Sees (w : FrameEnv) (s : Sight) : Type 0 where
     pub homes : HaveHomes w.sight (homes_of s)
     pub given : HaveGiven w.sight s.given.items
     pub result : IsNumberOf (result_cell w) s.result

@@ -5,7 +5,7 @@ use Rattle.cilk_program.specs.declared.ask.Ask.{Ask}
 use Rattle.cilk_program.specs.declared.ask.Ask.TheVariants as asks
 use Rattle.cilk_tree.specs.declared.kind.Kind.{Kind}
 use Rattle.cilk_tree.specs.declared.kind.Kind.TheVariants as kinds
-use Rattle.cilk_tree.specs.declared.story.Story.{Story}
+use Rattle.cilk_tree.specs.declared.event_order.EventOrder.{EventOrder}
 use Rattle.cilk_tree.specs.Runs.{IsAsked}
 use Rattle.std.specs.Prelude.{ℕ}
 use Rattle.cilk_replay.specs.declared.looked.Looked.{Looked}
@@ -58,6 +58,6 @@ NamesNothing Print = Unit {0}
 NamesNothing _ = ⊥
 
 -- what a look at the event of this kind at a position says
-abbrev pub Says : Story → ℕ → Kind → Looked → Type 0
+abbrev pub Says : EventOrder → ℕ → Kind → Looked → Type 0
 Says s at k Asked = IsAsked s at
 Says s at k Differs = IsAsked s at → ⊥

@@ -9,8 +9,8 @@ use Rattle.cilk_program.specs.SerialRun.{Transcript}
 use Rattle.cilk_lower.specs.declared.code.Owed.TheVariants.{Nothing}
 use Rattle.cilk_frames.specs.Following.{Stands}
 use Rattle.cilk_runs.specs.Runs.{Deed, Invokes}
-use Rattle.cilk_runs.specs.WorldMachine.{answer_of, answers_of, has_ended}
-use Rattle.cilk_runs.specs.Worlds.{World}
+use Rattle.cilk_runs.specs.FrameEnvMachine.{answer_of, answers_of, has_ended}
+use Rattle.cilk_runs.specs.FrameEnvs.{FrameEnv}
 use Rattle.cilk_replay.specs.Points.{Point}
 use Rattle.cilk_replay.specs.declared.level.Level.{Level}
 use Rattle.cilk_replay.specs.Asking.{HasAsked}
@@ -21,7 +21,7 @@ use Rattle.cilk_replay.specs.Courses.{CourseValue, IsOfProgram, Setting, setting
 pub record Asks (c : Setting) (at : ℕ) (k : Ask) (l : Level) : Type 0 where
   pub behind : ℕ
   pub place : suc behind ≡ at
-  pub point : Point World
+  pub point : Point FrameEnv
   pub is : point_at c behind ≡ Some point
   pub goes_on : has_ended point.past ≡ false
   pub fit : let w = point.frame in CalleeIsFit c.program w.callee
@@ -32,13 +32,13 @@ pub record Asks (c : Setting) (at : ℕ) (k : Ask) (l : Level) : Type 0 where
 pub record Rests (c : Setting) (at : ℕ) (l : Level) : Type 0 where
   pub behind : ℕ
   pub place : suc behind ≡ at
-  pub point : Point World
+  pub point : Point FrameEnv
   pub is : point_at c behind ≡ Some point
   pub goes_on : has_ended point.past ≡ false
   pub fit : let w = point.frame in CalleeIsFit c.program w.callee
   pub sees : Sees c.program c.run point.frame l.sight
-  pub before : List (Deed World)
-  pub last : Deed World
+  pub before : List (Deed FrameEnv)
+  pub last : Deed FrameEnv
   pub past : point.past ≡ before ++ last ∷ []
   pub answer : answer_of last ≡ pos 0
   pub stands : let w = point.frame in Stands c.code c.inputs c.program w.callee l.cursor (answers_of before) l.took
@@ -49,11 +49,11 @@ pub record Rests (c : Setting) (at : ℕ) (l : Level) : Type 0 where
 pub record Waits (c : Setting) (since : ℕ) (l : Level) : Type 0 where
   pub behind : ℕ
   pub place : suc behind ≡ since
-  pub point : Point World
+  pub point : Point FrameEnv
   pub is : point_at c behind ≡ Some point
   pub goes_on : has_ended point.past ≡ false
   pub how : Invocation
-  pub child : World
+  pub child : FrameEnv
   pub started : point.deed ≡ Invokes how child
   pub fit : let w = point.frame in CalleeIsFit c.program w.callee
   pub sees : Sees c.program c.run point.frame l.sight
@@ -65,9 +65,9 @@ pub record Waits (c : Setting) (since : ℕ) (l : Level) : Type 0 where
 pub record IsSpawned (c : Setting) (since : ℕ) : Type 0 where
   pub behind : ℕ
   pub place : suc behind ≡ since
-  pub point : Point World
+  pub point : Point FrameEnv
   pub is : point_at c behind ≡ Some point
-  pub child : World
+  pub child : FrameEnv
   pub started : point.deed ≡ Invokes Spawn child
 
 abbrev pub IsOutermost : Setting → ℕ → Type 0
@@ -100,6 +100,6 @@ pub record IsTheOutermost (c : CourseValue) (at : ℕ) : Type 0 where
   pub of_program : IsOfProgram (setting_of c run)
   pub behind : ℕ
   pub place : suc behind ≡ at
-  pub point : Point World
+  pub point : Point FrameEnv
   pub is : point_at (setting_of c run) behind ≡ Some point
   pub outermost : IsOutermost (setting_of c run) point.since

@@ -8,9 +8,9 @@ use Rattle.cilk_program.specs.declared.ask.Callee.TheVariants as callees
 use Rattle.cilk_program.specs.declared.syntax.Place.TheVariants as places
 use Rattle.cilk_program.specs.SerialRun.{Transcript, stop, act, child}
 use Rattle.cilk_program.specs.WorkedFrames.{filled}
-use Rattle.cilk_tree.specs.declared.story.Story.{Story}
+use Rattle.cilk_tree.specs.declared.event_order.EventOrder.{EventOrder}
 use Rattle.cilk_tree.specs.Planned.{planned}
-use Rattle.cilk_replay.specs.Stories.{story_on}
+use Rattle.cilk_replay.specs.EventOrders.{story_on}
 
 -- int a[7]; int main() { int n = input(0); cilk_for (int i = 0; i < n; i++) { a[i] = i; } return a[6]; }, on 1: one turn, called
 abbrev pub turn : Transcript
@@ -36,12 +36,12 @@ abbrev pub all_zero : List ℤ
 all_zero = pos 0 ∷ pos 0 ∷ pos 0 ∷ pos 0 ∷ pos 0 ∷ pos 0 ∷ pos 0 ∷ pos 0 ∷ pos 0 ∷ []
 
 -- the story of the program on one number along that plan
-abbrev pub filled_on : ℤ → Story
+abbrev pub filled_on : ℤ → EventOrder
 filled_on n = story_on filled (n ∷ []) one_turn one_turn_events all_zero
 
 -- On its own input it is the plan's. On 0 the loop has no turn: at 4 the program asks for the read of `a[6]`, and not for the call. On 2 the
 -- loop is the plan's with another bound: the call is followed, and its frame begins, but at 6 it asks for a spawn, and not for the write of `i`.
-pub record WorkedStories : Type 0 where
+pub record WorkedEventOrders : Type 0 where
   pub own : filled_on (pos 1) ≡ planned one_turn_events all_zero
   pub none : let s = filled_on (pos 0) in
       (take 3 s.events ≡ events.Begin 1 ∷ events.Write 7 (pos 0) ∷ events.Read 7 (pos 0) ∷ []) × (take 4 s.asked ≡ true ∷ true ∷ true ∷ false ∷ [])

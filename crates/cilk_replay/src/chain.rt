@@ -13,8 +13,8 @@ use crate::reducer::{look_at_reducer, reducer_asked};
 use crate::sight::{cell_asked, look_at_cell};
 use crate::sort::{asked_sort, kind_sort};
 use cilk_frames::asked::AskSlot;
-use cilk_frames::brief::Brief;
 use cilk_frames::cursor::Answer;
+use cilk_frames::small_ask::SmallAsk;
 use cilk_tree::kind::Kind;
 use cilk_types::event::{FrameNo, Pos};
 use std::alloc::{AllocError, Global};
@@ -174,7 +174,7 @@ impl Chain {
         let child = Level::begun(alloc, course, &self.asked, home, &self.top.sight)?;
         let caller = mem::replace(&mut *self.top, child);
         self.below.push_reserved(caller);
-        self.asked.put(Brief::Begin);
+        self.asked.put(SmallAsk::Begin);
         self.at += 1;
         Ok(())
     }
@@ -204,7 +204,7 @@ impl Chain {
             top: mem::replace(&mut self.top, child),
             below: mem::replace(&mut self.below, Vec::new(alloc)),
         };
-        self.asked.put(Brief::Begin);
+        self.asked.put(SmallAsk::Begin);
         self.at += 1;
         Ok(rest)
     }

@@ -6,7 +6,7 @@ ghost use Rattle.cilk_replay.specs.Children.{LooksAtBody, body_asked};
 
 use crate::looked::Looked;
 use cilk_frames::asked::AskSlot;
-use cilk_frames::brief::Brief;
+use cilk_frames::small_ask::SmallAsk;
 use cilk_program::program::Body;
 
 /// What the child runs that a frame asks for.
@@ -15,7 +15,7 @@ pub(crate) fn body_asked(asked: &AskSlot) -> Body
 {
     match asked.brief() {
         None => Body::Function(asked.invocation().1.function),
-        Some(Brief::Turns(_, part)) => Body::Loop(part.number),
+        Some(SmallAsk::Turns(_, part)) => Body::Loop(part.number),
         Some(_) => Body::Function(0),
     }
 }

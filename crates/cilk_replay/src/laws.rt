@@ -8,12 +8,12 @@ ghost use Rattle.cilk_replay.specs.InputCourses.{AskedCourseIsSerial, CoursesAre
 ghost use Rattle.cilk_replay.specs.Ends.{InputsRunAlong, NamedRunsAreSerial, RunsWithinLimitsAreWhole};
 ghost use Rattle.cilk_replay.specs.Frames.{AskedCoursesAreSerialRuns, ProgramsHaveOneCourse, SerialRunsAreTheirCourses};
 ghost use Rattle.cilk_replay.specs.Left.{RunsAreElided};
-ghost use Rattle.cilk_replay.specs.Lists.{AskedStoriesAreOfAskedCourses, CoursesAreAlongPlans, InputsThatDepartNowhere};
+ghost use Rattle.cilk_replay.specs.Lists.{AskedEventOrdersAreOfAskedCourses, CoursesAreAlongPlans, InputsThatDepartNowhere};
 ghost use Rattle.cilk_replay.specs.Owned.{EventsAreInTheirFrames};
-ghost use Rattle.cilk_replay.specs.Points.{StoriesAreAskedByPositions};
+ghost use Rattle.cilk_replay.specs.Points.{EventOrdersAreAskedByPositions};
 ghost use Rattle.cilk_replay.specs.InputResumes.{FramesResume};
-ghost use Rattle.cilk_replay.specs.Stories.{OwnStory, StoriesAlongHaveValues};
-ghost use Rattle.cilk_replay.specs.Worked.{WorkedStories};
+ghost use Rattle.cilk_replay.specs.EventOrders.{OwnEventOrder, EventOrdersAlongHaveValues};
+ghost use Rattle.cilk_replay.specs.Worked.{WorkedEventOrders};
 ghost use Rattle.cilk_monoid.specs.Laws.{MonoidStructure};
 ghost use Rattle.cilk_runs.specs.Runs.{Ask, Deed, Instance};
 
@@ -62,7 +62,7 @@ pub fn courses_are_along_plans<W, V>()
 
 /// Where the story of a course asks for the event at each position, each event of the course is asked for.
 pub fn asked_stories_are_of_asked_courses<W>()
-    ensures { AskedStoriesAreOfAskedCourses W }
+    ensures { AskedEventOrdersAreOfAskedCourses W }
 {}
 
 /// At the language, along an orderly plan of a program's serial run: inputs on which the story of a course departs nowhere have a serial
@@ -73,12 +73,12 @@ pub fn inputs_that_depart_nowhere()
 
 /// At the language: on its own inputs the story of a run along its plan is the plan's.
 pub fn own_story()
-    ensures { OwnStory }
+    ensures { OwnEventOrder }
 {}
 
 /// At the language: on all inputs of words the story along the plan of a serial run is along that plan and has values.
 pub fn stories_along_have_values()
-    ensures { StoriesAlongHaveValues }
+    ensures { EventOrdersAlongHaveValues }
 {}
 
 /// At the language: the serial run of a program of words, by names, is a serial run in the sense of courses.
@@ -112,7 +112,7 @@ pub fn events_are_in_their_frames()
 /// At the language, on all inputs, by positions: what a frame has done so far along the story tells whether it asks for the next event, and
 /// with which values; the frame's next event, a child's first, and the caller's next behind a child's `end` stand where the plan has them.
 pub fn stories_are_asked_by_positions()
-    ensures { StoriesAreAskedByPositions }
+    ensures { EventOrdersAreAskedByPositions }
 {}
 
 /// At the language: what a frame asks for right behind a child, called or spawned, is its `resume`. So a run that follows a plan up to there
@@ -123,5 +123,5 @@ pub fn frames_resume()
 
 /// A worked program along the plan of its run on one input: the story on that and on two others, which depart.
 pub fn worked_stories()
-    ensures { WorkedStories }
+    ensures { WorkedEventOrders }
 {}

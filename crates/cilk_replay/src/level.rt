@@ -18,8 +18,8 @@ use crate::course::Course;
 use crate::home::Home;
 use crate::sight::Sight;
 use cilk_frames::asked::AskSlot;
-use cilk_frames::brief::Brief;
 use cilk_frames::cursor::{Answer, Cursor};
+use cilk_frames::small_ask::SmallAsk;
 use cilk_frames::stepping::step_into;
 use cilk_types::limits::MAX_TICKS;
 use std::alloc::{AllocError, Global};
@@ -77,7 +77,7 @@ impl Level {
         let code = course.code();
         let cursor = match asked.brief() {
             None => Cursor::function(alloc, code, asked.invocation().1)?,
-            Some(Brief::Turns(_, part)) => Cursor::turns(alloc, code, part)?,
+            Some(SmallAsk::Turns(_, part)) => Cursor::turns(alloc, code, part)?,
             Some(_) => unreachable!(),
         };
         let sight = Sight::begun(alloc, course.globals(), home, caller, asked)?;

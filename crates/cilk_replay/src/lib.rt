@@ -12,7 +12,7 @@
 //! ```text
 //! let chain = Chain::root(alloc, &course)?;
 //! match chain.ask().brief() {
-//!     Some(Brief::Read(_)) => {
+//!     Some(SmallAsk::Read(_)) => {
 //!         let value = yard.load(&mut segment, cell);
 //!         chain.answer(&course, Answer::Value(value));
 //!     }

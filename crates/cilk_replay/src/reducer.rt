@@ -9,7 +9,7 @@ use crate::home::{Home, ReducerNumber};
 use crate::looked::Looked;
 use crate::sight::Sight;
 use cilk_frames::asked::AskSlot;
-use cilk_frames::brief::Brief;
+use cilk_frames::small_ask::SmallAsk;
 use cilk_program::syntax::{Reducer, ReducerPlace};
 use cilk_types::event::Instance;
 use std::alloc::{AllocError, Global};
@@ -99,10 +99,10 @@ pub(crate) fn reducer_asked(sight: &Sight, asked: &AskSlot) -> ReducerNumber
     ensures { result ≡ reducer_asked (homes_of sight.now) sight.now.given.items asked.now }
 {
     match asked.brief() {
-        Some(Brief::Create(reducer))
-        | Some(Brief::Update(reducer, _))
-        | Some(Brief::Set(reducer, _))
-        | Some(Brief::Value(reducer)) => number(sight, reducer.place),
+        Some(SmallAsk::Create(reducer))
+        | Some(SmallAsk::Update(reducer, _))
+        | Some(SmallAsk::Set(reducer, _))
+        | Some(SmallAsk::Value(reducer)) => number(sight, reducer.place),
         _ => global(0),
     }
 }

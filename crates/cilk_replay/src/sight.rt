@@ -11,7 +11,7 @@ use crate::home::{CellBlock, Home, ReducerNumber};
 use crate::looked::Looked;
 use crate::reducer::{given_outer, given_to};
 use cilk_frames::asked::AskSlot;
-use cilk_frames::brief::Brief;
+use cilk_frames::small_ask::SmallAsk;
 use cilk_program::syntax::Place;
 use cilk_types::event::Cell;
 use std::alloc::{AllocError, Global};
@@ -66,7 +66,7 @@ impl Sight {
                     result,
                 })
             }
-            Some(Brief::Turns(_, part)) => {
+            Some(SmallAsk::Turns(_, part)) => {
                 let result = global(globals, 0);
                 let outer = caller.outer(alloc, part.up)?;
                 let given = given_outer(alloc, &outer, &caller.given)?;
@@ -161,8 +161,10 @@ pub(crate) fn cell_asked(globals: usize, sight: &Sight, asked: &AskSlot) -> Opti
     ensures { result ≡ cell_asked globals sight.now asked.now }
 {
     match asked.brief() {
-        Some(Brief::Read(place)) | Some(Brief::Write(place, _)) => { sight.number(globals, *place) }
-        Some(Brief::Result(_)) => sight.result,
+        Some(SmallAsk::Read(place)) | Some(SmallAsk::Write(place, _)) => {
+            sight.number(globals, *place)
+        }
+        Some(SmallAsk::Result(_)) => sight.result,
         _ => None,
     }
 }

@@ -4,7 +4,7 @@ ghost use Rattle.std.specs.Prelude.{◌≡◌};
 ghost use Rattle.cilk_replay.specs.Sorts.{sort_asked, sort_of, sort_started};
 
 use cilk_frames::asked::AskSlot;
-use cilk_frames::brief::Brief;
+use cilk_frames::small_ask::SmallAsk;
 use cilk_tree::kind::Kind;
 use cilk_types::invocation::Invocation;
 
@@ -46,19 +46,19 @@ pub(crate) fn asked_sort(asked: &AskSlot) -> Sort
         return started(asked.invocation().0);
     };
     match brief {
-        Brief::Begin => Sort::Begin,
-        Brief::Read(_) => Sort::Read,
-        Brief::Write(_, _) | Brief::Result(_) => Sort::Write,
-        Brief::Create(_) => Sort::Create,
-        Brief::Update(_, _) => Sort::Update,
-        Brief::Set(_, _) => Sort::Set,
-        Brief::Value(_) => Sort::Value,
-        Brief::Print(_) => Sort::Print,
-        Brief::Turns(how, _) => started(*how),
-        Brief::Resume => Sort::Resume,
-        Brief::Sync => Sort::Sync,
-        Brief::End(_) => Sort::End,
-        Brief::Fault(_) => Sort::Nothing,
+        SmallAsk::Begin => Sort::Begin,
+        SmallAsk::Read(_) => Sort::Read,
+        SmallAsk::Write(_, _) | SmallAsk::Result(_) => Sort::Write,
+        SmallAsk::Create(_) => Sort::Create,
+        SmallAsk::Update(_, _) => Sort::Update,
+        SmallAsk::Set(_, _) => Sort::Set,
+        SmallAsk::Value(_) => Sort::Value,
+        SmallAsk::Print(_) => Sort::Print,
+        SmallAsk::Turns(how, _) => started(*how),
+        SmallAsk::Resume => Sort::Resume,
+        SmallAsk::Sync => Sort::Sync,
+        SmallAsk::End(_) => Sort::End,
+        SmallAsk::Fault(_) => Sort::Nothing,
     }
 }
 

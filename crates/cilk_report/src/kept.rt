@@ -2,9 +2,9 @@
 
 ghost use Rattle.std.specs.Prelude.{◌≡◌};
 
+use cilk_commands::files::{FileFault, Files};
 use cilk_findings::case::Case;
 use cilk_findings::fault::CaseFault;
-use cilk_commands::files::{FileFault, Files};
 use cilk_messages::words::Origin;
 use std::alloc::{AllocError, Global};
 

@@ -53,8 +53,8 @@ mod words;
 
 pub use explaining::{of_answer, of_failure};
 pub use flags::unflagged;
-pub use serving::{follow, serve_explained};
 pub use kept::{CaseTexts, Keeps, Kept, KeptFiles};
+pub use serving::{follow, serve_explained};
 pub use text::text_of;
 pub use totals::totals_of;
 pub use words::{asks, behind_first, is_help, is_measure, run_of, run_words, usage_of_measure};

@@ -1,11 +1,11 @@
 //! What a run takes besides its totals: a row for each function and loop.
 
-use cilk_messages::place::{Location, locate};
 use cilk_findings::case::Case;
 use cilk_findings::fault::CaseFault;
+use cilk_findings::map::BodyMap;
 use cilk_findings::runs::Run;
 use cilk_findings::shares::{Share, shares};
-use cilk_findings::map::BodyMap;
+use cilk_messages::place::{Location, locate};
 use cilk_program::program::Body;
 use std::alloc::{AllocError, Global};
 

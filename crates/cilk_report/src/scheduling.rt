@@ -10,13 +10,13 @@ use crate::explaining::{of_answer, of_failure, race_of, texts_of};
 use crate::flags::unflagged;
 use crate::help::usage_of_schedule;
 use crate::serving::{follow, tell_text};
-use cilk_checker::refusal::Refusal;
-use cilk_findings::fault::CaseFault;
 use crate::{Keeps, Kept, asks, behind_first, is_help};
-use cilk_races::races::script_of_race;
+use cilk_checker::refusal::Refusal;
 use cilk_commands::reply::{Answer, Failure};
 use cilk_commands::{carry_out, complain, show};
+use cilk_findings::fault::CaseFault;
 use cilk_messages::words::{Order, WordsFault, read};
+use cilk_races::races::script_of_race;
 use std::alloc::{AllocError, Global};
 use std::io::{Read, Write};
 

@@ -12,13 +12,13 @@ use crate::explaining::{of_answer, of_failure};
 use crate::flags::unflagged;
 use crate::help::{EXPLAIN, advice};
 use crate::scheduling::{is_schedule, serve_schedule};
-use cilk_findings::fault::CaseFault;
 use crate::{
     Keeps, Kept, asks, is_measure, run_of, run_words, text_of, totals_of, usage_of_measure,
 };
 use cilk_commands::reply::{Failure, NO_MEMORY, WRONG};
 use cilk_commands::streams::send;
 use cilk_commands::{Served, carry_out, complain, show, tell};
+use cilk_findings::fault::CaseFault;
 use cilk_messages::words::{Order, Origin, WordsFault, read};
 use std::alloc::{AllocError, Global};
 use std::io::{Read, Write};

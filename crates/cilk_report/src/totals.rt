@@ -6,10 +6,10 @@ ghost use Rattle.cilk_commands.specs.Replies.{failure_view};
 ghost use Rattle.cilk_commands.specs.Serving.{RunReply, world};
 ghost use Rattle.cilk_messages.specs.Words.{origin_view};
 
-use cilk_findings::totals::{Totals, measure};
 use cilk_commands::files::Files;
 use cilk_commands::reply::Failure;
 use cilk_commands::{given, stopped};
+use cilk_findings::totals::{Totals, measure};
 use cilk_messages::words::Origin;
 use std::alloc::Global;
 use std::io::Read;

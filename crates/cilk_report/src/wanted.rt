@@ -1,7 +1,7 @@
 //! What the grammar has at a place: each token is put there, and the parser says whether it goes on.
 
+use cilk_parser::fault::{SyntaxErrorKind, TextFault};
 use cilk_parser::parse::parse;
-use cilk_parser::fault::{TextFault, TextNumber};
 use cilk_types::limits::MAX_TEXT;
 use std::alloc::{AllocError, Global};
 
@@ -34,7 +34,7 @@ impl Trial {
         self.text.extend_from_slice(token.as_bytes())?;
         match parse(self.alloc, self.text.as_slice()) {
             Err(TextFault::Memory) => Err(AllocError),
-            Err(TextFault::At(TextNumber::Unexpected, place)) => Ok(
+            Err(TextFault::At(SyntaxErrorKind::Unexpected, place)) => Ok(
                 place > self.at.saturating_add(1),
             ),
             _ => Ok(true),

@@ -20,12 +20,12 @@ use Rattle.cilk_runs.specs.Monoids.{numbers_of}
 use Rattle.cilk_runs.proofs.Basics.{same_name-refl, same_name-eq}
 use Rattle.cilk_runs.proofs.Started.{started_does, started_invokes}
 use Rattle.cilk_runs.specs.Held.{HoldsViews, WishIsSound, AskIsSound, StepsKeepViews}
-use Rattle.cilk_runs.specs.WorldMachine.{costs}
+use Rattle.cilk_runs.specs.FrameEnvMachine.{costs}
 use Rattle.cilk_runs.specs.Reducers.{View, views_of, kind_of, monoid_of}
 use Rattle.cilk_runs.specs.Steps.{Next, IsFirst, OneStep}
-use Rattle.cilk_runs.specs.WorldViews.{IsViewOf}
-use Rattle.cilk_runs.specs.Worlds.{World}
-use Rattle.cilk_runs.proofs.WorldViews.{are_multiplied}
+use Rattle.cilk_runs.specs.FrameEnvViews.{IsViewOf}
+use Rattle.cilk_runs.specs.FrameEnvs.{FrameEnv}
+use Rattle.cilk_runs.proofs.FrameEnvViews.{are_multiplied}
 
 -- ---- views
 
@@ -47,12 +47,12 @@ module _ (k : MonoidKind) where
   has_cond false v w h g = g
 
   -- where the frame found is one of the two, so is the view
-  picked : (b : Bool) (x y : Option (Frame World)) (v w : View) (g : Frame World) → cond b x y ≡ Some g → HasView k v → (y ≡ Some g → HasView k w) → HasView k (cond b v w)
+  picked : (b : Bool) (x y : Option (Frame FrameEnv)) (v w : View) (g : Frame FrameEnv) → cond b x y ≡ Some g → HasView k v → (y ≡ Some g → HasView k w) → HasView k (cond b v w)
   picked true x y v w g q h later = h
   picked false x y v w g q h later = later q
 
   module _ (kid : ℕ → View) (loose : ℕ → Bool) where
-    block_has : (acc : View) (j : ℕ) (ds : List (Deed World)) → HasView k acc → ((h : ℕ) → j ≤ h → h < j + started ds → HasView k (kid h)) → HasView k (block_view (views_of k) kid loose acc j ds)
+    block_has : (acc : View) (j : ℕ) (ds : List (Deed FrameEnv)) → HasView k acc → ((h : ℕ) → j ≤ h → h < j + started ds → HasView k (kid h)) → HasView k (block_view (views_of k) kid loose acc j ds)
     block_has acc j [] a g = a
     block_has acc j (Does (Reads c v) ∷ ds) a g = block_has acc j ds a g
     block_has acc j (Does (Writes c v) ∷ ds) a g = block_has acc j ds a g
@@ -80,13 +80,13 @@ wish_has i number block last v loose (Print x) k s h g =
 -- ---- one more deed of frame n
 
 -- one of two frames is there
-either_there : (b : Bool) (x : Frame World) (y : Option (Frame World)) (g : Frame World) → y ≡ Some g → (h : Frame World) × (cond b (Some x) y ≡ Some h)
+either_there : (b : Bool) (x : Frame FrameEnv) (y : Option (Frame FrameEnv)) (g : Frame FrameEnv) → y ≡ Some g → (h : Frame FrameEnv) × (cond b (Some x) y ≡ Some h)
 either_there true x y g q = (x, refl)
 either_there false x y g q = (g, q)
 
-module _ (frames : Frames World) (piece : Name → Instance → View) (stolen : Name → Bool) (n : Name) (f : Frame World) (here : frames n ≡ Some f)
-    (views : (m : Name) (g : Frame World) (i : Instance) → frames m ≡ Some g → HasView (kind_of i) (piece m i))
-    (children : (m : Name) (g : Frame World) (k : ℕ) → frames m ≡ Some g → 1 ≤ k → k ≤ started g.deeds → (h : Frame World) × (frames (m ++ k ∷ []) ≡ Some h)) where
+module _ (frames : Frames FrameEnv) (piece : Name → Instance → View) (stolen : Name → Bool) (n : Name) (f : Frame FrameEnv) (here : frames n ≡ Some f)
+    (views : (m : Name) (g : Frame FrameEnv) (i : Instance) → frames m ≡ Some g → HasView (kind_of i) (piece m i))
+    (children : (m : Name) (g : Frame FrameEnv) (k : ℕ) → frames m ≡ Some g → 1 ≤ k → k ≤ started g.deeds → (h : Frame FrameEnv) × (frames (m ++ k ∷ []) ≡ Some h)) where
   kid_has : (i : Instance) (k : ℕ) → 1 ≤ k → k ≤ started f.deeds → HasView (kind_of i) (piece (n ++ k ∷ []) i)
   kid_has i k low high = let c = children n f k here low high in views (n ++ k ∷ []) c.0 i c.1
 
@@ -99,8 +99,8 @@ module _ (frames : Frames World) (piece : Name → Instance → View) (stolen : 
       block_has (kind_of i) (λ k. piece (n ++ k ∷ []) i) (λ k. stolen (n ++ k ∷ [])) ((views_of (kind_of i)).unit) 1 f.deeds (has_unit (kind_of i)) (λ k low high. kid_has i k low (omega arith))
 
   -- after the deed each frame that is there holds views
-  abbrev Leaves : Deed World → Type 0
-  Leaves d = (m : Name) (g : Frame World) (i : Instance) → after_deed frames n f d m ≡ Some g → HasView (kind_of i) (after_views (monoid_of i) i stolen n f.deeds d (λ z. piece z i) m)
+  abbrev Leaves : Deed FrameEnv → Type 0
+  Leaves d = (m : Name) (g : Frame FrameEnv) (i : Instance) → after_deed frames n f d m ≡ Some g → HasView (kind_of i) (after_views (monoid_of i) i stolen n f.deeds d (λ z. piece z i) m)
 
   abbrev own : (i : Instance) → Event → View
   own i e =
@@ -110,7 +110,7 @@ module _ (frames : Frames World) (piece : Name → Instance → View) (stolen : 
   does_leaves e mine m g i q =
       picked (kind_of i) (same_name n m) (Some (record f { deeds = f.deeds ++ Does e ∷ [] })) (frames m) (own i e) (piece m i) g q (mine i) (views m g i)
 
-  invokes_leaves : (k : Invocation) (w : World) → Leaves (Invokes k w)
+  invokes_leaves : (k : Invocation) (w : FrameEnv) → Leaves (Invokes k w)
   invokes_leaves k w m g i q =
       picked (kind_of i) (same_name (n ++ suc (started f.deeds) ∷ []) m) (Some (begun w)) (cond (same_name n m) (Some (record f { deeds = f.deeds ++ Invokes k w ∷ [] })) (frames m)) (piece n i) (piece m i) g q
       (views n f i here) (old (same_name n m) refl)
@@ -119,7 +119,7 @@ module _ (frames : Frames World) (piece : Name → Instance → View) (stolen : 
       old true e r = subst (λ z. HasView (kind_of i) (piece z i)) (same_name-eq n m e) (views n f i here)
       old false e r = views m g i r
 
-  ask_leaves : (memory : Cell → ℤ) (number : Instance → ℤ) (a : Ask World) → AskIsSound a f.deeds → Leaves (deed_of memory number a)
+  ask_leaves : (memory : Cell → ℤ) (number : Instance → ℤ) (a : Ask FrameEnv) → AskIsSound a f.deeds → Leaves (deed_of memory number a)
   ask_leaves memory number (Read c) s = does_leaves (Reads c (memory c)) (λ i. views n f i here)
   ask_leaves memory number (Write c v) s = does_leaves (Writes c v) (λ i. views n f i here)
   ask_leaves memory number (Invoke k w) s = invokes_leaves k w
@@ -130,22 +130,22 @@ module _ (frames : Frames World) (piece : Name → Instance → View) (stolen : 
   ask_leaves memory number (Fail x) s = does_leaves (Passes Begins) (λ i. views n f i here)
 
   -- a frame that is there stays
-  stays : (d : Deed World) (m : Name) (g : Frame World) → frames m ≡ Some g → (h : Frame World) × (after_deed frames n f d m ≡ Some h)
+  stays : (d : Deed FrameEnv) (m : Name) (g : Frame FrameEnv) → frames m ≡ Some g → (h : Frame FrameEnv) × (after_deed frames n f d m ≡ Some h)
   stays (Does e) m g q = either_there (same_name n m) (record f { deeds = f.deeds ++ Does e ∷ [] }) (frames m) g q
   stays (Invokes k w) m g q =
       let one = either_there (same_name n m) (record f { deeds = f.deeds ++ Invokes k w ∷ [] }) (frames m) g q in
       either_there (same_name (n ++ suc (started f.deeds) ∷ []) m) (begun w) (cond (same_name n m) (Some (record f { deeds = f.deeds ++ Invokes k w ∷ [] })) (frames m)) one.0 one.1
 
-  old_child : (d : Deed World) (m : Name) (g : Frame World) (k : ℕ) → frames m ≡ Some g → 1 ≤ k → k ≤ started g.deeds → (h : Frame World) × (after_deed frames n f d (m ++ k ∷ []) ≡ Some h)
+  old_child : (d : Deed FrameEnv) (m : Name) (g : Frame FrameEnv) (k : ℕ) → frames m ≡ Some g → 1 ≤ k → k ≤ started g.deeds → (h : Frame FrameEnv) × (after_deed frames n f d (m ++ k ∷ []) ≡ Some h)
   old_child d m g k q low high = let c = children m g k q low high in stays d (m ++ k ∷ []) c.0 c.1
 
-  new_child : (k : Invocation) (w : World) → (h : Frame World) × (after_deed frames n f (Invokes k w) (n ++ suc (started f.deeds) ∷ []) ≡ Some h)
+  new_child : (k : Invocation) (w : FrameEnv) → (h : Frame FrameEnv) × (after_deed frames n f (Invokes k w) (n ++ suc (started f.deeds) ∷ []) ≡ Some h)
   new_child k w = let c = n ++ suc (started f.deeds) ∷ [] in (begun w, cond-true (same_name c c) (Some (begun w)) _ (same_name-refl c))
 
-  children_after : (d : Deed World) (m : Name) (g : Frame World) (k : ℕ) → after_deed frames n f d m ≡ Some g → 1 ≤ k → k ≤ started g.deeds → (h : Frame World) × (after_deed frames n f d (m ++ k ∷ []) ≡ Some h)
+  children_after : (d : Deed FrameEnv) (m : Name) (g : Frame FrameEnv) (k : ℕ) → after_deed frames n f d m ≡ Some g → 1 ≤ k → k ≤ started g.deeds → (h : Frame FrameEnv) × (after_deed frames n f d (m ++ k ∷ []) ≡ Some h)
   children_after (Does e) m g k q low high = by (same_name n m) refl q
     where
-      by : (b : Bool) → same_name n m ≡ b → cond b (Some (record f { deeds = f.deeds ++ Does e ∷ [] })) (frames m) ≡ Some g → (h : Frame World) × (after_deed frames n f (Does e) (m ++ k ∷ []) ≡ Some h)
+      by : (b : Bool) → same_name n m ≡ b → cond b (Some (record f { deeds = f.deeds ++ Does e ∷ [] })) (frames m) ≡ Some g → (h : Frame FrameEnv) × (after_deed frames n f (Does e) (m ++ k ∷ []) ≡ Some h)
       by true s r =
           let same : f.deeds ++ Does e ∷ [] ≡ g.deeds = ap deeds_at r in
           let few : started f.deeds ≡ started g.deeds = sym (started_does f.deeds e) ∙ ap started same in
@@ -153,21 +153,21 @@ module _ (frames : Frames World) (piece : Name → Instance → View) (stolen : 
       by false s r = old_child (Does e) m g k r low high
   children_after (Invokes i w) m g k q low high = by (same_name (n ++ suc (started f.deeds) ∷ []) m) refl q
     where
-      inner : (b : Bool) → same_name n m ≡ b → cond b (Some (record f { deeds = f.deeds ++ Invokes i w ∷ [] })) (frames m) ≡ Some g → (h : Frame World) × (after_deed frames n f (Invokes i w) (m ++ k ∷ []) ≡ Some h)
+      inner : (b : Bool) → same_name n m ≡ b → cond b (Some (record f { deeds = f.deeds ++ Invokes i w ∷ [] })) (frames m) ≡ Some g → (h : Frame FrameEnv) × (after_deed frames n f (Invokes i w) (m ++ k ∷ []) ≡ Some h)
       inner true s r =
           let same : f.deeds ++ Invokes i w ∷ [] ≡ g.deeds = ap deeds_at r in
           let few : suc (started f.deeds) ≡ started g.deeds = sym (started_invokes f.deeds i w) ∙ ap started same in
           let is = same_name-eq n m s in
           ⊎_elim
           (λ less. old_child (Invokes i w) m f k (subst (λ z. frames z ≡ Some f) is here) low less)
-          (λ last. subst (λ z. (h : Frame World) × (after_deed frames n f (Invokes i w) z ≡ Some h)) (λ t. is t ++ last t ∷ []) (new_child i w))
+          (λ last. subst (λ z. (h : Frame FrameEnv) × (after_deed frames n f (Invokes i w) z ≡ Some h)) (λ t. is t ++ last t ∷ []) (new_child i w))
           (upto few)
         where
           upto : suc (started f.deeds) ≡ started g.deeds → (k ≤ started f.deeds) ⊎ (suc (started f.deeds) ≡ k)
           upto few = ⊎_elim (λ less. inl (omega (arith, less))) (λ past. inr (omega (arith, past, few, high))) (cases_lt k (suc (started f.deeds)))
       inner false s r = old_child (Invokes i w) m g k r low high
 
-      by : (b : Bool) → same_name (n ++ suc (started f.deeds) ∷ []) m ≡ b → cond b (Some (begun w)) (cond (same_name n m) (Some (record f { deeds = f.deeds ++ Invokes i w ∷ [] })) (frames m)) ≡ Some g → (h : Frame World) × (after_deed frames n f (Invokes i w) (m ++ k ∷ []) ≡ Some h)
+      by : (b : Bool) → same_name (n ++ suc (started f.deeds) ∷ []) m ≡ b → cond b (Some (begun w)) (cond (same_name n m) (Some (record f { deeds = f.deeds ++ Invokes i w ∷ [] })) (frames m)) ≡ Some g → (h : Frame FrameEnv) × (after_deed frames n f (Invokes i w) (m ++ k ∷ []) ≡ Some h)
       by true s r =
           let none : [] ≡ g.deeds = ap deeds_at r in
           let few : 0 ≡ started g.deeds = ap started none in
@@ -177,43 +177,43 @@ module _ (frames : Frames World) (piece : Name → Instance → View) (stolen : 
 -- ---- steps
 
 module _ (p : Source) (inputs : List ℤ) where
-  opening_holds : (s : State World View) → IsFirst p inputs s → HoldsViews s
+  opening_holds : (s : State FrameEnv View) → IsFirst p inputs s → HoldsViews s
   opening_holds s o = record { views = views; children = children }
     where
-      views : (n : Name) (f : Frame World) (i : Instance) → s.frames n ≡ Some f → HasView (kind_of i) (s.piece n i)
+      views : (n : Name) (f : Frame FrameEnv) (i : Instance) → s.frames n ≡ Some f → HasView (kind_of i) (s.piece n i)
       views [] f i q = subst (HasView (kind_of i)) (sym (o.5 i)) (has_unit (kind_of i))
       views (j ∷ n) f i q = let none : None ≡ Some f = sym (o.0 (j ∷ n)) ∙ q in absurd (cc)
 
-      children : (n : Name) (f : Frame World) (k : ℕ) → s.frames n ≡ Some f → 1 ≤ k → k ≤ started f.deeds → (g : Frame World) × (s.frames (n ++ k ∷ []) ≡ Some g)
+      children : (n : Name) (f : Frame FrameEnv) (k : ℕ) → s.frames n ≡ Some f → 1 ≤ k → k ≤ started f.deeds → (g : Frame FrameEnv) × (s.frames (n ++ k ∷ []) ≡ Some g)
       children [] f k q low high =
           let none : f.deeds ≡ [] = ap deeds_at (sym q ∙ o.0 []) in
           let few : started f.deeds ≡ 0 = ap started none in
           absurd (omega (arith, few, low, high))
       children (j ∷ n) f k q low high = let none : None ≡ Some f = sym (o.0 (j ∷ n)) ∙ q in absurd (cc)
 
-  makes_holds : (s s' : State World View) (n : Name) → HoldsViews s → (m : Makes World View monoid_of (Next p inputs) (costs p inputs) s n s') → AskIsSound m.ask m.frame.deeds → HoldsViews s'
+  makes_holds : (s s' : State FrameEnv View) (n : Name) → HoldsViews s → (m : Makes FrameEnv View monoid_of (Next p inputs) (costs p inputs) s n s') → AskIsSound m.ask m.frame.deeds → HoldsViews s'
   makes_holds s s' n h m sound =
       let d = deed_of s.memory (numbers_of monoid_of (s.piece n)) m.ask in
       record {
         views = λ z g i q.
             subst (HasView (kind_of i)) (sym (m.piece i z))
-            (ask_leaves s.frames s.piece s.stolen n m.frame m.asking.here h.views h.children s.memory (numbers_of monoid_of (s.piece n)) m.ask sound z g i (sym (ap (λ (t : Frames World). t z) m.frames) ∙ q));
+            (ask_leaves s.frames s.piece s.stolen n m.frame m.asking.here h.views h.children s.memory (numbers_of monoid_of (s.piece n)) m.ask sound z g i (sym (ap (λ (t : Frames FrameEnv). t z) m.frames) ∙ q));
         children = λ z g k q low high.
-            let c = children_after s.frames s.piece s.stolen n m.frame m.asking.here h.views h.children d z g k (sym (ap (λ (t : Frames World). t z) m.frames) ∙ q) low high in
-            (c.0, ap (λ (t : Frames World). t (z ++ k ∷ [])) m.frames ∙ c.1);
+            let c = children_after s.frames s.piece s.stolen n m.frame m.asking.here h.views h.children d z g k (sym (ap (λ (t : Frames FrameEnv). t z) m.frames) ∙ q) low high in
+            (c.0, ap (λ (t : Frames FrameEnv). t (z ++ k ∷ [])) m.frames ∙ c.1);
       }
 
-  steals_holds : (s s' : State World View) (n : Name) → HoldsViews s → Steals World View monoid_of (Next p inputs) (costs p inputs) s n s' → HoldsViews s'
+  steals_holds : (s s' : State FrameEnv View) (n : Name) → HoldsViews s → Steals FrameEnv View monoid_of (Next p inputs) (costs p inputs) s n s' → HoldsViews s'
   steals_holds s s' n h m = record {
     views = λ z g i q.
         subst (HasView (kind_of i)) (sym (m.piece i z))
-        (has_cond (kind_of i) (same_name n z) ((views_of (kind_of i)).unit) (s.piece z i) (has_unit (kind_of i)) (h.views z g i (sym (ap (λ (t : Frames World). t z) m.frames) ∙ q)));
+        (has_cond (kind_of i) (same_name n z) ((views_of (kind_of i)).unit) (s.piece z i) (has_unit (kind_of i)) (h.views z g i (sym (ap (λ (t : Frames FrameEnv). t z) m.frames) ∙ q)));
     children = λ z g k q low high.
-        let c = h.children z g k (sym (ap (λ (t : Frames World). t z) m.frames) ∙ q) low high in
-        (c.0, ap (λ (t : Frames World). t (z ++ k ∷ [])) m.frames ∙ c.1);
+        let c = h.children z g k (sym (ap (λ (t : Frames FrameEnv). t z) m.frames) ∙ q) low high in
+        (c.0, ap (λ (t : Frames FrameEnv). t (z ++ k ∷ [])) m.frames ∙ c.1);
   }
 
-  stops_holds : (s s' : State World View) (n : Name) → HoldsViews s → Stops World View monoid_of (Next p inputs) (costs p inputs) s n s' → HoldsViews s'
+  stops_holds : (s s' : State FrameEnv View) (n : Name) → HoldsViews s → Stops FrameEnv View monoid_of (Next p inputs) (costs p inputs) s n s' → HoldsViews s'
   stops_holds s s' n h m = subst HoldsViews (sym m.after) (record { views = h.views; children = h.children })
 
   pub views_kept : StepsKeepViews p inputs

@@ -5,16 +5,16 @@ use Rattle.cilk_types.specs.Word.{IsWord}
 use Rattle.cilk_program.specs.Syntax.{Source}
 use Rattle.cilk_runs.specs.Runs.{Name, Instance, Wish, Begin, Resume, Create, Update, Set, Value, Print, Ask, Read, Write, Invoke, Sync, End, Pass, Fail, Deed}
 use Rattle.cilk_runs.specs.Machine.{Frame, State, started, IsAsking}
-use Rattle.cilk_runs.specs.WorldMachine.{costs}
+use Rattle.cilk_runs.specs.FrameEnvMachine.{costs}
 use Rattle.cilk_runs.specs.Reducers.{View, kind_of, monoid_of}
 use Rattle.cilk_runs.specs.Steps.{Next, IsFirst, OneStep}
-use Rattle.cilk_runs.specs.WorldViews.{IsViewOf}
-use Rattle.cilk_runs.specs.Worlds.{World}
+use Rattle.cilk_runs.specs.FrameEnvViews.{IsViewOf}
+use Rattle.cilk_runs.specs.FrameEnvs.{FrameEnv}
 
 -- Each view in the piece of each frame is a view of the language, of its reducer's monoid; and the children that a frame has started are there.
-pub record HoldsViews (s : State World View) : Type 0 where
-  pub views : (n : Name) (f : Frame World) (i : Instance) → s.frames n ≡ Some f → (x : ViewValue) × IsViewOf (kind_of i) (s.piece n i) x
-  pub children : (n : Name) (f : Frame World) (k : ℕ) → s.frames n ≡ Some f → 1 ≤ k → k ≤ started f.deeds → (g : Frame World) × (s.frames (n ++ k ∷ []) ≡ Some g)
+pub record HoldsViews (s : State FrameEnv View) : Type 0 where
+  pub views : (n : Name) (f : Frame FrameEnv) (i : Instance) → s.frames n ≡ Some f → (x : ViewValue) × IsViewOf (kind_of i) (s.piece n i) x
+  pub children : (n : Name) (f : Frame FrameEnv) (k : ℕ) → s.frames n ≡ Some f → 1 ≤ k → k ≤ started f.deeds → (g : Frame FrameEnv) × (s.frames (n ++ k ∷ []) ≡ Some g)
 
 -- What is put into a view is a word; and a frame that has started so many children resumes only after one.
 abbrev pub WishIsSound : Wish → ℕ → Type 0
@@ -27,7 +27,7 @@ WishIsSound (Value i) k = Unit {0}
 WishIsSound (Print v) k = IsWord v
 
 -- the same of what a frame with this history asks for
-abbrev pub AskIsSound : Ask World → List (Deed World) → Type 0
+abbrev pub AskIsSound : Ask FrameEnv → List (Deed FrameEnv) → Type 0
 AskIsSound (Read c) past = Unit {0}
 AskIsSound (Write c v) past = Unit {0}
 AskIsSound (Invoke k w) past = Unit {0}
@@ -38,6 +38,6 @@ AskIsSound (Fail f) past = Unit {0}
 
 -- frames hold views as a program begins, and after each step by which a frame asks so
 pub record StepsKeepViews (p : Source) (inputs : List ℤ) : Type 0 where
-  pub opens : (s : State World View) → IsFirst p inputs s → HoldsViews s
-  pub keeps : (s s' : State World View) (n : Name) → HoldsViews s → ((f : Frame World) (a : Ask World) → IsAsking World View monoid_of (Next p inputs) (costs p inputs) s n f a → AskIsSound a f.deeds)
+  pub opens : (s : State FrameEnv View) → IsFirst p inputs s → HoldsViews s
+  pub keeps : (s s' : State FrameEnv View) (n : Name) → HoldsViews s → ((f : Frame FrameEnv) (a : Ask FrameEnv) → IsAsking FrameEnv View monoid_of (Next p inputs) (costs p inputs) s n f a → AskIsSound a f.deeds)
       → OneStep p inputs s n s' → HoldsViews s'

@@ -12,11 +12,11 @@ use Rattle.cilk_runs.specs.Machine.{State, deeds_at, Step, Steps, IsOpening}
 use Rattle.cilk_runs.specs.Progress.{HasProgress}
 use Rattle.cilk_runs.specs.Theorem.{follows}
 use Rattle.cilk_runs.specs.Reducers.{View, value_of, monoid_of, elements_of}
-use Rattle.cilk_runs.specs.Worlds.{World, first_world, global_named}
-use Rattle.cilk_runs.specs.WorldMachine.{next, costs, opening_values}
+use Rattle.cilk_runs.specs.FrameEnvs.{FrameEnv, first_world, global_named}
+use Rattle.cilk_runs.specs.FrameEnvMachine.{next, costs, opening_values}
 
 -- what a frame's end gave
-abbrev pub result_in : List (Deed World) → ℤ
+abbrev pub result_in : List (Deed FrameEnv) → ℤ
 result_in [] = pos 0
 result_in (Does (Reads c v) ∷ ds) = result_in ds
 result_in (Does (Writes c v) ∷ ds) = result_in ds
@@ -31,7 +31,7 @@ finals_in views n [] = []
 finals_in views n (k ∷ ks) = final_of (value_of k (views (global_named n k))) ∷ finals_in views (suc n) ks
 
 -- what a state of the free machine has made of a program whose first frame has ended
-abbrev pub outcome_in : Source → State World View → Outcome
+abbrev pub outcome_in : Source → State FrameEnv View → Outcome
 outcome_in p s = record {
   result = result_in (deeds_at (s.frames []));
   globals = cells_from 0 (length p.openings) (λ n. s.memory (Global n));
@@ -41,19 +41,19 @@ outcome_in p s = record {
 
 module _ (p : Source) (inputs : List ℤ) where
   -- what a frame asks for next
-  abbrev pub Next : World → List (Deed World) → Ask World → Type 0
+  abbrev pub Next : FrameEnv → List (Deed FrameEnv) → Ask FrameEnv → Type 0
   Next = follows (next p inputs)
 
-  abbrev pub IsFirst : State World View → Type 0
-  IsFirst s = IsOpening World View monoid_of Next (costs p inputs) (first_world p) (opening_values p inputs) s
+  abbrev pub IsFirst : State FrameEnv View → Type 0
+  IsFirst s = IsOpening FrameEnv View monoid_of Next (costs p inputs) (first_world p) (opening_values p inputs) s
 
-  abbrev pub OneStep : State World View → Name → State World View → Type 0
-  OneStep s n s' = Step World View monoid_of Next (costs p inputs) s n s'
+  abbrev pub OneStep : State FrameEnv View → Name → State FrameEnv View → Type 0
+  OneStep s n s' = Step FrameEnv View monoid_of Next (costs p inputs) s n s'
 
   -- lists of steps lead there from the opening state
-  abbrev pub Reaches : List Name → State World View → Type 0
-  Reaches ns s' = (s : State World View) × IsFirst s × Steps World View monoid_of Next (costs p inputs) ns s s'
+  abbrev pub Reaches : List Name → State FrameEnv View → Type 0
+  Reaches ns s' = (s : State FrameEnv View) × IsFirst s × Steps FrameEnv View monoid_of Next (costs p inputs) ns s s'
 
   -- the machine makes the steps that the program's behaviour asks for
   abbrev pub MachineHasProgress : Type 0
-  MachineHasProgress = HasProgress World View monoid_of Next (costs p inputs)
+  MachineHasProgress = HasProgress FrameEnv View monoid_of Next (costs p inputs)

@@ -2,7 +2,7 @@
 
 ghost use Rattle.std.specs.Prelude.{ℤ, List};
 ghost use Rattle.cilk_program.specs.Syntax.{Source};
-ghost use Rattle.cilk_runs.specs.KeptWorld.{NextIsNamed};
+ghost use Rattle.cilk_runs.specs.KeptFrameEnv.{NextIsNamed};
 
 /// A scheduler keeps a frame's cursor and the ticks that the frame took itself. Where it hands the cursor the answer to the
 /// frame's last event, and all the ticks of a run but those, the ask that the cursor comes to is the one that the free machine's

@@ -46,7 +46,7 @@
 //! continuation beside a spawned child may be stolen, over any behaviour. This crate says what that machine is for a program of
 //! the language (`cilk_program`), without races or serial runs, so that a scheduler can be said to make its steps.
 //!
-//! * **Names** (`specs/Worlds`, `specs/Reducers`). A frame is known by its path from the first frame, a frame's cell by the
+//! * **Names** (`specs/FrameEnvs`, `specs/Reducers`). A frame is known by its path from the first frame, a frame's cell by the
 //!   frame and its place, a reducer by the frame that created it, its place and its monoid. No schedule changes these. A frame
 //!   sees others' cells and reducers by its static links, and is started as what it runs with what it sees.
 //! * **The machine** (`specs/Machine`, `specs/Steps`). A frame asks what the language's behaviour asks after its answers, with
@@ -59,7 +59,7 @@
 #![tactic(auto)]
 
 pub mod cursors;
+pub mod env_laws;
 pub mod laws;
 pub mod pieces;
 pub mod stretches;
-pub mod world_laws;

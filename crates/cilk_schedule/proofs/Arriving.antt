@@ -11,9 +11,9 @@ use Rattle.cilk_join.specs.Products.{product}
 use Rattle.cilk_join.specs.Waits.{shown}
 use Rattle.cilk_scheduler.specs.Events.{Arrives}
 use Rattle.cilk_scheduler.specs.Parts.{Alone, Brought, BringsOwn, Passed}
-use Rattle.cilk_scheduler.specs.Seats.{changed}
-use Rattle.cilk_scheduler.specs.declared.seat.Seat.{Seat}
-use Rattle.cilk_scheduler.specs.declared.seat.Worker.{Worker}
+use Rattle.cilk_scheduler.specs.FrameStates.{changed}
+use Rattle.cilk_scheduler.specs.declared.frame_state.FrameState.{FrameState}
+use Rattle.cilk_scheduler.specs.declared.frame_state.Worker.{Worker}
 use Rattle.cilk_scheduler.proofs.Placed.{get_some}
 use Rattle.cilk_scheduler.proofs.Viewing.{viewing_own}
 use Rattle.cilk_schedule.specs.Passing.{PieceComes, ComesTo, OwnComes, Arrived, Unstolen}
@@ -28,11 +28,11 @@ changed_same [] k a at = refl
 changed_same {C} (x ∷ list) zero a at = let same : a ≡ x = (let q : Some x ≡ Some a = at in cc) in ap (λ (z : Activation C). record x { cursor = z.cursor } ∷ list) same
 changed_same (x ∷ list) (suc k) a at = ap (λ l. x ∷ l) (changed_same list k a at)
 
-own_brings : (x : Seat) (key : ℕ) (old : Hypermap) (passes : Bool) (x' : Seat) (new : Hypermap) → key ≡ x.children + 1 → x.merged ≡ false → ComesTo x key true old passes x' new → BringsOwn x old x' new
+own_brings : (x : FrameState) (key : ℕ) (old : Hypermap) (passes : Bool) (x' : FrameState) (new : Hypermap) → key ≡ x.children + 1 → x.merged ≡ false → ComesTo x key true old passes x' new → BringsOwn x old x' new
 own_brings x key old passes x' new is q (Unstolen none same views off) = Alone q none same views
 own_brings x key old passes x' new is q (Arrived l l' at now arrives) = Brought q l l' passes at now (subst (λ n. Arrives (shown l.value) n true (product old) passes (shown l'.value) new) is arrives)
 
-module _ (frames frames' : List (Activation Seat)) (workers workers' : List Worker) (w k : ℕ) (a : Activation Seat) (sits : slice_get frames k ≡ Some a) where
+module _ (frames frames' : List (Activation FrameState)) (workers workers' : List Worker) (w k : ℕ) (a : Activation FrameState) (sits : slice_get frames k ≡ Some a) where
   pub own_of : (key : ℕ) (passes : Bool) → (let x = a.cursor in key ≡ x.children + 1) → (let x = a.cursor in x.merged ≡ false) → PieceComes frames frames' workers workers' w k key true passes → OwnComes frames frames' workers workers' w k
   own_of key passes is q t =
       let x = (let z = t.seat in z.cursor) in
@@ -45,7 +45,7 @@ module _ (frames frames' : List (Activation Seat)) (workers workers' : List Work
         views = t.views;
         sits = t.sits;
         at = t.at;
-        brings = own_brings x key u.views passes t.brought t.views (is ∙ ap (λ (z : Activation Seat). let y = z.cursor in y.children + 1) same) (sym (ap (λ (z : Activation Seat). let y = z.cursor in y.merged) same) ∙ q) t.comes;
+        brings = own_brings x key u.views passes t.brought t.views (is ∙ ap (λ (z : Activation FrameState). let y = z.cursor in y.children + 1) same) (sym (ap (λ (z : Activation FrameState). let y = z.cursor in y.merged) same) ∙ q) t.comes;
         frames_are = t.frames_are;
         workers_are = t.workers_are;
       }

@@ -23,10 +23,10 @@ use Rattle.cilk_frames.specs.declared.cursor.Answer.TheVariants.{Done}
 use Rattle.cilk_serial.specs.Scoped.{MayBegin, Sees}
 use Rattle.cilk_serial.proofs.Sights.{child_sees}
 use Rattle.cilk_scheduler.specs.Invoking.{IsChild, creator_of}
-use Rattle.cilk_scheduler.specs.Seats.{changed, seated, started_at}
-use Rattle.cilk_scheduler.specs.declared.seat.Due.TheVariants as due
-use Rattle.cilk_scheduler.specs.declared.seat.Seat.{Seat}
-use Rattle.cilk_scheduler.specs.declared.seat.Status.{Status}
+use Rattle.cilk_scheduler.specs.FrameStates.{changed, seated, started_at}
+use Rattle.cilk_scheduler.specs.declared.frame_state.Due.TheVariants as due
+use Rattle.cilk_scheduler.specs.declared.frame_state.FrameState.{FrameState}
+use Rattle.cilk_scheduler.specs.declared.frame_state.Status.{Status}
 use Rattle.cilk_scheduler.proofs.Changing.{changed_length}
 use Rattle.cilk_scheduler.proofs.Placed.{get_some}
 use Rattle.cilk_schedule.specs.Sound.{Comes, Counts, FitsDue, IsCodeOf, Lives, Rests, Sound, frame_of}
@@ -46,10 +46,10 @@ few_own p code is fr n (callees.Function c) may function e =
     (subst (λ l. length l ≤ 64) (sym (lays.own (callees.Function c))) may.2.1)
 few_own p code is fr n (callees.Loop l) may function e = let no : None ≡ Some function = e in cc
 
-module _ (code : CodeView) (p : Source) (inputs : List ℤ) (is_code : IsCodeOf p code) (frames : List (Activation Seat)) (cells events k worker base : ℕ) (how : Invocation) (callee : Callee) (child : Activation Seat)
+module _ (code : CodeView) (p : Source) (inputs : List ℤ) (is_code : IsCodeOf p code) (frames : List (Activation FrameState)) (cells events k worker base : ℕ) (how : Invocation) (callee : Callee) (child : Activation FrameState)
     (s : Sound code p inputs frames cells events (Some k) (asks.Invoke how callee)) (low : k < length frames) (base_is : base ≡ cells) (is : IsChild code frames k worker base how callee child)
     (room : length frames + 1 ≤ MAX_FRAMES) (count : ℕ) (count_is : count ≡ cells_in code.layout callee) (few : cells + count ≤ MAX_CELLS) where
-  parent : (a : Activation Seat) × (slice_get frames k ≡ Some a)
+  parent : (a : Activation FrameState) × (slice_get frames k ≡ Some a)
   parent = get_some frames k low
 
   comes : Comes code p inputs frames cells events parent.0 (asks.Invoke how callee)
@@ -78,7 +78,7 @@ module _ (code : CodeView) (p : Source) (inputs : List ℤ) (is_code : IsCodeOf 
       let sees = child_sees p is_code.well fr memory l.sees opened callee n.named (n.may how callee refl) in
       let count' : cells_of p callee ≡ count = sym (count_is ∙ lays.cells callee) in
       let one : suc (length frames) ≡ length frames + 1 = omega arith in
-      let at : (parent' : Activation Seat) × (slice_get frames k ≡ Some parent') × HasScope frames parent' l.scope = (parent.0, parent.1, l.links) in
+      let at : (parent' : Activation FrameState) × (slice_get frames k ≡ Some parent') × HasScope frames parent' l.scope = (parent.0, parent.1, l.links) in
       record {
         callee = callee;
         scope = scope_now;
@@ -98,12 +98,12 @@ module _ (code : CodeView) (p : Source) (inputs : List ℤ) (is_code : IsCodeOf 
       let more = push_length frames child in
       let links = (let m = child_lives in m.links) in
       record {
-        parent = let t = ap (λ (x : Seat). x.parent) e in omega (arith, t, more, low);
-        last = let t = ap (λ (x : Seat). x.last) e in omega (arith, t, more);
-        children = let t = ap (λ (x : Seat). x.children) e in omega (arith, t);
-        strands = let t = ap (λ (x : Seat). x.strands) e in omega (arith, t);
-        counted = let t = ap (λ (x : Seat). x.counted) e in let u = ap (λ (x : Seat). x.took) e in omega (arith, t, u);
-        took = let u = ap (λ (x : Seat). x.took) e in omega (arith, u);
+        parent = let t = ap (λ (x : FrameState). x.parent) e in omega (arith, t, more, low);
+        last = let t = ap (λ (x : FrameState). x.last) e in omega (arith, t, more);
+        children = let t = ap (λ (x : FrameState). x.children) e in omega (arith, t);
+        strands = let t = ap (λ (x : FrameState). x.strands) e in omega (arith, t);
+        counted = let t = ap (λ (x : FrameState). x.counted) e in let u = ap (λ (x : FrameState). x.took) e in omega (arith, t, u);
+        took = let u = ap (λ (x : FrameState). x.took) e in omega (arith, u);
         low = links.low;
         creates = λ function q. few_own p code is_code (frame_of l.callee l.scope parent.0) cells callee n.there function (sym is.creator ∙ q);
       }
@@ -114,11 +114,11 @@ module _ (code : CodeView) (p : Source) (inputs : List ℤ) (is_code : IsCodeOf 
       let e = child_is in
       let l = child_lives in
       let sees = l.sees in
-      let same : is.cursor ≡ c = some_is is.cursor c (sym (ap (λ (x : Seat). x.cursor) e) ∙ at) in
+      let same : is.cursor ≡ c = some_is is.cursor c (sym (ap (λ (x : FrameState). x.cursor) e) ∙ at) in
       record {
         lives = l;
-        stands = subst (λ n. Stands code inputs p callee c [] n) (sym (ap (λ (x : Seat). x.took) e)) (subst (λ z. Stands code inputs p callee z [] 0) same (is.stands p inputs is_code.behaves sees.fit));
-        fits = subst (λ d. FitsDue c.owed d) (sym (ap (λ (x : Seat). x.due) e)) (sym (ap (λ (z : CursorView). z.owed) same) ∙ is.owes);
+        stands = subst (λ n. Stands code inputs p callee c [] n) (sym (ap (λ (x : FrameState). x.took) e)) (subst (λ z. Stands code inputs p callee z [] 0) same (is.stands p inputs is_code.behaves sees.fit));
+        fits = subst (λ d. FitsDue c.owed d) (sym (ap (λ (x : FrameState). x.due) e)) (sym (ap (λ (z : CursorView). z.owed) same) ∙ is.owes);
       }
 
   pub with_child : Sound code p inputs (frames ++ child ∷ []) (cells + count) events (Some k) (asks.Invoke how callee)
@@ -133,7 +133,7 @@ module _ (code : CodeView) (p : Source) (inputs : List ℤ) (is_code : IsCodeOf 
       let more = push_length frames child in
       changed_sound code p inputs now (cells + count) (cells + count) events (events + 1) f k (omega arith) (omega arith) (Some k) None (asks.Invoke how callee) asks.Begin w
       (λ a at. let h = w.counts k a at in let same = changed_length f now k in
-      let before : (let x = a.cursor in x.children) ≤ length frames = (let q = s.counts k parent.0 parent.1 in let c = q.children in let e : parent.0 ≡ a = some_is parent.0 a (sym (push_get frames child k parent.0 parent.1) ∙ at) in subst (λ (z : Activation Seat). let x = z.cursor in x.children ≤ length frames) e c) in record {
+      let before : (let x = a.cursor in x.children) ≤ length frames = (let q = s.counts k parent.0 parent.1 in let c = q.children in let e : parent.0 ≡ a = some_is parent.0 a (sym (push_get frames child k parent.0 parent.1) ∙ at) in subst (λ (z : Activation FrameState). let x = z.cursor in x.children ≤ length frames) e c) in record {
         parent = let q = h.parent in omega (arith, same, q);
         last = omega (arith, same, more);
         children = omega (arith, same, more, before);

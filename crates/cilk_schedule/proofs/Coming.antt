@@ -24,10 +24,10 @@ use Rattle.cilk_serial.specs.Scoped.{IsThere}
 use Rattle.cilk_serial.proofs.Sights.{asked_there}
 use Rattle.cilk_scheduler.specs.Asking.{IsReady, IsReadyFor, WentOn, WentOnFrom}
 use Rattle.cilk_scheduler.specs.Events.{SeesAt}
-use Rattle.cilk_scheduler.specs.Seats.{changed}
-use Rattle.cilk_scheduler.specs.declared.seat.Due.{Due}
-use Rattle.cilk_scheduler.specs.declared.seat.Due.TheVariants as due
-use Rattle.cilk_scheduler.specs.declared.seat.Seat.{Seat}
+use Rattle.cilk_scheduler.specs.FrameStates.{changed}
+use Rattle.cilk_scheduler.specs.declared.frame_state.Due.{Due}
+use Rattle.cilk_scheduler.specs.declared.frame_state.Due.TheVariants as due
+use Rattle.cilk_scheduler.specs.declared.frame_state.FrameState.{FrameState}
 use Rattle.cilk_scheduler.proofs.Changing.{changed_length}
 use Rattle.cilk_scheduler.proofs.Placed.{get_some}
 use Rattle.cilk_schedule.specs.Sound.{Comes, Counts, FitsDue, HasCome, IsCodeOf, Lives, Rests, Sound, frame_of}
@@ -36,8 +36,8 @@ use Rattle.cilk_schedule.proofs.Sounds.{changed_sound, lives_changed}
 pub some_is : {A : Type 0} (x y : A) → Some x ≡ Some y → x ≡ y
 some_is x y e = cc
 
-module _ (code : CodeView) (p : Source) (inputs : List ℤ) (is_code : IsCodeOf p code) (frames : List (Activation Seat)) (cells events : ℕ) where
-  pub ready : (a : Activation Seat) (c : CursorView) → (let x = a.cursor in x.cursor ≡ Some c) → (let x = a.cursor in x.took ≤ MAX_TICKS) → Rests code p inputs frames cells events a c → let x = a.cursor in IsReady code inputs x
+module _ (code : CodeView) (p : Source) (inputs : List ℤ) (is_code : IsCodeOf p code) (frames : List (Activation FrameState)) (cells events : ℕ) where
+  pub ready : (a : Activation FrameState) (c : CursorView) → (let x = a.cursor in x.cursor ≡ Some c) → (let x = a.cursor in x.took ≤ MAX_TICKS) → Rests code p inputs frames cells events a c → let x = a.cursor in IsReady code inputs x
   ready a c at few h = by (let x = a.cursor in x.due) refl
     where
       by : (d : Due) → (let x = a.cursor in x.due ≡ d) → let x = a.cursor in IsReadyFor code inputs x d
@@ -45,7 +45,7 @@ module _ (code : CodeView) (p : Source) (inputs : List ℤ) (is_code : IsCodeOf 
       by (due.Answer v) e = (c, at, (_, h.stands), subst (λ (d : Due). FitsDue c.owed d) e h.fits, few)
       by due.Sync e = tt
 
-  module _ (k : ℕ) (a : Activation Seat) (x : Seat) (ask : Ask) (c : CursorView) (at : let y = a.cursor in y.cursor ≡ Some c) (few : let y = a.cursor in y.took ≤ MAX_TICKS) (h : Rests code p inputs frames cells events a c) where
+  module _ (k : ℕ) (a : Activation FrameState) (x : FrameState) (ask : Ask) (c : CursorView) (at : let y = a.cursor in y.cursor ≡ Some c) (few : let y = a.cursor in y.took ≤ MAX_TICKS) (h : Rests code p inputs frames cells events a c) where
     lives : Lives code p inputs (changed (λ _. x) frames k) cells events (record a { cursor = x })
     lives = lives_changed code p inputs frames cells cells events events (λ _. x) k (omega arith) (omega arith) a x h.lives
 
@@ -55,8 +55,8 @@ module _ (code : CodeView) (p : Source) (inputs : List ℤ) (is_code : IsCodeOf 
     at_once d is same there named ne e owed = let l = h.lives in record {
       cursor = c;
       lives = lives;
-      here = ap (λ (y : Seat). y.cursor) e ∙ at;
-      stands = λ has. subst (λ (y : Seat). Stands code inputs p l.callee c l.history y.took) (sym e) h.stands;
+      here = ap (λ (y : FrameState). y.cursor) e ∙ at;
+      stands = λ has. subst (λ (y : FrameState). Stands code inputs p l.callee c l.history y.took) (sym e) h.stands;
       owes = λ has. owed ∙ sym same ∙ ap owed_for (sym is);
       there = subst (λ k. IsThere p (frame_of l.callee l.scope a) cells k) (sym is) there;
       named = subst (λ k. AskIsThere p l.callee k) (sym is) named;
@@ -80,8 +80,8 @@ module _ (code : CodeView) (p : Source) (inputs : List ℤ) (is_code : IsCodeOf 
         record {
           cursor = went.after;
           lives = let m = lives in record { callee = m.callee; scope = m.scope; history = now; links = m.links; sees = m.sees };
-          here = ap (λ (z : Seat). z.cursor) went.now;
-          stands = λ has. subst (λ n. Stands code inputs p l.callee went.after now n) (sym (ap (λ (z : Seat). z.took) went.now ∙ took)) (goes.stands has);
+          here = ap (λ (z : FrameState). z.cursor) went.now;
+          stands = λ has. subst (λ n. Stands code inputs p l.callee went.after now n) (sym (ap (λ (z : FrameState). z.took) went.now ∙ took)) (goes.stands has);
           owes = goes.owes;
           there = asked_there p is_code.well inputs fr cells sees now start ask went.left goes.asks;
           named = subst (λ (q : OpenAsk). AskIsThere p l.callee q.ask) goes.asks (asks_there p is_code.well l.callee sees.fit inputs now start);
@@ -92,12 +92,12 @@ module _ (code : CodeView) (p : Source) (inputs : List ℤ) (is_code : IsCodeOf 
     same_counts n e =
         let same = changed_length (λ _. x) frames k in
         record {
-          parent = let q = n.parent in let t = ap (λ (z : Seat). z.parent) e in omega (arith, same, q, t);
-          last = let q = n.last in let t = ap (λ (z : Seat). z.last) e in omega (arith, same, q, t);
-          children = let q = n.children in let t = ap (λ (z : Seat). z.children) e in omega (arith, same, q, t);
-          strands = let q = n.strands in let t = ap (λ (z : Seat). z.strands) e in omega (arith, q, t);
-          counted = let q = n.counted in let t = ap (λ (z : Seat). z.counted) e in let u = ap (λ (z : Seat). z.took) e in omega (arith, q, t, u);
-          took = let q = n.took in let u = ap (λ (z : Seat). z.took) e in omega (arith, q, u);
+          parent = let q = n.parent in let t = ap (λ (z : FrameState). z.parent) e in omega (arith, same, q, t);
+          last = let q = n.last in let t = ap (λ (z : FrameState). z.last) e in omega (arith, same, q, t);
+          children = let q = n.children in let t = ap (λ (z : FrameState). z.children) e in omega (arith, same, q, t);
+          strands = let q = n.strands in let t = ap (λ (z : FrameState). z.strands) e in omega (arith, q, t);
+          counted = let q = n.counted in let t = ap (λ (z : FrameState). z.counted) e in let u = ap (λ (z : FrameState). z.took) e in omega (arith, q, t, u);
+          took = let q = n.took in let u = ap (λ (z : FrameState). z.took) e in omega (arith, q, u);
           low = n.low;
           creates = n.creates;
         }
@@ -109,17 +109,17 @@ module _ (code : CodeView) (p : Source) (inputs : List ℤ) (is_code : IsCodeOf 
         let same = changed_length (λ _. x) frames k in
         let less = went.less in
         record {
-          parent = let q = n.parent in let t = ap (λ (z : Seat). z.parent) went.now in omega (arith, same, q, t);
-          last = let q = n.last in let t = ap (λ (z : Seat). z.last) went.now in omega (arith, same, q, t);
-          children = let q = n.children in let t = ap (λ (z : Seat). z.children) went.now in omega (arith, same, q, t);
-          strands = let q = n.strands in let t = ap (λ (z : Seat). z.strands) went.now in omega (arith, q, t);
-          counted = let q = n.counted in let t = ap (λ (z : Seat). z.counted) went.now in let u = ap (λ (z : Seat). z.took) went.now in omega (arith, q, t, u, less, few);
-          took = let u = ap (λ (z : Seat). z.took) went.now in omega (arith, u);
+          parent = let q = n.parent in let t = ap (λ (z : FrameState). z.parent) went.now in omega (arith, same, q, t);
+          last = let q = n.last in let t = ap (λ (z : FrameState). z.last) went.now in omega (arith, same, q, t);
+          children = let q = n.children in let t = ap (λ (z : FrameState). z.children) went.now in omega (arith, same, q, t);
+          strands = let q = n.strands in let t = ap (λ (z : FrameState). z.strands) went.now in omega (arith, q, t);
+          counted = let q = n.counted in let t = ap (λ (z : FrameState). z.counted) went.now in let u = ap (λ (z : FrameState). z.took) went.now in omega (arith, q, t, u, less, few);
+          took = let u = ap (λ (z : FrameState). z.took) went.now in omega (arith, u);
           low = n.low;
           creates = n.creates;
         }
 
-  pub came : (k : ℕ) (a : Activation Seat) (x : Seat) (ask : Ask) (c : CursorView) → slice_get frames k ≡ Some a → (let y = a.cursor in y.cursor ≡ Some c) → (let y = a.cursor in WentOn code inputs y ask x) → k < length frames
+  pub came : (k : ℕ) (a : Activation FrameState) (x : FrameState) (ask : Ask) (c : CursorView) → slice_get frames k ≡ Some a → (let y = a.cursor in y.cursor ≡ Some c) → (let y = a.cursor in WentOn code inputs y ask x) → k < length frames
       → Sound code p inputs frames cells events None asks.Begin → Sound code p inputs (changed (λ _. x) frames k) cells events (Some k) ask
   came k a x ask c at is went low s =
       let n = s.counts k a at in
@@ -127,15 +127,15 @@ module _ (code : CodeView) (p : Source) (inputs : List ℤ) (is_code : IsCodeOf 
       let h = s.rests k a c at (λ q. cc) is in
       changed_sound code p inputs frames cells cells events events (λ _. x) k (omega arith) (omega arith) None (Some k) asks.Begin ask s
       (λ b there. let e : a ≡ b = some_is a b (sym at ∙ there) in
-      subst (λ (z : Activation Seat). Counts code p inputs (changed (λ _. x) frames k) cells events (record z { cursor = x })) e (counts_by k a x ask c is n.took h y.due n went))
+      subst (λ (z : Activation FrameState). Counts code p inputs (changed (λ _. x) frames k) cells events (record z { cursor = x })) e (counts_by k a x ask c is n.took h y.due n went))
       (λ b d there no. absurd (no refl))
       (λ b there same. let e : a ≡ b = some_is a b (sym at ∙ there) in
-      subst (λ (z : Activation Seat). Comes code p inputs (changed (λ _. x) frames k) cells events (record z { cursor = x }) ask) e (come_by k a x ask c is n.took h y.due refl went))
+      subst (λ (z : Activation FrameState). Comes code p inputs (changed (λ _. x) frames k) cells events (record z { cursor = x }) ask) e (come_by k a x ask c is n.took h y.due refl went))
       (λ j no not q. cc) (λ j no q. absurd (no (sym (some_is k j q)))) s.few_cells s.few_events low
 
 -- ---- what an ask names
 
-pub cell_there : (frames : List (Activation Seat)) (cells k : ℕ) (x : Place) (ask : Ask) → ((p : Source) (fr : _) → IsThere p fr cells ask → let scope = fr.scope in cell_in itself scope x < cells) → k < length frames → HasCome frames cells k ask
+pub cell_there : (frames : List (Activation FrameState)) (cells k : ℕ) (x : Place) (ask : Ask) → ((p : Source) (fr : _) → IsThere p fr cells ask → let scope = fr.scope in cell_in itself scope x < cells) → k < length frames → HasCome frames cells k ask
     → (scope : Scope ℕ Instance) × SeesAt frames k scope × (cell_in itself scope x < 2 ^ 32) × (cell_in itself scope x < cells)
 cell_there frames cells k x ask names low h =
     let s = h.4 in
@@ -146,7 +146,7 @@ cell_there frames cells k x ask names low h =
     let less = names h.1 (frame_of l.callee l.scope it.0) n.there in
     (l.scope, (it.0, it.1, l.links), omega (arith, less, few), less)
 
-pub sees_there : (frames : List (Activation Seat)) (cells k : ℕ) (ask : Ask) → k < length frames → HasCome frames cells k ask → (scope : Scope ℕ Instance) × SeesAt frames k scope
+pub sees_there : (frames : List (Activation FrameState)) (cells k : ℕ) (ask : Ask) → k < length frames → HasCome frames cells k ask → (scope : Scope ℕ Instance) × SeesAt frames k scope
 sees_there frames cells k ask low h =
     let s = h.4 in
     let it = get_some frames k low in
@@ -154,14 +154,14 @@ sees_there frames cells k ask low h =
     let l = n.lives in
     (l.scope, (it.0, it.1, l.links))
 
-pub result_there : (frames : List (Activation Seat)) (cells k : ℕ) (v : ℤ) → k < length frames → HasCome frames cells k (asks.Result v)
-    → (a : Activation Seat) → slice_get frames k ≡ Some a → (c : ℕ) × (a.result ≡ Some c) × (c < cells)
+pub result_there : (frames : List (Activation FrameState)) (cells k : ℕ) (v : ℤ) → k < length frames → HasCome frames cells k (asks.Result v)
+    → (a : Activation FrameState) → slice_get frames k ≡ Some a → (c : ℕ) × (a.result ≡ Some c) × (c < cells)
 result_there frames cells k v low h a at =
     let s = h.4 in
     let n = s.comes k a at refl in
     n.there
 
-pub reducer_small : (frames : List (Activation Seat)) (cells k : ℕ) (ask : Ask) (n : ℕ) → ((p : Source) (fr : _) → IsThere p fr cells ask → n < 65536) → k < length frames → HasCome frames cells k ask → n < 65536
+pub reducer_small : (frames : List (Activation FrameState)) (cells k : ℕ) (ask : Ask) (n : ℕ) → ((p : Source) (fr : _) → IsThere p fr cells ask → n < 65536) → k < length frames → HasCome frames cells k ask → n < 65536
 reducer_small frames cells k ask n small low h =
     let s = h.4 in
     let it = get_some frames k low in

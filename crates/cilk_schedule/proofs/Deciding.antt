@@ -16,12 +16,12 @@ use Rattle.cilk_runs.specs.Progress.{MayAsk}
 use Rattle.cilk_runs.specs.Runs.{Name, Global, Instance, Output, Ask, Sync, Invokes}
 use Rattle.cilk_runs.proofs.Basics.{snoc_one}
 use Rattle.cilk_runs.proofs.Progress.{progress}
-use Rattle.cilk_runs.specs.WorldMachine.{costs, next}
+use Rattle.cilk_runs.specs.FrameEnvMachine.{costs, next}
 use Rattle.cilk_runs.specs.Reducers.{View, elements_of, monoid_of, value_of}
 use Rattle.cilk_runs.specs.Steps.{IsFirst, Next, OneStep, Reaches, finals_in, outcome_in, result_in}
-use Rattle.cilk_runs.specs.Worlds.{World}
-use Rattle.cilk_scheduler.specs.Desks.{BlockIsOver, Chooses, Comes, Desk, IsOver, IsSkipped, Settles, Skipped, Stands, StopsAt, Stole, Waited, all_offered, does, holds, idle, skips, steals, waits, withdrawn}
-use Rattle.cilk_scheduler.specs.Desks as desks
+use Rattle.cilk_runs.specs.FrameEnvs.{FrameEnv}
+use Rattle.cilk_scheduler.specs.WorkerTables.{BlockIsOver, Chooses, Comes, WorkerTable, IsOver, IsSkipped, Settles, Skipped, Stands, StopsAt, Stole, Waited, all_offered, does, holds, idle, skips, steals, waits, withdrawn}
+use Rattle.cilk_scheduler.specs.WorkerTables as desks
 use Rattle.cilk_scheduler.specs.Histories.{DidAsAsked}
 use Rattle.cilk_scheduler.specs.Parents.{OutliveChildren}
 use Rattle.cilk_scheduler.specs.declared.choice.Choice.{Choice}
@@ -30,21 +30,21 @@ use Rattle.cilk_scheduler.proofs.Choosing.{choices_are_steps}
 use Rattle.cilk_scheduler.proofs.Histories.{does_as_asked}
 use Rattle.cilk_scheduler.proofs.Parents.{parents_outlive}
 use Rattle.cilk_schedule.specs.Deciding.{Agree, ChoicesDecide, IsGoing}
-use Rattle.cilk_schedule.proofs.DecidingDesks.{desk_once}
+use Rattle.cilk_schedule.proofs.DecidingWorkerTables.{desk_once}
 use Rattle.cilk_schedule.proofs.DecidingSteps.{MadeBy, StolenBy, agreed, asks_no_more, block_moves, made_by, made_same, stolen_by, stolen_same, with_pieces}
 
 some_is : {A : Type 0} (x y : A) → Some x ≡ Some y → x ≡ y
 some_is x y e = cc
 
 -- the frame that a worker has is one
-hand_is : (d : Desk) (w w' : ℕ) (n n' : Name) → w ≡ w' → slice_get d.hands w ≡ Some (Some n) → slice_get d.hands w' ≡ Some (Some n') → n' ≡ n
+hand_is : (d : WorkerTable) (w w' : ℕ) (n n' : Name) → w ≡ w' → slice_get d.hands w ≡ Some (Some n) → slice_get d.hands w' ≡ Some (Some n') → n' ≡ n
 hand_is d w w' n n' e h k =
     let z : Some (Some n) ≡ Some (Some n') = sym h ∙ ap (λ v. slice_get d.hands v) e ∙ k in
     sym (some_is n n' (some_is (Some n) (Some n') z))
 
 module _ (p : Source) (inputs : List ℤ) where
   -- a worker's frame makes its event
-  record Did (s : State World View) (d : Desk) (w : ℕ) (n : Name) (f : Frame World) (a : Ask World) (s' : State World View) (d' : Desk) : Type 0 where
+  record Did (s : State FrameEnv View) (d : WorkerTable) (w : ℕ) (n : Name) (f : Frame FrameEnv) (a : Ask FrameEnv) (s' : State FrameEnv View) (d' : WorkerTable) : Type 0 where
     pub hand : slice_get d.hands w ≡ Some (Some n)
     pub here : s.frames n ≡ Some f
     pub next : next p inputs f.what f.deeds ≡ Some a
@@ -53,43 +53,43 @@ module _ (p : Source) (inputs : List ℤ) where
     pub made : MadeBy p inputs s n f a s'
     pub settles : Settles s' d w n f.deeds a d'
 
-  may : (s : State World View) (n : Name) (f : Frame World) (a : Ask World) → IsAsking World View monoid_of (Next p inputs) (costs p inputs) s n f a → MayAsk World View monoid_of (Next p inputs) (costs p inputs) s n f a
-  may s n f a q = let law = progress World View monoid_of (Next p inputs) (costs p inputs) in law.exact s n f a q
+  may : (s : State FrameEnv View) (n : Name) (f : Frame FrameEnv) (a : Ask FrameEnv) → IsAsking FrameEnv View monoid_of (Next p inputs) (costs p inputs) s n f a → MayAsk FrameEnv View monoid_of (Next p inputs) (costs p inputs) s n f a
+  may s n f a q = let law = progress FrameEnv View monoid_of (Next p inputs) (costs p inputs) in law.exact s n f a q
 
-  block_of : (s : State World View) (n : Name) (f : Frame World) (a : Ask World) → IsAsking World View monoid_of (Next p inputs) (costs p inputs) s n f a → a ≡ Sync → BlockIsOver s n
+  block_of : (s : State FrameEnv View) (n : Name) (f : Frame FrameEnv) (a : Ask FrameEnv) → IsAsking FrameEnv View monoid_of (Next p inputs) (costs p inputs) s n f a → a ≡ Sync → BlockIsOver s n
   block_of s n f a q is =
       let m = may s n f a q in
       λ before after what at none. m.block is before after what (sym (ap (λ o. deeds_at o) m.here) ∙ at) none
 
-  did : (s : State World View) (d : Desk) (w : ℕ) (n : Name) (s' : State World View) (d' : Desk) → slice_get d.hands w ≡ Some (Some n) → (m : Makes World View monoid_of (Next p inputs) (costs p inputs) s n s')
+  did : (s : State FrameEnv View) (d : WorkerTable) (w : ℕ) (n : Name) (s' : State FrameEnv View) (d' : WorkerTable) → slice_get d.hands w ≡ Some (Some n) → (m : Makes FrameEnv View monoid_of (Next p inputs) (costs p inputs) s n s')
       → (let f = m.frame in Settles s' d w n f.deeds m.ask d') → Did s d w n m.frame m.ask s' d'
   did s d w n s' d' hand m settles =
       let q = m.asking in
       record { hand = hand; here = q.here; next = q.next; within = m.within; block = block_of s n m.frame m.ask q; made = made_by p inputs s n s' m; settles = settles }
 
-  module _ (s : State World View) (q : Name → Instance → View) (same : (n : Name) (f : Frame World) → s.frames n ≡ Some f → q n ≡ s.piece n) (asked : DidAsAsked p inputs s) (kids : OutliveChildren s) where
-    abbrev t : State World View
+  module _ (s : State FrameEnv View) (q : Name → Instance → View) (same : (n : Name) (f : Frame FrameEnv) → s.frames n ≡ Some f → q n ≡ s.piece n) (asked : DidAsAsked p inputs s) (kids : OutliveChildren s) where
+    abbrev t : State FrameEnv View
     t = with_pieces s q
 
-    one_frame : (n n' : Name) (f f' : Frame World) → n' ≡ n → s.frames n ≡ Some f → s.frames n' ≡ Some f' → f' ≡ f
+    one_frame : (n n' : Name) (f f' : Frame FrameEnv) → n' ≡ n → s.frames n ≡ Some f → s.frames n' ≡ Some f' → f' ≡ f
     one_frame n n' f f' e h k = some_is f' f (sym k ∙ ap s.frames e ∙ h)
 
-    one_ask : (f f' : Frame World) (a a' : Ask World) → f' ≡ f → next p inputs f.what f.deeds ≡ Some a → next p inputs f'.what f'.deeds ≡ Some a' → a' ≡ a
-    one_ask f f' a a' e h k = some_is a' a (sym k ∙ ap (λ (z : Frame World). next p inputs z.what z.deeds) e ∙ h)
+    one_ask : (f f' : Frame FrameEnv) (a a' : Ask FrameEnv) → f' ≡ f → next p inputs f.what f.deeds ≡ Some a → next p inputs f'.what f'.deeds ≡ Some a' → a' ≡ a
+    one_ask f f' a a' e h k = some_is a' a (sym k ∙ ap (λ (z : Frame FrameEnv). next p inputs z.what z.deeds) e ∙ h)
 
     -- what comes of a choice from the one state and from the other
-    abbrev IsOnce : Comes → Comes → Desk → Desk → State World View → State World View → Type 0
+    abbrev IsOnce : Comes → Comes → WorkerTable → WorkerTable → State FrameEnv View → State FrameEnv View → Type 0
     IsOnce x y d' d'' s' t' = (y ≡ x) × (d'' ≡ d') × Agree s' t'
 
     alike : Agree s t
     alike = record { frames = refl; stolen = refl; memory = refl; piece = same; joins = refl; totals = refl; stopped = refl }
 
-    did_once : (d d' d'' : Desk) (w : ℕ) (n : Name) (f : Frame World) (a : Ask World) (s' t' : State World View) → Did s d w n f a s' d' → Did t d w n f a t' d'' → (d'' ≡ d') × Agree s' t'
+    did_once : (d d' d'' : WorkerTable) (w : ℕ) (n : Name) (f : Frame FrameEnv) (a : Ask FrameEnv) (s' t' : State FrameEnv View) → Did s d w n f a s' d' → Did t d w n f a t' d'' → (d'' ≡ d') × Agree s' t'
     did_once d d' d'' w n f a s' t' h k =
         let agree = made_same p inputs s q same kids asked n f a h.here h.next s' t' h.made k.made in
         (desk_once s' t' agree d w n f.deeds a d' d'' h.settles k.settles, agree)
 
-    did_same : (d d' d'' : Desk) (w w' : ℕ) (n n' : Name) (f f' : Frame World) (a a' : Ask World) (s' t' : State World View) → w ≡ w' → Did s d w n f a s' d' → Did t d w' n' f' a' t' d'' → (d'' ≡ d') × Agree s' t'
+    did_same : (d d' d'' : WorkerTable) (w w' : ℕ) (n n' : Name) (f f' : Frame FrameEnv) (a a' : Ask FrameEnv) (s' t' : State FrameEnv View) → w ≡ w' → Did s d w n f a s' d' → Did t d w' n' f' a' t' d'' → (d'' ≡ d') × Agree s' t'
     did_same d d' d'' w w' n n' f f' a a' s' t' e h k =
         let en = hand_is d w w' n n' e h.hand k.hand in
         let ef = one_frame n n' f f' en h.here k.here in
@@ -98,33 +98,33 @@ module _ (p : Source) (inputs : List ℤ) where
         (subst (λ z. Did t d w n f z t' d'') ea (subst (λ z. Did t d w n z a' t' d'') ef (subst (λ z. Did t d w z f' a' t' d'') en (subst (λ z. Did t d z n' f' a' t' d'') (sym e) k))))
 
     -- a frame that makes its event at a sync waits for nothing
-    no_wait : (d d' : Desk) (w w' : ℕ) (n n' : Name) (f f' : Frame World) (a : Ask World) (u u' : State World View) → w ≡ w' → u.frames ≡ s.frames → Did u d w n f a u' d' → slice_get d.hands w' ≡ Some (Some n') → s.frames n' ≡ Some f' → next p inputs f'.what f'.deeds ≡ Some Sync → BlockIsOver s n'
+    no_wait : (d d' : WorkerTable) (w w' : ℕ) (n n' : Name) (f f' : Frame FrameEnv) (a : Ask FrameEnv) (u u' : State FrameEnv View) → w ≡ w' → u.frames ≡ s.frames → Did u d w n f a u' d' → slice_get d.hands w' ≡ Some (Some n') → s.frames n' ≡ Some f' → next p inputs f'.what f'.deeds ≡ Some Sync → BlockIsOver s n'
     no_wait d d' w w' n n' f f' a u u' e eu h hand here is =
         let en = hand_is d w w' n n' e h.hand hand in
-        let ef = one_frame n n' f f' en (sym (ap (λ (z : Frames World). z n) eu) ∙ h.here) here in
+        let ef = one_frame n n' f f' en (sym (ap (λ (z : Frames FrameEnv). z n) eu) ∙ h.here) here in
         let ea : Sync ≡ a = one_ask f f' a Sync ef h.next is in
         block_moves u s (sym eu) n' (subst (λ z. BlockIsOver u z) (sym en) (h.block (sym ea)))
 
     -- a frame that asks isn't skipped
-    asks_on : (d : Desk) (w : ℕ) (n : Name) (f : Frame World) (a : Ask World) → slice_get d.hands w ≡ Some (Some n) → s.frames n ≡ Some f → next p inputs f.what f.deeds ≡ Some a → IsSkipped s d (choices.Run (suc w)) → ⊥
+    asks_on : (d : WorkerTable) (w : ℕ) (n : Name) (f : Frame FrameEnv) (a : Ask FrameEnv) → slice_get d.hands w ≡ Some (Some n) → s.frames n ≡ Some f → next p inputs f.what f.deeds ≡ Some a → IsSkipped s d (choices.Run (suc w)) → ⊥
     asks_on d w n f a hand here is skipped = ⊎_elim (λ none. none n hand) (λ over. asks_no_more s kids over p inputs n f a here is) skipped
 
-    steals_once : (d : Desk) (w w' k k' : ℕ) (n n' : Name) (s' t' : State World View) → w ≡ w' → k ≡ k' → slice_get (all_offered d.offered) k ≡ Some n → slice_get (all_offered d.offered) k' ≡ Some n' → Steals World View monoid_of (Next p inputs) (costs p inputs) s n s' → Steals World View monoid_of (Next p inputs) (costs p inputs) t n' t'
+    steals_once : (d : WorkerTable) (w w' k k' : ℕ) (n n' : Name) (s' t' : State FrameEnv View) → w ≡ w' → k ≡ k' → slice_get (all_offered d.offered) k ≡ Some n → slice_get (all_offered d.offered) k' ≡ Some n' → Steals FrameEnv View monoid_of (Next p inputs) (costs p inputs) s n s' → Steals FrameEnv View monoid_of (Next p inputs) (costs p inputs) t n' t'
         → (holds (record d { offered = withdrawn d.offered n' }) w' n' ≡ holds (record d { offered = withdrawn d.offered n }) w n) × Agree s' t'
     steals_once d w w' k k' n n' s' t' e g at at' h m =
         let en : n' ≡ n = some_is n' n (sym at' ∙ ap (λ z. slice_get (all_offered d.offered) z) (sym g) ∙ at) in
         let ef = one_frame n n' h.frame m.frame en h.here m.here in
-        let eb = snoc_one m.before h.before (Invokes Spawn m.what) (Invokes Spawn h.what) (sym m.spawned ∙ ap (λ (z : Frame World). z.deeds) ef ∙ h.spawned) in
+        let eb = snoc_one m.before h.before (Invokes Spawn m.what) (Invokes Spawn h.what) (sym m.spawned ∙ ap (λ (z : Frame FrameEnv). z.deeds) ef ∙ h.spawned) in
         let by : StolenBy p inputs t n' m.before t' = stolen_by p inputs t n' t' m in (
           ap (λ z. holds (record d { offered = withdrawn d.offered z }) w' z) en ∙ ap (λ z. holds (record d { offered = withdrawn d.offered n }) z n) (sym e),
           stolen_same p inputs s q same n h.before s' t' (stolen_by p inputs s n s' h) (subst (λ z. StolenBy p inputs t n z t') eb.0 (subst (λ z. StolenBy p inputs t z m.before t') en by)),
         )
 
     -- nor is a thief with a continuation to take
-    no_skip : (d : Desk) (w k : ℕ) (n : Name) → slice_get d.hands w ≡ Some None → ¬ (IsOver s) → slice_get (all_offered d.offered) k ≡ Some n → IsSkipped s d (choices.Steal (suc w) k) → ⊥
+    no_skip : (d : WorkerTable) (w k : ℕ) (n : Name) → slice_get d.hands w ≡ Some None → ¬ (IsOver s) → slice_get (all_offered d.offered) k ≡ Some n → IsSkipped s d (choices.Steal (suc w) k) → ⊥
     no_skip d w k n hand on at skipped = ⊎_elim (λ busy. busy hand) (λ rest. ⊎_elim (λ none. let z : None ≡ Some n = sym none ∙ at in let f : ⊥ = cc in f) on rest) skipped
 
-    leads_by : (c c' : Choice) → c ≡ c' → (s' t' : State World View) (d d' d'' : Desk) (x y : Comes) → Chooses p inputs s d c x s' d' → Chooses p inputs t d c' y t' d'' → IsOnce x y d' d'' s' t'
+    leads_by : (c c' : Choice) → c ≡ c' → (s' t' : State FrameEnv View) (d d' d'' : WorkerTable) (x y : Comes) → Chooses p inputs s d c x s' d' → Chooses p inputs t d c' y t' d'' → IsOnce x y d' d'' s' t'
     leads_by c c' e s' t' d d' d'' x y (does w n _ _ hand m st) (does w' n' _ _ hand' m' st') =
         let r = did_same d d' d'' w w' n n' m.frame m'.frame m.ask m'.ask s' t' (let z : choices.Run (suc w) ≡ choices.Run (suc w') = e in cc) (did s d w n s' d' hand m st) (did t d w' n' t' d'' hand' m' st') in
         (refl, r.0, r.1)
@@ -158,7 +158,7 @@ module _ (p : Source) (inputs : List ℤ) where
     leads_by c c' e s' t' d d' d'' x y (skips _ skipped) (skips _ skipped') = (refl, refl, alike)
 
     -- the frame that stops the run makes no event and waits for nothing
-    not_stopped : (d : Desk) (w w' : ℕ) (n n' : Name) (s' : State World View) → w' ≡ w → slice_get d.hands w ≡ Some (Some n) → slice_get d.hands w' ≡ Some (Some n') → (m : Stops World View monoid_of (Next p inputs) (costs p inputs) s n s') → (f : Frame World) (a : Ask World) → s.frames n' ≡ Some f → next p inputs f.what f.deeds ≡ Some a
+    not_stopped : (d : WorkerTable) (w w' : ℕ) (n n' : Name) (s' : State FrameEnv View) → w' ≡ w → slice_get d.hands w ≡ Some (Some n) → slice_get d.hands w' ≡ Some (Some n') → (m : Stops FrameEnv View monoid_of (Next p inputs) (costs p inputs) s n s') → (f : Frame FrameEnv) (a : Ask FrameEnv) → s.frames n' ≡ Some f → next p inputs f.what f.deeds ≡ Some a
         → (fault_of (costs p inputs) s.totals f.what f.deeds a ≡ None) ⊎ ((a ≡ Sync) × ¬ (BlockIsOver s n')) → ⊥
     not_stopped d w w' n n' s' e hand hand' m f a here is why =
         let k = m.asking in
@@ -167,13 +167,13 @@ module _ (p : Source) (inputs : List ℤ) where
         let ea = one_ask m.frame f m.ask a ef k.next is in
         ⊎_elim
         (λ none.
-        let z : None ≡ Some m.fault = sym none ∙ ap (λ v. fault_of (costs p inputs) s.totals f.what f.deeds v) ea ∙ ap (λ (v : Frame World). fault_of (costs p inputs) s.totals v.what v.deeds m.ask) ef ∙ m.why in
+        let z : None ≡ Some m.fault = sym none ∙ ap (λ v. fault_of (costs p inputs) s.totals f.what f.deeds v) ea ∙ ap (λ (v : Frame FrameEnv). fault_of (costs p inputs) s.totals v.what v.deeds m.ask) ef ∙ m.why in
         let b : ⊥ = cc in
         b)
         (λ r. r.1 (subst (λ z. BlockIsOver s z) (sym en) (block_of s n m.frame m.ask k (sym ea ∙ r.0))))
         why
 
-    apart_by : (c c' : Choice) → c ≡ c' → (s' t' : State World View) (d d' : Desk) (x : Comes) → StopsAt p inputs s d c s' → Chooses p inputs t d c' x t' d' → ⊥
+    apart_by : (c c' : Choice) → c ≡ c' → (s' t' : State FrameEnv View) (d d' : WorkerTable) (x : Comes) → StopsAt p inputs s d c s' → Chooses p inputs t d c' x t' d' → ⊥
     apart_by (choices.Run zero) c' e s' t' d d' x h k = h
     apart_by (choices.Steal v place) c' e s' t' d d' x h k = h
     apart_by (choices.Run (suc v)) c' e s' t' d d' x h (does w n _ _ hand m st) =
@@ -187,7 +187,7 @@ module _ (p : Source) (inputs : List ℤ) where
         let k = m.asking in
         asks_on d v h.0 m.frame m.ask h.1 k.here k.next (subst (λ z. IsSkipped s d z) (sym e) skipped)
 
-    stops_by : (c : Choice) (s' t' : State World View) (d : Desk) → StopsAt p inputs s d c s' → StopsAt p inputs t d c t' → t'.stopped ≡ s'.stopped
+    stops_by : (c : Choice) (s' t' : State FrameEnv View) (d : WorkerTable) → StopsAt p inputs s d c s' → StopsAt p inputs t d c t' → t'.stopped ≡ s'.stopped
     stops_by (choices.Run zero) s' t' d h k = absurd h
     stops_by (choices.Steal v place) s' t' d h k = absurd h
     stops_by (choices.Run (suc v)) s' t' d h k =
@@ -198,17 +198,17 @@ module _ (p : Source) (inputs : List ℤ) where
         let en = hand_is d v v h.0 k.0 refl h.1 k.1 in
         let ef = one_frame h.0 k.0 m.frame o.frame en x.here y.here in
         let ea = one_ask m.frame o.frame m.ask o.ask ef x.next y.next in
-        let why : Some o.fault ≡ Some m.fault = sym o.why ∙ ap (λ z. let g = o.frame in fault_of (costs p inputs) s.totals g.what g.deeds z) ea ∙ ap (λ (z : Frame World). fault_of (costs p inputs) s.totals z.what z.deeds m.ask) ef ∙ m.why in
-        ap (λ (z : State World View). z.stopped) o.after
+        let why : Some o.fault ≡ Some m.fault = sym o.why ∙ ap (λ z. let g = o.frame in fault_of (costs p inputs) s.totals g.what g.deeds z) ea ∙ ap (λ (z : Frame FrameEnv). fault_of (costs p inputs) s.totals z.what z.deeds m.ask) ef ∙ m.why in
+        ap (λ (z : State FrameEnv View). z.stopped) o.after
         ∙ ap (λ z. let g = o.frame in Some (record { frame = z; strand = strand_of g.deeds; fault = o.fault })) en
-        ∙ ap (λ (z : Frame World). Some (record { frame = h.0; strand = strand_of z.deeds; fault = o.fault })) ef
+        ∙ ap (λ (z : Frame FrameEnv). Some (record { frame = h.0; strand = strand_of z.deeds; fault = o.fault })) ef
         ∙ ap (λ z. let g = m.frame in Some (record { frame = h.0; strand = strand_of g.deeds; fault = z })) (some_is o.fault m.fault why)
-        ∙ sym (ap (λ (z : State World View). z.stopped) m.after)
+        ∙ sym (ap (λ (z : State FrameEnv View). z.stopped) m.after)
 
     outcome_by : IsOver s → outcome_in p t ≡ outcome_in p s
     outcome_by over = by (s.frames []) refl
       where
-        by : (o : Option (Frame World)) → s.frames [] ≡ o → outcome_in p t ≡ outcome_in p s
+        by : (o : Option (Frame FrameEnv)) → s.frames [] ≡ o → outcome_in p t ≡ outcome_in p s
         by None e = let h : ⊥ = subst (λ o. desks.IsOver (record s { frames = λ z. o })) e over in absurd h
         by (Some f) e =
             ap (λ (v : Instance → View).
@@ -220,7 +220,7 @@ module _ (p : Source) (inputs : List ℤ) where
             }) (same [] f e)
 
   -- a choice that stops the one state stops the other
-  stop_moves : (s : State World View) (q : Name → Instance → View) (c : Choice) (t' : State World View) (d : Desk) → StopsAt p inputs (with_pieces s q) d c t' → (s' : State World View) × StopsAt p inputs s d c s'
+  stop_moves : (s : State FrameEnv View) (q : Name → Instance → View) (c : Choice) (t' : State FrameEnv View) (d : WorkerTable) → StopsAt p inputs (with_pieces s q) d c t' → (s' : State FrameEnv View) × StopsAt p inputs s d c s'
   stop_moves s q (choices.Run zero) t' d h = absurd h
   stop_moves s q (choices.Steal v place) t' d h = absurd h
   stop_moves s q (choices.Run (suc v)) t' d h =
@@ -230,9 +230,9 @@ module _ (p : Source) (inputs : List ℤ) where
       let after = record s { stopped = Some (record { frame = h.0; strand = strand_of f.deeds; fault = m.fault }) } in
       (after, (h.0, h.1, record { frame = m.frame; ask = m.ask; fault = m.fault; asking = record { here = k.here; next = k.next; ready = k.ready }; why = m.why; after = refl }))
 
-  opens_alike : (s t : State World View) → IsFirst p inputs s → IsFirst p inputs t → Agree s t
+  opens_alike : (s t : State FrameEnv View) → IsFirst p inputs s → IsFirst p inputs t → Agree s t
   opens_alike s t h k = record {
-    frames = fun_ext {A = Name} {B = λ n. Option (Frame World)} (λ n. k.0 n ∙ sym (h.0 n));
+    frames = fun_ext {A = Name} {B = λ n. Option (Frame FrameEnv)} (λ n. k.0 n ∙ sym (h.0 n));
     stolen = fun_ext {A = Name} {B = λ n. _} (λ n. k.4 n ∙ sym (h.4 n));
     memory = k.1 ∙ sym h.1;
     piece = first_piece;
@@ -241,40 +241,40 @@ module _ (p : Source) (inputs : List ℤ) where
     stopped = k.3 ∙ sym h.3;
   }
     where
-      first_piece : (n : Name) (f : Frame World) → s.frames n ≡ Some f → t.piece n ≡ s.piece n
+      first_piece : (n : Name) (f : Frame FrameEnv) → s.frames n ≡ Some f → t.piece n ≡ s.piece n
       first_piece [] f at = fun_ext {A = Instance} {B = λ i. View} (λ i. k.5 i ∙ sym (h.5 i))
       first_piece (j ∷ n) f at = let z : None ≡ Some f = sym (h.0 (j ∷ n)) ∙ at in let b : ⊥ = cc in absurd b
 
-  still_going : (s s' : State World View) (d d' : Desk) (c : Choice) (x : Comes) → s.stopped ≡ None → Chooses p inputs s d c x s' d' → s'.stopped ≡ None
+  still_going : (s s' : State FrameEnv View) (d d' : WorkerTable) (c : Choice) (x : Comes) → s.stopped ≡ None → Chooses p inputs s d c x s' d' → s'.stopped ≡ None
   still_going s s' d d' c x on (does w n _ _ hand m st) = m.stopped ∙ on
   still_going s s' d d' c x on (waits w n f hand stands open_yet) = on
   still_going s s' d d' c x on (steals w k n _ hand still at m) = m.stopped ∙ on
   still_going s s' d d' c x on (skips _ skipped) = on
 
-  one_after : (ns : List Name) (n : Name) (s mid s' : State World View) → Steps World View monoid_of (Next p inputs) (costs p inputs) ns s mid → OneStep p inputs mid n s' → Steps World View monoid_of (Next p inputs) (costs p inputs) (ns ++ n ∷ []) s s'
+  one_after : (ns : List Name) (n : Name) (s mid s' : State FrameEnv View) → Steps FrameEnv View monoid_of (Next p inputs) (costs p inputs) ns s mid → OneStep p inputs mid n s' → Steps FrameEnv View monoid_of (Next p inputs) (costs p inputs) (ns ++ n ∷ []) s s'
   one_after [] n s mid s' e one = (s', subst (λ z. OneStep p inputs z n s') e one, refl)
   one_after (m ∷ ns) n s mid s' (z, first, more) one = (z, first, one_after ns n z mid s' more one)
 
-  halted : (s s' : State World View) (d : Desk) (c : Choice) → IsGoing p inputs s → StopsAt p inputs s d c s' → (ns : List Name) × Reaches p inputs ns s'
+  halted : (s s' : State FrameEnv View) (d : WorkerTable) (c : Choice) → IsGoing p inputs s → StopsAt p inputs s d c s' → (ns : List Name) × Reaches p inputs ns s'
   halted s s' d (choices.Run zero) going h = absurd h
   halted s s' d (choices.Steal v place) going h = absurd h
   halted s s' d (choices.Run (suc v)) going h = let r = going.reaches in (going.steps ++ h.0 ∷ [], (r.0, r.1, one_after going.steps h.0 r.0 s s' r.2 (going.running, inr (inr h.2))))
 
-  abbrev Kept : State World View → Type 0
+  abbrev Kept : State FrameEnv View → Type 0
   Kept s = DidAsAsked p inputs s × OutliveChildren s
 
-  kept : (s : State World View) → IsGoing p inputs s → Kept s
+  kept : (s : State FrameEnv View) → IsGoing p inputs s → Kept s
   kept s h =
       let asked = does_as_asked p inputs in
       let kids = parents_outlive p inputs in
       (asked.reached h.steps s h.reaches, kids.reached h.steps s h.reaches)
 
-  back : (s t : State World View) → Agree s t → Agree t s
+  back : (s t : State FrameEnv View) → Agree s t → Agree t s
   back s t h = record {
     frames = sym h.frames;
     stolen = sym h.stolen;
     memory = sym h.memory;
-    piece = λ n f at. sym (h.piece n f (sym (ap (λ (z : Frames World). z n) h.frames) ∙ at));
+    piece = λ n f at. sym (h.piece n f (sym (ap (λ (z : Frames FrameEnv). z n) h.frames) ∙ at));
     joins = sym h.joins;
     totals = sym h.totals;
     stopped = sym h.stopped;

@@ -18,12 +18,12 @@ use Rattle.cilk_runs.specs.Progress.{HasEnded, child_after}
 use Rattle.cilk_runs.specs.Runs.{Name, same_name, Cell, Instance, Ask, Read, Write, Invoke, Sync, End, Pass, Fail, Begin, Resume, Create, Update, Set, Value, Print, Event, Reads, Writes, Syncs, Ends, Passes, Begins, Resumes, Creates, Updates, Sets, Values, Prints, Deed, Does, Invokes}
 use Rattle.cilk_runs.proofs.Basics.{same_name-eq}
 use Rattle.cilk_runs.proofs.Started.{started_invokes}
-use Rattle.cilk_runs.specs.WorldMachine.{costs, has_ended, next}
+use Rattle.cilk_runs.specs.FrameEnvMachine.{costs, has_ended, next}
 use Rattle.cilk_runs.specs.Reducers.{View, monoid_of}
 use Rattle.cilk_runs.specs.Steps.{Next}
-use Rattle.cilk_runs.specs.Worlds.{World}
-use Rattle.cilk_scheduler.specs.Boards.{is_resuming}
-use Rattle.cilk_scheduler.specs.Desks.{BlockIsOver, IsOver}
+use Rattle.cilk_runs.specs.FrameEnvs.{FrameEnv}
+use Rattle.cilk_scheduler.specs.Schedulers.{is_resuming}
+use Rattle.cilk_scheduler.specs.WorkerTables.{BlockIsOver, IsOver}
 use Rattle.cilk_scheduler.specs.Histories.{DidAsAsked}
 use Rattle.cilk_scheduler.specs.Parents.{OutliveChildren}
 use Rattle.cilk_scheduler.proofs.Carried.{block_ext}
@@ -33,27 +33,27 @@ use Rattle.cilk_schedule.specs.Deciding.{Agree}
 
 -- ---- what the frames alone decide
 
-pub ended_moves : (s t : State World View) → t.frames ≡ s.frames → (m : Name) → HasEnded World View s m → HasEnded World View t m
+pub ended_moves : (s t : State FrameEnv View) → t.frames ≡ s.frames → (m : Name) → HasEnded FrameEnv View s m → HasEnded FrameEnv View t m
 ended_moves s t e m h = record {
   frame = h.frame;
   before = h.before;
   result = h.result;
   retired = h.retired;
   after = h.after;
-  here = ap (λ (z : Frames World). z m) e ∙ h.here;
+  here = ap (λ (z : Frames FrameEnv). z m) e ∙ h.here;
   ends = h.ends;
 }
 
-pub block_moves : (s t : State World View) → t.frames ≡ s.frames → (m : Name) → BlockIsOver s m → BlockIsOver t m
-block_moves s t e m h = λ before after what at none. ended_moves s t e (child_after m before) (h before after what (sym (ap (λ (z : Frames World). deeds_at (z m)) e) ∙ at) none)
+pub block_moves : (s t : State FrameEnv View) → t.frames ≡ s.frames → (m : Name) → BlockIsOver s m → BlockIsOver t m
+block_moves s t e m h = λ before after what at none. ended_moves s t e (child_after m before) (h before after what (sym (ap (λ (z : Frames FrameEnv). deeds_at (z m)) e) ∙ at) none)
 
 -- The other state, by its views alone.
-abbrev pub with_pieces : State World View → (Name → Instance → View) → State World View
+abbrev pub with_pieces : State FrameEnv View → (Name → Instance → View) → State FrameEnv View
 with_pieces s q = record s { piece = q }
 
-pub agreed : (s t : State World View) → Agree s t → t ≡ with_pieces s t.piece
+pub agreed : (s t : State FrameEnv View) → Agree s t → t ≡ with_pieces s t.piece
 agreed s t h =
-    ap (λ (z : Frames World). record t { frames = z }) h.frames
+    ap (λ (z : Frames FrameEnv). record t { frames = z }) h.frames
     ∙ ap (λ (z : Name → Bool). record t { frames = s.frames; stolen = z }) h.stolen
     ∙ ap (λ (z : Cell → ℤ). record t { frames = s.frames; stolen = s.stolen; memory = z }) h.memory
     ∙ ap (λ (z : List Name). record t { frames = s.frames; stolen = s.stolen; memory = s.memory; joins = z }) h.joins
@@ -76,7 +76,7 @@ own_same M i (Passes (Values j n)) B B' l last last' v v' b r h = h
 own_same M i (Passes (Prints x)) B B' l last last' v v' b r h = ap (on_view M i (Passes (Prints x))) h
 
 -- a frame that resumes was asked to
-resumes_by : (memory : Cell → ℤ) (number : Instance → ℤ) (a : Ask World) → deed_of memory number a ≡ Does (Passes Resumes) → a ≡ Pass Resume
+resumes_by : (memory : Cell → ℤ) (number : Instance → ℤ) (a : Ask FrameEnv) → deed_of memory number a ≡ Does (Passes Resumes) → a ≡ Pass Resume
 resumes_by memory number (Read c) q = let f : ⊥ = cc in absurd f
 resumes_by memory number (Write c v) q = let f : ⊥ = cc in absurd f
 resumes_by memory number (Invoke k w) q = let f : ⊥ = cc in absurd f
@@ -92,21 +92,21 @@ resumes_by memory number (Pass (Print x)) q = let f : ⊥ = cc in absurd f
 resumes_by memory number (Fail n) q = let f : ⊥ = cc in absurd f
 
 -- the child that the last deed started
-resuming_is : (ds : List (Deed World)) → is_resuming ds ≡ true → (before : List (Deed World)) × (how : Invocation) × (what : World) × (ds ≡ before ++ Invokes how what ∷ [])
+resuming_is : (ds : List (Deed FrameEnv)) → is_resuming ds ≡ true → (before : List (Deed FrameEnv)) × (how : Invocation) × (what : FrameEnv) × (ds ≡ before ++ Invokes how what ∷ [])
 resuming_is [] h = let f : ⊥ = true≢false (sym h) in absurd f
 resuming_is (Does e ∷ []) h = let f : ⊥ = true≢false (sym h) in absurd f
 resuming_is (Invokes k w ∷ []) h = ([], k, w, refl)
 resuming_is (Does a ∷ d ∷ ds) h = let r = resuming_is (d ∷ ds) h in (Does a ∷ r.0, r.1, r.2, ap (λ l. Does a ∷ l) r.3)
 resuming_is (Invokes k w ∷ d ∷ ds) h = let r = resuming_is (d ∷ ds) h in (Invokes k w ∷ r.0, r.1, r.2, ap (λ l. Invokes k w ∷ l) r.3)
 
-stolen_there : (s : State World View) → OutliveChildren s → (m : Name) → s.stolen m ≡ true → (g : Frame World) × (s.frames m ≡ Some g)
+stolen_there : (s : State FrameEnv View) → OutliveChildren s → (m : Name) → s.stolen m ≡ true → (g : Frame FrameEnv) × (s.frames m ≡ Some g)
 stolen_there s kids m h = by (s.frames m) refl
   where
-    by : (o : Option (Frame World)) → s.frames m ≡ o → (g : Frame World) × (s.frames m ≡ Some g)
+    by : (o : Option (Frame FrameEnv)) → s.frames m ≡ o → (g : Frame FrameEnv) × (s.frames m ≡ Some g)
     by None e = let f : ⊥ = true≢false (sym h ∙ kids.unstolen m e) in absurd f
     by (Some g) e = (g, e)
 
-module _ (s : State World View) (q : Name → Instance → View) (same : (n : Name) (f : Frame World) → s.frames n ≡ Some f → q n ≡ s.piece n) (kids : OutliveChildren s) (n : Name) (f : Frame World) (here : s.frames n ≡ Some f) where
+module _ (s : State FrameEnv View) (q : Name → Instance → View) (same : (n : Name) (f : Frame FrameEnv) → s.frames n ≡ Some f → q n ≡ s.piece n) (kids : OutliveChildren s) (n : Name) (f : Frame FrameEnv) (here : s.frames n ≡ Some f) where
   block_same : (M : MonoidStructure View) (i : Instance) → block_view M (λ k. q (n ++ k ∷ []) i) (λ k. s.stolen (n ++ k ∷ [])) M.unit 1 f.deeds ≡ block_view M (λ k. s.piece (n ++ k ∷ []) i) (λ k. s.stolen (n ++ k ∷ [])) M.unit 1 f.deeds
   block_same M i =
       block_ext M (λ k. s.piece (n ++ k ∷ []) i) (λ k. q (n ++ k ∷ []) i) (λ k. s.stolen (n ++ k ∷ [])) (λ k. s.stolen (n ++ k ∷ [])) (λ k. refl)
@@ -119,7 +119,7 @@ module _ (s : State World View) (q : Name → Instance → View) (same : (n : Na
       let e : started f.deeds ≡ suc (started r.0) = ap (λ l. started l) r.3 ∙ started_invokes r.0 r.1 r.2 in
       subst (λ k. q (n ++ k ∷ []) i ≡ s.piece (n ++ k ∷ []) i) (sym e) (ap (λ (v : Instance → View). v i) (same (n ++ suc (started r.0) ∷ []) g.0 g.1))
 
-  views_after : (M : MonoidStructure View) (i : Instance) (d : Deed World) → (d ≡ Does (Passes Resumes) → is_resuming f.deeds ≡ true) → (m : Name) (g : Frame World) → after_deed s.frames n f d m ≡ Some g
+  views_after : (M : MonoidStructure View) (i : Instance) (d : Deed FrameEnv) → (d ≡ Does (Passes Resumes) → is_resuming f.deeds ≡ true) → (m : Name) (g : Frame FrameEnv) → after_deed s.frames n f d m ≡ Some g
       → after_views M i s.stolen n f.deeds d (λ z. q z i) m ≡ after_views M i s.stolen n f.deeds d (λ z. s.piece z i) m
   views_after M i (Does e) resumes m g at = by (same_name n m) at
     where
@@ -148,7 +148,7 @@ module _ (s : State World View) (q : Name → Instance → View) (same : (n : Na
 
 module _ (p : Source) (inputs : List ℤ) where
   -- what an event of this frame, by this ask, makes of a state
-  pub record MadeBy (s : State World View) (n : Name) (f : Frame World) (a : Ask World) (s' : State World View) : Type 0 where
+  pub record MadeBy (s : State FrameEnv View) (n : Name) (f : Frame FrameEnv) (a : Ask FrameEnv) (s' : State FrameEnv View) : Type 0 where
     pub frames : s'.frames ≡ after_deed s.frames n f (deed_of s.memory (numbers_of monoid_of (s.piece n)) a)
     pub memory : s'.memory ≡ (λ c. effect (deed_of s.memory (numbers_of monoid_of (s.piece n)) a) c (s.memory c))
     pub stolen : s'.stolen ≡ s.stolen
@@ -157,18 +157,18 @@ module _ (p : Source) (inputs : List ℤ) where
     pub totals : (total : Total) → s'.totals total ≡ s.totals total + cost (costs p inputs) total f.what f.deeds a
     pub stopped : s'.stopped ≡ s.stopped
 
-  pub made_by : (s : State World View) (n : Name) (s' : State World View) (m : Makes World View monoid_of (Next p inputs) (costs p inputs) s n s') → MadeBy s n m.frame m.ask s'
+  pub made_by : (s : State FrameEnv View) (n : Name) (s' : State FrameEnv View) (m : Makes FrameEnv View monoid_of (Next p inputs) (costs p inputs) s n s') → MadeBy s n m.frame m.ask s'
   made_by s n s' m = record { frames = m.frames; memory = m.memory; stolen = m.stolen; piece = m.piece; joins = m.joins; totals = m.totals; stopped = m.stopped }
 
-  pub made_same : (s : State World View) (q : Name → Instance → View) → ((n : Name) (f : Frame World) → s.frames n ≡ Some f → q n ≡ s.piece n) → OutliveChildren s → DidAsAsked p inputs s → (n : Name) (f : Frame World) (a : Ask World) → s.frames n ≡ Some f
-      → next p inputs f.what f.deeds ≡ Some a → (s' t' : State World View) → MadeBy s n f a s' → MadeBy (with_pieces s q) n f a t' → Agree s' t'
+  pub made_same : (s : State FrameEnv View) (q : Name → Instance → View) → ((n : Name) (f : Frame FrameEnv) → s.frames n ≡ Some f → q n ≡ s.piece n) → OutliveChildren s → DidAsAsked p inputs s → (n : Name) (f : Frame FrameEnv) (a : Ask FrameEnv) → s.frames n ≡ Some f
+      → next p inputs f.what f.deeds ≡ Some a → (s' t' : State FrameEnv View) → MadeBy s n f a s' → MadeBy (with_pieces s q) n f a t' → Agree s' t'
   made_same s q same kids asked n f a here is s' t' m k = record {
     frames = k.frames ∙ ap (λ (v : Instance → View). after_deed s.frames n f (deed_of s.memory (numbers_of monoid_of v) a)) (same n f here) ∙ sym m.frames;
     stolen = k.stolen ∙ sym m.stolen;
     memory = k.memory ∙ ap {B = Cell → ℤ} (λ (v : Instance → View). λ c. effect (deed_of s.memory (numbers_of monoid_of v) a) c (s.memory c)) (same n f here) ∙ sym m.memory;
     piece = λ z g at. fun_ext {A = Instance} {B = λ i. View} (λ i.
         k.piece i z ∙ ap (λ (v : Instance → View). after_views (monoid_of i) i s.stolen n f.deeds (deed_of s.memory (numbers_of monoid_of v) a) (λ y. q y i) z) (same n f here)
-        ∙ views_after s q same kids n f here (monoid_of i) i (deed_of s.memory (numbers_of monoid_of (s.piece n)) a) resumes z g (sym (ap (λ (x : Frames World). x z) m.frames) ∙ at) ∙ sym (m.piece i z));
+        ∙ views_after s q same kids n f here (monoid_of i) i (deed_of s.memory (numbers_of monoid_of (s.piece n)) a) resumes z g (sym (ap (λ (x : Frames FrameEnv). x z) m.frames) ∙ at) ∙ sym (m.piece i z));
     joins = k.joins ∙ sym m.joins;
     totals = fun_ext {A = Total} {B = λ z. ℕ} (λ z. k.totals z ∙ sym (m.totals z));
     stopped = k.stopped ∙ sym m.stopped;
@@ -182,7 +182,7 @@ module _ (p : Source) (inputs : List ℤ) where
           o.resumes r
 
   -- what a thief behind these deeds of a frame makes of a state
-  pub record StolenBy (s : State World View) (n : Name) (before : List (Deed World)) (s' : State World View) : Type 0 where
+  pub record StolenBy (s : State FrameEnv View) (n : Name) (before : List (Deed FrameEnv)) (s' : State FrameEnv View) : Type 0 where
     pub frames : s'.frames ≡ s.frames
     pub memory : s'.memory ≡ s.memory
     pub stolen : s'.stolen ≡ (λ m. cond (same_name (n ++ suc (started before) ∷ []) m) true (s.stolen m))
@@ -191,17 +191,17 @@ module _ (p : Source) (inputs : List ℤ) where
     pub totals : s'.totals ≡ s.totals
     pub stopped : s'.stopped ≡ s.stopped
 
-  pub stolen_by : (s : State World View) (n : Name) (s' : State World View) (m : Steals World View monoid_of (Next p inputs) (costs p inputs) s n s') → StolenBy s n m.before s'
+  pub stolen_by : (s : State FrameEnv View) (n : Name) (s' : State FrameEnv View) (m : Steals FrameEnv View monoid_of (Next p inputs) (costs p inputs) s n s') → StolenBy s n m.before s'
   stolen_by s n s' m = record { frames = m.frames; memory = m.memory; stolen = m.stolen; piece = m.piece; joins = m.joins; totals = m.totals; stopped = m.stopped }
 
-  pub stolen_same : (s : State World View) (q : Name → Instance → View) → ((n : Name) (f : Frame World) → s.frames n ≡ Some f → q n ≡ s.piece n) → (n : Name) (before : List (Deed World)) (s' t' : State World View) → StolenBy s n before s'
+  pub stolen_same : (s : State FrameEnv View) (q : Name → Instance → View) → ((n : Name) (f : Frame FrameEnv) → s.frames n ≡ Some f → q n ≡ s.piece n) → (n : Name) (before : List (Deed FrameEnv)) (s' t' : State FrameEnv View) → StolenBy s n before s'
       → StolenBy (with_pieces s q) n before t' → Agree s' t'
   stolen_same s q same n before s' t' m k = record {
     frames = k.frames ∙ sym m.frames;
     stolen = k.stolen ∙ sym m.stolen;
     memory = k.memory ∙ sym m.memory;
     piece = λ z g at. fun_ext {A = Instance} {B = λ i. View} (λ i.
-        k.piece i z ∙ ap (λ (v : Instance → View). cond (same_name n z) (unit_of monoid_of i) (v i)) (same z g (sym (ap (λ (x : Frames World). x z) m.frames) ∙ at)) ∙ sym (m.piece i z));
+        k.piece i z ∙ ap (λ (v : Instance → View). cond (same_name n z) (unit_of monoid_of i) (v i)) (same z g (sym (ap (λ (x : Frames FrameEnv). x z) m.frames) ∙ at)) ∙ sym (m.piece i z));
     joins = k.joins ∙ sym m.joins;
     totals = k.totals ∙ sym m.totals;
     stopped = k.stopped ∙ sym m.stopped;
@@ -210,15 +210,15 @@ module _ (p : Source) (inputs : List ℤ) where
 -- ---- a run that is over
 
 -- the deed that started this child
-record StartedAt (ds : List (Deed World)) (q : ℕ) : Type 0 where
-  pub before : List (Deed World)
+record StartedAt (ds : List (Deed FrameEnv)) (q : ℕ) : Type 0 where
+  pub before : List (Deed FrameEnv)
   pub how : Invocation
-  pub what : World
-  pub after : List (Deed World)
+  pub what : FrameEnv
+  pub after : List (Deed FrameEnv)
   pub are : ds ≡ before ++ Invokes how what ∷ after
   pub number : q ≡ suc (started before)
 
-ordinal_at : (ds : List (Deed World)) (q : ℕ) → 0 < q → q ≤ started ds → StartedAt ds q
+ordinal_at : (ds : List (Deed FrameEnv)) (q : ℕ) → 0 < q → q ≤ started ds → StartedAt ds q
 ordinal_at [] q low high = absurd (omega (arith, low, high))
 ordinal_at (Does e ∷ ds) q low high =
     let r = ordinal_at ds q low high in
@@ -230,7 +230,7 @@ ordinal_at (Invokes k w ∷ ds) (suc (suc q)) low high =
     let n = r.number in
     record { before = Invokes k w ∷ r.before; how = r.how; what = r.what; after = r.after; are = ap (λ l. Invokes k w ∷ l) r.are; number = omega (arith, n) }
 
-over_is : (ds : List (Deed World)) → HasEnd ds → has_ended ds ≡ true
+over_is : (ds : List (Deed FrameEnv)) → HasEnd ds → has_ended ds ≡ true
 over_is [] h = absurd h
 over_is (Does (Reads c v) ∷ ds) h = over_is ds h
 over_is (Does (Writes c v) ∷ ds) h = over_is ds h
@@ -252,14 +252,14 @@ length_child : (m : Name) (q : ℕ) → length (m ++ q ∷ []) ≡ suc (length m
 length_child [] q = refl
 length_child (k ∷ m) q = ap suc (length_child m q)
 
-module _ (s : State World View) (kids : OutliveChildren s) (over : IsOver s) where
+module _ (s : State FrameEnv View) (kids : OutliveChildren s) (over : IsOver s) where
   abbrev AreOver : ℕ → Type 0
-  AreOver l = (n : Name) (f : Frame World) → length n ≤ l → s.frames n ≡ Some f → has_ended f.deeds ≡ true
+  AreOver l = (n : Name) (f : Frame FrameEnv) → length n ≤ l → s.frames n ≡ Some f → has_ended f.deeds ≡ true
 
-  root_over : (n : Name) (f : Frame World) → s.frames n ≡ Some f → n ≡ [] → has_ended f.deeds ≡ true
+  root_over : (n : Name) (f : Frame FrameEnv) → s.frames n ≡ Some f → n ≡ [] → has_ended f.deeds ≡ true
   root_over n f here e = over_is f.deeds (subst (λ o. HasEnd (deeds_at o)) (ap s.frames (sym e) ∙ here) over)
 
-  child_over : (l : ℕ) → AreOver l → (n : Name) (f : Frame World) → length n ≤ suc l → s.frames n ≡ Some f → (m : Name) (q : ℕ) → n ≡ m ++ q ∷ [] → (o : Option (Frame World)) → s.frames m ≡ o → has_ended f.deeds ≡ true
+  child_over : (l : ℕ) → AreOver l → (n : Name) (f : Frame FrameEnv) → length n ≤ suc l → s.frames n ≡ Some f → (m : Name) (q : ℕ) → n ≡ m ++ q ∷ [] → (o : Option (Frame FrameEnv)) → s.frames m ≡ o → has_ended f.deeds ≡ true
   child_over l earlier n f low here m q e None at =
       let c = kids.counted m q f (ap s.frames (sym e) ∙ here) in
       let c0 = c.0 in
@@ -290,12 +290,12 @@ module _ (s : State World View) (kids : OutliveChildren s) (over : IsOver s) whe
       by (inl e) earlier = root_over n f here e
       by (inr (m, q, e)) earlier = child_over l earlier n f low here m q e (s.frames m) refl
 
-  pub over_all : (n : Name) (f : Frame World) → s.frames n ≡ Some f → has_ended f.deeds ≡ true
+  pub over_all : (n : Name) (f : Frame FrameEnv) → s.frames n ≡ Some f → has_ended f.deeds ≡ true
   over_all n f here = over_below (length n) n f (omega arith) here
 
-  pub asks_no_more : (p : Source) (inputs : List ℤ) (n : Name) (f : Frame World) (a : Ask World) → s.frames n ≡ Some f → next p inputs f.what f.deeds ≡ Some a → ⊥
+  pub asks_no_more : (p : Source) (inputs : List ℤ) (n : Name) (f : Frame FrameEnv) (a : Ask FrameEnv) → s.frames n ≡ Some f → next p inputs f.what f.deeds ≡ Some a → ⊥
   asks_no_more p inputs n f a here is = by (has_ended f.deeds) _ (over_all n f here) is
     where
-      by : (b : Bool) (x : Ask World) → b ≡ true → cond b None (Some x) ≡ Some a → ⊥
+      by : (b : Bool) (x : Ask FrameEnv) → b ≡ true → cond b None (Some x) ≡ Some a → ⊥
       by true x e z = let b : ⊥ = cc in b
       by false x e z = true≢false (sym e)

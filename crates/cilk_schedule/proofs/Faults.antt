@@ -13,25 +13,25 @@ use Rattle.cilk_lower.specs.Code.{CodeView}
 use Rattle.cilk_frames.specs.declared.activation.Activation.{Activation}
 use Rattle.cilk_runs.specs.Machine.{State, Steps}
 use Rattle.cilk_runs.specs.Runs.{Name}
-use Rattle.cilk_runs.specs.WorldMachine.{costs}
+use Rattle.cilk_runs.specs.FrameEnvMachine.{costs}
 use Rattle.cilk_runs.specs.Reducers.{View, monoid_of}
 use Rattle.cilk_runs.specs.Steps.{Next, OneStep, Reaches}
-use Rattle.cilk_runs.specs.Worlds.{World}
+use Rattle.cilk_runs.specs.FrameEnvs.{FrameEnv}
 use Rattle.cilk_scheduler.specs.Asking.{WentOn, WentOnFrom, refusal}
-use Rattle.cilk_scheduler.specs.Desks.{BlockIsOver, StopsAt}
+use Rattle.cilk_scheduler.specs.WorkerTables.{BlockIsOver, StopsAt}
 use Rattle.cilk_scheduler.specs.Noting.{HasFrame}
 use Rattle.cilk_scheduler.specs.Parts.{must_wait}
 use Rattle.cilk_scheduler.specs.Stopping.{IsRefused, latest}
-use Rattle.cilk_scheduler.specs.declared.board.Board.{Board}
+use Rattle.cilk_scheduler.specs.declared.scheduler.Scheduler.{Scheduler}
 use Rattle.cilk_scheduler.specs.declared.choice.Choice.{Choice}
 use Rattle.cilk_scheduler.specs.declared.choice.Choice.TheVariants as choices
 use Rattle.cilk_scheduler.specs.declared.choice.Stop.{Stop}
 use Rattle.cilk_scheduler.specs.declared.choice.Stop.TheVariants as stops
 use Rattle.cilk_scheduler.specs.declared.choice.Told.{Told}
-use Rattle.cilk_scheduler.specs.declared.seat.Due.{Due}
-use Rattle.cilk_scheduler.specs.declared.seat.Due.TheVariants as due
-use Rattle.cilk_scheduler.specs.declared.seat.Seat.{Seat}
-use Rattle.cilk_scheduler.specs.declared.seat.Worker.{Worker}
+use Rattle.cilk_scheduler.specs.declared.frame_state.Due.{Due}
+use Rattle.cilk_scheduler.specs.declared.frame_state.Due.TheVariants as due
+use Rattle.cilk_scheduler.specs.declared.frame_state.FrameState.{FrameState}
+use Rattle.cilk_scheduler.specs.declared.frame_state.Worker.{Worker}
 use Rattle.cilk_scheduler.proofs.Changing.{changed_here, changed_length}
 use Rattle.cilk_scheduler.proofs.OverBlocks.{blocks_are_over}
 use Rattle.cilk_scheduler.proofs.Plain.{get_low}
@@ -46,17 +46,17 @@ use Rattle.cilk_schedule.proofs.Stepping.{held_place}
 
 -- ---- the strand
 
-strands_stay : (code : CodeView) (inputs : List ℤ) (x : Seat) (ask : Ask) (x' : Seat) → WentOn code inputs x ask x' → x'.strands ≡ x.strands
+strands_stay : (code : CodeView) (inputs : List ℤ) (x : FrameState) (ask : Ask) (x' : FrameState) → WentOn code inputs x ask x' → x'.strands ≡ x.strands
 strands_stay code inputs x ask x' went = by x.due went
   where
     by : (q : Due) → WentOnFrom code inputs q x ask x' → x'.strands ≡ x.strands
-    by due.Begin h = ap (λ (z : Seat). z.strands) h.1
-    by (due.Answer a) h = ap (λ (z : Seat). z.strands) h.now
-    by due.Sync h = ap (λ (z : Seat). z.strands) h.1
+    by due.Begin h = ap (λ (z : FrameState). z.strands) h.1
+    by (due.Answer a) h = ap (λ (z : FrameState). z.strands) h.now
+    by due.Sync h = ap (λ (z : FrameState). z.strands) h.1
 
 -- ---- a choice that a fault stops
 
-module _ (code : CodeView) (inputs : List ℤ) (b b1 : Board) (v k : ℕ) (ready : IsReadyAt b (suc v) k) (go : WentTo code inputs b b1 k) (fault : Fault) where
+module _ (code : CodeView) (inputs : List ℤ) (b b1 : Scheduler) (v k : ℕ) (ready : IsReadyAt b (suc v) k) (go : WentTo code inputs b b1 k) (fault : Fault) where
   came_at : let f = b1.frames in slice_get f.items k ≡ Some (record go.seat { cursor = go.came })
   came_at = let f = b.frames in ap (λ l. slice_get l k) go.frames ∙ changed_here (λ _. go.came) f.items k go.seat go.sits
 
@@ -70,7 +70,7 @@ module _ (code : CodeView) (inputs : List ℤ) (b b1 : Board) (v k : ℕ) (ready
   abbrev Found : Type 0
   Found =
       let f = b1.frames in let c = b1.cells in let e = b1.journal in
-      (a : Activation Seat) → slice_get f.items k ≡ Some a → let x = a.cursor in refusal (b1.ticks + (x.took - x.counted)) (length e.items) (length f.items) (length c.items) code.layout b1.asked ≡ Some fault
+      (a : Activation FrameState) → slice_get f.items k ≡ Some a → let x = a.cursor in refusal (b1.ticks + (x.took - x.counted)) (length e.items) (length f.items) (length c.items) code.layout b1.asked ≡ Some fault
 
   is_refused : (p : Source) → Found → IsRefused code p inputs b v k b1.asked fault
   is_refused p found =
@@ -98,7 +98,7 @@ module _ (code : CodeView) (inputs : List ℤ) (b b1 : Board) (v k : ℕ) (ready
             (subst (λ z. refusal (b1.ticks + ticks) (length e1.items) (length f1.items) (length z.items) code.layout b1.asked ≡ Some fault) go.cells (found (record go.seat { cursor = go.came }) came_at))));
       }
 
-  stops_on : Found → (b1.asked ≡ asks.Sync → (a : Activation Seat) → (let f = b1.frames in slice_get f.items k ≡ Some a) → must_wait a.cursor ≡ false) → FaultsAreStops code inputs b b1 (choices.Run (suc v)) (stops.At fault (record { frame = k + 1; number = (let y = go.came in latest y.strands) }))
+  stops_on : Found → (b1.asked ≡ asks.Sync → (a : Activation FrameState) → (let f = b1.frames in slice_get f.items k ≡ Some a) → must_wait a.cursor ≡ false) → FaultsAreStops code inputs b b1 (choices.Run (suc v)) (stops.At fault (record { frame = k + 1; number = (let y = go.came in latest y.strands) }))
   unfolding is_refused
   stops_on found passes = λ p name d s sh behind.
       let f = b.frames in
@@ -122,11 +122,11 @@ module _ (code : CodeView) (inputs : List ℤ) (b b1 : Board) (v k : ℕ) (ready
         },
       )
 
-pub refused_stops : (code : CodeView) (inputs : List ℤ) (b b1 : Board) (number v k : ℕ) → number ≡ suc v → IsReadyAt b number k → WentTo code inputs b b1 k → (fault : Fault)
-    → ((a : Activation Seat) → (let f = b1.frames in slice_get f.items k ≡ Some a) → let f = b1.frames in let c = b1.cells in let e = b1.journal in let x = a.cursor in
+pub refused_stops : (code : CodeView) (inputs : List ℤ) (b b1 : Scheduler) (number v k : ℕ) → number ≡ suc v → IsReadyAt b number k → WentTo code inputs b b1 k → (fault : Fault)
+    → ((a : Activation FrameState) → (let f = b1.frames in slice_get f.items k ≡ Some a) → let f = b1.frames in let c = b1.cells in let e = b1.journal in let x = a.cursor in
     refusal (b1.ticks + (x.took - x.counted)) (length e.items) (length f.items) (length c.items) code.layout b1.asked ≡ Some fault)
-    → (b1.asked ≡ asks.Sync → (a : Activation Seat) → (let f = b1.frames in slice_get f.items k ≡ Some a) → must_wait a.cursor ≡ false) → (stop : Stop)
-    → ((a : Activation Seat) → (let f = b1.frames in slice_get f.items k ≡ Some a) → stop ≡ stops.At fault (record { frame = k + 1; number = (let x = a.cursor in latest x.strands) }))
+    → (b1.asked ≡ asks.Sync → (a : Activation FrameState) → (let f = b1.frames in slice_get f.items k ≡ Some a) → must_wait a.cursor ≡ false) → (stop : Stop)
+    → ((a : Activation FrameState) → (let f = b1.frames in slice_get f.items k ≡ Some a) → stop ≡ stops.At fault (record { frame = k + 1; number = (let x = a.cursor in latest x.strands) }))
     → FaultsAreStops code inputs b b1 (choices.Run number) stop
 refused_stops code inputs b b1 number v k is ready go fault found passes stop told =
     let ready_at : IsReadyAt b (suc v) k = subst (λ z. IsReadyAt b z k) is ready in
@@ -134,11 +134,11 @@ refused_stops code inputs b b1 number v k is ready go fault found passes stop to
     (subst (λ z. FaultsAreStops code inputs b b1 (choices.Run (suc v)) z) (sym (told (record go.seat { cursor = go.came }) (came_at code inputs b b1 v k ready_at go fault)))
     (stops_on code inputs b b1 v k ready_at go fault found passes))
 
-pub memory_stops : (code : CodeView) (inputs : List ℤ) (b b' : Board) (c : Choice) (r : Result Told Stop) → IfErr r (λ stop. stop ≡ stops.Memory) → IfErr r (λ stop. FaultsAreStops code inputs b b' c stop)
+pub memory_stops : (code : CodeView) (inputs : List ℤ) (b b' : Scheduler) (c : Choice) (r : Result Told Stop) → IfErr r (λ stop. stop ≡ stops.Memory) → IfErr r (λ stop. FaultsAreStops code inputs b b' c stop)
 memory_stops code inputs b b' c (Ok t) q = tt
 memory_stops code inputs b b' c (Err stop) q = subst (λ z. FaultsAreStops code inputs b b' c z) (sym q) tt
 
-pub halted : (code : CodeView) (inputs : List ℤ) (b b' : Board) (c : Choice) (stop : Stop) (o : Option Stop) → FaultsAreStops code inputs b b' c stop → FaultsAreStops code inputs b (record b' { stopped = o }) c stop
+pub halted : (code : CodeView) (inputs : List ℤ) (b b' : Scheduler) (c : Choice) (stop : Stop) (o : Option Stop) → FaultsAreStops code inputs b b' c stop → FaultsAreStops code inputs b (record b' { stopped = o }) c stop
 halted code inputs b b' c stops.Memory o h = tt
 halted code inputs b b' c (stops.At fault strand) o h = λ p name d s sh behind.
     let m = h p name d s sh behind in
@@ -149,15 +149,15 @@ halted code inputs b b' c (stops.At fault strand) o h = λ p name d s sh behind.
 -- ---- steps lead there
 
 module _ (p : Source) (inputs : List ℤ) where
-  abbrev Lead : List Name → State World View → State World View → Type 0
-  Lead ns s s' = Steps World View monoid_of (Next p inputs) (costs p inputs) ns s s'
+  abbrev Lead : List Name → State FrameEnv View → State FrameEnv View → Type 0
+  Lead ns s s' = Steps FrameEnv View monoid_of (Next p inputs) (costs p inputs) ns s s'
 
-  one_after : (ns : List Name) (n : Name) (s mid s' : State World View) → Lead ns s mid → OneStep p inputs mid n s' → Lead (ns ++ n ∷ []) s s'
+  one_after : (ns : List Name) (n : Name) (s mid s' : State FrameEnv View) → Lead ns s mid → OneStep p inputs mid n s' → Lead (ns ++ n ∷ []) s s'
   one_after [] n s mid s' e one = (s', subst (λ z. OneStep p inputs z n s') e one, refl)
   one_after (m ∷ ns) n s mid s' (z, first, more) one = (z, first, one_after ns n z mid s' more one)
 
-module _ (code : CodeView) (inputs : List ℤ) (b b' : Board) (c : Choice) (p : Source) (is : IsCodeOf p code) (h : HasReached code p inputs b) where
-  one_more : (w : Choice) (s' : State World View) → StopsAt p inputs h.state h.desk w s' → (n : Name) × Reaches p inputs (h.steps ++ n ∷ []) s'
+module _ (code : CodeView) (inputs : List ℤ) (b b' : Scheduler) (c : Choice) (p : Source) (is : IsCodeOf p code) (h : HasReached code p inputs b) where
+  one_more : (w : Choice) (s' : State FrameEnv View) → StopsAt p inputs h.state h.desk w s' → (n : Name) × Reaches p inputs (h.steps ++ n ∷ []) s'
   one_more (choices.Run zero) s' stops = absurd stops
   one_more (choices.Run (suc w)) s' stops =
       let x = h.shows in
@@ -173,13 +173,13 @@ module _ (code : CodeView) (inputs : List ℤ) (b b' : Board) (c : Choice) (p : 
       let q = one_more c m.0 m.1 in
       (record { steps = h.steps ++ q.0 ∷ []; state = m.0; reaches = q.1; name = h.name; is_stopped = m.2 }, m.1)
 
-pub if_err_reaches : (code : CodeView) (inputs : List ℤ) (b b' : Board) (c : Choice) (r : Result Told Stop) (P : Type 0) → IfErr r (λ stop. P → FaultsAreStops code inputs b b' c stop) → IfErr r (λ stop. P → KeepsTold b b')
+pub if_err_reaches : (code : CodeView) (inputs : List ℤ) (b b' : Scheduler) (c : Choice) (r : Result Told Stop) (P : Type 0) → IfErr r (λ stop. P → FaultsAreStops code inputs b b' c stop) → IfErr r (λ stop. P → KeepsTold b b')
     → IfErr r (λ stop. P → (p : Source) → IsCodeOf p code → (h : HasReached code p inputs b) → StopsFrom code p inputs b h b' c stop)
 if_err_reaches code inputs b b' c (Ok t) P q k = tt
 if_err_reaches code inputs b b' c (Err stop) P q k = λ going p is h. stops_reach code inputs b b' c p is h stop (q going) (k going)
 
 -- whatever else it leaves, steps lead to the state that was stopped
-pub if_err_halts : (code : CodeView) (inputs : List ℤ) (b b' : Board) (c : Choice) (r : Result Told Stop) (P : Type 0) → IfErr r (λ stop. P → (p : Source) → IsCodeOf p code → (h : HasReached code p inputs b) → StopsFrom code p inputs b h b' c stop)
+pub if_err_halts : (code : CodeView) (inputs : List ℤ) (b b' : Scheduler) (c : Choice) (r : Result Told Stop) (P : Type 0) → IfErr r (λ stop. P → (p : Source) → IsCodeOf p code → (h : HasReached code p inputs b) → StopsFrom code p inputs b h b' c stop)
     → IfErr r (λ stop. P → (p : Source) → IsCodeOf p code → HasReached code p inputs b → HasStopped code p inputs b' stop)
 if_err_halts code inputs b b' c (Ok t) P q = tt
 if_err_halts code inputs b b' c (Err stops.Memory) P q = λ going p is h. tt

@@ -13,8 +13,8 @@ use Rattle.std.proofs.lemmas.List.{append-nil}
 use Rattle.cilk_program.specs.Syntax.{Source}
 use Rattle.cilk_runs.specs.Machine.{State, Stop}
 use Rattle.cilk_runs.specs.Reducers.{View}
-use Rattle.cilk_runs.specs.Worlds.{World}
-use Rattle.cilk_scheduler.specs.Desks.{Chooses, Comes, Desk, IsOver, StopsAt}
+use Rattle.cilk_runs.specs.FrameEnvs.{FrameEnv}
+use Rattle.cilk_scheduler.specs.WorkerTables.{Chooses, Comes, WorkerTable, IsOver, StopsAt}
 use Rattle.cilk_scheduler.specs.declared.choice.Choice.{Choice}
 use Rattle.cilk_schedule.specs.Playing.{Chosen, Choose, Done, End, Ended, Ends, Enough, Finished, Follows, IsFault, Passed, Plays, Round, Rounds, Stopped, Stops, Task, Turn, Turns, turn_of, turns}
 use Rattle.cilk_schedule.specs.declared.fault.PlayFault.{PlayFault}
@@ -46,51 +46,51 @@ turns_more worker n k e =
 
 module _ (p : Source) (inputs : List ℤ) (workers : ℕ) where
   -- tasks with any others behind come to this fault
-  abbrev pub Fails : List Task → State World View → Desk → PlayFault → Type 0
+  abbrev pub Fails : List Task → State FrameEnv View → WorkerTable → PlayFault → Type 0
   Fails tasks s d f = (rest : List Task) → IsFault (λ e. Plays p inputs workers (tasks ++ rest) s d e) f
 
-  pub follows_on : (tasks left more : List Task) (s t u : State World View) (d d' d'' : Desk) → Follows p inputs workers tasks s d left t d' → Follows p inputs workers left t d' more u d'' → Follows p inputs workers tasks s d more u d''
+  pub follows_on : (tasks left more : List Task) (s t u : State FrameEnv View) (d d' d'' : WorkerTable) → Follows p inputs workers tasks s d left t d' → Follows p inputs workers left t d' more u d'' → Follows p inputs workers tasks s d more u d''
   follows_on tasks left more s t u d d' d'' h k = λ rest e q. h rest e (k rest e q)
 
-  pub fails_later : (tasks left : List Task) (s t : State World View) (d d' : Desk) (f : PlayFault) → Follows p inputs workers tasks s d left t d' → Fails left t d' f → Fails tasks s d f
+  pub fails_later : (tasks left : List Task) (s t : State FrameEnv View) (d d' : WorkerTable) (f : PlayFault) → Follows p inputs workers tasks s d left t d' → Fails left t d' f → Fails tasks s d f
   fails_later tasks left s t d d' f h k = λ rest. fault_of (λ e. Plays p inputs workers (left ++ rest) t d' e) (λ e. Plays p inputs workers (tasks ++ rest) s d e) f (λ e q. h rest e q) (k rest)
 
   -- tasks are done, and others are left
-  pub all_ahead : (tasks behind : List Task) (s t : State World View) (d d' : Desk) → Follows p inputs workers tasks s d [] t d' → Follows p inputs workers (tasks ++ behind) s d behind t d'
+  pub all_ahead : (tasks behind : List Task) (s t : State FrameEnv View) (d d' : WorkerTable) → Follows p inputs workers tasks s d [] t d' → Follows p inputs workers (tasks ++ behind) s d behind t d'
   all_ahead tasks behind s t d d' h = λ rest e q. subst (λ ts. Plays p inputs workers ts s d e) (sym (append_assoc tasks behind rest)) (h (behind ++ rest) e q)
 
   -- they fail, whatever stands behind them
-  pub all_fail_ahead : (tasks behind : List Task) (s : State World View) (d : Desk) (f : PlayFault) → Fails tasks s d f → Fails (tasks ++ behind) s d f
+  pub all_fail_ahead : (tasks behind : List Task) (s : State FrameEnv View) (d : WorkerTable) (f : PlayFault) → Fails tasks s d f → Fails (tasks ++ behind) s d f
   all_fail_ahead tasks behind s d f h = λ rest. subst (λ ts. IsFault (λ e. Plays p inputs workers ts s d e) f) (sym (append_assoc tasks behind rest)) (h (behind ++ rest))
 
-  pub chosen : (choice : Choice) (told : Comes) (s s' : State World View) (d d' : Desk) → Chooses p inputs s d choice told s' d' → Follows p inputs workers (Choose choice ∷ []) s d [] s' d'
+  pub chosen : (choice : Choice) (told : Comes) (s s' : State FrameEnv View) (d d' : WorkerTable) → Chooses p inputs s d choice told s' d' → Follows p inputs workers (Choose choice ∷ []) s d [] s' d'
   chosen choice told s s' d d' h = λ rest e q. Chosen choice told rest s s' d d' e h q
 
   -- a stop that is told
-  pub refused : (choice : Choice) (stop : Stop) (s s' : State World View) (d : Desk) → StopsAt p inputs s d choice s' → s'.stopped ≡ Some stop → (rest : List Task) → Plays p inputs workers ((Choose choice ∷ []) ++ rest) s d (Stopped stop)
+  pub refused : (choice : Choice) (stop : Stop) (s s' : State FrameEnv View) (d : WorkerTable) → StopsAt p inputs s d choice s' → s'.stopped ≡ Some stop → (rest : List Task) → Plays p inputs workers ((Choose choice ∷ []) ++ rest) s d (Stopped stop)
   refused choice stop s s' d h is = λ rest. Stops choice stop rest s s' d h is
 
-  pub turned : (worker : ℕ) (choice : Choice) (s t : State World View) (d d' : Desk) → choice ≡ turn_of d worker → Follows p inputs workers (Choose choice ∷ []) s d [] t d' → Follows p inputs workers (Turn worker ∷ []) s d [] t d'
+  pub turned : (worker : ℕ) (choice : Choice) (s t : State FrameEnv View) (d d' : WorkerTable) → choice ≡ turn_of d worker → Follows p inputs workers (Choose choice ∷ []) s d [] t d' → Follows p inputs workers (Turn worker ∷ []) s d [] t d'
   turned worker choice s t d d' e h = λ rest end q. Turns worker rest s d end (subst (λ x. Plays p inputs workers (Choose x ∷ rest) s d end) e (h rest end q))
 
-  pub turn_fails : (worker : ℕ) (choice : Choice) (s : State World View) (d : Desk) (f : PlayFault) → choice ≡ turn_of d worker → Fails (Choose choice ∷ []) s d f → Fails (Turn worker ∷ []) s d f
+  pub turn_fails : (worker : ℕ) (choice : Choice) (s : State FrameEnv View) (d : WorkerTable) (f : PlayFault) → choice ≡ turn_of d worker → Fails (Choose choice ∷ []) s d f → Fails (Turn worker ∷ []) s d f
   turn_fails worker choice s d f e h = λ rest.
       fault_of (λ end. Plays p inputs workers (Choose choice ∷ rest) s d end) (λ end. Plays p inputs workers (Turn worker ∷ rest) s d end) f
       (λ end q. Turns worker rest s d end (subst (λ x. Plays p inputs workers (Choose x ∷ rest) s d end) e q)) (h rest)
 
-  pub rounds_ended : (count : ℕ) (s : State World View) (d : Desk) → IsOver s → Follows p inputs workers (Rounds count ∷ []) s d [] s d
+  pub rounds_ended : (count : ℕ) (s : State FrameEnv View) (d : WorkerTable) → IsOver s → Follows p inputs workers (Rounds count ∷ []) s d [] s d
   rounds_ended count s d h = λ rest e q. Ended count rest s d e h q
 
-  pub rounds_enough : (s : State World View) (d : Desk) → Follows p inputs workers (Rounds zero ∷ []) s d [] s d
+  pub rounds_enough : (s : State FrameEnv View) (d : WorkerTable) → Follows p inputs workers (Rounds zero ∷ []) s d [] s d
   rounds_enough s d = λ rest e q. Enough rest s d e q
 
-  pub round_begins : (count : ℕ) (s : State World View) (d : Desk) → ¬ (IsOver s) → Follows p inputs workers (Rounds (suc count) ∷ []) s d (turns 1 workers ++ (Rounds count ∷ [])) s d
+  pub round_begins : (count : ℕ) (s : State FrameEnv View) (d : WorkerTable) → ¬ (IsOver s) → Follows p inputs workers (Rounds (suc count) ∷ []) s d (turns 1 workers ++ (Rounds count ∷ [])) s d
   round_begins count s d h = λ rest e q. Round count rest s d e h (subst (λ ts. Plays p inputs workers ts s d e) (append_assoc (turns 1 workers) (Rounds count ∷ []) rest) q)
 
   -- all of a script is done
-  pub led : (tasks : List Task) (s t : State World View) (d d' : Desk) → Follows p inputs workers tasks s d [] t d' → Plays p inputs workers tasks s d (Done t d')
+  pub led : (tasks : List Task) (s t : State FrameEnv View) (d d' : WorkerTable) → Follows p inputs workers tasks s d [] t d' → Plays p inputs workers tasks s d (Done t d')
   led tasks s t d d' h = subst (λ ts. Plays p inputs workers ts s d (Done t d')) (append-nil tasks) (h [] (Done t d') (Finished t d'))
 
   -- it comes to a fault
-  pub led_to_fault : (tasks : List Task) (s : State World View) (d : Desk) (f : PlayFault) → Fails tasks s d f → IsFault (Plays p inputs workers tasks s d) f
+  pub led_to_fault : (tasks : List Task) (s : State FrameEnv View) (d : WorkerTable) (f : PlayFault) → Fails tasks s d f → IsFault (Plays p inputs workers tasks s d) f
   led_to_fault tasks s d f h = subst (λ ts. IsFault (λ e. Plays p inputs workers ts s d e) f) (append-nil tasks) (h [])

@@ -9,7 +9,7 @@ use Rattle.cilk_types.specs.declared.invocation.Invocation.TheVariants.{Call, Sp
 use Rattle.cilk_runs.specs.Cuts.{joined_at, sync_bit}
 use Rattle.cilk_runs.specs.Runs.{Name, Granted, Begins, Resumes, Creates, Updates, Sets, Values, Prints, Deed, Does, Invokes, Reads, Writes, Syncs, Ends, Passes}
 use Rattle.cilk_runs.specs.Runs.{Event as Done}
-use Rattle.cilk_runs.specs.Worlds.{World}
+use Rattle.cilk_runs.specs.FrameEnvs.{FrameEnv}
 use Rattle.cilk_schedule.specs.Showing.{AreShown, IsEventShown, IsMarkShown, has_sync, joins_child}
 use Rattle.cilk_schedule.specs.declared.naming.ShownEvent.{ShownEvent}
 
@@ -31,7 +31,7 @@ module _ (name : ℕ → Name) (count : ℕ) where
   joins_past (Passes m) e h k es = let r = marks_past m e h k es in r.0
 
   -- a sync is shown as one, and nothing else is
-  sync_shown : (n : Name) (z : ℕ) (ds : List (Deed World)) (es : List ShownEvent) → AreShown name count n z ds es → sync_bit ds ≡ cond (has_sync es) 1 0
+  sync_shown : (n : Name) (z : ℕ) (ds : List (Deed FrameEnv)) (es : List ShownEvent) → AreShown name count n z ds es → sync_bit ds ≡ cond (has_sync es) 1 0
   sync_shown n z [] [] h = refl
   sync_shown n z [] (e ∷ es) h = absurd h
   sync_shown n z (Does (Reads c v) ∷ ds) [] h = absurd h
@@ -49,7 +49,7 @@ module _ (name : ℕ → Name) (count : ℕ) where
   sync_shown n z (Invokes Spawn w ∷ ds) (e ∷ es) h = sync_shown n (suc z) ds es h.2 ∙ ap (λ x. cond (has_sync (x ∷ es)) 1 0) (sym h.1)
 
   -- no child is started again
-  none_later : (n : Name) (k z : ℕ) (ds : List (Deed World)) (es : List ShownEvent) → k < z → AreShown name count n z ds es → joins_child k es ≡ false
+  none_later : (n : Name) (k z : ℕ) (ds : List (Deed FrameEnv)) (es : List ShownEvent) → k < z → AreShown name count n z ds es → joins_child k es ≡ false
   none_later n k z [] [] less h = refl
   none_later n k z [] (e ∷ es) less h = absurd h
   none_later n k z (Does d ∷ ds) [] less h = absurd h
@@ -59,7 +59,7 @@ module _ (name : ℕ → Name) (count : ℕ) where
   none_later n k z (Invokes Spawn w ∷ ds) (e ∷ es) less h =
       ap (λ x. joins_child k (x ∷ es)) h.1 ∙ ap (λ t. cond t (has_sync es) (joins_child k es)) (ne_eqb z k (λ q. absurd (omega (arith, less, q)))) ∙ none_later n k (suc z) ds es (omega (arith, less)) h.2
 
-  pub joins_shown : (n : Name) (k z : ℕ) (ds : List (Deed World)) (es : List ShownEvent) → AreShown name count n z ds es → joined_at z k ds ≡ cond (joins_child k es) 1 0
+  pub joins_shown : (n : Name) (k z : ℕ) (ds : List (Deed FrameEnv)) (es : List ShownEvent) → AreShown name count n z ds es → joined_at z k ds ≡ cond (joins_child k es) 1 0
   joins_shown n k z [] [] h = refl
   joins_shown n k z [] (e ∷ es) h = absurd h
   joins_shown n k z (Does d ∷ ds) [] h = absurd h

@@ -14,18 +14,18 @@ use Rattle.cilk_lower.specs.Code.{CodeView}
 use Rattle.cilk_runs.specs.Machine.{State, Stop}
 use Rattle.cilk_runs.specs.Runs.{Name}
 use Rattle.cilk_runs.specs.Reducers.{View}
-use Rattle.cilk_runs.specs.Worlds.{World}
-use Rattle.cilk_scheduler.specs.Boards.{hand_of}
-use Rattle.cilk_scheduler.specs.Desks.{Chooses, Desk, IsOver, StopsAt}
+use Rattle.cilk_runs.specs.FrameEnvs.{FrameEnv}
+use Rattle.cilk_scheduler.specs.Schedulers.{hand_of}
+use Rattle.cilk_scheduler.specs.WorkerTables.{Chooses, WorkerTable, IsOver, StopsAt}
 use Rattle.cilk_scheduler.specs.Workers.{frame_in, held_by}
-use Rattle.cilk_scheduler.specs.declared.board.Board.{Board}
+use Rattle.cilk_scheduler.specs.declared.scheduler.Scheduler.{Scheduler}
 use Rattle.cilk_scheduler.specs.declared.choice.Choice.{Choice}
 use Rattle.cilk_scheduler.specs.declared.choice.Choice.TheVariants as choices
 use Rattle.cilk_scheduler.specs.declared.choice.Stop as stopping
 use Rattle.cilk_scheduler.specs.declared.choice.Stop.TheVariants as stops
 use Rattle.cilk_scheduler.specs.declared.choice.Strand.{Strand}
 use Rattle.cilk_scheduler.specs.declared.choice.Told.{Told}
-use Rattle.cilk_scheduler.specs.declared.seat.Worker.{Worker}
+use Rattle.cilk_scheduler.specs.declared.frame_state.Worker.{Worker}
 use Rattle.cilk_schedule.specs.Faults.{FaultsAreStops, IsStoppedBy}
 use Rattle.cilk_schedule.specs.Played.{IsAt}
 use Rattle.cilk_schedule.specs.Reached.{HasReached, LeadsOn, comes_of}
@@ -105,7 +105,7 @@ module _ (workers : ℕ) (m m' : Machine) (choice : Choice) (stop : stopping.Sto
   Faults z = FaultsAreStops (let c = m.code in c.now) (let i = m.input in i.now) m.board m'.board choice z
 
   -- the name of the strand, by the board
-  name_is : (code : CodeView) (p : Source) (inputs : List ℤ) (name : ℕ → Name) (fault : _) (strand : Strand) (s : State World View) (told : List ℕ) → (q : IsStoppedBy code p inputs name m'.board fault strand s) → IsNameIn m'.board strand told
+  name_is : (code : CodeView) (p : Source) (inputs : List ℤ) (name : ℕ → Name) (fault : _) (strand : Strand) (s : State FrameEnv View) (told : List ℕ) → (q : IsStoppedBy code p inputs name m'.board fault strand s) → IsNameIn m'.board strand told
       → told ≡ name q.place ++ strand.number ∷ []
   name_is code p inputs name fault strand s told q is = let t = q.tells in is name q.place q.frame t.named q.here
 
@@ -129,7 +129,7 @@ module _ (workers : ℕ) (m m' : Machine) (choice : Choice) (stop : stopping.Sto
 -- ---- turns
 
 -- a worker that has a frame by the desk has one by the board
-busy_is : (code : CodeView) (p : Source) (inputs : List ℤ) (b : Board) (h : HasReached code p inputs b) (worker : ℕ) → is_busy h.desk worker ≡ is_some (held_by (let ws = b.workers in ws.items) worker)
+busy_is : (code : CodeView) (p : Source) (inputs : List ℤ) (b : Scheduler) (h : HasReached code p inputs b) (worker : ℕ) → is_busy h.desk worker ≡ is_some (held_by (let ws = b.workers in ws.items) worker)
 busy_is code p inputs b h zero = refl
 busy_is code p inputs b h (suc v) =
     let ws = b.workers in
@@ -146,16 +146,16 @@ busy_is code p inputs b h (suc v) =
     by (Some u) = idle_or u.frame
 
 -- what a worker does in its turn, by the board
-abbrev pub turn_at : Board → ℕ → Choice
+abbrev pub turn_at : Scheduler → ℕ → Choice
 turn_at b worker = if is_some (held_by (let ws = b.workers in ws.items) worker) then choices.Run worker else choices.Steal worker 0
 
-turn_is : (code : CodeView) (p : Source) (inputs : List ℤ) (b : Board) (h : HasReached code p inputs b) (worker : ℕ) (choice : Choice) → choice ≡ turn_at b worker → choice ≡ turn_of h.desk worker
+turn_is : (code : CodeView) (p : Source) (inputs : List ℤ) (b : Scheduler) (h : HasReached code p inputs b) (worker : ℕ) (choice : Choice) → choice ≡ turn_at b worker → choice ≡ turn_of h.desk worker
 turn_is code p inputs b h worker choice e = e ∙ ap (λ t. if t then choices.Run worker else choices.Steal worker 0) (sym (busy_is code p inputs b h worker))
 
-pub turn_runs : (b : Board) (worker : ℕ) → is_some (held_by (let ws = b.workers in ws.items) worker) ≡ true → choices.Run worker ≡ turn_at b worker
+pub turn_runs : (b : Scheduler) (worker : ℕ) → is_some (held_by (let ws = b.workers in ws.items) worker) ≡ true → choices.Run worker ≡ turn_at b worker
 turn_runs b worker h = sym (ap (λ t. if t then choices.Run worker else choices.Steal worker 0) h)
 
-pub turn_steals : (b : Board) (worker : ℕ) → is_some (held_by (let ws = b.workers in ws.items) worker) ≡ false → choices.Steal worker 0 ≡ turn_at b worker
+pub turn_steals : (b : Scheduler) (worker : ℕ) → is_some (held_by (let ws = b.workers in ws.items) worker) ≡ false → choices.Steal worker 0 ≡ turn_at b worker
 turn_steals b worker h = sym (ap (λ t. if t then choices.Run worker else choices.Steal worker 0) h)
 
 pub leads_turned : (workers worker : ℕ) (choice : Choice) (m m' : Machine) → choice ≡ turn_at m.board worker → Leads workers (Choose choice ∷ []) m [] m' → Leads workers (Turn worker ∷ []) m [] m'
@@ -190,14 +190,14 @@ comes_turn workers tasks worker n k l m f h e lost =
 
 -- ---- rounds
 
-is_over : (code : CodeView) (p : Source) (inputs : List ℤ) (b : Board) (h : HasReached code p inputs b) → is_some b.outcome ≡ true → IsOver h.state
+is_over : (code : CodeView) (p : Source) (inputs : List ℤ) (b : Scheduler) (h : HasReached code p inputs b) → is_some b.outcome ≡ true → IsOver h.state
 is_over code p inputs b h e = by b.outcome refl e
   where
     by : (o : Option Outcome) → b.outcome ≡ o → is_some o ≡ true → IsOver h.state
     by None at z = let f : ⊥ = true≢false (sym z) in absurd f
     by (Some o) at z = let x = h.shows in let t = x.tells in let r = t.over o at in r.0
 
-is_not_over : (code : CodeView) (p : Source) (inputs : List ℤ) (b : Board) (h : HasReached code p inputs b) → is_some b.outcome ≡ false → ¬ (IsOver h.state)
+is_not_over : (code : CodeView) (p : Source) (inputs : List ℤ) (b : Scheduler) (h : HasReached code p inputs b) → is_some b.outcome ≡ false → ¬ (IsOver h.state)
 is_not_over code p inputs b h e = by b.outcome refl e
   where
     by : (o : Option Outcome) → b.outcome ≡ o → is_some o ≡ false → ¬ (IsOver h.state)

@@ -12,10 +12,10 @@ use Rattle.cilk_program.specs.Syntax.{Source}
 use Rattle.cilk_lower.specs.Code.{CodeView}
 use Rattle.cilk_runs.specs.Machine.{State}
 use Rattle.cilk_runs.specs.Reducers.{View}
-use Rattle.cilk_runs.specs.Worlds.{World}
-use Rattle.cilk_scheduler.specs.Boards.{ShowsBy}
-use Rattle.cilk_scheduler.specs.Desks.{Chooses, Comes, Did, Skipped, Stole, Waited}
-use Rattle.cilk_scheduler.specs.declared.board.Board.{Board}
+use Rattle.cilk_runs.specs.FrameEnvs.{FrameEnv}
+use Rattle.cilk_scheduler.specs.Schedulers.{ShowsBy}
+use Rattle.cilk_scheduler.specs.WorkerTables.{Chooses, Comes, Did, Skipped, Stole, Waited}
+use Rattle.cilk_scheduler.specs.declared.scheduler.Scheduler.{Scheduler}
 use Rattle.cilk_scheduler.specs.declared.choice.Act.{Act}
 use Rattle.cilk_scheduler.specs.declared.choice.Choice.{Choice}
 use Rattle.cilk_scheduler.specs.declared.choice.Told.{Told}
@@ -29,9 +29,9 @@ use Rattle.cilk_schedule.specs.Passing.{SkipsAreSteps, StealsAreSteps, SyncsAreS
 use Rattle.cilk_schedule.specs.Reached.{HasReached, IsReached, LeadsOn, comes_of}
 use Rattle.cilk_schedule.specs.Sound.{IsCodeOf}
 use Rattle.cilk_schedule.specs.Starting.{StartsAreSteps}
-use Rattle.cilk_schedule.proofs.FirstBoards.{goes_on}
+use Rattle.cilk_schedule.proofs.FirstSchedulers.{goes_on}
 
-pub reached_of : (code : CodeView) (p : Source) (inputs : List ℤ) (b : Board) → IsCodeOf p code → (h : HasReached code p inputs b) → IsReached code p inputs h.name b h.desk h.state
+pub reached_of : (code : CodeView) (p : Source) (inputs : List ℤ) (b : Scheduler) → IsCodeOf p code → (h : HasReached code p inputs b) → IsReached code p inputs h.name b h.desk h.state
 reached_of code p inputs b is h =
     let asked = does_as_asked p inputs in
     let outlive = parents_outlive p inputs in
@@ -45,13 +45,13 @@ reached_of code p inputs b is h =
       started = started.reached h.steps h.state h.reaches;
     }
 
-module _ (code : CodeView) (inputs : List ℤ) (b b' : Board) (c : Choice) (p : Source) (is : IsCodeOf p code) (h : HasReached code p inputs b) where
+module _ (code : CodeView) (inputs : List ℤ) (b b' : Scheduler) (c : Choice) (p : Source) (is : IsCodeOf p code) (h : HasReached code p inputs b) where
   -- the choice, by names, leads from the one state to the other
   abbrev Leads : Comes → Type 0
   Leads t = (h' : HasReached code p inputs b') × Chooses p inputs h.state h.desk c t h'.state h'.desk
 
   -- by a step whose board keeps names and desk
-  led_by : (s' : State World View) × Chooses p inputs h.state h.desk c Did s' h.desk × ShowsBy code p inputs h.name b' h.desk s' → Leads Did
+  led_by : (s' : State FrameEnv View) × Chooses p inputs h.state h.desk c Did s' h.desk × ShowsBy code p inputs h.name b' h.desk s' → Leads Did
   led_by m = goes_on code p inputs b b' h c Did m.0 h.desk h.name m.1 m.2
 
   events_reach : (frame : ℕ) (e : Event) → (let act : Act = record { frame = frame; event = e } in EventsAreSteps code inputs b b' c (told.Did act) × StartsAreSteps code inputs b b' c (told.Did act) × SyncsAreSteps code inputs b b' c (told.Did act) × EndsAreSteps code inputs b b' c (told.Did act))
@@ -98,7 +98,7 @@ module _ (code : CodeView) (inputs : List ℤ) (b b' : Board) (c : Choice) (p : 
       let m = skips p h.name h.desk h.state r.shown in
       goes_on code p inputs b b' h c Skipped h.state h.desk h.name m.0 m.1
 
-pub if_ok_reaches : (code : CodeView) (inputs : List ℤ) (b b' : Board) (c : Choice) (r : Result Told Stop) → IfOk r (λ t. EventsAreSteps code inputs b b' c t) → IfOk r (λ t. StartsAreSteps code inputs b b' c t)
+pub if_ok_reaches : (code : CodeView) (inputs : List ℤ) (b b' : Scheduler) (c : Choice) (r : Result Told Stop) → IfOk r (λ t. EventsAreSteps code inputs b b' c t) → IfOk r (λ t. StartsAreSteps code inputs b b' c t)
     → IfOk r (λ t. SyncsAreSteps code inputs b b' c t) → IfOk r (λ t. EndsAreSteps code inputs b b' c t) → IfOk r (λ t. StealsAreSteps code inputs b b' c t) → IfOk r (λ t. WaitsAreSteps code inputs b b' c t)
     → IfOk r (λ t. SkipsAreSteps code inputs b b' c t) → IfOk r (λ t. (p : Source) → IsCodeOf p code → LeadsOn code p inputs b b' c t)
 if_ok_reaches code inputs b b' c (Ok t) touches starts syncs ends steals waits skips = λ p is h. choices_reach code inputs b b' c p is h t touches starts syncs ends steals waits skips

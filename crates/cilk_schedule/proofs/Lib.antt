@@ -4,11 +4,11 @@ pub mod Arriving
 pub mod Begun
 pub mod Coming
 pub mod Deciding
-pub mod DecidingDesks
+pub mod DecidingWorkerTables
 pub mod DecidingSteps
 pub mod Departing
 pub mod Faults
-pub mod FirstBoards
+pub mod FirstSchedulers
 pub mod Following
 pub mod Joined
 pub mod Keeping

@@ -14,8 +14,8 @@ use Rattle.std.proofs.lemmas.Option.{get_or_from_slice_get}
 use Rattle.cilk_types.specs.declared.event.Event.{Event}
 use Rattle.cilk_frames.specs.declared.activation.Activation.{Activation}
 use Rattle.cilk_scheduler.specs.Numbered.{child_at, children_among, events_of, parent_at}
-use Rattle.cilk_scheduler.specs.declared.seat.JournalEntry.{JournalEntry}
-use Rattle.cilk_scheduler.specs.declared.seat.Seat.{Seat}
+use Rattle.cilk_scheduler.specs.declared.frame_state.JournalEntry.{JournalEntry}
+use Rattle.cilk_scheduler.specs.declared.frame_state.FrameState.{FrameState}
 use Rattle.cilk_scheduler.proofs.Children.{part_of}
 use Rattle.cilk_scheduler.proofs.Kept.{events_more}
 use Rattle.cilk_scheduler.proofs.Placed.{get_some}
@@ -46,7 +46,7 @@ child_off m k zero ne = refl
 child_off m k (suc n) ne = ap (λ t. cond t (suc n ∷ []) []) (ne_eqb m k ne)
 
 -- a frame has no child among those up to it
-none_yet : (frames : List (Activation Seat)) → HaveParents frames → (k n : ℕ) → n ≤ suc k → n ≤ length frames → children_among frames k n ≡ []
+none_yet : (frames : List (Activation FrameState)) → HaveParents frames → (k n : ℕ) → n ≤ suc k → n ≤ length frames → children_among frames k n ≡ []
 none_yet frames h k zero low few = refl
 none_yet frames h k (suc zero) low few = by (parent_at frames 0)
   where
@@ -58,7 +58,7 @@ none_yet frames h k (suc (suc n)) low few =
     let x = g.0 in
     let y = x.cursor in
     let less = h n g.0 g.1 in
-    ap₂ (λ l o. l ++ child_at o k (suc n)) (none_yet frames h k (suc n) (omega (arith, low)) (omega (arith, few))) (ap (λ (o : Option (Activation Seat)). option_map (λ (a : Activation Seat). let z = a.cursor in z.parent) o) g.1)
+    ap₂ (λ l o. l ++ child_at o k (suc n)) (none_yet frames h k (suc n) (omega (arith, low)) (omega (arith, few))) (ap (λ (o : Option (Activation FrameState)). option_map (λ (a : Activation FrameState). let z = a.cursor in z.parent) o) g.1)
     ∙ child_off y.parent k (suc n) (λ e. absurd (omega (arith, e, less, low)))
 
 pub child_added : (list : List ShownFrame) (parent : ℕ) (f f' : ShownFrame) → slice_get list parent ≡ Some f → f'.link ≡ f.link → f'.events ≡ f.events → (let c = f'.children in let d = f.children in c.items ≡ d.items ++ length list ∷ []) → AddsChild list (slice_set list parent f') parent
@@ -97,7 +97,7 @@ child_nowhere list parent none = record {
   };
 }
 
-module _ (frames : List (Activation Seat)) (n : ℕ) (a : Activation Seat) (list list' : List ShownFrame) (f : ShownFrame) (at : slice_get frames n ≡ Some a) (h : HaveLinks frames n list) (more : (let x = a.cursor in AddsChild list list' x.parent)) (link : f.link ≡ link_of a)
+module _ (frames : List (Activation FrameState)) (n : ℕ) (a : Activation FrameState) (list list' : List ShownFrame) (f : ShownFrame) (at : slice_get frames n ≡ Some a) (h : HaveLinks frames n list) (more : (let x = a.cursor in AddsChild list list' x.parent)) (link : f.link ≡ link_of a)
     (no_children : (let c = f.children in c.items ≡ [])) (no_events : (let e = f.events in e.items ≡ [])) where
   low : n < length frames
   low = get_low frames n a at
@@ -109,14 +109,14 @@ module _ (frames : List (Activation Seat)) (n : ℕ) (a : Activation Seat) (list
   many' = sym (length-map list' (λ (g : ShownFrame). g.link)) ∙ ap (λ (l : List Link). length l) more.links ∙ length-map list (λ (g : ShownFrame). g.link) ∙ many
 
   taken : take (n + 1) frames ≡ take n frames ++ a ∷ []
-  taken = take_more frames n a low ∙ ap (λ (z : Activation Seat). take n frames ++ z ∷ []) (get_or_from_slice_get frames n a a at)
+  taken = take_more frames n a low ∙ ap (λ (z : Activation FrameState). take n frames ++ z ∷ []) (get_or_from_slice_get frames n a a at)
 
   links_now : links_in (list' ++ f ∷ []) ≡ links_of (take (n + 1) frames)
   links_now =
       map-append (λ (g : ShownFrame). g.link) list' (f ∷ []) ∙ ap₂ (λ l x. l ++ x ∷ []) (more.links ∙ h.links) link ∙ sym (map-append link_of (take n frames) (a ∷ [])) ∙ ap links_of (sym taken)
 
   next : (k : ℕ) → children_among frames k (suc n) ≡ children_among frames k n ++ (let x = a.cursor in child_at (Some x.parent) k n)
-  next k = ap (λ o. children_among frames k n ++ child_at o k n) (ap (λ (o : Option (Activation Seat)). option_map (λ (z : Activation Seat). let y = z.cursor in y.parent) o) at)
+  next k = ap (λ o. children_among frames k n ++ child_at o k n) (ap (λ (o : Option (Activation FrameState)). option_map (λ (z : Activation FrameState). let y = z.cursor in y.parent) o) at)
 
   one : n + 1 ≡ suc n
   one = omega arith
@@ -146,7 +146,7 @@ module _ (frames : List (Activation Seat)) (n : ℕ) (a : Activation Seat) (list
 
 -- ---- events
 
-module _ (frames : List (Activation Seat)) (globals : ℕ) where
+module _ (frames : List (Activation FrameState)) (globals : ℕ) where
   pub first_gathered : (list : List ShownFrame) → HaveLinks frames (length frames) list → AreGathered frames globals [] list
   first_gathered list h = record {
     links = h.links ∙ ap links_of (take_all (length frames) frames (omega arith));

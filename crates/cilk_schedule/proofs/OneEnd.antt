@@ -14,8 +14,8 @@ use Rattle.cilk_runs.specs.Machine.{State, Stop}
 use Rattle.cilk_runs.specs.Runs.{Name}
 use Rattle.cilk_runs.specs.Reducers.{View}
 use Rattle.cilk_runs.specs.Steps.{Reaches}
-use Rattle.cilk_runs.specs.Worlds.{World}
-use Rattle.cilk_scheduler.specs.Desks.{Desk, IsOver}
+use Rattle.cilk_runs.specs.FrameEnvs.{FrameEnv}
+use Rattle.cilk_scheduler.specs.WorkerTables.{WorkerTable, IsOver}
 use Rattle.cilk_scheduler.specs.Openings.{first_desk}
 use Rattle.cilk_determinacy.specs.Settled.{IsSettled}
 use Rattle.cilk_schedule.specs.Deciding.{Agree}
@@ -31,7 +31,7 @@ some_is : {A : Type 0} (x y : A) → Some x ≡ Some y → x ≡ y
 some_is x y e = cc
 
 module _ (p : Source) (inputs : List ℤ) (workers : ℕ) where
-  plays_once : (tasks : List Task) (s t : State World View) (d : Desk) (e e' : End) → deciding.IsGoing p inputs s → Agree s t → Plays p inputs workers tasks s d e → Plays p inputs workers tasks t d e' → SameEnd p inputs e e'
+  plays_once : (tasks : List Task) (s t : State FrameEnv View) (d : WorkerTable) (e e' : End) → deciding.IsGoing p inputs s → Agree s t → Plays p inputs workers tasks s d e → Plays p inputs workers tasks t d e' → SameEnd p inputs e e'
   plays_once tasks s t d e e' going agree (Finished _ _) (Finished _ _) = (refl, agree)
   plays_once tasks s t d e e' going agree (Chosen choice told rest _ s' _ d' _ h k) (Chosen _ told' _ _ t' _ d'' _ h' k') =
       let law = choices_decide p inputs in
@@ -62,10 +62,10 @@ module _ (p : Source) (inputs : List ℤ) (workers : ℕ) where
   -- steps lead to the end of a script
   abbrev pub IsReached : End → Type 0
   IsReached (Done s d) = deciding.IsGoing p inputs s
-  IsReached (Stopped stop) = (ns : List Name) × (s : State World View) × Reaches p inputs ns s × (s.stopped ≡ Some stop)
+  IsReached (Stopped stop) = (ns : List Name) × (s : State FrameEnv View) × Reaches p inputs ns s × (s.stopped ≡ Some stop)
   IsReached (Passed line) = Unit {0}
 
-  reached_by : (tasks : List Task) (s : State World View) (d : Desk) (e : End) → deciding.IsGoing p inputs s → Plays p inputs workers tasks s d e → IsReached e
+  reached_by : (tasks : List Task) (s : State FrameEnv View) (d : WorkerTable) (e : End) → deciding.IsGoing p inputs s → Plays p inputs workers tasks s d e → IsReached e
   reached_by tasks s d e going (Finished _ _) = going
   reached_by tasks s d e going (Chosen choice told rest _ s' _ d' _ h k) = let law = choices_decide p inputs in reached_by rest s' d' e (law.goes_on s s' d d' choice told going h) k
   reached_by tasks s d e going (Stops choice stop rest _ s' _ h is) = let law = choices_decide p inputs in let r = law.halts s s' d choice going h in (r.0, s', r.1, is)
@@ -78,7 +78,7 @@ module _ (p : Source) (inputs : List ℤ) (workers : ℕ) where
   pub reached_end : (steps : List Step) (e : End) → Ends p inputs workers steps e → IsReached e
   reached_end steps e h = let law = choices_decide p inputs in reached_by (tasks_of steps) h.0 (first_desk (workers - 1)) e (law.first h.0 h.1) h.2
 
-  pub settled_end : (steps : List Step) (s : State World View) (d : Desk) → Ends p inputs workers steps (Done s d) → (left : Option Outcome) → Leaves p s left → LeavesAsSettled p inputs left
+  pub settled_end : (steps : List Step) (s : State FrameEnv View) (d : WorkerTable) → Ends p inputs workers steps (Done s d) → (left : Option Outcome) → Leaves p s left → LeavesAsSettled p inputs left
   settled_end steps s d h None leaves outcome settled = tt
   settled_end steps s d h (Some o) leaves outcome settled =
       let r = reached_end steps (Done s d) h in
@@ -103,7 +103,7 @@ one_end p inputs workers steps e e' h k =
 -- ---- what is told of it is one
 
 module _ (p : Source) (inputs : List ℤ) (workers : ℕ) (steps : List Step) where
-  one_outcome : (s t : State World View) → deciding.IsGoing p inputs s → Agree s t → (left left' : Option Outcome) → Leaves p s left → Leaves p t left' → left' ≡ left
+  one_outcome : (s t : State FrameEnv View) → deciding.IsGoing p inputs s → Agree s t → (left left' : Option Outcome) → Leaves p s left → Leaves p t left' → left' ≡ left
   one_outcome s t going agree None None h k = refl
   one_outcome s t going agree None (Some o) h k = absurd (h (subst (λ z. IsOver (record t { frames = z })) agree.frames k.0))
   one_outcome s t going agree (Some o) None h k = absurd (k (subst (λ z. IsOver (record s { frames = z })) (sym agree.frames) h.0))

@@ -12,17 +12,17 @@ use Rattle.cilk_lower.specs.Code.{CodeView}
 use Rattle.cilk_frames.specs.Cursor.{CursorView}
 use Rattle.cilk_frames.specs.declared.activation.Activation.{Activation}
 use Rattle.cilk_scheduler.specs.Asking.{IsReady, WentOn, refusal}
-use Rattle.cilk_scheduler.specs.Seats.{changed, counted}
-use Rattle.cilk_scheduler.specs.declared.board.Board.{Board}
-use Rattle.cilk_scheduler.specs.declared.seat.JournalEntry.{JournalEntry}
-use Rattle.cilk_scheduler.specs.declared.seat.Seat.{Seat}
+use Rattle.cilk_scheduler.specs.FrameStates.{changed, counted}
+use Rattle.cilk_scheduler.specs.declared.scheduler.Scheduler.{Scheduler}
+use Rattle.cilk_scheduler.specs.declared.frame_state.JournalEntry.{JournalEntry}
+use Rattle.cilk_scheduler.specs.declared.frame_state.FrameState.{FrameState}
 use Rattle.cilk_scheduler.proofs.Changing.{changed_length}
 use Rattle.cilk_schedule.specs.Sound.{IsAsked, IsMade, IsQuiet, IsTurn, Runs, Sound}
 use Rattle.cilk_schedule.proofs.Coming.{came, ready}
 use Rattle.cilk_schedule.proofs.Sounds.{IsStill, push_length, still_keeps}
 use Rattle.cilk_schedule.proofs.Workers.{inside}
 
-module _ (code : CodeView) (inputs : List ℤ) (b : Board) (r : Runs code inputs b) (k : ℕ) (a : Activation Seat) (c : CursorView)
+module _ (code : CodeView) (inputs : List ℤ) (b : Scheduler) (r : Runs code inputs b) (k : ℕ) (a : Activation FrameState) (c : CursorView)
     (at : let f = b.frames in slice_get f.items k ≡ Some a) (has : let x = a.cursor in x.cursor ≡ Some c) where
   pub is_ready : let x = a.cursor in IsReady code inputs x
   is_ready =
@@ -33,7 +33,7 @@ module _ (code : CodeView) (inputs : List ℤ) (b : Board) (r : Runs code inputs
       let e = b.journal in
       ready code r.program inputs r.is_code f.items (length d.items) (length e.items) a c has n.took (s.rests k a c at (λ q. cc) has)
 
-  pub is_asked : (x : Seat) (ask : Ask) → (let y = a.cursor in WentOn code inputs y ask x) → (b' : Board) → (let f = b.frames in let g = b'.frames in g.items ≡ changed (λ _. x) f.items k)
+  pub is_asked : (x : FrameState) (ask : Ask) → (let y = a.cursor in WentOn code inputs y ask x) → (b' : Scheduler) → (let f = b.frames in let g = b'.frames in g.items ≡ changed (λ _. x) f.items k)
       → b'.cells ≡ b.cells → b'.journal ≡ b.journal → b'.offered ≡ b.offered → b'.ticks ≡ b.ticks → b'.asked ≡ ask → IsAsked code inputs b' k
   is_asked x ask went b' frames_are cells_are journal_is offered_is ticks_are asked_is =
       let p = r.program in
@@ -56,7 +56,7 @@ module _ (code : CodeView) (inputs : List ℤ) (b : Board) (r : Runs code inputs
         offers = subst (λ e'. b'.offered ≤ length e'.items) (sym journal_is) (let q = r.offers in omega (arith, q, offered_is));
       }
 
-module _ (code : CodeView) (inputs : List ℤ) (b : Board) (k : ℕ) (t : IsAsked code inputs b k) (a : Activation Seat) (at : let f = b.frames in slice_get f.items k ≡ Some a) where
+module _ (code : CodeView) (inputs : List ℤ) (b : Scheduler) (k : ℕ) (t : IsAsked code inputs b k) (a : Activation FrameState) (at : let f = b.frames in slice_get f.items k ≡ Some a) where
   pub few_uncounted : let x = a.cursor in (x.counted ≤ x.took) × (b.ticks + x.took < 2 ^ 32)
   few_uncounted =
       let s = t.sound in
@@ -66,7 +66,7 @@ module _ (code : CodeView) (inputs : List ℤ) (b : Board) (k : ℕ) (t : IsAske
       (n.counted, omega (arith, few, took))
 
 -- with other room for events
-pub is_turn : (code : CodeView) (inputs : List ℤ) (b : Board) (k : ℕ) → IsAsked code inputs b k → (ticks : ℕ) (b' : Board) → b'.frames ≡ b.frames → b'.cells ≡ b.cells → (let e = b.journal in let e' = b'.journal in e'.items ≡ e.items)
+pub is_turn : (code : CodeView) (inputs : List ℤ) (b : Scheduler) (k : ℕ) → IsAsked code inputs b k → (ticks : ℕ) (b' : Scheduler) → b'.frames ≡ b.frames → b'.cells ≡ b.cells → (let e = b.journal in let e' = b'.journal in e'.items ≡ e.items)
     → b'.offered ≡ b.offered → b'.ticks ≡ b.ticks → b'.asked ≡ b.asked
     → (let f = b.frames in let d = b.cells in let e = b.journal in refusal ticks (length e.items) (length f.items) (length d.items) code.layout b.asked ≡ None) → IsTurn code inputs b' k
 is_turn code inputs b k t ticks b' frames_are cells_are items_are offered_is ticks_are asked_is accepted =
@@ -106,7 +106,7 @@ count_still = record {
   cursor = λ x. refl;
 }
 
-pub runs_on : (code : CodeView) (inputs : List ℤ) (b : Board) (k : ℕ) → IsMade code inputs b → (let f = b.frames in k < length f.items) → (entry : JournalEntry) (b' : Board)
+pub runs_on : (code : CodeView) (inputs : List ℤ) (b : Scheduler) (k : ℕ) → IsMade code inputs b → (let f = b.frames in k < length f.items) → (entry : JournalEntry) (b' : Scheduler)
     → (let f = b.frames in let f' = b'.frames in f'.items ≡ changed counted f.items k) → b'.cells ≡ b.cells → (let e = b.journal in let e' = b'.journal in e'.items ≡ e.items ++ entry ∷ [])
     → b'.offered ≡ b.offered → b'.ticks ≤ MAX_TICKS → Runs code inputs b'
 runs_on code inputs b k m here entry b' frames_are cells_are items_are offered_is few =
@@ -128,7 +128,7 @@ runs_on code inputs b k m here entry b' frames_are cells_are items_are offered_i
       offers = let q = m.offers in omega (arith, q, offered_is, one);
     }
 
-pub runs_quiet : (code : CodeView) (inputs : List ℤ) (b : Board) → Runs code inputs b → (b' : Board) → (let f = b.frames in let f' = b'.frames in IsQuiet f.items f'.items) → b'.cells ≡ b.cells → b'.journal ≡ b.journal → b'.ticks ≡ b.ticks → b'.offered ≤ b.offered → Runs code inputs b'
+pub runs_quiet : (code : CodeView) (inputs : List ℤ) (b : Scheduler) → Runs code inputs b → (b' : Scheduler) → (let f = b.frames in let f' = b'.frames in IsQuiet f.items f'.items) → b'.cells ≡ b.cells → b'.journal ≡ b.journal → b'.ticks ≡ b.ticks → b'.offered ≤ b.offered → Runs code inputs b'
 runs_quiet code inputs b r b' still cells_are journal_is ticks_are offered_is =
     let p = r.program in
     let f' = b'.frames in

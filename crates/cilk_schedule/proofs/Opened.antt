@@ -18,8 +18,8 @@ use Rattle.cilk_frames.specs.Following.{Stands, owed_for}
 use Rattle.cilk_frames.specs.Sight.{HasScope}
 use Rattle.cilk_frames.specs.declared.activation.Activation.{Activation}
 use Rattle.cilk_serial.proofs.Sights.{root_sees}
-use Rattle.cilk_scheduler.specs.Seats.{seated}
-use Rattle.cilk_scheduler.specs.declared.seat.Seat.{Seat}
+use Rattle.cilk_scheduler.specs.FrameStates.{seated}
+use Rattle.cilk_scheduler.specs.declared.frame_state.FrameState.{FrameState}
 use Rattle.cilk_serial.specs.Scoped.{Sees}
 use Rattle.cilk_schedule.specs.Sound.{Counts, FitsDue, IsCodeOf, Lives, Rests, Sound}
 use Rattle.cilk_schedule.proofs.Coming.{some_is}
@@ -32,7 +32,7 @@ few_cells p well =
     let cells = main.cells in
     omega (arith, few, cells)
 
-module _ (code : CodeView) (p : Source) (inputs : List ℤ) (is_code : IsCodeOf p code) (a : Activation Seat) (c : CursorView) (cells : ℕ) (cells_is : cells ≡ length p.openings + cells_of p callees.Root)
+module _ (code : CodeView) (p : Source) (inputs : List ℤ) (is_code : IsCodeOf p code) (a : Activation FrameState) (c : CursorView) (cells : ℕ) (cells_is : cells ≡ length p.openings + cells_of p callees.Root)
     (seat : a.cursor ≡ seated 0 0 Invocation.Call 0 c) (number : a.number ≡ 1) (result : a.result ≡ None) (creator : let l = code.layout in a.creator ≡ Some l.main)
     (links : HasScope (a ∷ []) a (home_of p callees.Root 1 (length p.openings) [] ∷ [])) (stands : Stands code inputs p callees.Root c [] 0) (owes : c.owed ≡ owed_for asks.Begin) where
   root_lives : Lives code p inputs (a ∷ []) cells 0 a
@@ -48,12 +48,12 @@ module _ (code : CodeView) (p : Source) (inputs : List ℤ) (is_code : IsCodeOf 
 
   root_counts : Counts code p inputs (a ∷ []) cells 0 a
   root_counts = let e = seat in record {
-    parent = let t = ap (λ (x : Seat). x.parent) e in omega (arith, t);
-    last = let t = ap (λ (x : Seat). x.last) e in omega (arith, t);
-    children = let t = ap (λ (x : Seat). x.children) e in omega (arith, t);
-    strands = let t = ap (λ (x : Seat). x.strands) e in omega (arith, t);
-    counted = let t = ap (λ (x : Seat). x.counted) e in omega (arith, t);
-    took = let t = ap (λ (x : Seat). x.took) e in omega (arith, t);
+    parent = let t = ap (λ (x : FrameState). x.parent) e in omega (arith, t);
+    last = let t = ap (λ (x : FrameState). x.last) e in omega (arith, t);
+    children = let t = ap (λ (x : FrameState). x.children) e in omega (arith, t);
+    strands = let t = ap (λ (x : FrameState). x.strands) e in omega (arith, t);
+    counted = let t = ap (λ (x : FrameState). x.counted) e in omega (arith, t);
+    took = let t = ap (λ (x : FrameState). x.took) e in omega (arith, t);
     low = links.low;
     creates = λ function q.
         let l = code.layout in
@@ -75,17 +75,17 @@ module _ (code : CodeView) (p : Source) (inputs : List ℤ) (is_code : IsCodeOf 
     opened = omega (arith, cells_is);
   }
     where
-      at_counts : (j : ℕ) (b : Activation Seat) → slice_get (a ∷ []) j ≡ Some b → Counts code p inputs (a ∷ []) cells 0 b
-      at_counts zero b at = subst (λ (z : Activation Seat). Counts code p inputs (a ∷ []) cells 0 z) (some_is a b at) root_counts
+      at_counts : (j : ℕ) (b : Activation FrameState) → slice_get (a ∷ []) j ≡ Some b → Counts code p inputs (a ∷ []) cells 0 b
+      at_counts zero b at = subst (λ (z : Activation FrameState). Counts code p inputs (a ∷ []) cells 0 z) (some_is a b at) root_counts
       at_counts (suc j) b at = let z : None ≡ Some b = at in cc
 
-      at_rests : (j : ℕ) (b : Activation Seat) (d : CursorView) → slice_get (a ∷ []) j ≡ Some b → (let x = b.cursor in x.cursor ≡ Some d) → Rests code p inputs (a ∷ []) cells 0 b d
+      at_rests : (j : ℕ) (b : Activation FrameState) (d : CursorView) → slice_get (a ∷ []) j ≡ Some b → (let x = b.cursor in x.cursor ≡ Some d) → Rests code p inputs (a ∷ []) cells 0 b d
       at_rests zero b d at is =
           let e = some_is a b at in
-          let same : c ≡ d = some_is c d (sym (ap (λ (x : Seat). x.cursor) seat) ∙ subst (λ (z : Activation Seat). let x = z.cursor in x.cursor ≡ Some d) (sym e) is) in
-          subst (λ (z : Activation Seat). Rests code p inputs (a ∷ []) cells 0 z d) e (record {
+          let same : c ≡ d = some_is c d (sym (ap (λ (x : FrameState). x.cursor) seat) ∙ subst (λ (z : Activation FrameState). let x = z.cursor in x.cursor ≡ Some d) (sym e) is) in
+          subst (λ (z : Activation FrameState). Rests code p inputs (a ∷ []) cells 0 z d) e (record {
             lives = root_lives;
-            stands = subst (λ n. Stands code inputs p callees.Root d [] n) (sym (ap (λ (x : Seat). x.took) seat)) (subst (λ z. Stands code inputs p callees.Root z [] 0) same stands);
-            fits = subst (λ q. FitsDue d.owed q) (sym (ap (λ (x : Seat). x.due) seat)) (subst (λ (z : CursorView). z.owed ≡ owed_for asks.Begin) same owes);
+            stands = subst (λ n. Stands code inputs p callees.Root d [] n) (sym (ap (λ (x : FrameState). x.took) seat)) (subst (λ z. Stands code inputs p callees.Root z [] 0) same stands);
+            fits = subst (λ q. FitsDue d.owed q) (sym (ap (λ (x : FrameState). x.due) seat)) (subst (λ (z : CursorView). z.owed ≡ owed_for asks.Begin) same owes);
           })
       at_rests (suc j) b d at is = let z : None ≡ Some b = at in cc

@@ -9,13 +9,13 @@ use Rattle.cilk_hypermap.specs.declared.hypermap.Hypermap.{Hypermap}
 use Rattle.cilk_scheduler.specs.EndParts.{Brings, NotOffered, OfferedBy, Seeks}
 use Rattle.cilk_frames.specs.Leaving.{outcome_of}
 use Rattle.cilk_scheduler.specs.Parts.{freed, working}
-use Rattle.cilk_scheduler.specs.Seats.{changed, moved_to, passed}
+use Rattle.cilk_scheduler.specs.FrameStates.{changed, moved_to, passed}
 use Rattle.cilk_scheduler.specs.Workers.{altered}
-use Rattle.cilk_scheduler.specs.declared.board.Board.{Board}
-use Rattle.cilk_scheduler.specs.declared.seat.Seat.{Seat}
-use Rattle.cilk_scheduler.specs.declared.seat.Status.{Status}
-use Rattle.cilk_scheduler.specs.declared.seat.Status.TheVariants.{Held}
-use Rattle.cilk_scheduler.specs.declared.seat.Worker.{Worker}
+use Rattle.cilk_scheduler.specs.declared.scheduler.Scheduler.{Scheduler}
+use Rattle.cilk_scheduler.specs.declared.frame_state.FrameState.{FrameState}
+use Rattle.cilk_scheduler.specs.declared.frame_state.Status.{Status}
+use Rattle.cilk_scheduler.specs.declared.frame_state.Status.TheVariants.{Held}
+use Rattle.cilk_scheduler.specs.declared.frame_state.Worker.{Worker}
 use Rattle.cilk_scheduler.proofs.Placed.{get_there}
 use Rattle.cilk_scheduler.proofs.Viewing.{viewing_at}
 use Rattle.cilk_schedule.specs.Ends.{BringsPiece, PartsTo, LeavesRun, MayBring}
@@ -30,7 +30,7 @@ pub seeks_length : (k : ℕ) (status : Status) (workers after : List Worker) (be
 seeks_length k status workers after before offered (NotOffered none is offered_is) = ap length is
 seeks_length k status workers after before offered (OfferedBy v owner without found e at same gone is offered_is) = ap length is ∙ altered_length (λ _. without) workers v
 
-pub leaves_by : (code : CodeView) (b b' : Board) (w : ℕ) (v : ℤ) (m : Worker) (left : Hypermap) → (let l = b.workers in m ≡ slice_index_or l.items w m) → (let l = b.workers in w < length l.items)
+pub leaves_by : (code : CodeView) (b b' : Scheduler) (w : ℕ) (v : ℤ) (m : Worker) (left : Hypermap) → (let l = b.workers in m ≡ slice_index_or l.items w m) → (let l = b.workers in w < length l.items)
     → (let c = b.cells in b'.outcome ≡ Some (outcome_of code.layout c.items m.views v)) → (let f = b.frames in let g = b'.frames in g.items ≡ f.items)
     → (let l = b.workers in let n = b'.workers in n.items ≡ altered freed (slice_set l.items w (record m { views = left })) w) → b'.offered ≡ b.offered → PartsTo code b b' w 0 v
 leaves_by code b b' w v m left is low outcome frames workers offered = λ u finds at.
@@ -39,7 +39,7 @@ leaves_by code b b' w v m left is low outcome frames workers offered = λ u find
     let same : m ≡ u = same_at l.items w m u (get_there l.items w m is low) at in
     LeavesRun refl left (subst (λ (z : Worker). b'.outcome ≡ Some (outcome_of code.layout c.items z.views v)) same outcome) frames (workers ∙ ap (λ ws. altered freed ws w) (viewing_at left l.items w m is low)) offered
 
-pub arrives_by : (code : CodeView) (b b' : Board) (w k : ℕ) (v : ℤ) (a above : Activation Seat) (m : Worker) (joined : Seat) (left : Hypermap) (passes : Bool) (brought : List (Activation Seat)) → 0 < k → (let f = b.frames in slice_get f.items k ≡ Some a)
+pub arrives_by : (code : CodeView) (b b' : Scheduler) (w k : ℕ) (v : ℤ) (a above : Activation FrameState) (m : Worker) (joined : FrameState) (left : Hypermap) (passes : Bool) (brought : List (Activation FrameState)) → 0 < k → (let f = b.frames in slice_get f.items k ≡ Some a)
     → (let x = a.cursor in x.stolen ≡ true) → (let x = a.cursor in let f = b.frames in slice_get f.items x.parent ≡ Some above) → (let l = b.workers in m ≡ slice_index_or l.items w m) → (let l = b.workers in w < length l.items)
     → (let x = a.cursor in MayBring above.cursor x.ordinal → Brings above.cursor x.ordinal m.views passes joined left) → (let x = a.cursor in let f = b.frames in brought ≡ changed (λ _. joined) f.items x.parent)
     → (let x = a.cursor in let g = b'.frames in g.items ≡ cond passes (changed (moved_to (Held w)) (changed passed brought x.parent) x.parent) brought)

@@ -7,7 +7,7 @@ use Rattle.std.proofs.lemmas.List.{append-nil, reverse-append}
 use Rattle.cilk_frames.specs.declared.activation.Activation.{Activation}
 use Rattle.cilk_runs.specs.Runs.{Name}
 use Rattle.cilk_scheduler.specs.Numbered.{AreNamed}
-use Rattle.cilk_scheduler.specs.declared.seat.Seat.{Seat}
+use Rattle.cilk_scheduler.specs.declared.frame_state.FrameState.{FrameState}
 
 -- The frame's name is that of the frame at this place, and then the ordinals told so far, last first. Each step leads to an earlier frame.
 pub record IsOnWay (name : ℕ → Name) (frame : ℕ) (told : List ℕ) (place counter : ℕ) : Type 0 where
@@ -17,8 +17,8 @@ pub record IsOnWay (name : ℕ → Name) (frame : ℕ) (told : List ℕ) (place 
 pub begins : (name : ℕ → Name) (frame : ℕ) → IsOnWay name frame [] frame 0
 begins name frame = record { whole = sym (append-nil (name frame)); near = omega arith }
 
-module _ (frames : List (Activation Seat)) (name : ℕ → Name) (named : AreNamed frames name) (frame : ℕ) (told : List ℕ) where
-  pub onward : (place counter : ℕ) → IsOnWay name frame told place counter → 0 < place → (a : Activation Seat) → slice_get frames place ≡ Some a → (let x = a.cursor in IsOnWay name frame (told ++ x.ordinal ∷ []) x.parent (counter + 1))
+module _ (frames : List (Activation FrameState)) (name : ℕ → Name) (named : AreNamed frames name) (frame : ℕ) (told : List ℕ) where
+  pub onward : (place counter : ℕ) → IsOnWay name frame told place counter → 0 < place → (a : Activation FrameState) → slice_get frames place ≡ Some a → (let x = a.cursor in IsOnWay name frame (told ++ x.ordinal ∷ []) x.parent (counter + 1))
   onward zero counter h some a at = absurd (omega (arith, some))
   onward (suc k) counter h some a at =
       let x = a.cursor in

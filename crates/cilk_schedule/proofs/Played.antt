@@ -15,11 +15,11 @@ use Rattle.cilk_runs.specs.Machine.{State}
 use Rattle.cilk_runs.specs.Runs.{Name}
 use Rattle.cilk_runs.specs.Reducers.{View}
 use Rattle.cilk_runs.specs.Steps.{IsFirst, Reaches}
-use Rattle.cilk_runs.specs.Worlds.{World}
-use Rattle.cilk_scheduler.specs.Boards.{Tells}
-use Rattle.cilk_scheduler.specs.Desks.{Chooses, Comes, Desk, StopsAt}
+use Rattle.cilk_runs.specs.FrameEnvs.{FrameEnv}
+use Rattle.cilk_scheduler.specs.Schedulers.{Tells}
+use Rattle.cilk_scheduler.specs.WorkerTables.{Chooses, Comes, WorkerTable, StopsAt}
 use Rattle.cilk_scheduler.specs.Openings.{first_desk}
-use Rattle.cilk_scheduler.specs.declared.board.Board.{Board}
+use Rattle.cilk_scheduler.specs.declared.scheduler.Scheduler.{Scheduler}
 use Rattle.cilk_scheduler.specs.declared.choice.Choice.{Choice}
 use Rattle.cilk_scheduler.specs.declared.choice.Stop.{Stop}
 use Rattle.cilk_scheduler.specs.declared.choice.Stop.TheVariants as stops
@@ -37,27 +37,27 @@ use Rattle.cilk_schedule.proofs.Deciding.{choices_decide}
 -- ---- one after another
 
 module _ (p : Source) (inputs : List ℤ) where
-  pub lead_on : (done : List Choice) (choice : Choice) (told : Comes) (s t u : State World View) (d e f : Desk) → ChoicesLead p inputs done s d t e → Chooses p inputs t e choice told u f → ChoicesLead p inputs (done ++ choice ∷ []) s d u f
+  pub lead_on : (done : List Choice) (choice : Choice) (told : Comes) (s t u : State FrameEnv View) (d e f : WorkerTable) → ChoicesLead p inputs done s d t e → Chooses p inputs t e choice told u f → ChoicesLead p inputs (done ++ choice ∷ []) s d u f
   lead_on [] choice told s t u d e f (same, at) h =
       (told, u, f, subst (λ z. Chooses p inputs z d choice told u f) same (subst (λ z. Chooses p inputs t z choice told u f) at h), (refl, refl))
   lead_on (c ∷ done) choice told s t u d e f (x, z, g, one, more) h = (x, z, g, one, lead_on done choice told z t u g e f more h)
 
-  pub stop_behind : (done rest : List Choice) (choice : Choice) (s t u : State World View) (d e : Desk) → ChoicesLead p inputs done s d t e → StopsAt p inputs t e choice u → ChoicesStop p inputs (done ++ choice ∷ rest) s d u
+  pub stop_behind : (done rest : List Choice) (choice : Choice) (s t u : State FrameEnv View) (d e : WorkerTable) → ChoicesLead p inputs done s d t e → StopsAt p inputs t e choice u → ChoicesStop p inputs (done ++ choice ∷ rest) s d u
   stop_behind [] rest choice s t u d e (same, at) h = inl (subst (λ z. StopsAt p inputs z d choice u) same (subst (λ z. StopsAt p inputs t z choice u) at h))
   stop_behind (c ∷ done) rest choice s t u d e (x, z, g, one, more) h = inr (x, z, g, one, stop_behind done rest choice z t u g e more h)
 
   -- ---- a list has one end
 
-  goes_by : (choices : List Choice) (s s' : State World View) (d d' : Desk) → IsGoing p inputs s → ChoicesLead p inputs choices s d s' d' → IsGoing p inputs s'
+  goes_by : (choices : List Choice) (s s' : State FrameEnv View) (d d' : WorkerTable) → IsGoing p inputs s → ChoicesLead p inputs choices s d s' d' → IsGoing p inputs s'
   goes_by [] s s' d d' going (same, at) = subst (λ z. IsGoing p inputs z) (sym same) going
   goes_by (c ∷ choices) s s' d d' going (x, t, e, one, more) = let law = choices_decide p inputs in goes_by choices t s' e d' (law.goes_on s t d e c x going one) more
 
-  halts_by : (choices : List Choice) (s s' : State World View) (d : Desk) → IsGoing p inputs s → ChoicesStop p inputs choices s d s' → (ns : List Name) × Reaches p inputs ns s'
+  halts_by : (choices : List Choice) (s s' : State FrameEnv View) (d : WorkerTable) → IsGoing p inputs s → ChoicesStop p inputs choices s d s' → (ns : List Name) × Reaches p inputs ns s'
   halts_by [] s s' d going h = absurd h
   halts_by (c ∷ choices) s s' d going (inl h) = let law = choices_decide p inputs in law.halts s s' d c going h
   halts_by (c ∷ choices) s s' d going (inr (x, t, e, one, more)) = let law = choices_decide p inputs in halts_by choices t s' e (law.goes_on s t d e c x going one) more
 
-  leads_by : (choices : List Choice) (s t s' t' : State World View) (d d' d'' : Desk) → IsGoing p inputs s → Agree s t → ChoicesLead p inputs choices s d s' d' → ChoicesLead p inputs choices t d t' d'' → (d'' ≡ d') × Agree s' t'
+  leads_by : (choices : List Choice) (s t s' t' : State FrameEnv View) (d d' d'' : WorkerTable) → IsGoing p inputs s → Agree s t → ChoicesLead p inputs choices s d s' d' → ChoicesLead p inputs choices t d t' d'' → (d'' ≡ d') × Agree s' t'
   leads_by [] s t s' t' d d' d'' going agree (same, at) (same', at') =
       (at' ∙ sym at, subst (λ z. Agree z t') (sym same) (subst (λ z. Agree s z) (sym same') agree))
   leads_by (c ∷ choices) s t s' t' d d' d'' going agree (x, u, e, one, more) (y, v, f, other, rest) =
@@ -65,7 +65,7 @@ module _ (p : Source) (inputs : List ℤ) where
       let r = law.leads s t u v d e f c x y going agree one other in
       leads_by choices u v s' t' e d' d'' (law.goes_on s u d e c x going one) r.2 more (subst (λ z. ChoicesLead p inputs choices v z t' d'') r.1 rest)
 
-  stops_by : (choices : List Choice) (s t s' t' : State World View) (d : Desk) → IsGoing p inputs s → Agree s t → ChoicesStop p inputs choices s d s' → ChoicesStop p inputs choices t d t' → t'.stopped ≡ s'.stopped
+  stops_by : (choices : List Choice) (s t s' t' : State FrameEnv View) (d : WorkerTable) → IsGoing p inputs s → Agree s t → ChoicesStop p inputs choices s d s' → ChoicesStop p inputs choices t d t' → t'.stopped ≡ s'.stopped
   stops_by [] s t s' t' d going agree h k = absurd h
   stops_by (c ∷ choices) s t s' t' d going agree (inl h) (inl k) = let law = choices_decide p inputs in law.stops s t s' t' d c going agree h k
   stops_by (c ∷ choices) s t s' t' d going agree (inl h) (inr (y, v, f, other, rest)) = let law = choices_decide p inputs in absurd (law.apart s t s' v d f c y going agree h other)
@@ -75,7 +75,7 @@ module _ (p : Source) (inputs : List ℤ) where
       let r = law.leads s t u v d e f c x y going agree one other in
       stops_by choices u v s' t' e (law.goes_on s u d e c x going one) r.2 more (subst (λ z. ChoicesStop p inputs choices v z t') r.1 rest)
 
-  apart_by : (choices : List Choice) (s t s' t' : State World View) (d d' : Desk) → IsGoing p inputs s → Agree s t → ChoicesStop p inputs choices s d s' → ChoicesLead p inputs choices t d t' d' → ⊥
+  apart_by : (choices : List Choice) (s t s' t' : State FrameEnv View) (d d' : WorkerTable) → IsGoing p inputs s → Agree s t → ChoicesStop p inputs choices s d s' → ChoicesLead p inputs choices t d t' d' → ⊥
   apart_by [] s t s' t' d d' going agree h k = h
   apart_by (c ∷ choices) s t s' t' d d' going agree (inl h) (y, v, f, other, rest) = let law = choices_decide p inputs in law.apart s t s' v d f c y going agree h other
   apart_by (c ∷ choices) s t s' t' d d' going agree (inr (x, u, e, one, more)) (y, v, f, other, rest) =
@@ -93,7 +93,7 @@ pub moved : (c c' : Bor CodeView) (i i' : Bor (List ℤ)) → c' ≡ c → i' �
 moved c c' i i' e d P x = subst (λ (z : Bor CodeView). P z.now i'.now) (sym e) (subst (λ (y : Bor (List ℤ)). P c.now y.now) (sym d) x)
 
 -- a state and a desk that a board shows
-pub at_moved : (c c' : Bor CodeView) (i i' : Bor (List ℤ)) → c' ≡ c → i' ≡ i → (p : Source) (b : Board) (Q : State World View → Desk → Type 0) → (h : HasReached c.now p i.now b) × Q h.state h.desk → (h' : HasReached c'.now p i'.now b) × Q h'.state h'.desk
+pub at_moved : (c c' : Bor CodeView) (i i' : Bor (List ℤ)) → c' ≡ c → i' ≡ i → (p : Source) (b : Scheduler) (Q : State FrameEnv View → WorkerTable → Type 0) → (h : HasReached c.now p i.now b) × Q h.state h.desk → (h' : HasReached c'.now p i'.now b) × Q h'.state h'.desk
 at_moved c c' i i' e d p b Q r = moved c c' i i' e d (λ x y. (h : HasReached x p y b) × Q h.state h.desk) r
 
 pub lead_same : (m : Machine) → LeadOn [] m m
@@ -140,7 +140,7 @@ module _ (done : List Choice) (choice : Choice) (l m m' : Machine) (first : Lead
 
 -- ---- what is left
 
-pub leaves_by : (code : CodeView) (p : Source) (inputs : List ℤ) (name : ℕ → Name) (b : Board) (s : State World View) → Tells code p inputs name b s → (left : Option Outcome) → b.outcome ≡ left → Leaves p s left
+pub leaves_by : (code : CodeView) (p : Source) (inputs : List ℤ) (name : ℕ → Name) (b : Scheduler) (s : State FrameEnv View) → Tells code p inputs name b s → (left : Option Outcome) → b.outcome ≡ left → Leaves p s left
 leaves_by code p inputs name b s t None e = t.going e
 leaves_by code p inputs name b s t (Some o) e = t.over o e
 

@@ -7,10 +7,10 @@ use Rattle.cilk_program.specs.Syntax.{Source}
 use Rattle.cilk_lower.specs.Code.{CodeView}
 use Rattle.cilk_runs.specs.Machine.{State, Steps}
 use Rattle.cilk_runs.specs.Runs.{Name}
-use Rattle.cilk_runs.specs.WorldMachine.{costs}
+use Rattle.cilk_runs.specs.FrameEnvMachine.{costs}
 use Rattle.cilk_runs.specs.Reducers.{View, monoid_of}
 use Rattle.cilk_runs.specs.Steps.{Next}
-use Rattle.cilk_runs.specs.Worlds.{World}
+use Rattle.cilk_runs.specs.FrameEnvs.{FrameEnv}
 use Rattle.cilk_scheduler.specs.Histories.{DidAsAsked}
 use Rattle.cilk_scheduler.specs.Parents.{AreStarted, OutliveChildren}
 use Rattle.cilk_scheduler.proofs.Choosing.{choices_are_steps}
@@ -20,15 +20,15 @@ use Rattle.cilk_scheduler.proofs.Parents.{names_are_kept, parents_outlive}
 use Rattle.cilk_schedule.specs.Reached.{ChoicesLeadOn}
 
 module _ (p : Source) (inputs : List ℤ) where
-  abbrev Lead : List Name → State World View → State World View → Type 0
-  Lead ns s s' = Steps World View monoid_of (Next p inputs) (costs p inputs) ns s s'
+  abbrev Lead : List Name → State FrameEnv View → State FrameEnv View → Type 0
+  Lead ns s s' = Steps FrameEnv View monoid_of (Next p inputs) (costs p inputs) ns s s'
 
-  outlive_on : (ns : List Name) (s s' : State World View) → DidAsAsked p inputs s → OutliveChildren s → Lead ns s s' → OutliveChildren s'
+  outlive_on : (ns : List Name) (s s' : State FrameEnv View) → DidAsAsked p inputs s → OutliveChildren s → Lead ns s s' → OutliveChildren s'
   outlive_on [] s s' asked h e = subst (λ x. OutliveChildren x) (sym e) h
   outlive_on (n ∷ ns) s s' asked h (mid, one, rest) =
       let orders = does_as_asked p inputs in let law = parents_outlive p inputs in outlive_on ns mid s' (orders.keeps s mid n asked one) (law.keeps s mid n asked h one) rest
 
-  started_on : (ns : List Name) (s s' : State World View) → AreStarted p s → Lead ns s s' → AreStarted p s'
+  started_on : (ns : List Name) (s s' : State FrameEnv View) → AreStarted p s → Lead ns s s' → AreStarted p s'
   started_on [] s s' h e = subst (λ x. AreStarted p x) (sym e) h
   started_on (n ∷ ns) s s' h (mid, one, rest) = let law = names_are_kept p inputs in started_on ns mid s' (law.keeps s mid n h one) rest
 

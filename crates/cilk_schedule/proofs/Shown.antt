@@ -3,14 +3,14 @@
 -- - `shows_reached`: what is shown of its board is each state to which steps lead.
 use Rattle.std.proofs.Common.{◌≡◌, ℕ, ℤ, List, length, ap, ◌∙◌}
 use Rattle.cilk_lower.specs.Code.{CodeView}
-use Rattle.cilk_scheduler.specs.declared.board.Board.{Board}
+use Rattle.cilk_scheduler.specs.declared.scheduler.Scheduler.{Scheduler}
 use Rattle.cilk_scheduler.proofs.Histories.{does_as_asked}
 use Rattle.cilk_scheduler.proofs.Parents.{names_are_kept}
-use Rattle.cilk_schedule.specs.Showing.{ShowsBoard}
+use Rattle.cilk_schedule.specs.Showing.{ShowsScheduler}
 use Rattle.cilk_schedule.specs.declared.showing.Shown.{Shown}
 use Rattle.cilk_schedule.specs.Shown.{ShowsReached}
 
-pub shows_reached : (code : CodeView) (inputs : List ℤ) (b : Board) (globals : ℕ) (shown : Shown) → (globals ≡ (let l = code.layout in length l.openings)) → ShowsBoard globals b shown → ShowsReached code inputs b shown
+pub shows_reached : (code : CodeView) (inputs : List ℤ) (b : Scheduler) (globals : ℕ) (shown : Shown) → (globals ≡ (let l = code.layout in length l.openings)) → ShowsScheduler globals b shown → ShowsReached code inputs b shown
 shows_reached code inputs b globals shown many h = λ p steps name s is reaches tells.
     let lays = is.lays in
     let orders = does_as_asked p inputs in

@@ -27,12 +27,12 @@ use Rattle.cilk_runs.specs.Runs.{Name, Instance, Output, Reducer, Granted, Begin
 use Rattle.cilk_runs.specs.Runs.{Event as Done}
 use Rattle.cilk_runs.specs.Reducers.{View}
 use Rattle.cilk_runs.specs.Steps.{outcome_in}
-use Rattle.cilk_runs.specs.Worlds.{World}
-use Rattle.cilk_scheduler.specs.Boards.{Tells}
+use Rattle.cilk_runs.specs.FrameEnvs.{FrameEnv}
+use Rattle.cilk_scheduler.specs.Schedulers.{Tells}
 use Rattle.cilk_scheduler.specs.Numbered.{AreDeeds, AreNamed, IsDeed, IsInstance, IsMarked, children_among, events_of}
 use Rattle.cilk_scheduler.specs.Parents.{ChildrenAreNamed}
-use Rattle.cilk_scheduler.specs.declared.board.Board.{Board}
-use Rattle.cilk_scheduler.specs.declared.seat.Seat.{Seat}
+use Rattle.cilk_scheduler.specs.declared.scheduler.Scheduler.{Scheduler}
+use Rattle.cilk_scheduler.specs.declared.frame_state.FrameState.{FrameState}
 use Rattle.cilk_scheduler.proofs.Children.{first_part, part_of}
 use Rattle.cilk_scheduler.proofs.Placed.{get_some}
 use Rattle.cilk_scheduler.proofs.Plain.{get_low}
@@ -58,21 +58,21 @@ no_root (j ∷ n) q e = let z : [] ≡ j ∷ (n ++ q ∷ []) = e in cc
 -- ---- children
 
 -- the frame at this place is a child of frame k, with the ordinal behind this number
-pub record IsNext (frames : List (Activation Seat)) (k q j : ℕ) : Type 0 where
+pub record IsNext (frames : List (Activation FrameState)) (k q j : ℕ) : Type 0 where
   pub before : ℕ
   pub place : j ≡ suc before
-  pub seat : Activation Seat
+  pub seat : Activation FrameState
   pub at : slice_get frames (suc before) ≡ Some seat
   pub parent : let y = seat.cursor in y.parent ≡ k
   pub ordinal : let y = seat.cursor in y.ordinal ≡ suc q
 
-module _ (frames : List (Activation Seat)) (name : ℕ → Name) (named : AreNamed frames name) (k : ℕ) where
+module _ (frames : List (Activation FrameState)) (name : ℕ → Name) (named : AreNamed frames name) (k : ℕ) where
   among_at : (n q j : ℕ) → n ≤ length frames → slice_get (children_among frames k n) q ≡ Some j → IsNext frames k q j
   among_at zero q j low h = let no : None ≡ Some j = h in let f : ⊥ = cc in absurd f
   among_at (suc zero) q j low h = let no : None ≡ Some j = ap (λ l. slice_get l q) (sym (among_first frames k)) ∙ h in let f : ⊥ = cc in absurd f
   among_at (suc (suc n)) q j low h = by (get_some frames (suc n) (omega (arith, low))) (among_at (suc n) q j (omega (arith, low)))
     where
-      by : (x : Activation Seat) × (slice_get frames (suc n) ≡ Some x) → (slice_get (children_among frames k (suc n)) q ≡ Some j → IsNext frames k q j) → IsNext frames k q j
+      by : (x : Activation FrameState) × (slice_get frames (suc n) ≡ Some x) → (slice_get (children_among frames k (suc n)) q ≡ Some j → IsNext frames k q j) → IsNext frames k q j
       by g before = on (nat_eq (let x = g.0 in let y = x.cursor in y.parent) k) refl
         where
           on : (t : Bool) → nat_eq (let x = g.0 in let y = x.cursor in y.parent) k ≡ t → IsNext frames k q j
@@ -95,7 +95,7 @@ module _ (frames : List (Activation Seat)) (name : ℕ → Name) (named : AreNam
       let e : suc (n + more) ≡ n + suc more = omega arith in
       subst (λ m. slice_get (children_among frames k m) r ≡ Some j) e (first_part (children_among frames k (n + more)) _ r j (among_keeps n more r j h))
 
-  pub among_there : (j : ℕ) (x : Activation Seat) → slice_get frames (suc j) ≡ Some x → (let y = x.cursor in y.parent ≡ k) → (r : ℕ) → (let y = x.cursor in y.ordinal ≡ suc r) → slice_get (children_among frames k (length frames)) r ≡ Some (suc j)
+  pub among_there : (j : ℕ) (x : Activation FrameState) → slice_get frames (suc j) ≡ Some x → (let y = x.cursor in y.parent ≡ k) → (r : ℕ) → (let y = x.cursor in y.ordinal ≡ suc r) → slice_get (children_among frames k (length frames)) r ≡ Some (suc j)
   among_there j x at is r ordinal =
       let low = get_low frames (suc j) x at in
       let count = named.ordinal j x at ∙ ap (λ m. suc (length (children_among frames m (suc j)))) is in
@@ -107,7 +107,7 @@ module _ (frames : List (Activation Seat)) (name : ℕ → Name) (named : AreNam
 
 -- ---- links
 
-module _ (frames : List (Activation Seat)) (name : ℕ → Name) (named : AreNamed frames name) (list : List ShownFrame) (links : links_in list ≡ map link_of frames)
+module _ (frames : List (Activation FrameState)) (name : ℕ → Name) (named : AreNamed frames name) (list : List ShownFrame) (links : links_in list ≡ map link_of frames)
     (children : HaveParents frames → (k : ℕ) (f : ShownFrame) → slice_get list k ≡ Some f → (let c = f.children in c.items ≡ children_among frames k (length frames))) where
   parents : HaveParents frames
   parents k x at = let r = named.child k x at in r.0
@@ -115,14 +115,14 @@ module _ (frames : List (Activation Seat)) (name : ℕ → Name) (named : AreNam
   pub as_many : length list ≡ length frames
   as_many = sym (length-map list (λ (g : ShownFrame). g.link)) ∙ ap (λ (l : List Link). length l) links ∙ length-map frames link_of
 
-  link_at : (k : ℕ) (f : ShownFrame) (a : Activation Seat) → slice_get list k ≡ Some f → slice_get frames k ≡ Some a → f.link ≡ link_of a
+  link_at : (k : ℕ) (f : ShownFrame) (a : Activation FrameState) → slice_get list k ≡ Some f → slice_get frames k ≡ Some a → f.link ≡ link_of a
   link_at k f a at there =
       let q : Some f.link ≡ Some (link_of a) =
       sym (slice_get-map (λ (g : ShownFrame). g.link) list k ∙ ap (λ (o : Option ShownFrame). option_map (λ (g : ShownFrame). g.link) o) at) ∙ ap (λ (l : List Link). slice_get l k) links ∙ slice_get-map link_of frames k
-      ∙ ap (λ (o : Option (Activation Seat)). option_map link_of o) there in
+      ∙ ap (λ (o : Option (Activation FrameState)). option_map link_of o) there in
       cc
 
-  seat_at : (k : ℕ) (f : ShownFrame) → slice_get list k ≡ Some f → (a : Activation Seat) × (slice_get frames k ≡ Some a)
+  seat_at : (k : ℕ) (f : ShownFrame) → slice_get list k ≡ Some f → (a : Activation FrameState) × (slice_get frames k ≡ Some a)
   seat_at k f at = get_some frames k (subst (λ n. k < n) as_many (get_low list k f at))
 
   child : (k : ℕ) (f : ShownFrame) → slice_get list (suc k) ≡ Some f → let l = f.link in (l.parent < suc k) × (name (suc k) ≡ name l.parent ++ l.ordinal ∷ [])
@@ -166,8 +166,8 @@ module _ (frames : List (Activation Seat)) (name : ℕ → Name) (named : AreNam
 
 -- ---- events
 
-module _ (code : CodeView) (p : Source) (inputs : List ℤ) (name : ℕ → Name) (b : Board) (s : State World View) (t : Tells code p inputs name b s) (globals : ℕ) (same : globals ≡ length p.openings) where
-  abbrev frames : List (Activation Seat)
+module _ (code : CodeView) (p : Source) (inputs : List ℤ) (name : ℕ → Name) (b : Scheduler) (s : State FrameEnv View) (t : Tells code p inputs name b s) (globals : ℕ) (same : globals ≡ length p.openings) where
+  abbrev frames : List (Activation FrameState)
   frames = let f = b.frames in f.items
 
   abbrev count : ℕ
@@ -204,9 +204,9 @@ module _ (code : CodeView) (p : Source) (inputs : List ℤ) (name : ℕ → Name
       let y = (let x = a.0 in x.cursor) in
       let r = f.child c a.0 a.1 in
       let g = snoc_name (name y.parent) n y.ordinal next (sym r.1 ∙ is) in
-      ap (λ (o : Option (Activation Seat)). unwrap_or (option_map (λ (z : Activation Seat). let w = z.cursor in w.ordinal) o) 0) a.1 ∙ g.1
+      ap (λ (o : Option (Activation FrameState)). unwrap_or (option_map (λ (z : Activation FrameState). let w = z.cursor in w.ordinal) o) 0) a.1 ∙ g.1
 
-  start_is : (k : ℕ) (how : Invocation) (w : World) (n : Name) (next : ℕ) (x : Event) (e : ShownEvent) → w.name ≡ n ++ next ∷ [] → IsDeed p frames name s k (Invokes how w) x → IsNamedAs frames globals x e → e ≡ start_shown how next
+  start_is : (k : ℕ) (how : Invocation) (w : FrameEnv) (n : Name) (next : ℕ) (x : Event) (e : ShownEvent) → w.name ≡ n ++ next ∷ [] → IsDeed p frames name s k (Invokes how w) x → IsNamedAs frames globals x e → e ≡ start_shown how next
   start_is k Call w n next x e named h g =
       let r : IsNamedAs frames globals (events.Call (suc h.0)) e = subst (λ y. IsNamedAs frames globals y e) h.3 g in
       r ∙ ap (λ q. shows.Call q) (ordinal_shown n next h.0 h.1 (h.2 ∙ named))
@@ -215,10 +215,10 @@ module _ (code : CodeView) (p : Source) (inputs : List ℤ) (name : ℕ → Name
       r ∙ ap (λ q. shows.Spawn q) (ordinal_shown n next h.0 h.1 (h.2 ∙ named))
 
   -- each child that these deeds start has its ordinal, from the next on
-  abbrev Numbered : Name → ℕ → List (Deed World) → Type 0
-  Numbered n next ds = (before : List (Deed World)) (how : Invocation) (w : World) (after : List (Deed World)) → ds ≡ before ++ Invokes how w ∷ after → w.name ≡ n ++ (next + started before) ∷ []
+  abbrev Numbered : Name → ℕ → List (Deed FrameEnv) → Type 0
+  Numbered n next ds = (before : List (Deed FrameEnv)) (how : Invocation) (w : FrameEnv) (after : List (Deed FrameEnv)) → ds ≡ before ++ Invokes how w ∷ after → w.name ≡ n ++ (next + started before) ∷ []
 
-  shown_deeds : (k : ℕ) (n : Name) (next : ℕ) (ds : List (Deed World)) (xs : List Event) (es : List ShownEvent) → Numbered n next ds → AreDeeds p frames name s k ds xs → AreNamedAs frames globals xs es → AreShown name count n next ds es
+  shown_deeds : (k : ℕ) (n : Name) (next : ℕ) (ds : List (Deed FrameEnv)) (xs : List Event) (es : List ShownEvent) → Numbered n next ds → AreDeeds p frames name s k ds xs → AreNamedAs frames globals xs es → AreShown name count n next ds es
   shown_deeds k n next [] [] [] ordinals h g = tt
   shown_deeds k n next [] [] (e ∷ es) ordinals h g = absurd g
   shown_deeds k n next [] (x ∷ xs) es ordinals h g = absurd h
@@ -311,7 +311,7 @@ link_named list name linked (suc k) f at some = linked.child k f at
 
 -- ---- the outcome
 
-pub outcome_left : (p : Source) (name : ℕ → Name) (s : State World View) (shown : Shown) → ShowsRun p name s shown → (o : Option (Bor Outcome)) → MatchOption o (shown.outcome ≡ None) (λ left. shown.outcome ≡ Some left.now)
+pub outcome_left : (p : Source) (name : ℕ → Name) (s : State FrameEnv View) (shown : Shown) → ShowsRun p name s shown → (o : Option (Bor Outcome)) → MatchOption o (shown.outcome ≡ None) (λ left. shown.outcome ≡ Some left.now)
     → MatchOption o (¬ (HasEnd (deeds_at (s.frames [])))) (λ left. HasEnd (deeds_at (s.frames [])) × (left.now ≡ outcome_in p s))
 outcome_left p name s shown run None h = run.going h
 outcome_left p name s shown run (Some left) h = run.over left.now h

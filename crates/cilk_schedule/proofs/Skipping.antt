@@ -11,17 +11,17 @@ use Rattle.cilk_lower.specs.Code.{CodeView}
 use Rattle.cilk_runs.specs.Machine.{State}
 use Rattle.cilk_runs.specs.Runs.{Name}
 use Rattle.cilk_runs.specs.Reducers.{View}
-use Rattle.cilk_runs.specs.Worlds.{World}
-use Rattle.cilk_scheduler.specs.Boards.{ShowsBy}
-use Rattle.cilk_scheduler.specs.Desks.{Desk, Chooses, Skipped}
+use Rattle.cilk_runs.specs.FrameEnvs.{FrameEnv}
+use Rattle.cilk_scheduler.specs.Schedulers.{ShowsBy}
+use Rattle.cilk_scheduler.specs.WorkerTables.{WorkerTable, Chooses, Skipped}
 use Rattle.cilk_scheduler.specs.Workers.{IsLocated, held_by, is_idle, offers}
-use Rattle.cilk_scheduler.specs.declared.board.Board.{Board}
+use Rattle.cilk_scheduler.specs.declared.scheduler.Scheduler.{Scheduler}
 use Rattle.cilk_scheduler.specs.declared.choice.Choice.{Choice}
 use Rattle.cilk_scheduler.specs.declared.choice.Choice.TheVariants as choices
 use Rattle.cilk_scheduler.specs.declared.choice.Stop.{Stop}
 use Rattle.cilk_scheduler.specs.declared.choice.Told.{Told}
 use Rattle.cilk_scheduler.specs.declared.choice.Told.TheVariants as told
-use Rattle.cilk_scheduler.specs.declared.seat.Worker.{Worker}
+use Rattle.cilk_scheduler.specs.declared.frame_state.Worker.{Worker}
 use Rattle.cilk_scheduler.proofs.Parts.{offered}
 use Rattle.cilk_scheduler.proofs.Stopping.{skips_are_shown}
 use Rattle.cilk_schedule.specs.Choices.{CanChoose}
@@ -48,7 +48,7 @@ in_list (u ∷ ws) place k h = in_either u ws place k (let o = u.offered in one_
 pub located_in : (ws : List Worker) (place k : ℕ) → slice_get (offers ws) place ≡ Some k → (victim : ℕ) × (at : ℕ) × IsLocated ws place victim at
 located_in ws place k h = let r = in_list ws place k h in (r.0, r.1, (r.2, k, r.3, r.4, h))
 
-module _ (code : CodeView) (p : Source) (inputs : List ℤ) (name : ℕ → Name) (b : Board) (d : Desk) (s : State World View) (sh : ShowsBy code p inputs name b d s) where
+module _ (code : CodeView) (p : Source) (inputs : List ℤ) (name : ℕ → Name) (b : Scheduler) (d : WorkerTable) (s : State FrameEnv View) (sh : ShowsBy code p inputs name b d s) where
   run_skips : (worker : ℕ) → (CanChoose b (choices.Run worker) → ⊥) → Chooses p inputs s d (choices.Run worker) Skipped s d
   run_skips zero can_not = let sk = skips_are_shown code p inputs in sk.nobody name b d s 0 sh refl
   run_skips (suc v) can_not = by (let l = b.workers in held_by l.items (suc v)) refl
@@ -89,7 +89,7 @@ module _ (code : CodeView) (p : Source) (inputs : List ℤ) (name : ℕ → Name
   choice_skips (choices.Run worker) still can_not = run_skips worker can_not
   choice_skips (choices.Steal worker place) still can_not = steal_skips worker place still can_not
 
-pub skips_are_steps : (code : CodeView) (inputs : List ℤ) (b b' : Board) (c : Choice) → b.outcome ≡ None → (r : Result Told Stop) → IfOk r (λ t. t ≡ told.Skipped → b' ≡ b) → (r ≡ Ok told.Skipped → CanChoose b c → ⊥) → IfOk r (λ t. SkipsAreSteps code inputs b b' c t)
+pub skips_are_steps : (code : CodeView) (inputs : List ℤ) (b b' : Scheduler) (c : Choice) → b.outcome ≡ None → (r : Result Told Stop) → IfOk r (λ t. t ≡ told.Skipped → b' ≡ b) → (r ≡ Ok told.Skipped → CanChoose b c → ⊥) → IfOk r (λ t. SkipsAreSteps code inputs b b' c t)
 skips_are_steps code inputs b b' c still (Ok (told.Did act)) same can_not = tt
 skips_are_steps code inputs b b' c still (Ok told.Stole) same can_not = tt
 skips_are_steps code inputs b b' c still (Ok told.Waits) same can_not = tt
@@ -99,5 +99,5 @@ skips_are_steps code inputs b b' c still (Ok told.Skipped) same can_not = λ p n
 )
 skips_are_steps code inputs b b' c still (Err x) same can_not = tt
 
-pub over_skips : (code : CodeView) (inputs : List ℤ) (b : Board) (c : Choice) (o : Outcome) → b.outcome ≡ Some o → SkipsAreSteps code inputs b b c told.Skipped
+pub over_skips : (code : CodeView) (inputs : List ℤ) (b : Scheduler) (c : Choice) (o : Outcome) → b.outcome ≡ Some o → SkipsAreSteps code inputs b b c told.Skipped
 over_skips code inputs b c o is = λ p name d s sh. let sk = skips_are_shown code p inputs in (sk.over name b d s c o sh.shows is, sh.shows)

@@ -22,9 +22,9 @@ use Rattle.cilk_frames.specs.Following.{HasAnswer, Stands, owed_for}
 use Rattle.cilk_frames.specs.declared.activation.Activation.{Activation}
 use Rattle.cilk_frames.proofs.Links.{sees_more as scope_more}
 use Rattle.cilk_serial.specs.Scoped.{Any, Below, IsThere, MayBegin, ResultFits, Sees}
-use Rattle.cilk_scheduler.specs.Seats.{changed}
-use Rattle.cilk_scheduler.specs.declared.seat.Due.{Due}
-use Rattle.cilk_scheduler.specs.declared.seat.Seat.{Seat}
+use Rattle.cilk_scheduler.specs.FrameStates.{changed}
+use Rattle.cilk_scheduler.specs.declared.frame_state.Due.{Due}
+use Rattle.cilk_scheduler.specs.declared.frame_state.FrameState.{FrameState}
 use Rattle.cilk_scheduler.proofs.Changing.{changed_here, changed_length, changed_off}
 use Rattle.cilk_scheduler.proofs.Kept.{scope_changed}
 use Rattle.cilk_scheduler.proofs.Placed.{get_some}
@@ -75,8 +75,8 @@ cases_eq j k = by (nat_eq j k) refl
 
 -- ---- one frame is changed
 
-module _ (code : CodeView) (p : Source) (inputs : List ℤ) (frames : List (Activation Seat)) (cells cells' events events' : ℕ) (f : Seat → Seat) (k : ℕ) (low : cells ≤ cells') (less : events ≤ events') where
-  unfoldable pub lives_changed : (a : Activation Seat) (y : Seat) → Lives code p inputs frames cells events a → Lives code p inputs (changed f frames k) cells' events' (record a { cursor = y })
+module _ (code : CodeView) (p : Source) (inputs : List ℤ) (frames : List (Activation FrameState)) (cells cells' events events' : ℕ) (f : FrameState → FrameState) (k : ℕ) (low : cells ≤ cells') (less : events ≤ events') where
+  unfoldable pub lives_changed : (a : Activation FrameState) (y : FrameState) → Lives code p inputs frames cells events a → Lives code p inputs (changed f frames k) cells' events' (record a { cursor = y })
   lives_changed a y h = record {
     callee = h.callee;
     scope = h.scope;
@@ -85,11 +85,11 @@ module _ (code : CodeView) (p : Source) (inputs : List ℤ) (frames : List (Acti
     sees = sees_more p (frame_of h.callee h.scope a) cells cells' low h.sees;
   }
 
-  rests_changed : (a : Activation Seat) (c : CursorView) → Rests code p inputs frames cells events a c → Rests code p inputs (changed f frames k) cells' events' a c
+  rests_changed : (a : Activation FrameState) (c : CursorView) → Rests code p inputs frames cells events a c → Rests code p inputs (changed f frames k) cells' events' a c
   unfolding lives_changed
   rests_changed a c h = record { lives = lives_changed a a.cursor h.lives; stands = h.stands; fits = h.fits }
 
-  comes_changed : (a : Activation Seat) (ask : Ask) → Comes code p inputs frames cells events a ask → Comes code p inputs (changed f frames k) cells' events' a ask
+  comes_changed : (a : Activation FrameState) (ask : Ask) → Comes code p inputs frames cells events a ask → Comes code p inputs (changed f frames k) cells' events' a ask
   unfolding lives_changed
   comes_changed a ask h = let l = h.lives in record {
     cursor = h.cursor;
@@ -102,7 +102,7 @@ module _ (code : CodeView) (p : Source) (inputs : List ℤ) (frames : List (Acti
     may = h.may;
   }
 
-  counts_changed : (a : Activation Seat) → Counts code p inputs frames cells events a → Counts code p inputs (changed f frames k) cells' events' a
+  counts_changed : (a : Activation FrameState) → Counts code p inputs frames cells events a → Counts code p inputs (changed f frames k) cells' events' a
   counts_changed a h =
       let same = changed_length f frames k in record {
         parent = let q = h.parent in omega (arith, same, q);
@@ -116,9 +116,9 @@ module _ (code : CodeView) (p : Source) (inputs : List ℤ) (frames : List (Acti
       }
 
   pub changed_sound : (turn turn' : Option ℕ) (ask ask' : Ask) → Sound code p inputs frames cells events turn ask
-      → ((a : Activation Seat) → slice_get frames k ≡ Some a → Counts code p inputs (changed f frames k) cells' events' (record a { cursor = f a.cursor }))
-      → ((a : Activation Seat) (c : CursorView) → slice_get frames k ≡ Some a → (turn' ≡ Some k → ⊥) → (let y = f a.cursor in y.cursor ≡ Some c) → Rests code p inputs (changed f frames k) cells' events' (record a { cursor = f a.cursor }) c)
-      → ((a : Activation Seat) → slice_get frames k ≡ Some a → turn' ≡ Some k → Comes code p inputs (changed f frames k) cells' events' (record a { cursor = f a.cursor }) ask')
+      → ((a : Activation FrameState) → slice_get frames k ≡ Some a → Counts code p inputs (changed f frames k) cells' events' (record a { cursor = f a.cursor }))
+      → ((a : Activation FrameState) (c : CursorView) → slice_get frames k ≡ Some a → (turn' ≡ Some k → ⊥) → (let y = f a.cursor in y.cursor ≡ Some c) → Rests code p inputs (changed f frames k) cells' events' (record a { cursor = f a.cursor }) c)
+      → ((a : Activation FrameState) → slice_get frames k ≡ Some a → turn' ≡ Some k → Comes code p inputs (changed f frames k) cells' events' (record a { cursor = f a.cursor }) ask')
       → ((j : ℕ) → ((j ≡ k) → ⊥) → (turn' ≡ Some j → ⊥) → turn ≡ Some j → ⊥) → ((j : ℕ) → ((j ≡ k) → ⊥) → turn' ≡ Some j → (turn ≡ Some j) × (ask' ≡ ask))
       → cells' ≤ MAX_CELLS → events' ≤ MAX_EVENTS → (there : k < length frames) → Sound code p inputs (changed f frames k) cells' events' turn' ask'
   changed_sound turn turn' ask ask' s counts rests comes off on few many there = record {
@@ -131,10 +131,10 @@ module _ (code : CodeView) (p : Source) (inputs : List ℤ) (frames : List (Acti
     opened = let q = s.opened in omega (arith, q, low);
   }
     where
-      other : (j : ℕ) (b : Activation Seat) → ((j ≡ k) → ⊥) → slice_get (changed f frames k) j ≡ Some b → slice_get frames j ≡ Some b
+      other : (j : ℕ) (b : Activation FrameState) → ((j ≡ k) → ⊥) → slice_get (changed f frames k) j ≡ Some b → slice_get frames j ≡ Some b
       other j b ne at = sym (changed_off f frames k j (λ e. ne (sym e))) ∙ at
 
-      mine : (j : ℕ) (b : Activation Seat) → j ≡ k → slice_get (changed f frames k) j ≡ Some b → (a : Activation Seat) × (slice_get frames k ≡ Some a) × (b ≡ record a { cursor = f a.cursor })
+      mine : (j : ℕ) (b : Activation FrameState) → j ≡ k → slice_get (changed f frames k) j ≡ Some b → (a : Activation FrameState) × (slice_get frames k ≡ Some a) × (b ≡ record a { cursor = f a.cursor })
       mine j b e at =
           let it = get_some frames k there in
           let a = it.0 in
@@ -142,40 +142,40 @@ module _ (code : CodeView) (p : Source) (inputs : List ℤ) (frames : List (Acti
           let is : Some b ≡ Some (record a { cursor = f a.cursor }) = sym here ∙ changed_here f frames k a it.1 in
           (a, it.1, some_is b (record a { cursor = f a.cursor }) is)
 
-      at_counts : (j : ℕ) (b : Activation Seat) → slice_get (changed f frames k) j ≡ Some b → ((j ≡ k) → ⊥) ⊎ (j ≡ k) → Counts code p inputs (changed f frames k) cells' events' b
+      at_counts : (j : ℕ) (b : Activation FrameState) → slice_get (changed f frames k) j ≡ Some b → ((j ≡ k) → ⊥) ⊎ (j ≡ k) → Counts code p inputs (changed f frames k) cells' events' b
       at_counts j b at (inl ne) = counts_changed b (s.counts j b (other j b ne at))
-      at_counts j b at (inr e) = let m = mine j b e at in subst (λ (z : Activation Seat). Counts code p inputs (changed f frames k) cells' events' z) (sym m.2) (counts m.0 m.1)
+      at_counts j b at (inr e) = let m = mine j b e at in subst (λ (z : Activation FrameState). Counts code p inputs (changed f frames k) cells' events' z) (sym m.2) (counts m.0 m.1)
 
-      at_rests : (j : ℕ) (b : Activation Seat) (c : CursorView) → slice_get (changed f frames k) j ≡ Some b → (turn' ≡ Some j → ⊥) → (let x = b.cursor in x.cursor ≡ Some c) → ((j ≡ k) → ⊥) ⊎ (j ≡ k) → Rests code p inputs (changed f frames k) cells' events' b c
+      at_rests : (j : ℕ) (b : Activation FrameState) (c : CursorView) → slice_get (changed f frames k) j ≡ Some b → (turn' ≡ Some j → ⊥) → (let x = b.cursor in x.cursor ≡ Some c) → ((j ≡ k) → ⊥) ⊎ (j ≡ k) → Rests code p inputs (changed f frames k) cells' events' b c
       at_rests j b c at not is (inl ne) = rests_changed b c (s.rests j b c (other j b ne at) (off j ne not) is)
       at_rests j b c at not is (inr e) =
           let m = mine j b e at in
           let a = m.0 in
-          subst (λ (z : Activation Seat). Rests code p inputs (changed f frames k) cells' events' z c) (sym m.2)
-          (rests a c m.1 (λ q. not (q ∙ ap Some (sym e))) (subst (λ (z : Activation Seat). let x = z.cursor in x.cursor ≡ Some c) m.2 is))
+          subst (λ (z : Activation FrameState). Rests code p inputs (changed f frames k) cells' events' z c) (sym m.2)
+          (rests a c m.1 (λ q. not (q ∙ ap Some (sym e))) (subst (λ (z : Activation FrameState). let x = z.cursor in x.cursor ≡ Some c) m.2 is))
 
-      at_comes : (j : ℕ) (b : Activation Seat) → slice_get (changed f frames k) j ≡ Some b → turn' ≡ Some j → ((j ≡ k) → ⊥) ⊎ (j ≡ k) → Comes code p inputs (changed f frames k) cells' events' b ask'
+      at_comes : (j : ℕ) (b : Activation FrameState) → slice_get (changed f frames k) j ≡ Some b → turn' ≡ Some j → ((j ≡ k) → ⊥) ⊎ (j ≡ k) → Comes code p inputs (changed f frames k) cells' events' b ask'
       at_comes j b at is (inl ne) =
           let was = on j ne is in
           subst (λ (z : Ask). Comes code p inputs (changed f frames k) cells' events' b z) (sym was.1) (comes_changed b ask (s.comes j b (other j b ne at) was.0))
       at_comes j b at is (inr e) =
           let m = mine j b e at in
-          subst (λ (z : Activation Seat). Comes code p inputs (changed f frames k) cells' events' z ask') (sym m.2) (comes m.0 m.1 (is ∙ ap Some e))
+          subst (λ (z : Activation FrameState). Comes code p inputs (changed f frames k) cells' events' z ask') (sym m.2) (comes m.0 m.1 (is ∙ ap Some e))
 
 -- ---- quiet changes
 
 -- where a frame is, whether it was stolen from, what lies at its block, how many of its ticks are counted
-pub record IsStill (f : Seat → Seat) : Type 0 where
-  pub parent : (x : Seat) → let y = f x in y.parent ≡ x.parent
-  pub last : (x : Seat) → let y = f x in y.last ≡ x.last
-  pub children : (x : Seat) → let y = f x in y.children ≡ x.children
-  pub strands : (x : Seat) → let y = f x in y.strands ≡ x.strands
-  pub took : (x : Seat) → let y = f x in y.took ≡ x.took
-  pub counted : (x : Seat) → x.counted ≤ x.took → let y = f x in y.counted ≤ y.took
-  pub due : (x : Seat) → let y = f x in y.due ≡ x.due
-  pub cursor : (x : Seat) → let y = f x in y.cursor ≡ x.cursor
+pub record IsStill (f : FrameState → FrameState) : Type 0 where
+  pub parent : (x : FrameState) → let y = f x in y.parent ≡ x.parent
+  pub last : (x : FrameState) → let y = f x in y.last ≡ x.last
+  pub children : (x : FrameState) → let y = f x in y.children ≡ x.children
+  pub strands : (x : FrameState) → let y = f x in y.strands ≡ x.strands
+  pub took : (x : FrameState) → let y = f x in y.took ≡ x.took
+  pub counted : (x : FrameState) → x.counted ≤ x.took → let y = f x in y.counted ≤ y.took
+  pub due : (x : FrameState) → let y = f x in y.due ≡ x.due
+  pub cursor : (x : FrameState) → let y = f x in y.cursor ≡ x.cursor
 
-pub still_keeps : (f : Seat → Seat) → IsStill f → (frames : List (Activation Seat)) (k : ℕ) → k < length frames → Keeps frames (changed f frames k)
+pub still_keeps : (f : FrameState → FrameState) → IsStill f → (frames : List (Activation FrameState)) (k : ℕ) → k < length frames → Keeps frames (changed f frames k)
 unfolding lives_changed
 still_keeps f still frames k there = λ code p inputs cells events turn ask s.
     changed_sound code p inputs frames cells cells events events f k (omega arith) (omega arith) turn turn ask ask s
@@ -206,15 +206,15 @@ still_keeps f still frames k there = λ code p inputs cells events turn ask s.
     })
     (λ j no not. not) (λ j no is. (is, refl)) s.few_cells s.few_events there
 
-pub same_ticks : (f : Seat → Seat) → ((x : Seat) → let y = f x in (y.took ≡ x.took) × (y.counted ≡ x.counted)) → (frames : List (Activation Seat)) (k : ℕ) → SameTicks frames (changed f frames k)
+pub same_ticks : (f : FrameState → FrameState) → ((x : FrameState) → let y = f x in (y.took ≡ x.took) × (y.counted ≡ x.counted)) → (frames : List (Activation FrameState)) (k : ℕ) → SameTicks frames (changed f frames k)
 same_ticks f same [] k = λ j a at. (a, at, (refl, refl))
 same_ticks f same (b ∷ frames) zero = λ j a at. head j a at
   where
-    head : (j : ℕ) (a : Activation Seat) → slice_get (b ∷ frames) j ≡ Some a → (z : Activation Seat) × (slice_get (changed f (b ∷ frames) zero) j ≡ Some z) × ((let x = a.cursor in let y = z.cursor in y.took ≡ x.took) × (let x = a.cursor in let y = z.cursor in y.counted ≡ x.counted))
+    head : (j : ℕ) (a : Activation FrameState) → slice_get (b ∷ frames) j ≡ Some a → (z : Activation FrameState) × (slice_get (changed f (b ∷ frames) zero) j ≡ Some z) × ((let x = a.cursor in let y = z.cursor in y.took ≡ x.took) × (let x = a.cursor in let y = z.cursor in y.counted ≡ x.counted))
     head zero a at =
         let e : b ≡ a = some_is b a at in
         let x = b.cursor in
-        (record b { cursor = f x }, refl, ((same x).0 ∙ ap (λ (z : Activation Seat). let y = z.cursor in y.took) e, (same x).1 ∙ ap (λ (z : Activation Seat). let y = z.cursor in y.counted) e))
+        (record b { cursor = f x }, refl, ((same x).0 ∙ ap (λ (z : Activation FrameState). let y = z.cursor in y.took) e, (same x).1 ∙ ap (λ (z : Activation FrameState). let y = z.cursor in y.counted) e))
     head (suc j) a at = (a, at, (refl, refl))
 same_ticks f same (b ∷ frames) (suc k) = tail (same_ticks f same frames k)
   where
@@ -222,36 +222,36 @@ same_ticks f same (b ∷ frames) (suc k) = tail (same_ticks f same frames k)
     tail rest zero a at = (a, at, (refl, refl))
     tail rest (suc j) a at = rest j a at
 
-pub same_twice : (l m n : List (Activation Seat)) → SameTicks l m → SameTicks m n → SameTicks l n
+pub same_twice : (l m n : List (Activation FrameState)) → SameTicks l m → SameTicks m n → SameTicks l n
 same_twice l m n g h = λ k a at. let u = g k a at in let v = h k u.0 u.1 in (v.0, v.1, (v.2.0 ∙ u.2.0, v.2.1 ∙ u.2.1))
 
-pub quiet : (f : Seat → Seat) → IsStill f → ((x : Seat) → let y = f x in y.counted ≡ x.counted) → (frames : List (Activation Seat)) (k : ℕ) → k < length frames → IsQuiet frames (changed f frames k)
+pub quiet : (f : FrameState → FrameState) → IsStill f → ((x : FrameState) → let y = f x in y.counted ≡ x.counted) → (frames : List (Activation FrameState)) (k : ℕ) → k < length frames → IsQuiet frames (changed f frames k)
 quiet f still same frames k there = (still_keeps f still frames k there, same_ticks f (λ x. (still.took x, same x)) frames k, changed_length f frames k)
 
-pub quiet_twice : (l m n : List (Activation Seat)) → IsQuiet l m → IsQuiet m n → IsQuiet l n
+pub quiet_twice : (l m n : List (Activation FrameState)) → IsQuiet l m → IsQuiet m n → IsQuiet l n
 quiet_twice l m n g h = (
   λ code p inputs cells events turn ask s. h.0 code p inputs cells events turn ask (g.0 code p inputs cells events turn ask s),
   same_twice l m n g.1 h.1,
   h.2 ∙ g.2,
 )
 
-pub quiet_none : (l : List (Activation Seat)) → IsQuiet l l
+pub quiet_none : (l : List (Activation FrameState)) → IsQuiet l l
 quiet_none l = (λ code p inputs cells events turn ask s. s, λ k a at. (a, at, (refl, refl)), refl)
 
 -- ---- an event is made
 
 -- the frame goes on with this, and has begun at most so many strands more
-pub record IsStep (more : ℕ) (f : Seat → Seat) (d : Due) : Type 0 where
-  pub parent : (x : Seat) → let y = f x in y.parent ≡ x.parent
-  pub last : (x : Seat) → let y = f x in y.last ≡ x.last
-  pub children : (x : Seat) → let y = f x in y.children ≡ x.children
-  pub strands : (x : Seat) → let y = f x in y.strands ≤ x.strands + more
-  pub took : (x : Seat) → let y = f x in y.took ≡ x.took
-  pub counted : (x : Seat) → let y = f x in y.counted ≡ x.counted
-  pub due : (x : Seat) → let y = f x in y.due ≡ d
-  pub cursor : (x : Seat) → let y = f x in y.cursor ≡ x.cursor
+pub record IsStep (more : ℕ) (f : FrameState → FrameState) (d : Due) : Type 0 where
+  pub parent : (x : FrameState) → let y = f x in y.parent ≡ x.parent
+  pub last : (x : FrameState) → let y = f x in y.last ≡ x.last
+  pub children : (x : FrameState) → let y = f x in y.children ≡ x.children
+  pub strands : (x : FrameState) → let y = f x in y.strands ≤ x.strands + more
+  pub took : (x : FrameState) → let y = f x in y.took ≡ x.took
+  pub counted : (x : FrameState) → let y = f x in y.counted ≡ x.counted
+  pub due : (x : FrameState) → let y = f x in y.due ≡ d
+  pub cursor : (x : FrameState) → let y = f x in y.cursor ≡ x.cursor
 
-pub settled : (more : ℕ) (f : Seat → Seat) (d : Due) → IsStep more f d → (code : CodeView) (p : Source) (inputs : List ℤ) (frames : List (Activation Seat)) (cells events : ℕ) (k : ℕ) (ask : Ask)
+pub settled : (more : ℕ) (f : FrameState → FrameState) (d : Due) → IsStep more f d → (code : CodeView) (p : Source) (inputs : List ℤ) (frames : List (Activation FrameState)) (cells events : ℕ) (k : ℕ) (ask : Ask)
     → HasAnswer ask → FitsDue (owed_for ask) d → k < length frames → events + more ≤ MAX_EVENTS → Sound code p inputs frames cells events (Some k) ask → Sound code p inputs (changed f frames k) cells (events + more) None asks.Begin
 unfolding lives_changed
 settled more f d step code p inputs frames cells events k ask has fits there many s =
@@ -276,8 +276,8 @@ settled more f d step code p inputs frames cells events k ask has fits there man
     (λ j no not is. no (sym (some_is k j is))) (λ j no no2. cc) s.few_cells many there
 
 -- it has ended
-pub ended : (f : Seat → Seat) → ((x : Seat) → let y = f x in (y.parent ≡ x.parent) × (y.last ≡ x.last) × (y.children ≡ x.children) × (y.strands ≡ x.strands) × (y.took ≡ x.took) × (y.counted ≡ x.counted) × (y.cursor ≡ None))
-    → (code : CodeView) (p : Source) (inputs : List ℤ) (frames : List (Activation Seat)) (cells events : ℕ) (k : ℕ) (ask : Ask)
+pub ended : (f : FrameState → FrameState) → ((x : FrameState) → let y = f x in (y.parent ≡ x.parent) × (y.last ≡ x.last) × (y.children ≡ x.children) × (y.strands ≡ x.strands) × (y.took ≡ x.took) × (y.counted ≡ x.counted) × (y.cursor ≡ None))
+    → (code : CodeView) (p : Source) (inputs : List ℤ) (frames : List (Activation FrameState)) (cells events : ℕ) (k : ℕ) (ask : Ask)
     → k < length frames → events + 1 ≤ MAX_EVENTS → Sound code p inputs frames cells events (Some k) ask → Sound code p inputs (changed f frames k) cells (events + 1) None asks.Begin
 ended f step code p inputs frames cells events k ask there many s =
     changed_sound code p inputs frames cells cells events (events + 1) f k (omega arith) (omega arith) (Some k) None ask asks.Begin s
@@ -320,8 +320,8 @@ pub push_length : {A : Type 0} (l : List A) (z : A) → length (l ++ z ∷ []) �
 push_length [] z = refl
 push_length (y ∷ l) z = ap suc (push_length l z)
 
-module _ (code : CodeView) (p : Source) (inputs : List ℤ) (frames : List (Activation Seat)) (cells cells' events : ℕ) (child : Activation Seat) (low : cells ≤ cells') where
-  lives_pushed : (a : Activation Seat) → Lives code p inputs frames cells events a → Lives code p inputs (frames ++ child ∷ []) cells' events a
+module _ (code : CodeView) (p : Source) (inputs : List ℤ) (frames : List (Activation FrameState)) (cells cells' events : ℕ) (child : Activation FrameState) (low : cells ≤ cells') where
+  lives_pushed : (a : Activation FrameState) → Lives code p inputs frames cells events a → Lives code p inputs (frames ++ child ∷ []) cells' events a
   lives_pushed a h = record {
     callee = h.callee;
     scope = h.scope;
@@ -345,7 +345,7 @@ module _ (code : CodeView) (p : Source) (inputs : List ℤ) (frames : List (Acti
     opened = let q = s.opened in omega (arith, q, low);
   }
     where
-      grown : (a : Activation Seat) → Counts code p inputs frames cells events a → Counts code p inputs (frames ++ child ∷ []) cells' events a
+      grown : (a : Activation FrameState) → Counts code p inputs frames cells events a → Counts code p inputs (frames ++ child ∷ []) cells' events a
       grown a h = let e = push_length frames child in record {
         parent = let q = h.parent in omega (arith, e, q);
         last = let q = h.last in omega (arith, e, q);
@@ -357,17 +357,17 @@ module _ (code : CodeView) (p : Source) (inputs : List ℤ) (frames : List (Acti
         creates = h.creates;
       }
 
-      at_counts : (j : ℕ) (b : Activation Seat) → (slice_get frames j ≡ Some b) ⊎ ((j ≡ length frames) × (child ≡ b)) → Counts code p inputs (frames ++ child ∷ []) cells' events b
+      at_counts : (j : ℕ) (b : Activation FrameState) → (slice_get frames j ≡ Some b) ⊎ ((j ≡ length frames) × (child ≡ b)) → Counts code p inputs (frames ++ child ∷ []) cells' events b
       at_counts j b (inl at) = grown b (s.counts j b at)
-      at_counts j b (inr e) = subst (λ (z : Activation Seat). Counts code p inputs (frames ++ child ∷ []) cells' events z) e.1 counts
+      at_counts j b (inr e) = subst (λ (z : Activation FrameState). Counts code p inputs (frames ++ child ∷ []) cells' events z) e.1 counts
 
-      at_rests : (j : ℕ) (b : Activation Seat) (c : CursorView) → (turn ≡ Some j → ⊥) → (let x = b.cursor in x.cursor ≡ Some c) → (slice_get frames j ≡ Some b) ⊎ ((j ≡ length frames) × (child ≡ b)) → Rests code p inputs (frames ++ child ∷ []) cells' events b c
+      at_rests : (j : ℕ) (b : Activation FrameState) (c : CursorView) → (turn ≡ Some j → ⊥) → (let x = b.cursor in x.cursor ≡ Some c) → (slice_get frames j ≡ Some b) ⊎ ((j ≡ length frames) × (child ≡ b)) → Rests code p inputs (frames ++ child ∷ []) cells' events b c
       at_rests j b c ne is (inl at) = let h = s.rests j b c at ne is in record { lives = lives_pushed b h.lives; stands = h.stands; fits = h.fits }
       at_rests j b c ne is (inr e) =
-          subst (λ (z : Activation Seat). Rests code p inputs (frames ++ child ∷ []) cells' events z c) e.1
-          (rests c (subst (λ (z : Activation Seat). let x = z.cursor in x.cursor ≡ Some c) (sym e.1) is))
+          subst (λ (z : Activation FrameState). Rests code p inputs (frames ++ child ∷ []) cells' events z c) e.1
+          (rests c (subst (λ (z : Activation FrameState). let x = z.cursor in x.cursor ≡ Some c) (sym e.1) is))
 
-      at_comes : (j : ℕ) (b : Activation Seat) → turn ≡ Some j → (slice_get frames j ≡ Some b) ⊎ ((j ≡ length frames) × (child ≡ b)) → Comes code p inputs (frames ++ child ∷ []) cells' events b ask
+      at_comes : (j : ℕ) (b : Activation FrameState) → turn ≡ Some j → (slice_get frames j ≡ Some b) ⊎ ((j ≡ length frames) × (child ≡ b)) → Comes code p inputs (frames ++ child ∷ []) cells' events b ask
       at_comes j b is (inl at) = let h = s.comes j b at is in let l = h.lives in record {
         cursor = h.cursor;
         lives = lives_pushed b l;

@@ -20,22 +20,22 @@ use Rattle.cilk_hypermap.specs.declared.hypermap.Hypermap.{Hypermap}
 use Rattle.cilk_runs.specs.Machine.{State, deeds_at, started}
 use Rattle.cilk_runs.specs.Runs.{Name}
 use Rattle.cilk_runs.specs.Reducers.{View}
-use Rattle.cilk_runs.specs.Worlds.{World}
+use Rattle.cilk_runs.specs.FrameEnvs.{FrameEnv}
 use Rattle.cilk_scheduler.specs.Asking.{WentOn, refusal}
-use Rattle.cilk_scheduler.specs.Desks.{Desk, Chooses, Did}
+use Rattle.cilk_scheduler.specs.WorkerTables.{WorkerTable, Chooses, Did}
 use Rattle.cilk_scheduler.specs.Invocations.{ChildBegins, GoesToChild, HasGoneOn, IsNoted}
 use Rattle.cilk_scheduler.specs.Invoking.{IsChild}
 use Rattle.cilk_scheduler.specs.Noting.{HasFrame}
-use Rattle.cilk_scheduler.specs.Seats.{changed}
+use Rattle.cilk_scheduler.specs.FrameStates.{changed}
 use Rattle.cilk_scheduler.specs.Starting.{named_at}
 use Rattle.cilk_scheduler.specs.Steps.{HasCome}
 use Rattle.cilk_scheduler.specs.Workers.{held_by}
-use Rattle.cilk_scheduler.specs.declared.board.Board.{Board}
+use Rattle.cilk_scheduler.specs.declared.scheduler.Scheduler.{Scheduler}
 use Rattle.cilk_scheduler.specs.declared.choice.Choice.TheVariants as choices
 use Rattle.cilk_scheduler.specs.declared.choice.Stop.{Stop}
 use Rattle.cilk_scheduler.specs.declared.choice.Told.{Told}
-use Rattle.cilk_scheduler.specs.declared.seat.Seat.{Seat}
-use Rattle.cilk_scheduler.specs.declared.seat.Worker.{Worker}
+use Rattle.cilk_scheduler.specs.declared.frame_state.FrameState.{FrameState}
+use Rattle.cilk_scheduler.specs.declared.frame_state.Worker.{Worker}
 use Rattle.cilk_scheduler.proofs.Begun.{invocations_are_noted}
 use Rattle.cilk_scheduler.proofs.Invocations.{invocations_are_shown}
 use Rattle.cilk_scheduler.proofs.Noted.{frames_come}
@@ -55,7 +55,7 @@ pub if_both : {A E : Type 0} (P : A → Type 0) (Q : Type 0) (S : A → Type 0) 
 if_both P Q S (Ok x) h q f = f x h q
 if_both P Q S (Err e) h q f = tt
 
-pub started_by : (code : CodeView) (b b' : Board) (w k base count : ℕ) (how : Invocation) (callee : Callee) (child : Activation Seat) (event : numbered.Event) → b.asked ≡ asks.Invoke how callee → (let c = b.cells in base ≡ length c.items)
+pub started_by : (code : CodeView) (b b' : Scheduler) (w k base count : ℕ) (how : Invocation) (callee : Callee) (child : Activation FrameState) (event : numbered.Event) → b.asked ≡ asks.Invoke how callee → (let c = b.cells in base ≡ length c.items)
     → (let f = b.frames in IsChild code f.items k w base how callee child) → count ≡ cells_in code.layout callee → event ≡ (let f = b.frames in invocation how (suc (length f.items))) → ChildBegins b b' w k how child count → Started code b b' w k event
 started_by code b b' w k base count how callee child event is base_is child_is count_is event_is child_begins = let f = b.frames in record {
   how = how;
@@ -76,7 +76,7 @@ no_touch how n event is touch = by how (subst IsTouch is touch)
     by Call t = t
     by Spawn t = t
 
-pub acts_start : (frames : List (Activation Seat)) (cells : List ℤ) (views : Hypermap) (k : ℕ) (ask : Ask) (act : Seat → Seat) (event : numbered.Event) (cells' : List ℤ) (views' : Hypermap) → Acts frames cells views k ask act event cells' views' → IsStart event → ⊥
+pub acts_start : (frames : List (Activation FrameState)) (cells : List ℤ) (views : Hypermap) (k : ℕ) (ask : Ask) (act : FrameState → FrameState) (event : numbered.Event) (cells' : List ℤ) (views' : Hypermap) → Acts frames cells views k ask act event cells' views' → IsStart event → ⊥
 acts_start frames cells views k ask act event cells' views' begins s = s
 acts_start frames cells views k ask act event cells' views' resumes s = s
 acts_start frames cells views k ask act event cells' views' (reads place n v means at) s = s
@@ -88,12 +88,12 @@ acts_start frames cells views k ask act event cells' views' (sets r v j vs word 
 acts_start frames cells views k ask act event cells' views' (values r v j vs means num is) s = s
 acts_start frames cells views k ask act event cells' views' (prints v vs word is) s = s
 
-pub makes_start : (frames frames' : List (Activation Seat)) (cells cells' : List ℤ) (views views' : Hypermap) (k : ℕ) (ask : Ask) (event : numbered.Event) → MakesEvent frames frames' cells cells' views views' k ask event → IsStart event → ⊥
+pub makes_start : (frames frames' : List (Activation FrameState)) (cells cells' : List ℤ) (views views' : Hypermap) (k : ℕ) (ask : Ask) (event : numbered.Event) → MakesEvent frames frames' cells cells' views views' k ask event → IsStart event → ⊥
 makes_start frames frames' cells cells' views views' k ask event m = acts_start frames cells views k ask m.0 event cells' views' m.1
 
 -- ---- the frame has gone on and come to an ask
 
-module _ (code : CodeView) (p : Source) (inputs : List ℤ) (b b1 : Board) (w k : ℕ) (u : Worker) (ask : Ask) where
+module _ (code : CodeView) (p : Source) (inputs : List ℤ) (b b1 : Scheduler) (w k : ℕ) (u : Worker) (ask : Ask) where
   pub has_come : b.outcome ≡ None → (let l = b.workers in slice_get l.items w ≡ Some u) → u.frame ≡ Some k → (go : WentTo code inputs b b1 k) → IsAccepted code b1 k → b1.asked ≡ ask
       → (h : HasCome code p inputs b w k ask) × HasGoneOn b b1 k h.came
   has_come still at has go ok is =
@@ -113,7 +113,7 @@ module _ (code : CodeView) (p : Source) (inputs : List ℤ) (b b1 : Board) (w k 
       (subst (λ z. refusal (b1.ticks + ticks) (length e1.items) (length f1.items) (length z.items) code.layout ask ≡ None) go.cells
       (subst (λ a. let d = b1.cells in refusal (b1.ticks + ticks) (length e1.items) (length f1.items) (length d.items) code.layout a ≡ None) is ok.accepted))) in
       let come = frames_come code p inputs b w k ticks ask go.came f1.items frame still (subst (λ a. WentOn code inputs x a go.came) is go.went) go.frames
-      (λ a here. ap (λ (z : Activation Seat). let x = z.cursor in x.took - x.counted) (same_at f1.items k q a ok.sits here)) fine in
+      (λ a here. ap (λ (z : Activation FrameState). let x = z.cursor in x.took - x.counted) (same_at f1.items k q a ok.sits here)) fine in
       let h = come.0 in (
         h,
         record {
@@ -129,11 +129,11 @@ module _ (code : CodeView) (p : Source) (inputs : List ℤ) (b b1 : Board) (w k 
 
 -- ---- the law
 
-abbrev StartsAs : CodeView → Source → List ℤ → (ℕ → Name) → Board → Board → Desk → State World View → ℕ → Type 0
+abbrev StartsAs : CodeView → Source → List ℤ → (ℕ → Name) → Scheduler → Scheduler → WorkerTable → State FrameEnv View → ℕ → Type 0
 StartsAs code p inputs name b b' d s w =
-    (name' : ℕ → Name) × (s' : State World View) × (d' : Desk) × Chooses p inputs s d (choices.Run w) Did s' d' × IsReached code p inputs name' b' d' s' × ((j : ℕ) → (let f = b.frames in j < length f.items) → name' j ≡ name j)
+    (name' : ℕ → Name) × (s' : State FrameEnv View) × (d' : WorkerTable) × Chooses p inputs s d (choices.Run w) Did s' d' × IsReached code p inputs name' b' d' s' × ((j : ℕ) → (let f = b.frames in j < length f.items) → name' j ≡ name j)
 
-module _ (code : CodeView) (p : Source) (inputs : List ℤ) (name : ℕ → Name) (b b1 b2 : Board) (d : Desk) (s : State World View) (w k : ℕ) (u : Worker) (event : numbered.Event) where
+module _ (code : CodeView) (p : Source) (inputs : List ℤ) (name : ℕ → Name) (b b1 b2 : Scheduler) (d : WorkerTable) (s : State FrameEnv View) (w k : ℕ) (u : Worker) (event : numbered.Event) where
   start_is_step : IsReached code p inputs name b d s → b.outcome ≡ None → (let l = b.workers in slice_get l.items w ≡ Some u) → u.frame ≡ Some k → WentTo code inputs b b1 k → IsAccepted code b1 k → WroteStart code b1 b2 w k event
       → StartsAs code p inputs name b b2 d s (suc w)
   start_is_step r still at has go ok wrote =
@@ -154,7 +154,7 @@ module _ (code : CodeView) (p : Source) (inputs : List ℤ) (name : ℕ → Name
         λ j low. named_else name (length f.items) kid j low,
       )
 
-pub told_starts : (code : CodeView) (inputs : List ℤ) (b b1 b2 : Board) (worker v k : ℕ) → worker ≡ suc v → IsReadyAt b worker k → WentTo code inputs b b1 k → IsAccepted code b1 k → (r : Result Told Stop)
+pub told_starts : (code : CodeView) (inputs : List ℤ) (b b1 b2 : Scheduler) (worker v k : ℕ) → worker ≡ suc v → IsReadyAt b worker k → WentTo code inputs b b1 k → IsAccepted code b1 k → (r : Result Told Stop)
     → IfOk r (λ t. TellsStart code b1 b2 v k t) → IfOk r (λ t. b.outcome ≡ None → StartsAreSteps code inputs b b2 (choices.Run worker) t)
 told_starts code inputs b b1 b2 worker v k is ready went ok (Ok t) q = λ still.
     subst (λ t. StartsAreSteps code inputs b b2 (choices.Run worker) t) (sym q.1)

@@ -23,11 +23,11 @@ use Rattle.cilk_hypermap.specs.declared.hypermap.Hypermap.{Hypermap}
 use Rattle.cilk_runs.specs.Machine.{State}
 use Rattle.cilk_runs.specs.Runs.{Name}
 use Rattle.cilk_runs.specs.Reducers.{View}
-use Rattle.cilk_runs.specs.Worlds.{World}
+use Rattle.cilk_runs.specs.FrameEnvs.{FrameEnv}
 use Rattle.cilk_scheduler.specs.Acting.{IsShown}
 use Rattle.cilk_scheduler.specs.Asking.{refusal}
-use Rattle.cilk_scheduler.specs.Boards.{ShowsBy}
-use Rattle.cilk_scheduler.specs.Desks.{Desk, Chooses, Did}
+use Rattle.cilk_scheduler.specs.Schedulers.{ShowsBy}
+use Rattle.cilk_scheduler.specs.WorkerTables.{WorkerTable, Chooses, Did}
 use Rattle.cilk_scheduler.specs.Workers.{frame_in, held_by}
 use Rattle.cilk_scheduler.specs.declared.choice.Choice.TheVariants as choices
 use Rattle.cilk_scheduler.specs.declared.choice.Stop.{Stop}
@@ -36,11 +36,11 @@ use Rattle.cilk_scheduler.specs.declared.choice.Told.TheVariants as told
 use Rattle.cilk_schedule.specs.Choices.{IsReadyAt}
 use Rattle.cilk_scheduler.specs.Events.{SeesAt}
 use Rattle.cilk_scheduler.specs.Noting.{HasFrame}
-use Rattle.cilk_scheduler.specs.Seats.{answered, changed, stranded}
+use Rattle.cilk_scheduler.specs.FrameStates.{answered, changed, stranded}
 use Rattle.cilk_scheduler.specs.Steps.{HasCome, IsDone, Notes}
-use Rattle.cilk_scheduler.specs.declared.board.Board.{Board}
-use Rattle.cilk_scheduler.specs.declared.seat.Seat.{Seat}
-use Rattle.cilk_scheduler.specs.declared.seat.Worker.{Worker}
+use Rattle.cilk_scheduler.specs.declared.scheduler.Scheduler.{Scheduler}
+use Rattle.cilk_scheduler.specs.declared.frame_state.FrameState.{FrameState}
+use Rattle.cilk_scheduler.specs.declared.frame_state.Worker.{Worker}
 use Rattle.cilk_scheduler.proofs.Noted.{frames_come, noted, sight_stays}
 use Rattle.cilk_scheduler.proofs.Strands as strands
 use Rattle.cilk_scheduler.proofs.CellEvents as touching
@@ -50,8 +50,8 @@ use Rattle.cilk_schedule.specs.Sound.{IsAccepted}
 use Rattle.cilk_schedule.proofs.Workers.{same_at}
 use Rattle.cilk_scheduler.proofs.Placed.{get_some}
 
-pub keeps_ticks : (frames : List (Activation Seat)) (cells : List ℤ) (views : Hypermap) (k : ℕ) (ask : Ask) (act : Seat → Seat) (event : numbered.Event) (cells' : List ℤ) (views' : Hypermap)
-    → Acts frames cells views k ask act event cells' views' → (x : Seat) → let y = act x in (y.took ≡ x.took) × (y.counted ≡ x.counted)
+pub keeps_ticks : (frames : List (Activation FrameState)) (cells : List ℤ) (views : Hypermap) (k : ℕ) (ask : Ask) (act : FrameState → FrameState) (event : numbered.Event) (cells' : List ℤ) (views' : Hypermap)
+    → Acts frames cells views k ask act event cells' views' → (x : FrameState) → let y = act x in (y.took ≡ x.took) × (y.counted ≡ x.counted)
 keeps_ticks frames cells views k ask act event cells' views' begins x = (refl, refl)
 keeps_ticks frames cells views k ask act event cells' views' resumes x = (refl, refl)
 keeps_ticks frames cells views k ask act event cells' views' (reads place n v means at) x = (refl, refl)
@@ -63,13 +63,13 @@ keeps_ticks frames cells views k ask act event cells' views' (sets r v j vs word
 keeps_ticks frames cells views k ask act event cells' views' (values r v j vs means num is) x = (refl, refl)
 keeps_ticks frames cells views k ask act event cells' views' (prints v vs word is) x = (refl, refl)
 
-module _ (code : CodeView) (p : Source) (inputs : List ℤ) (name : ℕ → Name) (b b' : Board) (d : Desk) (s : State World View) (w k : ℕ) (sh : IsShown code p inputs name b d s) (frames : List (Activation Seat)) (cells : List ℤ) (views : Hypermap)
+module _ (code : CodeView) (p : Source) (inputs : List ℤ) (name : ℕ → Name) (b b' : Scheduler) (d : WorkerTable) (s : State FrameEnv View) (w k : ℕ) (sh : IsShown code p inputs name b d s) (frames : List (Activation FrameState)) (cells : List ℤ) (views : Hypermap)
     (cells_are : let c = b.cells in cells ≡ c.items) where
   -- what the frame that has come sees is what it saw
   saw : (ask : Ask) (h : HasCome code p inputs b w k ask) → (let f = b.frames in frames ≡ changed (λ _. h.came) f.items k) → (scope : Scope ℕ Instance) → (let f = b.frames in SeesAt f.items k scope) → SeesAt frames k scope
   saw ask h is scope sees = let f = b.frames in (sight_stays f.items frames k h.came is).0 scope sees
 
-  shown_by : (ask : Ask) (act : Seat → Seat) (event : numbered.Event) (cells' : List ℤ) (views' : Hypermap) → Acts frames cells views k ask act event cells' views' → (h : HasCome code p inputs b w k ask)
+  shown_by : (ask : Ask) (act : FrameState → FrameState) (event : numbered.Event) (cells' : List ℤ) (views' : Hypermap) → Acts frames cells views k ask act event cells' views' → (h : HasCome code p inputs b w k ask)
       → (let f = b.frames in frames ≡ changed (λ _. h.came) f.items k) → (let u = h.worker in views ≡ u.views) → Notes code p inputs b b' w k h.came (act h.came) event cells' views' → IsDone code p inputs name b' d s w
   shown_by ask act event cells' views' begins h is same n =
       let c = b.cells in let u = h.worker in
@@ -93,7 +93,7 @@ module _ (code : CodeView) (p : Source) (inputs : List ℤ) (name : ℕ → Name
       let c = b.cells in let u = h.worker in let f = b.frames in
       let here : slice_get frames k ≡ Some (record h.seat { cursor = h.came }) = (sight_stays f.items frames k h.came is).1 h.seat h.sits in
       let one : a ≡ record h.seat { cursor = h.came } = same_at frames k a (record h.seat { cursor = h.came }) at here in
-      touching.results code p inputs name b b' d s w k i v sh h (sym (ap (λ (z : Activation Seat). z.result) one) ∙ res)
+      touching.results code p inputs name b b' d s w k i v sh h (sym (ap (λ (z : Activation FrameState). z.result) one) ∙ res)
       (subst (λ l. Notes code p inputs b b' w k h.came (answered answers.Done h.came) (events.Write i v) (slice_set l i v) u.views) cells_are (subst (λ q. Notes code p inputs b b' w k h.came (answered answers.Done h.came) (events.Write i v) (slice_set cells i v) q) same n))
   shown_by ask act event cells' views' (creates r j vs means to) h is same n =
       let c = b.cells in
@@ -118,7 +118,7 @@ module _ (code : CodeView) (p : Source) (inputs : List ℤ) (name : ℕ → Name
       reducing.prints code p inputs name b b' d s w k v vs sh h word (subst (λ q. ChangesIn q vs Append output (Some ((structure_of Append).combine (value_in q Append output) ((structure_of Append).single v)))) same to)
       (subst (λ l. Notes code p inputs b b' w k h.came (answered answers.Done h.came) (events.Print v) l vs) cells_are n)
 
-module _ (code : CodeView) (p : Source) (inputs : List ℤ) (name : ℕ → Name) (b b1 b2 : Board) (d : Desk) (s : State World View) (w k : ℕ) (u : Worker) where
+module _ (code : CodeView) (p : Source) (inputs : List ℤ) (name : ℕ → Name) (b b1 b2 : Scheduler) (d : WorkerTable) (s : State FrameEnv View) (w k : ℕ) (u : Worker) where
   pub is_step : IsShown code p inputs name b d s → b.outcome ≡ None → (let l = b.workers in slice_get l.items w ≡ Some u) → u.frame ≡ Some k → WentTo code inputs b b1 k → IsAccepted code b1 k → (event : numbered.Event) → Wrote b1 b2 w k event → IsDone code p inputs name b2 d s w
   is_step sh still at has go ok event wrote =
       let f = b.frames in let f1 = b1.frames in
@@ -132,7 +132,7 @@ module _ (code : CodeView) (p : Source) (inputs : List ℤ) (name : ℕ → Name
       (subst (λ z. refusal (b1.ticks + ticks) (length z.items) (length f1.items) (length c.items) code.layout b1.asked ≡ None) go.journal
       (subst (λ z. refusal (b1.ticks + ticks) (length e1.items) (length f1.items) (length z.items) code.layout b1.asked ≡ None) go.cells ok.accepted)) in
       let come = frames_come code p inputs b w k ticks b1.asked go.came f1.items frame still go.went go.frames
-      (λ a here. ap (λ (z : Activation Seat). let x = z.cursor in x.took - x.counted) (same_at f1.items k q a ok.sits here)) fine in
+      (λ a here. ap (λ (z : Activation FrameState). let x = z.cursor in x.took - x.counted) (same_at f1.items k q a ok.sits here)) fine in
       let h = come.0 in
       let t = wrote.touched in
       let made = wrote.made in
@@ -161,7 +161,7 @@ pub if_ok : {A E : Type 0} {P S : A → Type 0} (r : Result A E) → IfOk r P �
 if_ok (Ok x) h f = f x h
 if_ok (Err e) h f = tt
 
-pub touched_still : (b b' : Board) (w k : ℕ) (event : numbered.Event) → (let l = b.workers in w < length l.items) → b'.workers ≡ b.workers → b'.offered ≡ b.offered → b'.outcome ≡ b.outcome
+pub touched_still : (b b' : Scheduler) (w k : ℕ) (event : numbered.Event) → (let l = b.workers in w < length l.items) → b'.workers ≡ b.workers → b'.offered ≡ b.offered → b'.outcome ≡ b.outcome
     → ((views : Hypermap) → let f = b.frames in let g = b'.frames in let c = b.cells in let d = b'.cells in MakesEvent f.items g.items c.items d.items views views k b.asked event) → Touched b b' w k event
 touched_still b b' w k event low workers offered outcome makes =
     let l = b.workers in
@@ -169,7 +169,7 @@ touched_still b b' w k event low workers offered outcome makes =
     let u = it.0 in
     record { worker = u; views = u.views; at = it.1; makes = makes u.views; workers = inl (ap (λ z. z.items) workers, refl); offered = offered; outcome = outcome }
 
-pub touched_views : (b b' : Board) (w k : ℕ) (event : numbered.Event) (u : Worker) (views : Hypermap) → (let l = b.workers in slice_get l.items w ≡ Some u) → (let l = b.workers in let m = b'.workers in m.items ≡ slice_set l.items w (record u { views = views }))
+pub touched_views : (b b' : Scheduler) (w k : ℕ) (event : numbered.Event) (u : Worker) (views : Hypermap) → (let l = b.workers in slice_get l.items w ≡ Some u) → (let l = b.workers in let m = b'.workers in m.items ≡ slice_set l.items w (record u { views = views }))
     → b'.offered ≡ b.offered → b'.outcome ≡ b.outcome → (let f = b.frames in let g = b'.frames in let c = b.cells in let d = b'.cells in MakesEvent f.items g.items c.items d.items u.views views k b.asked event) → Touched b b' w k event
 touched_views b b' w k event u views at workers offered outcome makes = record { worker = u; views = views; at = at; makes = makes; workers = inr workers; offered = offered; outcome = outcome }
 
@@ -181,13 +181,13 @@ held_place ws v k h = by (slice_get ws v) refl h
     by None e q = let z : None ≡ Some k = q in cc
     by (Some u) e q = (u, e, q)
 
-pub told_steps : (code : CodeView) (inputs : List ℤ) (b b1 b2 : Board) (worker v k : ℕ) → worker ≡ suc v → IsReadyAt b worker k → WentTo code inputs b b1 k → IsAccepted code b1 k → (r : Result Told Stop)
+pub told_steps : (code : CodeView) (inputs : List ℤ) (b b1 b2 : Scheduler) (worker v k : ℕ) → worker ≡ suc v → IsReadyAt b worker k → WentTo code inputs b b1 k → IsAccepted code b1 k → (r : Result Told Stop)
     → IfOk r (λ t. (e : numbered.Event) × (t ≡ told.Did (record { frame = k + 1; event = e })) × (IsTouch e → Wrote b1 b2 v k e)) → IfOk r (λ t. b.outcome ≡ None → EventsAreSteps code inputs b b2 (choices.Run worker) t)
 told_steps code inputs b b1 b2 worker v k is ready went ok (Ok t) q = λ still.
     subst (λ t. EventsAreSteps code inputs b b2 (choices.Run worker) t) (sym q.1)
     (λ touch p name d s sh.
     let ws = b.workers in
     let u = held_place ws.items v k (subst (λ z. held_by ws.items z ≡ Some k) is ready.held) in
-    subst (λ z. (s' : State World View) × Chooses p inputs s d (choices.Run z) Did s' d × ShowsBy code p inputs name b2 d s') (sym is)
+    subst (λ z. (s' : State FrameEnv View) × Chooses p inputs s d (choices.Run z) Did s' d × ShowsBy code p inputs name b2 d s') (sym is)
     (is_step code p inputs name b b1 b2 d s v k u.0 sh still u.1 u.2 went ok q.0 (q.2 touch)))
 told_steps code inputs b b1 b2 worker v k is ready went ok (Err x) q = tt

@@ -34,10 +34,10 @@ use Rattle.cilk_scheduler.specs.Events.{SeesAt}
 use Rattle.cilk_scheduler.specs.Asking.{refusal}
 use Rattle.cilk_scheduler.specs.Invocations.{ChildBegins, left_at, newly_offered}
 use Rattle.cilk_scheduler.specs.Invoking.{IsChild}
-use Rattle.cilk_scheduler.specs.Seats.{changed, finished, stranded, started_at, synced, waiting}
-use Rattle.cilk_scheduler.specs.declared.board.Board.{Board}
-use Rattle.cilk_scheduler.specs.declared.seat.Due.TheVariants as due
-use Rattle.cilk_scheduler.specs.declared.seat.Seat.{Seat}
+use Rattle.cilk_scheduler.specs.FrameStates.{changed, finished, stranded, started_at, synced, waiting}
+use Rattle.cilk_scheduler.specs.declared.scheduler.Scheduler.{Scheduler}
+use Rattle.cilk_scheduler.specs.declared.frame_state.Due.TheVariants as due
+use Rattle.cilk_scheduler.specs.declared.frame_state.FrameState.{FrameState}
 use Rattle.cilk_scheduler.proofs.Changing.{changed_length}
 use Rattle.cilk_scheduler.proofs.Placed.{get_some}
 use Rattle.cilk_schedule.specs.Sound.{HasCome, IsAsked, IsMade, IsQuiet, IsTurn, Runs, SameTicks, Settles, Sound, frame_of}
@@ -48,14 +48,14 @@ use Rattle.cilk_schedule.proofs.Sounds.{IsStep, changed_sound, ended, lives_chan
 some_is : {A : Type 0} (x y : A) → Some x ≡ Some y → x ≡ y
 some_is x y e = cc
 
-module _ (code : CodeView) (inputs : List ℤ) (b : Board) (k : ℕ) (t : IsTurn code inputs b k) where
+module _ (code : CodeView) (inputs : List ℤ) (b : Scheduler) (k : ℕ) (t : IsTurn code inputs b k) where
   pub many : let e = b.journal in length e.items + 1 ≤ MAX_EVENTS
   many = let f = b.frames in let c = b.cells in let e = b.journal in few_events t.ticks (length e.items) (length f.items) (length c.items) code.layout b.asked t.accepted
 
   pub comes : let f = b.frames in let c = b.cells in HasCome f.items (length c.items) k b.asked
   comes = let a = t.asked in let e = b.journal in (code, a.program, inputs, length e.items, a.sound)
 
-  pub is_made : (b' : Board) → (let a = t.asked in let f = b'.frames in let c = b'.cells in let e = b.journal in Sound code a.program inputs f.items (length c.items) (length e.items + 1) None asks.Begin)
+  pub is_made : (b' : Scheduler) → (let a = t.asked in let f = b'.frames in let c = b'.cells in let e = b.journal in Sound code a.program inputs f.items (length c.items) (length e.items + 1) None asks.Begin)
       → b'.journal ≡ b.journal → b'.offered ≤ b.offered + 1 → IsMade code inputs b'
   is_made b' s same more = let a = t.asked in let f = b'.frames in let c = b'.cells in record {
     program = a.program;
@@ -64,7 +64,7 @@ module _ (code : CodeView) (inputs : List ℤ) (b : Board) (k : ℕ) (t : IsTurn
     offers = let few = a.offers in subst (λ e. b'.offered ≤ length e.items + 1) (sym same) (omega (arith, few, more));
   }
 
-  pub settles_made : (ask : Ask) → b.asked ≡ ask → (b' : Board) → (let f = b.frames in let g = b'.frames in let c = b.cells in let d = b'.cells in Settles f.items g.items (length c.items) (length d.items) k ask)
+  pub settles_made : (ask : Ask) → b.asked ≡ ask → (b' : Scheduler) → (let f = b.frames in let g = b'.frames in let c = b.cells in let d = b'.cells in Settles f.items g.items (length c.items) (length d.items) k ask)
       → b'.journal ≡ b.journal → b'.offered ≡ b.offered → IsMade code inputs b'
   settles_made ask is b' s same offers =
       let a = t.asked in
@@ -98,36 +98,36 @@ block_step = record {
   cursor = λ x. refl;
 }
 
-pub strand_settles : (frames frames' : List (Activation Seat)) (cells k : ℕ) (ask : Ask) → HasAnswer ask → Fits (owed_for ask) Done → k < length frames → frames' ≡ changed stranded frames k → Settles frames frames' cells cells k ask
+pub strand_settles : (frames frames' : List (Activation FrameState)) (cells k : ℕ) (ask : Ask) → HasAnswer ask → Fits (owed_for ask) Done → k < length frames → frames' ≡ changed stranded frames k → Settles frames frames' cells cells k ask
 strand_settles frames frames' cells k ask has fits there is = λ code p inputs events few s.
     subst (λ l. Sound code p inputs l cells (events + 1) None asks.Begin) (sym is) (settled 1 stranded (due.Answer Done) strand_step code p inputs frames cells events k ask has fits there few s)
 
-pub strand_ticks : (frames frames' : List (Activation Seat)) (k : ℕ) → frames' ≡ changed stranded frames k → SameTicks frames frames'
+pub strand_ticks : (frames frames' : List (Activation FrameState)) (k : ℕ) → frames' ≡ changed stranded frames k → SameTicks frames frames'
 strand_ticks frames frames' k is = subst (λ l. SameTicks frames l) (sym is) (same_ticks stranded (λ x. (refl, refl)) frames k)
 
 -- behind a quiet change
-pub block_settles : (frames quiet frames' : List (Activation Seat)) (cells k : ℕ) → IsQuiet frames quiet → k < length frames → frames' ≡ changed synced quiet k → Settles frames frames' cells cells k asks.Sync
+pub block_settles : (frames quiet frames' : List (Activation FrameState)) (cells k : ℕ) → IsQuiet frames quiet → k < length frames → frames' ≡ changed synced quiet k → Settles frames frames' cells cells k asks.Sync
 block_settles frames quiet frames' cells k still there is = λ code p inputs events few s.
     let low = still.2 in
     subst (λ l. Sound code p inputs l cells (events + 1) None asks.Begin) (sym is)
     (settled 1 synced (due.Answer Done) block_step code p inputs quiet cells events k asks.Sync tt tt (omega (arith, there, low)) few (still.0 code p inputs cells events (Some k) asks.Sync s))
 
-pub block_ticks : (frames quiet frames' : List (Activation Seat)) (k : ℕ) → IsQuiet frames quiet → frames' ≡ changed synced quiet k → SameTicks frames frames'
+pub block_ticks : (frames quiet frames' : List (Activation FrameState)) (k : ℕ) → IsQuiet frames quiet → frames' ≡ changed synced quiet k → SameTicks frames frames'
 block_ticks frames quiet frames' k still is = same_twice frames quiet frames' still.1 (subst (λ l. SameTicks quiet l) (sym is) (same_ticks synced (λ x. (refl, refl)) quiet k))
 
-pub end_settles : (frames quiet frames' : List (Activation Seat)) (cells k : ℕ) (ask : Ask) → IsQuiet frames quiet → k < length frames → frames' ≡ changed finished quiet k → Settles frames frames' cells cells k ask
+pub end_settles : (frames quiet frames' : List (Activation FrameState)) (cells k : ℕ) (ask : Ask) → IsQuiet frames quiet → k < length frames → frames' ≡ changed finished quiet k → Settles frames frames' cells cells k ask
 end_settles frames quiet frames' cells k ask still there is = λ code p inputs events few s.
     let low = still.2 in
     subst (λ l. Sound code p inputs l cells (events + 1) None asks.Begin) (sym is)
     (ended finished (λ x. (refl, refl, refl, refl, refl, refl, refl)) code p inputs quiet cells events k ask (omega (arith, there, low)) few (still.0 code p inputs cells events (Some k) ask s))
 
-pub end_ticks : (frames quiet frames' : List (Activation Seat)) (k : ℕ) → IsQuiet frames quiet → frames' ≡ changed finished quiet k → SameTicks frames frames'
+pub end_ticks : (frames quiet frames' : List (Activation FrameState)) (k : ℕ) → IsQuiet frames quiet → frames' ≡ changed finished quiet k → SameTicks frames frames'
 end_ticks frames quiet frames' k still is = same_twice frames quiet frames' still.1 (subst (λ l. SameTicks quiet l) (sym is) (same_ticks finished (λ x. (refl, refl)) quiet k))
 
-pub push_ticks : (frames : List (Activation Seat)) (child : Activation Seat) → SameTicks frames (frames ++ child ∷ [])
+pub push_ticks : (frames : List (Activation FrameState)) (child : Activation FrameState) → SameTicks frames (frames ++ child ∷ [])
 push_ticks frames child = λ k a at. (a, push_get frames child k a at, (refl, refl))
 
-pub begun_ticks : (b b' : Board) (w k : ℕ) (how : Invocation) (child : Activation Seat) (count : ℕ) → ChildBegins b b' w k how child count → (let f = b.frames in let g = b'.frames in SameTicks f.items g.items)
+pub begun_ticks : (b b' : Scheduler) (w k : ℕ) (how : Invocation) (child : Activation FrameState) (count : ℕ) → ChildBegins b b' w k how child count → (let f = b.frames in let g = b'.frames in SameTicks f.items g.items)
 begun_ticks b b' w k how child count h =
     let f = b.frames in
     let g = b'.frames in
@@ -139,10 +139,10 @@ few_offers : (how : Invocation) → newly_offered how ≤ 1
 few_offers Call = omega arith
 few_offers Spawn = omega arith
 
-module _ (code : CodeView) (inputs : List ℤ) (b : Board) (k : ℕ) (t : IsTurn code inputs b k) where
-  pub begun_made : (how : Invocation) (callee : Callee) → b.asked ≡ asks.Invoke how callee → (worker base count : ℕ) (child : Activation Seat)
+module _ (code : CodeView) (inputs : List ℤ) (b : Scheduler) (k : ℕ) (t : IsTurn code inputs b k) where
+  pub begun_made : (how : Invocation) (callee : Callee) → b.asked ≡ asks.Invoke how callee → (worker base count : ℕ) (child : Activation FrameState)
       → (let c = b.cells in base ≡ length c.items) → (let f = b.frames in IsChild code f.items k worker base how callee child) → count ≡ cells_in code.layout callee
-      → (b' : Board) → ChildBegins b b' worker k how child count → b'.journal ≡ b.journal → IsMade code inputs b'
+      → (b' : Scheduler) → ChildBegins b b' worker k how child count → b'.journal ≡ b.journal → IsMade code inputs b'
   begun_made how callee is worker base count child base_is child_is count_is b' h same =
       let a = t.asked in
       let e = b.journal in
@@ -165,7 +165,7 @@ result_fits : (frame : Frame) (n : ℕ) → n < 2 ^ 32 → (o : Option Place) �
 result_fits frame n few None h = tt
 result_fits frame n few (Some x) h = omega (arith, h, few)
 
-module _ (code : CodeView) (inputs : List ℤ) (b : Board) (k : ℕ) (t : IsTurn code inputs b k) where
+module _ (code : CodeView) (inputs : List ℤ) (b : Scheduler) (k : ℕ) (t : IsTurn code inputs b k) where
   few_now : (how : Invocation) (callee : Callee) → b.asked ≡ asks.Invoke how callee → (let f = b.frames in length f.items + 1 ≤ MAX_FRAMES)
   few_now how callee is =
       let e = b.journal in
@@ -185,7 +185,7 @@ module _ (code : CodeView) (inputs : List ℤ) (b : Board) (k : ℕ) (t : IsTurn
       let less = a.offers in
       (omega (arith, few), omega (arith, many, less))
 
-  pub can_start : (x : Activation Seat) → (let f = b.frames in slice_get f.items k ≡ Some x) → (let y = x.cursor in y.children < 2 ^ 31)
+  pub can_start : (x : Activation FrameState) → (let f = b.frames in slice_get f.items k ≡ Some x) → (let y = x.cursor in y.children < 2 ^ 31)
   can_start x at =
       let a = t.asked in
       let s = a.sound in
@@ -194,7 +194,7 @@ module _ (code : CodeView) (inputs : List ℤ) (b : Board) (k : ℕ) (t : IsTurn
       let few = s.few_frames in
       omega (arith, q, few)
 
-  pub few_strands : (x : Activation Seat) → (let f = b.frames in slice_get f.items k ≡ Some x) → (let y = x.cursor in y.strands < 2 ^ 31)
+  pub few_strands : (x : Activation FrameState) → (let f = b.frames in slice_get f.items k ≡ Some x) → (let y = x.cursor in y.strands < 2 ^ 31)
   few_strands x at =
       let a = t.asked in
       let s = a.sound in
@@ -229,8 +229,8 @@ module _ (code : CodeView) (inputs : List ℤ) (b : Board) (k : ℕ) (t : IsTurn
       let frame = frame_of l.callee l.scope it.0 in
       subst (λ q. scoped.IsThere a.program frame (length c.items) q) is n.there
 
-module _ (code : CodeView) (inputs : List ℤ) (b : Board) (k : ℕ) (t : IsAsked code inputs b k) where
-  pub few_children : (x : Activation Seat) → (let f = b.frames in slice_get f.items k ≡ Some x) → (let y = x.cursor in y.children < 2 ^ 31)
+module _ (code : CodeView) (inputs : List ℤ) (b : Scheduler) (k : ℕ) (t : IsAsked code inputs b k) where
+  pub few_children : (x : Activation FrameState) → (let f = b.frames in slice_get f.items k ≡ Some x) → (let y = x.cursor in y.children < 2 ^ 31)
   few_children x at =
       let s = t.sound in
       let n = s.counts k x at in
@@ -238,7 +238,7 @@ module _ (code : CodeView) (inputs : List ℤ) (b : Board) (k : ℕ) (t : IsAske
       let few = s.few_frames in
       omega (arith, q, few)
 
-  pub few_strands_behind : (now : List (Activation Seat)) → (let f = b.frames in IsQuiet f.items now) → (x : Activation Seat) → slice_get now k ≡ Some x → (let y = x.cursor in y.strands < 2 ^ 31)
+  pub few_strands_behind : (now : List (Activation FrameState)) → (let f = b.frames in IsQuiet f.items now) → (x : Activation FrameState) → slice_get now k ≡ Some x → (let y = x.cursor in y.strands < 2 ^ 31)
   few_strands_behind now still x at =
       let d = b.cells in
       let e = b.journal in
@@ -249,7 +249,7 @@ module _ (code : CodeView) (inputs : List ℤ) (b : Board) (k : ℕ) (t : IsAske
       omega (arith, q, few)
 
 -- the frame waits at its sync
-wait_rests : (code : CodeView) (p : Source) (inputs : List ℤ) (frames : List (Activation Seat)) (cells events k : ℕ) → k < length frames → Sound code p inputs frames cells events (Some k) asks.Sync → Sound code p inputs (changed waiting frames k) cells events None asks.Begin
+wait_rests : (code : CodeView) (p : Source) (inputs : List ℤ) (frames : List (Activation FrameState)) (cells events k : ℕ) → k < length frames → Sound code p inputs frames cells events (Some k) asks.Sync → Sound code p inputs (changed waiting frames k) cells events None asks.Begin
 unfolding lives_changed
 wait_rests code p inputs frames cells events k there s =
     changed_sound code p inputs frames cells cells events events waiting k (omega arith) (omega arith) (Some k) None asks.Sync asks.Begin s
@@ -272,7 +272,7 @@ wait_rests code p inputs frames cells events k there s =
     (λ a at no. cc)
     (λ j no not is. no (sym (some_is k j is))) (λ j no no2. cc) s.few_cells s.few_events there
 
-pub waits_runs : (code : CodeView) (inputs : List ℤ) (b : Board) (k : ℕ) → IsAsked code inputs b k → b.asked ≡ asks.Sync → (quiet : List (Activation Seat)) → (let f = b.frames in IsQuiet f.items quiet) → (b' : Board)
+pub waits_runs : (code : CodeView) (inputs : List ℤ) (b : Scheduler) (k : ℕ) → IsAsked code inputs b k → b.asked ≡ asks.Sync → (quiet : List (Activation FrameState)) → (let f = b.frames in IsQuiet f.items quiet) → (b' : Scheduler)
     → (let g = b'.frames in g.items ≡ changed waiting quiet k) → b'.cells ≡ b.cells → b'.journal ≡ b.journal → b'.offered ≡ b.offered → b'.ticks ≡ b.ticks → Runs code inputs b'
 waits_runs code inputs b k t is quiet still b' frames_are cells_are journal_is offered_is ticks_are =
     let p = t.program in
@@ -293,7 +293,7 @@ waits_runs code inputs b k t is quiet still b' frames_are cells_are journal_is o
       offers = subst (λ e'. b'.offered ≤ length e'.items) (sym journal_is) (let q = t.offers in omega (arith, q, offered_is));
     }
 
-pub ends_made : (code : CodeView) (inputs : List ℤ) (b : Board) (k : ℕ) (t : IsTurn code inputs b k) (ask : Ask) → b.asked ≡ ask → (b' : Board) (quiet : List (Activation Seat)) → (let f = b.frames in IsQuiet f.items quiet) → (let g = b'.frames in g.items ≡ changed finished quiet k)
+pub ends_made : (code : CodeView) (inputs : List ℤ) (b : Scheduler) (k : ℕ) (t : IsTurn code inputs b k) (ask : Ask) → b.asked ≡ ask → (b' : Scheduler) (quiet : List (Activation FrameState)) → (let f = b.frames in IsQuiet f.items quiet) → (let g = b'.frames in g.items ≡ changed finished quiet k)
     → b'.cells ≡ b.cells → b'.journal ≡ b.journal → b'.offered ≤ b.offered → IsMade code inputs b'
 ends_made code inputs b k t ask is b' quiet still frames_are cells_are journal_is offered_is =
     let a = t.asked in

@@ -7,7 +7,7 @@ use Rattle.cilk_program.specs.Syntax.{Source}
 use Rattle.cilk_lower.specs.Code.{CodeView}
 use Rattle.cilk_runs.specs.Steps.{IsFirst}
 use Rattle.cilk_scheduler.specs.Openings.{first_desk}
-use Rattle.cilk_scheduler.specs.declared.board.Board.{Board}
+use Rattle.cilk_scheduler.specs.declared.scheduler.Scheduler.{Scheduler}
 use Rattle.cilk_schedule.specs.Reached.{HasOpened, HasReached}
 use Rattle.cilk_schedule.specs.Sound.{IsCodeOf}
 use Rattle.cilk_schedule.specs.declared.machine.Machine.{Machine}

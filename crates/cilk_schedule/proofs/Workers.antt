@@ -7,7 +7,7 @@
 use Rattle.std.proofs.Common.{◌≡◌, ◌<◌, ◌≤◌, ℕ, zero, suc, Bool, true, false, List, [], ◌∷◌, length, slice_get, IsTrue, Option, Some, None, refl, sym, ◌∙◌, arith}
 use Rattle.std.specs.Option.{is_some}
 use Rattle.cilk_scheduler.specs.Workers.{frame_in, held_by, is_free, is_idle}
-use Rattle.cilk_scheduler.specs.declared.seat.Worker.{Worker}
+use Rattle.cilk_scheduler.specs.declared.frame_state.Worker.{Worker}
 
 pub inside : {A : Type 0} (ws : List A) (w : ℕ) (u : A) → slice_get ws w ≡ Some u → w < length ws
 inside [] w u h = let e : None ≡ Some u = h in cc

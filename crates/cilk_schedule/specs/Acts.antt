@@ -23,19 +23,19 @@ use Rattle.cilk_hypermap.specs.declared.hypermap.Hypermap.{Hypermap}
 use Rattle.cilk_runs.specs.Machine.{State}
 use Rattle.cilk_runs.specs.Runs.{Name}
 use Rattle.cilk_runs.specs.Reducers.{View}
-use Rattle.cilk_runs.specs.Worlds.{World}
+use Rattle.cilk_runs.specs.FrameEnvs.{FrameEnv}
 use Rattle.cilk_scheduler.specs.Acting.{IsShown}
 use Rattle.cilk_scheduler.specs.Asking.{WentOn}
-use Rattle.cilk_scheduler.specs.Boards.{ShowsBy}
-use Rattle.cilk_scheduler.specs.Desks.{Desk, Chooses, Did}
+use Rattle.cilk_scheduler.specs.Schedulers.{ShowsBy}
+use Rattle.cilk_scheduler.specs.WorkerTables.{WorkerTable, Chooses, Did}
 use Rattle.cilk_scheduler.specs.Events.{SeesAt}
-use Rattle.cilk_scheduler.specs.Seats.{answered, changed, counted, stranded}
-use Rattle.cilk_scheduler.specs.declared.board.Board.{Board}
+use Rattle.cilk_scheduler.specs.FrameStates.{answered, changed, counted, stranded}
+use Rattle.cilk_scheduler.specs.declared.scheduler.Scheduler.{Scheduler}
 use Rattle.cilk_scheduler.specs.declared.choice.Choice.{Choice}
 use Rattle.cilk_scheduler.specs.declared.choice.Told.{Told}
 use Rattle.cilk_scheduler.specs.declared.choice.Told.TheVariants as told
-use Rattle.cilk_scheduler.specs.declared.seat.Seat.{Seat}
-use Rattle.cilk_scheduler.specs.declared.seat.Worker.{Worker}
+use Rattle.cilk_scheduler.specs.declared.frame_state.FrameState.{FrameState}
+use Rattle.cilk_scheduler.specs.declared.frame_state.Worker.{Worker}
 
 -- the event starts and ends no frame and no block
 abbrev pub IsTouch : numbered.Event → Type 0
@@ -54,20 +54,20 @@ IsTouch events.Sync = ⊥
 IsTouch events.End = ⊥
 
 -- the place means this cell, or this reducer, to the frame at place k
-abbrev pub Means : List (Activation Seat) → ℕ → Place → ℕ → Type 0
+abbrev pub Means : List (Activation FrameState) → ℕ → Place → ℕ → Type 0
 Means frames k x n = (scope : Scope ℕ Instance) → SeesAt frames k scope → n ≡ cell_in itself scope x
 
-abbrev pub MeansInstance : List (Activation Seat) → ℕ → ReducerPlace → Instance → Type 0
+abbrev pub MeansInstance : List (Activation FrameState) → ℕ → ReducerPlace → Instance → Type 0
 MeansInstance frames k r j = (scope : Scope ℕ Instance) → SeesAt frames k scope → j ≡ instance_in global_reducer scope r
 
 -- The frame at place k has come to an ask. By its event, what is kept of it changes by a function; and the cells and the worker's views are
 -- these then.
-pub data Acts (frames : List (Activation Seat)) (cells : List ℤ) (views : Hypermap) (k : ℕ) : Ask → (Seat → Seat) → numbered.Event → List ℤ → Hypermap → Type 0 where
+pub data Acts (frames : List (Activation FrameState)) (cells : List ℤ) (views : Hypermap) (k : ℕ) : Ask → (FrameState → FrameState) → numbered.Event → List ℤ → Hypermap → Type 0 where
   begins : Acts frames cells views k asks.Begin stranded (events.Begin (k + 1)) cells views
   resumes : Acts frames cells views k asks.Resume stranded (events.Resume (k + 1)) cells views
   reads : (x : Place) (n : ℕ) (v : ℤ) → Means frames k x n → slice_get cells n ≡ Some v → Acts frames cells views k (asks.Read x) (answered (answers.Value v)) (events.Read n v) cells views
   writes : (x : Place) (n : ℕ) (v : ℤ) → Means frames k x n → Acts frames cells views k (asks.Write x v) (answered answers.Done) (events.Write n v) (slice_set cells n v) views
-  gives : (n : ℕ) (v : ℤ) (a : Activation Seat) → slice_get frames k ≡ Some a → a.result ≡ Some n → Acts frames cells views k (asks.Result v) (answered answers.Done) (events.Write n v) (slice_set cells n v) views
+  gives : (n : ℕ) (v : ℤ) (a : Activation FrameState) → slice_get frames k ≡ Some a → a.result ≡ Some n → Acts frames cells views k (asks.Result v) (answered answers.Done) (events.Write n v) (slice_set cells n v) views
   creates : (r : Reducer) (j : Instance) (views' : Hypermap) → MeansInstance frames k r.place j → ChangesIn views views' r.kind j (Some (structure_of r.kind).unit)
       → Acts frames cells views k (asks.Create r) (answered answers.Done) (events.Create j) cells views'
   updates : (r : Reducer) (v : ℤ) (j : Instance) (views' : Hypermap) → IsWord v → MeansInstance frames k r.place j
@@ -80,11 +80,11 @@ pub data Acts (frames : List (Activation Seat)) (cells : List ℤ) (views : Hype
       → Acts frames cells views k (asks.Print v) (answered answers.Done) (events.Print v) cells views'
 
 -- some function does so to the frame of the list
-abbrev pub MakesEvent : List (Activation Seat) → List (Activation Seat) → List ℤ → List ℤ → Hypermap → Hypermap → ℕ → Ask → numbered.Event → Type 0
-MakesEvent frames frames' cells cells' views views' k ask event = (act : Seat → Seat) × Acts frames cells views k ask act event cells' views' × (frames' ≡ changed act frames k)
+abbrev pub MakesEvent : List (Activation FrameState) → List (Activation FrameState) → List ℤ → List ℤ → Hypermap → Hypermap → ℕ → Ask → numbered.Event → Type 0
+MakesEvent frames frames' cells cells' views views' k ask event = (act : FrameState → FrameState) × Acts frames cells views k ask act event cells' views' × (frames' ≡ changed act frames k)
 
 -- The frame at place k of worker w has come to what is asked for, and its event, still to be written down, is made.
-pub record Touched (b b' : Board) (w k : ℕ) (event : numbered.Event) : Type 0 where
+pub record Touched (b b' : Scheduler) (w k : ℕ) (event : numbered.Event) : Type 0 where
   pub worker : Worker
   pub views : Hypermap
   pub at : let l = b.workers in slice_get l.items w ≡ Some worker
@@ -94,11 +94,11 @@ pub record Touched (b b' : Board) (w k : ℕ) (event : numbered.Event) : Type 0 
   pub outcome : b'.outcome ≡ b.outcome
 
 -- It is written down, and the frame's ticks are counted.
-pub record Wrote (b b' : Board) (w k : ℕ) (event : numbered.Event) : Type 0 where
-  pub made : Board
+pub record Wrote (b b' : Scheduler) (w k : ℕ) (event : numbered.Event) : Type 0 where
+  pub made : Scheduler
   pub touched : Touched b made w k event
   pub frames : let f = made.frames in let g = b'.frames in g.items ≡ changed counted f.items k
-  pub ticks : (a : Activation Seat) → (let f = made.frames in slice_get f.items k ≡ Some a) → let x = a.cursor in b'.ticks ≡ b.ticks + (x.took - x.counted)
+  pub ticks : (a : Activation FrameState) → (let f = made.frames in slice_get f.items k ≡ Some a) → let x = a.cursor in b'.ticks ≡ b.ticks + (x.took - x.counted)
   pub journal : let e = b.journal in let l = b'.journal in l.items ≡ e.items ++ (record { frame = k; event = event }) ∷ []
   pub cells : b'.cells ≡ made.cells
   pub workers : b'.workers ≡ made.workers
@@ -106,9 +106,9 @@ pub record Wrote (b b' : Board) (w k : ℕ) (event : numbered.Event) : Type 0 wh
   pub outcome : b'.outcome ≡ made.outcome
 
 -- The frame at place k has gone on to what is asked for, and nothing else has changed.
-pub record WentTo (code : CodeView) (inputs : List ℤ) (b b' : Board) (k : ℕ) : Type 0 where
-  pub seat : Activation Seat
-  pub came : Seat
+pub record WentTo (code : CodeView) (inputs : List ℤ) (b b' : Scheduler) (k : ℕ) : Type 0 where
+  pub seat : Activation FrameState
+  pub came : FrameState
   pub sits : let f = b.frames in slice_get f.items k ≡ Some seat
   pub went : let x = seat.cursor in WentOn code inputs x b'.asked came
   pub frames : let f = b.frames in let g = b'.frames in g.items ≡ changed (λ _. came) f.items k
@@ -120,9 +120,9 @@ pub record WentTo (code : CodeView) (inputs : List ℤ) (b b' : Board) (k : ℕ)
   pub outcome : b'.outcome ≡ b.outcome
 
 -- The choice is a step of the free machine, where it makes such an event: a board that showed a state shows what comes of it.
-abbrev pub EventsAreSteps : CodeView → List ℤ → Board → Board → Choice → Told → Type 0
+abbrev pub EventsAreSteps : CodeView → List ℤ → Scheduler → Scheduler → Choice → Told → Type 0
 EventsAreSteps code inputs b b' c (told.Did act) =
-    IsTouch act.event → (p : Source) (name : ℕ → Name) (d : Desk) (s : State World View) → IsShown code p inputs name b d s → (s' : State World View) × Chooses p inputs s d c Did s' d × ShowsBy code p inputs name b' d s'
+    IsTouch act.event → (p : Source) (name : ℕ → Name) (d : WorkerTable) (s : State FrameEnv View) → IsShown code p inputs name b d s → (s' : State FrameEnv View) × Chooses p inputs s d c Did s' d × ShowsBy code p inputs name b' d s'
 EventsAreSteps code inputs b b' c told.Stole = Unit {0}
 EventsAreSteps code inputs b b' c told.Waits = Unit {0}
 EventsAreSteps code inputs b b' c told.Skipped = Unit {0}

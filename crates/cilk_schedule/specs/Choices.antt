@@ -5,36 +5,36 @@ use Rattle.cilk_join.specs.Joins.{IsOpen}
 use Rattle.cilk_frames.specs.declared.activation.Activation.{Activation}
 use Rattle.cilk_scheduler.specs.Events.{block_in}
 use Rattle.cilk_scheduler.specs.Workers.{held_by, is_idle, offers}
-use Rattle.cilk_scheduler.specs.declared.board.Board.{Board}
+use Rattle.cilk_scheduler.specs.declared.scheduler.Scheduler.{Scheduler}
 use Rattle.cilk_scheduler.specs.declared.choice.Choice.{Choice}
 use Rattle.cilk_scheduler.specs.declared.choice.Choice.TheVariants as choices
 use Rattle.cilk_scheduler.specs.declared.choice.Stop.{Stop}
 use Rattle.cilk_scheduler.specs.declared.choice.Told.{Told}
 use Rattle.cilk_scheduler.specs.declared.choice.Told.TheVariants as told
-use Rattle.cilk_scheduler.specs.declared.seat.JournalEntry.{JournalEntry}
-use Rattle.cilk_scheduler.specs.declared.seat.Seat.{Seat}
+use Rattle.cilk_scheduler.specs.declared.frame_state.JournalEntry.{JournalEntry}
+use Rattle.cilk_scheduler.specs.declared.frame_state.FrameState.{FrameState}
 
 -- a worker, which counts from 1, has the frame at place k, which hasn't ended
-pub record IsReadyAt (b : Board) (worker k : ℕ) : Type 0 where
+pub record IsReadyAt (b : Scheduler) (worker k : ℕ) : Type 0 where
   pub held : let u = b.workers in held_by u.items worker ≡ Some k
   pub first : 0 < worker
   pub last : let u = b.workers in worker ≤ length u.items
-  pub seat : Activation Seat
+  pub seat : Activation FrameState
   pub sits : let f = b.frames in slice_get f.items k ≡ Some seat
   pub cursor : CursorView
   pub has : let x = seat.cursor in x.cursor ≡ Some cursor
 
 -- a worker has no frame, and may take the continuation of frame k, which is offered at this place
-pub record CanSteal (b : Board) (worker place k : ℕ) : Type 0 where
+pub record CanSteal (b : Scheduler) (worker place k : ℕ) : Type 0 where
   pub idle : let u = b.workers in is_idle u.items worker ≡ true
   pub few : place < b.offered
   pub offered : let u = b.workers in slice_get (offers u.items) place ≡ Some k
-  pub seat : Activation Seat
+  pub seat : Activation FrameState
   pub sits : let f = b.frames in slice_get f.items k ≡ Some seat
   pub opens : let x = seat.cursor in IsOpen (block_in x.join) x.children
 
 -- the choice can be made
-abbrev pub CanChoose : Board → Choice → Type 0
+abbrev pub CanChoose : Scheduler → Choice → Type 0
 CanChoose b (choices.Run worker) = (k : ℕ) × IsReadyAt b worker k
 CanChoose b (choices.Steal worker place) = (k : ℕ) × CanSteal b worker place k
 

@@ -13,23 +13,23 @@ use Rattle.cilk_join.specs.Waits.{shown}
 use Rattle.cilk_runs.specs.Machine.{State}
 use Rattle.cilk_runs.specs.Runs.{Name}
 use Rattle.cilk_runs.specs.Reducers.{View}
-use Rattle.cilk_runs.specs.Worlds.{World}
-use Rattle.cilk_scheduler.specs.Desks.{Desk, Chooses, Did}
+use Rattle.cilk_runs.specs.FrameEnvs.{FrameEnv}
+use Rattle.cilk_scheduler.specs.WorkerTables.{WorkerTable, Chooses, Did}
 use Rattle.cilk_scheduler.specs.EndParts.{Brings, Seeks}
 use Rattle.cilk_scheduler.specs.Ending.{RetiresOwn}
 use Rattle.cilk_scheduler.specs.Invocations.{IsNoted}
 use Rattle.cilk_frames.specs.Leaving.{outcome_of}
 use Rattle.cilk_scheduler.specs.Parts.{freed, working}
-use Rattle.cilk_scheduler.specs.Seats.{changed, finished, moved_to, passed}
+use Rattle.cilk_scheduler.specs.FrameStates.{changed, finished, moved_to, passed}
 use Rattle.cilk_scheduler.specs.Workers.{altered, viewing}
-use Rattle.cilk_scheduler.specs.declared.board.Board.{Board}
+use Rattle.cilk_scheduler.specs.declared.scheduler.Scheduler.{Scheduler}
 use Rattle.cilk_scheduler.specs.declared.choice.Choice.{Choice}
 use Rattle.cilk_scheduler.specs.declared.choice.Told.{Told}
 use Rattle.cilk_scheduler.specs.declared.choice.Told.TheVariants as told
-use Rattle.cilk_scheduler.specs.declared.seat.Seat.{Seat}
-use Rattle.cilk_scheduler.specs.declared.seat.Status.{Status}
-use Rattle.cilk_scheduler.specs.declared.seat.Status.TheVariants.{Held, Offered}
-use Rattle.cilk_scheduler.specs.declared.seat.Worker.{Worker}
+use Rattle.cilk_scheduler.specs.declared.frame_state.FrameState.{FrameState}
+use Rattle.cilk_scheduler.specs.declared.frame_state.Status.{Status}
+use Rattle.cilk_scheduler.specs.declared.frame_state.Status.TheVariants.{Held, Offered}
+use Rattle.cilk_scheduler.specs.declared.frame_state.Worker.{Worker}
 use Rattle.cilk_schedule.specs.Reached.{IsReached}
 
 -- the worker that offers a frame's continuation, where one does, is one of so many
@@ -37,43 +37,43 @@ abbrev pub IsOfferedAmong : Status → ℕ → Type 0
 IsOfferedAmong status count = (v : ℕ) → status ≡ Offered v → v < count
 
 -- a stolen child's piece may come to a frame's block with this key
-abbrev pub MayBring : Seat → ℕ → Type 0
+abbrev pub MayBring : FrameState → ℕ → Type 0
 MayBring x key = (l : _) × (x.join ≡ Some l) × MayArrive (shown l.value) key false
 
 -- What the frame at place k of these finds as it ends: the worker that offers its parent's continuation is there, and where the continuation beside
 -- the frame was stolen, its piece may come to the parent's block.
-abbrev pub FindsParent : List (Activation Seat) → ℕ → ℕ → Type 0
+abbrev pub FindsParent : List (Activation FrameState) → ℕ → ℕ → Type 0
 FindsParent frames count k =
-    0 < k → (a above : Activation Seat) → slice_get frames k ≡ Some a → (let x = a.cursor in slice_get frames x.parent ≡ Some above)
+    0 < k → (a above : Activation FrameState) → slice_get frames k ≡ Some a → (let x = a.cursor in slice_get frames x.parent ≡ Some above)
     → let x = a.cursor in let y = above.cursor in IsOfferedAmong y.status count × (x.stolen ≡ true → MayBring y x.ordinal)
 
 -- Worker w, whose views are these, parts from its frame, the one at place k of these, which ends with a value. The first frame leaves an outcome, and
 -- the worker is idle. Where no continuation was stolen beside the frame, the worker has the parent, whose continuation is taken back. Else its piece
 -- comes to the parent's block; where that passes, the worker has the parent, at its sync, and else is idle.
-pub data PartsFrom (code : CodeView) (frames : List (Activation Seat)) (cells : List ℤ) (workers : List Worker) (offered : ℕ) (outcome : Option Outcome) (views : Hypermap) (b' : Board) (w k : ℕ) (v : ℤ) : Type 0 where
+pub data PartsFrom (code : CodeView) (frames : List (Activation FrameState)) (cells : List ℤ) (workers : List Worker) (offered : ℕ) (outcome : Option Outcome) (views : Hypermap) (b' : Scheduler) (w k : ℕ) (v : ℤ) : Type 0 where
   LeavesRun : k ≡ 0 → (left : Hypermap) → b'.outcome ≡ Some (outcome_of code.layout cells views v) → (let g = b'.frames in g.items ≡ frames) → (let m = b'.workers in m.items ≡ altered freed (viewing left workers w) w) → b'.offered ≡ offered
       → PartsFrom code frames cells workers offered outcome views b' w k v
-  ReturnsUp : 0 < k → (a above : Activation Seat) (others : List Worker) → slice_get frames k ≡ Some a → (let x = a.cursor in x.stolen ≡ false) → (let x = a.cursor in slice_get frames x.parent ≡ Some above)
+  ReturnsUp : 0 < k → (a above : Activation FrameState) (others : List Worker) → slice_get frames k ≡ Some a → (let x = a.cursor in x.stolen ≡ false) → (let x = a.cursor in slice_get frames x.parent ≡ Some above)
       → (let x = a.cursor in let y = above.cursor in Seeks x.parent y.status workers others offered b'.offered) → (let x = a.cursor in let g = b'.frames in g.items ≡ changed (moved_to (Held w)) frames x.parent)
       → (let x = a.cursor in let m = b'.workers in m.items ≡ altered (working x.parent) others w) → b'.outcome ≡ outcome → PartsFrom code frames cells workers offered outcome views b' w k v
-  BringsPiece : 0 < k → (a above : Activation Seat) (joined : Seat) (left : Hypermap) (passes : Bool) (brought : List (Activation Seat)) → slice_get frames k ≡ Some a → (let x = a.cursor in x.stolen ≡ true)
+  BringsPiece : 0 < k → (a above : Activation FrameState) (joined : FrameState) (left : Hypermap) (passes : Bool) (brought : List (Activation FrameState)) → slice_get frames k ≡ Some a → (let x = a.cursor in x.stolen ≡ true)
       → (let x = a.cursor in slice_get frames x.parent ≡ Some above) → (let x = a.cursor in Brings above.cursor x.ordinal views passes joined left) → (let x = a.cursor in brought ≡ changed (λ _. joined) frames x.parent)
       → (let x = a.cursor in let g = b'.frames in g.items ≡ cond passes (changed (moved_to (Held w)) (changed passed brought x.parent) x.parent) brought)
       → (let x = a.cursor in let m = b'.workers in m.items ≡ altered (cond passes (working x.parent) freed) (viewing left workers w) w) → b'.offered ≡ offered → b'.outcome ≡ outcome
       → PartsFrom code frames cells workers offered outcome views b' w k v
 
 -- from one board to another
-abbrev pub PartsTo : CodeView → Board → Board → ℕ → ℕ → ℤ → Type 0
+abbrev pub PartsTo : CodeView → Scheduler → Scheduler → ℕ → ℕ → ℤ → Type 0
 PartsTo code b b' w k v =
     (u : Worker) → let f = b.frames in let c = b.cells in let l = b.workers in FindsParent f.items (length l.items) k → slice_get l.items w ≡ Some u → PartsFrom code f.items c.items l.items b.offered b.outcome u.views b' w k v
 
 -- The frame at place k, which worker w has, ends with a value: the worker's views have lost its reducers, the worker has parted from it, and it is
 -- finished. The event is still to be written down.
-pub record Ended (code : CodeView) (b b' : Board) (w k : ℕ) (v : ℤ) : Type 0 where
+pub record Ended (code : CodeView) (b b' : Scheduler) (w k : ℕ) (v : ℤ) : Type 0 where
   pub worker : Worker
-  pub top : Activation Seat
+  pub top : Activation FrameState
   pub views : Hypermap
-  pub departed : Board
+  pub departed : Scheduler
   pub at : let l = b.workers in slice_get l.items w ≡ Some worker
   pub sits : let f = b.frames in slice_get f.items k ≡ Some top
   pub retires : RetiresOwn code.layout top worker.views views
@@ -87,23 +87,23 @@ pub record Ended (code : CodeView) (b b' : Board) (w k : ℕ) (v : ℤ) : Type 0
   pub ticks : b'.ticks ≡ b.ticks
 
 -- it has come to its end, and ends so where it finds its parent
-abbrev pub EndsFrame : CodeView → Board → Board → ℕ → ℕ → Type 0
+abbrev pub EndsFrame : CodeView → Scheduler → Scheduler → ℕ → ℕ → Type 0
 EndsFrame code b b' w k = (v : ℤ) × (b.asked ≡ asks.End v) × ((let f = b.frames in let l = b.workers in FindsParent f.items (length l.items) k) → Ended code b b' w k v)
 
 -- It is written down, and the frame's ticks are counted.
-pub record WroteEnd (code : CodeView) (b b' : Board) (w k : ℕ) : Type 0 where
-  pub made : Board
+pub record WroteEnd (code : CodeView) (b b' : Scheduler) (w k : ℕ) : Type 0 where
+  pub made : Scheduler
   pub ends : EndsFrame code b made w k
   pub noted : IsNoted made b' k events.End
 
 -- what is told is an event of that frame, which ends where it is its end
-abbrev pub TellsEnd : CodeView → Board → Board → ℕ → ℕ → Told → Type 0
+abbrev pub TellsEnd : CodeView → Scheduler → Scheduler → ℕ → ℕ → Told → Type 0
 TellsEnd code b b' w k t = (e : Event) × (t ≡ told.Did (record { frame = k + 1; event = e })) × (e ≡ events.End → WroteEnd code b b' w k)
 
 -- The choice is a step of the free machine, where it ends a frame: a board that showed a state shows what comes of it.
-abbrev pub EndsAreSteps : CodeView → List ℤ → Board → Board → Choice → Told → Type 0
+abbrev pub EndsAreSteps : CodeView → List ℤ → Scheduler → Scheduler → Choice → Told → Type 0
 EndsAreSteps code inputs b b' c (told.Did act) =
-    act.event ≡ events.End → (p : Source) (name : ℕ → Name) (d : Desk) (s : State World View) → IsReached code p inputs name b d s → (s' : State World View) × (d' : Desk) × Chooses p inputs s d c Did s' d' × IsReached code p inputs name b' d' s'
+    act.event ≡ events.End → (p : Source) (name : ℕ → Name) (d : WorkerTable) (s : State FrameEnv View) → IsReached code p inputs name b d s → (s' : State FrameEnv View) × (d' : WorkerTable) × Chooses p inputs s d c Did s' d' × IsReached code p inputs name b' d' s'
 EndsAreSteps code inputs b b' c told.Stole = Unit {0}
 EndsAreSteps code inputs b b' c told.Waits = Unit {0}
 EndsAreSteps code inputs b b' c told.Skipped = Unit {0}

@@ -6,14 +6,14 @@ use Rattle.cilk_runs.specs.Machine.{State}
 use Rattle.cilk_runs.specs.Runs.{Name}
 use Rattle.cilk_runs.specs.Reducers.{View}
 use Rattle.cilk_runs.specs.Steps.{Reaches}
-use Rattle.cilk_runs.specs.Worlds.{World}
+use Rattle.cilk_runs.specs.FrameEnvs.{FrameEnv}
 use Rattle.cilk_types.specs.declared.fault.Fault.{Fault}
 use Rattle.cilk_scheduler.specs.Acting.{IsShown}
-use Rattle.cilk_scheduler.specs.Boards.{Tells}
-use Rattle.cilk_scheduler.specs.Desks.{Desk, StopsAt}
+use Rattle.cilk_scheduler.specs.Schedulers.{Tells}
+use Rattle.cilk_scheduler.specs.WorkerTables.{WorkerTable, StopsAt}
 use Rattle.cilk_scheduler.specs.GoneOn.{HaveGoneOn}
 use Rattle.cilk_scheduler.specs.Stopping.{StandAsBefore}
-use Rattle.cilk_scheduler.specs.declared.board.Board.{Board}
+use Rattle.cilk_scheduler.specs.declared.scheduler.Scheduler.{Scheduler}
 use Rattle.cilk_scheduler.specs.declared.choice.Choice.{Choice}
 use Rattle.cilk_scheduler.specs.declared.choice.Stop.{Stop}
 use Rattle.cilk_scheduler.specs.declared.choice.Stop.TheVariants as stops
@@ -21,7 +21,7 @@ use Rattle.cilk_scheduler.specs.declared.choice.Strand.{Strand}
 use Rattle.cilk_schedule.specs.Reached.{HasReached}
 
 -- The state was stopped by this fault in this strand, whose frame has a number on the board and a name there; and the board tells the state.
-pub record IsStoppedBy (code : CodeView) (p : Source) (inputs : List ℤ) (name : ℕ → Name) (b : Board) (fault : Fault) (strand : Strand) (s : State World View) : Type 0 where
+pub record IsStoppedBy (code : CodeView) (p : Source) (inputs : List ℤ) (name : ℕ → Name) (b : Scheduler) (fault : Fault) (strand : Strand) (s : State FrameEnv View) : Type 0 where
   pub place : ℕ
   pub frame : strand.frame ≡ suc place
   pub here : let f = b.frames in place < length f.items
@@ -29,38 +29,38 @@ pub record IsStoppedBy (code : CodeView) (p : Source) (inputs : List ℤ) (name 
   pub tells : Tells code p inputs name b s
 
 -- The choice stops the free machine by the fault that it answers, in each state that steps or choices lead to.
-abbrev pub FaultsAreStops : CodeView → List ℤ → Board → Board → Choice → Stop → Type 0
+abbrev pub FaultsAreStops : CodeView → List ℤ → Scheduler → Scheduler → Choice → Stop → Type 0
 FaultsAreStops code inputs b b' c (stops.At fault strand) =
-    (p : Source) (name : ℕ → Name) (d : Desk) (s : State World View) → IsShown code p inputs name b d s → HaveGoneOn s
-    → (s' : State World View) × StopsAt p inputs s d c s' × IsStoppedBy code p inputs name b' fault strand s'
+    (p : Source) (name : ℕ → Name) (d : WorkerTable) (s : State FrameEnv View) → IsShown code p inputs name b d s → HaveGoneOn s
+    → (s' : State FrameEnv View) × StopsAt p inputs s d c s' × IsStoppedBy code p inputs name b' fault strand s'
 FaultsAreStops code inputs b b' c stops.Memory = Unit {0}
 
 -- Steps of the free machine lead to a state of the program on the inputs that was stopped by this fault, and the board tells it.
-pub record HasFault (code : CodeView) (p : Source) (inputs : List ℤ) (b : Board) (fault : Fault) (strand : Strand) : Type 0 where
+pub record HasFault (code : CodeView) (p : Source) (inputs : List ℤ) (b : Scheduler) (fault : Fault) (strand : Strand) : Type 0 where
   pub steps : List Name
-  pub state : State World View
+  pub state : State FrameEnv View
   pub reaches : Reaches p inputs steps state
   pub name : ℕ → Name
   pub is_stopped : IsStoppedBy code p inputs name b fault strand state
 
 -- so they do where the stop is by a fault
-abbrev pub HasStopped : CodeView → Source → List ℤ → Board → Stop → Type 0
+abbrev pub HasStopped : CodeView → Source → List ℤ → Scheduler → Stop → Type 0
 HasStopped code p inputs b (stops.At fault strand) = HasFault code p inputs b fault strand
 HasStopped code p inputs b stops.Memory = Unit {0}
 
 -- Nothing of what a board tells has changed: each frame stands where it stood, started by the same one, and the events and the outcome are as
 -- they were.
-pub record KeepsTold (b b' : Board) : Type 0 where
+pub record KeepsTold (b b' : Scheduler) : Type 0 where
   pub frames : let f = b.frames in let g = b'.frames in StandAsBefore f.items g.items
   pub journal : let e = b.journal in let l = b'.journal in l.items ≡ e.items
   pub outcome : b'.outcome ≡ b.outcome
 
 -- The choice stops the run: by a fault, at which it stops the free machine too, from a state that the board showed; or by a want of memory, and the
 -- board tells that state still.
-abbrev pub StopsFrom : (code : CodeView) (p : Source) (inputs : List ℤ) (b : Board) → HasReached code p inputs b → Board → Choice → Stop → Type 0
+abbrev pub StopsFrom : (code : CodeView) (p : Source) (inputs : List ℤ) (b : Scheduler) → HasReached code p inputs b → Scheduler → Choice → Stop → Type 0
 StopsFrom code p inputs b h b' c (stops.At fault strand) = (f : HasFault code p inputs b' fault strand) × StopsAt p inputs h.state h.desk c f.state
 StopsFrom code p inputs b h b' c stops.Memory = Tells code p inputs h.name b' h.state
 
 -- the name of the strand at which a state was stopped: its frame's, and then its own number
-abbrev pub NamesStop : State World View → List ℕ → Type 0
+abbrev pub NamesStop : State FrameEnv View → List ℕ → Type 0
 NamesStop s list = MatchOption s.stopped (list ≡ []) (λ stop. list ≡ stop.frame ++ stop.strand ∷ [])

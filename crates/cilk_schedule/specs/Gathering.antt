@@ -3,8 +3,8 @@ use Rattle.std.specs.Prelude.{◌≡◌, ◌<◌, ℕ, suc, nat_eq, true, false,
 use Rattle.cilk_types.specs.declared.event.Event.{Event}
 use Rattle.cilk_frames.specs.declared.activation.Activation.{Activation}
 use Rattle.cilk_scheduler.specs.Numbered.{child_at, children_among, events_of}
-use Rattle.cilk_scheduler.specs.declared.seat.JournalEntry.{JournalEntry}
-use Rattle.cilk_scheduler.specs.declared.seat.Seat.{Seat}
+use Rattle.cilk_scheduler.specs.declared.frame_state.JournalEntry.{JournalEntry}
+use Rattle.cilk_scheduler.specs.declared.frame_state.FrameState.{FrameState}
 use Rattle.cilk_schedule.specs.Links.{links_in, links_of}
 use Rattle.cilk_schedule.specs.Showing.{IsNamedAs}
 use Rattle.cilk_schedule.specs.declared.naming.ShownEvent.{ShownEvent}
@@ -23,24 +23,24 @@ pub record AddsChild (old new : List ShownFrame) (parent : ℕ) : Type 0 where
   pub each : (k : ℕ) (f : ShownFrame) → slice_get new k ≡ Some f → HasChildMore parent k old f
 
 -- each frame but the first was started by an earlier one
-abbrev pub HaveParents : List (Activation Seat) → Type 0
-HaveParents frames = (k : ℕ) (x : Activation Seat) → slice_get frames (suc k) ≡ Some x → (let y = x.cursor in y.parent < suc k)
+abbrev pub HaveParents : List (Activation FrameState) → Type 0
+HaveParents frames = (k : ℕ) (x : Activation FrameState) → slice_get frames (suc k) ≡ Some x → (let y = x.cursor in y.parent < suc k)
 
 -- the first so many frames, each with its children among them, and no events
-pub record HaveLinks (frames : List (Activation Seat)) (n : ℕ) (list : List ShownFrame) : Type 0 where
+pub record HaveLinks (frames : List (Activation FrameState)) (n : ℕ) (list : List ShownFrame) : Type 0 where
   pub links : links_in list ≡ links_of (take n frames)
   pub children : HaveParents frames → (k : ℕ) (f : ShownFrame) → slice_get list k ≡ Some f → let c = f.children in c.items ≡ children_among frames k n
   pub events : (k : ℕ) (f : ShownFrame) → slice_get list k ≡ Some f → let e = f.events in e.items ≡ []
 
 -- events by numbers, each as it is named
-abbrev pub AreNamedAs : List (Activation Seat) → ℕ → List Event → List ShownEvent → Type 0
+abbrev pub AreNamedAs : List (Activation FrameState) → ℕ → List Event → List ShownEvent → Type 0
 AreNamedAs frames globals [] [] = Unit {0}
 AreNamedAs frames globals [] (e ∷ es) = ⊥
 AreNamedAs frames globals (x ∷ xs) [] = ⊥
 AreNamedAs frames globals (x ∷ xs) (e ∷ es) = IsNamedAs frames globals x e × AreNamedAs frames globals xs es
 
 -- a frame has what it had, and this event more where it made it
-pub record HasEvent (frames : List (Activation Seat)) (globals : ℕ) (entry : JournalEntry) (k : ℕ) (old : List ShownFrame) (f : ShownFrame) : Type 0 where
+pub record HasEvent (frames : List (Activation FrameState)) (globals : ℕ) (entry : JournalEntry) (k : ℕ) (old : List ShownFrame) (f : ShownFrame) : Type 0 where
   pub before : ShownFrame
   pub at : slice_get old k ≡ Some before
   pub children : f.children ≡ before.children
@@ -48,12 +48,12 @@ pub record HasEvent (frames : List (Activation Seat)) (globals : ℕ) (entry : J
   pub more : nat_eq entry.frame k ≡ true → (e : ShownEvent) × IsNamedAs frames globals entry.event e × (let l = f.events in let m = before.events in l.items ≡ m.items ++ e ∷ [])
 
 -- an event has gone to its frame
-pub record Gathers (frames : List (Activation Seat)) (globals : ℕ) (old new : List ShownFrame) (entry : JournalEntry) : Type 0 where
+pub record Gathers (frames : List (Activation FrameState)) (globals : ℕ) (old new : List ShownFrame) (entry : JournalEntry) : Type 0 where
   pub links : links_in new ≡ links_in old
   pub each : (k : ℕ) (f : ShownFrame) → slice_get new k ≡ Some f → HasEvent frames globals entry k old f
 
 -- all frames, with these events
-pub record AreGathered (frames : List (Activation Seat)) (globals : ℕ) (es : List JournalEntry) (list : List ShownFrame) : Type 0 where
+pub record AreGathered (frames : List (Activation FrameState)) (globals : ℕ) (es : List JournalEntry) (list : List ShownFrame) : Type 0 where
   pub links : links_in list ≡ links_of frames
   pub children : HaveParents frames → (k : ℕ) (f : ShownFrame) → slice_get list k ≡ Some f → let c = f.children in c.items ≡ children_among frames k (length frames)
   pub events : (k : ℕ) (f : ShownFrame) → slice_get list k ≡ Some f → let e = f.events in AreNamedAs frames globals (events_of k es) e.items

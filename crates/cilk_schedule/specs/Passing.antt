@@ -15,27 +15,27 @@ use Rattle.cilk_join.specs.Waits.{shown}
 use Rattle.cilk_runs.specs.Machine.{State}
 use Rattle.cilk_runs.specs.Runs.{Name}
 use Rattle.cilk_runs.specs.Reducers.{View}
-use Rattle.cilk_runs.specs.Worlds.{World}
+use Rattle.cilk_runs.specs.FrameEnvs.{FrameEnv}
 use Rattle.cilk_scheduler.specs.Acting.{IsShown}
-use Rattle.cilk_scheduler.specs.Boards.{ShowsBy}
-use Rattle.cilk_scheduler.specs.Desks.{Desk, Chooses, Did, Skipped, Stole, Waited}
+use Rattle.cilk_scheduler.specs.Schedulers.{ShowsBy}
+use Rattle.cilk_scheduler.specs.WorkerTables.{WorkerTable, Chooses, Did, Skipped, Stole, Waited}
 use Rattle.cilk_scheduler.specs.Events.{Arrives, AwaitsLast, block_in}
 use Rattle.cilk_scheduler.specs.GoneOn.{HaveGoneOn}
 use Rattle.cilk_scheduler.specs.Invocations.{IsNoted}
 use Rattle.cilk_scheduler.specs.Parts.{BringsOwn, freed}
-use Rattle.cilk_scheduler.specs.Seats.{changed, robbed, synced, waiting}
+use Rattle.cilk_scheduler.specs.FrameStates.{changed, robbed, synced, waiting}
 use Rattle.cilk_scheduler.specs.Workers.{altered, viewing}
-use Rattle.cilk_scheduler.specs.declared.board.Board.{Board}
+use Rattle.cilk_scheduler.specs.declared.scheduler.Scheduler.{Scheduler}
 use Rattle.cilk_scheduler.specs.declared.choice.Choice.{Choice}
 use Rattle.cilk_scheduler.specs.declared.choice.Told.{Told}
 use Rattle.cilk_scheduler.specs.declared.choice.Told.TheVariants as told
-use Rattle.cilk_scheduler.specs.declared.seat.Seat.{Seat}
-use Rattle.cilk_scheduler.specs.declared.seat.Worker.{Worker}
+use Rattle.cilk_scheduler.specs.declared.frame_state.FrameState.{FrameState}
+use Rattle.cilk_scheduler.specs.declared.frame_state.Worker.{Worker}
 
 -- The piece of the last child of the frame at place k is awaited at its block, and that child is marked.
-pub record Robs (frames frames' : List (Activation Seat)) (k : ℕ) : Type 0 where
-  pub seat : Activation Seat
-  pub awaiting : Seat
+pub record Robs (frames frames' : List (Activation FrameState)) (k : ℕ) : Type 0 where
+  pub seat : Activation FrameState
+  pub awaiting : FrameState
   pub sits : slice_get frames k ≡ Some seat
   pub awaits : let x = seat.cursor in AwaitsLast x awaiting
   pub frames_are : frames' ≡ changed robbed (changed (λ _. awaiting) frames k) awaiting.last
@@ -54,21 +54,21 @@ abbrev pub HasNoView : List Worker → List Worker → ℕ → Type 0
 HasNoView workers workers' w = (views : Hypermap) × EachKind (λ q. (j : Instance) → view_in views q j ≡ None) × (workers' ≡ viewing views workers w)
 
 -- The piece that a frame brings to its own block may arrive there, where the block hasn't passed.
-abbrev pub MayBringOwn : Seat → Type 0
+abbrev pub MayBringOwn : FrameState → Type 0
 MayBringOwn x = x.merged ≡ false → MayArrive (block_in x.join) (x.children + 1) true
 
 -- What is kept of a frame, and these views, where they come to its block with this key: no continuation of it was stolen, or they arrive. Whether it
 -- passes.
-pub data ComesTo (x : Seat) (key : ℕ) (last : Bool) (old : Hypermap) (passes : Bool) (x' : Seat) (new : Hypermap) : Type 0 where
+pub data ComesTo (x : FrameState) (key : ℕ) (last : Bool) (old : Hypermap) (passes : Bool) (x' : FrameState) (new : Hypermap) : Type 0 where
   Unstolen : x.join ≡ None → x' ≡ x → new ≡ old → passes ≡ false → ComesTo x key last old passes x' new
   Arrived : (l l' : _) → x.join ≡ Some l → x' ≡ record x { join = Some l' }
       → Arrives (shown l.value) key last (product old) passes (shown l'.value) new → ComesTo x key last old passes x' new
 
 -- The views of the worker at place w come so to the block of the frame at place k.
-pub record PieceComes (frames frames' : List (Activation Seat)) (workers workers' : List Worker) (w k key : ℕ) (last passes : Bool) : Type 0 where
-  pub seat : Activation Seat
+pub record PieceComes (frames frames' : List (Activation FrameState)) (workers workers' : List Worker) (w k key : ℕ) (last passes : Bool) : Type 0 where
+  pub seat : Activation FrameState
   pub worker : Worker
-  pub brought : Seat
+  pub brought : FrameState
   pub views : Hypermap
   pub sits : slice_get frames k ≡ Some seat
   pub at : slice_get workers w ≡ Some worker
@@ -77,10 +77,10 @@ pub record PieceComes (frames frames' : List (Activation Seat)) (workers workers
   pub workers_are : workers' ≡ viewing views workers w
 
 -- The own piece of the frame at place k, which the worker at place w has, comes to the frame's block.
-pub record OwnComes (frames frames' : List (Activation Seat)) (workers workers' : List Worker) (w k : ℕ) : Type 0 where
-  pub seat : Activation Seat
+pub record OwnComes (frames frames' : List (Activation FrameState)) (workers workers' : List Worker) (w k : ℕ) : Type 0 where
+  pub seat : Activation FrameState
   pub worker : Worker
-  pub brought : Seat
+  pub brought : FrameState
   pub views : Hypermap
   pub sits : slice_get frames k ≡ Some seat
   pub at : slice_get workers w ≡ Some worker
@@ -89,8 +89,8 @@ pub record OwnComes (frames frames' : List (Activation Seat)) (workers workers' 
   pub workers_are : workers' ≡ viewing views workers w
 
 -- The frame waits, and the worker has none.
-pub record StaysAt (b b' : Board) (w k : ℕ) : Type 0 where
-  pub arrived : List (Activation Seat)
+pub record StaysAt (b b' : Scheduler) (w k : ℕ) : Type 0 where
+  pub arrived : List (Activation FrameState)
   pub viewed : List Worker
   pub comes : let f = b.frames in let l = b.workers in OwnComes f.items arrived l.items viewed w k
   pub frames : let f = b'.frames in f.items ≡ changed waiting arrived k
@@ -102,8 +102,8 @@ pub record StaysAt (b b' : Board) (w k : ℕ) : Type 0 where
   pub outcome : b'.outcome ≡ b.outcome
 
 -- The frame goes on behind its sync, with another block. The event is still to be written down.
-pub record GoesBehind (b b' : Board) (w k : ℕ) : Type 0 where
-  pub arrived : List (Activation Seat)
+pub record GoesBehind (b b' : Scheduler) (w k : ℕ) : Type 0 where
+  pub arrived : List (Activation FrameState)
   pub comes : let f = b.frames in let l = b.workers in let m = b'.workers in OwnComes f.items arrived l.items m.items w k
   pub frames : let f = b'.frames in f.items ≡ changed synced arrived k
   pub cells : b'.cells ≡ b.cells
@@ -111,15 +111,15 @@ pub record GoesBehind (b b' : Board) (w k : ℕ) : Type 0 where
   pub outcome : b'.outcome ≡ b.outcome
 
 -- what comes of the frame at place k, where its own piece may come to its block; and where that hasn't passed
-abbrev pub WhereOwnMayCome : List (Activation Seat) → ℕ → Type 0 → Type 0
-WhereOwnMayCome frames k P = (a : Activation Seat) → slice_get frames k ≡ Some a → MayBringOwn a.cursor → P
+abbrev pub WhereOwnMayCome : List (Activation FrameState) → ℕ → Type 0 → Type 0
+WhereOwnMayCome frames k P = (a : Activation FrameState) → slice_get frames k ≡ Some a → MayBringOwn a.cursor → P
 
-abbrev pub WhereOwnIsDue : List (Activation Seat) → ℕ → Type 0 → Type 0
-WhereOwnIsDue frames k P = (a : Activation Seat) → slice_get frames k ≡ Some a → (let x = a.cursor in x.merged ≡ false) → MayBringOwn a.cursor → P
+abbrev pub WhereOwnIsDue : List (Activation FrameState) → ℕ → Type 0 → Type 0
+WhereOwnIsDue frames k P = (a : Activation FrameState) → slice_get frames k ≡ Some a → (let x = a.cursor in x.merged ≡ false) → MayBringOwn a.cursor → P
 
 -- It makes its sync: the event is written down, and its ticks are counted.
-pub record WroteSync (b b' : Board) (w k : ℕ) : Type 0 where
-  pub made : Board
+pub record WroteSync (b b' : Scheduler) (w k : ℕ) : Type 0 where
+  pub made : Scheduler
   pub asked : b.asked ≡ asks.Sync
   pub behind : let f = b.frames in WhereOwnMayCome f.items k (GoesBehind b made w k)
   pub journal : let e = b.journal in let l = made.journal in l.items ≡ e.items
@@ -127,37 +127,37 @@ pub record WroteSync (b b' : Board) (w k : ℕ) : Type 0 where
   pub noted : IsNoted made b' k events.Sync
 
 -- A thief's choice is a step of the free machine: a board that showed a state shows what comes of it.
-abbrev pub StealsAreSteps : CodeView → List ℤ → Board → Board → Choice → Told → Type 0
+abbrev pub StealsAreSteps : CodeView → List ℤ → Scheduler → Scheduler → Choice → Told → Type 0
 StealsAreSteps code inputs b b' c (told.Did act) = Unit {0}
 StealsAreSteps code inputs b b' c told.Stole =
-    (p : Source) (name : ℕ → Name) (d : Desk) (s : State World View) → IsShown code p inputs name b d s
-    → (s' : State World View) × (d' : Desk) × Chooses p inputs s d c Stole s' d' × ShowsBy code p inputs name b' d' s'
+    (p : Source) (name : ℕ → Name) (d : WorkerTable) (s : State FrameEnv View) → IsShown code p inputs name b d s
+    → (s' : State FrameEnv View) × (d' : WorkerTable) × Chooses p inputs s d c Stole s' d' × ShowsBy code p inputs name b' d' s'
 StealsAreSteps code inputs b b' c told.Waits = Unit {0}
 StealsAreSteps code inputs b b' c told.Skipped = Unit {0}
 
 -- A choice by which a frame waits at its sync makes no step: a board that showed a state shows it still, with the worker idle.
-abbrev pub WaitsAreSteps : CodeView → List ℤ → Board → Board → Choice → Told → Type 0
+abbrev pub WaitsAreSteps : CodeView → List ℤ → Scheduler → Scheduler → Choice → Told → Type 0
 WaitsAreSteps code inputs b b' c (told.Did act) = Unit {0}
 WaitsAreSteps code inputs b b' c told.Stole = Unit {0}
 WaitsAreSteps code inputs b b' c told.Waits =
-    (p : Source) (name : ℕ → Name) (d : Desk) (s : State World View) → IsShown code p inputs name b d s
-    → (d' : Desk) × Chooses p inputs s d c Waited s d' × ShowsBy code p inputs name b' d' s
+    (p : Source) (name : ℕ → Name) (d : WorkerTable) (s : State FrameEnv View) → IsShown code p inputs name b d s
+    → (d' : WorkerTable) × Chooses p inputs s d c Waited s d' × ShowsBy code p inputs name b' d' s
 WaitsAreSteps code inputs b b' c told.Skipped = Unit {0}
 
 -- A sync is a step of the free machine, in each state that steps or choices lead to.
-abbrev pub SyncsAreSteps : CodeView → List ℤ → Board → Board → Choice → Told → Type 0
+abbrev pub SyncsAreSteps : CodeView → List ℤ → Scheduler → Scheduler → Choice → Told → Type 0
 SyncsAreSteps code inputs b b' c (told.Did act) =
-    act.event ≡ events.Sync → (p : Source) (name : ℕ → Name) (d : Desk) (s : State World View) → IsShown code p inputs name b d s → HaveGoneOn s
-    → (s' : State World View) × Chooses p inputs s d c Did s' d × ShowsBy code p inputs name b' d s'
+    act.event ≡ events.Sync → (p : Source) (name : ℕ → Name) (d : WorkerTable) (s : State FrameEnv View) → IsShown code p inputs name b d s → HaveGoneOn s
+    → (s' : State FrameEnv View) × Chooses p inputs s d c Did s' d × ShowsBy code p inputs name b' d s'
 SyncsAreSteps code inputs b b' c told.Stole = Unit {0}
 SyncsAreSteps code inputs b b' c told.Waits = Unit {0}
 SyncsAreSteps code inputs b b' c told.Skipped = Unit {0}
 
 -- A choice that is skipped can't be made, and changes nothing.
-abbrev pub SkipsAreSteps : CodeView → List ℤ → Board → Board → Choice → Told → Type 0
+abbrev pub SkipsAreSteps : CodeView → List ℤ → Scheduler → Scheduler → Choice → Told → Type 0
 SkipsAreSteps code inputs b b' c (told.Did act) = Unit {0}
 SkipsAreSteps code inputs b b' c told.Stole = Unit {0}
 SkipsAreSteps code inputs b b' c told.Waits = Unit {0}
 SkipsAreSteps code inputs b b' c told.Skipped =
-    (p : Source) (name : ℕ → Name) (d : Desk) (s : State World View) → IsShown code p inputs name b d s
+    (p : Source) (name : ℕ → Name) (d : WorkerTable) (s : State FrameEnv View) → IsShown code p inputs name b d s
     → Chooses p inputs s d c Skipped s d × ShowsBy code p inputs name b' d s

@@ -7,10 +7,10 @@ use Rattle.cilk_runs.specs.Machine.{State}
 use Rattle.cilk_runs.specs.Runs.{Name}
 use Rattle.cilk_runs.specs.Reducers.{View}
 use Rattle.cilk_runs.specs.Steps.{IsFirst, Reaches, outcome_in}
-use Rattle.cilk_runs.specs.Worlds.{World}
-use Rattle.cilk_scheduler.specs.Desks.{Chooses, Comes, Desk, IsOver, StopsAt}
+use Rattle.cilk_runs.specs.FrameEnvs.{FrameEnv}
+use Rattle.cilk_scheduler.specs.WorkerTables.{Chooses, Comes, WorkerTable, IsOver, StopsAt}
 use Rattle.cilk_scheduler.specs.Openings.{first_desk}
-use Rattle.cilk_scheduler.specs.declared.board.Board.{Board}
+use Rattle.cilk_scheduler.specs.declared.scheduler.Scheduler.{Scheduler}
 use Rattle.cilk_scheduler.specs.declared.choice.Choice.{Choice}
 use Rattle.cilk_scheduler.specs.declared.choice.Stop.{Stop}
 use Rattle.cilk_scheduler.specs.declared.choice.Stop.TheVariants as stops
@@ -24,36 +24,36 @@ use Rattle.cilk_schedule.specs.declared.machine.Machine.{Machine}
 
 module _ (p : Source) (inputs : List ℤ) where
   -- These choices, one after another, lead from a state and a desk of the free machine to these.
-  abbrev pub ChoicesLead : List Choice → State World View → Desk → State World View → Desk → Type 0
+  abbrev pub ChoicesLead : List Choice → State FrameEnv View → WorkerTable → State FrameEnv View → WorkerTable → Type 0
   ChoicesLead [] s d s' d' = (s' ≡ s) × (d' ≡ d)
-  ChoicesLead (choice ∷ choices) s d s' d' = (told : Comes) × (t : State World View) × (e : Desk) × Chooses p inputs s d choice told t e × ChoicesLead choices t e s' d'
+  ChoicesLead (choice ∷ choices) s d s' d' = (told : Comes) × (t : State FrameEnv View) × (e : WorkerTable) × Chooses p inputs s d choice told t e × ChoicesLead choices t e s' d'
 
   -- One of these choices stops the run in this state, and those before it lead there.
-  abbrev pub ChoicesStop : List Choice → State World View → Desk → State World View → Type 0
+  abbrev pub ChoicesStop : List Choice → State FrameEnv View → WorkerTable → State FrameEnv View → Type 0
   ChoicesStop [] s d s' = ⊥
   ChoicesStop (choice ∷ choices) s d s' =
-      StopsAt p inputs s d choice s' ⊎ ((told : Comes) × (t : State World View) × (e : Desk) × Chooses p inputs s d choice told t e × ChoicesStop choices t e s')
+      StopsAt p inputs s d choice s' ⊎ ((told : Comes) × (t : State FrameEnv View) × (e : WorkerTable) × Chooses p inputs s d choice told t e × ChoicesStop choices t e s')
 
   -- A list of choices has one end: it leads to one state and one desk, up to the views of frames that haven't begun, or it stops the run in one
   -- strand by one fault, and not both. Steps of the free machine lead there.
   pub record ListsDecide : Type 0 where
-    pub goes_on : (choices : List Choice) (s s' : State World View) (d d' : Desk) → IsGoing p inputs s → ChoicesLead choices s d s' d' → IsGoing p inputs s'
-    pub halts : (choices : List Choice) (s s' : State World View) (d : Desk) → IsGoing p inputs s → ChoicesStop choices s d s' → (ns : List Name) × Reaches p inputs ns s'
-    pub leads : (choices : List Choice) (s t s' t' : State World View) (d d' d'' : Desk) → IsGoing p inputs s → Agree s t → ChoicesLead choices s d s' d' → ChoicesLead choices t d t' d'' → (d'' ≡ d') × Agree s' t'
-    pub stops : (choices : List Choice) (s t s' t' : State World View) (d : Desk) → IsGoing p inputs s → Agree s t → ChoicesStop choices s d s' → ChoicesStop choices t d t' → t'.stopped ≡ s'.stopped
-    pub apart : (choices : List Choice) (s t s' t' : State World View) (d d' : Desk) → IsGoing p inputs s → Agree s t → ChoicesStop choices s d s' → ChoicesLead choices t d t' d' → ⊥
+    pub goes_on : (choices : List Choice) (s s' : State FrameEnv View) (d d' : WorkerTable) → IsGoing p inputs s → ChoicesLead choices s d s' d' → IsGoing p inputs s'
+    pub halts : (choices : List Choice) (s s' : State FrameEnv View) (d : WorkerTable) → IsGoing p inputs s → ChoicesStop choices s d s' → (ns : List Name) × Reaches p inputs ns s'
+    pub leads : (choices : List Choice) (s t s' t' : State FrameEnv View) (d d' d'' : WorkerTable) → IsGoing p inputs s → Agree s t → ChoicesLead choices s d s' d' → ChoicesLead choices t d t' d'' → (d'' ≡ d') × Agree s' t'
+    pub stops : (choices : List Choice) (s t s' t' : State FrameEnv View) (d : WorkerTable) → IsGoing p inputs s → Agree s t → ChoicesStop choices s d s' → ChoicesStop choices t d t' → t'.stopped ≡ s'.stopped
+    pub apart : (choices : List Choice) (s t s' t' : State FrameEnv View) (d d' : WorkerTable) → IsGoing p inputs s → Agree s t → ChoicesStop choices s d s' → ChoicesLead choices t d t' d' → ⊥
 
 -- what a state leaves: an outcome, once the first frame has ended
-abbrev pub Leaves : Source → State World View → Option Outcome → Type 0
+abbrev pub Leaves : Source → State FrameEnv View → Option Outcome → Type 0
 Leaves p s None = ¬ (IsOver s)
 Leaves p s (Some o) = IsOver s × (o ≡ outcome_in p s)
 
 -- What is shown is the state to which the choices lead from the opening one, in which the first of so many workers has the first frame.
 pub record IsPlayed (p : Source) (inputs : List ℤ) (workers : ℕ) (choices : List Choice) (shown : Shown) : Type 0 where
-  pub first : State World View
+  pub first : State FrameEnv View
   pub opens : IsFirst p inputs first
-  pub state : State World View
-  pub desk : Desk
+  pub state : State FrameEnv View
+  pub desk : WorkerTable
   pub led : ChoicesLead p inputs choices first (first_desk (workers - 1)) state desk
   pub name : ℕ → Name
   pub shows : ShowsRun p name state shown
@@ -62,7 +62,7 @@ pub record IsPlayed (p : Source) (inputs : List ℤ) (workers : ℕ) (choices : 
 -- want of memory has no name.
 abbrev pub IsStop : Source → List ℤ → ℕ → List Choice → Stop → List ℕ → Type 0
 IsStop p inputs workers choices (stops.At fault strand) list =
-    (first : State World View) × (s : State World View) × (n : Name) × IsFirst p inputs first × ChoicesStop p inputs choices first (first_desk (workers - 1)) s × (s.stopped ≡ Some (record { frame = n; strand = strand.number; fault = fault }))
+    (first : State FrameEnv View) × (s : State FrameEnv View) × (n : Name) × IsFirst p inputs first × ChoicesStop p inputs choices first (first_desk (workers - 1)) s × (s.stopped ≡ Some (record { frame = n; strand = strand.number; fault = fault }))
     × (list ≡ n ++ strand.number ∷ [])
 IsStop p inputs workers choices stops.Memory list = list ≡ []
 
@@ -83,7 +83,7 @@ pub record LeadOn (choices : List Choice) (m m' : Machine) : Type 0 where
   pub reached : (p : Source) → IsCodeOf p (let c = m.code in c.now) → (h : IsAt m p) → (h' : IsAt m' p) × ChoicesLead p (let i = m.input in i.now) choices h.state h.desk h'.state h'.desk
 
 -- the choices stop the run, from a state that was shown, at one that the board tells
-abbrev pub StopFrom : (code : CodeView) (p : Source) (inputs : List ℤ) → List Choice → State World View → Desk → Board → Stop → Type 0
+abbrev pub StopFrom : (code : CodeView) (p : Source) (inputs : List ℤ) → List Choice → State FrameEnv View → WorkerTable → Scheduler → Stop → Type 0
 StopFrom code p inputs choices s d b (stops.At fault strand) = (f : HasFault code p inputs b fault strand) × ChoicesStop p inputs choices s d f.state
 StopFrom code p inputs choices s d b stops.Memory = Unit {0}
 

@@ -10,10 +10,10 @@ use Rattle.cilk_runs.specs.Machine.{State, Stop}
 use Rattle.cilk_runs.specs.Runs.{Name}
 use Rattle.cilk_runs.specs.Reducers.{View}
 use Rattle.cilk_runs.specs.Steps.{IsFirst, outcome_in}
-use Rattle.cilk_runs.specs.Worlds.{World}
-use Rattle.cilk_scheduler.specs.Desks.{Chooses, Comes, Desk, IsOver, StopsAt}
+use Rattle.cilk_runs.specs.FrameEnvs.{FrameEnv}
+use Rattle.cilk_scheduler.specs.WorkerTables.{Chooses, Comes, WorkerTable, IsOver, StopsAt}
 use Rattle.cilk_scheduler.specs.Openings.{first_desk}
-use Rattle.cilk_scheduler.specs.declared.board.Board.{Board}
+use Rattle.cilk_scheduler.specs.declared.scheduler.Scheduler.{Scheduler}
 use Rattle.cilk_scheduler.specs.declared.choice.Choice.{Choice}
 use Rattle.cilk_scheduler.specs.declared.choice.Choice.TheVariants as choices
 use Rattle.cilk_scheduler.specs.declared.choice.Stop as stopping
@@ -62,12 +62,12 @@ abbrev pub has_frame : Option (Option Name) → Bool
 has_frame None = false
 has_frame (Some hand) = is_some hand
 
-abbrev pub is_busy : Desk → ℕ → Bool
+abbrev pub is_busy : WorkerTable → ℕ → Bool
 is_busy d zero = false
 is_busy d (suc w) = has_frame (slice_get d.hands w)
 
 -- what a worker does in its turn
-abbrev pub turn_of : Desk → ℕ → Choice
+abbrev pub turn_of : WorkerTable → ℕ → Choice
 turn_of d worker = if is_busy d worker then choices.Run worker else choices.Steal worker 0
 
 -- a round: so many workers' turns, from this worker on
@@ -78,25 +78,25 @@ turns first (suc more) = Turn first ∷ turns (suc first) more
 -- How a script ends: all of it is done, and the run has come to this state; a choice has stopped the run; or the choices of a line
 -- would go past the limit.
 pub data End : Type 0 where
-  Done : (state : State World View) (desk : Desk) → End
+  Done : (state : State FrameEnv View) (desk : WorkerTable) → End
   Stopped : (stop : Stop) → End
   Passed : (line : ℕ) → End
 
 module _ (p : Source) (inputs : List ℤ) where
   -- with so many workers these tasks, one after another, lead from a state and a desk of the free machine to this end
-  pub data Plays (workers : ℕ) : List Task → State World View → Desk → End → Type 0 where
-    Finished : (s : State World View) (d : Desk) → Plays workers [] s d (Done s d)
-    Chosen : (choice : Choice) (told : Comes) (rest : List Task) (s s' : State World View) (d d' : Desk) (e : End) → Chooses p inputs s d choice told s' d' → Plays workers rest s' d' e → Plays workers (Choose choice ∷ rest) s d e
-    Stops : (choice : Choice) (stop : Stop) (rest : List Task) (s s' : State World View) (d : Desk) → StopsAt p inputs s d choice s' → s'.stopped ≡ Some stop → Plays workers (Choose choice ∷ rest) s d (Stopped stop)
-    Turns : (worker : ℕ) (rest : List Task) (s : State World View) (d : Desk) (e : End) → Plays workers (Choose (turn_of d worker) ∷ rest) s d e → Plays workers (Turn worker ∷ rest) s d e
-    Ended : (count : ℕ) (rest : List Task) (s : State World View) (d : Desk) (e : End) → IsOver s → Plays workers rest s d e → Plays workers (Rounds count ∷ rest) s d e
-    Enough : (rest : List Task) (s : State World View) (d : Desk) (e : End) → Plays workers rest s d e → Plays workers (Rounds zero ∷ rest) s d e
-    Round : (count : ℕ) (rest : List Task) (s : State World View) (d : Desk) (e : End) → ¬ (IsOver s) → Plays workers (turns 1 workers ++ (Rounds count ∷ rest)) s d e → Plays workers (Rounds (suc count) ∷ rest) s d e
-    Passes : (line : ℕ) (rest : List Task) (s : State World View) (d : Desk) → Plays workers (Pass line ∷ rest) s d (Passed line)
+  pub data Plays (workers : ℕ) : List Task → State FrameEnv View → WorkerTable → End → Type 0 where
+    Finished : (s : State FrameEnv View) (d : WorkerTable) → Plays workers [] s d (Done s d)
+    Chosen : (choice : Choice) (told : Comes) (rest : List Task) (s s' : State FrameEnv View) (d d' : WorkerTable) (e : End) → Chooses p inputs s d choice told s' d' → Plays workers rest s' d' e → Plays workers (Choose choice ∷ rest) s d e
+    Stops : (choice : Choice) (stop : Stop) (rest : List Task) (s s' : State FrameEnv View) (d : WorkerTable) → StopsAt p inputs s d choice s' → s'.stopped ≡ Some stop → Plays workers (Choose choice ∷ rest) s d (Stopped stop)
+    Turns : (worker : ℕ) (rest : List Task) (s : State FrameEnv View) (d : WorkerTable) (e : End) → Plays workers (Choose (turn_of d worker) ∷ rest) s d e → Plays workers (Turn worker ∷ rest) s d e
+    Ended : (count : ℕ) (rest : List Task) (s : State FrameEnv View) (d : WorkerTable) (e : End) → IsOver s → Plays workers rest s d e → Plays workers (Rounds count ∷ rest) s d e
+    Enough : (rest : List Task) (s : State FrameEnv View) (d : WorkerTable) (e : End) → Plays workers rest s d e → Plays workers (Rounds zero ∷ rest) s d e
+    Round : (count : ℕ) (rest : List Task) (s : State FrameEnv View) (d : WorkerTable) (e : End) → ¬ (IsOver s) → Plays workers (turns 1 workers ++ (Rounds count ∷ rest)) s d e → Plays workers (Rounds (suc count) ∷ rest) s d e
+    Passes : (line : ℕ) (rest : List Task) (s : State FrameEnv View) (d : WorkerTable) → Plays workers (Pass line ∷ rest) s d (Passed line)
 
   -- The steps of a script lead from the opening state, in which the first of so many workers has the first frame, to this end.
   abbrev pub Ends : ℕ → List Step → End → Type 0
-  Ends workers steps e = (s : State World View) × IsFirst p inputs s × Plays workers (tasks_of steps) s (first_desk (workers - 1)) e
+  Ends workers steps e = (s : State FrameEnv View) × IsFirst p inputs s × Plays workers (tasks_of steps) s (first_desk (workers - 1)) e
 
   -- one end is the other, but for the views of frames that haven't begun
   abbrev pub SameEnd : End → End → Type 0
@@ -111,7 +111,7 @@ module _ (p : Source) (inputs : List ℤ) where
 
 -- what the steps of a script leave, all of which are done
 abbrev pub IsLeft : Source → List ℤ → ℕ → List Step → Option Outcome → Type 0
-IsLeft p inputs workers steps left = (s : State World View) × (d : Desk) × Ends p inputs workers steps (Done s d) × Leaves p s left
+IsLeft p inputs workers steps left = (s : State FrameEnv View) × (d : WorkerTable) × Ends p inputs workers steps (Done s d) × Leaves p s left
 
 -- the run stops by this fault, in the strand of this name
 abbrev pub StopsBy : (End → Type 0) → Fault → List ℕ → Type 0
@@ -124,19 +124,19 @@ IsFault IsEnd (faults.Stop fault name) = StopsBy IsEnd fault (let n = name in n.
 IsFault IsEnd faults.Memory = Unit {0}
 
 -- A strand's name by the names that a board's frames have: its frame's, and then the strand's number.
-abbrev pub IsNameIn : Board → Strand → List ℕ → Type 0
+abbrev pub IsNameIn : Scheduler → Strand → List ℕ → Type 0
 IsNameIn b strand name =
     (names : ℕ → Name) (place : ℕ) → strand.frame ≡ suc place → AreNamed (let f = b.frames in f.items) names → place < length (let f = b.frames in f.items)
     → name ≡ names place ++ strand.number ∷ []
 
 -- a fault tells of this stop at a board
-abbrev pub IsFaultOf : Board → stopping.Stop → PlayFault → Type 0
+abbrev pub IsFaultOf : Scheduler → stopping.Stop → PlayFault → Type 0
 IsFaultOf b stop (faults.Line line) = ⊥
 IsFaultOf b stop (faults.Stop fault name) = (strand : Strand) × (stop ≡ stops.At fault strand) × IsNameIn b strand (let n = name in n.items)
 IsFaultOf b stop faults.Memory = Unit {0}
 
 -- these tasks come down to those, from another state and desk on
-abbrev pub Follows : Source → List ℤ → ℕ → List Task → State World View → Desk → List Task → State World View → Desk → Type 0
+abbrev pub Follows : Source → List ℤ → ℕ → List Task → State FrameEnv View → WorkerTable → List Task → State FrameEnv View → WorkerTable → Type 0
 Follows p inputs workers tasks s d left s' d' = (rest : List Task) (e : End) → Plays p inputs workers (left ++ rest) s' d' e → Plays p inputs workers (tasks ++ rest) s d e
 
 -- The machine has its code and its input, and from each state that its board showed these tasks come down to those, from a state on that it shows.
@@ -166,8 +166,8 @@ FailsAsSettled p inputs f = (outcome : Outcome) → IsSettled p inputs outcome �
 -- Where whatever steps are made the state is as one serial run, so is each state that a board shows, and to which steps lead.
 abbrev pub SettlesEachState : Type 0
 SettlesEachState =
-    (code : CodeView) (p : Source) (inputs : List ℤ) (b : Board) (run : Transcript) (outcome : Outcome) (h : HasReached code p inputs b) → AlwaysAsSerial p inputs run outcome → IsAsSerial p inputs run outcome h.state
+    (code : CodeView) (p : Source) (inputs : List ℤ) (b : Scheduler) (run : Transcript) (outcome : Outcome) (h : HasReached code p inputs b) → AlwaysAsSerial p inputs run outcome → IsAsSerial p inputs run outcome h.state
 
 -- a board that shows the opening state shows one to which steps lead
 abbrev pub OpeningsAreReached : Type 0
-OpeningsAreReached = (code : CodeView) (p : Source) (inputs : List ℤ) (b : Board) (idle : ℕ) → HasOpened code p inputs b idle → HasReached code p inputs b
+OpeningsAreReached = (code : CodeView) (p : Source) (inputs : List ℤ) (b : Scheduler) (idle : ℕ) → HasOpened code p inputs b idle → HasReached code p inputs b

@@ -7,14 +7,14 @@ use Rattle.cilk_runs.specs.Machine.{State}
 use Rattle.cilk_runs.specs.Runs.{Name}
 use Rattle.cilk_runs.specs.Reducers.{View}
 use Rattle.cilk_runs.specs.Steps.{IsFirst, Reaches}
-use Rattle.cilk_runs.specs.Worlds.{World}
+use Rattle.cilk_runs.specs.FrameEnvs.{FrameEnv}
 use Rattle.cilk_scheduler.specs.Acting.{IsShown}
-use Rattle.cilk_scheduler.specs.Boards.{ShowsBy}
-use Rattle.cilk_scheduler.specs.Desks.{Chooses, Comes, Desk, Did, Skipped, Stole, Waited}
+use Rattle.cilk_scheduler.specs.Schedulers.{ShowsBy}
+use Rattle.cilk_scheduler.specs.WorkerTables.{Chooses, Comes, WorkerTable, Did, Skipped, Stole, Waited}
 use Rattle.cilk_scheduler.specs.GoneOn.{HaveGoneOn}
 use Rattle.cilk_scheduler.specs.Openings.{first_desk}
 use Rattle.cilk_scheduler.specs.Parents.{AreStarted, OutliveChildren}
-use Rattle.cilk_scheduler.specs.declared.board.Board.{Board}
+use Rattle.cilk_scheduler.specs.declared.scheduler.Scheduler.{Scheduler}
 use Rattle.cilk_scheduler.specs.declared.choice.Choice.{Choice}
 use Rattle.cilk_scheduler.specs.declared.choice.Told.{Told}
 use Rattle.cilk_scheduler.specs.declared.choice.Told.TheVariants as told
@@ -22,7 +22,7 @@ use Rattle.cilk_scheduler.specs.declared.choice.Told.TheVariants as told
 module _ (code : CodeView) (p : Source) (inputs : List ℤ) where
   -- The board shows this state, of which holds what holds of each that steps lead to: frames did as they asked, outlive their children, went on
   -- behind those that they spawned, and run what was started under their names.
-  pub record IsReached (name : ℕ → Name) (b : Board) (d : Desk) (s : State World View) : Type 0 where
+  pub record IsReached (name : ℕ → Name) (b : Scheduler) (d : WorkerTable) (s : State FrameEnv View) : Type 0 where
     pub behaves : Behaves p code
     pub shown : IsShown code p inputs name b d s
     pub outlive : OutliveChildren s
@@ -32,15 +32,15 @@ module _ (code : CodeView) (p : Source) (inputs : List ℤ) where
   -- So it goes on to be after a choice, on the board that shows what comes of it.
   abbrev pub ChoicesLeadOn : Type 0
   ChoicesLeadOn =
-      (name name' : ℕ → Name) (b b' : Board) (d d' : Desk) (s s' : State World View) (c : Choice) (t : Comes) → IsReached name b d s → Chooses p inputs s d c t s' d' → ShowsBy code p inputs name' b' d' s' → IsReached name' b' d' s'
+      (name name' : ℕ → Name) (b b' : Scheduler) (d d' : WorkerTable) (s s' : State FrameEnv View) (c : Choice) (t : Comes) → IsReached name b d s → Chooses p inputs s d c t s' d' → ShowsBy code p inputs name' b' d' s' → IsReached name' b' d' s'
 
 -- Steps of the free machine lead to a state of the program on the inputs, and the board shows it.
-pub record HasReached (code : CodeView) (p : Source) (inputs : List ℤ) (b : Board) : Type 0 where
+pub record HasReached (code : CodeView) (p : Source) (inputs : List ℤ) (b : Scheduler) : Type 0 where
   pub steps : List Name
-  pub state : State World View
+  pub state : State FrameEnv View
   pub reaches : Reaches p inputs steps state
   pub name : ℕ → Name
-  pub desk : Desk
+  pub desk : WorkerTable
   pub shows : ShowsBy code p inputs name b desk state
 
 -- what is told of a choice, as choices by names have it
@@ -51,11 +51,11 @@ comes_of told.Waits = Waited
 comes_of told.Skipped = Skipped
 
 -- Where steps lead to a state that the board shows, they lead to one that the next board shows, and the choice by names goes from the one to the other.
-abbrev pub LeadsOn : CodeView → Source → List ℤ → Board → Board → Choice → Told → Type 0
+abbrev pub LeadsOn : CodeView → Source → List ℤ → Scheduler → Scheduler → Choice → Told → Type 0
 LeadsOn code p inputs b b' c t = (h : HasReached code p inputs b) → (h' : HasReached code p inputs b') × Chooses p inputs h.state h.desk c (comes_of t) h'.state h'.desk
 
 -- The board shows the opening state: the first worker has the first frame, beside so many idle ones.
-pub record HasOpened (code : CodeView) (p : Source) (inputs : List ℤ) (b : Board) (idle : ℕ) : Type 0 where
-  pub state : State World View
+pub record HasOpened (code : CodeView) (p : Source) (inputs : List ℤ) (b : Scheduler) (idle : ℕ) : Type 0 where
+  pub state : State FrameEnv View
   pub first : IsFirst p inputs state
   pub shows : ShowsBy code p inputs (λ n. []) b (first_desk idle) state

@@ -15,12 +15,12 @@ use Rattle.cilk_runs.specs.Runs.{Name, Cell, Global, Own, Instance, Output, Redu
 use Rattle.cilk_runs.specs.Runs.{Event as Done}
 use Rattle.cilk_runs.specs.Reducers.{View}
 use Rattle.cilk_runs.specs.Steps.{outcome_in}
-use Rattle.cilk_runs.specs.Worlds.{World}
+use Rattle.cilk_runs.specs.FrameEnvs.{FrameEnv}
 use Rattle.cilk_lower.specs.Code.{CodeView}
-use Rattle.cilk_scheduler.specs.Boards.{Tells}
+use Rattle.cilk_scheduler.specs.Schedulers.{Tells}
 use Rattle.cilk_scheduler.specs.Parents.{ChildrenAreNamed}
-use Rattle.cilk_scheduler.specs.declared.board.Board.{Board}
-use Rattle.cilk_scheduler.specs.declared.seat.Seat.{Seat}
+use Rattle.cilk_scheduler.specs.declared.scheduler.Scheduler.{Scheduler}
+use Rattle.cilk_scheduler.specs.declared.frame_state.FrameState.{FrameState}
 use Rattle.cilk_schedule.specs.declared.naming.CellName.{CellName}
 use Rattle.cilk_schedule.specs.declared.naming.CellName.TheVariants as cells
 use Rattle.cilk_schedule.specs.declared.naming.ReducerName.{ReducerName}
@@ -33,26 +33,26 @@ use Rattle.cilk_schedule.specs.declared.showing.ShownFrame.{ShownFrame}
 -- ---- by numbers
 
 -- the ordinal of the frame with a number, which counts frames from 1; 0 where there is none
-abbrev pub ordinal_of : List (Activation Seat) → ℕ → ℕ
+abbrev pub ordinal_of : List (Activation FrameState) → ℕ → ℕ
 ordinal_of frames zero = 0
-ordinal_of frames (suc k) = unwrap_or (option_map (λ (a : Activation Seat). let x = a.cursor in x.ordinal) (slice_get frames k)) 0
+ordinal_of frames (suc k) = unwrap_or (option_map (λ (a : Activation FrameState). let x = a.cursor in x.ordinal) (slice_get frames k)) 0
 
 -- a reducer's name, by its number
 abbrev pub reducer_of : numbered.Instance → ReducerName
 reducer_of j = cond (nat_eq j.frame 0) reducers.Output (reducers.Own (j.frame - 1) (j.place - 1))
 
 -- The cell with this number is of the frame at place k, or past its last: all frames up to that one begin at it or before, and all others past it.
-pub record IsOwner (frames : List (Activation Seat)) (k : ℕ) (x : Activation Seat) (n : ℕ) : Type 0 where
+pub record IsOwner (frames : List (Activation FrameState)) (k : ℕ) (x : Activation FrameState) (n : ℕ) : Type 0 where
   pub here : slice_get frames k ≡ Some x
-  pub before : (j : ℕ) (y : Activation Seat) → slice_get frames j ≡ Some y → j ≤ k → y.base ≤ n
-  pub behind : (j : ℕ) (y : Activation Seat) → slice_get frames j ≡ Some y → k < j → n < y.base
+  pub before : (j : ℕ) (y : Activation FrameState) → slice_get frames j ≡ Some y → j ≤ k → y.base ≤ n
+  pub behind : (j : ℕ) (y : Activation FrameState) → slice_get frames j ≡ Some y → k < j → n < y.base
 
 -- the name of the cell with this number, of which the first so many are global
-abbrev pub IsCellOf : List (Activation Seat) → ℕ → ℕ → CellName → Type 0
-IsCellOf frames globals n q = (n < globals → q ≡ cells.Global n) × ((k : ℕ) (x : Activation Seat) → globals ≤ n → IsOwner frames k x n → q ≡ cells.Own k (n - x.base))
+abbrev pub IsCellOf : List (Activation FrameState) → ℕ → ℕ → CellName → Type 0
+IsCellOf frames globals n q = (n < globals → q ≡ cells.Global n) × ((k : ℕ) (x : Activation FrameState) → globals ≤ n → IsOwner frames k x n → q ≡ cells.Own k (n - x.base))
 
 -- an event by numbers, as it is named
-abbrev pub IsNamedAs : List (Activation Seat) → ℕ → Event → ShownEvent → Type 0
+abbrev pub IsNamedAs : List (Activation FrameState) → ℕ → Event → ShownEvent → Type 0
 IsNamedAs frames globals (events.Begin k) e = e ≡ shows.Begin
 IsNamedAs frames globals (events.Read n v) e = (q : CellName) × IsCellOf frames globals n q × (e ≡ shows.Read q v)
 IsNamedAs frames globals (events.Write n v) e = (q : CellName) × IsCellOf frames globals n q × (e ≡ shows.Write q v)
@@ -101,7 +101,7 @@ module _ (name : ℕ → Name) (count : ℕ) where
   IsEventShown (Passes m) e = IsMarkShown m e
 
   -- These events are what frame n did, in order, where the next child that it starts has this ordinal.
-  abbrev pub AreShown : Name → ℕ → List (Deed World) → List ShownEvent → Type 0
+  abbrev pub AreShown : Name → ℕ → List (Deed FrameEnv) → List ShownEvent → Type 0
   AreShown n next [] [] = Unit {0}
   AreShown n next [] (e ∷ es) = ⊥
   AreShown n next (d ∷ ds) [] = ⊥
@@ -119,10 +119,10 @@ pub record AreLinked (frames : List ShownFrame) (name : ℕ → Name) : Type 0 w
 
 -- What is shown is this state of the free machine, by these names: what each frame did, which children were joined, each once, and the outcome
 -- once the first frame has ended.
-pub record ShowsRun (p : Source) (name : ℕ → Name) (s : State World View) (shown : Shown) : Type 0 where
+pub record ShowsRun (p : Source) (name : ℕ → Name) (s : State FrameEnv View) (shown : Shown) : Type 0 where
   pub linked : let l = shown.frames in AreLinked l.items name
   pub events : (k : ℕ) (f : ShownFrame) → (let l = shown.frames in slice_get l.items k ≡ Some f)
-      → (x : Frame World) × (s.frames (name k) ≡ Some x) × (let l = shown.frames in let e = f.events in AreShown name (length l.items) (name k) 1 x.deeds e.items)
+      → (x : Frame FrameEnv) × (s.frames (name k) ≡ Some x) × (let l = shown.frames in let e = f.events in AreShown name (length l.items) (name k) 1 x.deeds e.items)
   pub absent : (n : Name) → ((k : ℕ) → (let l = shown.frames in k < length l.items) → name k ≡ n → ⊥) → s.frames n ≡ None
   pub joins : (n : Name) (q : ℕ) → times (n ++ q ∷ []) s.joins ≡ joined_at 1 q (deeds_at (s.frames n))
   pub going : shown.outcome ≡ None → ¬ (HasEnd (deeds_at (s.frames [])))
@@ -130,9 +130,9 @@ pub record ShowsRun (p : Source) (name : ℕ → Name) (s : State World View) (s
 
 -- What is shown of a board is each state that the board tells, of a program with so many global cells, where each child was started under its
 -- parent's name and its ordinal.
-abbrev pub ShowsBoard : ℕ → Board → Shown → Type 0
-ShowsBoard globals b shown =
-    (code : CodeView) (p : Source) (inputs : List ℤ) (name : ℕ → Name) (s : State World View) → globals ≡ length p.openings → ChildrenAreNamed s → Tells code p inputs name b s → ShowsRun p name s shown
+abbrev pub ShowsScheduler : ℕ → Scheduler → Shown → Type 0
+ShowsScheduler globals b shown =
+    (code : CodeView) (p : Source) (inputs : List ℤ) (name : ℕ → Name) (s : State FrameEnv View) → globals ≡ length p.openings → ChildrenAreNamed s → Tells code p inputs name b s → ShowsRun p name s shown
 
 -- a sync is among the events
 abbrev pub has_sync : List ShownEvent → Bool

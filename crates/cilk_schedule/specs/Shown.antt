@@ -6,15 +6,15 @@ use Rattle.cilk_runs.specs.Machine.{State}
 use Rattle.cilk_runs.specs.Runs.{Name}
 use Rattle.cilk_runs.specs.Reducers.{View}
 use Rattle.cilk_runs.specs.Steps.{Reaches}
-use Rattle.cilk_runs.specs.Worlds.{World}
-use Rattle.cilk_scheduler.specs.Boards.{Tells}
-use Rattle.cilk_scheduler.specs.declared.board.Board.{Board}
+use Rattle.cilk_runs.specs.FrameEnvs.{FrameEnv}
+use Rattle.cilk_scheduler.specs.Schedulers.{Tells}
+use Rattle.cilk_scheduler.specs.declared.scheduler.Scheduler.{Scheduler}
 use Rattle.cilk_schedule.specs.Showing.{ShowsRun}
 use Rattle.cilk_schedule.specs.declared.showing.Shown.{Shown}
 use Rattle.cilk_schedule.specs.Sound.{IsCodeOf}
 
 -- It is each state of the program on the inputs to which steps of the free machine lead and that the board tells: so it tells the state that it
 -- shows, the one that a fault stopped, and, after a want of memory, the one before.
-abbrev pub ShowsReached : CodeView → List ℤ → Board → Shown → Type 0
+abbrev pub ShowsReached : CodeView → List ℤ → Scheduler → Shown → Type 0
 ShowsReached code inputs b shown =
-    (p : Source) (steps : List Name) (name : ℕ → Name) (s : State World View) → IsCodeOf p code → Reaches p inputs steps s → Tells code p inputs name b s → ShowsRun p name s shown
+    (p : Source) (steps : List Name) (name : ℕ → Name) (s : State FrameEnv View) → IsCodeOf p code → Reaches p inputs steps s → Tells code p inputs name b s → ShowsRun p name s shown

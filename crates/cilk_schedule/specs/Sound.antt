@@ -23,10 +23,10 @@ use Rattle.cilk_frames.specs.Sight.{HasScope}
 use Rattle.cilk_frames.specs.declared.activation.Activation.{Activation}
 use Rattle.cilk_serial.specs.Scoped.{IsThere, Sees}
 use Rattle.cilk_scheduler.specs.Asking.{refusal}
-use Rattle.cilk_scheduler.specs.declared.board.Board.{Board}
-use Rattle.cilk_scheduler.specs.declared.seat.Due.{Due}
-use Rattle.cilk_scheduler.specs.declared.seat.Due.TheVariants as due
-use Rattle.cilk_scheduler.specs.declared.seat.Seat.{Seat}
+use Rattle.cilk_scheduler.specs.declared.scheduler.Scheduler.{Scheduler}
+use Rattle.cilk_scheduler.specs.declared.frame_state.Due.{Due}
+use Rattle.cilk_scheduler.specs.declared.frame_state.Due.TheVariants as due
+use Rattle.cilk_scheduler.specs.declared.frame_state.FrameState.{FrameState}
 
 -- the code of a well-named program, with its layout
 pub record IsCodeOf (p : Source) (code : CodeView) : Type 0 where
@@ -44,12 +44,12 @@ FitsDue o (due.Answer a) = Fits o a
 FitsDue o due.Sync = o ≡ Nothing
 
 -- an activation as the frame that it stands for
-abbrev pub frame_of : Callee → Scope ℕ Instance → Activation Seat → Frame
+abbrev pub frame_of : Callee → Scope ℕ Instance → Activation FrameState → Frame
 frame_of callee scope a = record { callee = callee; number = a.number; scope = scope; result = a.result }
 
-module _ (code : CodeView) (p : Source) (inputs : List ℤ) (frames : List (Activation Seat)) (cells events : ℕ) where
+module _ (code : CodeView) (p : Source) (inputs : List ℤ) (frames : List (Activation FrameState)) (cells events : ℕ) where
   -- A frame that hasn't ended runs this and sees this, and what it sees is there.
-  pub record Lives (a : Activation Seat) : Type 0 where
+  pub record Lives (a : Activation FrameState) : Type 0 where
     pub callee : Callee
     pub scope : Scope ℕ Instance
     pub history : List ℤ
@@ -57,13 +57,13 @@ module _ (code : CodeView) (p : Source) (inputs : List ℤ) (frames : List (Acti
     pub sees : Sees p (frame_of callee scope a) cells
 
   -- Between two of its events its cursor stands at its history.
-  pub record Rests (a : Activation Seat) (c : CursorView) : Type 0 where
+  pub record Rests (a : Activation FrameState) (c : CursorView) : Type 0 where
     pub lives : Lives a
     pub stands : let x = a.cursor in Stands code inputs p lives.callee c lives.history x.took
     pub fits : let x = a.cursor in FitsDue c.owed x.due
 
   -- It has come to this ask, and what that names is there.
-  pub record Comes (a : Activation Seat) (ask : Ask) : Type 0 where
+  pub record Comes (a : Activation FrameState) (ask : Ask) : Type 0 where
     pub cursor : CursorView
     pub lives : Lives a
     pub here : let x = a.cursor in x.cursor ≡ Some cursor
@@ -74,7 +74,7 @@ module _ (code : CodeView) (p : Source) (inputs : List ℤ) (frames : List (Acti
     pub may : (how : Invocation) (child : Callee) → ask ≡ asks.Invoke how child → CanInvoke lives.callee child
 
   -- Its numbers are those of frames that are there, and within limits.
-  pub record Counts (a : Activation Seat) : Type 0 where
+  pub record Counts (a : Activation FrameState) : Type 0 where
     pub parent : let x = a.cursor in x.parent < length frames
     pub last : let x = a.cursor in x.last < length frames
     pub children : let x = a.cursor in x.children ≤ length frames
@@ -86,39 +86,39 @@ module _ (code : CodeView) (p : Source) (inputs : List ℤ) (frames : List (Acti
 
   -- All frames do so: the one whose turn it is, if any, has come to an ask, and the others rest.
   pub record Sound (turn : Option ℕ) (ask : Ask) : Type 0 where
-    pub counts : (k : ℕ) (a : Activation Seat) → slice_get frames k ≡ Some a → Counts a
-    pub rests : (k : ℕ) (a : Activation Seat) (c : CursorView) → slice_get frames k ≡ Some a → (turn ≡ Some k → ⊥) → (let x = a.cursor in x.cursor ≡ Some c) → Rests a c
-    pub comes : (k : ℕ) (a : Activation Seat) → slice_get frames k ≡ Some a → turn ≡ Some k → Comes a ask
+    pub counts : (k : ℕ) (a : Activation FrameState) → slice_get frames k ≡ Some a → Counts a
+    pub rests : (k : ℕ) (a : Activation FrameState) (c : CursorView) → slice_get frames k ≡ Some a → (turn ≡ Some k → ⊥) → (let x = a.cursor in x.cursor ≡ Some c) → Rests a c
+    pub comes : (k : ℕ) (a : Activation FrameState) → slice_get frames k ≡ Some a → turn ≡ Some k → Comes a ask
     pub few_frames : length frames ≤ MAX_FRAMES
     pub few_cells : cells ≤ MAX_CELLS
     pub few_events : events ≤ MAX_EVENTS
     pub opened : length p.openings ≤ cells
 
 -- a change of frames that leaves them all sound, whosever turn it is
-abbrev pub Keeps : List (Activation Seat) → List (Activation Seat) → Type 0
+abbrev pub Keeps : List (Activation FrameState) → List (Activation FrameState) → Type 0
 Keeps frames frames' =
     (code : CodeView) (p : Source) (inputs : List ℤ) (cells events : ℕ) (turn : Option ℕ) (ask : Ask) → Sound code p inputs frames cells events turn ask → Sound code p inputs frames' cells events turn ask
 
 -- each frame has taken as many ticks, and as many of them are counted
-abbrev pub SameTicks : List (Activation Seat) → List (Activation Seat) → Type 0
+abbrev pub SameTicks : List (Activation FrameState) → List (Activation FrameState) → Type 0
 SameTicks frames frames' =
-    (k : ℕ) (a : Activation Seat) → slice_get frames k ≡ Some a → (b : Activation Seat) × (slice_get frames' k ≡ Some b) × (let x = a.cursor in let y = b.cursor in (y.took ≡ x.took) × (y.counted ≡ x.counted))
+    (k : ℕ) (a : Activation FrameState) → slice_get frames k ≡ Some a → (b : Activation FrameState) × (slice_get frames' k ≡ Some b) × (let x = a.cursor in let y = b.cursor in (y.took ≡ x.took) × (y.counted ≡ x.counted))
 
 -- a quiet change: of where frames are and of what lies at their blocks
-abbrev pub IsQuiet : List (Activation Seat) → List (Activation Seat) → Type 0
+abbrev pub IsQuiet : List (Activation FrameState) → List (Activation FrameState) → Type 0
 IsQuiet frames frames' = Keeps frames frames' × SameTicks frames frames' × (length frames' ≡ length frames)
 
 -- the frame at place k has come to this ask
-abbrev pub HasCome : List (Activation Seat) → ℕ → ℕ → Ask → Type 0
+abbrev pub HasCome : List (Activation FrameState) → ℕ → ℕ → Ask → Type 0
 HasCome frames cells k ask = (code : CodeView) × (p : Source) × (inputs : List ℤ) × (events : ℕ) × Sound code p inputs frames cells events (Some k) ask
 
 -- the event that it has come to is made
-abbrev pub Settles : List (Activation Seat) → List (Activation Seat) → ℕ → ℕ → ℕ → Ask → Type 0
+abbrev pub Settles : List (Activation FrameState) → List (Activation FrameState) → ℕ → ℕ → ℕ → Ask → Type 0
 Settles frames frames' cells cells' k ask =
     (code : CodeView) (p : Source) (inputs : List ℤ) (events : ℕ) → events + 1 ≤ MAX_EVENTS → Sound code p inputs frames cells events (Some k) ask → Sound code p inputs frames' cells' (events + 1) None asks.Begin
 
 -- the board between two choices
-pub record Runs (code : CodeView) (inputs : List ℤ) (b : Board) : Type 0 where
+pub record Runs (code : CodeView) (inputs : List ℤ) (b : Scheduler) : Type 0 where
   pub program : Source
   pub is_code : IsCodeOf program code
   pub sound : let f = b.frames in let c = b.cells in let e = b.journal in Sound code program inputs f.items (length c.items) (length e.items) None asks.Begin
@@ -126,7 +126,7 @@ pub record Runs (code : CodeView) (inputs : List ℤ) (b : Board) : Type 0 where
   pub offers : let e = b.journal in b.offered ≤ length e.items
 
 -- the frame at place k has come to what is asked for
-pub record IsAsked (code : CodeView) (inputs : List ℤ) (b : Board) (k : ℕ) : Type 0 where
+pub record IsAsked (code : CodeView) (inputs : List ℤ) (b : Scheduler) (k : ℕ) : Type 0 where
   pub program : Source
   pub is_code : IsCodeOf program code
   pub sound : let f = b.frames in let c = b.cells in let e = b.journal in Sound code program inputs f.items (length c.items) (length e.items) (Some k) b.asked
@@ -135,37 +135,37 @@ pub record IsAsked (code : CodeView) (inputs : List ℤ) (b : Board) (k : ℕ) :
   pub offers : let e = b.journal in b.offered ≤ length e.items
 
 -- No fault stands in place of what is asked for, with the ticks that the frame at place k has taken.
-pub record IsAccepted (code : CodeView) (b : Board) (k : ℕ) : Type 0 where
-  pub seat : Activation Seat
+pub record IsAccepted (code : CodeView) (b : Scheduler) (k : ℕ) : Type 0 where
+  pub seat : Activation FrameState
   pub sits : let f = b.frames in slice_get f.items k ≡ Some seat
   pub accepted : let f = b.frames in let c = b.cells in let e = b.journal in let x = seat.cursor in refusal (b.ticks + (x.took - x.counted)) (length e.items) (length f.items) (length c.items) code.layout b.asked ≡ None
 
 -- and no fault stands in place of its event
-pub record IsTurn (code : CodeView) (inputs : List ℤ) (b : Board) (k : ℕ) : Type 0 where
+pub record IsTurn (code : CodeView) (inputs : List ℤ) (b : Scheduler) (k : ℕ) : Type 0 where
   pub asked : IsAsked code inputs b k
   pub ticks : ℕ
   pub accepted : let f = b.frames in let c = b.cells in let e = b.journal in refusal ticks (length e.items) (length f.items) (length c.items) code.layout b.asked ≡ None
 
 -- The event of what was asked for is made, and still to be written down.
-pub record IsMade (code : CodeView) (inputs : List ℤ) (b : Board) : Type 0 where
+pub record IsMade (code : CodeView) (inputs : List ℤ) (b : Scheduler) : Type 0 where
   pub program : Source
   pub is_code : IsCodeOf program code
   pub sound : let f = b.frames in let c = b.cells in let e = b.journal in Sound code program inputs f.items (length c.items) (length e.items + 1) None asks.Begin
   pub offers : let e = b.journal in b.offered ≤ length e.items + 1
 
 -- The events, the ticks counted, what is asked for, and why the run stopped, are as before.
-pub record SameRest (b b' : Board) : Type 0 where
+pub record SameRest (b b' : Scheduler) : Type 0 where
   pub journal : b'.journal ≡ b.journal
   pub ticks : b'.ticks ≡ b.ticks
   pub stopped : b'.stopped ≡ b.stopped
 
 -- The workers, the events, what a run has left, and why it stopped, are as before.
-pub record SameShown (b b' : Board) : Type 0 where
+pub record SameShown (b b' : Scheduler) : Type 0 where
   pub workers : b'.workers ≡ b.workers
   pub journal : b'.journal ≡ b.journal
   pub outcome : b'.outcome ≡ b.outcome
   pub stopped : b'.stopped ≡ b.stopped
 
 -- the frame's event is made, and no ticks are taken or counted
-abbrev pub Makes : CodeView → Board → Board → ℕ → Type 0
+abbrev pub Makes : CodeView → Scheduler → Scheduler → ℕ → Type 0
 Makes code b b' k = ((inputs : List ℤ) → IsTurn code inputs b k → IsMade code inputs b') × (let f = b.frames in let g = b'.frames in SameTicks f.items g.items)

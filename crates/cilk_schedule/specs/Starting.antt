@@ -13,15 +13,15 @@ use Rattle.cilk_frames.specs.declared.activation.Activation.{Activation}
 use Rattle.cilk_runs.specs.Machine.{State}
 use Rattle.cilk_runs.specs.Runs.{Name}
 use Rattle.cilk_runs.specs.Reducers.{View}
-use Rattle.cilk_runs.specs.Worlds.{World}
-use Rattle.cilk_scheduler.specs.Desks.{Desk, Chooses, Did}
+use Rattle.cilk_runs.specs.FrameEnvs.{FrameEnv}
+use Rattle.cilk_scheduler.specs.WorkerTables.{WorkerTable, Chooses, Did}
 use Rattle.cilk_scheduler.specs.Invocations.{ChildBegins, IsNoted}
 use Rattle.cilk_scheduler.specs.Invoking.{IsChild}
-use Rattle.cilk_scheduler.specs.declared.board.Board.{Board}
+use Rattle.cilk_scheduler.specs.declared.scheduler.Scheduler.{Scheduler}
 use Rattle.cilk_scheduler.specs.declared.choice.Choice.{Choice}
 use Rattle.cilk_scheduler.specs.declared.choice.Told.{Told}
 use Rattle.cilk_scheduler.specs.declared.choice.Told.TheVariants as told
-use Rattle.cilk_scheduler.specs.declared.seat.Seat.{Seat}
+use Rattle.cilk_scheduler.specs.declared.frame_state.FrameState.{FrameState}
 use Rattle.cilk_schedule.specs.Reached.{IsReached}
 
 -- the event starts a frame
@@ -42,31 +42,31 @@ IsStart events.End = ⊥
 
 -- The frame at place k, which worker w has, has come to an invocation, and the other has begun: its cells lie behind all others, and the worker
 -- has it. The event is still to be written down.
-pub record Started (code : CodeView) (b b' : Board) (w k : ℕ) (event : numbered.Event) : Type 0 where
+pub record Started (code : CodeView) (b b' : Scheduler) (w k : ℕ) (event : numbered.Event) : Type 0 where
   pub how : Invocation
   pub callee : Callee
-  pub child : Activation Seat
+  pub child : Activation FrameState
   pub asked : b.asked ≡ asks.Invoke how callee
   pub is_child : let f = b.frames in let c = b.cells in IsChild code f.items k w (length c.items) how callee child
   pub begins : ChildBegins b b' w k how child (cells_in code.layout callee)
   pub event_is : let f = b.frames in event ≡ invocation how (suc (length f.items))
 
 -- It is written down, and the ticks of the frame that started the other are counted.
-pub record WroteStart (code : CodeView) (b b' : Board) (w k : ℕ) (event : numbered.Event) : Type 0 where
-  pub made : Board
+pub record WroteStart (code : CodeView) (b b' : Scheduler) (w k : ℕ) (event : numbered.Event) : Type 0 where
+  pub made : Scheduler
   pub starts : Started code b made w k event
   pub noted : IsNoted made b' k event
 
 -- what is told is an event of that frame, which starts another where it is such an event
-abbrev pub TellsStart : CodeView → Board → Board → ℕ → ℕ → Told → Type 0
+abbrev pub TellsStart : CodeView → Scheduler → Scheduler → ℕ → ℕ → Told → Type 0
 TellsStart code b b' w k t = (e : numbered.Event) × (t ≡ told.Did (record { frame = k + 1; event = e })) × (IsStart e → WroteStart code b b' w k e)
 
 -- The choice is a step of the free machine, where it starts a frame: a board that showed a state shows what comes of it, by the names that frames
 -- had and the new one's.
-abbrev pub StartsAreSteps : CodeView → List ℤ → Board → Board → Choice → Told → Type 0
+abbrev pub StartsAreSteps : CodeView → List ℤ → Scheduler → Scheduler → Choice → Told → Type 0
 StartsAreSteps code inputs b b' c (told.Did act) =
-    IsStart act.event → (p : Source) (name : ℕ → Name) (d : Desk) (s : State World View) → IsReached code p inputs name b d s
-    → (name' : ℕ → Name) × (s' : State World View) × (d' : Desk) × Chooses p inputs s d c Did s' d' × IsReached code p inputs name' b' d' s' × ((j : ℕ) → (let f = b.frames in j < length f.items) → name' j ≡ name j)
+    IsStart act.event → (p : Source) (name : ℕ → Name) (d : WorkerTable) (s : State FrameEnv View) → IsReached code p inputs name b d s
+    → (name' : ℕ → Name) × (s' : State FrameEnv View) × (d' : WorkerTable) × Chooses p inputs s d c Did s' d' × IsReached code p inputs name' b' d' s' × ((j : ℕ) → (let f = b.frames in j < length f.items) → name' j ≡ name j)
 StartsAreSteps code inputs b b' c told.Stole = Unit {0}
 StartsAreSteps code inputs b b' c told.Waits = Unit {0}
 StartsAreSteps code inputs b b' c told.Skipped = Unit {0}

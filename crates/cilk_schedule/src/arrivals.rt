@@ -10,24 +10,24 @@ ghost use Rattle.cilk_scheduler.specs.Events.{block_in};
 ghost use Rattle.cilk_scheduler.specs.Parts.{freed, must_wait};
 ghost use Rattle.cilk_scheduler.specs.Stopping.{StandAsBefore};
 ghost use Rattle.cilk_scheduler.specs.Workers.{altered};
-ghost use Rattle.cilk_scheduler.specs.declared.seat.Seat.{Seat};
+ghost use Rattle.cilk_scheduler.specs.declared.frame_state.FrameState.{FrameState};
 ghost use Rattle.cilk_schedule.specs.Acts.{IsTouch};
 ghost use Rattle.cilk_schedule.specs.Passing.{ComesTo, GoesBehind, OwnComes, PieceComes, StaysAt, WhereOwnIsDue, WhereOwnMayCome};
 ghost use Rattle.cilk_schedule.specs.Sound.{IsAsked, IsQuiet, IsTurn, Makes, Runs, SameRest};
 
 use cilk_frames::activation::Activation;
-use cilk_scheduler::arriving::arrive;
-use cilk_scheduler::board::Board;
-use cilk_scheduler::seat::{Seat, Worker};
-use cilk_scheduler::seats::{begin_block, wait};
 use cilk_hypermap::hypermap::Hypermap;
+use cilk_scheduler::arriving::arrive;
+use cilk_scheduler::frame_state::{FrameState, Worker};
+use cilk_scheduler::frame_states::{begin_block, wait};
+use cilk_scheduler::scheduler::Scheduler;
 use cilk_types::event::Event;
 use std::alloc::{AllocError, Global};
 
 /// Whether the sync that a frame asks for has to wait for a stolen child, with the frame's own piece still to come.
-pub fn must_wait(frames: &[Activation<Seat>], frame: usize) -> bool
+pub fn must_wait(frames: &[Activation<FrameState>], frame: usize) -> bool
     requires { frame < length frames.now }
-    ensures { (a : Activation Seat) → slice_get frames.now frame ≡ Some a → result ≡ must_wait a.cursor }
+    ensures { (a : Activation FrameState) → slice_get frames.now frame ≡ Some a → result ≡ must_wait a.cursor }
 {
     let seat = &frames[frame].cursor;
     if seat.merged {
@@ -42,7 +42,7 @@ pub fn must_wait(frames: &[Activation<Seat>], frame: usize) -> bool
 /// The frame's own piece arrives at its sync, whose block isn't complete, and the worker is idle.
 pub fn wait_at(
     alloc: Global,
-    board: &mut Board,
+    board: &mut Scheduler,
     worker: usize,
     frame: usize,
 ) -> Result<(), AllocError>
@@ -64,7 +64,7 @@ pub fn wait_at(
 /// The frame's block is complete, and its worker has the block's views; another block begins.
 pub fn sync(
     alloc: Global,
-    board: &mut Board,
+    board: &mut Scheduler,
     worker: usize,
     frame: usize,
 ) -> Result<Event, AllocError>
@@ -87,14 +87,14 @@ pub fn sync(
 // The frame's own piece arrives at its block, unless that has passed.
 fn bring_once(
     alloc: Global,
-    frames: &mut Vec<Activation<Seat>>,
+    frames: &mut Vec<Activation<FrameState>>,
     workers: &mut Vec<Worker>,
     worker: usize,
     frame: usize,
 ) -> Result<(), AllocError>
     requires here { frame < length frames.old.items }
     requires works { worker < length workers.old.items }
-    requires few { (a : Activation Seat) → slice_get frames.old.items frame ≡ Some a → a.cursor.children < 2 ^ 31 }
+    requires few { (a : Activation FrameState) → slice_get frames.old.items frame ≡ Some a → a.cursor.children < 2 ^ 31 }
     ensures quiet { OnOk result (IsQuiet frames.old.items frames.new.items) }
     ensures stands { OnErr result (StandAsBefore frames.old.items frames.new.items) }
     ensures own { OnOk result (WhereOwnMayCome frames.old.items frame (OwnComes frames.old.items frames.new.items workers.old.items workers.new.items worker frame)) }
@@ -109,14 +109,14 @@ fn bring_once(
 // The frame's own piece arrives at its block, if a continuation of that was stolen.
 fn bring_own(
     alloc: Global,
-    frames: &mut Vec<Activation<Seat>>,
+    frames: &mut Vec<Activation<FrameState>>,
     workers: &mut Vec<Worker>,
     worker: usize,
     frame: usize,
 ) -> Result<bool, AllocError>
     requires here { frame < length frames.old.items }
     requires works { worker < length workers.old.items }
-    requires few { (a : Activation Seat) → slice_get frames.old.items frame ≡ Some a → a.cursor.children < 2 ^ 31 }
+    requires few { (a : Activation FrameState) → slice_get frames.old.items frame ≡ Some a → a.cursor.children < 2 ^ 31 }
     ensures frames { OnOk result (IsQuiet frames.old.items frames.new.items) }
     ensures stands { OnErr result (StandAsBefore frames.old.items frames.new.items) }
     ensures workers { length workers.new.items ≡ length workers.old.items }
@@ -130,7 +130,7 @@ fn bring_own(
 /// worker has the block's. Where memory is refused, they are lost.
 pub fn bring(
     alloc: Global,
-    frames: &mut Vec<Activation<Seat>>,
+    frames: &mut Vec<Activation<FrameState>>,
     workers: &mut Vec<Worker>,
     worker: usize,
     frame: usize,
@@ -142,7 +142,7 @@ pub fn bring(
     ensures frames { OnOk result (IsQuiet frames.old.items frames.new.items) }
     ensures stands { OnErr result (StandAsBefore frames.old.items frames.new.items) }
     ensures workers { length workers.new.items ≡ length workers.old.items }
-    ensures brings { IfOk result (λ passes. (a : Activation Seat) → slice_get frames.old.items frame ≡ Some a → MayArrive (block_in a.cursor.join) key last
+    ensures brings { IfOk result (λ passes. (a : Activation FrameState) → slice_get frames.old.items frame ≡ Some a → MayArrive (block_in a.cursor.join) key last
         → PieceComes frames.old.items frames.new.items workers.old.items workers.new.items worker frame key last passes) }
 {
     let views = &mut workers[worker].views;
@@ -152,7 +152,7 @@ pub fn bring(
 // The same, of what is kept of the frame.
 fn bring_to(
     alloc: Global,
-    seat: &mut Seat,
+    seat: &mut FrameState,
     views: &mut Hypermap,
     key: u32,
     last: bool,

@@ -9,24 +9,24 @@ ghost use Rattle.cilk_frames.specs.declared.activation.Activation.{Activation};
 ghost use Rattle.cilk_scheduler.specs.EndParts.{Brings, Seeks};
 ghost use Rattle.cilk_scheduler.specs.Ending.{RetiresOwn};
 ghost use Rattle.cilk_scheduler.specs.Parts.{working};
-ghost use Rattle.cilk_scheduler.specs.Seats.{changed, moved_to};
+ghost use Rattle.cilk_scheduler.specs.FrameStates.{changed, moved_to};
 ghost use Rattle.cilk_scheduler.specs.Stopping.{StandAsBefore};
 ghost use Rattle.cilk_scheduler.specs.Workers.{altered};
-ghost use Rattle.cilk_scheduler.specs.declared.seat.Seat.{Seat};
-ghost use Rattle.cilk_scheduler.specs.declared.seat.Status.TheVariants.{Held};
+ghost use Rattle.cilk_scheduler.specs.declared.frame_state.FrameState.{FrameState};
+ghost use Rattle.cilk_scheduler.specs.declared.frame_state.Status.TheVariants.{Held};
 ghost use Rattle.cilk_schedule.specs.Acts.{IsTouch};
 ghost use Rattle.cilk_schedule.specs.Ends.{PartsTo, EndsFrame, IsOfferedAmong, MayBring};
 ghost use Rattle.cilk_schedule.specs.Sound.{IsQuiet, IsTurn, Makes, SameRest};
 
 use crate::arrivals::leave;
 use cilk_frames::activation::Activation;
-use cilk_scheduler::board::Board;
-use cilk_scheduler::ending::{bring, retire_own, take_back};
-use cilk_scheduler::seat::{Seat, Status, Worker};
-use cilk_scheduler::seats::{finish, move_to, pass};
+use cilk_frames::outcome::outcome;
 use cilk_hypermap::hypermap::Hypermap;
 use cilk_lower::code::Code;
-use cilk_frames::outcome::outcome;
+use cilk_scheduler::ending::{bring, retire_own, take_back};
+use cilk_scheduler::frame_state::{FrameState, Status, Worker};
+use cilk_scheduler::frame_states::{finish, move_to, pass};
+use cilk_scheduler::scheduler::Scheduler;
 use cilk_types::event::Event;
 use std::alloc::{AllocError, Global};
 
@@ -35,7 +35,7 @@ use std::alloc::{AllocError, Global};
 pub fn end(
     alloc: Global,
     code: &Code,
-    board: &mut Board,
+    board: &mut Scheduler,
     worker: usize,
     frame: usize,
     value: i64,
@@ -60,11 +60,11 @@ pub fn end(
 }
 
 // The views lose the reducers that the frame created.
-fn retire_at(code: &Code, frames: &[Activation<Seat>], views: &mut Hypermap, frame: usize)
+fn retire_at(code: &Code, frames: &[Activation<FrameState>], views: &mut Hypermap, frame: usize)
     requires here { frame < length frames.now }
-    requires low { (a : Activation Seat) → slice_get frames.now frame ≡ Some a → a.first < 65536 }
-    requires few { (a : Activation Seat) → slice_get frames.now frame ≡ Some a → (k : ℕ) → a.creator ≡ Some k → let f = function_frame code.now.layout k in length f.reducers ≤ 64 }
-    ensures { (a : Activation Seat) → slice_get frames.now frame ≡ Some a → RetiresOwn code.now.layout a views.old views.new }
+    requires low { (a : Activation FrameState) → slice_get frames.now frame ≡ Some a → a.first < 65536 }
+    requires few { (a : Activation FrameState) → slice_get frames.now frame ≡ Some a → (k : ℕ) → a.creator ≡ Some k → let f = function_frame code.now.layout k in length f.reducers ≤ 64 }
+    ensures { (a : Activation FrameState) → slice_get frames.now frame ≡ Some a → RetiresOwn code.now.layout a views.old views.new }
 {
     retire_own(code.layout(), &frames[frame], views);
 }
@@ -73,7 +73,7 @@ fn retire_at(code: &Code, frames: &[Activation<Seat>], views: &mut Hypermap, fra
 fn depart(
     alloc: Global,
     code: &Code,
-    board: &mut Board,
+    board: &mut Scheduler,
     worker: usize,
     frame: usize,
     value: i64,
@@ -81,7 +81,7 @@ fn depart(
     requires here { frame < length board.old.frames.items }
     requires works { worker < length board.old.workers.items }
     requires low { worker < 2 ^ 32 }
-    requires parent { (a : Activation Seat) → slice_get board.old.frames.items frame ≡ Some a → a.cursor.parent < length board.old.frames.items }
+    requires parent { (a : Activation FrameState) → slice_get board.old.frames.items frame ≡ Some a → a.cursor.parent < length board.old.frames.items }
     requires globals { length code.now.layout.openings ≤ length board.old.cells.items }
     requires few { length code.now.layout.reducers ≤ 64 }
     ensures quiet { OnOk result (IsQuiet board.old.frames.items board.new.frames.items) }
@@ -106,7 +106,7 @@ fn depart(
 fn leave_run(
     alloc: Global,
     code: &Code,
-    board: &mut Board,
+    board: &mut Scheduler,
     worker: usize,
     value: i64,
 ) -> Result<(), AllocError>
@@ -129,13 +129,18 @@ fn leave_run(
 
 // The piece of a stolen child comes to its parent's block. The worker goes on with the parent, if the block passes, and else is
 // idle.
-fn hand_in(alloc: Global, board: &mut Board, worker: usize, frame: usize) -> Result<(), AllocError>
+fn hand_in(
+    alloc: Global,
+    board: &mut Scheduler,
+    worker: usize,
+    frame: usize,
+) -> Result<(), AllocError>
     requires child { 0 < frame }
     requires here { frame < length board.old.frames.items }
     requires works { worker < length board.old.workers.items }
     requires low { worker < 2 ^ 32 }
-    requires parent { (a : Activation Seat) → slice_get board.old.frames.items frame ≡ Some a → a.cursor.parent < length board.old.frames.items }
-    requires stolen { (a : Activation Seat) → slice_get board.old.frames.items frame ≡ Some a → a.cursor.stolen ≡ true }
+    requires parent { (a : Activation FrameState) → slice_get board.old.frames.items frame ≡ Some a → a.cursor.parent < length board.old.frames.items }
+    requires stolen { (a : Activation FrameState) → slice_get board.old.frames.items frame ≡ Some a → a.cursor.stolen ≡ true }
     ensures quiet { OnOk result (IsQuiet board.old.frames.items board.new.frames.items) }
     ensures cells { board.new.cells ≡ board.old.cells }
     ensures rest { SameRest board.old board.new }
@@ -161,7 +166,7 @@ fn hand_in(alloc: Global, board: &mut Board, worker: usize, frame: usize) -> Res
 // whole block's. Where memory is refused, they are lost.
 fn bring_awaited(
     alloc: Global,
-    seat: &mut Seat,
+    seat: &mut FrameState,
     views: &mut Hypermap,
     key: u32,
 ) -> Result<bool, AllocError>
@@ -175,7 +180,7 @@ fn bring_awaited(
 }
 
 // Whether the piece of a stolen child may come to a block with this key.
-fn may_bring(seat: &Seat, key: u32) -> bool
+fn may_bring(seat: &FrameState, key: u32) -> bool
     ensures yes { result ≡ true → MayBring seat.now key }
     ensures no { MayBring seat.now key → result ≡ true }
 {
@@ -186,13 +191,13 @@ fn may_bring(seat: &Seat, key: u32) -> bool
 }
 
 // The worker goes on with the frame that waits for this one, whose continuation is no longer offered.
-fn go_back(board: &mut Board, worker: usize, frame: usize)
+fn go_back(board: &mut Scheduler, worker: usize, frame: usize)
     requires child { 0 < frame }
     requires here { frame < length board.old.frames.items }
     requires works { worker < length board.old.workers.items }
     requires low { worker < 2 ^ 32 }
-    requires parent { (a : Activation Seat) → slice_get board.old.frames.items frame ≡ Some a → a.cursor.parent < length board.old.frames.items }
-    requires kept { (a : Activation Seat) → slice_get board.old.frames.items frame ≡ Some a → a.cursor.stolen ≡ false }
+    requires parent { (a : Activation FrameState) → slice_get board.old.frames.items frame ≡ Some a → a.cursor.parent < length board.old.frames.items }
+    requires kept { (a : Activation FrameState) → slice_get board.old.frames.items frame ≡ Some a → a.cursor.stolen ≡ false }
     ensures quiet { IsQuiet board.old.frames.items board.new.frames.items }
     ensures cells { board.new.cells ≡ board.old.cells }
     ensures rest { SameRest board.old board.new }
@@ -210,7 +215,7 @@ fn go_back(board: &mut Board, worker: usize, frame: usize)
 // The continuation of a frame is no longer offered by the worker that its status names. How many are offered then.
 fn reclaim(
     workers: &mut Vec<Worker>,
-    frames: &[Activation<Seat>],
+    frames: &[Activation<FrameState>],
     offered: usize,
     status: Status,
     frame: u32,
@@ -238,7 +243,7 @@ fn offered_among(status: Status, count: usize) -> bool
 
 /// A worker has a frame.
 pub fn hold(
-    frames: &mut Vec<Activation<Seat>>,
+    frames: &mut Vec<Activation<FrameState>>,
     workers: &mut Vec<Worker>,
     worker: usize,
     frame: u32,

@@ -7,17 +7,22 @@ ghost use Rattle.cilk_schedule.specs.Acts.{MakesEvent};
 ghost use Rattle.cilk_schedule.specs.Sound.{HasCome, SameTicks, Settles};
 
 use cilk_frames::activation::Activation;
-use cilk_scheduler::cells::cell_at;
-use cilk_scheduler::reducers::instance_at;
-use cilk_scheduler::seat::Seat;
-use cilk_scheduler::{cells, reducers};
 use cilk_hypermap::hypermap::Hypermap;
 use cilk_program::syntax::{Place, Reducer};
+use cilk_scheduler::cells::cell_at;
+use cilk_scheduler::frame_state::FrameState;
+use cilk_scheduler::reducers::instance_at;
+use cilk_scheduler::{cells, reducers};
 use cilk_types::event::Event;
 use std::alloc::{AllocError, Global};
 
 /// The frame reads a cell.
-pub fn read(frames: &mut Vec<Activation<Seat>>, cells: &[i64], frame: usize, place: Place) -> Event
+pub fn read(
+    frames: &mut Vec<Activation<FrameState>>,
+    cells: &[i64],
+    frame: usize,
+    place: Place,
+) -> Event
     requires here { frame < length frames.old.items }
     requires comes { HasCome frames.old.items (length cells.now) frame (asks.Read place) }
     ensures settles { Settles frames.old.items frames.new.items (length cells.now) (length cells.now) frame (asks.Read place) }
@@ -30,7 +35,7 @@ pub fn read(frames: &mut Vec<Activation<Seat>>, cells: &[i64], frame: usize, pla
 
 /// The frame writes a cell.
 pub fn write(
-    frames: &mut Vec<Activation<Seat>>,
+    frames: &mut Vec<Activation<FrameState>>,
     cells: &mut Vec<i64>,
     frame: usize,
     place: Place,
@@ -48,7 +53,7 @@ pub fn write(
 
 /// The frame writes its result, into the cell that takes it.
 pub fn write_result(
-    frames: &mut Vec<Activation<Seat>>,
+    frames: &mut Vec<Activation<FrameState>>,
     cells: &mut Vec<i64>,
     frame: usize,
     word: i64,
@@ -68,7 +73,7 @@ pub fn write_result(
 /// The frame creates a reducer.
 pub fn create(
     alloc: Global,
-    frames: &mut Vec<Activation<Seat>>,
+    frames: &mut Vec<Activation<FrameState>>,
     views: &mut Hypermap,
     frame: usize,
     reducer: Reducer,
@@ -87,7 +92,7 @@ pub fn create(
 /// The frame updates a reducer.
 pub fn update(
     alloc: Global,
-    frames: &mut Vec<Activation<Seat>>,
+    frames: &mut Vec<Activation<FrameState>>,
     views: &mut Hypermap,
     frame: usize,
     reducer: Reducer,
@@ -107,7 +112,7 @@ pub fn update(
 /// The frame sets a reducer.
 pub fn set(
     alloc: Global,
-    frames: &mut Vec<Activation<Seat>>,
+    frames: &mut Vec<Activation<FrameState>>,
     views: &mut Hypermap,
     frame: usize,
     reducer: Reducer,
@@ -127,7 +132,7 @@ pub fn set(
 /// The frame reads the number of a reducer's view.
 pub fn value(
     alloc: Global,
-    frames: &mut Vec<Activation<Seat>>,
+    frames: &mut Vec<Activation<FrameState>>,
     views: &mut Hypermap,
     frame: usize,
     reducer: Reducer,
@@ -146,7 +151,7 @@ pub fn value(
 /// The frame prints a number.
 pub fn print(
     alloc: Global,
-    frames: &mut Vec<Activation<Seat>>,
+    frames: &mut Vec<Activation<FrameState>>,
     views: &mut Hypermap,
     frame: usize,
     word: i64,

@@ -11,12 +11,12 @@
 //! machine.choose(alloc, Choice::Steal(2, 0))?;                  // Skipped: nothing is offered
 //! ```
 //!
-//! The state is a [`cilk_scheduler::board::Board`], and each choice puts together what that crate's functions do with its parts.
+//! The state is a [`cilk_scheduler::scheduler::Scheduler`], and each choice puts together what that crate's functions do with its parts.
 //! `specs/Sound.antt` says what a board keeps true, so that its next choice is safe.
 //!
 //! What a run of a stepwise machine shows: the events of each frame, which is asked for by its path, the joins and the outcome.
 //!
-//! A [`cilk_scheduler::board::Board`] has frames, cells and reducers by numbers that the run gives as frames begin. A frame's
+//! A [`cilk_scheduler::scheduler::Scheduler`] has frames, cells and reducers by numbers that the run gives as frames begin. A frame's
 //! path has an ordinal for each frame from the first one's child down to it; on each schedule it is the same.
 //! [`showing::show`] gathers what a board shows into a [`showing::Shown`], which is asked by paths.
 //!

@@ -22,14 +22,14 @@ ghost use Rattle.cilk_schedule.specs.Ends.{EndsAreSteps};
 ghost use Rattle.cilk_schedule.specs.Starting.{StartsAreSteps};
 ghost use Rattle.cilk_schedule.specs.Passing.{SkipsAreSteps, StealsAreSteps, SyncsAreSteps, WaitsAreSteps};
 
+use crate::naming::path;
 use crate::opening::open;
 use crate::running::choose;
-use cilk_scheduler::board::Board;
-use cilk_scheduler::choice::{Choice, Stop, Told};
-use cilk_scheduler::workers::held_by;
-use cilk_lower::code::Code;
-use crate::naming::path;
 use crate::showing::{Shown, show};
+use cilk_lower::code::Code;
+use cilk_scheduler::choice::{Choice, Stop, Told};
+use cilk_scheduler::scheduler::Scheduler;
+use cilk_scheduler::workers::held_by;
 use cilk_types::input::Input;
 use cilk_types::outcome::Outcome;
 use std::alloc::{AllocError, Global};
@@ -39,7 +39,7 @@ use std::alloc::{AllocError, Global};
 pub struct Machine<'a> {
     code: &'a Code,
     input: &'a Input,
-    board: Board,
+    board: Scheduler,
 }
 
 impl<'a> Machine<'a> {

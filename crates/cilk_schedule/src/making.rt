@@ -14,10 +14,10 @@ use crate::arrivals::sync;
 use crate::ending::end;
 use crate::events::{create, print, read, set, update, value, write, write_result};
 use crate::starting::{start_function, start_turns};
-use cilk_scheduler::board::Board;
-use cilk_scheduler::seats::begin_strand;
-use cilk_frames::brief::Brief;
+use cilk_frames::small_ask::SmallAsk;
 use cilk_lower::code::Code;
+use cilk_scheduler::frame_states::begin_strand;
+use cilk_scheduler::scheduler::Scheduler;
 use cilk_types::event::Event;
 use std::alloc::{AllocError, Global};
 
@@ -25,7 +25,7 @@ use std::alloc::{AllocError, Global};
 pub fn make(
     alloc: Global,
     code: &Code,
-    board: &mut Board,
+    board: &mut Scheduler,
     worker: usize,
     place: u32,
 ) -> Result<Event, AllocError>
@@ -46,40 +46,45 @@ pub fn make(
         return start_function(alloc, code, board, worker, place);
     };
     match *brief {
-        Brief::Begin => {
+        SmallAsk::Begin => {
             begin_strand(&mut board.frames, frame);
             Ok(Event::Begin { frame: place + 1 })
         }
-        Brief::Resume => {
+        SmallAsk::Resume => {
             begin_strand(&mut board.frames, frame);
             Ok(Event::Resume { parent: place + 1 })
         }
-        Brief::Read(cell) => Ok(read(&mut board.frames, board.cells.as_slice(), frame, cell)),
-        Brief::Write(cell, word) => {
+        SmallAsk::Read(cell) => Ok(read(&mut board.frames, board.cells.as_slice(), frame, cell)),
+        SmallAsk::Write(cell, word) => {
             Ok(write(&mut board.frames, &mut board.cells, frame, cell, word))
         }
-        Brief::Result(word) => Ok(write_result(&mut board.frames, &mut board.cells, frame, word)),
-        Brief::Turns(how, part) => start_turns(alloc, code, board, worker, place, how, part),
-        Brief::Sync => sync(alloc, board, worker, frame),
-        Brief::End(word) => end(alloc, code, board, worker, frame, word),
-        Brief::Fault(_) => unreachable!(),
-        Brief::Create(reducer) => {
+        SmallAsk::Result(word) => Ok(write_result(
+            &mut board.frames,
+            &mut board.cells,
+            frame,
+            word,
+        )),
+        SmallAsk::Turns(how, part) => start_turns(alloc, code, board, worker, place, how, part),
+        SmallAsk::Sync => sync(alloc, board, worker, frame),
+        SmallAsk::End(word) => end(alloc, code, board, worker, frame, word),
+        SmallAsk::Fault(_) => unreachable!(),
+        SmallAsk::Create(reducer) => {
             let views = &mut board.workers[worker].views;
             create(alloc, &mut board.frames, views, frame, reducer)
         }
-        Brief::Update(reducer, word) => {
+        SmallAsk::Update(reducer, word) => {
             let views = &mut board.workers[worker].views;
             update(alloc, &mut board.frames, views, frame, reducer, word)
         }
-        Brief::Set(reducer, word) => {
+        SmallAsk::Set(reducer, word) => {
             let views = &mut board.workers[worker].views;
             set(alloc, &mut board.frames, views, frame, reducer, word)
         }
-        Brief::Value(reducer) => {
+        SmallAsk::Value(reducer) => {
             let views = &mut board.workers[worker].views;
             value(alloc, &mut board.frames, views, frame, reducer)
         }
-        Brief::Print(word) => {
+        SmallAsk::Print(word) => {
             let views = &mut board.workers[worker].views;
             print(alloc, &mut board.frames, views, frame, word)
         }

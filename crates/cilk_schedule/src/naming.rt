@@ -6,7 +6,7 @@ ghost use Rattle.cilk_runs.specs.Runs.{Name};
 ghost use Rattle.cilk_schedule.specs.Showing.{IsCellOf, IsNamedAs, ordinal_of, reducer_of};
 
 use cilk_frames::activation::Activation;
-use cilk_scheduler::seat::Seat;
+use cilk_scheduler::frame_state::FrameState;
 use cilk_types::event::{Cell, Event, FrameNo, Instance};
 use std::alloc::{AllocError, Global};
 
@@ -43,7 +43,7 @@ pub enum ShownEvent {
 }
 
 /// An event by names. The first so many cells are global.
-pub fn named(frames: &[Activation<Seat>], globals: usize, event: Event) -> ShownEvent
+pub fn named(frames: &[Activation<FrameState>], globals: usize, event: Event) -> ShownEvent
     ensures { IsNamedAs frames.now globals event result }
 {
     match event {
@@ -88,7 +88,7 @@ pub fn named(frames: &[Activation<Seat>], globals: usize, event: Event) -> Shown
 }
 
 // The ordinal of the frame with this number; 0 where there is none.
-fn ordinal(frames: &[Activation<Seat>], number: FrameNo) -> u32
+fn ordinal(frames: &[Activation<FrameState>], number: FrameNo) -> u32
     ensures { result ≡ ordinal_of frames.now number }
 {
     let Some(place) = number.checked_sub(1) else {
@@ -101,7 +101,7 @@ fn ordinal(frames: &[Activation<Seat>], number: FrameNo) -> u32
 }
 
 // A cell that isn't global is in the last frame whose first cell isn't past it.
-fn named_cell(frames: &[Activation<Seat>], globals: usize, cell: Cell) -> CellName
+fn named_cell(frames: &[Activation<FrameState>], globals: usize, cell: Cell) -> CellName
     ensures { IsCellOf frames.now globals cell result }
 {
     if (cell as usize) < globals {
@@ -134,7 +134,7 @@ fn named_reducer(instance: Instance) -> ReducerName
 /// The path of the frame at a place: the ordinals of the frames from the first one's child down to it.
 pub fn path(
     alloc: Global,
-    frames: &[Activation<Seat>],
+    frames: &[Activation<FrameState>],
     frame: usize,
 ) -> Result<Vec<u32>, AllocError>
     ensures { (name : ℕ → Name) → AreNamed frames.now name → frame < length frames.now → IfOk result (λ list. list.items ≡ name frame) }

@@ -2,25 +2,25 @@
 
 ghost use Rattle.std.specs.Prelude.{◌≡◌, ◌+◌, ◌-◌, ◌≤◌, ◌<◌, ◌++◌, ℕ, ℤ, pos, List, None, Some, length, replicate, slice_get, IfOk, OnOk};
 ghost use Rattle.cilk_scheduler.specs.Parts.{OpensAs};
-ghost use Rattle.cilk_scheduler.specs.declared.seat.Worker as seat;
+ghost use Rattle.cilk_scheduler.specs.declared.frame_state.Worker as seat;
 ghost use Rattle.cilk_program.specs.Syntax.{Source};
 ghost use Rattle.cilk_schedule.specs.Reached.{HasOpened};
 ghost use Rattle.cilk_schedule.specs.Sound.{IsCode, IsCodeOf, Runs};
 
-use cilk_frames::beginnings::root;
-use cilk_scheduler::beginning::add_cells;
-use cilk_scheduler::board::Board;
-use cilk_scheduler::seat::{Seat, Worker};
 use cilk_frames::asked::AskSlot;
+use cilk_frames::beginnings::root;
 use cilk_frames::cursor::Cursor;
 use cilk_hypermap::hypermap::Hypermap;
 use cilk_lower::code::Code;
+use cilk_scheduler::beginning::add_cells;
+use cilk_scheduler::frame_state::{FrameState, Worker};
 use cilk_scheduler::offer_list::Offers;
+use cilk_scheduler::scheduler::Scheduler;
 use cilk_types::invocation::Invocation;
 use std::alloc::{AllocError, Global};
 
 /// The first worker holds the first frame, and the others are idle.
-pub fn open(alloc: Global, code: &Code, workers: u32) -> Result<Board, AllocError>
+pub fn open(alloc: Global, code: &Code, workers: u32) -> Result<Scheduler, AllocError>
     requires { IsCode code.now }
     ensures runs { IfOk result (λ b. (inputs : List ℤ) → Runs code.now inputs b) }
     ensures workers { IfOk result (λ b. length b.workers.items ≡ workers) }
@@ -30,12 +30,12 @@ pub fn open(alloc: Global, code: &Code, workers: u32) -> Result<Board, AllocErro
     let layout = code.layout();
     let mut cells = Vec::from_slice(alloc, layout.openings.as_slice())?;
     add_cells(&mut cells, layout.function_cells(layout.main))?;
-    let seat = Seat::new(0, 0, Invocation::Call, 0, Cursor::root(alloc, code)?);
+    let seat = FrameState::new(0, 0, Invocation::Call, 0, Cursor::root(alloc, code)?);
     let globals = layout.openings.len() as u32;
     let reducers = layout.reducers.len() as u32;
     let mut frames = Vec::new(alloc);
     frames.push(root(alloc, seat, globals, reducers, layout.main))?;
-    Ok(Board {
+    Ok(Scheduler {
         frames,
         cells,
         workers: first_workers(alloc, workers)?,

@@ -7,10 +7,10 @@ ghost use Rattle.cilk_program.specs.Sources.{source};
 ghost use Rattle.cilk_schedule.specs.Played.{IsUnstopped};
 
 use crate::fault::PlayFault;
-use cilk_scheduler::choice::{Choice, Stop};
+use crate::machine::Machine;
 use cilk_lower::lower::lower;
 use cilk_program::program::Program;
-use crate::machine::Machine;
+use cilk_scheduler::choice::{Choice, Stop};
 use cilk_script::choices::{Choices, Next};
 use cilk_script::script::Step;
 use cilk_types::input::Input;

@@ -9,7 +9,7 @@ ghost use Rattle.cilk_scheduler.specs.declared.choice.Stop.TheVariants as stops;
 ghost use Rattle.cilk_scheduler.specs.Asking.{refusal};
 ghost use Rattle.cilk_scheduler.specs.Parts.{must_wait};
 ghost use Rattle.cilk_scheduler.specs.declared.choice.Told.TheVariants as told;
-ghost use Rattle.cilk_scheduler.specs.declared.seat.Seat.{Seat};
+ghost use Rattle.cilk_scheduler.specs.declared.frame_state.FrameState.{FrameState};
 ghost use Rattle.cilk_types.specs.declared.event.Event.{Event};
 ghost use Rattle.cilk_types.specs.declared.event.Event.TheVariants as events;
 ghost use Rattle.cilk_scheduler.specs.declared.choice.Choice.TheVariants as choices;
@@ -26,15 +26,15 @@ use crate::arrivals::{must_wait, wait_at};
 use crate::making::make;
 use crate::thieves::steal;
 use cilk_frames::activation::Activation;
-use cilk_scheduler::asking::{go_on, refusal};
-use cilk_scheduler::board::Board;
-use cilk_scheduler::choice::{Act, Choice, Stop, Strand, Told};
-use cilk_scheduler::journal::{note, uncounted};
-use cilk_scheduler::seat::Seat;
-use cilk_scheduler::workers::held_by;
 use cilk_frames::asked::AskSlot;
-use cilk_frames::brief::Brief;
+use cilk_frames::small_ask::SmallAsk;
 use cilk_lower::code::Code;
+use cilk_scheduler::asking::{go_on, refusal};
+use cilk_scheduler::choice::{Act, Choice, Stop, Strand, Told};
+use cilk_scheduler::frame_state::FrameState;
+use cilk_scheduler::journal::{note, uncounted};
+use cilk_scheduler::scheduler::Scheduler;
+use cilk_scheduler::workers::held_by;
 use cilk_types::fault::Fault;
 use cilk_types::input::Input;
 use std::alloc::Global;
@@ -44,7 +44,7 @@ pub fn choose(
     alloc: Global,
     code: &Code,
     input: &Input,
-    board: &mut Board,
+    board: &mut Scheduler,
     choice: Choice,
 ) -> Result<Told, Stop>
     requires { board.old.stopped ≡ None → Runs code.now input.now board.old }
@@ -88,7 +88,7 @@ fn run(
     alloc: Global,
     code: &Code,
     input: &Input,
-    board: &mut Board,
+    board: &mut Scheduler,
     worker: u32,
 ) -> Result<Told, Stop>
     requires { Runs code.now input.now board.old }
@@ -123,7 +123,7 @@ fn run(
 }
 
 // The frame goes on to what it asks for next.
-fn come(code: &Code, input: &Input, board: &mut Board, frame: u32)
+fn come(code: &Code, input: &Input, board: &mut Scheduler, frame: u32)
     requires runs { Runs code.now input.now board.old }
     requires ready { (worker : ℕ) × IsReadyAt board.old worker frame }
     ensures asked { IsAsked code.now input.now board.new frame }
@@ -143,7 +143,7 @@ fn come(code: &Code, input: &Input, board: &mut Board, frame: u32)
 fn act(
     alloc: Global,
     code: &Code,
-    board: &mut Board,
+    board: &mut Scheduler,
     worker: usize,
     frame: u32,
 ) -> Result<Told, Stop>
@@ -179,7 +179,7 @@ fn act(
 }
 
 // The place of the frame that a worker holds and can go on with.
-fn ready(board: &Board, worker: u32) -> Option<u32>
+fn ready(board: &Scheduler, worker: u32) -> Option<u32>
     ensures { MatchOption result ((k : ℕ) → IsReadyAt board.now worker k → ⊥) (λ k. IsReadyAt board.now worker k) }
 {
     let frame = held_by(board.workers.as_slice(), worker)?;
@@ -191,12 +191,12 @@ fn ready(board: &Board, worker: u32) -> Option<u32>
 }
 
 // Whether the frame has come to a sync at which it has to wait.
-fn stays_behind(board: &Board, frame: usize) -> bool
+fn stays_behind(board: &Scheduler, frame: usize) -> bool
     requires { frame < length board.now.frames.items }
     ensures waits { IsTrue result → (board.now.asked ≡ asks.Sync)
-        × ((a : Activation Seat) → slice_get board.now.frames.items frame ≡ Some a → must_wait a.cursor ≡ true) }
+        × ((a : Activation FrameState) → slice_get board.now.frames.items frame ≡ Some a → must_wait a.cursor ≡ true) }
     ensures passes { result ≡ false → board.now.asked ≡ asks.Sync
-        → (a : Activation Seat) → slice_get board.now.frames.items frame ≡ Some a → must_wait a.cursor ≡ false }
+        → (a : Activation FrameState) → slice_get board.now.frames.items frame ≡ Some a → must_wait a.cursor ≡ false }
 {
     at_sync(&board.asked) && must_wait(board.frames.as_slice(), frame)
 }
@@ -207,19 +207,19 @@ fn at_sync(asked: &AskSlot) -> bool
     ensures told { asked.now ≡ asks.Sync → result ≡ true }
 {
     match asked.brief() {
-        Some(Brief::Sync) => true,
+        Some(SmallAsk::Sync) => true,
         _ => false,
     }
 }
 
 // The fault that stands in place of what a frame asks for, if any.
-fn refused(code: &Code, board: &Board, frame: usize) -> Option<Fault>
+fn refused(code: &Code, board: &Scheduler, frame: usize) -> Option<Fault>
     requires here { frame < length board.now.frames.items }
-    requires few { (a : Activation Seat) → slice_get board.now.frames.items frame ≡ Some a → (a.cursor.counted ≤ a.cursor.took) × (board.now.ticks + a.cursor.took < 2 ^ 32) }
+    requires few { (a : Activation FrameState) → slice_get board.now.frames.items frame ≡ Some a → (a.cursor.counted ≤ a.cursor.took) × (board.now.ticks + a.cursor.took < 2 ^ 32) }
     requires events { length board.now.journal.items < 2 ^ 63 }
     requires frames { length board.now.frames.items < 2 ^ 63 }
     requires cells { length board.now.cells.items < 2 ^ 63 }
-    ensures { (a : Activation Seat) → slice_get board.now.frames.items frame ≡ Some a → result ≡ refusal (board.now.ticks + (a.cursor.took - a.cursor.counted)) (length board.now.journal.items) (length board.now.frames.items) (length board.now.cells.items) code.now.layout board.now.asked }
+    ensures { (a : Activation FrameState) → slice_get board.now.frames.items frame ≡ Some a → result ≡ refusal (board.now.ticks + (a.cursor.took - a.cursor.counted)) (length board.now.journal.items) (length board.now.frames.items) (length board.now.cells.items) code.now.layout board.now.asked }
 {
     let ticks = board.ticks + uncounted(board.frames.as_slice(), frame);
     refusal(
@@ -233,10 +233,10 @@ fn refused(code: &Code, board: &Board, frame: usize) -> Option<Fault>
 }
 
 // The stop of a frame by a fault, at its latest strand.
-fn stop_at(frames: &[Activation<Seat>], frame: u32, fault: Fault) -> Stop
+fn stop_at(frames: &[Activation<FrameState>], frame: u32, fault: Fault) -> Stop
     requires here { frame < length frames.now }
     requires few { length frames.now < 2 ^ 31 }
-    ensures { (a : Activation Seat) → slice_get frames.now frame ≡ Some a → result ≡ stops.At fault (record { frame = frame + 1; number = latest a.cursor.strands }) }
+    ensures { (a : Activation FrameState) → slice_get frames.now frame ≡ Some a → result ≡ stops.At fault (record { frame = frame + 1; number = latest a.cursor.strands }) }
 {
     let strands = frames[frame as usize].cursor.strands;
     Stop::At {

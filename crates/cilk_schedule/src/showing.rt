@@ -8,17 +8,17 @@ ghost use Rattle.cilk_runs.specs.Machine.{Frame, HasEnd, State, deeds_at};
 ghost use Rattle.cilk_runs.specs.Runs.{Name};
 ghost use Rattle.cilk_runs.specs.Reducers.{View};
 ghost use Rattle.cilk_runs.specs.Steps.{outcome_in};
-ghost use Rattle.cilk_runs.specs.Worlds.{World};
+ghost use Rattle.cilk_runs.specs.FrameEnvs.{FrameEnv};
 ghost use Rattle.cilk_schedule.specs.Gathering.{AddsChild, AreGathered, Gathers, HaveLinks};
 ghost use Rattle.cilk_schedule.specs.Links.{links_in, links_of};
-ghost use Rattle.cilk_schedule.specs.Showing.{AreLinked, AreShown, ShowsBoard, ShowsRun, joins_child};
+ghost use Rattle.cilk_schedule.specs.Showing.{AreLinked, AreShown, ShowsScheduler, ShowsRun, joins_child};
 ghost use Rattle.cilk_schedule.specs.declared.showing.ShownFrame.{ShownFrame};
 
 use crate::naming::{ShownEvent, named};
 use cilk_frames::activation::Activation;
-use cilk_scheduler::board::Board;
-use cilk_scheduler::seat::{JournalEntry, Seat};
 use cilk_frames::outcome::copied;
+use cilk_scheduler::frame_state::{FrameState, JournalEntry};
+use cilk_scheduler::scheduler::Scheduler;
 use cilk_types::outcome::Outcome;
 use std::alloc::{AllocError, Global};
 
@@ -48,7 +48,7 @@ impl Shown {
     /// What the first frame's end left, once it has ended.
     pub fn outcome(&self) -> Option<&Outcome>
         ensures kept { MatchOption result (self.now.outcome ≡ None) (λ left. self.now.outcome ≡ Some left.now) }
-        ensures left { (p : Source) (name : ℕ → Name) (s : State World View) → ShowsRun p name s self.now → MatchOption result (¬ (HasEnd (deeds_at (s.frames [])))) (λ left. HasEnd (deeds_at (s.frames [])) × (left.now ≡ outcome_in p s)) }
+        ensures left { (p : Source) (name : ℕ → Name) (s : State FrameEnv View) → ShowsRun p name s self.now → MatchOption result (¬ (HasEnd (deeds_at (s.frames [])))) (λ left. HasEnd (deeds_at (s.frames [])) × (left.now ≡ outcome_in p s)) }
     {
         self.outcome.as_ref()
     }
@@ -72,8 +72,8 @@ impl Shown {
     /// The events of a frame in order, if it has begun: the frame by its path, which has an ordinal for each frame from the
     /// first one's child down.
     pub fn events(&self, path: &[u32]) -> Option<&[ShownEvent]>
-        ensures { (p : Source) (name : ℕ → Name) (s : State World View) → ShowsRun p name s self.now →
-            MatchOption result (s.frames path.now ≡ None) (λ events. (x : Frame World) × (s.frames path.now ≡ Some x) × AreShown name (length self.now.frames.items) path.now 1 x.deeds events.now) }
+        ensures { (p : Source) (name : ℕ → Name) (s : State FrameEnv View) → ShowsRun p name s self.now →
+            MatchOption result (s.frames path.now ≡ None) (λ events. (x : Frame FrameEnv) × (s.frames path.now ≡ Some x) × AreShown name (length self.now.frames.items) path.now 1 x.deeds events.now) }
     {
         let place = self.place(path)?;
         let frame = self.frames.get(place)?;
@@ -82,7 +82,7 @@ impl Shown {
 
     /// Whether a frame has begun and a sync has joined it: the frame by its path. It takes the events of the frame's parent one by one.
     pub fn is_joined(&self, path: &[u32]) -> bool
-        ensures joined { (p : Source) (name : ℕ → Name) (s : State World View) (n : Name) (q : ℕ) → ShowsRun p name s self.now → path.now ≡ n ++ q ∷ [] → times path.now s.joins ≡ cond result 1 0 }
+        ensures joined { (p : Source) (name : ℕ → Name) (s : State FrameEnv View) (n : Name) (q : ℕ) → ShowsRun p name s self.now → path.now ≡ n ++ q ∷ [] → times path.now s.joins ≡ cond result 1 0 }
         ensures first { path.now ≡ [] → result ≡ false }
     {
         let Some((ordinal, parent)) = path.split_last() else {
@@ -135,10 +135,10 @@ fn joins_child(events: &[ShownEvent], ordinal: u32) -> bool
 
 /// What a board shows. The first so many cells are global. The time is linear in frames and events, but for the search for a
 /// cell's frame.
-pub fn show(alloc: Global, board: &Board, globals: usize) -> Result<Shown, AllocError>
+pub fn show(alloc: Global, board: &Scheduler, globals: usize) -> Result<Shown, AllocError>
     ensures outcome { IfOk result (λ shown. shown.outcome ≡ board.now.outcome) }
     ensures links { IfOk result (λ shown. links_in shown.frames.items ≡ links_of board.now.frames.items) }
-    ensures run { IfOk result (ShowsBoard globals board.now) }
+    ensures run { IfOk result (ShowsScheduler globals board.now) }
 {
     let mut frames = links(alloc, board.frames.as_slice())?;
     'each: for entry in board.journal.as_slice() {
@@ -159,7 +159,7 @@ fn left(alloc: Global, outcome: &Option<Outcome>) -> Result<Option<Outcome>, All
 }
 
 // The frames' links, with no events yet.
-fn links(alloc: Global, frames: &[Activation<Seat>]) -> Result<Vec<ShownFrame>, AllocError>
+fn links(alloc: Global, frames: &[Activation<FrameState>]) -> Result<Vec<ShownFrame>, AllocError>
     ensures { IfOk result (λ list. HaveLinks frames.now (length frames.now) list.items) }
 {
     let mut list = Vec::with_capacity(alloc, frames.len())?;
@@ -194,7 +194,7 @@ fn add_child(list: &mut Vec<ShownFrame>, parent: u32) -> Result<(), AllocError>
 
 // An event goes to its frame.
 fn place(
-    frames: &[Activation<Seat>],
+    frames: &[Activation<FrameState>],
     globals: usize,
     list: &mut Vec<ShownFrame>,
     entry: JournalEntry,

@@ -9,11 +9,11 @@ ghost use Rattle.cilk_schedule.specs.Acts.{IsTouch};
 ghost use Rattle.cilk_schedule.specs.Sound.{IsTurn, Makes, SameRest};
 ghost use Rattle.cilk_schedule.specs.Starting.{Started};
 
-use cilk_scheduler::beginning::begin;
-use cilk_scheduler::board::Board;
-use cilk_scheduler::invoking::{Starter, function_child, turns_child};
 use cilk_lower::code::Code;
 use cilk_program::ask::LoopPart;
+use cilk_scheduler::beginning::begin;
+use cilk_scheduler::invoking::{Starter, function_child, turns_child};
+use cilk_scheduler::scheduler::Scheduler;
 use cilk_types::event::Event;
 use cilk_types::invocation::Invocation;
 use std::alloc::{AllocError, Global};
@@ -22,7 +22,7 @@ use std::alloc::{AllocError, Global};
 pub fn start_function(
     alloc: Global,
     code: &Code,
-    board: &mut Board,
+    board: &mut Scheduler,
     worker: usize,
     frame: u32,
 ) -> Result<Event, AllocError>
@@ -53,7 +53,7 @@ pub fn start_function(
 pub fn start_turns(
     alloc: Global,
     code: &Code,
-    board: &mut Board,
+    board: &mut Scheduler,
     worker: usize,
     frame: u32,
     how: Invocation,

@@ -10,8 +10,8 @@ ghost use Rattle.cilk_scheduler.specs.Workers.{IsLocated, offers};
 ghost use Rattle.cilk_scheduler.specs.declared.choice.Choice.TheVariants as choices;
 ghost use Rattle.cilk_scheduler.specs.declared.choice.Stop.TheVariants as stops;
 ghost use Rattle.cilk_scheduler.specs.declared.choice.Told.TheVariants as told;
-ghost use Rattle.cilk_scheduler.specs.declared.seat.Seat.{Seat};
-ghost use Rattle.cilk_scheduler.specs.declared.seat.Worker.{Worker};
+ghost use Rattle.cilk_scheduler.specs.declared.frame_state.FrameState.{FrameState};
+ghost use Rattle.cilk_scheduler.specs.declared.frame_state.Worker.{Worker};
 ghost use Rattle.cilk_schedule.specs.Choices.{CanSteal};
 ghost use Rattle.cilk_schedule.specs.Faults.{KeepsTold};
 ghost use Rattle.cilk_schedule.specs.Passing.{HasNoView, OffersLess, Robs, StealsAreSteps};
@@ -19,18 +19,18 @@ ghost use Rattle.cilk_schedule.specs.Sound.{IsQuiet, Runs};
 
 use crate::ending::hold;
 use cilk_frames::activation::Activation;
-use cilk_scheduler::board::Board;
+use cilk_hypermap::hypermap::Hypermap;
 use cilk_scheduler::choice::{Stop, Told};
+use cilk_scheduler::frame_state::{FrameState, Worker};
+use cilk_scheduler::frame_states::rob;
 use cilk_scheduler::offers::locate;
-use cilk_scheduler::seat::{Seat, Worker};
-use cilk_scheduler::seats::rob;
+use cilk_scheduler::scheduler::Scheduler;
 use cilk_scheduler::stealing::await_last;
 use cilk_scheduler::workers::is_idle;
-use cilk_hypermap::hypermap::Hypermap;
 use std::alloc::{AllocError, Global};
 
 /// An idle worker takes the continuation at this place, with no views, if there is one.
-pub fn steal(alloc: Global, board: &mut Board, worker: u32, place: usize) -> Result<Told, Stop>
+pub fn steal(alloc: Global, board: &mut Scheduler, worker: u32, place: usize) -> Result<Told, Stop>
     requires { (code : CodeView) × (inputs : List ℤ) × Runs code inputs board.old }
     ensures runs { IfOk result (λ told. (code : CodeView) (inputs : List ℤ) → Runs code inputs board.old → Runs code inputs board.new) }
     ensures skipped { IfOk result (λ t. t ≡ told.Skipped → board.new ≡ board.old) }
@@ -66,7 +66,7 @@ struct Offer {
 }
 
 // The continuation at this place among all, if the worker is idle and may take it.
-fn find(board: &Board, worker: u32, place: usize) -> Option<Offer>
+fn find(board: &Scheduler, worker: u32, place: usize) -> Option<Offer>
     ensures can { MatchOption result ((k : ℕ) → CanSteal board.now worker place k → ⊥) (λ found. CanSteal board.now worker place found.frame) }
     ensures stands { IfSome result (λ found. (g : IsLocated board.now.workers.items place found.victim found.index) × (g.1 ≡ found.frame)) }
 {
@@ -88,10 +88,14 @@ fn find(board: &Board, worker: u32, place: usize) -> Option<Offer>
 }
 
 // The last child of a frame loses the continuation beside it, and its piece is awaited at the frame's block.
-fn rob_at(alloc: Global, frames: &mut Vec<Activation<Seat>>, frame: usize) -> Result<(), AllocError>
+fn rob_at(
+    alloc: Global,
+    frames: &mut Vec<Activation<FrameState>>,
+    frame: usize,
+) -> Result<(), AllocError>
     requires here { frame < length frames.old.items }
-    requires opens { (a : Activation Seat) → slice_get frames.old.items frame ≡ Some a → IsOpen (block_in a.cursor.join) a.cursor.children }
-    requires last { (a : Activation Seat) → slice_get frames.old.items frame ≡ Some a → a.cursor.last < length frames.old.items }
+    requires opens { (a : Activation FrameState) → slice_get frames.old.items frame ≡ Some a → IsOpen (block_in a.cursor.join) a.cursor.children }
+    requires last { (a : Activation FrameState) → slice_get frames.old.items frame ≡ Some a → a.cursor.last < length frames.old.items }
     ensures quiet { OnOk result (IsQuiet frames.old.items frames.new.items) }
     ensures robs { OnOk result (Robs frames.old.items frames.new.items frame) }
     ensures stands { OnErr result (StandAsBefore frames.old.items frames.new.items) }
@@ -111,9 +115,9 @@ fn offered_at(workers: &[Worker], worker: usize, index: usize) -> Option<u32>
 }
 
 // Whether a continuation of the frame may be stolen, beside its last child.
-fn may_steal(frames: &[Activation<Seat>], frame: usize) -> bool
-    ensures yes { IsTrue result → (a : Activation Seat) × (slice_get frames.now frame ≡ Some a) × IsOpen (block_in a.cursor.join) a.cursor.children }
-    ensures no { (a : Activation Seat) → slice_get frames.now frame ≡ Some a → IsOpen (block_in a.cursor.join) a.cursor.children → result ≡ true }
+fn may_steal(frames: &[Activation<FrameState>], frame: usize) -> bool
+    ensures yes { IsTrue result → (a : Activation FrameState) × (slice_get frames.now frame ≡ Some a) × IsOpen (block_in a.cursor.join) a.cursor.children }
+    ensures no { (a : Activation FrameState) → slice_get frames.now frame ≡ Some a → IsOpen (block_in a.cursor.join) a.cursor.children → result ≡ true }
 {
     let Some(seat) = frames.get(frame) else {
         return false;

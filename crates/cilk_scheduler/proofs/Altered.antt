@@ -9,9 +9,9 @@ use Rattle.std.specs.Prelude.{remove}
 use Rattle.std.proofs.lemmas.List.{map-append}
 use Rattle.std.proofs.lemmas.List.Sums.{sum_by-cons}
 use Rattle.cilk_runs.specs.Runs.{Name, same_name}
-use Rattle.cilk_scheduler.specs.declared.seat.Worker.{Worker}
-use Rattle.cilk_scheduler.specs.Boards.{offers_of}
-use Rattle.cilk_scheduler.specs.Desks.{all_offered, withdrawn, without}
+use Rattle.cilk_scheduler.specs.declared.frame_state.Worker.{Worker}
+use Rattle.cilk_scheduler.specs.Schedulers.{offers_of}
+use Rattle.cilk_scheduler.specs.WorkerTables.{all_offered, withdrawn, without}
 use Rattle.cilk_scheduler.specs.Workers.{altered, offers}
 
 more_of : (y z : ℕ) (l : List ℕ) → y + 1 ≡ z → sum (y ∷ l) + 1 ≡ sum (z ∷ l)

@@ -13,10 +13,10 @@ use Rattle.cilk_join.specs.Rows.{Wait, Stands}
 use Rattle.cilk_runs.specs.Runs.{Name, same_name, Reads, Writes, Syncs, Ends, Passes, Deed, Does, Invokes}
 use Rattle.cilk_runs.proofs.Basics.{same_name-refl, same_name-eq}
 use Rattle.cilk_runs.specs.Reducers.{View, views_of}
-use Rattle.cilk_runs.specs.Worlds.{World}
+use Rattle.cilk_runs.specs.FrameEnvs.{FrameEnv}
 use Rattle.cilk_scheduler.specs.Blocks.{Apart, IsRun, Lays, NotIn, stolen_in}
-use Rattle.cilk_scheduler.specs.Boards.{greatest}
-use Rattle.cilk_scheduler.specs.Desks.{IsIn, without}
+use Rattle.cilk_scheduler.specs.Schedulers.{greatest}
+use Rattle.cilk_scheduler.specs.WorkerTables.{IsIn, without}
 use Rattle.cilk_scheduler.proofs.Spawned.{greatest_more}
 
 module _ (kind : MonoidKind) (kid kid' : ℕ → View) (there there' : ℕ → Bool) (own own' : View) (owns : own' ≡ own) where
@@ -36,7 +36,7 @@ among_last (j ∷ ks) k q loose is all (inl e) = all q (inl e)
 among_last (j ∷ ks) k q loose is all (inr h) = among_last ks k q loose is (λ z at. all z (inr at)) h
 
 -- the continuations beside a block's stolen children were stolen
-pub stolen_among : (loose : ℕ → Bool) (k : ℕ) (ks : List ℕ) (ds : List (Deed World)) (q : ℕ) → ((z : ℕ) → Stands ks z → loose z ≡ true) → Stands (stolen_in loose k ks ds) q → loose q ≡ true
+pub stolen_among : (loose : ℕ → Bool) (k : ℕ) (ks : List ℕ) (ds : List (Deed FrameEnv)) (q : ℕ) → ((z : ℕ) → Stands ks z → loose z ≡ true) → Stands (stolen_in loose k ks ds) q → loose q ≡ true
 stolen_among loose k ks [] q all h = all q h
 stolen_among loose k ks (Does (Reads c v) ∷ ds) q all h = stolen_among loose k ks ds q all h
 stolen_among loose k ks (Does (Writes c v) ∷ ds) q all h = stolen_among loose k ks ds q all h
@@ -85,7 +85,7 @@ apart_cond : (t : Bool) (k : ℕ) (ks : List ℕ) → Below k ks → Apart ks �
 apart_cond true k ks low h = apart_more k ks low h
 apart_cond false k ks low h = h
 
-pub stolen_apart : (loose : ℕ → Bool) (k : ℕ) (ks : List ℕ) (ds : List (Deed World)) → Below k ks → Apart ks → Apart (stolen_in loose k ks ds)
+pub stolen_apart : (loose : ℕ → Bool) (k : ℕ) (ks : List ℕ) (ds : List (Deed FrameEnv)) → Below k ks → Apart ks → Apart (stolen_in loose k ks ds)
 stolen_apart loose k ks [] low h = h
 stolen_apart loose k ks (Does (Reads c v) ∷ ds) low h = stolen_apart loose k ks ds low h
 stolen_apart loose k ks (Does (Writes c v) ∷ ds) low h = stolen_apart loose k ks ds low h
@@ -106,7 +106,7 @@ top_cond : (t : Bool) (k : ℕ) (ks : List ℕ) → Below k ks → IsTop ks → 
 top_cond true k ks low h = top_more k ks low
 top_cond false k ks low h = h
 
-pub among_low : (loose : ℕ → Bool) (k : ℕ) (ks : List ℕ) (ds : List (Deed World)) → Below k ks → IsTop ks → IsTop (stolen_in loose k ks ds)
+pub among_low : (loose : ℕ → Bool) (k : ℕ) (ks : List ℕ) (ds : List (Deed FrameEnv)) → Below k ks → IsTop ks → IsTop (stolen_in loose k ks ds)
 among_low loose k ks [] low h = h
 among_low loose k ks (Does (Reads c v) ∷ ds) low h = among_low loose k ks ds low h
 among_low loose k ks (Does (Writes c v) ∷ ds) low h = among_low loose k ks ds low h

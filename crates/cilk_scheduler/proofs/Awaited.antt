@@ -20,17 +20,17 @@ use Rattle.cilk_runs.specs.Machine.{Frame, State, deeds_at, started}
 use Rattle.cilk_runs.specs.Monoids.{unit_of}
 use Rattle.cilk_runs.specs.Progress.{HasNoSync, child_after}
 use Rattle.cilk_runs.specs.Runs.{Name, Output, Deed, Invokes}
-use Rattle.cilk_runs.specs.WorldMachine.{has_ended}
+use Rattle.cilk_runs.specs.FrameEnvMachine.{has_ended}
 use Rattle.cilk_runs.specs.Reducers.{View, kind_of, monoid_of}
-use Rattle.cilk_runs.specs.Worlds.{World}
-use Rattle.cilk_scheduler.specs.declared.board.Board.{Board}
-use Rattle.cilk_scheduler.specs.declared.seat.Seat.{Seat}
-use Rattle.cilk_scheduler.specs.declared.seat.Status.{Status}
-use Rattle.cilk_scheduler.specs.declared.seat.Status.TheVariants.{Held, Calling, Offered, Waiting, Finished}
+use Rattle.cilk_runs.specs.FrameEnvs.{FrameEnv}
+use Rattle.cilk_scheduler.specs.declared.scheduler.Scheduler.{Scheduler}
+use Rattle.cilk_scheduler.specs.declared.frame_state.FrameState.{FrameState}
+use Rattle.cilk_scheduler.specs.declared.frame_state.Status.{Status}
+use Rattle.cilk_scheduler.specs.declared.frame_state.Status.TheVariants.{Held, Calling, Offered, Waiting, Finished}
 use Rattle.cilk_scheduler.specs.Acting.{IsShown}
 use Rattle.cilk_scheduler.specs.Blocks.{stolen_in}
-use Rattle.cilk_scheduler.specs.Boards.{is_there, run_at, waits_at, HasBlock, IsWhere, Keeps, Sits, ShowsBy}
-use Rattle.cilk_scheduler.specs.Desks.{BlockIsOver, Desk}
+use Rattle.cilk_scheduler.specs.Schedulers.{is_there, run_at, waits_at, HasBlock, IsWhere, Keeps, Sits, ShowsBy}
+use Rattle.cilk_scheduler.specs.WorkerTables.{BlockIsOver, WorkerTable}
 use Rattle.cilk_scheduler.specs.EndParts.{PiecesMayArrive}
 use Rattle.cilk_scheduler.specs.Parents.{OutliveChildren}
 use Rattle.cilk_scheduler.specs.Steps.{HasCome}
@@ -47,14 +47,14 @@ keys_at : (kind : MonoidKind) (i : numbered.Instance) (ws : List (Wait Product))
 keys_at kind i [] = refl
 keys_at kind i (w ∷ ws) = ap (λ l. w.key ∷ l) (keys_at kind i ws)
 
-module _ (code : CodeView) (p : Source) (inputs : List ℤ) (name : ℕ → Name) (b : Board) (d : Desk) (s : State World View) (w k : ℕ) (v : ℤ) (is_shown : IsShown code p inputs name b d s) (outlive : OutliveChildren s) (h : HasCome code p inputs b w (suc k) (asks.End v)) where
+module _ (code : CodeView) (p : Source) (inputs : List ℤ) (name : ℕ → Name) (b : Scheduler) (d : WorkerTable) (s : State FrameEnv View) (w k : ℕ) (v : ℤ) (is_shown : IsShown code p inputs name b d s) (outlive : OutliveChildren s) (h : HasCome code p inputs b w (suc k) (asks.End v)) where
   abbrev sh : ShowsBy code p inputs name b d s
   sh = is_shown.shows
 
-  abbrev seats : List (Activation Seat)
+  abbrev seats : List (Activation FrameState)
   seats = let f = b.frames in f.items
 
-  abbrev seat : Seat
+  abbrev seat : FrameState
   seat = let a = h.seat in a.cursor
 
   abbrev up : ℕ
@@ -69,13 +69,13 @@ module _ (code : CodeView) (p : Source) (inputs : List ℤ) (name : ℕ → Name
   low : up < length seats
   low = let c = child_is in let first = c.0 in let last = get_low seats (suc k) h.seat h.sits in omega (arith, first, last)
 
-  above_at : (a : Activation Seat) × (slice_get seats up ≡ Some a)
+  above_at : (a : Activation FrameState) × (slice_get seats up ≡ Some a)
   above_at = get_some seats up low
 
   no_sync : asks.End v ≡ asks.Sync → ⊥
   no_sync q = cc
 
-  here : (f : Frame World) × (s.frames (name (suc k)) ≡ Some f) × (has_ended f.deeds ≡ false)
+  here : (f : Frame FrameEnv) × (s.frames (name (suc k)) ≡ Some f) × (has_ended f.deeds ≡ false)
   here =
       let y = sh in
       let o = y.sits (suc k) h.seat h.sits in
@@ -87,14 +87,14 @@ module _ (code : CodeView) (p : Source) (inputs : List ℤ) (name : ℕ → Name
   not_ended : has_ended (deeds_at (s.frames (name up ++ ordinal ∷ []))) ≡ false
   not_ended = let c = child_is in let f = here in ap (λ n. has_ended (deeds_at (s.frames n))) (sym c.1) ∙ ap (λ x. has_ended (deeds_at x)) f.1 ∙ f.2
 
-  module _ (stolen : seat.stolen ≡ true) (a : Activation Seat) (at : slice_get seats up ≡ Some a) where
-    abbrev parent : Seat
+  module _ (stolen : seat.stolen ≡ true) (a : Activation FrameState) (at : slice_get seats up ≡ Some a) where
+    abbrev parent : FrameState
     parent = a.cursor
 
     abbrev sitting : Sits code p inputs name b s up a
     sitting = let y = is_shown.shows in y.sits (let c = h.seat in let x = c.cursor in x.parent) a at
 
-    abbrev deeds : List (Deed World)
+    abbrev deeds : List (Deed FrameEnv)
     deeds = let o = (let y = is_shown.shows in y.sits (let c = h.seat in let x = c.cursor in x.parent) a at) in let f = o.frame in f.deeds
 
     flag : s.stolen (name up ++ ordinal ∷ []) ≡ true
@@ -104,10 +104,10 @@ module _ (code : CodeView) (p : Source) (inputs : List ℤ) (name : ℕ → Name
     parent_is = let u = under in let o = sitting in let q : Some o.frame ≡ Some u.parent = sym o.here ∙ u.here in cc
 
     going : has_ended deeds ≡ false
-    going = let u = under in ap (λ (f : Frame World). has_ended f.deeds) parent_is ∙ u.goes
+    going = let u = under in ap (λ (f : Frame FrameEnv). has_ended f.deeds) parent_is ∙ u.goes
 
     starts : deeds ≡ (let u = under in u.before ++ Invokes Spawn u.what ∷ u.after)
-    starts = let u = under in ap (λ (f : Frame World). f.deeds) parent_is ∙ u.starts ∙ ap (λ z. u.before ++ Invokes z u.what ∷ u.after) (u.spawned flag)
+    starts = let u = under in ap (λ (f : Frame FrameEnv). f.deeds) parent_is ∙ u.starts ∙ ap (λ z. u.before ++ Invokes z u.what ∷ u.after) (u.spawned flag)
 
     none : HasNoSync (let u = under in u.after)
     none = let u = under in ⊎_elim (λ e. subst (λ l. HasNoSync l) (sym e) none_after) (λ e. e.1) u.since

@@ -12,13 +12,13 @@ use Rattle.cilk_program.specs.declared.ask.Callee.{Callee}
 use Rattle.cilk_lower.specs.Code.{CodeView}
 use Rattle.cilk_lower.specs.Layout.{cells_in}
 use Rattle.cilk_frames.specs.declared.activation.Activation.{Activation}
-use Rattle.cilk_scheduler.specs.declared.board.Board.{Board}
-use Rattle.cilk_scheduler.specs.declared.seat.Seat.{Seat}
-use Rattle.cilk_scheduler.specs.declared.seat.Status.{Status}
-use Rattle.cilk_scheduler.specs.declared.seat.Worker.{Worker}
+use Rattle.cilk_scheduler.specs.declared.scheduler.Scheduler.{Scheduler}
+use Rattle.cilk_scheduler.specs.declared.frame_state.FrameState.{FrameState}
+use Rattle.cilk_scheduler.specs.declared.frame_state.Status.{Status}
+use Rattle.cilk_scheduler.specs.declared.frame_state.Worker.{Worker}
 use Rattle.cilk_scheduler.specs.Invocations.{ChildBegins, GoesToChild, HasGoneOn, InvocationsAreNoted, IsNoted, left_at, newly_offered, offering}
 use Rattle.cilk_scheduler.specs.Invoking.{IsChild}
-use Rattle.cilk_scheduler.specs.Seats.{changed, counted, started_at}
+use Rattle.cilk_scheduler.specs.FrameStates.{changed, counted, started_at}
 use Rattle.cilk_scheduler.specs.Steps.{HasCome}
 use Rattle.cilk_scheduler.specs.Workers.{altered}
 use Rattle.cilk_scheduler.proofs.Changing.{changed_here, changed_length, changed_twice}
@@ -31,28 +31,28 @@ changed_front f [] m k low = absurd (omega (arith, low))
 changed_front f (x ∷ l) m zero low = refl
 changed_front f (x ∷ l) m (suc k) low = ap (λ z. x ∷ z) (changed_front f l m k (omega (arith, low)))
 
-module _ (code : CodeView) (p : Source) (inputs : List ℤ) (b went begun b' : Board) (w k : ℕ) (how : Invocation) (callee : Callee) (h : HasCome code p inputs b w k (asks.Invoke how callee)) (child : Activation Seat)
+module _ (code : CodeView) (p : Source) (inputs : List ℤ) (b went begun b' : Scheduler) (w k : ℕ) (how : Invocation) (callee : Callee) (h : HasCome code p inputs b w k (asks.Invoke how callee)) (child : Activation FrameState)
     (gone : HasGoneOn b went k h.came) (is_child : (let f = went.frames in let c = went.cells in IsChild code f.items k w (length c.items) how callee child)) (begins : ChildBegins went begun w k how child (cells_in code.layout callee))
     (noted : IsNoted begun b' k (let f = went.frames in invocation how (suc (length f.items)))) where
-  abbrev old : List (Activation Seat)
+  abbrev old : List (Activation FrameState)
   old = let f = b.frames in f.items
 
-  abbrev on : List (Activation Seat)
+  abbrev on : List (Activation FrameState)
   on = let f = went.frames in f.items
 
   same_length : length on ≡ length old
-  same_length = ap (λ (l : List (Activation Seat)). length l) gone.frames ∙ changed_length (λ _. h.came) old k
+  same_length = ap (λ (l : List (Activation FrameState)). length l) gone.frames ∙ changed_length (λ _. h.came) old k
 
   low_on : k < length on
   low_on = let e = same_length in let l = get_low old k h.seat h.sits in omega (arith, e, l)
 
-  abbrev top : Activation Seat
+  abbrev top : Activation FrameState
   top = let a = h.seat in record a { cursor = h.came }
 
   top_at : slice_get on k ≡ Some top
   top_at = ap (λ l. slice_get l k) gone.frames ∙ changed_here (λ _. h.came) old k h.seat h.sits
 
-  abbrev start : ℕ → Seat → Seat
+  abbrev start : ℕ → FrameState → FrameState
   start n x = counted (started_at (left_at how w) n x)
 
   before_is : (let g = begins in g.before) ≡ h.worker
@@ -106,10 +106,10 @@ module _ (v : Worker) where
   set_twice (y ∷ ws) zero x = refl
   set_twice (y ∷ ws) (suc w) x = ap (λ l. y ∷ l) (set_twice ws w x)
 
-pub begins_as : (b b' : Board) (w k place : ℕ) (how c : Invocation) (child : Activation Seat) (count : ℕ) (u v m : Worker) (status : Status) → how ≡ c → status ≡ left_at c w → (let f = b.frames in place ≡ length f.items)
+pub begins_as : (b b' : Scheduler) (w k place : ℕ) (how c : Invocation) (child : Activation FrameState) (count : ℕ) (u v m : Worker) (status : Status) → how ≡ c → status ≡ left_at c w → (let f = b.frames in place ≡ length f.items)
     → (let l = b.workers in w < length l.items) → (let l = b.workers in u ≡ slice_index_or l.items w u) → (let l = b.workers in m ≡ slice_index_or (slice_set l.items w v) w m)
     → (let o = u.offered in let q = v.offered in q.items ≡ offering how k o.items) → v.views ≡ u.views → (let l = b.workers in let n = b'.workers in n.items ≡ slice_set (slice_set l.items w v) w (record m { frame = Some place }))
-    → (more : List (Activation Seat)) → (let f = b.frames in more ≡ f.items ++ child ∷ []) → (let g = b'.frames in g.items ≡ changed (started_at status place) more k) → (let f = b.cells in let g = b'.cells in g.items ≡ f.items ++ replicate count (pos 0))
+    → (more : List (Activation FrameState)) → (let f = b.frames in more ≡ f.items ++ child ∷ []) → (let g = b'.frames in g.items ≡ changed (started_at status place) more k) → (let f = b.cells in let g = b'.cells in g.items ≡ f.items ++ replicate count (pos 0))
     → b'.offered ≡ b.offered + newly_offered c → (let e = b.journal in let l = b'.journal in l.items ≡ e.items) → b'.ticks ≡ b.ticks → b'.outcome ≡ b.outcome → ChildBegins b b' w k how child count
 begins_as b b' w k place how c child count u v m status is left last low was there offers views workers more more_is frames cells offered journal ticks outcome =
     let l = b.workers in

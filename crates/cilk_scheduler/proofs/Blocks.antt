@@ -14,8 +14,8 @@ use Rattle.cilk_runs.specs.Machine.{block_view}
 use Rattle.cilk_runs.specs.Runs.{Reads, Writes, Syncs, Ends, Passes, Deed, Does, Invokes}
 use Rattle.cilk_join.specs.Rows.{Wait, Row, row, wait, ahead, keys, Stands, or_unit, between, placed}
 use Rattle.cilk_runs.specs.Reducers.{View, views_of}
-use Rattle.cilk_runs.specs.WorldViews.{IsViewOf}
-use Rattle.cilk_runs.proofs.WorldViews.{are_multiplied}
+use Rattle.cilk_runs.specs.FrameEnvViews.{IsViewOf}
+use Rattle.cilk_runs.proofs.FrameEnvViews.{are_multiplied}
 use Rattle.cilk_scheduler.specs.Blocks.{stolen_in, IsRun, Lays, with_one, NotIn, Apart}
 
 -- the product of these pieces, behind another

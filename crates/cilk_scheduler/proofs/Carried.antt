@@ -9,7 +9,7 @@ use Rattle.cilk_types.specs.declared.invocation.Invocation.{Invocation}
 use Rattle.cilk_monoid.specs.Laws.{MonoidStructure}
 use Rattle.cilk_runs.specs.Runs.{Name, Event, Reads, Writes, Syncs, Ends, Passes, Deed, Does, Invokes}
 use Rattle.cilk_runs.specs.Machine.{started, block_view}
-use Rattle.cilk_scheduler.specs.Boards.{is_resuming, carried, IsUsed}
+use Rattle.cilk_scheduler.specs.Schedulers.{is_resuming, carried, IsUsed}
 
 module _ {W : Type 0} where
   pub resuming_event : (ds : List (Deed W)) (e : Event) → is_resuming (ds ++ Does e ∷ []) ≡ false

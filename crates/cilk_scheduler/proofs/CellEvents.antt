@@ -12,13 +12,13 @@ use Rattle.cilk_runs.specs.Machine.{State}
 use Rattle.cilk_runs.specs.Runs.{Name, Cell, Own, same_cell, Reads, Writes, Does}
 use Rattle.cilk_runs.proofs.Basics.{same_cell-refl, same_cell-eq}
 use Rattle.cilk_runs.specs.Reducers.{View}
-use Rattle.cilk_runs.specs.Worlds.{World, cell_seen, result_cell}
-use Rattle.cilk_scheduler.specs.declared.board.Board.{Board}
+use Rattle.cilk_runs.specs.FrameEnvs.{FrameEnv, cell_seen, result_cell}
+use Rattle.cilk_scheduler.specs.declared.scheduler.Scheduler.{Scheduler}
 use Rattle.cilk_scheduler.specs.Acting.{ReadsAreShown, ResultsAreShown, WritesAreShown}
-use Rattle.cilk_scheduler.specs.Boards.{ShowsBy}
-use Rattle.cilk_scheduler.specs.Desks.{Desk}
+use Rattle.cilk_scheduler.specs.Schedulers.{ShowsBy}
+use Rattle.cilk_scheduler.specs.WorkerTables.{WorkerTable}
 use Rattle.cilk_scheduler.specs.Numbered.{IsAbsent, IsCell}
-use Rattle.cilk_scheduler.specs.Seats.{answered}
+use Rattle.cilk_scheduler.specs.FrameStates.{answered}
 use Rattle.cilk_scheduler.proofs.Plain.{get_low}
 use Rattle.cilk_scheduler.proofs.Ready.{strands_stay, quiet, own_views, own_bare, there, means_cell, result_lies}
 use Rattle.cilk_scheduler.proofs.Seeing.{no_absent_cell, one_cell, one_cell_number}
@@ -66,7 +66,7 @@ module _ (code : CodeView) (p : Source) (inputs : List ℤ) where
       (own_bare code p inputs name b d s w k ask t.lays sh h (λ q. cc))
 
   -- the cells after a write
-  module _ (name : ℕ → Name) (b : Board) (d : Desk) (s : State World View) (sh : ShowsBy code p inputs name b d s) (cell : Cell) (n : ℕ) (v : ℤ) (is : let f = b.frames in IsCell p f.items name s cell n) where
+  module _ (name : ℕ → Name) (b : Scheduler) (d : WorkerTable) (s : State FrameEnv View) (sh : ShowsBy code p inputs name b d s) (cell : Cell) (n : ℕ) (v : ℤ) (is : let f = b.frames in IsCell p f.items name s cell n) where
     memory_then : (a : Cell) (m : ℕ) → (let f = b.frames in IsCell p f.items name s a m) → (let c = b.cells in slice_get (slice_set c.items n v) m ≡ Some (cond (same_cell cell a) v (s.memory a)))
     memory_then a m it = let c = b.cells in by c.items (sh.memory a m it) (same_cell cell a) refl
       where

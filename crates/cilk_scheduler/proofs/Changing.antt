@@ -5,7 +5,7 @@
 -- - `changed_twice`, `changed_known`: two changes at one place, and one that is known there.
 use Rattle.std.proofs.Common.{◌≡◌, ◌<◌, ℕ, zero, suc, List, [], ◌∷◌, length, slice_get, slice_index_or, slice_set, Some, None, refl, ap, subst, arith}
 use Rattle.cilk_frames.specs.declared.activation.Activation.{Activation}
-use Rattle.cilk_scheduler.specs.Seats.{changed}
+use Rattle.cilk_scheduler.specs.FrameStates.{changed}
 
 module _ {C : Type 0} (f : C → C) where
   pub changed_at : (list : List (Activation C)) (k : ℕ) (a : Activation C) → a ≡ slice_index_or list k a → k < length list → slice_set list k (record a { cursor = f a.cursor }) ≡ changed f list k

@@ -19,14 +19,14 @@ use Rattle.cilk_join.specs.Rows.{Wait, wait}
 use Rattle.cilk_runs.specs.Machine.{HasEnd, started, strands}
 use Rattle.cilk_runs.specs.Runs.{Name, Reads, Writes, Syncs, Ends, Passes, Deed, Does, Invokes}
 use Rattle.cilk_runs.specs.Reducers.{View, views_of}
-use Rattle.cilk_runs.specs.WorldViews.{IsViewOf}
-use Rattle.cilk_runs.specs.Worlds.{World}
-use Rattle.cilk_runs.proofs.WorldViews.{are_multiplied}
-use Rattle.cilk_scheduler.specs.declared.seat.Status.TheVariants.{Calling, Offered, Waiting}
-use Rattle.cilk_scheduler.specs.declared.seat.Worker.{Worker}
+use Rattle.cilk_runs.specs.FrameEnvViews.{IsViewOf}
+use Rattle.cilk_runs.specs.FrameEnvs.{FrameEnv}
+use Rattle.cilk_runs.proofs.FrameEnvViews.{are_multiplied}
+use Rattle.cilk_scheduler.specs.declared.frame_state.Status.TheVariants.{Calling, Offered, Waiting}
+use Rattle.cilk_scheduler.specs.declared.frame_state.Worker.{Worker}
 use Rattle.cilk_scheduler.specs.Blocks.{stolen_in, IsRun, Lays}
-use Rattle.cilk_scheduler.specs.Boards.{carried, IsUsed, is_resuming, offers_of, run_at, waits_at}
-use Rattle.cilk_scheduler.specs.Desks.{newest_of}
+use Rattle.cilk_scheduler.specs.Schedulers.{carried, IsUsed, is_resuming, offers_of, run_at, waits_at}
+use Rattle.cilk_scheduler.specs.WorkerTables.{newest_of}
 use Rattle.cilk_scheduler.specs.Invocations.{left_at, newly_offered, offering}
 use Rattle.cilk_scheduler.specs.Workers.{altered}
 use Rattle.cilk_scheduler.proofs.Plain.{length_more}
@@ -34,7 +34,7 @@ use Rattle.cilk_scheduler.proofs.Synced.{block_unit}
 
 -- ---- one deed more
 
-pub stolen_child : (loose : ℕ → Bool) (k : ℕ) (ks : List ℕ) (ds : List (Deed World)) (how : Invocation) (w : World) → loose (k + started ds) ≡ false → stolen_in loose k ks (ds ++ Invokes how w ∷ []) ≡ stolen_in loose k ks ds
+pub stolen_child : (loose : ℕ → Bool) (k : ℕ) (ks : List ℕ) (ds : List (Deed FrameEnv)) (how : Invocation) (w : FrameEnv) → loose (k + started ds) ≡ false → stolen_in loose k ks (ds ++ Invokes how w ∷ []) ≡ stolen_in loose k ks ds
 stolen_child loose k ks [] Call w off = refl
 stolen_child loose k ks [] Spawn w off = let is : k + 0 ≡ k = omega arith in ap (λ t. cond t (ks ++ k ∷ []) ks) (ap loose (sym is) ∙ off)
 stolen_child loose k ks (Does (Reads c v) ∷ ds) how w off = stolen_child loose k ks ds how w off
@@ -47,7 +47,7 @@ stolen_child loose k ks (Invokes Spawn u ∷ ds) how w off =
     let is : suc k + started ds ≡ k + suc (started ds) = omega arith in
     stolen_child loose (suc k) (cond (loose k) (ks ++ k ∷ []) ks) ds how w (ap loose is ∙ off)
 
-pub end_child : (ds : List (Deed World)) (how : Invocation) (w : World) → HasEnd (ds ++ Invokes how w ∷ []) → HasEnd ds
+pub end_child : (ds : List (Deed FrameEnv)) (how : Invocation) (w : FrameEnv) → HasEnd (ds ++ Invokes how w ∷ []) → HasEnd ds
 end_child [] how w g = g
 end_child (Does (Reads c v) ∷ ds) how w g = end_child ds how w g
 end_child (Does (Writes c v) ∷ ds) how w g = end_child ds how w g
@@ -56,7 +56,7 @@ end_child (Does (Ends v gone) ∷ ds) how w g = g
 end_child (Does (Passes m) ∷ ds) how w g = end_child ds how w g
 end_child (Invokes b u ∷ ds) how w g = end_child ds how w g
 
-pub strands_child : (ds : List (Deed World)) (how : Invocation) (w : World) → strands (ds ++ Invokes how w ∷ []) ≡ strands ds
+pub strands_child : (ds : List (Deed FrameEnv)) (how : Invocation) (w : FrameEnv) → strands (ds ++ Invokes how w ∷ []) ≡ strands ds
 strands_child [] how w = refl
 strands_child (Does e ∷ ds) how w = rw (strands_child ds how w) refl
 strands_child (Invokes b u ∷ ds) how w = strands_child ds how w
@@ -99,7 +99,7 @@ module _ (kind : MonoidKind) (i : numbered.Instance) where
             (subst (λ r. Lays kind' kid' there own' ((views_of kind').unit) ks r (waits_at kind' j ws)) (sym after) (subst (λ r. Lays kind' kid' there own' ((views_of kind').unit) ks h.1 r) (sym rest) h.5)),
       )
 
-pub carried_unit : (kind : MonoidKind) (piece : Name → View) (stolen : Name → Bool) (n : Name) (ds : List (Deed World)) (merged : Bool) → piece n ≡ (views_of kind).unit
+pub carried_unit : (kind : MonoidKind) (piece : Name → View) (stolen : Name → Bool) (n : Name) (ds : List (Deed FrameEnv)) (merged : Bool) → piece n ≡ (views_of kind).unit
     → ((q : ℕ) → IsUsed stolen n ds merged q → piece (n ++ q ∷ []) ≡ (views_of kind).unit) → carried (views_of kind) piece stolen n ds merged ≡ (views_of kind).unit
 carried_unit kind piece stolen n ds true own each = ap₂ (λ a o. (views_of kind).combine a o) (block_unit kind (λ k. piece (n ++ k ∷ [])) (λ k. stolen (n ++ k ∷ [])) (λ q is. each q (inl (refl, is))) 1 ds) own
 carried_unit kind piece stolen n ds false own each = by (is_resuming ds) refl (stolen (n ++ started ds ∷ [])) refl

@@ -7,35 +7,35 @@ use Rattle.std.proofs.Common.{◌≡◌, inl, inr, ℤ, List, [], ◌∷◌, ◌
 use Rattle.cilk_program.specs.Syntax.{Source}
 use Rattle.cilk_runs.specs.Machine.{State, Steps}
 use Rattle.cilk_runs.specs.Runs.{Name}
-use Rattle.cilk_runs.specs.WorldMachine.{costs}
+use Rattle.cilk_runs.specs.FrameEnvMachine.{costs}
 use Rattle.cilk_runs.specs.Reducers.{View, monoid_of}
 use Rattle.cilk_runs.specs.Steps.{Next}
-use Rattle.cilk_runs.specs.Worlds.{World}
+use Rattle.cilk_runs.specs.FrameEnvs.{FrameEnv}
 use Rattle.cilk_scheduler.specs.declared.choice.Choice.{Choice}
-use Rattle.cilk_scheduler.specs.Desks.{Desk, Chooses, Comes, does, skips, steals, waits}
+use Rattle.cilk_scheduler.specs.WorkerTables.{WorkerTable, Chooses, Comes, does, skips, steals, waits}
 use Rattle.cilk_scheduler.specs.Histories.{AreWithin, ChoicesAreSteps, DidAsAsked}
 use Rattle.cilk_scheduler.proofs.Histories.{does_as_asked}
 use Rattle.cilk_scheduler.proofs.Limits.{totals_within}
 
 module _ (p : Source) (inputs : List ℤ) where
-  abbrev Lead : List Name → State World View → State World View → Type 0
-  Lead ns s s' = Steps World View monoid_of (Next p inputs) (costs p inputs) ns s s'
+  abbrev Lead : List Name → State FrameEnv View → State FrameEnv View → Type 0
+  Lead ns s s' = Steps FrameEnv View monoid_of (Next p inputs) (costs p inputs) ns s s'
 
-  pub one_step : (s s' : State World View) (d d' : Desk) (c : Choice) (t : Comes) → s.stopped ≡ None → Chooses p inputs s d c t s' d' → (ns : List Name) × Lead ns s s'
+  pub one_step : (s s' : State FrameEnv View) (d d' : WorkerTable) (c : Choice) (t : Comes) → s.stopped ≡ None → Chooses p inputs s d c t s' d' → (ns : List Name) × Lead ns s s'
   one_step s s' d d' c t going (does w n _ _ hand m settles) = (n ∷ [], (s', (going, inl m), refl))
   one_step s s' d d' c t going (waits w n f hand stands open_yet) = ([], refl)
   one_step s s' d d' c t going (steals w k n _ hand on offered m) = (n ∷ [], (s', (going, inr (inl m)), refl))
   one_step s s' d d' c t going (skips _ skipped) = ([], refl)
 
-  more_steps : (ns ms : List Name) (s mid s' : State World View) → Lead ns s mid → Lead ms mid s' → Lead (ns ++ ms) s s'
+  more_steps : (ns ms : List Name) (s mid s' : State FrameEnv View) → Lead ns s mid → Lead ms mid s' → Lead (ns ++ ms) s s'
   more_steps [] ms s mid s' e rest = subst (λ z. Lead ms z s') e rest
   more_steps (n ∷ ns) ms s mid s' (z, one, more) rest = (z, one, more_steps ns ms z mid s' more rest)
 
-  asked_on : (ns : List Name) (s s' : State World View) → DidAsAsked p inputs s → Lead ns s s' → DidAsAsked p inputs s'
+  asked_on : (ns : List Name) (s s' : State FrameEnv View) → DidAsAsked p inputs s → Lead ns s s' → DidAsAsked p inputs s'
   asked_on [] s s' h e = subst (DidAsAsked p inputs) (sym e) h
   asked_on (n ∷ ns) s s' h (mid, one, rest) = let law = does_as_asked p inputs in asked_on ns mid s' (law.keeps s mid n h one) rest
 
-  within_on : (ns : List Name) (s s' : State World View) → AreWithin p inputs s → Lead ns s s' → AreWithin p inputs s'
+  within_on : (ns : List Name) (s s' : State FrameEnv View) → AreWithin p inputs s → Lead ns s s' → AreWithin p inputs s'
   within_on [] s s' h e = subst (AreWithin p inputs) (sym e) h
   within_on (n ∷ ns) s s' h (mid, one, rest) = let law = totals_within p inputs in within_on ns mid s' (law.keeps s mid n h one) rest
 

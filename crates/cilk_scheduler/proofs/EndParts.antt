@@ -13,19 +13,19 @@ use Rattle.cilk_join.specs.Products.{product}
 use Rattle.cilk_runs.specs.Machine.{State}
 use Rattle.cilk_runs.specs.Runs.{Name}
 use Rattle.cilk_runs.specs.Reducers.{View}
-use Rattle.cilk_runs.specs.Worlds.{World}
-use Rattle.cilk_scheduler.specs.declared.board.Board.{Board}
-use Rattle.cilk_scheduler.specs.declared.seat.Seat.{Seat}
-use Rattle.cilk_scheduler.specs.declared.seat.Status.{Status}
-use Rattle.cilk_scheduler.specs.declared.seat.Status.TheVariants.{Held}
-use Rattle.cilk_scheduler.specs.declared.seat.Worker.{Worker}
-use Rattle.cilk_scheduler.specs.Boards.{ShowsBy}
-use Rattle.cilk_scheduler.specs.Desks.{Desk}
+use Rattle.cilk_runs.specs.FrameEnvs.{FrameEnv}
+use Rattle.cilk_scheduler.specs.declared.scheduler.Scheduler.{Scheduler}
+use Rattle.cilk_scheduler.specs.declared.frame_state.FrameState.{FrameState}
+use Rattle.cilk_scheduler.specs.declared.frame_state.Status.{Status}
+use Rattle.cilk_scheduler.specs.declared.frame_state.Status.TheVariants.{Held}
+use Rattle.cilk_scheduler.specs.declared.frame_state.Worker.{Worker}
+use Rattle.cilk_scheduler.specs.Schedulers.{ShowsBy}
+use Rattle.cilk_scheduler.specs.WorkerTables.{WorkerTable}
 use Rattle.cilk_scheduler.specs.Ending.{Closes, TakesBack, WasNotOffered, WasOffered}
 use Rattle.cilk_scheduler.specs.EndParts.{Brings, FramesGoBack, HasRetired, IsFinished, NotOffered, OfferedBy, PiecesAreHandedIn, RunsAreLeft, Seeks, ToJoin}
 use Rattle.cilk_scheduler.specs.Events.{Arrives, block_in}
 use Rattle.cilk_scheduler.specs.Parts.{freed, working}
-use Rattle.cilk_scheduler.specs.Seats.{changed, counted, finished, moved_to, passed}
+use Rattle.cilk_scheduler.specs.FrameStates.{changed, counted, finished, moved_to, passed}
 use Rattle.cilk_scheduler.specs.Steps.{HasCome}
 use Rattle.cilk_scheduler.specs.Waiting.{idling}
 use Rattle.cilk_scheduler.specs.Workers.{altered, holding, viewing}
@@ -36,7 +36,7 @@ use Rattle.cilk_scheduler.proofs.Viewing.{viewing_from}
 
 -- ---- changes at two places
 
-pub changed_apart : (f g : Seat → Seat) (list : List (Activation Seat)) (j k : ℕ) → (j ≡ k → ⊥) → changed f (changed g list j) k ≡ changed g (changed f list k) j
+pub changed_apart : (f g : FrameState → FrameState) (list : List (Activation FrameState)) (j k : ℕ) → (j ≡ k → ⊥) → changed f (changed g list j) k ≡ changed g (changed f list k) j
 changed_apart f g [] j k ne = refl
 changed_apart f g (a ∷ list) zero zero ne = absurd (ne refl)
 changed_apart f g (a ∷ list) zero (suc k) ne = refl
@@ -65,35 +65,35 @@ working_back up views (u ∷ ws) (suc w) (suc victim) without owner old at was i
 module _ (code : CodeView) (p : Source) (inputs : List ℤ) where
   -- ---- a frame that is finished
 
-  module _ (b b' : Board) (w k : ℕ) (v : ℤ) (h : HasCome code p inputs b w k (asks.End v)) (went : List (Activation Seat)) (views : Hypermap) (r : HasRetired code p inputs b w k v h went views) where
-    abbrev old_seats : List (Activation Seat)
+  module _ (b b' : Scheduler) (w k : ℕ) (v : ℤ) (h : HasCome code p inputs b w k (asks.End v)) (went : List (Activation FrameState)) (views : Hypermap) (r : HasRetired code p inputs b w k v h went views) where
+    abbrev old_seats : List (Activation FrameState)
     old_seats = let f = b.frames in f.items
 
     top_at : slice_get went k ≡ Some (let a = h.seat in record a { cursor = h.came })
     top_at = ap (λ l. slice_get l k) r.goes ∙ changed_here (λ _. h.came) old_seats k h.seat h.sits
 
     -- another frame stays where this one has gone on
-    else_went : (j : ℕ) (a : Activation Seat) → (k ≡ j → ⊥) → slice_get went j ≡ Some a → slice_get old_seats j ≡ Some a
+    else_went : (j : ℕ) (a : Activation FrameState) → (k ≡ j → ⊥) → slice_get went j ≡ Some a → slice_get old_seats j ≡ Some a
     else_went j a ne at = sym (changed_off (λ _. h.came) old_seats k j ne) ∙ ap (λ l. slice_get l j) (sym r.goes) ∙ at
 
     -- whatever is done to another frame meanwhile
-    closed_by : (frames : List (Activation Seat)) → slice_get frames k ≡ slice_get went k → IsFinished b b' k frames → Closes code p inputs b b' w k v h views
+    closed_by : (frames : List (Activation FrameState)) → slice_get frames k ≡ slice_get went k → IsFinished b b' k frames → Closes code p inputs b b' w k v h views
     closed_by frames same f =
         let a = h.seat in
         let last : slice_get f.acted k ≡ Some (record a { cursor = finished h.came }) = ap (λ l. slice_get l k) f.finishes ∙ changed_here finished frames k (record a { cursor = h.came }) (same ∙ top_at) in
         record { retires = r.retires (record a { cursor = h.came }) top_at; journal = f.journal; cells = f.cells; ticks = f.ticks (record a { cursor = finished h.came }) last }
 
-    finished_alone : (frames : List (Activation Seat)) → frames ≡ went → IsFinished b b' k frames → (let g = b'.frames in g.items ≡ changed (λ _. counted (finished h.came)) old_seats k)
+    finished_alone : (frames : List (Activation FrameState)) → frames ≡ went → IsFinished b b' k frames → (let g = b'.frames in g.items ≡ changed (λ _. counted (finished h.came)) old_seats k)
     finished_alone frames same f =
         f.counts ∙ ap (λ l. changed counted l k) (f.finishes ∙ ap (λ l. changed finished l k) (same ∙ r.goes) ∙ changed_twice finished (λ _. h.came) old_seats k) ∙ changed_twice counted (λ _. finished h.came) old_seats k
 
     -- where another frame has changed before
-    finished_beside : (up : ℕ) (g : Seat → Seat) (frames : List (Activation Seat)) → (up ≡ k → ⊥) → frames ≡ changed g went up → IsFinished b b' k frames → (let l = b'.frames in l.items ≡ changed g (changed (λ _. counted (finished h.came)) old_seats k) up)
+    finished_beside : (up : ℕ) (g : FrameState → FrameState) (frames : List (Activation FrameState)) → (up ≡ k → ⊥) → frames ≡ changed g went up → IsFinished b b' k frames → (let l = b'.frames in l.items ≡ changed g (changed (λ _. counted (finished h.came)) old_seats k) up)
     finished_beside up g frames ne same f =
         f.counts ∙ ap (λ l. changed counted l k) (f.finishes ∙ ap (λ l. changed finished l k) same ∙ changed_apart finished g went up k ne) ∙ changed_apart counted g (changed finished went k) up k ne
         ∙ ap (λ l. changed g l up) (ap (λ l. changed counted l k) (ap (λ l. changed finished l k) r.goes ∙ changed_twice finished (λ _. h.came) old_seats k) ∙ changed_twice counted (λ _. finished h.came) old_seats k)
 
-    beside_same : (up : ℕ) (g : Seat → Seat) (frames : List (Activation Seat)) → (up ≡ k → ⊥) → frames ≡ changed g went up → slice_get frames k ≡ slice_get went k
+    beside_same : (up : ℕ) (g : FrameState → FrameState) (frames : List (Activation FrameState)) → (up ≡ k → ⊥) → frames ≡ changed g went up → slice_get frames k ≡ slice_get went k
     beside_same up g frames ne same = ap (λ l. slice_get l k) same ∙ changed_off g went up k ne
 
   -- ---- the first frame
@@ -112,11 +112,11 @@ module _ (code : CodeView) (p : Source) (inputs : List ℤ) where
 
   -- ---- a frame that has a parent
 
-  module _ (name : ℕ → Name) (b : Board) (d : Desk) (s : State World View) (w k : ℕ) (v : ℤ) (sh : ShowsBy code p inputs name b d s) (h : HasCome code p inputs b w (suc k) (asks.End v)) where
+  module _ (name : ℕ → Name) (b : Scheduler) (d : WorkerTable) (s : State FrameEnv View) (w k : ℕ) (v : ℤ) (sh : ShowsBy code p inputs name b d s) (h : HasCome code p inputs b w (suc k) (asks.End v)) where
     apart : (let a = h.seat in let x = a.cursor in x.parent) ≡ suc k → ⊥
     apart e = let t = sh.tells in let n = t.named in let c = n.child k h.seat h.sits in let low = c.0 in omega (arith, e, low)
 
-  seeks_back : (b : Board) (up w offered : ℕ) (status : Status) (views : Hypermap) (others : List Worker) → (let l = b.workers in Seeks up status (viewing views l.items w) others b.offered offered)
+  seeks_back : (b : Scheduler) (up w offered : ℕ) (status : Status) (views : Hypermap) (others : List Worker) → (let l = b.workers in Seeks up status (viewing views l.items w) others b.offered offered)
       → (rest : List Worker) × TakesBack b up status rest offered × (altered (working up) others w ≡ altered (holding up views) rest w)
   seeks_back b up w offered status views others (NotOffered none others_is offered_is) =
       let l = b.workers in
@@ -150,7 +150,7 @@ module _ (code : CodeView) (p : Source) (inputs : List ℤ) where
       }
 
   -- what a piece's arrival leaves of the parent, by whether its block passes
-  held_by : (w up : ℕ) (joined : Seat) (passes : Bool) (went brought held : List (Activation Seat)) → brought ≡ changed (λ _. joined) went up → held ≡ cond passes (changed (moved_to (Held w)) (changed passed brought up) up) brought
+  held_by : (w up : ℕ) (joined : FrameState) (passes : Bool) (went brought held : List (Activation FrameState)) → brought ≡ changed (λ _. joined) went up → held ≡ cond passes (changed (moved_to (Held w)) (changed passed brought up) up) brought
       → held ≡ changed (λ _. cond passes (moved_to (Held w) (passed joined)) joined) went up
   held_by w up joined true went brought held e is =
       is ∙ ap (λ l. changed (moved_to (Held w)) l up) (ap (λ l. changed passed l up) e ∙ changed_twice passed (λ _. joined) went up) ∙ changed_twice (moved_to (Held w)) (λ _. passed joined) went up
@@ -160,9 +160,9 @@ module _ (code : CodeView) (p : Source) (inputs : List ℤ) where
   work_by true up left ws w = altered_viewing (working up) left ws w
   work_by false up left ws w = altered_viewing freed left ws w
 
-  brought_by : (x x' : Seat) (key : ℕ) (piece left : Hypermap) (passes : Bool) → Brings x key piece passes x' left → Arrives (block_in x.join) key false (product piece) passes (block_in x'.join) left × (x' ≡ record x { join = x'.join })
+  brought_by : (x x' : FrameState) (key : ℕ) (piece left : Hypermap) (passes : Bool) → Brings x key piece passes x' left → Arrives (block_in x.join) key false (product piece) passes (block_in x'.join) left × (x' ≡ record x { join = x'.join })
   brought_by x x' key piece left passes (ToJoin l l' at is arrives) =
-      let joined : x'.join ≡ Some l' = ap (λ (y : Seat). y.join) is in (
+      let joined : x'.join ≡ Some l' = ap (λ (y : FrameState). y.join) is in (
         subst (λ j. Arrives j key false (product piece) passes (block_in x'.join) left) (sym (ap (λ o. block_in o) at)) (subst (λ j. Arrives (block_in (Some l)) key false (product piece) passes j left) (sym (ap (λ o. block_in o) joined)) arrives),
         is ∙ ap (λ o. record x { join = o }) (sym joined),
       )

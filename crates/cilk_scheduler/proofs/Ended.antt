@@ -33,28 +33,28 @@ use Rattle.cilk_runs.specs.Progress.{BlockHasEnded, GoesOn, HasNext, child_after
 use Rattle.cilk_runs.specs.Runs.{Name, same_name, Cell, Global, Own, Instance, Output, Reducer, has_instance, End, Pass, Resume, Sync, Reads, Writes, Syncs, Ends, Passes, Deed, Does, Invokes}
 use Rattle.cilk_runs.proofs.Basics.{same_name-refl, same_name-eq}
 use Rattle.cilk_runs.proofs.Started.{started_does}
-use Rattle.cilk_runs.specs.WorldMachine.{costs, has_ended, next, retired_by, taken}
+use Rattle.cilk_runs.specs.FrameEnvMachine.{costs, has_ended, next, retired_by, taken}
 use Rattle.cilk_runs.specs.Reducers.{View, kind_of, monoid_of}
 use Rattle.cilk_runs.specs.Steps.{Next, outcome_in}
-use Rattle.cilk_runs.specs.WorldViews.{IsViewOf}
-use Rattle.cilk_runs.specs.Worlds.{World, global_named, own_named, reducer_seen}
-use Rattle.cilk_runs.proofs.KeptWorld.{but_last_more, ended_more}
-use Rattle.cilk_scheduler.specs.declared.board.Board.{Board}
-use Rattle.cilk_scheduler.specs.declared.seat.JournalEntry.{JournalEntry}
-use Rattle.cilk_scheduler.specs.declared.seat.Seat.{Seat}
-use Rattle.cilk_scheduler.specs.declared.seat.Status.{Status}
-use Rattle.cilk_scheduler.specs.declared.seat.Status.TheVariants.{Held, Calling, Offered, Waiting, Finished}
-use Rattle.cilk_scheduler.specs.declared.seat.Worker.{Worker}
+use Rattle.cilk_runs.specs.FrameEnvViews.{IsViewOf}
+use Rattle.cilk_runs.specs.FrameEnvs.{FrameEnv, global_named, own_named, reducer_seen}
+use Rattle.cilk_runs.proofs.KeptFrameEnv.{but_last_more, ended_more}
+use Rattle.cilk_scheduler.specs.declared.scheduler.Scheduler.{Scheduler}
+use Rattle.cilk_scheduler.specs.declared.frame_state.JournalEntry.{JournalEntry}
+use Rattle.cilk_scheduler.specs.declared.frame_state.FrameState.{FrameState}
+use Rattle.cilk_scheduler.specs.declared.frame_state.Status.{Status}
+use Rattle.cilk_scheduler.specs.declared.frame_state.Status.TheVariants.{Held, Calling, Offered, Waiting, Finished}
+use Rattle.cilk_scheduler.specs.declared.frame_state.Worker.{Worker}
 use Rattle.cilk_scheduler.specs.Acting.{IsShown}
 use Rattle.cilk_scheduler.specs.Blocks.{Lays, stolen_in}
-use Rattle.cilk_scheduler.specs.Boards.{carried, greatest, hand_of, offers_of, IsBare, IsDue, IsUsed, is_resuming, is_there, run_at, stolen_at_block, waits_at, HasBlock, Holds, IsDesk, IsWhere, Keeps, Sits, ShowsBy, Tells}
-use Rattle.cilk_scheduler.specs.Desks.{BlockIsOver, Desk, IsIn}
+use Rattle.cilk_scheduler.specs.Schedulers.{carried, greatest, hand_of, offers_of, IsBare, IsDue, IsUsed, is_resuming, is_there, run_at, stolen_at_block, waits_at, HasBlock, Holds, IsWorkerTable, IsWhere, Keeps, Sits, ShowsBy, Tells}
+use Rattle.cilk_scheduler.specs.WorkerTables.{BlockIsOver, WorkerTable, IsIn}
 use Rattle.cilk_scheduler.specs.Ending.{Closes, created_by}
 use Rattle.cilk_scheduler.specs.Events.{SeesAt}
 use Rattle.cilk_scheduler.specs.Retired.{without_own}
 use Rattle.cilk_scheduler.specs.Numbered.{AreDeeds, AreNamed, IsAbsent, IsCell, IsInstance, events_of, size_of}
 use Rattle.cilk_scheduler.specs.Parents.{AreStarted}
-use Rattle.cilk_scheduler.specs.Seats.{changed, counted, finished}
+use Rattle.cilk_scheduler.specs.FrameStates.{changed, counted, finished}
 use Rattle.cilk_scheduler.specs.Steps.{HasCome}
 use Rattle.cilk_scheduler.specs.Workers.{altered}
 use Rattle.cilk_scheduler.proofs.Altered as altering
@@ -72,7 +72,7 @@ use Rattle.cilk_scheduler.proofs.Stepped as stepped
 
 -- ---- an end among deeds
 
-sync_end : (ds : List (Deed World)) (v : ℤ) (gone : List Instance) → sync_bit (ds ++ Does (Ends v gone) ∷ []) ≡ sync_bit ds
+sync_end : (ds : List (Deed FrameEnv)) (v : ℤ) (gone : List Instance) → sync_bit (ds ++ Does (Ends v gone) ∷ []) ≡ sync_bit ds
 sync_end [] v gone = refl
 sync_end (Does (Reads c x) ∷ ds) v gone = sync_end ds v gone
 sync_end (Does (Writes c x) ∷ ds) v gone = sync_end ds v gone
@@ -81,12 +81,12 @@ sync_end (Does (Ends x y) ∷ ds) v gone = sync_end ds v gone
 sync_end (Does (Passes m) ∷ ds) v gone = sync_end ds v gone
 sync_end (Invokes b w ∷ ds) v gone = sync_end ds v gone
 
-joined_end : (z q : ℕ) (ds : List (Deed World)) (v : ℤ) (gone : List Instance) → joined_at z q (ds ++ Does (Ends v gone) ∷ []) ≡ joined_at z q ds
+joined_end : (z q : ℕ) (ds : List (Deed FrameEnv)) (v : ℤ) (gone : List Instance) → joined_at z q (ds ++ Does (Ends v gone) ∷ []) ≡ joined_at z q ds
 joined_end z q [] v gone = refl
 joined_end z q (Does x ∷ ds) v gone = joined_end z q ds v gone
 joined_end z q (Invokes b w ∷ ds) v gone = ap₂ (λ n m. cond (nat_eq z q) (spawn_bit b n) m) (sync_end ds v gone) (joined_end (suc z) q ds v gone)
 
-pub end_last : (ds : List (Deed World)) (v : ℤ) (gone : List Instance) → HasEnd (ds ++ Does (Ends v gone) ∷ [])
+pub end_last : (ds : List (Deed FrameEnv)) (v : ℤ) (gone : List Instance) → HasEnd (ds ++ Does (Ends v gone) ∷ [])
 end_last [] v gone = tt
 end_last (Does (Reads c x) ∷ ds) v gone = end_last ds v gone
 end_last (Does (Writes c x) ∷ ds) v gone = end_last ds v gone
@@ -95,32 +95,32 @@ end_last (Does (Ends x y) ∷ ds) v gone = tt
 end_last (Does (Passes m) ∷ ds) v gone = end_last ds v gone
 end_last (Invokes b w ∷ ds) v gone = end_last ds v gone
 
-module _ (code : CodeView) (p : Source) (inputs : List ℤ) (name : ℕ → Name) (b : Board) (d : Desk) (s : State World View) (w k : ℕ) (v : ℤ) (is_shown : IsShown code p inputs name b d s) (started_as : AreStarted p s) (h : HasCome code p inputs b w k (asks.End v)) where
+module _ (code : CodeView) (p : Source) (inputs : List ℤ) (name : ℕ → Name) (b : Scheduler) (d : WorkerTable) (s : State FrameEnv View) (w k : ℕ) (v : ℤ) (is_shown : IsShown code p inputs name b d s) (started_as : AreStarted p s) (h : HasCome code p inputs b w k (asks.End v)) where
   abbrev sh : ShowsBy code p inputs name b d s
   sh = is_shown.shows
 
   abbrev lays : LaysOut p code.layout
   lays = is_shown.lays
 
-  abbrev old_seats : List (Activation Seat)
+  abbrev old_seats : List (Activation FrameState)
   old_seats = let f = b.frames in f.items
 
   abbrev old_workers : List Worker
   old_workers = let l = b.workers in l.items
 
-  abbrev seat : Seat
+  abbrev seat : FrameState
   seat = let a = h.seat in a.cursor
 
   abbrev sitting : Sits code p inputs name b s k h.seat
   sitting = let t = is_shown.shows in t.sits k h.seat h.sits
 
-  abbrev frame : Frame World
+  abbrev frame : Frame FrameEnv
   frame = let o = (let t = is_shown.shows in t.sits k h.seat h.sits) in o.frame
 
-  abbrev what : World
+  abbrev what : FrameEnv
   what = let f = (let o = (let t = is_shown.shows in t.sits k h.seat h.sits) in o.frame) in f.what
 
-  abbrev past : List (Deed World)
+  abbrev past : List (Deed FrameEnv)
   past = let f = (let o = (let t = is_shown.shows in t.sits k h.seat h.sits) in o.frame) in f.deeds
 
   abbrev gone : List Instance
@@ -149,7 +149,7 @@ module _ (code : CodeView) (p : Source) (inputs : List ℤ) (name : ℕ → Name
       let t = is_shown.shows in
       let g = t.holds w k h.worker h.at h.has in
       let same : g.seat ≡ h.seat = (let q : Some g.seat ≡ Some h.seat = sym g.here ∙ h.sits in cc) in
-      ap (λ (a : Activation Seat). let y = a.cursor in y.status) (sym same) ∙ g.held
+      ap (λ (a : Activation FrameState). let y = a.cursor in y.status) (sym same) ∙ g.held
 
   calm : is_resuming past ≡ false
   calm = ready.quiet code p inputs name b d s w k (asks.End v) lays sh h no_sync is_shown.asked (λ q. let e : End v gone ≡ Pass Resume = q in cc)
@@ -168,7 +168,7 @@ module _ (code : CodeView) (p : Source) (inputs : List ℤ) (name : ℕ → Name
   own_seen n kind =
       let o = sitting in
       let it = started_as (name k) frame here in
-      ap (λ (x : World). instance_in global_named x.sight (places.Own 0 n) kind) it.1
+      ap (λ (x : FrameEnv). instance_in global_named x.sight (places.Own 0 n) kind) it.1
       ∙ ap (λ m. own_named p (let x = what in x.callee) m n kind) (sym o.named)
 
   pub own_are : AreOwn p old_seats name (own_named p (let x = what in x.callee) (let x = what in x.name)) (let a = h.seat in a.number) (let a = h.seat in a.first) 0 (own_reducers p (let x = what in x.callee))
@@ -179,7 +179,7 @@ module _ (code : CodeView) (p : Source) (inputs : List ℤ) (name : ℕ → Name
           let a = at.0 in
           let same : h.seat ≡ a = (let q : Some h.seat ≡ Some a = sym h.sits ∙ at.1 in cc) in
           let g = at.2 in
-          let I : Activation Seat → numbered.Instance = (λ x. record { frame = x.number; place = x.first + n }) in
+          let I : Activation FrameState → numbered.Instance = (λ x. record { frame = x.number; place = x.first + n }) in
           ap I same ∙ ap (λ c. instance_in global_reducer c (places.Own 0 n)) (sym g.scope_is)
 
       each : (q : ℕ) (kind : MonoidKind) → slice_get (own_reducers p (let x = what in x.callee)) q ≡ Some kind
@@ -193,14 +193,14 @@ module _ (code : CodeView) (p : Source) (inputs : List ℤ) (name : ℕ → Name
 
   -- ---- the step
 
-  pub makes : HasNext World View monoid_of (Next p inputs) (costs p inputs) s (name k) frame (End v gone)
+  pub makes : HasNext FrameEnv View monoid_of (Next p inputs) (costs p inputs) s (name k) frame (End v gone)
   makes = stepped.makes code p inputs name b d s w k (asks.End v) lays sh h no_sync (λ q. let e : End v gone ≡ Sync = q in cc)
 
   pub hand_is : slice_get d.hands w ≡ Some (Some (name k))
   hand_is = stepped.hand_is code p inputs name b d s w k (asks.End v) lays sh h no_sync
 
-  module _ (b' : Board) (views : Hypermap) (c : Closes code p inputs b b' w k v h views) (s' : State World View) (m : Makes World View monoid_of (Next p inputs) (costs p inputs) s (name k) s') where
-    abbrev new_seats : List (Activation Seat)
+  module _ (b' : Scheduler) (views : Hypermap) (c : Closes code p inputs b b' w k v h views) (s' : State FrameEnv View) (m : Makes FrameEnv View monoid_of (Next p inputs) (costs p inputs) s (name k) s') where
+    abbrev new_seats : List (Activation FrameState)
     new_seats = let f = b'.frames in f.items
 
     abbrev new_workers : List Worker
@@ -212,7 +212,7 @@ module _ (code : CodeView) (p : Source) (inputs : List ℤ) (name : ℕ → Name
     pub ask_is : m.ask ≡ End v gone
     ask_is =
         let a = m.asking in
-        let n : next p inputs what past ≡ Some m.ask = subst (λ (f : Frame World). next p inputs f.what f.deeds ≡ Some m.ask) frame_is a.next in
+        let n : next p inputs what past ≡ Some m.ask = subst (λ (f : Frame FrameEnv). next p inputs f.what f.deeds ≡ Some m.ask) frame_is a.next in
         let z = stepped.named_as code p inputs name b d s w k (asks.End v) lays sh h no_sync in
         let q : Some m.ask ≡ Some (End v gone) = sym n ∙ z.0 in
         cc
@@ -221,7 +221,7 @@ module _ (code : CodeView) (p : Source) (inputs : List ℤ) (name : ℕ → Name
     deed = ap (λ a. deed_of s.memory (numbers_of monoid_of (s.piece (name k))) a) ask_is
 
     piece_at : (i : Instance) (z : Name) → s'.piece z i ≡ after_views (monoid_of i) i s.stolen (name k) past (Does (Ends v gone)) (λ y. s.piece y i) z
-    piece_at i z = m.piece i z ∙ ap₂ (λ (f : Frame World) x. after_views (monoid_of i) i s.stolen (name k) f.deeds x (λ y. s.piece y i) z) frame_is deed
+    piece_at i z = m.piece i z ∙ ap₂ (λ (f : Frame FrameEnv) x. after_views (monoid_of i) i s.stolen (name k) f.deeds x (λ y. s.piece y i) z) frame_is deed
 
     pub piece_here : (i : Instance) → s'.piece (name k) i ≡ cond (has_instance gone i) ((monoid_of i).unit) (s.piece (name k) i)
     piece_here i = piece_at i (name k) ∙ at_name (same_name (name k) (name k)) (same_name-refl (name k)) _ _
@@ -233,7 +233,7 @@ module _ (code : CodeView) (p : Source) (inputs : List ℤ) (name : ℕ → Name
     piece_off i z ne = piece_at i z ∙ rw (name_off (name k) z ne) refl
 
     total_at : (total : Total) → s'.totals total ≡ s.totals total + cost (costs p inputs) total what past (End v gone)
-    total_at total = m.totals total ∙ ap₂ (λ (f : Frame World) a. s.totals total + cost (costs p inputs) total f.what f.deeds a) frame_is ask_is
+    total_at total = m.totals total ∙ ap₂ (λ (f : Frame FrameEnv) a. s.totals total + cost (costs p inputs) total f.what f.deeds a) frame_is ask_is
 
     pub memory_at : (x : Cell) → s'.memory x ≡ s.memory x
     memory_at x = ap (λ t. t x) m.memory ∙ ap (λ a. effect a x (s.memory x)) deed
@@ -305,10 +305,10 @@ module _ (code : CodeView) (p : Source) (inputs : List ℤ) (name : ℕ → Name
         by true g = refl
         by false g = g
 
-    abbrev ended : Seat
+    abbrev ended : FrameState
     ended = counted (finished h.came)
 
-    abbrev now : Activation Seat
+    abbrev now : Activation FrameState
     now = let a = h.seat in record a { cursor = counted (finished h.came) }
 
     -- what a worker has before and after, where the frame at this place may be offered no more
@@ -329,9 +329,9 @@ module _ (code : CodeView) (p : Source) (inputs : List ℤ) (name : ℕ → Name
     pub named_ended : AreNamed (changed (λ _. counted (finished h.came)) old_seats k) name
     named_ended =
         let y = h.came in
-        let J : Seat → Seat = (λ x. record x { status = Finished; cursor = None; took = (let y = h.came in y.took); counted = (let y = h.came in y.took) }) in
+        let J : FrameState → FrameState = (λ x. record x { status = Finished; cursor = None; took = (let y = h.came in y.took); counted = (let y = h.came in y.took) }) in
         let was : h.came ≡ (let y = h.came in record seat { cursor = y.cursor; took = y.took }) = stepped.kept code p inputs name b d s w k (asks.End v) lays sh h no_sync in
-        subst (λ l. AreNamed l name) (changed_known J (λ _. counted (finished h.came)) old_seats k h.seat h.sits (sym (ap (λ (x : Seat). counted (finished x)) was))) (named_changed J old_seats k name (λ x. (refl, refl)) named)
+        subst (λ l. AreNamed l name) (changed_known J (λ _. counted (finished h.came)) old_seats k h.seat h.sits (sym (ap (λ (x : FrameState). counted (finished x)) was))) (named_changed J old_seats k name (λ x. (refl, refl)) named)
 
     -- What becomes of seats and workers: this other one may change, the parent's, whose child alone the frame is.
     pub record Moved (up : ℕ) : Type 0 where
@@ -362,7 +362,7 @@ module _ (code : CodeView) (p : Source) (inputs : List ℤ) (name : ℕ → Name
       cell_back (Global g) n it = it
       cell_back (Own z q) n it =
           let r = carries.carried_back old_seats new_seats t.on t.same_length it.0 it.1 it.2 in
-          (it.0, r.0, r.1, it.3, it.4 ∙ ap (λ (a : Activation Seat). a.base + q) r.2, subst (λ y. q < y) (sizes z) it.5)
+          (it.0, r.0, r.1, it.3, it.4 ∙ ap (λ (a : Activation FrameState). a.base + q) r.2, subst (λ y. q < y) (sizes z) it.5)
 
       pub absent_back : (n : Name) → IsAbsent new_seats name n → IsAbsent old_seats name n
       absent_back n none = λ j at. none j (subst (λ z. j < z) (sym t.same_length) at)
@@ -372,11 +372,11 @@ module _ (code : CodeView) (p : Source) (inputs : List ℤ) (name : ℕ → Name
 
       -- ---- blocks
 
-      flags_same : (n : Name) (ds : List (Deed World)) → stolen_at_block code p inputs name b' s' n ds ≡ stolen_at_block code p inputs name b s n ds
+      flags_same : (n : Name) (ds : List (Deed FrameEnv)) → stolen_at_block code p inputs name b' s' n ds ≡ stolen_at_block code p inputs name b s n ds
       flags_same n ds = ap (λ (l : Name → Bool). stolen_in (λ q. l (n ++ q ∷ [])) 1 [] ds) m.stolen
 
       -- a block of whose stolen children the frame isn't one
-      pub keeps_stays : (n : Name) (ds : List (Deed World)) (j : JoinView) → (name k ≡ n → ⊥) → ((z : ℕ) → s.stolen (n ++ z ∷ []) ≡ true → name k ≡ n ++ z ∷ [] → ⊥) → Keeps code p inputs name b s n ds j → Keeps code p inputs name b' s' n ds j
+      pub keeps_stays : (n : Name) (ds : List (Deed FrameEnv)) (j : JoinView) → (name k ≡ n → ⊥) → ((z : ℕ) → s.stolen (n ++ z ∷ []) ≡ true → name k ≡ n ++ z ∷ [] → ⊥) → Keeps code p inputs name b s n ds j → Keeps code p inputs name b' s' n ds j
       keeps_stays n ds j ne off g = record {
         lays = λ i q is.
             let r = j.row in
@@ -392,21 +392,21 @@ module _ (code : CodeView) (p : Source) (inputs : List ℤ) (name : ℕ → Name
         bare_later = λ q a run at has. subst (λ z. IsBare z run) (sym t.same_length) (g.bare_later q a run at has);
       }
 
-      pub block_stays : (n : Name) (ds : List (Deed World)) (x : Seat) → (name k ≡ n → ⊥) → ((z : ℕ) → s.stolen (n ++ z ∷ []) ≡ true → name k ≡ n ++ z ∷ [] → ⊥) → HasBlock code p inputs name b s n ds x → HasBlock code p inputs name b' s' n ds x
+      pub block_stays : (n : Name) (ds : List (Deed FrameEnv)) (x : FrameState) → (name k ≡ n → ⊥) → ((z : ℕ) → s.stolen (n ++ z ∷ []) ≡ true → name k ≡ n ++ z ∷ [] → ⊥) → HasBlock code p inputs name b s n ds x → HasBlock code p inputs name b' s' n ds x
       block_stays n ds x ne off (inl g) = inl (g.0, flags_same n ds ∙ g.1, g.2)
       block_stays n ds x ne off (inr g) = let l = g.0 in inr (g.0, g.1, ⊎_elim (λ y. inl y) (λ y. inr (keeps_stays n ds (shown l.value) ne off y.0, y.1)) g.2)
 
       -- ---- where frames are
 
-      pub goes_on : (n : Name) (ds : List (Deed World)) → GoesOn World View s n ds → GoesOn World View s' n ds
+      pub goes_on : (n : Name) (ds : List (Deed FrameEnv)) → GoesOn FrameEnv View s n ds → GoesOn FrameEnv View s' n ds
       goes_on n ds g = carries.goes_on s s' ends_more n (λ q is. stolen_at (n ++ q ∷ []) ∙ is) ds g
 
       pub over_on : (n : Name) → (name k ≡ n → ⊥) → BlockIsOver s n → BlockIsOver s' n
-      over_on n ne g = subst (λ f. BlockHasEnded World View s' n (deeds_at f)) (sym (frame_else n ne)) (carries.block_on s s' ends_more n (deeds_at (s.frames n)) g)
+      over_on n ne g = subst (λ f. BlockHasEnded FrameEnv View s' n (deeds_at f)) (sym (frame_else n ne)) (carries.block_on s s' ends_more n (deeds_at (s.frames n)) g)
 
       over_back : (n : Name) → (name k ≡ n → ⊥) → ((z : ℕ) → name k ≡ n ++ z ∷ [] → ⊥) → BlockIsOver s' n → BlockIsOver s n
       over_back n ne off g =
-          let old = subst (λ f. BlockHasEnded World View s' n (deeds_at f)) (frame_else n ne) g in
+          let old = subst (λ f. BlockHasEnded FrameEnv View s' n (deeds_at f)) (frame_else n ne) g in
           λ before after x q none.
           let z = child_after n before in
           end_of s z (s.frames z) refl (sym (ends_else z (off (suc (started before)))) ∙ has_end s' z (old before after x q none))
@@ -418,7 +418,7 @@ module _ (code : CodeView) (p : Source) (inputs : List ℤ) (name : ℕ → Name
           let z : Some k ≡ Some j = sym h.has ∙ ap (λ (y : Worker). y.frame) same ∙ has in
           cc
 
-      where_else : (j : ℕ) (ds : List (Deed World)) (x : Seat) (z : Status) → (k ≡ j → ⊥) → (up ≡ j → ⊥) → j < length old_seats → IsWhere code p inputs name b s j (name j) ds x z → IsWhere code p inputs name b' s' j (name j) ds x z
+      where_else : (j : ℕ) (ds : List (Deed FrameEnv)) (x : FrameState) (z : Status) → (k ≡ j → ⊥) → (up ≡ j → ⊥) → j < length old_seats → IsWhere code p inputs name b s j (name j) ds x z → IsWhere code p inputs name b' s' j (name j) ds x z
       where_else j ds x (Held at) ne ne' there g =
           let r = t.worker_on at g.0 g.1 in
           let o = r.2 in
@@ -448,14 +448,14 @@ module _ (code : CodeView) (p : Source) (inputs : List ℤ) (name : ℕ → Name
       written_here = ap (λ l. events_of k l) c.journal ∙ events_more k entries (record { frame = k; event = events.End }) ∙ ap (λ t. cond t (events_of k entries ++ events.End ∷ []) (events_of k entries)) (eq-eqb k k refl)
 
       -- a frame that stays but for where it is and what lies at its block
-      pub stays_with : (j : ℕ) (a : Activation Seat) (y : Seat) → (k ≡ j → ⊥) → slice_get old_seats j ≡ Some a → (let x = a.cursor in y ≡ record x { status = y.status; join = y.join; merged = y.merged })
+      pub stays_with : (j : ℕ) (a : Activation FrameState) (y : FrameState) → (k ≡ j → ⊥) → slice_get old_seats j ≡ Some a → (let x = a.cursor in y ≡ record x { status = y.status; join = y.join; merged = y.merged })
           → (o : Sits code p inputs name b s j a) → (let f = o.frame in IsWhere code p inputs name b' s' j (name j) f.deeds y y.status) → (let f = o.frame in has_ended f.deeds ≡ false → HasBlock code p inputs name b' s' (name j) f.deeds y)
           → Sits code p inputs name b' s' j (record a { cursor = y })
       stays_with j a y ne at same o place block =
           let x = a.cursor in
           let f = o.frame in
           let apart = names_differ k j low (get_low old_seats j a at) ne in
-          let Y : Seat → Seat = (λ z. record z { status = y.status; join = y.join; merged = y.merged }) in record {
+          let Y : FrameState → FrameState = (λ z. record z { status = y.status; join = y.join; merged = y.merged }) in record {
             frame = o.frame;
             here = frame_else (name j) apart ∙ o.here;
             named = o.named;
@@ -463,24 +463,24 @@ module _ (code : CodeView) (p : Source) (inputs : List ℤ) (name : ℕ → Name
             seen = carries.seen_on code p inputs name b b' s s' t.on more a y f.what o.seen;
             creates = o.creates;
             creates_none = o.creates_none;
-            stolen = stolen_at (name j) ∙ o.stolen ∙ ap (λ (z : Seat). z.stolen) (sym same);
-            children = o.children ∙ ap (λ (z : Seat). z.children) (sym same);
+            stolen = stolen_at (name j) ∙ o.stolen ∙ ap (λ (z : FrameState). z.stolen) (sym same);
+            children = o.children ∙ ap (λ (z : FrameState). z.children) (sym same);
             last = λ some.
-                let e = ap (λ (z : Seat). z.children) same in
-                let g = ap (λ (z : Seat). z.last) same in
+                let e = ap (λ (z : FrameState). z.children) same in
+                let g = ap (λ (z : FrameState). z.last) same in
                 let r = o.last (subst (λ n. 0 < n) e some) in
                 (subst (λ z. y.last < z) (sym t.same_length) (subst (λ n. n < length old_seats) (sym g) r.0), ap name g ∙ r.1 ∙ ap (λ n. name j ++ n ∷ []) (sym e));
-            strands_are = o.strands_are ∙ ap (λ (z : Seat). z.strands) (sym same);
-            counted = ap (λ (z : Seat). z.counted) same ∙ o.counted;
+            strands_are = o.strands_are ∙ ap (λ (z : FrameState). z.strands) (sym same);
+            counted = ap (λ (z : FrameState). z.counted) same ∙ o.counted;
             due = λ going.
                 let it = o.due going in
-                (it.0, ap (λ (z : Seat). z.cursor) same ∙ it.1, subst (λ (z : Seat). IsDue code p inputs f.what f.deeds z.due it.0 z.took) (sym same) it.2);
+                (it.0, ap (λ (z : FrameState). z.cursor) same ∙ it.1, subst (λ (z : FrameState). IsDue code p inputs f.what f.deeds z.due it.0 z.took) (sym same) it.2);
             is_where = place;
             block = block;
             written = subst (λ es. AreDeeds p new_seats name s' j f.deeds es) (sym (written_else j ne)) (carries.deeds_on old_seats new_seats t.on name p s s' more j f.deeds (events_of j entries) o.written);
           }
 
-      other : (j : ℕ) (a : Activation Seat) → (k ≡ j → ⊥) → (up ≡ j → ⊥) → slice_get old_seats j ≡ Some a → Sits code p inputs name b s j a → Sits code p inputs name b' s' j a
+      other : (j : ℕ) (a : Activation FrameState) → (k ≡ j → ⊥) → (up ≡ j → ⊥) → slice_get old_seats j ≡ Some a → Sits code p inputs name b s j a → Sits code p inputs name b' s' j a
       other j a ne ne' at o =
           let x = a.cursor in
           let f = o.frame in
@@ -503,14 +503,14 @@ module _ (code : CodeView) (p : Source) (inputs : List ℤ) (name : ℕ → Name
             seen = carries.seen_on code p inputs name b b' s s' t.on more h.seat ended what o.seen;
             creates = o.creates;
             creates_none = o.creates_none;
-            stolen = stolen_at (name k) ∙ o.stolen ∙ ap (λ (z : Seat). z.stolen) (sym kept);
-            children = started_does past (Ends v gone) ∙ o.children ∙ ap (λ (z : Seat). z.children) (sym kept);
+            stolen = stolen_at (name k) ∙ o.stolen ∙ ap (λ (z : FrameState). z.stolen) (sym kept);
+            children = started_does past (Ends v gone) ∙ o.children ∙ ap (λ (z : FrameState). z.children) (sym kept);
             last = λ some.
-                let e = ap (λ (z : Seat). z.children) kept in
-                let g = ap (λ (z : Seat). z.last) kept in
+                let e = ap (λ (z : FrameState). z.children) kept in
+                let g = ap (λ (z : FrameState). z.last) kept in
                 let r = o.last (subst (λ n. 0 < n) e some) in
                 (subst (λ z. (let y = h.came in y.last) < z) (sym t.same_length) (subst (λ n. n < length old_seats) (sym g) r.0), ap name g ∙ r.1 ∙ ap (λ n. name k ++ n ∷ []) (sym e));
-            strands_are = strands_stay (Ends v gone) refl past ∙ o.strands_are ∙ ap (λ (z : Seat). z.strands) (sym kept);
+            strands_are = strands_stay (Ends v gone) refl past ∙ o.strands_are ∙ ap (λ (z : FrameState). z.strands) (sym kept);
             counted = n.1 ∙ ap (taken p inputs what) (sym (but_last_more past (Does (Ends v gone))));
             due = λ going. absurd (true≢false (sym (ended_more past (Does (Ends v gone)) goes) ∙ going));
             is_where = end_last past v gone;
@@ -522,7 +522,7 @@ module _ (code : CodeView) (p : Source) (inputs : List ℤ) (name : ℕ → Name
       -- ---- workers
 
       -- a worker that had a frame has it with the views that it had
-      pub holds_at : (at j : ℕ) (u u' : Worker) (z : Activation Seat) → (k ≡ j → ⊥) → u'.views ≡ u.views → (g : Holds code p inputs name b s at u j) → slice_get new_seats j ≡ Some z → (let y = z.cursor in y.status ≡ Held at)
+      pub holds_at : (at j : ℕ) (u u' : Worker) (z : Activation FrameState) → (k ≡ j → ⊥) → u'.views ≡ u.views → (g : Holds code p inputs name b s at u j) → slice_get new_seats j ≡ Some z → (let y = z.cursor in y.status ≡ Held at)
           → (let y = z.cursor in let a = g.seat in let x = a.cursor in y.merged ≡ x.merged) → Holds code p inputs name b' s' at u' j
       holds_at at j u u' z ne views g is held merged =
           let x = (let a = g.seat in a.cursor) in
@@ -554,14 +554,14 @@ module _ (code : CodeView) (p : Source) (inputs : List ℤ) (name : ℕ → Name
           let o = y.desk in
           let g = o.places at q j u is has in
           let same : g.0 ≡ h.seat = (let z : Some g.0 ≡ Some h.seat = sym g.1 ∙ ap (λ i. slice_get old_seats i) (sym e) ∙ h.sits in cc) in
-          let z : Held w ≡ Offered at = sym status_was ∙ ap (λ (a : Activation Seat). let x = a.cursor in x.status) (sym same) ∙ g.2 in
+          let z : Held w ≡ Offered at = sym status_was ∙ ap (λ (a : Activation FrameState). let x = a.cursor in x.status) (sym same) ∙ g.2 in
           cc
 
       -- the frames that wait, where this list is told of them
       pub waits_as : (ws : List Name) → ((j : ℕ) → j < length old_seats → (up ≡ j → ⊥) → (IsIn (name j) ws → IsIn (name j) d.waiting) × (IsIn (name j) d.waiting → IsIn (name j) ws))
-          → ((a : Activation Seat) → (k ≡ up → ⊥) → slice_get new_seats up ≡ Some a → ((let x = a.cursor in x.status ≡ Waiting) → IsIn (name up) ws) × (IsIn (name up) ws → let x = a.cursor in x.status ≡ Waiting))
+          → ((a : Activation FrameState) → (k ≡ up → ⊥) → slice_get new_seats up ≡ Some a → ((let x = a.cursor in x.status ≡ Waiting) → IsIn (name up) ws) × (IsIn (name up) ws → let x = a.cursor in x.status ≡ Waiting))
           → (IsIn (name k) ws → IsIn (name k) d.waiting)
-          → (j : ℕ) (a : Activation Seat) → slice_get new_seats j ≡ Some a → ((let x = a.cursor in x.status ≡ Waiting) → IsIn (name j) ws) × (IsIn (name j) ws → let x = a.cursor in x.status ≡ Waiting)
+          → (j : ℕ) (a : Activation FrameState) → slice_get new_seats j ≡ Some a → ((let x = a.cursor in x.status ≡ Waiting) → IsIn (name j) ws) × (IsIn (name j) ws → let x = a.cursor in x.status ≡ Waiting)
       waits_as ws others parent own j a at = by (nat_eq k j) refl (nat_eq up j) refl
         where
           by : (x : Bool) → nat_eq k j ≡ x → (y : Bool) → nat_eq up j ≡ y → ((let x = a.cursor in x.status ≡ Waiting) → IsIn (name j) ws) × (IsIn (name j) ws → let x = a.cursor in x.status ≡ Waiting)
@@ -571,7 +571,7 @@ module _ (code : CodeView) (p : Source) (inputs : List ℤ) (name : ℕ → Name
               let e = sh in
               let o = e.desk in
               let g = o.waiting k h.seat h.sits in (
-                (λ f. let z : Finished ≡ Waiting = ap (λ (y : Activation Seat). let x = y.cursor in x.status) is ∙ f in let n : ⊥ = cc in absurd n),
+                (λ f. let z : Finished ≡ Waiting = ap (λ (y : Activation FrameState). let x = y.cursor in x.status) is ∙ f in let n : ⊥ = cc in absurd n),
                 (λ f. let z : Held w ≡ Waiting = sym status_was ∙ g.1 (own (subst (λ i. IsIn (name i) ws) (sym same) f)) in let n : ⊥ = cc in absurd n),
               )
           by false q true z =
@@ -591,9 +591,9 @@ module _ (code : CodeView) (p : Source) (inputs : List ℤ) (name : ℕ → Name
 
       module _ (f : Worker → Worker) (hand : Option Name) (offers : (u : Worker) → (let x = f u in x.offered) ≡ u.offered) (hands : (u : Worker) → hand_of name (f u) ≡ hand) (workers_are : new_workers ≡ altered f old_workers w) (offered_are : b'.offered ≡ b.offered) where
         pub desk_kept : (ws : List Name) → ((n : Name) → IsIn n ws → IsIn n d.waiting)
-            → ((at : ℕ) (x : Activation Seat) → slice_get old_seats up ≡ Some x → (let y = x.cursor in y.status ≡ Offered at) → (z : Activation Seat) × (slice_get new_seats up ≡ Some z) × (let y = z.cursor in y.status ≡ Offered at))
-            → ((j : ℕ) (a : Activation Seat) → slice_get new_seats j ≡ Some a → ((let x = a.cursor in x.status ≡ Waiting) → IsIn (name j) ws) × (IsIn (name j) ws → let x = a.cursor in x.status ≡ Waiting))
-            → IsDesk code p inputs name b' (record d { hands = set d.hands w hand; waiting = ws })
+            → ((at : ℕ) (x : Activation FrameState) → slice_get old_seats up ≡ Some x → (let y = x.cursor in y.status ≡ Offered at) → (z : Activation FrameState) × (slice_get new_seats up ≡ Some z) × (let y = z.cursor in y.status ≡ Offered at))
+            → ((j : ℕ) (a : Activation FrameState) → slice_get new_seats j ≡ Some a → ((let x = a.cursor in x.status ≡ Waiting) → IsIn (name j) ws) × (IsIn (name j) ws → let x = a.cursor in x.status ≡ Waiting))
+            → IsWorkerTable code p inputs name b' (record d { hands = set d.hands w hand; waiting = ws })
         desk_kept ws fewer parent waiting =
             let y = sh in
             let o = y.desk in record {
@@ -617,7 +617,7 @@ module _ (code : CodeView) (p : Source) (inputs : List ℤ) (name : ℕ → Name
                 let r = altering.altered_from f old_workers w at u (subst (λ ws. slice_get ws at ≡ Some u) workers_are is) in
                 (r.0, r.1, ⊎_elim (λ g. ap (λ (y : Worker). y.offered) g.1 ∙ offers r.0) (λ g. ap (λ (y : Worker). y.offered) g.1) r.2)
 
-            place : (at j : ℕ) (x : Activation Seat) → (k ≡ j → ⊥) → slice_get old_seats j ≡ Some x → (let y = x.cursor in y.status ≡ Offered at) → (e : Bool) → nat_eq up j ≡ e → (z : Activation Seat) × (slice_get new_seats j ≡ Some z) × (let y = z.cursor in y.status ≡ Offered at)
+            place : (at j : ℕ) (x : Activation FrameState) → (k ≡ j → ⊥) → slice_get old_seats j ≡ Some x → (let y = x.cursor in y.status ≡ Offered at) → (e : Bool) → nat_eq up j ≡ e → (z : Activation FrameState) × (slice_get new_seats j ≡ Some z) × (let y = z.cursor in y.status ≡ Offered at)
             place at j x ne is status true e =
                 let same : up ≡ j = eqb-true up j e in
                 let r = parent at x (ap (λ i. slice_get old_seats i) same ∙ is) status in
@@ -627,17 +627,17 @@ module _ (code : CodeView) (p : Source) (inputs : List ℤ) (name : ℕ → Name
       -- ---- the whole
 
       -- the parent's seat, who has it, and the desk
-      pub record Settled (d' : Desk) : Type 0 where
-        pub parent : (a : Activation Seat) → (k ≡ up → ⊥) → slice_get new_seats up ≡ Some a → Sits code p inputs name b' s' up a
+      pub record Settled (d' : WorkerTable) : Type 0 where
+        pub parent : (a : Activation FrameState) → (k ≡ up → ⊥) → slice_get new_seats up ≡ Some a → Sits code p inputs name b' s' up a
         pub mine : (j : ℕ) (u : Worker) → slice_get new_workers w ≡ Some u → u.frame ≡ Some j → Holds code p inputs name b' s' w u j
         pub held : (at : ℕ) (u : Worker) → (w ≡ at → ⊥) → (k ≡ up → ⊥) → (g : Holds code p inputs name b s at u up)
-            → (z : Activation Seat) × (slice_get new_seats up ≡ Some z) × (let y = z.cursor in y.status ≡ Held at) × (let y = z.cursor in let a = g.seat in let x = a.cursor in y.merged ≡ x.merged)
-        pub desk : IsDesk code p inputs name b' d'
+            → (z : Activation FrameState) × (slice_get new_seats up ≡ Some z) × (let y = z.cursor in y.status ≡ Held at) × (let y = z.cursor in let a = g.seat in let x = a.cursor in y.merged ≡ x.merged)
+        pub desk : IsWorkerTable code p inputs name b' d'
         pub going : b'.outcome ≡ None → ¬ (HasEnd (deeds_at (s'.frames [])))
         pub over : (o : Outcome) → b'.outcome ≡ Some o → HasEnd (deeds_at (s'.frames [])) × (o ≡ outcome_in p s')
 
-      module _ (d' : Desk) (r : Settled d') where
-        seats_sit : (j : ℕ) (a : Activation Seat) → slice_get new_seats j ≡ Some a → Sits code p inputs name b' s' j a
+      module _ (d' : WorkerTable) (r : Settled d') where
+        seats_sit : (j : ℕ) (a : Activation FrameState) → slice_get new_seats j ≡ Some a → Sits code p inputs name b' s' j a
         seats_sit j a at = by (nat_eq k j) refl (nat_eq up j) refl
           where
             by : (x : Bool) → nat_eq k j ≡ x → (y : Bool) → nat_eq up j ≡ y → Sits code p inputs name b' s' j a
@@ -672,7 +672,7 @@ module _ (code : CodeView) (p : Source) (inputs : List ℤ) (name : ℕ → Name
                 let was : (let x = old.0 in x.frame) ≡ Some j = sym (o.frame_is ne) ∙ has in
                 let g = e.holds at j old.0 old.1 was in
                 let off : k ≡ j → ⊥ = (λ e. let y : Some h.seat ≡ Some g.seat = sym h.sits ∙ ap (λ i. slice_get old_seats i) e ∙ g.here in let x : h.seat ≡ g.seat = cc in
-                let z : Held w ≡ Held at = sym status_was ∙ ap (λ (a : Activation Seat). let c = a.cursor in c.status) x ∙ g.held in ne (cc)) in
+                let z : Held w ≡ Held at = sym status_was ∙ ap (λ (a : Activation FrameState). let c = a.cursor in c.status) x ∙ g.held in ne (cc)) in
                 there y z old.0 g off ne (o.views_are ne)
               where
                 there : (y : Bool) → nat_eq up j ≡ y → (u0 : Worker) (g : Holds code p inputs name b s at u0 j) → (k ≡ j → ⊥) → (w ≡ at → ⊥) → u.views ≡ u0.views → Holds code p inputs name b' s' at u j
@@ -684,14 +684,14 @@ module _ (code : CodeView) (p : Source) (inputs : List ℤ) (name : ℕ → Name
                     let ne' : up ≡ j → ⊥ = (λ x. true≢false (sym (eq-eqb up j x) ∙ e)) in
                     holds_at at j u0 u g.seat off views g (t.else_at j off ne' ∙ g.here) g.held refl
 
-        base_was : (j : ℕ) (a : Activation Seat) → slice_get new_seats j ≡ Some a → (z : Activation Seat) × (slice_get old_seats j ≡ Some z) × (a.base ≡ z.base)
-        base_was j a at = let r = carries.carried_back old_seats new_seats t.on t.same_length j a at in (r.0, r.1, ap (λ (z : Activation Seat). z.base) r.2)
+        base_was : (j : ℕ) (a : Activation FrameState) → slice_get new_seats j ≡ Some a → (z : Activation FrameState) × (slice_get old_seats j ≡ Some z) × (a.base ≡ z.base)
+        base_was j a at = let r = carries.carried_back old_seats new_seats t.on t.same_length j a at in (r.0, r.1, ap (λ (z : Activation FrameState). z.base) r.2)
 
         joins_are : (n : Name) (q : ℕ) → times (n ++ q ∷ []) s'.joins ≡ joined_at 1 q (deeds_at (s'.frames n))
         joins_are n q =
             let y = sh in
             let o = y.tells in
-            ap (λ l. times (n ++ q ∷ []) l) (m.joins ∙ ap₂ (λ a (f : Frame World). joined_by a (name k) f.deeds ++ s.joins) ask_is frame_is) ∙ o.joins n q ∙ by (same_name (name k) n) refl
+            ap (λ l. times (n ++ q ∷ []) l) (m.joins ∙ ap₂ (λ a (f : Frame FrameEnv). joined_by a (name k) f.deeds ++ s.joins) ask_is frame_is) ∙ o.joins n q ∙ by (same_name (name k) n) refl
           where
             by : (x : Bool) → same_name (name k) n ≡ x → joined_at 1 q (deeds_at (s.frames n)) ≡ joined_at 1 q (deeds_at (s'.frames n))
             by true e =

@@ -12,10 +12,10 @@ use Rattle.cilk_runs.specs.Machine.{Frame, State, HasEnd, after_deed, begun, dee
 use Rattle.cilk_runs.specs.Runs.{Name, same_name, Invokes}
 use Rattle.cilk_runs.proofs.Basics.{same_name-refl, same_name-eq}
 use Rattle.cilk_runs.proofs.Joins.{joined_step}
-use Rattle.cilk_runs.specs.WorldMachine.{has_ended}
+use Rattle.cilk_runs.specs.FrameEnvMachine.{has_ended}
 use Rattle.cilk_runs.specs.Reducers.{View}
-use Rattle.cilk_runs.specs.Worlds.{World}
-use Rattle.cilk_runs.proofs.KeptWorld.{ended_more}
+use Rattle.cilk_runs.specs.FrameEnvs.{FrameEnv}
+use Rattle.cilk_runs.proofs.KeptFrameEnv.{ended_more}
 use Rattle.cilk_scheduler.specs.Numbered.{size_of}
 use Rattle.cilk_scheduler.proofs.Children.{end_child}
 use Rattle.cilk_scheduler.proofs.Onward.{longer, name_off}
@@ -24,7 +24,7 @@ use Rattle.cilk_scheduler.proofs.Touched.{joined_child}
 pub off_by : (n m : Name) → same_name n m ≡ false → n ≡ m → ⊥
 off_by n m q e = true≢false (sym (same_name-refl n) ∙ ap (λ z. same_name n z) e ∙ q)
 
-module _ (p : Source) (s s' : State World View) (n : Name) (f : Frame World) (how : Invocation) (v : World) (here : s.frames n ≡ Some f) (fresh : s.frames (n ++ suc (started f.deeds) ∷ []) ≡ None) (going : has_ended f.deeds ≡ false)
+module _ (p : Source) (s s' : State FrameEnv View) (n : Name) (f : Frame FrameEnv) (how : Invocation) (v : FrameEnv) (here : s.frames n ≡ Some f) (fresh : s.frames (n ++ suc (started f.deeds) ∷ []) ≡ None) (going : has_ended f.deeds ≡ false)
     (made : s'.frames ≡ after_deed s.frames n f (Invokes how v)) where
   abbrev kid : Name
   kid = n ++ suc (started f.deeds) ∷ []

@@ -26,27 +26,27 @@ use Rattle.cilk_runs.specs.Progress.{AfterChild, AfterEvent, AfterSteal, AtBegin
 use Rattle.cilk_runs.specs.Runs.{Name, Instance, Output, End, Deed, Does, Invokes}
 use Rattle.cilk_runs.proofs.Basics.{nil_snoc, snoc_one}
 use Rattle.cilk_runs.proofs.Started.{started_invokes}
-use Rattle.cilk_runs.specs.WorldMachine.{costs, has_ended}
+use Rattle.cilk_runs.specs.FrameEnvMachine.{costs, has_ended}
 use Rattle.cilk_runs.specs.Reducers.{View, kind_of, monoid_of}
 use Rattle.cilk_runs.specs.Steps.{Next}
-use Rattle.cilk_runs.specs.WorldViews.{IsViewOf}
-use Rattle.cilk_runs.specs.Worlds.{World}
-use Rattle.cilk_scheduler.specs.declared.board.Board.{Board}
+use Rattle.cilk_runs.specs.FrameEnvViews.{IsViewOf}
+use Rattle.cilk_runs.specs.FrameEnvs.{FrameEnv}
+use Rattle.cilk_scheduler.specs.declared.scheduler.Scheduler.{Scheduler}
 use Rattle.cilk_scheduler.specs.declared.choice.Choice.TheVariants.{Run}
-use Rattle.cilk_scheduler.specs.declared.seat.Due.TheVariants as due
-use Rattle.cilk_scheduler.specs.declared.seat.Seat.{Seat}
-use Rattle.cilk_scheduler.specs.declared.seat.Status.{Status}
-use Rattle.cilk_scheduler.specs.declared.seat.Status.TheVariants.{Held, Calling, Offered, Waiting, Finished}
-use Rattle.cilk_scheduler.specs.declared.seat.Worker.{Worker}
+use Rattle.cilk_scheduler.specs.declared.frame_state.Due.TheVariants as due
+use Rattle.cilk_scheduler.specs.declared.frame_state.FrameState.{FrameState}
+use Rattle.cilk_scheduler.specs.declared.frame_state.Status.{Status}
+use Rattle.cilk_scheduler.specs.declared.frame_state.Status.TheVariants.{Held, Calling, Offered, Waiting, Finished}
+use Rattle.cilk_scheduler.specs.declared.frame_state.Worker.{Worker}
 use Rattle.cilk_scheduler.specs.Acting.{IsShown}
 use Rattle.cilk_scheduler.specs.Blocks.{Lays, stolen_in, with_one}
-use Rattle.cilk_scheduler.specs.Boards.{carried, greatest, hand_of, is_there, run_at, stolen_at_block, waits_at, HasBlock, Holds, IsBare, IsDesk, IsUsed, IsWhere, Keeps, Sits, ShowsBy}
-use Rattle.cilk_scheduler.specs.Desks.{BlockIsOver, Desk, Did, Chooses, IsIn, Settles, does, leaves, passes as passes_now, without}
+use Rattle.cilk_scheduler.specs.Schedulers.{carried, greatest, hand_of, is_there, run_at, stolen_at_block, waits_at, HasBlock, Holds, IsBare, IsWorkerTable, IsUsed, IsWhere, Keeps, Sits, ShowsBy}
+use Rattle.cilk_scheduler.specs.WorkerTables.{BlockIsOver, WorkerTable, Did, Chooses, IsIn, Settles, does, leaves, passes as passes_now, without}
 use Rattle.cilk_scheduler.specs.Ending.{ArrivalsAreShown, HandsIn, IsEnded}
 use Rattle.cilk_scheduler.specs.Events.{Arrives, block_in}
 use Rattle.cilk_scheduler.specs.Numbered.{AreNamed, IsInstance}
 use Rattle.cilk_scheduler.specs.Parents.{AreStarted, OutliveChildren}
-use Rattle.cilk_scheduler.specs.Seats.{changed, counted, finished, moved_to, passed}
+use Rattle.cilk_scheduler.specs.FrameStates.{changed, counted, finished, moved_to, passed}
 use Rattle.cilk_scheduler.specs.Steps.{HasCome}
 use Rattle.cilk_scheduler.specs.Waiting.{idling}
 use Rattle.cilk_scheduler.specs.Workers.{holding}
@@ -79,15 +79,15 @@ no_waits : {A : Type 0} (ws : List A) → is_empty ws ≡ true → ws ≡ []
 no_waits [] h = refl
 no_waits (x ∷ ws) h = absurd (true≢false (sym h))
 
-module _ (code : CodeView) (p : Source) (inputs : List ℤ) (name : ℕ → Name) (b b' : Board) (d : Desk) (s : State World View) (w k : ℕ) (v : ℤ) (is_shown : IsShown code p inputs name b d s) (started_as : AreStarted p s) (outlive : OutliveChildren s)
+module _ (code : CodeView) (p : Source) (inputs : List ℤ) (name : ℕ → Name) (b b' : Scheduler) (d : WorkerTable) (s : State FrameEnv View) (w k : ℕ) (v : ℤ) (is_shown : IsShown code p inputs name b d s) (started_as : AreStarted p s) (outlive : OutliveChildren s)
     (h : HasCome code p inputs b w (suc k) (asks.End v)) (g : HandsIn code p inputs b b' w (suc k) v h) where
   abbrev sh : ShowsBy code p inputs name b d s
   sh = is_shown.shows
 
-  abbrev old_seats : List (Activation Seat)
+  abbrev old_seats : List (Activation FrameState)
   old_seats = let f = b.frames in f.items
 
-  abbrev new_seats : List (Activation Seat)
+  abbrev new_seats : List (Activation FrameState)
   new_seats = let f = b'.frames in f.items
 
   abbrev old_workers : List Worker
@@ -96,7 +96,7 @@ module _ (code : CodeView) (p : Source) (inputs : List ℤ) (name : ℕ → Name
   abbrev new_workers : List Worker
   new_workers = let l = b'.workers in l.items
 
-  abbrev seat : Seat
+  abbrev seat : FrameState
   seat = let a = h.seat in a.cursor
 
   abbrev ordinal : ℕ
@@ -105,13 +105,13 @@ module _ (code : CodeView) (p : Source) (inputs : List ℤ) (name : ℕ → Name
   abbrev up : ℕ
   up = let a = h.seat in let x = a.cursor in x.parent
 
-  abbrev parent : Seat
+  abbrev parent : FrameState
   parent = let a = g.above in a.cursor
 
   abbrev sitting : Sits code p inputs name b s up g.above
   sitting = let y = is_shown.shows in y.sits (let a = h.seat in let x = a.cursor in x.parent) g.above g.sits
 
-  abbrev deeds : List (Deed World)
+  abbrev deeds : List (Deed FrameEnv)
   deeds = let o = (let y = is_shown.shows in y.sits (let a = h.seat in let x = a.cursor in x.parent) g.above g.sits) in let f = o.frame in f.deeds
 
   named : AreNamed old_seats name
@@ -154,16 +154,16 @@ module _ (code : CodeView) (p : Source) (inputs : List ℤ) (name : ℕ → Name
   parent_is = let u = under in let o = sitting in let q : Some o.frame ≡ Some u.parent = sym o.here ∙ u.here in cc
 
   going : has_ended deeds ≡ false
-  going = let u = under in ap (λ (f : Frame World). has_ended f.deeds) parent_is ∙ u.goes
+  going = let u = under in ap (λ (f : Frame FrameEnv). has_ended f.deeds) parent_is ∙ u.goes
 
   parent_here : deeds_at (s.frames (name up)) ≡ deeds
   parent_here = let o = sitting in ap (λ f. deeds_at f) o.here
 
   -- the parent spawned this frame, and has made no sync since
   pub record Spawned : Type 0 where
-    pub before : List (Deed World)
-    pub what : World
-    pub after : List (Deed World)
+    pub before : List (Deed FrameEnv)
+    pub what : FrameEnv
+    pub after : List (Deed FrameEnv)
     pub starts : deeds ≡ before ++ Invokes Spawn what ∷ after
     pub ordinal_is : ordinal ≡ suc (started before)
     pub none : HasNoSync after
@@ -174,7 +174,7 @@ module _ (code : CodeView) (p : Source) (inputs : List ℤ) (name : ℕ → Name
         before = u.before;
         what = u.what;
         after = u.after;
-        starts = ap (λ (f : Frame World). f.deeds) parent_is ∙ u.starts ∙ ap (λ z. u.before ++ Invokes z u.what ∷ u.after) (u.spawned flag);
+        starts = ap (λ (f : Frame FrameEnv). f.deeds) parent_is ∙ u.starts ∙ ap (λ z. u.before ++ Invokes z u.what ∷ u.after) (u.spawned flag);
         ordinal_is = u.ordinal;
         none = ⊎_elim (λ e. subst (λ l. HasNoSync l) (sym e) none_after) (λ e. e.1) u.since;
       }
@@ -186,7 +186,7 @@ module _ (code : CodeView) (p : Source) (inputs : List ℤ) (name : ℕ → Name
   listed = stolen_in (λ q. s.stolen (name up ++ q ∷ [])) 1 [] deeds
 
   -- a stolen child with no sync since
-  listed_one : (before : List (Deed World)) (what : World) (after : List (Deed World)) → deeds ≡ before ++ Invokes Spawn what ∷ after → HasNoSync after → s.stolen (name up ++ suc (started before) ∷ []) ≡ true → Stands listed (suc (started before))
+  listed_one : (before : List (Deed FrameEnv)) (what : FrameEnv) (after : List (Deed FrameEnv)) → deeds ≡ before ++ Invokes Spawn what ∷ after → HasNoSync after → s.stolen (name up ++ suc (started before) ∷ []) ≡ true → Stands listed (suc (started before))
   listed_one before what after e none is =
       let one : 1 + started before ≡ suc (started before) = omega arith in
       subst (λ ds. Stands (stolen_in loose 1 [] ds) (suc (started before))) (sym e)
@@ -245,13 +245,13 @@ module _ (code : CodeView) (p : Source) (inputs : List ℤ) (name : ℕ → Name
   some_stolen : 0 < block.stolen
   some_stolen = let l = least in let x = spawn in let e = x.ordinal_is in omega (arith, l, e)
 
-  goes_where : parent.status ≡ Waiting → GoesOn World View s (name up) deeds × (parent.due ≡ due.Sync)
+  goes_where : parent.status ≡ Waiting → GoesOn FrameEnv View s (name up) deeds × (parent.due ≡ due.Sync)
   goes_where q = let o = sitting in let i = subst (λ z. IsWhere code p inputs name b s up (name up) deeds parent z) q o.is_where in (i.5, i.0)
 
-  module _ (s' : State World View) (m : Makes World View monoid_of (Next p inputs) (costs p inputs) s (name (suc k)) s') where
+  module _ (s' : State FrameEnv View) (m : Makes FrameEnv View monoid_of (Next p inputs) (costs p inputs) s (name (suc k)) s') where
     -- ---- workers and seats
 
-    abbrev mid : List (Activation Seat)
+    abbrev mid : List (Activation FrameState)
     mid = changed (λ _. counted (finished h.came)) (let f = b.frames in f.items) (suc k)
 
     abbrev with_frame : Bool → Worker → Worker
@@ -265,25 +265,25 @@ module _ (code : CodeView) (p : Source) (inputs : List ℤ) (name : ℕ → Name
     hands_same true u = refl
     hands_same false u = refl
 
-    abbrev parent_with : Bool → Seat
+    abbrev parent_with : Bool → FrameState
     parent_with t = let a = g.above in let y = a.cursor in let j = g.joined in record y { status = cond t (Held w) y.status; join = j.join; merged = cond t true y.merged }
 
     parent_is_now : (t : Bool) → cond t (moved_to (Held w) (passed g.joined)) g.joined ≡ parent_with t
-    parent_is_now true = ap (λ (y : Seat). moved_to (Held w) (passed y)) g.joined_is
+    parent_is_now true = ap (λ (y : FrameState). moved_to (Held w) (passed y)) g.joined_is
     parent_is_now false = g.joined_is
 
-    abbrev change : Seat → Seat
+    abbrev change : FrameState → FrameState
     change = λ _. cond g.passes (moved_to (Held w) (passed g.joined)) g.joined
 
     up_at : slice_get new_seats up ≡ Some (let a = g.above in record a { cursor = parent_with g.passes })
     up_at =
         let a = g.above in
-        let B : Seat → Option (Activation Seat) = (λ y. Some (record a { cursor = y })) in
+        let B : FrameState → Option (Activation FrameState) = (λ y. Some (record a { cursor = y })) in
         ap (λ l. slice_get l up) g.frames ∙ changed_here change mid up g.above (changed_off (λ _. counted (finished h.came)) old_seats (suc k) up apart ∙ g.sits) ∙ ap B (parent_is_now g.passes)
 
     named_now : AreNamed new_seats name
     named_now =
-        let J : Seat → Seat = (λ y. let x = parent_with g.passes in record y { status = x.status; join = x.join; merged = x.merged }) in
+        let J : FrameState → FrameState = (λ y. let x = parent_with g.passes in record y { status = x.status; join = x.join; merged = x.merged }) in
         subst (λ l. AreNamed l name) (sym g.frames)
         (subst (λ l. AreNamed l name) (changed_known J change mid up g.above (changed_off (λ _. counted (finished h.came)) old_seats (suc k) up apart ∙ g.sits) (sym (parent_is_now g.passes)))
         (named_changed J mid up name (λ x. (refl, refl)) (ended.named_ended code p inputs name b d s w (suc k) v is_shown started_as h b' g.views g.closes s' m)))
@@ -291,7 +291,7 @@ module _ (code : CodeView) (p : Source) (inputs : List ℤ) (name : ℕ → Name
     moved : ended.Moved code p inputs name b d s w (suc k) v is_shown started_as h b' g.views g.closes s' m up
     moved = record {
       on = subst (λ l. carries.Carries old_seats l) (sym g.frames) (carries.carries_then old_seats mid (changed change mid up) (carries.carries_changed (λ _. counted (finished h.came)) old_seats (suc k)) (carries.carries_changed change mid up));
-      same_length = ap (λ (l : List (Activation Seat)). length l) g.frames ∙ changed_length change mid up ∙ changed_length (λ _. counted (finished h.came)) old_seats (suc k);
+      same_length = ap (λ (l : List (Activation FrameState)). length l) g.frames ∙ changed_length change mid up ∙ changed_length (λ _. counted (finished h.came)) old_seats (suc k);
       else_at = λ j ne ne'. ap (λ l. slice_get l j) g.frames ∙ changed_off change mid up j ne' ∙ changed_off (λ _. counted (finished h.came)) old_seats (suc k) j ne;
       now_at = ap (λ l. slice_get l (suc k)) g.frames ∙ changed_off change mid up (suc k) (λ e. apart (sym e)) ∙ changed_here (λ _. counted (finished h.came)) old_seats (suc k) h.seat h.sits;
       named = named_now;
@@ -331,7 +331,7 @@ module _ (code : CodeView) (p : Source) (inputs : List ℤ) (name : ℕ → Name
         by true e = ap (λ q. has_ended (deeds_at (s'.frames (name up ++ q ∷ [])))) (eqb-true z ordinal e) ∙ child_ended ∙ sym (ap (λ t. cond t true (there z)) e)
         by false e = ended.ends_else code p inputs name b d s w (suc k) v is_shown started_as h b' g.views g.closes s' m (name up ++ z ∷ []) (child_ne z (λ q. true≢false (sym (eq-eqb z ordinal (sym q)) ∙ e))) ∙ sym (ap (λ t. cond t true (there z)) e)
 
-    flags : (ds : List (Deed World)) → stolen_at_block code p inputs name b' s' (name up) ds ≡ stolen_in loose 1 [] ds
+    flags : (ds : List (Deed FrameEnv)) → stolen_at_block code p inputs name b' s' (name up) ds ≡ stolen_in loose 1 [] ds
     flags ds = ap (λ (l : Name → Bool). stolen_in (λ q. l (name up ++ q ∷ [])) 1 [] ds) m.stolen
 
     own_same : (i : Instance) → cond block.closed (s'.piece (name up) i) (unit_of monoid_of i) ≡ cond block.closed (s.piece (name up) i) (unit_of monoid_of i)
@@ -407,11 +407,11 @@ module _ (code : CodeView) (p : Source) (inputs : List ℤ) (name : ℕ → Name
         blocks.none_awaited (kind_of Output) (λ z. s'.piece (name up ++ z ∷ []) Output) there_now (cond block.closed (s'.piece (name up) Output) (unit_of monoid_of Output)) (unit_of monoid_of Output) (stolen_at_block code p inputs name b' s' (name up) deeds) (run_at (kind_of Output) at_output r.run)
         (subst (λ ws. Lays (kind_of Output) (λ z. s'.piece (name up ++ z ∷ []) Output) there_now (cond block.closed (s'.piece (name up) Output) (unit_of monoid_of Output)) (unit_of monoid_of Output) (stolen_at_block code p inputs name b' s' (name up) deeds) (run_at (kind_of Output) at_output r.run) (waits_at (kind_of Output) at_output ws)) (no_waits r.waits none) (lays_now Output at_output (refl, refl))) q (subst (λ ks. Stands ks q) (sym (flags deeds)) at)
 
-    ended_at : (q : ℕ) → there_now q ≡ true → HasEnded World View s' (name up ++ q ∷ [])
+    ended_at : (q : ℕ) → there_now q ≡ true → HasEnded FrameEnv View s' (name up ++ q ∷ [])
     ended_at q is = end_of s' (name up ++ q ∷ []) (s'.frames (name up ++ q ∷ [])) refl is
 
     -- a child that went on beside it was stolen
-    over_now : (let r = block_now.row in is_empty r.waits) ≡ true → GoesOn World View s (name up) deeds → BlockIsOver s' (name up)
+    over_now : (let r = block_now.row in is_empty r.waits) ≡ true → GoesOn FrameEnv View s (name up) deeds → BlockIsOver s' (name up)
     over_now none goes_on before after child e no_sync =
         let o = sitting in
         let at : deeds ≡ before ++ Invokes Spawn child ∷ after = sym (ap (λ f. deeds_at f) parent_frame) ∙ e in
@@ -421,10 +421,10 @@ module _ (code : CodeView) (p : Source) (inputs : List ℤ) (name : ℕ → Name
         at : deeds ≡ before ++ Invokes Spawn child ∷ after
         at = sym (ap (λ f. deeds_at f) parent_frame) ∙ e
 
-        stolen : s.stolen (child_after (name up) before) ≡ true → HasEnded World View s' (child_after (name up) before)
+        stolen : s.stolen (child_after (name up) before) ≡ true → HasEnded FrameEnv View s' (child_after (name up) before)
         stolen is = ended_at (suc (started before)) (all_there none (suc (started before)) (listed_one before child after at no_sync is))
 
-        last : after ≡ [] → GoesOn World View s (name up) deeds → HasEnded World View s' (child_after (name up) before)
+        last : after ≡ [] → GoesOn FrameEnv View s (name up) deeds → HasEnded FrameEnv View s' (child_after (name up) before)
         last y (AtBegin q) = nil_snoc before (Invokes Spawn child) (sym q ∙ at ∙ ap (λ l. before ++ Invokes Spawn child ∷ l) y)
         last y (AfterEvent b1 x q) =
             let r = snoc_one before b1 (Invokes Spawn child) (Does x) (sym (at ∙ ap (λ l. before ++ Invokes Spawn child ∷ l) y) ∙ q) in
@@ -433,7 +433,7 @@ module _ (code : CodeView) (p : Source) (inputs : List ℤ) (name : ℕ → Name
             absurd f
         last y (AfterChild b1 kind what q x) =
             let r = snoc_one before b1 (Invokes Spawn child) (Invokes kind what) (sym (at ∙ ap (λ l. before ++ Invokes Spawn child ∷ l) y) ∙ q) in
-            carries.ended_on s s' (ended.ends_more code p inputs name b d s w (suc k) v is_shown started_as h b' g.views g.closes s' m) (child_after (name up) before) (subst (λ l. HasEnded World View s (child_after (name up) l)) (sym r.0) x)
+            carries.ended_on s s' (ended.ends_more code p inputs name b d s w (suc k) v is_shown started_as h b' g.views g.closes s' m) (child_after (name up) before) (subst (λ l. HasEnded FrameEnv View s (child_after (name up) l)) (sym r.0) x)
         last y (AfterSteal b1 what q x) =
             let r = snoc_one before b1 (Invokes Spawn child) (Invokes Spawn what) (sym (at ∙ ap (λ l. before ++ Invokes Spawn child ∷ l) y) ∙ q) in
             stolen (subst (λ l. s.stolen (child_after (name up) l) ≡ true) (sym r.0) x)
@@ -472,13 +472,13 @@ module _ (code : CodeView) (p : Source) (inputs : List ℤ) (name : ℕ → Name
     still_out q ne is = ended.ends_else code p inputs name b d s w (suc k) v is_shown started_as h b' g.views g.closes s' m (name up ++ q ∷ []) (child_ne q ne) ∙ is
 
     -- the child that the parent called last isn't this one
-    not_called : (before : List (Deed World)) (x : World) → deeds ≡ before ++ Invokes Call x ∷ [] → ordinal ≡ started deeds → ⊥
+    not_called : (before : List (Deed FrameEnv)) (x : FrameEnv) → deeds ≡ before ++ Invokes Call x ∷ [] → ordinal ≡ started deeds → ⊥
     not_called before x e q = by (last_of after0)
       where
-        after0 : List (Deed World)
+        after0 : List (Deed FrameEnv)
         after0 = let z = spawn in z.after
 
-        by : (after0 ≡ []) ⊎ ((xs : List (Deed World)) × (y : Deed World) × (after0 ≡ xs ++ y ∷ [])) → ⊥
+        by : (after0 ≡ []) ⊎ ((xs : List (Deed FrameEnv)) × (y : Deed FrameEnv) × (after0 ≡ xs ++ y ∷ [])) → ⊥
         by (inl none) =
             let z = spawn in
             let r = snoc_one z.before before (Invokes Spawn z.what) (Invokes Call x) (sym (z.starts ∙ ap (λ l. z.before ++ Invokes Spawn z.what ∷ l) none) ∙ e) in
@@ -540,7 +540,7 @@ module _ (code : CodeView) (p : Source) (inputs : List ℤ) (name : ℕ → Name
     stolen_ended : Comes true → (q : ℕ) → s.stolen (name up ++ q ∷ []) ≡ true → there_now q ≡ true
     stolen_ended a q is = by (has_ended (deeds_at (s.frames (name up ++ q ∷ [])))) refl (s.frames (name up ++ q ∷ [])) refl
       where
-        by : (t : Bool) → has_ended (deeds_at (s.frames (name up ++ q ∷ []))) ≡ t → (found : Option (Frame World)) → s.frames (name up ++ q ∷ []) ≡ found → there_now q ≡ true
+        by : (t : Bool) → has_ended (deeds_at (s.frames (name up ++ q ∷ []))) ≡ t → (found : Option (Frame FrameEnv)) → s.frames (name up ++ q ∷ []) ≡ found → there_now q ≡ true
         by true e found x = ended.ends_more code p inputs name b d s w (suc k) v is_shown started_as h b' g.views g.closes s' m (name up ++ q ∷ []) e
         by false e None x = absurd (true≢false (sym is ∙ outlive.unstolen (name up ++ q ∷ []) x))
         by false e (Some f) x =
@@ -548,7 +548,7 @@ module _ (code : CodeView) (p : Source) (inputs : List ℤ) (name : ℕ → Name
             let u = under_of s outlive (name up) q f x (ap (λ y. has_ended (deeds_at y)) (sym x) ∙ e) in
             let o = sitting in
             let same : o.frame ≡ u.parent = (let y : Some o.frame ≡ Some u.parent = sym o.here ∙ u.here in cc) in
-            let at : deeds ≡ u.before ++ Invokes Spawn u.what ∷ u.after = ap (λ (f : Frame World). f.deeds) same ∙ u.starts ∙ ap (λ z. u.before ++ Invokes z u.what ∷ u.after) (u.spawned is) in
+            let at : deeds ≡ u.before ++ Invokes Spawn u.what ∷ u.after = ap (λ (f : Frame FrameEnv). f.deeds) same ∙ u.starts ∙ ap (λ z. u.before ++ Invokes z u.what ∷ u.after) (u.spawned is) in
             let none : HasNoSync u.after = ⊎_elim (λ e. subst (λ l. HasNoSync l) (sym e) none_after) (λ e. e.1) u.since in
             all_there z.2 q (subst (λ n. Stands listed n) (sym u.ordinal) (listed_one u.before u.what u.after at none (ap loose (sym u.ordinal) ∙ is)))
 
@@ -575,7 +575,7 @@ module _ (code : CodeView) (p : Source) (inputs : List ℤ) (name : ℕ → Name
     abbrev waiting_with : Bool → List Name
     waiting_with t = cond t (without d.waiting (name up)) d.waiting
 
-    abbrev desk_with : Bool → Desk
+    abbrev desk_with : Bool → WorkerTable
     desk_with t = record d { hands = set d.hands w (cond t (Some (name up)) None); waiting = cond t (without d.waiting (name up)) d.waiting }
 
     fewer : (t : Bool) (n : Name) → IsIn n (waiting_with t) → IsIn n d.waiting
@@ -597,16 +597,16 @@ module _ (code : CodeView) (p : Source) (inputs : List ℤ) (name : ℕ → Name
     still_offered true a at q = let z = passes_then a in absurd (not_offered at z.0 q)
     still_offered false a at q = q
 
-    desk_is : IsDesk code p inputs name b' (desk_with g.passes)
+    desk_is : IsWorkerTable code p inputs name b' (desk_with g.passes)
     desk_is =
         ended.desk_kept code p inputs name b d s w (suc k) v is_shown started_as h b' g.views g.closes s' m up moved (with_frame g.passes) (cond g.passes (Some (name up)) None) (offers_same g.passes) (hands_same g.passes) g.workers g.offered (waiting_with g.passes) (fewer g.passes)
         (λ at x is status.
         let same : g.above ≡ x = (let q : Some g.above ≡ Some x = sym g.sits ∙ is in cc) in
-        ((let a = g.above in record a { cursor = parent_with g.passes }), up_at, still_offered g.passes g.arrives at (ap (λ (a : Activation Seat). let z = a.cursor in z.status) same ∙ status)))
+        ((let a = g.above in record a { cursor = parent_with g.passes }), up_at, still_offered g.passes g.arrives at (ap (λ (a : Activation FrameState). let z = a.cursor in z.status) same ∙ status)))
         (ended.waits_as code p inputs name b d s w (suc k) v is_shown started_as h b' g.views g.closes s' m up moved (waiting_with g.passes) (λ j at ne. (fewer g.passes (name j), rest g.passes j at ne))
         (λ a ne is.
         let same : (let y = g.above in record y { cursor = parent_with g.passes }) ≡ a = (let q : Some (let y = g.above in record y { cursor = parent_with g.passes }) ≡ Some a = sym up_at ∙ is in cc) in
-        let e : (let x = a.cursor in x.status) ≡ cond g.passes (Held w) parent.status = ap (λ (y : Activation Seat). let x = y.cursor in x.status) (sym same) in
+        let e : (let x = a.cursor in x.status) ≡ cond g.passes (Held w) parent.status = ap (λ (y : Activation FrameState). let x = y.cursor in x.status) (sym same) in
         let r = parent_status g.passes g.arrives in
         ((λ q. r.0 (sym e ∙ q)), (λ q. e ∙ r.1 q)))
         (fewer g.passes (name (suc k))))
@@ -623,8 +623,8 @@ module _ (code : CodeView) (p : Source) (inputs : List ℤ) (name : ℕ → Name
       mine = λ j u is has. mine_by g.passes refl g.arrives j u (own_now u is) has;
       held = λ at u ne off y.
           let same : y.seat ≡ g.above = (let z : Some y.seat ≡ Some g.above = sym y.here ∙ g.sits in cc) in
-          let r = held_by g.passes g.arrives at (ap (λ (a : Activation Seat). let x = a.cursor in x.status) (sym same) ∙ y.held) in
-          ((let a = g.above in record a { cursor = parent_with g.passes }), up_at, r.0, r.1 ∙ ap (λ (a : Activation Seat). let x = a.cursor in x.merged) (sym same));
+          let r = held_by g.passes g.arrives at (ap (λ (a : Activation FrameState). let x = a.cursor in x.status) (sym same) ∙ y.held) in
+          ((let a = g.above in record a { cursor = parent_with g.passes }), up_at, r.0, r.1 ∙ ap (λ (a : Activation FrameState). let x = a.cursor in x.merged) (sym same));
       desk = desk_is;
       going = λ none f.
           let y = sh in
@@ -645,7 +645,7 @@ module _ (code : CodeView) (p : Source) (inputs : List ℤ) (name : ℕ → Name
             let f : ⊥ = cc in
             absurd f
 
-    settles : (t : Bool) → Comes t → (before : List (Deed World)) (gone : List Instance) → Settles s' d w (name (suc k)) before (End v gone) (desk_with t)
+    settles : (t : Bool) → Comes t → (before : List (Deed FrameEnv)) (gone : List Instance) → Settles s' d w (name (suc k)) before (End v gone) (desk_with t)
     settles true a before gone =
         let c = child_is in
         let z = passes_then a in

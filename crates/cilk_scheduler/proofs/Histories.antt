@@ -29,11 +29,11 @@ use Rattle.cilk_runs.specs.Machine.{Frame, Frames, State, started, deed_of, mark
 use Rattle.cilk_runs.specs.Monoids.{numbers_of}
 use Rattle.cilk_runs.specs.Progress.{Answers}
 use Rattle.cilk_runs.specs.Runs.{Name, same_name, Cell, Instance, Ask, Read, Write, Invoke, Sync, End, Pass, Fail, Begin, Resume, Create, Update, Set, Value, Print, Event, Reads, Writes, Syncs, Ends, Passes, Deed, Does, Invokes, ask_of}
-use Rattle.cilk_runs.specs.WorldMachine.{answer_of, answers_of, costs, has_ended, is_end, named_ask, next}
+use Rattle.cilk_runs.specs.FrameEnvMachine.{answer_of, answers_of, costs, has_ended, is_end, named_ask, next}
 use Rattle.cilk_runs.specs.Reducers.{View, monoid_of}
 use Rattle.cilk_runs.specs.Steps.{Next, IsFirst, OneStep}
-use Rattle.cilk_runs.specs.Worlds.{World, first_world}
-use Rattle.cilk_scheduler.specs.Boards.{is_resuming}
+use Rattle.cilk_runs.specs.FrameEnvs.{FrameEnv, first_world}
+use Rattle.cilk_scheduler.specs.Schedulers.{is_resuming}
 use Rattle.cilk_scheduler.specs.Histories.{IsAnswered, AreAnswered, DidAsAsked, BeginsAndResumes, FramesDoAsAsked}
 use Rattle.cilk_scheduler.proofs.Carried.{resuming_event, resuming_child}
 use Rattle.cilk_scheduler.proofs.Within.{no_fault_then}
@@ -240,11 +240,11 @@ abbrev named_fails : {W : Type 0} → Ask W → Bool
 named_fails (Fail f) = true
 named_fails a = false
 
-abbrev starts_child : Deed World → Bool
+abbrev starts_child : Deed FrameEnv → Bool
 starts_child (Does e) = false
 starts_child (Invokes how w) = true
 
-event_plain : (e : Event) → (named_starts (ask_of {W = World} e) ≡ false) × (named_ends (ask_of {W = World} e) ≡ is_end (Does e)) × (named_fails (ask_of {W = World} e) ≡ false)
+event_plain : (e : Event) → (named_starts (ask_of {W = FrameEnv} e) ≡ false) × (named_ends (ask_of {W = FrameEnv} e) ≡ is_end (Does e)) × (named_fails (ask_of {W = FrameEnv} e) ≡ false)
 event_plain (Reads c v) = (refl, refl, refl)
 event_plain (Writes c v) = (refl, refl, refl)
 event_plain Syncs = (refl, refl, refl)
@@ -252,13 +252,13 @@ event_plain (Ends v gone) = (refl, refl, refl)
 event_plain (Passes m) = (refl, refl, refl)
 
 -- a deed that answers an ask is of its kind
-deed_marks : (d : Deed World) (a : Ask World) → Answers d a → (starts_child d ≡ named_starts a) × (is_end d ≡ named_ends a) × (named_fails a ≡ false)
+deed_marks : (d : Deed FrameEnv) (a : Ask FrameEnv) → Answers d a → (starts_child d ≡ named_starts a) × (is_end d ≡ named_ends a) × (named_fails a ≡ false)
 deed_marks (Does e) a h =
     let plain = event_plain e in
     (sym plain.0 ∙ ap named_starts (sym h), sym plain.1 ∙ ap named_ends (sym h), ap named_fails h ∙ plain.2)
 deed_marks (Invokes how w) a h = (ap named_starts (sym h), ap named_ends (sym h), ap named_fails h)
 
-module _ (p : Source) (w : World) (j : ℕ) where
+module _ (p : Source) (w : FrameEnv) (j : ℕ) where
   -- by names an ask is of its kind
   ask_marks : (k : language.Ask) → (named_starts (named_ask p w j k) ≡ starts k) × (named_ends (named_ask p w j k) ≡ ends k) × (named_begins (named_ask p w j k) ≡ begins k) × (named_resumes (named_ask p w j k) ≡ resumes k)
   ask_marks asks.Begin = (refl, refl, refl, refl)
@@ -327,19 +327,19 @@ module _ (p : Source) (w : World) (j : ℕ) where
 
 -- ---- histories
 
-abbrev is_empty : List (Deed World) → Bool
+abbrev is_empty : List (Deed FrameEnv) → Bool
 is_empty [] = true
 is_empty (d ∷ ds) = false
 
-one_more : (ds : List (Deed World)) (d : Deed World) → is_empty (ds ++ d ∷ []) ≡ false
+one_more : (ds : List (Deed FrameEnv)) (d : Deed FrameEnv) → is_empty (ds ++ d ∷ []) ≡ false
 one_more [] d = refl
 one_more (x ∷ ds) d = refl
 
-empty_is : (ds : List (Deed World)) → is_empty ds ≡ true → ds ≡ []
+empty_is : (ds : List (Deed FrameEnv)) → is_empty ds ≡ true → ds ≡ []
 empty_is [] h = refl
 empty_is (d ∷ ds) h = absurd (true≢false (sym h))
 
-resuming_more : (ds : List (Deed World)) (d : Deed World) → is_resuming (ds ++ d ∷ []) ≡ starts_child d
+resuming_more : (ds : List (Deed FrameEnv)) (d : Deed FrameEnv) → is_resuming (ds ++ d ∷ []) ≡ starts_child d
 resuming_more ds (Does e) = resuming_event ds e
 resuming_more ds (Invokes how w) = resuming_child ds how w
 
@@ -351,7 +351,7 @@ tail_goes : (b c : Bool) → cond b true c ≡ false → (b ≡ false) × (c ≡
 tail_goes true c h = absurd (true≢false h)
 tail_goes false c h = (refl, h)
 
-still_going : (ds : List (Deed World)) (d : Deed World) → has_ended ds ≡ false → is_end d ≡ false → has_ended (ds ++ d ∷ []) ≡ false
+still_going : (ds : List (Deed FrameEnv)) (d : Deed FrameEnv) → has_ended ds ≡ false → is_end d ≡ false → has_ended (ds ++ d ∷ []) ≡ false
 still_going [] d h g = either_end (is_end d) false g refl
 still_going (x ∷ ds) d h g = let t = tail_goes (is_end x) (has_ended ds) h in either_end (is_end x) (has_ended (ds ++ d ∷ [])) t.0 (still_going ds d t.1 g)
 
@@ -359,21 +359,21 @@ some_end : (b c : Bool) → c ≡ true → cond b true c ≡ true
 some_end true c h = refl
 some_end false c h = h
 
-over_with : (ds : List (Deed World)) (d : Deed World) (more : List (Deed World)) → is_end d ≡ true → has_ended (ds ++ d ∷ more) ≡ true
+over_with : (ds : List (Deed FrameEnv)) (d : Deed FrameEnv) (more : List (Deed FrameEnv)) → is_end d ≡ true → has_ended (ds ++ d ∷ more) ≡ true
 over_with [] d more h = rw h refl
 over_with (x ∷ ds) d more h = some_end (is_end x) (has_ended (ds ++ d ∷ more)) (over_with ds d more h)
 
-abbrev long : List (Deed World) → ℕ
+abbrev long : List (Deed FrameEnv) → ℕ
 long [] = zero
 long (d ∷ ds) = suc (long ds)
 
-module _ (p : Source) (inputs : List ℤ) (w : World) where
+module _ (p : Source) (inputs : List ℤ) (w : FrameEnv) where
   -- the asks after these deeds are those of what is left
-  abbrev IsLeft : List (Deed World) → Rest → Type 0
+  abbrev IsLeft : List (Deed FrameEnv) → Rest → Type 0
   IsLeft past c = (answers : List ℤ) (start : ℕ) → frame_asks p inputs w.callee (answers_of past ++ answers) start ≡ c answers start
 
   -- the stage that the frame has come to by these deeds
-  record StandsAt (n : ℕ) (past : List (Deed World)) : Type 0 where
+  record StandsAt (n : ℕ) (past : List (Deed FrameEnv)) : Type 0 where
     stage : Stage
     rest : Rest
     is_left : IsLeft past rest
@@ -382,7 +382,7 @@ module _ (p : Source) (inputs : List ℤ) (w : World) where
     resumes_so : resuming stage ≡ is_resuming past
     begins_so : fresh stage ≡ is_empty past
 
-  left_after : (past : List (Deed World)) (d : Deed World) (c : Rest) → IsLeft past c → IsLeft (past ++ d ∷ []) (after (answer_of d) c)
+  left_after : (past : List (Deed FrameEnv)) (d : Deed FrameEnv) (c : Rest) → IsLeft past c → IsLeft (past ++ d ∷ []) (after (answer_of d) c)
   left_after past d c h = λ answers start.
       ap (λ l. frame_asks p inputs w.callee (l ++ answers) start) (map-append answer_of past (d ∷ []))
       ∙ ap (λ l. frame_asks p inputs w.callee l start) (append_assoc (answers_of past) (answer_of d ∷ []) answers)
@@ -392,7 +392,7 @@ module _ (p : Source) (inputs : List ℤ) (w : World) where
   asked c = let q = c [] MAX_TICKS in q.ask
 
   -- the next ask, where the frame goes on
-  next_is : (past : List (Deed World)) (c : Rest) → IsLeft past c → has_ended past ≡ false → next p inputs w past ≡ Some (named_ask p w (suc (started past)) (asked c))
+  next_is : (past : List (Deed FrameEnv)) (c : Rest) → IsLeft past c → has_ended past ≡ false → next p inputs w past ≡ Some (named_ask p w (suc (started past)) (asked c))
   next_is past c h going =
       going_next (has_ended past) going
       ∙ ap (λ (q : OpenAsk). Some (named_ask p w (suc (started past)) q.ask)) (sym (ap (λ l. frame_asks p inputs w.callee l MAX_TICKS) (append-nil (answers_of past))) ∙ h [] MAX_TICKS)
@@ -401,7 +401,7 @@ module _ (p : Source) (inputs : List ℤ) (w : World) where
       going_next true q = absurd (true≢false q)
       going_next false q = refl
 
-  walk : (past rest all : List (Deed World)) → past ++ rest ≡ all → has_ended past ≡ false → StandsAt (suc (long rest)) past → AreAnswered p inputs w past rest → (has_ended all ≡ true) ⊎ StandsAt 1 all
+  walk : (past rest all : List (Deed FrameEnv)) → past ++ rest ≡ all → has_ended past ≡ false → StandsAt (suc (long rest)) past → AreAnswered p inputs w past rest → (has_ended all ≡ true) ⊎ StandsAt 1 all
   walk past [] all e going h told_so = inr (subst (λ ds. StandsAt 1 ds) (sym (append-nil past) ∙ e) h)
   walk past (d ∷ ds) all e going h told_so = ⊎_elim over (λ t. on t (λ e' g c. walk (past ++ d ∷ []) ds all e' g c told_so.1)) (turn h.stage k go h.sound here)
     where
@@ -442,7 +442,7 @@ module _ (p : Source) (inputs : List ℤ) (w : World) where
             begins_so = t.4 ∙ sym (one_more past d);
           })
 
-  has_come : (ds : List (Deed World)) → AreAnswered p inputs w [] ds → (has_ended ds ≡ true) ⊎ StandsAt 1 ds
+  has_come : (ds : List (Deed FrameEnv)) → AreAnswered p inputs w [] ds → (has_ended ds ≡ true) ⊎ StandsAt 1 ds
   has_come ds h =
       walk [] ds ds refl refl (record {
         stage = Fresh (opening_asks p w.callee);
@@ -454,7 +454,7 @@ module _ (p : Source) (inputs : List ℤ) (w : World) where
         begins_so = refl;
       }) h
 
-  ended_next : (ds : List (Deed World)) (a : Ask World) → has_ended ds ≡ true → next p inputs w ds ≡ Some a → ⊥
+  ended_next : (ds : List (Deed FrameEnv)) (a : Ask FrameEnv) → has_ended ds ≡ true → next p inputs w ds ≡ Some a → ⊥
   ended_next ds a h q = by (has_ended ds) h q
     where
       by : (b : Bool) → b ≡ true → cond b None (Some (named_ask p w (suc (started ds)) (let q = frame_asks p inputs w.callee (answers_of ds) MAX_TICKS in q.ask))) ≡ Some a → ⊥
@@ -462,7 +462,7 @@ module _ (p : Source) (inputs : List ℤ) (w : World) where
       by false h q = true≢false (sym h)
 
   -- it begins first, and resumes after a child
-  in_order : (ds : List (Deed World)) (a : Ask World) → AreAnswered p inputs w [] ds → next p inputs w ds ≡ Some a → ((f : Fault) → a ≡ Fail f → ⊥) → BeginsAndResumes ds a
+  in_order : (ds : List (Deed FrameEnv)) (a : Ask FrameEnv) → AreAnswered p inputs w [] ds → next p inputs w ds ≡ Some a → ((f : Fault) → a ≡ Fail f → ⊥) → BeginsAndResumes ds a
   in_order ds a h q fine = going (has_ended ds) refl (has_come ds h)
     where
       at : has_ended ds ≡ false → StandsAt 1 ds → BeginsAndResumes ds a
@@ -487,7 +487,7 @@ module _ (p : Source) (inputs : List ℤ) (w : World) where
       going false e (inr c) = at e c
 
   -- one deed more
-  answered_more : (past ds : List (Deed World)) (d : Deed World) → AreAnswered p inputs w past ds → IsAnswered p inputs w (past ++ ds) d → AreAnswered p inputs w past (ds ++ d ∷ [])
+  answered_more : (past ds : List (Deed FrameEnv)) (d : Deed FrameEnv) → AreAnswered p inputs w past ds → IsAnswered p inputs w (past ++ ds) d → AreAnswered p inputs w past (ds ++ d ∷ [])
   answered_more past [] d h g = (subst (λ l. IsAnswered p inputs w l d) (append-nil past) g, tt)
   answered_more past (x ∷ ds) d h g = (h.0, answered_more (past ++ x ∷ []) ds d h.1 (subst (λ l. IsAnswered p inputs w l d) (sym (append_assoc past (x ∷ []) ds)) g))
 
@@ -502,7 +502,7 @@ marked number (Set i x) = refl
 marked number (Value i) = refl
 marked number (Print x) = refl
 
-deed_answers : (memory : Cell → ℤ) (number : Instance → ℤ) (a : Ask World) → ((f : Fault) → a ≡ Fail f → ⊥) → Answers (deed_of memory number a) a
+deed_answers : (memory : Cell → ℤ) (number : Instance → ℤ) (a : Ask FrameEnv) → ((f : Fault) → a ≡ Fail f → ⊥) → Answers (deed_of memory number a) a
 deed_answers memory number (Read c) fine = refl
 deed_answers memory number (Write c v) fine = refl
 deed_answers memory number (Invoke k w) fine = refl
@@ -511,44 +511,44 @@ deed_answers memory number (End v gone) fine = refl
 deed_answers memory number (Pass a) fine = sym (marked number a)
 deed_answers memory number (Fail f) fine = absurd (fine f refl)
 
-one_of : (P : Frame World → Type 0) (b : Bool) (x : Frame World) (y : Option (Frame World)) (g : Frame World) → cond b (Some x) y ≡ Some g → P x → (y ≡ Some g → P g) → P g
+one_of : (P : Frame FrameEnv → Type 0) (b : Bool) (x : Frame FrameEnv) (y : Option (Frame FrameEnv)) (g : Frame FrameEnv) → cond b (Some x) y ≡ Some g → P x → (y ≡ Some g → P g) → P g
 one_of P true x y g q h later = let same : x ≡ g = (let z : Some x ≡ Some g = q in cc) in subst P same h
 one_of P false x y g q h later = later q
 
 module _ (p : Source) (inputs : List ℤ) where
-  abbrev IsRight : Frame World → Type 0
+  abbrev IsRight : Frame FrameEnv → Type 0
   IsRight f = AreAnswered p inputs f.what [] f.deeds
 
-  opens_so : (s : State World View) → IsFirst p inputs s → DidAsAsked p inputs s
+  opens_so : (s : State FrameEnv View) → IsFirst p inputs s → DidAsAsked p inputs s
   opens_so s o [] f q =
       let z : Some (begun (first_world p)) ≡ Some f = sym (o.0 []) ∙ q in
       let same : begun (first_world p) ≡ f = cc in
       subst IsRight same tt
   opens_so s o (j ∷ n) f q = let no : None ≡ Some f = sym (o.0 (j ∷ n)) ∙ q in let z : ⊥ = cc in absurd z
 
-  after_right : (frames : Frames World) (n : Name) (f : Frame World) (d : Deed World) → ((m : Name) (g : Frame World) → frames m ≡ Some g → IsRight g) → IsRight (record f { deeds = f.deeds ++ d ∷ [] })
-      → (m : Name) (g : Frame World) → after_deed frames n f d m ≡ Some g → IsRight g
+  after_right : (frames : Frames FrameEnv) (n : Name) (f : Frame FrameEnv) (d : Deed FrameEnv) → ((m : Name) (g : Frame FrameEnv) → frames m ≡ Some g → IsRight g) → IsRight (record f { deeds = f.deeds ++ d ∷ [] })
+      → (m : Name) (g : Frame FrameEnv) → after_deed frames n f d m ≡ Some g → IsRight g
   after_right frames n f (Does e) old new m g q = one_of IsRight (same_name n m) (record f { deeds = f.deeds ++ Does e ∷ [] }) (frames m) g q new (old m g)
   after_right frames n f (Invokes how w) old new m g q =
       one_of IsRight (same_name (n ++ suc (started f.deeds) ∷ []) m) (begun w) (cond (same_name n m) (Some (record f { deeds = f.deeds ++ Invokes how w ∷ [] })) (frames m)) g q tt
       (λ r. one_of IsRight (same_name n m) (record f { deeds = f.deeds ++ Invokes how w ∷ [] }) (frames m) g r new (old m g))
 
-  keeps_so : (s s' : State World View) (n : Name) → DidAsAsked p inputs s → OneStep p inputs s n s' → DidAsAsked p inputs s'
-  keeps_so s s' n h step = ⊎_elim made (λ o. ⊎_elim (λ t. by t.frames) (λ t. by (ap (λ (z : State World View). z.frames) t.after)) o) step.1
+  keeps_so : (s s' : State FrameEnv View) (n : Name) → DidAsAsked p inputs s → OneStep p inputs s n s' → DidAsAsked p inputs s'
+  keeps_so s s' n h step = ⊎_elim made (λ o. ⊎_elim (λ t. by t.frames) (λ t. by (ap (λ (z : State FrameEnv View). z.frames) t.after)) o) step.1
     where
       by : s'.frames ≡ s.frames → DidAsAsked p inputs s'
-      by same m g q = h m g (sym (ap (λ (t : Frames World). t m) same) ∙ q)
+      by same m g q = h m g (sym (ap (λ (t : Frames FrameEnv). t m) same) ∙ q)
 
-      made : Makes World View monoid_of (Next p inputs) (costs p inputs) s n s' → DidAsAsked p inputs s'
+      made : Makes FrameEnv View monoid_of (Next p inputs) (costs p inputs) s n s' → DidAsAsked p inputs s'
       made t m g q =
           let f = t.frame in
           let d = deed_of s.memory (numbers_of monoid_of (s.piece n)) t.ask in
           let fine = no_fault_then (costs p inputs) s.totals f.what f.deeds t.ask t.within in
           let a = t.asking in
           after_right s.frames n f d h (answered_more p inputs f.what [] f.deeds d (h n f a.here) (t.ask, a.next, deed_answers s.memory (numbers_of monoid_of (s.piece n)) t.ask fine.0)) m g
-          (sym (ap (λ (z : Frames World). z m) t.frames) ∙ q)
+          (sym (ap (λ (z : Frames FrameEnv). z m) t.frames) ∙ q)
 
-  steps_so : (ns : List Name) (s s' : State World View) → DidAsAsked p inputs s → Steps World View monoid_of (Next p inputs) (costs p inputs) ns s s' → DidAsAsked p inputs s'
+  steps_so : (ns : List Name) (s s' : State FrameEnv View) → DidAsAsked p inputs s → Steps FrameEnv View monoid_of (Next p inputs) (costs p inputs) ns s s' → DidAsAsked p inputs s'
   steps_so [] s s' h e = subst (DidAsAsked p inputs) (sym e) h
   steps_so (n ∷ ns) s s' h (mid, one, rest) = steps_so ns mid s' (keeps_so s mid n h one) rest
 

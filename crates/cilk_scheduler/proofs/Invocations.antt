@@ -12,15 +12,15 @@ use Rattle.cilk_lower.specs.Code.{CodeView}
 use Rattle.cilk_runs.specs.Machine.{Frame, State, Makes, after_deed, deed_of, deeds_at, started}
 use Rattle.cilk_runs.specs.Monoids.{numbers_of}
 use Rattle.cilk_runs.specs.Runs.{Name, Invoke, Invokes}
-use Rattle.cilk_runs.specs.WorldMachine.{costs, next}
+use Rattle.cilk_runs.specs.FrameEnvMachine.{costs, next}
 use Rattle.cilk_runs.specs.Reducers.{View, monoid_of}
 use Rattle.cilk_runs.specs.Steps.{Next}
-use Rattle.cilk_runs.specs.Worlds.{World, child_world}
-use Rattle.cilk_scheduler.specs.declared.board.Board.{Board}
+use Rattle.cilk_runs.specs.FrameEnvs.{FrameEnv, child_world}
+use Rattle.cilk_scheduler.specs.declared.scheduler.Scheduler.{Scheduler}
 use Rattle.cilk_scheduler.specs.declared.choice.Choice.TheVariants.{Run}
 use Rattle.cilk_scheduler.specs.Acting.{IsShown}
-use Rattle.cilk_scheduler.specs.Boards.{Sits, ShowsBy}
-use Rattle.cilk_scheduler.specs.Desks.{Desk, Did, Chooses}
+use Rattle.cilk_scheduler.specs.Schedulers.{Sits, ShowsBy}
+use Rattle.cilk_scheduler.specs.WorkerTables.{WorkerTable, Did, Chooses}
 use Rattle.cilk_scheduler.specs.Invocations.{GoesToChild, InvocationsAreShown, left_at}
 use Rattle.cilk_scheduler.specs.Ordinals.{AreCounted}
 use Rattle.cilk_scheduler.specs.Starting.{Starts, TakesTurn, named_at}
@@ -33,7 +33,7 @@ use Rattle.cilk_scheduler.proofs.Renaming.{shown_as}
 use Rattle.cilk_scheduler.proofs.Starting.{children_sit, named_else, named_here}
 use Rattle.cilk_scheduler.proofs.Stepped as stepped
 
-module _ (code : CodeView) (p : Source) (inputs : List ℤ) (name : ℕ → Name) (b b' : Board) (d : Desk) (s : State World View) (w k : ℕ) (how : Invocation) (callee : Callee) (behaves : Behaves p code)
+module _ (code : CodeView) (p : Source) (inputs : List ℤ) (name : ℕ → Name) (b b' : Scheduler) (d : WorkerTable) (s : State FrameEnv View) (w k : ℕ) (how : Invocation) (callee : Callee) (behaves : Behaves p code)
     (x : IsShown code p inputs name b d s) (counted : AreCounted s.frames) (h : HasCome code p inputs b w k (asks.Invoke how callee)) (t : GoesToChild code p inputs b b' w k how callee h) where
   abbrev last : ℕ
   last = let f = b.frames in length f.items
@@ -56,7 +56,7 @@ module _ (code : CodeView) (p : Source) (inputs : List ℤ) (name : ℕ → Name
   no_sync : asks.Invoke how callee ≡ asks.Sync → ⊥
   no_sync q = cc
 
-  abbrev frame : Frame World
+  abbrev frame : Frame FrameEnv
   frame = let o = shows.sits k h.seat h.sits in o.frame
 
   here : s.frames (name k) ≡ Some frame
@@ -71,8 +71,8 @@ module _ (code : CodeView) (p : Source) (inputs : List ℤ) (name : ℕ → Name
   last_name : renamed last ≡ renamed k ++ suc (started frame.deeds) ∷ []
   last_name = named_here name last kid ∙ kid_is ∙ ap (λ n. n ++ suc (started frame.deeds) ∷ []) (sym (renamed_low k low))
 
-  module _ (s' : State World View) (m : Makes World View monoid_of (Next p inputs) (costs p inputs) s (renamed k) s') where
-    abbrev child_is : World
+  module _ (s' : State FrameEnv View) (m : Makes FrameEnv View monoid_of (Next p inputs) (costs p inputs) s (renamed k) s') where
+    abbrev child_is : FrameEnv
     child_is = child_world p (let f = (let o = shows.sits k h.seat h.sits in o.frame) in f.what) (suc (started (let f = (let o = shows.sits k h.seat h.sits in o.frame) in f.deeds))) callee
 
     frame_is : m.frame ≡ frame
@@ -83,7 +83,7 @@ module _ (code : CodeView) (p : Source) (inputs : List ℤ) (name : ℕ → Name
         let a = m.asking in
         let f = frame in
         let g = stepped.named_as code p inputs renamed b d s w k (asks.Invoke how callee) x.lays shows h no_sync in
-        let n : next p inputs f.what f.deeds ≡ Some m.ask = subst (λ (f : Frame World). next p inputs f.what f.deeds ≡ Some m.ask) frame_is a.next in
+        let n : next p inputs f.what f.deeds ≡ Some m.ask = subst (λ (f : Frame FrameEnv). next p inputs f.what f.deeds ≡ Some m.ask) frame_is a.next in
         let q : Some m.ask ≡ Some (Invoke how child_is) = sym n ∙ g.0 in
         cc
 
@@ -111,7 +111,7 @@ module _ (code : CodeView) (p : Source) (inputs : List ℤ) (name : ℕ → Name
     fresh_now : s.frames (renamed k ++ suc (started frame.deeds) ∷ []) ≡ None
     fresh_now = ap (λ n. s.frames (n ++ suc (started frame.deeds) ∷ [])) (renamed_low k low) ∙ fresh
 
-    abbrev desk : Desk
+    abbrev desk : WorkerTable
     desk = invoked.desk_now code p inputs renamed b b' d s s' w k how callee x.lays shows x.asked h t m last_name fresh_now counted child_sits
 
     chosen : Chooses p inputs s d (Run (suc w)) Did s' desk
@@ -120,7 +120,7 @@ module _ (code : CodeView) (p : Source) (inputs : List ℤ) (name : ℕ → Name
     shown_after : ShowsBy code p inputs renamed b' desk s'
     shown_after = invoked.shown_then code p inputs renamed b b' d s s' w k how callee x.lays shows x.asked h t m last_name fresh_now counted child_sits
 
-  pub goes_to_child : (s' : State World View) × (d' : Desk) × Chooses p inputs s d (Run (suc w)) Did s' d' × ShowsBy code p inputs renamed b' d' s'
+  pub goes_to_child : (s' : State FrameEnv View) × (d' : WorkerTable) × Chooses p inputs s d (Run (suc w)) Did s' d' × ShowsBy code p inputs renamed b' d' s'
   goes_to_child =
       let n = stepped.makes code p inputs renamed b d s w k (asks.Invoke how callee) x.lays shows h no_sync (λ q. cc) in
       (n.after, desk n.after n.makes, chosen n.after n.makes, shown_after n.after n.makes)

@@ -37,30 +37,30 @@ use Rattle.cilk_runs.specs.Progress.{BlockHasEnded}
 use Rattle.cilk_runs.specs.Runs.{Name, same_name, Cell, Own, Instance, Output, Reducer, Invoke, Deed, Invokes}
 use Rattle.cilk_runs.proofs.Basics.{same_name-refl, same_name-eq}
 use Rattle.cilk_runs.proofs.Started.{started_invokes}
-use Rattle.cilk_runs.specs.KeptWorld.{IsTold}
-use Rattle.cilk_runs.specs.WorldMachine.{costs, has_ended, next, taken}
+use Rattle.cilk_runs.specs.KeptFrameEnv.{IsTold}
+use Rattle.cilk_runs.specs.FrameEnvMachine.{costs, has_ended, next, taken}
 use Rattle.cilk_runs.specs.Reducers.{View, kind_of, monoid_of, views_of}
 use Rattle.cilk_runs.specs.Steps.{Next}
-use Rattle.cilk_runs.specs.WorldViews.{IsViewOf}
-use Rattle.cilk_runs.specs.Worlds.{World, child_world}
-use Rattle.cilk_runs.proofs.KeptWorld.{but_last_more, ended_more}
-use Rattle.cilk_runs.proofs.WorldViews.{are_multiplied}
-use Rattle.cilk_scheduler.specs.declared.board.Board.{Board}
+use Rattle.cilk_runs.specs.FrameEnvViews.{IsViewOf}
+use Rattle.cilk_runs.specs.FrameEnvs.{FrameEnv, child_world}
+use Rattle.cilk_runs.proofs.KeptFrameEnv.{but_last_more, ended_more}
+use Rattle.cilk_runs.proofs.FrameEnvViews.{are_multiplied}
+use Rattle.cilk_scheduler.specs.declared.scheduler.Scheduler.{Scheduler}
 use Rattle.cilk_scheduler.specs.declared.choice.Choice.TheVariants.{Run}
-use Rattle.cilk_scheduler.specs.declared.seat.Due.TheVariants as due
-use Rattle.cilk_scheduler.specs.declared.seat.JournalEntry.{JournalEntry}
-use Rattle.cilk_scheduler.specs.declared.seat.Seat.{Seat}
-use Rattle.cilk_scheduler.specs.declared.seat.Status.{Status}
-use Rattle.cilk_scheduler.specs.declared.seat.Status.TheVariants.{Held, Calling, Offered, Waiting, Finished}
-use Rattle.cilk_scheduler.specs.declared.seat.Worker.{Worker}
+use Rattle.cilk_scheduler.specs.declared.frame_state.Due.TheVariants as due
+use Rattle.cilk_scheduler.specs.declared.frame_state.JournalEntry.{JournalEntry}
+use Rattle.cilk_scheduler.specs.declared.frame_state.FrameState.{FrameState}
+use Rattle.cilk_scheduler.specs.declared.frame_state.Status.{Status}
+use Rattle.cilk_scheduler.specs.declared.frame_state.Status.TheVariants.{Held, Calling, Offered, Waiting, Finished}
+use Rattle.cilk_scheduler.specs.declared.frame_state.Worker.{Worker}
 use Rattle.cilk_scheduler.specs.Blocks.{stolen_in, Lays}
-use Rattle.cilk_scheduler.specs.Boards.{carried, IsUsed, greatest, IsBare, hand_of, offers_of, is_resuming, is_there, stolen_at_block, run_at, waits_at, Keeps, HasBlock, IsWhere, Sits, Holds, IsDesk, Tells, ShowsBy}
-use Rattle.cilk_scheduler.specs.Desks.{Desk, BlockIsOver, IsIn, Did, Chooses, Settles, does, calls, spawns, newest_of}
+use Rattle.cilk_scheduler.specs.Schedulers.{carried, IsUsed, greatest, IsBare, hand_of, offers_of, is_resuming, is_there, stolen_at_block, run_at, waits_at, Keeps, HasBlock, IsWhere, Sits, Holds, IsWorkerTable, Tells, ShowsBy}
+use Rattle.cilk_scheduler.specs.WorkerTables.{WorkerTable, BlockIsOver, IsIn, Did, Chooses, Settles, does, calls, spawns, newest_of}
 use Rattle.cilk_scheduler.specs.Histories.{DidAsAsked}
 use Rattle.cilk_scheduler.specs.Invocations.{GoesToChild, left_at, newly_offered, offering}
 use Rattle.cilk_scheduler.specs.Numbered.{AreNamed, IsAbsent, size_of, IsInstance, IsDeed, AreDeeds, events_of}
 use Rattle.cilk_scheduler.specs.Ordinals.{AreCounted}
-use Rattle.cilk_scheduler.specs.Seats.{changed, counted, seated, started_at}
+use Rattle.cilk_scheduler.specs.FrameStates.{changed, counted, seated, started_at}
 use Rattle.cilk_scheduler.specs.Steps.{HasCome}
 use Rattle.cilk_scheduler.proofs.Altered as altering
 use Rattle.cilk_scheduler.proofs.Carried.{plain, unused, carried_ext}
@@ -80,16 +80,16 @@ use Rattle.cilk_scheduler.proofs.Starting.{carries_more, last_there, more_length
 use Rattle.cilk_scheduler.proofs.Stepped as stepped
 use Rattle.cilk_scheduler.proofs.Within.{no_fault_then}
 
-module _ (code : CodeView) (p : Source) (inputs : List ℤ) (name : ℕ → Name) (b b' : Board) (d : Desk) (s s' : State World View) (w k : ℕ) (how : Invocation) (callee : Callee)
+module _ (code : CodeView) (p : Source) (inputs : List ℤ) (name : ℕ → Name) (b b' : Scheduler) (d : WorkerTable) (s s' : State FrameEnv View) (w k : ℕ) (how : Invocation) (callee : Callee)
     (lays : LaysOut p code.layout) (sh : ShowsBy code p inputs name b d s) (asked : DidAsAsked p inputs s) (h : HasCome code p inputs b w k (asks.Invoke how callee)) (t : GoesToChild code p inputs b b' w k how callee h)
-    (m : Makes World View monoid_of (Next p inputs) (costs p inputs) s (name k) s')
+    (m : Makes FrameEnv View monoid_of (Next p inputs) (costs p inputs) s (name k) s')
     (last_name : (let f = b.frames in let g = (let o = sh.sits k h.seat h.sits in o.frame) in name (length f.items) ≡ name k ++ suc (started g.deeds) ∷ []))
     (fresh : (let g = (let o = sh.sits k h.seat h.sits in o.frame) in s.frames (name k ++ suc (started g.deeds) ∷ []) ≡ None))
     (counts : AreCounted s.frames) (child_sits : (let f = b.frames in Sits code p inputs name b' s' (length f.items) t.child)) where
-  abbrev old_seats : List (Activation Seat)
+  abbrev old_seats : List (Activation FrameState)
   old_seats = let f = b.frames in f.items
 
-  abbrev new_seats : List (Activation Seat)
+  abbrev new_seats : List (Activation FrameState)
   new_seats = let f = b'.frames in f.items
 
   abbrev old_workers : List Worker
@@ -101,31 +101,31 @@ module _ (code : CodeView) (p : Source) (inputs : List ℤ) (name : ℕ → Name
   abbrev last : ℕ
   last = let f = b.frames in length f.items
 
-  abbrev seat : Seat
+  abbrev seat : FrameState
   seat = let a = h.seat in a.cursor
 
-  abbrev came : Seat
+  abbrev came : FrameState
   came = h.came
 
-  abbrev frame : Frame World
+  abbrev frame : Frame FrameEnv
   frame = let o = sh.sits k h.seat h.sits in o.frame
 
-  abbrev what : World
+  abbrev what : FrameEnv
   what = let f = (let o = sh.sits k h.seat h.sits in o.frame) in f.what
 
-  abbrev past : List (Deed World)
+  abbrev past : List (Deed FrameEnv)
   past = let f = (let o = sh.sits k h.seat h.sits in o.frame) in f.deeds
 
   abbrev kid : Name
   kid = name k ++ suc (started (let f = (let o = sh.sits k h.seat h.sits in o.frame) in f.deeds)) ∷ []
 
-  abbrev child_is : World
+  abbrev child_is : FrameEnv
   child_is = child_world p (let f = (let o = sh.sits k h.seat h.sits in o.frame) in f.what) (suc (started (let f = (let o = sh.sits k h.seat h.sits in o.frame) in f.deeds))) callee
 
-  abbrev deed : Deed World
+  abbrev deed : Deed FrameEnv
   deed = Invokes how child_is
 
-  abbrev longer_past : List (Deed World)
+  abbrev longer_past : List (Deed FrameEnv)
   longer_past = past ++ Invokes how child_is ∷ []
 
   sitting : Sits code p inputs name b s k h.seat
@@ -159,7 +159,7 @@ module _ (code : CodeView) (p : Source) (inputs : List ℤ) (name : ℕ → Name
   status_was =
       let g = sh.holds w k h.worker h.at h.has in
       let same : g.seat ≡ h.seat = (let q : Some g.seat ≡ Some h.seat = sym g.here ∙ h.sits in cc) in
-      ap (λ (a : Activation Seat). let y = a.cursor in y.status) (sym same) ∙ g.held
+      ap (λ (a : Activation FrameState). let y = a.cursor in y.status) (sym same) ∙ g.held
 
   -- ---- the step
 
@@ -169,7 +169,7 @@ module _ (code : CodeView) (p : Source) (inputs : List ℤ) (name : ℕ → Name
   ask_is : m.ask ≡ Invoke how child_is
   ask_is =
       let a = m.asking in
-      let n : next p inputs what past ≡ Some m.ask = subst (λ (f : Frame World). next p inputs f.what f.deeds ≡ Some m.ask) frame_is a.next in
+      let n : next p inputs what past ≡ Some m.ask = subst (λ (f : Frame FrameEnv). next p inputs f.what f.deeds ≡ Some m.ask) frame_is a.next in
       let q : Some m.ask ≡ Some (Invoke how child_is) = sym n ∙ named_as.0 in
       cc
 
@@ -183,7 +183,7 @@ module _ (code : CodeView) (p : Source) (inputs : List ℤ) (name : ℕ → Name
   memory_same c = ap (λ z. z c) m.memory ∙ ap (λ a. effect a c (s.memory c)) deed_is
 
   total_at : (total : Total) → s'.totals total ≡ s.totals total + cost (costs p inputs) total what past (Invoke how child_is)
-  total_at total = m.totals total ∙ ap₂ (λ (f : Frame World) a. s.totals total + cost (costs p inputs) total f.what f.deeds a) frame_is ask_is
+  total_at total = m.totals total ∙ ap₂ (λ (f : Frame FrameEnv) a. s.totals total + cost (costs p inputs) total f.what f.deeds a) frame_is ask_is
 
   -- ---- frames by name
 
@@ -228,7 +228,7 @@ module _ (code : CodeView) (p : Source) (inputs : List ℤ) (name : ℕ → Name
   -- ---- views by name
 
   piece_at : (i : Instance) (n : Name) → s'.piece n i ≡ cond (same_name kid n) (s.piece (name k) i) (s.piece n i)
-  piece_at i n = m.piece i n ∙ ap₂ (λ (f : Frame World) x. after_views (monoid_of i) i s.stolen (name k) f.deeds x (λ y. s.piece y i) n) frame_is deed_is
+  piece_at i n = m.piece i n ∙ ap₂ (λ (f : Frame FrameEnv) x. after_views (monoid_of i) i s.stolen (name k) f.deeds x (λ y. s.piece y i) n) frame_is deed_is
 
   piece_kid : (i : Instance) → s'.piece kid i ≡ s.piece (name k) i
   piece_kid i = piece_at i kid ∙ rw (same_name-refl kid) refl
@@ -241,45 +241,45 @@ module _ (code : CodeView) (p : Source) (inputs : List ℤ) (name : ℕ → Name
 
   -- ---- where seats stand
 
-  abbrev left : Seat
+  abbrev left : FrameState
   left = let y = h.came in let a = h.seat in let x = a.cursor in
       record x { children = x.children + 1; last = (let f = b.frames in length f.items); due = due.Answer Done; status = left_at how w; cursor = y.cursor; took = y.took; counted = y.took }
 
-  abbrev now : Activation Seat
+  abbrev now : Activation FrameState
   now = let a = h.seat in record a { cursor = left }
 
-  abbrev written_seat : Seat → Seat
+  abbrev written_seat : FrameState → FrameState
   written_seat _ = counted (started_at (left_at how w) (let f = b.frames in length f.items) h.came)
 
   left_is : counted (started_at (left_at how w) last came) ≡ left
-  left_is = ap (λ (y : Seat). counted (started_at (left_at how w) last y)) (stepped.kept code p inputs name b d s w k (asks.Invoke how callee) lays sh h no_sync)
+  left_is = ap (λ (y : FrameState). counted (started_at (left_at how w) last y)) (stepped.kept code p inputs name b d s w k (asks.Invoke how callee) lays sh h no_sync)
 
   now_at : slice_get new_seats k ≡ Some now
   now_at =
       let a = h.seat in
-      let B : Seat → Option (Activation Seat) = (λ y. Some (record a { cursor = y })) in
+      let B : FrameState → Option (Activation FrameState) = (λ y. Some (record a { cursor = y })) in
       ap (λ l. slice_get l k) t.frames ∙ first_part (changed written_seat old_seats k) (t.child ∷ []) k now (changed_here written_seat old_seats k h.seat h.sits ∙ ap B left_is)
 
   child_at : slice_get new_seats last ≡ Some t.child
   child_at = ap (λ l. slice_get l last) t.frames ∙ subst (λ n. slice_get (changed written_seat old_seats k ++ t.child ∷ []) n ≡ Some t.child) (changed_length written_seat old_seats k) (last_there (changed written_seat old_seats k) t.child)
 
-  old_at : (j : ℕ) (a : Activation Seat) → (k ≡ j → ⊥) → slice_get old_seats j ≡ Some a → slice_get new_seats j ≡ Some a
+  old_at : (j : ℕ) (a : Activation FrameState) → (k ≡ j → ⊥) → slice_get old_seats j ≡ Some a → slice_get new_seats j ≡ Some a
   old_at j a ne at = ap (λ l. slice_get l j) t.frames ∙ first_part (changed written_seat old_seats k) (t.child ∷ []) j a (changed_off written_seat old_seats k j ne ∙ at)
 
   one_more : length new_seats ≡ suc last
-  one_more = ap (λ (l : List (Activation Seat)). length l) t.frames ∙ more_length (changed written_seat old_seats k) t.child ∙ ap suc (changed_length written_seat old_seats k)
+  one_more = ap (λ (l : List (Activation FrameState)). length l) t.frames ∙ more_length (changed written_seat old_seats k) t.child ∙ ap suc (changed_length written_seat old_seats k)
 
   on : carries.Carries old_seats new_seats
   on = subst (λ l. carries.Carries old_seats l) (sym t.frames)
       (carries.carries_then old_seats (changed written_seat old_seats k) (changed written_seat old_seats k ++ t.child ∷ []) (carries.carries_changed written_seat old_seats k) (carries_more (changed written_seat old_seats k) t.child))
 
   -- a seat is the frame's, the new one, or another that stays
-  pub data Which (j : ℕ) (a : Activation Seat) : Type 0 where
+  pub data Which (j : ℕ) (a : Activation FrameState) : Type 0 where
     parent_is : k ≡ j → now ≡ a → Which j a
     new_is : last ≡ j → t.child ≡ a → Which j a
     stays : (k ≡ j → ⊥) → slice_get old_seats j ≡ Some a → Which j a
 
-  which : (j : ℕ) (a : Activation Seat) → slice_get new_seats j ≡ Some a → Which j a
+  which : (j : ℕ) (a : Activation FrameState) → slice_get new_seats j ≡ Some a → Which j a
   which j a at = ⊎_elim (λ g. by g (nat_eq k j) refl) (λ g. new_is (sym (g.0 ∙ changed_length written_seat old_seats k)) g.1) (part_of (changed written_seat old_seats k) t.child j a (sym (ap (λ l. slice_get l j) t.frames) ∙ at))
     where
       by : slice_get (changed written_seat old_seats k) j ≡ Some a → (c : Bool) → nat_eq k j ≡ c → Which j a
@@ -287,11 +287,11 @@ module _ (code : CodeView) (p : Source) (inputs : List ℤ) (name : ℕ → Name
       by g false q = let ne : k ≡ j → ⊥ = (λ z. true≢false (sym (eq-eqb k j z) ∙ q)) in stays ne (sym (changed_off written_seat old_seats k j ne) ∙ g)
 
   -- it was there, or it is the new one
-  base_was : (j : ℕ) (a : Activation Seat) → slice_get new_seats j ≡ Some a → ((z : Activation Seat) × (slice_get old_seats j ≡ Some z) × (a.base ≡ z.base)) ⊎ ((last ≡ j) × (t.child ≡ a))
+  base_was : (j : ℕ) (a : Activation FrameState) → slice_get new_seats j ≡ Some a → ((z : Activation FrameState) × (slice_get old_seats j ≡ Some z) × (a.base ≡ z.base)) ⊎ ((last ≡ j) × (t.child ≡ a))
   base_was j a at = by (which j a at)
     where
-      by : Which j a → ((z : Activation Seat) × (slice_get old_seats j ≡ Some z) × (a.base ≡ z.base)) ⊎ ((last ≡ j) × (t.child ≡ a))
-      by (parent_is same is) = inl (h.seat, ap (λ i. slice_get old_seats i) (sym same) ∙ h.sits, ap (λ (z : Activation Seat). z.base) (sym is))
+      by : Which j a → ((z : Activation FrameState) × (slice_get old_seats j ≡ Some z) × (a.base ≡ z.base)) ⊎ ((last ≡ j) × (t.child ≡ a))
+      by (parent_is same is) = inl (h.seat, ap (λ i. slice_get old_seats i) (sym same) ∙ h.sits, ap (λ (z : Activation FrameState). z.base) (sym is))
       by (new_is same is) = inr (same, is)
       by (stays ne at') = inl (a, at', refl)
 
@@ -332,10 +332,10 @@ module _ (code : CodeView) (p : Source) (inputs : List ℤ) (name : ℕ → Name
 
   -- ---- blocks
 
-  flags_same : (n : Name) (ds : List (Deed World)) → stolen_at_block code p inputs name b' s' n ds ≡ stolen_at_block code p inputs name b s n ds
+  flags_same : (n : Name) (ds : List (Deed FrameEnv)) → stolen_at_block code p inputs name b' s' n ds ≡ stolen_at_block code p inputs name b s n ds
   flags_same n ds = ap (λ (l : Name → Bool). stolen_in (λ q. l (n ++ q ∷ [])) 1 [] ds) m.stolen
 
-  keeps_on : (n : Name) (ds ds' : List (Deed World)) (j : JoinView) → (IsAbsent old_seats name n → ⊥) → stolen_at_block code p inputs name b' s' n ds' ≡ stolen_at_block code p inputs name b s n ds → Keeps code p inputs name b s n ds j
+  keeps_on : (n : Name) (ds ds' : List (Deed FrameEnv)) (j : JoinView) → (IsAbsent old_seats name n → ⊥) → stolen_at_block code p inputs name b' s' n ds' ≡ stolen_at_block code p inputs name b s n ds → Keeps code p inputs name b s n ds j
       → Keeps code p inputs name b' s' n ds' j
   keeps_on n ds ds' j there flags g = record {
     lays = λ i q is.
@@ -368,7 +368,7 @@ module _ (code : CodeView) (p : Source) (inputs : List ℤ) (name : ℕ → Name
           (lays_same (kind_of i) (λ z. s.piece (n ++ z ∷ []) i) (λ z. s'.piece (n ++ z ∷ []) i) (is_there code p inputs name b s n) (is_there code p inputs name b' s' n) (cond j.closed (s.piece n i) (unit_of monoid_of i)) (cond j.closed (s'.piece n i) (unit_of monoid_of i))
           (λ z. ends_same (n ++ z ∷ [])) (λ z there. kid_same i (n ++ z ∷ []) there) (ap (λ v. cond j.closed v (unit_of monoid_of i)) (own_same i)) (unit_of monoid_of i) (stolen_at_block code p inputs name b s n ds) (run_at (kind_of i) q r.run) (waits_at (kind_of i) q r.waits) (g.lays i q is))
 
-  block_on : (n : Name) (ds ds' : List (Deed World)) (x x' : Seat) → (IsAbsent old_seats name n → ⊥) → x'.join ≡ x.join → x'.merged ≡ x.merged → (x.status ≡ Waiting → x'.status ≡ Waiting) → stolen_at_block code p inputs name b' s' n ds' ≡ stolen_at_block code p inputs name b s n ds
+  block_on : (n : Name) (ds ds' : List (Deed FrameEnv)) (x x' : FrameState) → (IsAbsent old_seats name n → ⊥) → x'.join ≡ x.join → x'.merged ≡ x.merged → (x.status ≡ Waiting → x'.status ≡ Waiting) → stolen_at_block code p inputs name b' s' n ds' ≡ stolen_at_block code p inputs name b s n ds
       → HasBlock code p inputs name b s n ds x → HasBlock code p inputs name b' s' n ds' x'
   block_on n ds ds' x x' there join merged waits flags (inl g) = inl (join ∙ g.0, flags ∙ g.1, merged ∙ g.2)
   block_on n ds ds' x x' there join merged waits flags (inr g) =
@@ -378,10 +378,10 @@ module _ (code : CodeView) (p : Source) (inputs : List ℤ) (name : ℕ → Name
   -- ---- where frames are
 
   over_on : (n : Name) → (name k ≡ n → ⊥) → (kid ≡ n → ⊥) → BlockIsOver s n → BlockIsOver s' n
-  over_on n ne ne' g = subst (λ f. BlockHasEnded World View s' n (deeds_at f)) (sym (else_at n ne ne')) (carries.block_on s s' (λ z e. ends_same z ∙ e) n (deeds_at (s.frames n)) g)
+  over_on n ne ne' g = subst (λ f. BlockHasEnded FrameEnv View s' n (deeds_at f)) (sym (else_at n ne ne')) (carries.block_on s s' (λ z e. ends_same z ∙ e) n (deeds_at (s.frames n)) g)
 
   over_back : (n : Name) → (name k ≡ n → ⊥) → (kid ≡ n → ⊥) → BlockIsOver s' n → BlockIsOver s n
-  over_back n ne ne' g = carries.block_on s' s (λ z e. sym (ends_same z) ∙ e) n (deeds_at (s.frames n)) (subst (λ f. BlockHasEnded World View s' n (deeds_at f)) (else_at n ne ne') g)
+  over_back n ne ne' g = carries.block_on s' s (λ z e. sym (ends_same z) ∙ e) n (deeds_at (s.frames n)) (subst (λ f. BlockHasEnded FrameEnv View s' n (deeds_at f)) (else_at n ne ne') g)
 
   stolen_on : (n : Name) (q : ℕ) → s.stolen (n ++ q ∷ []) ≡ true → s'.stolen (n ++ q ∷ []) ≡ true
   stolen_on n q is = ap (λ l. l (n ++ q ∷ [])) m.stolen ∙ is
@@ -424,7 +424,7 @@ module _ (code : CodeView) (p : Source) (inputs : List ℤ) (name : ℕ → Name
       (was_offered how k o.items q j (ap (λ (l : List ℕ). slice_get l q) (sym t.offers) ∙ ap (λ (a : Worker). let f = a.offered in slice_get f.items q) (sym g.1) ∙ has)))
       (λ g. inl (ap (λ (a : Worker). let f = a.offered in slice_get f.items q) (sym g.1) ∙ has)) z
 
-  where_else : (j : ℕ) (n : Name) (ds : List (Deed World)) (x : Seat) (z : Status) → (k ≡ j → ⊥) → (name k ≡ n → ⊥) → (kid ≡ n → ⊥) → IsWhere code p inputs name b s j n ds x z → IsWhere code p inputs name b' s' j n ds x z
+  where_else : (j : ℕ) (n : Name) (ds : List (Deed FrameEnv)) (x : FrameState) (z : Status) → (k ≡ j → ⊥) → (name k ≡ n → ⊥) → (kid ≡ n → ⊥) → IsWhere code p inputs name b s j n ds x z → IsWhere code p inputs name b' s' j n ds x z
   where_else j n ds x (Held v) off ne ne' g =
       let r = worker_on v g.0 g.1 in
       (r.0, r.1, ⊎_elim (λ y. absurd (off (own_worker v j g.0 g.1 g.2 y.0))) (λ y. ap (λ (u : Worker). u.frame) y.1 ∙ g.2) r.2, carries.goes_on s s' (λ z e. ends_same z ∙ e) n (stolen_on n) ds g.3, g.4, (λ y. let q = g.5 y in (q.0, over_on n ne ne' q.1)), g.6)
@@ -460,7 +460,7 @@ module _ (code : CodeView) (p : Source) (inputs : List ℤ) (name : ℕ → Name
   there_at : (j : ℕ) → j < last → IsAbsent old_seats name (name j) → ⊥
   there_at j less none = none j less refl
 
-  other : (j : ℕ) (a : Activation Seat) → (k ≡ j → ⊥) → slice_get old_seats j ≡ Some a → Sits code p inputs name b s j a → Sits code p inputs name b' s' j a
+  other : (j : ℕ) (a : Activation FrameState) → (k ≡ j → ⊥) → slice_get old_seats j ≡ Some a → Sits code p inputs name b s j a → Sits code p inputs name b' s' j a
   other j a off at o =
       let x = a.cursor in
       let f = o.frame in
@@ -544,7 +544,7 @@ module _ (code : CodeView) (p : Source) (inputs : List ℤ) (name : ℕ → Name
             (deeds_more p new_seats name s' k past (events_of k entries) deed event (carries.deeds_on old_seats new_seats on name p s s' sizes k past (events_of k entries) o.written) (event_is how));
       }
 
-  seats_sit : (j : ℕ) (a : Activation Seat) → slice_get new_seats j ≡ Some a → Sits code p inputs name b' s' j a
+  seats_sit : (j : ℕ) (a : Activation FrameState) → slice_get new_seats j ≡ Some a → Sits code p inputs name b' s' j a
   seats_sit j a at = by (which j a at)
     where
       by : Which j a → Sits code p inputs name b' s' j a
@@ -555,7 +555,7 @@ module _ (code : CodeView) (p : Source) (inputs : List ℤ) (name : ℕ → Name
   -- ---- workers
 
   came_children : came.children ≡ seat.children
-  came_children = ap (λ (y : Seat). y.children) (stepped.kept code p inputs name b d s w k (asks.Invoke how callee) lays sh h no_sync)
+  came_children = ap (λ (y : FrameState). y.children) (stepped.kept code p inputs name b d s w k (asks.Invoke how callee) lays sh h no_sync)
 
   child_seat : (c : CursorView) × ((let a = t.child in a.cursor) ≡ seated k (came.children + 1) how w c)
   child_seat = let i = t.is_child in let a = h.seat in (i.cursor, i.seat (record a { cursor = came }) (changed_here (λ _. came) old_seats k h.seat h.sits))
@@ -567,7 +567,7 @@ module _ (code : CodeView) (p : Source) (inputs : List ℤ) (name : ℕ → Name
   carried_child i =
       ap (λ n. carried (monoid_of i) (λ z. s'.piece z i) s'.stolen n (deeds_at (s'.frames n)) child_merged) last_name
       ∙ ap (λ f. carried (monoid_of i) (λ z. s'.piece z i) s'.stolen kid (deeds_at f) child_merged) kid_at
-      ∙ plain {W = World} (monoid_of i) (λ z. s'.piece z i) s'.stolen kid [] child_merged (let c = child_seat in ap (λ (y : Seat). y.merged) c.1) refl
+      ∙ plain {W = FrameEnv} (monoid_of i) (λ z. s'.piece z i) s'.stolen kid [] child_merged (let c = child_seat in ap (λ (y : FrameState). y.merged) c.1) refl
       ∙ piece_kid i
 
   unit_view : (i : Instance) (j : numbered.Instance) (u : Worker) (v : View) → IsKids i j → IsBare last (value_in u.views) → v ≡ (views_of (kind_of i)).unit → IsViewOf (kind_of i) v (value_in u.views (kind_of i) j)
@@ -583,12 +583,12 @@ module _ (code : CodeView) (p : Source) (inputs : List ℤ) (name : ℕ → Name
       let bare = stepped.bare_now code p inputs name b d s w k (asks.Invoke how callee) lays sh h no_sync in record {
         seat = t.child;
         here = child_at;
-        held = ap (λ (y : Seat). y.status) c.1;
+        held = ap (λ (y : FrameState). y.status) c.1;
         views = λ i j is.
             subst (λ x. IsViewOf (kind_of i) x (value_in v.views (kind_of i) j)) (sym (carried_child i)) (subst (λ x. IsViewOf (kind_of i) (s.piece (name k) i) (value_in x (kind_of i) j)) (sym t.views)
             (⊎_elim (λ o. ready.own_views code p inputs name b d s w k (asks.Invoke how callee) lays sh h no_sync calm i j o) (λ o. unit_view i j u (s.piece (name k) i) o bare (piece_none i j o (name k) (there_at k low))) (split_instance i j is)));
         used = λ q g.
-            absurd (unused {W = World} s'.stolen kid [] child_merged q (ap (λ (y : Seat). y.merged) c.1) refl (subst (λ f. IsUsed s'.stolen kid (deeds_at f) child_merged q) kid_at (subst (λ n. IsUsed s'.stolen n (deeds_at (s'.frames n)) child_merged q) last_name g)));
+            absurd (unused {W = FrameEnv} s'.stolen kid [] child_merged q (ap (λ (y : FrameState). y.merged) c.1) refl (subst (λ f. IsUsed s'.stolen kid (deeds_at f) child_merged q) kid_at (subst (λ n. IsUsed s'.stolen n (deeds_at (s'.frames n)) child_merged q) last_name g)));
         bare = subst (λ x. IsBare (length new_seats) (value_in x)) (sym t.views) (bare_more (value_in u.views) bare);
       }
 
@@ -626,31 +626,31 @@ module _ (code : CodeView) (p : Source) (inputs : List ℤ) (name : ℕ → Name
       one_holder v j u e o =
           let y : Some h.seat ≡ Some o.seat = sym h.sits ∙ ap (λ i. slice_get old_seats i) e ∙ o.here in
           let x : h.seat ≡ o.seat = cc in
-          let z : Held w ≡ Held v = sym status_was ∙ ap (λ (a : Activation Seat). let c = a.cursor in c.status) x ∙ o.held in
+          let z : Held w ≡ Held v = sym status_was ∙ ap (λ (a : Activation FrameState). let c = a.cursor in c.status) x ∙ o.held in
           cc
 
   -- ---- the desk
 
-  abbrev pub desk_now : Desk
+  abbrev pub desk_now : WorkerTable
   desk_now = record { hands = set d.hands w (Some kid); offered = offers_by how d.offered w (name k); waiting = d.waiting }
 
-  not_offered : (v : ℕ) (j : ℕ) (a : Activation Seat) → slice_get old_seats j ≡ Some a → (let x = a.cursor in x.status ≡ Offered v) → k ≡ j → ⊥
+  not_offered : (v : ℕ) (j : ℕ) (a : Activation FrameState) → slice_get old_seats j ≡ Some a → (let x = a.cursor in x.status ≡ Offered v) → k ≡ j → ⊥
   not_offered v j a at is e =
       let y : Some h.seat ≡ Some a = sym h.sits ∙ ap (λ i. slice_get old_seats i) e ∙ at in
       let x : h.seat ≡ a = cc in
-      let z : Held w ≡ Offered v = sym status_was ∙ ap (λ (a : Activation Seat). let c = a.cursor in c.status) x ∙ is in
+      let z : Held w ≡ Offered v = sym status_was ∙ ap (λ (a : Activation FrameState). let c = a.cursor in c.status) x ∙ is in
       cc
 
-  waits_as : (j : ℕ) (a : Activation Seat) → slice_get new_seats j ≡ Some a → ((let x = a.cursor in x.status ≡ Waiting) → IsIn (name j) d.waiting) × (IsIn (name j) d.waiting → let x = a.cursor in x.status ≡ Waiting)
+  waits_as : (j : ℕ) (a : Activation FrameState) → slice_get new_seats j ≡ Some a → ((let x = a.cursor in x.status ≡ Waiting) → IsIn (name j) d.waiting) × (IsIn (name j) d.waiting → let x = a.cursor in x.status ≡ Waiting)
   waits_as j a at = by (which j a at)
     where
       by : Which j a → ((let x = a.cursor in x.status ≡ Waiting) → IsIn (name j) d.waiting) × (IsIn (name j) d.waiting → let x = a.cursor in x.status ≡ Waiting)
       by (parent_is same is) = (
-        (λ q. absurd (not_waiting how w (ap (λ (y : Activation Seat). let x = y.cursor in x.status) is ∙ q))),
+        (λ q. absurd (not_waiting how w (ap (λ (y : Activation FrameState). let x = y.cursor in x.status) is ∙ q))),
         (λ q. let o = sh.desk in let g = o.waiting k h.seat h.sits in let z : Held w ≡ Waiting = sym status_was ∙ g.1 (subst (λ i. IsIn (name i) d.waiting) (sym same) q) in let f : ⊥ = cc in absurd f),
       )
       by (new_is same is) = (
-        (λ q. let c = child_seat in let z : Held w ≡ Waiting = sym (ap (λ (y : Seat). y.status) c.1) ∙ ap (λ (y : Activation Seat). let x = y.cursor in x.status) is ∙ q in let f : ⊥ = cc in absurd f),
+        (λ q. let c = child_seat in let z : Held w ≡ Waiting = sym (ap (λ (y : FrameState). y.status) c.1) ∙ ap (λ (y : Activation FrameState). let x = y.cursor in x.status) is ∙ q in let f : ⊥ = cc in absurd f),
         (λ q. let o = sh.desk in absurd (o.present kid (subst (λ n. IsIn n d.waiting) last_name (subst (λ i. IsIn (name i) d.waiting) (sym same) q)) kid_absent)),
       )
       by (stays ne at') = let o = sh.desk in o.waiting j a at'
@@ -680,7 +680,7 @@ module _ (code : CodeView) (p : Source) (inputs : List ℤ) (name : ℕ → Name
       t.offered ∙ ap (λ n. n + newly_offered how) o.total
       ∙ sym (sum_more count (λ _. t.worker) old_workers w h.worker (newly_offered how) h.at (ap (λ (l : List ℕ). length l) t.offers ∙ offered_length how k f.items)) ∙ ap (λ ws. sum (map count ws)) (sym t.workers)
 
-  desk_is : IsDesk code p inputs name b' desk_now
+  desk_is : IsWorkerTable code p inputs name b' desk_now
   desk_is =
       let o = sh.desk in record {
         hands = ap (λ hs. set hs w (Some kid)) o.hands ∙ sym (altering.altered_set (λ _. t.worker) (hand_of name) (Some kid) old_workers w (λ u. ap (λ f. option_map name f) t.has ∙ ap (λ n. Some n) last_name))
@@ -720,13 +720,13 @@ module _ (code : CodeView) (p : Source) (inputs : List ℤ) (name : ℕ → Name
   named_now =
       let c = child_seat in
       let o = sh.sits k h.seat h.sits in
-      named_more old_seats new_seats name t.child k (started past) named low one_more was_started (ap (λ (y : Seat). y.parent) c.1) (ap (λ (y : Seat). y.ordinal) c.1 ∙ sym ordinal_is) last_name kid_absent
+      named_more old_seats new_seats name t.child k (started past) named low one_more was_started (ap (λ (y : FrameState). y.parent) c.1) (ap (λ (y : FrameState). y.ordinal) c.1 ∙ sym ordinal_is) last_name kid_absent
       (all_started code p inputs name b s sh.tells counts k h.seat h.sits frame here o.children o.last)
     where
       ordinal_is : suc (started past) ≡ came.children + 1
       ordinal_is = let o = sh.sits k h.seat h.sits in let n = o.children in let e = came_children in omega (arith, n, e)
 
-      was_started : (j : ℕ) (a : Activation Seat) → slice_get new_seats j ≡ Some a → WasStarted old_seats j a ⊎ ((last ≡ j) × (t.child ≡ a))
+      was_started : (j : ℕ) (a : Activation FrameState) → slice_get new_seats j ≡ Some a → WasStarted old_seats j a ⊎ ((last ≡ j) × (t.child ≡ a))
       was_started j a at = by (which j a at)
         where
           by : Which j a → WasStarted old_seats j a ⊎ ((last ≡ j) × (t.child ≡ a))
@@ -735,8 +735,8 @@ module _ (code : CodeView) (p : Source) (inputs : List ℤ) (name : ℕ → Name
               record {
                 seat = h.seat;
                 at = ap (λ i. slice_get old_seats i) (sym same) ∙ h.sits;
-                parent = ap (λ (z : Activation Seat). let y = z.cursor in y.parent) (sym is);
-                ordinal = ap (λ (z : Activation Seat). let y = z.cursor in y.ordinal) (sym is);
+                parent = ap (λ (z : Activation FrameState). let y = z.cursor in y.parent) (sym is);
+                ordinal = ap (λ (z : Activation FrameState). let y = z.cursor in y.ordinal) (sym is);
               }
               )
           by (new_is same is) = inr (same, is)
@@ -752,7 +752,7 @@ module _ (code : CodeView) (p : Source) (inputs : List ℤ) (name : ℕ → Name
         named = named_now;
         here = λ j a at. let z = seats_sit j a at in (z.frame, z.here, z.written);
         absent = λ n none. else_at n (λ q. absent_back n none k low q) (λ q. none last last_low (last_name ∙ q)) ∙ o.absent n (absent_back n none);
-        joins = λ n q. ap (λ l. times (n ++ q ∷ []) l) (m.joins ∙ ap₂ (λ a (f : Frame World). joined_by a (name k) f.deeds ++ s.joins) ask_is frame_is) ∙ o.joins n q ∙ forked.joined_same p s s' (name k) frame how child_is here fresh going made n q;
+        joins = λ n q. ap (λ l. times (n ++ q ∷ []) l) (m.joins ∙ ap₂ (λ a (f : Frame FrameEnv). joined_by a (name k) f.deeds ++ s.joins) ask_is frame_is) ∙ o.joins n q ∙ forked.joined_same p s s' (name k) frame how child_is here fresh going made n q;
         going = λ z g. o.going h.was_open (forked.end_before p s s' (name k) frame how child_is here fresh going made [] g);
         over = λ z at. let no : None ≡ Some z = sym h.was_open ∙ sym t.outcome ∙ at in let f : ⊥ = cc in absurd f;
         first = λ a at. ⊎_elim (λ f. subst (λ z. length p.openings ≤ z) (sym f.2) (o.first f.0 f.1)) (λ f. let l = low in let is = f.0 in absurd (omega (arith, l, is))) (base_was 0 a at);
@@ -790,7 +790,7 @@ module _ (code : CodeView) (p : Source) (inputs : List ℤ) (name : ℕ → Name
   pub settles : Chooses p inputs s d (Run (suc w)) Did s' desk_now
   settles =
       does w (name k) s' desk_now (stepped.hand_is code p inputs name b d s w k (asks.Invoke how callee) lays sh h no_sync) m
-      (subst (λ (f : Frame World). Settles s' d w (name k) f.deeds m.ask desk_now) (sym frame_is) (subst (λ a. Settles s' d w (name k) past a desk_now) (sym ask_is) (by how)))
+      (subst (λ (f : Frame FrameEnv). Settles s' d w (name k) f.deeds m.ask desk_now) (sym frame_is) (subst (λ a. Settles s' d w (name k) past a desk_now) (sym ask_is) (by how)))
     where
       by : (c : Invocation) → Settles s' d w (name k) past (Invoke c child_is) (record { hands = set d.hands w (Some kid); offered = offers_by c d.offered w (name k); waiting = d.waiting })
       by Call = calls child_is

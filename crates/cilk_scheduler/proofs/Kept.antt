@@ -16,12 +16,12 @@ use Rattle.cilk_frames.specs.declared.activation.Activation.{Activation}
 use Rattle.cilk_runs.specs.Runs.{Name, Cell, Global, Own, Instance, Output, Reducer, Granted, Begins, Resumes, Creates, Updates, Sets, Values, Prints, Deed, Does, Invokes, Reads, Writes, Syncs, Ends, Passes}
 use Rattle.cilk_runs.specs.Machine.{State}
 use Rattle.cilk_runs.specs.Reducers.{View}
-use Rattle.cilk_runs.specs.Worlds.{World}
-use Rattle.cilk_scheduler.specs.declared.seat.JournalEntry.{JournalEntry}
-use Rattle.cilk_scheduler.specs.declared.seat.Seat.{Seat}
+use Rattle.cilk_runs.specs.FrameEnvs.{FrameEnv}
+use Rattle.cilk_scheduler.specs.declared.frame_state.JournalEntry.{JournalEntry}
+use Rattle.cilk_scheduler.specs.declared.frame_state.FrameState.{FrameState}
 use Rattle.cilk_scheduler.specs.Events.{SeesAt}
 use Rattle.cilk_scheduler.specs.Numbered.{AreNamed, children_among, parent_at, IsAbsent, size_of, IsCell, IsInstance, IsMarked, IsDeed, AreDeeds, events_of}
-use Rattle.cilk_scheduler.specs.Seats.{changed}
+use Rattle.cilk_scheduler.specs.FrameStates.{changed}
 use Rattle.cilk_scheduler.proofs.Changing.{changed_length}
 use Rattle.cilk_scheduler.proofs.Siblings.{among_same}
 
@@ -60,20 +60,20 @@ module _ {C : Type 0} (f : C → C) where
   sees_changed frames k j scope h = let g = changed_get frames k j h.0 h.1 in (record h.0 { cursor = g.0 }, g.1, scope_changed frames k h.0 g.0 scope h.2)
 
 -- who started each frame
-parents_of : (f : Seat → Seat) → ((x : Seat) → (let y = f x in y.parent ≡ x.parent)) → (frames : List (Activation Seat)) (k j : ℕ) → parent_at (changed f frames k) j ≡ parent_at frames j
+parents_of : (f : FrameState → FrameState) → ((x : FrameState) → (let y = f x in y.parent ≡ x.parent)) → (frames : List (Activation FrameState)) (k j : ℕ) → parent_at (changed f frames k) j ≡ parent_at frames j
 parents_of f same [] k j = refl
 parents_of f same (x ∷ frames) zero zero = ap (λ n. Some n) (same x.cursor)
 parents_of f same (x ∷ frames) zero (suc j) = refl
 parents_of f same (x ∷ frames) (suc k) zero = refl
 parents_of f same (x ∷ frames) (suc k) (suc j) = parents_of f same frames k j
 
-module _ (f : Seat → Seat) (frames : List (Activation Seat)) (k : ℕ) (name : ℕ → Name) where
+module _ (f : FrameState → FrameState) (frames : List (Activation FrameState)) (k : ℕ) (name : ℕ → Name) where
   -- ---- names
 
-  pub parents_changed : ((x : Seat) → (let y = f x in y.parent ≡ x.parent)) → (j : ℕ) → parent_at (changed f frames k) j ≡ parent_at frames j
+  pub parents_changed : ((x : FrameState) → (let y = f x in y.parent ≡ x.parent)) → (j : ℕ) → parent_at (changed f frames k) j ≡ parent_at frames j
   parents_changed same j = parents_of f same frames k j
 
-  pub named_changed : ((x : Seat) → (let y = f x in (y.parent ≡ x.parent) × (y.ordinal ≡ x.ordinal))) → AreNamed frames name → AreNamed (changed f frames k) name
+  pub named_changed : ((x : FrameState) → (let y = f x in (y.parent ≡ x.parent) × (y.ordinal ≡ x.ordinal))) → AreNamed frames name → AreNamed (changed f frames k) name
   named_changed same h = record {
     root = h.root;
     child = λ j b at.
@@ -81,14 +81,14 @@ module _ (f : Seat → Seat) (frames : List (Activation Seat)) (k : ℕ) (name :
         let a = g.0 in
         let old = h.child j a g.1 in
         let x = a.cursor in
-        ⊎_elim (λ e. subst (λ (y : Seat). (y.parent < suc j) × (name (suc j) ≡ name y.parent ++ y.ordinal ∷ [])) (sym e) old)
-        (λ e. let s = same x in subst (λ (y : Seat). (y.parent < suc j) × (name (suc j) ≡ name y.parent ++ y.ordinal ∷ [])) (sym e) (subst (λ n. n < suc j) (sym s.0) old.0, old.1 ∙ ap₂ (λ p q. name p ++ q ∷ []) (sym s.0) (sym s.1))) g.3;
+        ⊎_elim (λ e. subst (λ (y : FrameState). (y.parent < suc j) × (name (suc j) ≡ name y.parent ++ y.ordinal ∷ [])) (sym e) old)
+        (λ e. let s = same x in subst (λ (y : FrameState). (y.parent < suc j) × (name (suc j) ≡ name y.parent ++ y.ordinal ∷ [])) (sym e) (subst (λ n. n < suc j) (sym s.0) old.0, old.1 ∙ ap₂ (λ p q. name p ++ q ∷ []) (sym s.0) (sym s.1))) g.3;
     ordinal = λ j b at.
         let g = changed_from f frames k (suc j) b at in
         let a = g.0 in
         let old = h.ordinal j a g.1 in
         let x = a.cursor in
-        let IsCounted : Seat → Type 0 = (λ (y : Seat). y.ordinal ≡ suc (length (children_among (changed f frames k) y.parent (suc j)))) in
+        let IsCounted : FrameState → Type 0 = (λ (y : FrameState). y.ordinal ≡ suc (length (children_among (changed f frames k) y.parent (suc j)))) in
         let now : IsCounted x = old ∙ ap (λ (l : List ℕ). suc (length l)) (sym (among_same frames (changed f frames k) (λ i. parents_changed (λ z. let s = same z in s.0) i) x.parent (suc j))) in
         ⊎_elim (λ e. subst IsCounted (sym e) now)
         (λ e. let s = same x in subst IsCounted (sym e) (s.1 ∙ now ∙ ap (λ m. suc (length (children_among (changed f frames k) m (suc j)))) (sym s.0))) g.3;
@@ -103,7 +103,7 @@ module _ (f : Seat → Seat) (frames : List (Activation Seat)) (k : ℕ) (name :
 
   -- ---- numbers
 
-  module _ (p : Source) (s s' : State World View) (sizes : (m : Name) → size_of p (s.frames m) ≡ size_of p (s'.frames m)) where
+  module _ (p : Source) (s s' : State FrameEnv View) (sizes : (m : Name) → size_of p (s.frames m) ≡ size_of p (s'.frames m)) where
     pub cell_changed : (c : Cell) (n : ℕ) → IsCell p frames name s c n → IsCell p (changed f frames k) name s' c n
     cell_changed (Global g) n h = h
     cell_changed (Own m q) n h = let g = changed_get f frames k h.0 h.1 h.2 in (h.0, record h.1 { cursor = g.0 }, g.1, h.3, h.4, subst (λ z. q < z) (sizes m) h.5)
@@ -121,7 +121,7 @@ module _ (f : Seat → Seat) (frames : List (Activation Seat)) (k : ℕ) (name :
     mark_changed t (Values i v) e h = (h.0, instance_changed i h.0 h.1, h.2)
     mark_changed t (Prints x) e h = h
 
-    pub deed_changed : (t : ℕ) (d : Deed World) (e : Event) → IsDeed p frames name s t d e → IsDeed p (changed f frames k) name s' t d e
+    pub deed_changed : (t : ℕ) (d : Deed FrameEnv) (e : Event) → IsDeed p frames name s t d e → IsDeed p (changed f frames k) name s' t d e
     deed_changed t (Does (Reads c v)) e h = (h.0, cell_changed c h.0 h.1, h.2)
     deed_changed t (Does (Writes c v)) e h = (h.0, cell_changed c h.0 h.1, h.2)
     deed_changed t (Does Syncs) e h = h
@@ -130,7 +130,7 @@ module _ (f : Seat → Seat) (frames : List (Activation Seat)) (k : ℕ) (name :
     deed_changed t (Invokes Call w) e h = (h.0, subst (λ z. h.0 < z) (sym (changed_length f frames k)) h.1, h.2, h.3)
     deed_changed t (Invokes Spawn w) e h = (h.0, subst (λ z. h.0 < z) (sym (changed_length f frames k)) h.1, h.2, h.3)
 
-    pub deeds_changed : (t : ℕ) (ds : List (Deed World)) (es : List Event) → AreDeeds p frames name s t ds es → AreDeeds p (changed f frames k) name s' t ds es
+    pub deeds_changed : (t : ℕ) (ds : List (Deed FrameEnv)) (es : List Event) → AreDeeds p frames name s t ds es → AreDeeds p (changed f frames k) name s' t ds es
     deeds_changed t [] [] h = tt
     deeds_changed t [] (e ∷ es) h = absurd h
     deeds_changed t (d ∷ ds) [] h = absurd h
@@ -149,7 +149,7 @@ events_more k (x ∷ es) e = by (nat_eq x.frame k) refl (nat_eq e.frame k) refl 
     by false q true r h = rw (q, r) (let g : events_of k (es ++ e ∷ []) ≡ events_of k es ++ e.event ∷ [] = rw r at h in g)
     by false q false r h = rw (q, r) (let g : events_of k (es ++ e ∷ []) ≡ events_of k es = rw r at h in g)
 
-pub deeds_more : (p : Source) (frames : List (Activation Seat)) (name : ℕ → Name) (s : State World View) (t : ℕ) (ds : List (Deed World)) (es : List Event) (d : Deed World) (e : Event)
+pub deeds_more : (p : Source) (frames : List (Activation FrameState)) (name : ℕ → Name) (s : State FrameEnv View) (t : ℕ) (ds : List (Deed FrameEnv)) (es : List Event) (d : Deed FrameEnv) (e : Event)
     → AreDeeds p frames name s t ds es → IsDeed p frames name s t d e → AreDeeds p frames name s t (ds ++ d ∷ []) (es ++ e ∷ [])
 deeds_more p frames name s t [] [] d e h g = (g, tt)
 deeds_more p frames name s t [] (x ∷ es) d e h g = absurd h

@@ -20,7 +20,7 @@ pub mod Invocations
 pub mod Invoked
 pub mod Kept
 pub mod Limits
-pub mod NewBoards
+pub mod NewSchedulers
 pub mod NewNames
 pub mod Nexts
 pub mod Noted

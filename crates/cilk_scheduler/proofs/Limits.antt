@@ -10,10 +10,10 @@ use Rattle.cilk_program.proofs.Naming.{well_named_parts}
 use Rattle.cilk_runs.specs.Costs.{Total, TickTotal, EventTotal, FrameTotal, CellTotal}
 use Rattle.cilk_runs.specs.Machine.{State, Makes, Steps}
 use Rattle.cilk_runs.specs.Runs.{Name}
-use Rattle.cilk_runs.specs.WorldMachine.{costs, used}
+use Rattle.cilk_runs.specs.FrameEnvMachine.{costs, used}
 use Rattle.cilk_runs.specs.Reducers.{View, monoid_of}
 use Rattle.cilk_runs.specs.Steps.{Next, IsFirst, OneStep}
-use Rattle.cilk_runs.specs.Worlds.{World}
+use Rattle.cilk_runs.specs.FrameEnvs.{FrameEnv}
 use Rattle.cilk_scheduler.specs.Histories.{AreWithin, TotalsStayWithin}
 use Rattle.cilk_scheduler.proofs.Within.{no_fault_then}
 
@@ -26,7 +26,7 @@ module _ (p : Source) (inputs : List ℤ) where
       let cells = main.cells in
       omega (arith, openings, cells)
 
-  opens_within : (s : State World View) → IsTrue (is_well_named p) → IsFirst p inputs s → AreWithin p inputs s
+  opens_within : (s : State FrameEnv View) → IsTrue (is_well_named p) → IsFirst p inputs s → AreWithin p inputs s
   opens_within s well o total = subst (λ n. n ≤ (let C = costs p inputs in C.limit total)) (sym (o.6 total)) (by total)
     where
       by : (total : Total) → used p inputs total ≤ (let C = costs p inputs in C.limit total)
@@ -35,18 +35,18 @@ module _ (p : Source) (inputs : List ℤ) where
       by FrameTotal = omega arith
       by CellTotal = first_cells well
 
-  steps_within : (s s' : State World View) (n : Name) → AreWithin p inputs s → OneStep p inputs s n s' → AreWithin p inputs s'
-  steps_within s s' n h step = ⊎_elim made (λ o. ⊎_elim (λ t. by t.totals) (λ t. by (ap (λ (z : State World View). z.totals) t.after)) o) step.1
+  steps_within : (s s' : State FrameEnv View) (n : Name) → AreWithin p inputs s → OneStep p inputs s n s' → AreWithin p inputs s'
+  steps_within s s' n h step = ⊎_elim made (λ o. ⊎_elim (λ t. by t.totals) (λ t. by (ap (λ (z : State FrameEnv View). z.totals) t.after)) o) step.1
     where
       by : s'.totals ≡ s.totals → AreWithin p inputs s'
       by same total = subst (λ (t : Total → ℕ). t total ≤ (let C = costs p inputs in C.limit total)) (sym same) (h total)
 
-      made : Makes World View monoid_of (Next p inputs) (costs p inputs) s n s' → AreWithin p inputs s'
+      made : Makes FrameEnv View monoid_of (Next p inputs) (costs p inputs) s n s' → AreWithin p inputs s'
       made t total =
           let f = t.frame in
           subst (λ n. n ≤ (let C = costs p inputs in C.limit total)) (sym (t.totals total)) ((no_fault_then (costs p inputs) s.totals f.what f.deeds t.ask t.within).1 total)
 
-  all_within : (ns : List Name) (s s' : State World View) → AreWithin p inputs s → Steps World View monoid_of (Next p inputs) (costs p inputs) ns s s' → AreWithin p inputs s'
+  all_within : (ns : List Name) (s s' : State FrameEnv View) → AreWithin p inputs s → Steps FrameEnv View monoid_of (Next p inputs) (costs p inputs) ns s s' → AreWithin p inputs s'
   all_within [] s s' h e = subst (AreWithin p inputs) (sym e) h
   all_within (n ∷ ns) s s' h (mid, one, rest) = all_within ns mid s' (steps_within s mid n h one) rest
 

@@ -11,10 +11,10 @@ use Rattle.cilk_frames.specs.declared.activation.Activation.{Activation}
 use Rattle.cilk_runs.specs.Machine.{Frame, State, deeds_at, started}
 use Rattle.cilk_runs.specs.Runs.{Name}
 use Rattle.cilk_runs.specs.Reducers.{View}
-use Rattle.cilk_runs.specs.Worlds.{World}
-use Rattle.cilk_scheduler.specs.declared.board.Board.{Board}
-use Rattle.cilk_scheduler.specs.declared.seat.Seat.{Seat}
-use Rattle.cilk_scheduler.specs.Boards.{Tells}
+use Rattle.cilk_runs.specs.FrameEnvs.{FrameEnv}
+use Rattle.cilk_scheduler.specs.declared.scheduler.Scheduler.{Scheduler}
+use Rattle.cilk_scheduler.specs.declared.frame_state.FrameState.{FrameState}
+use Rattle.cilk_scheduler.specs.Schedulers.{Tells}
 use Rattle.cilk_scheduler.specs.Numbered.{AreNamed, IsAbsent, children_among, parent_at}
 use Rattle.cilk_scheduler.specs.Ordinals.{AreCounted}
 use Rattle.cilk_scheduler.proofs.Placed.{get_some}
@@ -27,16 +27,16 @@ not_root : (n : Name) (q : ℕ) → [] ≡ n ++ q ∷ [] → ⊥
 not_root [] q e = let z : [] ≡ q ∷ [] = e in cc
 not_root (j ∷ n) q e = let z : [] ≡ j ∷ (n ++ q ∷ []) = e in cc
 
-module _ (code : CodeView) (p : Source) (inputs : List ℤ) (name : ℕ → Name) (b : Board) (s : State World View) (t : Tells code p inputs name b s) (counts : AreCounted s.frames) (k : ℕ) (x : Activation Seat)
-    (at : (let f = b.frames in slice_get f.items k ≡ Some x)) (f : Frame World) (here : s.frames (name k) ≡ Some f) (children : (let y = x.cursor in started f.deeds ≡ y.children))
+module _ (code : CodeView) (p : Source) (inputs : List ℤ) (name : ℕ → Name) (b : Scheduler) (s : State FrameEnv View) (t : Tells code p inputs name b s) (counts : AreCounted s.frames) (k : ℕ) (x : Activation FrameState)
+    (at : (let f = b.frames in slice_get f.items k ≡ Some x)) (f : Frame FrameEnv) (here : s.frames (name k) ≡ Some f) (children : (let y = x.cursor in started f.deeds ≡ y.children))
     (last : (let y = x.cursor in 0 < y.children → (let l = b.frames in y.last < length l.items) × (name y.last ≡ name k ++ y.children ∷ []))) where
-  abbrev seats : List (Activation Seat)
+  abbrev seats : List (Activation FrameState)
   seats = let l = b.frames in l.items
 
   named : AreNamed seats name
   named = t.named
 
-  every : (j : ℕ) (z : Activation Seat) → slice_get seats (suc j) ≡ Some z → (let y = z.cursor in y.parent ≡ k) → (let y = z.cursor in y.ordinal ≤ started f.deeds)
+  every : (j : ℕ) (z : Activation FrameState) → slice_get seats (suc j) ≡ Some z → (let y = z.cursor in y.parent ≡ k) → (let y = z.cursor in y.ordinal ≤ started f.deeds)
   every j z there is =
       let y = z.cursor in
       let c = named.child j z there in
@@ -71,22 +71,22 @@ module _ (code : CodeView) (p : Source) (inputs : List ℤ) (name : ℕ → Name
   all_started = all_counted seats named.ordinal k (started f.deeds) every some
 
 -- a frame was there, started by the same one under the same ordinal
-pub record WasStarted (old : List (Activation Seat)) (j : ℕ) (a : Activation Seat) : Type 0 where
-  pub seat : Activation Seat
+pub record WasStarted (old : List (Activation FrameState)) (j : ℕ) (a : Activation FrameState) : Type 0 where
+  pub seat : Activation FrameState
   pub at : slice_get old j ≡ Some seat
   pub parent : let x = a.cursor in let y = seat.cursor in x.parent ≡ y.parent
   pub ordinal : let x = a.cursor in let y = seat.cursor in x.ordinal ≡ y.ordinal
 
-module _ (old new : List (Activation Seat)) (name : ℕ → Name) (child : Activation Seat) (k c : ℕ) (known : AreNamed old name) (low : k < length old) (one_more : length new ≡ suc (length old))
-    (was : (j : ℕ) (a : Activation Seat) → slice_get new j ≡ Some a → WasStarted old j a ⊎ ((length old ≡ j) × (child ≡ a))) (parent : (let x = child.cursor in x.parent ≡ k)) (ordinal : (let x = child.cursor in x.ordinal ≡ suc c))
+module _ (old new : List (Activation FrameState)) (name : ℕ → Name) (child : Activation FrameState) (k c : ℕ) (known : AreNamed old name) (low : k < length old) (one_more : length new ≡ suc (length old))
+    (was : (j : ℕ) (a : Activation FrameState) → slice_get new j ≡ Some a → WasStarted old j a ⊎ ((length old ≡ j) × (child ≡ a))) (parent : (let x = child.cursor in x.parent ≡ k)) (ordinal : (let x = child.cursor in x.ordinal ≡ suc c))
     (last_name : name (length old) ≡ name k ++ suc c ∷ []) (absent : IsAbsent old name (name k ++ suc c ∷ [])) (all : length (children_among old k (length old)) ≡ c) where
   same_parents : (j : ℕ) → j < length old → parent_at new j ≡ parent_at old j
   same_parents j less =
       let g = get_some new j (omega (arith, less, one_more)) in
-      let P : Option (Activation Seat) → Option ℕ = (λ o. option_map (λ (a : Activation Seat). let x = a.cursor in x.parent) o) in
+      let P : Option (Activation FrameState) → Option ℕ = (λ o. option_map (λ (a : Activation FrameState). let x = a.cursor in x.parent) o) in
       ⊎_elim (λ r. ap P g.1 ∙ ap (λ n. Some n) r.parent ∙ sym (ap P r.at)) (λ r. let e = r.0 in absurd (omega (arith, e, less))) (was j g.0 g.1)
 
-  child_at_place : (j : ℕ) (x : Activation Seat) → slice_get new (suc j) ≡ Some x → (let y = x.cursor in (y.parent < suc j) × (name (suc j) ≡ name y.parent ++ y.ordinal ∷ []))
+  child_at_place : (j : ℕ) (x : Activation FrameState) → slice_get new (suc j) ≡ Some x → (let y = x.cursor in (y.parent < suc j) × (name (suc j) ≡ name y.parent ++ y.ordinal ∷ []))
   child_at_place j x at = ⊎_elim before newest (was (suc j) x at)
     where
       before : WasStarted old (suc j) x → (let y = x.cursor in (y.parent < suc j) × (name (suc j) ≡ name y.parent ++ y.ordinal ∷ []))
@@ -97,10 +97,10 @@ module _ (old new : List (Activation Seat)) (name : ℕ → Name) (child : Activ
       newest : (length old ≡ suc j) × (child ≡ x) → (let y = x.cursor in (y.parent < suc j) × (name (suc j) ≡ name y.parent ++ y.ordinal ∷ []))
       newest r =
           let e = r.0 in
-          subst (λ (a : Activation Seat). let y = a.cursor in (y.parent < suc j) × (name (suc j) ≡ name y.parent ++ y.ordinal ∷ [])) r.1
+          subst (λ (a : Activation FrameState). let y = a.cursor in (y.parent < suc j) × (name (suc j) ≡ name y.parent ++ y.ordinal ∷ [])) r.1
           (subst (λ n. n < suc j) (sym parent) (omega (arith, e, low)), ap name (sym r.0) ∙ last_name ∙ ap₂ (λ n q. name n ++ q ∷ []) (sym parent) (sym ordinal))
 
-  ordinal_at : (j : ℕ) (x : Activation Seat) → slice_get new (suc j) ≡ Some x → (let y = x.cursor in y.ordinal ≡ suc (length (children_among new y.parent (suc j))))
+  ordinal_at : (j : ℕ) (x : Activation FrameState) → slice_get new (suc j) ≡ Some x → (let y = x.cursor in y.ordinal ≡ suc (length (children_among new y.parent (suc j))))
   ordinal_at j x at = ⊎_elim before newest (was (suc j) x at)
     where
       before : WasStarted old (suc j) x → (let y = x.cursor in y.ordinal ≡ suc (length (children_among new y.parent (suc j))))
@@ -111,7 +111,7 @@ module _ (old new : List (Activation Seat)) (name : ℕ → Name) (child : Activ
 
       newest : (length old ≡ suc j) × (child ≡ x) → (let y = x.cursor in y.ordinal ≡ suc (length (children_among new y.parent (suc j))))
       newest r =
-          subst (λ (a : Activation Seat). let y = a.cursor in y.ordinal ≡ suc (length (children_among new y.parent (suc j)))) r.1
+          subst (λ (a : Activation FrameState). let y = a.cursor in y.ordinal ≡ suc (length (children_among new y.parent (suc j)))) r.1
           (ordinal ∙ ap suc (sym all) ∙ ap (λ n. suc (length (children_among old k n))) r.0 ∙ ap (λ (l : List ℕ). suc (length l)) (sym (among_below old new (length old) same_parents k (suc j) (let e = r.0 in omega (arith, e))))
           ∙ ap (λ n. suc (length (children_among new n (suc j)))) (sym parent))
 

@@ -29,23 +29,23 @@ use Rattle.cilk_frames.specs.declared.activation.Activation.{Activation}
 use Rattle.cilk_hypermap.specs.declared.hypermap.Hypermap.{Hypermap}
 use Rattle.cilk_runs.specs.Machine.{State}
 use Rattle.cilk_runs.specs.Runs.{Name, Deed}
-use Rattle.cilk_runs.specs.WorldMachine.{answer_of, answers_of, but_last, has_ended, taken}
+use Rattle.cilk_runs.specs.FrameEnvMachine.{answer_of, answers_of, but_last, has_ended, taken}
 use Rattle.cilk_runs.specs.Reducers.{View}
-use Rattle.cilk_runs.specs.Worlds.{World}
-use Rattle.cilk_runs.proofs.KeptWorld.{answers_more}
-use Rattle.cilk_scheduler.specs.declared.board.Board.{Board}
-use Rattle.cilk_scheduler.specs.declared.seat.Due.{Due}
-use Rattle.cilk_scheduler.specs.declared.seat.Due.TheVariants as due
-use Rattle.cilk_scheduler.specs.declared.seat.Seat.{Seat}
-use Rattle.cilk_scheduler.specs.declared.seat.Status.TheVariants.{Held}
-use Rattle.cilk_scheduler.specs.declared.seat.Worker.{Worker}
+use Rattle.cilk_runs.specs.FrameEnvs.{FrameEnv}
+use Rattle.cilk_runs.proofs.KeptFrameEnv.{answers_more}
+use Rattle.cilk_scheduler.specs.declared.scheduler.Scheduler.{Scheduler}
+use Rattle.cilk_scheduler.specs.declared.frame_state.Due.{Due}
+use Rattle.cilk_scheduler.specs.declared.frame_state.Due.TheVariants as due
+use Rattle.cilk_scheduler.specs.declared.frame_state.FrameState.{FrameState}
+use Rattle.cilk_scheduler.specs.declared.frame_state.Status.TheVariants.{Held}
+use Rattle.cilk_scheduler.specs.declared.frame_state.Worker.{Worker}
 use Rattle.cilk_scheduler.specs.Asking.{IsReadyFor, refusal}
-use Rattle.cilk_scheduler.specs.Boards.{IsDue, IsWhere, Sits, ShowsBy}
-use Rattle.cilk_scheduler.specs.Desks.{Desk}
+use Rattle.cilk_scheduler.specs.Schedulers.{IsDue, IsWhere, Sits, ShowsBy}
+use Rattle.cilk_scheduler.specs.WorkerTables.{WorkerTable}
 use Rattle.cilk_scheduler.specs.Events.{SeesAt}
 use Rattle.cilk_scheduler.specs.Noting.{SightStays, HasFrame, FramesAreReady, TicksAreMore, FramesCome, ReadCellsAreThere, WrittenCellsAreThere, ResultCellsAreThere, ReducersAreThere, EventsAreNoted, reducer_asked}
 use Rattle.cilk_scheduler.specs.Numbered.{CellBoth, IsCell, numbers_in}
-use Rattle.cilk_scheduler.specs.Seats.{changed, counted}
+use Rattle.cilk_scheduler.specs.FrameStates.{changed, counted}
 use Rattle.cilk_scheduler.specs.Workers.{viewing}
 use Rattle.cilk_scheduler.proofs.Changing.{changed_here, changed_length, changed_twice}
 use Rattle.cilk_scheduler.proofs.Kept.{sees_changed}
@@ -65,17 +65,17 @@ refused_low ticks rest h = ltb-false MAX_TICKS ticks (by (nat_lt MAX_TICKS ticks
 
 pub sight_stays : SightStays
 sight_stays frames went k came is = (
-  λ scope sees. subst (λ (l : List (Activation Seat)). SeesAt l k scope) (sym is) (sees_changed (λ _. came) frames k k scope sees),
-  λ a at. ap (λ (l : List (Activation Seat)). slice_get l k) is ∙ changed_here (λ _. came) frames k a at,
+  λ scope sees. subst (λ (l : List (Activation FrameState)). SeesAt l k scope) (sym is) (sees_changed (λ _. came) frames k k scope sees),
+  λ a at. ap (λ (l : List (Activation FrameState)). slice_get l k) is ∙ changed_here (λ _. came) frames k a at,
 )
 
 -- one deed more leaves no fewer ticks taken
-module _ (p : Source) (inputs : List ℤ) (w : World) where
-  last_of : (ds : List (Deed World)) (d : Deed World) → (e : Deed World) × (d ∷ ds ≡ but_last (d ∷ ds) ++ e ∷ [])
+module _ (p : Source) (inputs : List ℤ) (w : FrameEnv) where
+  last_of : (ds : List (Deed FrameEnv)) (d : Deed FrameEnv) → (e : Deed FrameEnv) × (d ∷ ds ≡ but_last (d ∷ ds) ++ e ∷ [])
   last_of [] d = (d, refl)
   last_of (x ∷ ds) d = let it = last_of ds x in (it.0, ap (λ l. d ∷ l) it.1)
 
-  taken_more : (ds : List (Deed World)) → taken p inputs w (but_last ds) ≤ taken p inputs w ds
+  taken_more : (ds : List (Deed FrameEnv)) → taken p inputs w (but_last ds) ≤ taken p inputs w ds
   taken_more [] = omega arith
   taken_more (d ∷ ds) =
       let it = last_of ds d in
@@ -90,7 +90,7 @@ none_named : {X : Type 0} (r : Reducer) → None ≡ Some r → X
 none_named r e = let no : ⊥ = cc in absurd no
 
 module _ (code : CodeView) (p : Source) (inputs : List ℤ) where
-  module _ (name : ℕ → Name) (b : Board) (d : Desk) (s : State World View) (w k : ℕ) (sh : ShowsBy code p inputs name b d s) (f : HasFrame b w k) where
+  module _ (name : ℕ → Name) (b : Scheduler) (d : WorkerTable) (s : State FrameEnv View) (w k : ℕ) (sh : ShowsBy code p inputs name b d s) (f : HasFrame b w k) where
     abbrev sits : Sits code p inputs name b s k f.seat
     sits = sh.sits k f.seat f.sits
 
@@ -98,11 +98,11 @@ module _ (code : CodeView) (p : Source) (inputs : List ℤ) where
     goes =
         let g = sh.holds w k f.worker f.at f.has in
         let same : g.seat ≡ f.seat = (let q : Some g.seat ≡ Some f.seat = sym g.here ∙ f.sits in cc) in
-        let status : (let a = f.seat in let x = a.cursor in x.status) ≡ Held w = ap (λ (a : Activation Seat). let y = a.cursor in y.status) (sym same) ∙ g.held in
+        let status : (let a = f.seat in let x = a.cursor in x.status) ≡ Held w = ap (λ (a : Activation FrameState). let y = a.cursor in y.status) (sym same) ∙ g.held in
         let o = sits in
         (subst (λ z. IsWhere code p inputs name b s k (name k) (let t = (let o = sh.sits k f.seat f.sits in o.frame) in t.deeds) (let a = f.seat in a.cursor) z) status o.is_where).4
 
-  ready_for : (w : World) (deeds : List (Deed World)) (x : Seat) (c : CursorView) (d : Due) → x.cursor ≡ Some c → IsDue code p inputs w deeds d c x.took → IsReadyFor code inputs x d
+  ready_for : (w : FrameEnv) (deeds : List (Deed FrameEnv)) (x : FrameState) (c : CursorView) (d : Due) → x.cursor ≡ Some c → IsDue code p inputs w deeds d c x.took → IsReadyFor code inputs x d
   ready_for w deeds x c due.Begin at is = tt
   ready_for w deeds x c (due.Answer a) at is = (c, at, (_, is.stands), is.fits, is.small)
   ready_for w deeds x c due.Sync at is = tt
@@ -122,7 +122,7 @@ module _ (code : CodeView) (p : Source) (inputs : List ℤ) where
       let x = (let a = f.seat in a.cursor) in
       let c = o.due (goes name b d s w k sh f) in
       let took = (named_next code p inputs g.what g.deeds x came c.0 ask (goes name b d s w k sh f) c.1 c.2 went).1 in
-      let counts : came.counted ≡ x.counted = ap (λ (y : Seat). y.counted) (kept_by code p inputs x came ask x.due went) in
+      let counts : came.counted ≡ x.counted = ap (λ (y : FrameState). y.counted) (kept_by code p inputs x came ask x.due went) in
       let was = o.counted in
       let more = taken_more p inputs g.what g.deeds in
       omega (arith, took, counts, was, more)
@@ -134,7 +134,7 @@ module _ (code : CodeView) (p : Source) (inputs : List ℤ) where
       let c = b.cells in
       let here : slice_get went k ≡ Some (record f.seat { cursor = came }) = ap (λ z. slice_get z k) went_is ∙ changed_here (λ _. came) l.items k f.seat f.sits in
       let is : ticks ≡ came.took - came.counted = ticks_are (record f.seat { cursor = came }) here in
-      let many : length went ≡ length l.items = ap (λ (z : List (Activation Seat)). length z) went_is ∙ changed_length (λ _. came) l.items k in
+      let many : length went ≡ length l.items = ap (λ (z : List (Activation FrameState)). length z) went_is ∙ changed_length (λ _. came) l.items k in
       let accepted : refusal (b.ticks + (came.took - came.counted)) (length e.items) (length l.items) (length c.items) code.layout ask ≡ None =
       subst (λ n. refusal (b.ticks + (came.took - came.counted)) (length e.items) n (length c.items) code.layout ask ≡ None) many (subst (λ n. refusal (b.ticks + n) (length e.items) (length went) (length c.items) code.layout ask ≡ None) is fine) in (
         record { worker = f.worker; seat = f.seat; came = came; at = f.at; has = f.has; sits = f.sits; was_open = open_yet; went = gone; accepted = accepted },
@@ -146,7 +146,7 @@ module _ (code : CodeView) (p : Source) (inputs : List ℤ) where
 
   -- ---- cells are there
 
-  module _ (name : ℕ → Name) (b : Board) (d : Desk) (s : State World View) (sh : ShowsBy code p inputs name b d s) where
+  module _ (name : ℕ → Name) (b : Scheduler) (d : WorkerTable) (s : State FrameEnv View) (sh : ShowsBy code p inputs name b d s) where
     low_cell : (c : _) (n : ℕ) → (let f = b.frames in IsCell p f.items name s c n) → (let l = b.cells in n < length l.items)
     low_cell c n is = let l = b.cells in get_low l.items n (s.memory c) (sh.memory c n is)
 

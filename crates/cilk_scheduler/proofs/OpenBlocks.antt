@@ -20,14 +20,14 @@ use Rattle.cilk_runs.specs.Machine.{State, started}
 use Rattle.cilk_runs.specs.Monoids.{unit_of}
 use Rattle.cilk_runs.specs.Runs.{Name, Output, Deed, Invokes}
 use Rattle.cilk_runs.proofs.Started.{started_invokes}
-use Rattle.cilk_runs.specs.WorldMachine.{has_ended}
+use Rattle.cilk_runs.specs.FrameEnvMachine.{has_ended}
 use Rattle.cilk_runs.specs.Reducers.{View, kind_of, monoid_of, views_of}
-use Rattle.cilk_runs.specs.Worlds.{World}
-use Rattle.cilk_scheduler.specs.declared.board.Board.{Board}
-use Rattle.cilk_scheduler.specs.declared.seat.Seat.{Seat}
-use Rattle.cilk_scheduler.specs.declared.seat.Status.TheVariants.{Waiting}
+use Rattle.cilk_runs.specs.FrameEnvs.{FrameEnv}
+use Rattle.cilk_scheduler.specs.declared.scheduler.Scheduler.{Scheduler}
+use Rattle.cilk_scheduler.specs.declared.frame_state.FrameState.{FrameState}
+use Rattle.cilk_scheduler.specs.declared.frame_state.Status.TheVariants.{Waiting}
 use Rattle.cilk_scheduler.specs.Blocks.{Lays, NotIn, stolen_in}
-use Rattle.cilk_scheduler.specs.Boards.{Keeps, Sits, greatest, is_there, run_at, stolen_at_block, waits_at}
+use Rattle.cilk_scheduler.specs.Schedulers.{Keeps, Sits, greatest, is_there, run_at, stolen_at_block, waits_at}
 use Rattle.cilk_scheduler.specs.Events.{block_in}
 use Rattle.cilk_scheduler.proofs.Spawned.{stolen_low, stolen_spawn}
 use Rattle.cilk_scheduler.proofs.Thieves.{block_of, opening_keeps}
@@ -52,12 +52,12 @@ placed_empty run (w ∷ ws) z x none = rw none.0 refl
 
 -- ---- the block
 
-module _ (code : CodeView) (p : Source) (inputs : List ℤ) (name : ℕ → Name) (b : Board) (s : State World View) (k : ℕ) (a : Activation Seat) (o : Sits code p inputs name b s k a)
+module _ (code : CodeView) (p : Source) (inputs : List ℤ) (name : ℕ → Name) (b : Scheduler) (s : State FrameEnv View) (k : ℕ) (a : Activation FrameState) (o : Sits code p inputs name b s k a)
     (going : (let f = o.frame in has_ended f.deeds ≡ false)) (unmerged : (let x = a.cursor in x.merged ≡ false)) (awake : (let x = a.cursor in x.status ≡ Waiting) → ⊥) where
-  abbrev x : Seat
+  abbrev x : FrameState
   x = a.cursor
 
-  abbrev past : List (Deed World)
+  abbrev past : List (Deed FrameEnv)
   past = let f = o.frame in f.deeds
 
   abbrev loose : ℕ → Bool
@@ -109,7 +109,7 @@ module _ (code : CodeView) (p : Source) (inputs : List ℤ) (name : ℕ → Name
       twice false = refl
 
   -- the key of a child that was spawned last, beside which nothing was stolen
-  pub last_open : (before : List (Deed World)) (what : World) → past ≡ before ++ Invokes Spawn what ∷ [] → s.stolen (name k ++ suc (started before) ∷ []) ≡ false → IsOpen block x.children
+  pub last_open : (before : List (Deed FrameEnv)) (what : FrameEnv) → past ≡ before ++ Invokes Spawn what ∷ [] → s.stolen (name k ++ suc (started before) ∷ []) ≡ false → IsOpen block x.children
   last_open before what is free =
       let kb = kept in
       let K = kb.0 in

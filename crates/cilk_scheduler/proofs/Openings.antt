@@ -29,19 +29,19 @@ use Rattle.cilk_runs.specs.Progress.{AtBegin}
 use Rattle.cilk_runs.specs.Runs.{Name, same_name, Cell, Global, Own, Instance, Reducer, Deed}
 use Rattle.cilk_runs.proofs.Basics.{same_name-refl, same_name-eq}
 use Rattle.cilk_runs.proofs.Progress.{progress}
-use Rattle.cilk_runs.specs.WorldMachine.{costs, opening_values}
+use Rattle.cilk_runs.specs.FrameEnvMachine.{costs, opening_values}
 use Rattle.cilk_runs.specs.Reducers.{View, kind_of, monoid_of}
 use Rattle.cilk_runs.specs.Steps.{Next}
-use Rattle.cilk_runs.specs.WorldViews.{IsViewOf}
-use Rattle.cilk_runs.specs.Worlds.{World, first_world, own_named}
-use Rattle.cilk_runs.proofs.WorldViews.{are_multiplied}
-use Rattle.cilk_scheduler.specs.declared.board.Board.{Board}
-use Rattle.cilk_scheduler.specs.declared.seat.Due.TheVariants as due
-use Rattle.cilk_scheduler.specs.declared.seat.JournalEntry.{JournalEntry}
-use Rattle.cilk_scheduler.specs.declared.seat.Seat.{Seat}
-use Rattle.cilk_scheduler.specs.declared.seat.Status.TheVariants.{Held, Waiting}
-use Rattle.cilk_scheduler.specs.declared.seat.Worker.{Worker}
-use Rattle.cilk_scheduler.specs.Boards.{carried, IsUsed, hand_of, offers_of, is_there, Seen, Sits, Holds, IsDesk, Tells, ShowsBy}
+use Rattle.cilk_runs.specs.FrameEnvViews.{IsViewOf}
+use Rattle.cilk_runs.specs.FrameEnvs.{FrameEnv, first_world, own_named}
+use Rattle.cilk_runs.proofs.FrameEnvViews.{are_multiplied}
+use Rattle.cilk_scheduler.specs.declared.scheduler.Scheduler.{Scheduler}
+use Rattle.cilk_scheduler.specs.declared.frame_state.Due.TheVariants as due
+use Rattle.cilk_scheduler.specs.declared.frame_state.JournalEntry.{JournalEntry}
+use Rattle.cilk_scheduler.specs.declared.frame_state.FrameState.{FrameState}
+use Rattle.cilk_scheduler.specs.declared.frame_state.Status.TheVariants.{Held, Waiting}
+use Rattle.cilk_scheduler.specs.declared.frame_state.Worker.{Worker}
+use Rattle.cilk_scheduler.specs.Schedulers.{carried, IsUsed, hand_of, offers_of, is_there, Seen, Sits, Holds, IsWorkerTable, Tells, ShowsBy}
 use Rattle.cilk_scheduler.specs.Numbered.{IsAbsent, size_of, IsCell, IsInstance, AreDeeds, CellBoth, ReducerBoth, events_of, global_both, global_cell}
 use Rattle.cilk_scheduler.specs.Openings.{IsNew, OpeningsAreShown, OpeningsFit, first_desk, first_seat}
 use Rattle.cilk_scheduler.proofs.Onward.{name_off}
@@ -57,18 +57,18 @@ openings_fit p inputs well CellTotal =
     let c : (let g = main_of p in g.cells) ≤ 256 = f.cells in
     omega (arith, a, c)
 
-module _ (code : CodeView) (p : Source) (inputs : List ℤ) (well : IsTrue (is_well_named p)) (lays : LaysOut p code.layout) (b : Board) (h : IsNew code p inputs b) (s : State World View)
-    (o : IsOpening World View monoid_of (Next p inputs) (costs p inputs) (first_world p) (opening_values p inputs) s) where
+module _ (code : CodeView) (p : Source) (inputs : List ℤ) (well : IsTrue (is_well_named p)) (lays : LaysOut p code.layout) (b : Scheduler) (h : IsNew code p inputs b) (s : State FrameEnv View)
+    (o : IsOpening FrameEnv View monoid_of (Next p inputs) (costs p inputs) (first_world p) (opening_values p inputs) s) where
   abbrev name : ℕ → Name
   name n = []
 
-  abbrev seats : List (Activation Seat)
+  abbrev seats : List (Activation FrameState)
   seats = let f = b.frames in f.items
 
-  abbrev root : Activation Seat
+  abbrev root : Activation FrameState
   root = first_seat code p h.cursor h.root
 
-  abbrev frame : Frame World
+  abbrev frame : Frame FrameEnv
   frame = begun (first_world p)
 
   here : s.frames [] ≡ Some frame
@@ -78,7 +78,7 @@ module _ (code : CodeView) (p : Source) (inputs : List ℤ) (well : IsTrue (is_w
   no_deeds = ap (λ f. deeds_at f) here
 
   one : length seats ≡ 1
-  one = ap (λ (l : List (Activation Seat)). length l) h.frames
+  one = ap (λ (l : List (Activation FrameState)). length l) h.frames
 
   low : 0 < length seats
   low = subst (λ n. 0 < n) (sym one) (omega arith)
@@ -86,7 +86,7 @@ module _ (code : CodeView) (p : Source) (inputs : List ℤ) (well : IsTrue (is_w
   root_at : slice_get seats 0 ≡ Some root
   root_at = ap (λ l. slice_get l 0) h.frames
 
-  only : (j : ℕ) (a : Activation Seat) → slice_get seats j ≡ Some a → (0 ≡ j) × (root ≡ a)
+  only : (j : ℕ) (a : Activation FrameState) → slice_get seats j ≡ Some a → (0 ≡ j) × (root ≡ a)
   only j a at = by j (ap (λ l. slice_get l j) (sym h.frames) ∙ at)
     where
       by : (j : ℕ) → slice_get (root ∷ []) j ≡ Some a → (0 ≡ j) × (root ≡ a)
@@ -162,11 +162,11 @@ module _ (code : CodeView) (p : Source) (inputs : List ℤ) (well : IsTrue (is_w
       value_is : (kind : MonoidKind) (j : numbered.Instance) → h.first ≡ u → value_in u.views kind j ≡ (structure_of kind).unit
       value_is kind j e = ap (λ (z : Worker). value_in z.views kind j) (sym e) ∙ ap (or_unit (structure_of kind)) (each_kind (λ q. (i : numbered.Instance) → (let z = h.first in view_in z.views q i ≡ None)) h.empty kind j)
 
-      unused : (q : ℕ) → IsUsed {W = World} s.stolen [] (deeds_at (s.frames [])) false q → is_there code p inputs name b s [] q ≡ true
+      unused : (q : ℕ) → IsUsed {W = FrameEnv} s.stolen [] (deeds_at (s.frames [])) false q → is_there code p inputs name b s [] q ≡ true
       unused q (inl g) = absurd (true≢false (sym g.0))
-      unused q (inr g) = let z : IsUsed {W = World} s.stolen [] [] false q = subst (λ ds. IsUsed {W = World} s.stolen [] ds false q) no_deeds (inr g) in by_none z
+      unused q (inr g) = let z : IsUsed {W = FrameEnv} s.stolen [] [] false q = subst (λ ds. IsUsed {W = FrameEnv} s.stolen [] ds false q) no_deeds (inr g) in by_none z
         where
-          by_none : IsUsed {W = World} s.stolen [] [] false q → is_there code p inputs name b s [] q ≡ true
+          by_none : IsUsed {W = FrameEnv} s.stolen [] [] false q → is_there code p inputs name b s [] q ≡ true
           by_none (inl y) = absurd (true≢false (sym y.0))
           by_none (inr y) = absurd (true≢false (sym y.1))
 
@@ -181,7 +181,7 @@ module _ (code : CodeView) (p : Source) (inputs : List ℤ) (well : IsTrue (is_w
         bare = λ kind j lt. value_is kind j e;
       }
         where
-          carried_by : (i : Instance) → List (Deed World) → View
+          carried_by : (i : Instance) → List (Deed FrameEnv) → View
           carried_by i ds = carried (monoid_of i) (λ m. s.piece m i) s.stolen [] ds false
 
       by : (v : ℕ) → slice_get (h.first ∷ h.others) v ≡ Some u → Holds code p inputs name b s v u k
@@ -215,14 +215,14 @@ module _ (code : CodeView) (p : Source) (inputs : List ℤ) (well : IsTrue (is_w
       let r = no_total us (λ v y at. each (suc v) y at) in
       omega (arith, g, e, r)
 
-  desk : IsDesk code p inputs name b (let l = h.others in first_desk (length l))
+  desk : IsWorkerTable code p inputs name b (let l = h.others in first_desk (length l))
   desk = record {
     hands = ap₂ (λ a l. a ∷ l) (ap (λ f. hand f) (sym h.has)) (all_idle h.others h.idles) ∙ ap (λ ws. map (hand_of name) ws) (sym h.workers);
     offered = none_offered (h.first ∷ h.others) h.offers ∙ ap (λ ws. map (offers_of name) ws) (sym h.workers);
     total = h.offered ∙ sym (ap (λ ws. sum (map (λ (u : Worker). let f = u.offered in length f.items) ws)) h.workers ∙ no_total (h.first ∷ h.others) h.offers);
     places = λ v q j u at has. absurd (no_offer v q j u at has);
     once = λ v q r j u at has also. absurd (no_offer v q j u at has);
-    waiting = λ j a at. let r = only j a at in ((λ q. let z : Held 0 ≡ Waiting = ap (λ (y : Activation Seat). let x = y.cursor in x.status) r.1 ∙ q in let f : ⊥ = cc in absurd f), (λ q. absurd q));
+    waiting = λ j a at. let r = only j a at in ((λ q. let z : Held 0 ≡ Waiting = ap (λ (y : Activation FrameState). let x = y.cursor in x.status) r.1 ∙ q in let f : ⊥ = cc in absurd f), (λ q. absurd q));
     present = λ n is none. is;
   }
     where
@@ -255,7 +255,7 @@ module _ (code : CodeView) (p : Source) (inputs : List ℤ) (well : IsTrue (is_w
     joins = nothing_joined;
     going = λ z g. subst (λ ds. HasEnd ds) no_deeds g;
     over = λ z at. let no : None ≡ Some z = sym h.outcome ∙ at in let f : ⊥ = cc in absurd f;
-    first = λ x at. let r = only 0 x at in subst (λ (a : Activation Seat). length p.openings ≤ a.base) r.1 (omega arith);
+    first = λ x at. let r = only 0 x at in subst (λ (a : Activation FrameState). length p.openings ≤ a.base) r.1 (omega arith);
     ascend = λ i j x y at at' less. let f = only i x at in let g = only j y at' in let u = f.0 in let v = g.0 in absurd (omega (arith, u, v, less));
   }
 
@@ -268,7 +268,7 @@ module _ (code : CodeView) (p : Source) (inputs : List ℤ) (well : IsTrue (is_w
       there (x ∷ l) (suc g) lt = there l g (omega (arith, lt))
   memory (Own m q) n is =
       let r = only is.0 is.1 is.2 in
-      ap (λ m. let l = b.cells in slice_get l.items m) (is.4 ∙ ap (λ (a : Activation Seat). a.base + q) (sym r.1)) ∙ h.own q (subst (λ z. q < z) (ap (λ z. size_of p (s.frames z)) (sym is.3) ∙ size_is) is.5) ∙ ap (λ f. Some (f (Own m q))) (sym o.1)
+      ap (λ m. let l = b.cells in slice_get l.items m) (is.4 ∙ ap (λ (a : Activation FrameState). a.base + q) (sym r.1)) ∙ h.own q (subst (λ z. q < z) (ap (λ z. size_of p (s.frames z)) (sym is.3) ∙ size_is) is.5) ∙ ap (λ f. Some (f (Own m q))) (sym o.1)
 
   shows : ShowsBy code p inputs name b (let l = h.others in first_desk (length l)) s
   shows = record {
@@ -279,7 +279,7 @@ module _ (code : CodeView) (p : Source) (inputs : List ℤ) (well : IsTrue (is_w
     unwritten = λ n q none. ap (λ m. m (Own n q)) o.1;
     bare = λ n m q kind none there. bare_at m q kind n there (same_name [] m) refl;
     memory = memory;
-    within = λ k x at. let r = only k x at in let l = b.cells in subst (λ (a : Activation Seat). a.base + size_of p (s.frames []) ≤ length l.items) r.1 (let e = size_is in let c = h.count in omega (arith, e, c));
+    within = λ k x at. let r = only k x at in let l = b.cells in subst (λ (a : Activation FrameState). a.base + size_of p (s.frames []) ≤ length l.items) r.1 (let e = size_is in let c = h.count in omega (arith, e, c));
     holds = holds;
     desk = desk;
     ticks = o.6 TickTotal ∙ sym h.ticks;
@@ -297,6 +297,6 @@ module _ (code : CodeView) (p : Source) (inputs : List ℤ) (well : IsTrue (is_w
 
 pub openings_are_shown : (code : CodeView) (p : Source) (inputs : List ℤ) → OpeningsAreShown code p inputs
 openings_are_shown code p inputs well lays b h =
-    let P = progress World View monoid_of (Next p inputs) (costs p inputs) in
+    let P = progress FrameEnv View monoid_of (Next p inputs) (costs p inputs) in
     let q = P.opens (first_world p) (opening_values p inputs) in
     (q.0, q.1, shows code p inputs well lays b h q.0 q.1)

@@ -10,18 +10,18 @@ use Rattle.cilk_runs.specs.Monoids.{numbers_of}
 use Rattle.cilk_runs.specs.Runs.{Name, same_name, Deed, Does, Invokes}
 use Rattle.cilk_runs.proofs.Basics.{same_name-refl, same_name-eq}
 use Rattle.cilk_runs.proofs.Started.{started_does, started_invokes}
-use Rattle.cilk_runs.specs.WorldMachine.{costs}
+use Rattle.cilk_runs.specs.FrameEnvMachine.{costs}
 use Rattle.cilk_runs.specs.Reducers.{View, monoid_of}
 use Rattle.cilk_runs.specs.Steps.{IsFirst, Next, OneStep}
-use Rattle.cilk_runs.specs.Worlds.{World}
+use Rattle.cilk_runs.specs.FrameEnvs.{FrameEnv}
 use Rattle.cilk_scheduler.specs.Ordinals.{AreCounted, ChildrenAreCounted}
 use Rattle.cilk_scheduler.proofs.Onward.{longer, name_off}
 use Rattle.cilk_scheduler.proofs.Thieves.{snoc_name}
 
-pub next_is_none : (frames : Frames World) (n : Name) (f : Frame World) → AreCounted frames → frames n ≡ Some f → frames (n ++ suc (started f.deeds) ∷ []) ≡ None
+pub next_is_none : (frames : Frames FrameEnv) (n : Name) (f : Frame FrameEnv) → AreCounted frames → frames n ≡ Some f → frames (n ++ suc (started f.deeds) ∷ []) ≡ None
 next_is_none frames n f h here = by (frames (n ++ suc (started f.deeds) ∷ [])) refl
   where
-    by : (found : Option (Frame World)) → frames (n ++ suc (started f.deeds) ∷ []) ≡ found → frames (n ++ suc (started f.deeds) ∷ []) ≡ None
+    by : (found : Option (Frame FrameEnv)) → frames (n ++ suc (started f.deeds) ∷ []) ≡ found → frames (n ++ suc (started f.deeds) ∷ []) ≡ None
     by None e = e
     by (Some g) e =
         let it = h n (suc (started f.deeds)) g e in
@@ -29,12 +29,12 @@ next_is_none frames n f h here = by (frames (n ++ suc (started f.deeds) ∷ []))
         let same : started (deeds_at (frames n)) ≡ started f.deeds = ap (λ o. started (deeds_at o)) here in
         absurd (omega (arith, most, same))
 
-module _ (frames : Frames World) (n : Name) (f g : Frame World) (here : frames n ≡ Some f) (more : started f.deeds ≤ started g.deeds) where
+module _ (frames : Frames FrameEnv) (n : Name) (f g : Frame FrameEnv) (here : frames n ≡ Some f) (more : started f.deeds ≤ started g.deeds) where
   -- what is there was there
-  was_there : (m : Name) (x : Frame World) → with_frame frames n g m ≡ Some x → (y : Frame World) × (frames m ≡ Some y)
+  was_there : (m : Name) (x : Frame FrameEnv) → with_frame frames n g m ≡ Some x → (y : Frame FrameEnv) × (frames m ≡ Some y)
   was_there m x = by (same_name n m) refl
     where
-      by : (t : Bool) → same_name n m ≡ t → cond t (Some g) (frames m) ≡ Some x → (y : Frame World) × (frames m ≡ Some y)
+      by : (t : Bool) → same_name n m ≡ t → cond t (Some g) (frames m) ≡ Some x → (y : Frame FrameEnv) × (frames m ≡ Some y)
       by true e at = (f, ap frames (sym (same_name-eq n m e)) ∙ here)
       by false e at = (x, at)
 
@@ -53,7 +53,7 @@ module _ (frames : Frames World) (n : Name) (f g : Frame World) (here : frames n
       let least = no_fewer m in
       (it.0, omega (arith, most, least))
 
-module _ (frames : Frames World) (n : Name) (f child : Frame World) (q : ℕ) (here : frames n ≡ Some f) (positive : 0 < q) (most : q ≤ started f.deeds) (none : frames (n ++ q ∷ []) ≡ None) where
+module _ (frames : Frames FrameEnv) (n : Name) (f child : Frame FrameEnv) (q : ℕ) (here : frames n ≡ Some f) (positive : 0 < q) (most : q ≤ started f.deeds) (none : frames (n ++ q ∷ []) ≡ None) where
   abbrev kid : Name
   kid = n ++ q ∷ []
 
@@ -80,7 +80,7 @@ module _ (frames : Frames World) (n : Name) (f child : Frame World) (q : ℕ) (h
           let least = stays m in
           (it.0, omega (arith, up, least))
 
-pub deed_counted : (frames : Frames World) (n : Name) (f : Frame World) (d : Deed World) → frames n ≡ Some f → AreCounted frames → AreCounted (after_deed frames n f d)
+pub deed_counted : (frames : Frames FrameEnv) (n : Name) (f : Frame FrameEnv) (d : Deed FrameEnv) → frames n ≡ Some f → AreCounted frames → AreCounted (after_deed frames n f d)
 deed_counted frames n f (Does e) here h =
     let same = started_does f.deeds e in
     more_counted frames n f (record f { deeds = f.deeds ++ Does e ∷ [] }) here (omega (arith, same)) h
@@ -93,17 +93,17 @@ deed_counted frames n f (Invokes how w) here h =
     child_counted (with_frame frames n g) n g (begun w) q now (omega arith) (omega (arith, same)) none (more_counted frames n f g here (omega (arith, same)) h)
 
 module _ (p : Source) (inputs : List ℤ) where
-  opens_so : (s : State World View) → IsFirst p inputs s → AreCounted s.frames
+  opens_so : (s : State FrameEnv View) → IsFirst p inputs s → AreCounted s.frames
   opens_so s o [] q f at = let no : None ≡ Some f = sym (o.0 (q ∷ [])) ∙ at in let z : ⊥ = cc in absurd z
   opens_so s o (j ∷ n) q f at = let no : None ≡ Some f = sym (o.0 (j ∷ n ++ q ∷ [])) ∙ at in let z : ⊥ = cc in absurd z
 
-  keeps_so : (s s' : State World View) (n : Name) → AreCounted s.frames → OneStep p inputs s n s' → AreCounted s'.frames
-  keeps_so s s' n h step = ⊎_elim made (λ o. ⊎_elim (λ t. by t.frames) (λ t. by (ap (λ (z : State World View). z.frames) t.after)) o) step.1
+  keeps_so : (s s' : State FrameEnv View) (n : Name) → AreCounted s.frames → OneStep p inputs s n s' → AreCounted s'.frames
+  keeps_so s s' n h step = ⊎_elim made (λ o. ⊎_elim (λ t. by t.frames) (λ t. by (ap (λ (z : State FrameEnv View). z.frames) t.after)) o) step.1
     where
       by : s'.frames ≡ s.frames → AreCounted s'.frames
       by same = subst AreCounted (sym same) h
 
-      made : Makes World View monoid_of (Next p inputs) (costs p inputs) s n s' → AreCounted s'.frames
+      made : Makes FrameEnv View monoid_of (Next p inputs) (costs p inputs) s n s' → AreCounted s'.frames
       made t = let a = t.asking in subst AreCounted (sym t.frames) (deed_counted s.frames n t.frame (deed_of s.memory (numbers_of monoid_of (s.piece n)) t.ask) a.here h)
 
   pub children_are_counted : ChildrenAreCounted p inputs
@@ -114,6 +114,6 @@ module _ (p : Source) (inputs : List ℤ) where
     fresh = λ s n f h here. next_is_none s.frames n f h here;
   }
     where
-      steps_so : (ns : List Name) (s s' : State World View) → AreCounted s.frames → Steps World View monoid_of (Next p inputs) (costs p inputs) ns s s' → AreCounted s'.frames
-      steps_so [] s s' h e = subst (λ (z : State World View). AreCounted z.frames) (sym e) h
+      steps_so : (ns : List Name) (s s' : State FrameEnv View) → AreCounted s.frames → Steps FrameEnv View monoid_of (Next p inputs) (costs p inputs) ns s s' → AreCounted s'.frames
+      steps_so [] s s' h e = subst (λ (z : State FrameEnv View). AreCounted z.frames) (sym e) h
       steps_so (n ∷ ns) s s' h (mid, one, rest) = steps_so ns mid s' (keeps_so s mid n h one) rest

@@ -22,9 +22,9 @@ use Rattle.cilk_runs.specs.Machine.{State, deeds_at}
 use Rattle.cilk_runs.specs.Runs.{Global, Instance, Output}
 use Rattle.cilk_runs.specs.Reducers.{View, elements_of, value_of}
 use Rattle.cilk_runs.specs.Steps.{finals_in, outcome_in, result_in}
-use Rattle.cilk_runs.specs.WorldViews.{IsViewOf}
-use Rattle.cilk_runs.specs.Worlds.{World, global_named}
-use Rattle.cilk_runs.proofs.WorldViews.{are_multiplied}
+use Rattle.cilk_runs.specs.FrameEnvViews.{IsViewOf}
+use Rattle.cilk_runs.specs.FrameEnvs.{FrameEnv, global_named}
+use Rattle.cilk_runs.proofs.FrameEnvViews.{are_multiplied}
 use Rattle.cilk_frames.specs.Leaving.{finals_of, numbers_in, outcome_of}
 
 globals_same : (n from : ℕ) (cells : List ℤ) (f : ℕ → ℤ) → ((q : ℕ) → q < n → slice_get cells q ≡ Some (f (from + q))) → take n cells ≡ cells_from from n f
@@ -48,7 +48,7 @@ module _ (views : Hypermap) (piece : Instance → View) (each : (n : ℕ) (k : M
   finals_same n [] = refl
   finals_same n (k ∷ ks) = ap₂ (λ x l. final_of x ∷ l) (let m = are_multiplied in sym (m.value k (piece (global_named n k)) (value_in views k (global_reducer n)) (each n k))) (finals_same (suc n) ks)
 
-  pub left_is : (p : Source) (l : Layout) (cells : List ℤ) (v : ℤ) (s : State World View) → LaysOut p l → ((i : Instance) → s.piece [] i ≡ piece i) → result_in (deeds_at (s.frames [])) ≡ v
+  pub left_is : (p : Source) (l : Layout) (cells : List ℤ) (v : ℤ) (s : State FrameEnv View) → LaysOut p l → ((i : Instance) → s.piece [] i ≡ piece i) → result_in (deeds_at (s.frames [])) ≡ v
       → ((n : ℕ) → n < length p.openings → slice_get cells n ≡ Some (s.memory (Global n))) → IsViewOf Append (piece Output) (value_in views Append output) → outcome_of l cells views v ≡ outcome_in p s
   left_is p l cells v s lays same result memory printed =
       let m = are_multiplied in

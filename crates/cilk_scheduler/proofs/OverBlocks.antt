@@ -15,16 +15,16 @@ use Rattle.cilk_runs.specs.Machine.{State, deeds_at, started}
 use Rattle.cilk_runs.specs.Monoids.{unit_of}
 use Rattle.cilk_runs.specs.Progress.{GoesOn, HasEnded, child_after}
 use Rattle.cilk_runs.specs.Runs.{Name, Output, Deed, Invokes}
-use Rattle.cilk_runs.specs.WorldMachine.{has_ended}
+use Rattle.cilk_runs.specs.FrameEnvMachine.{has_ended}
 use Rattle.cilk_runs.specs.Reducers.{View, kind_of, monoid_of}
-use Rattle.cilk_runs.specs.Worlds.{World}
-use Rattle.cilk_scheduler.specs.declared.board.Board.{Board}
-use Rattle.cilk_scheduler.specs.declared.seat.Seat.{Seat}
-use Rattle.cilk_scheduler.specs.declared.seat.Status.TheVariants.{Held, Waiting}
+use Rattle.cilk_runs.specs.FrameEnvs.{FrameEnv}
+use Rattle.cilk_scheduler.specs.declared.scheduler.Scheduler.{Scheduler}
+use Rattle.cilk_scheduler.specs.declared.frame_state.FrameState.{FrameState}
+use Rattle.cilk_scheduler.specs.declared.frame_state.Status.TheVariants.{Held, Waiting}
 use Rattle.cilk_scheduler.specs.Asking.{WentOn}
 use Rattle.cilk_scheduler.specs.Blocks.{Lays, stolen_in}
-use Rattle.cilk_scheduler.specs.Boards.{IsWhere, ShowsBy, is_there, run_at, stolen_at_block, waits_at}
-use Rattle.cilk_scheduler.specs.Desks.{BlockIsOver, Desk}
+use Rattle.cilk_scheduler.specs.Schedulers.{IsWhere, ShowsBy, is_there, run_at, stolen_at_block, waits_at}
+use Rattle.cilk_scheduler.specs.WorkerTables.{BlockIsOver, WorkerTable}
 use Rattle.cilk_scheduler.specs.Events.{block_in}
 use Rattle.cilk_scheduler.specs.GoneOn.{HaveGoneOn, WentOnBehind}
 use Rattle.cilk_scheduler.specs.Noting.{HasFrame}
@@ -39,7 +39,7 @@ use Rattle.cilk_scheduler.proofs.Stepped.{kept_by}
 use Rattle.cilk_scheduler.proofs.Synced.{empty_list, stands_in}
 
 -- each spawned child has ended, once the stolen ones have
-ended_by : (s : State World View) (n : Name) → WentOnBehind s n (deeds_at (s.frames n)) → ((q : ℕ) → Stands (stolen_in (λ q. s.stolen (n ++ q ∷ [])) 1 [] (deeds_at (s.frames n))) q → has_ended (deeds_at (s.frames (n ++ q ∷ []))) ≡ true) → BlockIsOver s n
+ended_by : (s : State FrameEnv View) (n : Name) → WentOnBehind s n (deeds_at (s.frames n)) → ((q : ℕ) → Stands (stolen_in (λ q. s.stolen (n ++ q ∷ [])) 1 [] (deeds_at (s.frames n))) q → has_ended (deeds_at (s.frames (n ++ q ∷ []))) ≡ true) → BlockIsOver s n
 ended_by s n behind there before after child e none = ⊎_elim (λ g. g) stolen (behind before after child e)
   where
     loose : ℕ → Bool
@@ -48,7 +48,7 @@ ended_by s n behind there before after child e none = ⊎_elim (λ g. g) stolen 
     one : 1 + started before ≡ suc (started before)
     one = omega arith
 
-    stolen : s.stolen (child_after n before) ≡ true → HasEnded World View s (child_after n before)
+    stolen : s.stolen (child_after n before) ≡ true → HasEnded FrameEnv View s (child_after n before)
     stolen t =
         end_of s (child_after n before) (s.frames (child_after n before)) refl
         (there (suc (started before))
@@ -59,19 +59,19 @@ none_waits : (t : Bool) → (if t then false else true) ≡ false → t ≡ true
 none_waits true h = refl
 none_waits false h = absurd (true≢false h)
 
-module _ (code : CodeView) (p : Source) (inputs : List ℤ) (name : ℕ → Name) (b : Board) (d : Desk) (s : State World View) (w k : ℕ) (came : Seat) (sh : ShowsBy code p inputs name b d s) (gone : HaveGoneOn s) (f : HasFrame b w k)
+module _ (code : CodeView) (p : Source) (inputs : List ℤ) (name : ℕ → Name) (b : Scheduler) (d : WorkerTable) (s : State FrameEnv View) (w k : ℕ) (came : FrameState) (sh : ShowsBy code p inputs name b d s) (gone : HaveGoneOn s) (f : HasFrame b w k)
     (went : (let a = f.seat in WentOn code inputs a.cursor asks.Sync came)) (must : must_wait came ≡ false) where
-  abbrev x : Seat
+  abbrev x : FrameState
   x = let a = f.seat in a.cursor
 
-  abbrev past : List (Deed World)
+  abbrev past : List (Deed FrameEnv)
   past = let g = (let o = sh.sits k f.seat f.sits in o.frame) in g.deeds
 
   status_is : x.status ≡ Held w
   status_is =
       let g = sh.holds w k f.worker f.at f.has in
       let same : g.seat ≡ f.seat = (let q : Some g.seat ≡ Some f.seat = sym g.here ∙ f.sits in cc) in
-      ap (λ (a : Activation Seat). let y = a.cursor in y.status) (sym same) ∙ g.held
+      ap (λ (a : Activation FrameState). let y = a.cursor in y.status) (sym same) ∙ g.held
 
   held : IsWhere code p inputs name b s k (name k) past x (Held w)
   held = let o = sh.sits k f.seat f.sits in subst (λ z. IsWhere code p inputs name b s k (name k) past x z) status_is o.is_where
@@ -80,7 +80,7 @@ module _ (code : CodeView) (p : Source) (inputs : List ℤ) (name : ℕ → Name
   kept_as = kept_by code p inputs x came asks.Sync x.due went
 
   behind : WentOnBehind s (name k) (deeds_at (s.frames (name k)))
-  behind = let o = sh.sits k f.seat f.sits in let law = gone_on_behind p inputs in law.behind s (name k) gone (subst (λ q. GoesOn World View s (name k) (deeds_at q)) (sym o.here) held.3)
+  behind = let o = sh.sits k f.seat f.sits in let law = gone_on_behind p inputs in law.behind s (name k) gone (subst (λ q. GoesOn FrameEnv View s (name k) (deeds_at q)) (sym o.here) held.3)
 
   abbrev block : JoinView
   block = let a = f.seat in let x = a.cursor in block_in x.join
@@ -88,8 +88,8 @@ module _ (code : CodeView) (p : Source) (inputs : List ℤ) (name : ℕ → Name
   none_left : x.merged ≡ false → (let r = block.row in r.waits) ≡ []
   none_left q =
       let r = block.row in
-      let open_yet : came.merged ≡ false = ap (λ (y : Seat). y.merged) kept_as ∙ q in
-      empty_list r.waits (none_waits (is_empty r.waits) (ap (λ (y : Seat). has_awaited (block_in y.join)) (sym kept_as) ∙ sym (must_await code p inputs came open_yet) ∙ must))
+      let open_yet : came.merged ≡ false = ap (λ (y : FrameState). y.merged) kept_as ∙ q in
+      empty_list r.waits (none_waits (is_empty r.waits) (ap (λ (y : FrameState). has_awaited (block_in y.join)) (sym kept_as) ∙ sym (must_await code p inputs came open_yet) ∙ must))
 
   there_all : x.merged ≡ false → (q : ℕ) → Stands (stolen_in (λ q. s.stolen (name k ++ q ∷ [])) 1 [] past) q → has_ended (deeds_at (s.frames (name k ++ q ∷ []))) ≡ true
   there_all open_yet q among =

@@ -19,21 +19,21 @@ use Rattle.cilk_runs.specs.Machine.{State, deeds_at, started}
 use Rattle.cilk_runs.specs.Runs.{Name, Ask, Pass, Resume, Sync, Deed}
 use Rattle.cilk_runs.proofs.Started.{started_invokes}
 use Rattle.cilk_types.specs.declared.invocation.Invocation.TheVariants.{Spawn}
-use Rattle.cilk_runs.specs.WorldMachine.{next}
+use Rattle.cilk_runs.specs.FrameEnvMachine.{next}
 use Rattle.cilk_runs.specs.Reducers.{View}
-use Rattle.cilk_runs.specs.Worlds.{World}
-use Rattle.cilk_scheduler.specs.declared.board.Board.{Board}
-use Rattle.cilk_scheduler.specs.declared.seat.Seat.{Seat}
-use Rattle.cilk_scheduler.specs.declared.seat.Status.TheVariants.{Held, Offered, Waiting}
-use Rattle.cilk_scheduler.specs.declared.seat.Worker.{Worker}
+use Rattle.cilk_runs.specs.FrameEnvs.{FrameEnv}
+use Rattle.cilk_scheduler.specs.declared.scheduler.Scheduler.{Scheduler}
+use Rattle.cilk_scheduler.specs.declared.frame_state.FrameState.{FrameState}
+use Rattle.cilk_scheduler.specs.declared.frame_state.Status.TheVariants.{Held, Offered, Waiting}
+use Rattle.cilk_scheduler.specs.declared.frame_state.Worker.{Worker}
 use Rattle.cilk_scheduler.specs.Asking.{WentOn}
-use Rattle.cilk_scheduler.specs.Boards.{IsWhere, ShowsBy, Sits, is_resuming}
-use Rattle.cilk_scheduler.specs.Desks.{Desk}
+use Rattle.cilk_scheduler.specs.Schedulers.{IsWhere, ShowsBy, Sits, is_resuming}
+use Rattle.cilk_scheduler.specs.WorkerTables.{WorkerTable}
 use Rattle.cilk_scheduler.specs.Events.{Arrives, block_in}
 use Rattle.cilk_scheduler.specs.Histories.{DidAsAsked}
 use Rattle.cilk_scheduler.specs.Noting.{HasFrame}
 use Rattle.cilk_scheduler.specs.Parts.{Alone, Brought, BringsOwn, ContinuationsAreOffered, ContinuationsAreTaken, FramesPass, FramesStayBehind, OwnPiecesMayArrive, Passed, freed, must_wait, working}
-use Rattle.cilk_scheduler.specs.Seats.{changed, moved_to, robbed, synced, waiting}
+use Rattle.cilk_scheduler.specs.FrameStates.{changed, moved_to, robbed, synced, waiting}
 use Rattle.cilk_scheduler.specs.Steps.{HasCome, Notes}
 use Rattle.cilk_scheduler.specs.Syncing.{AllArrived, HadPassed, NothingStolen, PassesWith}
 use Rattle.cilk_scheduler.specs.Waiting.{StaysBehind}
@@ -73,7 +73,7 @@ taken b b' w place k h awaiting without views awaited marked withdrawn cleared a
     let f = b.frames in
     let l = b.workers in
     let x = (let a = h.seat in a.cursor) in
-    let last : awaiting.last ≡ x.last = ap (λ (y : Seat). y.last) awaits.1 in
+    let last : awaiting.last ≡ x.last = ap (λ (y : FrameState). y.last) awaits.1 in
     record {
       awaiting = awaiting;
       awaits = awaits;
@@ -119,21 +119,21 @@ module _ (code : CodeView) (p : Source) (inputs : List ℤ) where
 
   -- ---- a frame that has come to its sync
 
-  module _ (name : ℕ → Name) (b : Board) (d : Desk) (s : State World View) (w k : ℕ) (came : Seat) (sh : ShowsBy code p inputs name b d s) (f : HasFrame b w k) (went : (let a = f.seat in WentOn code inputs a.cursor asks.Sync came)) where
-    abbrev x : Seat
+  module _ (name : ℕ → Name) (b : Scheduler) (d : WorkerTable) (s : State FrameEnv View) (w k : ℕ) (came : FrameState) (sh : ShowsBy code p inputs name b d s) (f : HasFrame b w k) (went : (let a = f.seat in WentOn code inputs a.cursor asks.Sync came)) where
+    abbrev x : FrameState
     x = let a = f.seat in a.cursor
 
     sits : Sits code p inputs name b s k f.seat
     sits = sh.sits k f.seat f.sits
 
-    abbrev past : List (Deed World)
+    abbrev past : List (Deed FrameEnv)
     past = let g = (let o = sh.sits k f.seat f.sits in o.frame) in g.deeds
 
     status_is : x.status ≡ Held w
     status_is =
         let g = sh.holds w k f.worker f.at f.has in
         let same : g.seat ≡ f.seat = (let q : Some g.seat ≡ Some f.seat = sym g.here ∙ f.sits in cc) in
-        ap (λ (a : Activation Seat). let y = a.cursor in y.status) (sym same) ∙ g.held
+        ap (λ (a : Activation FrameState). let y = a.cursor in y.status) (sym same) ∙ g.held
 
     held : IsWhere code p inputs name b s k (name k) past x (Held w)
     held = let o = sh.sits k f.seat f.sits in subst (λ z. IsWhere code p inputs name b s k (name k) past x z) status_is o.is_where
@@ -145,13 +145,13 @@ module _ (code : CodeView) (p : Source) (inputs : List ℤ) where
     awake q = let z : Held w ≡ Waiting = sym status_is ∙ q in let n : ⊥ = cc in n
 
     merged_is : came.merged ≡ x.merged
-    merged_is = ap (λ (y : Seat). y.merged) kept
+    merged_is = ap (λ (y : FrameState). y.merged) kept
 
     key_is : came.children ≡ x.children
-    key_is = ap (λ (y : Seat). y.children) kept
+    key_is = ap (λ (y : FrameState). y.children) kept
 
     block_is : block_in came.join ≡ block_in x.join
-    block_is = ap (λ (y : Seat). block_in y.join) kept
+    block_is = ap (λ (y : FrameState). block_in y.join) kept
 
     asks_sync : next p inputs (let g = (let o = sh.sits k f.seat f.sits in o.frame) in g.what) past ≡ Some Sync
     asks_sync =
@@ -168,7 +168,7 @@ module _ (code : CodeView) (p : Source) (inputs : List ℤ) where
         by true e =
             let o = sh.sits k f.seat f.sits in
             let law = does_as_asked p inputs in
-            let ask : Ask World = Sync in
+            let ask : Ask FrameEnv = Sync in
             let it = law.order s (name k) o.frame ask asked o.here asks_sync (λ y q. cc) in
             let no : ask ≡ Pass Resume = it.resumes_there e in
             let z : ⊥ = cc in
@@ -192,13 +192,13 @@ module _ (code : CodeView) (p : Source) (inputs : List ℤ) where
   pub may_bring : OwnPiecesMayArrive code p inputs
   may_bring name b d s w k came t f went = (calm name b d s w k came t.shows f went t.asked, may_arrive name b d s w k came t.shows f went)
 
-  must_none : (x : Seat) → x.merged ≡ true → must_wait x ≡ true → ⊥
+  must_none : (x : FrameState) → x.merged ≡ true → must_wait x ≡ true → ⊥
   must_none x q m = true≢false (sym m ∙ rw q refl)
 
-  must_alone : (x : Seat) → x.merged ≡ false → x.join ≡ None → must_wait x ≡ true → ⊥
+  must_alone : (x : FrameState) → x.merged ≡ false → x.join ≡ None → must_wait x ≡ true → ⊥
   must_alone x q none m = true≢false (sym m ∙ rw (q, none) refl)
 
-  pub must_await : (x : Seat) → x.merged ≡ false → must_wait x ≡ has_awaited (block_in x.join)
+  pub must_await : (x : FrameState) → x.merged ≡ false → must_wait x ≡ has_awaited (block_in x.join)
   must_await x q = rw q refl
 
   pub stays : FramesStayBehind code p inputs
@@ -245,14 +245,14 @@ module _ (code : CodeView) (p : Source) (inputs : List ℤ) where
 
   -- ---- its block passes
 
-  module _ (name : ℕ → Name) (b : Board) (d : Desk) (s : State World View) (w k : ℕ) (brought : Seat) (views : Hypermap) (sh : ShowsBy code p inputs name b d s) (h : HasCome code p inputs b w k asks.Sync) where
+  module _ (name : ℕ → Name) (b : Scheduler) (d : WorkerTable) (s : State FrameEnv View) (w k : ℕ) (brought : FrameState) (views : Hypermap) (sh : ShowsBy code p inputs name b d s) (h : HasCome code p inputs b w k asks.Sync) where
     has_frame : HasFrame b w k
     has_frame = record { worker = h.worker; seat = h.seat; at = h.at; has = h.has; sits = h.sits }
 
-    abbrev before : Seat
+    abbrev before : FrameState
     before = let a = h.seat in a.cursor
 
-    abbrev now : Seat
+    abbrev now : FrameState
     now = h.came
 
     kept_as : now ≡ record before { cursor = now.cursor; took = now.took }
@@ -262,15 +262,15 @@ module _ (code : CodeView) (p : Source) (inputs : List ℤ) where
     sync_decides q = let u = h.worker in decides name b d s w k h.came sh (record { worker = h.worker; seat = h.seat; at = h.at; has = h.has; sits = h.sits }) h.went q u.views
 
     views_pass : must_wait now ≡ false → (let u = h.worker in BringsOwn now u.views brought views) → (let u = h.worker in PassesWith before u.views views)
-    views_pass must (Passed q same views_same) = HadPassed (sym (ap (λ (y : Seat). y.merged) kept_as) ∙ q) views_same
-    views_pass must (Alone q none same views_same) = NothingStolen (sym (ap (λ (y : Seat). y.merged) kept_as) ∙ q) (sym (ap (λ (y : Seat). y.join) kept_as) ∙ none) views_same
+    views_pass must (Passed q same views_same) = HadPassed (sym (ap (λ (y : FrameState). y.merged) kept_as) ∙ q) views_same
+    views_pass must (Alone q none same views_same) = NothingStolen (sym (ap (λ (y : FrameState). y.merged) kept_as) ∙ q) (sym (ap (λ (y : FrameState). y.join) kept_as) ∙ none) views_same
     views_pass must (Brought q l l' whole at is arrives) =
         let u = h.worker in
         let all = sync_decides q ∙ ap (λ t. if t then false else true) (sym (must_await now q) ∙ must) in
         let there = passed whole all (subst (λ z. Arrives z (now.children + 1) true (product u.views) whole (shown l'.value) views) (sym (ap (λ z. block_in z) at)) arrives) in
-        AllArrived (sym (ap (λ (y : Seat). y.merged) kept_as) ∙ q) (shown l'.value)
-        (subst (λ z. Arrives z (before.children + 1) true (product u.views) true (shown l'.value) views) (ap (λ (y : Seat). block_in y.join) kept_as)
-        (subst (λ n. Arrives (block_in now.join) (n + 1) true (product u.views) true (shown l'.value) views) (ap (λ (y : Seat). y.children) kept_as) there))
+        AllArrived (sym (ap (λ (y : FrameState). y.merged) kept_as) ∙ q) (shown l'.value)
+        (subst (λ z. Arrives z (before.children + 1) true (product u.views) true (shown l'.value) views) (ap (λ (y : FrameState). block_in y.join) kept_as)
+        (subst (λ n. Arrives (block_in now.join) (n + 1) true (product u.views) true (shown l'.value) views) (ap (λ (y : FrameState). y.children) kept_as) there))
       where
         passed : (t : Bool) → (let u = h.worker in passes (arrived_at (block_in now.join) (now.children + 1) true (product u.views)) ≡ true) → (let u = h.worker in Arrives (block_in now.join) (now.children + 1) true (product u.views) t (shown l'.value) views)
             → (let u = h.worker in Arrives (block_in now.join) (now.children + 1) true (product u.views) true (shown l'.value) views)

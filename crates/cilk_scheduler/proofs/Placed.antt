@@ -5,7 +5,7 @@
 -- - `offers_at`, `located`, `passed_by`: the continuations from one worker on.
 use Rattle.std.proofs.Common.{◌≡◌, ◌-◌, ◌<◌, ◌≤◌, ℕ, zero, suc, true, List, [], ◌∷◌, ◌++◌, length, drop, slice_get, slice_index_or, nat_lt, Some, None, refl, sym, ap, ◌∙◌, arith}
 use Rattle.std.proofs.lemmas.Bool.{ltb-true}
-use Rattle.cilk_scheduler.specs.declared.seat.Worker.{Worker}
+use Rattle.cilk_scheduler.specs.declared.frame_state.Worker.{Worker}
 use Rattle.cilk_scheduler.specs.Workers.{IsLocated, offers}
 
 pub there_is : {A : Type 0} (xs : List A) (k : ℕ) (d a : A) → d ≡ slice_index_or xs k d → slice_get xs k ≡ Some a → d ≡ a

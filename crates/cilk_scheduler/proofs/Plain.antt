@@ -12,9 +12,9 @@ use Rattle.cilk_runs.specs.Cuts.{joined_at, spawn_bit, sync_bit}
 use Rattle.cilk_runs.specs.Machine.{HasEnd}
 use Rattle.cilk_runs.specs.Runs.{Event, Reads, Writes, Syncs, Ends, Passes, Deed, Does, Invokes}
 use Rattle.cilk_join.specs.Rows.{Wait}
-use Rattle.cilk_runs.specs.WorldMachine.{is_end}
+use Rattle.cilk_runs.specs.FrameEnvMachine.{is_end}
 use Rattle.cilk_runs.specs.Reducers.{View, views_of}
-use Rattle.cilk_runs.specs.Worlds.{World}
+use Rattle.cilk_runs.specs.FrameEnvs.{FrameEnv}
 use Rattle.cilk_scheduler.specs.Blocks.{stolen_in, IsRun, Lays}
 use Rattle.cilk_scheduler.specs.Touching.{IsPlain}
 
@@ -34,7 +34,7 @@ plain_lasts Syncs h = absurd h
 plain_lasts (Ends v gone) h = absurd h
 plain_lasts (Passes m) h = refl
 
-pub stolen_plain : (loose : ℕ → Bool) (k : ℕ) (ks : List ℕ) (ds : List (Deed World)) (e : Event) → IsPlain e → stolen_in loose k ks (ds ++ Does e ∷ []) ≡ stolen_in loose k ks ds
+pub stolen_plain : (loose : ℕ → Bool) (k : ℕ) (ks : List ℕ) (ds : List (Deed FrameEnv)) (e : Event) → IsPlain e → stolen_in loose k ks (ds ++ Does e ∷ []) ≡ stolen_in loose k ks ds
 stolen_plain loose k ks [] (Reads c v) h = refl
 stolen_plain loose k ks [] (Writes c v) h = refl
 stolen_plain loose k ks [] Syncs h = absurd h
@@ -48,7 +48,7 @@ stolen_plain loose k ks (Does (Passes m) ∷ ds) e h = stolen_plain loose k ks d
 stolen_plain loose k ks (Invokes Call w ∷ ds) e h = stolen_plain loose (suc k) ks ds e h
 stolen_plain loose k ks (Invokes Spawn w ∷ ds) e h = stolen_plain loose (suc k) (cond (loose k) (ks ++ k ∷ []) ks) ds e h
 
-sync_plain : (ds : List (Deed World)) (e : Event) → IsPlain e → sync_bit (ds ++ Does e ∷ []) ≡ sync_bit ds
+sync_plain : (ds : List (Deed FrameEnv)) (e : Event) → IsPlain e → sync_bit (ds ++ Does e ∷ []) ≡ sync_bit ds
 sync_plain [] (Reads c v) h = refl
 sync_plain [] (Writes c v) h = refl
 sync_plain [] Syncs h = absurd h
@@ -61,12 +61,12 @@ sync_plain (Does (Ends v gone) ∷ ds) e h = sync_plain ds e h
 sync_plain (Does (Passes m) ∷ ds) e h = sync_plain ds e h
 sync_plain (Invokes b w ∷ ds) e h = sync_plain ds e h
 
-pub joined_plain : (z q : ℕ) (ds : List (Deed World)) (e : Event) → IsPlain e → joined_at z q (ds ++ Does e ∷ []) ≡ joined_at z q ds
+pub joined_plain : (z q : ℕ) (ds : List (Deed FrameEnv)) (e : Event) → IsPlain e → joined_at z q (ds ++ Does e ∷ []) ≡ joined_at z q ds
 joined_plain z q [] e h = refl
 joined_plain z q (Does x ∷ ds) e h = joined_plain z q ds e h
 joined_plain z q (Invokes b w ∷ ds) e h = ap₂ (λ n m. cond (nat_eq z q) (spawn_bit b n) m) (sync_plain ds e h) (joined_plain (suc z) q ds e h)
 
-pub end_plain : (ds : List (Deed World)) (e : Event) → IsPlain e → HasEnd (ds ++ Does e ∷ []) → HasEnd ds
+pub end_plain : (ds : List (Deed FrameEnv)) (e : Event) → IsPlain e → HasEnd (ds ++ Does e ∷ []) → HasEnd ds
 end_plain [] (Reads c v) h g = g
 end_plain [] (Writes c v) h g = g
 end_plain [] Syncs h g = absurd h
@@ -79,7 +79,7 @@ end_plain (Does (Ends v gone) ∷ ds) e h g = g
 end_plain (Does (Passes m) ∷ ds) e h g = end_plain ds e h g
 end_plain (Invokes b w ∷ ds) e h g = end_plain ds e h g
 
-pub stolen_sync : (loose : ℕ → Bool) (k : ℕ) (ks : List ℕ) (ds : List (Deed World)) → stolen_in loose k ks (ds ++ Does Syncs ∷ []) ≡ []
+pub stolen_sync : (loose : ℕ → Bool) (k : ℕ) (ks : List ℕ) (ds : List (Deed FrameEnv)) → stolen_in loose k ks (ds ++ Does Syncs ∷ []) ≡ []
 stolen_sync loose k ks [] = refl
 stolen_sync loose k ks (Does (Reads c v) ∷ ds) = stolen_sync loose k ks ds
 stolen_sync loose k ks (Does (Writes c v) ∷ ds) = stolen_sync loose k ks ds
@@ -89,7 +89,7 @@ stolen_sync loose k ks (Does (Passes m) ∷ ds) = stolen_sync loose k ks ds
 stolen_sync loose k ks (Invokes Call w ∷ ds) = stolen_sync loose (suc k) ks ds
 stolen_sync loose k ks (Invokes Spawn w ∷ ds) = stolen_sync loose (suc k) (cond (loose k) (ks ++ k ∷ []) ks) ds
 
-pub end_sync : (ds : List (Deed World)) → HasEnd (ds ++ Does Syncs ∷ []) → HasEnd ds
+pub end_sync : (ds : List (Deed FrameEnv)) → HasEnd (ds ++ Does Syncs ∷ []) → HasEnd ds
 end_sync [] g = g
 end_sync (Does (Reads c v) ∷ ds) g = end_sync ds g
 end_sync (Does (Writes c v) ∷ ds) g = end_sync ds g

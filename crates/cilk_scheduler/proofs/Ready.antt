@@ -23,15 +23,15 @@ use Rattle.cilk_frames.specs.declared.activation.Activation.{Activation}
 use Rattle.cilk_runs.specs.Machine.{State, begins_strand, started, strands}
 use Rattle.cilk_runs.specs.Monoids.{unit_of}
 use Rattle.cilk_runs.specs.Runs.{Name, Global, Pass, Resume, Instance, Reducer, Event, Deed, Does, Invokes}
-use Rattle.cilk_runs.specs.WorldMachine.{costs, named_ask}
+use Rattle.cilk_runs.specs.FrameEnvMachine.{costs, named_ask}
 use Rattle.cilk_runs.specs.Reducers.{View, kind_of, monoid_of}
-use Rattle.cilk_runs.specs.WorldViews.{IsViewOf}
-use Rattle.cilk_runs.specs.Worlds.{World, cell_seen, global_named, reducer_seen, result_cell}
-use Rattle.cilk_scheduler.specs.declared.board.Board.{Board}
-use Rattle.cilk_scheduler.specs.declared.seat.Seat.{Seat}
+use Rattle.cilk_runs.specs.FrameEnvViews.{IsViewOf}
+use Rattle.cilk_runs.specs.FrameEnvs.{FrameEnv, cell_seen, global_named, reducer_seen, result_cell}
+use Rattle.cilk_scheduler.specs.declared.scheduler.Scheduler.{Scheduler}
+use Rattle.cilk_scheduler.specs.declared.frame_state.FrameState.{FrameState}
 use Rattle.cilk_scheduler.specs.Acting.{MeansCell, MeansReducer}
-use Rattle.cilk_scheduler.specs.Boards.{is_resuming, Sits, ShowsBy}
-use Rattle.cilk_scheduler.specs.Desks.{Desk}
+use Rattle.cilk_scheduler.specs.Schedulers.{is_resuming, Sits, ShowsBy}
+use Rattle.cilk_scheduler.specs.WorkerTables.{WorkerTable}
 use Rattle.cilk_scheduler.specs.Histories.{BeginsAndResumes, DidAsAsked}
 use Rattle.cilk_scheduler.specs.Numbered.{IsAbsent, IsCell, IsInstance, CellBoth, numbers_in, global_cell, global_both}
 use Rattle.cilk_scheduler.specs.Steps.{HasCome}
@@ -41,23 +41,23 @@ use Rattle.cilk_scheduler.proofs.Seeing.{asked_there, cell_named, cell_numbered,
 use Rattle.cilk_scheduler.proofs.Stepped.{carries, goes, here, low, named_as, no_fault}
 use Rattle.cilk_scheduler.proofs.Within.{no_fault_then}
 
-pub strands_stay : (e : Event) → begins_strand e ≡ false → (ds : List (Deed World)) → strands (ds ++ Does e ∷ []) ≡ strands ds
+pub strands_stay : (e : Event) → begins_strand e ≡ false → (ds : List (Deed FrameEnv)) → strands (ds ++ Does e ∷ []) ≡ strands ds
 strands_stay e q [] = rw q refl
 strands_stay e q (Does a ∷ ds) = ap (λ n. cond (begins_strand a) (suc n) n) (strands_stay e q ds)
 strands_stay e q (Invokes how w ∷ ds) = strands_stay e q ds
 
-module _ (code : CodeView) (p : Source) (inputs : List ℤ) (name : ℕ → Name) (b : Board) (d : Desk) (s : State World View) (w k : ℕ) (ask : language.Ask) (lays : LaysOut p code.layout) (sh : ShowsBy code p inputs name b d s)
+module _ (code : CodeView) (p : Source) (inputs : List ℤ) (name : ℕ → Name) (b : Scheduler) (d : WorkerTable) (s : State FrameEnv View) (w k : ℕ) (ask : language.Ask) (lays : LaysOut p code.layout) (sh : ShowsBy code p inputs name b d s)
     (h : HasCome code p inputs b w k ask) (no_sync : ask ≡ asks.Sync → ⊥) where
   abbrev sits : Sits code p inputs name b s k h.seat
   sits = sh.sits k h.seat h.sits
 
-  abbrev what : World
+  abbrev what : FrameEnv
   what = let f = (let o = sh.sits k h.seat h.sits in o.frame) in f.what
 
-  abbrev past : List (Deed World)
+  abbrev past : List (Deed FrameEnv)
   past = let f = (let o = sh.sits k h.seat h.sits in o.frame) in f.deeds
 
-  abbrev seats : List (Activation Seat)
+  abbrev seats : List (Activation FrameState)
   seats = let f = b.frames in f.items
 
   -- it begins and resumes where it must

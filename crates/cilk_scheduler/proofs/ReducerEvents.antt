@@ -29,23 +29,23 @@ use Rattle.cilk_runs.specs.Monoids.{unit_of}
 use Rattle.cilk_runs.specs.Runs.{Name, Instance, Output, Reducer, same_instance, Passes, Creates, Updates, Sets, Values, Prints, Does}
 use Rattle.cilk_runs.proofs.Basics.{same_instance-refl}
 use Rattle.cilk_runs.specs.Reducers.{View, kind_of, monoid_of}
-use Rattle.cilk_runs.specs.WorldViews.{IsViewOf}
-use Rattle.cilk_runs.specs.Worlds.{World, reducer_seen}
-use Rattle.cilk_runs.proofs.WorldViews.{are_multiplied}
-use Rattle.cilk_scheduler.specs.declared.board.Board.{Board}
-use Rattle.cilk_scheduler.specs.declared.seat.Seat.{Seat}
+use Rattle.cilk_runs.specs.FrameEnvViews.{IsViewOf}
+use Rattle.cilk_runs.specs.FrameEnvs.{FrameEnv, reducer_seen}
+use Rattle.cilk_runs.proofs.FrameEnvViews.{are_multiplied}
+use Rattle.cilk_scheduler.specs.declared.scheduler.Scheduler.{Scheduler}
+use Rattle.cilk_scheduler.specs.declared.frame_state.FrameState.{FrameState}
 use Rattle.cilk_scheduler.specs.Acting.{CreatesAreShown, PrintsAreShown, SetsAreShown, UpdatesAreShown, ValuesAreShown}
-use Rattle.cilk_scheduler.specs.Boards.{is_resuming, IsBare, ShowsBy}
-use Rattle.cilk_scheduler.specs.Desks.{Desk}
+use Rattle.cilk_scheduler.specs.Schedulers.{is_resuming, IsBare, ShowsBy}
+use Rattle.cilk_scheduler.specs.WorkerTables.{WorkerTable}
 use Rattle.cilk_scheduler.specs.Numbered.{IsAbsent, IsInstance}
-use Rattle.cilk_scheduler.specs.Seats.{answered}
+use Rattle.cilk_scheduler.specs.FrameStates.{answered}
 use Rattle.cilk_scheduler.specs.Steps.{HasCome}
 use Rattle.cilk_scheduler.proofs.Ready.{strands_stay, quiet, own_views, own_bare, there, means_reducer}
 use Rattle.cilk_scheduler.proofs.Seeing.{no_absent_reducer}
 use Rattle.cilk_scheduler.proofs.Stepped.{bare_now, strands_now, done}
 use Rattle.cilk_scheduler.proofs.Viewed.{changed_off, views_after}
 
-number_low : (p : Source) (frames : List (Activation Seat)) (name : ℕ → Name) (i : Instance) (j : numbered.Instance) → IsInstance p frames name i j → j.frame ≤ length frames
+number_low : (p : Source) (frames : List (Activation FrameState)) (name : ℕ → Name) (i : Instance) (j : numbered.Instance) → IsInstance p frames name i j → j.frame ≤ length frames
 number_low p frames name Output j h = let e = h.0 in omega (arith, e)
 number_low p frames name (Reducer m q kind) j h = let e = h.3 in let low = h.1 in omega (arith, e, low)
 
@@ -54,10 +54,10 @@ either_one true v = refl
 either_one false v = refl
 
 module _ (code : CodeView) (p : Source) (inputs : List ℤ) where
-  module _ (name : ℕ → Name) (b : Board) (d : Desk) (s : State World View) (w k : ℕ) (ask : language.Ask) (lays : LaysOut p code.layout) (sh : ShowsBy code p inputs name b d s) (h : HasCome code p inputs b w k ask) (no_sync : ask ≡ asks.Sync → ⊥)
+  module _ (name : ℕ → Name) (b : Scheduler) (d : WorkerTable) (s : State FrameEnv View) (w k : ℕ) (ask : language.Ask) (lays : LaysOut p code.layout) (sh : ShowsBy code p inputs name b d s) (h : HasCome code p inputs b w k ask) (no_sync : ask ≡ asks.Sync → ⊥)
       (calm : is_resuming (let f = (let o = sh.sits k h.seat h.sits in o.frame) in f.deeds) ≡ false) (i0 : Instance) (j0 : numbered.Instance) (views : Hypermap) (y : ViewValue) (X : Instance → View)
       (at : let f = b.frames in IsInstance p f.items name i0 j0) (changes : let u = h.worker in ChangesIn u.views views (kind_of i0) j0 (Some y)) (hit : IsViewOf (kind_of i0) (X i0) y) where
-    abbrev frames : List (Activation Seat)
+    abbrev frames : List (Activation FrameState)
     frames = let f = b.frames in f.items
 
     abbrev old : Hypermap

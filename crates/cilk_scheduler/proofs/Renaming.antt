@@ -19,13 +19,13 @@ use Rattle.cilk_join.specs.Waits.{shown}
 use Rattle.cilk_runs.specs.Machine.{State, deeds_at}
 use Rattle.cilk_runs.specs.Runs.{Name, Cell, Global, Own, Instance, Output, Reducer, Granted, Begins, Resumes, Creates, Updates, Sets, Values, Prints, Deed, Does, Invokes, Reads, Writes, Syncs, Ends, Passes}
 use Rattle.cilk_runs.specs.Reducers.{View, kind_of, monoid_of}
-use Rattle.cilk_runs.specs.WorldViews.{IsViewOf}
-use Rattle.cilk_runs.specs.Worlds.{World}
-use Rattle.cilk_scheduler.specs.declared.board.Board.{Board}
-use Rattle.cilk_scheduler.specs.declared.seat.Seat.{Seat}
-use Rattle.cilk_scheduler.specs.declared.seat.Worker.{Worker}
-use Rattle.cilk_scheduler.specs.Boards.{carried, IsUsed, hand_of, is_there, offers_of, Seen, Keeps, HasBlock, IsWhere, Sits, Holds, IsDesk, Tells, ShowsBy}
-use Rattle.cilk_scheduler.specs.Desks.{Desk, IsIn}
+use Rattle.cilk_runs.specs.FrameEnvViews.{IsViewOf}
+use Rattle.cilk_runs.specs.FrameEnvs.{FrameEnv}
+use Rattle.cilk_scheduler.specs.declared.scheduler.Scheduler.{Scheduler}
+use Rattle.cilk_scheduler.specs.declared.frame_state.FrameState.{FrameState}
+use Rattle.cilk_scheduler.specs.declared.frame_state.Worker.{Worker}
+use Rattle.cilk_scheduler.specs.Schedulers.{carried, IsUsed, hand_of, is_there, offers_of, Seen, Keeps, HasBlock, IsWhere, Sits, Holds, IsWorkerTable, Tells, ShowsBy}
+use Rattle.cilk_scheduler.specs.WorkerTables.{WorkerTable, IsIn}
 use Rattle.cilk_scheduler.specs.Numbered.{AreNamed, IsAbsent, size_of, IsCell, IsInstance, IsMarked, IsDeed, AreDeeds, CellBoth, ReducerBoth, global_cell, global_both}
 use Rattle.cilk_scheduler.proofs.Plain.{get_low}
 
@@ -37,7 +37,7 @@ map_as : (f g : ℕ → Name) (ns : List ℕ) → ((q j : ℕ) → slice_get ns 
 map_as f g [] each = refl
 map_as f g (n ∷ ns) each = ap₂ (λ a l. a ∷ l) (each 0 n refl) (map_as f g ns (λ q j at. each (suc q) j at))
 
-module _ (p : Source) (frames : List (Activation Seat)) (s : State World View) (name name' : ℕ → Name) (same : (j : ℕ) → j < length frames → name' j ≡ name j) where
+module _ (p : Source) (frames : List (Activation FrameState)) (s : State FrameEnv View) (name name' : ℕ → Name) (same : (j : ℕ) → j < length frames → name' j ≡ name j) where
   cell_as : (c : Cell) (n : ℕ) → IsCell p frames name s c n → IsCell p frames name' s c n
   cell_as (Global g) n h = h
   cell_as (Own m q) n h = (h.0, h.1, h.2, same h.0 (get_low frames h.0 h.1 h.2) ∙ h.3, h.4, h.5)
@@ -55,7 +55,7 @@ module _ (p : Source) (frames : List (Activation Seat)) (s : State World View) (
   mark_as t (Values i v) e h = (h.0, instance_as i h.0 h.1, h.2)
   mark_as t (Prints x) e h = h
 
-  deed_as : (t : ℕ) (d : Deed World) (e : Event) → IsDeed p frames name s t d e → IsDeed p frames name' s t d e
+  deed_as : (t : ℕ) (d : Deed FrameEnv) (e : Event) → IsDeed p frames name s t d e → IsDeed p frames name' s t d e
   deed_as t (Does (Reads c v)) e h = (h.0, cell_as c h.0 h.1, h.2)
   deed_as t (Does (Writes c v)) e h = (h.0, cell_as c h.0 h.1, h.2)
   deed_as t (Does Syncs) e h = h
@@ -64,7 +64,7 @@ module _ (p : Source) (frames : List (Activation Seat)) (s : State World View) (
   deed_as t (Invokes Call w) e h = (h.0, h.1, same h.0 h.1 ∙ h.2, h.3)
   deed_as t (Invokes Spawn w) e h = (h.0, h.1, same h.0 h.1 ∙ h.2, h.3)
 
-  deeds_as : (t : ℕ) (ds : List (Deed World)) (es : List Event) → AreDeeds p frames name s t ds es → AreDeeds p frames name' s t ds es
+  deeds_as : (t : ℕ) (ds : List (Deed FrameEnv)) (es : List Event) → AreDeeds p frames name s t ds es → AreDeeds p frames name' s t ds es
   deeds_as t [] [] h = tt
   deeds_as t [] (e ∷ es) h = absurd h
   deeds_as t (d ∷ ds) [] h = absurd h
@@ -73,8 +73,8 @@ module _ (p : Source) (frames : List (Activation Seat)) (s : State World View) (
   absent_as : (n : Name) → IsAbsent frames name n → IsAbsent frames name' n
   absent_as n none j low e = none j low (sym (same j low) ∙ e)
 
-module _ (code : CodeView) (p : Source) (inputs : List ℤ) (b : Board) (s : State World View) (name name' : ℕ → Name) (same : (j : ℕ) → (let f = b.frames in j < length f.items) → name' j ≡ name j) where
-  abbrev seats : List (Activation Seat)
+module _ (code : CodeView) (p : Source) (inputs : List ℤ) (b : Scheduler) (s : State FrameEnv View) (name name' : ℕ → Name) (same : (j : ℕ) → (let f = b.frames in j < length f.items) → name' j ≡ name j) where
+  abbrev seats : List (Activation FrameState)
   seats = let f = b.frames in f.items
 
   abbrev also : (j : ℕ) → (let f = b.frames in j < length f.items) → name j ≡ name' j
@@ -86,7 +86,7 @@ module _ (code : CodeView) (p : Source) (inputs : List ℤ) (b : Board) (s : Sta
   absent_back : (n : Name) → IsAbsent seats name' n → IsAbsent seats name n
   absent_back = absent_as p seats s name' name also
 
-  seen_as : (a : Activation Seat) (v : World) → Seen code p inputs name b s a v → Seen code p inputs name' b s a v
+  seen_as : (a : Activation FrameState) (v : FrameEnv) → Seen code p inputs name b s a v → Seen code p inputs name' b s a v
   seen_as a v h = record {
     scope = h.scope;
     target = h.target;
@@ -99,14 +99,14 @@ module _ (code : CodeView) (p : Source) (inputs : List ℤ) (b : Board) (s : Sta
         (λ c g. cell_as p seats s name name' same c.0 c.1 g) (λ r q g. (g.0, instance_as p seats s name name' same (r.0 q) r.1 g.1)) v.callee h.scope h.target h.sees;
   }
 
-  keeps_as : (n : Name) (ds : List (Deed World)) (j : JoinView) → Keeps code p inputs name b s n ds j → Keeps code p inputs name' b s n ds j
+  keeps_as : (n : Name) (ds : List (Deed FrameEnv)) (j : JoinView) → Keeps code p inputs name b s n ds j → Keeps code p inputs name' b s n ds j
   keeps_as n ds j h = record { lays = λ i q is. h.lays i q (instance_back i q is); stolen = h.stolen; arrived = h.arrived; bare = h.bare; bare_later = h.bare_later }
 
-  block_as : (n : Name) (ds : List (Deed World)) (x : Seat) → HasBlock code p inputs name b s n ds x → HasBlock code p inputs name' b s n ds x
+  block_as : (n : Name) (ds : List (Deed FrameEnv)) (x : FrameState) → HasBlock code p inputs name b s n ds x → HasBlock code p inputs name' b s n ds x
   block_as n ds x (inl h) = inl h
   block_as n ds x (inr h) = let l = h.0 in inr (h.0, h.1, ⊎_elim (λ m. inl m) (λ g. inr (keeps_as n ds (shown l.value) g.0, g.1)) h.2)
 
-  sits_as : (k : ℕ) (x : Activation Seat) → slice_get seats k ≡ Some x → Sits code p inputs name b s k x → Sits code p inputs name' b s k x
+  sits_as : (k : ℕ) (x : Activation FrameState) → slice_get seats k ≡ Some x → Sits code p inputs name b s k x → Sits code p inputs name' b s k x
   sits_as k x at o =
       let y = x.cursor in
       let f = o.frame in
@@ -144,11 +144,11 @@ module _ (code : CodeView) (p : Source) (inputs : List ℤ) (b : Board) (s : Sta
         bare = h.bare;
       }
 
-  module _ (d : Desk) (sh : ShowsBy code p inputs name b d s) where
+  module _ (d : WorkerTable) (sh : ShowsBy code p inputs name b d s) where
     abbrev workers : List Worker
     workers = let l = b.workers in l.items
 
-    low_of : (k : ℕ) (x : Activation Seat) → slice_get seats k ≡ Some x → k < length seats
+    low_of : (k : ℕ) (x : Activation FrameState) → slice_get seats k ≡ Some x → k < length seats
     low_of k x at = get_low seats k x at
 
     hand_as : (v : ℕ) (u : Worker) → slice_get workers v ≡ Some u → hand_of name u ≡ hand_of name' u
@@ -161,7 +161,7 @@ module _ (code : CodeView) (p : Source) (inputs : List ℤ) (b : Board) (s : Sta
     offers_as : (v : ℕ) (u : Worker) → slice_get workers v ≡ Some u → offers_of name u ≡ offers_of name' u
     offers_as v u at = let o = u.offered in map_as name name' o.items (λ q j has. let z = sh.desk in let g = z.places v q j u at has in also j (low_of j g.0 g.1))
 
-    desk_as : IsDesk code p inputs name' b d
+    desk_as : IsWorkerTable code p inputs name' b d
     desk_as =
         let o = sh.desk in record {
           hands = o.hands ∙ map_same (hand_of name) (hand_of name') workers hand_as;

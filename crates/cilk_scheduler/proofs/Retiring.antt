@@ -26,13 +26,13 @@ use Rattle.cilk_hypermap.specs.declared.hypermap.Hypermap.{Hypermap}
 use Rattle.cilk_frames.specs.declared.activation.Activation.{Activation}
 use Rattle.cilk_runs.specs.Runs.{Name, Instance, has_instance, same_instance}
 use Rattle.cilk_runs.proofs.Basics.{same_instance-refl, same_instance-eq}
-use Rattle.cilk_runs.specs.WorldMachine.{retired_from}
+use Rattle.cilk_runs.specs.FrameEnvMachine.{retired_from}
 use Rattle.cilk_runs.specs.Reducers.{View, kind_of, monoid_of}
-use Rattle.cilk_runs.specs.WorldViews.{IsViewOf}
-use Rattle.cilk_runs.specs.Worlds.{Reducers}
-use Rattle.cilk_runs.proofs.WorldViews.{are_multiplied}
-use Rattle.cilk_scheduler.specs.declared.seat.Seat.{Seat}
-use Rattle.cilk_scheduler.specs.Boards.{IsBare}
+use Rattle.cilk_runs.specs.FrameEnvViews.{IsViewOf}
+use Rattle.cilk_runs.specs.FrameEnvs.{Reducers}
+use Rattle.cilk_runs.proofs.FrameEnvViews.{are_multiplied}
+use Rattle.cilk_scheduler.specs.declared.frame_state.FrameState.{FrameState}
+use Rattle.cilk_scheduler.specs.Schedulers.{IsBare}
 use Rattle.cilk_scheduler.specs.Retired.{without_own}
 use Rattle.cilk_scheduler.specs.Numbered.{AreNamed, IsInstance}
 use Rattle.cilk_scheduler.proofs.Viewed.{one_instance, one_number}
@@ -47,7 +47,7 @@ one_unit : (t : Bool) (u : ViewValue) → cond t u u ≡ u
 one_unit true u = refl
 one_unit false u = refl
 
-module _ (p : Source) (frames : List (Activation Seat)) (name : ℕ → Name) (own : ℕ → Reducers) (frame : ℕ) where
+module _ (p : Source) (frames : List (Activation FrameState)) (name : ℕ → Name) (own : ℕ → Reducers) (frame : ℕ) where
   abbrev number : ℕ → numbered.Instance
   number place = record { frame = frame; place = place }
 

@@ -22,25 +22,25 @@ use Rattle.cilk_runs.specs.Progress.{AfterChild, AfterEvent, AfterSteal, AtBegin
 use Rattle.cilk_runs.specs.Runs.{Name, Instance, Reads, Writes, Syncs, Ends, Passes, Deed, Does, Invokes}
 use Rattle.cilk_runs.proofs.Basics.{nil_snoc, same_name-refl, snoc_one}
 use Rattle.cilk_runs.proofs.Started.{started_invokes}
-use Rattle.cilk_runs.specs.WorldMachine.{costs, has_ended}
+use Rattle.cilk_runs.specs.FrameEnvMachine.{costs, has_ended}
 use Rattle.cilk_runs.specs.Reducers.{View, kind_of, monoid_of}
 use Rattle.cilk_runs.specs.Steps.{Next}
-use Rattle.cilk_runs.specs.WorldViews.{IsViewOf}
-use Rattle.cilk_runs.specs.Worlds.{World}
-use Rattle.cilk_scheduler.specs.declared.board.Board.{Board}
+use Rattle.cilk_runs.specs.FrameEnvViews.{IsViewOf}
+use Rattle.cilk_runs.specs.FrameEnvs.{FrameEnv}
+use Rattle.cilk_scheduler.specs.declared.scheduler.Scheduler.{Scheduler}
 use Rattle.cilk_scheduler.specs.declared.choice.Choice.TheVariants.{Run}
-use Rattle.cilk_scheduler.specs.declared.seat.Due.TheVariants as due
-use Rattle.cilk_scheduler.specs.declared.seat.Seat.{Seat}
-use Rattle.cilk_scheduler.specs.declared.seat.Status.{Status}
-use Rattle.cilk_scheduler.specs.declared.seat.Status.TheVariants.{Held, Calling, Offered, Waiting, Finished}
-use Rattle.cilk_scheduler.specs.declared.seat.Worker.{Worker}
+use Rattle.cilk_scheduler.specs.declared.frame_state.Due.TheVariants as due
+use Rattle.cilk_scheduler.specs.declared.frame_state.FrameState.{FrameState}
+use Rattle.cilk_scheduler.specs.declared.frame_state.Status.{Status}
+use Rattle.cilk_scheduler.specs.declared.frame_state.Status.TheVariants.{Held, Calling, Offered, Waiting, Finished}
+use Rattle.cilk_scheduler.specs.declared.frame_state.Worker.{Worker}
 use Rattle.cilk_scheduler.specs.Acting.{IsShown}
-use Rattle.cilk_scheduler.specs.Boards.{carried, hand_of, offers_of, is_resuming, is_there, IsBare, IsUsed, HasBlock, Holds, IsDesk, IsWhere, Sits, ShowsBy}
-use Rattle.cilk_scheduler.specs.Desks.{Desk, Did, Chooses, IsIn, Settles, does, holds, returns, withdrawn, without}
+use Rattle.cilk_scheduler.specs.Schedulers.{carried, hand_of, offers_of, is_resuming, is_there, IsBare, IsUsed, HasBlock, Holds, IsWorkerTable, IsWhere, Sits, ShowsBy}
+use Rattle.cilk_scheduler.specs.WorkerTables.{WorkerTable, Did, Chooses, IsIn, Settles, does, holds, returns, withdrawn, without}
 use Rattle.cilk_scheduler.specs.Ending.{GoesBack, IsEnded, ReturnsAreShown, TakesBack, WasNotOffered, WasOffered}
 use Rattle.cilk_scheduler.specs.Numbered.{AreNamed}
 use Rattle.cilk_scheduler.specs.Parents.{AreStarted, OutliveChildren}
-use Rattle.cilk_scheduler.specs.Seats.{changed, counted, finished, moved_to}
+use Rattle.cilk_scheduler.specs.FrameStates.{changed, counted, finished, moved_to}
 use Rattle.cilk_scheduler.specs.Steps.{HasCome}
 use Rattle.cilk_scheduler.specs.Workers.{altered, holding}
 use Rattle.cilk_scheduler.specs.OfferLists.{Withdraws}
@@ -56,7 +56,7 @@ use Rattle.cilk_scheduler.proofs.RunsEnd.{no_snoc}
 use Rattle.cilk_scheduler.proofs.Thieves.{snoc_name}
 use Rattle.cilk_scheduler.proofs.Under.{IsUnder, under_of}
 
-pub end_true : (ds : List (Deed World)) → HasEnd ds → has_ended ds ≡ true
+pub end_true : (ds : List (Deed FrameEnv)) → HasEnd ds → has_ended ds ≡ true
 end_true [] h = absurd h
 end_true (Does (Reads c v) ∷ ds) h = end_true ds h
 end_true (Does (Writes c v) ∷ ds) h = end_true ds h
@@ -66,19 +66,19 @@ end_true (Does (Passes m) ∷ ds) h = end_true ds h
 end_true (Invokes how w ∷ ds) h = end_true ds h
 
 -- a worker goes on with the piece of the child that it has just run
-taken_on : {V : Type 0} (S : MonoidStructure V) (piece : Name → V) (stolen : Name → Bool) (n : Name) (ds : List (Deed World)) (merged : Bool) → merged ≡ false → is_resuming ds ≡ true → stolen (n ++ started ds ∷ []) ≡ false
+taken_on : {V : Type 0} (S : MonoidStructure V) (piece : Name → V) (stolen : Name → Bool) (n : Name) (ds : List (Deed FrameEnv)) (merged : Bool) → merged ≡ false → is_resuming ds ≡ true → stolen (n ++ started ds ∷ []) ≡ false
     → carried S piece stolen n ds merged ≡ piece (n ++ started ds ∷ [])
 taken_on S piece stolen n ds merged a b c = rw (a, b, c) refl
 
-module _ (code : CodeView) (p : Source) (inputs : List ℤ) (name : ℕ → Name) (b b' : Board) (d : Desk) (s : State World View) (w k : ℕ) (v : ℤ) (is_shown : IsShown code p inputs name b d s) (started_as : AreStarted p s) (outlive : OutliveChildren s)
+module _ (code : CodeView) (p : Source) (inputs : List ℤ) (name : ℕ → Name) (b b' : Scheduler) (d : WorkerTable) (s : State FrameEnv View) (w k : ℕ) (v : ℤ) (is_shown : IsShown code p inputs name b d s) (started_as : AreStarted p s) (outlive : OutliveChildren s)
     (h : HasCome code p inputs b w (suc k) (asks.End v)) (g : GoesBack code p inputs b b' w (suc k) v h) where
   abbrev sh : ShowsBy code p inputs name b d s
   sh = is_shown.shows
 
-  abbrev old_seats : List (Activation Seat)
+  abbrev old_seats : List (Activation FrameState)
   old_seats = let f = b.frames in f.items
 
-  abbrev new_seats : List (Activation Seat)
+  abbrev new_seats : List (Activation FrameState)
   new_seats = let f = b'.frames in f.items
 
   abbrev old_workers : List Worker
@@ -87,19 +87,19 @@ module _ (code : CodeView) (p : Source) (inputs : List ℤ) (name : ℕ → Name
   abbrev new_workers : List Worker
   new_workers = let l = b'.workers in l.items
 
-  abbrev seat : Seat
+  abbrev seat : FrameState
   seat = let a = h.seat in a.cursor
 
   abbrev up : ℕ
   up = let a = h.seat in let x = a.cursor in x.parent
 
-  abbrev parent : Seat
+  abbrev parent : FrameState
   parent = let a = g.above in a.cursor
 
   abbrev sitting : Sits code p inputs name b s up g.above
   sitting = let y = is_shown.shows in y.sits (let a = h.seat in let x = a.cursor in x.parent) g.above g.sits
 
-  abbrev deeds : List (Deed World)
+  abbrev deeds : List (Deed FrameEnv)
   deeds = let o = (let y = is_shown.shows in y.sits (let a = h.seat in let x = a.cursor in x.parent) g.above g.sits) in let f = o.frame in f.deeds
 
   named : AreNamed old_seats name
@@ -129,25 +129,25 @@ module _ (code : CodeView) (p : Source) (inputs : List ℤ) (name : ℕ → Name
       ap s.stolen (sym c.1) ∙ o.stolen ∙ g.was_kept
 
   -- the parent's last deed started this frame
-  last_deed : (before : List (Deed World)) × (how : Invocation) × (what : World) × (deeds ≡ before ++ Invokes how what ∷ []) × (seat.ordinal ≡ suc (started before))
+  last_deed : (before : List (Deed FrameEnv)) × (how : Invocation) × (what : FrameEnv) × (deeds ≡ before ++ Invokes how what ∷ []) × (seat.ordinal ≡ suc (started before))
   last_deed =
       let u = under in
       let o = sitting in
       let same : o.frame ≡ u.parent = (let q : Some o.frame ≡ Some u.parent = sym o.here ∙ u.here in cc) in
-      ⊎_elim (λ e. (u.before, u.how, u.what, ap (λ (f : Frame World). f.deeds) same ∙ u.starts ∙ ap (λ l. u.before ++ Invokes u.how u.what ∷ l) e, u.ordinal)) (λ e. absurd (true≢false (sym e.2 ∙ not_stolen))) u.since
+      ⊎_elim (λ e. (u.before, u.how, u.what, ap (λ (f : Frame FrameEnv). f.deeds) same ∙ u.starts ∙ ap (λ l. u.before ++ Invokes u.how u.what ∷ l) e, u.ordinal)) (λ e. absurd (true≢false (sym e.2 ∙ not_stolen))) u.since
 
   going : has_ended deeds ≡ false
   going =
       let u = under in
       let o = sitting in
       let same : o.frame ≡ u.parent = (let q : Some o.frame ≡ Some u.parent = sym o.here ∙ u.here in cc) in
-      ap (λ (f : Frame World). has_ended f.deeds) same ∙ u.goes
+      ap (λ (f : Frame FrameEnv). has_ended f.deeds) same ∙ u.goes
 
   starts : started deeds ≡ seat.ordinal
   starts = let l = last_deed in ap (λ ds. started ds) l.3 ∙ started_invokes l.0 l.1 l.2 ∙ sym l.4
 
   -- so the parent doesn't go on
-  no_goes : GoesOn World View s (name up) deeds → ⊥
+  no_goes : GoesOn FrameEnv View s (name up) deeds → ⊥
   no_goes (AtBegin q) = let l = last_deed in nil_snoc l.0 (Invokes l.1 l.2) (sym q ∙ l.3)
   no_goes (AfterEvent before e q) =
       let l = last_deed in
@@ -228,10 +228,10 @@ module _ (code : CodeView) (p : Source) (inputs : List ℤ) (name : ℕ → Name
       by (WasNotOffered never o n) = kept never o n
       by (WasOffered victim owner free found e at f x z o n) = found_by victim owner free found e at f x z o n
 
-  module _ (s' : State World View) (m : Makes World View monoid_of (Next p inputs) (costs p inputs) s (name (suc k)) s') where
+  module _ (s' : State FrameEnv View) (m : Makes FrameEnv View monoid_of (Next p inputs) (costs p inputs) s (name (suc k)) s') where
     -- ---- seats
 
-    abbrev mid : List (Activation Seat)
+    abbrev mid : List (Activation FrameState)
     mid = changed (λ _. counted (finished h.came)) (let f = b.frames in f.items) (suc k)
 
     -- what a worker has while the continuation is taken back
@@ -288,7 +288,7 @@ module _ (code : CodeView) (p : Source) (inputs : List ℤ) (name : ℕ → Name
     moved : ended.Moved code p inputs name b d s w (suc k) v is_shown started_as h b' g.views g.closes s' m up
     moved = record {
       on = subst (λ l. carries.Carries old_seats l) (sym g.frames) (carries.carries_then old_seats mid (changed (moved_to (Held w)) mid up) (carries.carries_changed (λ _. counted (finished h.came)) old_seats (suc k)) (carries.carries_changed (moved_to (Held w)) mid up));
-      same_length = ap (λ (l : List (Activation Seat)). length l) g.frames ∙ changed_length (moved_to (Held w)) mid up ∙ changed_length (λ _. counted (finished h.came)) old_seats (suc k);
+      same_length = ap (λ (l : List (Activation FrameState)). length l) g.frames ∙ changed_length (moved_to (Held w)) mid up ∙ changed_length (λ _. counted (finished h.came)) old_seats (suc k);
       else_at = λ j ne ne'. ap (λ l. slice_get l j) g.frames ∙ changed_off (moved_to (Held w)) mid up j ne' ∙ changed_off (λ _. counted (finished h.came)) old_seats (suc k) j ne;
       now_at = ap (λ l. slice_get l (suc k)) g.frames ∙ changed_off (moved_to (Held w)) mid up (suc k) (λ e. apart (sym e)) ∙ changed_here (λ _. counted (finished h.came)) old_seats (suc k) h.seat h.sits;
       named = subst (λ l. AreNamed l name) (sym g.frames) (named_changed (moved_to (Held w)) mid up name (λ x. (refl, refl)) (ended.named_ended code p inputs name b d s w (suc k) v is_shown started_as h b' g.views g.closes s' m));
@@ -304,7 +304,7 @@ module _ (code : CodeView) (p : Source) (inputs : List ℤ) (name : ℕ → Name
           (x.0, x.1, had_of at x.0 r.0 u' x.2 r.2);
     }
 
-    abbrev parent_now : Seat
+    abbrev parent_now : FrameState
     parent_now = let a = g.above in let y = a.cursor in record y { status = Held w }
 
     up_at : slice_get new_seats up ≡ Some (let a = g.above in record a { cursor = parent_now })
@@ -389,13 +389,13 @@ module _ (code : CodeView) (p : Source) (inputs : List ℤ) (name : ℕ → Name
 
     -- ---- the desk
 
-    abbrev desk_now : Desk
+    abbrev desk_now : WorkerTable
     desk_now = holds (record d { offered = withdrawn d.offered (name up) }) w (name up)
 
     same_place : (j : ℕ) → j < length old_seats → name j ≡ name up → j ≡ up
     same_place j at e = let n = named in n.apart j up at low e
 
-    waiting_now : (j : ℕ) (a : Activation Seat) → slice_get new_seats j ≡ Some a → ((let x = a.cursor in x.status ≡ Waiting) → IsIn (name j) d.waiting) × (IsIn (name j) d.waiting → let x = a.cursor in x.status ≡ Waiting)
+    waiting_now : (j : ℕ) (a : Activation FrameState) → slice_get new_seats j ≡ Some a → ((let x = a.cursor in x.status ≡ Waiting) → IsIn (name j) d.waiting) × (IsIn (name j) d.waiting → let x = a.cursor in x.status ≡ Waiting)
     waiting_now =
         ended.waits_as code p inputs name b d s w (suc k) v is_shown started_as h b' g.views g.closes s' m up moved d.waiting (λ j there ne. ((λ x. x), (λ x. x)))
         (λ a ne is.
@@ -403,7 +403,7 @@ module _ (code : CodeView) (p : Source) (inputs : List ℤ) (name : ℕ → Name
         let y = sh in
         let o = y.desk in
         let old = o.waiting up g.above g.sits in (
-          (λ f. let z : Held w ≡ Waiting = ap (λ (y : Activation Seat). let x = y.cursor in x.status) same ∙ f in let n : ⊥ = cc in absurd n),
+          (λ f. let z : Held w ≡ Waiting = ap (λ (y : Activation FrameState). let x = y.cursor in x.status) same ∙ f in let n : ⊥ = cc in absurd n),
           (λ f. absurd (not_waiting (old.1 f))),
         ))
         (λ x. x)
@@ -414,18 +414,18 @@ module _ (code : CodeView) (p : Source) (inputs : List ℤ) (name : ℕ → Name
         let o = y.desk in
         let r = o.places at q up u is has in
         let same : r.0 ≡ g.above = (let z : Some r.0 ≡ Some g.above = sym r.1 ∙ g.sits in cc) in
-        ap (λ (a : Activation Seat). let x = a.cursor in x.status) (sym same) ∙ r.2
+        ap (λ (a : Activation FrameState). let x = a.cursor in x.status) (sym same) ∙ r.2
 
     offerer : (at q j : ℕ) (u : Worker) → slice_get old_workers at ≡ Some u → (let o = u.offered in slice_get o.items q ≡ Some j) → j < length old_seats
     offerer at q j u is has = let y = sh in let o = y.desk in let r = o.places at q j u is has in get_low old_seats j r.0 r.1
 
-    desk_called : ((at : ℕ) → parent.status ≡ Offered at → ⊥) → g.others ≡ old_workers → b'.offered ≡ b.offered → IsDesk code p inputs name b' desk_now
+    desk_called : ((at : ℕ) → parent.status ≡ Offered at → ⊥) → g.others ≡ old_workers → b'.offered ≡ b.offered → IsWorkerTable code p inputs name b' desk_now
     desk_called never o n =
         let y = sh in
         let k0 = y.desk in
-        subst (λ l. IsDesk code p inputs name b' (record d { hands = set d.hands w (Some (name up)); offered = l })) (sym none_goes)
+        subst (λ l. IsWorkerTable code p inputs name b' (record d { hands = set d.hands w (Some (name up)); offered = l })) (sym none_goes)
         (ended.desk_kept code p inputs name b d s w (suc k) v is_shown started_as h b' g.views g.closes s' m up moved (holding up g.views) (Some (name up)) (λ u. refl) (λ u. refl) (g.workers ∙ ap (λ l. altered (holding up g.views) l w) o) n d.waiting (λ n is. is)
-        (λ at x is status. let same : g.above ≡ x = (let q : Some g.above ≡ Some x = sym g.sits ∙ is in cc) in absurd (never at (ap (λ (a : Activation Seat). let z = a.cursor in z.status) same ∙ status))) waiting_now)
+        (λ at x is status. let same : g.above ≡ x = (let q : Some g.above ≡ Some x = sym g.sits ∙ is in cc) in absurd (never at (ap (λ (a : Activation FrameState). let z = a.cursor in z.status) same ∙ status))) waiting_now)
       where
         none_goes : withdrawn d.offered (name up) ≡ d.offered
         none_goes =
@@ -507,7 +507,7 @@ module _ (code : CodeView) (p : Source) (inputs : List ℤ) (name : ℕ → Name
           altering.skip_one place q r (y.once at (altering.skip place q) (altering.skip place r) j u is (sym (altering.remove_get l.items place q (inside at u e.1)) ∙ ap (λ l. slice_get l q) (sym e.2) ∙ has)
           (sym (altering.remove_get l.items place r (inside at u e.1)) ∙ ap (λ l. slice_get l r) (sym e.2) ∙ also))
 
-      desk_offered : IsDesk code p inputs name b' desk_now
+      desk_offered : IsWorkerTable code p inputs name b' desk_now
       desk_offered =
           let x = sh in
           let o = x.desk in record {
@@ -530,7 +530,7 @@ module _ (code : CodeView) (p : Source) (inputs : List ℤ) (name : ℕ → Name
             present = λ n is none. o.present n is (ended.absent_back code p inputs name b d s w (suc k) v is_shown started_as h b' g.views g.closes s' m up moved n none);
           }
 
-    desk_by : Taken → IsDesk code p inputs name b' desk_now
+    desk_by : Taken → IsWorkerTable code p inputs name b' desk_now
     desk_by (kept never o n) = desk_called never o n
     desk_by (freed victim place owner free e owns stands f y left o n) = desk_offered victim place owner free e owns stands f left o n
 
@@ -545,7 +545,7 @@ module _ (code : CodeView) (p : Source) (inputs : List ℤ) (name : ℕ → Name
           subst (λ i. Holds code p inputs name b' s' w u i) e (holds_parent u x.1);
       held = λ at u ne off y.
           let same : y.seat ≡ g.above = (let z : Some y.seat ≡ Some g.above = sym y.here ∙ g.sits in cc) in
-          absurd (not_held at (ap (λ (a : Activation Seat). let x = a.cursor in x.status) (sym same) ∙ y.held));
+          absurd (not_held at (ap (λ (a : Activation FrameState). let x = a.cursor in x.status) (sym same) ∙ y.held));
       desk = desk_by taken;
       going = λ none f.
           let y = sh in

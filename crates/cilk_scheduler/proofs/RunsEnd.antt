@@ -13,23 +13,23 @@ use Rattle.cilk_frames.specs.declared.activation.Activation.{Activation}
 use Rattle.cilk_hypermap.specs.Hypermap.{value_in}
 use Rattle.cilk_runs.specs.Machine.{State, HasEnd, Makes, deeds_at}
 use Rattle.cilk_runs.specs.Runs.{Name, Global, Instance, Output, Reads, Writes, Syncs, Ends, Passes, Deed, Does, Invokes}
-use Rattle.cilk_runs.specs.WorldMachine.{costs, has_ended, retired_by}
+use Rattle.cilk_runs.specs.FrameEnvMachine.{costs, has_ended, retired_by}
 use Rattle.cilk_runs.specs.Reducers.{View, kind_of, monoid_of}
 use Rattle.cilk_runs.specs.Steps.{Next, outcome_in, result_in}
-use Rattle.cilk_runs.specs.WorldViews.{IsViewOf}
-use Rattle.cilk_runs.specs.Worlds.{World, global_named}
-use Rattle.cilk_scheduler.specs.declared.board.Board.{Board}
+use Rattle.cilk_runs.specs.FrameEnvViews.{IsViewOf}
+use Rattle.cilk_runs.specs.FrameEnvs.{FrameEnv, global_named}
+use Rattle.cilk_scheduler.specs.declared.scheduler.Scheduler.{Scheduler}
 use Rattle.cilk_scheduler.specs.declared.choice.Choice.TheVariants.{Run}
-use Rattle.cilk_scheduler.specs.declared.seat.Seat.{Seat}
-use Rattle.cilk_scheduler.specs.declared.seat.Status.TheVariants.{Held, Offered}
-use Rattle.cilk_scheduler.specs.declared.seat.Worker.{Worker}
+use Rattle.cilk_scheduler.specs.declared.frame_state.FrameState.{FrameState}
+use Rattle.cilk_scheduler.specs.declared.frame_state.Status.TheVariants.{Held, Offered}
+use Rattle.cilk_scheduler.specs.declared.frame_state.Worker.{Worker}
 use Rattle.cilk_scheduler.specs.Acting.{IsShown}
-use Rattle.cilk_scheduler.specs.Desks.{Desk, Did, Chooses, Settles, does, ends_all, idle}
+use Rattle.cilk_scheduler.specs.WorkerTables.{WorkerTable, Did, Chooses, Settles, does, ends_all, idle}
 use Rattle.cilk_scheduler.specs.Ending.{EndsRun, IsEnded, RunsEnd}
 use Rattle.cilk_frames.specs.Leaving.{outcome_of}
 use Rattle.cilk_scheduler.specs.Numbered.{AreNamed, IsInstance}
 use Rattle.cilk_scheduler.specs.Parents.{AreStarted}
-use Rattle.cilk_scheduler.specs.Seats.{counted, finished}
+use Rattle.cilk_scheduler.specs.FrameStates.{counted, finished}
 use Rattle.cilk_scheduler.specs.Steps.{HasCome}
 use Rattle.cilk_scheduler.specs.Waiting.{idling}
 use Rattle.cilk_scheduler.proofs.Altered as altering
@@ -44,7 +44,7 @@ no_snoc [] z e = let f : [] ≡ z ∷ [] = e in cc
 no_snoc (j ∷ n) z e = let f : [] ≡ j ∷ (n ++ z ∷ []) = e in cc
 
 -- what an end gives
-result_end : (ds : List (Deed World)) (v : ℤ) (gone : List Instance) → has_ended ds ≡ false → result_in (ds ++ Does (Ends v gone) ∷ []) ≡ v
+result_end : (ds : List (Deed FrameEnv)) (v : ℤ) (gone : List Instance) → has_ended ds ≡ false → result_in (ds ++ Does (Ends v gone) ∷ []) ≡ v
 result_end [] v gone h = refl
 result_end (Does (Reads c x) ∷ ds) v gone h = result_end ds v gone h
 result_end (Does (Writes c x) ∷ ds) v gone h = result_end ds v gone h
@@ -53,8 +53,8 @@ result_end (Does (Ends x y) ∷ ds) v gone h = absurd (true≢false h)
 result_end (Does (Passes m) ∷ ds) v gone h = result_end ds v gone h
 result_end (Invokes b w ∷ ds) v gone h = result_end ds v gone h
 
-module _ (code : CodeView) (p : Source) (inputs : List ℤ) (name : ℕ → Name) (b b' : Board) (d : Desk) (s : State World View) (w : ℕ) (v : ℤ) (is_shown : IsShown code p inputs name b d s) (started_as : AreStarted p s) (h : HasCome code p inputs b w 0 (asks.End v)) (e : EndsRun code p inputs b b' w v h) where
-  abbrev old_seats : List (Activation Seat)
+module _ (code : CodeView) (p : Source) (inputs : List ℤ) (name : ℕ → Name) (b b' : Scheduler) (d : WorkerTable) (s : State FrameEnv View) (w : ℕ) (v : ℤ) (is_shown : IsShown code p inputs name b d s) (started_as : AreStarted p s) (h : HasCome code p inputs b w 0 (asks.End v)) (e : EndsRun code p inputs b b' w v h) where
+  abbrev old_seats : List (Activation FrameState)
   old_seats = let f = b.frames in f.items
 
   abbrev old_workers : List Worker
@@ -63,11 +63,11 @@ module _ (code : CodeView) (p : Source) (inputs : List ℤ) (name : ℕ → Name
   root : name 0 ≡ []
   root = let y = is_shown.shows in let o = y.tells in let n = o.named in n.root
 
-  module _ (s' : State World View) (m : Makes World View monoid_of (Next p inputs) (costs p inputs) s (name 0) s') where
+  module _ (s' : State FrameEnv View) (m : Makes FrameEnv View monoid_of (Next p inputs) (costs p inputs) s (name 0) s') where
     moved : ended.Moved code p inputs name b d s w 0 v is_shown started_as h b' e.views e.closes s' m 0
     moved = record {
       on = subst (λ l. carries.Carries old_seats l) (sym e.frames) (carries.carries_changed (λ _. counted (finished h.came)) old_seats 0);
-      same_length = ap (λ (l : List (Activation Seat)). length l) e.frames ∙ changed_length (λ _. counted (finished h.came)) old_seats 0;
+      same_length = ap (λ (l : List (Activation FrameState)). length l) e.frames ∙ changed_length (λ _. counted (finished h.came)) old_seats 0;
       else_at = λ j ne ne'. ap (λ l. slice_get l j) e.frames ∙ changed_off (λ _. counted (finished h.came)) old_seats 0 j ne;
       now_at = ap (λ l. slice_get l 0) e.frames ∙ changed_here (λ _. counted (finished h.came)) old_seats 0 h.seat h.sits;
       named = subst (λ l. AreNamed l name) (sym e.frames) (ended.named_ended code p inputs name b d s w 0 v is_shown started_as h b' e.views e.closes s' m);
@@ -111,7 +111,7 @@ module _ (code : CodeView) (p : Source) (inputs : List ℤ) (name : ℕ → Name
       desk = ended.desk_kept code p inputs name b d s w 0 v is_shown started_as h b' e.views e.closes s' m 0 moved (idling e.left) None (λ u. refl) (λ u. refl) e.workers e.offered d.waiting (λ n is. is)
           (λ at x is status.
           let same : h.seat ≡ x = (let q : Some h.seat ≡ Some x = sym h.sits ∙ is in cc) in
-          let z = sym (ended.status_was code p inputs name b d s w 0 v is_shown started_as h) ∙ ap (λ (a : Activation Seat). let y = a.cursor in y.status) same ∙ status in
+          let z = sym (ended.status_was code p inputs name b d s w 0 v is_shown started_as h) ∙ ap (λ (a : Activation FrameState). let y = a.cursor in y.status) same ∙ status in
           absurd (not_both w at z))
           (ended.waits_as code p inputs name b d s w 0 v is_shown started_as h b' e.views e.closes s' m 0 moved d.waiting (λ j low ne. ((λ x. x), (λ x. x))) (λ a ne. absurd (ne refl)) (λ x. x));
       going = λ none. let no : None ≡ Some _ = sym none ∙ e.outcome in let f : ⊥ = cc in absurd f;

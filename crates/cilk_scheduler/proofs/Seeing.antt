@@ -27,17 +27,17 @@ use Rattle.cilk_frames.specs.declared.activation.Activation.{Activation}
 use Rattle.cilk_runs.specs.Machine.{State}
 use Rattle.cilk_runs.specs.Runs.{Name, Cell, Global, Own, Instance, Reducer, same_instance, Deed}
 use Rattle.cilk_runs.proofs.Basics.{same_instance-eq}
-use Rattle.cilk_runs.specs.KeptWorld.{IsTold}
-use Rattle.cilk_runs.specs.WorldMachine.{answers_of}
+use Rattle.cilk_runs.specs.KeptFrameEnv.{IsTold}
+use Rattle.cilk_runs.specs.FrameEnvMachine.{answers_of}
 use Rattle.cilk_runs.specs.Reducers.{View}
-use Rattle.cilk_runs.specs.Worlds.{World, global_named}
-use Rattle.cilk_scheduler.specs.declared.board.Board.{Board}
-use Rattle.cilk_scheduler.specs.declared.seat.Due.{Due}
-use Rattle.cilk_scheduler.specs.declared.seat.Due.TheVariants as due
-use Rattle.cilk_scheduler.specs.declared.seat.Seat.{Seat}
+use Rattle.cilk_runs.specs.FrameEnvs.{FrameEnv, global_named}
+use Rattle.cilk_scheduler.specs.declared.scheduler.Scheduler.{Scheduler}
+use Rattle.cilk_scheduler.specs.declared.frame_state.Due.{Due}
+use Rattle.cilk_scheduler.specs.declared.frame_state.Due.TheVariants as due
+use Rattle.cilk_scheduler.specs.declared.frame_state.FrameState.{FrameState}
 use Rattle.cilk_scheduler.specs.Asking.{WentOnFrom}
-use Rattle.cilk_scheduler.specs.Boards.{IsDue, ShowsBy}
-use Rattle.cilk_scheduler.specs.Desks.{Desk}
+use Rattle.cilk_scheduler.specs.Schedulers.{IsDue, ShowsBy}
+use Rattle.cilk_scheduler.specs.WorkerTables.{WorkerTable}
 use Rattle.cilk_scheduler.specs.Numbered.{AreNamed, IsAbsent, size_of, IsCell, IsInstance, CellBoth, ReducerBoth, names_in, numbers_in, global_cell, global_both}
 use Rattle.cilk_scheduler.proofs.Plain.{get_low}
 
@@ -86,7 +86,7 @@ reducer_numbered (h ∷ scope) (reducers.Given (suc up) n) = reducer_numbered sc
 -- ---- what is asked for is there
 
 module _ (code : CodeView) (p : Source) (inputs : List ℤ) where
-  pub asked_there : (w : World) (past : List (Deed World)) (x came : Seat) (c : CursorView) (k : language.Ask) (d : Due) → IsTrue (is_well_named p) → CalleeIsFit p w.callee
+  pub asked_there : (w : FrameEnv) (past : List (Deed FrameEnv)) (x came : FrameState) (c : CursorView) (k : language.Ask) (d : Due) → IsTrue (is_well_named p) → CalleeIsFit p w.callee
       → x.cursor ≡ Some c → IsDue code p inputs w past d c x.took → WentOnFrom code inputs d x k came → AskIsThere p w.callee k
   asked_there w past x came c k due.Begin well fit at is h = subst (AskIsThere p w.callee) (sym h.0) tt
   asked_there w past x came c k (due.Answer a) well fit at told h =
@@ -98,8 +98,8 @@ module _ (code : CodeView) (p : Source) (inputs : List ℤ) where
 
 -- ---- numbers of cells
 
-module _ (code : CodeView) (p : Source) (inputs : List ℤ) (name : ℕ → Name) (b : Board) (d : Desk) (s : State World View) (sh : ShowsBy code p inputs name b d s) where
-  abbrev frames : List (Activation Seat)
+module _ (code : CodeView) (p : Source) (inputs : List ℤ) (name : ℕ → Name) (b : Scheduler) (d : WorkerTable) (s : State FrameEnv View) (sh : ShowsBy code p inputs name b d s) where
+  abbrev frames : List (Activation FrameState)
   frames = let f = b.frames in f.items
 
   abbrev Has : Cell → ℕ → Type 0
@@ -108,11 +108,11 @@ module _ (code : CodeView) (p : Source) (inputs : List ℤ) (name : ℕ → Name
   named : AreNamed frames name
   named = let t = sh.tells in t.named
 
-  seat_same : (k : ℕ) (x y : Activation Seat) → slice_get frames k ≡ Some x → slice_get frames k ≡ Some y → x ≡ y
+  seat_same : (k : ℕ) (x y : Activation FrameState) → slice_get frames k ≡ Some x → slice_get frames k ≡ Some y → x ≡ y
   seat_same k x y h g = let q : Some x ≡ Some y = sym h ∙ g in cc
 
   -- a frame has one place
-  place_same : (m : Name) (j k : ℕ) (x y : Activation Seat) → slice_get frames j ≡ Some x → slice_get frames k ≡ Some y → name j ≡ m → name k ≡ m → j ≡ k
+  place_same : (m : Name) (j k : ℕ) (x y : Activation FrameState) → slice_get frames j ≡ Some x → slice_get frames k ≡ Some y → name j ≡ m → name k ≡ m → j ≡ k
   place_same m j k x y h g e f = let t = named in t.apart j k (get_low frames j x h) (get_low frames k y g) (e ∙ sym f)
 
   -- a cell has one number
@@ -121,10 +121,10 @@ module _ (code : CodeView) (p : Source) (inputs : List ℤ) (name : ℕ → Name
   one_cell_number (Own z q) n m h h' =
       let at = place_same z h.0 h'.0 h.1 h'.1 h.2 h'.2 h.3 h'.3 in
       let same = seat_same h'.0 h.1 h'.1 (subst (λ j. slice_get frames j ≡ Some h.1) at h.2) h'.2 in
-      h.4 ∙ ap (λ (x : Activation Seat). x.base + q) same ∙ sym h'.4
+      h.4 ∙ ap (λ (x : Activation FrameState). x.base + q) same ∙ sym h'.4
 
   -- frames' cells lie past the global ones
-  past_globals : (k : ℕ) (x : Activation Seat) → slice_get frames k ≡ Some x → length p.openings ≤ x.base
+  past_globals : (k : ℕ) (x : Activation FrameState) → slice_get frames k ≡ Some x → length p.openings ≤ x.base
   past_globals zero x h = let t = sh.tells in t.first x h
   past_globals (suc k) x h =
       let first = first_there frames k x h in
@@ -133,12 +133,12 @@ module _ (code : CodeView) (p : Source) (inputs : List ℤ) (name : ℕ → Name
       let up = t.ascend 0 (suc k) first.0 x first.1 h (omega arith) in
       omega (arith, low, up)
     where
-      first_there : (list : List (Activation Seat)) (j : ℕ) (y : Activation Seat) → slice_get list (suc j) ≡ Some y → (z : Activation Seat) × (slice_get list 0 ≡ Some z)
+      first_there : (list : List (Activation FrameState)) (j : ℕ) (y : Activation FrameState) → slice_get list (suc j) ≡ Some y → (z : Activation FrameState) × (slice_get list 0 ≡ Some z)
       first_there [] j y h = let no : None ≡ Some y = h in let z : ⊥ = cc in absurd z
       first_there (z ∷ list) j y h = (z, refl)
 
   -- two frames' cells have different numbers
-  blocks_apart : (j k : ℕ) (x y : Activation Seat) (q r n : ℕ) → slice_get frames j ≡ Some x → slice_get frames k ≡ Some y → n ≡ x.base + q → q < size_of p (s.frames (name j)) → n ≡ y.base + r → j < k → ⊥
+  blocks_apart : (j k : ℕ) (x y : Activation FrameState) (q r n : ℕ) → slice_get frames j ≡ Some x → slice_get frames k ≡ Some y → n ≡ x.base + q → q < size_of p (s.frames (name j)) → n ≡ y.base + r → j < k → ⊥
   blocks_apart j k x y q r n h g e low e' less = let t = sh.tells in let up = t.ascend j k x y h g less in omega (arith, up, e, e', low)
 
   -- and a number one cell
@@ -154,7 +154,7 @@ module _ (code : CodeView) (p : Source) (inputs : List ℤ) (name : ℕ → Name
       (λ most.
       let at : h.0 ≡ h'.0 = omega (arith, least, most) in
       let same = seat_same h'.0 h.1 h'.1 (subst (λ j. slice_get frames j ≡ Some h.1) at h.2) h'.2 in
-      let bases : (let x = h.1 in x.base) ≡ (let y = h'.1 in y.base) = ap (λ (x : Activation Seat). x.base) same in
+      let bases : (let x = h.1 in x.base) ≡ (let y = h'.1 in y.base) = ap (λ (x : Activation FrameState). x.base) same in
       let e = h.4 in
       let e' = h'.4 in
       let qs : q ≡ q' = omega (arith, bases, e, e') in
@@ -163,8 +163,8 @@ module _ (code : CodeView) (p : Source) (inputs : List ℤ) (name : ℕ → Name
 
 -- ---- what has a number is of a frame that has begun
 
-module _ (p : Source) (frames : List (Activation Seat)) (name : ℕ → Name) where
-  pub no_absent_cell : (s : State World View) (n m : Name) (q : ℕ) (i : ℕ) → IsAbsent frames name n → IsCell p frames name s (Own n q) i → ⊥
+module _ (p : Source) (frames : List (Activation FrameState)) (name : ℕ → Name) where
+  pub no_absent_cell : (s : State FrameEnv View) (n m : Name) (q : ℕ) (i : ℕ) → IsAbsent frames name n → IsCell p frames name s (Own n q) i → ⊥
   no_absent_cell s n m q i none h = none h.0 (get_low frames h.0 h.1 h.2) h.3
 
   pub no_absent_reducer : (n : Name) (q : ℕ) (kind : _) (i : Instance) (j : numbered.Instance) → IsAbsent frames name n → IsInstance p frames name i j → (t : Bool) → same_instance i (Reducer n q kind) ≡ t → same_instance i (Reducer n q kind) ≡ false

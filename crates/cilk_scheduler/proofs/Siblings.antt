@@ -9,33 +9,33 @@ use Rattle.std.specs.Option.{option_map}
 use Rattle.std.proofs.lemmas.Bool.{cases_lt}
 use Rattle.std.proofs.lemmas.List.{append-nil}
 use Rattle.cilk_frames.specs.declared.activation.Activation.{Activation}
-use Rattle.cilk_scheduler.specs.declared.seat.Seat.{Seat}
+use Rattle.cilk_scheduler.specs.declared.frame_state.FrameState.{FrameState}
 use Rattle.cilk_scheduler.specs.Numbered.{child_at, children_among, parent_at}
 use Rattle.cilk_scheduler.proofs.Placed.{get_some}
 use Rattle.cilk_scheduler.proofs.Plain.{get_low, length_more}
 
-pub among_same : (old new : List (Activation Seat)) → ((j : ℕ) → parent_at new j ≡ parent_at old j) → (k n : ℕ) → children_among new k n ≡ children_among old k n
+pub among_same : (old new : List (Activation FrameState)) → ((j : ℕ) → parent_at new j ≡ parent_at old j) → (k n : ℕ) → children_among new k n ≡ children_among old k n
 among_same old new same k zero = refl
 among_same old new same k (suc n) = ap₂ (λ l o. l ++ child_at o k n) (among_same old new same k n) (same n)
 
 -- among the first so many, it hangs on these alone
-pub among_below : (old new : List (Activation Seat)) (m : ℕ) → ((j : ℕ) → j < m → parent_at new j ≡ parent_at old j) → (k n : ℕ) → n ≤ m → children_among new k n ≡ children_among old k n
+pub among_below : (old new : List (Activation FrameState)) (m : ℕ) → ((j : ℕ) → j < m → parent_at new j ≡ parent_at old j) → (k n : ℕ) → n ≤ m → children_among new k n ≡ children_among old k n
 among_below old new m same k zero low = refl
 among_below old new m same k (suc n) low = ap₂ (λ l o. l ++ child_at o k n) (among_below old new m same k n (omega (arith, low))) (same n (omega (arith, low)))
 
-module _ (frames : List (Activation Seat)) (k : ℕ) where
+module _ (frames : List (Activation FrameState)) (k : ℕ) where
   abbrev count : ℕ → ℕ
   count n = length (children_among frames k n)
 
-  parent_is : (j : ℕ) (x : Activation Seat) → slice_get frames j ≡ Some x → parent_at frames j ≡ Some (let y = x.cursor in y.parent)
-  parent_is j x at = ap (λ (o : Option (Activation Seat)). option_map (λ (a : Activation Seat). let y = a.cursor in y.parent) o) at
+  parent_is : (j : ℕ) (x : Activation FrameState) → slice_get frames j ≡ Some x → parent_at frames j ≡ Some (let y = x.cursor in y.parent)
+  parent_is j x at = ap (λ (o : Option (Activation FrameState)). option_map (λ (a : Activation FrameState). let y = a.cursor in y.parent) o) at
 
-  pub among_here : (j : ℕ) (x : Activation Seat) → slice_get frames (suc j) ≡ Some x → (let y = x.cursor in y.parent ≡ k) → children_among frames k (suc (suc j)) ≡ children_among frames k (suc j) ++ suc j ∷ []
+  pub among_here : (j : ℕ) (x : Activation FrameState) → slice_get frames (suc j) ≡ Some x → (let y = x.cursor in y.parent ≡ k) → children_among frames k (suc (suc j)) ≡ children_among frames k (suc j) ++ suc j ∷ []
   among_here j x at is =
       let y = x.cursor in
       ap (λ o. children_among frames k (suc j) ++ child_at o k (suc j)) (parent_is (suc j) x at) ∙ ap (λ t. children_among frames k (suc j) ++ cond t (suc j ∷ []) []) (eq-eqb y.parent k is)
 
-  pub among_past : (j : ℕ) (x : Activation Seat) → slice_get frames (suc j) ≡ Some x → (let y = x.cursor in nat_eq y.parent k ≡ false) → children_among frames k (suc (suc j)) ≡ children_among frames k (suc j)
+  pub among_past : (j : ℕ) (x : Activation FrameState) → slice_get frames (suc j) ≡ Some x → (let y = x.cursor in nat_eq y.parent k ≡ false) → children_among frames k (suc (suc j)) ≡ children_among frames k (suc j)
   among_past j x at is =
       ap (λ o. children_among frames k (suc j) ++ child_at o k (suc j)) (parent_is (suc j) x at) ∙ ap (λ t. children_among frames k (suc j) ++ cond t (suc j ∷ []) []) is ∙ append-nil (children_among frames k (suc j))
 
@@ -56,24 +56,24 @@ module _ (frames : List (Activation Seat)) (k : ℕ) where
       subst (λ m. count n ≤ count m) (sym at) (omega (arith, less, e))
 
 -- each frame's ordinal counts the frames that its parent has started
-abbrev pub HaveOrdinals : List (Activation Seat) → Type 0
-HaveOrdinals frames = (k : ℕ) (x : Activation Seat) → slice_get frames (suc k) ≡ Some x → (let s = x.cursor in s.ordinal ≡ suc (length (children_among frames s.parent (suc k))))
+abbrev pub HaveOrdinals : List (Activation FrameState) → Type 0
+HaveOrdinals frames = (k : ℕ) (x : Activation FrameState) → slice_get frames (suc k) ≡ Some x → (let s = x.cursor in s.ordinal ≡ suc (length (children_among frames s.parent (suc k))))
 
 -- a child of frame k with this ordinal, and the place before its own
-pub record HasChild (frames : List (Activation Seat)) (k q : ℕ) : Type 0 where
+pub record HasChild (frames : List (Activation FrameState)) (k q : ℕ) : Type 0 where
   pub before : ℕ
-  pub seat : Activation Seat
+  pub seat : Activation FrameState
   pub at : slice_get frames (suc before) ≡ Some seat
   pub parent : let y = seat.cursor in y.parent ≡ k
   pub ordinal : let y = seat.cursor in y.ordinal ≡ q
 
-module _ (frames : List (Activation Seat)) (o : HaveOrdinals frames) (k : ℕ) where
+module _ (frames : List (Activation FrameState)) (o : HaveOrdinals frames) (k : ℕ) where
   pub latest_child : (n : ℕ) → n ≤ length frames → (length (children_among frames k n) ≡ 0) ⊎ (HasChild frames k (length (children_among frames k n)))
   latest_child zero low = inl refl
   latest_child (suc zero) low = inl (ap (λ (l : List ℕ). length l) (among_first frames k))
   latest_child (suc (suc j)) low = by (latest_child (suc j) (omega (arith, low))) (get_some frames (suc j) (omega (arith, low)))
     where
-      by : (length (children_among frames k (suc j)) ≡ 0) ⊎ HasChild frames k (length (children_among frames k (suc j))) → (x : Activation Seat) × (slice_get frames (suc j) ≡ Some x)
+      by : (length (children_among frames k (suc j)) ≡ 0) ⊎ HasChild frames k (length (children_among frames k (suc j))) → (x : Activation FrameState) × (slice_get frames (suc j) ≡ Some x)
           → (length (children_among frames k (suc (suc j))) ≡ 0) ⊎ HasChild frames k (length (children_among frames k (suc (suc j))))
       by before r = on (nat_eq (let x = r.0 in let y = x.cursor in y.parent) k) refl
         where
@@ -85,7 +85,7 @@ module _ (frames : List (Activation Seat)) (o : HaveOrdinals frames) (k : ℕ) w
               inr (record { before = j; seat = r.0; at = r.1; parent = is; ordinal = omega (arith, now, ordinal) })
           on false e = subst (λ l. (length l ≡ 0) ⊎ HasChild frames k (length l)) (sym (among_past frames k j r.0 r.1 e)) before
 
-  pub all_counted : (c : ℕ) → ((j : ℕ) (x : Activation Seat) → slice_get frames (suc j) ≡ Some x → (let y = x.cursor in y.parent ≡ k) → (let y = x.cursor in y.ordinal ≤ c)) → (0 < c → HasChild frames k c) → length (children_among frames k (length frames)) ≡ c
+  pub all_counted : (c : ℕ) → ((j : ℕ) (x : Activation FrameState) → slice_get frames (suc j) ≡ Some x → (let y = x.cursor in y.parent ≡ k) → (let y = x.cursor in y.ordinal ≤ c)) → (0 < c → HasChild frames k c) → length (children_among frames k (length frames)) ≡ c
   all_counted c every some = omega (arith, up, down)
     where
       up : length (children_among frames k (length frames)) ≤ c

@@ -8,7 +8,7 @@ use Rattle.cilk_types.specs.declared.invocation.Invocation.TheVariants.{Call, Sp
 use Rattle.cilk_runs.specs.Machine.{started}
 use Rattle.cilk_runs.specs.Runs.{Reads, Writes, Syncs, Ends, Passes, Deed, Does, Invokes}
 use Rattle.cilk_scheduler.specs.Blocks.{stolen_in}
-use Rattle.cilk_scheduler.specs.Boards.{greatest}
+use Rattle.cilk_scheduler.specs.Schedulers.{greatest}
 
 pub greatest_more : (ks : List ℕ) (k : ℕ) → greatest (ks ++ k ∷ []) ≡ k
 greatest_more [] k = refl

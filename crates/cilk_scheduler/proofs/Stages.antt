@@ -20,9 +20,9 @@ use Rattle.cilk_program.proofs.Legal.{Rest, after, unless_fault, IsLegal, fresh_
 use Rattle.cilk_runs.specs.Machine.{started}
 use Rattle.cilk_runs.specs.Progress.{Answers, HasNoSync}
 use Rattle.cilk_runs.specs.Runs.{Instance, Ask, Read, Write, Invoke, Sync, End, Pass, Fail, Event, Reads, Writes, Syncs, Ends, Passes, Deed, Does, Invokes, ask_of}
-use Rattle.cilk_runs.specs.WorldMachine.{answer_of, answers_of, has_ended, is_end, named_ask, next}
-use Rattle.cilk_runs.specs.Worlds.{World}
-use Rattle.cilk_runs.proofs.KeptWorld.{ended_more}
+use Rattle.cilk_runs.specs.FrameEnvMachine.{answer_of, answers_of, has_ended, is_end, named_ask, next}
+use Rattle.cilk_runs.specs.FrameEnvs.{FrameEnv}
+use Rattle.cilk_runs.proofs.KeptFrameEnv.{ended_more}
 use Rattle.cilk_scheduler.specs.Histories.{AreAnswered}
 
 -- ---- children with no sync since
@@ -34,23 +34,23 @@ opens_event t Syncs = false
 opens_event t (Ends v gone) = t
 opens_event t (Passes m) = t
 
-abbrev opens_with : Bool → Deed World → Bool
+abbrev opens_with : Bool → Deed FrameEnv → Bool
 opens_with t (Does e) = opens_event t e
 opens_with t (Invokes how w) = true
 
 -- a child was started with no sync since
-abbrev is_open : Bool → List (Deed World) → Bool
+abbrev is_open : Bool → List (Deed FrameEnv) → Bool
 is_open t [] = t
 is_open t (d ∷ ds) = is_open (opens_with t d) ds
 
-open_more : (t : Bool) (ds : List (Deed World)) (d : Deed World) → is_open t (ds ++ d ∷ []) ≡ opens_with (is_open t ds) d
+open_more : (t : Bool) (ds : List (Deed FrameEnv)) (d : Deed FrameEnv) → is_open t (ds ++ d ∷ []) ≡ opens_with (is_open t ds) d
 open_more t [] d = refl
 open_more t (x ∷ ds) d = open_more (opens_with t x) ds d
 
-none_later : (d : Deed World) (ds : List (Deed World)) → HasNoSync (d ∷ ds) → HasNoSync ds
+none_later : (d : Deed FrameEnv) (ds : List (Deed FrameEnv)) → HasNoSync (d ∷ ds) → HasNoSync ds
 none_later d ds h before after e = h (d ∷ before) after (ap (λ l. d ∷ l) e)
 
-stays_open : (ds : List (Deed World)) → HasNoSync ds → is_open true ds ≡ true
+stays_open : (ds : List (Deed FrameEnv)) → HasNoSync ds → is_open true ds ≡ true
 stays_open [] h = refl
 stays_open (Does (Reads c v) ∷ ds) h = stays_open ds (none_later (Does (Reads c v)) ds h)
 stays_open (Does (Writes c v) ∷ ds) h = stays_open ds (none_later (Does (Writes c v)) ds h)
@@ -59,7 +59,7 @@ stays_open (Does (Ends v gone) ∷ ds) h = stays_open ds (none_later (Does (Ends
 stays_open (Does (Passes m) ∷ ds) h = stays_open ds (none_later (Does (Passes m)) ds h)
 stays_open (Invokes how w ∷ ds) h = stays_open ds (none_later (Invokes how w) ds h)
 
-open_behind : (t : Bool) (before : List (Deed World)) (how : Invocation) (what : World) (after : List (Deed World)) → HasNoSync after → is_open t (before ++ Invokes how what ∷ after) ≡ true
+open_behind : (t : Bool) (before : List (Deed FrameEnv)) (how : Invocation) (what : FrameEnv) (after : List (Deed FrameEnv)) → HasNoSync after → is_open t (before ++ Invokes how what ∷ after) ≡ true
 open_behind t [] how what after h = stays_open after h
 open_behind t (d ∷ before) how what after h = open_behind (opens_with t d) before how what after h
 
@@ -74,7 +74,7 @@ abbrev ends : language.Ask → Bool
 ends (asks.End v) = true
 ends k = false
 
-abbrev opens_named : Bool → Ask World → Bool
+abbrev opens_named : Bool → Ask FrameEnv → Bool
 opens_named t (Read c) = t
 opens_named t (Write c v) = t
 opens_named t (Invoke how w) = true
@@ -83,15 +83,15 @@ opens_named t (End v gone) = t
 opens_named t (Pass m) = t
 opens_named t (Fail f) = t
 
-abbrev ends_named : Ask World → Bool
+abbrev ends_named : Ask FrameEnv → Bool
 ends_named (End v gone) = true
 ends_named a = false
 
-abbrev fails : Ask World → Bool
+abbrev fails : Ask FrameEnv → Bool
 fails (Fail f) = true
 fails a = false
 
-event_marks : (t : Bool) (e : Event) → (opens_named t (ask_of {W = World} e) ≡ opens_event t e) × (ends_named (ask_of {W = World} e) ≡ is_end (Does e)) × (fails (ask_of {W = World} e) ≡ false)
+event_marks : (t : Bool) (e : Event) → (opens_named t (ask_of {W = FrameEnv} e) ≡ opens_event t e) × (ends_named (ask_of {W = FrameEnv} e) ≡ is_end (Does e)) × (fails (ask_of {W = FrameEnv} e) ≡ false)
 event_marks t (Reads c v) = (refl, refl, refl)
 event_marks t (Writes c v) = (refl, refl, refl)
 event_marks t Syncs = (refl, refl, refl)
@@ -99,11 +99,11 @@ event_marks t (Ends v gone) = (refl, refl, refl)
 event_marks t (Passes m) = (refl, refl, refl)
 
 -- a deed that answers an ask is of its kind
-deed_marks : (t : Bool) (d : Deed World) (a : Ask World) → Answers d a → (opens_with t d ≡ opens_named t a) × (is_end d ≡ ends_named a) × (fails a ≡ false)
+deed_marks : (t : Bool) (d : Deed FrameEnv) (a : Ask FrameEnv) → Answers d a → (opens_with t d ≡ opens_named t a) × (is_end d ≡ ends_named a) × (fails a ≡ false)
 deed_marks t (Does e) a h = let m = event_marks t e in (sym m.0 ∙ ap (opens_named t) (sym h), sym m.1 ∙ ap ends_named (sym h), ap fails h ∙ m.2)
 deed_marks t (Invokes how w) a h = (ap (opens_named t) (sym h), ap ends_named (sym h), ap fails h)
 
-module _ (p : Source) (w : World) (j : ℕ) where
+module _ (p : Source) (w : FrameEnv) (j : ℕ) where
   ask_marks : (t : Bool) (k : language.Ask) → (opens_named t (named_ask p w j k) ≡ opens_ask t k) × (ends_named (named_ask p w j k) ≡ ends k)
   ask_marks t asks.Begin = (refl, refl)
   ask_marks t (asks.Read x) = (refl, refl)
@@ -223,28 +223,28 @@ at_end Closing k go h e = refl
 
 -- ---- histories
 
-still_going : (past : List (Deed World)) (d : Deed World) → has_ended past ≡ false → is_end d ≡ false → has_ended (past ++ d ∷ []) ≡ false
+still_going : (past : List (Deed FrameEnv)) (d : Deed FrameEnv) → has_ended past ≡ false → is_end d ≡ false → has_ended (past ++ d ∷ []) ≡ false
 still_going past d h g = ended_more past d h ∙ g
 
 some_end : (b c : Bool) → c ≡ true → cond b true c ≡ true
 some_end true c h = refl
 some_end false c h = h
 
-over_with : (ds : List (Deed World)) (d : Deed World) (more : List (Deed World)) → is_end d ≡ true → has_ended (ds ++ d ∷ more) ≡ true
+over_with : (ds : List (Deed FrameEnv)) (d : Deed FrameEnv) (more : List (Deed FrameEnv)) → is_end d ≡ true → has_ended (ds ++ d ∷ more) ≡ true
 over_with [] d more h = rw h refl
 over_with (x ∷ ds) d more h = some_end (is_end x) (has_ended (ds ++ d ∷ more)) (over_with ds d more h)
 
-abbrev long : List (Deed World) → ℕ
+abbrev long : List (Deed FrameEnv) → ℕ
 long [] = zero
 long (d ∷ ds) = suc (long ds)
 
-module _ (p : Source) (inputs : List ℤ) (w : World) where
+module _ (p : Source) (inputs : List ℤ) (w : FrameEnv) where
   -- the asks after these deeds are those of what is left
-  abbrev IsLeft : List (Deed World) → Rest → Type 0
+  abbrev IsLeft : List (Deed FrameEnv) → Rest → Type 0
   IsLeft past c = (answers : List ℤ) (start : ℕ) → frame_asks p inputs w.callee (answers_of past ++ answers) start ≡ c answers start
 
   -- the stage that the frame has come to by these deeds
-  record StandsAt (n : ℕ) (past : List (Deed World)) : Type 0 where
+  record StandsAt (n : ℕ) (past : List (Deed FrameEnv)) : Type 0 where
     stage : Stage
     rest : Rest
     is_left : IsLeft past rest
@@ -252,7 +252,7 @@ module _ (p : Source) (inputs : List ℤ) (w : World) where
     sound : IsSound stage
     open_so : is_open false past ≡ true → may_be_open stage ≡ true
 
-  left_after : (past : List (Deed World)) (d : Deed World) (c : Rest) → IsLeft past c → IsLeft (past ++ d ∷ []) (after (answer_of d) c)
+  left_after : (past : List (Deed FrameEnv)) (d : Deed FrameEnv) (c : Rest) → IsLeft past c → IsLeft (past ++ d ∷ []) (after (answer_of d) c)
   left_after past d c h = λ answers start.
       ap (λ l. frame_asks p inputs w.callee (l ++ answers) start) (map-append answer_of past (d ∷ []))
       ∙ ap (λ l. frame_asks p inputs w.callee l start) (append_assoc (answers_of past) (answer_of d ∷ []) answers)
@@ -262,7 +262,7 @@ module _ (p : Source) (inputs : List ℤ) (w : World) where
   asked c = let q = c [] MAX_TICKS in q.ask
 
   -- the next ask, where the frame goes on
-  next_is : (past : List (Deed World)) (c : Rest) → IsLeft past c → has_ended past ≡ false → next p inputs w past ≡ Some (named_ask p w (suc (started past)) (asked c))
+  next_is : (past : List (Deed FrameEnv)) (c : Rest) → IsLeft past c → has_ended past ≡ false → next p inputs w past ≡ Some (named_ask p w (suc (started past)) (asked c))
   next_is past c h going =
       going_next (has_ended past) going
       ∙ ap (λ (q : OpenAsk). Some (named_ask p w (suc (started past)) q.ask)) (sym (ap (λ l. frame_asks p inputs w.callee l MAX_TICKS) (append-nil (answers_of past))) ∙ h [] MAX_TICKS)
@@ -271,7 +271,7 @@ module _ (p : Source) (inputs : List ℤ) (w : World) where
       going_next true q = absurd (true≢false q)
       going_next false q = refl
 
-  walk : (past rest all : List (Deed World)) → past ++ rest ≡ all → has_ended past ≡ false → StandsAt (suc (long rest)) past → AreAnswered p inputs w past rest → (has_ended all ≡ true) ⊎ StandsAt 1 all
+  walk : (past rest all : List (Deed FrameEnv)) → past ++ rest ≡ all → has_ended past ≡ false → StandsAt (suc (long rest)) past → AreAnswered p inputs w past rest → (has_ended all ≡ true) ⊎ StandsAt 1 all
   walk past [] all e going h told_so = inr (subst (λ ds. StandsAt 1 ds) (sym (append-nil past) ∙ e) h)
   walk past (d ∷ ds) all e going h told_so = ⊎_elim over (λ t. on t (λ e' g c. walk (past ++ d ∷ []) ds all e' g c told_so.1)) (turn h.stage k go h.sound here)
     where
@@ -314,7 +314,7 @@ module _ (p : Source) (inputs : List ℤ) (w : World) where
             open_so = λ q. t.4 (is_open false past) h.open_so (sym (open_marks (is_open false past)) ∙ sym (open_more false past d) ∙ q);
           })
 
-  has_come : (ds : List (Deed World)) → AreAnswered p inputs w [] ds → (has_ended ds ≡ true) ⊎ StandsAt 1 ds
+  has_come : (ds : List (Deed FrameEnv)) → AreAnswered p inputs w [] ds → (has_ended ds ≡ true) ⊎ StandsAt 1 ds
   has_come ds h =
       walk [] ds ds refl refl (record {
         stage = Fresh (opening_asks p w.callee);
@@ -326,8 +326,8 @@ module _ (p : Source) (inputs : List ℤ) (w : World) where
       }) h
 
   -- where the next ask is the end, a sync was made behind each child that was started
-  pub synced_before_end : (ds : List (Deed World)) (v : ℤ) (gone : List Instance) → AreAnswered p inputs w [] ds → has_ended ds ≡ false → next p inputs w ds ≡ Some (End v gone)
-      → (before : List (Deed World)) (how : Invocation) (what : World) (after : List (Deed World)) → ds ≡ before ++ Invokes how what ∷ after → HasNoSync after → ⊥
+  pub synced_before_end : (ds : List (Deed FrameEnv)) (v : ℤ) (gone : List Instance) → AreAnswered p inputs w [] ds → has_ended ds ≡ false → next p inputs w ds ≡ Some (End v gone)
+      → (before : List (Deed FrameEnv)) (how : Invocation) (what : FrameEnv) (after : List (Deed FrameEnv)) → ds ≡ before ++ Invokes how what ∷ after → HasNoSync after → ⊥
   synced_before_end ds v gone h going q before how what later e none = ⊎_elim (λ over. true≢false (sym over ∙ going)) at (has_come ds h)
     where
       at : StandsAt 1 ds → ⊥

@@ -36,22 +36,22 @@ use Rattle.cilk_runs.specs.Machine.{Frame, State, after_deed, begun, started}
 use Rattle.cilk_runs.specs.Progress.{AtBegin}
 use Rattle.cilk_runs.specs.Runs.{Name, same_name, Cell, Global, Own, Instance, Output, Reducer, Deed, Invokes}
 use Rattle.cilk_runs.proofs.Basics.{same_name-refl, same_name-eq}
-use Rattle.cilk_runs.specs.KeptWorld.{IsTold}
-use Rattle.cilk_runs.specs.WorldMachine.{answers_of}
+use Rattle.cilk_runs.specs.KeptFrameEnv.{IsTold}
+use Rattle.cilk_runs.specs.FrameEnvMachine.{answers_of}
 use Rattle.cilk_runs.specs.Reducers.{View, kind_of}
-use Rattle.cilk_runs.specs.Worlds.{World, child_world, global_named, home_named, own_named}
-use Rattle.cilk_scheduler.specs.declared.board.Board.{Board}
-use Rattle.cilk_scheduler.specs.declared.seat.Due.{Due}
-use Rattle.cilk_scheduler.specs.declared.seat.Due.TheVariants as due
-use Rattle.cilk_scheduler.specs.declared.seat.Seat.{Seat}
+use Rattle.cilk_runs.specs.FrameEnvs.{FrameEnv, child_world, global_named, home_named, own_named}
+use Rattle.cilk_scheduler.specs.declared.scheduler.Scheduler.{Scheduler}
+use Rattle.cilk_scheduler.specs.declared.frame_state.Due.{Due}
+use Rattle.cilk_scheduler.specs.declared.frame_state.Due.TheVariants as due
+use Rattle.cilk_scheduler.specs.declared.frame_state.FrameState.{FrameState}
 use Rattle.cilk_scheduler.specs.Acting.{IsShown}
 use Rattle.cilk_scheduler.specs.Asking.{WentOnFrom}
-use Rattle.cilk_scheduler.specs.Boards.{IsDue, Seen, Sits, ShowsBy}
-use Rattle.cilk_scheduler.specs.Desks.{Desk}
+use Rattle.cilk_scheduler.specs.Schedulers.{IsDue, Seen, Sits, ShowsBy}
+use Rattle.cilk_scheduler.specs.WorkerTables.{WorkerTable}
 use Rattle.cilk_scheduler.specs.Events.{SeesAt}
 use Rattle.cilk_scheduler.specs.Invoking.{creator_of}
 use Rattle.cilk_scheduler.specs.Numbered.{IsAbsent, AreDeeds, size_of, events_of, IsCell, IsInstance, CellBoth, ReducerBoth, names_in, numbers_in, global_cell, global_both}
-use Rattle.cilk_scheduler.specs.Seats.{changed, counted, seated, started_at}
+use Rattle.cilk_scheduler.specs.FrameStates.{changed, counted, seated, started_at}
 use Rattle.cilk_scheduler.specs.Starting.{Starts, ChildrenSee, ChildrenSit, NamesStayApart, named_at}
 use Rattle.cilk_scheduler.proofs.Carries.{Carries, carries_changed, carries_then, scope_on}
 use Rattle.cilk_scheduler.proofs.Changing.{changed_here, changed_length, changed_twice}
@@ -64,10 +64,10 @@ use Rattle.cilk_scheduler.proofs.Stepped.{goes}
 
 -- ---- one frame more
 
-pub carries_more : (l : List (Activation Seat)) (a : Activation Seat) → Carries l (l ++ a ∷ [])
+pub carries_more : (l : List (Activation FrameState)) (a : Activation FrameState) → Carries l (l ++ a ∷ [])
 carries_more l a j x at = (x.cursor, kept l j at)
   where
-    kept : (l : List (Activation Seat)) (j : ℕ) → slice_get l j ≡ Some x → slice_get (l ++ a ∷ []) j ≡ Some x
+    kept : (l : List (Activation FrameState)) (j : ℕ) → slice_get l j ≡ Some x → slice_get (l ++ a ∷ []) j ≡ Some x
     kept [] j at = let no : None ≡ Some x = at in let z : ⊥ = cc in absurd z
     kept (y ∷ l) zero at = at
     kept (y ∷ l) (suc j) at = kept l j at
@@ -89,7 +89,7 @@ named_else name k n j low = ap (λ c. cond c n (name j)) (unlike k j (λ same. o
 pub named_here : (name : ℕ → Name) (k : ℕ) (n : Name) → named_at name k n k ≡ n
 named_here name k n = ap (λ c. cond c n (name k)) (eq-eqb k k refl)
 
-module _ (p : Source) (s s' : State World View) (n : Name) (f : Frame World) (how : Invocation) (v : World) (here : s.frames n ≡ Some f) (fresh : s.frames (n ++ suc (started f.deeds) ∷ []) ≡ None) (made : s'.frames ≡ after_deed s.frames n f (Invokes how v)) where
+module _ (p : Source) (s s' : State FrameEnv View) (n : Name) (f : Frame FrameEnv) (how : Invocation) (v : FrameEnv) (here : s.frames n ≡ Some f) (fresh : s.frames (n ++ suc (started f.deeds) ∷ []) ≡ None) (made : s'.frames ≡ after_deed s.frames n f (Invokes how v)) where
   abbrev kid : Name
   kid = n ++ suc (started f.deeds) ∷ []
 
@@ -136,7 +136,7 @@ result_numbered_as scope (Some x) = ap Some (sym (cell_numbered scope x))
 
 module _ (code : CodeView) (p : Source) (inputs : List ℤ) where
   -- a frame asks for no child but one that it can invoke
-  may_invoke : (w : World) (past : List (Deed World)) (x came : Seat) (c : CursorView) (how : Invocation) (callee : Callee) (d : Due) → x.cursor ≡ Some c → IsDue code p inputs w past d c x.took
+  may_invoke : (w : FrameEnv) (past : List (Deed FrameEnv)) (x came : FrameState) (c : CursorView) (how : Invocation) (callee : Callee) (d : Due) → x.cursor ≡ Some c → IsDue code p inputs w past d c x.took
       → WentOnFrom code inputs d x (asks.Invoke how callee) came → CanInvoke w.callee callee
   may_invoke w past x came c how callee due.Begin at is h = let no : asks.Invoke how callee ≡ asks.Begin = h.0 in let z : ⊥ = cc in absurd z
   may_invoke w past x came c how callee (due.Answer a) at told h =
@@ -146,20 +146,20 @@ module _ (code : CodeView) (p : Source) (inputs : List ℤ) where
       can_invoke p inputs w.callee (answers_of told'.past ++ word_in a ∷ []) (x.took + (MAX_TICKS - x.took)) h.left how callee goes.asks
   may_invoke w past x came c how callee due.Sync at is h = let no : asks.Invoke how callee ≡ asks.Sync = h.0 in let z : ⊥ = cc in absurd z
 
-  module _ (name : ℕ → Name) (b b' : Board) (d : Desk) (s s' : State World View) (w k : ℕ) (how : Invocation) (callee : Callee) (x : IsShown code p inputs name b d s) (t : Starts code p inputs name b b' s s' w k how callee) where
-    abbrev old : List (Activation Seat)
+  module _ (name : ℕ → Name) (b b' : Scheduler) (d : WorkerTable) (s s' : State FrameEnv View) (w k : ℕ) (how : Invocation) (callee : Callee) (x : IsShown code p inputs name b d s) (t : Starts code p inputs name b b' s s' w k how callee) where
+    abbrev old : List (Activation FrameState)
     old = let f = b.frames in f.items
 
-    abbrev new : List (Activation Seat)
+    abbrev new : List (Activation FrameState)
     new = let f = b'.frames in f.items
 
-    abbrev came : Seat
+    abbrev came : FrameState
     came = let h = t.comes in h.came
 
-    abbrev seat : Activation Seat
+    abbrev seat : Activation FrameState
     seat = let h = t.comes in h.seat
 
-    abbrev went : List (Activation Seat)
+    abbrev went : List (Activation FrameState)
     went = changed (λ _. came) old k
 
     abbrev child_name : Name
@@ -168,13 +168,13 @@ module _ (code : CodeView) (p : Source) (inputs : List ℤ) where
     abbrev renamed : ℕ → Name
     renamed = named_at name (length old) child_name
 
-    abbrev parent : World
+    abbrev parent : FrameEnv
     parent = let f = t.frame in f.what
 
-    abbrev child_is : World
+    abbrev child_is : FrameEnv
     child_is = child_world p parent (suc (started (let f = t.frame in f.deeds))) callee
 
-    abbrev after : Seat → Seat
+    abbrev after : FrameState → FrameState
     after _ = counted (started_at t.status (length old) came)
 
     abbrev shows : ShowsBy code p inputs name b d s
@@ -196,7 +196,7 @@ module _ (code : CodeView) (p : Source) (inputs : List ℤ) where
     on = carries_then old went new (carries_changed (λ _. came) old k) on_went
 
     one_more : length new ≡ suc (length old)
-    one_more = ap (λ (l : List (Activation Seat)). length l) t.seats_are ∙ more_length (changed after old k) t.child ∙ ap suc (changed_length after old k)
+    one_more = ap (λ (l : List (Activation FrameState)). length l) t.seats_are ∙ more_length (changed after old k) t.child ∙ ap suc (changed_length after old k)
 
     child_at : slice_get new (length old) ≡ Some t.child
     child_at = ap (λ l. slice_get l (length old)) t.seats_are ∙ subst (λ n. slice_get (changed after old k ++ t.child ∷ []) n ≡ Some t.child) (changed_length after old k) (last_there (changed after old k) t.child)
@@ -229,7 +229,7 @@ module _ (code : CodeView) (p : Source) (inputs : List ℤ) where
     globals = record { cells = λ n lt. (refl, lt); reducers = λ n q is. (refl, (0, (let e = one_more in omega (arith, e)), root_named, refl, refl)) }
 
     seen : Seen code p inputs name b s seat parent
-    seen = subst (λ (f : Frame World). Seen code p inputs name b s seat f.what) frame_is (let o = sits in o.seen)
+    seen = subst (λ (f : Frame FrameEnv). Seen code p inputs name b s seat f.what) frame_is (let o = sits in o.seen)
 
     parent_sees : (let e = seen in FrameSees p global_cell global_both HasCell HasReducer parent.callee e.scope e.target)
     parent_sees =
@@ -238,10 +238,10 @@ module _ (code : CodeView) (p : Source) (inputs : List ℤ) where
         (λ c g. cell_on c.0 c.1 g) (λ r q g. (g.0, instance_on (r.0 q) r.1 g.1)) parent.callee e.scope e.target e.sees
 
     named_parent : parent.name ≡ name k
-    named_parent = let o = sits in ap (λ (f : Frame World). let v = f.what in v.name) (sym frame_is) ∙ o.named
+    named_parent = let o = sits in ap (λ (f : Frame FrameEnv). let v = f.what in v.name) (sym frame_is) ∙ o.named
 
     callee_there : CalleeIsThere p (body_of p parent.callee) callee
-    callee_there = subst (λ (f : Frame World). let v = f.what in CalleeIsThere p (body_of p v.callee) callee) frame_is (there code p inputs name b d s w k (asks.Invoke how callee) x.lays shows t.comes (λ q. cc) x.well)
+    callee_there = subst (λ (f : Frame FrameEnv). let v = f.what in CalleeIsThere p (body_of p v.callee) callee) frame_is (there code p inputs name b d s w k (asks.Invoke how callee) x.lays shows t.comes (λ q. cc) x.well)
 
     callee_can : CanInvoke parent.callee callee
     callee_can =
@@ -249,7 +249,7 @@ module _ (code : CodeView) (p : Source) (inputs : List ℤ) where
         let h = t.comes in
         let y = (let a = seat in a.cursor) in
         let c = o.due (goes code p inputs name b d s w k (asks.Invoke how callee) x.lays shows h (λ q. cc)) in
-        subst (λ (f : Frame World). let v = f.what in CanInvoke v.callee callee) frame_is (let f = o.frame in may_invoke f.what f.deeds y came c.0 how callee y.due c.1 c.2 h.went)
+        subst (λ (f : Frame FrameEnv). let v = f.what in CanInvoke v.callee callee) frame_is (let f = o.frame in may_invoke f.what f.deeds y came c.0 how callee y.due c.1 c.2 h.went)
 
     sees_went : (let e = seen in SeesAt went k (numbers_in e.scope))
     sees_went = let h = t.comes in let e = seen in sees_changed (λ _. came) old k k (numbers_in e.scope) (seat, h.sits, e.numbers)
@@ -309,7 +309,7 @@ module _ (code : CodeView) (p : Source) (inputs : List ℤ) where
         (λ a. ⊎_elim (λ c. absurd (mixed j i c (is_last i li a) (sym q))) (λ c. is_last i li a ∙ sym (is_last j lj c)) (cases_lt j (length old))) (cases_lt i (length old))
 
   -- the frame of a function
-  function_seen : (name : ℕ → Name) (b b' : Board) (d : Desk) (s s' : State World View) (w k : ℕ) (how : Invocation) (c : FunctionCall) (x : IsShown code p inputs name b d s) (t : Starts code p inputs name b b' s s' w k how (callees.Function c))
+  function_seen : (name : ℕ → Name) (b b' : Scheduler) (d : WorkerTable) (s s' : State FrameEnv View) (w k : ℕ) (how : Invocation) (c : FunctionCall) (x : IsShown code p inputs name b d s) (t : Starts code p inputs name b b' s s' w k how (callees.Function c))
       → let f = b.frames in
       let g = t.frame in
       let n = name k ++ suc (started g.deeds) ∷ [] in
@@ -340,7 +340,7 @@ module _ (code : CodeView) (p : Source) (inputs : List ℤ) where
       }
 
   -- the frame of some turns of a loop
-  turns_seen : (name : ℕ → Name) (b b' : Board) (d : Desk) (s s' : State World View) (w k : ℕ) (how : Invocation) (c : LoopPart) (x : IsShown code p inputs name b d s) (t : Starts code p inputs name b b' s s' w k how (callees.Loop c))
+  turns_seen : (name : ℕ → Name) (b b' : Scheduler) (d : WorkerTable) (s s' : State FrameEnv View) (w k : ℕ) (how : Invocation) (c : LoopPart) (x : IsShown code p inputs name b d s) (t : Starts code p inputs name b b' s s' w k how (callees.Loop c))
       → let f = b.frames in
       let g = t.frame in
       let n = name k ++ suc (started g.deeds) ∷ [] in

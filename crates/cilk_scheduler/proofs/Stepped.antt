@@ -29,25 +29,25 @@ use Rattle.cilk_runs.specs.Progress.{HasNext}
 use Rattle.cilk_runs.specs.Runs.{Name, same_name, Cell, Own, Instance, Reducer, Ask, Invoke, Sync, End, Event, Deed, Does}
 use Rattle.cilk_runs.proofs.Basics.{same_name-refl}
 use Rattle.cilk_runs.proofs.Progress.{progress}
-use Rattle.cilk_runs.specs.KeptWorld.{IsTold}
-use Rattle.cilk_runs.specs.WorldMachine.{answer_of, answers_of, costs, has_ended, named_ask, next, taken}
+use Rattle.cilk_runs.specs.KeptFrameEnv.{IsTold}
+use Rattle.cilk_runs.specs.FrameEnvMachine.{answer_of, answers_of, costs, has_ended, named_ask, next, taken}
 use Rattle.cilk_runs.specs.Reducers.{View, kind_of, monoid_of}
 use Rattle.cilk_runs.specs.Steps.{Next}
-use Rattle.cilk_runs.specs.WorldViews.{IsViewOf}
-use Rattle.cilk_runs.specs.Worlds.{World}
-use Rattle.cilk_runs.proofs.KeptWorld.{next_is_named}
-use Rattle.cilk_scheduler.specs.declared.board.Board.{Board}
+use Rattle.cilk_runs.specs.FrameEnvViews.{IsViewOf}
+use Rattle.cilk_runs.specs.FrameEnvs.{FrameEnv}
+use Rattle.cilk_runs.proofs.KeptFrameEnv.{next_is_named}
+use Rattle.cilk_scheduler.specs.declared.scheduler.Scheduler.{Scheduler}
 use Rattle.cilk_scheduler.specs.declared.choice.Choice.TheVariants.{Run}
-use Rattle.cilk_scheduler.specs.declared.seat.Due.{Due}
-use Rattle.cilk_scheduler.specs.declared.seat.Due.TheVariants as due
-use Rattle.cilk_scheduler.specs.declared.seat.Seat.{Seat}
-use Rattle.cilk_scheduler.specs.declared.seat.Status.TheVariants.{Held}
-use Rattle.cilk_scheduler.specs.declared.seat.Worker.{Worker}
+use Rattle.cilk_scheduler.specs.declared.frame_state.Due.{Due}
+use Rattle.cilk_scheduler.specs.declared.frame_state.Due.TheVariants as due
+use Rattle.cilk_scheduler.specs.declared.frame_state.FrameState.{FrameState}
+use Rattle.cilk_scheduler.specs.declared.frame_state.Status.TheVariants.{Held}
+use Rattle.cilk_scheduler.specs.declared.frame_state.Worker.{Worker}
 use Rattle.cilk_scheduler.specs.Asking.{WentOnFrom, refusal}
-use Rattle.cilk_scheduler.specs.Boards.{carried, IsBare, IsDue, IsWhere, Sits, ShowsBy, hand_of}
-use Rattle.cilk_scheduler.specs.Desks.{Desk, Did, Chooses, does, goes_on}
+use Rattle.cilk_scheduler.specs.Schedulers.{carried, IsBare, IsDue, IsWhere, Sits, ShowsBy, hand_of}
+use Rattle.cilk_scheduler.specs.WorkerTables.{WorkerTable, Did, Chooses, does, goes_on}
 use Rattle.cilk_scheduler.specs.Numbered.{IsAbsent, IsCell, IsDeed, IsInstance}
-use Rattle.cilk_scheduler.specs.Seats.{changed, counted}
+use Rattle.cilk_scheduler.specs.FrameStates.{changed, counted}
 use Rattle.cilk_scheduler.specs.Steps.{HasCome, IsDone, Notes}
 use Rattle.cilk_scheduler.specs.Touching.{IsPlain, Touches, touched}
 use Rattle.cilk_scheduler.proofs.Nexts.{named_next}
@@ -57,26 +57,26 @@ use Rattle.cilk_scheduler.proofs.Touched.{shown_after}
 use Rattle.cilk_scheduler.proofs.Within.{no_fault_then}
 
 module _ (code : CodeView) (p : Source) (inputs : List ℤ) where
-  pub kept_by : (x came : Seat) (k : language.Ask) (d : Due) → WentOnFrom code inputs d x k came → came ≡ record x { cursor = came.cursor; took = came.took }
-  kept_by x came k due.Begin h = subst (λ (z : Seat). z ≡ record x { cursor = z.cursor; took = z.took }) (sym h.1) refl
-  kept_by x came k (due.Answer a) h = subst (λ (z : Seat). z ≡ record x { cursor = z.cursor; took = z.took }) (sym h.now) refl
-  kept_by x came k due.Sync h = subst (λ (z : Seat). z ≡ record x { cursor = z.cursor; took = z.took }) (sym h.1) refl
+  pub kept_by : (x came : FrameState) (k : language.Ask) (d : Due) → WentOnFrom code inputs d x k came → came ≡ record x { cursor = came.cursor; took = came.took }
+  kept_by x came k due.Begin h = subst (λ (z : FrameState). z ≡ record x { cursor = z.cursor; took = z.took }) (sym h.1) refl
+  kept_by x came k (due.Answer a) h = subst (λ (z : FrameState). z ≡ record x { cursor = z.cursor; took = z.took }) (sym h.now) refl
+  kept_by x came k due.Sync h = subst (λ (z : FrameState). z ≡ record x { cursor = z.cursor; took = z.took }) (sym h.1) refl
 
   -- where the cursor of a frame stands that has come to an ask
-  pub record Standing (w : World) (past : List (Deed World)) (came : Seat) (k : language.Ask) : Type 0 where
+  pub record Standing (w : FrameEnv) (past : List (Deed FrameEnv)) (came : FrameState) (k : language.Ask) : Type 0 where
     pub cursor : CursorView
     pub is : came.cursor ≡ Some cursor
     pub small : came.took ≤ MAX_TICKS
     pub stands : HasAnswer k → Stands code inputs p w.callee cursor (answers_of past) came.took
     pub owes : HasAnswer k → cursor.owed ≡ owed_for k
 
-  pub standing : (w : World) (past : List (Deed World)) (x came : Seat) (c : CursorView) (k : language.Ask) (d : Due) → has_ended past ≡ false → x.cursor ≡ Some c → IsDue code p inputs w past d c x.took → WentOnFrom code inputs d x k came → Standing w past came k
+  pub standing : (w : FrameEnv) (past : List (Deed FrameEnv)) (x came : FrameState) (c : CursorView) (k : language.Ask) (d : Due) → has_ended past ≡ false → x.cursor ≡ Some c → IsDue code p inputs w past d c x.took → WentOnFrom code inputs d x k came → Standing w past came k
   standing w past x came c k due.Begin going at is h =
-      let took : came.took ≡ 0 = ap (λ (y : Seat). y.took) h.1 ∙ is.3 in record {
+      let took : came.took ≡ 0 = ap (λ (y : FrameState). y.took) h.1 ∙ is.3 in record {
         cursor = c;
-        is = ap (λ (y : Seat). y.cursor) h.1 ∙ at;
+        is = ap (λ (y : FrameState). y.cursor) h.1 ∙ at;
         small = subst (λ n. n ≤ MAX_TICKS) (sym took) (omega arith);
-        stands = λ has. subst (λ (ds : List (Deed World)). Stands code inputs p w.callee c (answers_of ds) came.took) (sym is.0) (subst (λ n. Stands code inputs p w.callee c [] n) (sym took) is.1);
+        stands = λ has. subst (λ (ds : List (Deed FrameEnv)). Stands code inputs p w.callee c (answers_of ds) came.took) (sym is.0) (subst (λ n. Stands code inputs p w.callee c [] n) (sym took) is.1);
         owes = λ has. is.2 ∙ sym (ap owed_for h.0);
       }
   standing w past x came c k (due.Answer a) going at told h =
@@ -85,35 +85,35 @@ module _ (code : CodeView) (p : Source) (inputs : List ℤ) where
       let goes = h.goes_on p w.callee (answers_of told'.past) x.took told'.stands in
       let n = next_is_named p inputs code w past h.before h.after a x.took h.left k told' going goes in
       let total : MAX_TICKS - h.left ≡ x.took + ((MAX_TICKS - x.took) - h.left) = (let small = told.small in let less = h.less in omega (arith, small, less)) in
-      let took : came.took ≡ MAX_TICKS - h.left = ap (λ (y : Seat). y.took) h.now in record {
+      let took : came.took ≡ MAX_TICKS - h.left = ap (λ (y : FrameState). y.took) h.now in record {
         cursor = h.after;
-        is = ap (λ (y : Seat). y.cursor) h.now;
+        is = ap (λ (y : FrameState). y.cursor) h.now;
         small = omega (arith, took);
         stands = λ has. subst (λ n. Stands code inputs p w.callee h.after (answers_of past) n) (sym (took ∙ total)) (n.stands has);
         owes = λ has. goes.owes has;
       }
   standing w past x came c k due.Sync going at is h = record {
     cursor = c;
-    is = ap (λ (y : Seat). y.cursor) h.1 ∙ at;
-    small = subst (λ n. n ≤ MAX_TICKS) (sym (ap (λ (y : Seat). y.took) h.1)) is.4;
-    stands = λ has. subst (λ n. Stands code inputs p w.callee c (answers_of past) n) (sym (ap (λ (y : Seat). y.took) h.1)) is.0;
+    is = ap (λ (y : FrameState). y.cursor) h.1 ∙ at;
+    small = subst (λ n. n ≤ MAX_TICKS) (sym (ap (λ (y : FrameState). y.took) h.1)) is.4;
+    stands = λ has. subst (λ n. Stands code inputs p w.callee c (answers_of past) n) (sym (ap (λ (y : FrameState). y.took) h.1)) is.0;
     owes = λ has. is.1 ∙ sym (ap owed_for h.0);
   }
 
-  module _ (name : ℕ → Name) (b : Board) (d : Desk) (s : State World View) (w k : ℕ) (ask : language.Ask) (lays : LaysOut p code.layout) (sh : ShowsBy code p inputs name b d s) (h : HasCome code p inputs b w k ask) (no_sync : ask ≡ asks.Sync → ⊥) where
-    abbrev x : Seat
+  module _ (name : ℕ → Name) (b : Scheduler) (d : WorkerTable) (s : State FrameEnv View) (w k : ℕ) (ask : language.Ask) (lays : LaysOut p code.layout) (sh : ShowsBy code p inputs name b d s) (h : HasCome code p inputs b w k ask) (no_sync : ask ≡ asks.Sync → ⊥) where
+    abbrev x : FrameState
     x = let a = h.seat in a.cursor
 
-    abbrev frame : Frame World
+    abbrev frame : Frame FrameEnv
     frame = let o = sh.sits k h.seat h.sits in o.frame
 
-    abbrev what : World
+    abbrev what : FrameEnv
     what = let f = (let o = sh.sits k h.seat h.sits in o.frame) in f.what
 
-    abbrev past : List (Deed World)
+    abbrev past : List (Deed FrameEnv)
     past = let f = (let o = sh.sits k h.seat h.sits in o.frame) in f.deeds
 
-    abbrev named : Ask World
+    abbrev named : Ask FrameEnv
     named = named_ask p what (suc (started past)) ask
 
     sits : Sits code p inputs name b s k h.seat
@@ -126,7 +126,7 @@ module _ (code : CodeView) (p : Source) (inputs : List ℤ) where
     status_is =
         let g = sh.holds w k h.worker h.at h.has in
         let same : g.seat ≡ h.seat = (let q : Some g.seat ≡ Some h.seat = sym g.here ∙ h.sits in cc) in
-        ap (λ (a : Activation Seat). let y = a.cursor in y.status) (sym same) ∙ g.held
+        ap (λ (a : Activation FrameState). let y = a.cursor in y.status) (sym same) ∙ g.held
 
     held : IsWhere code p inputs name b s k (name k) past x (Held w)
     held = let o = sh.sits k h.seat h.sits in subst (λ z. IsWhere code p inputs name b s k (name k) past x z) status_is o.is_where
@@ -155,7 +155,7 @@ module _ (code : CodeView) (p : Source) (inputs : List ℤ) where
     pub spent_is : spent ≡ (let C = costs p inputs in s.totals TickTotal + C.ticks what past)
     spent_is =
         let o = sh.sits k h.seat h.sits in
-        ap₂ (λ n m. n + m) (sym sh.ticks) (ap₂ (λ n m. n - m) named_as.1 (ap (λ (y : Seat). y.counted) kept ∙ o.counted))
+        ap₂ (λ n m. n + m) (sym sh.ticks) (ap₂ (λ n m. n - m) named_as.1 (ap (λ (y : FrameState). y.counted) kept ∙ o.counted))
 
     pub no_fault : fault_of (costs p inputs) s.totals what past named ≡ None
     no_fault =
@@ -167,9 +167,9 @@ module _ (code : CodeView) (p : Source) (inputs : List ℤ) where
         (subst (λ n. refusal spent (length e.items) n (s.totals CellTotal) code.layout ask ≡ None) (sym sh.frames) (subst (λ n. refusal spent (length e.items) (length f.items) n code.layout ask ≡ None) (sym sh.cells) h.accepted))
 
     -- the free machine's step, where the ask is no sync by name either
-    pub makes : (named ≡ Sync → ⊥) → HasNext World View monoid_of (Next p inputs) (costs p inputs) s (name k) frame named
+    pub makes : (named ≡ Sync → ⊥) → HasNext FrameEnv View monoid_of (Next p inputs) (costs p inputs) s (name k) frame named
     makes other =
-        let P = progress World View monoid_of (Next p inputs) (costs p inputs) in
+        let P = progress FrameEnv View monoid_of (Next p inputs) (costs p inputs) in
         let fine = no_fault_then (costs p inputs) s.totals what past named no_fault in
         P.goes_on s (name k) frame named sh.running (record { here = here; next = named_as.0; goes_on = held.3; block = λ q. absurd (other q) }) fine.0 fine.1
 
@@ -190,7 +190,7 @@ module _ (code : CodeView) (p : Source) (inputs : List ℤ) where
         let g = sh.holds w k h.worker h.at h.has in
         let u = h.worker in
         let same : g.seat ≡ h.seat = (let q : Some g.seat ≡ Some h.seat = sym g.here ∙ h.sits in cc) in
-        let merged : (let a = g.seat in let y = a.cursor in y.merged) ≡ false = ap (λ (a : Activation Seat). let y = a.cursor in y.merged) same ∙ unmerged in
+        let merged : (let a = g.seat in let y = a.cursor in y.merged) ≡ false = ap (λ (a : Activation FrameState). let y = a.cursor in y.merged) same ∙ unmerged in
         subst (λ f. IsViewOf (kind_of i) (carried (monoid_of i) (λ m. s.piece m i) s.stolen (name k) (deeds_at f) false) (value_in u.views (kind_of i) j)) here
         (subst (λ t. IsViewOf (kind_of i) (carried (monoid_of i) (λ m. s.piece m i) s.stolen (name k) (deeds_at (s.frames (name k))) t) (value_in u.views (kind_of i) j)) merged (g.views i j is))
 
@@ -198,31 +198,31 @@ module _ (code : CodeView) (p : Source) (inputs : List ℤ) where
     bare_now = let g = sh.holds w k h.worker h.at h.has in g.bare
 
     pub strands_now : strands past ≡ (let y = h.came in y.strands)
-    strands_now = let o = sh.sits k h.seat h.sits in o.strands_are ∙ sym (ap (λ (y : Seat). y.strands) kept)
+    strands_now = let o = sh.sits k h.seat h.sits in o.strands_are ∙ sym (ap (λ (y : FrameState). y.strands) kept)
 
     pub low : (let f = b.frames in k < length f.items)
     low = let f = b.frames in get_low f.items k h.seat h.sits
 
     -- The event, and what the board has after it.
-    module _ (b' : Board) (e : Event) (begun : ℕ) (answer : Answer) (next_seat : Seat) (event : numbered_event.Event) (cells : List ℤ) (views : Hypermap) (notes : Notes code p inputs b b' w k h.came next_seat event cells views)
+    module _ (b' : Scheduler) (e : Event) (begun : ℕ) (answer : Answer) (next_seat : FrameState) (event : numbered_event.Event) (cells : List ℤ) (views : Hypermap) (notes : Notes code p inputs b b' w k h.came next_seat event cells views)
         (deed_is : deed_of s.memory (numbers_of monoid_of (s.piece (name k))) named ≡ Does e) (is_plain : IsPlain e) (no_joins : joined_by named (name k) past ≡ []) (no_frame : frame_cost named ≡ 0) (no_cells : (let C = costs p inputs in cells_of C.cells named) ≡ 0)
-        (not_sync : named ≡ Sync → ⊥) (not_call : (v : World) → named ≡ Invoke Call v → ⊥) (not_spawn : (v : World) → named ≡ Invoke Spawn v → ⊥) (not_end : (v : ℤ) (gone : List Instance) → named ≡ End v gone → ⊥)
+        (not_sync : named ≡ Sync → ⊥) (not_call : (v : FrameEnv) → named ≡ Invoke Call v → ⊥) (not_spawn : (v : FrameEnv) → named ≡ Invoke Spawn v → ⊥) (not_end : (v : ℤ) (gone : List Instance) → named ≡ End v gone → ⊥)
         (next_is : next_seat ≡ (let y = h.came in record y { strands = begun; due = due.Answer answer })) (has_answer : HasAnswer ask) (fits : Fits (owed_for ask) answer) (answers : word_in answer ≡ answer_of (Does e))
         (strands_are : strands (past ++ Does e ∷ []) ≡ begun) (means : (let f = b.frames in IsDeed p f.items name s k (Does e) event))
-        (same_cells : (let c = b.cells in length cells ≡ length c.items)) (memory_is : (c : Cell) (n : ℕ) → (let f = b.frames in IsCell p f.items name s c n) → slice_get cells n ≡ Some (effect {W = World} (Does e) c (s.memory c)))
-        (blank : (n : Name) (q : ℕ) → (let f = b.frames in IsAbsent f.items name n) → effect {W = World} (Does e) (Own n q) (s.memory (Own n q)) ≡ s.memory (Own n q))
+        (same_cells : (let c = b.cells in length cells ≡ length c.items)) (memory_is : (c : Cell) (n : ℕ) → (let f = b.frames in IsCell p f.items name s c n) → slice_get cells n ≡ Some (effect {W = FrameEnv} (Does e) c (s.memory c)))
+        (blank : (n : Name) (q : ℕ) → (let f = b.frames in IsAbsent f.items name n) → effect {W = FrameEnv} (Does e) (Own n q) (s.memory (Own n q)) ≡ s.memory (Own n q))
         (piece : Instance → View) (piece_is : (i : Instance) → own_view (monoid_of i) i (block_view (monoid_of i) (λ q. s.piece (name k ++ q ∷ []) i) (λ q. s.stolen (name k ++ q ∷ [])) ((monoid_of i).unit) 1 past) (s.stolen (name k ++ started past ∷ [])) (s.piece (name k ++ started past ∷ []) i) e (s.piece (name k) i) ≡ piece i)
         (views_are : (i : Instance) (j : numbered.Instance) → (let f = b.frames in IsInstance p f.items name i j) → IsViewOf (kind_of i) (piece i) (value_in views (kind_of i) j))
         (bare_views : (let f = b.frames in IsBare (length f.items) (value_in views)))
         (bare : (n : Name) (q : ℕ) (kind : MonoidKind) → (let f = b.frames in IsAbsent f.items name n) → piece (Reducer n q kind) ≡ unit_of monoid_of (Reducer n q kind)) where
-      module _ (s' : State World View) (m : Makes World View monoid_of (Next p inputs) (costs p inputs) s (name k) s') where
+      module _ (s' : State FrameEnv View) (m : Makes FrameEnv View monoid_of (Next p inputs) (costs p inputs) s (name k) s') where
         frame_is : m.frame ≡ frame
         frame_is = let a = m.asking in let q : Some m.frame ≡ Some frame = sym a.here ∙ here in cc
 
         ask_is : m.ask ≡ named
         ask_is =
             let a = m.asking in
-            let n : next p inputs what past ≡ Some m.ask = subst (λ (f : Frame World). next p inputs f.what f.deeds ≡ Some m.ask) frame_is a.next in
+            let n : next p inputs what past ≡ Some m.ask = subst (λ (f : Frame FrameEnv). next p inputs f.what f.deeds ≡ Some m.ask) frame_is a.next in
             let q : Some m.ask ≡ Some named = sym n ∙ named_as.0 in
             cc
 
@@ -230,18 +230,18 @@ module _ (code : CodeView) (p : Source) (inputs : List ℤ) where
         deed = ap (λ a. deed_of s.memory (numbers_of monoid_of (s.piece (name k))) a) ask_is ∙ deed_is
 
         piece_at : (i : Instance) (z : Name) → s'.piece z i ≡ after_views (monoid_of i) i s.stolen (name k) past (Does e) (λ y. s.piece y i) z
-        piece_at i z = m.piece i z ∙ ap₂ (λ (f : Frame World) x. after_views (monoid_of i) i s.stolen (name k) f.deeds x (λ y. s.piece y i) z) frame_is deed
+        piece_at i z = m.piece i z ∙ ap₂ (λ (f : Frame FrameEnv) x. after_views (monoid_of i) i s.stolen (name k) f.deeds x (λ y. s.piece y i) z) frame_is deed
 
         total_at : (total : Total) → s'.totals total ≡ s.totals total + cost (costs p inputs) total what past named
-        total_at total = m.totals total ∙ ap₂ (λ (f : Frame World) a. s.totals total + cost (costs p inputs) total f.what f.deeds a) frame_is ask_is
+        total_at total = m.totals total ∙ ap₂ (λ (f : Frame FrameEnv) a. s.totals total + cost (costs p inputs) total f.what f.deeds a) frame_is ask_is
 
         next_now : counted next_seat ≡ touched true begun (let y = h.came in y.took) (let z = stands_at in z.cursor) answer x
         next_now =
             let z = stands_at in
             let y = h.came in
-            ap counted next_is ∙ ap (λ (a : Seat). counted (record a { strands = begun; due = due.Answer answer })) kept ∙ ap (λ o. touched_by o) z.is
+            ap counted next_is ∙ ap (λ (a : FrameState). counted (record a { strands = begun; due = due.Answer answer })) kept ∙ ap (λ o. touched_by o) z.is
           where
-            touched_by : Option CursorView → Seat
+            touched_by : Option CursorView → FrameState
             touched_by o = let y = h.came in record x { strands = begun; took = y.took; counted = y.took; due = due.Answer answer; cursor = o }
 
         touches : Touches code p inputs name b b' s s' w k e (record { frame = k; event = event })
@@ -261,7 +261,7 @@ module _ (code : CodeView) (p : Source) (inputs : List ℤ) where
               is_plain = is_plain;
               frames = m.frames ∙ ap₂ (λ f a. after_deed s.frames (name k) f a) frame_is deed;
               stolen = m.stolen;
-              joins = m.joins ∙ ap₂ (λ a (f : Frame World). joined_by a (name k) f.deeds ++ s.joins) ask_is frame_is ∙ ap (λ l. l ++ s.joins) no_joins;
+              joins = m.joins ∙ ap₂ (λ a (f : Frame FrameEnv). joined_by a (name k) f.deeds ++ s.joins) ask_is frame_is ∙ ap (λ l. l ++ s.joins) no_joins;
               running = m.stopped;
               others = λ i n off. piece_at i n ∙ rw off refl;
               begun = begun;
@@ -292,7 +292,7 @@ module _ (code : CodeView) (p : Source) (inputs : List ℤ) where
               cell_total = total_at CellTotal ∙ ap (λ n. s.totals CellTotal + n) no_cells ∙ omega arith;
             }
           where
-            memory_at : (c : Cell) → s'.memory c ≡ effect {W = World} (Does e) c (s.memory c)
+            memory_at : (c : Cell) → s'.memory c ≡ effect {W = FrameEnv} (Does e) c (s.memory c)
             memory_at c = ap (λ t. t c) m.memory ∙ ap (λ a. effect a c (s.memory c)) deed
 
             piece_here : (i : Instance) → s'.piece (name k) i ≡ piece i
@@ -304,12 +304,12 @@ module _ (code : CodeView) (p : Source) (inputs : List ℤ) where
             same_change : (let f = b.frames in changed (λ _. counted next_seat) f.items k ≡ changed (touched true begun (let y = h.came in y.took) (let z = stands_at in z.cursor) answer) f.items k)
             same_change = let f = b.frames in by f.items k h.sits
               where
-                by : (list : List (Activation Seat)) (j : ℕ) → slice_get list j ≡ Some h.seat → changed (λ _. counted next_seat) list j ≡ changed (touched true begun (let y = h.came in y.took) (let z = stands_at in z.cursor) answer) list j
+                by : (list : List (Activation FrameState)) (j : ℕ) → slice_get list j ≡ Some h.seat → changed (λ _. counted next_seat) list j ≡ changed (touched true begun (let y = h.came in y.took) (let z = stands_at in z.cursor) answer) list j
                 by [] j q = refl
                 by (a ∷ list) zero q =
                     let same : h.seat ≡ a = (let g : Some a ≡ Some h.seat = q in cc) in
-                    let C : Seat → Activation Seat = (λ y. record a { cursor = y }) in
-                    ap (λ y. C y ∷ list) (next_now ∙ ap (λ (g : Activation Seat). touched true begun (let y = h.came in y.took) (let z = stands_at in z.cursor) answer g.cursor) same)
+                    let C : FrameState → Activation FrameState = (λ y. record a { cursor = y }) in
+                    ap (λ y. C y ∷ list) (next_now ∙ ap (λ (g : Activation FrameState). touched true begun (let y = h.came in y.took) (let z = stands_at in z.cursor) answer g.cursor) same)
                 by (a ∷ list) (suc j) q = ap (λ l. a ∷ l) (by list j q)
 
         shown_then : ShowsBy code p inputs name b' d s'

@@ -25,22 +25,22 @@ use Rattle.cilk_runs.specs.Machine.{Frame, IsAsking, State, Stop, Stops, deeds_a
 use Rattle.cilk_runs.specs.Progress.{BlockHasEnded, HasStop, MayAsk}
 use Rattle.cilk_runs.specs.Runs.{Ask, End, Fail, Invoke, Name, Pass, Read, Sync, Write, Deed}
 use Rattle.cilk_runs.proofs.Progress.{progress}
-use Rattle.cilk_runs.specs.WorldMachine.{costs, named_ask, next, taken}
+use Rattle.cilk_runs.specs.FrameEnvMachine.{costs, named_ask, next, taken}
 use Rattle.cilk_runs.specs.Reducers.{View, monoid_of}
 use Rattle.cilk_runs.specs.Steps.{Next}
-use Rattle.cilk_runs.specs.Worlds.{World}
-use Rattle.cilk_scheduler.specs.declared.board.Board.{Board}
+use Rattle.cilk_runs.specs.FrameEnvs.{FrameEnv}
+use Rattle.cilk_scheduler.specs.declared.scheduler.Scheduler.{Scheduler}
 use Rattle.cilk_scheduler.specs.declared.choice.Choice.{Choice}
 use Rattle.cilk_scheduler.specs.declared.choice.Choice.TheVariants.{Run, Steal}
-use Rattle.cilk_scheduler.specs.declared.seat.Seat.{Seat}
-use Rattle.cilk_scheduler.specs.declared.seat.Status.TheVariants.{Held}
-use Rattle.cilk_scheduler.specs.declared.seat.Worker.{Worker}
+use Rattle.cilk_scheduler.specs.declared.frame_state.FrameState.{FrameState}
+use Rattle.cilk_scheduler.specs.declared.frame_state.Status.TheVariants.{Held}
+use Rattle.cilk_scheduler.specs.declared.frame_state.Worker.{Worker}
 use Rattle.cilk_scheduler.specs.Asking.{refusal}
-use Rattle.cilk_scheduler.specs.Boards.{IsDue, IsWhere, ShowsBy, Tells, hand_of}
-use Rattle.cilk_scheduler.specs.Desks.{BlockIsOver, Chooses, Desk, Skipped, all_offered, skips}
+use Rattle.cilk_scheduler.specs.Schedulers.{IsDue, IsWhere, ShowsBy, Tells, hand_of}
+use Rattle.cilk_scheduler.specs.WorkerTables.{BlockIsOver, Chooses, WorkerTable, Skipped, all_offered, skips}
 use Rattle.cilk_scheduler.specs.Noting.{HasFrame}
 use Rattle.cilk_scheduler.specs.Numbered.{AreDeeds, children_among, events_of, parent_at}
-use Rattle.cilk_scheduler.specs.Seats.{changed}
+use Rattle.cilk_scheduler.specs.FrameStates.{changed}
 use Rattle.cilk_scheduler.specs.Stopping.{IsRefused, SkipsAreShown, StandAsBefore, StopsAreShown, TellingsStay, latest}
 use Rattle.cilk_scheduler.specs.Workers.{frame_in, held_by, is_free, is_idle, offers}
 use Rattle.cilk_scheduler.proofs.Altered as altering
@@ -57,15 +57,15 @@ use Rattle.cilk_scheduler.proofs.Stepped.{kept_by}
 -- ---- what is told
 
 module _ (code : CodeView) (p : Source) (inputs : List ℤ) where
-  module _ (name : ℕ → Name) (b b' : Board) (s : State World View) (stopped : Option Stop) (t : Tells code p inputs name b s) (same : (let f = b.frames in let g = b'.frames in StandAsBefore f.items g.items))
+  module _ (name : ℕ → Name) (b b' : Scheduler) (s : State FrameEnv View) (stopped : Option Stop) (t : Tells code p inputs name b s) (same : (let f = b.frames in let g = b'.frames in StandAsBefore f.items g.items))
       (journal : (let e = b.journal in let l = b'.journal in l.items ≡ e.items)) (outcome : b'.outcome ≡ b.outcome) where
-    abbrev old : List (Activation Seat)
+    abbrev old : List (Activation FrameState)
     old = let f = b.frames in f.items
 
-    abbrev new : List (Activation Seat)
+    abbrev new : List (Activation FrameState)
     new = let f = b'.frames in f.items
 
-    abbrev halted : State World View
+    abbrev halted : State FrameEnv View
     halted = record s { stopped = stopped }
 
     on : carries.Carries old new
@@ -75,20 +75,20 @@ module _ (code : CodeView) (p : Source) (inputs : List ℤ) where
         let r = same.each j z.0 z.1 in
         let is : r.0 ≡ a = (let q : Some r.0 ≡ Some a = sym r.1 ∙ at in cc) in (
           (let c = z.0 in c.cursor),
-          z.1 ∙ ap (λ (y : Activation Seat). Some y) r.2 ∙ ap (λ (y : Activation Seat). Some (record y { cursor = (let c = z.0 in c.cursor) })) is,
+          z.1 ∙ ap (λ (y : Activation FrameState). Some y) r.2 ∙ ap (λ (y : Activation FrameState). Some (record y { cursor = (let c = z.0 in c.cursor) })) is,
         )
 
     written : (k : ℕ) → (let e = b'.journal in events_of k e.items) ≡ (let e = b.journal in events_of k e.items)
     written k = ap (λ l. events_of k l) journal
 
-    base_is : (a z : Activation Seat) → a ≡ record z { cursor = a.cursor } → a.base ≡ z.base
-    base_is a z e = ap (λ (y : Activation Seat). y.base) e
+    base_is : (a z : Activation FrameState) → a ≡ record z { cursor = a.cursor } → a.base ≡ z.base
+    base_is a z e = ap (λ (y : Activation FrameState). y.base) e
 
     parents : (j : ℕ) → parent_at new j ≡ parent_at old j
     parents j = ⊎_elim there past (cases_lt j (length new))
       where
-        P : Option (Activation Seat) → Option ℕ
-        P o = option_map (λ (a : Activation Seat). let x = a.cursor in x.parent) o
+        P : Option (Activation FrameState) → Option ℕ
+        P o = option_map (λ (a : Activation FrameState). let x = a.cursor in x.parent) o
 
         there : j < length new → parent_at new j ≡ parent_at old j
         there low =
@@ -137,7 +137,7 @@ module _ (code : CodeView) (p : Source) (inputs : List ℤ) where
 
 -- ---- a fault in place of an event
 
-module _ (p : Source) (w : World) (j : ℕ) where
+module _ (p : Source) (w : FrameEnv) (j : ℕ) where
   -- an ask that is a sync by name is one
   sync_named : (k : language.Ask) → named_ask p w j k ≡ Sync → k ≡ asks.Sync
   sync_named asks.Sync q = refl
@@ -156,23 +156,23 @@ module _ (p : Source) (w : World) (j : ℕ) where
   sync_named (asks.Fault x) q = absurd (let f : ⊥ = cc in f)
 
 -- a frame that may ask, and whose ask is refused, asks
-module _ (p : Source) (inputs : List ℤ) (s : State World View) (n : Name) (f : Frame World) (a : Ask World) (on : s.stopped ≡ None) (may : MayAsk World View monoid_of (Next p inputs) (costs p inputs) s n f a) where
+module _ (p : Source) (inputs : List ℤ) (s : State FrameEnv View) (n : Name) (f : Frame FrameEnv) (a : Ask FrameEnv) (on : s.stopped ≡ None) (may : MayAsk FrameEnv View monoid_of (Next p inputs) (costs p inputs) s n f a) where
   abbrev Asks : Type 0
-  Asks = IsAsking World View monoid_of (Next p inputs) (costs p inputs) s n f a
+  Asks = IsAsking FrameEnv View monoid_of (Next p inputs) (costs p inputs) s n f a
 
   -- who stops there asks this
-  by_stop : (x : Fault) → HasStop World View monoid_of (Next p inputs) (costs p inputs) s n f x → Asks
+  by_stop : (x : Fault) → HasStop FrameEnv View monoid_of (Next p inputs) (costs p inputs) s n f x → Asks
   by_stop x h =
       let t = h.stops in
       let q = t.asking in
       let frame : t.frame ≡ f = (let z : Some t.frame ≡ Some f = sym q.here ∙ may.here in cc) in
-      let known : next p inputs f.what f.deeds ≡ Some t.ask = subst (λ (g : Frame World). next p inputs g.what g.deeds ≡ Some t.ask) frame q.next in
+      let known : next p inputs f.what f.deeds ≡ Some t.ask = subst (λ (g : Frame FrameEnv). next p inputs g.what g.deeds ≡ Some t.ask) frame q.next in
       let ask : t.ask ≡ a = (let z : Some t.ask ≡ Some a = sym known ∙ may.next in cc) in
-      subst (λ b. IsAsking World View monoid_of (Next p inputs) (costs p inputs) s n f b) ask (subst (λ g. IsAsking World View monoid_of (Next p inputs) (costs p inputs) s n g t.ask) frame q)
+      subst (λ b. IsAsking FrameEnv View monoid_of (Next p inputs) (costs p inputs) s n f b) ask (subst (λ g. IsAsking FrameEnv View monoid_of (Next p inputs) (costs p inputs) s n g t.ask) frame q)
 
   over : (total : Total) → is_over (costs p inputs) total s.totals f.what f.deeds a ≡ true → Asks
   over total h =
-      let P = progress World View monoid_of (Next p inputs) (costs p inputs) in
+      let P = progress FrameEnv View monoid_of (Next p inputs) (costs p inputs) in
       let C = costs p inputs in
       let r = P.exceeds s n f a total on may (ltb-true (C.limit total) (s.totals total + cost C total f.what f.deeds a) h) in
       by_stop r.0 r.1
@@ -189,10 +189,10 @@ module _ (p : Source) (inputs : List ℤ) (s : State World View) (n : Name) (f :
       by false q false q' false r true r' h = over CellTotal r'
       by false q false q' false r false r' h = fault a refl h
         where
-          fault : (z : Ask World) → a ≡ z → own_fault z None ≡ Some x → Asks
+          fault : (z : Ask FrameEnv) → a ≡ z → own_fault z None ≡ Some x → Asks
           fault (Fail y) is e =
-              let P = progress World View monoid_of (Next p inputs) (costs p inputs) in
-              let may' = subst (λ b. MayAsk World View monoid_of (Next p inputs) (costs p inputs) s n f b) is may in
+              let P = progress FrameEnv View monoid_of (Next p inputs) (costs p inputs) in
+              let may' = subst (λ b. MayAsk FrameEnv View monoid_of (Next p inputs) (costs p inputs) s n f b) is may in
               let low = ltb-false ((costs p inputs).limit TickTotal) (s.totals TickTotal + cost (costs p inputs) TickTotal f.what f.deeds a) q in
               by_stop y (P.fails s n f y on may' (subst (λ b. s.totals TickTotal + cost (costs p inputs) TickTotal f.what f.deeds b ≤ (let C = costs p inputs in C.limit TickTotal)) is low))
           fault (Read c) is e = let f : ⊥ = cc in absurd f
@@ -202,21 +202,21 @@ module _ (p : Source) (inputs : List ℤ) (s : State World View) (n : Name) (f :
           fault (End v gone) is e = let f : ⊥ = cc in absurd f
           fault (Pass m) is e = let f : ⊥ = cc in absurd f
 
-module _ (code : CodeView) (p : Source) (inputs : List ℤ) (name : ℕ → Name) (b b' : Board) (d : Desk) (s : State World View) (w k : ℕ) (ask : language.Ask) (fault : Fault) (lays : LaysOut p code.layout) (sh : ShowsBy code p inputs name b d s)
+module _ (code : CodeView) (p : Source) (inputs : List ℤ) (name : ℕ → Name) (b b' : Scheduler) (d : WorkerTable) (s : State FrameEnv View) (w k : ℕ) (ask : language.Ask) (fault : Fault) (lays : LaysOut p code.layout) (sh : ShowsBy code p inputs name b d s)
     (h : IsRefused code p inputs b w k ask fault) (over_at : ask ≡ asks.Sync → BlockIsOver s (name k)) where
-  abbrev x : Seat
+  abbrev x : FrameState
   x = let a = h.seat in a.cursor
 
-  abbrev frame : Frame World
+  abbrev frame : Frame FrameEnv
   frame = let o = sh.sits k h.seat h.sits in o.frame
 
-  abbrev what : World
+  abbrev what : FrameEnv
   what = let f = (let o = sh.sits k h.seat h.sits in o.frame) in f.what
 
-  abbrev past : List (Deed World)
+  abbrev past : List (Deed FrameEnv)
   past = let f = (let o = sh.sits k h.seat h.sits in o.frame) in f.deeds
 
-  abbrev named : Ask World
+  abbrev named : Ask FrameEnv
   named = named_ask p what (suc (started past)) ask
 
   here : s.frames (name k) ≡ Some frame
@@ -226,7 +226,7 @@ module _ (code : CodeView) (p : Source) (inputs : List ℤ) (name : ℕ → Name
   status_is =
       let g = sh.holds w k h.worker h.at h.has in
       let same : g.seat ≡ h.seat = (let q : Some g.seat ≡ Some h.seat = sym g.here ∙ h.sits in cc) in
-      ap (λ (a : Activation Seat). let y = a.cursor in y.status) (sym same) ∙ g.held
+      ap (λ (a : Activation FrameState). let y = a.cursor in y.status) (sym same) ∙ g.held
 
   held : IsWhere code p inputs name b s k (name k) past x (Held w)
   held = let o = sh.sits k h.seat h.sits in subst (λ z. IsWhere code p inputs name b s k (name k) past x z) status_is o.is_where
@@ -246,7 +246,7 @@ module _ (code : CodeView) (p : Source) (inputs : List ℤ) (name : ℕ → Name
   spent_is : spent ≡ (let C = costs p inputs in s.totals TickTotal + C.ticks what past)
   spent_is =
       let o = sh.sits k h.seat h.sits in
-      ap₂ (λ n m. n + m) (sym sh.ticks) (ap₂ (λ n m. n - m) named_as.1 (ap (λ (y : Seat). y.counted) kept ∙ o.counted))
+      ap₂ (λ n m. n + m) (sym sh.ticks) (ap₂ (λ n m. n - m) named_as.1 (ap (λ (y : FrameState). y.counted) kept ∙ o.counted))
 
   why : fault_of (costs p inputs) s.totals what past named ≡ Some fault
   why =
@@ -257,13 +257,13 @@ module _ (code : CodeView) (p : Source) (inputs : List ℤ) (name : ℕ → Name
       ∙ subst (λ n. refusal spent n (s.totals FrameTotal) (s.totals CellTotal) code.layout ask ≡ Some fault) (sym sh.events)
       (subst (λ n. refusal spent (length e.items) n (s.totals CellTotal) code.layout ask ≡ Some fault) (sym sh.frames) (subst (λ n. refusal spent (length e.items) (length f.items) n code.layout ask ≡ Some fault) (sym sh.cells) h.refused))
 
-  may : MayAsk World View monoid_of (Next p inputs) (costs p inputs) s (name k) frame named
-  may = record { here = here; next = named_as.0; goes_on = held.3; block = λ q. subst (λ f. BlockHasEnded World View s (name k) (deeds_at f)) here (over_at (sync_named p what (suc (started past)) ask q)) }
+  may : MayAsk FrameEnv View monoid_of (Next p inputs) (costs p inputs) s (name k) frame named
+  may = record { here = here; next = named_as.0; goes_on = held.3; block = λ q. subst (λ f. BlockHasEnded FrameEnv View s (name k) (deeds_at f)) here (over_at (sync_named p what (suc (started past)) ask q)) }
 
   abbrev stop : Stop
   stop = record { frame = name k; strand = strand_of past; fault = fault }
 
-  stops : Stops World View monoid_of (Next p inputs) (costs p inputs) s (name k) (record s { stopped = Some stop })
+  stops : Stops FrameEnv View monoid_of (Next p inputs) (costs p inputs) s (name k) (record s { stopped = Some stop })
   stops = record { frame = frame; ask = named; fault = fault; asking = asking p inputs s (name k) frame named sh.running may fault why; why = why; after = refl }
 
   strand_is : strand_of past ≡ latest x.strands
@@ -280,14 +280,14 @@ module _ (code : CodeView) (p : Source) (inputs : List ℤ) (name : ℕ → Name
   stand is =
       let f = b.frames in
       let y = h.came in
-      let G : Seat → Seat = (λ z. record z { cursor = y.cursor; took = y.took }) in
+      let G : FrameState → FrameState = (λ z. record z { cursor = y.cursor; took = y.took }) in
       let known = is ∙ changed_known (λ _. h.came) G f.items k h.seat h.sits kept in record {
-        as_many = ap (λ (l : List (Activation Seat)). length l) known ∙ changed_length G f.items k;
+        as_many = ap (λ (l : List (Activation FrameState)). length l) known ∙ changed_length G f.items k;
         each = λ j a at.
             let r = changed_from G f.items k j a (ap (λ l. slice_get l j) (sym known) ∙ at) in
             let z = r.0 in
             let c = z.cursor in
-            (z, r.1, r.2, ⊎_elim (λ e. (ap (λ (q : Seat). q.parent) e, ap (λ (q : Seat). q.ordinal) e)) (λ e. (ap (λ (q : Seat). q.parent) e, ap (λ (q : Seat). q.ordinal) e)) r.3);
+            (z, r.1, r.2, ⊎_elim (λ e. (ap (λ (q : FrameState). q.parent) e, ap (λ (q : FrameState). q.ordinal) e)) (λ e. (ap (λ (q : FrameState). q.parent) e, ap (λ (q : FrameState). q.ordinal) e)) r.3);
       }
 
 pub stops_are_shown : (code : CodeView) (p : Source) (inputs : List ℤ) → StopsAreShown code p inputs
@@ -301,7 +301,7 @@ stops_are_shown code p inputs name b b' d s w k ask fault lays sh h over_at fram
 
 -- ---- choices that can't be made
 
-module _ (code : CodeView) (p : Source) (inputs : List ℤ) (name : ℕ → Name) (b : Board) (d : Desk) (s : State World View) (sh : ShowsBy code p inputs name b d s) where
+module _ (code : CodeView) (p : Source) (inputs : List ℤ) (name : ℕ → Name) (b : Scheduler) (d : WorkerTable) (s : State FrameEnv View) (sh : ShowsBy code p inputs name b d s) where
   abbrev workers : List Worker
   workers = let l = b.workers in l.items
 

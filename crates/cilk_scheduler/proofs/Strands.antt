@@ -13,16 +13,16 @@ use Rattle.cilk_runs.specs.Machine.{started, strands}
 use Rattle.cilk_runs.specs.Monoids.{unit_of}
 use Rattle.cilk_runs.specs.Runs.{Reducer, Reads, Writes, Syncs, Ends, Passes, Begins, Resumes, Creates, Updates, Sets, Values, Prints, Deed, Does, Invokes}
 use Rattle.cilk_runs.specs.Reducers.{View, kind_of, monoid_of}
-use Rattle.cilk_runs.specs.WorldViews.{IsViewOf}
-use Rattle.cilk_runs.specs.Worlds.{World}
-use Rattle.cilk_scheduler.specs.Boards.{carried, is_resuming}
-use Rattle.cilk_scheduler.specs.Seats.{stranded}
+use Rattle.cilk_runs.specs.FrameEnvViews.{IsViewOf}
+use Rattle.cilk_runs.specs.FrameEnvs.{FrameEnv}
+use Rattle.cilk_scheduler.specs.Schedulers.{carried, is_resuming}
+use Rattle.cilk_scheduler.specs.FrameStates.{stranded}
 use Rattle.cilk_scheduler.specs.Steps.{BeginsAreShown, ResumesAreShown}
 use Rattle.cilk_scheduler.proofs.Carried.{plain}
 use Rattle.cilk_scheduler.proofs.Ready.{in_turn}
 use Rattle.cilk_scheduler.proofs.Stepped.{carries, bare_now, strands_now, low, done}
 
-pub strands_begin : (ds : List (Deed World)) → strands (ds ++ Does (Passes Begins) ∷ []) ≡ strands ds + 1
+pub strands_begin : (ds : List (Deed FrameEnv)) → strands (ds ++ Does (Passes Begins) ∷ []) ≡ strands ds + 1
 strands_begin [] = refl
 strands_begin (Does (Reads c v) ∷ ds) = strands_begin ds
 strands_begin (Does (Writes c v) ∷ ds) = strands_begin ds
@@ -37,7 +37,7 @@ strands_begin (Does (Passes (Values i v)) ∷ ds) = strands_begin ds
 strands_begin (Does (Passes (Prints x)) ∷ ds) = strands_begin ds
 strands_begin (Invokes how w ∷ ds) = strands_begin ds
 
-pub strands_resume : (ds : List (Deed World)) → strands (ds ++ Does (Passes Resumes) ∷ []) ≡ strands (ds ++ Does (Passes Begins) ∷ [])
+pub strands_resume : (ds : List (Deed FrameEnv)) → strands (ds ++ Does (Passes Resumes) ∷ []) ≡ strands (ds ++ Does (Passes Begins) ∷ [])
 strands_resume [] = refl
 strands_resume (Does (Reads c v) ∷ ds) = strands_resume ds
 strands_resume (Does (Writes c v) ∷ ds) = strands_resume ds
@@ -52,7 +52,7 @@ strands_resume (Does (Passes (Values i v)) ∷ ds) = strands_resume ds
 strands_resume (Does (Passes (Prints x)) ∷ ds) = strands_resume ds
 strands_resume (Invokes how w ∷ ds) = strands_resume ds
 
-resuming_some : (ds : List (Deed World)) → is_resuming ds ≡ true → 0 < started ds
+resuming_some : (ds : List (Deed FrameEnv)) → is_resuming ds ≡ true → 0 < started ds
 resuming_some [] h = let z : false ≡ true = h in let f : ⊥ = cc in absurd f
 resuming_some (Does e ∷ []) h = let z : false ≡ true = h in let f : ⊥ = cc in absurd f
 resuming_some (Invokes how w ∷ []) h = omega arith

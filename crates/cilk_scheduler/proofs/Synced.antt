@@ -34,25 +34,25 @@ use Rattle.cilk_runs.specs.Progress.{BlockHasEnded, GoesOn, HasEnded, HasNext, H
 use Rattle.cilk_runs.specs.Runs.{Name, same_name, Cell, Own, Instance, Output, Reducer, Reads, Writes, Syncs, Ends, Passes, Ask, Invoke, Pass, Resume, Sync, End, Deed, Does, Invokes}
 use Rattle.cilk_runs.proofs.Basics.{same_name-refl}
 use Rattle.cilk_runs.proofs.Progress.{progress}
-use Rattle.cilk_runs.specs.WorldMachine.{costs, has_ended, next, taken}
+use Rattle.cilk_runs.specs.FrameEnvMachine.{costs, has_ended, next, taken}
 use Rattle.cilk_runs.specs.Reducers.{View, kind_of, monoid_of, views_of}
 use Rattle.cilk_runs.specs.Steps.{Next}
-use Rattle.cilk_runs.specs.WorldViews.{IsViewOf}
-use Rattle.cilk_runs.specs.Worlds.{World}
-use Rattle.cilk_scheduler.specs.declared.board.Board.{Board}
+use Rattle.cilk_runs.specs.FrameEnvViews.{IsViewOf}
+use Rattle.cilk_runs.specs.FrameEnvs.{FrameEnv}
+use Rattle.cilk_scheduler.specs.declared.scheduler.Scheduler.{Scheduler}
 use Rattle.cilk_scheduler.specs.declared.choice.Choice.TheVariants.{Run}
-use Rattle.cilk_scheduler.specs.declared.seat.Due.TheVariants as due
-use Rattle.cilk_scheduler.specs.declared.seat.Seat.{Seat}
-use Rattle.cilk_scheduler.specs.declared.seat.Status.TheVariants.{Held, Waiting}
+use Rattle.cilk_scheduler.specs.declared.frame_state.Due.TheVariants as due
+use Rattle.cilk_scheduler.specs.declared.frame_state.FrameState.{FrameState}
+use Rattle.cilk_scheduler.specs.declared.frame_state.Status.TheVariants.{Held, Waiting}
 use Rattle.cilk_scheduler.specs.Asking.{refusal}
 use Rattle.cilk_scheduler.specs.Blocks.{stolen_in, Lays}
-use Rattle.cilk_scheduler.specs.Boards.{carried, IsBare, hand_of, is_resuming, is_there, run_at, waits_at, IsDue, Keeps, IsWhere, ShowsBy}
-use Rattle.cilk_scheduler.specs.Desks.{Desk, BlockIsOver, Did, Chooses, does, goes_on}
+use Rattle.cilk_scheduler.specs.Schedulers.{carried, IsBare, hand_of, is_resuming, is_there, run_at, waits_at, IsDue, Keeps, IsWhere, ShowsBy}
+use Rattle.cilk_scheduler.specs.WorkerTables.{WorkerTable, BlockIsOver, Did, Chooses, does, goes_on}
 use Rattle.cilk_scheduler.specs.Events.{block_in}
 use Rattle.cilk_scheduler.specs.GoneOn.{HaveGoneOn, WentOnBehind}
 use Rattle.cilk_scheduler.specs.Histories.{DidAsAsked}
 use Rattle.cilk_scheduler.specs.Numbered.{IsAbsent, IsInstance}
-use Rattle.cilk_scheduler.specs.Seats.{counted, synced}
+use Rattle.cilk_scheduler.specs.FrameStates.{counted, synced}
 use Rattle.cilk_scheduler.specs.Steps.{HasCome, IsDone, Notes}
 use Rattle.cilk_scheduler.specs.Syncing.{PassesWith, HadPassed, NothingStolen, AllArrived, SyncsAreShown}
 use Rattle.cilk_scheduler.specs.Touching.{Touches, touched}
@@ -73,7 +73,7 @@ use Rattle.cilk_scheduler.proofs.Within.{no_fault_then}
 
 -- ---- the stolen children of a block
 
-sync_none : (d : Deed World) (ds : List (Deed World)) → HasNoSync (d ∷ ds) → HasNoSync ds
+sync_none : (d : Deed FrameEnv) (ds : List (Deed FrameEnv)) → HasNoSync (d ∷ ds) → HasNoSync ds
 sync_none d ds h before after e = h (d ∷ before) after (ap (λ l. d ∷ l) e)
 
 stands_more : (ks : List ℕ) (k q : ℕ) → Stands ks q → Stands (ks ++ k ∷ []) q
@@ -89,7 +89,7 @@ stands_cond : (c : Bool) (ks : List ℕ) (k q : ℕ) → Stands ks q → Stands 
 stands_cond true ks k q h = stands_more ks k q h
 stands_cond false ks k q h = h
 
-stays_in : (loose : ℕ → Bool) (k : ℕ) (ks : List ℕ) (ds : List (Deed World)) (q : ℕ) → HasNoSync ds → Stands ks q → Stands (stolen_in loose k ks ds) q
+stays_in : (loose : ℕ → Bool) (k : ℕ) (ks : List ℕ) (ds : List (Deed FrameEnv)) (q : ℕ) → HasNoSync ds → Stands ks q → Stands (stolen_in loose k ks ds) q
 stays_in loose k ks [] q none h = h
 stays_in loose k ks (Does (Reads c v) ∷ ds) q none h = stays_in loose k ks ds q (sync_none (Does (Reads c v)) ds none) h
 stays_in loose k ks (Does (Writes c v) ∷ ds) q none h = stays_in loose k ks ds q (sync_none (Does (Writes c v)) ds none) h
@@ -99,7 +99,7 @@ stays_in loose k ks (Does (Passes m) ∷ ds) q none h = stays_in loose k ks ds q
 stays_in loose k ks (Invokes Call w ∷ ds) q none h = stays_in loose (suc k) ks ds q (sync_none (Invokes Call w) ds none) h
 stays_in loose k ks (Invokes Spawn w ∷ ds) q none h = stays_in loose (suc k) (cond (loose k) (ks ++ k ∷ []) ks) ds q (sync_none (Invokes Spawn w) ds none) (stands_cond (loose k) ks k q h)
 
-pub stands_in : (loose : ℕ → Bool) (k : ℕ) (ks : List ℕ) (before after : List (Deed World)) (what : World) → HasNoSync after → loose (k + started before) ≡ true → Stands (stolen_in loose k ks (before ++ Invokes Spawn what ∷ after)) (k + started before)
+pub stands_in : (loose : ℕ → Bool) (k : ℕ) (ks : List ℕ) (before after : List (Deed FrameEnv)) (what : FrameEnv) → HasNoSync after → loose (k + started before) ≡ true → Stands (stolen_in loose k ks (before ++ Invokes Spawn what ∷ after)) (k + started before)
 stands_in loose k ks [] after what none h =
     let is : k + 0 ≡ k = omega arith in
     let at : loose k ≡ true = ap loose (sym is) ∙ h in
@@ -118,7 +118,7 @@ stands_in loose k ks (Invokes Spawn w ∷ ds) after what none h =
     subst (λ q. Stands (stolen_in loose (suc k) (cond (loose k) (ks ++ k ∷ []) ks) (ds ++ Invokes Spawn what ∷ after)) q) is (stands_in loose (suc k) (cond (loose k) (ks ++ k ∷ []) ks) ds after what none (ap loose is ∙ h))
 
 -- a block whose pieces are units is one
-pub block_unit : (kind : MonoidKind) (kid : ℕ → View) (loose : ℕ → Bool) → ((q : ℕ) → loose q ≡ true → kid q ≡ (views_of kind).unit) → (k : ℕ) (ds : List (Deed World)) → block_view (views_of kind) kid loose ((views_of kind).unit) k ds ≡ (views_of kind).unit
+pub block_unit : (kind : MonoidKind) (kid : ℕ → View) (loose : ℕ → Bool) → ((q : ℕ) → loose q ≡ true → kid q ≡ (views_of kind).unit) → (k : ℕ) (ds : List (Deed FrameEnv)) → block_view (views_of kind) kid loose ((views_of kind).unit) k ds ≡ (views_of kind).unit
 block_unit kind kid loose h k [] = refl
 block_unit kind kid loose h k (Does (Reads c v) ∷ ds) = block_unit kind kid loose h k ds
 block_unit kind kid loose h k (Does (Writes c v) ∷ ds) = block_unit kind kid loose h k ds
@@ -136,7 +136,7 @@ in_turn : (c : Bool) (n z : ℕ) → n ≡ z + 1 → cond c (suc n) n ≡ cond c
 in_turn true n z h = omega (arith, h)
 in_turn false n z h = h
 
-strands_sync : (ds : List (Deed World)) → strands (ds ++ Does Syncs ∷ []) ≡ strands ds + 1
+strands_sync : (ds : List (Deed FrameEnv)) → strands (ds ++ Does Syncs ∷ []) ≡ strands ds + 1
 strands_sync [] = refl
 strands_sync (Does (Reads c v) ∷ ds) = strands_sync ds
 strands_sync (Does (Writes c v) ∷ ds) = strands_sync ds
@@ -149,21 +149,21 @@ pub empty_list : {A : Type 0} (ws : List A) → is_empty ws ≡ true → ws ≡ 
 empty_list [] h = refl
 empty_list (v ∷ ws) h = absurd (true≢false (sym h))
 
-module _ (code : CodeView) (p : Source) (inputs : List ℤ) (name : ℕ → Name) (b : Board) (d : Desk) (s : State World View) (w k : ℕ) (lays : LaysOut p code.layout) (sh : ShowsBy code p inputs name b d s) (asked : DidAsAsked p inputs s) (gone : HaveGoneOn s)
+module _ (code : CodeView) (p : Source) (inputs : List ℤ) (name : ℕ → Name) (b : Scheduler) (d : WorkerTable) (s : State FrameEnv View) (w k : ℕ) (lays : LaysOut p code.layout) (sh : ShowsBy code p inputs name b d s) (asked : DidAsAsked p inputs s) (gone : HaveGoneOn s)
     (h : HasCome code p inputs b w k asks.Sync) where
-  abbrev seats : List (Activation Seat)
+  abbrev seats : List (Activation FrameState)
   seats = let f = b.frames in f.items
 
-  abbrev x : Seat
+  abbrev x : FrameState
   x = let a = h.seat in a.cursor
 
-  abbrev frame : Frame World
+  abbrev frame : Frame FrameEnv
   frame = let o = sh.sits k h.seat h.sits in o.frame
 
-  abbrev what : World
+  abbrev what : FrameEnv
   what = let f = (let o = sh.sits k h.seat h.sits in o.frame) in f.what
 
-  abbrev past : List (Deed World)
+  abbrev past : List (Deed FrameEnv)
   past = let f = (let o = sh.sits k h.seat h.sits in o.frame) in f.deeds
 
   abbrev loose : ℕ → Bool
@@ -176,7 +176,7 @@ module _ (code : CodeView) (p : Source) (inputs : List ℤ) (name : ℕ → Name
   status_is =
       let g = sh.holds w k h.worker h.at h.has in
       let same : g.seat ≡ h.seat = (let q : Some g.seat ≡ Some h.seat = sym g.here ∙ h.sits in cc) in
-      ap (λ (a : Activation Seat). let y = a.cursor in y.status) (sym same) ∙ g.held
+      ap (λ (a : Activation FrameState). let y = a.cursor in y.status) (sym same) ∙ g.held
 
   held : IsWhere code p inputs name b s k (name k) past x (Held w)
   held = let o = sh.sits k h.seat h.sits in subst (λ z. IsWhere code p inputs name b s k (name k) past x z) status_is o.is_where
@@ -185,7 +185,7 @@ module _ (code : CodeView) (p : Source) (inputs : List ℤ) (name : ℕ → Name
   goes = held.4
 
   behind : WentOnBehind s (name k) (deeds_at (s.frames (name k)))
-  behind = let law = gone_on_behind p inputs in law.behind s (name k) gone (subst (λ f. GoesOn World View s (name k) (deeds_at f)) (sym here) held.3)
+  behind = let law = gone_on_behind p inputs in law.behind s (name k) gone (subst (λ f. GoesOn FrameEnv View s (name k) (deeds_at f)) (sym here) held.3)
 
   dues : (c : CursorView) × (x.cursor ≡ Some c) × IsDue code p inputs what past x.due c x.took
   dues = let o = sh.sits k h.seat h.sits in o.due goes
@@ -199,7 +199,7 @@ module _ (code : CodeView) (p : Source) (inputs : List ℤ) (name : ℕ → Name
   kept : h.came ≡ (let y = h.came in record x { cursor = y.cursor; took = y.took })
   kept = kept_by code p inputs x h.came asks.Sync x.due h.went
 
-  abbrev ask : Ask World
+  abbrev ask : Ask FrameEnv
   ask = Sync
 
   abbrev spent : ℕ
@@ -208,7 +208,7 @@ module _ (code : CodeView) (p : Source) (inputs : List ℤ) (name : ℕ → Name
   spent_is : spent ≡ (let C = costs p inputs in s.totals TickTotal + C.ticks what past)
   spent_is =
       let o = sh.sits k h.seat h.sits in
-      ap₂ (λ n m. n + m) (sym sh.ticks) (ap₂ (λ n m. n - m) named_as.1 (ap (λ (y : Seat). y.counted) kept ∙ o.counted))
+      ap₂ (λ n m. n + m) (sym sh.ticks) (ap₂ (λ n m. n - m) named_as.1 (ap (λ (y : FrameState). y.counted) kept ∙ o.counted))
 
   no_fault : fault_of (costs p inputs) s.totals what past ask ≡ None
   no_fault =
@@ -246,7 +246,7 @@ module _ (code : CodeView) (p : Source) (inputs : List ℤ) (name : ℕ → Name
       let g = sh.holds w k h.worker h.at h.has in
       let u = h.worker in
       let same : g.seat ≡ h.seat = (let e : Some g.seat ≡ Some h.seat = sym g.here ∙ h.sits in cc) in
-      let merged : (let a = g.seat in let y = a.cursor in y.merged) ≡ t = ap (λ (a : Activation Seat). let y = a.cursor in y.merged) same ∙ q in
+      let merged : (let a = g.seat in let y = a.cursor in y.merged) ≡ t = ap (λ (a : Activation FrameState). let y = a.cursor in y.merged) same ∙ q in
       subst (λ f. IsViewOf (kind_of i) (carried (monoid_of i) (λ m. s.piece m i) s.stolen (name k) (deeds_at f) t) (value_in u.views (kind_of i) j)) here
       (subst (λ t. IsViewOf (kind_of i) (carried (monoid_of i) (λ m. s.piece m i) s.stolen (name k) (deeds_at (s.frames (name k))) t) (value_in u.views (kind_of i) j)) merged (g.views i j is))
 
@@ -268,7 +268,7 @@ module _ (code : CodeView) (p : Source) (inputs : List ℤ) (name : ℕ → Name
       one : 1 + started before ≡ suc (started before)
       one = omega arith
 
-      stolen : s.stolen (child_after (name k) before) ≡ true → HasEnded World View s (child_after (name k) before)
+      stolen : s.stolen (child_after (name k) before) ≡ true → HasEnded FrameEnv View s (child_after (name k) before)
       stolen t =
           end_of s (child_after (name k) before) (s.frames (child_after (name k) before)) refl
           (there (suc (started before)) (subst (λ ds. Stands (stolen_in loose 1 [] ds) (suc (started before))) (sym at) (subst (λ q. Stands (stolen_in loose 1 [] (before ++ Invokes Spawn child ∷ after)) q) one (stands_in loose 1 [] before after child none (ap loose one ∙ t)))))
@@ -375,21 +375,21 @@ module _ (code : CodeView) (p : Source) (inputs : List ℤ) (name : ℕ → Name
   child_there : (q : ℕ) → loose q ≡ true → IsAbsent seats name (name k ++ q ∷ []) → ⊥
   child_there q t none = true≢false (sym t ∙ sh.unstolen (name k ++ q ∷ []) none)
 
-  module _ (b' : Board) (views : Hypermap) (merge : Merges views) (notes : (let c = b.cells in Notes code p inputs b b' w k h.came (synced h.came) events.Sync c.items views)) where
-    next_step : HasNext World View monoid_of (Next p inputs) (costs p inputs) s (name k) frame ask
+  module _ (b' : Scheduler) (views : Hypermap) (merge : Merges views) (notes : (let c = b.cells in Notes code p inputs b b' w k h.came (synced h.came) events.Sync c.items views)) where
+    next_step : HasNext FrameEnv View monoid_of (Next p inputs) (costs p inputs) s (name k) frame ask
     next_step =
-        let P = progress World View monoid_of (Next p inputs) (costs p inputs) in
+        let P = progress FrameEnv View monoid_of (Next p inputs) (costs p inputs) in
         let fine = no_fault_then (costs p inputs) s.totals what past ask no_fault in
-        P.goes_on s (name k) frame ask sh.running (record { here = here; next = named_as.0; goes_on = held.3; block = λ q. subst (λ f. BlockHasEnded World View s (name k) (deeds_at f)) here merge.over }) fine.0 fine.1
+        P.goes_on s (name k) frame ask sh.running (record { here = here; next = named_as.0; goes_on = held.3; block = λ q. subst (λ f. BlockHasEnded FrameEnv View s (name k) (deeds_at f)) here merge.over }) fine.0 fine.1
 
-    module _ (s' : State World View) (m : Makes World View monoid_of (Next p inputs) (costs p inputs) s (name k) s') where
+    module _ (s' : State FrameEnv View) (m : Makes FrameEnv View monoid_of (Next p inputs) (costs p inputs) s (name k) s') where
       frame_is : m.frame ≡ frame
       frame_is = let a = m.asking in let q : Some m.frame ≡ Some frame = sym a.here ∙ here in cc
 
       ask_is : m.ask ≡ ask
       ask_is =
           let a = m.asking in
-          let n : next p inputs what past ≡ Some m.ask = subst (λ (f : Frame World). next p inputs f.what f.deeds ≡ Some m.ask) frame_is a.next in
+          let n : next p inputs what past ≡ Some m.ask = subst (λ (f : Frame FrameEnv). next p inputs f.what f.deeds ≡ Some m.ask) frame_is a.next in
           let q : Some m.ask ≡ Some ask = sym n ∙ named_as.0 in
           cc
 
@@ -397,18 +397,18 @@ module _ (code : CodeView) (p : Source) (inputs : List ℤ) (name : ℕ → Name
       deed = ap (λ a. deed_of s.memory (numbers_of monoid_of (s.piece (name k))) a) ask_is
 
       piece_at : (i : Instance) (z : Name) → s'.piece z i ≡ after_views (monoid_of i) i s.stolen (name k) past (Does Syncs) (λ y. s.piece y i) z
-      piece_at i z = m.piece i z ∙ ap₂ (λ (f : Frame World) a. after_views (monoid_of i) i s.stolen (name k) f.deeds a (λ y. s.piece y i) z) frame_is deed
+      piece_at i z = m.piece i z ∙ ap₂ (λ (f : Frame FrameEnv) a. after_views (monoid_of i) i s.stolen (name k) f.deeds a (λ y. s.piece y i) z) frame_is deed
 
       total_at : (total : Total) → s'.totals total ≡ s.totals total + cost (costs p inputs) total what past ask
-      total_at total = m.totals total ∙ ap₂ (λ (f : Frame World) a. s.totals total + cost (costs p inputs) total f.what f.deeds a) frame_is ask_is
+      total_at total = m.totals total ∙ ap₂ (λ (f : Frame FrameEnv) a. s.totals total + cost (costs p inputs) total f.what f.deeds a) frame_is ask_is
 
       next_now : counted (synced h.came) ≡ touched false (let y = h.came in y.strands + 1) (let y = h.came in y.took) (let z = stands_at in z.cursor) Done x
       next_now =
           let z = stands_at in
           let y = h.came in
-          ap (λ (a : Seat). counted (record a { join = None; merged = false; strands = y.strands + 1; due = due.Answer Done })) kept ∙ ap (λ o. touched_by o) z.is
+          ap (λ (a : FrameState). counted (record a { join = None; merged = false; strands = y.strands + 1; due = due.Answer Done })) kept ∙ ap (λ o. touched_by o) z.is
         where
-          touched_by : Option CursorView → Seat
+          touched_by : Option CursorView → FrameState
           touched_by o = let y = h.came in record x { strands = y.strands + 1; took = y.took; counted = y.took; due = due.Answer Done; cursor = o; join = None; merged = false }
 
       memory_at : (c : Cell) → s'.memory c ≡ s.memory c
@@ -438,7 +438,7 @@ module _ (code : CodeView) (p : Source) (inputs : List ℤ) (name : ℕ → Name
             is_plain = refl;
             frames = m.frames ∙ ap₂ (λ f a. after_deed s.frames (name k) f a) frame_is deed;
             stolen = m.stolen;
-            joins = m.joins ∙ ap₂ (λ a (f : Frame World). joined_by a (name k) f.deeds ++ s.joins) ask_is frame_is;
+            joins = m.joins ∙ ap₂ (λ a (f : Frame FrameEnv). joined_by a (name k) f.deeds ++ s.joins) ask_is frame_is;
             running = m.stopped;
             others = λ i n off. piece_at i n ∙ rw off refl;
             begun = y.strands + 1;
@@ -448,7 +448,7 @@ module _ (code : CodeView) (p : Source) (inputs : List ℤ) (name : ℕ → Name
             seats_are = notes.frames ∙ changed_known (λ _. counted (synced h.came)) (touched false (y.strands + 1) y.took z.cursor Done) seats k h.seat h.sits next_now;
             told = record { past = past; last = Does Syncs; deeds_are = refl; stands = z.stands tt; fits = subst (λ owed. Fits owed Done) (sym (z.owes tt)) tt; answers = refl; took_is = named_as.1; small = z.small };
             took_is = named_as.1;
-            strands_are = strands_sync past ∙ ap (λ n. n + 1) (o.strands_are ∙ sym (ap (λ (a : Seat). a.strands) kept));
+            strands_are = strands_sync past ∙ ap (λ n. n + 1) (o.strands_are ∙ sym (ap (λ (a : FrameState). a.strands) kept));
             written = notes.journal;
             by_frame = refl;
             means = refl;

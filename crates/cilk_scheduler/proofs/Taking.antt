@@ -20,18 +20,18 @@ use Rattle.cilk_runs.specs.Runs.{Name, Deed}
 use Rattle.cilk_runs.proofs.Basics.{same_name-refl}
 use Rattle.cilk_runs.proofs.Progress.{progress}
 use Rattle.cilk_runs.proofs.Started.{started_invokes}
-use Rattle.cilk_runs.specs.WorldMachine.{costs, has_ended}
+use Rattle.cilk_runs.specs.FrameEnvMachine.{costs, has_ended}
 use Rattle.cilk_runs.specs.Reducers.{View, monoid_of}
 use Rattle.cilk_runs.specs.Steps.{Next}
-use Rattle.cilk_runs.specs.Worlds.{World}
-use Rattle.cilk_scheduler.specs.declared.board.Board.{Board}
-use Rattle.cilk_scheduler.specs.declared.seat.Seat.{Seat}
-use Rattle.cilk_scheduler.specs.declared.seat.Status.TheVariants.{Held, Offered, Waiting}
-use Rattle.cilk_scheduler.specs.declared.seat.Worker.{Worker}
-use Rattle.cilk_scheduler.specs.Boards.{hand_of, offers_of, IsWhere, Sits, IsDesk, ShowsBy}
-use Rattle.cilk_scheduler.specs.Desks.{Desk, IsIn, withdrawn, without, all_offered, holds}
+use Rattle.cilk_runs.specs.FrameEnvs.{FrameEnv}
+use Rattle.cilk_scheduler.specs.declared.scheduler.Scheduler.{Scheduler}
+use Rattle.cilk_scheduler.specs.declared.frame_state.FrameState.{FrameState}
+use Rattle.cilk_scheduler.specs.declared.frame_state.Status.TheVariants.{Held, Offered, Waiting}
+use Rattle.cilk_scheduler.specs.declared.frame_state.Worker.{Worker}
+use Rattle.cilk_scheduler.specs.Schedulers.{hand_of, offers_of, IsWhere, Sits, IsWorkerTable, ShowsBy}
+use Rattle.cilk_scheduler.specs.WorkerTables.{WorkerTable, IsIn, withdrawn, without, all_offered, holds}
 use Rattle.cilk_scheduler.specs.Numbered.{AreNamed}
-use Rattle.cilk_scheduler.specs.Seats.{changed, moved_to, robbed}
+use Rattle.cilk_scheduler.specs.FrameStates.{changed, moved_to, robbed}
 use Rattle.cilk_scheduler.specs.Thieves.{IsOffered, TakesOver}
 use Rattle.cilk_scheduler.specs.Workers.{altered, holding, offers}
 use Rattle.cilk_scheduler.proofs.Altered as altering
@@ -41,11 +41,11 @@ use Rattle.cilk_scheduler.proofs.Kept.{named_changed}
 use Rattle.cilk_scheduler.proofs.Onward.{name_off, longer}
 use Rattle.cilk_scheduler.proofs.Plain.{get_low}
 
-module _ (code : CodeView) (p : Source) (inputs : List ℤ) (name : ℕ → Name) (b b' : Board) (d : Desk) (s : State World View) (w place k : ℕ) (sh : ShowsBy code p inputs name b d s) (h : IsOffered b w place k) (t : TakesOver b b' w place k h) where
-  abbrev pub old_seats : List (Activation Seat)
+module _ (code : CodeView) (p : Source) (inputs : List ℤ) (name : ℕ → Name) (b b' : Scheduler) (d : WorkerTable) (s : State FrameEnv View) (w place k : ℕ) (sh : ShowsBy code p inputs name b d s) (h : IsOffered b w place k) (t : TakesOver b b' w place k h) where
+  abbrev pub old_seats : List (Activation FrameState)
   old_seats = let f = b.frames in f.items
 
-  abbrev pub new_seats : List (Activation Seat)
+  abbrev pub new_seats : List (Activation FrameState)
   new_seats = let f = b'.frames in f.items
 
   abbrev pub old_workers : List Worker
@@ -54,13 +54,13 @@ module _ (code : CodeView) (p : Source) (inputs : List ℤ) (name : ℕ → Name
   abbrev pub new_workers : List Worker
   new_workers = let l = b'.workers in l.items
 
-  abbrev pub seat : Seat
+  abbrev pub seat : FrameState
   seat = let a = h.seat in a.cursor
 
-  abbrev pub frame : Frame World
+  abbrev pub frame : Frame FrameEnv
   frame = let o = sh.sits k h.seat h.sits in o.frame
 
-  abbrev pub past : List (Deed World)
+  abbrev pub past : List (Deed FrameEnv)
   past = let f = (let o = sh.sits k h.seat h.sits in o.frame) in f.deeds
 
   sitting : Sits code p inputs name b s k h.seat
@@ -77,12 +77,12 @@ module _ (code : CodeView) (p : Source) (inputs : List ℤ) (name : ℕ → Name
       let o = sh.desk in
       let g = o.places h.victim h.at k h.owner h.owns h.stands in
       let same : g.0 ≡ h.seat = (let q : Some g.0 ≡ Some h.seat = sym g.1 ∙ h.sits in cc) in
-      ap (λ (a : Activation Seat). let x = a.cursor in x.status) (sym same) ∙ g.2
+      ap (λ (a : Activation FrameState). let x = a.cursor in x.status) (sym same) ∙ g.2
 
   pub was : IsWhere code p inputs name b s k (name k) past seat (Offered h.victim)
   was = let o = sh.sits k h.seat h.sits in subst (λ z. IsWhere code p inputs name b s k (name k) past seat z) status_was o.is_where
 
-  abbrev pub before : List (Deed World)
+  abbrev pub before : List (Deed FrameEnv)
   before = was.0
 
   abbrev pub ordinal : ℕ
@@ -110,9 +110,9 @@ module _ (code : CodeView) (p : Source) (inputs : List ℤ) (name : ℕ → Name
   pub not_yet : s.stolen child ≡ false
   not_yet = ap (λ q. s.stolen (name k ++ q ∷ [])) (sym starts) ∙ was.4
 
-  pub thief_goes : HasThief World View monoid_of (Next p inputs) (costs p inputs) s (name k) (child_after (name k) was.0)
+  pub thief_goes : HasThief FrameEnv View monoid_of (Next p inputs) (costs p inputs) s (name k) (child_after (name k) was.0)
   thief_goes =
-      let P = progress World View monoid_of (Next p inputs) (costs p inputs) in
+      let P = progress FrameEnv View monoid_of (Next p inputs) (costs p inputs) in
       let o = sh.sits k h.seat h.sits in
       P.steals s (name k) frame was.0 was.1 sh.running o.here was.2 not_yet
 
@@ -126,36 +126,36 @@ module _ (code : CodeView) (p : Source) (inputs : List ℤ) (name : ℕ → Name
 
   -- ---- where seats stand
 
-  abbrev pub taken : Seat
+  abbrev pub taken : FrameState
   taken = record seat { status = Held w; join = (let y = t.awaiting in y.join) }
 
-  abbrev pub now : Activation Seat
+  abbrev pub now : Activation FrameState
   now = let a = h.seat in record a { cursor = record seat { status = Held w; join = (let y = t.awaiting in y.join) } }
 
-  abbrev mid : List (Activation Seat)
+  abbrev mid : List (Activation FrameState)
   mid = changed (λ _. t.awaiting) (let f = b.frames in f.items) k
 
-  abbrev later : List (Activation Seat)
+  abbrev later : List (Activation FrameState)
   later = changed robbed (changed (λ _. t.awaiting) (let f = b.frames in f.items) k) seat.last
 
   pub now_at : slice_get new_seats k ≡ Some now
   now_at =
       let a = h.seat in
       let x = a.cursor in
-      let B : Seat → Option (Activation Seat) = (λ y. Some (record a { cursor = moved_to (Held w) y })) in
+      let B : FrameState → Option (Activation FrameState) = (λ y. Some (record a { cursor = moved_to (Held w) y })) in
       let g = t.awaits in
       ap (λ l. slice_get l k) t.frames
       ∙ changed_here (moved_to (Held w)) later k (record a { cursor = t.awaiting }) (changed_off robbed mid seat.last k (λ q. child_apart (sym q)) ∙ changed_here (λ _. t.awaiting) old_seats k h.seat h.sits)
       ∙ ap B g.1
 
-  child_at : (a : Activation Seat) → slice_get old_seats seat.last ≡ Some a → slice_get new_seats seat.last ≡ Some (record a { cursor = robbed a.cursor })
+  child_at : (a : Activation FrameState) → slice_get old_seats seat.last ≡ Some a → slice_get new_seats seat.last ≡ Some (record a { cursor = robbed a.cursor })
   child_at a at = ap (λ l. slice_get l seat.last) t.frames ∙ changed_off (moved_to (Held w)) later k seat.last child_apart ∙ changed_here robbed mid seat.last a (changed_off (λ _. t.awaiting) old_seats k seat.last child_apart ∙ at)
 
   else_at : (j : ℕ) → (k ≡ j → ⊥) → (seat.last ≡ j → ⊥) → slice_get new_seats j ≡ slice_get old_seats j
   else_at j ne ne' = ap (λ l. slice_get l j) t.frames ∙ changed_off (moved_to (Held w)) later k j ne ∙ changed_off robbed mid seat.last j ne' ∙ changed_off (λ _. t.awaiting) old_seats k j ne
 
   pub same_length : length new_seats ≡ length old_seats
-  same_length = ap (λ (l : List (Activation Seat)). length l) t.frames ∙ changed_length (moved_to (Held w)) later k ∙ changed_length robbed mid seat.last ∙ changed_length (λ _. t.awaiting) old_seats k
+  same_length = ap (λ (l : List (Activation FrameState)). length l) t.frames ∙ changed_length (moved_to (Held w)) later k ∙ changed_length robbed mid seat.last ∙ changed_length (λ _. t.awaiting) old_seats k
 
   pub on : carries.Carries old_seats new_seats
   on = subst (λ l. carries.Carries old_seats l) (sym t.frames)
@@ -163,12 +163,12 @@ module _ (code : CodeView) (p : Source) (inputs : List ℤ) (name : ℕ → Name
       (carries.carries_then mid later (changed (moved_to (Held w)) later k) (carries.carries_changed robbed mid seat.last) (carries.carries_changed (moved_to (Held w)) later k)))
 
   -- a seat is the frame's, its last child's, or another that stays
-  pub data Which (j : ℕ) (a : Activation Seat) : Type 0 where
+  pub data Which (j : ℕ) (a : Activation FrameState) : Type 0 where
     taken_over : k ≡ j → now ≡ a → Which j a
-    marked : (x : Activation Seat) → (k ≡ j → ⊥) → slice_get old_seats j ≡ Some x → seat.last ≡ j → a ≡ record x { cursor = robbed x.cursor } → Which j a
+    marked : (x : Activation FrameState) → (k ≡ j → ⊥) → slice_get old_seats j ≡ Some x → seat.last ≡ j → a ≡ record x { cursor = robbed x.cursor } → Which j a
     stays : (k ≡ j → ⊥) → slice_get old_seats j ≡ Some a → (seat.last ≡ j → ⊥) → Which j a
 
-  pub which : (j : ℕ) (a : Activation Seat) → slice_get new_seats j ≡ Some a → Which j a
+  pub which : (j : ℕ) (a : Activation FrameState) → slice_get new_seats j ≡ Some a → Which j a
   which j a at = by (nat_eq k j) refl (nat_eq seat.last j) refl
     where
       by : (c : Bool) → nat_eq k j ≡ c → (e : Bool) → nat_eq seat.last j ≡ e → Which j a
@@ -244,11 +244,11 @@ module _ (code : CodeView) (p : Source) (inputs : List ℤ) (name : ℕ → Name
       let f : ⊥ = cc in
       f
 
-  pub seat_later : (j : ℕ) (a : Activation Seat) → (k ≡ j → ⊥) → slice_get old_seats j ≡ Some a
-      → (z : Activation Seat) × (slice_get new_seats j ≡ Some z) × ((let y = z.cursor in y.status) ≡ (let x = a.cursor in x.status)) × ((let y = z.cursor in y.merged) ≡ (let x = a.cursor in x.merged))
+  pub seat_later : (j : ℕ) (a : Activation FrameState) → (k ≡ j → ⊥) → slice_get old_seats j ≡ Some a
+      → (z : Activation FrameState) × (slice_get new_seats j ≡ Some z) × ((let y = z.cursor in y.status) ≡ (let x = a.cursor in x.status)) × ((let y = z.cursor in y.merged) ≡ (let x = a.cursor in x.merged))
   seat_later j a ne at = by (nat_eq seat.last j) refl
     where
-      by : (c : Bool) → nat_eq seat.last j ≡ c → (z : Activation Seat) × (slice_get new_seats j ≡ Some z) × ((let y = z.cursor in y.status) ≡ (let x = a.cursor in x.status)) × ((let y = z.cursor in y.merged) ≡ (let x = a.cursor in x.merged))
+      by : (c : Bool) → nat_eq seat.last j ≡ c → (z : Activation FrameState) × (slice_get new_seats j ≡ Some z) × ((let y = z.cursor in y.status) ≡ (let x = a.cursor in x.status)) × ((let y = z.cursor in y.merged) ≡ (let x = a.cursor in x.merged))
       by true q =
           let same : seat.last ≡ j = eqb-true seat.last j q in
           (record a { cursor = robbed a.cursor }, ap (λ i. slice_get new_seats i) (sym same) ∙ child_at a (ap (λ i. slice_get old_seats i) same ∙ at), refl, refl)
@@ -256,7 +256,7 @@ module _ (code : CodeView) (p : Source) (inputs : List ℤ) (name : ℕ → Name
 
   -- ---- the desk
 
-  abbrev pub desk_now : Desk
+  abbrev pub desk_now : WorkerTable
   desk_now = holds (record d { offered = withdrawn d.offered (name k) }) w (name k)
 
   same_place : (j : ℕ) → j < length old_seats → name j ≡ name k → j ≡ k
@@ -271,7 +271,7 @@ module _ (code : CodeView) (p : Source) (inputs : List ℤ) (name : ℕ → Name
       let o = sh.desk in
       let g = o.places v q k u at has in
       let same : g.0 ≡ h.seat = (let z : Some g.0 ≡ Some h.seat = sym g.1 ∙ h.sits in cc) in
-      let z : Offered h.victim ≡ Offered v = sym status_was ∙ ap (λ (a : Activation Seat). let x = a.cursor in x.status) (sym same) ∙ g.2 in
+      let z : Offered h.victim ≡ Offered v = sym status_was ∙ ap (λ (a : Activation FrameState). let x = a.cursor in x.status) (sym same) ∙ g.2 in
       cc
 
   offers_now : (v : ℕ) (u : Worker) → slice_get old_workers v ≡ Some u → (h.victim ≡ v → without (offers_of name u) (name k) ≡ offers_of name t.without) × ((h.victim ≡ v → ⊥) → without (offers_of name u) (name k) ≡ offers_of name u)
@@ -331,22 +331,22 @@ module _ (code : CodeView) (p : Source) (inputs : List ℤ) (name : ℕ → Name
       altering.skip_one h.at q r (y.once v (altering.skip h.at q) (altering.skip h.at r) j u at (sym (altering.remove_get l.items h.at q inside) ∙ ap (λ l. slice_get l q) (sym g.2) ∙ has)
       (sym (altering.remove_get l.items h.at r inside) ∙ ap (λ l. slice_get l r) (sym g.2) ∙ also))) o.offers_are
 
-  waits_as : (j : ℕ) (a : Activation Seat) → slice_get new_seats j ≡ Some a → ((let x = a.cursor in x.status ≡ Waiting) → IsIn (name j) d.waiting) × (IsIn (name j) d.waiting → let x = a.cursor in x.status ≡ Waiting)
+  waits_as : (j : ℕ) (a : Activation FrameState) → slice_get new_seats j ≡ Some a → ((let x = a.cursor in x.status ≡ Waiting) → IsIn (name j) d.waiting) × (IsIn (name j) d.waiting → let x = a.cursor in x.status ≡ Waiting)
   waits_as j a at = by (which j a at)
     where
       by : Which j a → ((let x = a.cursor in x.status ≡ Waiting) → IsIn (name j) d.waiting) × (IsIn (name j) d.waiting → let x = a.cursor in x.status ≡ Waiting)
       by (taken_over same is) = (
-        (λ q. let z : Held w ≡ Waiting = ap (λ (y : Activation Seat). let x = y.cursor in x.status) is ∙ q in let f : ⊥ = cc in absurd f),
+        (λ q. let z : Held w ≡ Waiting = ap (λ (y : Activation FrameState). let x = y.cursor in x.status) is ∙ q in let f : ⊥ = cc in absurd f),
         (λ q. let o = sh.desk in let g = o.waiting k h.seat h.sits in let z : Offered h.victim ≡ Waiting = sym status_was ∙ g.1 (subst (λ i. IsIn (name i) d.waiting) (sym same) q) in let f : ⊥ = cc in absurd f),
       )
       by (marked x ne at' same is) =
           let o = sh.desk in
           let g = o.waiting j x at' in
-          let e : (let c = a.cursor in c.status) ≡ (let c = x.cursor in c.status) = ap (λ (y : Activation Seat). let c = y.cursor in c.status) is in
+          let e : (let c = a.cursor in c.status) ≡ (let c = x.cursor in c.status) = ap (λ (y : Activation FrameState). let c = y.cursor in c.status) is in
           ((λ q. g.0 (sym e ∙ q)), (λ q. e ∙ g.1 q))
       by (stays ne at' ne') = let o = sh.desk in o.waiting j a at'
 
-  pub desk_is : IsDesk code p inputs name b' desk_now
+  pub desk_is : IsWorkerTable code p inputs name b' desk_now
   desk_is =
       let o = sh.desk in record {
         hands = ap (λ hs. set hs w (Some (name k))) (o.hands ∙ sym (altering.altered_map_at (λ _. t.without) (hand_of name) old_workers h.victim h.owner h.owns (ap (λ f. option_map name f) t.same_frame)))
@@ -374,7 +374,7 @@ module _ (code : CodeView) (p : Source) (inputs : List ℤ) (name : ℕ → Name
   pub named_now : AreNamed new_seats name
   named_now =
       let g = t.awaits in
-      let J : Seat → Seat = (λ y. record y { join = (let z = t.awaiting in z.join) }) in
+      let J : FrameState → FrameState = (λ y. record y { join = (let z = t.awaiting in z.join) }) in
       let first : AreNamed mid name = subst (λ l. AreNamed l name) (sym (changed_known (λ _. t.awaiting) J old_seats k h.seat h.sits g.1)) (named_changed J old_seats k name (λ x. (refl, refl)) named) in
       subst (λ l. AreNamed l name) (sym t.frames) (named_changed (moved_to (Held w)) later k name (λ x. (refl, refl)) (named_changed robbed mid seat.last name (λ x. (refl, refl)) first))
 

@@ -31,22 +31,22 @@ use Rattle.cilk_runs.specs.Monoids.{unit_of}
 use Rattle.cilk_runs.specs.Progress.{AfterSteal, BlockHasEnded, child_after, HasThief}
 use Rattle.cilk_runs.specs.Runs.{Name, same_name, Cell, Global, Own, Instance, Output, Reducer, Deed, Invokes}
 use Rattle.cilk_runs.proofs.Basics.{same_name-refl, same_name-eq, snoc_one}
-use Rattle.cilk_runs.specs.WorldMachine.{costs, has_ended}
+use Rattle.cilk_runs.specs.FrameEnvMachine.{costs, has_ended}
 use Rattle.cilk_runs.specs.Reducers.{View, kind_of, monoid_of}
 use Rattle.cilk_runs.specs.Steps.{Next}
-use Rattle.cilk_runs.specs.WorldViews.{IsViewOf}
-use Rattle.cilk_runs.specs.Worlds.{World}
-use Rattle.cilk_runs.proofs.WorldViews.{are_multiplied}
-use Rattle.cilk_scheduler.specs.declared.board.Board.{Board}
+use Rattle.cilk_runs.specs.FrameEnvViews.{IsViewOf}
+use Rattle.cilk_runs.specs.FrameEnvs.{FrameEnv}
+use Rattle.cilk_runs.proofs.FrameEnvViews.{are_multiplied}
+use Rattle.cilk_scheduler.specs.declared.scheduler.Scheduler.{Scheduler}
 use Rattle.cilk_scheduler.specs.declared.choice.Choice.TheVariants.{Steal}
-use Rattle.cilk_scheduler.specs.declared.seat.JournalEntry.{JournalEntry}
-use Rattle.cilk_scheduler.specs.declared.seat.Seat.{Seat}
-use Rattle.cilk_scheduler.specs.declared.seat.Status.{Status}
-use Rattle.cilk_scheduler.specs.declared.seat.Status.TheVariants.{Held, Calling, Offered, Waiting, Finished}
-use Rattle.cilk_scheduler.specs.declared.seat.Worker.{Worker}
+use Rattle.cilk_scheduler.specs.declared.frame_state.JournalEntry.{JournalEntry}
+use Rattle.cilk_scheduler.specs.declared.frame_state.FrameState.{FrameState}
+use Rattle.cilk_scheduler.specs.declared.frame_state.Status.{Status}
+use Rattle.cilk_scheduler.specs.declared.frame_state.Status.TheVariants.{Held, Calling, Offered, Waiting, Finished}
+use Rattle.cilk_scheduler.specs.declared.frame_state.Worker.{Worker}
 use Rattle.cilk_scheduler.specs.Blocks.{stolen_in, Lays}
-use Rattle.cilk_scheduler.specs.Boards.{carried, IsUsed, greatest, IsBare, is_resuming, is_there, stolen_at_block, run_at, waits_at, Keeps, HasBlock, IsWhere, Sits, Holds, IsDesk, Tells, ShowsBy}
-use Rattle.cilk_scheduler.specs.Desks.{Desk, BlockIsOver, Stole, Chooses, steals, withdrawn, all_offered, holds}
+use Rattle.cilk_scheduler.specs.Schedulers.{carried, IsUsed, greatest, IsBare, is_resuming, is_there, stolen_at_block, run_at, waits_at, Keeps, HasBlock, IsWhere, Sits, Holds, IsWorkerTable, Tells, ShowsBy}
+use Rattle.cilk_scheduler.specs.WorkerTables.{WorkerTable, BlockIsOver, Stole, Chooses, steals, withdrawn, all_offered, holds}
 use Rattle.cilk_scheduler.specs.Events.{block_in}
 use Rattle.cilk_scheduler.specs.Numbered.{AreNamed, IsAbsent, size_of, IsCell, IsInstance, AreDeeds, events_of}
 use Rattle.cilk_scheduler.specs.Thieves.{IsOffered, TakesOver, StealsAreShown}
@@ -95,9 +95,9 @@ at_more [] x a (suc q) h = let no : None ≡ Some a = h in let z : ⊥ = cc in a
 at_more (w ∷ ws) x a zero h = inl h
 at_more (w ∷ ws) x a (suc q) h = at_more ws x a q h
 
-module _ (code : CodeView) (p : Source) (inputs : List ℤ) (name : ℕ → Name) (b : Board) (s : State World View) where
+module _ (code : CodeView) (p : Source) (inputs : List ℤ) (name : ℕ → Name) (b : Scheduler) (s : State FrameEnv View) where
   -- nothing lies at a block of which nothing was stolen
-  pub opening_keeps : (n : Name) (ds : List (Deed World)) → stolen_at_block code p inputs name b s n ds ≡ [] → Keeps code p inputs name b s n ds opening
+  pub opening_keeps : (n : Name) (ds : List (Deed FrameEnv)) → stolen_at_block code p inputs name b s n ds ≡ [] → Keeps code p inputs name b s n ds opening
   opening_keeps n ds none = record {
     lays = λ i q is.
         let m = are_multiplied in
@@ -109,18 +109,18 @@ module _ (code : CodeView) (p : Source) (inputs : List ℤ) (name : ℕ → Name
   }
 
 -- a thief goes on with the frame's own piece
-taken_up : {V : Type 0} (S : MonoidStructure V) (piece : Name → V) (stolen : Name → Bool) (n : Name) (ds : List (Deed World)) (merged : Bool) → merged ≡ false → is_resuming ds ≡ true → stolen (n ++ started ds ∷ []) ≡ true → carried S piece stolen n ds merged ≡ piece n
+taken_up : {V : Type 0} (S : MonoidStructure V) (piece : Name → V) (stolen : Name → Bool) (n : Name) (ds : List (Deed FrameEnv)) (merged : Bool) → merged ≡ false → is_resuming ds ≡ true → stolen (n ++ started ds ∷ []) ≡ true → carried S piece stolen n ds merged ≡ piece n
 taken_up S piece stolen n ds merged a b c = rw (a, b, c) refl
 
 if_one : (t u : Bool) → u ≡ true → cond t true u ≡ true
 if_one true u h = refl
 if_one false u h = h
 
-module _ (code : CodeView) (p : Source) (inputs : List ℤ) (name : ℕ → Name) (b b' : Board) (d : Desk) (s : State World View) (w place k : ℕ) (sh : ShowsBy code p inputs name b d s) (h : IsOffered b w place k) (t : TakesOver b b' w place k h) where
-  abbrev old_seats : List (Activation Seat)
+module _ (code : CodeView) (p : Source) (inputs : List ℤ) (name : ℕ → Name) (b b' : Scheduler) (d : WorkerTable) (s : State FrameEnv View) (w place k : ℕ) (sh : ShowsBy code p inputs name b d s) (h : IsOffered b w place k) (t : TakesOver b b' w place k h) where
+  abbrev old_seats : List (Activation FrameState)
   old_seats = taking.old_seats code p inputs name b b' d s w place k sh h t
 
-  abbrev new_seats : List (Activation Seat)
+  abbrev new_seats : List (Activation FrameState)
   new_seats = taking.new_seats code p inputs name b b' d s w place k sh h t
 
   abbrev old_workers : List Worker
@@ -129,13 +129,13 @@ module _ (code : CodeView) (p : Source) (inputs : List ℤ) (name : ℕ → Name
   abbrev new_workers : List Worker
   new_workers = taking.new_workers code p inputs name b b' d s w place k sh h t
 
-  abbrev seat : Seat
+  abbrev seat : FrameState
   seat = taking.seat code p inputs name b b' d s w place k sh h t
 
-  abbrev frame : Frame World
+  abbrev frame : Frame FrameEnv
   frame = taking.frame code p inputs name b b' d s w place k sh h t
 
-  abbrev past : List (Deed World)
+  abbrev past : List (Deed FrameEnv)
   past = taking.past code p inputs name b b' d s w place k sh h t
 
   named : AreNamed old_seats name
@@ -150,7 +150,7 @@ module _ (code : CodeView) (p : Source) (inputs : List ℤ) (name : ℕ → Name
   abbrev was : IsWhere code p inputs name b s k (name k) past seat (Offered h.victim)
   was = taking.was code p inputs name b b' d s w place k sh h t
 
-  abbrev before : List (Deed World)
+  abbrev before : List (Deed FrameEnv)
   before = taking.before code p inputs name b b' d s w place k sh h t
 
   abbrev ordinal : ℕ
@@ -174,16 +174,16 @@ module _ (code : CodeView) (p : Source) (inputs : List ℤ) (name : ℕ → Name
   not_yet : s.stolen child ≡ false
   not_yet = taking.not_yet code p inputs name b b' d s w place k sh h t
 
-  thief_goes : HasThief World View monoid_of (Next p inputs) (costs p inputs) s (name k) (child_after (name k) was.0)
+  thief_goes : HasThief FrameEnv View monoid_of (Next p inputs) (costs p inputs) s (name k) (child_after (name k) was.0)
   thief_goes = taking.thief_goes code p inputs name b b' d s w place k sh h t
 
   names_differ : (i j : ℕ) → i < length old_seats → j < length old_seats → (i ≡ j → ⊥) → name i ≡ name j → ⊥
   names_differ = taking.names_differ code p inputs name b b' d s w place k sh h t
 
-  abbrev taken : Seat
+  abbrev taken : FrameState
   taken = taking.taken code p inputs name b b' d s w place k sh h t
 
-  abbrev now : Activation Seat
+  abbrev now : Activation FrameState
   now = taking.now code p inputs name b b' d s w place k sh h t
 
   now_at : slice_get new_seats k ≡ Some now
@@ -198,10 +198,10 @@ module _ (code : CodeView) (p : Source) (inputs : List ℤ) (name : ℕ → Name
   abbrev Had : ℕ → Worker → Worker → Type 0
   Had = taking.Had code p inputs name b b' d s w place k sh h t
 
-  abbrev Which : ℕ → Activation Seat → Type 0
+  abbrev Which : ℕ → Activation FrameState → Type 0
   Which = taking.Which code p inputs name b b' d s w place k sh h t
 
-  which : (j : ℕ) (a : Activation Seat) → slice_get new_seats j ≡ Some a → Which j a
+  which : (j : ℕ) (a : Activation FrameState) → slice_get new_seats j ≡ Some a → Which j a
   which = taking.which code p inputs name b b' d s w place k sh h t
 
   worker_on : (v : ℕ) (u : Worker) → slice_get old_workers v ≡ Some u → (u' : Worker) × (slice_get new_workers v ≡ Some u') × Had v u u'
@@ -213,14 +213,14 @@ module _ (code : CodeView) (p : Source) (inputs : List ℤ) (name : ℕ → Name
   not_thief : (v j : ℕ) (u : Worker) → slice_get old_workers v ≡ Some u → u.frame ≡ Some j → w ≡ v → ⊥
   not_thief = taking.not_thief code p inputs name b b' d s w place k sh h t
 
-  seat_later : (j : ℕ) (a : Activation Seat) → (k ≡ j → ⊥) → slice_get old_seats j ≡ Some a
-      → (z : Activation Seat) × (slice_get new_seats j ≡ Some z) × ((let y = z.cursor in y.status) ≡ (let x = a.cursor in x.status)) × ((let y = z.cursor in y.merged) ≡ (let x = a.cursor in x.merged))
+  seat_later : (j : ℕ) (a : Activation FrameState) → (k ≡ j → ⊥) → slice_get old_seats j ≡ Some a
+      → (z : Activation FrameState) × (slice_get new_seats j ≡ Some z) × ((let y = z.cursor in y.status) ≡ (let x = a.cursor in x.status)) × ((let y = z.cursor in y.merged) ≡ (let x = a.cursor in x.merged))
   seat_later = taking.seat_later code p inputs name b b' d s w place k sh h t
 
-  abbrev desk_now : Desk
+  abbrev desk_now : WorkerTable
   desk_now = taking.desk_now code p inputs name b b' d s w place k sh h t
 
-  desk_is : IsDesk code p inputs name b' desk_now
+  desk_is : IsWorkerTable code p inputs name b' desk_now
   desk_is = taking.desk_is code p inputs name b b' d s w place k sh h t
 
   named_now : AreNamed new_seats name
@@ -232,16 +232,16 @@ module _ (code : CodeView) (p : Source) (inputs : List ℤ) (name : ℕ → Name
   offered_is : slice_get (all_offered d.offered) place ≡ Some (name k)
   offered_is = taking.offered_is code p inputs name b b' d s w place k sh h t
 
-  module _ (s' : State World View) (st : Steals World View monoid_of (Next p inputs) (costs p inputs) s (name k) s') where
+  module _ (s' : State FrameEnv View) (st : Steals FrameEnv View monoid_of (Next p inputs) (costs p inputs) s (name k) s') where
     before_is : st.before ≡ was.0
     before_is =
         let o = sh.sits k h.seat h.sits in
         let same : st.frame ≡ frame = (let q : Some st.frame ≡ Some frame = sym st.here ∙ o.here in cc) in
-        let r = snoc_one st.before was.0 (Invokes Spawn st.what) (Invokes Spawn was.1) (sym st.spawned ∙ ap (λ (f : Frame World). f.deeds) same ∙ was.2) in
+        let r = snoc_one st.before was.0 (Invokes Spawn st.what) (Invokes Spawn was.1) (sym st.spawned ∙ ap (λ (f : Frame FrameEnv). f.deeds) same ∙ was.2) in
         r.0
 
     flag_at : (m : Name) → s'.stolen m ≡ cond (same_name child m) true (s.stolen m)
-    flag_at m = ap (λ l. l m) st.stolen ∙ ap (λ (z : List (Deed World)). cond (same_name (name k ++ suc (started z) ∷ []) m) true (s.stolen m)) before_is
+    flag_at m = ap (λ l. l m) st.stolen ∙ ap (λ (z : List (Deed FrameEnv)). cond (same_name (name k ++ suc (started z) ∷ []) m) true (s.stolen m)) before_is
 
     stolen_child : s'.stolen child ≡ true
     stolen_child = flag_at child ∙ rw (same_name-refl child) refl
@@ -287,7 +287,7 @@ module _ (code : CodeView) (p : Source) (inputs : List ℤ) (name : ℕ → Name
     cell_back (Global g) n it = it
     cell_back (Own m q) n it =
         let r = carries.carried_back old_seats new_seats on same_length it.0 it.1 it.2 in
-        (it.0, r.0, r.1, it.3, it.4 ∙ ap (λ (a : Activation Seat). a.base + q) r.2, subst (λ z. q < z) (sizes m) it.5)
+        (it.0, r.0, r.1, it.3, it.4 ∙ ap (λ (a : Activation FrameState). a.base + q) r.2, subst (λ z. q < z) (sizes m) it.5)
 
     absent_back : (n : Name) → IsAbsent new_seats name n → IsAbsent old_seats name n
     absent_back n none = λ j at. none j (subst (λ z. j < z) (sym same_length) at)
@@ -300,7 +300,7 @@ module _ (code : CodeView) (p : Source) (inputs : List ℤ) (name : ℕ → Name
     abbrev M : Instance → MonoidStructure View
     M = monoid_of
 
-    block_else : (n : Name) (ds : List (Deed World)) (x : Seat) → (name k ≡ n → ⊥) → HasBlock code p inputs name b s n ds x → HasBlock code p inputs name b' s' n ds x
+    block_else : (n : Name) (ds : List (Deed FrameEnv)) (x : FrameState) → (name k ≡ n → ⊥) → HasBlock code p inputs name b s n ds x → HasBlock code p inputs name b' s' n ds x
     block_else n ds x ne (inl g) = inl (g.0, stolen_ext (λ q. s.stolen (n ++ q ∷ [])) (λ q. s'.stolen (n ++ q ∷ [])) (flags_else n ne) 1 [] ds ∙ g.1, g.2)
     block_else n ds x ne (inr g) =
         let l = g.0 in
@@ -318,12 +318,12 @@ module _ (code : CodeView) (p : Source) (inputs : List ℤ) (name : ℕ → Name
     -- ---- where frames are
 
     over_on : (n : Name) → BlockIsOver s n → BlockIsOver s' n
-    over_on n g = subst (λ f. BlockHasEnded World View s' n (deeds_at f)) (sym (frame_same n)) (carries.block_on s s' (λ m e. ends_same m ∙ e) n (deeds_at (s.frames n)) g)
+    over_on n g = subst (λ f. BlockHasEnded FrameEnv View s' n (deeds_at f)) (sym (frame_same n)) (carries.block_on s s' (λ m e. ends_same m ∙ e) n (deeds_at (s.frames n)) g)
 
     over_back : (n : Name) → BlockIsOver s' n → BlockIsOver s n
-    over_back n g = carries.block_on s' s (λ m e. sym (ends_same m) ∙ e) n (deeds_at (s.frames n)) (subst (λ f. BlockHasEnded World View s' n (deeds_at f)) (frame_same n) g)
+    over_back n g = carries.block_on s' s (λ m e. sym (ends_same m) ∙ e) n (deeds_at (s.frames n)) (subst (λ f. BlockHasEnded FrameEnv View s' n (deeds_at f)) (frame_same n) g)
 
-    where_else : (j : ℕ) (n : Name) (ds : List (Deed World)) (x : Seat) (z : Status) → (k ≡ j → ⊥) → (name k ≡ n → ⊥) → IsWhere code p inputs name b s j n ds x z → IsWhere code p inputs name b' s' j n ds x z
+    where_else : (j : ℕ) (n : Name) (ds : List (Deed FrameEnv)) (x : FrameState) (z : Status) → (k ≡ j → ⊥) → (name k ≡ n → ⊥) → IsWhere code p inputs name b s j n ds x z → IsWhere code p inputs name b' s' j n ds x z
     where_else j n ds x (Held v) off ne g =
         let r = worker_on v g.0 g.1 in
         let o = r.2 in
@@ -345,7 +345,7 @@ module _ (code : CodeView) (p : Source) (inputs : List ℤ) (name : ℕ → Name
 
     -- ---- seats
 
-    other : (j : ℕ) (a : Activation Seat) (flag : Bool) → (k ≡ j → ⊥) → slice_get old_seats j ≡ Some a → s'.stolen (name j) ≡ flag → Sits code p inputs name b s j a
+    other : (j : ℕ) (a : Activation FrameState) (flag : Bool) → (k ≡ j → ⊥) → slice_get old_seats j ≡ Some a → s'.stolen (name j) ≡ flag → Sits code p inputs name b s j a
         → Sits code p inputs name b' s' j (let x = a.cursor in record a { cursor = record x { stolen = flag } })
     other j a flag off at mark o =
         let x = a.cursor in
@@ -495,7 +495,7 @@ module _ (code : CodeView) (p : Source) (inputs : List ℤ) (name : ℕ → Name
           written = subst (λ es. AreDeeds p new_seats name s' k f.deeds es) (sym (written_now k)) (carries.deeds_on old_seats new_seats on name p s s' more k f.deeds (events_of k e.items) o.written);
         }
 
-    seats_sit : (j : ℕ) (a : Activation Seat) → slice_get new_seats j ≡ Some a → Sits code p inputs name b' s' j a
+    seats_sit : (j : ℕ) (a : Activation FrameState) → slice_get new_seats j ≡ Some a → Sits code p inputs name b' s' j a
     seats_sit j a at = by (which j a at)
       where
         by : Which j a → Sits code p inputs name b' s' j a
@@ -579,13 +579,13 @@ module _ (code : CodeView) (p : Source) (inputs : List ℤ) (name : ℕ → Name
             let o = r.2 in
             let g = sh.holds v j r.0 r.1 (sym (o.frame_is ne) ∙ has) in
             let off : k ≡ j → ⊥ = (λ e. let y : Some h.seat ≡ Some g.seat = sym h.sits ∙ ap (λ i. slice_get old_seats i) e ∙ g.here in let x : h.seat ≡ g.seat = cc in
-            let z : Offered h.victim ≡ Held v = sym status_was ∙ ap (λ (a : Activation Seat). let c = a.cursor in c.status) x ∙ g.held in let f : ⊥ = cc in f) in
+            let z : Offered h.victim ≡ Held v = sym status_was ∙ ap (λ (a : Activation FrameState). let c = a.cursor in c.status) x ∙ g.held in let f : ⊥ = cc in f) in
             holds_else v j r.0 u off (o.views_are ne) g
 
     -- ---- what is told
 
-    base_was : (j : ℕ) (a : Activation Seat) → slice_get new_seats j ≡ Some a → (z : Activation Seat) × (slice_get old_seats j ≡ Some z) × (a.base ≡ z.base)
-    base_was j a at = let r = carries.carried_back old_seats new_seats on same_length j a at in (r.0, r.1, ap (λ (z : Activation Seat). z.base) r.2)
+    base_was : (j : ℕ) (a : Activation FrameState) → slice_get new_seats j ≡ Some a → (z : Activation FrameState) × (slice_get old_seats j ≡ Some z) × (a.base ≡ z.base)
+    base_was j a at = let r = carries.carried_back old_seats new_seats on same_length j a at in (r.0, r.1, ap (λ (z : Activation FrameState). z.base) r.2)
 
     tells_is : Tells code p inputs name b' s'
     tells_is =
@@ -640,7 +640,7 @@ module _ (code : CodeView) (p : Source) (inputs : List ℤ) (name : ℕ → Name
         bare_by n m q kind none there true is = ap (λ z. s'.piece z (Reducer n q kind)) (sym (same_name-eq (name k) m is)) ∙ piece_here (Reducer n q kind)
         bare_by n m q kind none there false is = piece_off (Reducer n q kind) m (λ e. true≢false (sym (same_name-refl (name k)) ∙ ap (λ z. same_name (name k) z) e ∙ is)) ∙ sh.bare n m q kind none there
 
-  pub taken_is : (s' : State World View) × (d' : Desk) × Chooses p inputs s d (Steal (suc w) place) Stole s' d' × ShowsBy code p inputs name b' d' s'
+  pub taken_is : (s' : State FrameEnv View) × (d' : WorkerTable) × Chooses p inputs s d (Steal (suc w) place) Stole s' d' × ShowsBy code p inputs name b' d' s'
   taken_is =
       let g = thief_goes in
       let o = sh.tells in (

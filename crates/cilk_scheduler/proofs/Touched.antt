@@ -29,21 +29,21 @@ use Rattle.cilk_runs.specs.Runs.{Name, same_name, Cell, Global, Own, Instance, O
 use Rattle.cilk_runs.proofs.Basics.{same_name-refl, same_name-eq}
 use Rattle.cilk_runs.proofs.Joins.{joined_step, times-append}
 use Rattle.cilk_runs.proofs.Started.{started_does}
-use Rattle.cilk_runs.specs.WorldMachine.{has_ended, is_end, taken}
+use Rattle.cilk_runs.specs.FrameEnvMachine.{has_ended, is_end, taken}
 use Rattle.cilk_runs.specs.Reducers.{View, kind_of, monoid_of}
-use Rattle.cilk_runs.specs.WorldViews.{IsViewOf}
-use Rattle.cilk_runs.specs.Worlds.{World}
-use Rattle.cilk_runs.proofs.KeptWorld.{but_last_more, ended_more}
-use Rattle.cilk_scheduler.specs.declared.board.Board.{Board}
-use Rattle.cilk_scheduler.specs.declared.seat.Due.TheVariants as due
-use Rattle.cilk_scheduler.specs.declared.seat.JournalEntry.{JournalEntry}
-use Rattle.cilk_scheduler.specs.declared.seat.Seat.{Seat}
-use Rattle.cilk_scheduler.specs.declared.seat.Status.{Status}
-use Rattle.cilk_scheduler.specs.declared.seat.Status.TheVariants.{Held, Calling, Offered, Waiting, Finished}
-use Rattle.cilk_scheduler.specs.declared.seat.Worker.{Worker}
-use Rattle.cilk_scheduler.specs.Boards.{carried, IsUsed, greatest, IsBare, hand_of, offers_of, Seen, Keeps, HasBlock, IsWhere, Sits, Holds, IsDesk, Tells, ShowsBy, stolen_at_block, run_at, waits_at}
+use Rattle.cilk_runs.specs.FrameEnvViews.{IsViewOf}
+use Rattle.cilk_runs.specs.FrameEnvs.{FrameEnv}
+use Rattle.cilk_runs.proofs.KeptFrameEnv.{but_last_more, ended_more}
+use Rattle.cilk_scheduler.specs.declared.scheduler.Scheduler.{Scheduler}
+use Rattle.cilk_scheduler.specs.declared.frame_state.Due.TheVariants as due
+use Rattle.cilk_scheduler.specs.declared.frame_state.JournalEntry.{JournalEntry}
+use Rattle.cilk_scheduler.specs.declared.frame_state.FrameState.{FrameState}
+use Rattle.cilk_scheduler.specs.declared.frame_state.Status.{Status}
+use Rattle.cilk_scheduler.specs.declared.frame_state.Status.TheVariants.{Held, Calling, Offered, Waiting, Finished}
+use Rattle.cilk_scheduler.specs.declared.frame_state.Worker.{Worker}
+use Rattle.cilk_scheduler.specs.Schedulers.{carried, IsUsed, greatest, IsBare, hand_of, offers_of, Seen, Keeps, HasBlock, IsWhere, Sits, Holds, IsWorkerTable, Tells, ShowsBy, stolen_at_block, run_at, waits_at}
 use Rattle.cilk_scheduler.specs.Blocks.{stolen_in, Lays}
-use Rattle.cilk_scheduler.specs.Desks.{Desk, BlockIsOver}
+use Rattle.cilk_scheduler.specs.WorkerTables.{WorkerTable, BlockIsOver}
 use Rattle.cilk_scheduler.specs.Numbered.{AreNamed, IsAbsent, size_of, IsCell, IsInstance, IsDeed, AreDeeds, events_of, CellBoth, ReducerBoth, numbers_in, global_cell, global_both}
 use Rattle.cilk_scheduler.specs.Touching.{IsPlain, IsInBlock, joined_with, Touches, TouchesAreShown, touched}
 use Rattle.cilk_scheduler.proofs.Carried.{resuming_event, plain, unused, carried_ext}
@@ -53,29 +53,29 @@ use Rattle.cilk_scheduler.proofs.Onward.{name_off, frame_else, frame_here, size_
 use Rattle.cilk_scheduler.proofs.Plain.{get_low, length_more, plain_lasts, stolen_plain, joined_plain, end_plain, stolen_sync, end_sync, lays_same}
 use Rattle.cilk_scheduler.proofs.Viewing.{viewing_get, viewing_from, viewing_hands, viewing_offers, viewing_counts}
 
-pub joined_child : (t : Frames World) (n : Name) (q : ℕ) → joined t (n ++ q ∷ []) ≡ joined_at 1 q (deeds_at (t n))
+pub joined_child : (t : Frames FrameEnv) (n : Name) (q : ℕ) → joined t (n ++ q ∷ []) ≡ joined_at 1 q (deeds_at (t n))
 joined_child t [] q = refl
 joined_child t (j ∷ []) q = refl
 joined_child t (j ∷ i ∷ n) q = joined_child (below t j) (i ∷ n) q
 
-module _ (code : CodeView) (p : Source) (inputs : List ℤ) (name : ℕ → Name) (b b' : Board) (d : Desk) (s s' : State World View) (w k : ℕ) (e : Event) (entry : JournalEntry)
+module _ (code : CodeView) (p : Source) (inputs : List ℤ) (name : ℕ → Name) (b b' : Scheduler) (d : WorkerTable) (s s' : State FrameEnv View) (w k : ℕ) (e : Event) (entry : JournalEntry)
     (sh : ShowsBy code p inputs name b d s) (t : Touches code p inputs name b b' s s' w k e entry) where
-  abbrev old_seats : List (Activation Seat)
+  abbrev old_seats : List (Activation FrameState)
   old_seats = let f = b.frames in f.items
 
-  abbrev new_seats : List (Activation Seat)
+  abbrev new_seats : List (Activation FrameState)
   new_seats = let f = b'.frames in f.items
 
-  abbrev change : Seat → Seat
+  abbrev change : FrameState → FrameState
   change = touched t.same_block t.begun t.took t.cursor t.answer
 
-  abbrev what : World
+  abbrev what : FrameEnv
   what = let f = t.frame in f.what
 
-  abbrev past : List (Deed World)
+  abbrev past : List (Deed FrameEnv)
   past = let f = t.frame in f.deeds
 
-  abbrev longer_past : List (Deed World)
+  abbrev longer_past : List (Deed FrameEnv)
   longer_past = past ++ Does e ∷ []
 
   named : AreNamed old_seats name
@@ -92,7 +92,7 @@ module _ (code : CodeView) (p : Source) (inputs : List ℤ) (name : ℕ → Name
   low = get_low old_seats k t.seat t.sits
 
   same_length : length new_seats ≡ length old_seats
-  same_length = ap (λ (l : List (Activation Seat)). length l) t.seats_are ∙ changed_length change old_seats k
+  same_length = ap (λ (l : List (Activation FrameState)). length l) t.seats_are ∙ changed_length change old_seats k
 
   -- ---- frames by name
 
@@ -129,19 +129,19 @@ module _ (code : CodeView) (p : Source) (inputs : List ℤ) (name : ℕ → Name
   cell_on c n h = subst (λ l. IsCell p l name s' c n) (sym t.seats_are) (cell_changed change old_seats k name p s s' sizes c n h)
 
   -- a seat was one before
-  pub record Was (j : ℕ) (a : Activation Seat) : Type 0 where
-    pub before : Activation Seat
+  pub record Was (j : ℕ) (a : Activation FrameState) : Type 0 where
+    pub before : Activation FrameState
     pub there : slice_get old_seats j ≡ Some before
     pub base : a.base ≡ before.base
     pub status : (let x = a.cursor in x.status) ≡ (let x = before.cursor in x.status)
 
-  was : (j : ℕ) (a : Activation Seat) → slice_get new_seats j ≡ Some a → Was j a
+  was : (j : ℕ) (a : Activation FrameState) → slice_get new_seats j ≡ Some a → Was j a
   was j a at =
       let r = changed_from change old_seats k j a (subst (λ l. slice_get l j ≡ Some a) t.seats_are at) in record {
         before = r.0;
         there = r.1;
-        base = ap (λ (z : Activation Seat). z.base) r.2;
-        status = ⊎_elim (λ q. ap (λ (x : Seat). x.status) q) (λ q. ap (λ (x : Seat). x.status) q) r.3;
+        base = ap (λ (z : Activation FrameState). z.base) r.2;
+        status = ⊎_elim (λ q. ap (λ (x : FrameState). x.status) q) (λ q. ap (λ (x : FrameState). x.status) q) r.3;
       }
 
   cell_back : (c : Cell) (n : ℕ) → IsCell p new_seats name s' c n → IsCell p old_seats name s c n
@@ -155,13 +155,13 @@ module _ (code : CodeView) (p : Source) (inputs : List ℤ) (name : ℕ → Name
   absent_on n none = λ j at. none j (subst (λ z. j < z) same_length at)
 
   -- where seats stand
-  off_at : (j : ℕ) (a : Activation Seat) → (k ≡ j → ⊥) → slice_get old_seats j ≡ Some a → slice_get new_seats j ≡ Some a
+  off_at : (j : ℕ) (a : Activation FrameState) → (k ≡ j → ⊥) → slice_get old_seats j ≡ Some a → slice_get new_seats j ≡ Some a
   off_at j a ne at = ap (λ l. slice_get l j) t.seats_are ∙ changed_off change old_seats k j ne ∙ at
 
-  off_back : (j : ℕ) (a : Activation Seat) → (k ≡ j → ⊥) → slice_get new_seats j ≡ Some a → slice_get old_seats j ≡ Some a
+  off_back : (j : ℕ) (a : Activation FrameState) → (k ≡ j → ⊥) → slice_get new_seats j ≡ Some a → slice_get old_seats j ≡ Some a
   off_back j a ne at = sym (changed_off change old_seats k j ne) ∙ sym (ap (λ l. slice_get l j) t.seats_are) ∙ at
 
-  abbrev now : Activation Seat
+  abbrev now : Activation FrameState
   now = let a = t.seat in record a { cursor = change a.cursor }
 
   now_at : slice_get new_seats k ≡ Some now
@@ -169,7 +169,7 @@ module _ (code : CodeView) (p : Source) (inputs : List ℤ) (name : ℕ → Name
 
   -- ---- what frames see
 
-  seen_on : (a : Activation Seat) (y : Seat) (v : World) → Seen code p inputs name b s a v → Seen code p inputs name b' s' (record a { cursor = y }) v
+  seen_on : (a : Activation FrameState) (y : FrameState) (v : FrameEnv) → Seen code p inputs name b s a v → Seen code p inputs name b' s' (record a { cursor = y }) v
   seen_on a y v h = record {
     scope = h.scope;
     target = h.target;
@@ -184,7 +184,7 @@ module _ (code : CodeView) (p : Source) (inputs : List ℤ) (name : ℕ → Name
 
   -- ---- blocks
 
-  keeps_on : (n : Name) (ds ds' : List (Deed World)) (j : JoinView) → stolen_at_block code p inputs name b' s' n ds' ≡ stolen_at_block code p inputs name b s n ds
+  keeps_on : (n : Name) (ds ds' : List (Deed FrameEnv)) (j : JoinView) → stolen_at_block code p inputs name b' s' n ds' ≡ stolen_at_block code p inputs name b s n ds
       → ((i : Instance) → cond j.closed (s'.piece n i) (unit_of monoid_of i) ≡ cond j.closed (s.piece n i) (unit_of monoid_of i)) → Keeps code p inputs name b s n ds j → Keeps code p inputs name b' s' n ds' j
   keeps_on n ds ds' j flags own h = record {
     lays = λ i q is.
@@ -199,10 +199,10 @@ module _ (code : CodeView) (p : Source) (inputs : List ℤ) (name : ℕ → Name
     bare_later = λ q a run at has. subst (λ z. IsBare z run) (sym same_length) (h.bare_later q a run at has);
   }
 
-  flags_same : (n : Name) (ds : List (Deed World)) → stolen_at_block code p inputs name b' s' n ds ≡ stolen_at_block code p inputs name b s n ds
+  flags_same : (n : Name) (ds : List (Deed FrameEnv)) → stolen_at_block code p inputs name b' s' n ds ≡ stolen_at_block code p inputs name b s n ds
   flags_same n ds = ap (λ (l : Name → Bool). stolen_in (λ q. l (n ++ q ∷ [])) 1 [] ds) t.stolen
 
-  block_else : (n : Name) (ds : List (Deed World)) (x : Seat) → (name k ≡ n → ⊥) → HasBlock code p inputs name b s n ds x → HasBlock code p inputs name b' s' n ds x
+  block_else : (n : Name) (ds : List (Deed FrameEnv)) (x : FrameState) → (name k ≡ n → ⊥) → HasBlock code p inputs name b s n ds x → HasBlock code p inputs name b' s' n ds x
   block_else n ds x ne (inl h) = inl (h.0, flags_same n ds ∙ h.1, h.2)
   block_else n ds x ne (inr h) =
       let l = h.0 in
@@ -212,10 +212,10 @@ module _ (code : CodeView) (p : Source) (inputs : List ℤ) (name : ℕ → Name
   -- ---- where frames are
 
   over_on : (n : Name) → (name k ≡ n → ⊥) → BlockIsOver s n → BlockIsOver s' n
-  over_on n ne h = subst (λ f. BlockHasEnded World View s' n (deeds_at f)) (sym (else_at n ne)) (block_on s s' (name k) t.frame e t.here t.goes lasting t.frames t.stolen n (deeds_at (s.frames n)) h)
+  over_on n ne h = subst (λ f. BlockHasEnded FrameEnv View s' n (deeds_at f)) (sym (else_at n ne)) (block_on s s' (name k) t.frame e t.here t.goes lasting t.frames t.stolen n (deeds_at (s.frames n)) h)
 
   over_back : (n : Name) → (name k ≡ n → ⊥) → BlockIsOver s' n → BlockIsOver s n
-  over_back n ne h = block_back s s' (name k) t.frame e t.here t.goes lasting t.frames t.stolen n (deeds_at (s.frames n)) (subst (λ f. BlockHasEnded World View s' n (deeds_at f)) (else_at n ne) h)
+  over_back n ne h = block_back s s' (name k) t.frame e t.here t.goes lasting t.frames t.stolen n (deeds_at (s.frames n)) (subst (λ f. BlockHasEnded FrameEnv View s' n (deeds_at f)) (else_at n ne) h)
 
   worker_on : (v : ℕ) (u : Worker) → (let l = b.workers in slice_get l.items v ≡ Some u) → (u' : Worker) × (let l = b'.workers in slice_get l.items v ≡ Some u') × (u'.frame ≡ u.frame) × (u'.offered ≡ u.offered)
   worker_on v u at =
@@ -223,7 +223,7 @@ module _ (code : CodeView) (p : Source) (inputs : List ℤ) (name : ℕ → Name
       let r = viewing_get t.views l.items w v u at in
       (r.0, subst (λ ws. slice_get ws v ≡ Some r.0) (sym t.workers_are) r.1, r.2, r.3)
 
-  where_else : (j : ℕ) (n : Name) (ds : List (Deed World)) (x : Seat) (z : Status) → (name k ≡ n → ⊥) → IsWhere code p inputs name b s j n ds x z → IsWhere code p inputs name b' s' j n ds x z
+  where_else : (j : ℕ) (n : Name) (ds : List (Deed FrameEnv)) (x : FrameState) (z : Status) → (name k ≡ n → ⊥) → IsWhere code p inputs name b s j n ds x z → IsWhere code p inputs name b' s' j n ds x z
   where_else j n ds x (Held v) ne h =
       let r = worker_on v h.0 h.1 in
       (r.0, r.1, r.2 ∙ h.2, goes_on s s' (name k) t.frame e t.here t.goes lasting t.frames t.stolen n ds h.3, h.4, (λ m. let g = h.5 m in (g.0, over_on n ne g.1)), h.6)
@@ -239,7 +239,7 @@ module _ (code : CodeView) (p : Source) (inputs : List ℤ) (name : ℕ → Name
   abbrev entries : List JournalEntry
   entries = let l = b.journal in l.items
 
-  deeds_on : (j : ℕ) (ds : List (Deed World)) (es : List numbered_event.Event) → AreDeeds p old_seats name s j ds es → AreDeeds p new_seats name s' j ds es
+  deeds_on : (j : ℕ) (ds : List (Deed FrameEnv)) (es : List numbered_event.Event) → AreDeeds p old_seats name s j ds es → AreDeeds p new_seats name s' j ds es
   deeds_on j ds es h = subst (λ l. AreDeeds p l name s' j ds es) (sym t.seats_are) (deeds_changed change old_seats k name p s s' sizes j ds es h)
 
   not_of : (j : ℕ) → (k ≡ j → ⊥) → nat_eq entry.frame j ≡ false
@@ -253,7 +253,7 @@ module _ (code : CodeView) (p : Source) (inputs : List ℤ) (name : ℕ → Name
 
   -- ---- seats
 
-  pub other : (j : ℕ) (a : Activation Seat) → (k ≡ j → ⊥) → slice_get old_seats j ≡ Some a → Sits code p inputs name b s j a → Sits code p inputs name b' s' j a
+  pub other : (j : ℕ) (a : Activation FrameState) → (k ≡ j → ⊥) → slice_get old_seats j ≡ Some a → Sits code p inputs name b s j a → Sits code p inputs name b' s' j a
   other j a ne at o =
       let x = a.cursor in
       let f = o.frame in
@@ -277,14 +277,14 @@ module _ (code : CodeView) (p : Source) (inputs : List ℤ) (name : ℕ → Name
       }
 
   -- the frame is the worker's
-  abbrev seat_now : Seat
+  abbrev seat_now : FrameState
   seat_now = let a = t.seat in a.cursor
 
   status_is : seat_now.status ≡ Held w
   status_is =
       let h = sh.holds w k t.worker t.at t.has in
       let same : h.seat ≡ t.seat = (let q : Some h.seat ≡ Some t.seat = sym h.here ∙ t.sits in cc) in
-      ap (λ (a : Activation Seat). let x = a.cursor in x.status) (sym same) ∙ h.held
+      ap (λ (a : Activation FrameState). let x = a.cursor in x.status) (sym same) ∙ h.held
 
   own_open : (j : JoinView) → (j.closed ≡ true → seat_now.status ≡ Waiting) → j.closed ≡ false
   own_open j g = ⊎_elim (λ q. let z : Held w ≡ Waiting = sym status_is ∙ g q in let f : ⊥ = cc in absurd f) (λ f. f) (cases_Bool j.closed)
@@ -333,13 +333,13 @@ module _ (code : CodeView) (p : Source) (inputs : List ℤ) (name : ℕ → Name
       let same : o.frame ≡ t.frame = (let q : Some o.frame ≡ Some t.frame = sym o.here ∙ t.here in cc) in record {
         frame = record t.frame { deeds = longer_past };
         here = here_at;
-        named = subst (λ (f : Frame World). (let v = f.what in v.name) ≡ name k) same o.named;
+        named = subst (λ (f : Frame FrameEnv). (let v = f.what in v.name) ≡ name k) same o.named;
         number = o.number;
-        seen = seen_on t.seat (change x) what (subst (λ (f : Frame World). Seen code p inputs name b s t.seat f.what) same o.seen);
-        creates = subst (λ (f : Frame World). (function : ℕ) → (let a = t.seat in a.creator ≡ Some function) → let g = function_frame code.layout function in let v = f.what in g.reducers ≡ own_reducers p v.callee) same o.creates;
-        creates_none = subst (λ (f : Frame World). (let a = t.seat in a.creator ≡ None) → let v = f.what in own_reducers p v.callee ≡ []) same o.creates_none;
+        seen = seen_on t.seat (change x) what (subst (λ (f : Frame FrameEnv). Seen code p inputs name b s t.seat f.what) same o.seen);
+        creates = subst (λ (f : Frame FrameEnv). (function : ℕ) → (let a = t.seat in a.creator ≡ Some function) → let g = function_frame code.layout function in let v = f.what in g.reducers ≡ own_reducers p v.callee) same o.creates;
+        creates_none = subst (λ (f : Frame FrameEnv). (let a = t.seat in a.creator ≡ None) → let v = f.what in own_reducers p v.callee ≡ []) same o.creates_none;
         stolen = ap (λ l. l (name k)) t.stolen ∙ o.stolen;
-        children = started_does past e ∙ ap (λ (f : Frame World). started f.deeds) (sym same) ∙ o.children;
+        children = started_does past e ∙ ap (λ (f : Frame FrameEnv). started f.deeds) (sym same) ∙ o.children;
         last = λ some. let r = o.last some in (subst (λ z. x.last < z) (sym same_length) r.0, r.1);
         strands_are = t.strands_are;
         counted = t.took_is ∙ ap (taken p inputs what) (sym (but_last_more past (Does e)));
@@ -347,14 +347,14 @@ module _ (code : CodeView) (p : Source) (inputs : List ℤ) (name : ℕ → Name
         is_where = where_here;
         block = λ going. block_here (o_block same o.block);
         written = subst (λ es. AreDeeds p new_seats name s' k longer_past es) (sym written_here)
-            (deeds_more p new_seats name s' k past (events_of k entries) (Does e) entry.event (deeds_on k past (events_of k entries) (subst (λ (f : Frame World). AreDeeds p old_seats name s k f.deeds (events_of k entries)) same o.written))
+            (deeds_more p new_seats name s' k past (events_of k entries) (Does e) entry.event (deeds_on k past (events_of k entries) (subst (λ (f : Frame FrameEnv). AreDeeds p old_seats name s k f.deeds (events_of k entries)) same o.written))
             (subst (λ l. IsDeed p l name s' k (Does e) entry.event) (sym t.seats_are) (deed_changed change old_seats k name p s s' sizes k (Does e) entry.event t.means)));
       }
     where
       o_block : (same : o.frame ≡ t.frame) → (let f = o.frame in has_ended f.deeds ≡ false → HasBlock code p inputs name b s (name k) f.deeds seat_now) → HasBlock code p inputs name b s (name k) past seat_now
-      o_block same h = subst (λ (f : Frame World). has_ended f.deeds ≡ false → HasBlock code p inputs name b s (name k) f.deeds seat_now) same h t.goes
+      o_block same h = subst (λ (f : Frame FrameEnv). has_ended f.deeds ≡ false → HasBlock code p inputs name b s (name k) f.deeds seat_now) same h t.goes
 
-  pub seats_sit : (j : ℕ) (a : Activation Seat) → slice_get new_seats j ≡ Some a → Sits code p inputs name b' s' j a
+  pub seats_sit : (j : ℕ) (a : Activation FrameState) → slice_get new_seats j ≡ Some a → Sits code p inputs name b' s' j a
   seats_sit j a at = by (nat_eq k j) refl
     where
       by : (c : Bool) → nat_eq k j ≡ c → Sits code p inputs name b' s' j a
@@ -410,7 +410,7 @@ module _ (code : CodeView) (p : Source) (inputs : List ℤ) (name : ℕ → Name
   one_holder : (v : ℕ) (u : Worker) → Holds code p inputs name b s v u k → w ≡ v
   one_holder v u h =
       let same : h.seat ≡ t.seat = (let q : Some h.seat ≡ Some t.seat = sym h.here ∙ t.sits in cc) in
-      let q : Held w ≡ Held v = sym status_is ∙ ap (λ (a : Activation Seat). let x = a.cursor in x.status) (sym same) ∙ h.held in
+      let q : Held w ≡ Held v = sym status_is ∙ ap (λ (a : Activation FrameState). let x = a.cursor in x.status) (sym same) ∙ h.held in
       cc
 
   still_holds : (v j : ℕ) (u : Worker) → (let l = b'.workers in slice_get l.items v ≡ Some u) → u.frame ≡ Some j → Holds code p inputs name b' s' v u j
@@ -435,20 +435,20 @@ module _ (code : CodeView) (p : Source) (inputs : List ℤ) (name : ℕ → Name
 
   -- ---- the desk
 
-  status_on : (j : ℕ) (a : Activation Seat) → slice_get old_seats j ≡ Some a → (a' : Activation Seat) × (slice_get new_seats j ≡ Some a') × ((let x = a'.cursor in x.status) ≡ (let x = a.cursor in x.status))
+  status_on : (j : ℕ) (a : Activation FrameState) → slice_get old_seats j ≡ Some a → (a' : Activation FrameState) × (slice_get new_seats j ≡ Some a') × ((let x = a'.cursor in x.status) ≡ (let x = a.cursor in x.status))
   status_on j a at = by (nat_eq k j) refl
     where
-      by : (c : Bool) → nat_eq k j ≡ c → (a' : Activation Seat) × (slice_get new_seats j ≡ Some a') × ((let x = a'.cursor in x.status) ≡ (let x = a.cursor in x.status))
+      by : (c : Bool) → nat_eq k j ≡ c → (a' : Activation FrameState) × (slice_get new_seats j ≡ Some a') × ((let x = a'.cursor in x.status) ≡ (let x = a.cursor in x.status))
       by true q =
           let same : k ≡ j = eqb-true k j q in
           let is : t.seat ≡ a = (let z : Some t.seat ≡ Some a = sym t.sits ∙ ap (λ i. slice_get old_seats i) same ∙ at in cc) in
-          (now, subst (λ i. slice_get new_seats i ≡ Some now) same now_at, ap (λ (z : Activation Seat). let x = z.cursor in x.status) is)
+          (now, subst (λ i. slice_get new_seats i ≡ Some now) same now_at, ap (λ (z : Activation FrameState). let x = z.cursor in x.status) is)
       by false q = (a, off_at j a (λ r. true≢false (sym (eq-eqb k j r) ∙ q)) at, refl)
 
   worker_was : (v : ℕ) (u : Worker) → (let l = b'.workers in slice_get l.items v ≡ Some u) → (u' : Worker) × (let l = b.workers in slice_get l.items v ≡ Some u') × (u.offered ≡ u'.offered)
   worker_was v u at = let l = b.workers in let r = viewing_from t.views l.items w v u (subst (λ ws. slice_get ws v ≡ Some u) t.workers_are at) in (r.0, r.1, r.3)
 
-  desk_is : IsDesk code p inputs name b' d
+  desk_is : IsWorkerTable code p inputs name b' d
   desk_is =
       let o = sh.desk in
       let l = b.workers in record {
@@ -467,7 +467,7 @@ module _ (code : CodeView) (p : Source) (inputs : List ℤ) (name : ℕ → Name
 
   -- ---- what is told
 
-  more_deeds : (P : List (Deed World) → Type 0) → (P longer_past → P past) → (m : Name) → P (deeds_at (s'.frames m)) → P (deeds_at (s.frames m))
+  more_deeds : (P : List (Deed FrameEnv) → Type 0) → (P longer_past → P past) → (m : Name) → P (deeds_at (s'.frames m)) → P (deeds_at (s.frames m))
   more_deeds P back m h = by (same_name (name k) m) refl
     where
       by : (c : Bool) → same_name (name k) m ≡ c → P (deeds_at (s.frames m))
@@ -480,9 +480,9 @@ module _ (code : CodeView) (p : Source) (inputs : List ℤ) (name : ℕ → Name
   joined_same is_plain n q = more_deeds (λ ds. joined_at 1 q ds ≡ joined_at 1 q (deeds_at (s'.frames n))) (λ h. sym (joined_plain 1 q past e is_plain) ∙ h) n refl
 
   -- a sync's children enter the joins
-  joined_more : e ≡ Syncs → (n : Name) (q : ℕ) → times (n ++ q ∷ []) (joined_by {W = World} Sync (name k) past) + joined_at 1 q (deeds_at (s.frames n)) ≡ joined_at 1 q (deeds_at (s'.frames n))
+  joined_more : e ≡ Syncs → (n : Name) (q : ℕ) → times (n ++ q ∷ []) (joined_by {W = FrameEnv} Sync (name k) past) + joined_at 1 q (deeds_at (s.frames n)) ≡ joined_at 1 q (deeds_at (s'.frames n))
   joined_more is n q =
-      ap (λ z. times (n ++ q ∷ []) (joined_by {W = World} Sync (name k) past) + z) (sym (joined_child s.frames n q))
+      ap (λ z. times (n ++ q ∷ []) (joined_by {W = FrameEnv} Sync (name k) past) + z) (sym (joined_child s.frames n q))
       ∙ sym (joined_step (name k) s.frames t.frame (Does Syncs) t.here tt (n ++ q ∷ []))
       ∙ ap (λ x. joined (after_deed s.frames (name k) t.frame (Does x)) (n ++ q ∷ [])) (sym is)
       ∙ ap (λ f. joined f (n ++ q ∷ [])) (sym t.frames)
@@ -494,8 +494,8 @@ module _ (code : CodeView) (p : Source) (inputs : List ℤ) (name : ℕ → Name
       by : (c : Bool) → IsInBlock c e → times (n ++ q ∷ []) (joined_with c (name k) past ++ s.joins) ≡ joined_at 1 q (deeds_at (s'.frames n))
       by true is = old ∙ joined_same is n q
       by false is =
-          times-append (n ++ q ∷ []) (joined_by {W = World} Sync (name k) past) s.joins
-          ∙ ap (λ z. times (n ++ q ∷ []) (joined_by {W = World} Sync (name k) past) + z) old ∙ joined_more is n q
+          times-append (n ++ q ∷ []) (joined_by {W = FrameEnv} Sync (name k) past) s.joins
+          ∙ ap (λ z. times (n ++ q ∷ []) (joined_by {W = FrameEnv} Sync (name k) past) + z) old ∙ joined_more is n q
 
   end_before : HasEnd longer_past → HasEnd past
   end_before g = by t.same_block t.is_plain

@@ -9,22 +9,22 @@ use Rattle.cilk_types.specs.declared.invocation.Invocation.TheVariants.{Spawn}
 use Rattle.cilk_runs.specs.Machine.{Frame, State, deeds_at, started}
 use Rattle.cilk_runs.specs.Progress.{HasNoSync, child_after}
 use Rattle.cilk_runs.specs.Runs.{Name, Syncs, Deed, Does, Invokes}
-use Rattle.cilk_runs.specs.WorldMachine.{has_ended}
+use Rattle.cilk_runs.specs.FrameEnvMachine.{has_ended}
 use Rattle.cilk_runs.specs.Reducers.{View}
-use Rattle.cilk_runs.specs.Worlds.{World}
+use Rattle.cilk_runs.specs.FrameEnvs.{FrameEnv}
 use Rattle.cilk_scheduler.specs.Parents.{OutliveChildren}
 use Rattle.cilk_scheduler.proofs.Onward.{has_end}
 
 -- the deed that started the child of this ordinal
-pub record Split (ds : List (Deed World)) (q : ℕ) : Type 0 where
-  pub before : List (Deed World)
+pub record Split (ds : List (Deed FrameEnv)) (q : ℕ) : Type 0 where
+  pub before : List (Deed FrameEnv)
   pub how : Invocation
-  pub what : World
-  pub after : List (Deed World)
+  pub what : FrameEnv
+  pub after : List (Deed FrameEnv)
   pub starts : ds ≡ before ++ Invokes how what ∷ after
   pub ordinal : q ≡ suc (started before)
 
-pub split_at : (ds : List (Deed World)) (q : ℕ) → 0 < q → q ≤ started ds → Split ds q
+pub split_at : (ds : List (Deed FrameEnv)) (q : ℕ) → 0 < q → q ≤ started ds → Split ds q
 split_at [] q low most = absurd (omega (arith, low, most))
 split_at (Does e ∷ ds) q low most = let r = split_at ds q low most in record { before = Does e ∷ r.before; how = r.how; what = r.what; after = r.after; starts = ap (λ l. Does e ∷ l) r.starts; ordinal = r.ordinal }
 split_at (Invokes how w ∷ ds) q low most = by (nat_eq q 1) refl (λ z a b. split_at ds z a b)
@@ -45,23 +45,23 @@ split_at (Invokes how w ∷ ds) q low most = by (nat_eq q 1) refl (λ z a b. spl
         two_or_more (suc (suc z)) l n = (suc z, refl, omega arith)
 
 -- a child that hasn't ended
-pub record IsUnder (s : State World View) (m : Name) (q : ℕ) : Type 0 where
-  pub parent : Frame World
+pub record IsUnder (s : State FrameEnv View) (m : Name) (q : ℕ) : Type 0 where
+  pub parent : Frame FrameEnv
   pub here : s.frames m ≡ Some parent
   pub goes : has_ended parent.deeds ≡ false
-  pub before : List (Deed World)
+  pub before : List (Deed FrameEnv)
   pub how : Invocation
-  pub what : World
-  pub after : List (Deed World)
+  pub what : FrameEnv
+  pub after : List (Deed FrameEnv)
   pub starts : parent.deeds ≡ before ++ Invokes how what ∷ after
   pub ordinal : q ≡ suc (started before)
   pub spawned : s.stolen (m ++ q ∷ []) ≡ true → how ≡ Spawn
   pub since : (after ≡ []) ⊎ ((how ≡ Spawn) × HasNoSync after × (s.stolen (m ++ q ∷ []) ≡ true))
 
-pub under_of : (s : State World View) → OutliveChildren s → (m : Name) (q : ℕ) (f : Frame World) → s.frames (m ++ q ∷ []) ≡ Some f → has_ended f.deeds ≡ false → IsUnder s m q
+pub under_of : (s : State FrameEnv View) → OutliveChildren s → (m : Name) (q : ℕ) (f : Frame FrameEnv) → s.frames (m ++ q ∷ []) ≡ Some f → has_ended f.deeds ≡ false → IsUnder s m q
 under_of s o m q f here going = by (s.frames m) refl
   where
-    by : (found : Option (Frame World)) → s.frames m ≡ found → IsUnder s m q
+    by : (found : Option (Frame FrameEnv)) → s.frames m ≡ found → IsUnder s m q
     by None e = let c = o.counted m q f here in let most = c.1 in let none : started (deeds_at (s.frames m)) ≡ 0 = ap (λ x. started (deeds_at x)) e in let low = c.0 in absurd (omega (arith, low, most, none))
     by (Some g) e =
         let c = o.counted m q f here in
@@ -87,15 +87,15 @@ under_of s o m q f here going = by (s.frames m) refl
 
 -- ---- deeds behind another
 
-pub none_after : HasNoSync {W = World} []
+pub none_after : HasNoSync {W = FrameEnv} []
 none_after [] after e = let z : [] ≡ Does Syncs ∷ after = e in cc
 none_after (b ∷ before) after e = let z : [] ≡ b ∷ (before ++ Does Syncs ∷ after) = e in cc
 
-pub last_of : (ds : List (Deed World)) → (ds ≡ []) ⊎ ((xs : List (Deed World)) × (x : Deed World) × (ds ≡ xs ++ x ∷ []))
+pub last_of : (ds : List (Deed FrameEnv)) → (ds ≡ []) ⊎ ((xs : List (Deed FrameEnv)) × (x : Deed FrameEnv) × (ds ≡ xs ++ x ∷ []))
 last_of [] = inl refl
 last_of (d ∷ ds) = ⊎_elim (λ e. inr ([], d, ap (λ l. d ∷ l) e)) (λ r. inr (d ∷ r.0, r.1, ap (λ l. d ∷ l) r.2)) (last_of ds)
 
-pub more_started : (before : List (Deed World)) (how : Invocation) (what : World) (after : List (Deed World)) → suc (started before) ≤ started (before ++ Invokes how what ∷ after)
+pub more_started : (before : List (Deed FrameEnv)) (how : Invocation) (what : FrameEnv) (after : List (Deed FrameEnv)) → suc (started before) ≤ started (before ++ Invokes how what ∷ after)
 more_started [] how what after = omega arith
 more_started (Does e ∷ before) how what after = more_started before how what after
 more_started (Invokes h w ∷ before) how what after = let r = more_started before how what after in omega (arith, r)

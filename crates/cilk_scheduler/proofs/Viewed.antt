@@ -21,12 +21,12 @@ use Rattle.cilk_frames.specs.declared.activation.Activation.{Activation}
 use Rattle.cilk_runs.specs.Runs.{Name, Instance, Output, Reducer, same_instance}
 use Rattle.cilk_runs.proofs.Basics.{same_instance-refl, same_instance-eq}
 use Rattle.cilk_runs.specs.Reducers.{View, kind_of}
-use Rattle.cilk_runs.specs.WorldViews.{IsViewOf}
+use Rattle.cilk_runs.specs.FrameEnvViews.{IsViewOf}
 use Rattle.cilk_program.specs.Syntax.{Source}
-use Rattle.cilk_scheduler.specs.declared.seat.Seat.{Seat}
+use Rattle.cilk_scheduler.specs.declared.frame_state.FrameState.{FrameState}
 use Rattle.cilk_scheduler.specs.Numbered.{AreNamed, IsInstance}
 
-module _ (p : Source) (frames : List (Activation Seat)) (name : ℕ → Name) where
+module _ (p : Source) (frames : List (Activation FrameState)) (name : ℕ → Name) where
   -- a number of a kind belongs to one reducer
   pub one_instance : (i i' : Instance) (j : numbered.Instance) → IsInstance p frames name i j → IsInstance p frames name i' j → kind_of i ≡ kind_of i' → i ≡ i'
   one_instance Output Output j h h' e = refl
@@ -61,7 +61,7 @@ module _ (old new : Hypermap) (kind : MonoidKind) (j : numbered.Instance) (y : V
   changed_off k i e = ap (or_unit (structure_of k)) (view_is k i ∙ ap (λ b. cond b (Some y) (view_in old k i)) e)
 
 -- A piece's views of the board's reducers, after an event of reducer i0 that makes of its view the one of y, and leaves the others.
-module _ (p : Source) (frames : List (Activation Seat)) (name : ℕ → Name) (named : AreNamed frames name) (old new : Hypermap) (i0 : Instance) (j0 : numbered.Instance) (y : ViewValue) (v v' : Instance → View)
+module _ (p : Source) (frames : List (Activation FrameState)) (name : ℕ → Name) (named : AreNamed frames name) (old new : Hypermap) (i0 : Instance) (j0 : numbered.Instance) (y : ViewValue) (v v' : Instance → View)
     (at : IsInstance p frames name i0 j0) (changes : ChangesIn old new (kind_of i0) j0 (Some y)) (hit : IsViewOf (kind_of i0) (v' i0) y) (miss : (i : Instance) → same_instance i0 i ≡ false → v' i ≡ v i)
     (before : (i : Instance) (j : numbered.Instance) → IsInstance p frames name i j → IsViewOf (kind_of i) (v i) (value_in old (kind_of i) j)) where
   pub views_after : (i : Instance) (j : numbered.Instance) → IsInstance p frames name i j → IsViewOf (kind_of i) (v' i) (value_in new (kind_of i) j)

@@ -31,20 +31,20 @@ use Rattle.cilk_runs.specs.Monoids.{unit_of}
 use Rattle.cilk_runs.specs.Progress.{HasNoSync}
 use Rattle.cilk_runs.specs.Runs.{Name, Cell, Global, Own, Instance, Output, Reducer, Reads, Writes, Syncs, Ends, Passes, Deed, Does, Invokes}
 use Rattle.cilk_runs.specs.Reducers.{View, kind_of, monoid_of, views_of}
-use Rattle.cilk_runs.specs.WorldViews.{IsViewOf}
-use Rattle.cilk_runs.specs.Worlds.{World}
-use Rattle.cilk_runs.proofs.WorldViews.{are_multiplied}
-use Rattle.cilk_scheduler.specs.declared.board.Board.{Board}
+use Rattle.cilk_runs.specs.FrameEnvViews.{IsViewOf}
+use Rattle.cilk_runs.specs.FrameEnvs.{FrameEnv}
+use Rattle.cilk_runs.proofs.FrameEnvViews.{are_multiplied}
+use Rattle.cilk_scheduler.specs.declared.scheduler.Scheduler.{Scheduler}
 use Rattle.cilk_scheduler.specs.declared.choice.Choice.TheVariants.{Run}
-use Rattle.cilk_scheduler.specs.declared.seat.Due.TheVariants as due
-use Rattle.cilk_scheduler.specs.declared.seat.JournalEntry.{JournalEntry}
-use Rattle.cilk_scheduler.specs.declared.seat.Seat.{Seat}
-use Rattle.cilk_scheduler.specs.declared.seat.Status.{Status}
-use Rattle.cilk_scheduler.specs.declared.seat.Status.TheVariants.{Held, Calling, Offered, Waiting, Finished}
-use Rattle.cilk_scheduler.specs.declared.seat.Worker.{Worker}
+use Rattle.cilk_scheduler.specs.declared.frame_state.Due.TheVariants as due
+use Rattle.cilk_scheduler.specs.declared.frame_state.JournalEntry.{JournalEntry}
+use Rattle.cilk_scheduler.specs.declared.frame_state.FrameState.{FrameState}
+use Rattle.cilk_scheduler.specs.declared.frame_state.Status.{Status}
+use Rattle.cilk_scheduler.specs.declared.frame_state.Status.TheVariants.{Held, Calling, Offered, Waiting, Finished}
+use Rattle.cilk_scheduler.specs.declared.frame_state.Worker.{Worker}
 use Rattle.cilk_scheduler.specs.Blocks.{stolen_in, Lays, NotIn}
-use Rattle.cilk_scheduler.specs.Boards.{IsBare, hand_of, offers_of, is_resuming, is_there, stolen_at_block, run_at, waits_at, IsDue, Keeps, HasBlock, IsWhere, Sits, Holds, IsDesk, Tells, ShowsBy}
-use Rattle.cilk_scheduler.specs.Desks.{Desk, BlockIsOver, IsIn, Waited, Chooses, waits, idle}
+use Rattle.cilk_scheduler.specs.Schedulers.{IsBare, hand_of, offers_of, is_resuming, is_there, stolen_at_block, run_at, waits_at, IsDue, Keeps, HasBlock, IsWhere, Sits, Holds, IsWorkerTable, Tells, ShowsBy}
+use Rattle.cilk_scheduler.specs.WorkerTables.{WorkerTable, BlockIsOver, IsIn, Waited, Chooses, waits, idle}
 use Rattle.cilk_scheduler.specs.Events.{block_in}
 use Rattle.cilk_scheduler.specs.Numbered.{AreNamed, IsAbsent, size_of, IsCell, IsInstance, AreDeeds, events_of}
 use Rattle.cilk_scheduler.specs.Waiting.{StaysBehind, WaitsAreShown, idling}
@@ -136,15 +136,15 @@ awaited_one kind kid there own acc (k ∷ ks) run ws (inr a) some = (k, inl refl
 
 -- ---- the stolen children of a block
 
-sync_later : (d : Deed World) (ds : List (Deed World)) → (d ≡ Does Syncs → ⊥) → HasNoSync ds → HasNoSync (d ∷ ds)
+sync_later : (d : Deed FrameEnv) (ds : List (Deed FrameEnv)) → (d ≡ Does Syncs → ⊥) → HasNoSync ds → HasNoSync (d ∷ ds)
 sync_later d ds off none [] after q = let e : d ≡ Does Syncs = cc in off e
 sync_later d ds off none (b ∷ before) after q = let e : ds ≡ before ++ Does Syncs ∷ after = cc in none before after e
 
 -- the spawn of this child, with no sync behind it
-abbrev pub Spawns : ℕ → List (Deed World) → ℕ → Type 0
-Spawns k ds q = (before : List (Deed World)) × (after : List (Deed World)) × (what : World) × (ds ≡ before ++ Invokes Spawn what ∷ after) × HasNoSync after × (q ≡ k + started before)
+abbrev pub Spawns : ℕ → List (Deed FrameEnv) → ℕ → Type 0
+Spawns k ds q = (before : List (Deed FrameEnv)) × (after : List (Deed FrameEnv)) × (what : FrameEnv) × (ds ≡ before ++ Invokes Spawn what ∷ after) × HasNoSync after × (q ≡ k + started before)
 
-spawns_later : (d : Deed World) (z k : ℕ) (ds : List (Deed World)) (q : ℕ) → ((b : List (Deed World)) → z + started b ≡ k + started (d ∷ b)) → Spawns z ds q → Spawns k (d ∷ ds) q
+spawns_later : (d : Deed FrameEnv) (z k : ℕ) (ds : List (Deed FrameEnv)) (q : ℕ) → ((b : List (Deed FrameEnv)) → z + started b ≡ k + started (d ∷ b)) → Spawns z ds q → Spawns k (d ∷ ds) q
 spawns_later d z k ds q e h = (d ∷ h.0, h.1, h.2, ap (λ l. d ∷ l) h.3, h.4, h.5 ∙ e h.0)
 
 among_more : (ks : List ℕ) (k q : ℕ) → Stands (ks ++ k ∷ []) q → Stands ks q ⊎ (q ≡ k)
@@ -157,10 +157,10 @@ among_cond : (c : Bool) (ks : List ℕ) (k q : ℕ) → Stands (cond c (ks ++ k 
 among_cond true ks k q h = among_more ks k q h
 among_cond false ks k q h = inl h
 
-pub split : (loose : ℕ → Bool) (k : ℕ) (ks : List ℕ) (ds : List (Deed World)) (q : ℕ) → Stands (stolen_in loose k ks ds) q → (Stands ks q × HasNoSync ds) ⊎ Spawns k ds q
+pub split : (loose : ℕ → Bool) (k : ℕ) (ks : List ℕ) (ds : List (Deed FrameEnv)) (q : ℕ) → Stands (stolen_in loose k ks ds) q → (Stands ks q × HasNoSync ds) ⊎ Spawns k ds q
 split loose k ks [] q h = inl (h, none)
   where
-    none : HasNoSync {W = World} []
+    none : HasNoSync {W = FrameEnv} []
     none [] after e = let z : [] ≡ Does Syncs ∷ after = e in cc
     none (b ∷ before) after e = let z : [] ≡ b ∷ (before ++ Does Syncs ∷ after) = e in cc
 split loose k ks (Does (Reads c v) ∷ ds) q h = ⊎_elim (λ a. inl (a.0, sync_later (Does (Reads c v)) ds (λ e. cc) a.1)) (λ a. inr (spawns_later (Does (Reads c v)) k k ds q (λ b. refl) a)) (split loose k ks ds q h)
@@ -185,7 +185,7 @@ below_off : (k z : ℕ) → k < z → nat_eq k z ≡ false
 below_off k z lt = ⊎_elim (λ q. let e : k ≡ z = eqb-true k z q in absurd (omega (arith, e, lt))) (λ f. f) (cases_Bool (nat_eq k z))
 
 -- a key above all that were started isn't among them
-pub not_among : (loose : ℕ → Bool) (k : ℕ) (ks : List ℕ) (ds : List (Deed World)) (z : ℕ) → k + started ds ≤ z → NotIn z ks → NotIn z (stolen_in loose k ks ds)
+pub not_among : (loose : ℕ → Bool) (k : ℕ) (ks : List ℕ) (ds : List (Deed FrameEnv)) (z : ℕ) → k + started ds ≤ z → NotIn z ks → NotIn z (stolen_in loose k ks ds)
 not_among loose k ks [] z le h = h
 not_among loose k ks (Does (Reads c v) ∷ ds) z le h = not_among loose k ks ds z le h
 not_among loose k ks (Does (Writes c v) ∷ ds) z le h = not_among loose k ks ds z le h
@@ -195,11 +195,11 @@ not_among loose k ks (Does (Passes m) ∷ ds) z le h = not_among loose k ks ds z
 not_among loose k ks (Invokes Call w ∷ ds) z le h = not_among loose (suc k) ks ds z (omega (arith, le)) h
 not_among loose k ks (Invokes Spawn w ∷ ds) z le h = not_among loose (suc k) (cond (loose k) (ks ++ k ∷ []) ks) ds z (omega (arith, le)) (off_cond (loose k) ks k z h (below_off k z (omega (arith, le))))
 
-module _ (code : CodeView) (p : Source) (inputs : List ℤ) (name : ℕ → Name) (b b' : Board) (d : Desk) (s : State World View) (w k : ℕ) (sh : ShowsBy code p inputs name b d s) (quiet : is_resuming (deeds_at (s.frames (name k))) ≡ false) (h : StaysBehind code p inputs b b' w k) where
-  abbrev old_seats : List (Activation Seat)
+module _ (code : CodeView) (p : Source) (inputs : List ℤ) (name : ℕ → Name) (b b' : Scheduler) (d : WorkerTable) (s : State FrameEnv View) (w k : ℕ) (sh : ShowsBy code p inputs name b d s) (quiet : is_resuming (deeds_at (s.frames (name k))) ≡ false) (h : StaysBehind code p inputs b b' w k) where
+  abbrev old_seats : List (Activation FrameState)
   old_seats = let f = b.frames in f.items
 
-  abbrev new_seats : List (Activation Seat)
+  abbrev new_seats : List (Activation FrameState)
   new_seats = let f = b'.frames in f.items
 
   abbrev old_workers : List Worker
@@ -208,16 +208,16 @@ module _ (code : CodeView) (p : Source) (inputs : List ℤ) (name : ℕ → Name
   abbrev new_workers : List Worker
   new_workers = let l = b'.workers in l.items
 
-  abbrev seat : Seat
+  abbrev seat : FrameState
   seat = let a = h.seat in a.cursor
 
-  abbrev frame : Frame World
+  abbrev frame : Frame FrameEnv
   frame = let o = sh.sits k h.seat h.sits in o.frame
 
-  abbrev what : World
+  abbrev what : FrameEnv
   what = let f = (let o = sh.sits k h.seat h.sits in o.frame) in f.what
 
-  abbrev past : List (Deed World)
+  abbrev past : List (Deed FrameEnv)
   past = let f = (let o = sh.sits k h.seat h.sits in o.frame) in f.deeds
 
   low : k < length old_seats
@@ -230,7 +230,7 @@ module _ (code : CodeView) (p : Source) (inputs : List ℤ) (name : ℕ → Name
   status_was =
       let g = sh.holds w k h.worker h.at h.has in
       let same : g.seat ≡ h.seat = (let q : Some g.seat ≡ Some h.seat = sym g.here ∙ h.sits in cc) in
-      ap (λ (a : Activation Seat). let x = a.cursor in x.status) (sym same) ∙ g.held
+      ap (λ (a : Activation FrameState). let x = a.cursor in x.status) (sym same) ∙ g.held
 
   was : IsWhere code p inputs name b s k (name k) past seat (Held w)
   was = let o = sh.sits k h.seat h.sits in subst (λ z. IsWhere code p inputs name b s k (name k) past seat z) status_was o.is_where
@@ -251,35 +251,35 @@ module _ (code : CodeView) (p : Source) (inputs : List ℤ) (name : ℕ → Name
 
   -- ---- where seats stand
 
-  abbrev behind : Seat
+  abbrev behind : FrameState
   behind = let y = h.came in let z = h.after in record seat { status = Waiting; due = due.Sync; cursor = y.cursor; took = y.took; join = z.join }
 
-  abbrev now : Activation Seat
+  abbrev now : Activation FrameState
   now = let a = h.seat in record a { cursor = behind }
 
   after_as : h.after ≡ behind
-  after_as = let z = h.after in h.after_is ∙ ap (λ (y : Seat). record y { status = Waiting; due = due.Sync; join = z.join }) kept
+  after_as = let z = h.after in h.after_is ∙ ap (λ (y : FrameState). record y { status = Waiting; due = due.Sync; join = z.join }) kept
 
   now_at : slice_get new_seats k ≡ Some now
   now_at =
       let a = h.seat in
-      let B : Seat → Option (Activation Seat) = (λ y. Some (record a { cursor = y })) in
+      let B : FrameState → Option (Activation FrameState) = (λ y. Some (record a { cursor = y })) in
       ap (λ l. slice_get l k) h.frames ∙ changed_here (λ _. h.after) old_seats k h.seat h.sits ∙ ap B after_as
 
   else_at : (j : ℕ) → (k ≡ j → ⊥) → slice_get new_seats j ≡ slice_get old_seats j
   else_at j ne = ap (λ l. slice_get l j) h.frames ∙ changed_off (λ _. h.after) old_seats k j ne
 
   same_length : length new_seats ≡ length old_seats
-  same_length = ap (λ (l : List (Activation Seat)). length l) h.frames ∙ changed_length (λ _. h.after) old_seats k
+  same_length = ap (λ (l : List (Activation FrameState)). length l) h.frames ∙ changed_length (λ _. h.after) old_seats k
 
   on : carries.Carries old_seats new_seats
   on = subst (λ l. carries.Carries old_seats l) (sym h.frames) (carries.carries_changed (λ _. h.after) old_seats k)
 
-  pub data Which (j : ℕ) (a : Activation Seat) : Type 0 where
+  pub data Which (j : ℕ) (a : Activation FrameState) : Type 0 where
     behind_is : k ≡ j → now ≡ a → Which j a
     stays : (k ≡ j → ⊥) → slice_get old_seats j ≡ Some a → Which j a
 
-  which : (j : ℕ) (a : Activation Seat) → slice_get new_seats j ≡ Some a → Which j a
+  which : (j : ℕ) (a : Activation FrameState) → slice_get new_seats j ≡ Some a → Which j a
   which j a at = by (nat_eq k j) refl
     where
       by : (c : Bool) → nat_eq k j ≡ c → Which j a
@@ -317,7 +317,7 @@ module _ (code : CodeView) (p : Source) (inputs : List ℤ) (name : ℕ → Name
   cell_back (Global g) n it = it
   cell_back (Own m q) n it =
       let r = carries.carried_back old_seats new_seats on same_length it.0 it.1 it.2 in
-      (it.0, r.0, r.1, it.3, it.4 ∙ ap (λ (a : Activation Seat). a.base + q) r.2, it.5)
+      (it.0, r.0, r.1, it.3, it.4 ∙ ap (λ (a : Activation FrameState). a.base + q) r.2, it.5)
 
   absent_back : (n : Name) → IsAbsent new_seats name n → IsAbsent old_seats name n
   absent_back n none = λ j at. none j (subst (λ z. j < z) (sym same_length) at)
@@ -327,14 +327,14 @@ module _ (code : CodeView) (p : Source) (inputs : List ℤ) (name : ℕ → Name
 
   -- ---- blocks
 
-  keeps_same : (n : Name) (ds : List (Deed World)) (j : JoinView) → Keeps code p inputs name b s n ds j → Keeps code p inputs name b' s n ds j
+  keeps_same : (n : Name) (ds : List (Deed FrameEnv)) (j : JoinView) → Keeps code p inputs name b s n ds j → Keeps code p inputs name b' s n ds j
   keeps_same n ds j g = carries.keeps_on code p inputs name b b' s s same_length instance_back n ds ds j refl (λ q. refl) (λ i q there. refl) (λ i. refl) g
 
-  block_else : (n : Name) (ds : List (Deed World)) (x : Seat) → HasBlock code p inputs name b s n ds x → HasBlock code p inputs name b' s n ds x
+  block_else : (n : Name) (ds : List (Deed FrameEnv)) (x : FrameState) → HasBlock code p inputs name b s n ds x → HasBlock code p inputs name b' s n ds x
   block_else n ds x (inl g) = inl g
   block_else n ds x (inr g) = let l = g.0 in inr (g.0, g.1, ⊎_elim (λ m. inl m) (λ z. inr (keeps_same n ds (shown l.value) z.0, z.1)) g.2)
 
-  where_else : (j : ℕ) (n : Name) (ds : List (Deed World)) (x : Seat) (z : Status) → (k ≡ j → ⊥) → IsWhere code p inputs name b s j n ds x z → IsWhere code p inputs name b' s j n ds x z
+  where_else : (j : ℕ) (n : Name) (ds : List (Deed FrameEnv)) (x : FrameState) (z : Status) → (k ≡ j → ⊥) → IsWhere code p inputs name b s j n ds x z → IsWhere code p inputs name b' s j n ds x z
   where_else j n ds x (Held v) off g =
       let r = worker_on v g.0 g.1 in
       (r.0, r.1, ⊎_elim (λ y. absurd (off (own_worker v j g.0 g.1 g.2 y.0))) (λ y. ap (λ (u : Worker). u.frame) y.1 ∙ g.2) r.2, g.3, g.4, g.5, g.6)
@@ -348,7 +348,7 @@ module _ (code : CodeView) (p : Source) (inputs : List ℤ) (name : ℕ → Name
   written_now : (j : ℕ) → (let e = b'.journal in events_of j e.items) ≡ (let e = b.journal in events_of j e.items)
   written_now j = ap (λ l. events_of j l) h.journal
 
-  other : (j : ℕ) (a : Activation Seat) → (k ≡ j → ⊥) → Sits code p inputs name b s j a → Sits code p inputs name b' s j a
+  other : (j : ℕ) (a : Activation FrameState) → (k ≡ j → ⊥) → Sits code p inputs name b s j a → Sits code p inputs name b' s j a
   other j a off o =
       let x = a.cursor in
       let f = o.frame in
@@ -386,10 +386,10 @@ module _ (code : CodeView) (p : Source) (inputs : List ℤ) (name : ℕ → Name
   block_now = arrived_at (let y = h.came in block_in y.join) (let y = h.came in y.children + 1) true (let u = h.worker in product u.views)
 
   block_is : block ≡ block_in seat.join
-  block_is = ap (λ (y : Seat). block_in y.join) kept
+  block_is = ap (λ (y : FrameState). block_in y.join) kept
 
   key_is : key ≡ started past + 1
-  key_is = let o = sh.sits k h.seat h.sits in ap (λ (y : Seat). y.children + 1) kept ∙ ap (λ n. n + 1) (sym o.children)
+  key_is = let o = sh.sits k h.seat h.sits in ap (λ (y : FrameState). y.children + 1) kept ∙ ap (λ n. n + 1) (sym o.children)
 
   kept_before : Keeps code p inputs name b s (name k) past block
   kept_before =
@@ -416,7 +416,7 @@ module _ (code : CodeView) (p : Source) (inputs : List ℤ) (name : ℕ → Name
       let g = sh.holds w k h.worker h.at h.has in
       let u = h.worker in
       let same : g.seat ≡ h.seat = (let q : Some g.seat ≡ Some h.seat = sym g.here ∙ h.sits in cc) in
-      let merged : (let a = g.seat in let y = a.cursor in y.merged) ≡ false = ap (λ (a : Activation Seat). let y = a.cursor in y.merged) same ∙ h.unmerged in
+      let merged : (let a = g.seat in let y = a.cursor in y.merged) ≡ false = ap (λ (a : Activation FrameState). let y = a.cursor in y.merged) same ∙ h.unmerged in
       subst (λ v. IsViewOf (kind_of i) v (value_in u.views (kind_of i) j)) (plain (monoid_of i) (λ m. s.piece m i) s.stolen (name k) (deeds_at (s.frames (name k))) (let a = g.seat in let y = a.cursor in y.merged) merged quiet) (g.views i j is)
 
   abbrev listed : List ℕ
@@ -488,7 +488,7 @@ module _ (code : CodeView) (p : Source) (inputs : List ℤ) (name : ℕ → Name
         written = subst (λ es. AreDeeds p new_seats name s k f.deeds es) (sym (written_now k)) (carries.deeds_on old_seats new_seats on name p s s more k f.deeds (events_of k e.items) o.written);
       }
 
-  seats_sit : (j : ℕ) (a : Activation Seat) → slice_get new_seats j ≡ Some a → Sits code p inputs name b' s j a
+  seats_sit : (j : ℕ) (a : Activation FrameState) → slice_get new_seats j ≡ Some a → Sits code p inputs name b' s j a
   seats_sit j a at = by (which j a at)
     where
       by : Which j a → Sits code p inputs name b' s j a
@@ -505,7 +505,7 @@ module _ (code : CodeView) (p : Source) (inputs : List ℤ) (name : ℕ → Name
       held : (z : Worker) → (w ≡ v → ⊥) → Holds code p inputs name b s v z j → Holds code p inputs name b' s v z j
       held z ne g =
           let off : k ≡ j → ⊥ = (λ e. let y : Some h.seat ≡ Some g.seat = sym h.sits ∙ ap (λ i. slice_get old_seats i) e ∙ g.here in let x : h.seat ≡ g.seat = cc in
-          let z : Held w ≡ Held v = sym status_was ∙ ap (λ (a : Activation Seat). let c = a.cursor in c.status) x ∙ g.held in ne (cc)) in record {
+          let z : Held w ≡ Held v = sym status_was ∙ ap (λ (a : Activation FrameState). let c = a.cursor in c.status) x ∙ g.held in ne (cc)) in record {
             seat = g.seat;
             here = else_at j off ∙ g.here;
             held = g.held;
@@ -516,10 +516,10 @@ module _ (code : CodeView) (p : Source) (inputs : List ℤ) (name : ℕ → Name
 
   -- ---- the desk
 
-  abbrev desk_now : Desk
+  abbrev desk_now : WorkerTable
   desk_now = idle (record d { waiting = name k ∷ d.waiting }) w
 
-  desk_is : IsDesk code p inputs name b' desk_now
+  desk_is : IsWorkerTable code p inputs name b' desk_now
   desk_is =
       let o = sh.desk in record {
         hands = ap (λ hs. set hs w None) o.hands ∙ sym (altering.altered_set (idling h.views) (hand_of name) None old_workers w (λ u. refl)) ∙ ap (λ ws. map (hand_of name) ws) (sym h.workers);
@@ -529,7 +529,7 @@ module _ (code : CodeView) (p : Source) (inputs : List ℤ) (name : ℕ → Name
             let r = worker_was v u at in
             let g = o.places v q j r.0 r.1 (subst (λ f. slice_get f.items q ≡ Some j) (offers_same v r.0 u r.2) has) in
             let ne : k ≡ j → ⊥ = (λ e. let y : Some h.seat ≡ Some g.0 = sym h.sits ∙ ap (λ i. slice_get old_seats i) e ∙ g.1 in let x : h.seat ≡ g.0 = cc in
-            let z : Held w ≡ Offered v = sym status_was ∙ ap (λ (a : Activation Seat). let c = a.cursor in c.status) x ∙ g.2 in let f : ⊥ = cc in f) in
+            let z : Held w ≡ Offered v = sym status_was ∙ ap (λ (a : Activation FrameState). let c = a.cursor in c.status) x ∙ g.2 in let f : ⊥ = cc in f) in
             (g.0, else_at j ne ∙ g.1, g.2);
         once = λ v q i j u at has also.
             let r = worker_was v u at in
@@ -538,11 +538,11 @@ module _ (code : CodeView) (p : Source) (inputs : List ℤ) (name : ℕ → Name
         present = λ n is none. ⊎_elim (λ e. absent_back n none k low e) (λ y. o.present n y (absent_back n none)) is;
       }
     where
-      waits_as : (j : ℕ) (a : Activation Seat) → slice_get new_seats j ≡ Some a → ((let x = a.cursor in x.status ≡ Waiting) → IsIn (name j) (name k ∷ d.waiting)) × (IsIn (name j) (name k ∷ d.waiting) → let x = a.cursor in x.status ≡ Waiting)
+      waits_as : (j : ℕ) (a : Activation FrameState) → slice_get new_seats j ≡ Some a → ((let x = a.cursor in x.status ≡ Waiting) → IsIn (name j) (name k ∷ d.waiting)) × (IsIn (name j) (name k ∷ d.waiting) → let x = a.cursor in x.status ≡ Waiting)
       waits_as j a at = by (which j a at)
         where
           by : Which j a → ((let x = a.cursor in x.status ≡ Waiting) → IsIn (name j) (name k ∷ d.waiting)) × (IsIn (name j) (name k ∷ d.waiting) → let x = a.cursor in x.status ≡ Waiting)
-          by (behind_is same is) = ((λ q. inl (ap name same)), (λ q. ap (λ (y : Activation Seat). let x = y.cursor in x.status) (sym is)))
+          by (behind_is same is) = ((λ q. inl (ap name same)), (λ q. ap (λ (y : Activation FrameState). let x = y.cursor in x.status) (sym is)))
           by (stays ne at') =
               let o = sh.desk in
               let g = o.waiting j a at' in
@@ -552,14 +552,14 @@ module _ (code : CodeView) (p : Source) (inputs : List ℤ) (name : ℕ → Name
 
   -- ---- what is told
 
-  base_was : (j : ℕ) (a : Activation Seat) → slice_get new_seats j ≡ Some a → (z : Activation Seat) × (slice_get old_seats j ≡ Some z) × (a.base ≡ z.base)
-  base_was j a at = let r = carries.carried_back old_seats new_seats on same_length j a at in (r.0, r.1, ap (λ (z : Activation Seat). z.base) r.2)
+  base_was : (j : ℕ) (a : Activation FrameState) → slice_get new_seats j ≡ Some a → (z : Activation FrameState) × (slice_get old_seats j ≡ Some z) × (a.base ≡ z.base)
+  base_was j a at = let r = carries.carried_back old_seats new_seats on same_length j a at in (r.0, r.1, ap (λ (z : Activation FrameState). z.base) r.2)
 
   tells_is : Tells code p inputs name b' s
   tells_is =
       let o = sh.tells in
-      let J : Seat → Seat = (λ y. let x = h.after in record y { status = x.status; due = x.due; cursor = x.cursor; took = x.took; join = x.join }) in
-      let same : J seat ≡ h.after = sym (after_as ∙ ap (λ (x : Seat). record seat { status = x.status; due = x.due; cursor = x.cursor; took = x.took; join = x.join }) (sym after_as)) in
+      let J : FrameState → FrameState = (λ y. let x = h.after in record y { status = x.status; due = x.due; cursor = x.cursor; took = x.took; join = x.join }) in
+      let same : J seat ≡ h.after = sym (after_as ∙ ap (λ (x : FrameState). record seat { status = x.status; due = x.due; cursor = x.cursor; took = x.took; join = x.join }) (sym after_as)) in
       record {
         named = subst (λ l. AreNamed l name) (sym h.frames) (subst (λ l. AreNamed l name) (changed_known J (λ _. h.after) old_seats k h.seat h.sits same) (named_changed J old_seats k name (λ x. (refl, refl)) o.named));
         here = λ j a at. let z = seats_sit j a at in (z.frame, z.here, z.written);
@@ -608,7 +608,7 @@ module _ (code : CodeView) (p : Source) (inputs : List ℤ) (name : ℕ → Name
       let o = sh.desk in
       ap (λ hs. slice_get hs w) o.hands ∙ slice_get-map (hand_of name) old_workers w ∙ ap (λ u. option_map (hand_of name) u) h.at ∙ ap (λ f. Some (option_map name f)) h.has
 
-  pub waited : (d' : Desk) × Chooses p inputs s d (Run (suc w)) Waited s d' × ShowsBy code p inputs name b' d' s
+  pub waited : (d' : WorkerTable) × Chooses p inputs s d (Run (suc w)) Waited s d' × ShowsBy code p inputs name b' d' s
   waited =
       let n = now_due in
       (desk_now, waits w (name k) frame hand_is (record { here = here; next = (let y = n.2 in y.2); goes_on = was.3 }) unfinished, shown_after)

@@ -18,24 +18,24 @@ use Rattle.cilk_frames.specs.Following.{Fits, GoesOn, Runs, Stands, child_of}
 use Rattle.cilk_runs.specs.Costs.{Total, EventTotal, FrameTotal, CellTotal, TickTotal, fault_of}
 use Rattle.cilk_runs.specs.Machine.{started}
 use Rattle.cilk_runs.specs.Runs.{Deed}
-use Rattle.cilk_runs.specs.WorldMachine.{costs, named_ask}
-use Rattle.cilk_runs.specs.Worlds.{World}
-use Rattle.cilk_scheduler.specs.declared.seat.Due.{Due}
-use Rattle.cilk_scheduler.specs.declared.seat.Due.TheVariants as due
-use Rattle.cilk_scheduler.specs.declared.seat.Seat.{Seat}
+use Rattle.cilk_runs.specs.FrameEnvMachine.{costs, named_ask}
+use Rattle.cilk_runs.specs.FrameEnvs.{FrameEnv}
+use Rattle.cilk_scheduler.specs.declared.frame_state.Due.{Due}
+use Rattle.cilk_scheduler.specs.declared.frame_state.Due.TheVariants as due
+use Rattle.cilk_scheduler.specs.declared.frame_state.FrameState.{FrameState}
 
 module _ (code : CodeView) (inputs : List ℤ) where
   -- it can go on
-  abbrev pub IsReadyFor : Seat → Due → Type 0
+  abbrev pub IsReadyFor : FrameState → Due → Type 0
   IsReadyFor x due.Begin = Unit {0}
   IsReadyFor x (due.Answer a) = (c : CursorView) × (x.cursor ≡ Some c) × Runs code inputs c × Fits c.owed a × (x.took ≤ MAX_TICKS)
   IsReadyFor x due.Sync = Unit {0}
 
-  abbrev pub IsReady : Seat → Type 0
+  abbrev pub IsReady : FrameState → Type 0
   IsReady x = IsReadyFor x x.due
 
   -- The cursor has come to this ask, with so many ticks left of all those of a run but those that the frame took before.
-  pub record Came (x : Seat) (a : Answer) (k : Ask) (x' : Seat) : Type 0 where
+  pub record Came (x : FrameState) (a : Answer) (k : Ask) (x' : FrameState) : Type 0 where
     pub before : CursorView
     pub after : CursorView
     pub left : ℕ
@@ -45,12 +45,12 @@ module _ (code : CodeView) (inputs : List ℤ) where
     pub goes_on : (p : Source) (callee : Callee) (history : List ℤ) (took : ℕ) → Stands code inputs p callee before history took → GoesOn code inputs before a (MAX_TICKS - x.took) k after left p callee history took
 
   -- it has gone on to this ask
-  abbrev pub WentOnFrom : Due → Seat → Ask → Seat → Type 0
+  abbrev pub WentOnFrom : Due → FrameState → Ask → FrameState → Type 0
   WentOnFrom due.Begin x k x' = (k ≡ asks.Begin) × (x' ≡ x)
   WentOnFrom (due.Answer a) x k x' = Came x a k x'
   WentOnFrom due.Sync x k x' = (k ≡ asks.Sync) × (x' ≡ x)
 
-  abbrev pub WentOn : Seat → Ask → Seat → Type 0
+  abbrev pub WentOn : FrameState → Ask → FrameState → Type 0
   WentOn x k x' = WentOnFrom x.due x k x'
 
 -- a fault of the frame's own, or else the other
@@ -89,6 +89,6 @@ refusal ticks events frames cells l k =
 -- The refusal is the fault by which the free machine stops, where so many events, frames and cells are, and so many ticks with the frame's own.
 abbrev pub RefusalsAreFaults : Source → List ℤ → Layout → Type 0
 RefusalsAreFaults p inputs l =
-    (w : World) (deeds : List (Deed World)) (k : Ask) (totals : Total → ℕ) (ticks : ℕ) → ticks ≡ (let C = costs p inputs in totals TickTotal + C.ticks w deeds)
+    (w : FrameEnv) (deeds : List (Deed FrameEnv)) (k : Ask) (totals : Total → ℕ) (ticks : ℕ) → ticks ≡ (let C = costs p inputs in totals TickTotal + C.ticks w deeds)
     → totals FrameTotal ≤ MAX_FRAMES → totals CellTotal ≤ MAX_CELLS → ((callee : Callee) → cells_in l callee ≡ cells_of p callee)
     → refusal ticks (totals EventTotal) (totals FrameTotal) (totals CellTotal) l k ≡ fault_of (costs p inputs) totals w deeds (named_ask p w (suc (started deeds)) k)

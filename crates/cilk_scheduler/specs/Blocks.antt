@@ -8,7 +8,7 @@ use Rattle.cilk_runs.specs.Machine.{block_view}
 use Rattle.cilk_runs.specs.Runs.{Reads, Writes, Syncs, Ends, Passes, Deed, Does, Invokes}
 use Rattle.cilk_join.specs.Rows.{Wait, Stands, wait, or_unit, placed}
 use Rattle.cilk_runs.specs.Reducers.{View, views_of}
-use Rattle.cilk_runs.specs.WorldViews.{IsViewOf}
+use Rattle.cilk_runs.specs.FrameEnvViews.{IsViewOf}
 
 -- the ordinals of the stolen children of the block that is open at the end of the deeds, in ascending order
 abbrev pub stolen_in : {W : Type 0} → (ℕ → Bool) → ℕ → List ℕ → List (Deed W) → List ℕ

@@ -12,31 +12,31 @@ use Rattle.cilk_join.specs.Waits.{shown}
 use Rattle.cilk_runs.specs.Machine.{State}
 use Rattle.cilk_runs.specs.Runs.{Name}
 use Rattle.cilk_runs.specs.Reducers.{View}
-use Rattle.cilk_runs.specs.Worlds.{World}
-use Rattle.cilk_scheduler.specs.declared.board.Board.{Board}
-use Rattle.cilk_scheduler.specs.declared.seat.Seat.{Seat}
-use Rattle.cilk_scheduler.specs.declared.seat.Status.{Status}
-use Rattle.cilk_scheduler.specs.declared.seat.Status.TheVariants.{Held, Offered}
-use Rattle.cilk_scheduler.specs.declared.seat.Worker.{Worker}
+use Rattle.cilk_runs.specs.FrameEnvs.{FrameEnv}
+use Rattle.cilk_scheduler.specs.declared.scheduler.Scheduler.{Scheduler}
+use Rattle.cilk_scheduler.specs.declared.frame_state.FrameState.{FrameState}
+use Rattle.cilk_scheduler.specs.declared.frame_state.Status.{Status}
+use Rattle.cilk_scheduler.specs.declared.frame_state.Status.TheVariants.{Held, Offered}
+use Rattle.cilk_scheduler.specs.declared.frame_state.Worker.{Worker}
 use Rattle.cilk_scheduler.specs.Acting.{IsShown}
-use Rattle.cilk_scheduler.specs.Boards.{ShowsBy}
-use Rattle.cilk_scheduler.specs.Desks.{Desk}
+use Rattle.cilk_scheduler.specs.Schedulers.{ShowsBy}
+use Rattle.cilk_scheduler.specs.WorkerTables.{WorkerTable}
 use Rattle.cilk_scheduler.specs.Ending.{EndsRun, GoesBack, HandsIn, RetiresOwn}
 use Rattle.cilk_scheduler.specs.Events.{Arrives}
 use Rattle.cilk_frames.specs.Leaving.{outcome_of}
 use Rattle.cilk_scheduler.specs.Parents.{OutliveChildren}
 use Rattle.cilk_scheduler.specs.Parts.{freed, working}
-use Rattle.cilk_scheduler.specs.Seats.{changed, counted, finished, moved_to, passed}
+use Rattle.cilk_scheduler.specs.FrameStates.{changed, counted, finished, moved_to, passed}
 use Rattle.cilk_scheduler.specs.Steps.{HasCome}
 use Rattle.cilk_scheduler.specs.Workers.{altered, viewing}
 use Rattle.cilk_scheduler.specs.OfferLists.{Withdraws}
 
 -- The frame at place k of these is finished, its ticks are counted, and its end is written down.
-pub record IsFinished (b b' : Board) (k : ℕ) (frames : List (Activation Seat)) : Type 0 where
-  pub acted : List (Activation Seat)
+pub record IsFinished (b b' : Scheduler) (k : ℕ) (frames : List (Activation FrameState)) : Type 0 where
+  pub acted : List (Activation FrameState)
   pub finishes : acted ≡ changed finished frames k
   pub counts : let l = b'.frames in l.items ≡ changed counted acted k
-  pub ticks : (a : Activation Seat) → slice_get acted k ≡ Some a → b'.ticks ≡ b.ticks + (let x = a.cursor in x.took - x.counted)
+  pub ticks : (a : Activation FrameState) → slice_get acted k ≡ Some a → b'.ticks ≡ b.ticks + (let x = a.cursor in x.took - x.counted)
   pub journal : let e = b.journal in let l = b'.journal in l.items ≡ e.items ++ (record { frame = k; event = events.End }) ∷ []
   pub cells : let c = b.cells in let d = b'.cells in d.items ≡ c.items
 
@@ -47,26 +47,26 @@ pub data Seeks (k : ℕ) (status : Status) (workers after : List Worker) (before
       → after ≡ altered (λ _. without) workers v → offered ≡ cond found (before - 1) before → Seeks k status workers after before offered
 
 -- A piece arrives at the block of a frame that this is kept of, with this key, and this is kept of it then.
-pub data Brings (x : Seat) (key : ℕ) (piece : Hypermap) (passes : Bool) (x' : Seat) (left : Hypermap) : Type 0 where
+pub data Brings (x : FrameState) (key : ℕ) (piece : Hypermap) (passes : Bool) (x' : FrameState) (left : Hypermap) : Type 0 where
   ToJoin : (l l' : _) → x.join ≡ Some l → x' ≡ record x { join = Some l' } → Arrives (shown l.value) key false (product piece) passes (shown l'.value) left → Brings x key piece passes x' left
 
 module _ (code : CodeView) (p : Source) (inputs : List ℤ) where
   -- Worker w's frame has gone on to its end, and the worker's views have lost its reducers.
-  pub record HasRetired (b : Board) (w k : ℕ) (v : ℤ) (h : HasCome code p inputs b w k (asks.End v)) (went : List (Activation Seat)) (views : Hypermap) : Type 0 where
+  pub record HasRetired (b : Scheduler) (w k : ℕ) (v : ℤ) (h : HasCome code p inputs b w k (asks.End v)) (went : List (Activation FrameState)) (views : Hypermap) : Type 0 where
     pub goes : let l = b.frames in went ≡ changed (λ _. h.came) l.items k
-    pub retires : (top : Activation Seat) → slice_get went k ≡ Some top → let u = h.worker in RetiresOwn code.layout top u.views views
+    pub retires : (top : Activation FrameState) → slice_get went k ≡ Some top → let u = h.worker in RetiresOwn code.layout top u.views views
 
   -- The first frame: an outcome is left, with these views, and the worker is idle.
   abbrev pub RunsAreLeft : Type 0
   RunsAreLeft =
-      (b b' : Board) (w : ℕ) (v : ℤ) (h : HasCome code p inputs b w 0 (asks.End v)) (went : List (Activation Seat)) (views left : Hypermap) (viewed : List Worker) → HasRetired b w 0 v h went views
+      (b b' : Scheduler) (w : ℕ) (v : ℤ) (h : HasCome code p inputs b w 0 (asks.End v)) (went : List (Activation FrameState)) (views left : Hypermap) (viewed : List Worker) → HasRetired b w 0 v h went views
       → (let c = b.cells in b'.outcome ≡ Some (outcome_of code.layout c.items views v)) → (let l = b.workers in viewed ≡ viewing left l.items w) → (let l = b'.workers in l.items ≡ altered freed viewed w) → b'.offered ≡ b.offered
       → IsFinished b b' 0 went → EndsRun code p inputs b b' w v h
 
   -- A frame beside which no continuation was stolen: the worker has the parent, whose continuation is no longer offered.
   abbrev pub FramesGoBack : Type 0
   FramesGoBack =
-      (name : ℕ → Name) (b b' : Board) (d : Desk) (s : State World View) (w k : ℕ) (v : ℤ) → ShowsBy code p inputs name b d s → (h : HasCome code p inputs b w (suc k) (asks.End v)) (went held : List (Activation Seat)) (views : Hypermap) (viewed others : List Worker) (above : Activation Seat)
+      (name : ℕ → Name) (b b' : Scheduler) (d : WorkerTable) (s : State FrameEnv View) (w k : ℕ) (v : ℤ) → ShowsBy code p inputs name b d s → (h : HasCome code p inputs b w (suc k) (asks.End v)) (went held : List (Activation FrameState)) (views : Hypermap) (viewed others : List Worker) (above : Activation FrameState)
       → HasRetired b w (suc k) v h went views → (let a = h.seat in let x = a.cursor in x.stolen ≡ false) → (let a = h.seat in let x = a.cursor in slice_get went x.parent ≡ Some above) → (let l = b.workers in viewed ≡ viewing views l.items w)
       → (let a = h.seat in let x = a.cursor in let y = above.cursor in Seeks x.parent y.status viewed others b.offered b'.offered) → (let a = h.seat in let x = a.cursor in held ≡ changed (moved_to (Held w)) went x.parent)
       → (let a = h.seat in let x = a.cursor in let l = b'.workers in l.items ≡ altered (working x.parent) others w) → b'.outcome ≡ b.outcome → IsFinished b b' (suc k) held → GoesBack code p inputs b b' w (suc k) v h
@@ -74,7 +74,7 @@ module _ (code : CodeView) (p : Source) (inputs : List ℤ) where
   -- A frame beside which the continuation was stolen: its piece has arrived at its parent's block, and where that passes, the worker has the parent.
   abbrev pub PiecesAreHandedIn : Type 0
   PiecesAreHandedIn =
-      (name : ℕ → Name) (b b' : Board) (d : Desk) (s : State World View) (w k : ℕ) (v : ℤ) → ShowsBy code p inputs name b d s → (h : HasCome code p inputs b w (suc k) (asks.End v)) (went brought held : List (Activation Seat)) (views left : Hypermap) (viewed : List Worker) (above : Activation Seat) (joined : Seat) (passes : Bool)
+      (name : ℕ → Name) (b b' : Scheduler) (d : WorkerTable) (s : State FrameEnv View) (w k : ℕ) (v : ℤ) → ShowsBy code p inputs name b d s → (h : HasCome code p inputs b w (suc k) (asks.End v)) (went brought held : List (Activation FrameState)) (views left : Hypermap) (viewed : List Worker) (above : Activation FrameState) (joined : FrameState) (passes : Bool)
       → HasRetired b w (suc k) v h went views → (let a = h.seat in let x = a.cursor in x.stolen ≡ true) → (let a = h.seat in let x = a.cursor in slice_get went x.parent ≡ Some above)
       → (let a = h.seat in let x = a.cursor in Brings above.cursor x.ordinal views passes joined left) → (let a = h.seat in let x = a.cursor in brought ≡ changed (λ _. joined) went x.parent)
       → (let a = h.seat in let x = a.cursor in held ≡ cond passes (changed (moved_to (Held w)) (changed passed brought x.parent) x.parent) brought) → (let l = b.workers in viewed ≡ viewing left l.items w)
@@ -84,8 +84,8 @@ module _ (code : CodeView) (p : Source) (inputs : List ℤ) where
   -- block.
   abbrev pub PiecesMayArrive : Type 0
   PiecesMayArrive =
-      (name : ℕ → Name) (b : Board) (d : Desk) (s : State World View) (w k : ℕ) (v : ℤ) → IsShown code p inputs name b d s → OutliveChildren s → (h : HasCome code p inputs b w (suc k) (asks.End v))
+      (name : ℕ → Name) (b : Scheduler) (d : WorkerTable) (s : State FrameEnv View) (w k : ℕ) (v : ℤ) → IsShown code p inputs name b d s → OutliveChildren s → (h : HasCome code p inputs b w (suc k) (asks.End v))
       → let a = h.seat in
       let x = a.cursor in
       let f = b.frames in
-      (above : Activation Seat) × (slice_get f.items x.parent ≡ Some above) × (x.stolen ≡ true → let y = above.cursor in (l : _) × (y.join ≡ Some l) × MayArrive (shown l.value) x.ordinal false)
+      (above : Activation FrameState) × (slice_get f.items x.parent ≡ Some above) × (x.stolen ≡ true → let y = above.cursor in (l : _) × (y.join ≡ Some l) × MayArrive (shown l.value) x.ordinal false)

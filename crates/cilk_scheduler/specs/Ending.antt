@@ -15,21 +15,21 @@ use Rattle.cilk_join.specs.Products.{product}
 use Rattle.cilk_runs.specs.Machine.{State}
 use Rattle.cilk_runs.specs.Runs.{Name}
 use Rattle.cilk_runs.specs.Reducers.{View}
-use Rattle.cilk_runs.specs.Worlds.{World}
-use Rattle.cilk_scheduler.specs.declared.board.Board.{Board}
+use Rattle.cilk_runs.specs.FrameEnvs.{FrameEnv}
+use Rattle.cilk_scheduler.specs.declared.scheduler.Scheduler.{Scheduler}
 use Rattle.cilk_scheduler.specs.declared.choice.Choice.TheVariants.{Run}
-use Rattle.cilk_scheduler.specs.declared.seat.Seat.{Seat}
-use Rattle.cilk_scheduler.specs.declared.seat.Status.{Status}
-use Rattle.cilk_scheduler.specs.declared.seat.Status.TheVariants.{Held, Offered}
-use Rattle.cilk_scheduler.specs.declared.seat.Worker.{Worker}
+use Rattle.cilk_scheduler.specs.declared.frame_state.FrameState.{FrameState}
+use Rattle.cilk_scheduler.specs.declared.frame_state.Status.{Status}
+use Rattle.cilk_scheduler.specs.declared.frame_state.Status.TheVariants.{Held, Offered}
+use Rattle.cilk_scheduler.specs.declared.frame_state.Worker.{Worker}
 use Rattle.cilk_scheduler.specs.Acting.{IsShown}
-use Rattle.cilk_scheduler.specs.Boards.{ShowsBy}
-use Rattle.cilk_scheduler.specs.Desks.{Desk, Did, Chooses}
+use Rattle.cilk_scheduler.specs.Schedulers.{ShowsBy}
+use Rattle.cilk_scheduler.specs.WorkerTables.{WorkerTable, Did, Chooses}
 use Rattle.cilk_scheduler.specs.Events.{Arrives, block_in}
 use Rattle.cilk_frames.specs.Leaving.{outcome_of}
 use Rattle.cilk_scheduler.specs.Retired.{without_own}
 use Rattle.cilk_scheduler.specs.Parents.{AreStarted, OutliveChildren}
-use Rattle.cilk_scheduler.specs.Seats.{changed, counted, finished, moved_to, passed}
+use Rattle.cilk_scheduler.specs.FrameStates.{changed, counted, finished, moved_to, passed}
 use Rattle.cilk_scheduler.specs.Steps.{HasCome}
 use Rattle.cilk_scheduler.specs.Waiting.{idling}
 use Rattle.cilk_scheduler.specs.Workers.{altered, holding}
@@ -41,11 +41,11 @@ created_by l None = []
 created_by l (Some function) = let f = function_frame l function in f.reducers
 
 -- views without those of the reducers that a frame made for itself
-abbrev pub RetiresOwn : Layout → Activation Seat → Hypermap → Hypermap → Type 0
+abbrev pub RetiresOwn : Layout → Activation FrameState → Hypermap → Hypermap → Type 0
 RetiresOwn l a old new = (k : MonoidKind) (j : Instance) → view_in new k j ≡ without_own a.number a.first (created_by l a.creator) k j (view_in old k j)
 
 -- The continuation of the frame at place k is taken back, from the worker that offers it; else workers stay. So many are offered then.
-pub data TakesBack (b : Board) (k : ℕ) (status : Status) (workers : List Worker) (offered : ℕ) : Type 0 where
+pub data TakesBack (b : Scheduler) (k : ℕ) (status : Status) (workers : List Worker) (offered : ℕ) : Type 0 where
   WasNotOffered : ((v : ℕ) → status ≡ Offered v → ⊥) → (let l = b.workers in workers ≡ l.items) → offered ≡ b.offered → TakesBack b k status workers offered
   WasOffered : (v : ℕ) (owner without : Worker) (found : Bool) → status ≡ Offered v → (let l = b.workers in slice_get l.items v ≡ Some owner) → without.frame ≡ owner.frame → without.views ≡ owner.views
       → (let o = owner.offered in let l = without.offered in Withdraws o.items k found l.items) → (let l = b.workers in workers ≡ altered (λ _. without) l.items v) → offered ≡ cond found (b.offered - 1) b.offered
@@ -53,14 +53,14 @@ pub data TakesBack (b : Board) (k : ℕ) (status : Status) (workers : List Worke
 
 module _ (code : CodeView) (p : Source) (inputs : List ℤ) where
   -- The worker's views lose the frame's own reducers, its event is written down, and its ticks are counted.
-  pub record Closes (b b' : Board) (w k : ℕ) (v : ℤ) (h : HasCome code p inputs b w k (asks.End v)) (views : Hypermap) : Type 0 where
+  pub record Closes (b b' : Scheduler) (w k : ℕ) (v : ℤ) (h : HasCome code p inputs b w k (asks.End v)) (views : Hypermap) : Type 0 where
     pub retires : let u = h.worker in RetiresOwn code.layout h.seat u.views views
     pub journal : let e = b.journal in let l = b'.journal in l.items ≡ e.items ++ (record { frame = k; event = events.End }) ∷ []
     pub cells : let c = b.cells in let d = b'.cells in d.items ≡ c.items
     pub ticks : let x = h.came in b'.ticks ≡ b.ticks + (x.took - x.counted)
 
   -- The first frame ends: the run leaves an outcome, and the worker is idle.
-  pub record EndsRun (b b' : Board) (w : ℕ) (v : ℤ) (h : HasCome code p inputs b w 0 (asks.End v)) : Type 0 where
+  pub record EndsRun (b b' : Scheduler) (w : ℕ) (v : ℤ) (h : HasCome code p inputs b w 0 (asks.End v)) : Type 0 where
     pub views : Hypermap
     pub left : Hypermap
     pub closes : Closes b b' w 0 v h views
@@ -70,9 +70,9 @@ module _ (code : CodeView) (p : Source) (inputs : List ℤ) where
     pub outcome : let c = b.cells in b'.outcome ≡ Some (outcome_of code.layout c.items views v)
 
   -- A frame ends beside which no continuation was stolen: the worker goes on with the parent, with the child's views.
-  pub record GoesBack (b b' : Board) (w k : ℕ) (v : ℤ) (h : HasCome code p inputs b w k (asks.End v)) : Type 0 where
+  pub record GoesBack (b b' : Scheduler) (w k : ℕ) (v : ℤ) (h : HasCome code p inputs b w k (asks.End v)) : Type 0 where
     pub views : Hypermap
-    pub above : Activation Seat
+    pub above : Activation FrameState
     pub others : List Worker
     pub closes : Closes b b' w k v h views
     pub was_kept : let a = h.seat in let x = a.cursor in x.stolen ≡ false
@@ -84,11 +84,11 @@ module _ (code : CodeView) (p : Source) (inputs : List ℤ) where
 
   -- A frame ends beside which the continuation was stolen: its piece arrives at its parent's block. Where that passes, the worker goes on with the
   -- parent, with the block's views; else it is idle.
-  pub record HandsIn (b b' : Board) (w k : ℕ) (v : ℤ) (h : HasCome code p inputs b w k (asks.End v)) : Type 0 where
+  pub record HandsIn (b b' : Scheduler) (w k : ℕ) (v : ℤ) (h : HasCome code p inputs b w k (asks.End v)) : Type 0 where
     pub views : Hypermap
     pub left : Hypermap
-    pub above : Activation Seat
-    pub joined : Seat
+    pub above : Activation FrameState
+    pub joined : FrameState
     pub passes : Bool
     pub closes : Closes b b' w k v h views
     pub was_stolen : let a = h.seat in let x = a.cursor in x.stolen ≡ true
@@ -101,23 +101,23 @@ module _ (code : CodeView) (p : Source) (inputs : List ℤ) where
     pub outcome : b'.outcome ≡ b.outcome
 
   -- what the worker's choice does to a state that the board shows, and that the board shows what comes of it
-  abbrev pub IsEnded : (ℕ → Name) → Board → Desk → State World View → ℕ → Type 0
-  IsEnded name b' d s w = (s' : State World View) × (d' : Desk) × Chooses p inputs s d (Run (suc w)) Did s' d' × ShowsBy code p inputs name b' d' s'
+  abbrev pub IsEnded : (ℕ → Name) → Scheduler → WorkerTable → State FrameEnv View → ℕ → Type 0
+  IsEnded name b' d s w = (s' : State FrameEnv View) × (d' : WorkerTable) × Chooses p inputs s d (Run (suc w)) Did s' d' × ShowsBy code p inputs name b' d' s'
 
   -- the first frame ends
   abbrev pub RunsEnd : Type 0
   RunsEnd =
-      (name : ℕ → Name) (b b' : Board) (d : Desk) (s : State World View) (w : ℕ) (v : ℤ) → IsShown code p inputs name b d s → AreStarted p s
+      (name : ℕ → Name) (b b' : Scheduler) (d : WorkerTable) (s : State FrameEnv View) (w : ℕ) (v : ℤ) → IsShown code p inputs name b d s → AreStarted p s
       → (h : HasCome code p inputs b w 0 (asks.End v)) → EndsRun b b' w v h → IsEnded name b' d s w
 
   -- a frame ends that was called, or beside which nobody took the continuation
   abbrev pub ReturnsAreShown : Type 0
   ReturnsAreShown =
-      (name : ℕ → Name) (b b' : Board) (d : Desk) (s : State World View) (w k : ℕ) (v : ℤ) → IsShown code p inputs name b d s → AreStarted p s → OutliveChildren s
+      (name : ℕ → Name) (b b' : Scheduler) (d : WorkerTable) (s : State FrameEnv View) (w k : ℕ) (v : ℤ) → IsShown code p inputs name b d s → AreStarted p s → OutliveChildren s
       → (h : HasCome code p inputs b w (suc k) (asks.End v)) → GoesBack b b' w (suc k) v h → IsEnded name b' d s w
 
   -- a frame ends beside which the continuation was stolen
   abbrev pub ArrivalsAreShown : Type 0
   ArrivalsAreShown =
-      (name : ℕ → Name) (b b' : Board) (d : Desk) (s : State World View) (w k : ℕ) (v : ℤ) → IsShown code p inputs name b d s → AreStarted p s → OutliveChildren s
+      (name : ℕ → Name) (b b' : Scheduler) (d : WorkerTable) (s : State FrameEnv View) (w k : ℕ) (v : ℤ) → IsShown code p inputs name b d s → AreStarted p s → OutliveChildren s
       → (h : HasCome code p inputs b w (suc k) (asks.End v)) → HandsIn b b' w (suc k) v h → IsEnded name b' d s w

@@ -10,7 +10,7 @@ use Rattle.cilk_join.specs.Joins.{JoinView, arrived_at, opening, passed, passes,
 use Rattle.cilk_join.specs.Products.{Product, product}
 use Rattle.cilk_join.specs.Waits.{shown}
 use Rattle.cilk_join.specs.declared.join.Join.{Join}
-use Rattle.cilk_scheduler.specs.declared.seat.Seat.{Seat}
+use Rattle.cilk_scheduler.specs.declared.frame_state.FrameState.{FrameState}
 
 -- the frame at a place sees this
 abbrev pub SeesAt : {C : Type 0} → List (Activation C) → ℕ → Scope ℕ Instance → Type 0
@@ -27,5 +27,5 @@ block_in None = opening
 block_in (Some l) = shown l.value
 
 -- the piece of the frame's last child is awaited at its block, and nothing else has changed
-abbrev pub AwaitsLast : Seat → Seat → Type 0
+abbrev pub AwaitsLast : FrameState → FrameState → Type 0
 AwaitsLast x x' = (block_in x'.join ≡ stolen_at (block_in x.join) x.children) × (x' ≡ record x { join = x'.join })

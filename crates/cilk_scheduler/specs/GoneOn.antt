@@ -7,25 +7,25 @@ use Rattle.cilk_runs.specs.Progress.{GoesOn, HasEnded, child_after}
 use Rattle.cilk_runs.specs.Runs.{Name, Deed, Invokes}
 use Rattle.cilk_runs.specs.Reducers.{View}
 use Rattle.cilk_runs.specs.Steps.{IsFirst, OneStep, Reaches}
-use Rattle.cilk_runs.specs.Worlds.{World}
+use Rattle.cilk_runs.specs.FrameEnvs.{FrameEnv}
 use Rattle.cilk_scheduler.specs.declared.choice.Choice.{Choice}
-use Rattle.cilk_scheduler.specs.Desks.{Desk, Chooses, Comes}
+use Rattle.cilk_scheduler.specs.WorkerTables.{WorkerTable, Chooses, Comes}
 
 -- Each child that frame n spawned has ended, or the continuation beside it was stolen: the frame went on behind each.
-abbrev pub WentOnBehind : State World View → Name → List (Deed World) → Type 0
-WentOnBehind s n deeds = (before after : List (Deed World)) (what : World) → deeds ≡ before ++ Invokes Spawn what ∷ after → HasEnded World View s (child_after n before) ⊎ (s.stolen (child_after n before) ≡ true)
+abbrev pub WentOnBehind : State FrameEnv View → Name → List (Deed FrameEnv) → Type 0
+WentOnBehind s n deeds = (before after : List (Deed FrameEnv)) (what : FrameEnv) → deeds ≡ before ++ Invokes Spawn what ∷ after → HasEnded FrameEnv View s (child_after n before) ⊎ (s.stolen (child_after n before) ≡ true)
 
 -- So it is of each child that a frame spawned before its last deed, for each frame.
-abbrev pub HaveGoneOn : State World View → Type 0
+abbrev pub HaveGoneOn : State FrameEnv View → Type 0
 HaveGoneOn s =
-    (n : Name) (f : Frame World) → s.frames n ≡ Some f → (before after : List (Deed World)) (what : World) (d : Deed World) → f.deeds ≡ before ++ Invokes Spawn what ∷ d ∷ after
-    → HasEnded World View s (child_after n before) ⊎ (s.stolen (child_after n before) ≡ true)
+    (n : Name) (f : Frame FrameEnv) → s.frames n ≡ Some f → (before after : List (Deed FrameEnv)) (what : FrameEnv) (d : Deed FrameEnv) → f.deeds ≡ before ++ Invokes Spawn what ∷ d ∷ after
+    → HasEnded FrameEnv View s (child_after n before) ⊎ (s.stolen (child_after n before) ≡ true)
 
 module _ (p : Source) (inputs : List ℤ) where
   -- It is so in each state that steps lead to, and in each that a choice leads to; and a frame that goes on went on behind its last child too.
   pub record FramesGoOnBehind : Type 0 where
-    pub opens : (s : State World View) → IsFirst p inputs s → HaveGoneOn s
-    pub keeps : (s s' : State World View) (n : Name) → HaveGoneOn s → OneStep p inputs s n s' → HaveGoneOn s'
-    pub reached : (ns : List Name) (s : State World View) → Reaches p inputs ns s → HaveGoneOn s
-    pub chosen : (s s' : State World View) (d d' : Desk) (c : Choice) (t : Comes) → s.stopped ≡ None → HaveGoneOn s → Chooses p inputs s d c t s' d' → HaveGoneOn s'
-    pub behind : (s : State World View) (n : Name) → HaveGoneOn s → GoesOn World View s n (deeds_at (s.frames n)) → WentOnBehind s n (deeds_at (s.frames n))
+    pub opens : (s : State FrameEnv View) → IsFirst p inputs s → HaveGoneOn s
+    pub keeps : (s s' : State FrameEnv View) (n : Name) → HaveGoneOn s → OneStep p inputs s n s' → HaveGoneOn s'
+    pub reached : (ns : List Name) (s : State FrameEnv View) → Reaches p inputs ns s → HaveGoneOn s
+    pub chosen : (s s' : State FrameEnv View) (d d' : WorkerTable) (c : Choice) (t : Comes) → s.stopped ≡ None → HaveGoneOn s → Chooses p inputs s d c t s' d' → HaveGoneOn s'
+    pub behind : (s : State FrameEnv View) (n : Name) → HaveGoneOn s → GoesOn FrameEnv View s n (deeds_at (s.frames n)) → WentOnBehind s n (deeds_at (s.frames n))

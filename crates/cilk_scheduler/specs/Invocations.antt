@@ -14,19 +14,19 @@ use Rattle.cilk_frames.specs.declared.activation.Activation.{Activation}
 use Rattle.cilk_runs.specs.Machine.{State, deeds_at, started}
 use Rattle.cilk_runs.specs.Runs.{Name}
 use Rattle.cilk_runs.specs.Reducers.{View}
-use Rattle.cilk_runs.specs.Worlds.{World}
-use Rattle.cilk_scheduler.specs.declared.board.Board.{Board}
+use Rattle.cilk_runs.specs.FrameEnvs.{FrameEnv}
+use Rattle.cilk_scheduler.specs.declared.scheduler.Scheduler.{Scheduler}
 use Rattle.cilk_scheduler.specs.declared.choice.Choice.TheVariants.{Run}
-use Rattle.cilk_scheduler.specs.declared.seat.Seat.{Seat}
-use Rattle.cilk_scheduler.specs.declared.seat.Status.{Status}
-use Rattle.cilk_scheduler.specs.declared.seat.Status.TheVariants.{Calling, Offered}
-use Rattle.cilk_scheduler.specs.declared.seat.Worker.{Worker}
+use Rattle.cilk_scheduler.specs.declared.frame_state.FrameState.{FrameState}
+use Rattle.cilk_scheduler.specs.declared.frame_state.Status.{Status}
+use Rattle.cilk_scheduler.specs.declared.frame_state.Status.TheVariants.{Calling, Offered}
+use Rattle.cilk_scheduler.specs.declared.frame_state.Worker.{Worker}
 use Rattle.cilk_scheduler.specs.Acting.{IsShown}
-use Rattle.cilk_scheduler.specs.Boards.{ShowsBy}
-use Rattle.cilk_scheduler.specs.Desks.{Desk, Did, Chooses}
+use Rattle.cilk_scheduler.specs.Schedulers.{ShowsBy}
+use Rattle.cilk_scheduler.specs.WorkerTables.{WorkerTable, Did, Chooses}
 use Rattle.cilk_scheduler.specs.Invoking.{IsChild}
 use Rattle.cilk_scheduler.specs.Ordinals.{AreCounted}
-use Rattle.cilk_scheduler.specs.Seats.{changed, counted, started_at}
+use Rattle.cilk_scheduler.specs.FrameStates.{changed, counted, started_at}
 use Rattle.cilk_scheduler.specs.Starting.{named_at}
 use Rattle.cilk_scheduler.specs.Steps.{HasCome}
 use Rattle.cilk_scheduler.specs.Workers.{altered}
@@ -50,7 +50,7 @@ abbrev pub HandsOver : Invocation → ℕ → ℕ → Worker → Worker → Type
 HandsOver how k place u v = (v.frame ≡ Some place) × (v.views ≡ u.views) × (let o = u.offered in let q = v.offered in q.items ≡ offering how k o.items)
 
 -- The frame at place k has gone on as this seat, and nothing else has changed.
-pub record HasGoneOn (b b' : Board) (k : ℕ) (came : Seat) : Type 0 where
+pub record HasGoneOn (b b' : Scheduler) (k : ℕ) (came : FrameState) : Type 0 where
   pub frames : let f = b.frames in let g = b'.frames in g.items ≡ changed (λ _. came) f.items k
   pub cells : let c = b.cells in let d = b'.cells in d.items ≡ c.items
   pub workers : let l = b.workers in let m = b'.workers in m.items ≡ l.items
@@ -60,7 +60,7 @@ pub record HasGoneOn (b b' : Board) (k : ℕ) (came : Seat) : Type 0 where
   pub outcome : b'.outcome ≡ b.outcome
 
 -- A frame that the one at place k has started begins, with so many cells: worker w goes on with it, and the starter is elsewhere.
-pub record ChildBegins (b b' : Board) (w k : ℕ) (how : Invocation) (child : Activation Seat) (count : ℕ) : Type 0 where
+pub record ChildBegins (b b' : Scheduler) (w k : ℕ) (how : Invocation) (child : Activation FrameState) (count : ℕ) : Type 0 where
   pub before : Worker
   pub after : Worker
   pub at : let l = b.workers in slice_get l.items w ≡ Some before
@@ -74,10 +74,10 @@ pub record ChildBegins (b b' : Board) (w k : ℕ) (how : Invocation) (child : Ac
   pub outcome : b'.outcome ≡ b.outcome
 
 -- An event of the frame at place k is written down, its ticks are counted, and nothing else has changed.
-pub record IsNoted (b b' : Board) (k : ℕ) (event : Event) : Type 0 where
+pub record IsNoted (b b' : Scheduler) (k : ℕ) (event : Event) : Type 0 where
   pub frames : let f = b.frames in let g = b'.frames in g.items ≡ changed counted f.items k
   pub journal : let e = b.journal in let l = b'.journal in l.items ≡ e.items ++ (record { frame = k; event = event }) ∷ []
-  pub ticks : (a : Activation Seat) → (let f = b.frames in slice_get f.items k ≡ Some a) → b'.ticks ≡ b.ticks + (let x = a.cursor in x.took - x.counted)
+  pub ticks : (a : Activation FrameState) → (let f = b.frames in slice_get f.items k ≡ Some a) → b'.ticks ≡ b.ticks + (let x = a.cursor in x.took - x.counted)
   pub cells : let c = b.cells in let d = b'.cells in d.items ≡ c.items
   pub workers : let l = b.workers in let m = b'.workers in m.items ≡ l.items
   pub offered : b'.offered ≡ b.offered
@@ -86,8 +86,8 @@ pub record IsNoted (b b' : Board) (k : ℕ) (event : Event) : Type 0 where
 module _ (code : CodeView) (p : Source) (inputs : List ℤ) where
   -- Worker w has the frame at place k, which has come to an invocation. The new frame is the last then, with its cells behind all others, each 0;
   -- the worker has it, with the views that it had.
-  pub record GoesToChild (b b' : Board) (w k : ℕ) (how : Invocation) (callee : Callee) (h : HasCome code p inputs b w k (asks.Invoke how callee)) : Type 0 where
-    pub child : Activation Seat
+  pub record GoesToChild (b b' : Scheduler) (w k : ℕ) (how : Invocation) (callee : Callee) (h : HasCome code p inputs b w k (asks.Invoke how callee)) : Type 0 where
+    pub child : Activation FrameState
     pub worker : Worker
     pub is_child : let f = b.frames in let c = b.cells in IsChild code (changed (λ _. h.came) f.items k) k w (length c.items) how callee child
     pub frames : let f = b.frames in let g = b'.frames in g.items ≡ changed (λ _. counted (started_at (left_at how w) (length f.items) h.came)) f.items k ++ child ∷ []
@@ -105,7 +105,7 @@ module _ (code : CodeView) (p : Source) (inputs : List ℤ) where
   -- the other.
   abbrev pub InvocationsAreNoted : Type 0
   InvocationsAreNoted =
-      (b went begun b' : Board) (w k : ℕ) (how : Invocation) (callee : Callee) (h : HasCome code p inputs b w k (asks.Invoke how callee)) (child : Activation Seat)
+      (b went begun b' : Scheduler) (w k : ℕ) (how : Invocation) (callee : Callee) (h : HasCome code p inputs b w k (asks.Invoke how callee)) (child : Activation FrameState)
       → HasGoneOn b went k h.came → (let f = went.frames in let c = went.cells in IsChild code f.items k w (length c.items) how callee child) → ChildBegins went begun w k how child (cells_in code.layout callee)
       → IsNoted begun b' k (let f = went.frames in invocation how (suc (length f.items))) → GoesToChild b b' w k how callee h
 
@@ -113,7 +113,7 @@ module _ (code : CodeView) (p : Source) (inputs : List ℤ) where
   -- board shows what comes of it, by the names that it had and the new frame's.
   abbrev pub InvocationsAreShown : Type 0
   InvocationsAreShown =
-      (name : ℕ → Name) (b b' : Board) (d : Desk) (s : State World View) (w k : ℕ) (how : Invocation) (callee : Callee) → Behaves p code → IsShown code p inputs name b d s → AreCounted s.frames
+      (name : ℕ → Name) (b b' : Scheduler) (d : WorkerTable) (s : State FrameEnv View) (w k : ℕ) (how : Invocation) (callee : Callee) → Behaves p code → IsShown code p inputs name b d s → AreCounted s.frames
       → (h : HasCome code p inputs b w k (asks.Invoke how callee)) → GoesToChild b b' w k how callee h
-      → (s' : State World View) × (d' : Desk) × Chooses p inputs s d (Run (suc w)) Did s' d'
+      → (s' : State FrameEnv View) × (d' : WorkerTable) × Chooses p inputs s d (Run (suc w)) Did s' d'
       × (let f = b.frames in ShowsBy code p inputs (named_at name (length f.items) (name k ++ suc (started (deeds_at (s.frames (name k)))) ∷ [])) b' d' s')

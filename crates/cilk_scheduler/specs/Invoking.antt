@@ -15,9 +15,9 @@ use Rattle.cilk_frames.specs.Cursor.{CursorView}
 use Rattle.cilk_frames.specs.Following.{Stands, owed_for}
 use Rattle.cilk_frames.specs.Sight.{AreSmall, HasScope, ResultFits}
 use Rattle.cilk_frames.specs.declared.activation.Activation.{Activation}
-use Rattle.cilk_scheduler.specs.declared.seat.Seat.{Seat}
+use Rattle.cilk_scheduler.specs.declared.frame_state.FrameState.{FrameState}
 use Rattle.cilk_scheduler.specs.Events.{SeesAt}
-use Rattle.cilk_scheduler.specs.Seats.{seated}
+use Rattle.cilk_scheduler.specs.FrameStates.{seated}
 
 -- what a callee is given is there, for a frame that sees this
 abbrev pub MayBegin : Scope ℕ Instance → Callee → Type 0
@@ -33,11 +33,11 @@ creator_of (callees.Loop l) = None
 
 -- The frame of a callee that frame k starts, for a worker, with its first cell at a place: it is the next of all frames, stands before its
 -- begin, and sees what the callee's frame sees.
-pub record IsChild (code : CodeView) (frames : List (Activation Seat)) (k worker base : ℕ) (how : Invocation) (callee : Callee) (a : Activation Seat) : Type 0 where
+pub record IsChild (code : CodeView) (frames : List (Activation FrameState)) (k worker base : ℕ) (how : Invocation) (callee : Callee) (a : Activation FrameState) : Type 0 where
   pub cursor : CursorView
   pub stands : (p : Source) (inputs : List ℤ) → Behaves p code → CalleeIsFit p callee → Stands code inputs p callee cursor [] 0
   pub owes : cursor.owed ≡ owed_for Begin
-  pub seat : (top : Activation Seat) → slice_get frames k ≡ Some top → a.cursor ≡ seated k (let x = top.cursor in x.children + 1) how worker cursor
+  pub seat : (top : Activation FrameState) → slice_get frames k ≡ Some top → a.cursor ≡ seated k (let x = top.cursor in x.children + 1) how worker cursor
   pub number : a.number ≡ length frames + 1
   pub base_is : a.base ≡ base
   pub sees : (p : Source) (scope : Scope ℕ Instance) → SeesAt frames k scope → HasScope frames a (home_of p callee (length frames + 1) base (given_to callee scope) ∷ outer_of callee scope)

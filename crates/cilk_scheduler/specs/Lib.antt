@@ -1,8 +1,8 @@
 pub mod Acting
 pub mod Asking
 pub mod Blocks
-pub mod Boards
-pub mod Desks
+pub mod Schedulers
+pub mod WorkerTables
 pub mod EndParts
 pub mod Ending
 pub mod Events
@@ -18,7 +18,7 @@ pub mod Ordinals
 pub mod Parents
 pub mod Parts
 pub mod Retired
-pub mod Seats
+pub mod FrameStates
 pub mod Slots
 pub mod Starting
 pub mod Steps

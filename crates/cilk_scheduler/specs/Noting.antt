@@ -17,28 +17,28 @@ use Rattle.cilk_hypermap.specs.declared.hypermap.Hypermap.{Hypermap}
 use Rattle.cilk_runs.specs.Machine.{State}
 use Rattle.cilk_runs.specs.Runs.{Name}
 use Rattle.cilk_runs.specs.Reducers.{View}
-use Rattle.cilk_runs.specs.Worlds.{World}
-use Rattle.cilk_scheduler.specs.declared.board.Board.{Board}
-use Rattle.cilk_scheduler.specs.declared.seat.Seat.{Seat}
-use Rattle.cilk_scheduler.specs.declared.seat.Worker.{Worker}
+use Rattle.cilk_runs.specs.FrameEnvs.{FrameEnv}
+use Rattle.cilk_scheduler.specs.declared.scheduler.Scheduler.{Scheduler}
+use Rattle.cilk_scheduler.specs.declared.frame_state.FrameState.{FrameState}
+use Rattle.cilk_scheduler.specs.declared.frame_state.Worker.{Worker}
 use Rattle.cilk_scheduler.specs.Acting.{IsShown}
 use Rattle.cilk_scheduler.specs.Asking.{IsReady, WentOn, refusal}
-use Rattle.cilk_scheduler.specs.Boards.{ShowsBy}
-use Rattle.cilk_scheduler.specs.Desks.{Desk}
+use Rattle.cilk_scheduler.specs.Schedulers.{ShowsBy}
+use Rattle.cilk_scheduler.specs.WorkerTables.{WorkerTable}
 use Rattle.cilk_scheduler.specs.Events.{SeesAt}
-use Rattle.cilk_scheduler.specs.Seats.{changed, counted}
+use Rattle.cilk_scheduler.specs.FrameStates.{changed, counted}
 use Rattle.cilk_scheduler.specs.Steps.{HasCome, Notes}
 
 -- worker w has the frame at place k
-pub record HasFrame (b : Board) (w k : ℕ) : Type 0 where
+pub record HasFrame (b : Scheduler) (w k : ℕ) : Type 0 where
   pub worker : Worker
-  pub seat : Activation Seat
+  pub seat : Activation FrameState
   pub at : let l = b.workers in slice_get l.items w ≡ Some worker
   pub has : worker.frame ≡ Some k
   pub sits : let f = b.frames in slice_get f.items k ≡ Some seat
 
 -- the place means a cell of the board to the frame at place k
-abbrev pub CellIsThere : Board → ℕ → Place → Type 0
+abbrev pub CellIsThere : Scheduler → ℕ → Place → Type 0
 CellIsThere b k x = (scope : Scope ℕ Instance) × (let f = b.frames in SeesAt f.items k scope) × (let c = b.cells in cell_in itself scope x < length c.items)
 
 -- the reducer that an ask names
@@ -59,59 +59,59 @@ reducer_asked (asks.End v) = None
 reducer_asked (asks.Fault f) = None
 
 -- the frame at place k sees something, and the place of a reducer has a small number there
-abbrev pub ReducerIsThere : Board → ℕ → ReducerPlace → Type 0
+abbrev pub ReducerIsThere : Scheduler → ℕ → ReducerPlace → Type 0
 ReducerIsThere b k r = ((scope : Scope ℕ Instance) × (let f = b.frames in SeesAt f.items k scope)) × (number_in r < 65536)
 
 -- A frame that has gone on sees what it saw, and its result goes where it went.
 abbrev pub SightStays : Type 0
 SightStays =
-    (frames went : List (Activation Seat)) (k : ℕ) (came : Seat) → went ≡ changed (λ _. came) frames k
-    → ((scope : Scope ℕ Instance) → SeesAt frames k scope → SeesAt went k scope) × ((a : Activation Seat) → slice_get frames k ≡ Some a → slice_get went k ≡ Some (record a { cursor = came }))
+    (frames went : List (Activation FrameState)) (k : ℕ) (came : FrameState) → went ≡ changed (λ _. came) frames k
+    → ((scope : Scope ℕ Instance) → SeesAt frames k scope → SeesAt went k scope) × ((a : Activation FrameState) → slice_get frames k ≡ Some a → slice_get went k ≡ Some (record a { cursor = came }))
 
 module _ (code : CodeView) (p : Source) (inputs : List ℤ) where
   -- the frame that a worker has may go on
   abbrev pub FramesAreReady : Type 0
-  FramesAreReady = (name : ℕ → Name) (b : Board) (d : Desk) (s : State World View) (w k : ℕ) → ShowsBy code p inputs name b d s → (f : HasFrame b w k) → (let a = f.seat in IsReady code inputs a.cursor)
+  FramesAreReady = (name : ℕ → Name) (b : Scheduler) (d : WorkerTable) (s : State FrameEnv View) (w k : ℕ) → ShowsBy code p inputs name b d s → (f : HasFrame b w k) → (let a = f.seat in IsReady code inputs a.cursor)
 
   -- once it has gone on, it took no fewer ticks than were counted
   abbrev pub TicksAreMore : Type 0
   TicksAreMore =
-      (name : ℕ → Name) (b : Board) (d : Desk) (s : State World View) (w k : ℕ) (ask : Ask) (came : Seat) → ShowsBy code p inputs name b d s → (f : HasFrame b w k) → (let a = f.seat in WentOn code inputs a.cursor ask came) → came.counted ≤ came.took
+      (name : ℕ → Name) (b : Scheduler) (d : WorkerTable) (s : State FrameEnv View) (w k : ℕ) (ask : Ask) (came : FrameState) → ShowsBy code p inputs name b d s → (f : HasFrame b w k) → (let a = f.seat in WentOn code inputs a.cursor ask came) → came.counted ≤ came.took
 
   -- It has come to the ask where it has gone on to that, and where with its uncounted ticks no fault stands in place of the event; the ticks
   -- are within their limit then.
   abbrev pub FramesCome : Type 0
   FramesCome =
-      (b : Board) (w k ticks : ℕ) (ask : Ask) (came : Seat) (went : List (Activation Seat)) (f : HasFrame b w k) → b.outcome ≡ None → (let a = f.seat in WentOn code inputs a.cursor ask came)
-      → (let l = b.frames in went ≡ changed (λ _. came) l.items k) → ((a : Activation Seat) → slice_get went k ≡ Some a → ticks ≡ (let x = a.cursor in x.took - x.counted))
+      (b : Scheduler) (w k ticks : ℕ) (ask : Ask) (came : FrameState) (went : List (Activation FrameState)) (f : HasFrame b w k) → b.outcome ≡ None → (let a = f.seat in WentOn code inputs a.cursor ask came)
+      → (let l = b.frames in went ≡ changed (λ _. came) l.items k) → ((a : Activation FrameState) → slice_get went k ≡ Some a → ticks ≡ (let x = a.cursor in x.took - x.counted))
       → (let e = b.journal in let c = b.cells in refusal (b.ticks + ticks) (length e.items) (length went) (length c.items) code.layout ask ≡ None)
       → (h : HasCome code p inputs b w k ask) × (h.worker ≡ f.worker) × (h.seat ≡ f.seat) × (h.came ≡ came) × (b.ticks + (came.took - came.counted) ≤ MAX_TICKS)
 
   -- the cells that are read, written and take results are there
   abbrev pub ReadCellsAreThere : Type 0
-  ReadCellsAreThere = (name : ℕ → Name) (b : Board) (d : Desk) (s : State World View) (w k : ℕ) (x : Place) → IsShown code p inputs name b d s → HasCome code p inputs b w k (asks.Read x) → CellIsThere b k x
+  ReadCellsAreThere = (name : ℕ → Name) (b : Scheduler) (d : WorkerTable) (s : State FrameEnv View) (w k : ℕ) (x : Place) → IsShown code p inputs name b d s → HasCome code p inputs b w k (asks.Read x) → CellIsThere b k x
 
   abbrev pub WrittenCellsAreThere : Type 0
-  WrittenCellsAreThere = (name : ℕ → Name) (b : Board) (d : Desk) (s : State World View) (w k : ℕ) (x : Place) (v : ℤ) → IsShown code p inputs name b d s → HasCome code p inputs b w k (asks.Write x v) → CellIsThere b k x
+  WrittenCellsAreThere = (name : ℕ → Name) (b : Scheduler) (d : WorkerTable) (s : State FrameEnv View) (w k : ℕ) (x : Place) (v : ℤ) → IsShown code p inputs name b d s → HasCome code p inputs b w k (asks.Write x v) → CellIsThere b k x
 
   abbrev pub ResultCellsAreThere : Type 0
   ResultCellsAreThere =
-      (name : ℕ → Name) (b : Board) (d : Desk) (s : State World View) (w k : ℕ) (v : ℤ) → IsShown code p inputs name b d s → (h : HasCome code p inputs b w k (asks.Result v))
+      (name : ℕ → Name) (b : Scheduler) (d : WorkerTable) (s : State FrameEnv View) (w k : ℕ) (v : ℤ) → IsShown code p inputs name b d s → (h : HasCome code p inputs b w k (asks.Result v))
       → (n : ℕ) × (let a = h.seat in a.result ≡ Some n) × (let c = b.cells in n < length c.items)
 
   -- the reducers that asks name are there
   abbrev pub ReducersAreThere : Type 0
   ReducersAreThere =
-      (name : ℕ → Name) (b : Board) (d : Desk) (s : State World View) (w k : ℕ) (ask : Ask) (r : Reducer) → IsShown code p inputs name b d s → HasCome code p inputs b w k ask → reducer_asked ask ≡ Some r → ReducerIsThere b k r.place
+      (name : ℕ → Name) (b : Scheduler) (d : WorkerTable) (s : State FrameEnv View) (w k : ℕ) (ask : Ask) (r : Reducer) → IsShown code p inputs name b d s → HasCome code p inputs b w k ask → reducer_asked ask ≡ Some r → ReducerIsThere b k r.place
 
   -- An event is noted where the frame has gone on, acted and had its ticks counted, one after the other, and the worker has the views that
   -- it had or these.
   abbrev pub EventsAreNoted : Type 0
   EventsAreNoted =
-      (b b' : Board) (w k : ℕ) (ask : Ask) (h : HasCome code p inputs b w k ask) (act : Seat → Seat) (event : numbered.Event) (cells : List ℤ) (views : Hypermap) (went acted : List (Activation Seat))
-      → ((x : Seat) → let y = act x in (y.took ≡ x.took) × (y.counted ≡ x.counted))
+      (b b' : Scheduler) (w k : ℕ) (ask : Ask) (h : HasCome code p inputs b w k ask) (act : FrameState → FrameState) (event : numbered.Event) (cells : List ℤ) (views : Hypermap) (went acted : List (Activation FrameState))
+      → ((x : FrameState) → let y = act x in (y.took ≡ x.took) × (y.counted ≡ x.counted))
       → (let l = b.frames in went ≡ changed (λ _. h.came) l.items k) → acted ≡ changed act went k → (let l = b'.frames in l.items ≡ changed counted acted k)
-      → ((a : Activation Seat) → slice_get acted k ≡ Some a → b'.ticks ≡ b.ticks + (let x = a.cursor in x.took - x.counted))
+      → ((a : Activation FrameState) → slice_get acted k ≡ Some a → b'.ticks ≡ b.ticks + (let x = a.cursor in x.took - x.counted))
       → (let e = b.journal in let l = b'.journal in l.items ≡ e.items ++ (record { frame = k; event = event }) ∷ []) → (let c = b'.cells in c.items ≡ cells)
       → (let l = b.workers in let m = b'.workers in let u = h.worker in ((m.items ≡ l.items) × (views ≡ u.views)) ⊎ (m.items ≡ slice_set l.items w (record u { views = views })))
       → b'.offered ≡ b.offered → b'.outcome ≡ b.outcome → Notes code p inputs b b' w k h.came (act h.came) event cells views

@@ -12,13 +12,13 @@ use Rattle.cilk_frames.specs.declared.activation.Activation.{Activation}
 use Rattle.cilk_runs.specs.Runs.{Name, Cell, Global, Own, Instance, Output, Reducer, Granted, Begins, Resumes, Creates, Updates, Sets, Values, Prints, Deed, Does, Invokes, Reads, Writes, Syncs, Ends, Passes}
 use Rattle.cilk_runs.specs.Machine.{Frame, State}
 use Rattle.cilk_runs.specs.Reducers.{View}
-use Rattle.cilk_runs.specs.Worlds.{World, Reducers, Sight, global_named}
-use Rattle.cilk_scheduler.specs.declared.seat.JournalEntry.{JournalEntry}
-use Rattle.cilk_scheduler.specs.declared.seat.Seat.{Seat}
+use Rattle.cilk_runs.specs.FrameEnvs.{FrameEnv, Reducers, Sight, global_named}
+use Rattle.cilk_scheduler.specs.declared.frame_state.JournalEntry.{JournalEntry}
+use Rattle.cilk_scheduler.specs.declared.frame_state.FrameState.{FrameState}
 
 -- the place of the frame that started the one at this place, if one stands there
-abbrev pub parent_at : List (Activation Seat) → ℕ → Option ℕ
-parent_at frames n = option_map (λ (a : Activation Seat). let x = a.cursor in x.parent) (slice_get frames n)
+abbrev pub parent_at : List (Activation FrameState) → ℕ → Option ℕ
+parent_at frames n = option_map (λ (a : Activation FrameState). let x = a.cursor in x.parent) (slice_get frames n)
 
 -- this place, where the frame there was started by frame k; the first frame was by none
 abbrev pub child_at : Option ℕ → ℕ → ℕ → List ℕ
@@ -27,32 +27,32 @@ child_at (Some m) k zero = []
 child_at (Some m) k (suc n) = cond (nat_eq m k) (suc n ∷ []) []
 
 -- the places of the frames that frame k started, in order, among the first so many
-abbrev pub children_among : List (Activation Seat) → ℕ → ℕ → List ℕ
+abbrev pub children_among : List (Activation FrameState) → ℕ → ℕ → List ℕ
 children_among frames k zero = []
 children_among frames k (suc n) = children_among frames k n ++ child_at (parent_at frames n) k n
 
 -- The frames of a board in the order in which they began, and the names that they have: the first is the root, each other is known by an
 -- earlier one, its parent, and its ordinal there, which counts the frames that its parent has started from 1 on, and two have two names.
-pub record AreNamed (frames : List (Activation Seat)) (name : ℕ → Name) : Type 0 where
+pub record AreNamed (frames : List (Activation FrameState)) (name : ℕ → Name) : Type 0 where
   pub root : name 0 ≡ []
-  pub child : (k : ℕ) (x : Activation Seat) → slice_get frames (suc k) ≡ Some x → (let s = x.cursor in (s.parent < suc k) × (name (suc k) ≡ name s.parent ++ s.ordinal ∷ []))
-  pub ordinal : (k : ℕ) (x : Activation Seat) → slice_get frames (suc k) ≡ Some x → (let s = x.cursor in s.ordinal ≡ suc (length (children_among frames s.parent (suc k))))
+  pub child : (k : ℕ) (x : Activation FrameState) → slice_get frames (suc k) ≡ Some x → (let s = x.cursor in (s.parent < suc k) × (name (suc k) ≡ name s.parent ++ s.ordinal ∷ []))
+  pub ordinal : (k : ℕ) (x : Activation FrameState) → slice_get frames (suc k) ≡ Some x → (let s = x.cursor in s.ordinal ≡ suc (length (children_among frames s.parent (suc k))))
   pub apart : (j k : ℕ) → j < length frames → k < length frames → name j ≡ name k → j ≡ k
 
 -- no frame of the board has this name
-abbrev pub IsAbsent : List (Activation Seat) → (ℕ → Name) → Name → Type 0
+abbrev pub IsAbsent : List (Activation FrameState) → (ℕ → Name) → Name → Type 0
 IsAbsent frames name n = (k : ℕ) → k < length frames → name k ≡ n → ⊥
 
 -- how many cells a frame has
-abbrev pub size_of : Source → Option (Frame World) → ℕ
+abbrev pub size_of : Source → Option (Frame FrameEnv) → ℕ
 size_of p None = 0
 size_of p (Some f) = let w = f.what in cells_of p w.callee
 
-module _ (p : Source) (frames : List (Activation Seat)) (name : ℕ → Name) where
+module _ (p : Source) (frames : List (Activation FrameState)) (name : ℕ → Name) where
   -- a cell has this number
-  abbrev pub IsCell : State World View → Cell → ℕ → Type 0
+  abbrev pub IsCell : State FrameEnv View → Cell → ℕ → Type 0
   IsCell s (Global g) n = (n ≡ g) × (g < length p.openings)
-  IsCell s (Own m q) n = (k : ℕ) × (x : Activation Seat) × (slice_get frames k ≡ Some x) × (name k ≡ m) × (n ≡ x.base + q) × (q < size_of p (s.frames m))
+  IsCell s (Own m q) n = (k : ℕ) × (x : Activation FrameState) × (slice_get frames k ≡ Some x) × (name k ≡ m) × (n ≡ x.base + q) × (q < size_of p (s.frames m))
 
   -- a reducer has this number; it names the frame that created it
   abbrev pub IsInstance : Instance → numbered.Instance → Type 0
@@ -69,7 +69,7 @@ module _ (p : Source) (frames : List (Activation Seat)) (name : ℕ → Name) wh
   IsMarked k (Values i v) e = (j : numbered.Instance) × IsInstance i j × (e ≡ events.Value j v)
   IsMarked k (Prints x) e = e ≡ events.Print x
 
-  abbrev pub IsDeed : State World View → ℕ → Deed World → Event → Type 0
+  abbrev pub IsDeed : State FrameEnv View → ℕ → Deed FrameEnv → Event → Type 0
   IsDeed s k (Does (Reads c v)) e = (n : ℕ) × IsCell s c n × (e ≡ events.Read n v)
   IsDeed s k (Does (Writes c v)) e = (n : ℕ) × IsCell s c n × (e ≡ events.Write n v)
   IsDeed s k (Does Syncs) e = e ≡ events.Sync
@@ -79,7 +79,7 @@ module _ (p : Source) (frames : List (Activation Seat)) (name : ℕ → Name) wh
   IsDeed s k (Invokes Spawn w) e = (c : ℕ) × (c < length frames) × (name c ≡ w.name) × (e ≡ events.Spawn (suc c))
 
   -- these events are what frame k did, in order
-  abbrev pub AreDeeds : State World View → ℕ → List (Deed World) → List Event → Type 0
+  abbrev pub AreDeeds : State FrameEnv View → ℕ → List (Deed FrameEnv) → List Event → Type 0
   AreDeeds s k [] [] = Unit {0}
   AreDeeds s k [] (e ∷ es) = ⊥
   AreDeeds s k (d ∷ ds) [] = ⊥

@@ -16,23 +16,23 @@ use Rattle.cilk_frames.specs.declared.activation.Activation.{Activation}
 use Rattle.cilk_hypermap.specs.Hypermap.{EachKind, view_in}
 use Rattle.cilk_runs.specs.Costs.{Total}
 use Rattle.cilk_runs.specs.Machine.{State}
-use Rattle.cilk_runs.specs.WorldMachine.{limit, used}
+use Rattle.cilk_runs.specs.FrameEnvMachine.{limit, used}
 use Rattle.cilk_runs.specs.Reducers.{View}
 use Rattle.cilk_runs.specs.Steps.{IsFirst}
-use Rattle.cilk_runs.specs.Worlds.{World}
-use Rattle.cilk_scheduler.specs.declared.board.Board.{Board}
-use Rattle.cilk_scheduler.specs.declared.seat.Seat.{Seat}
-use Rattle.cilk_scheduler.specs.declared.seat.Worker.{Worker}
-use Rattle.cilk_scheduler.specs.Boards.{ShowsBy}
-use Rattle.cilk_scheduler.specs.Desks.{Desk}
-use Rattle.cilk_scheduler.specs.Seats.{seated}
+use Rattle.cilk_runs.specs.FrameEnvs.{FrameEnv}
+use Rattle.cilk_scheduler.specs.declared.scheduler.Scheduler.{Scheduler}
+use Rattle.cilk_scheduler.specs.declared.frame_state.FrameState.{FrameState}
+use Rattle.cilk_scheduler.specs.declared.frame_state.Worker.{Worker}
+use Rattle.cilk_scheduler.specs.Schedulers.{ShowsBy}
+use Rattle.cilk_scheduler.specs.WorkerTables.{WorkerTable}
+use Rattle.cilk_scheduler.specs.FrameStates.{seated}
 
 -- the first worker has the first frame, beside so many idle ones, and nothing is offered
-abbrev pub first_desk : ℕ → Desk
+abbrev pub first_desk : ℕ → WorkerTable
 first_desk idle = record { hands = Some [] ∷ replicate idle None; offered = [] ∷ replicate idle []; waiting = [] }
 
 -- the first frame's seat
-abbrev pub first_seat : CodeView → Source → CursorView → Activation Seat → Activation Seat
+abbrev pub first_seat : CodeView → Source → CursorView → Activation FrameState → Activation FrameState
 first_seat code p c a = record a { cursor = seated 0 0 Call 0 c; number = 1; base = length p.openings; result = None; creator = Some (let l = code.layout in l.main) }
 
 -- A well-named program uses no more before its first event than a run may: 1,000,000 globals and 256 cells of a frame.
@@ -41,8 +41,8 @@ OpeningsFit p inputs = IsTrue (is_well_named p) → (total : Total) → used p i
 
 module _ (code : CodeView) (p : Source) (inputs : List ℤ) where
   -- The first frame alone is there, before its begin, which the first worker has; the cells have their opening values; no worker has a view.
-  pub record IsNew (b : Board) : Type 0 where
-    pub root : Activation Seat
+  pub record IsNew (b : Scheduler) : Type 0 where
+    pub root : Activation FrameState
     pub cursor : CursorView
     pub first : Worker
     pub others : List Worker
@@ -65,4 +65,4 @@ module _ (code : CodeView) (p : Source) (inputs : List ℤ) where
 
   -- A new board shows the first state of the free machine.
   abbrev pub OpeningsAreShown : Type 0
-  OpeningsAreShown = IsTrue (is_well_named p) → LaysOut p code.layout → (b : Board) (h : IsNew b) → (s : State World View) × IsFirst p inputs s × (let l = h.others in ShowsBy code p inputs (λ n. []) b (first_desk (length l)) s)
+  OpeningsAreShown = IsTrue (is_well_named p) → LaysOut p code.layout → (b : Scheduler) (h : IsNew b) → (s : State FrameEnv View) × IsFirst p inputs s × (let l = h.others in ShowsBy code p inputs (λ n. []) b (first_desk (length l)) s)

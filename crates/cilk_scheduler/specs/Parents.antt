@@ -6,51 +6,51 @@ use Rattle.cilk_program.specs.Syntax.{Source}
 use Rattle.cilk_runs.specs.Machine.{Frame, State}
 use Rattle.cilk_runs.specs.Progress.{HasEnded, HasNoSync, child_after}
 use Rattle.cilk_runs.specs.Runs.{Name, Deed, Invokes}
-use Rattle.cilk_runs.specs.WorldMachine.{has_ended}
+use Rattle.cilk_runs.specs.FrameEnvMachine.{has_ended}
 use Rattle.cilk_runs.specs.Reducers.{View}
 use Rattle.cilk_runs.specs.Steps.{IsFirst, OneStep, Reaches}
-use Rattle.cilk_runs.specs.Worlds.{World, Sight, world_of}
+use Rattle.cilk_runs.specs.FrameEnvs.{FrameEnv, Sight, world_of}
 use Rattle.cilk_scheduler.specs.Histories.{DidAsAsked}
 use Rattle.cilk_scheduler.specs.Ordinals.{AreCounted}
 
 -- Frame m started a child behind these deeds, and hasn't ended: it has done nothing since; or it spawned the child, the continuation was
 -- stolen, and it has made no sync since.
-pub record GoesBeside (s : State World View) (m : Name) (f : Frame World) (before : List (Deed World)) (how : Invocation) (after : List (Deed World)) : Type 0 where
+pub record GoesBeside (s : State FrameEnv View) (m : Name) (f : Frame FrameEnv) (before : List (Deed FrameEnv)) (how : Invocation) (after : List (Deed FrameEnv)) : Type 0 where
   pub goes : has_ended f.deeds ≡ false
   pub since : (after ≡ []) ⊎ ((how ≡ Spawn) × HasNoSync after × (s.stolen (child_after m before) ≡ true))
 
-pub record OutliveChildren (s : State World View) : Type 0 where
+pub record OutliveChildren (s : State FrameEnv View) : Type 0 where
   -- Each child that was started has ended, or its parent hasn't and goes beside it.
-  pub outlive : (m : Name) (f : Frame World) (before : List (Deed World)) (how : Invocation) (what : World) (after : List (Deed World)) → s.frames m ≡ Some f → f.deeds ≡ before ++ Invokes how what ∷ after
-      → HasEnded World View s (child_after m before) ⊎ GoesBeside s m f before how after
+  pub outlive : (m : Name) (f : Frame FrameEnv) (before : List (Deed FrameEnv)) (how : Invocation) (what : FrameEnv) (after : List (Deed FrameEnv)) → s.frames m ≡ Some f → f.deeds ≡ before ++ Invokes how what ∷ after
+      → HasEnded FrameEnv View s (child_after m before) ⊎ GoesBeside s m f before how after
   -- Continuations were stolen beside spawned children alone, which are there.
-  pub spawned : (m : Name) (f : Frame World) (before : List (Deed World)) (how : Invocation) (what : World) (after : List (Deed World)) → s.frames m ≡ Some f → f.deeds ≡ before ++ Invokes how what ∷ after
+  pub spawned : (m : Name) (f : Frame FrameEnv) (before : List (Deed FrameEnv)) (how : Invocation) (what : FrameEnv) (after : List (Deed FrameEnv)) → s.frames m ≡ Some f → f.deeds ≡ before ++ Invokes how what ∷ after
       → s.stolen (child_after m before) ≡ true → how ≡ Spawn
   pub unstolen : (n : Name) → s.frames n ≡ None → s.stolen n ≡ false
   -- Each child that was started is there, and each that is there was started.
-  pub present : (m : Name) (f : Frame World) (before : List (Deed World)) (how : Invocation) (what : World) (after : List (Deed World)) → s.frames m ≡ Some f → f.deeds ≡ before ++ Invokes how what ∷ after
-      → (g : Frame World) × (s.frames (child_after m before) ≡ Some g)
+  pub present : (m : Name) (f : Frame FrameEnv) (before : List (Deed FrameEnv)) (how : Invocation) (what : FrameEnv) (after : List (Deed FrameEnv)) → s.frames m ≡ Some f → f.deeds ≡ before ++ Invokes how what ∷ after
+      → (g : Frame FrameEnv) × (s.frames (child_after m before) ≡ Some g)
   pub counted : AreCounted s.frames
 
 -- each frame runs what was started under its name
-abbrev pub AreStarted : Source → State World View → Type 0
-AreStarted p s = (n : Name) (f : Frame World) → s.frames n ≡ Some f → (sight : Sight) × (let w = f.what in w ≡ world_of p n sight w.callee)
+abbrev pub AreStarted : Source → State FrameEnv View → Type 0
+AreStarted p s = (n : Name) (f : Frame FrameEnv) → s.frames n ≡ Some f → (sight : Sight) × (let w = f.what in w ≡ world_of p n sight w.callee)
 
 -- each child was started under its parent's name and its ordinal
-abbrev pub ChildrenAreNamed : State World View → Type 0
+abbrev pub ChildrenAreNamed : State FrameEnv View → Type 0
 ChildrenAreNamed s =
-    (m : Name) (f : Frame World) (before : List (Deed World)) (how : Invocation) (what : World) (after : List (Deed World)) → s.frames m ≡ Some f → f.deeds ≡ before ++ Invokes how what ∷ after → what.name ≡ child_after m before
+    (m : Name) (f : Frame FrameEnv) (before : List (Deed FrameEnv)) (how : Invocation) (what : FrameEnv) (after : List (Deed FrameEnv)) → s.frames m ≡ Some f → f.deeds ≡ before ++ Invokes how what ∷ after → what.name ≡ child_after m before
 
 module _ (p : Source) (inputs : List ℤ) where
   -- Frames outlive their children, in each state that steps lead to.
   pub record ParentsOutlive : Type 0 where
-    pub opens : (s : State World View) → IsFirst p inputs s → OutliveChildren s
-    pub keeps : (s s' : State World View) (n : Name) → DidAsAsked p inputs s → OutliveChildren s → OneStep p inputs s n s' → OutliveChildren s'
-    pub reached : (ns : List Name) (s : State World View) → Reaches p inputs ns s → OutliveChildren s
+    pub opens : (s : State FrameEnv View) → IsFirst p inputs s → OutliveChildren s
+    pub keeps : (s s' : State FrameEnv View) (n : Name) → DidAsAsked p inputs s → OutliveChildren s → OneStep p inputs s n s' → OutliveChildren s'
+    pub reached : (ns : List Name) (s : State FrameEnv View) → Reaches p inputs ns s → OutliveChildren s
 
   -- Each was started under its name, in each state that steps lead to.
   pub record NamesAreKept : Type 0 where
-    pub opens : (s : State World View) → IsFirst p inputs s → AreStarted p s
-    pub keeps : (s s' : State World View) (n : Name) → AreStarted p s → OneStep p inputs s n s' → AreStarted p s'
-    pub reached : (ns : List Name) (s : State World View) → Reaches p inputs ns s → AreStarted p s
-    pub children : (s : State World View) → DidAsAsked p inputs s → AreStarted p s → ChildrenAreNamed s
+    pub opens : (s : State FrameEnv View) → IsFirst p inputs s → AreStarted p s
+    pub keeps : (s s' : State FrameEnv View) (n : Name) → AreStarted p s → OneStep p inputs s n s' → AreStarted p s'
+    pub reached : (ns : List Name) (s : State FrameEnv View) → Reaches p inputs ns s → AreStarted p s
+    pub children : (s : State FrameEnv View) → DidAsAsked p inputs s → AreStarted p s → ChildrenAreNamed s

@@ -23,19 +23,19 @@ use Rattle.cilk_join.specs.Waits.{shown}
 use Rattle.cilk_runs.specs.Machine.{State, deeds_at}
 use Rattle.cilk_runs.specs.Runs.{Name}
 use Rattle.cilk_runs.specs.Reducers.{View}
-use Rattle.cilk_runs.specs.Worlds.{World}
-use Rattle.cilk_scheduler.specs.declared.board.Board.{Board}
-use Rattle.cilk_scheduler.specs.declared.seat.Seat.{Seat}
-use Rattle.cilk_scheduler.specs.declared.seat.Status.TheVariants.{Held}
-use Rattle.cilk_scheduler.specs.declared.seat.Worker.{Worker}
+use Rattle.cilk_runs.specs.FrameEnvs.{FrameEnv}
+use Rattle.cilk_scheduler.specs.declared.scheduler.Scheduler.{Scheduler}
+use Rattle.cilk_scheduler.specs.declared.frame_state.FrameState.{FrameState}
+use Rattle.cilk_scheduler.specs.declared.frame_state.Status.TheVariants.{Held}
+use Rattle.cilk_scheduler.specs.declared.frame_state.Worker.{Worker}
 use Rattle.cilk_scheduler.specs.Acting.{IsShown}
 use Rattle.cilk_scheduler.specs.Asking.{WentOn}
-use Rattle.cilk_scheduler.specs.Boards.{ShowsBy, is_resuming}
-use Rattle.cilk_scheduler.specs.Desks.{Desk}
+use Rattle.cilk_scheduler.specs.Schedulers.{ShowsBy, is_resuming}
+use Rattle.cilk_scheduler.specs.WorkerTables.{WorkerTable}
 use Rattle.cilk_scheduler.specs.Events.{Arrives, AwaitsLast, block_in}
 use Rattle.cilk_scheduler.specs.Noting.{HasFrame}
 use Rattle.cilk_scheduler.specs.Openings.{IsNew}
-use Rattle.cilk_scheduler.specs.Seats.{changed, counted, moved_to, robbed, seated, synced, waiting}
+use Rattle.cilk_scheduler.specs.FrameStates.{changed, counted, moved_to, robbed, seated, synced, waiting}
 use Rattle.cilk_scheduler.specs.Steps.{HasCome, Notes}
 use Rattle.cilk_scheduler.specs.Syncing.{PassesWith}
 use Rattle.cilk_scheduler.specs.Thieves.{IsOffered, TakesOver}
@@ -51,12 +51,12 @@ abbrev pub freed : Worker → Worker
 freed u = record u { frame = None }
 
 -- the sync that a frame asks for has to wait for a stolen child, and the frame's own piece is still to come
-abbrev pub must_wait : Seat → Bool
+abbrev pub must_wait : FrameState → Bool
 must_wait x = if x.merged then false else has_awaited (block_in x.join)
 
 -- What is kept of a frame, and its worker's views, where its own piece has come to its block: the block had passed already; or no
 -- continuation of it was stolen; or the piece has arrived.
-pub data BringsOwn (x : Seat) (old : Hypermap) (x' : Seat) (new : Hypermap) : Type 0 where
+pub data BringsOwn (x : FrameState) (old : Hypermap) (x' : FrameState) (new : Hypermap) : Type 0 where
   Passed : x.merged ≡ true → x' ≡ x → new ≡ old → BringsOwn x old x' new
   Alone : x.merged ≡ false → x.join ≡ None → x' ≡ x → new ≡ old → BringsOwn x old x' new
   Brought : x.merged ≡ false → (l l' : _) (passes : Bool) → x.join ≡ Some l → x' ≡ record x { join = Some l' } → Arrives (shown l.value) (x.children + 1) true (product old) passes (shown l'.value) new → BringsOwn x old x' new
@@ -69,7 +69,7 @@ OpensAs v u = (u.frame ≡ (if nat_eq v 0 then Some 0 else None)) × (let o = u.
 -- and the worker has the frame, with no views.
 abbrev pub ContinuationsAreTaken : Type 0
 ContinuationsAreTaken =
-    (b b' : Board) (w place k : ℕ) (h : IsOffered b w place k) (awaiting : Seat) (without : Worker) (views : Hypermap) (awaited marked : List (Activation Seat)) (withdrawn cleared : List Worker)
+    (b b' : Scheduler) (w place k : ℕ) (h : IsOffered b w place k) (awaiting : FrameState) (without : Worker) (views : Hypermap) (awaited marked : List (Activation FrameState)) (withdrawn cleared : List Worker)
     → (let a = h.seat in AwaitsLast a.cursor awaiting) → (let f = b.frames in awaited ≡ changed (λ _. awaiting) f.items k) → marked ≡ changed robbed awaited awaiting.last
     → (let u = h.owner in without ≡ record u { offered = without.offered }) → (let u = h.owner in let o = u.offered in let l = without.offered in l.items ≡ remove o.items h.at) → (let l = b.workers in withdrawn ≡ altered (λ _. without) l.items h.victim)
     → EachKind (λ q. (j : Instance) → view_in views q j ≡ None) → cleared ≡ viewing views withdrawn w → (let l = b'.workers in l.items ≡ altered (working k) cleared w) → (let f = b'.frames in f.items ≡ changed (moved_to (Held w)) marked k)
@@ -80,20 +80,20 @@ module _ (code : CodeView) (p : Source) (inputs : List ℤ) where
   -- A continuation that is located is offered; the piece of its frame's last child may be awaited, and that child is there.
   abbrev pub ContinuationsAreOffered : Type 0
   ContinuationsAreOffered =
-      (name : ℕ → Name) (b : Board) (d : Desk) (s : State World View) (w place victim at : ℕ) → ShowsBy code p inputs name b d s → b.outcome ≡ None → (let l = b.workers in is_idle l.items (suc w) ≡ true) → (g : (let l = b.workers in IsLocated l.items place victim at))
+      (name : ℕ → Name) (b : Scheduler) (d : WorkerTable) (s : State FrameEnv View) (w place victim at : ℕ) → ShowsBy code p inputs name b d s → b.outcome ≡ None → (let l = b.workers in is_idle l.items (suc w) ≡ true) → (g : (let l = b.workers in IsLocated l.items place victim at))
       → (h : IsOffered b w place g.1) × (h.owner ≡ g.0) × (h.victim ≡ victim) × (h.at ≡ at) × (let a = h.seat in let x = a.cursor in let f = b.frames in IsOpen (block_in x.join) x.children × (x.last < length f.items))
 
   -- A frame that a worker has, and that has come to a sync, started no child with its last event; and its own piece may arrive at its block, where
   -- that hasn't passed.
   abbrev pub OwnPiecesMayArrive : Type 0
   OwnPiecesMayArrive =
-      (name : ℕ → Name) (b : Board) (d : Desk) (s : State World View) (w k : ℕ) (came : Seat) → IsShown code p inputs name b d s → (f : HasFrame b w k) → (let a = f.seat in WentOn code inputs a.cursor asks.Sync came)
+      (name : ℕ → Name) (b : Scheduler) (d : WorkerTable) (s : State FrameEnv View) (w k : ℕ) (came : FrameState) → IsShown code p inputs name b d s → (f : HasFrame b w k) → (let a = f.seat in WentOn code inputs a.cursor asks.Sync came)
       → (is_resuming (deeds_at (s.frames (name k))) ≡ false) × (came.merged ≡ false → MayArrive (block_in came.join) (came.children + 1) true)
 
   -- It waits, where it must.
   abbrev pub FramesStayBehind : Type 0
   FramesStayBehind =
-      (name : ℕ → Name) (b b' : Board) (d : Desk) (s : State World View) (w k : ℕ) (came brought : Seat) (views : Hypermap) (went arrived : List (Activation Seat)) (viewed : List Worker) → ShowsBy code p inputs name b d s → (f : HasFrame b w k) → b.outcome ≡ None
+      (name : ℕ → Name) (b b' : Scheduler) (d : WorkerTable) (s : State FrameEnv View) (w k : ℕ) (came brought : FrameState) (views : Hypermap) (went arrived : List (Activation FrameState)) (viewed : List Worker) → ShowsBy code p inputs name b d s → (f : HasFrame b w k) → b.outcome ≡ None
       → (let a = f.seat in WentOn code inputs a.cursor asks.Sync came) → (let l = b.frames in went ≡ changed (λ _. came) l.items k) → must_wait came ≡ true → (let u = f.worker in BringsOwn came u.views brought views)
       → arrived ≡ changed (λ _. brought) went k → (let l = b'.frames in l.items ≡ changed waiting arrived k) → (let l = b.workers in viewed ≡ viewing views l.items w) → (let l = b'.workers in l.items ≡ altered freed viewed w)
       → b'.offered ≡ b.offered → (let c = b.cells in let d = b'.cells in d.items ≡ c.items) → (let e = b.journal in let l = b'.journal in l.items ≡ e.items) → b'.ticks ≡ b.ticks → b'.outcome ≡ b.outcome
@@ -102,19 +102,19 @@ module _ (code : CodeView) (p : Source) (inputs : List ℤ) where
   -- Else its block passes, and it makes its sync.
   abbrev pub FramesPass : Type 0
   FramesPass =
-      (name : ℕ → Name) (b b' : Board) (d : Desk) (s : State World View) (w k : ℕ) (brought : Seat) (views : Hypermap) (went arrived acted : List (Activation Seat)) → ShowsBy code p inputs name b d s → (h : HasCome code p inputs b w k asks.Sync)
+      (name : ℕ → Name) (b b' : Scheduler) (d : WorkerTable) (s : State FrameEnv View) (w k : ℕ) (brought : FrameState) (views : Hypermap) (went arrived acted : List (Activation FrameState)) → ShowsBy code p inputs name b d s → (h : HasCome code p inputs b w k asks.Sync)
       → (let l = b.frames in went ≡ changed (λ _. h.came) l.items k) → must_wait h.came ≡ false → (let u = h.worker in BringsOwn h.came u.views brought views)
-      → arrived ≡ changed (λ _. brought) went k → acted ≡ changed synced arrived k → (let l = b'.frames in l.items ≡ changed counted acted k) → ((a : Activation Seat) → slice_get acted k ≡ Some a → b'.ticks ≡ b.ticks + (let x = a.cursor in x.took - x.counted))
+      → arrived ≡ changed (λ _. brought) went k → acted ≡ changed synced arrived k → (let l = b'.frames in l.items ≡ changed counted acted k) → ((a : Activation FrameState) → slice_get acted k ≡ Some a → b'.ticks ≡ b.ticks + (let x = a.cursor in x.took - x.counted))
       → (let e = b.journal in let l = b'.journal in l.items ≡ e.items ++ (record { frame = k; event = events.Sync }) ∷ []) → (let c = b.cells in let d = b'.cells in d.items ≡ c.items) → (let l = b.workers in let m = b'.workers in m.items ≡ viewing views l.items w)
       → b'.offered ≡ b.offered → b'.outcome ≡ b.outcome
       → (let a = h.seat in let u = h.worker in PassesWith a.cursor u.views views) × (let c = b.cells in Notes code p inputs b b' w k h.came (synced h.came) events.Sync c.items views)
 
   -- A board whose parts were made one after the other is a new one: the first frame's cursor, its activation, the cells of openings and of
   -- that frame, which hold 0, and workers of whom the first alone has it.
-  abbrev pub BoardsAreNew : Type 0
-  BoardsAreNew =
-      (b : Board) (c : CursorView) (root : Activation Seat) (count : ℕ) → LaysOut p code.layout → Stands code inputs p callees.Root c [] 0 → c.owed ≡ Nothing
-      → ((q : Source) (frames : List (Activation Seat)) → (let l = code.layout in length l.openings ≡ length q.openings) → (let l = code.layout in length l.reducers ≡ length q.reducers) → (let l = code.layout in HasScope frames root (home_of q callees.Root 1 (length l.openings) [] ∷ [])))
+  abbrev pub SchedulersAreNew : Type 0
+  SchedulersAreNew =
+      (b : Scheduler) (c : CursorView) (root : Activation FrameState) (count : ℕ) → LaysOut p code.layout → Stands code inputs p callees.Root c [] 0 → c.owed ≡ Nothing
+      → ((q : Source) (frames : List (Activation FrameState)) → (let l = code.layout in length l.openings ≡ length q.openings) → (let l = code.layout in length l.reducers ≡ length q.reducers) → (let l = code.layout in HasScope frames root (home_of q callees.Root 1 (length l.openings) [] ∷ [])))
       → root.cursor ≡ seated 0 0 Call 0 c → root.number ≡ 1 → (let l = code.layout in root.base ≡ length l.openings) → root.result ≡ None → (let l = code.layout in root.creator ≡ Some l.main) → (let f = b.frames in f.items ≡ root ∷ [])
       → (let l = code.layout in let d = b.cells in d.items ≡ l.openings ++ replicate (cells_in l callees.Root) (pos 0))
       → (let l = b.workers in length l.items ≡ suc count) → ((v : ℕ) (u : Worker) → (let l = b.workers in slice_get l.items v ≡ Some u) → OpensAs v u)

@@ -11,16 +11,16 @@ use Rattle.cilk_frames.specs.declared.activation.Activation.{Activation}
 use Rattle.cilk_runs.specs.Machine.{Frame, State, after_deed, started}
 use Rattle.cilk_runs.specs.Runs.{Name, Invokes}
 use Rattle.cilk_runs.specs.Reducers.{View}
-use Rattle.cilk_runs.specs.Worlds.{World, child_world}
-use Rattle.cilk_scheduler.specs.declared.board.Board.{Board}
-use Rattle.cilk_scheduler.specs.declared.seat.Seat.{Seat}
-use Rattle.cilk_scheduler.specs.declared.seat.Status.{Status}
-use Rattle.cilk_scheduler.specs.declared.seat.Worker.{Worker}
+use Rattle.cilk_runs.specs.FrameEnvs.{FrameEnv, child_world}
+use Rattle.cilk_scheduler.specs.declared.scheduler.Scheduler.{Scheduler}
+use Rattle.cilk_scheduler.specs.declared.frame_state.FrameState.{FrameState}
+use Rattle.cilk_scheduler.specs.declared.frame_state.Status.{Status}
+use Rattle.cilk_scheduler.specs.declared.frame_state.Worker.{Worker}
 use Rattle.cilk_scheduler.specs.Acting.{IsShown}
-use Rattle.cilk_scheduler.specs.Boards.{Seen, Sits}
-use Rattle.cilk_scheduler.specs.Desks.{Desk}
+use Rattle.cilk_scheduler.specs.Schedulers.{Seen, Sits}
+use Rattle.cilk_scheduler.specs.WorkerTables.{WorkerTable}
 use Rattle.cilk_scheduler.specs.Invoking.{IsChild}
-use Rattle.cilk_scheduler.specs.Seats.{changed, counted, started_at}
+use Rattle.cilk_scheduler.specs.FrameStates.{changed, counted, started_at}
 use Rattle.cilk_scheduler.specs.Steps.{HasCome}
 
 -- the names of frames, where the one at this place has a new one
@@ -30,10 +30,10 @@ named_at name k n j = cond (nat_eq k j) n (name j)
 module _ (code : CodeView) (p : Source) (inputs : List ℤ) where
   -- Worker w's frame, at place k, has come to an invocation. The frame that it starts is the last of the board's then, with its cells behind all
   -- others; the frame itself is elsewhere. No frame had the new one's name.
-  pub record Starts (name : ℕ → Name) (b b' : Board) (s s' : State World View) (w k : ℕ) (how : Invocation) (callee : Callee) : Type 0 where
+  pub record Starts (name : ℕ → Name) (b b' : Scheduler) (s s' : State FrameEnv View) (w k : ℕ) (how : Invocation) (callee : Callee) : Type 0 where
     pub comes : HasCome code p inputs b w k (asks.Invoke how callee)
-    pub frame : Frame World
-    pub child : Activation Seat
+    pub frame : Frame FrameEnv
+    pub child : Activation FrameState
     pub status : Status
     pub here : s.frames (name k) ≡ Some frame
     pub fresh : s.frames (name k ++ suc (started frame.deeds) ∷ []) ≡ None
@@ -42,7 +42,7 @@ module _ (code : CodeView) (p : Source) (inputs : List ℤ) where
     pub seats_are : let f = b.frames in let g = b'.frames in g.items ≡ changed (λ _. counted (started_at status (length f.items) comes.came)) f.items k ++ child ∷ []
 
   -- The worker has the new frame then; its parent's event is written down, and no continuation is stolen.
-  pub record TakesTurn (b b' : Board) (s s' : State World View) (w k : ℕ) (how : Invocation) : Type 0 where
+  pub record TakesTurn (b b' : Scheduler) (s s' : State FrameEnv View) (w k : ℕ) (how : Invocation) : Type 0 where
     pub worker : Worker
     pub at : let l = b'.workers in slice_get l.items w ≡ Some worker
     pub has : let f = b.frames in worker.frame ≡ Some (length f.items)
@@ -52,7 +52,7 @@ module _ (code : CodeView) (p : Source) (inputs : List ℤ) where
   -- The new frame sees, by names and by numbers at once, what its callee names, and all of it is there.
   abbrev pub ChildrenSee : Type 0
   ChildrenSee =
-      (name : ℕ → Name) (b b' : Board) (d : Desk) (s s' : State World View) (w k : ℕ) (how : Invocation) (callee : Callee) → IsShown code p inputs name b d s → (t : Starts name b b' s s' w k how callee)
+      (name : ℕ → Name) (b b' : Scheduler) (d : WorkerTable) (s s' : State FrameEnv View) (w k : ℕ) (how : Invocation) (callee : Callee) → IsShown code p inputs name b d s → (t : Starts name b b' s s' w k how callee)
       → let f = b.frames in
       let g = t.frame in
       let n = name k ++ suc (started g.deeds) ∷ [] in
@@ -61,7 +61,7 @@ module _ (code : CodeView) (p : Source) (inputs : List ℤ) where
   -- The new frame's seat is that of the free machine's frame of that name, which has done nothing.
   abbrev pub ChildrenSit : Type 0
   ChildrenSit =
-      (name : ℕ → Name) (b b' : Board) (d : Desk) (s s' : State World View) (w k : ℕ) (how : Invocation) (callee : Callee) → Behaves p code → IsShown code p inputs name b d s
+      (name : ℕ → Name) (b b' : Scheduler) (d : WorkerTable) (s s' : State FrameEnv View) (w k : ℕ) (how : Invocation) (callee : Callee) → Behaves p code → IsShown code p inputs name b d s
       → (t : Starts name b b' s s' w k how callee) → TakesTurn b b' s s' w k how
       → let f = b.frames in
       let g = t.frame in
@@ -71,7 +71,7 @@ module _ (code : CodeView) (p : Source) (inputs : List ℤ) where
   -- Two frames of the board have two names then too.
   abbrev pub NamesStayApart : Type 0
   NamesStayApart =
-      (name : ℕ → Name) (b b' : Board) (d : Desk) (s s' : State World View) (w k : ℕ) (how : Invocation) (callee : Callee) → IsShown code p inputs name b d s → (t : Starts name b b' s s' w k how callee)
+      (name : ℕ → Name) (b b' : Scheduler) (d : WorkerTable) (s s' : State FrameEnv View) (w k : ℕ) (how : Invocation) (callee : Callee) → IsShown code p inputs name b d s → (t : Starts name b b' s s' w k how callee)
       → let f = b.frames in
       let g = b'.frames in
       let o = t.frame in

@@ -12,24 +12,24 @@ use Rattle.cilk_hypermap.specs.declared.hypermap.Hypermap.{Hypermap}
 use Rattle.cilk_runs.specs.Machine.{State}
 use Rattle.cilk_runs.specs.Runs.{Name}
 use Rattle.cilk_runs.specs.Reducers.{View}
-use Rattle.cilk_runs.specs.Worlds.{World}
-use Rattle.cilk_scheduler.specs.declared.board.Board.{Board}
+use Rattle.cilk_runs.specs.FrameEnvs.{FrameEnv}
+use Rattle.cilk_scheduler.specs.declared.scheduler.Scheduler.{Scheduler}
 use Rattle.cilk_scheduler.specs.declared.choice.Choice.TheVariants.{Run}
-use Rattle.cilk_scheduler.specs.declared.seat.Seat.{Seat}
-use Rattle.cilk_scheduler.specs.declared.seat.Worker.{Worker}
+use Rattle.cilk_scheduler.specs.declared.frame_state.FrameState.{FrameState}
+use Rattle.cilk_scheduler.specs.declared.frame_state.Worker.{Worker}
 use Rattle.cilk_scheduler.specs.Asking.{WentOn, refusal}
-use Rattle.cilk_scheduler.specs.Boards.{ShowsBy}
-use Rattle.cilk_scheduler.specs.Desks.{Desk, Did, Chooses}
+use Rattle.cilk_scheduler.specs.Schedulers.{ShowsBy}
+use Rattle.cilk_scheduler.specs.WorkerTables.{WorkerTable, Did, Chooses}
 use Rattle.cilk_scheduler.specs.Histories.{DidAsAsked}
-use Rattle.cilk_scheduler.specs.Seats.{changed, counted, stranded}
+use Rattle.cilk_scheduler.specs.FrameStates.{changed, counted, stranded}
 use Rattle.cilk_scheduler.specs.Workers.{viewing}
 
 module _ (code : CodeView) (p : Source) (inputs : List ℤ) where
   -- Worker w has the frame at place k, which has gone on to this ask, and nothing stands in place of its event.
-  pub record HasCome (b : Board) (w k : ℕ) (ask : Ask) : Type 0 where
+  pub record HasCome (b : Scheduler) (w k : ℕ) (ask : Ask) : Type 0 where
     pub worker : Worker
-    pub seat : Activation Seat
-    pub came : Seat
+    pub seat : Activation FrameState
+    pub came : FrameState
     pub at : let l = b.workers in slice_get l.items w ≡ Some worker
     pub has : worker.frame ≡ Some k
     pub sits : let f = b.frames in slice_get f.items k ≡ Some seat
@@ -38,7 +38,7 @@ module _ (code : CodeView) (p : Source) (inputs : List ℤ) where
     pub accepted : let e = b.journal in let f = b.frames in let c = b.cells in refusal (b.ticks + (came.took - came.counted)) (length e.items) (length f.items) (length c.items) code.layout ask ≡ None
 
   -- The frame goes on as this seat, its event is written down and its ticks are counted; cells and the worker's views are these then.
-  pub record Notes (b b' : Board) (w k : ℕ) (came next : Seat) (event : numbered.Event) (cells : List ℤ) (views : Hypermap) : Type 0 where
+  pub record Notes (b b' : Scheduler) (w k : ℕ) (came next : FrameState) (event : numbered.Event) (cells : List ℤ) (views : Hypermap) : Type 0 where
     pub frames : let f = b.frames in let g = b'.frames in g.items ≡ changed (λ _. counted next) f.items k
     pub journal : let e = b.journal in let l = b'.journal in l.items ≡ e.items ++ (record { frame = k; event = event }) ∷ []
     pub cells_are : let c = b'.cells in c.items ≡ cells
@@ -48,17 +48,17 @@ module _ (code : CodeView) (p : Source) (inputs : List ℤ) where
     pub ticks : b'.ticks ≡ b.ticks + (came.took - came.counted)
 
   -- what the worker's choice does to a state that the board shows, and that the board shows what comes of it
-  abbrev pub IsDone : (ℕ → Name) → Board → Desk → State World View → ℕ → Type 0
-  IsDone name b' d s w = (s' : State World View) × Chooses p inputs s d (Run (suc w)) Did s' d × ShowsBy code p inputs name b' d s'
+  abbrev pub IsDone : (ℕ → Name) → Scheduler → WorkerTable → State FrameEnv View → ℕ → Type 0
+  IsDone name b' d s w = (s' : State FrameEnv View) × Chooses p inputs s d (Run (suc w)) Did s' d × ShowsBy code p inputs name b' d s'
 
   -- a frame begins
   abbrev pub BeginsAreShown : Type 0
   BeginsAreShown =
-      (name : ℕ → Name) (b b' : Board) (d : Desk) (s : State World View) (w k : ℕ) → LaysOut p code.layout → ShowsBy code p inputs name b d s → DidAsAsked p inputs s → (h : HasCome b w k asks.Begin)
+      (name : ℕ → Name) (b b' : Scheduler) (d : WorkerTable) (s : State FrameEnv View) (w k : ℕ) → LaysOut p code.layout → ShowsBy code p inputs name b d s → DidAsAsked p inputs s → (h : HasCome b w k asks.Begin)
       → (let c = b.cells in let u = h.worker in Notes b b' w k h.came (stranded h.came) (events.Begin (suc k)) c.items u.views) → IsDone name b' d s w
 
   -- a frame goes on after a child, with the child's views or without a thief's
   abbrev pub ResumesAreShown : Type 0
   ResumesAreShown =
-      (name : ℕ → Name) (b b' : Board) (d : Desk) (s : State World View) (w k : ℕ) → LaysOut p code.layout → ShowsBy code p inputs name b d s → DidAsAsked p inputs s → (h : HasCome b w k asks.Resume)
+      (name : ℕ → Name) (b b' : Scheduler) (d : WorkerTable) (s : State FrameEnv View) (w k : ℕ) → LaysOut p code.layout → ShowsBy code p inputs name b d s → DidAsAsked p inputs s → (h : HasCome b w k asks.Resume)
       → (let c = b.cells in let u = h.worker in Notes b b' w k h.came (stranded h.came) (events.Resume (suc k)) c.items u.views) → IsDone name b' d s w

@@ -12,19 +12,19 @@ use Rattle.cilk_frames.specs.declared.activation.Activation.{Activation}
 use Rattle.cilk_runs.specs.Machine.{State, Stop}
 use Rattle.cilk_runs.specs.Runs.{Name}
 use Rattle.cilk_runs.specs.Reducers.{View}
-use Rattle.cilk_runs.specs.Worlds.{World}
-use Rattle.cilk_scheduler.specs.declared.board.Board.{Board}
+use Rattle.cilk_runs.specs.FrameEnvs.{FrameEnv}
+use Rattle.cilk_scheduler.specs.declared.scheduler.Scheduler.{Scheduler}
 use Rattle.cilk_scheduler.specs.declared.choice.Choice.{Choice}
 use Rattle.cilk_scheduler.specs.declared.choice.Choice.TheVariants.{Run, Steal}
-use Rattle.cilk_scheduler.specs.declared.seat.Seat.{Seat}
-use Rattle.cilk_scheduler.specs.declared.seat.Worker.{Worker}
+use Rattle.cilk_scheduler.specs.declared.frame_state.FrameState.{FrameState}
+use Rattle.cilk_scheduler.specs.declared.frame_state.Worker.{Worker}
 use Rattle.cilk_scheduler.specs.Asking.{WentOn, refusal}
-use Rattle.cilk_scheduler.specs.Boards.{ShowsBy, Tells}
-use Rattle.cilk_scheduler.specs.Desks.{BlockIsOver, Chooses, Desk, Skipped, StopsAt}
+use Rattle.cilk_scheduler.specs.Schedulers.{ShowsBy, Tells}
+use Rattle.cilk_scheduler.specs.WorkerTables.{BlockIsOver, Chooses, WorkerTable, Skipped, StopsAt}
 use Rattle.cilk_scheduler.specs.GoneOn.{HaveGoneOn}
 use Rattle.cilk_scheduler.specs.Noting.{HasFrame}
 use Rattle.cilk_scheduler.specs.Parts.{must_wait}
-use Rattle.cilk_scheduler.specs.Seats.{changed}
+use Rattle.cilk_scheduler.specs.FrameStates.{changed}
 use Rattle.cilk_scheduler.specs.Workers.{held_by, is_idle, offers}
 
 -- the latest strand of a frame that has begun so many, and the first before its begin
@@ -32,16 +32,16 @@ abbrev pub latest : ℕ → ℕ
 latest begun = cond (nat_eq begun 0) 1 begun
 
 -- The frames of the one list stand in the other, each at its place and started by the same frame, with something else beside.
-pub record StandAsBefore (old new : List (Activation Seat)) : Type 0 where
+pub record StandAsBefore (old new : List (Activation FrameState)) : Type 0 where
   pub as_many : length new ≡ length old
-  pub each : (j : ℕ) (a : Activation Seat) → slice_get new j ≡ Some a → (z : Activation Seat) × (slice_get old j ≡ Some z) × (a ≡ record z { cursor = a.cursor }) × (let x = a.cursor in let y = z.cursor in (x.parent ≡ y.parent) × (x.ordinal ≡ y.ordinal))
+  pub each : (j : ℕ) (a : Activation FrameState) → slice_get new j ≡ Some a → (z : Activation FrameState) × (slice_get old j ≡ Some z) × (a ≡ record z { cursor = a.cursor }) × (let x = a.cursor in let y = z.cursor in (x.parent ≡ y.parent) × (x.ordinal ≡ y.ordinal))
 
 module _ (code : CodeView) (p : Source) (inputs : List ℤ) where
   -- Worker w has the frame at place k, which has gone on to this ask, and this fault stands in place of its event.
-  pub record IsRefused (b : Board) (w k : ℕ) (ask : Ask) (fault : Fault) : Type 0 where
+  pub record IsRefused (b : Scheduler) (w k : ℕ) (ask : Ask) (fault : Fault) : Type 0 where
     pub worker : Worker
-    pub seat : Activation Seat
-    pub came : Seat
+    pub seat : Activation FrameState
+    pub came : FrameState
     pub at : let l = b.workers in slice_get l.items w ≡ Some worker
     pub has : worker.frame ≡ Some k
     pub sits : let f = b.frames in slice_get f.items k ≡ Some seat
@@ -52,28 +52,28 @@ module _ (code : CodeView) (p : Source) (inputs : List ℤ) where
   -- that was refused memory, shows what it had shown.
   abbrev pub TellingsStay : Type 0
   TellingsStay =
-      (name : ℕ → Name) (b b' : Board) (s : State World View) (stopped : Option Stop) → Tells code p inputs name b s → (let f = b.frames in let g = b'.frames in StandAsBefore f.items g.items) → (let e = b.journal in let l = b'.journal in l.items ≡ e.items) → b'.outcome ≡ b.outcome
+      (name : ℕ → Name) (b b' : Scheduler) (s : State FrameEnv View) (stopped : Option Stop) → Tells code p inputs name b s → (let f = b.frames in let g = b'.frames in StandAsBefore f.items g.items) → (let e = b.journal in let l = b'.journal in l.items ≡ e.items) → b'.outcome ≡ b.outcome
       → Tells code p inputs name b' (record s { stopped = stopped })
 
   -- A fault that is found in place of an event stops the free machine, at the frame's latest strand; and the board tells what it told.
   abbrev pub StopsAreShown : Type 0
   StopsAreShown =
-      (name : ℕ → Name) (b b' : Board) (d : Desk) (s : State World View) (w k : ℕ) (ask : Ask) (fault : Fault) → LaysOut p code.layout → ShowsBy code p inputs name b d s → (h : IsRefused b w k ask fault) → (ask ≡ asks.Sync → BlockIsOver s (name k))
+      (name : ℕ → Name) (b b' : Scheduler) (d : WorkerTable) (s : State FrameEnv View) (w k : ℕ) (ask : Ask) (fault : Fault) → LaysOut p code.layout → ShowsBy code p inputs name b d s → (h : IsRefused b w k ask fault) → (ask ≡ asks.Sync → BlockIsOver s (name k))
       → (let f = b.frames in let g = b'.frames in g.items ≡ changed (λ _. h.came) f.items k) → (let e = b.journal in let l = b'.journal in l.items ≡ e.items) → b'.outcome ≡ b.outcome
-      → (s' : State World View) × StopsAt p inputs s d (Run (suc w)) s' × (let a = h.seat in let x = a.cursor in s'.stopped ≡ Some (record { frame = name k; strand = latest x.strands; fault = fault })) × Tells code p inputs name b' s'
+      → (s' : State FrameEnv View) × StopsAt p inputs s d (Run (suc w)) s' × (let a = h.seat in let x = a.cursor in s'.stopped ≡ Some (record { frame = name k; strand = latest x.strands; fault = fault })) × Tells code p inputs name b' s'
 
   -- The block of a frame that has come to its sync is over, where the sync need not wait.
   abbrev pub BlocksAreOver : Type 0
   BlocksAreOver =
-      (name : ℕ → Name) (b : Board) (d : Desk) (s : State World View) (w k : ℕ) (came : Seat) → ShowsBy code p inputs name b d s → HaveGoneOn s → (f : HasFrame b w k) → (let a = f.seat in WentOn code inputs a.cursor asks.Sync came) → must_wait came ≡ false
+      (name : ℕ → Name) (b : Scheduler) (d : WorkerTable) (s : State FrameEnv View) (w k : ℕ) (came : FrameState) → ShowsBy code p inputs name b d s → HaveGoneOn s → (f : HasFrame b w k) → (let a = f.seat in WentOn code inputs a.cursor asks.Sync came) → must_wait came ≡ false
       → BlockIsOver s (name k)
 
   -- A choice is skipped where its worker has no frame, or is to steal and isn't idle, or no continuation is offered at that place, or the run is
   -- over; and a frame that a worker has is there, with its cursor.
   pub record SkipsAreShown : Type 0 where
-    pub nobody : (name : ℕ → Name) (b : Board) (d : Desk) (s : State World View) (w : ℕ) → ShowsBy code p inputs name b d s → (let l = b.workers in held_by l.items w ≡ None) → Chooses p inputs s d (Run w) Skipped s d
-    pub busy : (name : ℕ → Name) (b : Board) (d : Desk) (s : State World View) (w place : ℕ) → ShowsBy code p inputs name b d s → (let l = b.workers in is_idle l.items w ≡ false) → Chooses p inputs s d (Steal w place) Skipped s d
-    pub unoffered : (name : ℕ → Name) (b : Board) (d : Desk) (s : State World View) (w place : ℕ) → ShowsBy code p inputs name b d s → (let l = b.workers in slice_get (offers l.items) place ≡ None) → Chooses p inputs s d (Steal w place) Skipped s d
-    pub past : (name : ℕ → Name) (b : Board) (d : Desk) (s : State World View) (place : ℕ) → ShowsBy code p inputs name b d s → b.offered ≤ place → (let l = b.workers in slice_get (offers l.items) place ≡ None)
-    pub over : (name : ℕ → Name) (b : Board) (d : Desk) (s : State World View) (c : Choice) (o : Outcome) → ShowsBy code p inputs name b d s → b.outcome ≡ Some o → Chooses p inputs s d c Skipped s d
-    pub held : (name : ℕ → Name) (b : Board) (d : Desk) (s : State World View) (w k : ℕ) → ShowsBy code p inputs name b d s → (let l = b.workers in held_by l.items (suc w) ≡ Some k) → (f : HasFrame b w k) × (c : CursorView) × (let a = f.seat in let x = a.cursor in x.cursor ≡ Some c)
+    pub nobody : (name : ℕ → Name) (b : Scheduler) (d : WorkerTable) (s : State FrameEnv View) (w : ℕ) → ShowsBy code p inputs name b d s → (let l = b.workers in held_by l.items w ≡ None) → Chooses p inputs s d (Run w) Skipped s d
+    pub busy : (name : ℕ → Name) (b : Scheduler) (d : WorkerTable) (s : State FrameEnv View) (w place : ℕ) → ShowsBy code p inputs name b d s → (let l = b.workers in is_idle l.items w ≡ false) → Chooses p inputs s d (Steal w place) Skipped s d
+    pub unoffered : (name : ℕ → Name) (b : Scheduler) (d : WorkerTable) (s : State FrameEnv View) (w place : ℕ) → ShowsBy code p inputs name b d s → (let l = b.workers in slice_get (offers l.items) place ≡ None) → Chooses p inputs s d (Steal w place) Skipped s d
+    pub past : (name : ℕ → Name) (b : Scheduler) (d : WorkerTable) (s : State FrameEnv View) (place : ℕ) → ShowsBy code p inputs name b d s → b.offered ≤ place → (let l = b.workers in slice_get (offers l.items) place ≡ None)
+    pub over : (name : ℕ → Name) (b : Scheduler) (d : WorkerTable) (s : State FrameEnv View) (c : Choice) (o : Outcome) → ShowsBy code p inputs name b d s → b.outcome ≡ Some o → Chooses p inputs s d c Skipped s d
+    pub held : (name : ℕ → Name) (b : Scheduler) (d : WorkerTable) (s : State FrameEnv View) (w k : ℕ) → ShowsBy code p inputs name b d s → (let l = b.workers in held_by l.items (suc w) ≡ Some k) → (f : HasFrame b w k) × (c : CursorView) × (let a = f.seat in let x = a.cursor in x.cursor ≡ Some c)

@@ -11,20 +11,20 @@ use Rattle.cilk_join.specs.Products.{product}
 use Rattle.cilk_runs.specs.Machine.{State}
 use Rattle.cilk_runs.specs.Runs.{Name}
 use Rattle.cilk_runs.specs.Reducers.{View}
-use Rattle.cilk_runs.specs.Worlds.{World}
-use Rattle.cilk_scheduler.specs.declared.board.Board.{Board}
-use Rattle.cilk_scheduler.specs.declared.seat.Seat.{Seat}
-use Rattle.cilk_scheduler.specs.Boards.{ShowsBy}
-use Rattle.cilk_scheduler.specs.Desks.{Desk}
+use Rattle.cilk_runs.specs.FrameEnvs.{FrameEnv}
+use Rattle.cilk_scheduler.specs.declared.scheduler.Scheduler.{Scheduler}
+use Rattle.cilk_scheduler.specs.declared.frame_state.FrameState.{FrameState}
+use Rattle.cilk_scheduler.specs.Schedulers.{ShowsBy}
+use Rattle.cilk_scheduler.specs.WorkerTables.{WorkerTable}
 use Rattle.cilk_scheduler.specs.Events.{Arrives, block_in}
 use Rattle.cilk_scheduler.specs.GoneOn.{HaveGoneOn}
 use Rattle.cilk_scheduler.specs.Histories.{DidAsAsked}
-use Rattle.cilk_scheduler.specs.Seats.{synced}
+use Rattle.cilk_scheduler.specs.FrameStates.{synced}
 use Rattle.cilk_scheduler.specs.Steps.{HasCome, IsDone, Notes}
 
 -- With which views a frame goes on after its sync, that had these before it: its block had passed already; or no continuation of the block
 -- was stolen; or all pieces of the block have arrived once its own arrives.
-pub data PassesWith (x : Seat) (old new : Hypermap) : Type 0 where
+pub data PassesWith (x : FrameState) (old new : Hypermap) : Type 0 where
   HadPassed : x.merged ≡ true → new ≡ old → PassesWith x old new
   NothingStolen : x.merged ≡ false → x.join ≡ None → new ≡ old → PassesWith x old new
   AllArrived : x.merged ≡ false → (after : JoinView) → Arrives (block_in x.join) (x.children + 1) true (product old) true after new → PassesWith x old new
@@ -33,6 +33,6 @@ module _ (code : CodeView) (p : Source) (inputs : List ℤ) where
   -- A worker's frame that has come to a sync, and whose block passes, makes it: the sync is a step of the free machine.
   abbrev pub SyncsAreShown : Type 0
   SyncsAreShown =
-      (name : ℕ → Name) (b b' : Board) (d : Desk) (s : State World View) (w k : ℕ) → LaysOut p code.layout → ShowsBy code p inputs name b d s → DidAsAsked p inputs s → HaveGoneOn s → (h : HasCome code p inputs b w k asks.Sync)
+      (name : ℕ → Name) (b b' : Scheduler) (d : WorkerTable) (s : State FrameEnv View) (w k : ℕ) → LaysOut p code.layout → ShowsBy code p inputs name b d s → DidAsAsked p inputs s → HaveGoneOn s → (h : HasCome code p inputs b w k asks.Sync)
       → (views : Hypermap) → (let a = h.seat in let u = h.worker in PassesWith a.cursor u.views views)
       → (let c = b.cells in Notes code p inputs b b' w k h.came (synced h.came) events.Sync c.items views) → IsDone code p inputs name b' d s w

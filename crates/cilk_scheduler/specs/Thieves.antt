@@ -9,25 +9,25 @@ use Rattle.cilk_hypermap.specs.declared.hypermap.Hypermap.{Hypermap}
 use Rattle.cilk_runs.specs.Machine.{State}
 use Rattle.cilk_runs.specs.Runs.{Name}
 use Rattle.cilk_runs.specs.Reducers.{View}
-use Rattle.cilk_runs.specs.Worlds.{World}
-use Rattle.cilk_scheduler.specs.declared.board.Board.{Board}
+use Rattle.cilk_runs.specs.FrameEnvs.{FrameEnv}
+use Rattle.cilk_scheduler.specs.declared.scheduler.Scheduler.{Scheduler}
 use Rattle.cilk_scheduler.specs.declared.choice.Choice.TheVariants.{Steal}
-use Rattle.cilk_scheduler.specs.declared.seat.Seat.{Seat}
-use Rattle.cilk_scheduler.specs.declared.seat.Status.TheVariants.{Held}
-use Rattle.cilk_scheduler.specs.declared.seat.Worker.{Worker}
-use Rattle.cilk_scheduler.specs.Boards.{ShowsBy}
-use Rattle.cilk_scheduler.specs.Desks.{Desk, Stole, Chooses}
+use Rattle.cilk_scheduler.specs.declared.frame_state.FrameState.{FrameState}
+use Rattle.cilk_scheduler.specs.declared.frame_state.Status.TheVariants.{Held}
+use Rattle.cilk_scheduler.specs.declared.frame_state.Worker.{Worker}
+use Rattle.cilk_scheduler.specs.Schedulers.{ShowsBy}
+use Rattle.cilk_scheduler.specs.WorkerTables.{WorkerTable, Stole, Chooses}
 use Rattle.cilk_scheduler.specs.Events.{AwaitsLast}
-use Rattle.cilk_scheduler.specs.Seats.{changed, moved_to, robbed}
+use Rattle.cilk_scheduler.specs.FrameStates.{changed, moved_to, robbed}
 use Rattle.cilk_scheduler.specs.Workers.{altered, holding, offers}
 
 -- Worker w is idle. The frame at place k offers the continuation at this place among all, by this worker at this place of his list.
-pub record IsOffered (b : Board) (w place k : ℕ) : Type 0 where
+pub record IsOffered (b : Scheduler) (w place k : ℕ) : Type 0 where
   pub thief : Worker
   pub owner : Worker
   pub victim : ℕ
   pub at : ℕ
-  pub seat : Activation Seat
+  pub seat : Activation FrameState
   pub idles : let l = b.workers in slice_get l.items w ≡ Some thief
   pub free : thief.frame ≡ None
   pub owns : let l = b.workers in slice_get l.items victim ≡ Some owner
@@ -37,8 +37,8 @@ pub record IsOffered (b : Board) (w place k : ℕ) : Type 0 where
   pub was_open : b.outcome ≡ None
 
 -- The worker has the frame then, with no views; its last child is marked, and that child's piece is awaited at its block.
-pub record TakesOver (b b' : Board) (w place k : ℕ) (h : IsOffered b w place k) : Type 0 where
-  pub awaiting : Seat
+pub record TakesOver (b b' : Scheduler) (w place k : ℕ) (h : IsOffered b w place k) : Type 0 where
+  pub awaiting : FrameState
   pub awaits : let a = h.seat in AwaitsLast a.cursor awaiting
   pub without : Worker
   pub same_frame : let u = h.owner in without.frame ≡ u.frame
@@ -58,5 +58,5 @@ module _ (code : CodeView) (p : Source) (inputs : List ℤ) where
   -- A thief's choice is a step of the free machine from a state that the board shows, and the board shows what comes of it.
   abbrev pub StealsAreShown : Type 0
   StealsAreShown =
-      (name : ℕ → Name) (b b' : Board) (d : Desk) (s : State World View) (w place k : ℕ) → ShowsBy code p inputs name b d s → (h : IsOffered b w place k) → TakesOver b b' w place k h
-      → (s' : State World View) × (d' : Desk) × Chooses p inputs s d (Steal (suc w) place) Stole s' d' × ShowsBy code p inputs name b' d' s'
+      (name : ℕ → Name) (b b' : Scheduler) (d : WorkerTable) (s : State FrameEnv View) (w place k : ℕ) → ShowsBy code p inputs name b d s → (h : IsOffered b w place k) → TakesOver b b' w place k h
+      → (s' : State FrameEnv View) × (d' : WorkerTable) × Chooses p inputs s d (Steal (suc w) place) Stole s' d' × ShowsBy code p inputs name b' d' s'

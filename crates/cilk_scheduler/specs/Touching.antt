@@ -13,20 +13,20 @@ use Rattle.cilk_runs.specs.Costs.{TickTotal, EventTotal, FrameTotal, CellTotal}
 use Rattle.cilk_runs.specs.Machine.{Frame, State, after_deed, joined_by, strands}
 use Rattle.cilk_runs.specs.Monoids.{unit_of}
 use Rattle.cilk_runs.specs.Runs.{Name, same_name, Cell, Own, Instance, Reducer, Event, Reads, Writes, Syncs, Ends, Passes, Sync, Deed, Does}
-use Rattle.cilk_runs.specs.KeptWorld.{IsTold}
-use Rattle.cilk_runs.specs.WorldMachine.{has_ended, taken}
+use Rattle.cilk_runs.specs.KeptFrameEnv.{IsTold}
+use Rattle.cilk_runs.specs.FrameEnvMachine.{has_ended, taken}
 use Rattle.cilk_runs.specs.Reducers.{View, kind_of, monoid_of}
-use Rattle.cilk_runs.specs.WorldViews.{IsViewOf}
-use Rattle.cilk_runs.specs.Worlds.{World}
-use Rattle.cilk_scheduler.specs.declared.board.Board.{Board}
-use Rattle.cilk_scheduler.specs.declared.seat.Due.TheVariants as due
-use Rattle.cilk_scheduler.specs.declared.seat.JournalEntry.{JournalEntry}
-use Rattle.cilk_scheduler.specs.declared.seat.Seat.{Seat}
-use Rattle.cilk_scheduler.specs.declared.seat.Worker.{Worker}
-use Rattle.cilk_scheduler.specs.Boards.{IsBare, ShowsBy}
-use Rattle.cilk_scheduler.specs.Desks.{Desk}
+use Rattle.cilk_runs.specs.FrameEnvViews.{IsViewOf}
+use Rattle.cilk_runs.specs.FrameEnvs.{FrameEnv}
+use Rattle.cilk_scheduler.specs.declared.scheduler.Scheduler.{Scheduler}
+use Rattle.cilk_scheduler.specs.declared.frame_state.Due.TheVariants as due
+use Rattle.cilk_scheduler.specs.declared.frame_state.JournalEntry.{JournalEntry}
+use Rattle.cilk_scheduler.specs.declared.frame_state.FrameState.{FrameState}
+use Rattle.cilk_scheduler.specs.declared.frame_state.Worker.{Worker}
+use Rattle.cilk_scheduler.specs.Schedulers.{IsBare, ShowsBy}
+use Rattle.cilk_scheduler.specs.WorkerTables.{WorkerTable}
 use Rattle.cilk_scheduler.specs.Numbered.{IsAbsent, IsCell, IsInstance, IsDeed}
-use Rattle.cilk_scheduler.specs.Seats.{changed}
+use Rattle.cilk_scheduler.specs.FrameStates.{changed}
 use Rattle.cilk_scheduler.specs.Workers.{viewing}
 
 -- the event is no sync and no end
@@ -43,21 +43,21 @@ IsInBlock true e = IsPlain e
 IsInBlock false e = e ≡ Syncs
 
 -- the children that enter the joins with it
-abbrev pub joined_with : Bool → Name → List (Deed World) → List Name
+abbrev pub joined_with : Bool → Name → List (Deed FrameEnv) → List Name
 joined_with true n deeds = []
-joined_with false n deeds = joined_by {W = World} Sync n deeds
+joined_with false n deeds = joined_by {W = FrameEnv} Sync n deeds
 
 -- the frame has begun so many strands, took so many ticks, which are counted, and goes on with this answer, in the same block or in another
-abbrev pub touched : Bool → ℕ → ℕ → CursorView → Answer → Seat → Seat
+abbrev pub touched : Bool → ℕ → ℕ → CursorView → Answer → FrameState → FrameState
 touched same begun took c a x = record x { strands = begun; took = took; counted = took; due = due.Answer a; cursor = Some c; join = cond same x.join None; merged = cond same x.merged false }
 
 module _ (code : CodeView) (p : Source) (inputs : List ℤ) where
-  module _ (name : ℕ → Name) (b b' : Board) (s s' : State World View) where
+  module _ (name : ℕ → Name) (b b' : Scheduler) (s s' : State FrameEnv View) where
     -- Worker w's frame, at place k, makes this event: what it leaves of the state and of the board.
     pub record Touches (w k : ℕ) (e : Event) (entry : JournalEntry) : Type 0 where
       pub worker : Worker
-      pub seat : Activation Seat
-      pub frame : Frame World
+      pub seat : Activation FrameState
+      pub frame : Frame FrameEnv
       -- The worker has the frame, which goes on; its block hasn't passed, unless it begins another.
       pub at : let l = b.workers in slice_get l.items w ≡ Some worker
       pub has : worker.frame ≡ Some k
@@ -108,4 +108,4 @@ module _ (code : CodeView) (p : Source) (inputs : List ℤ) where
   -- A board that shows a state shows the next one after such an event, by the same names and with the same desk.
   abbrev pub TouchesAreShown : Type 0
   TouchesAreShown =
-      (name : ℕ → Name) (b b' : Board) (d : Desk) (s s' : State World View) (w k : ℕ) (e : Event) (entry : JournalEntry) → ShowsBy code p inputs name b d s → Touches name b b' s s' w k e entry → ShowsBy code p inputs name b' d s'
+      (name : ℕ → Name) (b b' : Scheduler) (d : WorkerTable) (s s' : State FrameEnv View) (w k : ℕ) (e : Event) (entry : JournalEntry) → ShowsBy code p inputs name b d s → Touches name b b' s s' w k e entry → ShowsBy code p inputs name b' d s'

@@ -9,16 +9,16 @@ use Rattle.cilk_join.specs.Products.{product}
 use Rattle.cilk_runs.specs.Machine.{State, deeds_at}
 use Rattle.cilk_runs.specs.Runs.{Name}
 use Rattle.cilk_runs.specs.Reducers.{View}
-use Rattle.cilk_runs.specs.Worlds.{World}
-use Rattle.cilk_scheduler.specs.declared.board.Board.{Board}
+use Rattle.cilk_runs.specs.FrameEnvs.{FrameEnv}
+use Rattle.cilk_scheduler.specs.declared.scheduler.Scheduler.{Scheduler}
 use Rattle.cilk_scheduler.specs.declared.choice.Choice.TheVariants.{Run}
-use Rattle.cilk_scheduler.specs.declared.seat.Seat.{Seat}
-use Rattle.cilk_scheduler.specs.declared.seat.Worker.{Worker}
+use Rattle.cilk_scheduler.specs.declared.frame_state.FrameState.{FrameState}
+use Rattle.cilk_scheduler.specs.declared.frame_state.Worker.{Worker}
 use Rattle.cilk_scheduler.specs.Asking.{WentOn}
-use Rattle.cilk_scheduler.specs.Boards.{ShowsBy, is_resuming}
-use Rattle.cilk_scheduler.specs.Desks.{Desk, Waited, Chooses}
+use Rattle.cilk_scheduler.specs.Schedulers.{ShowsBy, is_resuming}
+use Rattle.cilk_scheduler.specs.WorkerTables.{WorkerTable, Waited, Chooses}
 use Rattle.cilk_scheduler.specs.Events.{Arrives, block_in}
-use Rattle.cilk_scheduler.specs.Seats.{changed, waiting}
+use Rattle.cilk_scheduler.specs.FrameStates.{changed, waiting}
 use Rattle.cilk_scheduler.specs.Workers.{altered}
 
 -- a worker is idle, with these views
@@ -28,11 +28,11 @@ idling views u = record u { frame = None; views = views }
 module _ (code : CodeView) (p : Source) (inputs : List ℤ) where
   -- Worker w has the frame at place k, which has come to a sync. Its views arrive at the block as its own piece, and the block doesn't pass:
   -- the frame waits, and the worker is idle.
-  pub record StaysBehind (b b' : Board) (w k : ℕ) : Type 0 where
+  pub record StaysBehind (b b' : Scheduler) (w k : ℕ) : Type 0 where
     pub worker : Worker
-    pub seat : Activation Seat
-    pub came : Seat
-    pub after : Seat
+    pub seat : Activation FrameState
+    pub came : FrameState
+    pub after : FrameState
     pub views : Hypermap
     pub at : let l = b.workers in slice_get l.items w ≡ Some worker
     pub has : worker.frame ≡ Some k
@@ -54,5 +54,5 @@ module _ (code : CodeView) (p : Source) (inputs : List ℤ) where
   -- event started no child.
   abbrev pub WaitsAreShown : Type 0
   WaitsAreShown =
-      (name : ℕ → Name) (b b' : Board) (d : Desk) (s : State World View) (w k : ℕ) → ShowsBy code p inputs name b d s → is_resuming (deeds_at (s.frames (name k))) ≡ false → StaysBehind b b' w k
-      → (d' : Desk) × Chooses p inputs s d (Run (suc w)) Waited s d' × ShowsBy code p inputs name b' d' s
+      (name : ℕ → Name) (b b' : Scheduler) (d : WorkerTable) (s : State FrameEnv View) (w k : ℕ) → ShowsBy code p inputs name b d s → is_resuming (deeds_at (s.frames (name k))) ≡ false → StaysBehind b b' w k
+      → (d' : WorkerTable) × Chooses p inputs s d (Run (suc w)) Waited s d' × ShowsBy code p inputs name b' d' s

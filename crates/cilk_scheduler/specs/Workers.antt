@@ -2,7 +2,7 @@
 use Rattle.std.specs.Prelude.{◌≡◌, ℕ, zero, suc, Bool, true, false, if◌then◌else◌, List, [], ◌∷◌, ◌++◌, slice_get, Option, Some, None}
 use Rattle.std.specs.Option.{is_some}
 use Rattle.cilk_hypermap.specs.declared.hypermap.Hypermap.{Hypermap}
-use Rattle.cilk_scheduler.specs.declared.seat.Worker.{Worker}
+use Rattle.cilk_scheduler.specs.declared.frame_state.Worker.{Worker}
 
 -- the frame of a worker, if there is one
 abbrev pub frame_in : Option Worker → Option ℕ

@@ -4,14 +4,14 @@ ghost use Rattle.std.specs.Prelude.{◌≡◌, ◌+◌, ◌<◌, ◌^◌, IfSome
 ghost use Rattle.cilk_frames.specs.declared.activation.Activation.{Activation};
 ghost use Rattle.cilk_program.specs.declared.ask.Ask.TheVariants as asks;
 ghost use Rattle.cilk_types.specs.declared.fault.Fault.{Fault};
-ghost use Rattle.cilk_scheduler.specs.declared.seat.Seat.{Seat};
+ghost use Rattle.cilk_scheduler.specs.declared.frame_state.FrameState.{FrameState};
 ghost use Rattle.cilk_scheduler.specs.Asking.{IsReady, WentOn, cells_asked, crowded, own_fault, refusal};
-ghost use Rattle.cilk_scheduler.specs.Seats.{changed};
+ghost use Rattle.cilk_scheduler.specs.FrameStates.{changed};
 
-use crate::seat::{Due, Seat};
+use crate::frame_state::{Due, FrameState};
 use cilk_frames::activation::Activation;
 use cilk_frames::asked::AskSlot;
-use cilk_frames::brief::Brief;
+use cilk_frames::small_ask::SmallAsk;
 use cilk_frames::stepping::step_into;
 use cilk_lower::code::Code;
 use cilk_lower::layout::Layout;
@@ -24,25 +24,25 @@ use cilk_types::limits::{MAX_CELLS, MAX_EVENTS, MAX_FRAMES, MAX_TICKS};
 pub fn go_on(
     code: &Code,
     input: &Input,
-    frames: &mut Vec<Activation<Seat>>,
+    frames: &mut Vec<Activation<FrameState>>,
     frame: usize,
     asked: &mut AskSlot,
 )
     requires here { frame < length frames.old.items }
-    requires ready { (a : Activation Seat) → slice_get frames.old.items frame ≡ Some a → IsReady code.now input.now a.cursor }
-    ensures { (a : Activation Seat) → slice_get frames.old.items frame ≡ Some a → (x : Seat) × WentOn code.now input.now a.cursor asked.new x × (frames.new.items ≡ changed (λ _. x) frames.old.items frame) }
+    requires ready { (a : Activation FrameState) → slice_get frames.old.items frame ≡ Some a → IsReady code.now input.now a.cursor }
+    ensures { (a : Activation FrameState) → slice_get frames.old.items frame ≡ Some a → (x : FrameState) × WentOn code.now input.now a.cursor asked.new x × (frames.new.items ≡ changed (λ _. x) frames.old.items frame) }
 {
     advance(code, input, &mut frames[frame].cursor, asked);
 }
 
 // The same of what is kept of a frame.
-fn advance(code: &Code, input: &Input, seat: &mut Seat, asked: &mut AskSlot)
+fn advance(code: &Code, input: &Input, seat: &mut FrameState, asked: &mut AskSlot)
     requires { IsReady code.now input.now seat.old }
     ensures { WentOn code.now input.now seat.old asked.new seat.new }
 {
     match seat.due {
-        Due::Begin => asked.put(Brief::Begin),
-        Due::Sync => asked.put(Brief::Sync),
+        Due::Begin => asked.put(SmallAsk::Begin),
+        Due::Sync => asked.put(SmallAsk::Sync),
         Due::Answer(answer) => {
             let Some(cursor) = &mut seat.cursor else {
                 unreachable!()
@@ -60,7 +60,7 @@ pub fn cells_asked(layout: &Layout, asked: &AskSlot) -> Option<u32>
 {
     match asked.brief() {
         None => Some(layout.function_cells(asked.invocation().1.function)),
-        Some(Brief::Turns(_, part)) => Some(layout.part_cells(part)),
+        Some(SmallAsk::Turns(_, part)) => Some(layout.part_cells(part)),
         Some(_) => None,
     }
 }
@@ -98,7 +98,7 @@ fn own_fault(asked: &AskSlot) -> Option<Fault>
     ensures none { result ≡ None → (other : Option Fault) → own_fault asked.now other ≡ other }
 {
     match asked.brief() {
-        Some(Brief::Fault(fault)) => Some(*fault),
+        Some(SmallAsk::Fault(fault)) => Some(*fault),
         _ => None,
     }
 }

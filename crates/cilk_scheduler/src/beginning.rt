@@ -5,12 +5,12 @@ ghost use Rattle.cilk_program.specs.SerialRun.{invocation};
 ghost use Rattle.cilk_program.specs.Syntax.{Source};
 ghost use Rattle.cilk_lower.specs.Code.{CodeView};
 ghost use Rattle.cilk_frames.specs.declared.activation.Activation.{Activation};
-ghost use Rattle.cilk_scheduler.specs.declared.seat.Seat.{Seat};
+ghost use Rattle.cilk_scheduler.specs.declared.frame_state.FrameState.{FrameState};
 ghost use Rattle.cilk_scheduler.specs.Invocations.{ChildBegins, InvocationsAreNoted, offering};
 
-use crate::board::Board;
-use crate::seat::{Seat, Status, Worker};
-use crate::seats::start;
+use crate::frame_state::{FrameState, Status, Worker};
+use crate::frame_states::start;
+use crate::scheduler::Scheduler;
 use cilk_frames::activation::Activation;
 use cilk_types::event::Event;
 use cilk_types::invocation::Invocation;
@@ -45,17 +45,17 @@ pub fn offer(own: &mut Worker, how: Invocation, frame: u32, child: u32) -> Resul
 /// waits for it or offers its continuation. The event, which is still to be written down. Where memory is refused, frames, journal,
 /// ticks, outcome and stop are as they were.
 pub fn begin(
-    board: &mut Board,
+    board: &mut Scheduler,
     worker: u32,
     frame: u32,
     how: Invocation,
-    child: Activation<Seat>,
+    child: Activation<FrameState>,
     count: u32,
 ) -> Result<Event, AllocError>
     requires here { frame < length board.old.frames.items }
     requires works { worker < length board.old.workers.items }
     requires few { length board.old.frames.items < 65536 }
-    requires children { (top : Activation Seat) → slice_get board.old.frames.items frame ≡ Some top → top.cursor.children < 2 ^ 31 }
+    requires children { (top : Activation FrameState) → slice_get board.old.frames.items frame ≡ Some top → top.cursor.children < 2 ^ 31 }
     requires offered { board.old.offered < 2 ^ 31 }
     ensures event { IfOk result (λ e. e ≡ invocation how (suc (length board.old.frames.items))) }
     ensures begins { OnOk result (ChildBegins board.old board.new worker frame how child count) }

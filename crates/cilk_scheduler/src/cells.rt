@@ -7,18 +7,18 @@ ghost use Rattle.cilk_program.specs.Scopes.{Scope, cell_in};
 ghost use Rattle.cilk_program.specs.SerialRun.{itself};
 ghost use Rattle.cilk_frames.specs.declared.cursor.Answer.TheVariants as answers;
 ghost use Rattle.cilk_scheduler.specs.Events.{SeesAt};
-ghost use Rattle.cilk_scheduler.specs.Seats.{answered, changed};
+ghost use Rattle.cilk_scheduler.specs.FrameStates.{answered, changed};
 
-use crate::seat::Seat;
-use crate::seats::answer;
+use crate::frame_state::FrameState;
+use crate::frame_states::answer;
 use cilk_frames::activation::Activation;
-use cilk_frames::places::cell;
 use cilk_frames::cursor::Answer;
+use cilk_frames::places::cell;
 use cilk_program::syntax::Place;
 use cilk_types::event::{Cell, Event};
 
 /// The cell that a place means to the frame at a place of the list.
-pub fn cell_at(frames: &[Activation<Seat>], frame: usize, place: Place) -> Cell
+pub fn cell_at(frames: &[Activation<FrameState>], frame: usize, place: Place) -> Cell
     requires here { frame < length frames.now }
     requires sees { (scope : Scope ℕ Instance) × SeesAt frames.now frame scope × (cell_in itself scope place < 2 ^ 32) }
     ensures { (scope : Scope ℕ Instance) → SeesAt frames.now frame scope → result ≡ cell_in itself scope place }
@@ -27,7 +27,12 @@ pub fn cell_at(frames: &[Activation<Seat>], frame: usize, place: Place) -> Cell
 }
 
 /// The frame at a place reads a cell.
-pub fn read(frames: &mut Vec<Activation<Seat>>, cells: &[i64], frame: usize, cell: Cell) -> Event
+pub fn read(
+    frames: &mut Vec<Activation<FrameState>>,
+    cells: &[i64],
+    frame: usize,
+    cell: Cell,
+) -> Event
     requires here { frame < length frames.old.items }
     requires there { cell < length cells.now }
     ensures { (v : ℤ) × (slice_get cells.now cell ≡ Some v) × (result ≡ events.Read cell v) × (frames.new.items ≡ changed (answered (answers.Value v)) frames.old.items frame) }
@@ -39,7 +44,7 @@ pub fn read(frames: &mut Vec<Activation<Seat>>, cells: &[i64], frame: usize, cel
 
 /// The frame at a place writes a cell.
 pub fn write(
-    frames: &mut Vec<Activation<Seat>>,
+    frames: &mut Vec<Activation<FrameState>>,
     cells: &mut Vec<i64>,
     frame: usize,
     cell: Cell,

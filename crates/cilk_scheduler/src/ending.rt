@@ -3,21 +3,21 @@
 ghost use Rattle.std.specs.Prelude.{◌≡◌, ◌<◌, ◌≤◌, ℕ, false, Some, length, IfOk};
 ghost use Rattle.cilk_join.specs.Joins.{MayArrive};
 ghost use Rattle.cilk_join.specs.Waits.{shown};
-ghost use Rattle.cilk_scheduler.specs.declared.seat.Status.TheVariants.{Offered};
+ghost use Rattle.cilk_scheduler.specs.declared.frame_state.Status.TheVariants.{Offered};
 ghost use Rattle.cilk_scheduler.specs.EndParts.{Brings, Seeks};
 ghost use Rattle.cilk_scheduler.specs.Ending.{RetiresOwn, created_by};
 
 use crate::arriving::arrive;
+use crate::frame_state::{FrameState, Status, Worker};
 use crate::offers::withdraw;
 use crate::own_reducers::retire;
-use crate::seat::{Seat, Status, Worker};
 use cilk_frames::activation::Activation;
 use cilk_hypermap::hypermap::Hypermap;
 use cilk_lower::layout::Layout;
 use std::alloc::{AllocError, Global};
 
 /// The views lose the reducers that a frame made for itself.
-pub fn retire_own(layout: &Layout, top: &Activation<Seat>, views: &mut Hypermap)
+pub fn retire_own(layout: &Layout, top: &Activation<FrameState>, views: &mut Hypermap)
     requires low { top.now.first < 65536 }
     requires few { length (created_by layout.now top.now.creator) ≤ 64 }
     ensures { RetiresOwn layout.now top.now views.old views.new }
@@ -30,7 +30,7 @@ pub fn retire_own(layout: &Layout, top: &Activation<Seat>, views: &mut Hypermap)
 /// The continuation of the frame at a place, which is where its status says, is no longer offered. How many are offered then.
 pub fn take_back(
     workers: &mut Vec<Worker>,
-    frames: &[Activation<Seat>],
+    frames: &[Activation<FrameState>],
     offered: usize,
     status: Status,
     frame: u32,
@@ -54,7 +54,7 @@ pub fn take_back(
 /// block's. Where memory is refused, they are lost.
 pub fn bring(
     alloc: Global,
-    seat: &mut Seat,
+    seat: &mut FrameState,
     views: &mut Hypermap,
     key: u32,
 ) -> Result<bool, AllocError>

@@ -6,11 +6,11 @@ ghost use Rattle.cilk_program.specs.Scopes.{Scope};
 ghost use Rattle.cilk_program.specs.declared.ask.Callee.TheVariants as callees;
 ghost use Rattle.cilk_frames.specs.Sight.{AreSmall, ResultFits};
 ghost use Rattle.cilk_frames.specs.declared.activation.Activation.{Activation};
-ghost use Rattle.cilk_scheduler.specs.declared.seat.Seat.{Seat};
+ghost use Rattle.cilk_scheduler.specs.declared.frame_state.FrameState.{FrameState};
 ghost use Rattle.cilk_scheduler.specs.Events.{SeesAt};
 ghost use Rattle.cilk_scheduler.specs.Invoking.{IsChild};
 
-use crate::seat::Seat;
+use crate::frame_state::FrameState;
 use cilk_frames::activation::Activation;
 use cilk_frames::beginnings::{function, turns};
 use cilk_frames::cursor::Cursor;
@@ -32,14 +32,14 @@ pub struct Starter {
 pub fn function_child(
     alloc: Global,
     code: &Code,
-    frames: &[Activation<Seat>],
+    frames: &[Activation<FrameState>],
     starter: Starter,
     how: Invocation,
     call: &FunctionCall,
-) -> Result<Activation<Seat>, AllocError>
+) -> Result<Activation<FrameState>, AllocError>
     requires here { starter.frame < length frames.now }
     requires few { length frames.now < 65536 }
-    requires children { (top : Activation Seat) → slice_get frames.now starter.frame ≡ Some top → top.cursor.children < 2 ^ 31 }
+    requires children { (top : Activation FrameState) → slice_get frames.now starter.frame ≡ Some top → top.cursor.children < 2 ^ 31 }
     requires sees { (scope : Scope ℕ Instance) × SeesAt frames.now starter.frame scope × AreSmall call.now.reducers × ResultFits scope call.now.result }
     ensures { IfOk result (λ a. IsChild code.now frames.now starter.frame starter.worker starter.base how (callees.Function call.now) a) }
 {
@@ -48,7 +48,7 @@ pub fn function_child(
     let number = frames.len() as u32 + 1;
     let cursor = Cursor::function(alloc, code, call)?;
     let ordinal = top.cursor.children + 1;
-    let seat = Seat::new(starter.frame, ordinal, how, starter.worker, cursor);
+    let seat = FrameState::new(starter.frame, ordinal, how, starter.worker, cursor);
     let child = function(alloc, seat, number, starter.base, frames, top, call)?;
     Ok(child)
 }
@@ -57,14 +57,14 @@ pub fn function_child(
 pub fn turns_child(
     alloc: Global,
     code: &Code,
-    frames: &[Activation<Seat>],
+    frames: &[Activation<FrameState>],
     starter: Starter,
     how: Invocation,
     part: &LoopPart,
-) -> Result<Activation<Seat>, AllocError>
+) -> Result<Activation<FrameState>, AllocError>
     requires here { starter.frame < length frames.now }
     requires few { length frames.now < 65536 }
-    requires children { (top : Activation Seat) → slice_get frames.now starter.frame ≡ Some top → top.cursor.children < 2 ^ 31 }
+    requires children { (top : Activation FrameState) → slice_get frames.now starter.frame ≡ Some top → top.cursor.children < 2 ^ 31 }
     requires up { part.now.up ≤ 1 }
     ensures { IfOk result (λ a. IsChild code.now frames.now starter.frame starter.worker starter.base how (callees.Loop part.now) a) }
 {
@@ -73,7 +73,7 @@ pub fn turns_child(
     let number = frames.len() as u32 + 1;
     let cursor = Cursor::turns(alloc, code, part)?;
     let ordinal = top.cursor.children + 1;
-    let seat = Seat::new(starter.frame, ordinal, how, starter.worker, cursor);
+    let seat = FrameState::new(starter.frame, ordinal, how, starter.worker, cursor);
     let child = turns(alloc, seat, number, starter.base, here, top, part);
     Ok(child)
 }

@@ -3,28 +3,28 @@
 ghost use Rattle.std.specs.Prelude.{◌≡◌, ◌+◌, ◌-◌, ◌<◌, ◌≤◌, ◌^◌, ◌∷◌, ◌++◌, [], Some, length, slice_get};
 ghost use Rattle.std.specs.Vec.{vec_capacity, vec_len};
 ghost use Rattle.cilk_frames.specs.declared.activation.Activation.{Activation};
-ghost use Rattle.cilk_scheduler.specs.declared.seat.Seat.{Seat};
-ghost use Rattle.cilk_scheduler.specs.Seats.{changed, counted};
+ghost use Rattle.cilk_scheduler.specs.declared.frame_state.FrameState.{FrameState};
+ghost use Rattle.cilk_scheduler.specs.FrameStates.{changed, counted};
 
-use crate::seat::{JournalEntry, Seat};
-use crate::seats::count;
+use crate::frame_state::{FrameState, JournalEntry};
+use crate::frame_states::count;
 use cilk_frames::activation::Activation;
 use cilk_types::event::Event;
 
 /// An event of the frame at a place is written down, into room that was made, and the frame's ticks are counted. How many are
 /// counted then.
 pub fn note(
-    frames: &mut Vec<Activation<Seat>>,
+    frames: &mut Vec<Activation<FrameState>>,
     journal: &mut Vec<JournalEntry>,
     ticks: u32,
     frame: u32,
     event: Event,
 ) -> u32
     requires here { frame < length frames.old.items }
-    requires few { (a : Activation Seat) → slice_get frames.old.items frame ≡ Some a → ticks + (a.cursor.took - a.cursor.counted) < 2 ^ 32 }
-    requires more { (a : Activation Seat) → slice_get frames.old.items frame ≡ Some a → a.cursor.counted ≤ a.cursor.took }
+    requires few { (a : Activation FrameState) → slice_get frames.old.items frame ≡ Some a → ticks + (a.cursor.took - a.cursor.counted) < 2 ^ 32 }
+    requires more { (a : Activation FrameState) → slice_get frames.old.items frame ≡ Some a → a.cursor.counted ≤ a.cursor.took }
     requires room { vec_len journal.old < vec_capacity journal.old }
-    ensures ticks { (a : Activation Seat) → slice_get frames.old.items frame ≡ Some a → result ≡ ticks + (a.cursor.took - a.cursor.counted) }
+    ensures ticks { (a : Activation FrameState) → slice_get frames.old.items frame ≡ Some a → result ≡ ticks + (a.cursor.took - a.cursor.counted) }
     ensures frames { frames.new.items ≡ changed counted frames.old.items frame }
     ensures journal { journal.new.items ≡ journal.old.items ++ (record { frame = frame; event = event }) ∷ [] }
 {
@@ -35,10 +35,10 @@ pub fn note(
 }
 
 /// The ticks of the frame at a place that aren't counted yet.
-pub fn uncounted(frames: &[Activation<Seat>], frame: usize) -> u32
+pub fn uncounted(frames: &[Activation<FrameState>], frame: usize) -> u32
     requires here { frame < length frames.now }
-    requires more { (a : Activation Seat) → slice_get frames.now frame ≡ Some a → a.cursor.counted ≤ a.cursor.took }
-    ensures { (a : Activation Seat) → slice_get frames.now frame ≡ Some a → result ≡ a.cursor.took - a.cursor.counted }
+    requires more { (a : Activation FrameState) → slice_get frames.now frame ≡ Some a → a.cursor.counted ≤ a.cursor.took }
+    ensures { (a : Activation FrameState) → slice_get frames.now frame ≡ Some a → result ≡ a.cursor.took - a.cursor.counted }
 {
     let seat = &frames[frame].cursor;
     seat.took - seat.counted

@@ -5,9 +5,9 @@ ghost use Rattle.cilk_lower.specs.Code.{CodeView};
 ghost use Rattle.cilk_lower.specs.declared.layout.Layout.{Layout};
 ghost use Rattle.cilk_program.specs.Syntax.{Source};
 ghost use Rattle.cilk_monoid.specs.declared.kind.MonoidKind.{MonoidKind};
-ghost use Rattle.cilk_runs.specs.Worlds.{World};
+ghost use Rattle.cilk_runs.specs.FrameEnvs.{FrameEnv};
 ghost use Rattle.cilk_scheduler.specs.Asking.{RefusalsAreFaults};
-ghost use Rattle.cilk_scheduler.specs.Boards.{AsksAreNamed};
+ghost use Rattle.cilk_scheduler.specs.Schedulers.{AsksAreNamed};
 ghost use Rattle.cilk_scheduler.specs.Steps.{BeginsAreShown, ResumesAreShown};
 ghost use Rattle.cilk_scheduler.specs.Touching.{TouchesAreShown};
 ghost use Rattle.cilk_scheduler.specs.Blocks.{BlockPasses, ChildrenLay, OwnLays, StealsLay};
@@ -18,7 +18,7 @@ pub fn pieces_lie_at_blocks()
     ensures steal { (kind : MonoidKind) → StealsLay kind }
     ensures child { (kind : MonoidKind) → ChildrenLay kind }
     ensures own { (kind : MonoidKind) → OwnLays kind }
-    ensures passes { (kind : MonoidKind) → BlockPasses kind World }
+    ensures passes { (kind : MonoidKind) → BlockPasses kind FrameEnv }
 {}
 
 /// What a kept frame comes to, as it goes on with its begin, the answer to its last event or its sync, is what the free machine's

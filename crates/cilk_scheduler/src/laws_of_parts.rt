@@ -4,7 +4,7 @@
 ghost use Rattle.std.specs.Prelude.{ℤ, List};
 ghost use Rattle.cilk_lower.specs.Code.{CodeView};
 ghost use Rattle.cilk_program.specs.Syntax.{Source};
-ghost use Rattle.cilk_scheduler.specs.Parts.{BoardsAreNew, ContinuationsAreOffered, ContinuationsAreTaken, FramesPass, FramesStayBehind, OwnPiecesMayArrive};
+ghost use Rattle.cilk_scheduler.specs.Parts.{SchedulersAreNew, ContinuationsAreOffered, ContinuationsAreTaken, FramesPass, FramesStayBehind, OwnPiecesMayArrive};
 
 /// A continuation that is located is offered; the piece of its frame's last child may be awaited then, and that child is there. A worker that
 /// has none takes it over, where that piece is awaited, the child is marked, the continuation withdrawn, and the worker has the frame and
@@ -25,5 +25,5 @@ pub fn own_pieces_arrive()
 /// A board is new whose parts were made one after the other: the first frame, its cells behind the globals, and workers of whom the first
 /// alone has it.
 pub fn boards_are_new()
-    ensures { (code : CodeView) (p : Source) (inputs : List ℤ) → BoardsAreNew code p inputs }
+    ensures { (code : CodeView) (p : Source) (inputs : List ℤ) → SchedulersAreNew code p inputs }
 {}

@@ -1,7 +1,7 @@
 //! Parts of a stepwise machine: workers that are told one choice after another.
 //!
 //! A worker goes on with the frame that it has, or takes a continuation that another one offers (work stealing: Frigo, Leiserson
-//! and Randall 1998). A [`board::Board`] keeps all frames of a run, its cells, its workers with their views, and the events so
+//! and Randall 1998). A [`scheduler::Scheduler`] keeps all frames of a run, its cells, its workers with their views, and the events so
 //! far, by numbers that the run gives as frames begin. [`choice`] has the choices and what comes of them.
 //!
 //! What is here acts on parts of a board, and each contract says exactly what changes: a frame goes on to what it asks for,
@@ -9,8 +9,8 @@
 //! continuations are found and withdrawn; a run leaves an outcome. The choices themselves stand in the crate above, which puts
 //! these together.
 //!
-//! Above it stand definitions by names that no schedule changes. `specs/Desks.antt`: what a choice does, as a step of the free
-//! machine of `cilk_runs` or none. `specs/Boards.antt`: which state of that machine a board shows. [`laws`] has what is proved
+//! Above it stand definitions by names that no schedule changes. `specs/WorkerTables.antt`: what a choice does, as a step of the free
+//! machine of `cilk_runs` or none. `specs/Schedulers.antt`: which state of that machine a board shows. [`laws`] has what is proved
 //! of these.
 //!
 //! The continuations that a worker of the stepwise machine offers, in order, with an order statistic.
@@ -24,10 +24,11 @@ pub mod acting;
 pub mod arriving;
 pub mod asking;
 pub mod beginning;
-pub mod board;
 pub mod cells;
 pub mod choice;
 pub mod ending;
+pub mod frame_state;
+pub mod frame_states;
 pub mod invoking;
 pub mod journal;
 pub mod laws;
@@ -43,8 +44,7 @@ pub mod offers;
 pub mod orders;
 pub mod own_reducers;
 pub mod reducers;
-pub mod seat;
-pub mod seats;
+pub mod scheduler;
 pub mod stealing;
 pub mod tally;
 pub mod workers;

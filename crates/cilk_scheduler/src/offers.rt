@@ -4,9 +4,9 @@ ghost use Rattle.std.specs.Prelude.{◌≡◌, ℕ, None, slice_get, MatchOption
 ghost use Rattle.cilk_scheduler.specs.Workers.{IsLocated, offers};
 ghost use Rattle.cilk_scheduler.specs.OfferLists.{Withdraws};
 
-use crate::seat::{Seat, Worker};
-use cilk_frames::activation::Activation;
+use crate::frame_state::{FrameState, Worker};
 use crate::offer_list::Offers;
+use cilk_frames::activation::Activation;
 
 /// The worker that offers the continuation at a place among all, and its place in that worker's list; none behind the last.
 pub fn locate(workers: &[Worker], place: usize) -> Option<(usize, usize)>
@@ -24,14 +24,14 @@ pub fn locate(workers: &[Worker], place: usize) -> Option<(usize, usize)>
 }
 
 /// A frame that stands beside its last child goes from a list. Whether it was there.
-pub fn withdraw(offered: &mut Offers, frames: &[Activation<Seat>], frame: u32) -> bool
+pub fn withdraw(offered: &mut Offers, frames: &[Activation<FrameState>], frame: u32) -> bool
     ensures { Withdraws offered.old.items frame result offered.new.items }
 {
     offered.withdraw(frame, last_child(frames, frame))
 }
 
 // The place of the last child of a frame, as far as there is one.
-fn last_child(frames: &[Activation<Seat>], frame: u32) -> u32 {
+fn last_child(frames: &[Activation<FrameState>], frame: u32) -> u32 {
     match frames.get(frame as usize) {
         Some(frame) => frame.cursor.last,
         None => 0,

@@ -12,13 +12,13 @@ ghost use Rattle.cilk_program.specs.SerialRun.{global_reducer};
 ghost use Rattle.cilk_frames.specs.Sight.{number_in};
 ghost use Rattle.cilk_frames.specs.declared.cursor.Answer.TheVariants as answers;
 ghost use Rattle.cilk_scheduler.specs.Events.{SeesAt};
-ghost use Rattle.cilk_scheduler.specs.Seats.{answered, changed};
+ghost use Rattle.cilk_scheduler.specs.FrameStates.{answered, changed};
 
-use crate::seat::Seat;
-use crate::seats::answer;
+use crate::frame_state::FrameState;
+use crate::frame_states::answer;
 use cilk_frames::activation::Activation;
-use cilk_frames::places::instance;
 use cilk_frames::cursor::Answer;
+use cilk_frames::places::instance;
 use cilk_hypermap::hypermap::Hypermap;
 use cilk_monoid::kind::MonoidKind;
 use cilk_program::syntax::ReducerPlace;
@@ -26,7 +26,7 @@ use cilk_types::event::{Event, Instance};
 use std::alloc::{AllocError, Global};
 
 /// The reducer that a place means to the frame at a place of the list.
-pub fn instance_at(frames: &[Activation<Seat>], frame: usize, place: ReducerPlace) -> Instance
+pub fn instance_at(frames: &[Activation<FrameState>], frame: usize, place: ReducerPlace) -> Instance
     requires here { frame < length frames.now }
     requires sees { (scope : Scope ℕ Instance) × SeesAt frames.now frame scope }
     requires small { number_in place < 65536 }
@@ -38,7 +38,7 @@ pub fn instance_at(frames: &[Activation<Seat>], frame: usize, place: ReducerPlac
 /// The frame at a place creates a reducer, which begins with its monoid's unit.
 pub fn create(
     alloc: Global,
-    frames: &mut Vec<Activation<Seat>>,
+    frames: &mut Vec<Activation<FrameState>>,
     views: &mut Hypermap,
     frame: usize,
     instance: Instance,
@@ -58,7 +58,7 @@ pub fn create(
 /// The frame at a place updates a reducer: its view is multiplied by a number from the right.
 pub fn update(
     alloc: Global,
-    frames: &mut Vec<Activation<Seat>>,
+    frames: &mut Vec<Activation<FrameState>>,
     views: &mut Hypermap,
     frame: usize,
     instance: Instance,
@@ -79,7 +79,7 @@ pub fn update(
 /// The frame at a place sets a reducer: its view becomes that of a number alone.
 pub fn set(
     alloc: Global,
-    frames: &mut Vec<Activation<Seat>>,
+    frames: &mut Vec<Activation<FrameState>>,
     views: &mut Hypermap,
     frame: usize,
     instance: Instance,
@@ -100,7 +100,7 @@ pub fn set(
 /// The frame at a place reads the number of a reducer's view.
 pub fn value(
     alloc: Global,
-    frames: &mut Vec<Activation<Seat>>,
+    frames: &mut Vec<Activation<FrameState>>,
     views: &mut Hypermap,
     frame: usize,
     instance: Instance,
@@ -120,7 +120,7 @@ pub fn value(
 /// The frame at a place prints a number.
 pub fn print(
     alloc: Global,
-    frames: &mut Vec<Activation<Seat>>,
+    frames: &mut Vec<Activation<FrameState>>,
     views: &mut Hypermap,
     frame: usize,
     value: i64,

@@ -4,12 +4,12 @@ ghost use Rattle.std.specs.Prelude.{◌≡◌, OnOk};
 ghost use Rattle.cilk_join.specs.Joins.{IsOpen};
 ghost use Rattle.cilk_scheduler.specs.Events.{AwaitsLast, block_in};
 
-use crate::seat::Seat;
+use crate::frame_state::FrameState;
 use cilk_join::join::Join;
 use std::alloc::{AllocError, Global};
 
 /// The piece of the frame's last child is awaited at its block.
-pub fn await_last(alloc: Global, seat: &mut Seat) -> Result<(), AllocError>
+pub fn await_last(alloc: Global, seat: &mut FrameState) -> Result<(), AllocError>
     requires { IsOpen (block_in seat.old.join) seat.old.children }
     ensures awaits { OnOk result (AwaitsLast seat.old seat.new) }
     ensures same { seat.new ≡ record seat.old { join = seat.new.join } }

@@ -3,7 +3,7 @@
 ghost use Rattle.std.specs.Prelude.{◌≡◌, ◌+◌, ◌<◌, None, Some, length, slice_get, MatchOption};
 ghost use Rattle.cilk_scheduler.specs.Workers.{held_by, is_idle, offers};
 
-use crate::seat::Worker;
+use crate::frame_state::Worker;
 
 /// The place of the frame that a worker has, if there is such a worker and it has one. Workers count from 1.
 pub fn held_by(workers: &[Worker], worker: u32) -> Option<u32>

@@ -6,7 +6,7 @@ use Rattle.cilk_program.specs.declared.ask.Ask.{Ask}
 use Rattle.cilk_program.specs.Store.{Store}
 use Rattle.cilk_program.specs.Syntax.{Source}
 use Rattle.cilk_program.specs.SerialRun.{Frame, IsInner, Memory, answer_to, event_of, stored, with_store}
-use Rattle.cilk_frames.specs.declared.brief.Brief.{Brief}
+use Rattle.cilk_frames.specs.declared.small_ask.SmallAsk.{SmallAsk}
 use Rattle.cilk_frames.specs.declared.cursor.Answer.{Answer}
 use Rattle.cilk_frames.specs.declared.cursor.Answer.TheVariants.{Done, Value}
 use Rattle.cilk_frames.specs.AskSlot.{in_full}
@@ -40,7 +40,7 @@ module _ (p : Source) (fr : Frame) (s s' : State) (k : Ask) (word : Memory → �
   tells_word (Err e) fits value makes = tt
 
 -- the frame goes on with what its store answered
-pub told : {E : Type 0} (p : Source) (fr : Frame) (s s' : State) (b : Brief) (k : Ask) (r : Result Answer E) (r' : Result Told E) → k ≡ in_full b → IsInner k → MatchResult r (λ a. r' ≡ Ok (Goes a)) (λ e. r' ≡ Err e) → IfOk r (λ a. Answers p fr s s' k a)
+pub told : {E : Type 0} (p : Source) (fr : Frame) (s s' : State) (b : SmallAsk) (k : Ask) (r : Result Answer E) (r' : Result Told E) → k ≡ in_full b → IsInner k → MatchResult r (λ a. r' ≡ Ok (Goes a)) (λ e. r' ≡ Err e) → IfOk r (λ a. Answers p fr s s' k a)
     → IfOk r' (λ t. Tells p fr s s' (in_full b) t)
 told {E} p fr s s' b k (Ok a) r' same inner is h = subst (λ (k : Ask). IfOk r' (λ t. Tells p fr s s' k t)) same (subst (λ (x : Result Told E). IfOk x (λ t. Tells p fr s s' k t)) (sym is) (inner, h))
 told {E} p fr s s' b k (Err e) r' same inner is h = subst (λ (x : Result Told E). IfOk x (λ t. Tells p fr s s' (in_full b) t)) (sym is) tt

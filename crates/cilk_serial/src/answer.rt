@@ -11,8 +11,8 @@ ghost use Rattle.cilk_serial.specs.declared.answer.Told.TheVariants.{Goes};
 
 use crate::state::State;
 use cilk_frames::call_stack::CallStack;
-use cilk_frames::brief::Brief;
 use cilk_frames::cursor::Answer;
+use cilk_frames::small_ask::SmallAsk;
 use cilk_program::ask::LoopPart;
 use cilk_types::event::Event;
 use cilk_types::fault::Fault;
@@ -38,46 +38,46 @@ pub fn answer<C>(
     alloc: Global,
     state: &mut State,
     frames: &CallStack<C>,
-    ask: &Brief,
+    ask: &SmallAsk,
 ) -> Result<Told, AllocError>
     requires few { length state.old.cells.items ≤ MAX_CELLS }
     requires there { (p : Source) × (fr : Frame) × IsOnTop frames.now fr × IsThere p fr (length state.old.cells.items) (in_full ask.now) }
     ensures { (p : Source) (fr : Frame) → IsOnTop frames.now fr → IfOk result (λ told. Tells p fr state.old state.new (in_full ask.now) told) }
 {
     match ask {
-        Brief::Begin => goes(state.make(Event::Begin {
+        SmallAsk::Begin => goes(state.make(Event::Begin {
             frame: frames.top.number,
         })),
-        Brief::Read(place) => goes(state.read(frames.cell(*place))),
-        Brief::Write(place, word) => goes(state.write(frames.cell(*place), *word)),
-        Brief::Create(reducer) => {
+        SmallAsk::Read(place) => goes(state.read(frames.cell(*place))),
+        SmallAsk::Write(place, word) => goes(state.write(frames.cell(*place), *word)),
+        SmallAsk::Create(reducer) => {
             let instance = frames.reducer(reducer.place);
             goes(state.create(alloc, instance, reducer.kind))
         }
-        Brief::Update(reducer, word) => {
+        SmallAsk::Update(reducer, word) => {
             let instance = frames.reducer(reducer.place);
             goes(state.update(alloc, instance, reducer.kind, *word))
         }
-        Brief::Set(reducer, word) => {
+        SmallAsk::Set(reducer, word) => {
             let instance = frames.reducer(reducer.place);
             goes(state.set(alloc, instance, reducer.kind, *word))
         }
-        Brief::Value(reducer) => {
+        SmallAsk::Value(reducer) => {
             let instance = frames.reducer(reducer.place);
             goes(state.value(alloc, instance, reducer.kind))
         }
-        Brief::Print(word) => goes(state.print(*word)),
-        Brief::Turns(how, part) => Ok(Told::Turns(*how, *part)),
-        Brief::Resume => goes(state.make(Event::Resume {
+        SmallAsk::Print(word) => goes(state.print(*word)),
+        SmallAsk::Turns(how, part) => Ok(Told::Turns(*how, *part)),
+        SmallAsk::Resume => goes(state.make(Event::Resume {
             parent: frames.top.number,
         })),
-        Brief::Sync => goes(state.make(Event::Sync)),
-        Brief::Result(word) => {
+        SmallAsk::Sync => goes(state.make(Event::Sync)),
+        SmallAsk::Result(word) => {
             let cell = frames.top.result.unwrap();
             goes(state.write(cell, *word))
         }
-        Brief::End(result) => Ok(Told::Ends(*result)),
-        Brief::Fault(fault) => Ok(Told::Stops(*fault)),
+        SmallAsk::End(result) => Ok(Told::Ends(*result)),
+        SmallAsk::Fault(fault) => Ok(Told::Stops(*fault)),
     }
 }
 

@@ -15,10 +15,10 @@ use crate::frames::{function, retire, root, turns};
 use crate::refusal::{crowded, fault_when_full, is_full};
 use crate::state::State;
 use cilk_frames::activation::Activation;
-use cilk_frames::call_stack::CallStack;
 use cilk_frames::asked::AskSlot;
-use cilk_frames::brief::Brief;
+use cilk_frames::call_stack::CallStack;
 use cilk_frames::cursor::{Answer, Cursor};
+use cilk_frames::small_ask::SmallAsk;
 use cilk_frames::stepping::step_into;
 use cilk_hypermap::hypermap::Hypermap;
 use cilk_lower::code::Code;
@@ -220,7 +220,7 @@ impl Running {
     {
         self.state.begin(how, cells)?;
         self.frames.push(child)?;
-        self.ask.put(Brief::Begin);
+        self.ask.put(SmallAsk::Begin);
         Ok(())
     }
 

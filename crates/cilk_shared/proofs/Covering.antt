@@ -30,7 +30,7 @@ use Rattle.cilk_shared.specs.declared.taken.Taken.{Taken}
 use Rattle.cilk_shared.specs.declared.taken.Taken.TheVariants.{Yes, No}
 use Rattle.cilk_shared.proofs.Sets.{word_of_resume}
 use Rattle.cilk_tree.specs.Reach.{Among}
-use Rattle.cilk_tree.specs.declared.story.Story.{Story}
+use Rattle.cilk_tree.specs.declared.event_order.EventOrder.{EventOrder}
 use Rattle.cilk_tree.specs.Orders.{IsOrderly}
 use Rattle.cilk_tree.specs.Word.{after, event, what, resume, IsLine}
 use Rattle.cilk_shared.specs.declared.reducers.FrameReducers.{FrameReducers}
@@ -44,27 +44,27 @@ use Rattle.cilk_shared.proofs.Settling.{resets_none, view_ahead}
 use Rattle.cilk_shared.proofs.Shown.{shows_none, shows_change, shows_read, shows_ends}
 
 -- what comes right before the event at p is from a on, or p is a resumption
-abbrev pub IsBehind : Story → ℕ → ℕ → Type 0
+abbrev pub IsBehind : EventOrder → ℕ → ℕ → Type 0
 IsBehind s a p = ((q : ℕ) × (what s p ≡ resume q)) ⊎ ((e : ℕ) → Among e (after s p) → a ≤ e)
 
-pub behind_line : (s : Story) → IsOrderly s → (a p : ℕ) → a < p → IsLine (what s p) → IsBehind s a p
+pub behind_line : (s : EventOrder) → IsOrderly s → (a p : ℕ) → a < p → IsLine (what s p) → IsBehind s a p
 behind_line s law a p lt line = inr (λ e there. let near = law.line p line e there in omega (arith, lt, near))
 
-whole_on : (s : Story) (a p : ℕ) → Whole s a p → IsBehind s a p → Whole s a (p + 1)
+whole_on : (s : EventOrder) (a p : ℕ) → Whole s a p → IsBehind s a p → Whole s a (p + 1)
 whole_on s a p whole here x le lt = dite (ℕ_discrete x p)
     (λ (same : x ≡ p). subst (λ j. IsBehind s a j) (sym same) here)
     (λ other. whole x le (omega (arith, lt, other)))
 
 -- ---- a first piece, and an empty one
-pub covers_first : (s : Story) → IsOrderly s → (r : Reducers) → AreSettled s r → (h : Hypermap) → EachKind (λ k. (i : Instance) → view_in h k i ≡ None) → events_at s r 1 ≡ []
+pub covers_first : (s : EventOrder) → IsOrderly s → (r : Reducers) → AreSettled s r → (h : Hypermap) → EachKind (λ k. (i : Instance) → view_in h k i ≡ None) → events_at s r 1 ≡ []
     → (g : SegmentValue) → g.story ≡ s → (g.from ≡ 1) × (g.upto ≡ 2) → Covers h r g
 covers_first s law r settled h empty quiet g same at =
     let none : events_over s r 1 2 ≡ [] = over_on s r 1 1 (omega arith) ∙ ap (λ es. es ++ events_at s r 1) (none_over s r 1 1 (omega arith)) ∙ quiet in
-    let here : events_over g.story r g.from g.upto ≡ [] = ap (λ (z : Story). events_over z r g.from g.upto) same ∙ (λ i. events_over s r (at.0 i) (at.1 i)) ∙ none in
+    let here : events_over g.story r g.from g.upto ≡ [] = ap (λ (z : EventOrder). events_over z r g.from g.upto) same ∙ (λ i. events_over s r (at.0 i) (at.1 i)) ∙ none in
     record {
-      settled = subst (λ (z : Story). AreSettled z r) (sym same) settled;
+      settled = subst (λ (z : EventOrder). AreSettled z r) (sym same) settled;
       begins = λ _. subst (IsStart g.story) (sym at.0) (omega arith, inl refl);
-      whole = λ x le lt. inr (λ e there. absurd (law.none_ahead e (let one : x ≡ 1 = omega (arith, le, lt, at.0, at.1) in subst (λ (y : ℕ). Among e (after s y)) one (subst (λ (z : Story). Among e (after z x)) same there))));
+      whole = λ x le lt. inr (λ e there. absurd (law.none_ahead e (let one : x ≡ 1 = omega (arith, le, lt, at.0, at.1) in subst (λ (y : ℕ). Among e (after s y)) one (subst (λ (z : EventOrder). Among e (after z x)) same there))));
       words = subst HaveWords (sym here) tt;
       shows = subst (ShowsRange (kind_in r) h) (sym here) (shows_none (kind_in r) h empty);
     }
@@ -108,7 +108,7 @@ pub covers_taken : (y : YardValue) → IsOrderly y.story → (h : Hypermap) (r :
 covers_taken y law h r g k of can c No g' e = subst (λ (j : SegmentValue). Covers h r j) (sym e) c
 covers_taken y law h r g k of can c Yes g' e =
     let p = e.0 in
-    let is : what g.story p ≡ resume k = ap (λ (z : Story). what z p) of.1 ∙ e.1 in
+    let is : what g.story p ≡ resume k = ap (λ (z : EventOrder). what z p) of.1 ∙ e.1 in
     let quiet = quiet_resume g.story r p k is in
     ⊎_elim
     (λ (none : g.upto ≤ g.from).
@@ -186,7 +186,7 @@ spans_of h r g c = record { settled = c.settled; begins = c.begins; whole = c.wh
 pub covers_of : (h : Hypermap) (r : Reducers) (g : SegmentValue) → Spans r g → ShowsRange (kind_in r) h (events_over g.story r g.from g.upto) → Covers h r g
 covers_of h r g c shows = record { settled = c.settled; begins = c.begins; whole = c.whole; words = c.words; shows = shows }
 
-right_start : (s : Story) (a b c : ℕ) → IsStart s a → a < b → b ≡ c → IsStart s c → (k : ℕ) × (what s c ≡ resume k)
+right_start : (s : EventOrder) (a b c : ℕ) → IsStart s a → a < b → b ≡ c → IsStart s c → (k : ℕ) × (what s c ≡ resume k)
 right_start s a b c low lt meet start = ⊎_elim
     (λ (z : c ≡ 1). let l = low.0 in absurd (omega (arith, z, meet, lt, l)))
     (λ (h : (k : ℕ) × (what s c ≡ resume k)). h)
@@ -195,10 +195,10 @@ right_start s a b c low lt meet start = ⊎_elim
 -- a segment of another value of the same story
 spans_along : (r : Reducers) (g h : SegmentValue) → h.story ≡ g.story → Spans r h → Spans r (record { of = g.of; story = g.story; from = h.from; upto = h.upto })
 spans_along r g h same c = record {
-  settled = subst (λ (z : Story). AreSettled z r) same c.settled;
-  begins = λ lt. subst (λ (z : Story). IsStart z h.from) same (c.begins lt);
-  whole = subst (λ (z : Story). Whole z h.from h.upto) same c.whole;
-  words = subst (λ (z : Story). HaveWords (events_over z r h.from h.upto)) same c.words;
+  settled = subst (λ (z : EventOrder). AreSettled z r) same c.settled;
+  begins = λ lt. subst (λ (z : EventOrder). IsStart z h.from) same (c.begins lt);
+  whole = subst (λ (z : EventOrder). Whole z h.from h.upto) same c.whole;
+  words = subst (λ (z : EventOrder). HaveWords (events_over z r h.from h.upto)) same c.words;
 }
 
 -- the right range resets nothing that the left one mentions
@@ -210,10 +210,10 @@ apart_ranges r g h law same c d (inr (inr meet)) i mention reset =
     let start = right_start g.story g.from g.upto h.from (c.begins meet.0) meet.0 meet.2 (e.begins meet.1) in
     resets_none g.story law r c.settled h.from start.0 start.1 g.from h.upto e.whole i (subst (λ (n : ℕ). Mentions i (events_over g.story r g.from n)) meet.2 mention) reset
 
-abbrev IsRange : Story → ℕ → ℕ → Type 0
+abbrev IsRange : EventOrder → ℕ → ℕ → Type 0
 IsRange s a b = (a < b → IsStart s a) × Whole s a b
 
-range_both : (s : Story) (a b c d : ℕ) → (b ≤ a) ⊎ (d ≤ c) ⊎ ((a < b) × (c < d) × (b ≡ c)) → IsRange s a b → IsRange s c d → IsRange s (spanned a b c d).0 (spanned a b c d).1
+range_both : (s : EventOrder) (a b c d : ℕ) → (b ≤ a) ⊎ (d ≤ c) ⊎ ((a < b) × (c < d) × (b ≡ c)) → IsRange s a b → IsRange s c d → IsRange s (spanned a b c d).0 (spanned a b c d).1
 range_both s a b c d near one two = dite (dec_lt a b)
     (λ (ab : a < b). dite (dec_lt c d)
     (λ (cd : c < d).
@@ -249,7 +249,7 @@ shows_both r g h l m n law same c d near joins =
     let e = spans_along r g h same (spans_of m r h d) in
     subst (ShowsRange (kind_in r) n) (sym (over_spanned g.story r g.from g.upto h.from h.upto near))
     (joins (kind_in r) (events_over g.story r g.from g.upto) (events_over g.story r h.from h.upto) c.words e.words (apart_ranges r g h law same (spans_of l r g c) (spans_of m r h d) near) c.shows
-    (subst (λ (z : Story). ShowsRange (kind_in r) m (events_over z r h.from h.upto)) same d.shows))
+    (subst (λ (z : EventOrder). ShowsRange (kind_in r) m (events_over z r h.from h.upto)) same d.shows))
 
 pub covers_both : (y : YardValue) → IsOrderly y.story → (r r' : Reducers) (g h : SegmentValue) (l m n : Hypermap) → OfYard y g → OfYard y h → r' ≡ r → Covers l r g → Covers m r' h → Adjoin g h → JoinsRanges l m n
     → (j : SegmentValue) → j ≡ both_of g h → Covers n r j
@@ -283,7 +283,7 @@ covers_three y law r r' r'' g h i l m n o of of' of'' one one' c d e near near' 
     (let k = kind_in r q in
     let S = structure_of k in
     each_kind (λ k. (q : Instance) → value_in o k q ≡ (structure_of k).combine ((structure_of k).combine (value_in l k q) (value_in m k q)) (value_in n k q)) values k q
-    ∙ (λ t. S.combine (S.combine (c.shows q t) (subst (λ (z : Story). ShowsRange (kind_in r) m (events_over z r h.from h.upto)) same d'.shows q t)) (subst (λ (z : Story). ShowsRange (kind_in r) n (events_over z r i.from i.upto)) same' e'.shows q t))
+    ∙ (λ t. S.combine (S.combine (c.shows q t) (subst (λ (z : EventOrder). ShowsRange (kind_in r) m (events_over z r h.from h.upto)) same d'.shows q t)) (subst (λ (z : EventOrder). ShowsRange (kind_in r) n (events_over z r i.from i.upto)) same' e'.shows q t))
     ∙ ap (λ v. S.combine v (view_of S q R)) (sym (view_of-adjoining S q (IsMember k) (lawful k) L M c.words middle.words (apart_ranges r g h law' same left (spans_of m r h d') near q)) ∙ ap (view_of S q) (sym two))
     ∙ sym (view_of-adjoining S q (IsMember k) (lawful k) B R both.words right.words (apart_ranges r (both_of g h) i law' same' both (spans_of n r i e') near' q))) in
     let all : Covers o r (both_of (both_of g h) i) = covers_of o r (both_of (both_of g h) i) (spans_both r (both_of g h) i same' both (spans_of n r i e') near')
@@ -301,5 +301,5 @@ two_pieces P e f h = subst (λ (x : PieceValue × PieceValue). P x.0 x.1) (λ i.
 pub covers_line : (y : YardValue) → IsOrderly y.story → (h : Hypermap) (r : Reducers) (g : SegmentValue) → OfYard y g → Covers h r g → g.from < g.upto → IsLine (what y.story g.upto) → events_at y.story r g.upto ≡ []
     → (g' : SegmentValue) → g' ≡ moved_on g → Covers h r g'
 covers_line y law h r g of c some line quiet g' e =
-    covers_quiet h h r g c some (behind_line g.story (subst IsOrderly (sym of.1) law) g.from g.upto some (subst (λ (z : Story). IsLine (what z g.upto)) (sym of.1) line))
-    (ap (λ (z : Story). events_at z r g.upto) of.1 ∙ quiet) c.shows g' e
+    covers_quiet h h r g c some (behind_line g.story (subst IsOrderly (sym of.1) law) g.from g.upto some (subst (λ (z : EventOrder). IsLine (what z g.upto)) (sym of.1) line))
+    (ap (λ (z : EventOrder). events_at z r g.upto) of.1 ∙ quiet) c.shows g' e

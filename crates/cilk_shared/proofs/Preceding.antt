@@ -5,7 +5,7 @@
 use Rattle.std.proofs.Common.{◌≡◌, ◌↔◌, ℕ, ◌<◌, ◌≤◌, length, List, Bool, false, true, Option, Some, None, IsTrue, refl, sym, ap, subst, arith}
 use Rattle.std.proofs.lemmas.Bool.{leb-true, le-leb}
 use lib.Dec.{leb}
-use Rattle.cilk_tree.specs.declared.story.Story.{Story}
+use Rattle.cilk_tree.specs.declared.event_order.EventOrder.{EventOrder}
 use Rattle.cilk_tree.specs.Word.{WordEvent, plain, read, write, spawn, resume, finish, what, after, IsWord}
 use Rattle.cilk_tree.specs.Along.{IsAlong}
 use Rattle.cilk_tree.specs.Earliest.{earliest}
@@ -13,7 +13,7 @@ use Rattle.cilk_tree.proofs.AlongPlans.{afters, is_word, many, was_word}
 use Rattle.cilk_tree.proofs.Passing.{IsEarliest, earliest_is}
 use Rattle.cilk_shared.specs.Values.{SegmentValue, HoldsPreceding, MayPass}
 
-pub earliest_next : (g h : SegmentValue) (s : Story) (o o' : Option ℕ) → g ≡ h → IsAlong s h.story → o ≡ earliest (after s g.upto) → o ≡ o' → IsEarliest o' (after h.story h.upto)
+pub earliest_next : (g h : SegmentValue) (s : EventOrder) (o o' : Option ℕ) → g ≡ h → IsAlong s h.story → o ≡ earliest (after s g.upto) → o ≡ o' → IsEarliest o' (after h.story h.upto)
 earliest_next g h s o o' same along is found =
     subst (λ (x : Option ℕ). IsEarliest x (after h.story h.upto)) found
     (subst (λ (preceding : ℕ → List ℕ). IsEarliest o (preceding h.upto)) (sym (afters s h.story along))
@@ -38,10 +38,10 @@ refused h not = (λ t. absurd (let c : false ≡ true = t in cc c), λ may. absu
 pub has_no_next : (h : SegmentValue) → h.upto ≤ h.from → MayPass h → ⊥
 has_no_next h none may = let l = may.0 in omega (arith, none, l)
 
-pub is_past : (h : SegmentValue) (s : Story) (n : ℕ) → IsAlong s h.story → n ≡ length s.events → n < h.upto → MayPass h → ⊥
+pub is_past : (h : SegmentValue) (s : EventOrder) (n : ℕ) → IsAlong s h.story → n ≡ length s.events → n < h.upto → MayPass h → ⊥
 is_past h s n along all past may = let l = may.1 in let k = many s h.story along in omega (arith, l, k, all, past)
 
-pub is_step : (h : SegmentValue) (s : Story) → IsAlong s h.story → IsWord (what s h.upto) → MayPass h → ⊥
+pub is_step : (h : SegmentValue) (s : EventOrder) → IsAlong s h.story → IsWord (what s h.upto) → MayPass h → ⊥
 is_step h s along word may = subst IsWord may.2 (is_word s h.story along h.upto word)
 
 is_plain : (e : WordEvent) → (IsWord e → ⊥) → e ≡ plain
@@ -52,7 +52,7 @@ is_plain spawn not = absurd (not tt)
 is_plain (resume q) not = absurd (not tt)
 is_plain finish not = absurd (not tt)
 
-pub is_passed : (h : SegmentValue) (s : Story) (n : ℕ) (b : Bool) → IsAlong s h.story → n ≡ length s.events → h.from < h.upto → h.upto ≤ n → (IsWord (what s h.upto) → ⊥) → IsTrue b ↔ HoldsPreceding h → IsTrue b ↔ MayPass h
+pub is_passed : (h : SegmentValue) (s : EventOrder) (n : ℕ) (b : Bool) → IsAlong s h.story → n ≡ length s.events → h.from < h.upto → h.upto ≤ n → (IsWord (what s h.upto) → ⊥) → IsTrue b ↔ HoldsPreceding h → IsTrue b ↔ MayPass h
 is_passed h s n b along all some within not holds =
     let k = many s h.story along in (
       λ t. (some, omega (arith, within, all, k), is_plain (what h.story h.upto) (λ word. not (was_word s h.story along h.upto word)), holds.0 t),

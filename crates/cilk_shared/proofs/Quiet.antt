@@ -12,7 +12,7 @@ use Rattle.cilk_monoid.specs.Ranges.{HaveWords}
 use Rattle.cilk_tree.specs.Frames.{Enters, IsInFrame}
 use Rattle.cilk_tree.specs.Races.{event_at}
 use Rattle.cilk_tree.specs.declared.mark.Mark.TheVariants as mark
-use Rattle.cilk_tree.specs.declared.story.Story.{Story}
+use Rattle.cilk_tree.specs.declared.event_order.EventOrder.{EventOrder}
 use Rattle.cilk_tree.specs.Word.{event, what, after, spawn, resume, finish, plain, word_event, resumption, is_spawn}
 use Rattle.cilk_tree.proofs.Events.{mark_at, spawn_mark, resume_mark}
 use Rattle.cilk_shared.specs.declared.reducers.Reducers.{Reducers}
@@ -27,7 +27,7 @@ resume_quiet : (r : Reducers) (f : ℕ) (o : Option Event) → mark_at o ≡ mar
 resume_quiet r f (Some (events.Resume g)) e = refl
 resume_quiet r f o e = absurd (cc e)
 
-module _ (s : Story) (r : Reducers) (p : ℕ) where
+module _ (s : EventOrder) (r : Reducers) (p : ℕ) where
   pub quiet_read : (c : ℕ) (v : ℤ) → event s p ≡ Some (events.Read c v) → events_at s r p ≡ []
   quiet_read c v is = ap (of_event r (frame_in s.events p)) is
 

@@ -11,7 +11,7 @@ use native.Mathlib.Decide.{dec_lt}
 use Rattle.cilk_types.specs.declared.event.Instance.{Instance}
 use Rattle.cilk_monoid.specs.Ranges.{ReducerEvent, HaveWords, Mentions, Resets}
 use Rattle.cilk_shared.specs.Rows.{spanned}
-use Rattle.cilk_tree.specs.declared.story.Story.{Story}
+use Rattle.cilk_tree.specs.declared.event_order.EventOrder.{EventOrder}
 use Rattle.cilk_shared.specs.declared.reducers.Reducers.{Reducers}
 use Rattle.cilk_shared.specs.Reducers.{events_at, events_from, events_over}
 
@@ -38,7 +38,7 @@ spanned_left a b c d ab dc = ap (λ k. cond k (cond (ltb c d) (a, d) (a, b)) (c,
 pub spanned_right : (a b c d : ℕ) → b ≤ a → spanned a b c d ≡ (c, d)
 spanned_right a b c d ba = ap (λ k. cond k (cond (ltb c d) (a, d) (a, b)) (c, d)) (le-ltb a b ba)
 
-module _ (s : Story) (r : Reducers) where
+module _ (s : EventOrder) (r : Reducers) where
   pub none_over : (a b : ℕ) → b ≤ a → events_over s r a b ≡ []
   unfolding events_from
   none_over a b le = let none : b - a ≡ 0 = omega arith in ap (λ n. events_from s r a n) none

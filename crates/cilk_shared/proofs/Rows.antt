@@ -10,7 +10,7 @@ use mathlib.Core.Option.{some, some-injective, some-ne-none}
 use native.Mathlib.Decide.{dec_le, dec_lt, ℕ_discrete}
 use lib.ListN.{get_elem?}
 use Rattle.atomic_table.proofs.Lists.{at_set, set_here, set_else}
-use Rattle.cilk_tree.specs.declared.story.Story.{Story}
+use Rattle.cilk_tree.specs.declared.event_order.EventOrder.{EventOrder}
 use Rattle.cilk_shared.specs.declared.view.View.{View}
 use Rattle.cilk_shared.specs.Rule.{In, Done, IsStart, Parted, IsCut, Sits}
 use Rattle.cilk_shared.proofs.Sets.{word_of_resume}
@@ -27,7 +27,7 @@ at_short (x ∷ xs) (suc i) a e = let r = at_short xs i a e in omega arith
 pub at_once : {A : Type 0} (l : List A) (i : ℕ) (a b : A) → get_elem? l i ≡ some a → get_elem? l i ≡ some b → a ≡ b
 at_once l i a b e f = some-injective a b (sym e ∙ f)
 
-module _ (s : Story) (views : List View) (parted : Parted s views) (id : ℕ) (v : View) (at : get_elem? views id ≡ some v) where
+module _ (s : EventOrder) (views : List View) (parted : Parted s views) (id : ℕ) (v : View) (at : get_elem? views id ≡ some v) where
   -- the view v becomes w
   module _ (w : View) (grows : (x : ℕ) → In v x → In w x) where
     pub done_into : (x : ℕ) → Done (set views id w) x → Done views x ⊎ In w x

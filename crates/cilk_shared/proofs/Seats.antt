@@ -14,7 +14,7 @@ use native.Mathlib.Decide.{dec_le, dec_lt, ℕ_discrete}
 use lib.ListN.{get_elem?}
 use Rattle.atomic_table.specs.Table.{State, Me, Splits, Joins, opening}
 use Rattle.atomic_table.proofs.Lists.{at_set, at_snoc, at_longer, set_again, set_here, set_else}
-use Rattle.cilk_tree.specs.declared.story.Story.{Story}
+use Rattle.cilk_tree.specs.declared.event_order.EventOrder.{EventOrder}
 use Rattle.cilk_shared.specs.declared.view.View.{View}
 use Rattle.cilk_shared.specs.Rule.{view, In, Done, IsStart, Parted, IsCut, Told, HasReached, Kept, Cont, Over, cells, Sits, beside, spent, joined, Shows}
 use Rattle.cilk_shared.specs.Rows.{spanned}
@@ -27,7 +27,7 @@ use Rattle.cilk_tree.specs.Orders.{IsOrderly}
 use Rattle.cilk_tree.specs.Values.{HasValues}
 
 -- the same events are done
-module _ (s : Story) (D E : ℕ → Type 0) (to : (q : ℕ) → IsWord (what s q) → D q → E q) (back : (q : ℕ) → IsWord (what s q) → E q → D q) where
+module _ (s : EventOrder) (D E : ℕ → Type 0) (to : (q : ℕ) → IsWord (what s q) → D q → E q) (back : (q : ℕ) → IsWord (what s q) → E q → D q) where
   pub cut_along : IsCut s D → IsCut s E
   cut_along cut p q e wp wq b = to q wq (cut p q (back p wp e) wp wq b)
 
@@ -52,7 +52,7 @@ module _ (s : Story) (D E : ℕ → Type 0) (to : (q : ℕ) → IsWord (what s q
   }
 
 -- an empty seat comes
-pub splits : (s : Story) (id : ℕ) (v : View) → Splits (Kept s) id v v (beside v)
+pub splits : (s : EventOrder) (id : ℕ) (v : View) → Splits (Kept s) id v v (beside v)
 splits s id v t kept at =
     let same : set t.views id v ≡ t.views = set_again t.views id v at in
     let more : List View = t.views ++ beside v ∷ [] in
@@ -73,7 +73,7 @@ splits s id v t kept at =
     })
 
 -- what the views are once the seat id has the view b, and the seat other is spent
-module _ (s : Story) (views : List View) (parted : Parted s views) (id : ℕ) (v : View) (at : get_elem? views id ≡ some v) (other : ℕ) (w b : View) (apart : other ≢ id) (there : get_elem? views other ≡ some w) where
+module _ (s : EventOrder) (views : List View) (parted : Parted s views) (id : ℕ) (v : View) (at : get_elem? views id ≡ some v) (other : ℕ) (w b : View) (apart : other ≢ id) (there : get_elem? views other ≡ some w) where
   final : List View
   final = set (set views id b) other spent
 
@@ -134,7 +134,7 @@ module _ (s : Story) (views : List View) (parted : Parted s views) (id : ℕ) (v
 abbrev pub Beside : ℕ → ℕ → ℕ → ℕ → Type 0
 Beside a b c d = (b ≤ a) ⊎ (d ≤ c) ⊎ ((a < b) × (c < d) × (b ≡ c))
 
-module _ (s : Story) (law : IsOrderly s) (v w : View) (a b c d : ℕ) (mine : Sits s v a b) (theirs : Sits s w c d) where
+module _ (s : EventOrder) (law : IsOrderly s) (v w : View) (a b c d : ℕ) (mine : Sits s v a b) (theirs : Sits s w c d) where
   joined_left : v.upto ≤ v.from → joined v w ≡ view v.story w.from w.upto
   joined_left e = ap (λ k. cond k (cond (ltb w.from w.upto) (view v.story v.from w.upto) v) (view v.story w.from w.upto)) (le-ltb v.from v.upto e)
 
@@ -187,7 +187,7 @@ module _ (s : Story) (law : IsOrderly s) (v w : View) (a b c d : ℕ) (mine : Si
       (λ no. empty_v (omega arith))
 
 -- the segment of two that adjoin
-spans : (s : Story) (law : IsOrderly s) (v w : View) (a b c d : ℕ) → Sits s v a b → Sits s w c d → Beside a b c d → Sits s (joined v w) (spanned a b c d).0 (spanned a b c d).1
+spans : (s : EventOrder) (law : IsOrderly s) (v w : View) (a b c d : ℕ) → Sits s v a b → Sits s w c d → Beside a b c d → Sits s (joined v w) (spanned a b c d).0 (spanned a b c d).1
 spans s law v w a b c d mine theirs near = dite (dec_lt a b)
     (λ (ab : a < b).
     let f = mine.from ab in
@@ -226,7 +226,7 @@ spans s law v w a b c d mine theirs near = dite (dec_lt a b)
     pair_right ba = ap (λ k. cond k (cond (ltb c d) (a, d) (a, b)) (c, d)) (le-ltb a b ba)
 
 -- the same of seats as segments have them
-module _ (s : Story) (law : IsOrderly s) (me you : Me (Unit {0}) View) (same : me.0.story ≡ s) (same' : you.0.story ≡ s) (a b c d : ℕ) (mine : Sits me.0.story me.0 a b) (theirs : Sits you.0.story you.0 c d) (near : Beside a b c d) where
+module _ (s : EventOrder) (law : IsOrderly s) (me you : Me (Unit {0}) View) (same : me.0.story ≡ s) (same' : you.0.story ≡ s) (a b c d : ℕ) (mine : Sits me.0.story me.0 a b) (theirs : Sits you.0.story you.0 c d) (near : Beside a b c d) where
   ours : Sits s me.0 a b
   ours = subst (λ z. Sits z me.0 a b) same mine
 
@@ -255,7 +255,7 @@ module _ (s : Story) (law : IsOrderly s) (me you : Me (Unit {0}) View) (same : m
 first_in : (x : ℕ) → 1 ≤ x → x < 2 → x ≡ 1
 first_in x le lt = omega arith
 
-pub starts : (s : Story) (law : IsOrderly s) (words : List ℕ) → words ≡ map word s.opening ++ replicate (length s.events + 1) 0 → Kept s (opening words [] (view s 1 2))
+pub starts : (s : EventOrder) (law : IsOrderly s) (words : List ℕ) → words ≡ map word s.opening ++ replicate (length s.events + 1) 0 → Kept s (opening words [] (view s 1 2))
 starts s law words is =
     let views : List View = view s 1 2 ∷ [] in
     let zeros : List ℕ = replicate (length s.events + 1) 0 in
@@ -292,15 +292,15 @@ starts s law words is =
     only_one v (suc i) u e = absurd (some-ne-none u (sym e))
 
 -- nothing comes before the first event
-none_first : (s : Story) → IsOrderly s → (e : ℕ) → Among e (after s 1) → ⊥
+none_first : (s : EventOrder) → IsOrderly s → (e : ℕ) → Among e (after s 1) → ⊥
 none_first s law e there = law.none_ahead e there
 
-up_first : (s : Story) → IsOrderly s → HasValues s → IsFollowed s 1
+up_first : (s : EventOrder) → IsOrderly s → HasValues s → IsFollowed s 1
 up_first s law values q (inl same) = subst (λ j. IsAsked s j) (sym same) values.begins
 up_first s law values q (inr (direct there)) = absurd (none_first s law q there)
 up_first s law values q (inr (through {e = e} b there)) = absurd (none_first s law e there)
 
-pub first_sits : (s : Story) → IsOrderly s → HasValues s → Sits s (view s 1 2) 1 2
+pub first_sits : (s : EventOrder) → IsOrderly s → HasValues s → Sits s (view s 1 2) 1 2
 first_sits s law values = record {
   story = refl;
   empty = λ e. e;
@@ -311,7 +311,7 @@ first_sits s law values = record {
 }
 
 -- what the words say of the whole run
-pub whole_run : (s : Story) (law : IsOrderly s) (me : Me (Unit {0}) View) (same : me.0.story ≡ s) (n : ℕ) → Sits me.0.story me.0 1 n → n ≡ length s.events + 1 → 1 < n → (id : ℕ) (t : State (Unit {0}) View) → Kept s t → get_elem? t.views id ≡ some me.0
+pub whole_run : (s : EventOrder) (law : IsOrderly s) (me : Me (Unit {0}) View) (same : me.0.story ≡ s) (n : ℕ) → Sits me.0.story me.0 1 n → n ≡ length s.events + 1 → 1 < n → (id : ℕ) (t : State (Unit {0}) View) → Kept s t → get_elem? t.views id ≡ some me.0
     → (c : ℕ) → c < cells s → Shows s (λ q. Unit {0}) c (get_or t.words c 0)
 whole_run s law me same n sits all some_done id t kept at c small =
     shows_along s (Done t.views) (λ q. Unit {0}) c (get_or t.words c 0)

@@ -8,7 +8,7 @@
 use Rattle.std.proofs.Common.{◌≡◌, ◌≢◌, ◌⊎◌, ℕ, ◌+◌, ◌<◌, ◌≤◌, List, length, get_or, set, inl, inr, ⊎_elim, refl, sym, ap, ◌∙◌, subst, arith, length-set, get_or-set_same, get_or-set_other}
 use mathlib.Core.Logic.{dite}
 use native.Mathlib.Decide.{dec_le, ℕ_discrete}
-use Rattle.cilk_tree.specs.declared.story.Story.{Story}
+use Rattle.cilk_tree.specs.declared.event_order.EventOrder.{EventOrder}
 use Rattle.cilk_shared.specs.Rule.{Cont, cells, Told, IsCut, Shows, Over}
 use Rattle.cilk_tree.specs.Word.{WordEvent, read, write, spawn, resume, what, Before, IsWord, Conflict, finish}
 use Rattle.cilk_tree.specs.Reach.{direct}
@@ -30,7 +30,7 @@ pub word_of_finish : (e : WordEvent) → e ≡ finish → IsWord e
 word_of_finish e is = subst IsWord (sym is) tt
 
 -- two events do not give a cell two values
-pub shows_once : (s : Story) (D : ℕ → Type 0) (c n m : ℕ) → Shows s D c n → Shows s D c m → n ≡ m
+pub shows_once : (s : EventOrder) (D : ℕ → Type 0) (c n m : ℕ) → Shows s D c n → Shows s D c m → n ≡ m
 shows_once s D c n m (inl a) (inl b) = a.0 ∙ sym b.0
 shows_once s D c n m (inl a) (inr b) = absurd (a.1 b.0 m b.1 b.2)
 shows_once s D c n m (inr a) (inl b) = absurd (b.1 a.0 n a.1 a.2)
@@ -42,11 +42,11 @@ shows_once s D c n m (inr a) (inr b) =
     cc (sym a.2 ∙ at)
 
 -- only the writes of the cell count
-pub shows_along : (s : Story) (D E : ℕ → Type 0) (c n : ℕ) → ((q v : ℕ) → D q → what s q ≡ write c v → E q) → ((q v : ℕ) → E q → what s q ≡ write c v → D q) → Shows s D c n → Shows s E c n
+pub shows_along : (s : EventOrder) (D E : ℕ → Type 0) (c n : ℕ) → ((q v : ℕ) → D q → what s q ≡ write c v → E q) → ((q v : ℕ) → E q → what s q ≡ write c v → D q) → Shows s D c n → Shows s E c n
 shows_along s D E c n f g (inl a) = inl (a.0, λ q v e w. a.1 q v (g q v e w) w)
 shows_along s D E c n f g (inr a) = inr (a.0, f a.0 n a.1 a.2, a.2, λ r v e w. a.3 r v (g r v e w) w)
 
-module _ (s : Story) (law : IsOrderly s) (D : ℕ → Type 0) (cut : IsCut s D) (p : ℕ) (fresh : D p → ⊥) where
+module _ (s : EventOrder) (law : IsOrderly s) (D : ℕ → Type 0) (cut : IsCut s D) (p : ℕ) (fresh : D p → ⊥) where
   -- a done event that races with p, if they were parallel, comes before it
   pub below : (q : ℕ) → D q → IsWord (what s p) → IsWord (what s q) → (p < q → Conflict s p q) → q ≤ p
   below q d wp wq clash = dite (dec_le q p) (λ le. le) (λ not.

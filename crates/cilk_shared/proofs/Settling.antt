@@ -14,7 +14,7 @@ use Rattle.cilk_hypermap.specs.Ranges.{ResetsNone}
 use Rattle.cilk_shared.specs.Rule.{IsStart, Whole}
 use Rattle.cilk_shared.proofs.Sets.{word_of_resume}
 use Rattle.cilk_tree.specs.Reach.{Among, direct, through}
-use Rattle.cilk_tree.specs.declared.story.Story.{Story}
+use Rattle.cilk_tree.specs.declared.event_order.EventOrder.{EventOrder}
 use Rattle.cilk_tree.specs.Orders.{IsOrderly}
 use Rattle.cilk_tree.specs.Word.{after, what, Before, plain, resume, WordEvent}
 use Rattle.cilk_shared.specs.declared.reducers.Reducers.{Reducers}
@@ -22,11 +22,11 @@ use Rattle.cilk_shared.specs.Reducers.{events_at, events_over}
 use Rattle.cilk_shared.specs.Settled.{AreSettled, Settles}
 use Rattle.cilk_shared.proofs.Ranges.{mention_in, reset_in, over_both}
 
-later : (s : Story) (law : IsOrderly s) {q p : ℕ} → Before s q p → q < p
+later : (s : EventOrder) (law : IsOrderly s) {q p : ℕ} → Before s q p → q < p
 later s law {q} {p} (direct there) = law.earlier p q there
 later s law {q} {p} (through {e = e} b there) = let h = later s law b in let g = law.earlier p e there in omega (arith, h, g)
 
-module _ (s : Story) (law : IsOrderly s) (r : Reducers) (settled : AreSettled s r) (b k : ℕ) (begins : what s b ≡ resume k) where
+module _ (s : EventOrder) (law : IsOrderly s) (r : Reducers) (settled : AreSettled s r) (b k : ℕ) (begins : what s b ≡ resume k) where
   low : 1 ≤ b
   low = (law.inside b (word_of_resume (what s b) k begins)).0
 
@@ -68,7 +68,7 @@ module _ (s : Story) (law : IsOrderly s) (r : Reducers) (settled : AreSettled s 
       let p1 = p.2 in let l = low in
       alone (d + 1) whole i p.0 d p.3 st (omega (arith, p1, l)) le (omega arith)
 
-pub view_ahead : (s : Story) (law : IsOrderly s) (r : Reducers) (settled : AreSettled s r) (a d : ℕ) → IsStart s a → a ≤ d → Whole s a (d + 1) → (i : Instance) → Settles s r d i → (S : MonoidStructure ViewValue)
+pub view_ahead : (s : EventOrder) (law : IsOrderly s) (r : Reducers) (settled : AreSettled s r) (a d : ℕ) → IsStart s a → a ≤ d → Whole s a (d + 1) → (i : Instance) → Settles s r d i → (S : MonoidStructure ViewValue)
     → view_of S i (events_over s r a d) ≡ view_of S i (events_over s r 1 d)
 view_ahead s law r settled a d start le whole i st S = ⊎_elim
     (λ (z : a ≡ 1). ap (λ (n : ℕ). view_of S i (events_over s r n d)) z)

@@ -20,7 +20,7 @@ use mathlib.Core.Option.{none, some}
 use native.Mathlib.Decide.{dec_lt, ℕ_discrete}
 use lib.ListN.{get_elem?}
 use Rattle.atomic_table.specs.Table.{State, Me, step, keeps, stepped, Allows}
-use Rattle.cilk_tree.specs.declared.story.Story.{Story}
+use Rattle.cilk_tree.specs.declared.event_order.EventOrder.{EventOrder}
 use Rattle.cilk_shared.specs.declared.view.View.{View}
 use Rattle.cilk_shared.specs.Rule.{view, In, Done, Parted, IsCut, Told, HasReached, Kept, Cont, cells, Sits, IsNext, loads, Moves, takes, ends, Over}
 use Rattle.cilk_shared.specs.Values.{YardValue, SegmentValue}
@@ -35,7 +35,7 @@ use Rattle.cilk_types.specs.declared.event.Event.TheVariants.{Sync}
 use Rattle.cilk_shared.proofs.Values.{reads_shows}
 
 -- the first step on a word from a place on
-pub next_once : (s : Story) (a p q : ℕ) → IsNext s a p → a ≤ q → IsWord (what s q) → ((k : ℕ) → a ≤ k → k < q → IsWord (what s k) → ⊥) → p ≡ q
+pub next_once : (s : EventOrder) (a p q : ℕ) → IsNext s a p → a ≤ q → IsWord (what s q) → ((k : ℕ) → a ≤ k → k < q → IsWord (what s k) → ⊥) → p ≡ q
 next_once s a p q next le word none_before = dite (dec_lt p q)
     (λ (early : p < q). absurd (none_before p next.0 early next.1))
     (λ not. dite (dec_lt q p)
@@ -43,18 +43,18 @@ next_once s a p q next le word none_before = dite (dec_lt p q)
     (λ nor. omega arith))
 
 -- all that comes before p is in the range, and fits
-pub up_on : (s : Story) (law : IsOrderly s) (a p : ℕ) → ((x : ℕ) → a ≤ x → x < p → IsFollowed s x) → ((e : ℕ) → Among e (after s p) → a ≤ e) → IsAsked s p → IsFollowed s p
+pub up_on : (s : EventOrder) (law : IsOrderly s) (a p : ℕ) → ((x : ℕ) → a ≤ x → x < p → IsFollowed s x) → ((e : ℕ) → Among e (after s p) → a ≤ e) → IsAsked s p → IsFollowed s p
 up_on s law a p known inner fits q (inl same) = subst (λ j. IsAsked s j) (sym same) fits
 up_on s law a p known inner fits q (inr (direct there)) = known q (inner q there) (law.earlier p q there) q (inl refl)
 up_on s law a p known inner fits q (inr (through {e = e} b there)) = known e (inner e there) (law.earlier p e there) q (inr b)
 
 -- all that comes before the resumption after the spawn at k
-pub up_resume : (s : Story) (law : IsOrderly s) (k p : ℕ) → what s p ≡ resume k → IsFollowed s k → IsAsked s p → IsFollowed s p
+pub up_resume : (s : EventOrder) (law : IsOrderly s) (k p : ℕ) → what s p ≡ resume k → IsFollowed s k → IsAsked s p → IsFollowed s p
 up_resume s law k p is up fits q (inl same) = subst (λ j. IsAsked s j) (sym same) fits
 up_resume s law k p is up fits q (inr (direct there)) = up q (inl ((law.resumed p k is).2 q there))
 up_resume s law k p is up fits q (inr (through {e = e} b there)) = up q (inr (subst (λ j. Before s q j) ((law.resumed p k is).2 e there) b))
 
-module _ (s : Story) (law : IsOrderly s) (v : View) (a p : ℕ) (sits : Sits s v a p) (some_done : a < p) where
+module _ (s : EventOrder) (law : IsOrderly s) (v : View) (a p : ℕ) (sits : Sits s v a p) (some_done : a < p) where
   pub up_line : IsLine (what s p) → IsAsked s p → IsFollowed s p
   up_line line fits = up_on s law a p sits.known (λ e there. let near = law.line p line e there in omega arith) fits
 
@@ -194,7 +194,7 @@ module _ (s : Story) (law : IsOrderly s) (v : View) (a p : ℕ) (sits : Sits s v
       (view v.story v.from (p + 1), keeps, tt, kept_finished id t kept at (line_fresh id t kept at line no_resume) (line_ready id t kept at line no_resume) (up_line line fits) is, told_move (word_of_finish (what s p) is))
 
 -- nothing changes
-pub unmoved : (s : Story) (t : State (Unit {0}) View) (id i : ℕ) (v : View) → Kept s t → get_elem? t.views id ≡ some v → Kept s (stepped t i (get_or t.words i 0) id [] v keeps)
+pub unmoved : (s : EventOrder) (t : State (Unit {0}) View) (id i : ℕ) (v : View) → Kept s t → get_elem? t.views id ≡ some v → Kept s (stepped t i (get_or t.words i 0) id [] v keeps)
 unmoved s t id i v kept at =
     let views : set t.views id v ≡ t.views = set_again t.views id v at in
     let words : set t.words i (get_or t.words i 0) ≡ t.words = set-get_or t.words i 0 in
@@ -206,12 +206,12 @@ unmoved s t id i v kept at =
     }
 
 -- where the word of the end is 1, all is done
-over_done : (s : Story) (D : ℕ → Type 0) (n q : ℕ) → n ≡ 1 → what s q ≡ finish → Over s D n → D q
+over_done : (s : EventOrder) (D : ℕ → Type 0) (n q : ℕ) → n ≡ 1 → what s q ≡ finish → Over s D n → D q
 over_done s D n q one is (inl a) = absurd (omega (arith, one, a.0))
 over_done s D n q one is (inr a) = a.1 q is
 
 -- a look at the end
-pub ended_at : (s : Story) → IsOrderly s → (slots id i : ℕ) (me : Me (Unit {0}) View) → me.0.story ≡ s → me.1 ≡ [] → i ≡ cells s → Allows (Kept s) slots id me i (λ x. x) (ends (step slots i 0 0 none) me)
+pub ended_at : (s : EventOrder) → IsOrderly s → (slots id i : ℕ) (me : Me (Unit {0}) View) → me.0.story ≡ s → me.1 ≡ [] → i ≡ cells s → Allows (Kept s) slots id me i (λ x. x) (ends (step slots i 0 0 none) me)
 ended_at s law slots id i me same bare there =
     let z : ℕ = length s.events in
     let Goal : ℕ → List (ℕ × Unit {0}) → Type 0 = λ j xs. Allows (Kept s) slots id (me.0, xs) j (λ x. x) (ends (step slots j 0 0 none) (me.0, xs)) in
@@ -220,21 +220,21 @@ ended_at s law slots id i me same bare there =
       keeps,
       tt,
       unmoved s t id (cells s) me.0 kept at,
-      (refl, λ one. subst (λ (y : Story). IsFollowed y (length y.events)) (sym same) (kept.reached z (word_of_finish (what s z) law.last) (over_done s (Done t.views) _ z one law.last kept.told.over))),
+      (refl, λ one. subst (λ (y : EventOrder). IsFollowed y (length y.events)) (sym same) (kept.reached z (word_of_finish (what s z) law.last) (over_done s (Done t.views) _ z one law.last kept.told.over))),
     ) in
     subst (λ j. Goal j me.1) (sym there) (subst (λ xs. Goal (cells s) xs) (sym bare) here)
 
 -- a spawn that is resumed stands within the run
-pub spawn_within : (s : Story) → IsOrderly s → (k p : ℕ) → what s p ≡ resume k → k ≤ length s.events
+pub spawn_within : (s : EventOrder) → IsOrderly s → (k p : ℕ) → what s p ≡ resume k → k ≤ length s.events
 spawn_within s law k p is = (law.inside k (word_of_spawn (what s k) (law.resumed p k is).0)).1
 
 -- what the word of a continuation that can be taken says
-could_take : (s : Story) (D : ℕ → Type 0) (k n : ℕ) → n ≡ 1 → Cont s D k n → D k × ((r : ℕ) → what s r ≡ resume k → D r → ⊥)
+could_take : (s : EventOrder) (D : ℕ → Type 0) (k n : ℕ) → n ≡ 1 → Cont s D k n → D k × ((r : ℕ) → what s r ≡ resume k → D r → ⊥)
 could_take s D k n one (inl a) = absurd (omega (arith, a.0))
 could_take s D k n one (inr (inl a)) = (a.1, a.2)
 could_take s D k n one (inr (inr a)) = absurd (omega (arith, a.0))
 
-module _ (s : Story) (law : IsOrderly s) (k p : ℕ) (is : what s p ≡ resume k) (v : View) (t : State (Unit {0}) View) (id : ℕ) (kept : Kept s t) (at : get_elem? t.views id ≡ some v) (one : get_or t.words (cells s + k) 0 ≡ 1) (fits : IsAsked s p) where
+module _ (s : EventOrder) (law : IsOrderly s) (k p : ℕ) (is : what s p ≡ resume k) (v : View) (t : State (Unit {0}) View) (id : ℕ) (kept : Kept s t) (at : get_elem? t.views id ≡ some v) (one : get_or t.words (cells s + k) 0 ≡ 1) (fits : IsAsked s p) where
   spawned : what s k ≡ spawn
   spawned = (law.resumed p k is).0
 
@@ -286,21 +286,21 @@ module _ (s : Story) (law : IsOrderly s) (k p : ℕ) (is : what s p ≡ resume k
     }
 
 -- a seat whose segment is empty, or goes on at p
-abbrev pub Goes : Story → View → ℕ → ℕ → Type 0
+abbrev pub Goes : EventOrder → View → ℕ → ℕ → Type 0
 Goes s v a p = (v.upto ≤ v.from) ⊎ ((a < p) × Sits s v a p)
 
-begun : (s : Story) (v : View) (a p : ℕ) → Goes s v a p → ℕ
+begun : (s : EventOrder) (v : View) (a p : ℕ) → Goes s v a p → ℕ
 begun s v a p (inl e) = p
 begun s v a p (inr g) = v.from
 
-take_kept : (s : Story) (law : IsOrderly s) (k p : ℕ) (is : what s p ≡ resume k) (v : View) (t : State (Unit {0}) View) (id : ℕ) (kept : Kept s t) (at : get_elem? t.views id ≡ some v) (one : get_or t.words (cells s + k) 0 ≡ 1) (fits : IsAsked s p) (a : ℕ) (g : Goes s v a p)
+take_kept : (s : EventOrder) (law : IsOrderly s) (k p : ℕ) (is : what s p ≡ resume k) (v : View) (t : State (Unit {0}) View) (id : ℕ) (kept : Kept s t) (at : get_elem? t.views id ≡ some v) (one : get_or t.words (cells s + k) 0 ≡ 1) (fits : IsAsked s p) (a : ℕ) (g : Goes s v a p)
     → Kept s (stepped t (cells s + k) 2 id [] (view v.story (cond (ltb v.from v.upto) v.from p) (p + 1)) keeps)
 take_kept s law k p is v t id kept at one fits a (inl e) = subst (λ b. Kept s (stepped t (cells s + k) 2 id [] (view v.story (cond b v.from p) (p + 1)) keeps)) (sym (le-ltb v.from v.upto e)) (take_new s law k p is v t id kept at one fits e)
 take_kept s law k p is v t id kept at one fits a (inr g) =
     let f = g.1.from g.0 in
     subst (λ b. Kept s (stepped t (cells s + k) 2 id [] (view v.story (cond b v.from p) (p + 1)) keeps)) (sym (lt-ltb v.from v.upto (omega (arith, f.0, f.1)))) (take_on s law k p is v t id kept at one fits a g.1 g.0)
 
-pub allows_take : (s : Story) (law : IsOrderly s) (k p : ℕ) (is : what s p ≡ resume k) (fits : IsAsked s p) (v : View) (same : v.story ≡ s) (a : ℕ) (g : Goes s v a p) (slots id : ℕ)
+pub allows_take : (s : EventOrder) (law : IsOrderly s) (k p : ℕ) (is : what s p ≡ resume k) (fits : IsAsked s p) (v : View) (same : v.story ≡ s) (a : ℕ) (g : Goes s v a p) (slots id : ℕ)
     → Allows (Kept s) slots id (v, []) (cells s + k) (λ n. either (eqb n 1) 2 n) (takes (step slots (cells s + k) 1 2 none) (v, []))
 allows_take s law k p is fits v same a g slots id t kept _ at _ =
     let x : ℕ = get_or t.words (cells s + k) 0 in
@@ -322,7 +322,7 @@ allows_take s law k p is fits v same a g slots id t kept _ at _ =
     ))
 
 -- a seat as a segment from a up to p has it, whose frame goes on by a step on a word at p
-pub record Stands (s : Story) (me : Me (Unit {0}) View) (a p : ℕ) : Type 0 where
+pub record Stands (s : EventOrder) (me : Me (Unit {0}) View) (a p : ℕ) : Type 0 where
   pub law : IsOrderly s
   pub bare : me.1 ≡ []
   pub same : me.0.story ≡ s
@@ -331,7 +331,7 @@ pub record Stands (s : Story) (me : Me (Unit {0}) View) (a p : ℕ) : Type 0 whe
   pub asked : IsAsked s p
   pub line : IsLine (what s p)
 
-pub stands : (s : Story) (me : Me (Unit {0}) View) (a p : ℕ) → IsOrderly s → (me.1 ≡ []) × Sits me.0.story me.0 a p → me.0.story ≡ s → (a < p) × IsAsked s p → IsLine (what s p) → Stands s me a p
+pub stands : (s : EventOrder) (me : Me (Unit {0}) View) (a p : ℕ) → IsOrderly s → (me.1 ≡ []) × Sits me.0.story me.0 a p → me.0.story ≡ s → (a < p) × IsAsked s p → IsLine (what s p) → Stands s me a p
 stands s me a p law inside same goes line = record {
   law = law;
   bare = inside.0;
@@ -350,7 +350,7 @@ word_of_line spawn h = h
 word_of_line (resume q) h = absurd h
 word_of_line finish h = h
 
-module _ (s : Story) (me : Me (Unit {0}) View) (a p : ℕ) (h : Stands s me a p) where
+module _ (s : EventOrder) (me : Me (Unit {0}) View) (a p : ℕ) (h : Stands s me a p) where
   step_word : IsWord (what s p)
   step_word = word_of_line (what s p) h.line
 
@@ -404,7 +404,7 @@ pub both : {y y' : YardValue} {g g' : SegmentValue} (P : YardValue → SegmentVa
 both {y' = y'} {g = g} P e f h = subst (λ k. P k g) (sym e) (subst (λ k. P y' k) (sym f) h)
 
 -- a segment of one resumption
-sits_new : (s z : Story) (k p : ℕ) → what s p ≡ resume k → IsFollowed s p → z ≡ s → Sits s (view z p (p + 1)) p (p + 1)
+sits_new : (s z : EventOrder) (k p : ℕ) → what s p ≡ resume k → IsFollowed s p → z ≡ s → Sits s (view z p (p + 1)) p (p + 1)
 sits_new s z k p is up same = record {
   story = same;
   empty = λ le. le;
@@ -418,7 +418,7 @@ sits_new s z k p is up same = record {
 abbrev pub Ready : ℕ → ℕ → ℕ → Type 0
 Ready a b p = (b ≤ a) ⊎ ((a < b) × (p ≡ b))
 
-module _ (s : Story) (law : IsOrderly s) (me : Me (Unit {0}) View) (bare : me.1 ≡ []) (same : me.0.story ≡ s) (a b : ℕ) (sits : Sits me.0.story me.0 a b) (k p : ℕ) (is : what s p ≡ resume k) (fits : IsAsked s p) where
+module _ (s : EventOrder) (law : IsOrderly s) (me : Me (Unit {0}) View) (bare : me.1 ≡ []) (same : me.0.story ≡ s) (a b : ℕ) (sits : Sits me.0.story me.0 a b) (k p : ℕ) (is : what s p ≡ resume k) (fits : IsAsked s p) where
   goes : Ready a b p → Goes s me.0 a p
   goes (inl e) = inl (sits.empty e)
   goes (inr g) = inr (omega (arith, g.0, g.1), subst (λ j. Sits s me.0 a j) (sym g.1) (subst (λ z. Sits z me.0 a b) same sits))
@@ -458,7 +458,7 @@ module _ (s : Story) (law : IsOrderly s) (me : Me (Unit {0}) View) (bare : me.1 
       )
 
 -- an event that is no step on a word
-pub passes : (s : Story) (law : IsOrderly s) (me : Me (Unit {0}) View) (a p : ℕ) → Sits s me.0 a p → a < p → what s p ≡ plain → ((e : ℕ) → Among e (after s p) → a ≤ e) → IsAsked s p → Sits s me.0 a (p + 1)
+pub passes : (s : EventOrder) (law : IsOrderly s) (me : Me (Unit {0}) View) (a p : ℕ) → Sits s me.0 a p → a < p → what s p ≡ plain → ((e : ℕ) → Among e (after s p) → a ≤ e) → IsAsked s p → Sits s me.0 a (p + 1)
 passes s law me a p sits some_done is inner fits =
     let f = sits.from some_done in
     record {
@@ -492,7 +492,7 @@ event_cases finish = inl tt
 event_cases (resume k) = inr (inr (k, refl))
 
 -- what comes before such an event fits
-reached : (s : Story) (law : IsOrderly s) (v : View) (a p : ℕ) → Sits s v a p → a < p → ((k : ℕ) → what s p ≢ resume k) → event s p ≢ Some Sync → (q : ℕ) → Before s q p → IsAsked s q
+reached : (s : EventOrder) (law : IsOrderly s) (v : View) (a p : ℕ) → Sits s v a p → a < p → ((k : ℕ) → what s p ≢ resume k) → event s p ≢ Some Sync → (q : ℕ) → Before s q p → IsAsked s q
 reached s law v a p sits some_done no_resume other q b = sits.known (p - 1) (omega arith) (omega arith) q (ahead q b)
   where
     near : (e : ℕ) → Among e (after s p) → e ≡ p - 1
@@ -507,7 +507,7 @@ reached s law v a p sits some_done no_resume other q b = sits.known (p - 1) (ome
     ahead q (through {e = e} b there) = inr (subst (λ j. Before s q j) (near e there) b)
 
 -- where the run departs
-pub departing : (s : Story) (law : IsOrderly s) (v : View) (a p : ℕ) → Sits s v a p → a < p → ((k : ℕ) → what s p ≢ resume k) → p ≤ length s.events → (IsAsked s p → ⊥) → Departs s p
+pub departing : (s : EventOrder) (law : IsOrderly s) (v : View) (a p : ℕ) → Sits s v a p → a < p → ((k : ℕ) → what s p ≢ resume k) → p ≤ length s.events → (IsAsked s p → ⊥) → Departs s p
 departing s law v a p sits some_done no_resume within differs = record {
   place = (omega arith, within);
   reached = record {
@@ -518,6 +518,6 @@ departing s law v a p sits some_done no_resume within differs = record {
 }
 
 -- an event that is no sync and no resumption after a spawn
-pub up_event : (s : Story) (law : IsOrderly s) (v : View) (a p : ℕ) → Sits s v a p → a < p → ((k : ℕ) → what s p ≢ resume k) → event s p ≢ Some Sync → IsAsked s p → IsFollowed s p
+pub up_event : (s : EventOrder) (law : IsOrderly s) (v : View) (a p : ℕ) → Sits s v a p → a < p → ((k : ℕ) → what s p ≢ resume k) → event s p ≢ Some Sync → IsAsked s p → IsFollowed s p
 up_event s law v a p sits some_done no_resume no_sync fits q (inl same) = subst (λ j. IsAsked s j) (sym same) fits
 up_event s law v a p sits some_done no_resume no_sync fits q (inr b) = reached s law v a p sits some_done no_resume no_sync q b

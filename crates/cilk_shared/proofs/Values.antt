@@ -19,7 +19,7 @@ use Rattle.cilk_types.specs.declared.event.Event.TheVariants as events
 use Rattle.cilk_tree.specs.Races.{event_at, Writes}
 use Rattle.cilk_tree.specs.Sources.{last_write, IsLastWrite}
 use Rattle.cilk_tree.proofs.Sources.{sources_last}
-use Rattle.cilk_tree.specs.declared.story.Story.{Story}
+use Rattle.cilk_tree.specs.declared.event_order.EventOrder.{EventOrder}
 use Rattle.cilk_tree.specs.Word.{after, read, write, word, what}
 use Rattle.cilk_tree.specs.Orders.{IsOrderly}
 use Rattle.cilk_tree.specs.Runs.{IsFollowed}
@@ -28,13 +28,13 @@ use Rattle.cilk_tree.proofs.Events.{read_event, write_event, write_what}
 use Rattle.cilk_shared.specs.Rule.{Shows}
 use Rattle.cilk_shared.proofs.Sets.{shows_once, shows_along, word_of_read, word_of_write}
 
-writes_at : (s : Story) (q c n : ℕ) → what s q ≡ write c n → Writes (event_at s.events q) c
+writes_at : (s : EventOrder) (q c n : ℕ) → what s q ≡ write c n → Writes (event_at s.events q) c
 writes_at s q c n is = let w = write_event s.events q (event_at s.events q) (after s q) c n is in subst (λ (o : Option Event). Writes o c) (sym w.1) refl
 
-last_is : (s : Story) (c n : ℕ) → IsLastWrite s.events c (suc n) (last_write s.events c n)
+last_is : (s : EventOrder) (c n : ℕ) → IsLastWrite s.events c (suc n) (last_write s.events c n)
 last_is s c n = let z : suc n - 1 ≡ n = omega arith in subst (λ (k : ℕ). IsLastWrite s.events c (suc n) (last_write s.events c k)) z (sources_last s.events c (suc n) (omega arith))
 
-pub shows_value : (s : Story) → IsOrderly s → (c n : ℕ) (v : ℤ) → HasValue s c n v → Shows s (λ q. q < suc n) c (word v)
+pub shows_value : (s : EventOrder) → IsOrderly s → (c n : ℕ) (v : ℤ) → HasValue s c n v → Shows s (λ q. q < suc n) c (word v)
 shows_value s law c n v h = by (last_write s.events c n) refl
   where
     by : (m : ℕ) → last_write s.events c n ≡ m → Shows s (λ q. q < suc n) c (word v)
@@ -49,7 +49,7 @@ shows_value s law c n v h = by (last_write s.events c n) refl
       λ r w lt is. dite (dec_le r (suc k)) (λ (le : r ≤ suc k). le) (λ no. absurd ((last_is s c n).last r (omega (arith, e)) lt (writes_at s r c w is))),
     )
 
-pub reads_shows : (s : Story) → IsOrderly s → HasValues s → (p c n : ℕ) → IsFollowed s p → what s p ≡ read c n → Shows s (λ q. q < p) c n
+pub reads_shows : (s : EventOrder) → IsOrderly s → HasValues s → (p c n : ℕ) → IsFollowed s p → what s p ≡ read c n → Shows s (λ q. q < p) c n
 reads_shows s law values p c n up is =
     let r = read_event s.events p (event_at s.events p) (after s p) c n is in
     let low = (law.inside p (word_of_read (what s p) c n is)).0 in
@@ -62,7 +62,7 @@ write_from (Some (events.Write d v)) c h = (v, ap (λ (x : ℕ). Some (events.Wr
 write_from o c h = absurd h
 
 -- each cell has a value, and that is a word
-valued : (s : Story) → HasValues s → (c n : ℕ) → (v : ℤ) × HasValue s c n v × FitsSigned w64 v
+valued : (s : EventOrder) → HasValues s → (c n : ℕ) → (v : ℤ) × HasValue s c n v × FitsSigned w64 v
 valued s values c n = by (last_write s.events c n) refl
   where
     by : (m : ℕ) → last_write s.events c n ≡ m → (v : ℤ) × HasValue s c n v × FitsSigned w64 v
@@ -88,7 +88,7 @@ valued s values c n = by (last_write s.events c n) refl
 pub read_back : (v : ℤ) (n : ℕ) → FitsSigned w64 v → word v ≡ n → cast_signed w64 n ≡ v
 read_back v n fits e = ap (cast_signed w64) (sym e) ∙ to_z-of_z w64 v fits
 
-pub final_value : (s : Story) → IsOrderly s → HasValues s → (c n : ℕ) → Shows s (λ q. Unit {0}) c n → HasValue s c (length s.events) (cast_signed w64 n)
+pub final_value : (s : EventOrder) → IsOrderly s → HasValues s → (c n : ℕ) → Shows s (λ q. Unit {0}) c n → HasValue s c (length s.events) (cast_signed w64 n)
 final_value s law values c n shows =
     let x = valued s values c (length s.events) in
     let all : Shows s (λ q. Unit {0}) c (word x.0) = shows_along s (λ q. q < suc (length s.events)) (λ q. Unit {0}) c (word x.0)

@@ -6,13 +6,13 @@ use Rattle.cilk_types.specs.declared.event.Instance.{Instance}
 use Rattle.cilk_monoid.specs.Ranges.{Mentions, Resets}
 use Rattle.cilk_tree.specs.Planned.{planned}
 use Rattle.cilk_tree.specs.Reach.{Among, direct, through}
-use Rattle.cilk_tree.specs.declared.story.Story.{Story}
+use Rattle.cilk_tree.specs.declared.event_order.EventOrder.{EventOrder}
 use Rattle.cilk_tree.specs.Word.{after, event, what, Before, plain, spawn, word_event}
 use Rattle.cilk_shared.specs.Reducers.{events_at, frame_in, of_event}
 use Rattle.cilk_shared.specs.Settled.{Settles}
 use Rattle.cilk_shared.specs.Worked.{two_updates, one_sum, TwoUpdatesAreSettled}
 
-abbrev s : Story
+abbrev s : EventOrder
 s = planned two_updates []
 
 -- nothing stands past the last position

@@ -4,16 +4,16 @@ use Rattle.cilk_types.specs.declared.event.Event.TheVariants.{Value}
 use Rattle.cilk_types.specs.declared.event.Instance.{Instance}
 use Rattle.cilk_monoid.specs.Kinds.{structure_of}
 use Rattle.cilk_monoid.specs.Ranges.{view_of}
-use Rattle.cilk_tree.specs.declared.story.Story.{Story}
+use Rattle.cilk_tree.specs.declared.event_order.EventOrder.{EventOrder}
 use Rattle.cilk_tree.specs.Runs.{IsFollowed}
 use Rattle.cilk_tree.specs.Word.{event}
 use Rattle.cilk_shared.specs.declared.reducers.Reducers.{Reducers}
 use Rattle.cilk_shared.specs.Reducers.{events_over, kind_in}
 
 -- the value at a position is the number of its reducer's view over the events ahead of it
-abbrev pub IsNumberAt : Story → Reducers → ℕ → Instance → ℤ → Type 0
+abbrev pub IsNumberAt : EventOrder → Reducers → ℕ → Instance → ℤ → Type 0
 IsNumberAt s r p i v = v ≡ (structure_of (kind_in r i)).number (view_of (structure_of (kind_in r i)) i (events_over s r 1 p))
 
 -- so it is where the run follows its story
-abbrev pub HasNumbers : Story → Reducers → Type 0
+abbrev pub HasNumbers : EventOrder → Reducers → Type 0
 HasNumbers s r = (p : ℕ) (i : Instance) (v : ℤ) → IsFollowed s p → event s p ≡ Some (Value i v) → IsNumberAt s r p i v

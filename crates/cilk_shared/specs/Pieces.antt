@@ -11,7 +11,7 @@ use Rattle.cilk_shared.specs.Rule.{IsStart, Whole}
 use Rattle.cilk_shared.specs.Values.{YardValue, SegmentValue, OfYard, moved_on, taken_at, empty_beside, both_of, Adjoin, CanPass}
 use Rattle.cilk_shared.specs.declared.taken.Taken.{Taken}
 use Rattle.cilk_shared.specs.declared.taken.Taken.TheVariants.{Yes, No}
-use Rattle.cilk_tree.specs.declared.story.Story.{Story}
+use Rattle.cilk_tree.specs.declared.event_order.EventOrder.{EventOrder}
 use Rattle.cilk_tree.specs.Word.{event, what, resume}
 use Rattle.cilk_shared.specs.declared.reducers.Reducers.{Reducers}
 use Rattle.cilk_shared.specs.Reducers.{kind_in, events_over}
@@ -20,7 +20,7 @@ use Rattle.cilk_shared.specs.Settled.{AreSettled}
 -- a segment, and the reducers of its run
 pub record PieceValue : Type 0 where
   pub of : TableId
-  pub story : Story
+  pub story : EventOrder
   pub reducers : Reducers
   pub from : ℕ
   pub upto : ℕ

@@ -10,7 +10,7 @@ use Rattle.cilk_monoid.specs.Ranges.{ReducerEvent, Created, Updated, SetTo, Reti
 use Rattle.cilk_hypermap.specs.declared.hypermap.Hypermap.{Hypermap}
 use Rattle.cilk_hypermap.specs.Hypermap.{value_in}
 use Rattle.cilk_hypermap.specs.Views.{output}
-use Rattle.cilk_tree.specs.declared.story.Story.{Story}
+use Rattle.cilk_tree.specs.declared.event_order.EventOrder.{EventOrder}
 use Rattle.cilk_tree.specs.Word.{event}
 use Rattle.cilk_shared.specs.declared.reducers.FrameReducers.{FrameReducers}
 use Rattle.cilk_shared.specs.declared.reducers.Reducers.{Reducers}
@@ -66,14 +66,14 @@ of_event r f (Some events.End) = retired f (own r f)
 of_event r f _ = []
 
 -- of the event at a position
-abbrev pub events_at : Story → Reducers → ℕ → List ReducerEvent
+abbrev pub events_at : EventOrder → Reducers → ℕ → List ReducerEvent
 events_at s r p = of_event r (frame_in s.events p) (event s p)
 
 -- of the n events from a on
-unfoldable pub events_from : Story → Reducers → ℕ → ℕ → List ReducerEvent
+unfoldable pub events_from : EventOrder → Reducers → ℕ → ℕ → List ReducerEvent
 events_from s r a zero = []
 events_from s r a (suc n) = events_from s r a n ++ events_at s r (a + n)
 
 -- of the events from a up to b, b itself not among them
-abbrev pub events_over : Story → Reducers → ℕ → ℕ → List ReducerEvent
+abbrev pub events_over : EventOrder → Reducers → ℕ → ℕ → List ReducerEvent
 events_over s r a b = events_from s r a (b - a)

@@ -4,12 +4,12 @@ use mathlib.Core.Option.{some}
 use lib.ListN.{get_elem?}
 use Rattle.atomic_table.specs.Table.{State, Me, Step}
 use Rattle.cilk_tree.specs.Reach.{Among}
-use Rattle.cilk_tree.specs.declared.story.Story.{Story}
+use Rattle.cilk_tree.specs.declared.event_order.EventOrder.{EventOrder}
 use Rattle.cilk_tree.specs.Word.{read, write, spawn, resume, finish, word, what, after, Before, IsWord}
 use Rattle.cilk_tree.specs.Runs.{IsFollowed}
 use Rattle.cilk_shared.specs.declared.view.View.{View}
 
-abbrev pub view : Story → ℕ → ℕ → View
+abbrev pub view : EventOrder → ℕ → ℕ → View
 view s a b = record { story = s; from = a; upto = b }
 
 abbrev pub In : View → ℕ → Type 0
@@ -20,58 +20,58 @@ abbrev pub Done : List View → ℕ → Type 0
 Done views p = (i : ℕ) × (v : View) × (get_elem? views i ≡ some v) × In v p
 
 -- where a range may begin
-abbrev pub IsStart : Story → ℕ → Type 0
+abbrev pub IsStart : EventOrder → ℕ → Type 0
 IsStart s p = (1 ≤ p) × ((p ≡ 1) ⊎ ((q : ℕ) × (what s p ≡ resume q)))
 
-abbrev pub cells : Story → ℕ
+abbrev pub cells : EventOrder → ℕ
 cells s = length s.opening
 
 -- the cell's word after the events of D is n: that of the last write among them, or of the opening value
-abbrev pub Shows : Story → (ℕ → Type 0) → ℕ → ℕ → Type 0
+abbrev pub Shows : EventOrder → (ℕ → Type 0) → ℕ → ℕ → Type 0
 Shows s D c n =
     ((n ≡ word (slice_index_or s.opening c (pos 0))) × ((q v : ℕ) → D q → what s q ≡ write c v → ⊥))
     ⊎ ((q : ℕ) × D q × (what s q ≡ write c n) × ((r v : ℕ) → D r → what s r ≡ write c v → r ≤ q))
 
 -- The word of the continuation after the spawn at p, once the events of D are done: 0 before the spawn, 1 after it, 2 once the
 -- continuation was resumed.
-abbrev pub Cont : Story → (ℕ → Type 0) → ℕ → ℕ → Type 0
+abbrev pub Cont : EventOrder → (ℕ → Type 0) → ℕ → ℕ → Type 0
 Cont s D p n =
     ((n ≡ 0) × (D p → ⊥))
     ⊎ ((n ≡ 1) × D p × ((r : ℕ) → what s r ≡ resume p → D r → ⊥))
     ⊎ ((n ≡ 2) × D p × ((r : ℕ) → what s r ≡ resume p → D r))
 
 -- the word of the run's end: 1 once the root's `end` is done
-abbrev pub Over : Story → (ℕ → Type 0) → ℕ → Type 0
+abbrev pub Over : EventOrder → (ℕ → Type 0) → ℕ → Type 0
 Over s D n = ((n ≡ 0) × ((q : ℕ) → what s q ≡ finish → D q → ⊥)) ⊎ ((n ≡ 1) × ((q : ℕ) → what s q ≡ finish → D q))
 
 -- What the words say of the events of D: first a word for each cell, then the word of the end, then one for each position.
-pub record Told (s : Story) (D : ℕ → Type 0) (words : List ℕ) : Type 0 where
+pub record Told (s : EventOrder) (D : ℕ → Type 0) (words : List ℕ) : Type 0 where
   pub wide : length words ≡ cells s + (length s.events + 1)
   pub each_cell : (c : ℕ) → c < cells s → Shows s D c (slice_index words c)
   pub over : Over s D (slice_index words (cells s))
   pub each_spawn : (p : ℕ) → what s p ≡ spawn → Cont s D p (slice_index words (cells s + p))
 
 -- what the views are
-pub record Parted (s : Story) (views : List View) : Type 0 where
+pub record Parted (s : EventOrder) (views : List View) : Type 0 where
   pub begins : (i : ℕ) (v : View) → get_elem? views i ≡ some v → v.from < v.upto → IsStart s v.from
   pub apart : (i j : ℕ) (v w : View) (p : ℕ) → get_elem? views i ≡ some v → get_elem? views j ≡ some w → In v p → In w p → i ≡ j
 
 -- each step on a word that comes before a done one is done
-abbrev pub IsCut : Story → (ℕ → Type 0) → Type 0
+abbrev pub IsCut : EventOrder → (ℕ → Type 0) → Type 0
 IsCut s D = (p q : ℕ) → D p → IsWord (what s p) → IsWord (what s q) → Before s q p → D q
 
 -- each step on a word that is done, and what comes before it, is what the frames ask for
-abbrev pub HasReached : Story → (ℕ → Type 0) → Type 0
+abbrev pub HasReached : EventOrder → (ℕ → Type 0) → Type 0
 HasReached s D = (k : ℕ) → IsWord (what s k) → D k → IsFollowed s k
 
-pub record Kept (s : Story) (t : State (Unit {0}) View) : Type 0 where
+pub record Kept (s : EventOrder) (t : State (Unit {0}) View) : Type 0 where
   pub parted : Parted s t.views
   pub cut : IsCut s (Done t.views)
   pub told : Told s (Done t.views) t.words
   pub reached : HasReached s (Done t.views)
 
 -- p is the first step on a word from a on
-abbrev pub IsNext : Story → ℕ → ℕ → Type 0
+abbrev pub IsNext : EventOrder → ℕ → ℕ → Type 0
 IsNext s a p = (a ≤ p) × IsWord (what s p) × ((q : ℕ) → a ≤ q → q < p → IsWord (what s q) → ⊥)
 
 abbrev Sat : Type 0
@@ -95,11 +95,11 @@ abbrev pub ends : Step (Unit {0}) → Sat → ℕ → Sat → Type 0
 ends st m n m' = (m' ≡ m) × (n ≡ 1 → IsFollowed m.0.story (length m.0.story.events))
 
 -- each event of the range comes right after events of the range, or is the resumption after a spawn
-abbrev pub Whole : Story → ℕ → ℕ → Type 0
+abbrev pub Whole : EventOrder → ℕ → ℕ → Type 0
 Whole s a b = (x : ℕ) → a ≤ x → x < b → ((q : ℕ) × (what s x ≡ resume q)) ⊎ ((e : ℕ) → Among e (after s x) → a ≤ e)
 
 -- a segment from a up to b, whose seat has the view v
-pub record Sits (s : Story) (v : View) (a b : ℕ) : Type 0 where
+pub record Sits (s : EventOrder) (v : View) (a b : ℕ) : Type 0 where
   pub story : v.story ≡ s
   pub empty : b ≤ a → v.upto ≤ v.from
   pub from : a < b → (v.from ≡ a) × (a < v.upto) × (v.upto ≤ b)

@@ -3,7 +3,7 @@ use Rattle.std.specs.Prelude.{◌≡◌, ◌≢◌, ℕ, ◌+◌, ◌<◌, ◌�
 use Rattle.atomic_table.specs.Seated.{TableId}
 use Rattle.cilk_types.specs.declared.event.Event.TheVariants.{Read, Write}
 use Rattle.cilk_tree.specs.Reach.{Among}
-use Rattle.cilk_tree.specs.declared.story.Story.{Story}
+use Rattle.cilk_tree.specs.declared.event_order.EventOrder.{EventOrder}
 use Rattle.cilk_tree.specs.Word.{event, what, after, plain, spawn, resume, finish}
 use Rattle.cilk_tree.specs.Runs.{IsAsked}
 use Rattle.cilk_shared.specs.declared.taken.Taken.{Taken}
@@ -12,12 +12,12 @@ use Rattle.cilk_shared.specs.Rows.{spanned}
 
 pub record YardValue : Type 0 where
   pub of : TableId
-  pub story : Story
+  pub story : EventOrder
 
 -- the events from `from` up to `upto` are done
 pub record SegmentValue : Type 0 where
   pub of : TableId
-  pub story : Story
+  pub story : EventOrder
   pub from : ℕ
   pub upto : ℕ
 

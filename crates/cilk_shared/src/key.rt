@@ -2,28 +2,28 @@
 
 ghost use Rattle.std.specs.Prelude.{◌≡◌, ℤ, List};
 ghost use Rattle.std.specs.Borrow.{ftrue};
-ghost use Rattle.cilk_tree.specs.declared.story.Story.{Story};
+ghost use Rattle.cilk_tree.specs.declared.event_order.EventOrder.{EventOrder};
 
 use cilk_types::input::Input;
 use std::marker::Model;
 
 /// A yard's story. It takes no bytes.
 #[derive(Drop)]
-pub struct StoryKey {
-    pub ghost story: { Story },
+pub struct EventOrderKey {
+    pub ghost story: { EventOrder },
 }
 
-impl Model for StoryKey {
+impl Model for EventOrderKey {
     ghost also_owns = { λ _. ftrue };
 }
 
-impl StoryKey {
+impl EventOrderKey {
     /// The story of the run on this input, where each input has one.
-    pub(crate) fn of(input: &Input) -> StoryKey
-        ghost along: { List ℤ → Story }
+    pub(crate) fn of(input: &Input) -> EventOrderKey
+        ghost along: { List ℤ → EventOrder }
         ensures { result.story ≡ along input.now }
     {
         let _ = input;
-        StoryKey {}
+        EventOrderKey {}
     }
 }

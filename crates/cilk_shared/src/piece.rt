@@ -12,11 +12,11 @@ ghost use Rattle.cilk_shared.specs.Reducers.{HasFew, events_at, events_over, kin
 ghost use Rattle.cilk_shared.specs.Settled.{AreSettled};
 
 use crate::reducers::Reducers;
+use crate::taken::Taken;
 use crate::views::retire_own;
+use crate::yard::{Segment, Yard};
 use cilk_hypermap::hypermap::Hypermap;
 use cilk_monoid::kind::MonoidKind;
-use crate::taken::Taken;
-use crate::yard::{Segment, Yard};
 use cilk_types::event::{Cell, FrameNo, Instance, Pos};
 use std::alloc::{AllocError, Global};
 use std::marker::Model;

@@ -2,7 +2,7 @@
 
 ghost use Rattle.std.specs.Prelude.{◌≡◌, ◌↔◌, ℕ, ◌+◌, ◌<◌, ◌≤◌, ℤ, List, Option, Some, None, length, slice_index_or, cond, nat_lt, IfErr, IfOk, IsTrue};
 ghost use Rattle.cilk_types.specs.declared.event.Event.TheVariants.{Read};
-ghost use Rattle.cilk_tree.specs.declared.story.Story.{Story};
+ghost use Rattle.cilk_tree.specs.declared.event_order.EventOrder.{EventOrder};
 ghost use Rattle.cilk_tree.specs.Orders.{IsOrderly};
 ghost use Rattle.cilk_tree.specs.Values.{HasValues, AreFinal};
 ghost use Rattle.cilk_tree.specs.Runs.{IsFollowed};
@@ -11,7 +11,7 @@ ghost use Rattle.cilk_tree.specs.Along.{IsAlong};
 ghost use Rattle.cilk_tree.specs.Resumptions.{AreResumptions};
 ghost use Rattle.cilk_shared.specs.Rows.{spanned};
 
-use crate::key::StoryKey;
+use crate::key::EventOrderKey;
 use crate::taken::Taken;
 use crate::view::View;
 use crate::words::last_values;
@@ -24,7 +24,7 @@ use std::marker::Model;
 
 struct Words;
 
-impl TableRule<(), View, StoryKey> for Words {
+impl TableRule<(), View, EventOrderKey> for Words {
     ghost use Rattle.cilk_shared.specs.Rule.{view, Kept};
 
     ghost holds = { λ k t. Kept k.story t };
@@ -84,7 +84,7 @@ impl Join<View> for Halves {
 
 /// The words of a run, shared by its threads. To a contract it is the run's story, and which yard it is.
 pub struct Yard {
-    table: Table<(), View, StoryKey, Words, Global>,
+    table: Table<(), View, EventOrderKey, Words, Global>,
     cells: usize,
     resumptions: Vec<Pos>,
 }
@@ -140,7 +140,7 @@ impl Yard {
     /// The words of a run along the plan on this input, and the segment of its first event. `along` says what runs on each input make
     /// of the plan: on the input of the plan's own run it is the plan.
     pub fn new(alloc: Global, plan: &Plan, input: &Input) -> Result<(Yard, Segment), AllocError>
-        ghost along: { List ℤ → Story }
+        ghost along: { List ℤ → EventOrder }
         requires plan { IsAlong plan.now (along input.now) }
         requires values { HasValues (along input.now) }
         ensures story { IfOk result (λ r. r.0.story ≡ along input.now) }
@@ -157,7 +157,7 @@ impl Yard {
         input: &Input,
         column: Vec<Pos>,
     ) -> Result<(Yard, Segment), AllocError>
-        ghost along: { List ℤ → Story }
+        ghost along: { List ℤ → EventOrder }
         requires plan { IsAlong plan.now (along input.now) }
         requires values { HasValues (along input.now) }
         requires column { AreResumptions plan.now column.items }
@@ -166,7 +166,7 @@ impl Yard {
     {
         plan.laws();
         let cells = plan.opening().len();
-        let key = StoryKey::of(input);
+        let key = EventOrderKey::of(input);
         let (table, seat) = Table::of_words(alloc, plan.first_words(), &key)?;
         let yard = Yard {
             table,

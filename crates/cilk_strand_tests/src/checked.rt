@@ -10,8 +10,8 @@ use cilk_checker::accepted::Accepted;
 use cilk_checker::refusal::{Fields, Refusal, Unaccepted};
 use cilk_checker::source::{PullFault, Source};
 use cilk_checker::texts::{check, check_from};
-use cilk_names::fault::NameNumber;
-use cilk_parser::fault::TextNumber;
+use cilk_names::fault::NameErrorKind;
+use cilk_parser::fault::SyntaxErrorKind;
 use std::alloc::Global;
 use std::process::Abort;
 use std::test::Fail;
@@ -153,15 +153,15 @@ fn nothing_is_pulled_behind_a_certain_fault(rt: HostRuntime) {
 // What is shown of each refusal.
 const MESSAGES: [(Refusal, &str); 16] = [
     (
-        Refusal::Program(TextNumber::BadToken, 3),
+        Refusal::Program(SyntaxErrorKind::BadToken, 3),
         "no token in the program at byte 3",
     ),
     (
-        Refusal::Name(NameNumber::Unknown, 18),
+        Refusal::Name(NameErrorKind::Unknown, 18),
         "an unknown name in the program at byte 18",
     ),
     (
-        Refusal::Input(TextNumber::BadNumber, 2),
+        Refusal::Input(SyntaxErrorKind::BadNumber, 2),
         "no number of the input in the input at byte 2",
     ),
     (

@@ -14,45 +14,31 @@
 
 #[cfg(test)]
 mod agreement;
-
 #[cfg(test)]
 mod brute_force;
-
 #[cfg(test)]
 mod certified;
-
 #[cfg(test)]
 mod checked;
-
 #[cfg(test)]
 mod listed;
-
 #[cfg(test)]
 mod pieces;
-
 #[cfg(test)]
 mod plans;
-
 #[cfg(test)]
 mod programs;
-
 #[cfg(test)]
 mod random_traces;
-
 #[cfg(test)]
 mod rows;
-
 #[cfg(test)]
 mod runs;
-
 #[cfg(test)]
 mod settled;
-
 #[cfg(test)]
 mod texts;
-
 #[cfg(test)]
 mod worked;
-
 #[cfg(test)]
 mod yards;

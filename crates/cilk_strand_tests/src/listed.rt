@@ -1,12 +1,12 @@
 //! What a certificate lists of a run, and what a text is judged to be.
 
 use crate::programs::run_of;
+use cilk_cert_maker::columns::columns;
 use cilk_cert_text::line::Frame;
 use cilk_checker::fault::ProgramFault;
 use cilk_checker::judge::program;
-use cilk_cert_maker::columns::columns;
-use cilk_names::fault::NameNumber;
-use cilk_parser::fault::TextNumber;
+use cilk_names::fault::NameErrorKind;
+use cilk_parser::fault::SyntaxErrorKind;
 use std::test::Fail;
 
 #[test]
@@ -35,7 +35,7 @@ fn texts_are_judged(rt: HostRuntime) {
     assert!(rt;
         matches!(
             misspelled,
-            Err(ProgramFault::Text(TextNumber::Unexpected, 22))
+            Err(ProgramFault::Text(SyntaxErrorKind::Unexpected, 22))
         )
     );
     let misnamed = program(rt.alloc(), b"int main() { return x; }");
@@ -48,11 +48,11 @@ fn program_faults_show_their_place(rt: HostRuntime) -> Result<(), Fail> {
     let cases = [
         (ProgramFault::Memory, "no memory"),
         (
-            ProgramFault::Text(TextNumber::BadToken, 3),
+            ProgramFault::Text(SyntaxErrorKind::BadToken, 3),
             "no token at byte 3",
         ),
         (
-            ProgramFault::Name(NameNumber::Unknown, 20),
+            ProgramFault::Name(NameErrorKind::Unknown, 20),
             "an unknown name at byte 20",
         ),
     ];

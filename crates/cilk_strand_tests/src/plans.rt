@@ -2,11 +2,11 @@
 
 use crate::texts::{GETS, PUTS, TURNS, accepted};
 use cilk_checker::accepted::Accepted;
+use cilk_plan::program_plan::{ProgramPlan, plan};
+use cilk_program::program::Body;
 use cilk_tree::blocks::Continuation;
 use cilk_tree::kind::{Asked, Kind};
 use cilk_tree::plan::Plan;
-use cilk_plan::program_plan::{ProgramPlan, plan};
-use cilk_program::program::Body;
 use cilk_types::event::{Cell, FrameNo, Instance, Pos};
 use std::alloc::Global;
 use std::process::Abort;

@@ -1,9 +1,9 @@
 //! Where runs on other inputs depart from the plan of a run: at the first event that is of another kind, or that a fault replaces.
 
 use crate::texts::{SQUARES, TURNS, input_of, program_of};
-use cilk_tree::kind::without_value;
 use cilk_serial::fault::RunFault;
 use cilk_serial::run::run;
+use cilk_tree::kind::without_value;
 use cilk_types::event::{Event, Pos};
 use cilk_types::trace::Trace;
 use std::alloc::Global;

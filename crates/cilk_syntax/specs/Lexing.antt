@@ -7,8 +7,8 @@ use Rattle.cilk_syntax.specs.declared.lexer.Class.{Class}
 use Rattle.cilk_syntax.specs.declared.lexer.Class.TheVariants as classes
 use Rattle.cilk_syntax.specs.Gaps.{Gap}
 use Rattle.cilk_syntax.specs.Gaps as gaps
-use Rattle.cilk_syntax.specs.declared.lexer.Bad.{Bad}
-use Rattle.cilk_syntax.specs.declared.lexer.Bad.TheVariants as bads
+use Rattle.cilk_syntax.specs.declared.lexer.LexErrorKind.{LexErrorKind}
+use Rattle.cilk_syntax.specs.declared.lexer.LexErrorKind.TheVariants as bads
 use Rattle.cilk_syntax.specs.Kinds.{is_reserved, is_mark, spelling}
 
 -- space, and tab to carriage return
@@ -124,7 +124,7 @@ BeginsNone b tail =
     (is_blank b ≡ false) × (belongs classes.Word b ≡ false) × (b ≢ 35) × ((k : Kind) (rest : List ℕ) → is_mark k ≡ true → b ∷ tail ≢ spelling k ++ rest)
 
 -- Why neither a token nor anything that is skipped begins here.
-abbrev pub IsBad : Bool → Bad → List ℕ → Type 0
+abbrev pub IsBad : Bool → LexErrorKind → List ℕ → Type 0
 IsBad fresh bads.NotAscii bytes = (b : ℕ) × (tail : List ℕ) × (bytes ≡ b ∷ tail) × (127 < b)
 IsBad fresh bads.Unclosed bytes = (tail : List ℕ) × (bytes ≡ 47 ∷ 42 ∷ tail) × (after_close tail ≡ None)
 IsBad fresh bads.Directive bytes =
@@ -142,13 +142,13 @@ pub data Lexes (total : ℕ) : Bool → List ℕ → List Token → Type 0 where
   Found : {fresh : Bool} {bytes rest : List ℕ} {ts : List Token} (t : Token) → Spells t.kind bytes rest → t.at + length bytes ≡ total → t.end + length rest ≡ total → Lexes total false rest ts → Lexes total fresh bytes (t ∷ ts)
 
 -- All before the place is cut, and here it can't go on.
-pub data Faults (total : ℕ) : Bool → List ℕ → Bad → ℕ → Type 0 where
-  Here : {fresh : Bool} {bytes : List ℕ} {bad : Bad} {place : ℕ} → IsBad fresh bad bytes → place + length bytes ≡ total → Faults total fresh bytes bad place
-  Behind : {fresh fresh' : Bool} {bytes rest : List ℕ} {bad : Bad} {place : ℕ} (gap : Gap) → Passes gap fresh bytes fresh' rest → Faults total fresh' rest bad place → Faults total fresh bytes bad place
-  Beyond : {fresh : Bool} {bytes rest : List ℕ} {bad : Bad} {place : ℕ} (kind : Kind) → Spells kind bytes rest → Faults total false rest bad place → Faults total fresh bytes bad place
+pub data Faults (total : ℕ) : Bool → List ℕ → LexErrorKind → ℕ → Type 0 where
+  Here : {fresh : Bool} {bytes : List ℕ} {bad : LexErrorKind} {place : ℕ} → IsBad fresh bad bytes → place + length bytes ≡ total → Faults total fresh bytes bad place
+  Behind : {fresh fresh' : Bool} {bytes rest : List ℕ} {bad : LexErrorKind} {place : ℕ} (gap : Gap) → Passes gap fresh bytes fresh' rest → Faults total fresh' rest bad place → Faults total fresh bytes bad place
+  Beyond : {fresh : Bool} {bytes rest : List ℕ} {bad : LexErrorKind} {place : ℕ} (kind : Kind) → Spells kind bytes rest → Faults total false rest bad place → Faults total fresh bytes bad place
 
 abbrev pub AreTokens : List ℕ → List Token → Type 0
 AreTokens text ts = Lexes (length text) true text ts
 
-abbrev pub IsFirstFault : List ℕ → Bad → ℕ → Type 0
+abbrev pub IsFirstFault : List ℕ → LexErrorKind → ℕ → Type 0
 IsFirstFault text bad place = Faults (length text) true text bad place

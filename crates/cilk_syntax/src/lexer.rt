@@ -1,7 +1,7 @@
 //! From bytes to tokens.
 
 ghost use Rattle.std.specs.Prelude.{◌≡◌, ◌≢◌, ℕ, ◌+◌, ◌<◌, ◌≤◌, Bool, true, false, List, ◌∷◌, IfOk, IfErr, IfSome, IfNone, length, None, Some, pos};
-ghost use Rattle.cilk_syntax.specs.declared.lexer.Bad.TheVariants as bads;
+ghost use Rattle.cilk_syntax.specs.declared.lexer.LexErrorKind.TheVariants as bads;
 ghost use Rattle.cilk_syntax.specs.declared.lexer.Class.TheVariants as classes;
 ghost use Rattle.cilk_syntax.specs.declared.token.Kind.{Kind};
 ghost use Rattle.cilk_syntax.specs.declared.token.Token.{Token};
@@ -28,7 +28,7 @@ pub enum Class {
 
 /// Why a text can't be cut into tokens.
 #[derive(Clone, Copy, Debug, Error)]
-pub enum Bad {
+pub enum LexErrorKind {
     #[error("a byte over 127")]
     NotAscii,
     #[error("an unclosed comment")]
@@ -48,7 +48,7 @@ pub enum Bad {
 enum Front<'a> {
     Skip(bool, &'a [u8]),
     Word(Kind, &'a [u8]),
-    Fault(Bad),
+    Fault(LexErrorKind),
 }
 
 fn is_blank(byte: u8) -> bool
@@ -138,7 +138,7 @@ fn directive(fresh: bool, tail: &[u8]) -> Front<'_>
     if fresh && directs(word) {
         Front::Skip(false, rest)
     } else {
-        Front::Fault(Bad::Directive)
+        Front::Fault(LexErrorKind::Directive)
     }
 }
 
@@ -162,7 +162,7 @@ fn slash(fresh: bool, tail: &[u8]) -> Front<'_>
     if let Some(tail) = strip(b'*', tail) {
         return match after_close(tail) {
             Some(rest) => Front::Skip(false, rest),
-            None => Front::Fault(Bad::Unclosed),
+            None => Front::Fault(LexErrorKind::Unclosed),
         };
     }
     Front::Word(Kind::Slash, tail)
@@ -298,11 +298,11 @@ fn number(fresh: bool, bytes: &[u8]) -> Front<'_>
 {
     let (word, rest) = split(Class::Word, bytes);
     if !is_numeral(word) {
-        return Front::Fault(Bad::Numeral);
+        return Front::Fault(LexErrorKind::Numeral);
     }
     match value_of(word) {
         Some(n) if n <= 9_223_372_036_854_775_807 => Front::Word(Kind::Number(n as i64), rest),
-        _ => Front::Fault(Bad::TooLarge),
+        _ => Front::Fault(LexErrorKind::TooLarge),
     }
 }
 
@@ -365,13 +365,13 @@ fn mark(fresh: bool, first: u8, tail: &[u8]) -> Front<'_>
         },
         b'&' => match strip(b'&', tail) {
             Some(rest) => Front::Word(Kind::And, rest),
-            None => Front::Fault(Bad::NoToken),
+            None => Front::Fault(LexErrorKind::NoToken),
         },
         b'|' => match strip(b'|', tail) {
             Some(rest) => Front::Word(Kind::Or, rest),
-            None => Front::Fault(Bad::NoToken),
+            None => Front::Fault(LexErrorKind::NoToken),
         },
-        _ => Front::Fault(Bad::NoToken),
+        _ => Front::Fault(LexErrorKind::NoToken),
     }
 }
 
@@ -382,7 +382,7 @@ fn piece<'a>(fresh: bool, first: u8, tail: &'a [u8], bytes: &'a [u8]) -> Front<'
     ensures shorter { IsBefore (length bytes.now) result }
 {
     if first > 127 {
-        return Front::Fault(Bad::NotAscii);
+        return Front::Fault(LexErrorKind::NotAscii);
     }
     if is_blank(first) {
         return Front::Skip(fresh || first == 10, tail);
@@ -406,7 +406,7 @@ pub enum LexFault {
     #[error("no memory")]
     Memory,
     #[error("{0} at byte {1}")]
-    At(Bad, usize),
+    At(LexErrorKind, usize),
 }
 
 impl From<AllocError> for LexFault {

@@ -7,8 +7,8 @@ ghost use Rattle.cilk_syntax.specs.Stops.{IsStop, NotFirst};
 ghost use Rattle.cilk_syntax.specs.declared.token.Kind.TheVariants as kinds;
 
 use crate::stop::Stop;
-use crate::tree::Name;
 use crate::token::{Kind, Token};
+use crate::tree::Name;
 
 /// A mark or a reserved word that stands at a fixed place of a form.
 #[derive(Clone, Copy)]

@@ -6,8 +6,8 @@ ghost use Rattle.cilk_syntax.specs.Grammar.{Is, level, mark_of};
 ghost use Rattle.cilk_syntax.specs.Limits.{is_many};
 ghost use Rattle.cilk_syntax.specs.Stops.{NotOfLevel};
 
-use crate::tree::BinaryOperator;
 use crate::token::{Kind, Token};
+use crate::tree::BinaryOperator;
 
 /// The operator that a mark stands for.
 fn operator_of(kind: Kind) -> Option<BinaryOperator>

@@ -5,30 +5,21 @@
 
 #[cfg(test)]
 mod certificates;
-
 #[cfg(test)]
 mod choices;
-
 #[cfg(test)]
 mod disk;
-
 #[cfg(test)]
 mod messages;
-
 #[cfg(test)]
 mod names;
-
 #[cfg(test)]
 mod places;
-
 #[cfg(test)]
 mod reads;
-
 #[cfg(test)]
 mod scripts;
-
 #[cfg(test)]
 mod streams;
-
 #[cfg(test)]
 mod texts;

@@ -1,12 +1,12 @@
 //! What faults show of themselves, and their numbers.
 
 use cilk_cert_text::fault::CertFault;
-use cilk_syntax::lexer::{Bad, LexFault};
-use cilk_names::fault::{NameFault, NameNumber};
+use cilk_commands::files::FileFault;
+use cilk_names::fault::{NameErrorKind, NameFault};
+use cilk_parser::fault::{SyntaxErrorKind, TextFault};
 use cilk_schedule::PlayFault;
 use cilk_serial::fault::RunFault;
-use cilk_parser::fault::{TextFault, TextNumber};
-use cilk_commands::files::FileFault;
+use cilk_syntax::lexer::{LexErrorKind, LexFault};
 use cilk_types::fault::Fault;
 use std::alloc::AllocError;
 
@@ -14,12 +14,12 @@ use std::alloc::AllocError;
 fn faults_of_tokens(rt: HostRuntime) -> Result<(), AllocError> {
     let alloc = rt.alloc();
     let cases = [
-        (Bad::NotAscii, "a byte over 127"),
-        (Bad::Unclosed, "an unclosed comment"),
-        (Bad::Directive, "an unknown `#` line"),
-        (Bad::Numeral, "no number"),
-        (Bad::NoToken, "no token"),
-        (Bad::TooLarge, "a number over 9223372036854775807"),
+        (LexErrorKind::NotAscii, "a byte over 127"),
+        (LexErrorKind::Unclosed, "an unclosed comment"),
+        (LexErrorKind::Directive, "an unknown `#` line"),
+        (LexErrorKind::Numeral, "no number"),
+        (LexErrorKind::NoToken, "no token"),
+        (LexErrorKind::TooLarge, "a number over 9223372036854775807"),
     ];
     for (fault, text) in cases {
         assert_eq!(rt; format!(in alloc; "{fault}")?.as_str(), text);
@@ -38,27 +38,27 @@ fn faults_of_tokens(rt: HostRuntime) -> Result<(), AllocError> {
 fn faults_of_texts(rt: HostRuntime) -> Result<(), AllocError> {
     let alloc = rt.alloc();
     let cases = [
-        (TextNumber::NotAscii, 101, "a byte over 127"),
-        (TextNumber::BadToken, 102, "no token"),
+        (SyntaxErrorKind::NotAscii, 101, "a byte over 127"),
+        (SyntaxErrorKind::BadToken, 102, "no token"),
         (
-            TextNumber::Unexpected,
+            SyntaxErrorKind::Unexpected,
             103,
             "an unexpected token, or the end",
         ),
         (
-            TextNumber::TooDeep,
+            SyntaxErrorKind::TooDeep,
             104,
             "nested too deep, or too many operators",
         ),
         (
-            TextNumber::TooLarge,
+            SyntaxErrorKind::TooLarge,
             105,
             "a number over 9223372036854775807",
         ),
-        (TextNumber::TooLong, 106, "the text is too long"),
-        (TextNumber::BadNumber, 121, "no number of the input"),
+        (SyntaxErrorKind::TooLong, 106, "the text is too long"),
+        (SyntaxErrorKind::BadNumber, 121, "no number of the input"),
         (
-            TextNumber::TooManyNumbers,
+            SyntaxErrorKind::TooManyNumbers,
             122,
             "too many numbers in the input",
         ),
@@ -81,31 +81,35 @@ fn faults_of_texts(rt: HostRuntime) -> Result<(), AllocError> {
 fn faults_of_names(rt: HostRuntime) -> Result<(), AllocError> {
     let alloc = rt.alloc();
     let cases = [
-        (NameNumber::Unknown, 111, "an unknown name"),
+        (NameErrorKind::Unknown, 111, "an unknown name"),
         (
-            NameNumber::DeclaredTwice,
+            NameErrorKind::DeclaredTwice,
             112,
             "a name that is declared twice in a scope",
         ),
-        (NameNumber::WrongCount, 113, "a wrong count of arguments"),
-        (NameNumber::WrongKind, 114, "a name of the wrong kind"),
-        (NameNumber::NoMain, 115, "no `int main` without parameters"),
+        (NameErrorKind::WrongCount, 113, "a wrong count of arguments"),
+        (NameErrorKind::WrongKind, 114, "a name of the wrong kind"),
         (
-            NameNumber::ReturnInLoop,
+            NameErrorKind::NoMain,
+            115,
+            "no `int main` without parameters",
+        ),
+        (
+            NameErrorKind::ReturnInLoop,
             116,
             "a `return` inside a `cilk_for`",
         ),
         (
-            NameNumber::LoopVariable,
+            NameErrorKind::LoopVariable,
             117,
             "a `cilk_for`'s variable that is written",
         ),
         (
-            NameNumber::ReducerNotFirst,
+            NameErrorKind::ReducerNotFirst,
             118,
             "a reducer that isn't first in a function's body",
         ),
-        (NameNumber::OverLimit, 119, "past a limit of a program"),
+        (NameErrorKind::OverLimit, 119, "past a limit of a program"),
     ];
     for (fault, number, text) in cases {
         assert_eq!(rt; fault.number(), number, "{text}");

@@ -1,12 +1,12 @@
 //! Texts by the parser: which are read, and their trees.
 
+use cilk_parser::fault::TextFault;
 use cilk_parser::input::parse_input;
 use cilk_parser::parse::parse;
 use cilk_served::repeats::repeated;
 use cilk_syntax::tree::{
     Assignment, BinaryOperator, Expr, Item, LocalInitializer, Parameter, ReturnType, Stmt,
 };
-use cilk_parser::fault::TextFault;
 use cilk_types::compound::Compound;
 use cilk_types::invocation::Invocation;
 use std::alloc::Global;

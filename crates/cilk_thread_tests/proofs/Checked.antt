@@ -15,7 +15,7 @@ use Rattle.cilk_types.specs.declared.event.Event.TheVariants.{Read, Write}
 use Rattle.cilk_tree.specs.Races.{event_at, Writes}
 use Rattle.cilk_tree.specs.Sources.{last_write}
 use Rattle.cilk_tree.proofs.Sources.{sources_last}
-use Rattle.cilk_tree.specs.declared.story.Story.{Story}
+use Rattle.cilk_tree.specs.declared.event_order.EventOrder.{EventOrder}
 use Rattle.cilk_tree.specs.Word.{event}
 use Rattle.cilk_tree.specs.Values.{HasValue, HasValues}
 use Rattle.cilk_tree.specs.Runs.{IsAsked}
@@ -66,7 +66,7 @@ write_from (Some (Write d v)) c h = ap (λ (x : ℕ). Some (Write x v)) h
 write_from o c h = absurd h
 
 -- what the cell's last write says is its value
-has_value : (s : Story) (c n m : ℕ) (v : ℤ) → last_write s.events c n ≡ m → v ≡ shown s.events s.opening c m → HasValue s c n v
+has_value : (s : EventOrder) (c n m : ℕ) (v : ℤ) → last_write s.events c n ≡ m → v ≡ shown s.events s.opening c m → HasValue s c n v
 has_value s c n zero v last is = record { opened = λ _. is; written = λ q h. absurd (omega (arith, last, h)) }
 has_value s c n (suc k) v last is = record {
   opened = λ h. absurd (omega (arith, last, h));
@@ -85,7 +85,7 @@ has_value s c n (suc k) v last is = record {
     stands : event s (suc k) ≡ Some (Write c v)
     stands = write_from (event s (suc k)) c wrote ∙ ap (λ (x : ℤ). Some (Write c x)) (sym is)
 
-pub right_reads : (s : Story) → each (is_right s.events s.opening) s.events 0 ≡ true → (p c : ℕ) (v : ℤ) → event s p ≡ Some (Read c v) → HasValue s c (p - 1) v
+pub right_reads : (s : EventOrder) → each (is_right s.events s.opening) s.events 0 ≡ true → (p c : ℕ) (v : ℤ) → event s p ≡ Some (Read c v) → HasValue s c (p - 1) v
 right_reads s h p c v is =
     let right : int_eq v (shown s.events s.opening c (last_write s.events c (p - 1))) ≡ true = here (is_right s.events s.opening) s.events p (Read c v) h is in
     has_value s c (p - 1) (last_write s.events c (p - 1)) v refl ((Decides-int_eq v (shown s.events s.opening c (last_write s.events c (p - 1)))).0 right)
@@ -94,7 +94,7 @@ small : (v : ℤ) → is_small v ≡ true → FitsSigned w64 v
 small (pos n) h = let low : n < 2 ^ 62 = ltb-true n (2 ^ 62) h in let less : n < 2 ^ 63 = omega (arith, low) in fits_signed_from_abs w64 (pos n) less
 small (negsuc n) h = absurd (let z : false ≡ true = h in cc z)
 
-pub valued : (s plan : Story) → s.opening ≡ plan.opening → HasValues plan → IsAsked s 1 → each (is_right s.events s.opening) s.events 0 ≡ true → each (λ n. has_word) s.events 0 ≡ true → HasValues s
+pub valued : (s plan : EventOrder) → s.opening ≡ plan.opening → HasValues plan → IsAsked s 1 → each (is_right s.events s.opening) s.events 0 ≡ true → each (λ n. has_word) s.events 0 ≡ true → HasValues s
 valued s plan same values begins right words = record {
   begins = begins;
   reads = λ p c v up is. right_reads s right p c v is;

@@ -4,7 +4,7 @@ use Rattle.cilk_types.specs.declared.invocation.Invocation.TheVariants.{Call, Sp
 use Rattle.cilk_tree.specs.Shape.{Shape, finish, act, sync, child}
 use Rattle.cilk_tree.specs.Tree.{tree}
 use Rattle.cilk_tree.specs.Races.{HasNoRace}
-use Rattle.cilk_tree.specs.declared.story.Story.{Story}
+use Rattle.cilk_tree.specs.declared.event_order.EventOrder.{EventOrder}
 use Rattle.cilk_tree.specs.Values.{HasValues}
 use Rattle.cilk_tree.specs.Along.{IsAlong}
 use Rattle.cilk_runs.specs.Tested.{none}
@@ -53,8 +53,8 @@ turns_have_plan = record {
 }
 
 -- ---- on other inputs
-pub squares_along : (plan : Story) (xs : List ℤ) → plan ≡ squares_plan → (xs ≡ four) ⊎ (xs ≡ three) → HasValues plan → IsAlong plan (squares_on xs) × HasValues (squares_on xs)
-squares_along plan xs own some values = subst (λ (z : Story). IsAlong z (squares_on xs) × HasValues (squares_on xs)) (sym own) (by some)
+pub squares_along : (plan : EventOrder) (xs : List ℤ) → plan ≡ squares_plan → (xs ≡ four) ⊎ (xs ≡ three) → HasValues plan → IsAlong plan (squares_on xs) × HasValues (squares_on xs)
+squares_along plan xs own some values = subst (λ (z : EventOrder). IsAlong z (squares_on xs) × HasValues (squares_on xs)) (sym own) (by some)
   where
     of_plan : HasValues squares_plan
     of_plan = subst HasValues own values
@@ -65,8 +65,8 @@ squares_along plan xs own some values = subst (λ (z : Story). IsAlong z (square
     by (inr e) = subst (λ (ys : List ℤ). IsAlong squares_plan (squares_on ys) × HasValues (squares_on ys)) (sym e)
         (record { kinds = refl; preceding = refl; opening = refl }, valued (squares_on three) squares_plan refl of_plan refl refl refl)
 
-pub turns_along : (plan : Story) (xs : List ℤ) → plan ≡ turns_plan → (xs ≡ pos 0 ∷ []) ⊎ (xs ≡ pos 7 ∷ []) → HasValues plan → IsAlong plan (turns_on xs) × HasValues (turns_on xs)
-turns_along plan xs own some values = subst (λ (z : Story). IsAlong z (turns_on xs) × HasValues (turns_on xs)) (sym own) (by some)
+pub turns_along : (plan : EventOrder) (xs : List ℤ) → plan ≡ turns_plan → (xs ≡ pos 0 ∷ []) ⊎ (xs ≡ pos 7 ∷ []) → HasValues plan → IsAlong plan (turns_on xs) × HasValues (turns_on xs)
+turns_along plan xs own some values = subst (λ (z : EventOrder). IsAlong z (turns_on xs) × HasValues (turns_on xs)) (sym own) (by some)
   where
     of_plan : HasValues turns_plan
     of_plan = subst HasValues own values

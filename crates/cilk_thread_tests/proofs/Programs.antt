@@ -1,9 +1,9 @@
 -- The worked stories, computed: `stories_are_of_programs`.
 use Rattle.std.proofs.Common.{refl}
 use Rattle.std.specs.Int.{int_wrap}
-use Rattle.cilk_thread_tests.specs.Programs.{StoriesAreOfPrograms}
+use Rattle.cilk_thread_tests.specs.Programs.{EventOrdersAreOfPrograms}
 
-pub stories_are_of_programs : StoriesAreOfPrograms
+pub stories_are_of_programs : EventOrdersAreOfPrograms
 unfolding int_wrap
 stories_are_of_programs = record {
   squares_own = refl;

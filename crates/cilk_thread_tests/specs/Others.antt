@@ -4,7 +4,7 @@
 use Rattle.std.specs.Prelude.{ℕ, zero, suc, ℤ, pos, ◌*ℤ◌, Bool, true, false, List, [], ◌∷◌, ◌++◌, replicate}
 use Rattle.cilk_types.specs.declared.event.Event.{Event}
 use Rattle.cilk_types.specs.declared.event.Event.TheVariants.{Begin, Call, Spawn, Resume, Sync, End, Read, Write}
-use Rattle.cilk_tree.specs.declared.story.Story.{Story}
+use Rattle.cilk_tree.specs.declared.event_order.EventOrder.{EventOrder}
 use Rattle.cilk_tree.specs.Passes.{predecessors_in}
 use Rattle.cilk_tree.specs.Planned.{planned, HasPlan}
 
@@ -37,10 +37,10 @@ abbrev pub but_for : ℕ → ℕ → ℕ → List Bool
 but_for n m k = (replicate n true ++ replicate m false) ++ replicate k true
 
 -- what a run makes of the plan of these events: with the values of those, and it asks for these
-abbrev pub made_of : List Bool → List Event → List Event → List ℤ → Story
+abbrev pub made_of : List Bool → List Event → List Event → List ℤ → EventOrder
 made_of asked es values opening = record { events = values; preceding = predecessors_in es; opening = opening; asked = asked }
 
-abbrev pub squares_plan : Story
+abbrev pub squares_plan : EventOrder
 squares_plan = planned (squares (pos 1) (pos 4) (pos 9) (pos 16)) squares_opening
 
 abbrev pub four : List ℤ
@@ -51,17 +51,17 @@ three = pos 5 ∷ pos 6 ∷ pos 7 ∷ []
 
 -- The first program's runs along its plan on four numbers, and on three, where it has no fourth one to square: the frame of that turn asks for
 -- none of its last events, and the cell keeps the plan's value.
-abbrev pub squares_on : List ℤ → Story
+abbrev pub squares_on : List ℤ → EventOrder
 squares_on (a ∷ b ∷ c ∷ d ∷ xs) = made_of (but_for 60 0 0) (squares (pos 1) (pos 4) (pos 9) (pos 16)) (squares (a *ℤ a) (b *ℤ b) (c *ℤ c) (d *ℤ d)) squares_opening
 squares_on (a ∷ b ∷ c ∷ []) = made_of (but_for 45 4 11) (squares (pos 1) (pos 4) (pos 9) (pos 16)) (squares (a *ℤ a) (b *ℤ b) (c *ℤ c) (pos 16)) squares_opening
 squares_on _ = squares_plan
 
-abbrev pub turns_plan : Story
+abbrev pub turns_plan : EventOrder
 turns_plan = planned (turns (pos 1)) turns_opening
 
 -- The second program's runs along its plan: on 1, where it is the plan's own run; on 0, where it calls no turn, so that its own asks come
 -- earlier than the plan's; and on more, where the frame of all turns spawns half of them, and has as many asks as that of one.
-abbrev pub turns_on : List ℤ → Story
+abbrev pub turns_on : List ℤ → EventOrder
 turns_on (pos zero ∷ xs) = made_of (but_for 3 1 7 ++ but_for 0 3 1) (turns (pos 1)) (turns (pos 0)) turns_opening
 turns_on (pos (suc (suc n)) ∷ xs) = made_of (but_for 5 4 6) (turns (pos 1)) (turns (pos (suc (suc n)))) turns_opening
 turns_on _ = turns_plan

@@ -5,7 +5,7 @@ use Rattle.cilk_thread_tests.specs.Others.{four, squares_on, squares_plan, three
 use Rattle.cilk_thread_tests.specs.Squared.{squared_on}
 
 -- on their own inputs, and on others
-pub record StoriesAreOfPrograms : Type 0 where
+pub record EventOrdersAreOfPrograms : Type 0 where
   pub squares_own : squares_plan ≡ squared_on (pos 1 ∷ pos 2 ∷ pos 3 ∷ pos 4 ∷ [])
   pub squares_four : squares_on four ≡ squared_on four
   pub squares_three : squares_on three ≡ squared_on three

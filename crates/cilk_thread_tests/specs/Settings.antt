@@ -1,11 +1,11 @@
 -- What the steps of a test rest on.
 use Rattle.std.specs.Prelude.{◌≡◌, Bool, List}
 use Rattle.cilk_types.specs.declared.event.Event.{Event}
-use Rattle.cilk_tree.specs.declared.story.Story.{Story}
+use Rattle.cilk_tree.specs.declared.event_order.EventOrder.{EventOrder}
 use Rattle.cilk_tree.specs.Along.{IsAlong}
 
 -- a yard's story is along a plan, has these events, and asks for these of them
-pub record AreOf (s plan : Story) (es : List Event) (asked : List Bool) : Type 0 where
+pub record AreOf (s plan : EventOrder) (es : List Event) (asked : List Bool) : Type 0 where
   pub along : IsAlong plan s
   pub events : es ≡ s.events
   pub asks : asked ≡ s.asked

@@ -11,8 +11,8 @@ use Rattle.cilk_program.specs.SerialRun.{Transcript, stop, act, child}
 use Rattle.cilk_program.specs.Syntax.{Source, Element, Binary, Input, ToElement, Assign, Block, ParallelFor}
 use Rattle.cilk_program.specs.Worked.{row, plain, num, local, returns, array}
 use Rattle.cilk_program.specs.WorkedFrames.{program, loop_in}
-use Rattle.cilk_tree.specs.declared.story.Story.{Story}
-use Rattle.cilk_replay.specs.Stories.{story_on}
+use Rattle.cilk_tree.specs.declared.event_order.EventOrder.{EventOrder}
+use Rattle.cilk_replay.specs.EventOrders.{story_on}
 use Rattle.cilk_thread_tests.specs.Others.{squares, squares_opening}
 
 abbrev pub squared : Source
@@ -46,5 +46,5 @@ squared_run =
     (act asks.Sync (pos 0) (act (asks.End (pos 17)) (pos 0) stop))))))
 
 -- the story of the program on these numbers along that plan
-abbrev pub squared_on : List ℤ → Story
+abbrev pub squared_on : List ℤ → EventOrder
 squared_on numbers = story_on squared numbers squared_run (squares (pos 1) (pos 4) (pos 9) (pos 16)) squares_opening

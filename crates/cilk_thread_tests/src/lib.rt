@@ -12,21 +12,14 @@
 
 #[cfg(test)]
 mod helpers;
-
 #[cfg(test)]
 mod other_inputs;
-
 pub mod others;
-
 pub mod settings;
-
 pub mod steps;
-
 #[cfg(test)]
 mod texts;
-
 #[cfg(test)]
 mod two_threads;
-
 #[cfg(test)]
 mod written_out;

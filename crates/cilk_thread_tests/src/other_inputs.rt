@@ -4,13 +4,11 @@ ghost use Rattle.std.specs.Prelude.{◌≡◌};
 ghost use Rattle.cilk_shared.specs.Values.{OfYard};
 ghost use Rattle.cilk_thread_tests.specs.Settings.{AreOf};
 
-use cilk_tree::plan::Plan;
+use crate::settings::{Setting, squares_on_four, squares_on_three, turns_on_none, turns_on_seven};
+use crate::steps::{Done, last_values, step, take};
 use cilk_shared::taken::Taken;
 use cilk_shared::yard::{Segment, Yard};
-use crate::settings::{
-    Setting, squares_on_four, squares_on_three, turns_on_none, turns_on_seven,
-};
-use crate::steps::{Done, last_values, step, take};
+use cilk_tree::plan::Plan;
 use cilk_types::event::{Event, Pos};
 use std::process::Abort;
 use std::test::Fail;

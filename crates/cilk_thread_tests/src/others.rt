@@ -4,10 +4,10 @@ ghost use Rattle.std.specs.Prelude.{◌≡◌, ◌⊎◌, ◌++◌, ◌∷◌, [
 ghost use Rattle.cilk_tree.specs.Along.{IsAlong};
 ghost use Rattle.cilk_shared.specs.Values.{OfYard};
 ghost use Rattle.cilk_thread_tests.specs.Others.{but_for, four, squares, squares_on, squares_plan, three, turns, turns_on, turns_plan, SquaresHavePlan, TurnsHavePlan};
-ghost use Rattle.cilk_thread_tests.specs.Programs.{StoriesAreOfPrograms};
+ghost use Rattle.cilk_thread_tests.specs.Programs.{EventOrdersAreOfPrograms};
 
-use cilk_tree::plan::Plan;
 use cilk_shared::yard::{Segment, Yard};
+use cilk_tree::plan::Plan;
 use cilk_types::event::{Event, Pos};
 use cilk_types::input::Input;
 use cilk_types::trace::Trace;
@@ -21,7 +21,7 @@ pub fn both_have_plans()
 
 /// The stories of both programs are those of their definition, on their own inputs and on the others.
 pub fn stories_are_of_programs()
-    ensures { StoriesAreOfPrograms }
+    ensures { EventOrdersAreOfPrograms }
 {}
 
 /// The events of the first program's run on four numbers with these squares.

@@ -11,10 +11,10 @@ use crate::others::{
     turns_yard,
 };
 use cilk_checker::accepted::Accepted;
-use cilk_tree::plan::Plan;
 use cilk_plan::program_plan::plan;
 use cilk_plan::yards::yard;
 use cilk_shared::yard::{Segment, Yard};
+use cilk_tree::plan::Plan;
 use cilk_types::input::Input;
 use cilk_types::trace::Trace;
 use cilk_types::word_list::WordList;

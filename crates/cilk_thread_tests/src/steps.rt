@@ -7,9 +7,9 @@ ghost use Rattle.cilk_tree.specs.Along.{IsAlong};
 ghost use Rattle.cilk_shared.specs.Values.{CanTake, IsTaken, OfYard};
 ghost use Rattle.cilk_thread_tests.specs.Settings.{AreOf};
 
-use cilk_tree::plan::Plan;
 use cilk_shared::taken::Taken;
 use cilk_shared::yard::{Segment, Yard};
+use cilk_tree::plan::Plan;
 use cilk_types::event::{Cell, Event, Pos};
 use std::alloc::Global;
 

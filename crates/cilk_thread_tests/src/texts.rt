@@ -3,8 +3,8 @@
 use cilk_cert_maker::make::make;
 use cilk_cert_text::write::write;
 use cilk_checker::accepted::Accepted;
-use cilk_checker::texts::check;
 use cilk_checker::judge::program;
+use cilk_checker::texts::check;
 use cilk_parser::input::parse_input;
 use std::alloc::Global;
 use std::process::Abort;

@@ -4,12 +4,12 @@ ghost use Rattle.std.specs.Prelude.{◌≡◌};
 ghost use Rattle.cilk_shared.specs.Values.{OfYard};
 ghost use Rattle.cilk_thread_tests.specs.Settings.{AreOf};
 
-use crate::texts::{GETS, accepted};
-use cilk_tree::plan::Plan;
-use cilk_shared::taken::Taken;
-use cilk_shared::yard::{Segment, Yard};
 use crate::settings::{Setting, on_its_own};
 use crate::steps::{Done, last_values, step, take};
+use crate::texts::{GETS, accepted};
+use cilk_shared::taken::Taken;
+use cilk_shared::yard::{Segment, Yard};
+use cilk_tree::plan::Plan;
 use cilk_types::event::{Event, Pos};
 use crossbeam_channel::{Receiver, Sender, bounded};
 use std::alloc::Global;

@@ -1,9 +1,9 @@
 //! The runs that are written out are those of the programs' texts.
 
-use crate::texts::{SQUARES, TURNS, accepted};
-use cilk_tree::plan::Plan;
-use cilk_plan::program_plan::plan;
 use crate::others::{squares, squares_plan, turns, turns_plan};
+use crate::texts::{SQUARES, TURNS, accepted};
+use cilk_plan::program_plan::plan;
+use cilk_tree::plan::Plan;
 use cilk_types::trace::Trace;
 use std::alloc::Global;
 use std::process::Abort;

@@ -15,9 +15,9 @@ use Rattle.cilk_runs.specs.Runs.{Cell, Instance, Deed, Does, Invokes, Run, same_
 use Rattle.cilk_runs.specs.Runs as runs
 use Rattle.cilk_runs.specs.Serial.{value_after}
 use Rattle.cilk_runs.specs.Views.{view_after}
-use Rattle.cilk_runs.specs.WorldMachine.{next, opening_values}
+use Rattle.cilk_runs.specs.FrameEnvMachine.{next, opening_values}
 use Rattle.cilk_runs.specs.Reducers.{View, monoid_of}
-use Rattle.cilk_runs.specs.Worlds.{World, first_world, child_world}
+use Rattle.cilk_runs.specs.FrameEnvs.{FrameEnv, first_world, child_world}
 use Rattle.cilk_determinacy.specs.Nested.{named, named_from}
 use Rattle.cilk_determinacy.specs.Numbers.{child_runs}
 use Rattle.cilk_replay.specs.InputCourses.{Course, stop, act, child, run_of, IsCourse}
@@ -40,14 +40,14 @@ one_body (Loop n) (Function m) h = absurd (cc h)
 one_body (Loop n) (Loop m) h = ap Loop (eqb-true n m h)
 
 -- two runs whose frames begin frames of the same bodies, one after the other
-abbrev Alike : Source → Run World → Run World → Type 0
+abbrev Alike : Source → Run FrameEnv → Run FrameEnv → Type 0
 Alike p runs.stop runs.stop = Unit {0}
 Alike p (runs.act e r) (runs.act e' r') = Alike p r r'
 Alike p (runs.child k w u r) (runs.child k' w' u' r') = (body_of p w.callee ≡ body_of p w'.callee) × Alike p u u' × Alike p r r'
 Alike p _ _ = ⊥
 
-course_alike : (p : Source) (inputs : List ℤ) (w : World) (past : List (Deed World)) (memory : Cell → ℤ) (views : Instance → View) (t : Run World) (c : Course World)
-    → IsCourse World View monoid_of (next p inputs) (same_frame p) w past memory views t c → Alike p t (run_of c)
+course_alike : (p : Source) (inputs : List ℤ) (w : FrameEnv) (past : List (Deed FrameEnv)) (memory : Cell → ℤ) (views : Instance → View) (t : Run FrameEnv) (c : Course FrameEnv)
+    → IsCourse FrameEnv View monoid_of (next p inputs) (same_frame p) w past memory views t c → Alike p t (run_of c)
 course_alike p inputs w past memory views runs.stop stop h = tt
 course_alike p inputs w past memory views (runs.act e r) (act b e' r') h =
     course_alike p inputs w (past ++ Does e' ∷ []) (λ x. put e' x (memory x)) (λ i. on_view (monoid_of i) i e' (views i)) r r' h.1
@@ -67,7 +67,7 @@ SameFrames p (serial.act a v r) (serial.act a' v' r') = SameFrames p r r'
 SameFrames p (serial.child how c u r) (serial.child how' c' u' r') = (body_of p c ≡ body_of p c') × SameFrames p u u' × SameFrames p r r'
 SameFrames p _ _ = ⊥
 
-from_names : (p : Source) (w w' : World) (k : ℕ) (r r' : Transcript) → Alike p (named_from p w k r) (named_from p w' k r') → SameFrames p r r'
+from_names : (p : Source) (w w' : FrameEnv) (k : ℕ) (r r' : Transcript) → Alike p (named_from p w k r) (named_from p w' k r') → SameFrames p r r'
 from_names p w w' k serial.stop serial.stop h = tt
 from_names p w w' k (serial.act a v r) (serial.act a' v' r') h = from_names p w w' k r r' h
 from_names p w w' k (serial.child how c u r) (serial.child how' c' u' r') h =

@@ -21,7 +21,7 @@ use Rattle.cilk_tree.proofs.AlongPlans.{afters, was_word}
 use Rattle.cilk_shared.specs.declared.reducers.Reducers.{Reducers}
 use Rattle.cilk_shared.specs.Reducers.{own, retired, entered, frame_behind, frame_in, of_event, events_at}
 use Rattle.cilk_shared.specs.Settled.{Settles}
-use Rattle.cilk_threads.specs.Laws.{StoriesAlongAreSettled}
+use Rattle.cilk_threads.specs.Laws.{EventOrdersAlongAreSettled}
 
 -- ---- by kinds
 abbrev MentionedBy : Reducers → ℕ → Instance → Option Kind → Type 0
@@ -122,7 +122,7 @@ no_word spawn h = absurd (h tt)
 no_word (resume q) h = absurd (h tt)
 no_word finish h = absurd (h tt)
 
-pub along_settled : StoriesAlongAreSettled
+pub along_settled : EventOrdersAlongAreSettled
 along_settled plan s r along h = record {
   settled = λ p x q i m st le lt. before x q (h.settled p x q i (mention p i m) (settle q i st) le lt);
   begins = λ k e. plain_at (k + 1) (h.begins k (spawn_at k e));

@@ -3,7 +3,7 @@ use Rattle.std.proofs.Common.{◌≡◌, ◌⊎◌, inl, inr, ℕ, ℤ, ◌-◌,
 use Rattle.cilk_types.specs.declared.event.Event.{Event}
 use Rattle.cilk_types.specs.declared.event.Event.TheVariants as events
 use Rattle.cilk_tree.specs.Races.{event_at}
-use Rattle.cilk_tree.specs.declared.story.Story.{Story}
+use Rattle.cilk_tree.specs.declared.event_order.EventOrder.{EventOrder}
 use Rattle.cilk_tree.specs.Word.{event}
 use Rattle.cilk_tree.specs.declared.kind.Kind.TheVariants as kinds
 use Rattle.cilk_tree.specs.Along.{IsAlong}
@@ -28,11 +28,11 @@ write_named : (n c : ℕ) (o : Option Event) → kind_of_event o ≡ Some (kinds
 write_named n c (Some (events.Write d v)) is named = subst (λ (k : ℕ). k < n) (same_written d c is) (named (events.Write d v) refl)
 write_named n c o is named = absurd (cc is)
 
-pub cells_along : (a : AcceptedRun) (plan s : Story) → IsPlanOf a plan → IsAlong plan s → HasCells s
+pub cells_along : (a : AcceptedRun) (plan s : EventOrder) → IsPlanOf a plan → IsAlong plan s → HasCells s
 cells_along a plan s is along p c h = subst (λ (o : List ℤ). c < length o) (sym along.opening) (by h)
   where
     events_are : plan.events ≡ a.trace
-    events_are = ap (λ (t : Story). t.events) is.story
+    events_are = ap (λ (t : EventOrder). t.events) is.story
 
     same : kind_of_event (event s p) ≡ kind_of_event (event_at a.trace p)
     same = same_kind_at s.events plan.events along.kinds p ∙ ap (λ (es : List Event). kind_of_event (event_at es p)) events_are

@@ -22,7 +22,7 @@ use Rattle.cilk_program.specs.SerialRun.{Transcript}
 use Rattle.cilk_program.specs.Syntax.{Source}
 use Rattle.cilk_program.specs.WellNamed.{is_kind}
 use Rattle.cilk_program.specs.Answered.{prints}
-use Rattle.cilk_tree.specs.declared.story.Story.{Story}
+use Rattle.cilk_tree.specs.declared.event_order.EventOrder.{EventOrder}
 use Rattle.cilk_shared.specs.declared.reducers.Reducers.{Reducers}
 use Rattle.cilk_shared.specs.Reducers.{entered, kind_in, of_event}
 use Rattle.cilk_runs.specs.Monoids.{unit_of}
@@ -31,10 +31,10 @@ use Rattle.cilk_runs.specs.Serial.{value_after}
 use Rattle.cilk_runs.specs.Traces.{trace}
 use Rattle.cilk_runs.specs.Views.{view_after}
 use Rattle.cilk_frames.specs.Leaving.{finals_of}
-use Rattle.cilk_runs.specs.WorldMachine.{opening_values}
+use Rattle.cilk_runs.specs.FrameEnvMachine.{opening_values}
 use Rattle.cilk_runs.specs.Reducers.{View, kind_of, monoid_of, value_of}
 use Rattle.cilk_runs.specs.Steps.{finals_in, result_in}
-use Rattle.cilk_runs.specs.Worlds.{World, global_named}
+use Rattle.cilk_runs.specs.FrameEnvs.{FrameEnv, global_named}
 use Rattle.cilk_determinacy.specs.Nested.{named}
 use Rattle.cilk_determinacy.specs.Numbers.{instance_number, HasInstance, numbered_events}
 use Rattle.cilk_determinacy.specs.Words.{InputsAreWords}
@@ -44,7 +44,7 @@ use Rattle.cilk_replay.specs.InputCourses.{run_of}
 use Rattle.cilk_replay.specs.Frames.{course_on}
 use Rattle.cilk_replay.specs.Left.{left_by, printed_in}
 use Rattle.cilk_replay.specs.Lists.{with_value, with_values}
-use Rattle.cilk_replay.specs.Stories.{story_on, IsPlannedRun}
+use Rattle.cilk_replay.specs.EventOrders.{story_on, IsPlannedRun}
 use Rattle.cilk_replay.proofs.Elided.{same_cells_from}
 use Rattle.cilk_replay.proofs.Leaving.{cells_left, prints_left}
 use Rattle.cilk_threads.specs.Finals.{IsMadeOf}
@@ -63,7 +63,7 @@ held_is r g (e ∷ es) h j =
     ∙ sym (view_after-append (structure_of (kind_in r j)) j (of_event r (entered e g) (Some e)) (list_from r (entered e g) es) (h j))
 
 -- the events that a course makes of a plan's leave the output's view to prints, as the plan's do
-leaves_value : (e : Event) (d : Deed World) → LeavesOutput e → LeavesOutput (with_value e d)
+leaves_value : (e : Event) (d : Deed FrameEnv) → LeavesOutput e → LeavesOutput (with_value e d)
 leaves_value (events.Read c v) (Does (Reads i x)) h = tt
 leaves_value (events.Write c v) (Does (Writes i x)) h = tt
 leaves_value (events.Update i v) (Does (Passes (Updates j x))) h = h
@@ -72,17 +72,17 @@ leaves_value (events.Value i v) (Does (Passes (Values j x))) h = tt
 leaves_value (events.Print v) (Does (Passes (Prints x))) h = tt
 leaves_value e d h = h
 
-leaves_values : (es : List Event) (ds : List (Deed World)) → AllLeave es → AllLeave (with_values es ds)
+leaves_values : (es : List Event) (ds : List (Deed FrameEnv)) → AllLeave es → AllLeave (with_values es ds)
 leaves_values [] ds h = tt
 leaves_values (e ∷ es) [] h = h
 leaves_values (e ∷ es) (d ∷ ds) h = (leaves_value e d h.0, leaves_values es ds h.1)
 
 module _ (p : Source) (inputs others : List ℤ) (run : Transcript) (es : List Event) (opening : List ℤ) (r : Reducers)
     (is : IsPlannedRun p inputs run es opening) (are : InputsAreWords others) (table : AreReducersOf p run r) where
-  abbrev u : Run World
+  abbrev u : Run FrameEnv
   u = run_of (course_on p others (named p run))
 
-  abbrev s : Story
+  abbrev s : EventOrder
   s = story_on p others run es opening
 
   kinds : HaveTheirKinds p run r

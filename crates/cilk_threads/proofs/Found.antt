@@ -27,7 +27,7 @@ use Rattle.cilk_shared.specs.Reducers.{frame_in}
 use Rattle.cilk_shared.proofs.Quiet.{in_frame}
 use Rattle.cilk_runs.specs.Runs.{Name, Reads, Writes, Syncs, Ends, Passes, Begins, Resumes, Creates, Updates, Sets, Values, Prints, Run, stop, act, child}
 use Rattle.cilk_runs.specs.Traces.{Due, begin_due, resume_due, neither_due, IsFramed, shape_of}
-use Rattle.cilk_runs.specs.Worlds.{World, first_world}
+use Rattle.cilk_runs.specs.FrameEnvs.{FrameEnv, first_world}
 use Rattle.cilk_determinacy.specs.Nested.{named}
 use Rattle.cilk_determinacy.specs.Numbers.{frame_number, start_event, numbered_events}
 use Rattle.cilk_determinacy.specs.Theorem.{IsNumbered}
@@ -44,19 +44,19 @@ ahead resume_due = 1
 ahead neither_due = 0
 
 module _ (p : Source) (whole : Transcript) where
-  abbrev pub list : Name → Run World → List numbers.Event
+  abbrev pub list : Name → Run FrameEnv → List numbers.Event
   list name t = numbered_events p whole name t
 
   one_more : (n m : ℕ) → n ≡ 0 + m → suc n ≡ 0 + suc m
   one_more n m e = omega (arith, e)
 
-  long_numbered : (due : Due) (name : Name) (t : Run World) → IsFramed due t → length (list name t) ≡ ahead due + length (marks (shape_of t))
+  long_numbered : (due : Due) (name : Name) (t : Run FrameEnv) → IsFramed due t → length (list name t) ≡ ahead due + length (marks (shape_of t))
   long_numbered begin_due name (act (Passes Begins) t) f = let h = long_numbered neither_due name t f in omega (arith, h)
   long_numbered resume_due name (act (Passes Resumes) t) f = let h = long_numbered neither_due name t f in omega (arith, h)
   long_numbered neither_due name (act (Reads c v) t) f = one_more _ _ (long_numbered neither_due name t f)
   long_numbered neither_due name (act (Writes c v) t) f = one_more _ _ (long_numbered neither_due name t f)
   long_numbered neither_due name (act Syncs t) f = one_more _ _ (long_numbered neither_due name t f)
-  long_numbered neither_due name (act (Ends v gone) t) f = subst (λ (t : Run World). length (list name (act (Ends v gone) t)) ≡ 0 + length (marks (shape_of (act (Ends v gone) t)))) (sym f) refl
+  long_numbered neither_due name (act (Ends v gone) t) f = subst (λ (t : Run FrameEnv). length (list name (act (Ends v gone) t)) ≡ 0 + length (marks (shape_of (act (Ends v gone) t)))) (sym f) refl
   long_numbered neither_due name (act (Passes (Creates i)) t) f = one_more _ _ (long_numbered neither_due name t f)
   long_numbered neither_due name (act (Passes (Updates i x)) t) f = one_more _ _ (long_numbered neither_due name t f)
   long_numbered neither_due name (act (Passes (Sets i x)) t) f = one_more _ _ (long_numbered neither_due name t f)
@@ -70,7 +70,7 @@ module _ (p : Source) (whole : Transcript) where
       omega (arith, x, y, a, b)
   long_numbered due name t f = absurd f
 
-  long_makers : (name : Name) (t : Run World) → length (makers name t) ≡ length (list name t)
+  long_makers : (name : Name) (t : Run FrameEnv) → length (makers name t) ≡ length (list name t)
   long_makers name stop = refl
   long_makers name (act e t) = ap suc (long_makers name t)
   long_makers name (child k w u t) =
@@ -82,8 +82,8 @@ module _ (p : Source) (whole : Transcript) where
 
   -- The `end` at a place of the list is of a frame inside, which begins at another. The first event of the list stands at position o.
   record IsInside (shape : Shape) (es : List numbers.Event) (names : List Name) (o j : ℕ) : Type 0 where
-    w : World
-    u : Run World
+    w : FrameEnv
+    u : Run FrameEnv
     begin : ℕ
     frame : IsFrameOf p whole w u
     inner : IsInner shape o (o + begin) (o + j)
@@ -91,11 +91,11 @@ module _ (p : Source) (whole : Transcript) where
     ends : suc j ≡ begin + length (list w.name u)
     same : (x : ℕ) → x < length (list w.name u) → slice_get es (begin + x) ≡ slice_get (list w.name u) x
 
-  abbrev IsEnd : Name → Run World → ℕ → ℕ → Type 0
+  abbrev IsEnd : Name → Run FrameEnv → ℕ → ℕ → Type 0
   IsEnd name t o j = ((slice_get (makers name t) j ≡ Some name) × (suc j ≡ length (list name t))) ⊎ IsInside (shape_of t) (list name t) (makers name t) o j
 
   -- one event more ahead
-  further : (name : Name) (t : Run World) (shape : Shape) (e : numbers.Event) (first : Name) (o j : ℕ) → ((b z : ℕ) → IsInner (shape_of t) (suc o) b z → IsInner shape o b z)
+  further : (name : Name) (t : Run FrameEnv) (shape : Shape) (e : numbers.Event) (first : Name) (o j : ℕ) → ((b z : ℕ) → IsInner (shape_of t) (suc o) b z → IsInner shape o b z)
       → IsInside (shape_of t) (list name t) (makers name t) (suc o) j → IsInside shape (e ∷ list name t) (first ∷ makers name t) o (suc j)
   further name t shape e first o j inside h =
       let b : suc o + h.begin ≡ o + suc h.begin = omega arith in
@@ -112,26 +112,26 @@ module _ (p : Source) (whole : Transcript) where
         same = λ x less. let y : suc h.begin + x ≡ suc (h.begin + x) = omega arith in ap (slice_get (e ∷ list name t)) y ∙ h.same x less;
       }
 
-  next_end : (name : Name) (t : Run World) (shape : Shape) (e : numbers.Event) (o j : ℕ) → ((b z : ℕ) → IsInner (shape_of t) (suc o) b z → IsInner shape o b z) → IsEnd name t (suc o) j
+  next_end : (name : Name) (t : Run FrameEnv) (shape : Shape) (e : numbers.Event) (o j : ℕ) → ((b z : ℕ) → IsInner (shape_of t) (suc o) b z → IsInner shape o b z) → IsEnd name t (suc o) j
       → ((slice_get (name ∷ makers name t) (suc j) ≡ Some name) × (suc (suc j) ≡ length (e ∷ list name t))) ⊎ IsInside shape (e ∷ list name t) (name ∷ makers name t) o (suc j)
   next_end name t shape e o j inside (inl h) = inl (h.0, ap suc h.1)
   next_end name t shape e o j inside (inr h) = inr (further name t shape e name o j inside h)
 
-  act_end : (name : Name) (t : Run World) (shape : Shape) (e : numbers.Event) → (Some e ≡ Some events.End → ⊥) → (o : ℕ) → ((b z : ℕ) → IsInner (shape_of t) (suc o) b z → IsInner shape o b z)
+  act_end : (name : Name) (t : Run FrameEnv) (shape : Shape) (e : numbers.Event) → (Some e ≡ Some events.End → ⊥) → (o : ℕ) → ((b z : ℕ) → IsInner (shape_of t) (suc o) b z → IsInner shape o b z)
       → ((j : ℕ) → slice_get (list name t) j ≡ Some events.End → IsEnd name t (suc o) j) → (j : ℕ) → slice_get (e ∷ list name t) j ≡ Some events.End
       → ((slice_get (name ∷ makers name t) j ≡ Some name) × (suc j ≡ length (e ∷ list name t))) ⊎ IsInside shape (e ∷ list name t) (name ∷ makers name t) o j
   act_end name t shape e other o inside rest zero is = absurd (other is)
   act_end name t shape e other o inside rest (suc j) is = next_end name t shape e o j inside (rest j is)
 
   -- a child, what is inside, and what comes after it
-  module _ (name : Name) (k : Invocation) (w : World) (u t : Run World) (o : ℕ) (framed : IsFramed neither_due u) where
-    abbrev inner_run : Run World
+  module _ (name : Name) (k : Invocation) (w : FrameEnv) (u t : Run FrameEnv) (o : ℕ) (framed : IsFramed neither_due u) where
+    abbrev inner_run : Run FrameEnv
     inner_run = act (Passes Begins) u
 
-    abbrev rest_run : Run World
+    abbrev rest_run : Run FrameEnv
     rest_run = act (Passes Resumes) t
 
-    abbrev whole_run : Run World
+    abbrev whole_run : Run FrameEnv
     whole_run = child k w inner_run rest_run
 
     -- how many events the child has
@@ -253,14 +253,14 @@ module _ (p : Source) (whole : Transcript) where
         rest_end zero is = absurd (cc is)
         rest_end (suc m) is = rest_of m (rest m is)
 
-  ends_in : (name : Name) (o : ℕ) (t : Run World) → IsFramed neither_due t → AllFrames p whole t → (j : ℕ) → slice_get (list name t) j ≡ Some events.End → IsEnd name t o j
+  ends_in : (name : Name) (o : ℕ) (t : Run FrameEnv) → IsFramed neither_due t → AllFrames p whole t → (j : ℕ) → slice_get (list name t) j ≡ Some events.End → IsEnd name t o j
   ends_in name o (act (Reads c v) t) f a = act_end name t (shape_of (act (Reads c v) t)) _ (λ h. cc h) o (λ b z h. h) (ends_in name (suc o) t f a)
   ends_in name o (act (Writes c v) t) f a = act_end name t (shape_of (act (Writes c v) t)) _ (λ h. cc h) o (λ b z h. h) (ends_in name (suc o) t f a)
   ends_in name o (act Syncs t) f a = act_end name t (shape_of (act Syncs t)) _ (λ h. cc h) o (λ b z h. h) (ends_in name (suc o) t f a)
   ends_in name o (act (Ends v gone) t) f a = last o
     where
       last : (o : ℕ) (j : ℕ) → slice_get (events.End ∷ list name t) j ≡ Some events.End → IsEnd name (act (Ends v gone) t) o j
-      last o j is = subst (λ (t : Run World). slice_get (events.End ∷ list name t) j ≡ Some events.End → IsEnd name (act (Ends v gone) t) o j) (sym f) (by j) is
+      last o j is = subst (λ (t : Run FrameEnv). slice_get (events.End ∷ list name t) j ≡ Some events.End → IsEnd name (act (Ends v gone) t) o j) (sym f) (by j) is
         where
           by : (j : ℕ) → slice_get (events.End ∷ []) j ≡ Some events.End → IsEnd name (act (Ends v gone) stop) o j
           by zero is = inl (refl, refl)
@@ -277,9 +277,9 @@ module _ (p : Source) (whole : Transcript) where
   ends_in name o t f a = absurd f
 
   -- the same of the whole run, by places from 0
-  record IsHeld (t : Run World) (j : ℕ) : Type 0 where
-    w : World
-    u : Run World
+  record IsHeld (t : Run FrameEnv) (j : ℕ) : Type 0 where
+    w : FrameEnv
+    u : Run FrameEnv
     begin : ℕ
     frame : IsFrameOf p whole w u
     place : IsFrame (shape_of t) (suc begin) (suc j)
@@ -287,7 +287,7 @@ module _ (p : Source) (whole : Transcript) where
     ends : suc j ≡ begin + length (list w.name u)
     same : (x : ℕ) → x < length (list w.name u) → slice_get (list [] t) (begin + x) ≡ slice_get (list w.name u) x
 
-  held : (t : Run World) → IsFramed begin_due t → IsFrameOf p whole (first_world p) t → AllFrames p whole t → (j : ℕ) → slice_get (list [] t) j ≡ Some events.End → IsHeld t j
+  held : (t : Run FrameEnv) → IsFramed begin_due t → IsFrameOf p whole (first_world p) t → AllFrames p whole t → (j : ℕ) → slice_get (list [] t) j ≡ Some events.End → IsHeld t j
   held (act (Passes Begins) t) f first a zero is = absurd (cc is)
   held (act (Passes Begins) t) f first a (suc j) is = by (ends_in [] 2 t f a j is)
     where
@@ -325,8 +325,8 @@ module _ (p : Source) (whole : Transcript) where
 
 -- The frame of the `end` at position q: it begins at position b, and its events follow there.
 pub record IsFound (p : Source) (r : Transcript) (shape : Shape) (es : List numbers.Event) (q : ℕ) : Type 0 where
-  pub w : World
-  pub u : Run World
+  pub w : FrameEnv
+  pub u : Run FrameEnv
   pub begin : ℕ
   pub frame : IsFrameOf p r w u
   pub low : 1 ≤ begin

@@ -33,7 +33,7 @@ use Rattle.cilk_program.specs.SerialRun.{global_reducer, own_reducers}
 use Rattle.cilk_program.specs.Syntax.{Source, main_of, function_at}
 use Rattle.cilk_program.specs.Answered.{prints, printed_by}
 use Rattle.cilk_program.proofs.Remembered.{runs_leave}
-use Rattle.cilk_tree.specs.declared.story.Story.{Story}
+use Rattle.cilk_tree.specs.declared.event_order.EventOrder.{EventOrder}
 use Rattle.cilk_tree.specs.Word.{event}
 use Rattle.cilk_shared.specs.declared.reducers.FrameReducers.{FrameReducers}
 use Rattle.cilk_shared.specs.declared.reducers.Reducers.{Reducers}
@@ -41,9 +41,9 @@ use Rattle.cilk_shared.specs.Reducers.{own, kind_in, ends_from, retired, entered
 use Rattle.cilk_runs.specs.Runs.{Name, Instance, Output, Reducer, Reads, Writes, Syncs, Ends, Passes, Begins, Resumes, Creates, Updates, Sets, Values, Prints, Run, stop, act, child}
 use Rattle.cilk_runs.specs.Runs as runs
 use Rattle.cilk_runs.specs.Traces.{trace, Due, begin_due, resume_due, neither_due, IsFramed}
-use Rattle.cilk_runs.specs.WorldMachine.{retired_from, retired_by}
+use Rattle.cilk_runs.specs.FrameEnvMachine.{retired_from, retired_by}
 use Rattle.cilk_runs.specs.Reducers.{kind_of}
-use Rattle.cilk_runs.specs.Worlds.{World, first_world, child_world, own_named, before_own}
+use Rattle.cilk_runs.specs.FrameEnvs.{FrameEnv, first_world, child_world, own_named, before_own}
 use Rattle.cilk_determinacy.specs.Nested.{named, named_from}
 use Rattle.cilk_determinacy.specs.Numbers.{frame_number, instance_number, start_event, numbered_event, numbered_events, all_reducers, EventIsHere, AreHere, AreNumbered}
 use Rattle.cilk_determinacy.specs.ReducerEvents as reducer_events
@@ -84,7 +84,7 @@ entered_last g [] e = refl
 entered_last g (d ∷ es) e = entered_last (entered d g) es e
 
 -- ---- of a story's positions
-module _ (s : Story) (r : Reducers) where
+module _ (s : EventOrder) (r : Reducers) where
   pub over_from : (n : ℕ) → n ≤ length s.events → events_from s r 1 n ≡ list_from r 0 (take n s.events)
   unfolding events_from
   over_from zero le = refl
@@ -161,13 +161,13 @@ alike_none : (r : Reducers) → Alike r [] []
 alike_none r i v other = refl
 
 -- ---- each frame retires its own reducers
-abbrev pub RetiresOwn : Source → World → Run World → Type 0
+abbrev pub RetiresOwn : Source → FrameEnv → Run FrameEnv → Type 0
 RetiresOwn p w stop = Unit {0}
 RetiresOwn p w (act (Ends v gone) t) = (gone ≡ retired_by p w) × RetiresOwn p w t
 RetiresOwn p w (act e t) = RetiresOwn p w t
 RetiresOwn p w (child k x u t) = RetiresOwn p x u × RetiresOwn p w t
 
-pub retires_own : (p : Source) (w : World) (j : ℕ) (r : serial.Transcript) → RetiresOwn p w (named_from p w j r)
+pub retires_own : (p : Source) (w : FrameEnv) (j : ℕ) (r : serial.Transcript) → RetiresOwn p w (named_from p w j r)
 retires_own p w j serial.stop = tt
 retires_own p w j (serial.act asks.Begin v r) = retires_own p w j r
 retires_own p w j (serial.act (asks.Read x) v r) = retires_own p w j r
@@ -186,7 +186,7 @@ retires_own p w j (serial.act (asks.Fault f) v r) = retires_own p w j r
 retires_own p w j (serial.child how callee u r) = (retires_own p (child_world p w j callee) 1 u, retires_own p w (suc j) r)
 
 module _ (p : Source) (run : serial.Transcript) (r : Reducers) (table : AreReducersOf p run r) (kinds : HaveTheirKinds p run r) where
-  abbrev deeds : List (runs.Deed World) → List OfKind
+  abbrev deeds : List (runs.Deed FrameEnv) → List OfKind
   deeds ds = reducer_events.reducer_events p run ds
 
   -- one after the other, from a place of the frame's own on
@@ -207,13 +207,13 @@ module _ (p : Source) (run : serial.Transcript) (r : Reducers) (table : AreReduc
       (subst (λ (q : ℕ). Alike r (ends_from f q (length ks)) (retired_all p run (retired_from own_one (suc n) ks))) (sym s) rest)
 
   -- a frame's end
-  pub record IsOf (w : World) : Type 0 where
+  pub record IsOf (w : FrameEnv) : Type 0 where
     pub table_is : own r (frame_number p run w.name) ≡ reducers_of p w.callee
 
-  pub of_frame : (w : World) (u : Run World) → IsFrameOf p run w u → IsOf w
+  pub of_frame : (w : FrameEnv) (u : Run FrameEnv) → IsFrameOf p run w u → IsOf w
   of_frame w u h = let b = h.here in record { table_is = ap (own r) (frame_is p run w.name b) ∙ table b.path b.block w.callee b.found h.runs }
 
-  pub many_own : (w : World) → length (all_reducers p w.callee) - before_own p w.callee ≡ length (own_reducers p w.callee)
+  pub many_own : (w : FrameEnv) → length (all_reducers p w.callee) - before_own p w.callee ≡ length (own_reducers p w.callee)
   many_own w = by w.callee
     where
       front : (l m : List MonoidKind) → length (l ++ m) - length l ≡ length m
@@ -224,7 +224,7 @@ module _ (p : Source) (run : serial.Transcript) (r : Reducers) (table : AreReduc
       by (callees.Function c) = let f = function_at p c.function in let z : length f.reducers - 0 ≡ length f.reducers = omega arith in z
       by (callees.Loop l) = refl
 
-  pub own_in_all : (w : World) (m : ℕ) (k : MonoidKind) → slice_get (own_reducers p w.callee) m ≡ Some k → slice_get (all_reducers p w.callee) (before_own p w.callee + m) ≡ Some k
+  pub own_in_all : (w : FrameEnv) (m : ℕ) (k : MonoidKind) → slice_get (own_reducers p w.callee) m ≡ Some k → slice_get (all_reducers p w.callee) (before_own p w.callee + m) ≡ Some k
   own_in_all w m k at = by w.callee at
     where
       by : (c : Callee) → slice_get (own_reducers p c) m ≡ Some k → slice_get (all_reducers p c) (before_own p c + m) ≡ Some k
@@ -232,7 +232,7 @@ module _ (p : Source) (run : serial.Transcript) (r : Reducers) (table : AreReduc
       by (callees.Function c) at = let f = function_at p c.function in let z : 0 + m ≡ m = omega arith in ap (slice_get f.reducers) z ∙ at
       by (callees.Loop l) at = let z : None ≡ Some k = at in absurd (cc z)
 
-  kind_at : (w : World) → IsOf w → (m : ℕ) (k : MonoidKind) → slice_get (all_reducers p w.callee) m ≡ Some k → kind_in r (record { frame = frame_number p run w.name; place = suc m }) ≡ k
+  kind_at : (w : FrameEnv) → IsOf w → (m : ℕ) (k : MonoidKind) → slice_get (all_reducers p w.callee) m ≡ Some k → kind_in r (record { frame = frame_number p run w.name; place = suc m }) ≡ k
   kind_at w h m k at =
       let z : suc m - 1 ≡ m = omega arith in
       ap (λ (t : Bool). cond t Append (let o = own r (frame_number p run w.name) in slice_index_or o.kinds (suc m - 1) Append)) (no_output (eqb 0 (frame_number p run w.name)) m)
@@ -240,7 +240,7 @@ module _ (p : Source) (run : serial.Transcript) (r : Reducers) (table : AreReduc
       ∙ ap (λ (j : ℕ). slice_index_or (all_reducers p w.callee) j Append) z
       ∙ get_or_from_slice_get (all_reducers p w.callee) m k Append at
 
-  end_alike : (w : World) → IsOf w → (gone : List Instance) → gone ≡ retired_by p w → Alike r (retired (frame_number p run w.name) (own r (frame_number p run w.name))) (retired_all p run gone)
+  end_alike : (w : FrameEnv) → IsOf w → (gone : List Instance) → gone ≡ retired_by p w → Alike r (retired (frame_number p run w.name) (own r (frame_number p run w.name))) (retired_all p run gone)
   end_alike w h gone is =
       let f = frame_number p run w.name in
       let b = before_own p w.callee in
@@ -253,29 +253,29 @@ module _ (p : Source) (run : serial.Transcript) (r : Reducers) (table : AreReduc
       (subst (λ (l : List ReducerEvent). Alike r l (retired_all p run (retired_by p w))) (sym ends) whole)
 
   -- what is at hand where an event is due
-  abbrev Since : Due → ℕ → World → Type 0
+  abbrev Since : Due → ℕ → FrameEnv → Type 0
   Since begin_due g w = Unit {0}
   Since resume_due g w = Unit {0}
   Since neither_due g w = g ≡ frame_number p run w.name
 
-  abbrev RunAlike : ℕ → World → Run World → Type 0
+  abbrev RunAlike : ℕ → FrameEnv → Run FrameEnv → Type 0
   RunAlike g w t = Alike r (list_from r g (numbered_events p run w.name t)) (deeds (trace t))
 
-  more_alike : (g : ℕ) (w : World) (e : runs.Event) (t : Run World) → (let n = numbered_event p run w.name e in Alike r (of_event r (entered n g) (Some n)) (reducer_events.of_event p run e) × RunAlike (entered n g) w t) → RunAlike g w (act e t)
+  more_alike : (g : ℕ) (w : FrameEnv) (e : runs.Event) (t : Run FrameEnv) → (let n = numbered_event p run w.name e in Alike r (of_event r (entered n g) (Some n)) (reducer_events.of_event p run e) × RunAlike (entered n g) w t) → RunAlike g w (act e t)
   more_alike g w e t h =
       let n = numbered_event p run w.name e in
       alike_both r (of_event r (entered n g) (Some n)) (list_from r (entered n g) (numbered_events p run w.name t)) (reducer_events.of_event p run e) (deeds (trace t)) h.0 h.1
 
-  deeds_both : (ds es : List (runs.Deed World)) → deeds (ds ++ es) ≡ deeds ds ++ deeds es
+  deeds_both : (ds es : List (runs.Deed FrameEnv)) → deeds (ds ++ es) ≡ deeds ds ++ deeds es
   deeds_both [] es = refl
   deeds_both (runs.Does e ∷ ds) es = ap (λ l. reducer_events.of_event p run e ++ l) (deeds_both ds es) ∙ sym (append_assoc (reducer_events.of_event p run e) (deeds ds) (deeds es))
   deeds_both (runs.Invokes k w ∷ ds) es = deeds_both ds es
 
-  child_alike : (k : Invocation) (g : ℕ) (w c : World) (u t : Run World) → Alike r (list_from r g (numbered_events p run c.name u ++ numbered_events p run w.name t)) (deeds (trace u ++ trace t)) → RunAlike g w (child k c u t)
+  child_alike : (k : Invocation) (g : ℕ) (w c : FrameEnv) (u t : Run FrameEnv) → Alike r (list_from r g (numbered_events p run c.name u ++ numbered_events p run w.name t)) (deeds (trace u ++ trace t)) → RunAlike g w (child k c u t)
   child_alike Call g w c u t h = h
   child_alike Spawn g w c u t h = h
 
-  run_alike : (due : Due) (g : ℕ) (w : World) (t : Run World) → IsFramed due t → Since due g w → IsOf w → AreHere p run t → AllFrames p run t → RetiresOwn p w t → RunAlike g w t
+  run_alike : (due : Due) (g : ℕ) (w : FrameEnv) (t : Run FrameEnv) → IsFramed due t → Since due g w → IsOf w → AreHere p run t → AllFrames p run t → RetiresOwn p w t → RunAlike g w t
   run_alike begin_due g w (act (Passes Begins) t) f h o n a x = more_alike g w (Passes Begins) t (alike_none r, run_alike neither_due (frame_number p run w.name) w t f refl o n.1 a x)
   run_alike resume_due g w (act (Passes Resumes) t) f h o n a x = more_alike g w (Passes Resumes) t (alike_none r, run_alike neither_due (frame_number p run w.name) w t f refl o n.1 a x)
   run_alike neither_due g w (act (Reads c v) t) f h o n a x = more_alike g w (Reads c v) t (alike_none r, run_alike neither_due g w t f h o n.1 a x)
@@ -284,7 +284,7 @@ module _ (p : Source) (run : serial.Transcript) (r : Reducers) (table : AreReduc
   run_alike neither_due g w (act (Ends v gone) t) f h o n a x =
       more_alike g w (Ends v gone) t (
         subst (λ (m : ℕ). Alike r (retired m (own r m)) (retired_all p run gone)) (sym h) (end_alike w o gone x.0),
-        subst (λ (t : Run World). RunAlike g w t) (sym f) (alike_none r),
+        subst (λ (t : Run FrameEnv). RunAlike g w t) (sym f) (alike_none r),
       )
   run_alike neither_due g w (act (Passes (Creates i)) t) f h o n a x = more_alike g w (Passes (Creates i)) t (alike_one r (Created (instance_number p run i)) (kind_of i) (kinds i n.0), run_alike neither_due g w t f h o n.1 a x)
   run_alike neither_due g w (act (Passes (Updates i v)) t) f h o n a x = more_alike g w (Passes (Updates i v)) t (alike_one r (Updated (instance_number p run i) v) (kind_of i) (kinds i n.0), run_alike neither_due g w t f h o n.1 a x)
@@ -368,7 +368,7 @@ module _ (p : Source) (run : serial.Transcript) where
   start_leaves Call n = tt
   start_leaves Spawn n = tt
 
-  pub all_leave : (name : Name) (t : Run World) → AreHere p run t → AllLeave (numbered_events p run name t)
+  pub all_leave : (name : Name) (t : Run FrameEnv) → AreHere p run t → AllLeave (numbered_events p run name t)
   all_leave name stop h = tt
   all_leave name (act e t) h = (event_leaves name e h.0, all_leave name t h.1)
   all_leave name (child k w u t) h = (start_leaves k (frame_number p run w.name), all_both (numbered_events p run w.name u) (numbered_events p run name t) (all_leave w.name u h.1) (all_leave name t h.2))

@@ -22,7 +22,7 @@ use Rattle.cilk_program.proofs.Remembered.{runs_leave}
 use Rattle.cilk_lower.specs.declared.layout.Layout.{Layout}
 use Rattle.cilk_lower.specs.Layout.{LaysOut}
 use Rattle.cilk_tree.specs.Sources.{last_write}
-use Rattle.cilk_tree.specs.declared.story.Story.{Story}
+use Rattle.cilk_tree.specs.declared.event_order.EventOrder.{EventOrder}
 use Rattle.cilk_tree.specs.Values.{HasValue, AreFinal}
 use Rattle.cilk_shared.specs.declared.reducers.Reducers.{Reducers}
 use Rattle.cilk_shared.specs.Reducers.{kind_in, events_over}
@@ -36,7 +36,7 @@ use Rattle.cilk_threads.proofs.Lasting.{whole_last}
 same_write : (c : ℕ) (v w : ℤ) (o : Option Event) → o ≡ Some (Write c v) → o ≡ Some (Write c w) → v ≡ w
 same_write c v w o h g = let e : Some (Write c v) ≡ Some (Write c w) = sym h ∙ g in cc e
 
-one_value : (s : Story) (c n : ℕ) (v w : ℤ) → HasValue s c n v → HasValue s c n w → v ≡ w
+one_value : (s : EventOrder) (c n : ℕ) (v w : ℤ) → HasValue s c n v → HasValue s c n w → v ≡ w
 one_value s c n v w h g = by (last_write s.events c n) refl
   where
     by : (k : ℕ) → last_write s.events c n ≡ k → v ≡ w
@@ -86,10 +86,10 @@ all_same {o = o} {o' = o'} a b c d =
     ∙ ap (λ x. record { result = o'.result; globals = o'.globals; output = o'.output; reducers = x }) d
 
 -- the global cells after the story's events
-abbrev globals_after : Source → Story → List ℤ
+abbrev globals_after : Source → EventOrder → List ℤ
 globals_after p s = cells_from 0 (length p.openings) (cells_after s.events (opening_cells p []))
 
-pub made_is : (p : Source) (s : Story) (r : Reducers) (l : Layout) (cells : List ℤ) (views : Hypermap) (value : ℤ) → LaysOut p l
+pub made_is : (p : Source) (s : EventOrder) (r : Reducers) (l : Layout) (cells : List ℤ) (views : Hypermap) (value : ℤ) → LaysOut p l
     → length p.openings ≤ length s.opening → ((c : ℕ) → slice_index_or s.opening c (pos 0) ≡ opening_cells p [] c) → AreFinal s cells
     → ShowsRange (kind_in r) views (events_over s r 1 (length s.events + 1)) → IsMadeOf p s r value (outcome_of l cells views value)
 made_is p s r l cells views value laid many opens final shows = record {
@@ -118,7 +118,7 @@ made_is p s r l cells views value laid many opens final shows = record {
         ∙ ap (λ (l : List Event). cells_after l (opening_cells p []) c) (sym (take-length s.events))))
 
 -- each serial run with these events leaves it
-pub left_is : (p : Source) → IsTrue (is_well_named p) → (s : Story) (r : Reducers) (value : ℤ) (o : Outcome) → IsMadeOf p s r value o
+pub left_is : (p : Source) → IsTrue (is_well_named p) → (s : EventOrder) (r : Reducers) (value : ℤ) (o : Outcome) → IsMadeOf p s r value o
     → (inputs : List ℤ) (run : Transcript) (outcome : Outcome) → IsSerialRun p inputs run s.events (Leaves outcome) → AreReducersOf p run r → outcome.result ≡ value → o ≡ outcome
 left_is p well s r value o made inputs run outcome ran table same =
     all_same (made.result ∙ sym same) (made.globals ∙ sym left) (made.printed outcome.output last.printed) (made.reducers ∙ sym last.reducers)
@@ -130,9 +130,9 @@ left_is p well s r value o made inputs run outcome ran table same =
     left = let x = runs_leave p well inputs run s.events outcome ran in x.globals
 
 -- of a piece of all events
-pub piece_made : (p : Source) (yard s : Story) → s ≡ yard → (r : Reducers) (l : Layout) (cells : List ℤ) (views : Hypermap) (value : ℤ) → LaysOut p l
+pub piece_made : (p : Source) (yard s : EventOrder) → s ≡ yard → (r : Reducers) (l : Layout) (cells : List ℤ) (views : Hypermap) (value : ℤ) → LaysOut p l
     → length p.openings ≤ length s.opening → ((c : ℕ) → slice_index_or s.opening c (pos 0) ≡ opening_cells p [] c) → AreFinal yard cells
     → (from upto : ℕ) → from ≡ 1 → upto ≡ length s.events + 1 → ShowsRange (kind_in r) views (events_over s r from upto) → IsMadeOf p s r value (outcome_of l cells views value)
 piece_made p yard s same r l cells views value laid many opens final from upto first end shows =
-    made_is p s r l cells views value laid many opens (subst (λ (z : Story). AreFinal z cells) (sym same) final)
+    made_is p s r l cells views value laid many opens (subst (λ (z : EventOrder). AreFinal z cells) (sym same) final)
     (subst (λ (n : ℕ). ShowsRange (kind_in r) views (events_over s r 1 n)) end (subst (λ (n : ℕ). ShowsRange (kind_in r) views (events_over s r n upto)) first shows))

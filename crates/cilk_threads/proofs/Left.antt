@@ -10,7 +10,7 @@ use Rattle.cilk_program.specs.Sources.{source}
 use Rattle.cilk_program.specs.Syntax.{Source}
 use Rattle.cilk_types.specs.declared.limits.TheConstants.{MAX_EVENTS, MAX_TICKS}
 use Rattle.cilk_program.proofs.Uniqueness.{serial_run_is_one}
-use Rattle.cilk_tree.specs.declared.story.Story.{Story}
+use Rattle.cilk_tree.specs.declared.event_order.EventOrder.{EventOrder}
 use Rattle.cilk_tree.specs.Orders.{IsOrderly}
 use Rattle.cilk_tree.specs.Runs.{IsAsked, IsFollowed}
 use Rattle.cilk_tree.specs.Along.{DepartsNowhere}
@@ -19,17 +19,17 @@ use Rattle.cilk_shared.specs.declared.reducers.Reducers.{Reducers}
 use Rattle.cilk_runs.specs.Runs.{Run}
 use Rattle.cilk_runs.specs.Traces.{trace}
 use Rattle.cilk_runs.specs.Steps.{result_in}
-use Rattle.cilk_runs.specs.Worlds.{World}
+use Rattle.cilk_runs.specs.FrameEnvs.{FrameEnv}
 use Rattle.cilk_determinacy.specs.Nested.{named}
 use Rattle.cilk_determinacy.specs.Words.{InputsAreWords}
 use Rattle.cilk_replay.specs.InputCourses.{run_of}
 use Rattle.cilk_replay.specs.Ends.{RunsAsCourse, InputsRunAlong}
 use Rattle.cilk_replay.specs.Frames.{course_on, ProgramsHaveOneCourse}
 use Rattle.cilk_replay.specs.Left.{left_by, RunsAreElided}
-use Rattle.cilk_replay.specs.Stories.{IsPlannedRun}
+use Rattle.cilk_replay.specs.EventOrders.{IsPlannedRun}
 use Rattle.cilk_replay.proofs.LastEnds.{serial_result}
 use Rattle.cilk_checker.specs.Determinate.{AcceptedRun, HasDeterminateRun}
-use Rattle.cilk_plan.specs.Plans.{IsPlanOf, IsStoryOn}
+use Rattle.cilk_plan.specs.Plans.{IsPlanOf, IsEventOrderOn}
 use Rattle.cilk_threads.specs.Accepted.{IsTableOf}
 use Rattle.cilk_threads.specs.Finals.{IsMadeOf}
 use Rattle.cilk_threads.specs.Tables.{AreReducersOf}
@@ -40,14 +40,14 @@ use Rattle.cilk_threads.specs.Outcomes.{LeavesOn, IsOutcomeOn}
 use Rattle.cilk_threads.proofs.Alike.{same_frames, table_along}
 
 -- where the last event is followed, each is asked for
-all_asked : (s : Story) → IsOrderly s → IsFollowed s (length s.events) → (p : ℕ) → IsPosition s.events p → IsAsked s p
+all_asked : (s : EventOrder) → IsOrderly s → IsFollowed s (length s.events) → (p : ℕ) → IsPosition s.events p → IsAsked s p
 all_asked s order followed p (low, high) = by (cases_lt p (length s.events))
   where
     by : (p < length s.events) ⊎ (length s.events ≤ p) → IsAsked s p
     by (inl less) = followed p (inr (order.all p low less))
     by (inr more) = followed p (inl (omega (arith, high, more)))
 
-pub nowhere : (s : Story) → IsOrderly s → IsFollowed s (length s.events) → DepartsNowhere s
+pub nowhere : (s : EventOrder) → IsOrderly s → IsFollowed s (length s.events) → DepartsNowhere s
 nowhere s order followed p h = h.differs (all_asked s order followed p h.place)
 
 same_outcome : (o o' : Outcome) → Leaves o ≡ Leaves o' → o ≡ o'
@@ -56,15 +56,15 @@ same_outcome o o' h = cc h
 one_outcome : (p : Source) (inputs : List ℤ) (r r' : Transcript) (es es' : List Event) (o o' : Outcome) → IsSerialRun p inputs r es (Leaves o) → IsSerialRun p inputs r' es' (Leaves o') → o ≡ o'
 one_outcome p inputs r r' es es' o o' h h' = let e = serial_run_is_one p inputs MAX_TICKS MAX_EVENTS r r' es es' (Leaves o) (Leaves o') h h' in same_outcome o o' e.2
 
-module _ (courses : ProgramsHaveOneCourse) (along : InputsRunAlong) (elided : RunsAreElided) (a : AcceptedRun) (whole : HasDeterminateRun a) (plan s : Story) (inputs : List ℤ) (words : InputsAreWords inputs) where
-  runs_as : IsPlanOf a plan → IsOrderly plan → (told : IsStoryOn a plan.opening inputs s) → DepartsNowhere s
+module _ (courses : ProgramsHaveOneCourse) (along : InputsRunAlong) (elided : RunsAreElided) (a : AcceptedRun) (whole : HasDeterminateRun a) (plan s : EventOrder) (inputs : List ℤ) (words : InputsAreWords inputs) where
+  runs_as : IsPlanOf a plan → IsOrderly plan → (told : IsEventOrderOn a plan.opening inputs s) → DepartsNowhere s
       → RunsAsCourse (source a.program) inputs (run_of (course_on (source a.program) inputs (named (source a.program) told.run))) s
   runs_as is order told departs =
       subst (RunsAsCourse (source a.program) inputs (run_of (course_on (source a.program) inputs (named (source a.program) told.run)))) (sym told.is)
       (along (source a.program) a.input inputs told.run a.trace plan.opening told.of_run words (subst IsOrderly is.story order) (subst DepartsNowhere told.is departs))
 
   -- the outcome that is made of the whole piece is that of each serial run
-  pub left_on : (r : Reducers) (value : ℤ) (o : Outcome) → IsPlanOf a plan → IsOrderly plan → IsStoryOn a plan.opening inputs s → IsTableOf a r → DepartsNowhere s
+  pub left_on : (r : Reducers) (value : ℤ) (o : Outcome) → IsPlanOf a plan → IsOrderly plan → IsEventOrderOn a plan.opening inputs s → IsTableOf a r → DepartsNowhere s
       → ((run : Transcript) (es : List Event) (opening : List ℤ) → IsPlannedRun (source a.program) a.input run es opening
       → result_in (reverse (trace (run_of (course_on (source a.program) inputs (named (source a.program) run))))) ≡ value)
       → IsMadeOf (source a.program) s r value o → IsOutcomeOn (source a.program) inputs o
@@ -94,7 +94,7 @@ module _ (courses : ProgramsHaveOneCourse) (along : InputsRunAlong) (elided : Ru
       by_names : o ≡ left_by (source a.program) inputs (run_of (course_on (source a.program) inputs (named (source a.program) told.run)))
       by_names =
           course_left (source a.program) a.input inputs told.run a.trace plan.opening r told.of_run words own_table value o
-          (subst (λ (z : Story). IsMadeOf (source a.program) z r value o) told.is made) course_result
+          (subst (λ (z : EventOrder). IsMadeOf (source a.program) z r value o) told.is made) course_result
 
       only : (o' : Outcome) → LeavesOn (source a.program) inputs o' → o ≡ o'
       only o' (run, es, serial) =
@@ -106,7 +106,7 @@ module _ (courses : ProgramsHaveOneCourse) (along : InputsRunAlong) (elided : Ru
           (table_along p told.run run r (same_frames courses p inputs told.run run e.0)
           (runs_start_no_root p a.input told.run a.trace (Leaves x.outcome) x.named x.runs)
           (runs_start_no_root p inputs run es (Leaves o') x.named serial) own_table)
-          (sym (serial_result p inputs run es o' serial) ∙ ap (λ (t : Run World). result_in (reverse (trace t))) e.0 ∙ course_result)
+          (sym (serial_result p inputs run es o' serial) ∙ ap (λ (t : Run FrameEnv). result_in (reverse (trace t))) e.0 ∙ course_result)
 
 -- on the plan's own input it is what the accepted run left
 pub own_outcome : (a : AcceptedRun) → HasDeterminateRun a → (inputs : List ℤ) (o : Outcome) → IsOutcomeOn (source a.program) inputs o → inputs ≡ a.input → o ≡ a.outcome

@@ -19,15 +19,15 @@ use Rattle.cilk_program.specs.Syntax.{Source}
 use Rattle.cilk_program.specs.WellNamed.{is_well_named}
 use Rattle.cilk_program.proofs.Existence.{serial_run_is_short}
 use Rattle.cilk_program.proofs.Uniqueness.{serial_run_is_one}
-use Rattle.cilk_tree.specs.declared.story.Story.{Story}
+use Rattle.cilk_tree.specs.declared.event_order.EventOrder.{EventOrder}
 use Rattle.cilk_shared.specs.declared.reducers.Reducers.{Reducers}
 use Rattle.cilk_shared.specs.Reducers.{kind_in}
 use Rattle.cilk_runs.specs.Monoids.{unit_of}
 use Rattle.cilk_runs.specs.Runs.{Cell, Global, Own, Run}
 use Rattle.cilk_runs.specs.Traces.{trace, begin_due}
-use Rattle.cilk_runs.specs.WorldMachine.{next, opening_values}
+use Rattle.cilk_runs.specs.FrameEnvMachine.{next, opening_values}
 use Rattle.cilk_runs.specs.Reducers.{monoid_of}
-use Rattle.cilk_runs.specs.Worlds.{World, first_world, child_world}
+use Rattle.cilk_runs.specs.FrameEnvs.{FrameEnv, first_world, child_world}
 use Rattle.cilk_determinacy.specs.Nested.{named, named_from}
 use Rattle.cilk_determinacy.specs.Numbers.{cell_number, instance_number, numbered_events, AreNumbered}
 use Rattle.cilk_determinacy.specs.Theorem.{IsNumbered}
@@ -40,12 +40,12 @@ use Rattle.cilk_determinacy.proofs.Wordy.{opening_word}
 use Rattle.cilk_replay.specs.InputCourses.{Course, run_of, all_asked, asked_in}
 use Rattle.cilk_replay.specs.Frames.{same_frame, course_on}
 use Rattle.cilk_replay.specs.Lists.{with_values}
-use Rattle.cilk_replay.specs.Stories.{story_on, IsPlannedRun}
+use Rattle.cilk_replay.specs.EventOrders.{story_on, IsPlannedRun}
 use Rattle.cilk_replay.proofs.CourseFrames.{runs_are_courses}
 use Rattle.cilk_replay.proofs.CourseRuns.{run_all}
 use Rattle.cilk_replay.proofs.CourseWords.{RunWords, words_else, all_else, next_words, whole_words}
-use Rattle.cilk_replay.proofs.StoryValues.{serial, course}
-use Rattle.cilk_threads.specs.Numbers.{HasAskedNumbers, StoriesAlongHaveNumbers, AcceptedStoriesHaveNumbers}
+use Rattle.cilk_replay.proofs.EventOrderValues.{serial, course}
+use Rattle.cilk_threads.specs.Numbers.{HasAskedNumbers, EventOrdersAlongHaveNumbers, AcceptedEventOrdersHaveNumbers}
 use Rattle.cilk_threads.specs.Tables.{AreReducersOf, HaveTheirKinds}
 use Rattle.cilk_threads.proofs.AskedNumbers.{Held, AreAskedNumbers, numbers_at}
 use Rattle.cilk_threads.proofs.Lasting.{over_from, retires_own}
@@ -55,7 +55,7 @@ use Rattle.cilk_threads.proofs.ViewsAlong.{StartsThere, at_hand, Tied, Along, va
 
 -- ---- frames that are started
 abbrev AllThere : Source → Transcript → Type 0
-AllThere p r = (w : World) (j : ℕ) → StartsThere p (named_from p w j r)
+AllThere p r = (w : FrameEnv) (j : ℕ) → StartsThere p (named_from p w j r)
 
 module _ (p : Source) (inputs : List ℤ) (well : IsTrue (is_well_named p)) where
   starts_there : {fr : Frame} {start : ℕ} {history : List ℤ} {m : Memory} {r : Transcript} {es : List numbers.Event} {end : Ending} → Serial p inputs fr start history m r es end
@@ -76,13 +76,13 @@ all_there p inputs r es c well (end, d, e) = starts_there p inputs well d tt (fi
 -- ---- along a plan
 module _ (p : Source) (inputs others : List ℤ) (run : Transcript) (es : List numbers.Event) (opening : List ℤ) (r : Reducers)
     (is : IsPlannedRun p inputs run es opening) (are : InputsAreWords others) (table : AreReducersOf p run r) where
-  abbrev t : Run World
+  abbrev t : Run FrameEnv
   t = named p run
 
-  abbrev c : Course World
+  abbrev c : Course FrameEnv
   c = course_on p others t
 
-  abbrev s : Story
+  abbrev s : EventOrder
   s = story_on p others run es opening
 
   pub kinds : HaveTheirKinds p run r
@@ -150,7 +150,7 @@ module _ (p : Source) (inputs others : List ℤ) (run : Transcript) (es : List n
       numbers_at r 0 first_views (with_values es (trace (run_of c))) (asked_in c) right (q - 1) i v at asked
       ∙ ap (λ l. S.number (view_of S i l)) (sym (over_from s r (q - 1) (omega (arith, within))))
 
-pub stories_have_numbers : StoriesAlongHaveNumbers
+pub stories_have_numbers : EventOrdersAlongHaveNumbers
 stories_have_numbers p inputs others run es opening r is are table = have_numbers p inputs others run es opening r is are table
 
 one_outcome : (p : Source) (inputs : List ℤ) (r r' : Transcript) (es es' : List numbers.Event) (o o' : Outcome) → IsSerialRun p inputs r es (Leaves o) → IsSerialRun p inputs r' es' (Leaves o')
@@ -162,12 +162,12 @@ one_outcome p inputs r r' es es' o o' h h' =
     same_outcome : (o o' : Outcome) → Leaves o ≡ Leaves o' → o ≡ o'
     same_outcome o o' h = cc h
 
-pub accepted_have_numbers : AcceptedStoriesHaveNumbers
+pub accepted_have_numbers : AcceptedEventOrdersHaveNumbers
 accepted_have_numbers a opening inputs s r whole table are told q i v follows at =
     let p = source a.program in
     let x = told.of_run in
     let own = whole.1.ended.ran in
     let same = one_outcome p a.input told.run own.run a.trace a.trace x.outcome a.outcome x.runs own.serial in
     let mine = table.frames told.run (subst (λ (o : Outcome). IsSerialRun p a.input told.run a.trace (Leaves o)) same x.runs) in
-    let have = subst (λ (z : Story). HasAskedNumbers z r) (sym told.is) (stories_have_numbers p a.input inputs told.run a.trace opening r x are mine) in
+    let have = subst (λ (z : EventOrder). HasAskedNumbers z r) (sym told.is) (stories_have_numbers p a.input inputs told.run a.trace opening r x are mine) in
     have q i v (follows q (inl refl)) at

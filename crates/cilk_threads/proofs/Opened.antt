@@ -30,7 +30,7 @@ use Rattle.cilk_program.proofs.Closings.{View, Begins as BeginsNow, Opens as Ope
 use Rattle.cilk_runs.specs.Runs.{Name, Reducer, Event, Reads, Writes, Syncs, Ends, Passes, Begins, Resumes, Creates, Updates, Sets, Values, Prints, Run}
 use Rattle.cilk_runs.specs.Runs as runs
 use Rattle.cilk_runs.specs.Traces.{Due as DueNext, begin_due, resume_due, neither_due, IsFramed}
-use Rattle.cilk_runs.specs.Worlds.{Sight, World, world_of, first_world, child_world, reducer_seen}
+use Rattle.cilk_runs.specs.FrameEnvs.{Sight, FrameEnv, world_of, first_world, child_world, reducer_seen}
 use Rattle.cilk_determinacy.specs.Nested.{named_event, named_from, named}
 use Rattle.cilk_determinacy.specs.Numbers.{up, frame_runs, all_reducers, IsHere}
 use Rattle.cilk_determinacy.proofs.Determinate.{serial_numbered}
@@ -39,37 +39,37 @@ use Rattle.cilk_determinacy.proofs.Numbers.{up_more}
 use Rattle.cilk_determinacy.proofs.Sights.{Ahead, root_here}
 
 -- the frame creates its reducers of these monoids, from this place on
-abbrev pub Opens : Name → ℕ → List MonoidKind → Run World → Type 0
+abbrev pub Opens : Name → ℕ → List MonoidKind → Run FrameEnv → Type 0
 Opens name n [] t = Unit {0}
 Opens name n (k ∷ ks) (runs.act (Writes c v) t) = Opens name n (k ∷ ks) t
 Opens name n (k ∷ ks) (runs.act (Passes (Creates i)) t) = (i ≡ Reducer name n k) × Opens name (suc n) ks t
 Opens name n (k ∷ ks) t = ⊥
 
 -- right behind its `begin`
-abbrev pub BeginsOpened : Source → World → Run World → Type 0
+abbrev pub BeginsOpened : Source → FrameEnv → Run FrameEnv → Type 0
 BeginsOpened p w (runs.act (Passes Begins) t) = Opens w.name 0 (all_reducers p w.callee) t
 BeginsOpened p w t = ⊥
 
 -- a frame of the run of the first frame
-pub record IsFrameOf (p : Source) (whole : Transcript) (w : World) (u : Run World) : Type 0 where
+pub record IsFrameOf (p : Source) (whole : Transcript) (w : FrameEnv) (u : Run FrameEnv) : Type 0 where
   pub here : IsHere p whole w.name
   pub runs : frame_runs whole here.path ≡ Some w.callee
   pub opened : BeginsOpened p w u
 
 -- each frame that is started in the run is one
-abbrev pub AllFrames : Source → Transcript → Run World → Type 0
+abbrev pub AllFrames : Source → Transcript → Run FrameEnv → Type 0
 AllFrames p whole runs.stop = Unit {0}
 AllFrames p whole (runs.act e t) = AllFrames p whole t
 AllFrames p whole (runs.child k w u t) = IsFrameOf p whole w u × AllFrames p whole u × AllFrames p whole t
 
 -- ---- what is due is made
-abbrev IsDue : World → Name → ℕ → List MonoidKind → List Ask → Type 0
+abbrev IsDue : FrameEnv → Name → ℕ → List MonoidKind → List Ask → Type 0
 IsDue w name n [] due = Unit {0}
 IsDue w name n (k ∷ ks) (asks.Write x v ∷ due) = IsDue w name n (k ∷ ks) due
 IsDue w name n (k ∷ ks) (asks.Create c ∷ due) = (reducer_seen w c ≡ Reducer name n k) × IsDue w name (suc n) ks due
 IsDue w name n (k ∷ ks) due = ⊥
 
-module _ (p : Source) (w : World) (name : Name) where
+module _ (p : Source) (w : FrameEnv) (name : Name) where
   dues_open : (n : ℕ) (ks : List MonoidKind) (due : List Ask) → IsDue w name n ks due → (j : ℕ) (r : Transcript) → IsOrderly p (opened due) r
       → IsFramed neither_due (named_from p w j r) → Opens name n ks (named_from p w j r)
   dues_open n [] due d j r o f = tt
@@ -106,7 +106,7 @@ all_due : (p : Source) (name : Name) (sight : Sight) (callee : Callee) → (call
     → IsDue (world_of p name sight callee) name 0 (all_reducers p callee) (opening_asks p callee)
 all_due p name sight callees.Root root =
     let f = main_of p in
-    let w : World = world_of p name sight callees.Root in
+    let w : FrameEnv = world_of p name sight callees.Root in
     let l = length p.reducers in
     let own = due_creations p w name (reducers.Own 0) l (λ n k. refl) 0 f.reducers [] [] tt in
     let z : l + 0 ≡ 0 + 0 + l = omega arith in
@@ -118,7 +118,7 @@ all_due p name sight callees.Root root =
     globals n k e = let z : n ≡ 0 + n = omega arith in ap (λ (m : ℕ). Reducer [] m k) z ∙ ap (λ (l : Name). Reducer l (0 + n) k) (sym e)
 all_due p name sight (callees.Function c) root =
     let f = function_at p c.function in
-    let w : World = world_of p name sight (callees.Function c) in
+    let w : FrameEnv = world_of p name sight (callees.Function c) in
     let own = due_creations p w name (reducers.Own 0) 0 (λ n k. refl) 0 f.reducers [] [] tt in
     due_writes p w name 0 f.reducers 0 c.words (creations (reducers.Own 0) 0 f.reducers)
     (subst (λ (ks : List MonoidKind). IsDue w name 0 ks (creations (reducers.Own 0) 0 f.reducers)) (append-nil f.reducers)
@@ -185,7 +185,7 @@ order_after p r Synced k (EndsNow {v = v}) = inr (v, refl)
 order_after p r Closing k (EndsThen {v = v}) = inr (v, refl)
 
 -- what comes after an event of a framed run is framed
-framed_after : (due : DueNext) (e : Event) (t : Run World) → IsFramed due (runs.act e t) → ((due' : DueNext) × IsFramed due' t) ⊎ (t ≡ runs.stop)
+framed_after : (due : DueNext) (e : Event) (t : Run FrameEnv) → IsFramed due (runs.act e t) → ((due' : DueNext) × IsFramed due' t) ⊎ (t ≡ runs.stop)
 framed_after begin_due (Passes Begins) t f = inl (neither_due, f)
 framed_after resume_due (Passes Resumes) t f = inl (neither_due, f)
 framed_after neither_due (Reads c v) t f = inl (neither_due, f)
@@ -199,27 +199,27 @@ framed_after neither_due (Passes (Values i n)) t f = inl (neither_due, f)
 framed_after neither_due (Passes (Prints x)) t f = inl (neither_due, f)
 framed_after due e t f = absurd f
 
-framed_child : (due : DueNext) (how : _) (w : World) (u t : Run World) → IsFramed due (runs.child how w u t) → IsFramed begin_due u × IsFramed resume_due t
+framed_child : (due : DueNext) (how : _) (w : FrameEnv) (u t : Run FrameEnv) → IsFramed due (runs.child how w u t) → IsFramed begin_due u × IsFramed resume_due t
 framed_child neither_due how w u t f = f
 framed_child due how w u t f = absurd f
 
 module _ (p : Source) (whole : Transcript) where
-  act_frames : (w : World) (j : ℕ) (k : Ask) (v : ℤ) (r : Transcript) → IsOwnAt k r → ((s : Stage) × IsOrderly p s r) ⊎ ((x : ℤ) × (k ≡ asks.End x))
+  act_frames : (w : FrameEnv) (j : ℕ) (k : Ask) (v : ℤ) (r : Transcript) → IsOwnAt k r → ((s : Stage) × IsOrderly p s r) ⊎ ((x : ℤ) × (k ≡ asks.End x))
       → ((due : DueNext) × IsFramed due (named_from p w (suc j) r)) ⊎ (named_from p w (suc j) r ≡ runs.stop)
       → ((s : Stage) (due : DueNext) → IsOrderly p s r → IsFramed due (named_from p w (suc j) r) → AllFrames p whole (named_from p w (suc j) r)) → AllFrames p whole (named_from p w (suc j) r)
   act_frames w j k v r own (inl o) (inl f) rest = rest o.0 f.0 o.1 f.1
   act_frames w j k v r own (inr e) f rest = subst (λ (r : Transcript). AllFrames p whole (named_from p w (suc j) r)) (sym (subst (λ (k : Ask). IsOwnAt k r) e.1 own)) tt
   act_frames w j k v r own (inl o) (inr e) rest = subst (AllFrames p whole) (sym e) tt
 
-  rest_frames : (w : World) (j : ℕ) (how : Invocation) (callee : Callee) (r : Transcript) → ((s : Stage) × IsOrderly p s r) ⊎ ((x : ℤ) × (asks.Invoke how callee ≡ asks.End x))
+  rest_frames : (w : FrameEnv) (j : ℕ) (how : Invocation) (callee : Callee) (r : Transcript) → ((s : Stage) × IsOrderly p s r) ⊎ ((x : ℤ) × (asks.Invoke how callee ≡ asks.End x))
       → ((s : Stage) → IsOrderly p s r → AllFrames p whole (named_from p w (suc (suc j)) r)) → AllFrames p whole (named_from p w (suc (suc j)) r)
   rest_frames w j how callee r (inl o) rest = rest o.0 o.1
   rest_frames w j how callee r (inr e) rest = absurd (cc e.1)
 
-  child_name : (w : World) (path : List ℕ) (j : ℕ) → w.name ≡ up path → w.name ++ suc j ∷ [] ≡ up (path ++ j ∷ [])
+  child_name : (w : FrameEnv) (path : List ℕ) (j : ℕ) → w.name ≡ up path → w.name ++ suc j ∷ [] ≡ up (path ++ j ∷ [])
   child_name w path j is = ap (λ (l : Name). l ++ suc j ∷ []) is ∙ sym (up_more path j)
 
-  abbrev child_at_here : (w : World) (path : List ℕ) (j : ℕ) (how : Invocation) (callee : Callee) (u r : Transcript) (n : Counts) → w.name ≡ up path → Ahead p whole path j (child how callee u r) n → IsHere p whole (w.name ++ suc j ∷ [])
+  abbrev child_at_here : (w : FrameEnv) (path : List ℕ) (j : ℕ) (how : Invocation) (callee : Callee) (u r : Transcript) (n : Counts) → w.name ≡ up path → Ahead p whole path j (child how callee u r) n → IsHere p whole (w.name ++ suc j ∷ [])
   child_at_here w path j how callee u r n is a = record {
     path = path ++ j ∷ [];
     named = child_name w path j is;
@@ -230,7 +230,7 @@ module _ (p : Source) (whole : Transcript) where
   child_runs_here : (path : List ℕ) (j : ℕ) (how : Invocation) (callee : Callee) (u r : Transcript) (n : Counts) → Ahead p whole path j (child how callee u r) n → frame_runs whole (path ++ j ∷ []) ≡ Some callee
   child_runs_here path j how callee u r n a = let e : j + 0 ≡ j = omega arith in subst (λ (j : ℕ). frame_runs whole (path ++ j ∷ []) ≡ Some callee) e (a.runs 0 [])
 
-  all_frames : (w : World) (path : List ℕ) (j : ℕ) (s : Stage) (r : Transcript) (n : Counts) (due : DueNext) → w.name ≡ up path → Ahead p whole path j r n → IsOrderly p s r → StartsNoRoot r
+  all_frames : (w : FrameEnv) (path : List ℕ) (j : ℕ) (s : Stage) (r : Transcript) (n : Counts) (due : DueNext) → w.name ≡ up path → Ahead p whole path j r n → IsOrderly p s r → StartsNoRoot r
       → IsFramed due (named_from p w (suc j) r) → AllFrames p whole (named_from p w (suc j) r)
   all_frames w path j s stop n due is a o z f = tt
   all_frames w path j s (act k v r) n due is a o z f =

@@ -5,7 +5,7 @@ use Rattle.crossbeam_deque.specs.Handles.{Pass}
 use Rattle.crossbeam_deque.specs.declared.handles.Stealer.{Stealer}
 use Rattle.cilk_replay.specs.declared.chain.Task.{Task}
 use Rattle.cilk_workers.specs.declared.rack.Offers.{Offers}
-use Rattle.cilk_threads.specs.Kits.{IsTake}
+use Rattle.cilk_threads.specs.WorkerSeeds.{IsTake}
 use Rattle.cilk_threads.proofs.Popped.{more}
 
 module _ {A P : Type 0} where

@@ -36,7 +36,7 @@ use Rattle.cilk_peers.specs.Frames.{IsFrame}
 use Rattle.cilk_peers.specs.Peers.{SamePeers}
 use Rattle.cilk_peers.specs.ViewRaces.{ReadsReducer, UsesReducer, HasNoViewRace, AreCreatedBeforeUse}
 use Rattle.cilk_peers.proofs.Frames.{frames_keep_peers}
-use Rattle.cilk_tree.specs.declared.story.Story.{Story}
+use Rattle.cilk_tree.specs.declared.event_order.EventOrder.{EventOrder}
 use Rattle.cilk_tree.specs.Word.{event, after, what, Before, plain, spawn}
 use Rattle.cilk_tree.proofs.Events.{mark_at, spawn_mark, begin_what}
 use Rattle.cilk_tree.specs.Planned.{planned}
@@ -47,7 +47,7 @@ use Rattle.cilk_shared.specs.Reducers.{own, ends_from, retired, frame_in, of_eve
 use Rattle.cilk_shared.specs.Settled.{Settles}
 use Rattle.cilk_runs.specs.Runs.{Name, Reducer, Writes, Passes, Begins, Creates, Run}
 use Rattle.cilk_runs.specs.Runs as runs
-use Rattle.cilk_runs.specs.Worlds.{World, before_own}
+use Rattle.cilk_runs.specs.FrameEnvs.{FrameEnv, before_own}
 use Rattle.cilk_determinacy.specs.Nested.{named}
 use Rattle.cilk_determinacy.specs.Numbers.{frame_number, instance_number, start_event, numbered_event, numbered_events, all_reducers, EventIsHere, AreHere}
 use Rattle.cilk_determinacy.proofs.Creations.{have_creations}
@@ -75,7 +75,7 @@ module _ (p : Source) (r : Transcript) where
       quiet zero le = (e, refl, still)
       quiet (suc y) le = h.quiet y (omega (arith, le))
 
-  opens_at : (name : Name) (n : ℕ) (ks : List MonoidKind) (t : Run World) → Opens name n ks t → (m : ℕ) → m < length ks → IsMade (numbered_events p r name t) name (n + m)
+  opens_at : (name : Name) (n : ℕ) (ks : List MonoidKind) (t : Run FrameEnv) → Opens name n ks t → (m : ℕ) → m < length ks → IsMade (numbered_events p r name t) name (n + m)
   opens_at name n [] t o m less = absurd (omega (arith, less))
   opens_at name n (k ∷ ks) (runs.act (Writes c v) t) o m less = made_later (numbered_events p r name t) name (n + m) _ refl (opens_at name n (k ∷ ks) t o m less)
   opens_at name n (k ∷ ks) (runs.act (Passes (Creates i)) t) o zero less = record {
@@ -99,7 +99,7 @@ module _ (p : Source) (r : Transcript) where
     is : slice_get es (suc place) ≡ Some (events.Create (record { frame = frame_number p r name; place = suc n }))
     quiet : (y : ℕ) → y ≤ place → (e : numbers.Event) × (slice_get es (suc y) ≡ Some e) × (begun_by (mark_of e) ≡ 0)
 
-  begun_made : (w : World) (u : Run World) → BeginsOpened p w u → (m : ℕ) → m < length (all_reducers p w.callee) → IsMadeBehind (numbered_events p r w.name u) w.name m
+  begun_made : (w : FrameEnv) (u : Run FrameEnv) → BeginsOpened p w u → (m : ℕ) → m < length (all_reducers p w.callee) → IsMadeBehind (numbered_events p r w.name u) w.name m
   begun_made w (runs.act (Passes Begins) t) o m less =
       let h = opens_at w.name 0 (all_reducers p w.callee) t o m less in
       let z : 0 + m ≡ m = omega arith in
@@ -192,7 +192,7 @@ module _ (p : Source) (r : Transcript) where
   start_placed Call n i e = cc e
   start_placed Spawn n i e = cc e
 
-  create_placed : (name : Name) (t : Run World) → AreHere p r t → (j : ℕ) (i : numbered.Instance) → slice_get (numbered_events p r name t) j ≡ Some (events.Create i) → (n : ℕ) × (i.place ≡ suc n)
+  create_placed : (name : Name) (t : Run FrameEnv) → AreHere p r t → (j : ℕ) (i : numbered.Instance) → slice_get (numbered_events p r name t) j ≡ Some (events.Create i) → (n : ℕ) × (i.place ≡ suc n)
   create_placed name runs.stop h j i is = let z : None ≡ Some (events.Create i) = is in absurd (cc z)
   create_placed name (runs.act e t) h zero i is = mark_placed name e i h.0 (at_some _ i is)
   create_placed name (runs.act e t) h (suc j) i is = create_placed name t h.1 j i is
@@ -282,7 +282,7 @@ resets_mention i (e ∷ es) (inr h) = inr (resets_mention i es h)
 -- ---- a run
 module _ (p : Source) (inputs : List ℤ) (run : Transcript) (es : List numbers.Event) (outcome : Outcome) (opening : List ℤ) (shape : Shape) (r : Reducers)
     (well : IsTrue (is_well_named p)) (runs : IsSerialRun p inputs run es (Leaves outcome)) (spells : Spells shape es) (free : HasNoViewRace (tree shape) es) (table : AreReducersOf p run r) where
-  abbrev s : Story
+  abbrev s : EventOrder
   s = planned es opening
 
   created : AreCreated [] es

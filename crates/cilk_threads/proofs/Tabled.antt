@@ -35,7 +35,7 @@ use Rattle.cilk_program.proofs.Naming.{well_named_parts}
 use Rattle.cilk_serial.specs.SoFar.{begun_in}
 use Rattle.cilk_tree.specs.declared.mark.Mark.TheVariants as mark
 use Rattle.cilk_tree.specs.Races.{event_at}
-use Rattle.cilk_tree.specs.declared.story.Story.{Story}
+use Rattle.cilk_tree.specs.declared.event_order.EventOrder.{EventOrder}
 use Rattle.cilk_tree.specs.Word.{event}
 use Rattle.cilk_tree.proofs.Events.{mark_at}
 use Rattle.cilk_tree.specs.declared.kind.Kind.{Kind}
@@ -305,7 +305,7 @@ pub table_of : (a : AcceptedRun) → HasDeterminateRun a → IsTrue (is_well_nam
 table_of a is well placed list are laid = record {
   frames = told;
   kinds = λ run serial. kinds_told (source a.program) run (record { frames = list }) (told run serial);
-  settled = λ plan s of_run along. along_settled plan s (record { frames = list }) along (subst (λ (z : Story). AreSettled z (record { frames = list })) (sym of_run.story) (in_run plan.opening));
+  settled = λ plan s of_run along. along_settled plan s (record { frames = list }) along (subst (λ (z : EventOrder). AreSettled z (record { frames = list })) (sym of_run.story) (in_run plan.opening));
   quiet = λ plan s of_run along.
       let here = first_begins plan of_run.story in
       no_event (record { frames = list }) (frame_in s.events 1) here.0 (event s 1) (kind_at plan s along ∙ here.1);
@@ -319,8 +319,8 @@ table_of a is well placed list are laid = record {
         let ran = is.1.ended.ran in
         runs_settled (source a.program) a.input ran.run a.trace a.outcome opening is.0 (record { frames = list }) well ran.serial is.1.ended.spells is.1.view_races (told ran.run ran.serial)
 
-    first_begins : (plan : Story) → plan ≡ planned a.trace plan.opening → (f : ℕ) × (option_map plan_kind (event plan 1) ≡ Some (kinds.Begin f))
-    first_begins plan e = subst (λ (z : Story). (f : ℕ) × (option_map plan_kind (event z 1) ≡ Some (kinds.Begin f))) (sym e) (a_begin (event_at a.trace 1) (first_mark is.0 a.trace is.1.ended.spells))
+    first_begins : (plan : EventOrder) → plan ≡ planned a.trace plan.opening → (f : ℕ) × (option_map plan_kind (event plan 1) ≡ Some (kinds.Begin f))
+    first_begins plan e = subst (λ (z : EventOrder). (f : ℕ) × (option_map plan_kind (event z 1) ≡ Some (kinds.Begin f))) (sym e) (a_begin (event_at a.trace 1) (first_mark is.0 a.trace is.1.ended.spells))
 
-    kind_at : (plan s : Story) → IsAlong plan s → option_map plan_kind (event s 1) ≡ option_map plan_kind (event plan 1)
+    kind_at : (plan s : EventOrder) → IsAlong plan s → option_map plan_kind (event s 1) ≡ option_map plan_kind (event plan 1)
     kind_at plan s along = sym (slice_get-map plan_kind s.events 0) ∙ ap (λ (ks : List Kind). slice_get ks 0) along.kinds ∙ slice_get-map plan_kind plan.events 0

@@ -1,6 +1,6 @@
 -- Along a course the views by names are those by numbers, and each value that is asked for is its view's number: `course_numbers`.
 --
--- - `AtHand`: at each `end` of a plan's run its own frame is at hand, and retires its own reducers;
+-- - `AtActivity`: at each `end` of a plan's run its own frame is at hand, and retires its own reducers;
 -- - `IsSameFrame`: a frame of the course and the plan's have one name and one list of own reducers;
 -- - `valued_numbers`: the plan's list with the course's values is the course by numbers;
 -- - `felt_tied`: what an event makes of the views by names and by numbers.
@@ -40,9 +40,9 @@ use Rattle.cilk_runs.specs.Serial.{value_after}
 use Rattle.cilk_runs.specs.Traces.{trace, Due, begin_due, resume_due, neither_due, IsFramed}
 use Rattle.cilk_runs.specs.Views.{view_after, IsViewRight}
 use Rattle.cilk_runs.proofs.Basics.{same_name-eq, same_instance-refl, same_instance-eq}
-use Rattle.cilk_runs.specs.WorldMachine.{named_ask, answers_of, has_ended, asked_after, next, retired_from, retired_by}
+use Rattle.cilk_runs.specs.FrameEnvMachine.{named_ask, answers_of, has_ended, asked_after, next, retired_from, retired_by}
 use Rattle.cilk_runs.specs.Reducers.{View, value_of, kind_of, monoid_of}
-use Rattle.cilk_runs.specs.Worlds.{World, child_world, before_own}
+use Rattle.cilk_runs.specs.FrameEnvs.{FrameEnv, child_world, before_own}
 use Rattle.cilk_determinacy.specs.Numbers.{all_reducers, frame_number, instance_number, start_event, numbered_event, numbered_events, HasCell, HasInstance, EventIsHere, AreHere, cell_number}
 use Rattle.cilk_determinacy.proofs.Numbers.{one_to_one}
 use Rattle.cilk_replay.specs.InputCourses.{Course, stop, act, child, run_of, asked_in, IsLike, IsMadeFor, IsStartedFor, IsCourse}
@@ -56,24 +56,24 @@ use Rattle.cilk_threads.proofs.Opened.{IsFrameOf, AllFrames, there_fit, there_no
 use Rattle.cilk_threads.proofs.Tabled.{no_output}
 
 -- ---- what a frame asks for
-record IsInvoked (a : language.Ask) (x : World) : Type 0 where
+record IsInvoked (a : language.Ask) (x : FrameEnv) : Type 0 where
   how : Invocation
   callee : Callee
   invokes : a ≡ asks.Invoke how callee
   started_as : x.callee ≡ callee
 
-module _ (p : Source) (w : World) (k : ℕ) where
+module _ (p : Source) (w : FrameEnv) (k : ℕ) where
   ends_with : (a : language.Ask) (v : ℤ) (gone : List Instance) → named_ask p w k a ≡ End v gone → gone ≡ retired_by p w
   ends_with (asks.End x) v gone e = let z : retired_by p w ≡ gone = cc e in sym z
   ends_with a v gone e = absurd (cc e)
 
-  starts_with : (a : language.Ask) (how : Invocation) (x : World) → named_ask p w k a ≡ Invoke how x → IsInvoked a x
+  starts_with : (a : language.Ask) (how : Invocation) (x : FrameEnv) → named_ask p w k a ≡ Invoke how x → IsInvoked a x
   starts_with (asks.Invoke j c) how x e =
       let z : child_world p w k c ≡ x = cc e in
-      record { how = j; callee = c; invokes = refl; started_as = ap (λ (y : World). y.callee) (sym z) }
+      record { how = j; callee = c; invokes = refl; started_as = ap (λ (y : FrameEnv). y.callee) (sym z) }
   starts_with a how x e = absurd (cc e)
 
-picked : (b : Bool) (x y : Ask World) → cond b None (Some x) ≡ Some y → x ≡ y
+picked : (b : Bool) (x y : Ask FrameEnv) → cond b None (Some x) ≡ Some y → x ≡ y
 picked true x y e = absurd (cc e)
 picked false x y e = cc e
 
@@ -81,12 +81,12 @@ picked false x y e = cc e
 abbrev pub IsThere : Source → Callee → Type 0
 IsThere p c = (b : Body) × CalleeIsThere p b c
 
-abbrev pub StartsThere : Source → Run World → Type 0
+abbrev pub StartsThere : Source → Run FrameEnv → Type 0
 StartsThere p runs.stop = Unit {0}
 StartsThere p (runs.act e t) = StartsThere p t
 StartsThere p (runs.child k w u t) = IsThere p w.callee × StartsThere p u × StartsThere p t
 
-pub record IsSameFrame (p : Source) (v w : World) : Type 0 where
+pub record IsSameFrame (p : Source) (v w : FrameEnv) : Type 0 where
   pub name : w.name ≡ v.name
   pub own : own_reducers p w.callee ≡ own_reducers p v.callee
   pub before : before_own p w.callee ≡ before_own p v.callee
@@ -104,13 +104,13 @@ same_own p (callees.Function c) (callees.Loop m) h g e = absurd (false≢true e)
 same_own p (callees.Loop l) (callees.Function d) h g e = absurd (false≢true e)
 
 -- the same function or loop, under one name
-alike_frames : (p : Source) (v w : World) → IsThere p v.callee → IsThere p w.callee → same_frame p v w ≡ true → IsSameFrame p v w
+alike_frames : (p : Source) (v w : FrameEnv) → IsThere p v.callee → IsThere p w.callee → same_frame p v w ≡ true → IsSameFrame p v w
 alike_frames p v w here there same =
     let both = and_parts (same_name v.name w.name) (same_body (body_of p v.callee) (body_of p w.callee)) same in
     let own = same_own p v.callee w.callee (there_no_root p here.0 v.callee here.1) (there_no_root p there.0 w.callee there.1) both.1 in
     record { name = sym (same_name-eq v.name w.name both.0); own = own.0; before = own.1; fit = there_fit p there.0 w.callee there.1 }
 
-retired_alike : (p : Source) (v w : World) → IsSameFrame p v w → retired_by p w ≡ retired_by p v
+retired_alike : (p : Source) (v w : FrameEnv) → IsSameFrame p v w → retired_by p w ≡ retired_by p v
 retired_alike p v w h =
     let from = λ (b : ℕ) (name : Name) (ks : List MonoidKind). retired_from (λ (n : ℕ) (k : MonoidKind). Reducer name (b + n) k) 0 ks in
     ap (λ (b : ℕ). from b w.name (own_reducers p w.callee)) h.before
@@ -118,45 +118,45 @@ retired_alike p v w h =
     ∙ ap (from (before_own p v.callee) v.name) h.own
 
 module _ (p : Source) (inputs : List ℤ) (well : IsTrue (is_well_named p)) where
-  child_there : (w : World) (past : List (Deed World)) (k k' : Invocation) (v v' : World) (b : Bool)
-      → IsStartedFor World View monoid_of (next p inputs) (same_frame p) w past k k' v v' b → CalleeIsFit p w.callee → IsThere p v.callee → IsThere p v'.callee
-  child_there w past k k' v v' false h fit there = subst (λ (x : World). IsThere p x.callee) (sym (h.kept refl)) there
+  child_there : (w : FrameEnv) (past : List (Deed FrameEnv)) (k k' : Invocation) (v v' : FrameEnv) (b : Bool)
+      → IsStartedFor FrameEnv View monoid_of (next p inputs) (same_frame p) w past k k' v v' b → CalleeIsFit p w.callee → IsThere p v.callee → IsThere p v'.callee
+  child_there w past k k' v v' false h fit there = subst (λ (x : FrameEnv). IsThere p x.callee) (sym (h.kept refl)) there
   child_there w past k k' v v' true h fit there =
       let a = (asked_after p inputs w past).ask in
       let is = starts_with p w (suc (started past)) a k' v' (picked (has_ended past) (named_ask p w (suc (started past)) a) (Invoke k' v') (h.made refl)) in
       let asked = subst (AskIsThere p w.callee) is.invokes (asks_there p well w.callee fit inputs (answers_of past) MAX_TICKS) in
       (body_of p w.callee, subst (CalleeIsThere p (body_of p w.callee)) (sym is.started_as) asked)
 
-  child_alike : (w : World) (past : List (Deed World)) (k k' : Invocation) (v v' : World) (b : Bool)
-      → IsStartedFor World View monoid_of (next p inputs) (same_frame p) w past k k' v v' b → CalleeIsFit p w.callee → IsThere p v.callee → IsSameFrame p v v'
+  child_alike : (w : FrameEnv) (past : List (Deed FrameEnv)) (k k' : Invocation) (v v' : FrameEnv) (b : Bool)
+      → IsStartedFor FrameEnv View monoid_of (next p inputs) (same_frame p) w past k k' v v' b → CalleeIsFit p w.callee → IsThere p v.callee → IsSameFrame p v v'
   child_alike w past k k' v v' b h fit there = alike_frames p v v' there (child_there w past k k' v v' b h fit there) h.fits
 
 module _ (p : Source) (run : serial.Transcript) where
   -- an `end` is of the frame at hand, and retires what it created for itself
-  abbrev pub IsEndedIn : ℕ → World → Event → Type 0
+  abbrev pub IsEndedIn : ℕ → FrameEnv → Event → Type 0
   IsEndedIn g w (Reads c v) = Unit {0}
   IsEndedIn g w (Writes c v) = Unit {0}
   IsEndedIn g w Syncs = Unit {0}
   IsEndedIn g w (Ends v gone) = (g ≡ frame_number p run w.name) × (gone ≡ retired_by p w)
   IsEndedIn g w (Passes m) = Unit {0}
 
-  abbrev pub AtHand : ℕ → World → Run World → Type 0
-  AtHand g w runs.stop = Unit {0}
-  AtHand g w (runs.act e t) = IsEndedIn g w e × AtHand (entered (numbered_event p run w.name e) g) w t
-  AtHand g w (runs.child k x u t) = ((f : ℕ) → AtHand f x u) × ((f : ℕ) → AtHand f w t)
+  abbrev pub AtActivity : ℕ → FrameEnv → Run FrameEnv → Type 0
+  AtActivity g w runs.stop = Unit {0}
+  AtActivity g w (runs.act e t) = IsEndedIn g w e × AtActivity (entered (numbered_event p run w.name e) g) w t
+  AtActivity g w (runs.child k x u t) = ((f : ℕ) → AtActivity f x u) × ((f : ℕ) → AtActivity f w t)
 
-  abbrev pub Since : Due → ℕ → World → Type 0
+  abbrev pub Since : Due → ℕ → FrameEnv → Type 0
   Since begin_due g w = Unit {0}
   Since resume_due g w = Unit {0}
   Since neither_due g w = g ≡ frame_number p run w.name
 
-  pub at_hand : (due : Due) (g : ℕ) (w : World) (t : Run World) → IsFramed due t → RetiresOwn p w t → Since due g w → AtHand g w t
+  pub at_hand : (due : Due) (g : ℕ) (w : FrameEnv) (t : Run FrameEnv) → IsFramed due t → RetiresOwn p w t → Since due g w → AtActivity g w t
   at_hand begin_due g w (runs.act (Passes Begins) t) f x h = (tt, at_hand neither_due (frame_number p run w.name) w t f x refl)
   at_hand resume_due g w (runs.act (Passes Resumes) t) f x h = (tt, at_hand neither_due (frame_number p run w.name) w t f x refl)
   at_hand neither_due g w (runs.act (Reads c v) t) f x h = (tt, at_hand neither_due g w t f x h)
   at_hand neither_due g w (runs.act (Writes c v) t) f x h = (tt, at_hand neither_due g w t f x h)
   at_hand neither_due g w (runs.act Syncs t) f x h = (tt, at_hand neither_due g w t f x h)
-  at_hand neither_due g w (runs.act (Ends v gone) t) f x h = ((h, x.0), subst (AtHand g w) (sym f) tt)
+  at_hand neither_due g w (runs.act (Ends v gone) t) f x h = ((h, x.0), subst (AtActivity g w) (sym f) tt)
   at_hand neither_due g w (runs.act (Passes (Creates i)) t) f x h = (tt, at_hand neither_due g w t f x h)
   at_hand neither_due g w (runs.act (Passes (Updates i v)) t) f x h = (tt, at_hand neither_due g w t f x h)
   at_hand neither_due g w (runs.act (Passes (Sets i v)) t) f x h = (tt, at_hand neither_due g w t f x h)
@@ -194,7 +194,7 @@ module _ (p : Source) (run : serial.Transcript) where
   entered_like name named same g (Passes (Prints x)) (Passes (Prints y)) h = refl
   entered_like name named same g e x h = absurd h
 
-  valued : (name named : Name) → name ≡ named → (e x : Event) → IsLike e x → with_value {W = World} (numbered_event p run named e) (Does x) ≡ numbered_event p run name x
+  valued : (name named : Name) → name ≡ named → (e x : Event) → IsLike e x → with_value {W = FrameEnv} (numbered_event p run named e) (Does x) ≡ numbered_event p run name x
   valued name named same (Reads c v) (Reads d w) h = ap (λ (k : Cell). events.Read (cell_number p run k) w) h
   valued name named same (Writes c v) (Writes d w) h = ap (λ (k : Cell). events.Write (cell_number p run k) w) h
   valued name named same Syncs Syncs h = refl
@@ -208,13 +208,13 @@ module _ (p : Source) (run : serial.Transcript) where
   valued name named same (Passes (Prints x)) (Passes (Prints y)) h = refl
   valued name named same e x h = absurd h
 
-  started_valued : (k k' : Invocation) (f f' : ℕ) (v : World) → k ≡ k' → f' ≡ f → with_value (start_event k f) (Invokes k' v) ≡ start_event k' f'
+  started_valued : (k k' : Invocation) (f f' : ℕ) (v : FrameEnv) → k ≡ k' → f' ≡ f → with_value (start_event k f) (Invokes k' v) ≡ start_event k' f'
   started_valued Call Call f f' v e same = ap events.Call (sym same)
   started_valued Spawn Spawn f f' v e same = ap events.Spawn (sym same)
   started_valued Call Spawn f f' v e same = absurd (cc e)
   started_valued Spawn Call f f' v e same = absurd (cc e)
 
-with_both : (es xs : List numbers.Event) (ds ms : List (Deed World)) → length es ≡ length ds → with_values (es ++ xs) (ds ++ ms) ≡ with_values es ds ++ with_values xs ms
+with_both : (es xs : List numbers.Event) (ds ms : List (Deed FrameEnv)) → length es ≡ length ds → with_values (es ++ xs) (ds ++ ms) ≡ with_values es ds ++ with_values xs ms
 with_both [] xs [] ms e = refl
 with_both [] xs (d ∷ ds) ms e = absurd (omega (arith, e))
 with_both (x ∷ es) xs [] ms e = absurd (omega (arith, e))
@@ -280,7 +280,7 @@ module _ (p : Source) (run : serial.Transcript) (r : Reducers) (table : AreReduc
       ∙ rest
       ∙ ap (λ (a : ℕ). ranges.view_after S j (ends_from f a (length ks)) y') s
 
-  frame_tied : (v : World) (u : Run World) → IsFrameOf p run v u → (g : ℕ) → g ≡ frame_number p run v.name → (gone : List Instance) → gone ≡ retired_by p v
+  frame_tied : (v : FrameEnv) (u : Run FrameEnv) → IsFrameOf p run v u → (g : ℕ) → g ≡ frame_number p run v.name → (gone : List Instance) → gone ≡ retired_by p v
       → (i : Instance) → HasInstance p run i → (x : View) (y : ViewValue) → value_of (kind_of i) x ≡ y
       → value_of (kind_of i) (cond (has_instance gone i) ((monoid_of i).unit) x)
       ≡ ranges.view_after (structure_of (kind_in r (instance_number p run i))) (instance_number p run i) (retired g (own r g)) y
@@ -312,7 +312,7 @@ module _ (p : Source) (run : serial.Transcript) (r : Reducers) (table : AreReduc
   set_is : (k : MonoidKind) (x : ℤ) → IsWord x → (structure_of k).combine ((structure_of k).unit) ((structure_of k).single x) ≡ (structure_of k).single x
   set_is k x w = let l = lawful k in l.left_neutral ((structure_of k).single x) (l.single_member x w)
 
-  felt_tied : (v : World) (u : Run World) → IsFrameOf p run v u → (g : ℕ) (name : Name) (e : Event) (views : Instance → View) (h : Held)
+  felt_tied : (v : FrameEnv) (u : Run FrameEnv) → IsFrameOf p run v u → (g : ℕ) (name : Name) (e : Event) (views : Instance → View) (h : Held)
       → IsEndedIn p run g v e → EventIsHere p run e → EventWords e → Tied views h
       → (let n = numbered_event p run name e in Tied (λ i. on_view (monoid_of i) i e (views i)) (felt r (entered n g) n h))
   felt_tied v u frame g name (Reads c x) views h ended here w tied = tied
@@ -369,13 +369,13 @@ module _ (p : Source) (run : serial.Transcript) (r : Reducers) (table : AreReduc
       right ∙ ap S.number (tied d here) ∙ same
 
   module _ (inputs : List ℤ) (well : IsTrue (is_well_named p)) where
-    abbrev pub IsCourseOf : World → List (Deed World) → (Cell → ℤ) → (Instance → View) → Run World → Course World → Type 0
-    IsCourseOf = IsCourse World View monoid_of (next p inputs) (same_frame p)
+    abbrev pub IsCourseOf : FrameEnv → List (Deed FrameEnv) → (Cell → ℤ) → (Instance → View) → Run FrameEnv → Course FrameEnv → Type 0
+    IsCourseOf = IsCourse FrameEnv View monoid_of (next p inputs) (same_frame p)
 
-    abbrev IsMadeOf : World → List (Deed World) → (Cell → ℤ) → (Instance → View) → Event → Event → Bool → Type 0
-    IsMadeOf = IsMadeFor World View monoid_of (next p inputs) (same_frame p)
+    abbrev IsMadeOf : FrameEnv → List (Deed FrameEnv) → (Cell → ℤ) → (Instance → View) → Event → Event → Bool → Type 0
+    IsMadeOf = IsMadeFor FrameEnv View monoid_of (next p inputs) (same_frame p)
 
-    ended_too : (v w : World) → IsSameFrame p v w → (past : List (Deed World)) (memory : Cell → ℤ) (views : Instance → View) (g : ℕ) (e x : Event) (b : Bool)
+    ended_too : (v w : FrameEnv) → IsSameFrame p v w → (past : List (Deed FrameEnv)) (memory : Cell → ℤ) (views : Instance → View) (g : ℕ) (e x : Event) (b : Bool)
         → IsMadeOf w past memory views e x b → IsEndedIn p run g v e → IsEndedIn p run g v x
     ended_too v w same past memory views g e (Reads c y) b h ended = tt
     ended_too v w same past memory views g e (Writes c y) b h ended = tt
@@ -392,7 +392,7 @@ module _ (p : Source) (run : serial.Transcript) (r : Reducers) (table : AreReduc
         (ended.0, one ∙ ended.1)
     ended_too v w same past memory views g e (Ends y left) b h ended = absurd h.like
 
-    as_many : (name : Name) (w : World) (past : List (Deed World)) (memory : Cell → ℤ) (views : Instance → View) (t : Run World) (c : Course World) → IsCourseOf w past memory views t c
+    as_many : (name : Name) (w : FrameEnv) (past : List (Deed FrameEnv)) (memory : Cell → ℤ) (views : Instance → View) (t : Run FrameEnv) (c : Course FrameEnv) → IsCourseOf w past memory views t c
         → length (numbered_events p run name t) ≡ length (trace (run_of c))
     as_many name w past memory views runs.stop stop h = refl
     as_many name w past memory views runs.stop (act b x c) h = absurd h
@@ -409,7 +409,7 @@ module _ (p : Source) (run : serial.Transcript) (r : Reducers) (table : AreReduc
         let other = length-append (trace (run_of d)) (trace (run_of c)) in
         omega (arith, inner, rest, one, other)
 
-    pub valued_numbers : (v w : World) → w.name ≡ v.name → (past : List (Deed World)) (memory : Cell → ℤ) (views : Instance → View) (t : Run World) (c : Course World) → IsCourseOf w past memory views t c
+    pub valued_numbers : (v w : FrameEnv) → w.name ≡ v.name → (past : List (Deed FrameEnv)) (memory : Cell → ℤ) (views : Instance → View) (t : Run FrameEnv) (c : Course FrameEnv) → IsCourseOf w past memory views t c
         → with_values (numbered_events p run v.name t) (trace (run_of c)) ≡ numbered_events p run w.name (run_of c)
     valued_numbers v w same past memory views runs.stop stop h = refl
     valued_numbers v w same past memory views runs.stop (act b x c) h = absurd h
@@ -431,7 +431,7 @@ module _ (p : Source) (run : serial.Transcript) (r : Reducers) (table : AreReduc
         ∙ ap₂ (λ (l m : List numbers.Event). l ++ m) inner rest)
 
     -- as many events as askings
-    asked_many : (name : Name) (c : Course World) → length (numbered_events p run name (run_of c)) ≡ length (asked_in c)
+    asked_many : (name : Name) (c : Course FrameEnv) → length (numbered_events p run name (run_of c)) ≡ length (asked_in c)
     asked_many name stop = refl
     asked_many name (act b x c) = ap suc (asked_many name c)
     asked_many name (child b j x d c) =
@@ -442,20 +442,20 @@ module _ (p : Source) (run : serial.Transcript) (r : Reducers) (table : AreReduc
         omega (arith, inner, rest, one, other)
 
     -- each value that is asked for is right, and the views that are left are the same
-    abbrev pub Along : ℕ → Name → (Instance → View) → Held → Course World → Type 0
+    abbrev pub Along : ℕ → Name → (Instance → View) → Held → Course FrameEnv → Type 0
     Along g name views h c =
         AreAskedNumbers r g h (numbered_events p run name (run_of c)) (asked_in c)
         × Tied (λ i. view_after (monoid_of i) i (run_of c) (views i)) (held_after r g (numbered_events p run name (run_of c)) h)
 
-    child_along : (g : ℕ) (name : Name) (views : Instance → View) (h : Held) (b : Bool) (k : Invocation) (x : World) (d c : Course World)
+    child_along : (g : ℕ) (name : Name) (views : Instance → View) (h : Held) (b : Bool) (k : Invocation) (x : FrameEnv) (d c : Course FrameEnv)
         → AreAskedNumbers r g h (numbered_events p run x.name (run_of d) ++ numbered_events p run name (run_of c)) (asked_in d ++ asked_in c)
         → Tied (λ i. view_after (monoid_of i) i (run_of c) (view_after (monoid_of i) i (run_of d) (views i))) (held_after r g (numbered_events p run x.name (run_of d) ++ numbered_events p run name (run_of c)) h)
         → Along g name views h (child b k x d c)
     child_along g name views h b Call x d c are tied = ((λ yes. tt, are), tied)
     child_along g name views h b Spawn x d c are tied = ((λ yes. tt, are), tied)
 
-    pub course_numbers : (v w : World) (u0 : Run World) → IsFrameOf p run v u0 → IsSameFrame p v w → (past : List (Deed World)) (memory : Cell → ℤ) (views : Instance → View) (h : Held) (g : ℕ)
-        → (t : Run World) (c : Course World) → IsCourseOf w past memory views t c → AtHand p run g v t → StartsThere p t → AllFrames p run t → AreHere p run t → RunWords (run_of c)
+    pub course_numbers : (v w : FrameEnv) (u0 : Run FrameEnv) → IsFrameOf p run v u0 → IsSameFrame p v w → (past : List (Deed FrameEnv)) (memory : Cell → ℤ) (views : Instance → View) (h : Held) (g : ℕ)
+        → (t : Run FrameEnv) (c : Course FrameEnv) → IsCourseOf w past memory views t c → AtActivity p run g v t → StartsThere p t → AllFrames p run t → AreHere p run t → RunWords (run_of c)
         → Tied views h → Along g w.name views h c
     course_numbers v w u0 frame same past memory views h g runs.stop stop is at there all here words tied = (tt, tied)
     course_numbers v w u0 frame same past memory views h g runs.stop (act b x c) is at there all here words tied = absurd is
@@ -467,7 +467,7 @@ module _ (p : Source) (run : serial.Transcript) (r : Reducers) (table : AreReduc
         let known = here_like p run e x is.0.like here.0 in
         let ended = ended_too v w same past memory views g e x b is.0 at.0 in
         let next_tied = felt_tied v u0 frame g w.name x views h ended known words.0 tied in
-        let at_next = subst (λ (f : ℕ). AtHand p run f v t) (entered_like p run w.name v.name same.name g e x is.0.like) at.1 in
+        let at_next = subst (λ (f : ℕ). AtActivity p run f v t) (entered_like p run w.name v.name same.name g e x is.0.like) at.1 in
         let rest = course_numbers v w u0 frame same (past ++ Does x ∷ []) (λ i. put x i (memory i)) (λ i. on_view (monoid_of i) i x (views i)) (felt r (entered n g) n h) (entered n g)
         t c is.1 at_next there all here.1 words.1 next_tied in
         ((λ yes. number_is w.name x views h known (is.0.made yes).2 tied, rest.0), rest.1)

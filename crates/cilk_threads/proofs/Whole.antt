@@ -5,7 +5,7 @@ use Rattle.cilk_types.specs.declared.event.Event.{Event}
 use Rattle.cilk_types.specs.declared.event.Event.TheVariants.{Sync}
 use Rattle.cilk_program.specs.Sources.{source}
 use Rattle.cilk_program.specs.Syntax.{Source}
-use Rattle.cilk_tree.specs.declared.story.Story.{Story}
+use Rattle.cilk_tree.specs.declared.event_order.EventOrder.{EventOrder}
 use Rattle.cilk_tree.specs.Runs.{Departs, IsAsked}
 use Rattle.cilk_tree.specs.Word.{event}
 use Rattle.cilk_tree.specs.Before.{IsPosition}
@@ -20,11 +20,11 @@ use Rattle.cilk_runs.specs.Steps.{result_in}
 use Rattle.cilk_determinacy.specs.Nested.{named}
 use Rattle.cilk_replay.specs.InputCourses as courses
 use Rattle.cilk_replay.specs.Frames.{course_on}
-use Rattle.cilk_replay.specs.Stories.{OwnStory, IsPlannedRun}
-use Rattle.cilk_plan.specs.Plans.{WholePlan, IsPlanOf, IsStoryOn}
+use Rattle.cilk_replay.specs.EventOrders.{OwnEventOrder, IsPlannedRun}
+use Rattle.cilk_plan.specs.Plans.{WholePlan, IsPlanOf, IsEventOrderOn}
 use Rattle.cilk_plan.proofs.Telling.{own_is_the_plan}
 use Rattle.cilk_workers.specs.Shared.{SharedValue, shared_with}
-use Rattle.cilk_workers.specs.Hands.{IsWhole}
+use Rattle.cilk_workers.specs.Activities.{IsWhole}
 use Rattle.cilk_threads.specs.declared.run.ThreadFault.{ThreadFault}
 use Rattle.cilk_threads.specs.declared.run.ThreadFault.TheVariants as faults
 use Rattle.cilk_threads.specs.Faults.{IsTrueFault}
@@ -32,7 +32,7 @@ use Rattle.cilk_threads.specs.Outcomes.{IsFaultOn, IsWholeOf, NamesNoPosition}
 use Rattle.cilk_threads.proofs.Placed.{sync_along}
 
 -- a `sync` of the plan is one of each story along it
-pub syncs_along : (plan s : Story) → IsAlong plan s → (ats : List ℕ) → All (λ at. event plan at ≡ Some Sync) ats → All (λ at. event s at ≡ Some Sync) ats
+pub syncs_along : (plan s : EventOrder) → IsAlong plan s → (ats : List ℕ) → All (λ at. event plan at ≡ Some Sync) ats → All (λ at. event s at ≡ Some Sync) ats
 syncs_along plan s along ats h k d lt = sync_along s.events plan.events along.kinds _ (h k d lt)
 
 -- the whole run's piece is that of the yard's events
@@ -52,19 +52,19 @@ whole_of y r c p own inputs s x v is program owned input h = record {
     ended = subst (λ (z : SharedValue). IsWhole z x v) is h
 
 -- where the yard's story departs, the story that the program makes of the plan does
-pub fault_of : (w : WholePlan) (inputs : List ℤ) (n : ℕ) (s : Story) (f : ThreadFault) → (let t = w.story in IsStoryOn w.run t.opening inputs s) → IsTrueFault s n f → IsFaultOn w inputs n f
+pub fault_of : (w : WholePlan) (inputs : List ℤ) (n : ℕ) (s : EventOrder) (f : ThreadFault) → (let t = w.story in IsEventOrderOn w.run t.opening inputs s) → IsTrueFault s n f → IsFaultOn w inputs n f
 fault_of w inputs n s faults.Memory told h = h
 fault_of w inputs n s faults.Workers told h = h
 fault_of w inputs n s (faults.Departs p) told h = (h.0, (s, told, h.1))
 
 -- on the plan's own input its story departs nowhere
-goes_along : OwnStory → (a : AcceptedRun) (plan s : Story) (inputs : List ℤ) → IsPlanOf a plan → IsStoryOn a plan.opening inputs s → inputs ≡ a.input → (p : ℕ) → Departs s p → ⊥
+goes_along : OwnEventOrder → (a : AcceptedRun) (plan s : EventOrder) (inputs : List ℤ) → IsPlanOf a plan → IsEventOrderOn a plan.opening inputs s → inputs ≡ a.input → (p : ℕ) → Departs s p → ⊥
 goes_along law a plan s inputs is told same p h =
     let own : s ≡ plan = own_is_the_plan law a plan is inputs s told same in
-    let events : s.events ≡ a.trace = ap (λ (t : Story). t.events) (own ∙ is.story) in
-    h.differs (subst (λ (t : Story). IsAsked t p) (sym own) (is.asked p (subst (λ (es : List Event). IsPosition es p) events h.place)))
+    let events : s.events ≡ a.trace = ap (λ (t : EventOrder). t.events) (own ∙ is.story) in
+    h.differs (subst (λ (t : EventOrder). IsAsked t p) (sym own) (is.asked p (subst (λ (es : List Event). IsPosition es p) events h.place)))
 
-pub stays : OwnStory → (w : WholePlan) (inputs : List ℤ) (n : ℕ) (f : ThreadFault) → IsPlanOf w.run w.story → IsFaultOn w inputs n f → (let a = w.run in inputs ≡ a.input) → NamesNoPosition f
+pub stays : OwnEventOrder → (w : WholePlan) (inputs : List ℤ) (n : ℕ) (f : ThreadFault) → IsPlanOf w.run w.story → IsFaultOn w inputs n f → (let a = w.run in inputs ≡ a.input) → NamesNoPosition f
 stays law w inputs n faults.Memory is h same = tt
 stays law w inputs n faults.Workers is h same = tt
 stays law w inputs n (faults.Departs p) is h same = goes_along law w.run w.story h.1.0 inputs is h.1.1 same p h.1.2

@@ -6,7 +6,7 @@ use Rattle.cilk_program.specs.Outcomes.{Leaves}
 use Rattle.cilk_program.specs.SerialRun.{Transcript, IsSerialRun}
 use Rattle.cilk_program.specs.Sources.{source}
 use Rattle.cilk_program.specs.Syntax.{Source, function_at}
-use Rattle.cilk_tree.specs.declared.story.Story.{Story}
+use Rattle.cilk_tree.specs.declared.event_order.EventOrder.{EventOrder}
 use Rattle.cilk_tree.specs.Along.{IsAlong}
 use Rattle.cilk_shared.specs.declared.reducers.FrameReducers.{FrameReducers}
 use Rattle.cilk_shared.specs.declared.reducers.Reducers.{Reducers}
@@ -20,9 +20,9 @@ use Rattle.cilk_threads.specs.Tables.{AreReducersOf, HaveTheirKinds}
 pub record IsTableOf (a : AcceptedRun) (r : Reducers) : Type 0 where
   pub frames : (run : Transcript) → IsSerialRun (source a.program) a.input run a.trace (Leaves a.outcome) → AreReducersOf (source a.program) run r
   pub kinds : (run : Transcript) → IsSerialRun (source a.program) a.input run a.trace (Leaves a.outcome) → HaveTheirKinds (source a.program) run r
-  pub settled : (plan s : Story) → IsPlanOf a plan → IsAlong plan s → AreSettled s r
+  pub settled : (plan s : EventOrder) → IsPlanOf a plan → IsAlong plan s → AreSettled s r
   -- the first event is of no reducer
-  pub quiet : (plan s : Story) → IsPlanOf a plan → IsAlong plan s → events_at s r 1 ≡ []
+  pub quiet : (plan s : EventOrder) → IsPlanOf a plan → IsAlong plan s → events_at s r 1 ≡ []
 
 -- the reducers of a frame with this body, but the first one
 abbrev pub reducers_in : Source → Body → FrameReducers

@@ -1,6 +1,6 @@
 -- Why a run has no outcome.
 use Rattle.std.specs.Prelude.{◌≤◌, ℕ}
-use Rattle.cilk_tree.specs.declared.story.Story.{Story}
+use Rattle.cilk_tree.specs.declared.event_order.EventOrder.{EventOrder}
 use Rattle.cilk_tree.specs.Runs.{Departs}
 use Rattle.cilk_threads.specs.declared.run.ThreadFault.{ThreadFault}
 use Rattle.cilk_threads.specs.declared.run.ThreadFault.TheVariants as faults
@@ -10,7 +10,7 @@ abbrev pub IsCrew : ℕ → Type 0
 IsCrew n = (1 ≤ n) × (n ≤ 64)
 
 -- where a run departs, it does; and the number of workers is a fault exactly where it is none
-abbrev pub IsTrueFault : Story → ℕ → ThreadFault → Type 0
+abbrev pub IsTrueFault : EventOrder → ℕ → ThreadFault → Type 0
 IsTrueFault s n faults.Memory = IsCrew n
 IsTrueFault s n faults.Workers = IsCrew n → ⊥
 IsTrueFault s n (faults.Departs p) = IsCrew n × Departs s p

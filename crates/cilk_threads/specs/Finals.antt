@@ -13,7 +13,7 @@ use Rattle.cilk_program.specs.SerialRun.{Transcript, IsSerialRun}
 use Rattle.cilk_program.specs.Syntax.{Source}
 use Rattle.cilk_program.specs.WellNamed.{is_well_named}
 use Rattle.cilk_program.specs.Answered.{cells_after, opening_cells}
-use Rattle.cilk_tree.specs.declared.story.Story.{Story}
+use Rattle.cilk_tree.specs.declared.event_order.EventOrder.{EventOrder}
 use Rattle.cilk_shared.specs.declared.reducers.Reducers.{Reducers}
 use Rattle.cilk_shared.specs.Reducers.{kind_in, events_over}
 use Rattle.cilk_frames.specs.Leaving.{finals_of}
@@ -27,12 +27,12 @@ pub record AreLast (p : Source) (h : Hypermap) (outcome : Outcome) : Type 0 wher
 -- The views of all events of a serial run that ends without a fault are what it leaves.
 abbrev pub WholeViewsAreLast : Type 0
 WholeViewsAreLast =
-    (p : Source) (inputs : List ℤ) (run : Transcript) (es : List Event) (outcome : Outcome) (s : Story) (r : Reducers) (h : Hypermap)
+    (p : Source) (inputs : List ℤ) (run : Transcript) (es : List Event) (outcome : Outcome) (s : EventOrder) (r : Reducers) (h : Hypermap)
     → IsTrue (is_well_named p) → IsSerialRun p inputs run es (Leaves outcome) → s.events ≡ es → AreReducersOf p run r
     → ShowsRange (kind_in r) h (events_over s r 1 (length es + 1)) → AreLast p h outcome
 
 -- What the story leaves, where its root ends with this result: the last values of the global cells, and of the views of all its events.
-pub record IsMadeOf (p : Source) (s : Story) (r : Reducers) (value : ℤ) (o : Outcome) : Type 0 where
+pub record IsMadeOf (p : Source) (s : EventOrder) (r : Reducers) (value : ℤ) (o : Outcome) : Type 0 where
   pub result : o.result ≡ value
   pub globals : o.globals ≡ cells_from 0 (length p.openings) (cells_after s.events (opening_cells p []))
   pub views : Hypermap

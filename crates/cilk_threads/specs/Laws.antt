@@ -9,7 +9,7 @@ use Rattle.cilk_program.specs.WellNamed.{is_well_named}
 use Rattle.cilk_tree.specs.Shape.{Shape, Spells}
 use Rattle.cilk_tree.specs.Tree.{tree}
 use Rattle.cilk_peers.specs.ViewRaces.{HasNoViewRace}
-use Rattle.cilk_tree.specs.declared.story.Story.{Story}
+use Rattle.cilk_tree.specs.declared.event_order.EventOrder.{EventOrder}
 use Rattle.cilk_tree.specs.Along.{IsAlong}
 use Rattle.cilk_tree.specs.Planned.{planned}
 use Rattle.cilk_shared.specs.declared.reducers.Reducers.{Reducers}
@@ -17,8 +17,8 @@ use Rattle.cilk_shared.specs.Settled.{AreSettled}
 use Rattle.cilk_threads.specs.Tables.{AreReducersOf}
 
 -- Where the reducers of a plan are settled, so they are in each story along it: values don't matter.
-abbrev pub StoriesAlongAreSettled : Type 0
-StoriesAlongAreSettled = (plan s : Story) (r : Reducers) → IsAlong plan s → AreSettled plan r → AreSettled s r
+abbrev pub EventOrdersAlongAreSettled : Type 0
+EventOrdersAlongAreSettled = (plan s : EventOrder) (r : Reducers) → IsAlong plan s → AreSettled plan r → AreSettled s r
 
 -- Where a serial run ends without a fault and has no view-read race, its reducers are settled.
 abbrev pub RaceFreeRunsAreSettled : Type 0

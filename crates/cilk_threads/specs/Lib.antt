@@ -1,7 +1,7 @@
 pub mod Accepted
 pub mod Faults
 pub mod Finals
-pub mod Kits
+pub mod WorkerSeeds
 pub mod Laws
 pub mod Numbers
 pub mod Outcomes

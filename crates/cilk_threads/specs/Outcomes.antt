@@ -7,7 +7,7 @@ use Rattle.cilk_program.specs.Elision.{IsElision}
 use Rattle.cilk_program.specs.Outcomes.{Leaves}
 use Rattle.cilk_program.specs.SerialRun.{Transcript, IsSerialRun}
 use Rattle.cilk_program.specs.Syntax.{Source}
-use Rattle.cilk_tree.specs.declared.story.Story.{Story}
+use Rattle.cilk_tree.specs.declared.event_order.EventOrder.{EventOrder}
 use Rattle.cilk_tree.specs.Runs.{Departs, IsFollowed}
 use Rattle.cilk_shared.specs.Values.{YardValue}
 use Rattle.cilk_shared.specs.Pieces.{PieceValue}
@@ -16,15 +16,15 @@ use Rattle.cilk_workers.specs.Rows.{IsGood, run_of}
 use Rattle.cilk_runs.specs.Costs.{TickTotal, whole}
 use Rattle.cilk_runs.specs.Runs.{Run}
 use Rattle.cilk_runs.specs.Traces.{trace}
-use Rattle.cilk_runs.specs.WorldMachine.{costs}
+use Rattle.cilk_runs.specs.FrameEnvMachine.{costs}
 use Rattle.cilk_runs.specs.Steps.{result_in}
-use Rattle.cilk_runs.specs.Worlds.{World, first_world}
+use Rattle.cilk_runs.specs.FrameEnvs.{FrameEnv, first_world}
 use Rattle.cilk_determinacy.specs.Nested.{named}
 use Rattle.cilk_replay.specs.InputCourses as courses
 use Rattle.cilk_replay.specs.Frames.{course_on, IsSerialRunOn}
 use Rattle.cilk_replay.specs.Left.{left_by}
-use Rattle.cilk_replay.specs.Stories.{IsPlannedRun}
-use Rattle.cilk_plan.specs.Plans.{WholePlan, IsStoryOn}
+use Rattle.cilk_replay.specs.EventOrders.{IsPlannedRun}
+use Rattle.cilk_plan.specs.Plans.{WholePlan, IsEventOrderOn}
 use Rattle.cilk_threads.specs.declared.run.ThreadFault.{ThreadFault}
 use Rattle.cilk_threads.specs.declared.run.ThreadFault.TheVariants as faults
 use Rattle.cilk_threads.specs.Faults.{IsCrew}
@@ -38,7 +38,7 @@ LeavesOn p inputs o = (run : Transcript) × (es : List Event) × IsSerialRun p i
 -- the program's serial run; and no serial run leaves anything else.
 pub record IsOutcomeOn (p : Source) (inputs : List ℤ) (o : Outcome) : Type 0 where
   pub elided : IsElision p inputs (Leaves o)
-  pub run : Run World
+  pub run : Run FrameEnv
   pub serial : IsSerialRunOn p inputs run
   pub left : o ≡ left_by p inputs run
   pub leaves : whole (costs p inputs) (first_world p) run TickTotal ≤ MAX_TICKS → LeavesOn p inputs o
@@ -56,7 +56,7 @@ pub record IsWholeOf (p : Source) (own inputs : List ℤ) (y : YardValue) (r : R
 
 -- the story that the program makes of the plan on these inputs departs at the position
 abbrev pub DepartsOn : WholePlan → List ℤ → ℕ → Type 0
-DepartsOn w inputs p = (s : Story) × (let t = w.story in IsStoryOn w.run t.opening inputs s) × Departs s p
+DepartsOn w inputs p = (s : EventOrder) × (let t = w.story in IsEventOrderOn w.run t.opening inputs s) × Departs s p
 
 -- The number of workers is a fault exactly where it is none; and where the input departs from the plan, it does.
 abbrev pub IsFaultOn : WholePlan → List ℤ → ℕ → ThreadFault → Type 0

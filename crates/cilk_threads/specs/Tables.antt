@@ -9,7 +9,7 @@ use Rattle.cilk_shared.specs.declared.reducers.Reducers.{Reducers}
 use Rattle.cilk_shared.specs.Reducers.{own, kind_in}
 use Rattle.cilk_runs.specs.Runs.{Instance}
 use Rattle.cilk_runs.specs.Reducers.{kind_of}
-use Rattle.cilk_runs.specs.Worlds.{before_own}
+use Rattle.cilk_runs.specs.FrameEnvs.{before_own}
 use Rattle.cilk_determinacy.specs.Numbers.{all_reducers, frame_runs, instance_number, HasInstance}
 
 -- those of a frame that runs this: the first frame creates the global ones before its own, and they outlive it

@@ -34,12 +34,12 @@
 //! its plan. [`table::plan_reducers`] makes the table of the frames' reducers, which pieces are given.
 #![tactic(auto)]
 
-mod crew;
-mod kits;
 pub mod laws;
 pub mod layout;
 pub mod outcome;
+mod pool;
 pub mod run;
+mod seeds;
 pub mod table;
 pub mod threads;
 

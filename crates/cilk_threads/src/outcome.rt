@@ -8,8 +8,8 @@ ghost use Rattle.cilk_program.specs.Sources.{source};
 ghost use Rattle.cilk_threads.specs.Finals.{IsMadeOf};
 
 use cilk_lower::layout::Layout;
-use cilk_shared::piece::{Parts, Piece};
 use cilk_program::program::Program;
+use cilk_shared::piece::{Parts, Piece};
 use cilk_shared::yard::Yard;
 use cilk_types::outcome::Outcome;
 use std::alloc::{AllocError, Global};

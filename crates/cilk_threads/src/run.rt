@@ -5,19 +5,19 @@ ghost use Rattle.cilk_tree.specs.Word.{event};
 ghost use Rattle.cilk_workers.specs.Turns.{Works};
 ghost use Rattle.cilk_types.specs.declared.event.Event.TheVariants.{Sync};
 ghost use Rattle.cilk_tree.specs.PlanStrands.{AreFirsts};
-ghost use Rattle.cilk_workers.specs.Hands.{IsWhole};
+ghost use Rattle.cilk_workers.specs.Activities.{IsWhole};
 ghost use Rattle.cilk_workers.specs.Names.{IsName};
 ghost use Rattle.cilk_threads.specs.Faults.{IsCrew, IsTrueFault, number_of};
 
-use crate::crew::crewed;
 use crate::layout::Layout;
+use crate::pool::crewed;
 use cilk_shared::piece::Piece;
+use cilk_types::event::Pos;
+use cilk_workers::activity::ExitReason;
+use cilk_workers::gate::Gate;
 use cilk_workers::naming::Naming;
 use cilk_workers::shared::Shared;
 use cilk_workers::work::Work;
-use cilk_types::event::Pos;
-use cilk_workers::gate::Gate;
-use cilk_workers::hand::Finish;
 use std::alloc::Global;
 use std::marker::Brand;
 use std::sync::Wait;
@@ -73,9 +73,9 @@ fn run_as<N: Naming + Send + Sync, R: Threads + Wait + Sync, G: Gate + Sync>(
     ensures err { IfErr result (IsTrueFault shared.now.run.story workers) }
 {
     match crewed::<N, R, G>(rt, alloc, shared, layout, gate, work, workers) {
-        Ok(Finish::Whole(piece, value)) => Ok((piece, value)),
-        Ok(Finish::Departed(at)) => Err(ThreadFault::Departs(at)),
-        Ok(Finish::Stopped) | Err(_) => Err(ThreadFault::Memory),
+        Ok(ExitReason::Whole(piece, value)) => Ok((piece, value)),
+        Ok(ExitReason::Departed(at)) => Err(ThreadFault::Departs(at)),
+        Ok(ExitReason::Stopped) | Err(_) => Err(ThreadFault::Memory),
     }
 }
 

@@ -10,9 +10,9 @@ ghost use Rattle.cilk_threads.specs.Tables.{reducers_of};
 
 use cilk_checker::accepted::Accepted;
 use cilk_checker::frames::PlannedFrame;
-use cilk_shared::reducers::{FrameReducers, Reducers};
 use cilk_plan::program_plan::ProgramPlan;
 use cilk_program::program::{Body, Program};
+use cilk_shared::reducers::{FrameReducers, Reducers};
 use cilk_types::sequence::Sequence;
 use std::alloc::{AllocError, Global};
 use std::snapshot::Snapshot;

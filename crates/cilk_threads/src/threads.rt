@@ -4,34 +4,34 @@ ghost use Rattle.std.specs.Prelude.{◌≡◌, IfOk, IfErr};
 ghost use Rattle.cilk_plan.specs.Courses.{IsCourseOn};
 ghost use Rattle.cilk_shared.specs.Reducers.{HasFew};
 ghost use Rattle.cilk_tree.specs.Along.{IsAlong};
-ghost use Rattle.cilk_plan.specs.Plans.{IsStoryOn};
+ghost use Rattle.cilk_plan.specs.Plans.{IsEventOrderOn};
 ghost use Rattle.cilk_program.specs.Sources.{source};
 ghost use Rattle.cilk_threads.specs.Accepted.{IsTableOf};
 ghost use Rattle.cilk_shared.specs.Values.{OfYard};
 ghost use Rattle.cilk_threads.specs.Faults.{IsCrew};
 ghost use Rattle.cilk_threads.specs.Outcomes.{IsFaultOn, IsOutcomeOn, IsWholeOf, NamesNoPosition};
 
-use cilk_replay::course::Course;
-use cilk_plan::course::course;
+use crate::laws::accepted_stories_have_numbers;
 use crate::layout::Layout;
+use crate::outcome::outcome;
 use crate::run::{MAX_WORKERS, ThreadFault, run};
+use crate::table::plan_reducers;
 use cilk_determinacy::words::inputs_are_words;
+use cilk_plan::course::course;
+use cilk_plan::program_plan::ProgramPlan;
+use cilk_plan::yards::yard;
+use cilk_replay::course::Course;
 use cilk_replay::laws::{inputs_run_along, own_story, programs_have_one_course, runs_are_elided};
 use cilk_shared::piece::Piece;
 use cilk_shared::reducers::Reducers;
-use cilk_plan::program_plan::ProgramPlan;
-use cilk_plan::yards::yard;
-use crate::laws::accepted_stories_have_numbers;
-use crate::outcome::outcome;
-use crate::table::plan_reducers;
 use cilk_shared::yard::{Segment, Yard};
-use cilk_workers::shared::Shared;
-use cilk_workers::turn::first;
 use cilk_types::input::Input;
 use cilk_types::limits::MAX_INPUTS;
 use cilk_types::outcome::Outcome;
 use cilk_types::word_list::WordList;
 use cilk_workers::gate::Gate;
+use cilk_workers::shared::Shared;
+use cilk_workers::turn::first;
 use std::alloc::{AllocError, Global};
 use std::sync::Wait;
 use std::thread::Threads;
@@ -89,7 +89,7 @@ fn run_on<R: Threads + Wait + Sync, G: Gate + Sync>(
 ) -> Result<(Piece, i64), ThreadFault>
     requires crew { IsCrew workers }
     requires table { IsTableOf plan.now.run table.now × HasFew table.now }
-    requires story { IsStoryOn plan.now.run plan.now.story.opening input.now yard.now.story }
+    requires story { IsEventOrderOn plan.now.run plan.now.story.opening input.now yard.now.story }
     requires along { IsAlong plan.now.story yard.now.story }
     requires segment { OfYard yard.now segment × (segment.from ≡ 1) × (segment.upto ≡ 2) }
     ensures ok { IfOk result (λ r. IsWholeOf (source plan.now.run.program) plan.now.run.input input.now yard.now table.now r.0 r.1) }
@@ -121,7 +121,7 @@ fn course_on(
     yard: &Yard,
     input: &Input,
 ) -> Result<Course, AllocError>
-    requires { IsStoryOn plan.now.run plan.now.story.opening input.now yard.now.story }
+    requires { IsEventOrderOn plan.now.run plan.now.story.opening input.now yard.now.story }
     ensures { IfOk result (λ c. IsCourseOn plan.now.run yard.now input.now c) }
 {
     let same = copied(alloc, input)?;
@@ -153,7 +153,7 @@ fn left(
     value: i64,
 ) -> Result<Outcome, AllocError>
     requires table { IsTableOf plan.now.run piece.reducers }
-    requires story { IsStoryOn plan.now.run plan.now.story.opening input.now yard.story }
+    requires story { IsEventOrderOn plan.now.run plan.now.story.opening input.now yard.story }
     requires along { IsAlong plan.now.story yard.story }
     requires whole { IsWholeOf (source plan.now.run.program) plan.now.run.input input.now yard piece.reducers piece value }
     ensures { IfOk result (λ o. IsOutcomeOn (source plan.now.run.program) input.now o) }

@@ -6,7 +6,7 @@ use Rattle.cilk_checker.specs.Answers.{IsCertified}
 use Rattle.cilk_checker.specs.Determinate.{AcceptedRun}
 use Rattle.cilk_threads.specs.Faults.{IsCrew}
 use Rattle.cilk_plan.specs.Plans.{IsPlanOf}
-use Rattle.cilk_tree.specs.declared.story.Story.{Story}
+use Rattle.cilk_tree.specs.declared.event_order.EventOrder.{EventOrder}
 use Rattle.cilk_threads.specs.Outcomes.{DepartsOn, IsOutcomeOn}
 use Rattle.cilk_commands.specs.Files.{Failures, IsHeld}
 use Rattle.cilk_commands.specs.Replies.{Accepted, Ended, NoMemory, Refused, Reply, Text}
@@ -35,7 +35,7 @@ GivesNumbers files (Some path) own numbers = (text : Text) × IsHeld (files path
 
 -- these numbers depart from the plan of the accepted run at a position
 abbrev pub DepartsFrom : AcceptedRun → List ℤ → ℕ → Type 0
-DepartsFrom a numbers at = (story : Story) × IsPlanOf a story × DepartsOn (record { run = a; story = story }) numbers at
+DepartsFrom a numbers at = (story : EventOrder) × IsPlanOf a story × DepartsOn (record { run = a; story = story }) numbers at
 
 -- workers don't run an accepted program on these numbers: they aren't 1 to 64; or the numbers are others than its own, and depart
 abbrev pub IsUnrun : AcceptedRun → List ℤ → ℕ → ℕ → List ℕ → Type 0

@@ -10,11 +10,10 @@ ghost use Rattle.cilk_tool.specs.Helped.{HelpedThenExplains, IsHelpedReply};
 
 use crate::check_words::read_check;
 use crate::helping::check_by_helpers;
-use cilk_report::Keeps;
-use cilk_report::{follow, of_answer, of_failure, unflagged};
 use cilk_commands::reply::Failure;
 use cilk_commands::{complain, show};
 use cilk_messages::words::WordsFault;
+use cilk_report::{Keeps, follow, of_answer, of_failure, unflagged};
 use std::alloc::Global;
 use std::io::{Read, Write};
 use std::thread::Threads;

@@ -7,8 +7,8 @@ ghost use Rattle.cilk_tool.specs.CheckWords.{IsWordsFault, check_by, check_in, c
 
 use crate::words::{two_paths, two_texts};
 use cilk_helpers::many::MAX_HELPERS;
-use cilk_syntax::lexer::{all_digits, value_of};
 use cilk_messages::words::{Order, WordsFault, empty, refusal, with};
+use cilk_syntax::lexer::{all_digits, value_of};
 use clap::{Arg, ArgAction, ArgMatches, Command};
 use std::alloc::{AllocError, Global};
 

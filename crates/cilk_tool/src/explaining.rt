@@ -3,12 +3,11 @@
 use crate::running::Ending;
 use crate::serving::DEPARTED;
 use crate::words::Order;
-use cilk_messages::report::of_line;
-use cilk_findings::fault::CaseFault;
-use cilk_report::Kept;
-use cilk_report::{of_answer, of_failure};
 use cilk_commands::reply::Failure;
+use cilk_findings::fault::CaseFault;
+use cilk_messages::report::of_line;
 use cilk_messages::words::Order as Asked;
+use cilk_report::{Kept, of_answer, of_failure};
 use std::alloc::Global;
 
 /// The words of `check` that ask for the same certificate of the same run, with the numbers of a file or none.

@@ -1,4 +1,4 @@
--- Stories along a plan are orderly: `along_orderly`. Where a run departs nowhere, it follows its story: `follows_all`.
+-- EventOrders along a plan are orderly: `along_orderly`. Where a run departs nowhere, it follows its story: `follows_all`.
 --
 -- - `bare`, `bare_at`: what an event is to the words but for its value, by kinds and predecessors alone;
 -- - `bare_alone`, `bare_read`, `bare_write`: back from it;
@@ -14,14 +14,14 @@ use Rattle.cilk_types.specs.declared.event.Event.{Event}
 use Rattle.cilk_types.specs.declared.event.Event.TheVariants as events
 use Rattle.cilk_tree.specs.Races.{event_at}
 use Rattle.cilk_tree.specs.Reach.{Among, Reaches, direct, through}
-use Rattle.cilk_tree.specs.declared.story.Story.{Story}
+use Rattle.cilk_tree.specs.declared.event_order.EventOrder.{EventOrder}
 use Rattle.cilk_tree.specs.Word.{WordEvent, plain, read, write, spawn, resume, finish, is_spawn, resumption, word_event, event, after, Before, what, IsWord, IsLine, Conflict}
 use Rattle.cilk_tree.specs.Orders.{IsOrderly}
 use Rattle.cilk_tree.specs.Runs.{IsAsked, IsReached}
 use Rattle.cilk_tree.specs.declared.kind.Kind.{Kind}
 use Rattle.cilk_tree.specs.declared.kind.Kind.TheVariants as kinds
 use Rattle.cilk_tree.specs.Kinds.{kind_of}
-use Rattle.cilk_tree.specs.Along.{IsAlong, StoriesAlongAreOrderly, DepartsNowhere, FollowsWhereItDepartsNowhere}
+use Rattle.cilk_tree.specs.Along.{IsAlong, EventOrdersAlongAreOrderly, DepartsNowhere, FollowsWhereItDepartsNowhere}
 
 -- ---- without values
 abbrev bare : WordEvent → WordEvent
@@ -95,7 +95,7 @@ bare_is es p (Some (events.Print v)) ps = refl
 abbrev bare_at : List Kind → List (List ℕ) → ℕ → WordEvent
 bare_at ks pre p = bare_of ks p (slice_get ks (p - 1)) (slice_index_or pre (p - 1) [])
 
-bare_what : (s : Story) (p : ℕ) → bare (what s p) ≡ bare_at (map kind_of s.events) s.preceding p
+bare_what : (s : EventOrder) (p : ℕ) → bare (what s p) ≡ bare_at (map kind_of s.events) s.preceding p
 bare_what s p =
     bare_is s.events p (event s p) (after s p)
     ∙ ap (λ (o : Option Kind). bare_of (map kind_of s.events) p o (after s p)) (sym (slice_get-map kind_of s.events (p - 1)))
@@ -170,7 +170,7 @@ sync_of (Some events.Sync) h = refl
 sync_of o h = absurd (cc h)
 
 -- ---- a story along a plan
-module _ (plan s : Story) (along : IsAlong plan s) where
+module _ (plan s : EventOrder) (along : IsAlong plan s) where
   same : (p : ℕ) → bare (what s p) ≡ bare (what plan p)
   same p =
       bare_what s p
@@ -275,19 +275,19 @@ module _ (plan s : Story) (along : IsAlong plan s) where
       all = all;
     }
 
-pub along_orderly : StoriesAlongAreOrderly
+pub along_orderly : EventOrdersAlongAreOrderly
 along_orderly plan s o along = orderly plan s along o
 
 -- ---- where a run departs nowhere
-before_less : (s : Story) → IsOrderly s → (q p : ℕ) → Before s q p → q < p
+before_less : (s : EventOrder) → IsOrderly s → (q p : ℕ) → Before s q p → q < p
 before_less s o q p (direct a) = o.earlier p q a
 before_less s o q p (through {e = e} r a) = let i = before_less s o q e r in let k = o.earlier p e a in omega (arith, i, k)
 
-none_before_first : (s : Story) → IsOrderly s → (q : ℕ) → Before s q 1 → ⊥
+none_before_first : (s : EventOrder) → IsOrderly s → (q : ℕ) → Before s q 1 → ⊥
 none_before_first s o q (direct a) = o.none_ahead q a
 none_before_first s o q (through {e = e} r a) = o.none_ahead e a
 
-module _ (s : Story) (o : IsOrderly s) (begins : IsAsked s 1) (nowhere : DepartsNowhere s) where
+module _ (s : EventOrder) (o : IsOrderly s) (begins : IsAsked s 1) (nowhere : DepartsNowhere s) where
   abbrev AllBelow : ℕ → Type 0
   AllBelow n = (q : ℕ) → q < n → q ≤ length s.events → IsAsked s q
 

@@ -13,7 +13,7 @@ use native.Mathlib.Decide.{ℕ_discrete, dec_lt}
 use Rattle.cilk_types.specs.declared.event.Event.{Event}
 use Rattle.cilk_types.specs.declared.event.Event.TheVariants as events
 use Rattle.cilk_tree.specs.Races.{event_at}
-use Rattle.cilk_tree.specs.declared.story.Story.{Story}
+use Rattle.cilk_tree.specs.declared.event_order.EventOrder.{EventOrder}
 use Rattle.cilk_tree.specs.Orders.{IsOrderly}
 use Rattle.cilk_tree.specs.Word.{WordEvent, event, after, plain, spawn, resume, finish, word_event, resumption, is_spawn, what, IsWord}
 use Rattle.cilk_tree.specs.declared.blocks.Continuation.{Continuation}
@@ -133,15 +133,15 @@ set_none (x ∷ l) (suc n) is = ap (λ (z : List (Option Continuation)). x ∷ z
 
 -- What the column has at k, where the events from behind n on are met: the continuation of a spawn among them; of a spawn ahead whose
 -- `resume` is among them that `resume` alone.
-abbrev pub Stands : Story → ℕ → ℕ → Continuation → Type 0
+abbrev pub Stands : EventOrder → ℕ → ℕ → Continuation → Type 0
 Stands s n k c = ((n < k) × IsContinuationOf s k c) ⊎ ((k ≤ n) × (n < c.resume) × (what s c.resume ≡ resume k) × (c.sync ≡ 0))
 
-pub record MetSoFar (s : Story) (n : ℕ) (ahead : List (Option ℕ)) (column : List (Option Continuation)) : Type 0 where
+pub record MetSoFar (s : EventOrder) (n : ℕ) (ahead : List (Option ℕ)) (column : List (Option Continuation)) : Type 0 where
   pub long : length column ≡ length s.events + 1
   pub next : HasNext s.events n ahead
   pub each : (k : ℕ) (c : Continuation) → (get_or column k None ≡ Some c) ↔ Stands s n k c
 
-module _ (s : Story) (law : IsOrderly s) where
+module _ (s : EventOrder) (law : IsOrderly s) where
   spawn_inside : (k p : ℕ) → what s p ≡ resume k → (1 ≤ k) × (k ≤ length s.events)
   spawn_inside k p is = law.inside k (subst IsWord (sym (law.resumed p k is).0) tt)
 
@@ -366,7 +366,7 @@ kind_there (e ∷ es) zero = refl
 kind_there (e ∷ es) (suc k) = kind_there es k
 
 -- where the column of kinds has no `resume`, no spawn's continuation is resumed
-pub resumes_none : (s : Story) (i : ℕ) (column : List Kind) (kind : Kind) → column ≡ map kind_of s.events → slice_get column i ≡ Some kind → ((f : ℕ) → kind ≢ kinds.Resume f)
+pub resumes_none : (s : EventOrder) (i : ℕ) (column : List Kind) (kind : Kind) → column ≡ map kind_of s.events → slice_get column i ≡ Some kind → ((f : ℕ) → kind ≢ kinds.Resume f)
     → (k : ℕ) → what s (i + 1) ≡ resume k → ⊥
 resumes_none s i column kind same is other k resumed =
     let place : i + 1 - 1 ≡ i = omega arith in
@@ -375,7 +375,7 @@ resumes_none s i column kind same is other k resumed =
     not_resume s.events (i + 1) (event s (i + 1)) (after s (i + 1)) kind here other k resumed
 
 -- what stands at n, as it is told of what comes behind the events ahead of it
-pub there : (s : Story) (n : ℕ) → n - 1 + 1 ≡ n → (asked : Asked) (frame : ℕ) (kind : Kind) → asked ≡ Next frame kind → IsBehind s (n - 1) asked
+pub there : (s : EventOrder) (n : ℕ) → n - 1 + 1 ≡ n → (asked : Asked) (frame : ℕ) (kind : Kind) → asked ≡ Next frame kind → IsBehind s (n - 1) asked
     → (kind_of_event (event s n) ≡ Some kind) × IsInFrame s.events n frame
 there s n here asked frame kind is behind =
     let told : IsBehind s (n - 1) (Next frame kind) = subst (IsBehind s (n - 1)) is behind in

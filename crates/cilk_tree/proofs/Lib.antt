@@ -16,8 +16,8 @@ pub mod Sources
 pub mod Spans
 pub mod Spelled
 pub mod Starts
-pub mod Stories
-pub mod StoryLines
+pub mod EventOrders
+pub mod EventOrderLines
 pub mod Strands
 pub mod Tied
 pub mod WorkedPlan

@@ -18,11 +18,11 @@ use Rattle.cilk_tree.proofs.Places.{earlier_before, beside_positions}
 use Rattle.cilk_tree.proofs.Reaches.{among_none, among_here, among_one, last}
 use Rattle.cilk_tree.proofs.Tied.{long_whole, before_is_reached}
 use Rattle.cilk_tree.proofs.Tied as tied
-use Rattle.cilk_tree.specs.declared.story.Story.{Story}
+use Rattle.cilk_tree.specs.declared.event_order.EventOrder.{EventOrder}
 use Rattle.cilk_tree.specs.Word.{event, after, Before, plain, read, write, spawn, resume, finish, word_event, what, IsLine, Conflict, IsWord}
-use Rattle.cilk_tree.specs.Orders.{IsStoryOf, IsOrderly, StoriesAreOrderly}
+use Rattle.cilk_tree.specs.Orders.{IsEventOrderOf, IsOrderly, EventOrdersAreOrderly}
 use Rattle.cilk_tree.proofs.Events.{mark_at, begin_what, spawn_what, end_what, finish_at, return_what, sync_event, line_not_sync, line_not_resume, spawn_of, spawn_mark, resume_mark, read_event, write_event}
-use Rattle.cilk_tree.proofs.StoryLines.{Marked, marked_shape, IsReturn, Place, near, synced, returns, first, placed, returned_once, returned, ends_last}
+use Rattle.cilk_tree.proofs.EventOrderLines.{Marked, marked_shape, IsReturn, Place, near, synced, returns, first, placed, returned_once, returned, ends_last}
 
 marks_at : (es : List Event) (i : ℕ) → mark_at (slice_get es i) ≡ get_or (map mark_of es) i mark.Plain
 marks_at [] zero = refl
@@ -30,7 +30,7 @@ marks_at [] (suc i) = refl
 marks_at (e ∷ es) zero = refl
 marks_at (e ∷ es) (suc i) = marks_at es i
 
-module _ (shape : Shape) (s : Story) (is_story : IsStoryOf shape s) (synced_shape : IsSynced shape) where
+module _ (shape : Shape) (s : EventOrder) (is_story : IsEventOrderOf shape s) (synced_shape : IsSynced shape) where
   same : after s ≡ preceding shape
   same = ap (λ (l : List (List ℕ)). (λ (p : ℕ). slice_index_or l (p - 1) [])) is_story.preceding
 
@@ -214,5 +214,5 @@ module _ (shape : Shape) (s : Story) (is_story : IsStoryOf shape s) (synced_shap
     all = all;
   }
 
-pub stories_are_orderly : StoriesAreOrderly
+pub stories_are_orderly : EventOrdersAreOrderly
 stories_are_orderly shape s is synced_shape few small free = orderly shape s is synced_shape few small free

@@ -11,7 +11,7 @@ use Rattle.cilk_types.specs.declared.event.Event.{Event}
 use Rattle.cilk_types.specs.declared.event.Event.TheVariants as events
 use Rattle.cilk_tree.specs.declared.mark.Mark.TheVariants as mark
 use Rattle.cilk_tree.specs.Races.{event_at}
-use Rattle.cilk_tree.specs.declared.story.Story.{Story}
+use Rattle.cilk_tree.specs.declared.event_order.EventOrder.{EventOrder}
 use Rattle.cilk_tree.specs.Orders.{IsOrderly}
 use Rattle.cilk_tree.specs.Word.{event, after, plain, resume, word_event, what, is_spawn, resumption, IsWord}
 use Rattle.cilk_tree.proofs.Events.{mark_at, return_what}
@@ -37,7 +37,7 @@ alone : (ps : List ℕ) (k : ℕ) → IsAtMostOne ps → earliest ps ≡ Some k 
 alone ps k (inl none) is = absurd (let c : None ≡ Some k = sym (ap earliest none) ∙ is in cc c)
 alone ps k (inr one) is = let c : Some one.0 ≡ Some k = sym (ap earliest one.1) ∙ is in let d : one.0 ≡ k = cc c in one.1 ∙ ap (λ (x : ℕ). x ∷ []) d
 
-pub resumed_here : (s : Story) (at k f g : ℕ) → IsAtMostOne (after s at) → kind_of_event (event s at) ≡ Some (Resume f) → earliest (after s at) ≡ Some k → kind_of_event (event s k) ≡ Some (Spawn g) → what s at ≡ resume k
+pub resumed_here : (s : EventOrder) (at k f g : ℕ) → IsAtMostOne (after s at) → kind_of_event (event s at) ≡ Some (Resume f) → earliest (after s at) ≡ Some k → kind_of_event (event s k) ≡ Some (Spawn g) → what s at ≡ resume k
 resumed_here s at k f g one is first spawned =
     return_what s.events at (event s at) (after s at) k (resume_mark (event s at) f is) (alone (after s at) k one first) (spawn_mark (event s k) g spawned)
 
@@ -55,10 +55,10 @@ pub resume_word : (es : List Event) (p f : ℕ) (o : Option Event) (ps : List �
 resume_word es p f (Some (events.Resume g)) ps is h = resumption_word es ps h
 resume_word es p f o ps is h = absurd (cc is)
 
-pub word_of_resume : (s : Story) (at k : ℕ) → what s at ≡ resume k → IsWord (what s at)
+pub word_of_resume : (s : EventOrder) (at k : ℕ) → what s at ≡ resume k → IsWord (what s at)
 word_of_resume s at k is = subst IsWord (sym is) tt
 
-pub is_word_here : (s : Story) (at f : ℕ) (found : Option ℕ) (b : Bool) → kind_of_event (event s at) ≡ Some (Resume f) → ((k : ℕ) → (found ≡ Some k) ↔ (what s at ≡ resume k)) → b ≡ is_some found
+pub is_word_here : (s : EventOrder) (at f : ℕ) (found : Option ℕ) (b : Bool) → kind_of_event (event s at) ≡ Some (Resume f) → ((k : ℕ) → (found ≡ Some k) ↔ (what s at ≡ resume k)) → b ≡ is_some found
     → (IsTrue b → IsWord (what s at)) × (IsWord (what s at) → IsTrue b)
 is_word_here s at f None b kind is test = (
   λ t. absurd (let c : false ≡ true = sym test ∙ t in cc c),
@@ -67,11 +67,11 @@ is_word_here s at f None b kind is test = (
 is_word_here s at f (Some k) b kind is test = (λ t. word_of_resume s at k ((is k).0 refl), λ w. test)
 
 -- ---- the column
-pub record SoFar (s : Story) (i : ℕ) (column : List ℕ) : Type 0 where
+pub record SoFar (s : EventOrder) (i : ℕ) (column : List ℕ) : Type 0 where
   pub long : length column ≡ length s.events + 1
   pub each : (k p : ℕ) → ((1 ≤ p) × (get_or column k 0 ≡ p)) ↔ ((what s p ≡ resume k) × (p ≤ i))
 
-module _ (s : Story) (law : IsOrderly s) where
+module _ (s : EventOrder) (law : IsOrderly s) where
   spawn_within : (k p : ℕ) → what s p ≡ resume k → k < length s.events + 1
   spawn_within k p is = let h = (law.inside k (subst IsWord (sym (law.resumed p k is).0) tt)).1 in omega (arith, h)
 

@@ -9,7 +9,7 @@ use Rattle.cilk_tree.specs.Parallel.{Parallel}
 use Rattle.cilk_tree.specs.Races.{event_at, strand_at, Accesses, Writes, HasNoRace}
 use Rattle.cilk_tree.specs.Sources.{last_write}
 use Rattle.cilk_tree.proofs.Order.{holds_both}
-use Rattle.cilk_tree.specs.declared.story.Story.{Story}
+use Rattle.cilk_tree.specs.declared.event_order.EventOrder.{EventOrder}
 use Rattle.cilk_tree.specs.Word.{event}
 use Rattle.cilk_tree.specs.Values.{HasValue}
 use Rattle.cilk_tree.specs.Planned.{planned}
@@ -35,7 +35,7 @@ each_here P es j e h is = let z : 0 + j ≡ j = omega arith in subst (λ (k : �
 abbrev shape : Shape
 shape = act (child invocations.Spawn (act (sync finish)) (act (sync (sync finish))))
 
-abbrev story : Story
+abbrev story : EventOrder
 story = planned two_reads (pos 0 ∷ [])
 
 -- ---- the one write is at position 2

@@ -4,7 +4,7 @@ use Rattle.std.specs.Prelude.{◌≡◌, ◌≢◌, ◌↔◌, ◌<◌, ℕ, Lis
 use Rattle.cilk_types.specs.declared.event.Event.{Event}
 use Rattle.cilk_types.specs.declared.event.Event.TheVariants.{Sync}
 use Rattle.cilk_tree.specs.Races.{event_at}
-use Rattle.cilk_tree.specs.declared.story.Story.{Story}
+use Rattle.cilk_tree.specs.declared.event_order.EventOrder.{EventOrder}
 use Rattle.cilk_tree.specs.Word.{resume, what}
 use Rattle.cilk_tree.specs.declared.blocks.Continuation.{Continuation}
 use Rattle.cilk_tree.specs.Frames.{IsInFrame}
@@ -24,12 +24,12 @@ abbrev pub EndsBlockOf : List Event → ℕ → ℕ → Type 0
 EndsBlockOf es k p = (frame : ℕ) × IsInFrame es k frame × IsNextSync es frame k p
 
 -- the continuation of the spawn at k begins with the `resume` after it, and its block ends with this `sync`
-pub record IsContinuationOf (s : Story) (k : ℕ) (c : Continuation) : Type 0 where
+pub record IsContinuationOf (s : EventOrder) (k : ℕ) (c : Continuation) : Type 0 where
   pub resumes : what s c.resume ≡ resume k
   pub ends : EndsBlockOf s.events k c.sync
 
 -- at each position where a spawn stands the column has its continuation, and nothing at all others
-abbrev pub AreContinuations : Story → List (Option Continuation) → Type 0
+abbrev pub AreContinuations : EventOrder → List (Option Continuation) → Type 0
 AreContinuations s column = (k : ℕ) (c : Continuation) → (slice_index_or column k None ≡ Some c) ↔ IsContinuationOf s k c
 
 -- the position stands at the frame's place, and all other places are as they were

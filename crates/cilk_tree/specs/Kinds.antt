@@ -4,7 +4,7 @@ use Rattle.std.specs.Int.{w64}
 use Rattle.cilk_types.specs.declared.event.Event.{Event}
 use Rattle.cilk_types.specs.declared.event.Event.TheVariants as events
 use Rattle.cilk_tree.specs.Frames.{IsInFrame}
-use Rattle.cilk_tree.specs.declared.story.Story.{Story}
+use Rattle.cilk_tree.specs.declared.event_order.EventOrder.{EventOrder}
 use Rattle.cilk_tree.specs.declared.kind.Asked.{Asked}
 use Rattle.cilk_tree.specs.declared.kind.Asked.TheVariants.{Next, Nothing}
 use Rattle.cilk_tree.specs.declared.kind.Kind.{Kind}
@@ -30,11 +30,11 @@ kind_of_event (Some e) = Some (kind_of e)
 kind_of_event None = None
 
 -- the kind of the event behind so many events, none past the last
-abbrev pub kind_behind : Story → ℕ → Option Kind
+abbrev pub kind_behind : EventOrder → ℕ → Option Kind
 kind_behind s after = slice_get (map kind_of s.events) after
 
 -- what comes behind so many events: the next event's kind and whose it is, or nothing past the last
-abbrev pub IsBehind : Story → ℕ → Asked → Type 0
+abbrev pub IsBehind : EventOrder → ℕ → Asked → Type 0
 IsBehind s after Nothing = length s.events ≤ after
 IsBehind s after (Next frame kind) = (kind_behind s after ≡ Some kind) × IsInFrame s.events (after + 1) frame
 

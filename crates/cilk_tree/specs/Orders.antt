@@ -5,10 +5,10 @@ use Rattle.cilk_tree.specs.Shape.{Shape, Spells}
 use Rattle.cilk_tree.specs.Tree.{tree}
 use Rattle.cilk_tree.specs.Reach.{Among, predecessors, IsSynced}
 use Rattle.cilk_tree.specs.Races.{HasNoRace}
-use Rattle.cilk_tree.specs.declared.story.Story.{Story}
+use Rattle.cilk_tree.specs.declared.event_order.EventOrder.{EventOrder}
 use Rattle.cilk_tree.specs.Word.{event, after, Before, plain, spawn, resume, finish, what, IsLine, Conflict, IsWord}
 
-pub record IsOrderly (s : Story) : Type 0 where
+pub record IsOrderly (s : EventOrder) : Type 0 where
   -- the root's `begin` is the first event, and no step on a word
   pub root : (what s 1 ≡ plain) × (1 ≤ length s.events)
   pub none_ahead : (e : ℕ) → Among e (after s 1) → ⊥
@@ -33,12 +33,12 @@ pub record IsOrderly (s : Story) : Type 0 where
   pub all : (p : ℕ) → 1 ≤ p → p < length s.events → Before s p (length s.events)
 
 -- the story of a run of this shape
-pub record IsStoryOf (shape : Shape) (s : Story) : Type 0 where
+pub record IsEventOrderOf (shape : Shape) (s : EventOrder) : Type 0 where
   pub spells : Spells shape s.events
   pub preceding : s.preceding ≡ predecessors shape
 
 -- Where each frame syncs after it spawned, the story of a run without a determinacy race is orderly.
-abbrev pub StoriesAreOrderly : Type 0
-StoriesAreOrderly =
-    (shape : Shape) (s : Story) → IsStoryOf shape s → IsSynced shape → length s.events + 1 < 2 ^ 32
+abbrev pub EventOrdersAreOrderly : Type 0
+EventOrdersAreOrderly =
+    (shape : Shape) (s : EventOrder) → IsEventOrderOf shape s → IsSynced shape → length s.events + 1 < 2 ^ 32
     → length s.opening + length s.events + 1 < 2 ^ 34 → HasNoRace (tree shape) s.events → IsOrderly s

@@ -7,7 +7,7 @@ use Rattle.cilk_tree.specs.Shape.{Shape, Spells}
 use Rattle.cilk_tree.specs.Tree.{tree}
 use Rattle.cilk_tree.specs.Reach.{IsSynced}
 use Rattle.cilk_tree.specs.Races.{event_at, HasNoRace}
-use Rattle.cilk_tree.specs.declared.story.Story.{Story}
+use Rattle.cilk_tree.specs.declared.event_order.EventOrder.{EventOrder}
 use Rattle.cilk_tree.specs.Values.{HasValue}
 use Rattle.cilk_tree.specs.Word.{event, after}
 use Rattle.cilk_tree.specs.Passes.{predecessors_in}
@@ -18,7 +18,7 @@ all_asked [] = []
 all_asked (e ∷ es) = true ∷ all_asked es
 
 -- the story of a list of events, whose cells open with these values
-abbrev pub planned : List Event → List ℤ → Story
+abbrev pub planned : List Event → List ℤ → EventOrder
 planned events opening = record { events = events; preceding = predecessors_in events; opening = opening; asked = all_asked events }
 
 -- The events are those of a run whose frames sync after they spawned and in which no two accesses race; reads give their cells' values,
@@ -37,5 +37,5 @@ abbrev pub IsAtMostOne : List ℕ → Type 0
 IsAtMostOne ps = (ps ≡ []) ⊎ ((p : ℕ) × (ps ≡ p ∷ []))
 
 -- a `sync` alone comes right after several events
-abbrev pub HasOneAhead : Story → Type 0
+abbrev pub HasOneAhead : EventOrder → Type 0
 HasOneAhead s = (p : ℕ) → event s p ≢ Some Sync → IsAtMostOne (after s p)

@@ -3,17 +3,17 @@ use Rattle.std.specs.Prelude.{◌≡◌, ℕ, suc, ◌-◌, ◌<◌, ℤ, pos, L
 use Rattle.std.specs.Int.{w64}
 use Rattle.cilk_types.specs.declared.event.Event.TheVariants.{Read, Write}
 use Rattle.cilk_tree.specs.Sources.{last_write}
-use Rattle.cilk_tree.specs.declared.story.Story.{Story}
+use Rattle.cilk_tree.specs.declared.event_order.EventOrder.{EventOrder}
 use Rattle.cilk_tree.specs.Word.{event}
 use Rattle.cilk_tree.specs.Runs.{IsAsked, IsFollowed}
 
 -- v is the value of the cell after the first n events: that of its last write among them, or its opening value
-pub record HasValue (s : Story) (cell n : ℕ) (v : ℤ) : Type 0 where
+pub record HasValue (s : EventOrder) (cell n : ℕ) (v : ℤ) : Type 0 where
   pub opened : last_write s.events cell n ≡ 0 → v ≡ slice_index_or s.opening cell (pos 0)
   pub written : (q : ℕ) → last_write s.events cell n ≡ suc q → event s (suc q) ≡ Some (Write cell v)
 
 -- What holds of the values, as far as the frames follow the story. This alone changes on another input.
-pub record HasValues (s : Story) : Type 0 where
+pub record HasValues (s : EventOrder) : Type 0 where
   pub begins : IsAsked s 1
   pub reads : (p cell : ℕ) (v : ℤ) → IsFollowed s p → event s p ≡ Some (Read cell v) → HasValue s cell (p - 1) v
   -- values are words
@@ -22,6 +22,6 @@ pub record HasValues (s : Story) : Type 0 where
   pub opening_words : (cell : ℕ) → FitsSigned w64 (slice_index_or s.opening cell (pos 0))
 
 -- the cells' values after all events
-pub record AreFinal (s : Story) (values : List ℤ) : Type 0 where
+pub record AreFinal (s : EventOrder) (values : List ℤ) : Type 0 where
   pub all : length values ≡ length s.opening
   pub each : (cell : ℕ) → cell < length s.opening → HasValue s cell (length s.events) (slice_index_or values cell (pos 0))

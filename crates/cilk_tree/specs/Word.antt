@@ -5,17 +5,17 @@ use Rattle.cilk_types.specs.declared.event.Event.{Event}
 use Rattle.cilk_types.specs.declared.event.Event.TheVariants as events
 use Rattle.cilk_tree.specs.Races.{event_at}
 use Rattle.cilk_tree.specs.Reach.{Reaches}
-use Rattle.cilk_tree.specs.declared.story.Story.{Story}
+use Rattle.cilk_tree.specs.declared.event_order.EventOrder.{EventOrder}
 
-abbrev pub event : Story → ℕ → Option Event
+abbrev pub event : EventOrder → ℕ → Option Event
 event s p = event_at s.events p
 
 -- the positions that come right before a position
-abbrev pub after : Story → ℕ → List ℕ
+abbrev pub after : EventOrder → ℕ → List ℕ
 after s p = slice_index_or s.preceding (p - 1) []
 
 -- q is before p, by immediate predecessors
-abbrev pub Before : Story → ℕ → ℕ → Type 0
+abbrev pub Before : EventOrder → ℕ → ℕ → Type 0
 Before s q p = Reaches (after s) q p
 
 -- What an event is to the shared words: nothing, a read or a write of a cell whose word is n, a spawn, the `resume` after the spawn
@@ -50,7 +50,7 @@ word_event es p (Some events.End) ps = if nat_eq p (length es) then finish else 
 word_event es p _ ps = plain
 
 -- what the event at a position is to the shared words
-abbrev pub what : Story → ℕ → WordEvent
+abbrev pub what : EventOrder → ℕ → WordEvent
 what s p = word_event s.events p (event s p) (after s p)
 
 -- a step on a shared word
@@ -72,7 +72,7 @@ IsLine (resume q) = ⊥
 IsLine finish = Unit {0}
 
 -- a write, and another access of its cell
-abbrev pub Conflict : Story → ℕ → ℕ → Type 0
+abbrev pub Conflict : EventOrder → ℕ → ℕ → Type 0
 Conflict s p q =
     (c : ℕ) × (v : ℕ) × (w : ℕ)
     × (((what s p ≡ write c v) × (what s q ≡ read c w)) ⊎ ((what s p ≡ read c w) × (what s q ≡ write c v)) ⊎ ((what s p ≡ write c v) × (what s q ≡ write c w)))

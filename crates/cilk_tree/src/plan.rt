@@ -51,14 +51,14 @@ impl Model for Plan {
     ghost use Rattle.cilk_tree.specs.Word.{word};
     ghost use Rattle.cilk_tree.specs.Kinds.{kind_of};
     ghost use Rattle.cilk_types.specs.declared.limits.TheConstants.{MAX_EVENTS};
-    ghost use Rattle.cilk_tree.specs.declared.story.Story.{Story};
+    ghost use Rattle.cilk_tree.specs.declared.event_order.EventOrder.{EventOrder};
     ghost use Rattle.cilk_tree.specs.Orders.{IsOrderly};
     ghost use Rattle.cilk_tree.specs.Values.{HasValues};
     ghost use Rattle.cilk_tree.specs.Earliest.{all_earliest};
     ghost use Rattle.cilk_tree.specs.Frames.{AreFrames};
     ghost use Rattle.cilk_tree.specs.Planned.{planned};
 
-    ghost Value = { Story };
+    ghost Value = { EventOrder };
 
     ghost view = { λ p. planned p.events.value p.opening.items };
 

@@ -7,12 +7,12 @@ ghost use Rattle.cilk_workers.specs.Names.{IsName};
 
 use crate::works::{Trial, tried};
 use cilk_replay::chain::Task;
+use cilk_types::event::Pos;
 use cilk_workers::naming::Naming;
 use cilk_workers::rack::Rack;
 use cilk_workers::shared::Shared;
 use cilk_workers::turn::act;
 use cilk_workers::work::{Turn, Work};
-use cilk_types::event::Pos;
 use std::alloc::Global;
 use std::process::Abort;
 use std::test::Fail;

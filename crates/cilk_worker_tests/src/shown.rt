@@ -1,7 +1,7 @@
 //! What a run leaves, as lines.
 
-use cilk_threads::run::ThreadFault;
 use cilk_plan::program_plan::ProgramPlan;
+use cilk_threads::run::ThreadFault;
 use cilk_threads::threads::run_threads;
 use cilk_types::input::Input;
 use cilk_types::outcome::{Final, Outcome};

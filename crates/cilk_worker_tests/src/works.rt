@@ -3,26 +3,26 @@
 ghost use Rattle.std.specs.Prelude.{◌≡◌};
 ghost use Rattle.cilk_shared.specs.Reducers.{HasFew};
 ghost use Rattle.cilk_tree.specs.Along.{IsAlong};
-ghost use Rattle.cilk_plan.specs.Plans.{IsStoryOn};
+ghost use Rattle.cilk_plan.specs.Plans.{IsEventOrderOn};
 ghost use Rattle.cilk_threads.specs.Accepted.{IsTableOf};
 ghost use Rattle.cilk_shared.specs.Values.{OfYard};
 
 use crate::boxes::joined;
 use crate::racks::taken;
 use crate::texts::{accepted, input_of, planned};
-use cilk_plan::course::course;
 use cilk_determinacy::words::inputs_are_words;
-use cilk_shared::piece::Piece;
-use cilk_shared::reducers::Reducers;
+use cilk_plan::course::course;
 use cilk_plan::program_plan::ProgramPlan;
 use cilk_plan::yards::yard;
+use cilk_shared::piece::Piece;
+use cilk_shared::reducers::Reducers;
+use cilk_shared::yard::{Segment, Yard};
 use cilk_threads::laws::accepted_stories_have_numbers;
 use cilk_threads::table::plan_reducers;
-use cilk_shared::yard::{Segment, Yard};
-use cilk_workers::shared::Shared;
-use cilk_workers::turn::first;
 use cilk_types::event::Pos;
 use cilk_types::input::Input;
+use cilk_workers::shared::Shared;
+use cilk_workers::turn::first;
 use std::alloc::Global;
 use std::marker::Brand;
 use std::process::Abort;
@@ -55,7 +55,7 @@ fn tried_on<R: Abort>(
     trial: Trial,
 )
     requires table { IsTableOf plan.now.run table.now × HasFew table.now }
-    requires story { IsStoryOn plan.now.run plan.now.story.opening input yard.now.story }
+    requires story { IsEventOrderOn plan.now.run plan.now.story.opening input yard.now.story }
     requires along { IsAlong plan.now.story yard.now.story }
     requires segment { OfYard yard.now segment × (segment.from ≡ 1) × (segment.upto ≡ 2) }
 {

@@ -17,12 +17,12 @@ use Rattle.cilk_tree.specs.declared.kind.Kind.TheVariants as kinds
 use Rattle.cilk_runs.specs.Runs.{Cell, Instance, Reads, Writes, Syncs, Ends, Passes, Begins, Resumes, Creates, Updates, Sets, Values, Prints, Deed, Does, Invokes, Run}
 use Rattle.cilk_runs.specs.Runs as runs
 use Rattle.cilk_runs.specs.Traces.{trace, Due, begin_due, resume_due, neither_due, IsFramed, IsWritten, IsWrittenEvent, AreWritten}
-use Rattle.cilk_tree.specs.declared.story.Story.{Story}
+use Rattle.cilk_tree.specs.declared.event_order.EventOrder.{EventOrder}
 use Rattle.cilk_frames.specs.declared.cursor.Answer.TheVariants.{Done}
 use Rattle.cilk_tree.specs.Orders.{IsOrderly}
 use Rattle.cilk_tree.specs.Values.{HasValues}
 use Rattle.cilk_tree.specs.Word.{event, finish, plain, what}
-use Rattle.cilk_runs.specs.Worlds.{World}
+use Rattle.cilk_runs.specs.FrameEnvs.{FrameEnv}
 use Rattle.cilk_determinacy.specs.Nested.{named}
 use Rattle.cilk_determinacy.specs.Numbers.{cell_number, instance_number}
 use Rattle.cilk_determinacy.proofs.Determinate.{serial_numbered}
@@ -37,30 +37,30 @@ use Rattle.cilk_workers.specs.Shared.{IsNext, SharedValue, story_in}
 
 -- ---- deeds
 
-abbrev Head : List (Deed World) → Type 0
+abbrev Head : List (Deed FrameEnv) → Type 0
 Head [] = ⊥
 Head (d ∷ ds) = d ≡ Does (Passes Begins)
 
 -- behind each invocation
-abbrev Behind : List (Deed World) → Type 0
+abbrev Behind : List (Deed FrameEnv) → Type 0
 Behind [] = Unit {0}
 Behind (Does e ∷ ds) = Behind ds
 Behind (Invokes k w ∷ ds) = Head ds × Behind ds
 
-head_more : (ds es : List (Deed World)) → Head ds → Head (ds ++ es)
+head_more : (ds es : List (Deed FrameEnv)) → Head ds → Head (ds ++ es)
 head_more [] es h = absurd h
 head_more (d ∷ ds) es h = h
 
-behind_both : (ds es : List (Deed World)) → Behind ds → Behind es → Behind (ds ++ es)
+behind_both : (ds es : List (Deed FrameEnv)) → Behind ds → Behind es → Behind (ds ++ es)
 behind_both [] es a b = b
 behind_both (Does e ∷ ds) es a b = behind_both ds es a b
 behind_both (Invokes k w ∷ ds) es a b = (head_more ds es a.0, behind_both ds es a.1 b)
 
-head_of : (t : Run World) → IsFramed begin_due t → Head (trace t)
+head_of : (t : Run FrameEnv) → IsFramed begin_due t → Head (trace t)
 head_of (runs.act (Passes Begins) r) f = refl
 head_of t f = absurd f
 
-framed_next : (due : Due) (e : runs.Event) (r : Run World) → IsFramed due (runs.act e r) → (r ≡ runs.stop) ⊎ IsFramed neither_due r
+framed_next : (due : Due) (e : runs.Event) (r : Run FrameEnv) → IsFramed due (runs.act e r) → (r ≡ runs.stop) ⊎ IsFramed neither_due r
 framed_next begin_due (Passes Begins) r f = inr f
 framed_next resume_due (Passes Resumes) r f = inr f
 framed_next neither_due (Reads c v) r f = inr f
@@ -74,15 +74,15 @@ framed_next neither_due (Passes (Values i x)) r f = inr f
 framed_next neither_due (Passes (Prints x)) r f = inr f
 framed_next due e r f = absurd f
 
-framed_child : (due : Due) (k : Invocation) (w : World) (u r : Run World) → IsFramed due (runs.child k w u r) → IsFramed begin_due u × IsFramed resume_due r
+framed_child : (due : Due) (k : Invocation) (w : FrameEnv) (u r : Run FrameEnv) → IsFramed due (runs.child k w u r) → IsFramed begin_due u × IsFramed resume_due r
 framed_child neither_due k w u r f = f
 framed_child begin_due k w u r f = absurd f
 framed_child resume_due k w u r f = absurd f
 
-behind_of : (t : Run World) (due : Due) → IsFramed due t → Behind (trace t)
+behind_of : (t : Run FrameEnv) (due : Due) → IsFramed due t → Behind (trace t)
 behind_of runs.stop due f = tt
 behind_of (runs.act e r) due f =
-    ⊎_elim (λ (q : r ≡ runs.stop). subst (λ (z : Run World). Behind (trace z)) (sym q) tt) (λ (g : IsFramed neither_due r). behind_of r neither_due g) (framed_next due e r f)
+    ⊎_elim (λ (q : r ≡ runs.stop). subst (λ (z : Run FrameEnv). Behind (trace z)) (sym q) tt) (λ (g : IsFramed neither_due r). behind_of r neither_due g) (framed_next due e r f)
 behind_of (runs.child k w u r) due f =
     let g = framed_child due k w u r f in
     (head_more (trace u) (trace r) (head_of u g.0), behind_both (trace u) (trace r) (behind_of u begin_due g.0) (behind_of r resume_due g.1))
@@ -106,17 +106,17 @@ module _ (cell : Cell → ℕ) (instance : Instance → numbered.Instance) where
   abbrev BeginsAt : List Event → ℕ → Type 0
   BeginsAt es i = (f : ℕ) × (slice_get es i ≡ Some (events.Begin f))
 
-  head_event : (ds : List (Deed World)) (es : List Event) → Head ds → AreWritten cell instance ds es → BeginsAt es 0
+  head_event : (ds : List (Deed FrameEnv)) (es : List Event) → Head ds → AreWritten cell instance ds es → BeginsAt es 0
   head_event [] es h w = absurd h
   head_event (d ∷ ds) [] h w = absurd w
   head_event (d ∷ ds) (e ∷ es) h w =
-      let z : (f : ℕ) × (e ≡ events.Begin f) = subst (λ (x : Deed World). IsWritten cell instance x e) h w.0 in (z.0, ap (λ (x : Event). Some x) z.1)
+      let z : (f : ℕ) × (e ≡ events.Begin f) = subst (λ (x : Deed FrameEnv). IsWritten cell instance x e) h w.0 in (z.0, ap (λ (x : Event). Some x) z.1)
 
-  tail : (d : Deed World) (ds : List (Deed World)) → Behind (d ∷ ds) → Behind ds
+  tail : (d : Deed FrameEnv) (ds : List (Deed FrameEnv)) → Behind (d ∷ ds) → Behind ds
   tail (Does e) ds h = h
   tail (Invokes k w) ds h = h.1
 
-  behind_event : (ds : List (Deed World)) (es : List Event) (i : ℕ) (e : Event) → Behind ds → AreWritten cell instance ds es → slice_get es i ≡ Some e → IsStart (Some e) → BeginsAt es (suc i)
+  behind_event : (ds : List (Deed FrameEnv)) (es : List Event) (i : ℕ) (e : Event) → Behind ds → AreWritten cell instance ds es → slice_get es i ≡ Some e → IsStart (Some e) → BeginsAt es (suc i)
   behind_event [] [] i e b w q s = absurd (let z : None ≡ Some e = q in cc z)
   behind_event [] (x ∷ es) i e b w q s = absurd w
   behind_event (d ∷ ds) [] i e b w q s = absurd w
@@ -160,7 +160,7 @@ mapped (Some e) = refl
 mapped None = refl
 
 module _ (s : Setting) (h : IsOfProgram s) where
-  abbrev story : Story
+  abbrev story : EventOrder
   story = s.story
 
   -- a `begin` of the plan is one of the story
@@ -204,7 +204,7 @@ starts None k q s = absurd (cc q)
 starts (Some e) k q s = let z : kind_of e ≡ k = cc q in kind_start e (subst IsStartKind (sym z) s)
 
 -- where the story has a position there is an event
-pub next_there : (s : Story) (at : ℕ) (a : Asked) → IsNext s at a → 1 ≤ at → at ≤ length s.events → ((f : ℕ) (k : Kind) → a ≡ Next f k → ⊥) → ⊥
+pub next_there : (s : EventOrder) (at : ℕ) (a : Asked) → IsNext s at a → 1 ≤ at → at ≤ length s.events → ((f : ℕ) (k : Kind) → a ≡ Next f k → ⊥) → ⊥
 next_there s at Nothing (inl none) some within other = omega (arith, none, some)
 next_there s at Nothing (inr past) some within other = omega (arith, past, within)
 next_there s at (Next f k) h some within other = other f k refl

@@ -21,7 +21,7 @@ use Rattle.cilk_shared.specs.Reducers.{events_over, kind_in}
 use Rattle.cilk_shared.specs.declared.reducers.Reducers.{Reducers}
 use Rattle.cilk_tree.specs.declared.kind.Kind.{Kind}
 use Rattle.cilk_shared.specs.Values.{CanPass, CanTake, IsAhead, SegmentValue, YardValue, taken_at}
-use Rattle.cilk_tree.specs.declared.story.Story.{Story}
+use Rattle.cilk_tree.specs.declared.event_order.EventOrder.{EventOrder}
 use Rattle.cilk_tree.specs.Orders.{IsOrderly}
 use Rattle.cilk_tree.specs.Runs.{IsAsked, IsFollowed}
 use Rattle.cilk_tree.specs.Word.{event, after, plain, resume, what}
@@ -38,24 +38,24 @@ pub of_yard : (y : RunValue) (z : YardValue) (p : PieceValue) → z ≡ yard_of 
 of_yard y z p same o = (o.0 ∙ ap (λ (v : YardValue). v.of) (sym same), o.1 ∙ ap (λ (v : YardValue). v.story) (sym same))
 
 -- a fact of the run's story, of the piece's
-pub of_story : (P : Story → Type 0) (y : RunValue) (p : PieceValue) → OfRun y p → P y.story → P p.story
+pub of_story : (P : EventOrder → Type 0) (y : RunValue) (p : PieceValue) → OfRun y p → P y.story → P p.story
 of_story P y p o h = subst P (sym o.1) h
 
 -- a fact of the run's story, of the yard's
-pub in_yard : (P : Story → Type 0) (y : SharedValue) (z : YardValue) → z ≡ yard_of y.run → P (story_in y) → P z.story
+pub in_yard : (P : EventOrder → Type 0) (y : SharedValue) (z : YardValue) → z ≡ yard_of y.run → P (story_in y) → P z.story
 in_yard P y z same h = subst (λ (v : YardValue). P v.story) (sym same) h
 
 -- a fact of the run's story at the piece's end, of the piece's segment
-pub in_segment : (P : Story → ℕ → Type 0) (y : SharedValue) (p : PieceValue) (g : SegmentValue) → g ≡ segment_of p → OfRun y.run p → P (story_in y) p.upto → P g.story g.upto
-in_segment P y p g same o h = subst (λ (z : SegmentValue). P z.story z.upto) (sym same) (of_story (λ (s : Story). P s p.upto) y.run p o h)
+pub in_segment : (P : EventOrder → ℕ → Type 0) (y : SharedValue) (p : PieceValue) (g : SegmentValue) → g ≡ segment_of p → OfRun y.run p → P (story_in y) p.upto → P g.story g.upto
+in_segment P y p g same o h = subst (λ (z : SegmentValue). P z.story z.upto) (sym same) (of_story (λ (s : EventOrder). P s p.upto) y.run p o h)
 
-pub off_segment : (P : Story → ℕ → Type 0) (y : SharedValue) (p : PieceValue) (g : SegmentValue) → g ≡ segment_of p → OfRun y.run p → P g.story g.upto → P (story_in y) p.upto
-off_segment P y p g same o h = subst (λ (s : Story). P s p.upto) o.1 (subst (λ (z : SegmentValue). P z.story z.upto) same h)
+pub off_segment : (P : EventOrder → ℕ → Type 0) (y : SharedValue) (p : PieceValue) (g : SegmentValue) → g ≡ segment_of p → OfRun y.run p → P g.story g.upto → P (story_in y) p.upto
+off_segment P y p g same o h = subst (λ (s : EventOrder). P s p.upto) o.1 (subst (λ (z : SegmentValue). P z.story z.upto) same h)
 
 -- the piece's next event resumes nothing that a spawn left
 pub ahead : (y : SharedValue) (p : PieceValue) (g : SegmentValue) → g ≡ segment_of p → IsGood y.run p → ((k : ℕ) → what (story_in y) p.upto ≡ resume k → ⊥) → IsAhead g
 ahead y p g same good other =
-    subst IsAhead (sym same) (good.1, of_story (λ (s : Story). (k : ℕ) → what s p.upto ≡ resume k → ⊥) y.run p good.0 other)
+    subst IsAhead (sym same) (good.1, of_story (λ (s : EventOrder). (k : ℕ) → what s p.upto ≡ resume k → ⊥) y.run p good.0 other)
 
 -- the piece with one event more
 pub grown_good : (y : SharedValue) (p q : PieceValue) → IsGood y.run p → q ≡ grown p → IsGood y.run q × (q.from ≡ p.from) × (q.upto ≡ p.upto + 1)
@@ -68,7 +68,7 @@ pub number_read : (y : SharedValue) (p : PieceValue) (i : Instance) (v n : ℤ) 
     → event (story_in y) p.upto ≡ Some (events.Value i v) → n ≡ number_ahead p i → n ≡ v
 number_read y p i v n o numbers followed is shown =
     shown
-    ∙ ap₂ (λ (s : Story) (r : Reducers). (structure_of (kind_in r i)).number (view_of (structure_of (kind_in r i)) i (events_over s r 1 p.upto))) o.1 o.2
+    ∙ ap₂ (λ (s : EventOrder) (r : Reducers). (structure_of (kind_in r i)).number (view_of (structure_of (kind_in r i)) i (events_over s r 1 p.upto))) o.1 o.2
     ∙ sym (numbers p.upto i v followed is)
 
 -- a piece with events has a first position
@@ -79,37 +79,37 @@ from_one a b less = omega (arith, less)
 pub can_pass : (y : SharedValue) (p : PieceValue) → IsGood y.run p → IsOrderly (story_in y) → IsAsked (story_in y) p.upto → p.upto < (let s = story_in y in length s.events)
     → what (story_in y) p.upto ≡ plain → (event (story_in y) p.upto ≡ Some events.Sync → ⊥) → CanPass (segment_of p)
 can_pass y p good order asked more quiet other =
-    of_story (λ (s : Story). ((p.from < p.upto) × (p.upto ≤ length s.events) × (what s p.upto ≡ plain) × ((e : ℕ) → Among e (after s p.upto) → p.from ≤ e)) × IsAsked s p.upto) y.run p good.0
+    of_story (λ (s : EventOrder). ((p.from < p.upto) × (p.upto ≤ length s.events) × (what s p.upto ≡ plain) × ((e : ℕ) → Among e (after s p.upto) → p.from ≤ e)) × IsAsked s p.upto) y.run p good.0
     ((good.1, omega (arith, more), quiet, λ e among. let next = order.ordinary p.upto quiet other e among in let less = good.1 in omega (arith, next, less)), asked)
 
 pub passes : (y : SharedValue) (p : PieceValue) (e : Event) → IsGood y.run p → CanPass (segment_of p) → event (story_in y) p.upto ≡ Some e → PassesOn p e
-passes y p e good can is = (can, of_story (λ (s : Story). event s p.upto ≡ Some e) y.run p good.0 is)
+passes y p e good can is = (can, of_story (λ (s : EventOrder). event s p.upto ≡ Some e) y.run p good.0 is)
 
 -- ---- the chain
 
 -- a fact of the run's story at the piece's end, of the chain
-pub on_chain : (P : Story → ℕ → Type 0) (y : SharedValue) (w : Work) → Works y w → (let u = y.course in u.yard ≡ yard_of y.run) → (let p = w.piece in P (story_in y) p.upto)
+pub on_chain : (P : EventOrder → ℕ → Type 0) (y : SharedValue) (w : Work) → Works y w → (let u = y.course in u.yard ≡ yard_of y.run) → (let p = w.piece in P (story_in y) p.upto)
     → (let k = w.chain in let u = k.of in let z = u.yard in P z.story k.at)
 on_chain P y w works same h =
     subst (λ (k : ChainValue). let u = k.of in let z = u.yard in P z.story k.at) (sym works.stands)
     (let p = w.piece in subst (λ (z : YardValue). P z.story p.upto) (sym same) h)
 
 -- and back
-pub off_chain : (P : Story → ℕ → Type 0) (y : SharedValue) (w : Work) → Works y w → (let u = y.course in u.yard ≡ yard_of y.run) → (let k = w.chain in let u = k.of in let z = u.yard in P z.story k.at)
+pub off_chain : (P : EventOrder → ℕ → Type 0) (y : SharedValue) (w : Work) → Works y w → (let u = y.course in u.yard ≡ yard_of y.run) → (let k = w.chain in let u = k.of in let z = u.yard in P z.story k.at)
     → (let p = w.piece in P (story_in y) p.upto)
 off_chain P y w works same h =
     let p = w.piece in
     subst (λ (z : YardValue). P z.story p.upto) same (subst (λ (k : ChainValue). let u = k.of in let z = u.yard in P z.story k.at) works.stands h)
 
 -- the same of a chain that stands there
-pub on_standing : (P : Story → ℕ → Type 0) (y : SharedValue) (k : ChainValue) (at : ℕ) → k ≡ standing y.course at → (let u = y.course in u.yard ≡ yard_of y.run) → P (story_in y) at
+pub on_standing : (P : EventOrder → ℕ → Type 0) (y : SharedValue) (k : ChainValue) (at : ℕ) → k ≡ standing y.course at → (let u = y.course in u.yard ≡ yard_of y.run) → P (story_in y) at
     → (let u = k.of in let z = u.yard in P z.story k.at)
 on_standing P y k at stands same h =
     subst (λ (c : ChainValue). let u = c.of in let z = u.yard in P z.story c.at) (sym stands)
     (subst (λ (z : YardValue). P z.story at) (sym same) h)
 
 -- and back
-pub off_standing : (P : Story → ℕ → Type 0) (y : SharedValue) (k : ChainValue) (at : ℕ) → k ≡ standing y.course at → (let u = y.course in u.yard ≡ yard_of y.run)
+pub off_standing : (P : EventOrder → ℕ → Type 0) (y : SharedValue) (k : ChainValue) (at : ℕ) → k ≡ standing y.course at → (let u = y.course in u.yard ≡ yard_of y.run)
     → (let u = k.of in let z = u.yard in P z.story k.at) → P (story_in y) at
 off_standing P y k at stands same h =
     subst (λ (z : YardValue). P z.story at) same (subst (λ (c : ChainValue). let u = c.of in let z = u.yard in P z.story c.at) stands h)
@@ -155,7 +155,7 @@ begun_on p at none = grind (arith, nat_tests)
 pub can_take : (y : SharedValue) (z : YardValue) (p : PieceValue) (ticket at : ℕ) → z ≡ yard_of y.run → IsOrderly (story_in y) → IsAsked (story_in y) at → what (story_in y) at ≡ resume ticket
     → ((p.upto ≤ p.from) ⊎ ((p.from < p.upto) × (at ≡ p.upto))) → CanTake z (segment_of p) ticket
 can_take y z p ticket at same order asked is where_to =
-    in_yard (λ (s : Story). (q : ℕ) → what s q ≡ resume ticket → IsAsked s q × ((p.upto ≤ p.from) ⊎ ((p.from < p.upto) × (q ≡ p.upto)))) y z same
+    in_yard (λ (s : EventOrder). (q : ℕ) → what s q ≡ resume ticket → IsAsked s q × ((p.upto ≤ p.from) ⊎ ((p.from < p.upto) × (q ≡ p.upto)))) y z same
     (λ q there. let one = order.once at q ticket is there in subst (λ (n : ℕ). IsAsked (story_in y) n × ((p.upto ≤ p.from) ⊎ ((p.from < p.upto) × (n ≡ p.upto)))) one (asked, where_to))
 
 -- the chain that stands behind the piece's next event

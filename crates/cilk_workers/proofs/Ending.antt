@@ -21,17 +21,17 @@ use Rattle.cilk_runs.specs.Runs as runs
 use Rattle.cilk_runs.specs.Serial.{value_after}
 use Rattle.cilk_runs.specs.Traces.{trace}
 use Rattle.cilk_runs.specs.Views.{view_after}
-use Rattle.cilk_tree.specs.declared.story.Story.{Story}
+use Rattle.cilk_tree.specs.declared.event_order.EventOrder.{EventOrder}
 use Rattle.cilk_tree.specs.Runs.{IsAsked}
-use Rattle.cilk_runs.specs.WorldMachine.{asked_after, has_ended, named_ask, next, opening_values, retired_by}
+use Rattle.cilk_runs.specs.FrameEnvMachine.{asked_after, has_ended, named_ask, next, opening_values, retired_by}
 use Rattle.cilk_runs.specs.Reducers.{View, monoid_of}
 use Rattle.cilk_runs.specs.Steps.{result_in}
-use Rattle.cilk_runs.specs.Worlds.{World, first_world}
+use Rattle.cilk_runs.specs.FrameEnvs.{FrameEnv, first_world}
 use Rattle.cilk_determinacy.specs.Nested.{named}
 use Rattle.cilk_replay.specs.InputCourses.{run_of, asked_in, course_of, event_for, frame_for}
 use Rattle.cilk_replay.specs.Frames.{same_frame, course_on}
 use Rattle.cilk_replay.specs.Points.{Point, points, points_on, asked_for}
-use Rattle.cilk_replay.specs.Stories.{IsPlannedRun}
+use Rattle.cilk_replay.specs.EventOrders.{IsPlannedRun}
 use Rattle.cilk_replay.proofs.LastEnds.{IsLast, result_of}
 use Rattle.cilk_replay.proofs.Points.{asked_by_positions}
 use Rattle.cilk_workers.specs.Rows.{yard_of}
@@ -82,7 +82,7 @@ last_there (y ∷ xs) (suc n) x there long =
     (y ∷ rest.0, ap (λ l. y ∷ l) rest.1)
 
 -- what a frame does that asks to end
-end_is : (d : Deed World) (v : ℤ) (gone : List Instance) → End v gone ≡ asked_for d → d ≡ Does (Ends v gone)
+end_is : (d : Deed FrameEnv) (v : ℤ) (gone : List Instance) → End v gone ≡ asked_for d → d ≡ Does (Ends v gone)
 end_is (Does (Ends x gone')) v gone q =
     let a : x ≡ v = cc q in
     let b : gone' ≡ gone = cc q in
@@ -96,20 +96,20 @@ module _ (u : CourseValue) (at : ℕ) (value : ℤ) (ask : IsNextAsk u at (asks.
   abbrev h : IsOfProgram s
   h = ask.of_program
 
-  abbrev story : Story
+  abbrev story : EventOrder
   story = s.story
 
-  abbrev list : List (Point World)
+  abbrev list : List (Point FrameEnv)
   list = points_on s.program s.inputs s.run
 
-  abbrev course_deeds : Transcript → List (Deed World)
+  abbrev course_deeds : Transcript → List (Deed FrameEnv)
   course_deeds run = trace (run_of (course_on s.program s.inputs (named s.program run)))
 
   many : length list ≡ length story.events
-  many = (asked_by_positions s.program s.own s.inputs s.run h.events story.opening h.is).all ∙ ap (λ (z : Story). length z.events) (sym h.told)
+  many = (asked_by_positions s.program s.own s.inputs s.run h.events story.opening h.is).all ∙ ap (λ (z : EventOrder). length z.events) (sym h.told)
 
-  deeds_are : map (λ (x : Point World). x.deed) list ≡ course_deeds s.run
-  deeds_are = deeds World View monoid_of (next s.program s.inputs) (same_frame s.program) (first_world s.program) [] (opening_values s.program s.inputs) (unit_of monoid_of) 0 0 (named s.program s.run)
+  deeds_are : map (λ (x : Point FrameEnv). x.deed) list ≡ course_deeds s.run
+  deeds_are = deeds FrameEnv View monoid_of (next s.program s.inputs) (same_frame s.program) (first_world s.program) [] (opening_values s.program s.inputs) (unit_of monoid_of) 0 0 (named s.program s.run)
 
   there : slice_get list ask.behind ≡ Some ask.point
   unfolding point_at
@@ -132,10 +132,10 @@ module _ (u : CourseValue) (at : ℕ) (value : ℤ) (ask : IsNextAsk u at (asks.
   deed_last : IsLast (course_deeds s.run) value
   deed_last =
       let found : slice_get (course_deeds s.run) ask.behind ≡ Some (Does (Ends value gone)) =
-      ap (λ (l : List (Deed World)). slice_get l ask.behind) (sym deeds_are) ∙ slice_get-map (λ (x : Point World). x.deed) list ask.behind
-      ∙ ap (option_map (λ (x : Point World). x.deed)) there ∙ ap (λ (d : Deed World). Some d) deed_is in
-      let long = ap (λ (l : List (Deed World)). length l) deeds_are in
-      let one = length-map list (λ (x : Point World). x.deed) in
+      ap (λ (l : List (Deed FrameEnv)). slice_get l ask.behind) (sym deeds_are) ∙ slice_get-map (λ (x : Point FrameEnv). x.deed) list ask.behind
+      ∙ ap (option_map (λ (x : Point FrameEnv). x.deed)) there ∙ ap (λ (d : Deed FrameEnv). Some d) deed_is in
+      let long = ap (λ (l : List (Deed FrameEnv)). length l) deeds_are in
+      let one = length-map list (λ (x : Point FrameEnv). x.deed) in
       let sum = many in
       let place = ask.place in
       let end = last_there (course_deeds s.run) ask.behind (Does (Ends value gone)) found (omega (arith, long, one, sum, place, last)) in
@@ -152,4 +152,4 @@ pub ended_with : (y : SharedValue) (k : ChainValue) (at : ℕ) (value : ℤ) →
 ended_with y k at value stands same ask asked last =
     let stories = ap (λ (z : YardValue). z.story) same in
     result_is y.course at value (subst (λ (c : ChainValue). IsNextAsk c.of c.at (asks.End value)) stands ask)
-    (subst (λ (z : Story). IsAsked z at) (sym stories) asked) (subst (λ (z : Story). at ≡ length z.events) (sym stories) last)
+    (subst (λ (z : EventOrder). IsAsked z at) (sym stories) asked) (subst (λ (z : EventOrder). at ≡ length z.events) (sym stories) last)

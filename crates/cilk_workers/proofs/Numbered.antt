@@ -14,7 +14,7 @@ use Rattle.cilk_program.specs.Sources.{source}
 use Rattle.cilk_program.specs.Syntax.{Source}
 use Rattle.cilk_tree.specs.Runs.{IsAsked}
 use Rattle.cilk_tree.specs.Word.{event}
-use Rattle.cilk_runs.specs.Worlds.{World}
+use Rattle.cilk_runs.specs.FrameEnvs.{FrameEnv}
 use Rattle.cilk_replay.specs.Points.{IsEventOf}
 use Rattle.cilk_replay.specs.Asking.{IsNextAsk}
 use Rattle.cilk_replay.specs.Courses.{CourseValue, setting_of}
@@ -22,7 +22,7 @@ use Rattle.cilk_replay.proofs.Along.{story_of}
 use Rattle.cilk_replay.proofs.Going as going
 use Rattle.cilk_workers.specs.Asks.{Carries, HasNumber, number_in}
 
-module _ (p : Source) (r : Transcript) (w : World) where
+module _ (p : Source) (r : Transcript) (w : FrameEnv) where
   moved : (e e' : Event) (v : ℤ) → e ≡ e' → Carries (Some e) v → Carries (Some e') v
   moved e e' v q h = subst (λ (z : Event). Carries (Some z) v) q h
 

@@ -11,14 +11,14 @@ use Rattle.cilk_tree.specs.Kinds.{IsBehind, kind_of, kind_of_event}
 use Rattle.cilk_tree.specs.declared.kind.Asked.{Asked}
 use Rattle.cilk_tree.specs.declared.kind.Asked.TheVariants.{Next, Nothing}
 use Rattle.cilk_tree.specs.declared.kind.Kind.{Kind}
-use Rattle.cilk_tree.specs.declared.story.Story.{Story}
+use Rattle.cilk_tree.specs.declared.event_order.EventOrder.{EventOrder}
 use Rattle.cilk_workers.specs.Shared.{IsNext}
 
 mapped : (o : Option Event) → kind_of_event o ≡ option_map kind_of o
 mapped (Some e) = refl
 mapped None = refl
 
-pub next_is : (plan s : Story) (at : ℕ) (a : Asked) → IsAlong plan s → FramesAreAlong → 1 ≤ at → IsBehind plan (at - 1) a → IsNext s at a
+pub next_is : (plan s : EventOrder) (at : ℕ) (a : Asked) → IsAlong plan s → FramesAreAlong → 1 ≤ at → IsBehind plan (at - 1) a → IsNext s at a
 next_is plan s at Nothing along frames some h =
     let long = ap (λ (l : List Kind). length l) along.kinds in
     let one = length-map s.events kind_of in

@@ -3,7 +3,7 @@ pub mod Asks
 pub mod BegunTurn
 pub mod Boxes
 pub mod Gates
-pub mod Hands
+pub mod Activities
 pub mod Held
 pub mod Keys
 pub mod Locks
@@ -13,6 +13,6 @@ pub mod Racks
 pub mod Rows
 pub mod Shared
 pub mod Shelves
-pub mod Stations
+pub mod WorkerContexts
 pub mod Turns
 pub mod Waits

@@ -1,7 +1,7 @@
 -- A row of awaited keys, with the runs of arrived keys between them.
 use Rattle.std.specs.Prelude.{◌≡◌, ◌+◌, ◌<◌, ◌≤◌, ℕ, zero, suc, nat_eq, Bool, true, false, if◌then◌else◌, List, [], ◌∷◌, ◌++◌, Option, Some, None}
 use Rattle.atomic_table.specs.Seated.{TableId}
-use Rattle.cilk_tree.specs.declared.story.Story.{Story}
+use Rattle.cilk_tree.specs.declared.event_order.EventOrder.{EventOrder}
 use Rattle.cilk_shared.specs.Values.{YardValue}
 use Rattle.cilk_shared.specs.declared.reducers.Reducers.{Reducers}
 use Rattle.cilk_shared.specs.Pieces.{PieceValue}
@@ -9,7 +9,7 @@ use Rattle.cilk_shared.specs.Pieces.{PieceValue}
 -- a yard, and the reducers of its run
 pub record RunValue : Type 0 where
   pub of : TableId
-  pub story : Story
+  pub story : EventOrder
   pub reducers : Reducers
 
 abbrev pub run_of : YardValue → Reducers → RunValue

@@ -9,7 +9,7 @@ use Rattle.cilk_tree.specs.declared.kind.Asked.{Asked}
 use Rattle.cilk_tree.specs.declared.kind.Asked.TheVariants.{Next, Nothing}
 use Rattle.cilk_tree.specs.declared.kind.Kind.TheVariants as kinds
 use Rattle.cilk_shared.specs.Values.{YardValue}
-use Rattle.cilk_tree.specs.declared.story.Story.{Story}
+use Rattle.cilk_tree.specs.declared.event_order.EventOrder.{EventOrder}
 use Rattle.cilk_tree.specs.Word.{event}
 
 -- a run of the program, and its course
@@ -21,14 +21,14 @@ abbrev pub shared_with : YardValue → Reducers → CourseValue → SharedValue
 shared_with y r c = record { run = run_of y r; course = c }
 
 -- its story
-abbrev pub story_in : SharedValue → Story
+abbrev pub story_in : SharedValue → EventOrder
 story_in y = let r = y.run in r.story
 
 -- the cells that the story's events name open with values
-abbrev pub HasCells : Story → Type 0
+abbrev pub HasCells : EventOrder → Type 0
 HasCells s = (p c : ℕ) → (kind_of_event (event s p) ≡ Some (kinds.Read c)) ⊎ (kind_of_event (event s p) ≡ Some (kinds.Write c)) → c < length s.opening
 
 -- the kind of the event at a position, and whose frame it is in
-abbrev pub IsNext : Story → ℕ → Asked → Type 0
+abbrev pub IsNext : EventOrder → ℕ → Asked → Type 0
 IsNext s at Nothing = (at ≡ 0) ⊎ (length s.events < at)
 IsNext s at (Next frame kind) = (kind_of_event (event s at) ≡ Some kind) × IsInFrame s.events at frame × (1 ≤ at) × (at ≤ length s.events)

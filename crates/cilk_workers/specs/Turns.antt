@@ -9,7 +9,7 @@ use Rattle.cilk_replay.specs.Chains.{standing}
 use Rattle.cilk_determinacy.specs.Nested.{named}
 use Rattle.cilk_replay.specs.InputCourses.{run_of}
 use Rattle.cilk_replay.specs.Frames.{course_on}
-use Rattle.cilk_replay.specs.Stories.{IsPlannedRun}
+use Rattle.cilk_replay.specs.EventOrders.{IsPlannedRun}
 use Rattle.cilk_shared.specs.Pieces.{PieceValue, grown, segment_of}
 use Rattle.cilk_tree.specs.Kinds.{kind_of_event}
 use Rattle.cilk_tree.specs.declared.kind.Kind.{Kind}

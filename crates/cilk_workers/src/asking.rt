@@ -8,18 +8,18 @@ ghost use Rattle.cilk_tree.specs.Word.{event};
 ghost use Rattle.cilk_workers.specs.Asks.{Carries, HasNumber, number_in};
 ghost use Rattle.cilk_types.specs.declared.event.Event.TheVariants.{End};
 
-use cilk_replay::chain::Chain;
 use cilk_frames::asked::AskSlot;
-use cilk_frames::brief::Brief;
+use cilk_frames::small_ask::SmallAsk;
+use cilk_replay::chain::Chain;
 
 // The number of an ask, where it has one.
 fn number_in(asked: &AskSlot) -> Option<i64>
     ensures { result ≡ number_in asked.now }
 {
     match asked.brief() {
-        Some(Brief::Write(_, number)) | Some(Brief::Update(_, number)) => Some(*number),
-        Some(Brief::Set(_, number)) | Some(Brief::Print(number)) => Some(*number),
-        Some(Brief::Result(number)) | Some(Brief::End(number)) => Some(*number),
+        Some(SmallAsk::Write(_, number)) | Some(SmallAsk::Update(_, number)) => Some(*number),
+        Some(SmallAsk::Set(_, number)) | Some(SmallAsk::Print(number)) => Some(*number),
+        Some(SmallAsk::Result(number)) | Some(SmallAsk::End(number)) => Some(*number),
         _ => None,
     }
 }

@@ -9,19 +9,19 @@ ghost use Rattle.cilk_replay.specs.Chains.{standing};
 ghost use Rattle.cilk_workers.specs.Locks.{IsShelf};
 ghost use Rattle.cilk_tree.specs.Word.{event};
 ghost use Rattle.cilk_workers.specs.Shared.{story_in};
-ghost use Rattle.cilk_workers.specs.Hands.{IsMet};
+ghost use Rattle.cilk_workers.specs.Activities.{IsMet};
 ghost use Rattle.cilk_workers.specs.Keys.{AreKeys};
-ghost use Rattle.cilk_workers.specs.Stations.{IsStation};
+ghost use Rattle.cilk_workers.specs.WorkerContexts.{IsWorkerContext};
 
+use crate::context::WorkerContext;
 use crate::gate::Gate;
-use crate::station::Station;
 use crate::join::{Boxed, JoinBox};
+use crate::lock::{Key, Lock, lock, never, unlock};
+use crate::naming::Naming;
 use crate::shelf::Shelf;
+use crate::work::Work;
 use cilk_replay::chain::Chain;
 use cilk_shared::piece::Piece;
-use crate::lock::{Key, Lock, free, lock, wait};
-use crate::naming::Naming;
-use crate::work::Work;
 use cilk_types::event::Pos;
 use std::alloc::AllocError;
 use std::sync::Wait;
@@ -66,15 +66,15 @@ fn shelf_of<R: Wait>(rt: &R, block: usize, shelves: usize) -> usize
     ensures { result < shelves }
 {
     if shelves == 0 {
-        wait(rt);
+        never(rt);
         unreachable!()
     }
     block % shelves
 }
 
-impl<'a, 'b, N: Naming, R: Wait, G: Gate> Station<'a, 'b, N, R, G> {
+impl<'a, 'b, N: Naming, R: Wait, G: Gate> WorkerContext<'a, 'b, N, R, G> {
     // A piece comes to the box in hand.
-    fn come(&self, found: &mut JoinBox, arrival: Arrival) -> Met
+    fn arrive_at(&self, found: &mut JoinBox, arrival: Arrival) -> Met
         requires run { (found.old.rows.of ≡ self.now.shared.now.run) × (found.old.course ≡ self.now.shared.now.course) }
         requires good { IsGood self.now.shared.now.run arrival.piece }
         requires chain { IfSome arrival.chain (λ c. c ≡ standing self.now.shared.now.course arrival.piece.upto) }
@@ -83,7 +83,7 @@ impl<'a, 'b, N: Naming, R: Wait, G: Gate> Station<'a, 'b, N, R, G> {
     {
         let Arrival { by, piece, chain } = arrival;
         if !found.fits(by, &piece, chain.is_some()) {
-            wait(self.rt);
+            never(self.rt);
         }
         match found.arrive(self.alloc, self.shared.yard(), by, piece, chain) {
             Ok(Boxed::Waits) => Met::Waits,
@@ -94,7 +94,7 @@ impl<'a, 'b, N: Naming, R: Wait, G: Gate> Station<'a, 'b, N, R, G> {
 
     // The box of a block comes off its shelf, on which there is room then to put it back.
     fn taken_from(&self, shelf: &mut Shelf, sync: Pos) -> Result<JoinBox, AllocError>
-        requires station { IsStation N.run N.course N.taken self.now }
+        requires station { IsWorkerContext N.run N.course N.taken self.now }
         requires shelf { IsShelf N.run N.course shelf.old }
         requires sync { event (story_in self.now.shared.now) sync ≡ Some Sync }
         ensures shelf { IsSameShelf shelf.old shelf.new }
@@ -114,7 +114,7 @@ impl<'a, 'b, N: Naming, R: Wait, G: Gate> Station<'a, 'b, N, R, G> {
 
     // A piece arrives at a block whose box lies on the shelf in hand.
     fn arrive_on(&self, shelf: &mut Shelf, sync: Pos, arrival: Arrival) -> Met
-        requires station { IsStation N.run N.course N.taken self.now }
+        requires station { IsWorkerContext N.run N.course N.taken self.now }
         requires shelf { IsShelf N.run N.course shelf.old }
         requires sync { event (story_in self.now.shared.now) sync ≡ Some Sync }
         requires good { IsGood self.now.shared.now.run arrival.piece }
@@ -125,14 +125,14 @@ impl<'a, 'b, N: Naming, R: Wait, G: Gate> Station<'a, 'b, N, R, G> {
         let Ok(mut found) = self.taken_from(shelf, sync) else {
             return Met::Stopped;
         };
-        let met = self.come(&mut found, arrival);
+        let met = self.arrive_at(&mut found, arrival);
         shelf.put(found);
         met
     }
 
     // A thief tells a block whose box lies on the shelf in hand. False where there was no memory.
     fn steal_on(&self, shelf: &mut Shelf, sync: Pos, child: Pos, goes_on: Pos) -> bool
-        requires station { IsStation N.run N.course N.taken self.now }
+        requires station { IsWorkerContext N.run N.course N.taken self.now }
         requires shelf { IsShelf N.run N.course shelf.old }
         requires sync { event (story_in self.now.shared.now) sync ≡ Some Sync }
         ensures { IsSameShelf shelf.old shelf.new }
@@ -141,7 +141,7 @@ impl<'a, 'b, N: Naming, R: Wait, G: Gate> Station<'a, 'b, N, R, G> {
             return false;
         };
         if !found.open(child, goes_on) {
-            wait(self.rt);
+            never(self.rt);
         }
         let told = found.steal(child, goes_on).is_ok();
         shelf.put(found);
@@ -150,7 +150,7 @@ impl<'a, 'b, N: Naming, R: Wait, G: Gate> Station<'a, 'b, N, R, G> {
 
     // A piece arrives at the block that ends with the `sync` at a position, whose box lies on the shelf behind this lock.
     fn arrive_behind(&self, door: &Lock<N>, key: &mut Key, sync: Pos, arrival: Arrival) -> Met
-        requires station { IsStation N.run N.course N.taken self.now }
+        requires station { IsWorkerContext N.run N.course N.taken self.now }
         requires key { IsPassOf door.now key.old }
         requires sync { event (story_in self.now.shared.now) sync ≡ Some Sync }
         requires good { IsGood self.now.shared.now.run arrival.piece }
@@ -160,7 +160,7 @@ impl<'a, 'b, N: Naming, R: Wait, G: Gate> Station<'a, 'b, N, R, G> {
     {
         let mut shelf = lock(self.rt, door, key);
         let met = self.arrive_on(&mut shelf, sync, arrival);
-        free(self.rt, door, key, shelf);
+        unlock(self.rt, door, key, shelf);
         met
     }
 
@@ -173,20 +173,20 @@ impl<'a, 'b, N: Naming, R: Wait, G: Gate> Station<'a, 'b, N, R, G> {
         child: Pos,
         goes_on: Pos,
     ) -> bool
-        requires station { IsStation N.run N.course N.taken self.now }
+        requires station { IsWorkerContext N.run N.course N.taken self.now }
         requires key { IsPassOf door.now key.old }
         requires sync { event (story_in self.now.shared.now) sync ≡ Some Sync }
         ensures { IsPassOf door.now key.new }
     {
         let mut shelf = lock(self.rt, door, key);
         let told = self.steal_on(&mut shelf, sync, child, goes_on);
-        free(self.rt, door, key, shelf);
+        unlock(self.rt, door, key, shelf);
         told
     }
 
     /// A piece arrives at a block by its number.
     pub fn arrive(&self, keys: &mut Vec<Key>, block: usize, arrival: Arrival) -> Met
-        requires station { IsStation N.run N.course N.taken self.now }
+        requires station { IsWorkerContext N.run N.course N.taken self.now }
         requires keys { AreKeys self.now.blocks.doors.now.items keys.old.items }
         requires block { block < length self.now.blocks.syncs.now }
         requires good { IsGood self.now.shared.now.run arrival.piece }
@@ -205,7 +205,7 @@ impl<'a, 'b, N: Naming, R: Wait, G: Gate> Station<'a, 'b, N, R, G> {
     /// A thief tells a block by its number that it took the continuation after the spawn `child`, which goes on at `goes_on`. False where
     /// there was no memory.
     pub fn steal(&self, keys: &mut Vec<Key>, block: usize, child: Pos, goes_on: Pos) -> bool
-        requires station { IsStation N.run N.course N.taken self.now }
+        requires station { IsWorkerContext N.run N.course N.taken self.now }
         requires keys { AreKeys self.now.blocks.doors.now.items keys.old.items }
         requires block { block < length self.now.blocks.syncs.now }
         ensures { AreKeys self.now.blocks.doors.now.items keys.new.items }

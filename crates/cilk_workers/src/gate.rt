@@ -5,9 +5,9 @@ ghost use Rattle.cilk_workers.specs.Rows.{IsGood};
 ghost use Rattle.cilk_tree.specs.PlanStrands.{AreFirsts};
 ghost use Rattle.cilk_workers.specs.Gates.{EndsWithFirst};
 
+use crate::shared::Shared;
 use cilk_shared::piece::Piece;
 use cilk_shared::yard::Segment;
-use crate::shared::Shared;
 use cilk_types::event::{Pos, StrandNo};
 
 /// Is called as each strand begins.

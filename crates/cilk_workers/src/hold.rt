@@ -5,21 +5,21 @@ ghost use Rattle.cilk_workers.specs.Rows.{IsGood};
 ghost use Rattle.cilk_replay.specs.Chains.{standing};
 ghost use Rattle.cilk_workers.specs.Racks.{Of};
 ghost use Rattle.cilk_workers.specs.Turns.{HasEnded, Works};
-ghost use Rattle.cilk_workers.specs.Hands.{IsHand};
+ghost use Rattle.cilk_workers.specs.Activities.{IsActivity};
 ghost use Rattle.cilk_workers.specs.Keys.{AreKeys};
-ghost use Rattle.cilk_workers.specs.Stations.{IsStation};
+ghost use Rattle.cilk_workers.specs.WorkerContexts.{IsWorkerContext};
 
+use crate::activity::{Activity, ExitReason, Tools};
+use crate::context::WorkerContext;
 use crate::doors::{Arrival, Met, block_at};
 use crate::gate::Gate;
-use crate::hand::{Finish, Hand, Tools};
-use crate::station::Station;
-use cilk_replay::chain::{Chain, Task};
-use cilk_shared::piece::Piece;
-use crate::lock::{Key, wait};
+use crate::lock::{Key, never};
 use crate::naming::Naming;
 use crate::rack::Rack;
 use crate::turn::act;
 use crate::work::{Turn, Work};
+use cilk_replay::chain::{Chain, Task};
+use cilk_shared::piece::Piece;
 use std::sync::Wait;
 
 /// The most turns that a worker takes before it looks at what the others tell.
@@ -32,7 +32,7 @@ fn behind<N: Naming>(rack: &mut Rack<N>, taken: bool) -> Option<Task>
     if taken { None } else { rack.newest() }
 }
 
-impl<'a, 'b, N: Naming, R: Wait, G: Gate> Station<'a, 'b, N, R, G> {
+impl<'a, 'b, N: Naming, R: Wait, G: Gate> WorkerContext<'a, 'b, N, R, G> {
     // The worker goes on with its own newest task, which is its child's continuation.
     fn own(&self, work: &mut Work, task: Task)
         requires piece { IsGood self.now.shared.now.run work.old.piece }
@@ -40,19 +40,19 @@ impl<'a, 'b, N: Naming, R: Wait, G: Gate> Station<'a, 'b, N, R, G> {
         ensures { Works self.now.shared.now work.new }
     {
         if task.at() != work.piece.upto() {
-            wait(self.rt);
+            never(self.rt);
         }
         work.chain = task.rest().wake(self.shared.course());
     }
 
     // A piece arrives at the block of its next position, and the worker goes on with an empty one.
-    fn arrived(&self, keys: &mut Vec<Key>, piece: Piece, chain: Option<Chain>) -> Hand
-        requires station { IsStation N.run N.course N.taken self.now }
+    fn arrived(&self, keys: &mut Vec<Key>, piece: Piece, chain: Option<Chain>) -> Activity
+        requires station { IsWorkerContext N.run N.course N.taken self.now }
         requires keys { AreKeys self.now.blocks.doors.now.items keys.old.items }
         requires piece { IsGood self.now.shared.now.run piece }
         requires chain { IfSome chain (λ c. c ≡ standing self.now.shared.now.course piece.upto) }
         ensures keys { AreKeys self.now.blocks.doors.now.items keys.new.items }
-        ensures hand { IsHand self.now.shared.now result }
+        ensures hand { IsActivity self.now.shared.now result }
     {
         let shared = self.shared;
         let at = piece.upto();
@@ -61,45 +61,45 @@ impl<'a, 'b, N: Naming, R: Wait, G: Gate> Station<'a, 'b, N, R, G> {
             None => at,
         };
         let Some(block) = block_at(self.blocks.of, at, self.blocks.syncs.len()) else {
-            wait(self.rt);
+            never(self.rt);
             unreachable!()
         };
         let (piece, empty) = piece.apart(self.alloc, shared.yard(), shared.reducers());
         match self.arrive(keys, block, Arrival { by, piece, chain }) {
-            Met::Passes(work) => Hand::Holds(work),
-            Met::Waits => Hand::Idle(empty),
-            Met::Stopped => Hand::Done(Finish::Stopped),
+            Met::Passes(work) => Activity::Holds(work),
+            Met::Waits => Activity::Idle(empty),
+            Met::Stopped => Activity::Done(ExitReason::Stopped),
         }
     }
 
     // The continuation is offered. False where there was no memory.
     fn offered(&self, rack: &mut Rack<N>, task: Task) -> bool
-        requires station { IsStation N.run N.course N.taken self.now }
+        requires station { IsWorkerContext N.run N.course N.taken self.now }
         requires task { task.of ≡ self.now.shared.now.course }
     {
         rack.offer(task).is_ok()
     }
 
     // The run has ended. Its piece has all of the run's events.
-    fn whole(&self, piece: Piece, value: i64) -> Hand
+    fn whole(&self, piece: Piece, value: i64) -> Activity
         requires { HasEnded self.now.shared.now piece value }
-        ensures { IsHand self.now.shared.now result }
+        ensures { IsActivity self.now.shared.now result }
     {
         if piece.from() != 1 {
-            wait(self.rt);
+            never(self.rt);
         }
-        Hand::Done(Finish::Whole(piece, value))
+        Activity::Done(ExitReason::Whole(piece, value))
     }
 
     /// Turns of a worker that holds a piece and a chain, as long as it has one to go on with, and no more than `TURNS`. Where a child has
     /// ended, it goes on with that child's continuation, its own newest task; where it has none, or another took the continuation that it was
     /// to go on with, so that it has no event more than before, its piece arrives.
-    pub fn hold(&self, tools: &mut Tools<N>, mut work: Work) -> Hand
-        requires station { IsStation N.run N.course N.taken self.now }
+    pub fn run_burst(&self, tools: &mut Tools<N>, mut work: Work) -> Activity
+        requires station { IsWorkerContext N.run N.course N.taken self.now }
         requires keys { AreKeys self.now.blocks.doors.now.items tools.old.keys.items }
         requires works { Works self.now.shared.now work }
         ensures keys { AreKeys self.now.blocks.doors.now.items tools.new.keys.items }
-        ensures hand { IsHand self.now.shared.now result }
+        ensures hand { IsActivity self.now.shared.now result }
     {
         'each: for _ in 0..TURNS {
             let before = work.piece.upto();
@@ -108,7 +108,7 @@ impl<'a, 'b, N: Naming, R: Wait, G: Gate> Station<'a, 'b, N, R, G> {
                 Turn::Offers(task) => {
                     self.watch.tell(self.shared, before, &work.piece);
                     if !self.offered(&mut tools.rack, task) {
-                        return Hand::Done(Finish::Stopped);
+                        return Activity::Done(ExitReason::Stopped);
                     }
                 }
                 Turn::Ended => {
@@ -129,10 +129,10 @@ impl<'a, 'b, N: Naming, R: Wait, G: Gate> Station<'a, 'b, N, R, G> {
                     let Work { piece, chain: _ } = work;
                     return self.whole(piece, value);
                 }
-                Turn::Departed(at) => return Hand::Done(Finish::Departed(at)),
-                Turn::Stopped => return Hand::Done(Finish::Stopped),
+                Turn::Departed(at) => return Activity::Done(ExitReason::Departed(at)),
+                Turn::Stopped => return Activity::Done(ExitReason::Stopped),
             }
         }
-        Hand::Holds(work)
+        Activity::Holds(work)
     }
 }

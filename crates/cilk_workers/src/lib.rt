@@ -11,11 +11,11 @@
 //!
 //! ```text
 //! let blocks = Blocks { doors: &doors, syncs: &syncs, of: &of };
-//! let station = Station { rt, alloc, shared: &shared, blocks, watch };
-//! match station.work(&mut tools, &stop, Hand::Idle(piece)) {
-//!     Finish::Whole(piece, value) => ..,               // this worker has ended the run, with this result
-//!     Finish::Departed(at) => ..,                      // the run departs from its plan there
-//!     Finish::Stopped => ..,                           // another has, or there was no memory
+//! let station = WorkerContext { rt, alloc, shared: &shared, blocks, watch };
+//! match station.work(&mut tools, &stop, Activity::Idle(piece)) {
+//!     ExitReason::Whole(piece, value) => ..,               // this worker has ended the run, with this result
+//!     ExitReason::Departed(at) => ..,                      // the run departs from its plan there
+//!     ExitReason::Stopped => ..,                           // another has, or there was no memory
 //! }
 //! ```
 //!
@@ -93,12 +93,13 @@
 //! ```
 #![tactic(auto)]
 
+pub mod activity;
 mod asking;
 pub mod awaited;
 mod cells;
+pub mod context;
 pub mod doors;
 pub mod gate;
-pub mod hand;
 pub mod hold;
 pub mod join;
 pub mod laws;
@@ -114,6 +115,5 @@ pub mod runs;
 pub mod shared;
 pub mod shelf;
 mod starting;
-pub mod station;
 pub mod turn;
 pub mod work;

@@ -61,7 +61,7 @@ pub type Lock<N> = RuledArrayQueue<Shelf, (), OfShelf<N>>;
 pub type Key = Pass<Shelf, ()>;
 
 /// A lock with its shelf in it. An error where it found no memory.
-pub fn closed<N: Naming, R: Wait>(
+pub fn new_locked<N: Naming, R: Wait>(
     rt: &R,
     alloc: Global,
     first: Shelf,
@@ -71,13 +71,13 @@ pub fn closed<N: Naming, R: Wait>(
 {
     let (lock, mut key) = Lock::<N>::ruled(alloc, 1)?;
     if lock.push_as::<Free, R>(rt, &mut key, first).is_err() {
-        wait(rt);
+        never(rt);
     }
     Ok((lock, key))
 }
 
 /// Waits for ever.
-pub fn wait<R: Wait>(rt: &R)
+pub fn never<R: Wait>(rt: &R)
     ensures { false ≡ true }
 {
     let rest = Backoff::new();
@@ -104,13 +104,13 @@ pub fn lock<N: Naming, R: Wait>(rt: &R, lock: &Lock<N>, key: &mut Key) -> Shelf
 }
 
 /// Puts the shelf back.
-pub fn free<N: Naming, R: Wait>(rt: &R, lock: &Lock<N>, key: &mut Key, back: Shelf)
+pub fn unlock<N: Naming, R: Wait>(rt: &R, lock: &Lock<N>, key: &mut Key, back: Shelf)
     requires key { IsPassOf lock.now key.old }
     requires back { IsShelf N.run N.course back }
     ensures { IsPassOf lock.now key.new }
 {
     if lock.push_as::<Free, R>(rt, key, back).is_err() {
-        wait(rt);
+        never(rt);
     }
 }
 

@@ -3,20 +3,20 @@
 ghost use Rattle.std.specs.Prelude.{◌≤◌, IfSome};
 ghost use Rattle.cilk_workers.specs.Rows.{OfRun};
 ghost use Rattle.cilk_workers.specs.Racks.{MayPick, Of};
-ghost use Rattle.cilk_workers.specs.Hands.{IsHand};
+ghost use Rattle.cilk_workers.specs.Activities.{IsActivity};
 ghost use Rattle.cilk_workers.specs.Keys.{AreKeys};
-ghost use Rattle.cilk_workers.specs.Stations.{IsStation};
+ghost use Rattle.cilk_workers.specs.WorkerContexts.{IsWorkerContext};
 
+use crate::activity::{Activity, ExitReason, Tools};
+use crate::context::WorkerContext;
 use crate::doors::block_at;
 use crate::gate::Gate;
-use crate::hand::{Finish, Hand, Tools};
-use crate::station::Station;
-use cilk_replay::chain::Task;
-use cilk_shared::piece::Piece;
-use crate::lock::{Key, wait};
+use crate::lock::{Key, never};
 use crate::naming::Naming;
 use crate::rack::{Picker, Rack};
 use crate::turn::begin;
+use cilk_replay::chain::Task;
+use cilk_shared::piece::Piece;
 use cilk_types::event::Pos;
 use crossbeam_utils::Backoff;
 use std::sync::Wait;
@@ -46,47 +46,47 @@ fn found<N: Naming>(rack: &mut Rack<N>, pickers: &mut Vec<Picker<N>>) -> Option<
     }
 }
 
-impl<'a, 'b, N: Naming, R: Wait, G: Gate> Station<'a, 'b, N, R, G> {
+impl<'a, 'b, N: Naming, R: Wait, G: Gate> WorkerContext<'a, 'b, N, R, G> {
     // A thief that goes on at a position tells its block. False where there was no memory.
-    fn told(&self, keys: &mut Vec<Key>, at: Pos) -> bool
-        requires station { IsStation N.run N.course N.taken self.now }
+    fn announce_steal(&self, keys: &mut Vec<Key>, at: Pos) -> bool
+        requires station { IsWorkerContext N.run N.course N.taken self.now }
         requires keys { AreKeys self.now.blocks.doors.now.items keys.old.items }
         ensures { AreKeys self.now.blocks.doors.now.items keys.new.items }
     {
         let block = block_at(self.blocks.of, at, self.blocks.syncs.len());
         let (Some(block), Some(child)) = (block, self.shared.resumed_by(at)) else {
-            wait(self.rt);
+            never(self.rt);
             unreachable!()
         };
         self.steal(keys, block, child, at)
     }
 
     /// One turn of a worker that has nothing: its own newest task, or another's oldest. It leaves where it sees that the run has ended.
-    pub fn pick(&self, tools: &mut Tools<N>, backoff: &Backoff, mut piece: Piece) -> Hand
-        requires station { IsStation N.run N.course N.taken self.now }
+    pub fn find_work(&self, tools: &mut Tools<N>, backoff: &Backoff, mut piece: Piece) -> Activity
+        requires station { IsWorkerContext N.run N.course N.taken self.now }
         requires keys { AreKeys self.now.blocks.doors.now.items tools.old.keys.items }
         requires piece { OfRun self.now.shared.now.run piece × (piece.upto ≤ piece.from) }
         ensures keys { AreKeys self.now.blocks.doors.now.items tools.new.keys.items }
-        ensures hand { IsHand self.now.shared.now result }
+        ensures hand { IsActivity self.now.shared.now result }
     {
         let Some(task) = found(&mut tools.rack, &mut tools.pickers) else {
             if piece.ended(self.shared.yard()) {
-                return Hand::Done(Finish::Stopped);
+                return Activity::Done(ExitReason::Stopped);
             }
             backoff.snooze();
-            return Hand::Idle(piece);
+            return Activity::Idle(piece);
         };
         match begin(self.shared, piece, task) {
             Ok(work) => {
                 backoff.reset();
                 self.watch.tell(self.shared, 0, &work.piece);
-                if self.told(&mut tools.keys, work.piece.from()) {
-                    Hand::Holds(work)
+                if self.announce_steal(&mut tools.keys, work.piece.from()) {
+                    Activity::Holds(work)
                 } else {
-                    Hand::Done(Finish::Stopped)
+                    Activity::Done(ExitReason::Stopped)
                 }
             }
-            Err(piece) => Hand::Idle(piece),
+            Err(piece) => Activity::Idle(piece),
         }
     }
 }

@@ -12,13 +12,13 @@ ghost use Rattle.cilk_tree.specs.Values.{HasValues};
 ghost use Rattle.cilk_tree.specs.Word.{resume, what};
 ghost use Rattle.cilk_workers.specs.Shared.{HasCells, IsNext, shared_with, story_in};
 
-use cilk_replay::course::Course;
 use cilk_determinacy::words::inputs_are_words;
+use cilk_replay::course::Course;
 use cilk_shared::piece_laws::frames_are_along;
 use cilk_shared::reducers::Reducers;
+use cilk_shared::yard::Yard;
 use cilk_tree::kind::Asked;
 use cilk_tree::plan::Plan;
-use cilk_shared::yard::Yard;
 use cilk_types::event::Pos;
 use std::marker::Model;
 

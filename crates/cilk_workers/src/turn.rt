@@ -15,12 +15,12 @@ use crate::reducing::{created, printed, set, updated, valued};
 use crate::shared::Shared;
 use crate::starting::{called, spawned};
 use crate::work::{Turn, Work};
+use cilk_frames::cursor::Answer;
 use cilk_replay::chain::{Chain, Task};
 use cilk_replay::looked::Looked;
-use cilk_frames::cursor::Answer;
 use cilk_shared::piece::Piece;
-use cilk_tree::kind::{Asked, Kind};
 use cilk_shared::taken::Taken;
+use cilk_tree::kind::{Asked, Kind};
 use cilk_types::event::FrameNo;
 use std::alloc::{AllocError, Global};
 

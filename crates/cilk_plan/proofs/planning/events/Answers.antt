@@ -3,7 +3,7 @@ use Rattle.cilk_types.specs.declared.event.Event.{Event}
 use Rattle.cilk_program.specs.declared.program.Program.{Program}
 use Rattle.cilk_program.specs.Sources.{source}
 use Rattle.cilk_tree.specs.Before.{IsPosition}
-use Rattle.cilk_tree.specs.declared.story.Story.{Story}
+use Rattle.cilk_tree.specs.declared.event_order.EventOrder.{EventOrder}
 use Rattle.cilk_tree.specs.Runs.{IsAsked}
 use Rattle.cilk_tree.specs.Planned.{planned, HasPlan}
 use Rattle.cilk_plan.specs.Plans.{AllNamed, IsPlanOf}
@@ -42,6 +42,6 @@ returns c =
       globals = subst (λ (n : ℕ). length (source a.program).openings ≤ n) (sym v.cells) has.globals;
       cells = subst (λ (n : ℕ). AllNamed n a.trace) (sym v.cells) has.named;
       opens = opens_so a opening values;
-      asked = subst (λ (s : Story). (p : ℕ) → IsPosition a.trace p → IsAsked s p) is (subst (λ (es : List Event). (p : ℕ) → IsPosition es p → IsAsked c.in_ok-plan.plan p) same c.in_ok-plan.ensures.asked);
+      asked = subst (λ (s : EventOrder). (p : ℕ) → IsPosition a.trace p → IsAsked s p) is (subst (λ (es : List Event). (p : ℕ) → IsPosition es p → IsAsked c.in_ok-plan.plan p) same c.in_ok-plan.ensures.asked);
     } in
     subst (IsPlanOf a) (sym is) here

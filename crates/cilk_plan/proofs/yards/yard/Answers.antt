@@ -4,8 +4,8 @@ use Rattle.cilk_program.specs.Sources.{source}
 use Rattle.cilk_tree.specs.Along.{IsAlong}
 use Rattle.cilk_tree.specs.Resumptions.{AreResumptions}
 use Rattle.cilk_determinacy.specs.Words.{HasWords, InputsAreWords}
-use Rattle.cilk_tree.specs.declared.story.Story.{Story}
-use Rattle.cilk_plan.specs.Plans.{IsStoryOn}
+use Rattle.cilk_tree.specs.declared.event_order.EventOrder.{EventOrder}
+use Rattle.cilk_plan.specs.Plans.{IsEventOrderOn}
 use Rattle.cilk_plan.proofs.Telling.{has_story, along_it, own_is_the_plan, for_ok}
 use Rattle.cilk_plan.proofs.yards.yard.Goals as goal
 
@@ -20,14 +20,14 @@ yard_of-requires c =
     let told = along_it c.stories_along_have_values.ensures c.args.plan.now.run c.args.plan.now.story c.laws.ensures.plan c.args.input.now c.inputs_are_words-2.ensures c.tell-told.result.story c.tell-told.ensures in (
       refl,
       (
-        subst (λ (s : Story). IsAlong s c.tell-told.result.story) (sym c.events.ensures.story) told.0,
-        (told.1, subst (λ (s : Story). AreResumptions s c.resumptions.result.now) (sym c.events.ensures.story) c.resumptions.ensures),
+        subst (λ (s : EventOrder). IsAlong s c.tell-told.result.story) (sym c.events.ensures.story) told.0,
+        (told.1, subst (λ (s : EventOrder). AreResumptions s c.resumptions.result.now) (sym c.events.ensures.story) c.resumptions.ensures),
       ),
     )
 
 pub returns-clause-story : goal.returns-clause-story
 returns-clause-story c = for_ok _ _ c.yard_of.result
-    (λ r is. subst (IsStoryOn c.args.plan.now.run c.args.plan.now.story.opening c.args.input.now) (sym is) c.tell-told.ensures)
+    (λ r is. subst (IsEventOrderOn c.args.plan.now.run c.args.plan.now.story.opening c.args.input.now) (sym is) c.tell-told.ensures)
     c.yard_of.ensures.story
 
 pub returns-clause-along : goal.returns-clause-along

@@ -1,4 +1,4 @@
-use Rattle.cilk_replay.proofs.AskedStories.{asked_throughout}
+use Rattle.cilk_replay.proofs.AskedEventOrders.{asked_throughout}
 use Rattle.cilk_replay.proofs.laws.asked_stories_are_of_asked_courses.Goals as goal
 
 pub returns : goal.returns

@@ -1,4 +1,4 @@
-use Rattle.cilk_replay.proofs.AskedStories.{departs_nowhere}
+use Rattle.cilk_replay.proofs.AskedEventOrders.{departs_nowhere}
 use Rattle.cilk_replay.proofs.laws.inputs_that_depart_nowhere.Goals as goal
 
 pub returns : goal.returns

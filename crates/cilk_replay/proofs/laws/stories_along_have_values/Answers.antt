@@ -1,4 +1,4 @@
-use Rattle.cilk_replay.proofs.StoryValues.{stories_have_values}
+use Rattle.cilk_replay.proofs.EventOrderValues.{stories_have_values}
 use Rattle.cilk_replay.proofs.laws.stories_along_have_values.Goals as goal
 
 pub returns : goal.returns

@@ -2,7 +2,7 @@ use Rattle.std.proofs.Common.{refl, subst}
 use Rattle.cilk_frames.specs.declared.activation.Activation.{Activation}
 use Rattle.cilk_join.specs.Joins.{MayArrive}
 use Rattle.cilk_scheduler.specs.Events.{block_in}
-use Rattle.cilk_scheduler.specs.declared.seat.Seat.{Seat}
+use Rattle.cilk_scheduler.specs.declared.frame_state.FrameState.{FrameState}
 use Rattle.cilk_scheduler.proofs.Changing.{changed_at}
 use Rattle.cilk_scheduler.proofs.Placed.{get_there}
 use Rattle.cilk_scheduler.proofs.Viewing.{viewing_at}
@@ -33,7 +33,7 @@ returns-clause-brings c =
       views = c.bring_to.new.views;
       sits = here;
       at = get_there workers c.args.worker u c.index_mut.ensures.value c.requires.works;
-      comes = h (subst (λ (z : Activation Seat). let y = z.cursor in MayArrive (block_in y.join) c.args.key c.args.last) (same_at list c.args.frame a x at here) may);
+      comes = h (subst (λ (z : Activation FrameState). let y = z.cursor in MayArrive (block_in y.join) c.args.key c.args.last) (same_at list c.args.frame a x at here) may);
       frames_are = changed_at (λ _. c.bring_to.new.seat) list c.args.frame x c.index_mut-2.ensures.value c.requires.here;
       workers_are = viewing_at c.bring_to.new.views workers c.args.worker u c.index_mut.ensures.value c.requires.works;
     })

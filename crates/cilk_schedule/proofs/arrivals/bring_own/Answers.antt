@@ -2,7 +2,7 @@ use Rattle.std.proofs.Common.{◌+◌, ap}
 use Rattle.cilk_frames.specs.declared.activation.Activation.{Activation}
 use Rattle.cilk_join.specs.Joins.{MayArrive}
 use Rattle.cilk_scheduler.specs.Events.{block_in}
-use Rattle.cilk_scheduler.specs.declared.seat.Seat.{Seat}
+use Rattle.cilk_scheduler.specs.declared.frame_state.FrameState.{FrameState}
 use Rattle.cilk_scheduler.proofs.Placed.{get_there}
 use Rattle.cilk_schedule.proofs.Arriving.{on_if, own_of}
 use Rattle.cilk_schedule.proofs.Workers.{same_at}
@@ -15,6 +15,6 @@ returns-clause-own c =
     (λ passes h a at q may.
     let list = c.args.frames.now.items in
     let first = get_there list c.args.frame c.index.result.now c.index.ensures c.requires.here in
-    let one = ap (λ (z : Activation Seat). let x = z.cursor in x.children + 1) (same_at list c.args.frame c.index.result.now a first at) in
+    let one = ap (λ (z : Activation FrameState). let x = z.cursor in x.children + 1) (same_at list c.args.frame c.index.result.now a first at) in
     own_of list c.bring.new.frames.items c.args.workers.now.items c.bring.new.workers.items c.args.worker c.args.frame a at (c.index.result.now.cursor.children + 1) passes one q
     (h a at (subst (λ n. let x = a.cursor in MayArrive (block_in x.join) n true) (sym one) (may q))))

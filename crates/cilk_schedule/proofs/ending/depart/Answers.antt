@@ -1,6 +1,6 @@
 use Rattle.std.proofs.Common.{rules, ◌≡◌, ℤ, sym, ap, ◌∙◌, subst, to_z, of_z, w64}
 use Rattle.cilk_frames.specs.declared.activation.Activation.{Activation}
-use Rattle.cilk_scheduler.specs.declared.seat.Seat.{Seat}
+use Rattle.cilk_scheduler.specs.declared.frame_state.FrameState.{FrameState}
 use Rattle.cilk_scheduler.proofs.Placed.{get_there}
 use Rattle.cilk_schedule.specs.Ends.{PartsTo}
 use Rattle.cilk_schedule.specs.Sound.{IsQuiet}
@@ -27,7 +27,7 @@ pub hand_in-requires-clause-stolen : goal.hand_in-requires-clause-stolen
 hand_in-requires-clause-stolen c = λ a at.
     let f = c.args.board.now.frames.items in
     let one = same_at f c.args.frame a c.index.result.now at (get_there f c.args.frame c.index.result.now c.index.ensures c.requires.here) in
-    ap (λ (z : Activation Seat). let x = z.cursor in x.stolen) one ∙ c.if-index.true
+    ap (λ (z : Activation FrameState). let x = z.cursor in x.stolen) one ∙ c.if-index.true
 
 pub returns-then-index-clause-departs : goal.returns-then-index-clause-departs
 returns-then-index-clause-departs c = on_ok c.hand_in.result c.hand_in.ensures.departs (λ h. h c.args.code.now c.args.value)
@@ -36,7 +36,7 @@ pub go_back-requires-clause-kept : goal.go_back-requires-clause-kept
 go_back-requires-clause-kept c = λ a at.
     let f = c.args.board.now.frames.items in
     let one = same_at f c.args.frame a c.index.result.now at (get_there f c.args.frame c.index.result.now c.index.ensures c.requires.here) in
-    ap (λ (z : Activation Seat). let x = z.cursor in x.stolen) one ∙ c.if-index.false
+    ap (λ (z : Activation FrameState). let x = z.cursor in x.stolen) one ∙ c.if-index.false
 
 pub returns-clause-departs : goal.returns-clause-departs
 returns-clause-departs c = c.go_back.ensures.departs c.args.code.now c.args.value

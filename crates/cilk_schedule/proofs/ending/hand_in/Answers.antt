@@ -1,8 +1,8 @@
 use Rattle.std.proofs.Common.{◌∙◌, true, false, length, refl, ap, subst, arith}
 use Rattle.std.proofs.lemmas.List.{length-set}
 use Rattle.cilk_scheduler.specs.EndParts.{Brings}
-use Rattle.cilk_scheduler.specs.Seats.{changed, moved_to, passed}
-use Rattle.cilk_scheduler.specs.declared.seat.Status.TheVariants.{Held}
+use Rattle.cilk_scheduler.specs.FrameStates.{changed, moved_to, passed}
+use Rattle.cilk_scheduler.specs.declared.frame_state.Status.TheVariants.{Held}
 use Rattle.cilk_scheduler.proofs.Changing.{changed_at, changed_length}
 use Rattle.cilk_scheduler.proofs.Placed.{get_there}
 use Rattle.cilk_schedule.proofs.Parting.{arrives_by}

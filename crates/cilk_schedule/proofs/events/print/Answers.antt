@@ -3,7 +3,7 @@ use Rattle.std.proofs.Common.{to_z, of_z, w64, rules, IfOk}
 use Rattle.cilk_types.specs.Word.{IsWord}
 use Rattle.cilk_program.specs.declared.ask.Ask.TheVariants as asks
 use Rattle.cilk_frames.specs.declared.cursor.Answer.TheVariants as answers
-use Rattle.cilk_scheduler.specs.Seats.{answered}
+use Rattle.cilk_scheduler.specs.FrameStates.{answered}
 use Rattle.cilk_schedule.proofs.Answering.{on_ok, settles, ticks}
 use Rattle.cilk_types.specs.declared.event.Event.TheVariants as numbered
 use Rattle.cilk_schedule.specs.Acts as does

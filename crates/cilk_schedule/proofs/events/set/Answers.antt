@@ -4,7 +4,7 @@ use Rattle.cilk_types.specs.Word.{IsWord}
 use Rattle.cilk_program.specs.declared.ask.Ask.TheVariants as asks
 use Rattle.cilk_frames.specs.declared.cursor.Answer.TheVariants as answers
 use Rattle.cilk_scheduler.specs.Events.{SeesAt}
-use Rattle.cilk_scheduler.specs.Seats.{answered}
+use Rattle.cilk_scheduler.specs.FrameStates.{answered}
 use Rattle.cilk_schedule.proofs.Answering.{on_ok, settles, ticks}
 use Rattle.cilk_schedule.proofs.Coming.{reducer_small, sees_there}
 use Rattle.cilk_types.specs.declared.event.Event.TheVariants as numbered

@@ -3,7 +3,7 @@ use Rattle.std.proofs.Common.{ℤ, to_z, of_z, w64, rules}
 use Rattle.std.proofs.lemmas.List.{length-set}
 use Rattle.cilk_program.specs.declared.ask.Ask.TheVariants as asks
 use Rattle.cilk_frames.specs.declared.cursor.Answer.TheVariants as answers
-use Rattle.cilk_scheduler.specs.Seats.{answered}
+use Rattle.cilk_scheduler.specs.FrameStates.{answered}
 use Rattle.cilk_schedule.proofs.Answering.{settles, ticks}
 use Rattle.cilk_schedule.proofs.Coming.{result_there, some_is}
 use Rattle.cilk_scheduler.proofs.Placed.{get_there}

@@ -5,7 +5,7 @@ use Rattle.cilk_schedule.specs.Sound.{HasCome, Settles}
 use Rattle.cilk_schedule.proofs.Answering.{both, on_ok}
 use Rattle.cilk_schedule.proofs.Turns.{comes, settles_made, strand_settles, strand_ticks}
 use Rattle.cilk_types.specs.declared.event.Event.TheVariants as events
-use Rattle.cilk_scheduler.specs.Seats.{stranded}
+use Rattle.cilk_scheduler.specs.FrameStates.{stranded}
 use Rattle.cilk_schedule.specs.Acts as does
 use Rattle.cilk_schedule.specs.Acts.{Acts, MakesEvent}
 use Rattle.cilk_schedule.proofs.Started.{makes_start, if_both}

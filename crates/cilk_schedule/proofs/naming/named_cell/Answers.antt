@@ -1,7 +1,7 @@
 use Rattle.std.proofs.Common.{◌≡◌, ◌-◌, leb, slice_get, Some, sym, ap, ap₂, ◌∙◌, arith, rules}
 use Rattle.std.proofs.lemmas.List.Sorted.{IsPartitionPoint-from_clause}
 use Rattle.cilk_frames.specs.declared.activation.Activation.{Activation}
-use Rattle.cilk_scheduler.specs.declared.seat.Seat.{Seat}
+use Rattle.cilk_scheduler.specs.declared.frame_state.FrameState.{FrameState}
 use Rattle.cilk_schedule.specs.declared.naming.CellName.TheVariants as cells
 use Rattle.cilk_schedule.proofs.Owners.{parted, past_is}
 use Rattle.cilk_scheduler.proofs.Placed.{there_at}
@@ -20,5 +20,5 @@ returns-in-Some c = (
       let here = there_at frames c.saturating_sub-frame.result c.in-Some.owner.now at.0 at.1 in
       let q : Some c.in-Some.owner.now ≡ Some x = sym here ∙ ap (λ i. slice_get frames i) frame_is ∙ owner.here in
       let same : c.in-Some.owner.now ≡ x = cc in
-      ap₂ (λ n m. cells.Own n m) frame_is (c.saturating_sub.ensures ∙ ap (λ (a : Activation Seat). c.args.cell - a.base) same),
+      ap₂ (λ n m. cells.Own n m) frame_is (c.saturating_sub.ensures ∙ ap (λ (a : Activation FrameState). c.args.cell - a.base) same),
 )

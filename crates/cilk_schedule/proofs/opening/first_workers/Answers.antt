@@ -1,7 +1,7 @@
 use Rattle.std.proofs.Common.{◌≡◌, ◌∷◌, ◌++◌, [], ℕ, List, length, slice_get, Some, ap, sym, ◌∙◌, subst, length-append, arith}
 use Rattle.cilk_scheduler.specs.Parts.{OpensAs}
-use Rattle.cilk_scheduler.specs.declared.seat.Worker.{Worker}
-use Rattle.cilk_schedule.proofs.FirstBoards.{each_more}
+use Rattle.cilk_scheduler.specs.declared.frame_state.Worker.{Worker}
+use Rattle.cilk_schedule.proofs.FirstSchedulers.{each_more}
 use Rattle.cilk_schedule.proofs.opening.first_workers.Goals as goal
 
 pub each-preserved : goal.each-preserved

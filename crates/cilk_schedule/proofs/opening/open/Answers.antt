@@ -7,9 +7,9 @@ use Rattle.cilk_lower.specs.Layout.{cells_in, function_frame}
 use Rattle.cilk_lower.specs.declared.layout.Layout.{Layout}
 use Rattle.cilk_frames.specs.Sight.{HasScope}
 use Rattle.cilk_schedule.specs.Sound.{Sound}
-use Rattle.cilk_scheduler.proofs.NewBoards.{boards_are_new}
+use Rattle.cilk_scheduler.proofs.NewSchedulers.{boards_are_new}
 use Rattle.cilk_schedule.proofs.Opened.{opened}
-use Rattle.cilk_schedule.proofs.FirstBoards.{has_opened}
+use Rattle.cilk_schedule.proofs.FirstSchedulers.{has_opened}
 use Rattle.cilk_schedule.proofs.opening.open.Goals as goal
 
 pub returns-clause-runs : goal.returns-clause-runs

@@ -1,4 +1,4 @@
-use Rattle.cilk_schedule.proofs.FirstBoards.{first_reached}
+use Rattle.cilk_schedule.proofs.FirstSchedulers.{first_reached}
 use Rattle.cilk_schedule.proofs.play_laws.openings_are_reached.Goals as goal
 
 pub returns : goal.returns

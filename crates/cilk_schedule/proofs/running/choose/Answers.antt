@@ -1,7 +1,7 @@
 use Rattle.std.proofs.Common.{◌≡◌, false, Option, Some, None, ℤ, List, Result, Err, IfOk, IfErr, refl, sym, ◌∙◌, subst}
 use Rattle.std.specs.Option.{is_some}
 use Rattle.cilk_lower.specs.Code.{CodeView}
-use Rattle.cilk_scheduler.specs.declared.board.Board.{Board}
+use Rattle.cilk_scheduler.specs.declared.scheduler.Scheduler.{Scheduler}
 use Rattle.cilk_scheduler.specs.declared.choice.Choice.{Choice}
 use Rattle.cilk_scheduler.specs.declared.choice.Choice.TheVariants as choices
 use Rattle.cilk_scheduler.specs.declared.choice.Stop.{Stop}
@@ -22,7 +22,7 @@ open_yet None h = refl
 open_yet (Some x) h = cc
 
 -- what comes of a choice, by what it was made of
-over : {b b' : Board} {r r' : Result Told Stop} {c c' : Choice} (P : Board → Choice → Told → Type 0) → b ≡ b' → r ≡ r' → c ≡ c' → IfOk r' (λ t. P b' c' t) → IfOk r (λ t. P b c t)
+over : {b b' : Scheduler} {r r' : Result Told Stop} {c c' : Choice} (P : Scheduler → Choice → Told → Type 0) → b ≡ b' → r ≡ r' → c ≡ c' → IfOk r' (λ t. P b' c' t) → IfOk r (λ t. P b c t)
 over {b} {b'} {r} {r'} {c} {c'} P board_is told_is choice_is h =
     subst (λ q. IfOk r (λ t. P q c t)) (sym board_is) (subst (λ q. IfOk q (λ t. P b' c t)) (sym told_is) (subst (λ q. IfOk r' (λ t. P b' q t)) (sym choice_is) h))
 
@@ -62,7 +62,7 @@ returns-then-is_some-clause-skips c =
     over_skips c.args.code.now c.args.input.now b c.args.choice o.0 o.1
 
 -- why a run stopped, by the choice that it was made of
-stopped_by : (code : CodeView) (inputs : List ℤ) (b b' b2 : Board) (c c2 : Choice) (r r2 : Result Told Stop) (stop : Stop) → r ≡ Err stop → b' ≡ b2 → r ≡ r2 → c ≡ c2 → IfErr r2 (λ z. FaultsAreStops code inputs b b2 c2 z) → FaultsAreStops code inputs b b' c stop
+stopped_by : (code : CodeView) (inputs : List ℤ) (b b' b2 : Scheduler) (c c2 : Choice) (r r2 : Result Told Stop) (stop : Stop) → r ≡ Err stop → b' ≡ b2 → r ≡ r2 → c ≡ c2 → IfErr r2 (λ z. FaultsAreStops code inputs b b2 c2 z) → FaultsAreStops code inputs b b' c stop
 stopped_by code inputs b b' b2 c c2 r r2 stop is board_is told_is choice_is h =
     subst (λ q. FaultsAreStops code inputs b q c stop) (sym board_is)
     (subst (λ q. FaultsAreStops code inputs b b2 q stop) (sym choice_is) (subst (λ q. IfErr q (λ z. FaultsAreStops code inputs b b2 c2 z)) (sym told_is ∙ is) h))

@@ -3,7 +3,7 @@ use Rattle.cilk_schedule.proofs.Onward.{is_asked, is_ready}
 use Rattle.cilk_schedule.proofs.Workers.{same_at}
 use Rattle.cilk_scheduler.specs.Asking.{IsReady}
 use Rattle.cilk_frames.specs.declared.activation.Activation.{Activation}
-use Rattle.cilk_scheduler.specs.declared.seat.Seat.{Seat}
+use Rattle.cilk_scheduler.specs.declared.frame_state.FrameState.{FrameState}
 use Rattle.cilk_schedule.proofs.running.come.Goals as goal
 
 pub go_on-requires-clause-ready : goal.go_on-requires-clause-ready
@@ -11,7 +11,7 @@ go_on-requires-clause-ready c = λ a at.
     let q = c.requires.ready in
     let r = q.1 in
     let same : r.seat ≡ a = same_at c.args.board.now.frames.items c.args.frame r.seat a r.sits at in
-    subst (λ (z : Activation Seat). let x = z.cursor in IsReady c.args.code.now c.args.input.now x) same
+    subst (λ (z : Activation FrameState). let x = z.cursor in IsReady c.args.code.now c.args.input.now x) same
     (is_ready c.args.code.now c.args.input.now c.args.board.now c.requires.runs c.args.frame r.seat r.cursor r.sits r.has)
 
 pub returns-clause-asked : goal.returns-clause-asked

@@ -2,7 +2,7 @@ use Rattle.std.proofs.Common.{◌≡◌, ◌+◌, ◌<◌, subst, length, slice_
 use Rattle.std.specs.Prelude.{take}
 use Rattle.std.proofs.lemmas.List.{take_all, take_more}
 use Rattle.cilk_types.specs.declared.event.Event.TheVariants as events
-use Rattle.cilk_scheduler.specs.declared.seat.JournalEntry.{JournalEntry}
+use Rattle.cilk_scheduler.specs.declared.frame_state.JournalEntry.{JournalEntry}
 use Rattle.cilk_schedule.specs.Gathering.{AreGathered, Gathers}
 use Rattle.cilk_schedule.proofs.Linked.{gathered_more}
 use Rattle.cilk_schedule.proofs.Shows.{shows_run}

@@ -3,8 +3,8 @@ use Rattle.cilk_schedule.proofs.Sounds.{quiet_twice}
 use Rattle.cilk_schedule.proofs.Quieting.{joins, robs}
 use Rattle.cilk_schedule.proofs.Standing.{on_err_stand, stand_joined}
 use Rattle.cilk_frames.specs.declared.activation.Activation.{Activation}
-use Rattle.cilk_scheduler.specs.Seats.{changed, robbed}
-use Rattle.cilk_scheduler.specs.declared.seat.Seat.{Seat}
+use Rattle.cilk_scheduler.specs.FrameStates.{changed, robbed}
+use Rattle.cilk_scheduler.specs.declared.frame_state.FrameState.{FrameState}
 use Rattle.cilk_scheduler.proofs.Changing.{changed_at}
 use Rattle.cilk_scheduler.proofs.Placed.{get_there}
 use Rattle.cilk_schedule.proofs.Workers.{same_at}
@@ -26,7 +26,7 @@ returns-clause-robs c =
     let here = get_there list c.args.frame a c.index_mut.ensures.value c.requires.here in
     let first = get_there list c.args.frame c.index.result.now c.index.ensures c.requires.here in
     let same : a ≡ c.index.result.now = same_at list c.args.frame a c.index.result.now here first in
-    let last : c.index.result.now.cursor.last ≡ c.await_last.new.seat.last = sym (ap (λ (z : Activation Seat). let x = z.cursor in x.last) same) ∙ sym (ap (λ (x : Seat). x.last) w.1) in
+    let last : c.index.result.now.cursor.last ≡ c.await_last.new.seat.last = sym (ap (λ (z : Activation FrameState). let x = z.cursor in x.last) same) ∙ sym (ap (λ (x : FrameState). x.last) w.1) in
     record {
       seat = a;
       awaiting = c.await_last.new.seat;

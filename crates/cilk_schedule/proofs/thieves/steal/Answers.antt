@@ -1,5 +1,5 @@
 use Rattle.std.proofs.Common.{◌≡◌, ◌-◌, ◌<◌, ℕ, suc, length, refl, sym, subst, arith}
-use Rattle.cilk_scheduler.specs.declared.seat.Worker.{Worker}
+use Rattle.cilk_scheduler.specs.declared.frame_state.Worker.{Worker}
 use Rattle.cilk_scheduler.specs.declared.choice.Choice.TheVariants as choices
 use Rattle.cilk_scheduler.specs.declared.choice.Told.TheVariants as told
 use Rattle.cilk_schedule.specs.Choices.{CanSteal}

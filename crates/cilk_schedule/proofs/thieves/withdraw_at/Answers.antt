@@ -1,5 +1,5 @@
 use Rattle.std.proofs.Common.{refl}
-use Rattle.cilk_scheduler.specs.declared.seat.Worker.{Worker}
+use Rattle.cilk_scheduler.specs.declared.frame_state.Worker.{Worker}
 use Rattle.cilk_scheduler.proofs.Parts.{altered_at}
 use Rattle.cilk_scheduler.proofs.Placed.{get_there}
 use Rattle.cilk_schedule.proofs.thieves.withdraw_at.Goals as goal

@@ -1,6 +1,6 @@
 use Rattle.std.proofs.Common.{rules, ◌≡◌, ◌++◌, [], ◌∷◌, length, refl, arith}
 use Rattle.cilk_types.specs.declared.invocation.Invocation.TheVariants.{Call, Spawn}
-use Rattle.cilk_scheduler.specs.declared.seat.Status.TheVariants.{Calling, Offered}
+use Rattle.cilk_scheduler.specs.declared.frame_state.Status.TheVariants.{Calling, Offered}
 use Rattle.cilk_scheduler.proofs.Begun.{begins_as}
 use Rattle.cilk_scheduler.proofs.beginning.begin.Goals as goal
 

@@ -1,5 +1,5 @@
 use Rattle.std.proofs.Common.{◌-◌, cond, refl, sym, ap, ◌∙◌}
-use Rattle.cilk_scheduler.specs.declared.seat.Worker.{Worker}
+use Rattle.cilk_scheduler.specs.declared.frame_state.Worker.{Worker}
 use Rattle.cilk_scheduler.specs.EndParts.{OfferedBy}
 use Rattle.cilk_scheduler.proofs.Parts.{altered_at}
 use Rattle.cilk_scheduler.proofs.Placed.{get_there}

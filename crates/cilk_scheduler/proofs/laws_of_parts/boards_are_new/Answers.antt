@@ -1,4 +1,4 @@
-use Rattle.cilk_scheduler.proofs.NewBoards.{boards_are_new}
+use Rattle.cilk_scheduler.proofs.NewSchedulers.{boards_are_new}
 use Rattle.cilk_scheduler.proofs.laws_of_parts.boards_are_new.Goals as goal
 
 pub returns : goal.returns

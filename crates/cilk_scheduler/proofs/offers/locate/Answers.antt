@@ -1,5 +1,5 @@
 use Rattle.std.proofs.Common.{◌≡◌, ◌<◌, ◌≤◌, ◌+◌, ◌-◌, suc, drop, length, slice_get, subst, sym, ap, ◌∙◌, arith}
-use Rattle.cilk_scheduler.specs.declared.seat.Worker.{Worker}
+use Rattle.cilk_scheduler.specs.declared.frame_state.Worker.{Worker}
 use Rattle.cilk_scheduler.specs.Workers.{offers}
 use Rattle.cilk_scheduler.proofs.Placed.{get_there, located, passed_by}
 use Rattle.cilk_scheduler.proofs.offers.locate.Goals as goal

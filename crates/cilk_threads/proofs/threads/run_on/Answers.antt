@@ -3,7 +3,7 @@ use Rattle.std.specs.Prelude.{All}
 use Rattle.std.proofs.lemmas.Result.{IfOk-weaker, MatchResult-weaker}
 use Rattle.cilk_types.specs.declared.event.Event.TheVariants.{Sync}
 use Rattle.cilk_program.specs.Sources.{source}
-use Rattle.cilk_tree.specs.declared.story.Story.{Story}
+use Rattle.cilk_tree.specs.declared.event_order.EventOrder.{EventOrder}
 use Rattle.cilk_tree.specs.Word.{event}
 use Rattle.cilk_tree.specs.Along.{IsAlong}
 use Rattle.cilk_shared.specs.Pieces.{PieceValue}
@@ -19,7 +19,7 @@ use Rattle.cilk_threads.proofs.Whole.{syncs_along, whole_of, fault_of}
 use Rattle.cilk_threads.proofs.threads.run_on.Goals as goal
 
 pub new-shared-requires-clause-along : goal.new-shared-requires-clause-along
-new-shared-requires-clause-along g c = subst (λ (s : Story). IsAlong s c.args.yard.now.story) (sym c.events.ensures.story) c.requires.along
+new-shared-requires-clause-along g c = subst (λ (s : EventOrder). IsAlong s c.args.yard.now.story) (sym c.events.ensures.story) c.requires.along
 
 pub new-shared-requires-clause-cells : goal.new-shared-requires-clause-cells
 new-shared-requires-clause-cells g c = cells_along c.args.plan.now.run c.args.plan.now.story c.args.yard.now.story c.laws.ensures.plan c.requires.along
@@ -31,12 +31,12 @@ new-shared-requires-clause-numbers g c =
 
 pub new-piece-requires-clause-settled : goal.new-piece-requires-clause-settled
 new-piece-requires-clause-settled g c =
-    subst (λ (s : Story). AreSettled s c.args.table.now) (sym c.requires.segment.0.1)
+    subst (λ (s : EventOrder). AreSettled s c.args.table.now) (sym c.requires.segment.0.1)
     (c.requires.table.0.settled c.args.plan.now.story c.args.yard.now.story c.laws.ensures.plan c.requires.along)
 
 pub new-piece-requires-clause-quiet : goal.new-piece-requires-clause-quiet
 new-piece-requires-clause-quiet g c =
-    subst (λ (s : Story). events_at s c.args.table.now 1 ≡ []) (sym c.requires.segment.0.1)
+    subst (λ (s : EventOrder). events_at s c.args.table.now 1 ≡ []) (sym c.requires.segment.0.1)
     (c.requires.table.0.quiet c.args.plan.now.story c.args.yard.now.story c.laws.ensures.plan c.requires.along)
 
 pub first-requires : goal.first-requires

@@ -2,7 +2,7 @@ use Rattle.std.proofs.Common.{Vec, Global, ◌≡◌, ℕ, ◌+◌, ◌-◌, ◌
 use Rattle.std.proofs.lemmas.List.{get_or_past}
 use mathlib.Core.Logic.{dite}
 use native.Mathlib.Decide.{dec_lt}
-use Rattle.cilk_tree.specs.declared.story.Story.{Story}
+use Rattle.cilk_tree.specs.declared.event_order.EventOrder.{EventOrder}
 use Rattle.cilk_tree.specs.declared.blocks.Continuation.{Continuation}
 use Rattle.cilk_tree.proofs.Continuing.{MetSoFar, there, noted, met_first, met_spawn, met_resume, met_sync, met_plain, met_all, noted_within}
 use Rattle.cilk_tree.proofs.blocks.continuations.Goals as goal
@@ -22,7 +22,7 @@ loop-met-init c =
 
 pub loop-met-preserved : goal.loop-met-preserved
 loop-met-preserved c =
-    let s : Story = c.args.plan.now in
+    let s : EventOrder = c.args.plan.now in
     let n : ℕ = c.count-count.result - c.loop-met.met in
     let m : ℕ = c.count-count.result - (c.loop-met.met + 1) in
     let test = c.loop-met-test.true in

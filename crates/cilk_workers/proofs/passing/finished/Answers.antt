@@ -2,7 +2,7 @@ use Rattle.std.proofs.Common.{◌≡◌, ◌<◌, ◌∙◌, ◌+◌, ℕ, Some,
 use Rattle.std.proofs.lemmas.Int.{to_z-of_z}
 use Rattle.cilk_workers.specs.Turns.{IsResult}
 use Rattle.cilk_types.specs.declared.event.Event.TheVariants as events
-use Rattle.cilk_tree.specs.declared.story.Story.{Story}
+use Rattle.cilk_tree.specs.declared.event_order.EventOrder.{EventOrder}
 use Rattle.cilk_tree.specs.Runs.{IsAsked, IsFollowed}
 use Rattle.cilk_tree.specs.Word.{after, event, finish, resume, what}
 use Rattle.cilk_tree.specs.Orders.{IsOrderly}
@@ -12,16 +12,16 @@ use Rattle.cilk_workers.proofs.Ending.{ended_with}
 use Rattle.cilk_workers.proofs.OfKind.{finish_event}
 use Rattle.cilk_workers.proofs.passing.finished.Goals as goal
 
-finishes : (s : Story) (at : ℕ) → IsOrderly s → at ≡ length s.events → what s at ≡ finish
+finishes : (s : EventOrder) (at : ℕ) → IsOrderly s → at ≡ length s.events → what s at ≡ finish
 finishes s at order last = ap (what s) last ∙ order.last
 
-ends : (s : Story) (at : ℕ) → IsOrderly s → at ≡ length s.events → event s at ≡ Some events.End
+ends : (s : EventOrder) (at : ℕ) → IsOrderly s → at ≡ length s.events → event s at ≡ Some events.End
 ends s at order last = finish_event s.events at (event s at) (after s at) (finishes s at order last)
 
-no_sync : (s : Story) (at : ℕ) → IsOrderly s → at ≡ length s.events → event s at ≡ Some events.Sync → ⊥
+no_sync : (s : EventOrder) (at : ℕ) → IsOrderly s → at ≡ length s.events → event s at ≡ Some events.Sync → ⊥
 no_sync s at order last q = let z : Some events.End ≡ Some events.Sync = sym (ends s at order last) ∙ q in cc z
 
-no_resume : (s : Story) (at : ℕ) → IsOrderly s → at ≡ length s.events → (k : ℕ) → what s at ≡ resume k → ⊥
+no_resume : (s : EventOrder) (at : ℕ) → IsOrderly s → at ≡ length s.events → (k : ℕ) → what s at ≡ resume k → ⊥
 no_resume s at order last k q = let z : finish ≡ resume k = sym (finishes s at order last) ∙ q in cc z
 
 pub follows-requires-clause-next : goal.follows-requires-clause-next

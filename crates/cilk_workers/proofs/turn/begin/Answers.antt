@@ -8,7 +8,7 @@ use Rattle.cilk_replay.specs.Chains.{ChainValue, TaskValue, standing}
 use Rattle.cilk_replay.specs.Courses.{CourseValue}
 use Rattle.cilk_frames.specs.declared.cursor.Answer.TheVariants.{Done}
 use Rattle.cilk_shared.specs.Values.{YardValue}
-use Rattle.cilk_tree.specs.declared.story.Story.{Story}
+use Rattle.cilk_tree.specs.declared.event_order.EventOrder.{EventOrder}
 use Rattle.cilk_tree.specs.Orders.{IsOrderly}
 use Rattle.cilk_tree.specs.Runs.{IsAsked}
 use Rattle.cilk_tree.specs.Word.{after, event, finish, resume, what}
@@ -25,7 +25,7 @@ resumes y t at ticket of same is q =
     (subst (λ (u : CourseValue). let z = u.yard in what z.story at ≡ resume ticket) of (subst (λ (n : ℕ). let u = t.of in let z = u.yard in what z.story at ≡ resume n) (sym q) is))
 
 -- the `resume` is answered with nothing; it isn't the last event
-answer : (s : Story) (at ticket : ℕ) → IsOrderly s → what s at ≡ resume ticket → IsAsked s at → 1 ≤ at → at ≤ length s.events → IsAnswered s at Done
+answer : (s : EventOrder) (at ticket : ℕ) → IsOrderly s → what s at ≡ resume ticket → IsAsked s at → 1 ≤ at → at ≤ length s.events → IsAnswered s at Done
 answer s at ticket order is asked first within =
     let e = resume_event s.events at (event s at) (after s at) ticket is in
     let more : at < length s.events = dite (dec_lt at (length s.events)) (λ (l : at < length s.events). l)

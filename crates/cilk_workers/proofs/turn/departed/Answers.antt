@@ -2,7 +2,7 @@ use Rattle.std.proofs.Common.{◌≡◌, ◌-◌, ◌<◌, ℕ, sym, subst}
 use Rattle.cilk_replay.specs.Courses.{CourseValue}
 use Rattle.cilk_replay.specs.Resumes.{ResumesAreAsked}
 use Rattle.cilk_shared.specs.Values.{SegmentValue, YardValue}
-use Rattle.cilk_tree.specs.declared.story.Story.{Story}
+use Rattle.cilk_tree.specs.declared.event_order.EventOrder.{EventOrder}
 use Rattle.cilk_tree.specs.Runs.{IsFollowed}
 use Rattle.cilk_tree.specs.Word.{resume, what}
 use Rattle.cilk_workers.specs.Shared.{story_in}
@@ -21,8 +21,8 @@ departs-requires-clause-next c =
     subst (λ (u : CourseValue). let z = u.yard in ResumesAreAsked z.story) c.course.ensures.course c.resumes.ensures in
     let law : ResumesAreAsked (story_in y) = subst (λ (z : YardValue). ResumesAreAsked z.story) c.course.ensures.yard course in
     let followed : IsFollowed (story_in y) (p.upto - 1) =
-    off_segment (λ (s : Story) (n : ℕ). IsFollowed s (n - 1)) y p _ c.segment-segment.ensures works.good.0 c.has_followed.ensures in (
+    off_segment (λ (s : EventOrder) (n : ℕ). IsFollowed s (n - 1)) y p _ c.segment-segment.ensures works.good.0 c.has_followed.ensures in (
       subst (λ (g : SegmentValue). g.from < g.upto) (sym c.segment-segment.ensures) works.good.1,
       λ k is. c.requires.differs
-          (law.ended k p.upto (off_segment (λ (s : Story) (n : ℕ). what s n ≡ resume k) y p _ c.segment-segment.ensures works.good.0 is) followed),
+          (law.ended k p.upto (off_segment (λ (s : EventOrder) (n : ℕ). what s n ≡ resume k) y p _ c.segment-segment.ensures works.good.0 is) followed),
     )

@@ -19,7 +19,7 @@ use denote.Triple.Walked.{says, needs, ends_at, Stays, stay_dropped, walk_of, Go
 use Rattle.std.proofs.raw_atomic.Walks.{proved}
 use Rattle.cilk_types.specs.contracts.input.Input.{the_row as InputRow}
 use Rattle.cilk_tree.specs.contracts.plan.Plan.{the_row as PlanRow}
-use Rattle.cilk_plan.specs.Plans.{HasStoryOn}
+use Rattle.cilk_plan.specs.Plans.{HasEventOrderOn}
 use Rattle.cilk_shared.proofs.NoBytes.{none, none_made}
 use Rattle.cilk_plan.specs.contracts.yards.Told as Told
 use Rattle.cilk_plan.specs.contracts.yards.Told.of.{ended, clauses}
@@ -43,7 +43,7 @@ of_spec 𝓤 𝓛 𝓜 𝓡 wired =
     (λ κs qs bounds a run are.
     let p : Val = vptr a.0.ref_ptr.0 a.0.ref_ptr.1 in
     let q : Val = vptr a.1.0.ref_ptr.0 a.1.0.ref_ptr.1 in
-    needs 𝓤 (HasStoryOn run a.0.now.opening a.1.0.now) (on_entry 𝓛 ended.signature κs qs a (p ∷ [], (q ∷ [], tt))) (λ has.
+    needs 𝓤 (HasEventOrderOn run a.0.now.opening a.1.0.now) (on_entry 𝓛 ended.signature κs qs a (p ∷ [], (q ∷ [], tt))) (λ has.
     let told : Told.the_row.Denot = record { story = has.0 } in
     let y : (walk_of 𝓛 ended hs c).Ghost = ((κs, qs, bounds, a, (p ∷ [], (q ∷ [], tt))), run) in
     let Post : Val → SProp 𝓤 = (walk_of 𝓛 ended hs c).post y in

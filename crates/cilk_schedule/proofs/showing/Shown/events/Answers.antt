@@ -1,14 +1,14 @@
 use Rattle.std.proofs.Common.{◌≡◌, ◌≤◌, Some, None, MatchOption, length, slice_get, sym, ap, ◌∙◌, subst, arith}
 use Rattle.std.proofs.lemmas.Bool.{ltb-false}
 use Rattle.cilk_runs.specs.Machine.{Frame}
-use Rattle.cilk_runs.specs.Worlds.{World}
+use Rattle.cilk_runs.specs.FrameEnvs.{FrameEnv}
 use Rattle.cilk_schedule.specs.Showing.{AreShown}
 use Rattle.cilk_scheduler.proofs.Placed.{there_at}
 use Rattle.cilk_schedule.proofs.showing.Shown.events.Goals as goal
 
 pub returns-in_err-place : goal.returns-in_err-place
 returns-in_err-place c = λ p name s run.
-    subst (λ o. MatchOption o (s.frames c.args.path.now ≡ None) (λ events. (x : Frame World) × (s.frames c.args.path.now ≡ Some x) × AreShown name (length c.args.self.now.frames.items) c.args.path.now 1 x.deeds events.now)) (sym c.from_residual.ensures)
+    subst (λ o. MatchOption o (s.frames c.args.path.now ≡ None) (λ events. (x : Frame FrameEnv) × (s.frames c.args.path.now ≡ Some x) × AreShown name (length c.args.self.now.frames.items) c.args.path.now 1 x.deeds events.now)) (sym c.from_residual.ensures)
     (run.absent c.args.path.now (c.in_err-place.ensures name run.linked))
 
 pub returns-in_err-frame : goal.returns-in_err-frame

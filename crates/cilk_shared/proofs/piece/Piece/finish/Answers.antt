@@ -1,7 +1,7 @@
 use Rattle.std.proofs.Common.{◌≡◌, sym, ap, ◌∙◌, subst}
 use Rattle.cilk_tree.specs.Frames.{IsInFrame}
 use Rattle.cilk_shared.specs.Values.{NextFinish}
-use Rattle.cilk_tree.specs.declared.story.Story.{Story}
+use Rattle.cilk_tree.specs.declared.event_order.EventOrder.{EventOrder}
 use Rattle.cilk_tree.specs.Orders.{IsOrderly}
 use Rattle.cilk_tree.specs.Word.{what, event, after, finish, IsLine}
 use Rattle.cilk_shared.specs.Pieces.{PieceValue, IsPieceOf, segment_of}
@@ -17,7 +17,7 @@ invariant_of-self c =
     let of = of_piece (IsPieceOf y) c.self.view_is c.requires.yard in
     let next = of_piece (λ (p : PieceValue). NextFinish y (segment_of p)) c.self.view_is c.requires.next in
     let law : IsOrderly g.story = subst IsOrderly (sym of.1) c.laws.ensures.order in
-    let is : what g.story g.upto ≡ finish = ap (λ (z : Story). what z g.upto) of.1 ∙ next.1 in
+    let is : what g.story g.upto ≡ finish = ap (λ (z : EventOrder). what z g.upto) of.1 ∙ next.1 in
     let mine = of_piece (λ (p : PieceValue). IsInFrame p.story.events p.upto c.args.root) c.self.view_is c.requires.root in
     let same = of_piece (λ (p : PieceValue). c.args.reducers.now ≡ p.reducers) c.self.view_is c.requires.reducers.0 in
     covers_end c.self.inside.views c.retire_own.new.views r g c.self.invariant next.0.0 (behind_line g.story law g.from g.upto next.0.0 (subst IsLine (sym is) tt))

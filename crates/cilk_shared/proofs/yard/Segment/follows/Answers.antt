@@ -1,6 +1,6 @@
 use Rattle.std.proofs.Common.{◌≡◌, ◌≢◌, Some, ap, sym, ◌∙◌, subst}
 use Rattle.cilk_types.specs.declared.event.Event.TheVariants.{Sync}
-use Rattle.cilk_tree.specs.declared.story.Story.{Story}
+use Rattle.cilk_tree.specs.declared.event_order.EventOrder.{EventOrder}
 use Rattle.cilk_tree.specs.Word.{event}
 use Rattle.cilk_tree.specs.Orders.{IsOrderly}
 use Rattle.cilk_tree.specs.Runs.{IsAsked, IsFollowed}
@@ -11,9 +11,9 @@ use Rattle.cilk_shared.proofs.yard.Segment.follows.Goals as goal
 pub returns : goal.returns
 returns c =
     let g : SegmentValue = c.args.self.now in
-    let s : Story = c.self.inside.seat.me.0.story in
+    let s : EventOrder = c.self.inside.seat.me.0.story in
     let same : s ≡ c.args.yard.now.story = ap (λ (x : SegmentValue). x.story) c.self.view_is ∙ c.requires.yard.1 in
-    let law : IsOrderly s = subst (λ (z : Story). IsOrderly z) (sym same) c.laws.ensures.order in
+    let law : IsOrderly s = subst (λ (z : EventOrder). IsOrderly z) (sym same) c.laws.ensures.order in
     let next = along IsAhead c.self.view_is c.requires.next in
     subst (λ (x : SegmentValue). IsFollowed x.story x.upto) c.self.view_is
     (up_event s law c.self.inside.seat.me.0 c.self.inside.from c.self.inside.upto c.self.invariant.1 next.0 next.1

@@ -1,5 +1,5 @@
 use Rattle.std.proofs.Common.{◌≡◌, ap, sym, ◌∙◌, subst, arith}
-use Rattle.cilk_tree.specs.declared.story.Story.{Story}
+use Rattle.cilk_tree.specs.declared.event_order.EventOrder.{EventOrder}
 use Rattle.cilk_tree.specs.Orders.{IsOrderly}
 use Rattle.cilk_shared.specs.Values.{SegmentValue, CanPass}
 use Rattle.cilk_shared.proofs.Steps.{passes, along}
@@ -9,12 +9,12 @@ pub overflow_add-self : goal.overflow_add-self
 overflow_add-self c =
     let next = along CanPass c.self.view_is c.requires.next in
     let same : c.self.inside.seat.me.0.story ≡ c.args.yard.now.story = ap (λ (g : SegmentValue). g.story) c.self.view_is ∙ c.requires.yard.1 in
-    let law : IsOrderly c.self.inside.seat.me.0.story = subst (λ (z : Story). IsOrderly z) (sym same) c.laws.ensures.order in
+    let law : IsOrderly c.self.inside.seat.me.0.story = subst (λ (z : EventOrder). IsOrderly z) (sym same) c.laws.ensures.order in
     omega (arith, next.0.1, law.few)
 
 pub invariant_of-self : goal.invariant_of-self
 invariant_of-self c =
     let next = along CanPass c.self.view_is c.requires.next in
     let same : c.self.inside.seat.me.0.story ≡ c.args.yard.now.story = ap (λ (g : SegmentValue). g.story) c.self.view_is ∙ c.requires.yard.1 in
-    let law : IsOrderly c.self.inside.seat.me.0.story = subst (λ (z : Story). IsOrderly z) (sym same) c.laws.ensures.order in
+    let law : IsOrderly c.self.inside.seat.me.0.story = subst (λ (z : EventOrder). IsOrderly z) (sym same) c.laws.ensures.order in
     (c.self.invariant.0, passes c.self.inside.seat.me.0.story law c.self.inside.seat.me c.self.inside.from c.self.inside.upto c.self.invariant.1 next.0.0 next.0.2 next.0.3 next.1)

@@ -1,6 +1,6 @@
 use Rattle.std.proofs.Common.{◌≡◌, ◌+◌, ℕ, ℤ, length, get_or, sym, ap, ◌∙◌, subst, arith}
 use Rattle.std.specs.Int.{cast_signed, w64}
-use Rattle.cilk_tree.specs.declared.story.Story.{Story}
+use Rattle.cilk_tree.specs.declared.event_order.EventOrder.{EventOrder}
 use Rattle.cilk_tree.specs.Values.{HasValue, AreFinal}
 use Rattle.cilk_shared.specs.Rule.{Sits}
 use Rattle.cilk_shared.specs.Values.{OfYard, YardValue}
@@ -15,7 +15,7 @@ returns-clause-ok c =
     let j = c.segment.invariant in
     let of = both OfYard c.self.view_is c.segment.view_is c.requires.yard in
     let all = both (λ y g. (g.from ≡ 1) × (g.upto ≡ length y.story.events + 1)) c.self.view_is c.segment.view_is c.requires.all in
-    let key : Story = c.self.inside.table.shared.key.story in
+    let key : EventOrder = c.self.inside.table.shared.key.story in
     let final = c.close_with-closed.ensures.values.2 in
     let found = c.last_values-values.ensures in
     let root = i.0.root in
@@ -28,4 +28,4 @@ returns-clause-ok c =
           (sym (found.each k (omega (arith, lt, i.4)) ∙ ap (λ ws. cast_signed w64 (get_or ws k 0)) (sym final.2)))
           (final_value key i.0 i.6 k _ (whole_run key i.0 me of.1 n sits all.1 (omega (arith, root.1, all.1)) c.segment.inside.seat.id final.0 final.1.0 final.1.1 k lt));
     } in
-    subst (λ (z : Story). AreFinal z c.last_values-values.result.items) (ap (λ (y : YardValue). y.story) c.self.view_is) at_key
+    subst (λ (z : EventOrder). AreFinal z c.last_values-values.result.items) (ap (λ (y : YardValue). y.story) c.self.view_is) at_key

@@ -1,5 +1,5 @@
 use Rattle.std.proofs.Common.{◌+◌, sym, ap, subst, arith}
-use Rattle.cilk_tree.specs.declared.story.Story.{Story}
+use Rattle.cilk_tree.specs.declared.event_order.EventOrder.{EventOrder}
 use Rattle.cilk_tree.specs.Word.{IsLine}
 use Rattle.cilk_shared.specs.Values.{OfYard, NextSpawn}
 use Rattle.cilk_shared.proofs.Steps.{both, stands, is_inside, offer_at, moved_at}
@@ -8,7 +8,7 @@ use Rattle.cilk_shared.proofs.yard.Yard.offer.Goals as goal
 pub store-requires : goal.store-requires
 store-requires c =
     let i = c.self.invariant in
-    let s : Story = c.self.inside.table.shared.key.story in
+    let s : EventOrder = c.self.inside.table.shared.key.story in
     let me = c.segment.inside.seat.me in
     let a = c.segment.inside.from in
     let p = c.segment.inside.upto in
@@ -22,7 +22,7 @@ store-requires c =
 
 pub invariant_of-segment : goal.invariant_of-segment
 invariant_of-segment c =
-    let s : Story = c.self.inside.table.shared.key.story in
+    let s : EventOrder = c.self.inside.table.shared.key.story in
     let me = c.segment.inside.seat.me in
     let a = c.segment.inside.from in
     let p = c.segment.inside.upto in

@@ -11,7 +11,7 @@ use Rattle.cilk_tree.specs.Frames.{AreFrames}
 use Rattle.cilk_tree.specs.Kinds.{kind_of}
 use Rattle.cilk_tree.specs.Planned.{all_asked, planned}
 use Rattle.cilk_tree.proofs.Framed.{begins}
-use Rattle.cilk_tree.proofs.Stories.{asked, orderly, valued}
+use Rattle.cilk_tree.proofs.EventOrders.{asked, orderly, valued}
 use Rattle.cilk_tree.proofs.plan.Plan.of.Goals as goal
 
 pub frames-requires : goal.frames-requires

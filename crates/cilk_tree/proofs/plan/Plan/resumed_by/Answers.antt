@@ -1,5 +1,5 @@
 use Rattle.std.proofs.Common.{◌≡◌, ℕ, Some, sym, ap, ◌∙◌}
-use Rattle.cilk_tree.specs.declared.story.Story.{Story}
+use Rattle.cilk_tree.specs.declared.event_order.EventOrder.{EventOrder}
 use Rattle.cilk_tree.specs.Word.{event, resume, what}
 use Rattle.cilk_tree.specs.Kinds.{kind_of_event}
 use Rattle.cilk_tree.specs.declared.kind.Kind.TheVariants.{Resume, Spawn}
@@ -8,7 +8,7 @@ use Rattle.cilk_tree.proofs.plan.Plan.resumed_by.Goals as goal
 
 pub returns-in-Some-Spawn : goal.returns-in-Some-Spawn
 returns-in-Some-Spawn c =
-    let s : Story = c.args.self.now in
+    let s : EventOrder = c.args.self.now in
     let at : ℕ = c.args.at in
     let k : ℕ = c.in_ok-spawned.spawned in
     let kind : kind_of_event (event s at) ≡ Some (Resume c.in-Some-Resume.field-0-0) = sym c.kind_at.ensures ∙ c.in-Some-Resume.is ∙ ap Some c.in-Some-Resume.field-0-is in

@@ -3,7 +3,7 @@ use Rattle.std.proofs.lemmas.List.{get_or_past, length-map}
 use Rattle.std.proofs.lemmas.Option.{slice_get_read}
 use mathlib.Core.Logic.{dite}
 use native.Mathlib.Decide.{dec_lt}
-use Rattle.cilk_tree.specs.declared.story.Story.{Story}
+use Rattle.cilk_tree.specs.declared.event_order.EventOrder.{EventOrder}
 use Rattle.cilk_tree.specs.Kinds.{kind_of}
 use Rattle.cilk_tree.proofs.Continuing.{resumes_none}
 use Rattle.cilk_tree.proofs.Resuming.{SoFar, within, resumed_first, resumed_next, same_column, resumed_all}
@@ -25,7 +25,7 @@ loop-behind-init c =
 
 pub loop-behind-preserved : goal.loop-behind-preserved
 loop-behind-preserved c =
-    let s : Story = c.args.self.now in
+    let s : EventOrder = c.args.self.now in
     let i : ℕ = c.loop-behind.behind in
     let column : List ℕ = c.loop-behind.column.items in
     elim c.match-index.branch [
@@ -33,7 +33,7 @@ loop-behind-preserved c =
           (resumed_next s c.laws.ensures.order i (i + 1) column _ w.resumed_by.result refl c.loop-behind.invariant w.resumed_by.ensures w.note.ensures)
       | in_default w ↦ (let test = c.loop-behind-test.true in
           let count = c.count-count.ensures.events in
-          let same : c.self.inside.kinds.items ≡ map kind_of s.events = c.self.invariant.2 ∙ ap (λ (y : Story). map kind_of y.events) c.self.view_is in
+          let same : c.self.inside.kinds.items ≡ map kind_of s.events = c.self.invariant.2 ∙ ap (λ (y : EventOrder). map kind_of y.events) c.self.view_is in
           let long : length c.self.inside.kinds.items ≡ length s.events = ap length same ∙ length-map s.events kind_of in
           let read = slice_get_read c.self.inside.kinds.items (length c.self.inside.kinds.items) i c.index.result.now refl (omega (arith, test, count, long)) c.index.ensures in
           subst (λ (v : Vec ℕ Global). SoFar s (i + 1) v.items) (sym w.column-is)

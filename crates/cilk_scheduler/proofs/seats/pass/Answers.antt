@@ -1,6 +1,0 @@
-use Rattle.cilk_scheduler.specs.Seats.{passed}
-use Rattle.cilk_scheduler.proofs.Changing.{changed_at}
-use Rattle.cilk_scheduler.proofs.seats.pass.Goals as goal
-
-pub returns : goal.returns
-returns c = changed_at (passed) c.args.frames.now.items c.args.frame c.index_mut.result.now c.index_mut.ensures.value c.requires

@@ -1,6 +1,0 @@
-use Rattle.cilk_threads.specs.Kits.{IsKit}
-use Rattle.cilk_threads.proofs.Popped.{more}
-use Rattle.cilk_threads.proofs.kits.equip.Goals as goal
-
-pub returns : goal.returns
-returns g c = more (IsKit c.args.shared.now c.args.doors.now.items) _ _ _ c.in_ok-push.ensures.items c.requires.kits c.requires.kit

@@ -1,0 +1,6 @@
+use Rattle.std.proofs.Common.{take}
+use Rattle.cilk_workers.specs.Keys.{AreKeys}
+use Rattle.cilk_threads.proofs.seeds.more.Given as goal
+
+abbrev pub invariant-each : goal.invariant-each
+invariant-each g l = AreKeys (take l.at l.doors.items) l.all.items × AreKeys l.doors.items l.keys.items

@@ -1,0 +1,6 @@
+use Rattle.std.specs.Prelude.{◌≡◌, All, length}
+use Rattle.cilk_threads.specs.WorkerSeeds.{IsTake}
+use Rattle.cilk_threads.proofs.seeds.takes.Given as goal
+
+abbrev pub invariant-each : goal.invariant-each
+invariant-each g l = All IsTake l.all.items × (length l.racks.items ≡ length l.fn.racks.items)

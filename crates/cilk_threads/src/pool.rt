@@ -1,0 +1,250 @@
+//! A crew of workers, each in a thread of its own.
+
+ghost use Rattle.std.specs.Prelude.{◌≡◌, All, Some, IfOk, IfSome};
+ghost use Rattle.std.specs.Thread.{IsSend, IsSync};
+ghost use Rattle.cilk_workers.specs.Turns.{Works};
+ghost use Rattle.cilk_tree.specs.PlanStrands.{AreFirsts};
+ghost use Rattle.cilk_workers.specs.Activities.{IsExitReason};
+ghost use Rattle.cilk_workers.specs.Keys.{AreKeys, AreSyncs};
+ghost use Rattle.cilk_workers.specs.Names.{IsName};
+ghost use Rattle.cilk_threads.specs.WorkerSeeds.{Begins, IsWorkerSeed, IsRack, IsTake};
+
+use crate::layout::Layout;
+use crate::seeds::{Take, WorkerSeed, doors, ends, kits, racks, shelves};
+use cilk_replay::chain::Chain;
+use cilk_shared::piece::Piece;
+use cilk_workers::activity::{Activity, Blocks, ExitReason, Tools};
+use cilk_workers::context::WorkerContext;
+use cilk_workers::gate::{Gate, Watch};
+use cilk_workers::lock::{Key, Lock};
+use cilk_workers::naming::Naming;
+use cilk_workers::rack::{Picker, Rack, Tasks};
+use cilk_workers::shared::Shared;
+use cilk_workers::work::Work;
+use std::alloc::{AllocError, Global};
+use std::sync::Wait;
+use std::sync::atomic::{AtomicBool, Ordering};
+use std::thread;
+use std::thread::{Promise, PromisedHandle, Threads};
+
+/// What the end of a worker's thread is known by.
+#[derive(Clone, Copy)]
+pub struct Ends<'a, 'b> {
+    shared: &'a Shared<'b>,
+}
+
+impl<'a, 'b> Promise<ExitReason> for Ends<'a, 'b> {
+    ghost use Rattle.cilk_workers.specs.Activities.{IsExitReason};
+
+    ghost kept_by = { λ p r. IsExitReason p.shared.now r };
+}
+
+// The others' ends.
+fn pickers<N: Naming>(alloc: Global, takes: Vec<Take<N>>) -> Result<Vec<Picker<N>>, AllocError>
+    requires { All IsTake takes.items }
+{
+    let mut all = Vec::new(alloc);
+    for (stealer, pass) in takes {
+        all.push(Picker::<N>::of(stealer, pass))?;
+    }
+    Ok(all)
+}
+
+/// A worker, from the parts that were sent to its thread, up to its end.
+pub fn worker<'a, N: Naming, R: Wait, G: Gate>(
+    rt: &R,
+    alloc: Global,
+    shared: &Shared<'_>,
+    doors: &'a Vec<Lock<N>>,
+    layout: &'a Layout<'a>,
+    gate: &'a G,
+    stop: &AtomicBool,
+    number: u32,
+    rack: Tasks<N>,
+    takes: Vec<Take<N>>,
+    keys: Vec<Key>,
+    piece: Piece,
+    chain: Option<Chain>,
+) -> ExitReason
+    requires name { IsName N.run N.course N.taken shared.now }
+    requires keys { AreKeys doors.now.items keys.items }
+    requires syncs { AreSyncs shared.now layout.now.syncs.now }
+    requires rack { IsRack rack }
+    requires takes { All IsTake takes.items }
+    requires strands { AreFirsts shared.now.run.story.events layout.now.strands.now }
+    requires begins { Begins shared.now piece chain }
+    ensures { IsExitReason shared.now result }
+{
+    let rack = Rack::<N>::of(rack);
+    let Ok(pickers) = pickers::<N>(alloc, takes) else {
+        stop.store(true, Ordering::SeqCst);
+        return ExitReason::Stopped;
+    };
+    let mut tools = Tools {
+        rack,
+        pickers,
+        keys,
+    };
+    let station = WorkerContext {
+        rt,
+        alloc,
+        shared,
+        blocks: Blocks {
+            doors,
+            syncs: layout.syncs,
+            of: layout.of,
+        },
+        watch: Watch {
+            gate,
+            worker: number,
+            strands: layout.strands,
+        },
+    };
+    let hand = match chain {
+        Some(chain) => {
+            station.watch.tell(shared, 0, &piece);
+            Activity::Holds(Work { piece, chain })
+        }
+        None => Activity::Idle(piece),
+    };
+    station.work(&mut tools, stop, hand)
+}
+
+// The better of two ends.
+fn better(shared: &Shared<'_>, one: ExitReason, other: ExitReason) -> ExitReason
+    requires { IsExitReason shared.now one × IsExitReason shared.now other }
+    ensures { IsExitReason shared.now result }
+{
+    let _ = shared;
+    match one {
+        ExitReason::Stopped => other,
+        _ => one,
+    }
+}
+
+// The last of the handles comes out.
+fn last_handle<'a, 'b>(
+    shared: &Shared<'_>,
+    handles: &mut Vec<PromisedHandle<ExitReason, Ends<'a, 'b>>>,
+) -> Option<PromisedHandle<ExitReason, Ends<'a, 'b>>>
+    requires { All (λ h. h.promise.shared.now ≡ shared.now) handles.old.items }
+    ensures rest { All (λ h. h.promise.shared.now ≡ shared.now) handles.new.items }
+    ensures one { IfSome result (λ h. h.promise.shared.now ≡ shared.now) }
+{
+    let _ = shared;
+    handles.pop()
+}
+
+// The best end of the threads.
+fn joined<'a, 'b, R: Threads>(
+    rt: &R,
+    shared: &Shared<'_>,
+    mut handles: Vec<PromisedHandle<ExitReason, Ends<'a, 'b>>>,
+) -> ExitReason
+    requires { All (λ h. h.promise.shared.now ≡ shared.now) handles.items }
+    ensures { IsExitReason shared.now result }
+{
+    let mut best = ExitReason::Stopped;
+    'each: for _ in 0..handles.len() {
+        let Some(handle) = last_handle(shared, &mut handles) else {
+            break;
+        };
+        best = better(shared, best, handle.join(rt));
+    }
+    best
+}
+
+// The last of the kits comes out.
+fn last_kit<N: Naming>(
+    shared: &Shared<'_>,
+    doors: &Vec<Lock<N>>,
+    kits: &mut Vec<WorkerSeed<N>>,
+) -> Option<WorkerSeed<N>>
+    requires { All (IsWorkerSeed shared.now doors.now.items) kits.old.items }
+    ensures rest { All (IsWorkerSeed shared.now doors.now.items) kits.new.items }
+    ensures one { IfSome result (IsWorkerSeed shared.now doors.now.items) }
+{
+    let _ = shared;
+    let _ = doors;
+    kits.pop()
+}
+
+// One worker for each kit. A thread that is refused stops the others.
+fn crew<'a, 'b, N: Naming + Send + Sync, R: Threads + Wait + Sync, G: Gate + Sync>(
+    rt: &R,
+    alloc: Global,
+    shared: &'a Shared<'b>,
+    doors: &'a Vec<Lock<N>>,
+    layout: &'a Layout<'a>,
+    gate: &'a G,
+    stop: &'a AtomicBool,
+    kits: Vec<WorkerSeed<N>>,
+) -> Result<ExitReason, AllocError>
+    requires name { IsName N.run N.course N.taken shared.now }
+    requires strands { AreFirsts shared.now.run.story.events layout.now.strands.now }
+    requires syncs { AreSyncs shared.now layout.now.syncs.now }
+    requires kits { All (IsWorkerSeed shared.now doors.now.items) kits.items }
+    ensures { IfOk result (IsExitReason shared.now) }
+{
+    thread::scope(
+        thread::scope_env(),
+        rt,
+        |scope| -> Result<ExitReason, AllocError>
+            requires { IsSync R.row × IsSync G.row × IsSend N.row × IsSync N.row × IsName N.run N.course N.taken shared.now × AreFirsts shared.now.run.story.events layout.now.strands.now × AreSyncs shared.now layout.now.syncs.now × All (IsWorkerSeed shared.now doors.now.items) kits.items }
+            ensures { IfOk result (IsExitReason shared.entry.now) }
+        {
+            let mut kits = kits;
+            let mut handles = Vec::with_capacity(alloc, kits.len())?;
+            'each: for _ in 0..kits.len() {
+                let Some(kit) = last_kit::<N>(shared, doors, &mut kits) else {
+                    break;
+                };
+                let WorkerSeed {
+                    worker: number,
+                    rack,
+                    takes,
+                    keys,
+                    piece,
+                    chain,
+                } = kit;
+                let started = scope.spawn_with(Ends { shared: &*shared }, move || {
+                    worker::<N, R, G>(
+                        rt, alloc, shared, doors, layout, gate, stop, number, rack, takes, keys,
+                        piece, chain,
+                    )
+                });
+                let Ok(handle) = started else {
+                    stop.store(true, Ordering::SeqCst);
+                    return Err(AllocError);
+                };
+                // There is room for each handle.
+                handles.push(handle)?;
+            }
+            Ok(joined(rt, shared, handles))
+        },
+    )
+}
+
+/// The best end of some workers.
+pub fn crewed<N: Naming + Send + Sync, R: Threads + Wait + Sync, G: Gate + Sync>(
+    rt: &R,
+    alloc: Global,
+    shared: &Shared<'_>,
+    layout: &Layout<'_>,
+    gate: &G,
+    work: Work,
+    count: u32,
+) -> Result<ExitReason, AllocError>
+    requires name { IsName N.run N.course N.taken shared.now }
+    requires syncs { AreSyncs shared.now layout.now.syncs.now }
+    requires strands { AreFirsts shared.now.run.story.events layout.now.strands.now }
+    requires works { Works shared.now work }
+    ensures { IfOk result (IsExitReason shared.now) }
+{
+    let (doors, mut keys) = doors::<N, R>(rt, alloc, shared, shelves(layout.syncs.len()))?;
+    let mut racks = racks::<N>(alloc, count)?;
+    let ends = ends::<N>(alloc, &mut racks)?;
+    let kits = kits::<N>(alloc, shared, &doors, &mut keys, racks, ends, work, count)?;
+    let stop = AtomicBool::new(false);
+    crew::<N, R, G>(rt, alloc, shared, &doors, layout, gate, &stop, kits)
+}

@@ -1,0 +1,268 @@
+//! What each worker of a crew begins with.
+
+ghost use Rattle.std.specs.Prelude.{◌≡◌, ◌*◌, ◌<◌, ◌≤◌, All, Some, length, IfOk, OnOk, IfSome};
+ghost use Rattle.cilk_workers.specs.Rows.{OfRun};
+ghost use Rattle.cilk_workers.specs.Turns.{Works};
+ghost use Rattle.cilk_workers.specs.Keys.{AreKeys, IsKeyAt};
+ghost use Rattle.cilk_workers.specs.Names.{IsName};
+ghost use Rattle.cilk_threads.specs.WorkerSeeds.{Begins, IsWorkerSeed, IsTake};
+
+use cilk_replay::chain::{Chain, Task};
+use cilk_shared::piece::Piece;
+use cilk_workers::lock::{Key, Lock, another, new_locked};
+use cilk_workers::naming::Naming;
+use cilk_workers::rack::{Offers, Rack, Takes, Tasks};
+use cilk_workers::shared::Shared;
+use cilk_workers::shelf::Shelf;
+use cilk_workers::work::Work;
+use crossbeam_deque::Pass;
+use std::alloc::{AllocError, Global};
+use std::sync::Wait;
+
+/// Another worker's end of a rack, in its parts.
+pub type Take<N> = (Takes<N>, Pass<Task, Offers>);
+
+/// What a worker begins with, in the parts that may be sent to a thread.
+#[derive(Drop)]
+pub struct WorkerSeed<N: Naming> {
+    pub worker: u32,
+    pub rack: Tasks<N>,
+    pub takes: Vec<Take<N>>,
+    pub keys: Vec<Key>,
+    pub piece: Piece,
+    pub chain: Option<Chain>,
+}
+
+/// How many shelves the join boxes of so many blocks lie on: enough that no shelf has more than 64 boxes, and that workers seldom meet at one.
+pub fn shelves(blocks: usize) -> usize
+    ensures { blocks ≤ 64 * result }
+{
+    let few = if blocks < 64 { blocks } else { 64 };
+    few + blocks / 64
+}
+
+/// So many locks, each with an empty shelf, and a first key of each.
+#[tactic(auto, using(cilk_workers::proofs::Keys::doors_more))]
+pub fn doors<N: Naming, R: Wait>(
+    rt: &R,
+    alloc: Global,
+    shared: &Shared<'_>,
+    count: usize,
+) -> Result<(Vec<Lock<N>>, Vec<Key>), AllocError>
+    requires { IsName N.run N.course N.taken shared.now }
+    ensures { IfOk result (λ r. AreKeys r.0.items r.1.items) }
+{
+    let mut all = Vec::new(alloc);
+    let mut keys = Vec::new(alloc);
+    'each: for _ in 0..count {
+        let first = Shelf::new(alloc, shared.yard(), shared.reducers(), shared.course());
+        let (door, key) = new_locked::<N, R>(rt, alloc, first)?;
+        all.push(door)?;
+        keys.push(key)?;
+    }
+    Ok((all, keys))
+}
+
+// The key of a lock for one more worker.
+fn one_more<N: Naming>(doors: &Vec<Lock<N>>, keys: &mut Vec<Key>, at: usize) -> Key
+    requires keys { AreKeys doors.now.items keys.old.items }
+    requires at { at < length doors.now.items }
+    ensures keys { AreKeys doors.now.items keys.new.items }
+    ensures one { IsKeyAt doors.now.items at result }
+{
+    let door = &doors[at];
+    let key = &mut keys[at];
+    another(door, key)
+}
+
+/// Keys for one more worker.
+#[tactic(auto, using(cilk_workers::proofs::Keys::keys_more, cilk_workers::proofs::Keys::keys_all))]
+pub fn more<N: Naming>(
+    alloc: Global,
+    doors: &Vec<Lock<N>>,
+    keys: &mut Vec<Key>,
+) -> Result<Vec<Key>, AllocError>
+    requires { AreKeys doors.now.items keys.old.items }
+    ensures old { AreKeys doors.now.items keys.new.items }
+    ensures new { IfOk result (λ v. AreKeys doors.now.items v.items) }
+{
+    let mut all = Vec::new(alloc);
+    'each: for at in 0..doors.len() {
+        all.push(one_more::<N>(doors, keys, at))?;
+    }
+    Ok(all)
+}
+
+// The other end of the rack at a place is put behind the others, but for one rack.
+#[tactic(auto, using(crate::proofs::Sent::takes_more))]
+fn put<N: Naming>(
+    all: &mut Vec<Take<N>>,
+    racks: &mut Vec<Rack<N>>,
+    at: usize,
+    but: usize,
+) -> Result<(), AllocError>
+    requires at { at < length racks.old.items }
+    requires all { All IsTake all.old.items }
+    ensures all { OnOk result (All IsTake all.new.items) }
+    ensures racks { length racks.new.items ≡ length racks.old.items }
+{
+    if at == but {
+        return Ok(());
+    }
+    let rack = &mut racks[at];
+    let picker = rack.picker()?;
+    all.push(picker.parted())?;
+    Ok(())
+}
+
+/// The ends of all racks but one.
+pub fn takes<N: Naming>(
+    alloc: Global,
+    racks: &mut Vec<Rack<N>>,
+    but: usize,
+) -> Result<Vec<Take<N>>, AllocError>
+    ensures takes { IfOk result (λ v. All IsTake v.items) }
+    ensures racks { length racks.new.items ≡ length racks.old.items }
+{
+    let mut all = Vec::new(alloc);
+    'each: for at in 0..racks.len() {
+        put::<N>(&mut all, racks, at, but)?;
+    }
+    Ok(all)
+}
+
+/// The tasks that a rack has room for at first. It grows where a worker has more spawned frames at once.
+const ROOM: usize = 64;
+
+/// A rack for each worker.
+pub fn racks<N: Naming>(alloc: Global, count: u32) -> Result<Vec<Rack<N>>, AllocError> {
+    let mut all = Vec::new(alloc);
+    for _ in 0..count {
+        all.push(Rack::<N>::new(alloc, ROOM)?)?;
+    }
+    Ok(all)
+}
+
+/// For each rack the ends of the others.
+pub fn ends<N: Naming>(
+    alloc: Global,
+    racks: &mut Vec<Rack<N>>,
+) -> Result<Vec<Vec<Take<N>>>, AllocError>
+    ensures { IfOk result (λ v. All (λ ts. All IsTake ts.items) v.items) }
+{
+    let mut all = Vec::new(alloc);
+    'each: for at in 0..racks.len() {
+        all.push(takes::<N>(alloc, racks, at)?)?;
+    }
+    Ok(all)
+}
+
+// What the first worker begins with, and an empty piece.
+fn parted(alloc: Global, shared: &Shared<'_>, work: Work) -> (Work, Piece)
+    requires { Works shared.now work }
+    ensures work { Works shared.now result.0 }
+    ensures spare { OfRun shared.now.run result.1 × (result.1.upto ≤ result.1.from) }
+{
+    let Work { piece, chain } = work;
+    let (piece, spare) = piece.apart(alloc, shared.yard(), shared.reducers());
+    (Work { piece, chain }, spare)
+}
+
+// An empty piece for another worker, beside one for this.
+fn halved(alloc: Global, shared: &Shared<'_>, spare: Piece) -> (Piece, Piece)
+    requires { OfRun shared.now.run spare × (spare.upto ≤ spare.from) }
+    ensures one { OfRun shared.now.run result.0 × (result.0.upto ≤ result.0.from) }
+    ensures other { OfRun shared.now.run result.1 × (result.1.upto ≤ result.1.from) }
+{
+    spare.apart(alloc, shared.yard(), shared.reducers())
+}
+
+// What a worker begins with: what the first has, or an empty piece; and an empty piece for the next.
+fn begins(
+    alloc: Global,
+    shared: &Shared<'_>,
+    spare: Piece,
+    first: Option<Work>,
+) -> (Piece, Option<Chain>, Piece)
+    requires spare { OfRun shared.now.run spare × (spare.upto ≤ spare.from) }
+    requires first { IfSome first (Works shared.now) }
+    ensures begins { Begins shared.now result.0 result.1 }
+    ensures spare { OfRun shared.now.run result.2 × (result.2.upto ≤ result.2.from) }
+{
+    match first {
+        Some(Work { piece, chain }) => (piece, Some(chain), spare),
+        None => {
+            let (piece, spare) = halved(alloc, shared, spare);
+            (piece, None, spare)
+        }
+    }
+}
+
+// The last of the ends comes out.
+fn last_ends<N: Naming>(ends: &mut Vec<Vec<Take<N>>>) -> Option<Vec<Take<N>>>
+    requires { All (λ ts. All IsTake ts.items) ends.old.items }
+    ensures rest { All (λ ts. All IsTake ts.items) ends.new.items }
+    ensures one { IfSome result (λ ts. All IsTake ts.items) }
+{
+    ends.pop()
+}
+
+// One more kit.
+fn equip<N: Naming>(
+    shared: &Shared<'_>,
+    doors: &Vec<Lock<N>>,
+    kits: &mut Vec<WorkerSeed<N>>,
+    kit: WorkerSeed<N>,
+) -> Result<(), AllocError>
+    requires kits { All (IsWorkerSeed shared.now doors.now.items) kits.old.items }
+    requires kit { IsWorkerSeed shared.now doors.now.items kit }
+    ensures { OnOk result (All (IsWorkerSeed shared.now doors.now.items) kits.new.items) }
+{
+    let _ = shared;
+    let _ = doors;
+    kits.push(kit)?;
+    Ok(())
+}
+
+/// A kit for each worker, as far as there are racks; the first has the work.
+pub fn kits<N: Naming>(
+    alloc: Global,
+    shared: &Shared<'_>,
+    doors: &Vec<Lock<N>>,
+    keys: &mut Vec<Key>,
+    mut racks: Vec<Rack<N>>,
+    mut ends: Vec<Vec<Take<N>>>,
+    work: Work,
+    count: u32,
+) -> Result<Vec<WorkerSeed<N>>, AllocError>
+    requires keys { AreKeys doors.now.items keys.old.items }
+    requires ends { All (λ ts. All IsTake ts.items) ends.items }
+    requires work { Works shared.now work }
+    ensures { IfOk result (λ v. All (IsWorkerSeed shared.now doors.now.items) v.items) }
+{
+    let (work, mut spare) = parted(alloc, shared, work);
+    let mut first = Some(work);
+    let mut all = Vec::new(alloc);
+    'each: for worker in 0..count {
+        let Some(takes) = last_ends::<N>(&mut ends) else {
+            break;
+        };
+        let Some(rack) = racks.pop() else {
+            break;
+        };
+        let keys = more::<N>(alloc, doors, keys)?;
+        let (piece, chain, rest) = begins(alloc, shared, spare, first);
+        spare = rest;
+        first = None;
+        let kit = WorkerSeed {
+            worker: worker + 1,
+            rack: rack.parted(),
+            takes,
+            keys,
+            piece,
+            chain,
+        };
+        equip::<N>(shared, doors, &mut all, kit)?;
+    }
+    Ok(all)
+}

@@ -1,6 +1,0 @@
-use Rattle.cilk_workers.specs.Turns.{Works}
-use Rattle.cilk_workers.specs.Keys.{AreKeys}
-use Rattle.cilk_workers.proofs.station.Station.hold.Given as goal
-
-abbrev pub invariant-each : goal.invariant-each
-invariant-each g l = Works l.self.shared.now l.work × AreKeys l.self.blocks.doors.now.items l.tools.keys.items

@@ -1,0 +1,35 @@
+-- What a worker has between two turns, and how it ends.
+use Rattle.std.specs.Prelude.{◌≡◌, ◌≤◌, ℤ}
+use Rattle.cilk_workers.specs.Rows.{OfRun}
+use Rattle.cilk_shared.specs.Pieces.{PieceValue}
+use Rattle.cilk_tree.specs.Runs.{Departs}
+use Rattle.cilk_workers.specs.Shared.{SharedValue, story_in}
+use Rattle.cilk_workers.specs.Turns.{Works, HasEnded}
+use Rattle.cilk_workers.specs.declared.doors.Met.{Met}
+use Rattle.cilk_workers.specs.declared.doors.Met.TheVariants as mets
+use Rattle.cilk_workers.specs.declared.activity.ExitReason.{ExitReason}
+use Rattle.cilk_workers.specs.declared.activity.ExitReason.TheVariants as finishes
+use Rattle.cilk_workers.specs.declared.activity.Activity.{Activity}
+use Rattle.cilk_workers.specs.declared.activity.Activity.TheVariants as hands
+
+-- the piece of the whole run, from its first event past its last, with the run's result
+abbrev pub IsWhole : SharedValue → PieceValue → ℤ → Type 0
+IsWhole y p value = HasEnded y p value × (p.from ≡ 1)
+
+-- a worker ends with the whole run's piece, or where the run departs from its plan
+abbrev pub IsExitReason : SharedValue → ExitReason → Type 0
+IsExitReason y (finishes.Whole p value) = IsWhole y p value
+IsExitReason y (finishes.Departed p) = Departs (story_in y) p
+IsExitReason y finishes.Stopped = Unit {0}
+
+-- a worker holds a piece and a chain at its next event, or an empty piece, or has ended
+abbrev pub IsActivity : SharedValue → Activity → Type 0
+IsActivity y (hands.Holds w) = Works y w
+IsActivity y (hands.Idle p) = OfRun y.run p × (p.upto ≤ p.from)
+IsActivity y (hands.Done f) = IsExitReason y f
+
+-- what passes is the block's piece, with the chain that stands at the `sync`
+abbrev pub IsMet : SharedValue → Met → Type 0
+IsMet y (mets.Passes w) = Works y w
+IsMet y mets.Waits = Unit {0}
+IsMet y mets.Stopped = Unit {0}
